@@ -1,0 +1,15 @@
+use Rattle.std.proofs.Common.{◌≡◌, Some, ap, arith, length, take_all, rules}
+use Rattle.nm_io.specs.Files.{appended}
+use Rattle.nm_io.specs.ShelfState.{files_in}
+use Rattle.nm_io.proofs.Stores.{seen_appended, seen_same}
+use Rattle.nm_io.proofs.memory_shelf.MemoryShelfShelf.append.Goals as goal
+
+pub returns-then-is_err-clause-err : goal.returns-then-is_err-clause-err
+returns-then-is_err-clause-err c =
+    let same : files_in c.extend.new.stored ≡ files_in c.self.inside.stored = search rules in
+    rw (← c.self.view_is) (ap (λ all. Some all) (seen_same c.self.inside.stored c.extend.new.stored same))
+
+pub returns-clause-grown : goal.returns-clause-grown
+returns-clause-grown c =
+    let grown : files_in c.extend.new.stored ≡ appended (files_in c.self.inside.stored) c.args.name.now c.args.bytes.now = search rules in
+    rw (← c.self.view_is, take_all (length c.args.bytes.now) c.args.bytes.now (omega arith)) (ap (λ all. Some all) (seen_appended c.self.inside.stored c.extend.new.stored c.args.name.now c.args.bytes.now grown))

@@ -1,0 +1,34 @@
+use Rattle.std.specs.Prelude.{ℕ, List, Contains}
+use Rattle.nm_io.specs.Counts.{raised}
+
+-- the calls that a shelf or a sink in memory had: the numbers of those that are to fail, from 1 on, how
+-- many there were, how many failed, and how often memory could not grow
+pub record CallState : Type 0 where
+  pub fail : List ℕ
+  pub made : ℕ
+  pub faults : ℕ
+  pub wants : ℕ
+
+-- before the first call
+abbrev pub no_calls : List ℕ → CallState
+no_calls fail = record { fail = fail; made = 0; faults = 0; wants = 0 }
+
+-- the next call is to fail
+abbrev pub IsListed : CallState → Type 0
+IsListed c = Contains c.fail (raised c.made)
+
+-- a call was answered
+abbrev pub after_call : CallState → CallState
+after_call c = record c { made = raised c.made }
+
+-- a call failed, but not for want of memory
+abbrev pub after_fault : CallState → CallState
+after_fault c = record c { made = raised c.made; faults = raised c.faults }
+
+-- memory could not grow
+abbrev pub after_want : CallState → CallState
+after_want c = record c { wants = raised c.wants }
+
+-- a call failed for want of memory
+abbrev pub after_refused : CallState → CallState
+after_refused c = after_fault (after_want c)

@@ -1,0 +1,33 @@
+//! Where bytes are read from and written to: named files, one output, and what stands for them in
+//! tests.
+#![tactic(auto)]
+
+mod calls;
+mod failed;
+mod file_shelf;
+mod gate;
+mod memory_shelf;
+mod memory_sink;
+mod page;
+mod read_error;
+mod shelf;
+mod sink;
+mod std_sink;
+mod stored;
+#[cfg(test)]
+mod tests;
+mod text;
+mod whole;
+
+pub use failed::Failed;
+pub use file_shelf::FileShelf;
+pub use gate::{Gate, NoGate, Stage};
+pub use memory_shelf::MemoryShelf;
+pub use memory_sink::MemorySink;
+pub use page::{Page, put_page};
+pub use read_error::ReadError;
+pub use shelf::Shelf;
+pub use sink::Sink;
+pub use std_sink::StdSink;
+pub use text::{Text, put_text};
+pub use whole::{append_all, put_all, read_all};

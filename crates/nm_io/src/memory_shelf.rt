@@ -1,0 +1,149 @@
+ghost use Rattle.std.specs.Prelude.{◌≡◌, ◌<◌, ◌≤◌, ◌⊎◌, ℕ, List, [], length, take, map, string_bytes, Option, Some, None, IfOk, OnOk, OnErr, IfSome};
+ghost use Rattle.std.specs.Option.{option_map};
+ghost use Rattle.nm_io.specs.Counts.{Rose};
+ghost use Rattle.nm_io.specs.Files.{Files, appended_told, replaced, ReadsPart};
+ghost use Rattle.nm_io.specs.Calls.{IsListed, no_calls, after_call, after_fault, after_refused, after_want};
+ghost use Rattle.nm_io.specs.ShelfState.{ShelfState, files_of, seen_entries};
+
+use crate::calls::Calls;
+use crate::stored::Stored;
+use crate::{Failed, Shelf, stored};
+use nm_types::NoMemory;
+use std::alloc::Global;
+use std::collections::BTreeMap;
+use std::marker::Model;
+
+/// Holds files in memory, and fails where it is told to. Its reads and appends are numbered
+/// together, from 1.
+#[derive(Drop)]
+pub struct MemoryShelf {
+    alloc: Global,
+    stored: Stored,
+    calls: Calls,
+}
+
+impl Model for MemoryShelf {
+    ghost Value = { ShelfState };
+
+    ghost view = { λ s. record { entries = seen_entries s.stored; calls = s.calls } };
+}
+
+impl MemoryShelf {
+    /// A shelf with no file. `fail` lists the numbers of the calls that fail.
+    pub fn new(alloc: Global, fail: Vec<u64>) -> MemoryShelf
+        ensures { result ≡ record { entries = []; calls = no_calls fail.items } }
+    {
+        MemoryShelf {
+            alloc,
+            stored: BTreeMap::new(alloc),
+            calls: Calls::new(fail),
+        }
+    }
+
+    /// Sets a file, in place of what it had. This is no numbered call.
+    #[tactic(auto, using(crate::proofs::Stores::stores))]
+    pub fn add(&mut self, name: &str, bytes: &[u8]) -> Result<(), NoMemory>
+        ensures ok { OnOk result (files_of self.new.entries ≡ replaced (files_of self.old.entries) name.now bytes.now) }
+        ensures err { OnErr result (files_of self.new.entries ≡ files_of self.old.entries) }
+        ensures answered { OnOk result (self.new.calls ≡ self.old.calls) }
+        ensures wanting { OnErr result (self.new.calls ≡ after_want self.old.calls) }
+    {
+        match stored::replace(self.alloc, &mut self.stored, name, bytes) {
+            Ok(()) => Ok(()),
+            Err(error) => {
+                self.calls.want();
+                Err(error)
+            }
+        }
+    }
+
+    /// The contents of a file; `None`: there is none of this name.
+    #[tactic(auto, using(crate::proofs::Stores::stores))]
+    pub fn file(&self, name: &str) -> Option<&[u8]>
+        ensures { option_map (λ f. f.now) result ≡ files_of self.now.entries name.now }
+    {
+        stored::contents(&self.stored, name)
+    }
+
+    /// How often its memory could not grow. The call then failed, or answered `NoMemory`.
+    pub fn wants(&self) -> u64
+        ensures { result ≡ self.now.calls.wants }
+    {
+        self.calls.wants()
+    }
+}
+
+impl Shelf for MemoryShelf {
+    ghost files = { λ s. Some (files_of s.entries) };
+
+    ghost read_faults = { λ s _. s.calls.faults };
+
+    ghost append_faults = { λ s _. s.calls.faults };
+
+    #[tactic(auto, using(crate::proofs::Stores::stores))]
+    fn read(&mut self, name: &str, at: u64, room: &mut [u8]) -> Result<usize, Failed>
+        ensures within { IfOk result (λ n. n ≤ length room.old) }
+        ensures reads { IfOk result (λ n. IfSome (Some (files_of self.old.entries)) (λ all. ReadsPart (all name.now) at n room.new)) }
+        ensures files { Some (files_of self.new.entries) ≡ Some (files_of self.old.entries) }
+        ensures reads_later { (other : List ℕ) → self.old.calls.faults ≤ self.new.calls.faults }
+        ensures appends_later { (other : List ℕ) → self.old.calls.faults ≤ self.new.calls.faults }
+        ensures cause { OnErr result (Rose self.old.calls.faults self.new.calls.faults) }
+
+        // It fails exactly where it is told to or the file is not there.
+        ensures answered { OnOk result (¬ IsListed self.old.calls × (self.new.calls ≡ after_call self.old.calls)) }
+        ensures failed { OnErr result ((IsListed self.old.calls ⊎ (files_of self.old.entries name.now ≡ None))
+            × (self.new.calls ≡ after_fault self.old.calls)) }
+    {
+        if self.calls.is_listed() {
+            return Err(self.calls.fault());
+        }
+        match stored::contents(&self.stored, name) {
+            Some(contents) => {
+                let count = copy_part(contents, at, room);
+                self.calls.count();
+                Ok(count)
+            }
+            None => Err(self.calls.fault()),
+        }
+    }
+
+    #[tactic(auto, using(crate::proofs::Stores::stores))]
+    fn append(&mut self, name: &str, bytes: &[u8]) -> Result<usize, Failed>
+        ensures within { IfOk result (λ n. n ≤ length bytes.now) }
+        ensures moves { IfOk result (λ n. 0 < length bytes.now → 0 < n) }
+        ensures grown { IfOk result (λ n. Some (files_of self.new.entries)
+            ≡ appended_told (Some (files_of self.old.entries)) name.now (take n bytes.now)) }
+        ensures err { OnErr result (Some (files_of self.new.entries) ≡ Some (files_of self.old.entries)) }
+        ensures reads_later { (other : List ℕ) → self.old.calls.faults ≤ self.new.calls.faults }
+        ensures appends_later { (other : List ℕ) → self.old.calls.faults ≤ self.new.calls.faults }
+        ensures cause { OnErr result (Rose self.old.calls.faults self.new.calls.faults) }
+
+        // It fails exactly where it is told to or memory is wanting, and else takes every byte.
+        ensures taken { IfOk result (λ n. n ≡ length bytes.now) }
+        ensures answered { OnOk result (¬ IsListed self.old.calls × (self.new.calls ≡ after_call self.old.calls)) }
+        ensures failed { OnErr result ((IsListed self.old.calls × (self.new.calls ≡ after_fault self.old.calls))
+            ⊎ (self.new.calls ≡ after_refused self.old.calls)) }
+    {
+        if self.calls.is_listed() {
+            return Err(self.calls.fault());
+        }
+        if stored::extend(self.alloc, &mut self.stored, name, bytes).is_err() {
+            return Err(self.calls.refuse());
+        }
+        self.calls.count();
+        Ok(bytes.len())
+    }
+}
+
+/// Copies the contents from their byte `at` on to the front of the room, as many as there are and
+/// fit.
+fn copy_part(contents: &[u8], at: u64, room: &mut [u8]) -> usize
+    ensures within { result ≤ length room.old }
+    ensures reads { ReadsPart (Some contents.now) at result room.new }
+{
+    let start = contents.len().min(at as usize);
+    let rest = &contents[start..];
+    let count = rest.len().min(room.len());
+    room[..count].copy_from_slice(&rest[..count]);
+    count
+}

@@ -1,0 +1,79 @@
+ghost use Rattle.std.specs.Prelude.{◌≡◌, ◌<◌, ◌≤◌, ◌++◌, ◌⊎◌, ℕ, List, [], length, take, Option, Some, IfOk, OnOk, OnErr};
+ghost use Rattle.nm_io.specs.Counts.{Rose};
+ghost use Rattle.nm_io.specs.Held.{grown};
+ghost use Rattle.nm_io.specs.Calls.{IsListed, no_calls, after_call, after_fault, after_refused};
+ghost use Rattle.nm_io.specs.SinkState.{SinkState};
+
+use crate::calls::Calls;
+use crate::{Failed, Sink};
+use std::alloc::Global;
+use std::marker::Model;
+
+/// Holds what is put in memory, and fails where it is told to. Its calls are numbered from 1.
+#[derive(Drop)]
+pub struct MemorySink {
+    bytes: Vec<u8>,
+    calls: Calls,
+}
+
+impl Model for MemorySink {
+    ghost Value = { SinkState };
+
+    ghost view = { λ s. record { bytes = s.bytes.items; calls = s.calls } };
+}
+
+impl MemorySink {
+    /// An empty sink. `fail` lists the numbers of the calls that fail.
+    pub fn new(alloc: Global, fail: Vec<u64>) -> MemorySink
+        ensures { result ≡ record { bytes = []; calls = no_calls fail.items } }
+    {
+        MemorySink {
+            bytes: Vec::new(alloc),
+            calls: Calls::new(fail),
+        }
+    }
+
+    /// What it has taken.
+    pub fn bytes(&self) -> &[u8]
+        ensures { result.now ≡ self.now.bytes }
+    {
+        self.bytes.as_slice()
+    }
+
+    /// How often its memory could not grow. The call then failed.
+    pub fn wants(&self) -> u64
+        ensures { result ≡ self.now.calls.wants }
+    {
+        self.calls.wants()
+    }
+}
+
+impl Sink for MemorySink {
+    ghost holds = { λ s. Some s.bytes };
+
+    ghost faults = { λ s. s.calls.faults };
+
+    fn put(&mut self, bytes: &[u8]) -> Result<usize, Failed>
+        ensures within { IfOk result (λ n. n ≤ length bytes.now) }
+        ensures moves { IfOk result (λ n. 0 < length bytes.now → 0 < n) }
+        ensures grown { IfOk result (λ n. Some self.new.bytes ≡ grown (Some self.old.bytes) (take n bytes.now)) }
+        ensures err { OnErr result (Some self.new.bytes ≡ Some self.old.bytes) }
+        ensures later { self.old.calls.faults ≤ self.new.calls.faults }
+        ensures cause { OnErr result (Rose self.old.calls.faults self.new.calls.faults) }
+
+        // It fails exactly where it is told to or memory is wanting, and else takes every byte.
+        ensures taken { IfOk result (λ n. n ≡ length bytes.now) }
+        ensures answered { OnOk result (¬ IsListed self.old.calls × (self.new.calls ≡ after_call self.old.calls)) }
+        ensures failed { OnErr result ((IsListed self.old.calls × (self.new.calls ≡ after_fault self.old.calls))
+            ⊎ (self.new.calls ≡ after_refused self.old.calls)) }
+    {
+        if self.calls.is_listed() {
+            return Err(self.calls.fault());
+        }
+        if self.bytes.extend_from_slice(bytes).is_err() {
+            return Err(self.calls.refuse());
+        }
+        self.calls.count();
+        Ok(bytes.len())
+    }
+}

@@ -1,0 +1,24 @@
+ghost use Rattle.std.specs.Prelude.{◌≡◌, ◌<◌, ◌≤◌, ℕ, List, length, take, Option, IfOk, OnErr};
+ghost use Rattle.nm_io.specs.Counts.{Rose};
+ghost use Rattle.nm_io.specs.Held.{grown};
+
+use crate::Failed;
+
+/// Takes bytes, one behind the other.
+pub trait Sink {
+    // what it has taken so far, where it tells
+    ghost holds: { Self → Option (List ℕ) };
+
+    // how many calls failed; once at its greatest value it stays there
+    ghost faults: { Self → ℕ };
+
+    /// Takes some of the bytes from the first on, and says how many: at least one, where there is
+    /// any.
+    fn put(&mut self, bytes: &[u8]) -> Result<usize, Failed>
+        ensures within { IfOk result (λ n. n ≤ length bytes.now) }
+        ensures moves { IfOk result (λ n. 0 < length bytes.now → 0 < n) }
+        ensures grown { IfOk result (λ n. holds self.new ≡ grown (holds self.old) (take n bytes.now)) }
+        ensures err { OnErr result (holds self.new ≡ holds self.old) }
+        ensures later { faults self.old ≤ faults self.new }
+        ensures cause { OnErr result (Rose (faults self.old) (faults self.new)) };
+}

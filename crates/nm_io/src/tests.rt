@@ -1,0 +1,122 @@
+ghost use Rattle.std.specs.Prelude.{[], ◌∷◌};
+
+use super::*;
+use std::fs;
+use std::test::Fail;
+
+const SCRIPT: &[u8; 14] = b"user a\nuser b\n";
+
+#[test]
+fn memory_sink_fails_where_told(rt: HostRuntime) -> Result<(), Fail> {
+    let mut sink = MemorySink::new(rt.alloc(), vec![in rt.alloc(); 2u64]?);
+    assert_eq!(rt; put_all(&mut sink, b"ab"), Ok(()));
+    assert_eq!(rt; sink.put(b"cd"), Err(Failed));
+    assert_eq!(rt; sink.put(b"ef"), Ok(2));
+    assert_eq!(rt; sink.bytes(), b"abef".as_slice());
+    assert_eq!(rt; sink.wants(), 0);
+    Ok(())
+}
+
+#[test]
+fn memory_shelf_fails_where_told(rt: HostRuntime) -> Result<(), Fail> {
+    let mut shelf = MemoryShelf::new(rt.alloc(), vec![in rt.alloc(); 3u64, 6]?);
+    let mut room = [0; 8];
+    shelf.add("s", SCRIPT)?;
+    assert_eq!(rt; shelf.read("s", 10, &mut room), Ok(4));
+    assert_eq!(rt; &room[..4], b"r b\n".as_slice());
+    assert_eq!(rt; shelf.read("t", 0, &mut room), Err(Failed));
+    assert_eq!(rt; shelf.read("s", 0, &mut room), Err(Failed));
+    assert_eq!(rt; shelf.read("s", 14, &mut room), Ok(0));
+    assert_eq!(rt; append_all(&mut shelf, "t", b"xy"), Ok(()));
+    assert_eq!(rt; shelf.append("t", b"z"), Err(Failed));
+    assert_eq!(rt; shelf.append("t", b"z"), Ok(1));
+    assert_eq!(rt; shelf.file("t"), Some(b"xyz".as_slice()));
+    assert_eq!(rt; shelf.file("u"), None);
+    assert_eq!(rt; shelf.wants(), 0);
+    Ok(())
+}
+
+#[test]
+fn reads_whole_files_within_the_limit(rt: HostRuntime) -> Result<(), Fail> {
+    for (len, limit, long) in [
+        (0, 0, false),
+        (14, 14, false),
+        (14, 13, true),
+        (20000, 20000, false),
+        (20000, 19999, true),
+    ] {
+        let mut shelf = MemoryShelf::new(rt.alloc(), Vec::new(rt.alloc()));
+        let contents = vec![in rt.alloc(); 7u8; len]?;
+        shelf.add("s", contents.as_slice())?;
+        match read_all(rt.alloc(), &mut shelf, "s", limit) {
+            Ok(found) => assert!(rt;
+                !long && found.as_slice() == contents.as_slice(),
+                "{len} bytes"
+            ),
+            Err(error) => assert!(rt;
+                long && error == ReadError::TooLong,
+                "{len} bytes: {error:?}"
+            ),
+        }
+    }
+    let mut shelf = MemoryShelf::new(rt.alloc(), Vec::new(rt.alloc()));
+    assert!(rt;
+        matches!(
+            read_all(rt.alloc(), &mut shelf, "s", 9),
+            Err(ReadError::Failed)
+        )
+    );
+    Ok(())
+}
+
+#[derive(Clone, Copy)]
+struct Word(u8);
+
+impl Text for Word {
+    ghost text = { λ w. w.0 ∷ w.0 ∷ w.0 ∷ [] };
+
+    fn write<K: Sink>(&self, out: &mut K) -> Result<(), Failed> {
+        put_all(out, &[self.0, self.0, self.0])
+    }
+}
+
+#[test]
+fn texts_go_out_by_pages(rt: HostRuntime) -> Result<(), Fail> {
+    for (size, calls) in [(2, 3), (3, 3), (6, 2), (9, 1)] {
+        let fail = vec![in rt.alloc(); calls + 1]?;
+        let mut sink = MemorySink::new(rt.alloc(), fail);
+        let mut page = Page::new(rt.alloc(), size)?;
+        for letter in [b'a', b'b', b'c'] {
+            assert_eq!(rt; put_text(&mut sink, &mut page, &Word(letter)), Ok(()));
+        }
+        assert_eq!(rt; put_page(&mut sink, &mut page), Ok(()));
+        assert_eq!(rt; sink.bytes(), b"aaabbbccc".as_slice());
+        assert_eq!(rt; page.bytes().len(), 0);
+        assert_eq!(rt; sink.put(b"d"), Err(Failed), "pages of {size} bytes");
+    }
+    Ok(())
+}
+
+#[test]
+fn files_and_standard_output(rt: HostRuntime) -> Result<(), Fail> {
+    let name = "nm_io-files_and_standard_output";
+    let _ = fs::remove_file(&rt, name);
+    let mut shelf = FileShelf::new(&rt);
+    assert!(rt;
+        matches!(
+            read_all(rt.alloc(), &mut shelf, name, 99),
+            Err(ReadError::Failed)
+        )
+    );
+    assert_eq!(rt; append_all(&mut shelf, name, b"user a\n"), Ok(()));
+    assert_eq!(rt; append_all(&mut shelf, name, b"user b\n"), Ok(()));
+    let contents = read_all(rt.alloc(), &mut shelf, name, 14);
+    fs::remove_file(&rt, name)?;
+    match contents {
+        Ok(found) => assert_eq!(rt; found.as_slice(), SCRIPT.as_slice()),
+        Err(error) => assert!(rt; false, "{error:?}"),
+    }
+    assert_eq!(rt; put_all(&mut StdSink::new(&rt), SCRIPT), Ok(()));
+    NoGate.pass(1, Stage::Filled);
+    Ok(())
+}

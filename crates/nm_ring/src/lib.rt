@@ -1,0 +1,10 @@
+//! The positions of a netmap ring: head, cur and tail, as netmap(4) has them.
+#![tactic(auto)]
+
+pub mod laws;
+mod ring;
+#[cfg(test)]
+mod tests;
+
+pub use nm_types::RingFault;
+pub use ring::Ring;

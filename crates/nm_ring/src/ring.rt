@@ -1,0 +1,178 @@
+ghost use Rattle.std.specs.Prelude.{◌≡◌, ◌≢◌, ◌↔◌, ◌<◌, ◌≤◌, MatchResult, IsOk, IsTrue, None, Some};
+ghost use Rattle.nm_types.specs.Positions.{IsRingSize, IsRing, FitsRing, dist, opened_tx, opened_rx, advanced};
+ghost use Rattle.nm_types.specs.SyncChecks.{ring_refusal};
+ghost use Rattle.nm_types.specs.Reset.{reset_positions};
+
+use nm_types::RingFault;
+use std::marker::Model;
+
+/// The positions of a ring of 2 to 1024 slots. The user writes head and cur, which may be any
+/// numbers; the tail is the kernel side's, which keeps the last accepted head and the last tail.
+#[derive(Clone, Copy, PartialEq, Eq)]
+pub struct Ring {
+    size: u32,
+    head: u32,
+    cur: u32,
+    tail: u32,
+    accepted_head: u32,
+    last_tail: u32,
+}
+
+impl Model for Ring {
+    ghost use Rattle.nm_types.specs.Positions.{RingState, IsRing};
+
+    ghost Value = { RingState };
+
+    ghost view = { λ r. record { size = r.size; head = r.head; cur = r.cur; tail = r.tail; accepted_head = r.accepted_head; last_tail = r.last_tail } };
+
+    ghost invariant = { λ r. IsRing (record { size = r.size; head = r.head; cur = r.cur; tail = r.tail; accepted_head = r.accepted_head; last_tail = r.last_tail }) };
+
+    ghost inverse = { λ r. record { size = r.size; head = r.head; cur = r.cur; tail = r.tail; accepted_head = r.accepted_head; last_tail = r.last_tail } };
+}
+
+fn dist(size: u32, from: u32, to: u32) -> u32
+    requires size { IsRingSize size }
+    requires from { from < size }
+    requires to { to < size }
+    ensures { result ≡ dist size from to }
+{
+    (to + size - from) % size
+}
+
+impl Ring {
+    /// An opened transmit ring: all its slots but one are the user's.
+    pub fn tx(size: u32) -> Ring
+        requires { IsRingSize size }
+        ensures { result ≡ opened_tx size }
+    {
+        Ring {
+            size,
+            head: 0,
+            cur: 0,
+            tail: size - 1,
+            accepted_head: 0,
+            last_tail: size - 1,
+        }
+    }
+
+    /// An opened receive ring: none of its slots is the user's.
+    pub fn rx(size: u32) -> Ring
+        requires { IsRingSize size }
+        ensures { result ≡ opened_rx size }
+    {
+        Ring {
+            size,
+            head: 0,
+            cur: 0,
+            tail: 0,
+            accepted_head: 0,
+            last_tail: 0,
+        }
+    }
+
+    /// The number of slots.
+    pub fn size(&self) -> u32
+        ensures size { result ≡ self.now.size }
+        ensures ring { IsRing self.now }
+    {
+        self.size
+    }
+
+    /// The user's head: any number.
+    pub fn head(&self) -> u32
+        ensures { result ≡ self.now.head }
+    {
+        self.head
+    }
+
+    /// The user's cur: any number.
+    pub fn cur(&self) -> u32
+        ensures { result ≡ self.now.cur }
+    {
+        self.cur
+    }
+
+    /// The tail, a position.
+    pub fn tail(&self) -> u32
+        ensures tail { result ≡ self.now.tail }
+        ensures ring { IsRing self.now }
+    {
+        self.tail
+    }
+
+    /// Stores a head, also one that no sync accepts.
+    pub fn put_head(&mut self, head: u32)
+        ensures { self.new ≡ record self.old { head = head } }
+    {
+        self.head = head;
+    }
+
+    /// Stores a cur, also one that no sync accepts.
+    pub fn put_cur(&mut self, cur: u32)
+        ensures { self.new ≡ record self.old { cur = cur } }
+    {
+        self.cur = cur;
+    }
+
+    /// Whether a sync accepts a head and a cur: `HeadOut` where the head is no position or lies beyond
+    /// the tail, else `CurOut` where the cur is or does, seen from the head.
+    #[tactic(auto, using(nm_types::proofs::RingChecks::ring_checks))]
+    pub fn check(&self, head: u32, cur: u32) -> Result<(), RingFault>
+        ensures refusal { MatchResult result
+            (λ _. ring_refusal self.now head cur ≡ None)
+            (λ fault. ring_refusal self.now head cur ≡ Some fault) }
+        ensures fits { IsOk result ↔ FitsRing self.now head cur }
+    {
+        let (size, from, to) = (self.size, self.accepted_head, self.last_tail);
+        if head >= size || dist(size, from, head) > dist(size, from, to) {
+            return Err(RingFault::HeadOut { head, from, to });
+        }
+        if cur >= size || dist(size, head, cur) > dist(size, head, to) {
+            return Err(RingFault::CurOut {
+                cur,
+                from: head,
+                to,
+            });
+        }
+        Ok(())
+    }
+
+    /// Takes over positions that `check` accepts, with the tail that the sync left.
+    pub fn advance(&mut self, head: u32, cur: u32, tail: u32)
+        requires fits { FitsRing self.old head cur }
+        requires tail { tail < self.old.size }
+        ensures { self.new ≡ advanced self.old head cur tail }
+    {
+        self.head = head;
+        self.cur = cur;
+        self.tail = tail;
+        self.accepted_head = head;
+        self.last_tail = tail;
+    }
+
+    /// Takes the positions back to those last accepted.
+    pub fn reset(&mut self)
+        ensures { self.new ≡ reset_positions self.old }
+    {
+        self.head = self.accepted_head;
+        self.cur = self.accepted_head;
+        self.tail = self.last_tail;
+    }
+
+    /// The first of the user's slots, and how many there are, going round.
+    pub fn user_range(&self) -> (u32, u32)
+        ensures start { result.0 ≡ self.now.accepted_head }
+        ensures count { result.1 ≡ dist self.now.size self.now.accepted_head self.now.last_tail }
+        ensures ring { IsRing self.now }
+    {
+        let count = dist(self.size, self.accepted_head, self.last_tail);
+        (self.accepted_head, count)
+    }
+
+    /// Whether a user who waits for the ring would be woken.
+    pub fn would_wake(&self) -> bool
+        ensures { IsTrue result ↔ (self.now.cur ≢ self.now.tail) }
+    {
+        self.cur != self.tail
+    }
+}

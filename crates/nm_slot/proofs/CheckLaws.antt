@@ -1,0 +1,98 @@
+-- The laws of the checks, from those of one slot.
+use Rattle.std.proofs.Common.{ℕ, Bool, true, false, ◌≡◌, List, [], ◌∷◌, ◌++◌, Option, Some, None, option_map, if◌then◌else◌, refl}
+use Rattle.nm_types.specs.declared.id.Side.{Side}
+use Rattle.nm_types.specs.declared.fault.SyncFault.{SyncFault}
+use Rattle.nm_types.specs.declared.refusal.RingFault.{RingFault}
+use Rattle.nm_types.specs.declared.refusal.RingFault.TheVariants.{HeadOut, CurOut}
+use Rattle.nm_types.specs.declared.refusal.SlotFault.{SlotFault}
+use Rattle.nm_types.specs.declared.refusal.SlotFault.TheVariants.{Indirect, IndexOut, NotHeld, Doubled, Unannounced, LongLen, Fragment}
+use Rattle.nm_types.specs.Positions.{RingState, FitsRing}
+use Rattle.nm_types.specs.Slots.{Pushed}
+use Rattle.nm_types.specs.SyncFaults.{is_check_fault, ring_sync_fault, slot_sync_fault}
+use Rattle.nm_types.specs.SyncChecks.{is_beyond, ring_refusal, slot_refusal, slots_refusal, first_refusal, seen_of}
+use Rattle.nm_types.proofs.RingChecks.{is_beyond-not, Fits-from_beyond}
+use Rattle.nm_types.proofs.SlotChecks.{first_none, later_none, EachPasses-from_none, slots_refusal-passes, NamesOnce-from_passes}
+use Rattle.nm_types.proofs.Exchanges.{exchanged_here, exchanged_there, exchanged_stays, EachBufferOnce-exchanged, pushed_hold_names}
+use Rattle.nm_slot.specs.Laws.{PassedPositionsFit, PassedSlotsPass, FittingPasses, PassedNamesOnce, RefusalsAreChecks, ExchangeBringsNamed, ExchangeGivesBack, ExchangeLeavesOthers, ExchangeKeepsOnce, PushedHoldNames}
+
+none_of_two : {A : Type 0} → (a b : Bool) (x y : A) → (if a then Some x else if b then Some y else None) ≡ None → (a ≡ false) × (b ≡ false)
+none_of_two true b x y e = cc
+none_of_two false true x y e = cc
+none_of_two false false x y e = (refl, refl)
+
+ring_none : (ring : RingState) → option_map ring_sync_fault (ring_refusal ring ring.head ring.cur) ≡ None → FitsRing ring ring.head ring.cur
+ring_none ring e =
+    let none = none_of_two (is_beyond ring.size ring.accepted_head ring.last_tail ring.head) (is_beyond ring.size ring.head ring.last_tail ring.cur) _ _ (no_fault (ring_refusal ring ring.head ring.cur) e) in
+    Fits-from_beyond ring.size ring.accepted_head ring.last_tail ring.head ring.cur none.0 none.1
+  where
+    no_fault : (o : Option RingFault) → option_map ring_sync_fault o ≡ None → o ≡ None
+    no_fault None e = refl
+    no_fault (Some fault) e = cc
+
+pub passed_positions_fit : PassedPositionsFit
+passed_positions_fit side pool named ring pushed passes =
+    ring_none ring (first_none (option_map ring_sync_fault (ring_refusal ring ring.head ring.cur)) (slots_refusal side pool named [] pushed) passes)
+
+pub passed_slots_pass : PassedSlotsPass
+passed_slots_pass side pool named ring pushed passes =
+    EachPasses-from_none side pool named [] pushed (later_none (option_map ring_sync_fault (ring_refusal ring ring.head ring.cur)) (slots_refusal side pool named [] pushed) passes)
+
+pub fitting_passes : FittingPasses
+fitting_passes side pool named ring pushed fits passes =
+    let head = is_beyond-not ring.size ring.accepted_head ring.last_tail ring.head fits.head_within fits.head_reach in
+    let cur = is_beyond-not ring.size ring.head ring.last_tail ring.cur fits.cur_within fits.cur_reach in
+    let slots = slots_refusal-passes side pool named [] pushed passes in
+    rw (head, cur) slots
+
+pub passed_names_once : PassedNamesOnce
+passed_names_once side pool named pushed passes = NamesOnce-from_passes side pool named [] pushed passes
+
+some_check : (this that : SyncFault) → is_check_fault this ≡ true → Some this ≡ Some that → is_check_fault that ≡ true
+some_check this that h e = let same : this ≡ that = cc in rw same at h
+
+ring_is_check : (o : Option RingFault) (later : Option SyncFault) (fault : SyncFault) → ((f : SyncFault) → later ≡ Some f → is_check_fault f ≡ true)
+    → first_refusal (option_map ring_sync_fault o) later ≡ Some fault → is_check_fault fault ≡ true
+ring_is_check None later fault rest e = rest fault e
+ring_is_check (Some (HeadOut head from to)) later fault rest e = some_check (ring_sync_fault (HeadOut head from to)) fault refl e
+ring_is_check (Some (CurOut cur from to)) later fault rest e = some_check (ring_sync_fault (CurOut cur from to)) fault refl e
+
+slot_is_check : (o : Option SlotFault) (later : Option SyncFault) (fault : SyncFault) → ((f : SyncFault) → later ≡ Some f → is_check_fault f ≡ true)
+    → first_refusal (option_map slot_sync_fault o) later ≡ Some fault → is_check_fault fault ≡ true
+slot_is_check None later fault rest e = rest fault e
+slot_is_check (Some (Indirect at)) later fault rest e = some_check _ fault refl e
+slot_is_check (Some (IndexOut at idx)) later fault rest e = some_check _ fault refl e
+slot_is_check (Some (NotHeld at idx)) later fault rest e = some_check _ fault refl e
+slot_is_check (Some (Doubled at idx)) later fault rest e = some_check _ fault refl e
+slot_is_check (Some (Unannounced at idx was)) later fault rest e = some_check _ fault refl e
+slot_is_check (Some (LongLen at len)) later fault rest e = some_check _ fault refl e
+slot_is_check (Some (Fragment at)) later fault rest e = some_check _ fault refl e
+
+slots_are_checks : (side : Side) (pool : ℕ) (named earlier : List ℕ) (pushed : List Pushed) (fault : SyncFault) → slots_refusal side pool named earlier pushed ≡ Some fault → is_check_fault fault ≡ true
+slots_are_checks side pool named earlier [] fault e = cc
+slots_are_checks side pool named earlier (p ∷ ps) fault e =
+    slot_is_check (slot_refusal side (seen_of pool named earlier p) p.at p.slot) (slots_refusal side pool named (earlier ++ p.slot.buf_idx ∷ []) ps) fault
+    (λ (f : SyncFault) (h : slots_refusal side pool named (earlier ++ p.slot.buf_idx ∷ []) ps ≡ Some f). slots_are_checks side pool named (earlier ++ p.slot.buf_idx ∷ []) ps f h) e
+
+pub refusals_are_checks : RefusalsAreChecks
+refusals_are_checks side pool named ring pushed fault e =
+    ring_is_check (ring_refusal ring ring.head ring.cur) (slots_refusal side pool named [] pushed) fault
+    (λ (f : SyncFault) (h : slots_refusal side pool named [] pushed ≡ Some f). slots_are_checks side pool named [] pushed f h) e
+
+pub ruleset check_laws = (passed_positions_fit, passed_slots_pass, fitting_passes, passed_names_once, refusals_are_checks)
+
+pub exchange_brings_named : ExchangeBringsNamed
+exchange_brings_named held place idx was e = exchanged_here held place idx was e
+
+pub exchange_gives_back : ExchangeGivesBack
+exchange_gives_back held place other idx was e there = exchanged_there held place other idx was e there
+
+pub exchange_leaves_others : ExchangeLeavesOthers
+exchange_leaves_others held place other idx was b e there h k = exchanged_stays held place other idx was b e there h k
+
+pub exchange_keeps_once : ExchangeKeepsOnce
+exchange_keeps_once held place idx was e once = EachBufferOnce-exchanged held place idx was e once
+
+pub pushed_places_hold_names : PushedHoldNames
+pushed_places_hold_names namings held once all places names = pushed_hold_names namings held once all places names
+
+pub ruleset exchange_laws = (exchange_brings_named, exchange_gives_back, exchange_leaves_others, exchange_keeps_once, pushed_places_hold_names)

@@ -1,0 +1,53 @@
+-- Laws of the checks of a sync, and of the exchange that an accepted one makes.
+use Rattle.std.specs.Prelude.{ℕ, ◌≡◌, ◌≢◌, nat_eq, true, List, [], map, Some}
+use Rattle.std.specs.List.{IsDistinct}
+use Rattle.nm_types.specs.declared.id.Side.{Side}
+use Rattle.nm_types.specs.declared.fault.SyncFault.{SyncFault}
+use Rattle.nm_types.specs.declared.place.Place.{Place}
+use Rattle.nm_types.specs.Positions.{RingState, FitsRing}
+use Rattle.nm_types.specs.Slots.{Pushed}
+use Rattle.nm_types.specs.Places.{Held, held_at, is_same_place}
+use Rattle.nm_types.specs.Exchange.{exchanged, Naming, after_push, EachBufferOnce, EachIsHeld, EachNamed}
+use Rattle.nm_types.specs.SyncFaults.{is_check_fault}
+use Rattle.nm_types.specs.SyncChecks.{refusal_of, PassesChecks, EachPasses, NamesOnce}
+
+-- a sync that no check refuses has positions that fit, and each of its slots passes
+abbrev pub PassedPositionsFit : Type 0
+PassedPositionsFit = (side : Side) (pool : ℕ) (named : List ℕ) (ring : RingState) (pushed : List Pushed) → PassesChecks side pool named ring pushed → FitsRing ring ring.head ring.cur
+
+abbrev pub PassedSlotsPass : Type 0
+PassedSlotsPass = (side : Side) (pool : ℕ) (named : List ℕ) (ring : RingState) (pushed : List Pushed) → PassesChecks side pool named ring pushed → EachPasses side pool named [] pushed
+
+-- and where these hold no check refuses
+abbrev pub FittingPasses : Type 0
+FittingPasses = (side : Side) (pool : ℕ) (named : List ℕ) (ring : RingState) (pushed : List Pushed) → FitsRing ring ring.head ring.cur → EachPasses side pool named [] pushed → PassesChecks side pool named ring pushed
+
+-- slots that pass name buffers of the session, none of them twice
+abbrev pub PassedNamesOnce : Type 0
+PassedNamesOnce = (side : Side) (pool : ℕ) (named : List ℕ) (pushed : List Pushed) → EachPasses side pool named [] pushed → NamesOnce named pushed
+
+-- a refusal is one of the nine after which a ring is reset
+abbrev pub RefusalsAreChecks : Type 0
+RefusalsAreChecks = (side : Side) (pool : ℕ) (named : List ℕ) (ring : RingState) (pushed : List Pushed) (fault : SyncFault) → refusal_of side pool named ring pushed ≡ Some fault → is_check_fault fault ≡ true
+
+-- an exchange of a place that holds a buffer: the place then holds the buffer named, the place of that
+-- one holds the other, and no other place changes
+abbrev pub ExchangeBringsNamed : Type 0
+ExchangeBringsNamed = (held : List Held) (place : Place) (idx was : ℕ) → held_at held place ≡ Some was → held_at (exchanged held place idx) place ≡ Some idx
+
+abbrev pub ExchangeGivesBack : Type 0
+ExchangeGivesBack = (held : List Held) (place other : Place) (idx was : ℕ) → held_at held place ≡ Some was → held_at held other ≡ Some idx
+    → held_at (exchanged held place idx) other ≡ Some was
+
+abbrev pub ExchangeLeavesOthers : Type 0
+ExchangeLeavesOthers = (held : List Held) (place other : Place) (idx was b : ℕ) → held_at held place ≡ Some was → held_at held other ≡ Some b → b ≢ was → b ≢ idx
+    → held_at (exchanged held place idx) other ≡ Some b
+
+abbrev pub ExchangeKeepsOnce : Type 0
+ExchangeKeepsOnce = (held : List Held) (place : Place) (idx was : ℕ) → held_at held place ≡ Some was → EachBufferOnce held → EachBufferOnce (exchanged held place idx)
+
+-- after a push whose slots name no buffer twice each pushed place holds the buffer that its slot names
+abbrev pub PushedHoldNames : Type 0
+PushedHoldNames = (namings : List Naming) (held : List Held) → EachBufferOnce held → EachIsHeld held namings
+    → IsDistinct is_same_place (map (λ (n : Naming). n.place) namings) → IsDistinct nat_eq (map (λ (n : Naming). n.idx) namings)
+    → EachNamed (after_push held namings) namings

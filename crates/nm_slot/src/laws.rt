@@ -1,0 +1,37 @@
+//! Laws of the checks of a sync, and of the exchange that an accepted one makes. Each function does nothing; its contract is a law about the
+//! definitions, which the check proves.
+#![tactic(auto, using(crate::proofs::CheckLaws::check_laws))]
+
+ghost use Rattle.nm_slot.specs.Laws.{PassedPositionsFit, PassedSlotsPass, FittingPasses, PassedNamesOnce, RefusalsAreChecks, ExchangeBringsNamed, ExchangeGivesBack, ExchangeLeavesOthers, ExchangeKeepsOnce, PushedHoldNames};
+
+/// No check refuses a sync exactly where its positions fit and each pushed slot passes.
+pub fn checks_pass_what_fits()
+    ensures fit { PassedPositionsFit }
+    ensures slots { PassedSlotsPass }
+    ensures converse { FittingPasses }
+{}
+
+/// The slots of an accepted push name buffers of the session, none of them twice.
+pub fn names_stand_once()
+    ensures { PassedNamesOnce }
+{}
+
+/// A refusal is one of the nine after which a ring is reset.
+pub fn refusals_are_checks()
+    ensures { RefusalsAreChecks }
+{}
+
+/// In an exchange two buffers change places, and nothing else moves.
+#[tactic(auto, using(crate::proofs::CheckLaws::exchange_laws))]
+pub fn exchanges_move_two()
+    ensures here { ExchangeBringsNamed }
+    ensures there { ExchangeGivesBack }
+    ensures others { ExchangeLeavesOthers }
+    ensures once { ExchangeKeepsOnce }
+{}
+
+/// After an accepted push each pushed place holds the buffer that its slot names.
+#[tactic(auto, using(crate::proofs::CheckLaws::exchange_laws))]
+pub fn pushed_places_hold_names()
+    ensures { PushedHoldNames }
+{}

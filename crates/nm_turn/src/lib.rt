@@ -1,0 +1,15 @@
+//! The turn: a lock over one value whose entries make up one counted history.
+#![tactic(auto)]
+
+mod kept;
+mod pass;
+mod rule;
+#[cfg(test)]
+mod tests;
+mod turn;
+mod view;
+
+pub use kept::Kept;
+pub use pass::Pass;
+pub use turn::Turn;
+pub use view::{Known, PassView, Share, Stage};

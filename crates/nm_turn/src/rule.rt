@@ -1,0 +1,110 @@
+//! The rule of the table, and the names of its steps. There are eight kinds of step, and no other touches the table:
+//! the turn is taken or missed (`TakeTurn`), the value goes out (`TakeValue`), an entry is counted (`Commit`),
+//! the value comes in (`PutValue`), the turn is given up (`Release`), a pass is cut in two (`Halve`), and two passes
+//! are made one (`Add`, and `Learn`, which tells what the rule knows of both).
+use crate::kept::Kept;
+use crate::view::PassView;
+use atomic_table::{Join, Play, Split, TableRule};
+use std::marker::PhantomData;
+use std::snapshot::Snapshot;
+
+/// What a pass of a turn over `B` knows.
+pub type View<B> = PassView<<B as Kept>::Entry, <B as Kept>::Fixed>;
+
+/// The rule that each step keeps (`specs/Rule.antt`).
+pub struct Law<B> {
+    kept: PhantomData<B>,
+}
+
+impl<B: Kept> TableRule<Option<B>, View<B>, Snapshot<B>> for Law<B> {
+    ghost use Rattle.nm_turn.specs.Rule.{TurnRule};
+    ghost use Rattle.nm_turn.specs.Passes.{first_view};
+
+    ghost holds = { λ key. TurnRule B.entries B.fixed B.root (B.fixed key.value) };
+
+    ghost first = { λ key. first_view (B.fixed key.value) };
+}
+
+// Word 0 goes from 0 to 1, or is found 1 and stays.
+pub(crate) struct TakeTurn;
+
+impl<B: Kept> Play<Option<B>, View<B>> for TakeTurn {
+    ghost use Rattle.nm_turn.specs.Plays.{takes_turn};
+
+    ghost then = { takes_turn };
+}
+
+// The value leaves its place. It is the one that stands for the history.
+pub(crate) struct TakeValue<B> {
+    kept: PhantomData<B>,
+}
+
+impl<B: Kept> Play<Option<B>, View<B>> for TakeValue<B> {
+    ghost use Rattle.nm_turn.specs.Plays.{takes_value};
+
+    ghost then = { takes_value B.entries B.fixed B.root };
+}
+
+// Word 1 goes up by 1, and the new entry is the pass's own.
+pub(crate) struct Commit<B> {
+    kept: PhantomData<B>,
+}
+
+impl<B: Kept> Play<Option<B>, View<B>> for Commit<B> {
+    ghost use Rattle.nm_turn.specs.Plays.{commits};
+
+    ghost then = { commits B.entries B.root };
+}
+
+// The value is in its place again.
+pub(crate) struct PutValue<B> {
+    kept: PhantomData<B>,
+}
+
+impl<B: Kept> Play<Option<B>, View<B>> for PutValue<B> {
+    ghost use Rattle.nm_turn.specs.Plays.{puts_value};
+
+    ghost then = { puts_value B.root };
+}
+
+// Word 0 goes back to 0.
+pub(crate) struct Release;
+
+impl<B: Kept> Play<Option<B>, View<B>> for Release {
+    ghost use Rattle.nm_turn.specs.Plays.{releases};
+
+    ghost then = { releases };
+}
+
+// What two passes knew that were just made one was known of one history.
+pub(crate) struct Learn<B> {
+    kept: PhantomData<B>,
+}
+
+impl<B: Kept> Play<Option<B>, View<B>> for Learn<B> {
+    ghost use Rattle.nm_turn.specs.Plays.{learns};
+
+    ghost then = { learns B.root };
+}
+
+// The share is halved, and the new pass has made nothing.
+pub(crate) struct Halve;
+
+impl<E, F> Split<PassView<E, F>> for Halve {
+    ghost use Rattle.nm_turn.specs.Passes.{kept_view, forked_view};
+
+    ghost left = { kept_view };
+
+    ghost right = { forked_view };
+}
+
+// The shares are added, and what both made is the pass's own.
+pub(crate) struct Add;
+
+impl<E, F> Join<PassView<E, F>> for Add {
+    ghost use Rattle.nm_turn.specs.Passes.{joining_view, spent_view};
+
+    ghost both = { joining_view };
+
+    ghost spent = { spent_view };
+}

@@ -1,0 +1,16 @@
+-- Laws of lists that several crates use.
+use Rattle.std.proofs.Common.{ℕ, zero, suc, List, [], ◌∷◌, ◌≡◌, ◌+◌, ◌&&◌, Bool, drop, refl, arith, slice_get, Some, Option}
+use Rattle.std.specs.List.{list_all}
+
+-- what is left from an element on
+pub drop-slice_get : {X : Type 0} (xs : List X) (i : ℕ) (x : X) → slice_get xs i ≡ Some x → drop i xs ≡ x ∷ drop (i + 1) xs
+drop-slice_get [] i x e = cc
+drop-slice_get (y ∷ ys) zero x e = cc
+drop-slice_get (y ∷ ys) (suc i) x e =
+    let rest = drop-slice_get ys i x e in
+    let next : suc i + 1 ≡ suc (i + 1) = omega arith in
+    rw next rest
+
+-- a test of all elements from one on, cut at that one
+pub list_all-drop : {X : Type 0} (p : X → Bool) (xs : List X) (i : ℕ) (x : X) → slice_get xs i ≡ Some x → list_all p (drop i xs) ≡ (p x && list_all p (drop (i + 1) xs))
+list_all-drop p xs i x e = rw (drop-slice_get xs i x e) refl

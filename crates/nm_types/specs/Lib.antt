@@ -1,0 +1,15 @@
+pub mod Buffers
+pub mod Chain
+pub mod Cuts
+pub mod Exchange
+pub mod Faults
+pub mod Frames
+pub mod Names
+pub mod Places
+pub mod Positions
+pub mod Reset
+pub mod Runs
+pub mod Sendable
+pub mod Slots
+pub mod SyncChecks
+pub mod SyncFaults

@@ -1,0 +1,28 @@
+//! Words that every crate of vale shares: ids, names, frames, refusals and limits, as netmap(4)
+//! and vale(4) use them.
+#![tactic(auto)]
+
+mod fault;
+mod flags;
+mod frame;
+mod id;
+mod limits;
+mod name;
+mod place;
+mod refusal;
+mod slot;
+#[cfg(test)]
+mod tests;
+
+pub use fault::{BadName, LineCause, NoMemory, OpenFault, Part, StepFault, SyncFault, WatchFault};
+pub use flags::SlotFlags;
+pub use frame::{Batch, Frame};
+pub use id::{Chain, Counts, LeaseId, Mac, PortId, SessionId, Side, Sides};
+pub use limits::{
+    BUFFER_BYTES, DEFAULT_POOL, Limits, MAX_BATCH, MAX_EXTRA, MAX_MONITORS, MAX_PIPE_ENDS,
+    MAX_POOL, MAX_RING, MAX_SWITCH_PORTS, MAX_SWITCHES, MAX_USERS, MIN_RING,
+};
+pub use name::{Kind, Name};
+pub use place::Place;
+pub use refusal::{RingFault, SlotFault};
+pub use slot::{Seen, Slot};

@@ -1,0 +1,21 @@
+/// A slot of a ring, as netmap(4) has it: the buffer that it names, how many of the buffer's bytes
+/// are a frame, its flags (`SlotFlags`), and an address that is kept and not used.
+#[derive(Clone, Copy, Debug, PartialEq, Eq)]
+pub struct Slot {
+    pub buf_idx: u32,
+    pub len: u16,
+    pub flags: u16,
+    pub ptr: u64,
+}
+
+/// What a sync knows of a pushed slot before it judges it: the buffer in the slot's place, the
+/// pool's greatest index, whether the buffer that the slot names is one of the session's named
+/// ones, and whether an earlier slot of the pushed range names it too. `top` is the number of the
+/// pool's buffers plus 1.
+#[derive(Clone, Copy, Debug, PartialEq, Eq)]
+pub struct Seen {
+    pub was: u32,
+    pub top: u32,
+    pub held: bool,
+    pub doubled: bool,
+}

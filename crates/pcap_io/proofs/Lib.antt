@@ -1,0 +1,4 @@
+pub mod Captures
+mod Headers
+mod Records
+pub mod WrittenAgain

@@ -1,0 +1,22 @@
+//! Classic captures: files of the libpcap format 2.4, with Ethernet frames, read whole and written a
+//! record at a time.
+#![tactic(auto)]
+
+mod bytes;
+mod fault;
+mod order;
+mod reading;
+mod record;
+mod writing;
+
+pub use bytes::Bytes;
+pub use fault::PcapFault;
+pub use reading::read;
+pub use record::Record;
+pub use writing::{write_header, write_record};
+
+/// The most captured bytes of a record.
+pub const MAX_CAPTURED: u32 = 262_144;
+
+#[cfg(test)]
+mod tests;

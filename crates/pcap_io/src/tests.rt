@@ -1,0 +1,197 @@
+use super::*;
+use nm_io::{Failed, MemorySink};
+use std::alloc::{AllocError, Global};
+use std::test::Fail;
+
+/// A broadcast from 02:00:00:00:00:0a without payload, of a type for local experiments.
+const FRAME: &[u8; 14] = b"\xff\xff\xff\xff\xff\xff\x02\0\0\0\0\x0a\x88\xb5";
+
+/// A big-endian capture with nanoseconds and one record of 14 bytes out of 64.
+const CAPTURE: &[u8; 54] = b"\xa1\xb2\x3c\x4d\0\x02\0\x04\0\0\0\0\0\0\0\0\0\x04\0\0\0\0\0\x01\
+\0\0\0\x01\0\0\0\x02\0\0\0\x0e\0\0\0\x40\xff\xff\xff\xff\xff\xff\x02\0\0\0\0\x0a\x88\xb5";
+
+const BIG: [u8; 4] = [0xa1, 0xb2, 0xc3, 0xd4];
+
+const BIG_NANOSECONDS: [u8; 4] = [0xa1, 0xb2, 0x3c, 0x4d];
+
+const LITTLE: [u8; 4] = [0xd4, 0xc3, 0xb2, 0xa1];
+
+const LITTLE_NANOSECONDS: [u8; 4] = [0x4d, 0x3c, 0xb2, 0xa1];
+
+fn push_number(out: &mut Vec<u8>, magic: [u8; 4], number: u32) -> Result<(), AllocError> {
+    if magic[0] == 0xa1 {
+        out.extend_from_slice(&number.to_be_bytes())
+    } else {
+        out.extend_from_slice(&number.to_le_bytes())
+    }
+}
+
+/// A capture with this magic, version and link, and for each length a record of so many bytes 7.
+fn capture(
+    alloc: Global,
+    magic: [u8; 4],
+    version: [u8; 4],
+    link: u32,
+    lens: &[u32],
+) -> Result<Vec<u8>, AllocError> {
+    let mut out = Vec::from_slice(alloc, &magic)?;
+    out.extend_from_slice(&version)?;
+    for number in [0, 9, 96, link] {
+        push_number(&mut out, magic, number)?;
+    }
+    for len in lens {
+        for number in [5, 6, *len, 1000] {
+            push_number(&mut out, magic, number)?;
+        }
+        for _ in 0..*len {
+            out.push(7)?;
+        }
+    }
+    Ok(out)
+}
+
+#[test]
+fn capture_read_whole_and_cut(rt: HostRuntime) -> Result<(), Fail> {
+    for len in 0..CAPTURE.len() {
+        let cut = read(rt.alloc(), &CAPTURE[..len]);
+        match cut {
+            Ok(records) => assert!(rt; len == 24 && records.is_empty(), "cut to {len}"),
+            Err(fault) => {
+                let offset = if len < 24 { 0 } else { 24 };
+                assert!(rt;
+                    len != 24 && fault == PcapFault::Truncated { offset },
+                    "cut to {len}: {fault:?}"
+                );
+            }
+        }
+    }
+    let records = read(rt.alloc(), CAPTURE).expect(&rt, "a capture");
+    assert_eq!(rt; records.len(), 1);
+    assert_eq!(rt;
+        (records[0].seconds, records[0].fraction, records[0].original),
+        (1, 2, 64)
+    );
+    assert_eq!(rt; records[0].bytes.as_slice(), FRAME.as_slice());
+    Ok(())
+}
+
+#[test]
+fn captures_of_each_magic(rt: HostRuntime) -> Result<(), Fail> {
+    for (magic, version) in [
+        (BIG, [0, 2, 0, 4]),
+        (BIG_NANOSECONDS, [0, 2, 0, 4]),
+        (LITTLE, [2, 0, 4, 0]),
+        (LITTLE_NANOSECONDS, [2, 0, 4, 0]),
+    ] {
+        for lens in [
+            [].as_slice(),
+            [0, 0].as_slice(),
+            [60, 0, 1514].as_slice(),
+            [MAX_CAPTURED].as_slice(),
+        ] {
+            let bytes = capture(rt.alloc(), magic, version, 0xf000_0001, lens)?;
+            let records = read(rt.alloc(), bytes.as_slice()).expect(&rt, "a capture");
+            assert_eq!(rt; records.len(), lens.len());
+            for (record, len) in records.iter().zip(lens) {
+                assert_eq!(rt;
+                    (record.seconds, record.fraction, record.original),
+                    (5, 6, 1000)
+                );
+                assert_eq!(rt; record.bytes.as_slice().len(), *len as usize);
+                assert!(rt; record.bytes.as_slice().iter().all(|byte| *byte == 7));
+            }
+        }
+    }
+    Ok(())
+}
+
+#[test]
+fn captures_refused(rt: HostRuntime) -> Result<(), Fail> {
+    for (magic, version, link, lens, fault) in [
+        (
+            [0x0a, 0x0d, 0x0d, 0x0a],
+            [2, 0, 4, 0],
+            1,
+            [].as_slice(),
+            PcapFault::BadMagic { magic: 0x0a0d_0d0a },
+        ),
+        (
+            [0xa1, 0xb2, 0xcd, 0x34],
+            [0, 2, 0, 4],
+            1,
+            [].as_slice(),
+            PcapFault::BadMagic { magic: 0xa1b2_cd34 },
+        ),
+        (
+            LITTLE,
+            [2, 0, 3, 0],
+            1,
+            [].as_slice(),
+            PcapFault::BadVersion { major: 2, minor: 3 },
+        ),
+        (
+            BIG,
+            [1, 2, 0, 4],
+            2,
+            [].as_slice(),
+            PcapFault::BadVersion {
+                major: 258,
+                minor: 4,
+            },
+        ),
+        (
+            BIG,
+            [0, 2, 0, 4],
+            0xf000_0065,
+            [60].as_slice(),
+            PcapFault::BadLink { link: 0xf000_0065 },
+        ),
+        (
+            LITTLE,
+            [2, 0, 4, 0],
+            0x1_0000,
+            [60].as_slice(),
+            PcapFault::BadLink { link: 0x1_0000 },
+        ),
+        (
+            LITTLE,
+            [2, 0, 4, 0],
+            1,
+            [60, MAX_CAPTURED + 1].as_slice(),
+            PcapFault::LongRecord {
+                offset: 100,
+                len: 262_145,
+            },
+        ),
+    ] {
+        let bytes = capture(rt.alloc(), magic, version, link, lens)?;
+        assert!(rt;
+            matches!(read(rt.alloc(), bytes.as_slice()), Err(found) if found == fault),
+            "{fault:?}"
+        );
+    }
+    Ok(())
+}
+
+#[test]
+fn captures_written_are_read_again(rt: HostRuntime) -> Result<(), Fail> {
+    let whole = b"\xd4\xc3\xb2\xa1\x02\0\x04\0\0\0\0\0\0\0\0\0\0\0\x04\0\x01\0\0\0\
+\x03\0\0\0\x09\0\0\0\x0e\0\0\0\x0e\0\0\0\xff\xff\xff\xff\xff\xff\x02\0\0\0\0\x0a\x88\xb5";
+    for failing in 1..5 {
+        let mut out = MemorySink::new(rt.alloc(), vec![in rt.alloc(); failing]?);
+        let written = write_header(&mut out).is_ok() && write_record(&mut out, 3, 9, FRAME).is_ok();
+        assert_eq!(rt; written, failing == 4);
+        assert!(rt; whole.starts_with(out.bytes()));
+        if written {
+            assert_eq!(rt; out.bytes(), whole.as_slice());
+            let records = read(rt.alloc(), out.bytes()).expect(&rt, "a capture");
+            assert_eq!(rt; records.len(), 1);
+            assert_eq!(rt;
+                (records[0].seconds, records[0].fraction, records[0].original),
+                (3, 9, 14)
+            );
+            assert_eq!(rt; records[0].bytes.as_slice(), FRAME.as_slice());
+        }
+    }
+    Ok(())
+}

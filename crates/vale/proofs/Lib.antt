@@ -1,0 +1,9 @@
+mod Cuts
+mod Enters
+mod Entries
+mod Flat
+mod Numerals
+mod Pairs
+mod PortNames
+mod Runs
+mod Seen

@@ -1,0 +1,60 @@
+-- How a run ends: the status of the process, and the line on standard error.
+use Rattle.std.specs.Prelude.{ℕ, List, [], ◌++◌, codes, decimal, string_bytes}
+use Rattle.nm_types.specs.declared.fault.LineCause.{LineCause}
+use Rattle.nm_types.specs.declared.fault.LineCause.TheVariants.{Word, Count, Number, Name, User, Port, Order, Twice}
+use Rattle.vale.specs.declared.status.What.{What}
+use Rattle.vale.specs.declared.status.What.TheVariants.{Script, Entries, Bytes}
+use Rattle.vale.specs.declared.status.Status.{Status}
+use Rattle.vale.specs.declared.status.Status.TheVariants.{Done, Usage, BadScript, ReadFault, WriteFault, Over, NoMemory}
+
+abbrev pub code_of : Status → ℕ
+code_of Done = 0
+code_of Usage = 2
+code_of (BadScript line cause) = 3
+code_of (ReadFault name) = 4
+code_of WriteFault = 5
+code_of (Over what count limit) = 7
+code_of NoMemory = 8
+
+abbrev pub cause_text : LineCause → List ℕ
+cause_text Word = codes "word"
+cause_text Count = codes "count"
+cause_text Number = codes "number"
+cause_text Name = codes "name"
+cause_text User = codes "user"
+cause_text Port = codes "port"
+cause_text Order = codes "order"
+cause_text Twice = codes "twice"
+
+abbrev pub what_text : What → List ℕ
+what_text Script = codes "script"
+what_text Entries = codes "entries"
+what_text Bytes = codes "bytes"
+
+unfoldable pub usage_line : List ℕ
+usage_line = codes "usage: vale run SCRIPT\n"
+
+unfoldable pub bad_script_line : ℕ → List ℕ → List ℕ
+bad_script_line line cause = codes "vale: script line " ++ decimal line ++ codes ": " ++ cause ++ codes "\n"
+
+unfoldable pub read_fault_line : List ℕ → List ℕ
+read_fault_line name = codes "vale: cannot read " ++ name ++ codes "\n"
+
+unfoldable pub write_fault_line : List ℕ
+write_fault_line = codes "vale: cannot write\n"
+
+unfoldable pub over_line : List ℕ → ℕ → ℕ → List ℕ
+over_line what count limit = codes "vale: " ++ what ++ codes " " ++ decimal count ++ codes " over " ++ decimal limit ++ codes "\n"
+
+unfoldable pub no_memory_line : List ℕ
+no_memory_line = codes "vale: no memory\n"
+
+-- the line on standard error
+abbrev pub status_text : Status → List ℕ
+status_text Done = []
+status_text Usage = usage_line
+status_text (BadScript line cause) = bad_script_line line (cause_text cause)
+status_text (ReadFault name) = read_fault_line (string_bytes name)
+status_text WriteFault = write_fault_line
+status_text (Over what count limit) = over_line (what_text what) count limit
+status_text NoMemory = no_memory_line

@@ -1,0 +1,36 @@
+-- What a book answers to an ask whose step is known.
+use Rattle.std.proofs.Common.{ℕ, ◌≡◌, ◌+◌, length, sym, ◌∙◌, ap, subst, Some}
+use Rattle.nm_types.specs.declared.fault.Part.TheVariants.{Entries, Bytes}
+use Rattle.nm_types.specs.declared.fault.StepFault.{StepFault}
+use Rattle.nm_types.specs.declared.fault.StepFault.TheVariants.{RecordFull, NoMemory}
+use Rattle.vale_entry.specs.declared.entry.Ask.{Ask}
+use Rattle.vale_entry.specs.Legal.{Outcome, standing_of, world_of, step}
+use Rattle.vale_entry.specs.Room.{promised_of, room_wanted, bytes_of}
+use Rattle.vale_entry.specs.Stored.{Stored, Fits, IsFull}
+use Rattle.vale_book.specs.Recorded.{Recorded, standing, after_outcome, after_ask, with_step, IsFullFor, refused_by, IsRefusal, HasRoomFor, room_by, HasRoom}
+
+pub after-step : (b : Recorded) (ask : Ask) (made : Outcome) → step (standing b) ask ≡ Some made → after_ask b ask ≡ with_step b ask made
+after-step b ask made is = ap (after_outcome b ask) is
+
+-- the record of a history over a pool
+abbrev pub recorded_in : ℕ → Stored → Recorded
+recorded_in pool stored = record { pool = pool; limits = stored.limits; entries = stored.entries }
+
+full-for : (pool : ℕ) (stored : Stored) (ask : Ask) (made : Outcome) (fault : StepFault) → stored.promised ≡ promised_of (world_of pool stored.entries)
+    → IsFull stored (room_wanted ask made.reply) (bytes_of ask made.reply) fault → IsFullFor (recorded_in pool stored) ask made fault
+full-for pool stored ask made (RecordFull Entries used want) owed full = (full.0 ∙ ap (λ n. length stored.entries + n) owed, full.1, full.2)
+full-for pool stored ask made (RecordFull Bytes used want) owed full = (rw (← owed) full.0, full.1, full.2, full.3)
+full-for pool stored ask made NoMemory owed full = tt
+
+pub refusal-step : (pool : ℕ) (stored : Stored) (ask : Ask) (made : Outcome) (fault : StepFault) → stored.promised ≡ promised_of (world_of pool stored.entries)
+    → step (standing_of pool stored.entries) ask ≡ Some made
+    → IsFull stored (room_wanted ask made.reply) (bytes_of ask made.reply) fault → IsRefusal (recorded_in pool stored) ask fault
+refusal-step pool stored ask made fault owed is full =
+    subst (refused_by (recorded_in pool stored) ask fault) (sym is) (full-for pool stored ask made fault owed full)
+
+pub room-step : (pool : ℕ) (stored : Stored) (ask : Ask) (made : Outcome) → stored.promised ≡ promised_of (world_of pool stored.entries)
+    → step (standing_of pool stored.entries) ask ≡ Some made
+    → Fits stored (room_wanted ask made.reply) (bytes_of ask made.reply) → HasRoom (recorded_in pool stored) ask
+room-step pool stored ask made owed is fits =
+    let room : HasRoomFor (recorded_in pool stored) ask made = (rw (← owed) fits.0, fits.1) in
+    subst (room_by (recorded_in pool stored) ask) (sym is) room

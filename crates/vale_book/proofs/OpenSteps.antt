@@ -1,0 +1,198 @@
+-- Open: why it is refused, and what stands after it.
+use Rattle.std.proofs.Common.{ℕ, List, [], ◌∷◌, ◌++◌, ◌≡◌, ◌≤◌, ◌+◌, ◌==◌, ◌&&◌, not, nat_le, nat_lt, Bool, true, false, cond, length, map, take, drop, refl, sym, ◌∙◌, ap, arith, Option, Some, None, IsSome, subst}
+use Rattle.std.specs.List.{list_any}
+use Rattle.std.proofs.lemmas.List.{map-append}
+use Rattle.std.proofs.lemmas.Bool.{and_parts, leb-true, eqb-true}
+use Rattle.nm_types.specs.Names.{is_monitor_name}
+use Rattle.nm_types.specs.declared.fault.OpenFault.{OpenFault}
+use Rattle.nm_types.specs.declared.fault.OpenFault.TheVariants.{BadSize, SwitchesFull, PortsFull, NameTaken, NoBuffers, RecordFull, NoMemory}
+use Rattle.vale_entry.specs.Opening.{is_ring_size, are_sizes, finds_switches_full, finds_ports_full, has_name, name_refusal, refusal_or_room, open_refusal, opened_port}
+use Rattle.nm_types.specs.declared.fault.StepFault.{StepFault}
+use Rattle.nm_types.specs.declared.fault.StepFault.TheVariants as steps
+use Rattle.nm_types.specs.Faults.{open_fault_of}
+use Rattle.vale_entry.specs.declared.entry.Ask.{Ask}
+use Rattle.vale_entry.specs.declared.entry.Ask.TheVariants.{Open}
+use Rattle.vale_entry.specs.declared.entry.Reply.TheVariants.{Opened, Refused}
+use Rattle.vale_entry.specs.declared.entry.Entry.{Entry}
+use Rattle.vale_entry.specs.World.{World, Port, Pair, Offer, is_session, free_count}
+use Rattle.vale_entry.specs.Legal.{Standing, Outcome, standing_of, world_of, open_step_by, open_step, step, IsEnabled}
+use Rattle.vale_entry.specs.Room.{promised_of, room_wanted, bytes_of}
+use Rattle.vale_entry.specs.Stored.{Stored, Fits}
+use Rattle.vale_entry.proofs.Roomy.{opened-room}
+use Rattle.vale_entry.proofs.HistoryLaws.{free-rises}
+use Rattle.vale_entry.proofs.Worlds.{count-world_of}
+use Rattle.vale_book.specs.Seat.{Seat, port_of, held_of}
+use Rattle.vale_book.specs.Parts.{Stands}
+use Rattle.vale_book.specs.Recorded.{Recorded, IsRefusal, entry_of}
+use Rattle.vale_book.specs.OpenAnswers.{IsRecordedAs, IsUnopened}
+use Rattle.vale_book.proofs.Stands.{stands-next}
+
+-- a name that is not refused has sizes in range
+sizes_by : (b : Bool) (rest : Option OpenFault) → cond (not b) (Some BadSize) rest ≡ None → b ≡ true
+sizes_by true rest e = refl
+sizes_by false rest e = absurd cc
+
+tx_small : (tx : ℕ) (monitor : Bool) → cond monitor (tx == 0) (is_ring_size tx) ≡ true → tx ≤ 1024
+tx_small tx true e = let none = eqb-true tx 0 e in omega (arith, none)
+tx_small tx false e = leb-true tx 1024 (and_parts (nat_le 2 tx) (nat_le tx 1024) e).1
+
+pub sizes-fit : (ports : List Port) (name : List ℕ) (tx rx extra : ℕ) → None ≡ name_refusal ports name tx rx extra
+    → (tx ≤ 1024) × (2 ≤ rx) × (rx ≤ 1024) × (extra ≤ 1024)
+sizes-fit ports name tx rx extra e =
+    let sizes = sizes_by (are_sizes name tx rx extra) _ (sym e) in
+    let rings = and_parts _ (is_ring_size rx && nat_le extra 1024) sizes in
+    let ring = and_parts (is_ring_size rx) (nat_le extra 1024) rings.1 in
+    let bounds = and_parts (nat_le 2 rx) (nat_le rx 1024) ring.0 in
+    (tx_small tx (is_monitor_name name) rings.0, leb-true 2 rx bounds.0, leb-true rx 1024 bounds.1, leb-true extra 1024 ring.1)
+
+pub ports-more : (seats : List Seat) (seat : Seat) → map port_of (seats ++ seat ∷ []) ≡ map port_of seats ++ seat.port ∷ []
+ports-more seats seat = map-append port_of seats (seat ∷ [])
+
+pub held-more : (seats : List Seat) (seat : Seat) → map held_of (seats ++ seat ∷ []) ≡ map held_of seats ++ seat.held ∷ []
+held-more seats seat = map-append held_of seats (seat ∷ [])
+
+-- the step of an opening by a session that is there
+pub open-made : (pool : ℕ) (h : List Entry) (session : ℕ) (name : List ℕ) (tx rx extra : ℕ) (refusal : Option OpenFault)
+    → is_session (world_of pool h) session ≡ true → open_refusal (world_of pool h) name tx rx extra ≡ refusal
+    → step (standing_of pool h) (Open (record { 0 = session }) name tx rx extra) ≡ Some (open_step_by refusal (standing_of pool h) session name tx rx extra)
+open-made pool h session name tx rx extra refusal here is =
+    ap (λ b. cond b (Some (open_step (standing_of pool h) session name tx rx extra)) None) here
+    ∙ ap (λ (r : Option OpenFault). Some (open_step_by r (standing_of pool h) session name tx rx extra)) is
+
+-- why the world refuses is why the parts do
+pub refusal-stands : (pool : ℕ) (h : List Entry) (promised : ℕ) (sessions : List ℕ) (seats : List Seat) (pairs : List Pair) (offers : List Offer) (free : List ℕ) (name : List ℕ) (tx rx extra : ℕ)
+    → Stands pool h promised sessions seats pairs offers free
+    → refusal_or_room (name_refusal (map port_of seats) name tx rx extra) (tx + rx + extra) (length free) ≡ open_refusal (world_of pool h) name tx rx extra
+refusal-stands pool h promised sessions seats pairs offers free name tx rx extra old =
+    let count : length free ≡ free_count (world_of pool h) = ap length old.free_is ∙ (free-rises pool h old.legal).count in
+    let ports : map port_of seats ≡ (world_of pool h).ports = ap (λ (w : World). w.ports) old.world_is in
+    rw (count, ports) refl
+
+-- no more buffers are free than the pool has
+pub free-few : (pool : ℕ) (h : List Entry) (promised : ℕ) (sessions : List ℕ) (seats : List Seat) (pairs : List Pair) (offers : List Offer) (free : List ℕ)
+    → Stands pool h promised sessions seats pairs offers free → length free ≤ pool
+free-few pool h promised sessions seats pairs offers free old =
+    let count : length free ≡ free_count (world_of pool h) = ap length old.free_is ∙ (free-rises pool h old.legal).count in
+    let same : pool ≡ (world_of pool h).pool = ap (λ (w : World). w.pool) old.world_is in
+    omega (arith, count, same)
+
+-- what stands for the entries stands for them with a refused opening more
+pub stands-refused : (pool : ℕ) (h : List Entry) (promised session : ℕ) (name : List ℕ) (tx rx extra : ℕ) (fault : OpenFault) (sessions : List ℕ) (seats : List Seat) (pairs : List Pair) (offers : List Offer) (free : List ℕ)
+    → Stands pool h promised sessions seats pairs offers free
+    → is_session (world_of pool h) session ≡ true → open_refusal (world_of pool h) name tx rx extra ≡ Some fault
+    → Stands pool (h ++ (record { session = record { 0 = session }; ask = Open (record { 0 = session }) name tx rx extra; reply = Refused fault }) ∷ []) promised sessions seats pairs offers free
+stands-refused pool h promised session name tx rx extra fault sessions seats pairs offers free old here is =
+    let s = standing_of pool h in
+    let made : Outcome = open_step_by (Some fault) s session name tx rx extra in
+    stands-next pool h (Open (record { 0 = session }) name tx rx extra) made promised promised sessions seats pairs offers free old.legal old.promised_is
+    (open-made pool h session name tx rx extra (Some fault) here is) (omega arith) (record {
+      world_is = rw (← old.world_is) refl;
+      free_is = old.free_is;
+      held_is = old.held_is;
+    })
+
+-- and with an opening more, where the port is added and its buffers are taken from the front
+pub stands-opened : (pool : ℕ) (h : List Entry) (promised promised' session : ℕ) (name : List ℕ) (tx rx extra : ℕ) (sessions : List ℕ) (seats seats' : List Seat) (pairs : List Pair) (offers : List Offer) (free free' : List ℕ)
+    → Stands pool h promised sessions seats pairs offers free
+    → is_session (world_of pool h) session ≡ true → open_refusal (world_of pool h) name tx rx extra ≡ None
+    → promised' ≡ promised + 2
+    → map port_of seats' ≡ map port_of seats ++ opened_port (length h + 1) session name tx rx extra ∷ []
+    → map held_of seats' ≡ map held_of seats ++ (record { port = length h + 1; idle = take rx (drop tx free); lots = [] }) ∷ []
+    → free' ≡ drop (tx + rx + extra) free
+    → Stands pool (h ++ (record { session = record { 0 = session }; ask = Open (record { 0 = session }) name tx rx extra; reply = Opened }) ∷ []) promised' sessions seats' pairs offers free'
+stands-opened pool h promised promised' session name tx rx extra sessions seats seats' pairs offers free free' old here is room ports held left =
+    let s = standing_of pool h in
+    let made : Outcome = open_step_by None s session name tx rx extra in
+    stands-next pool h (Open (record { 0 = session }) name tx rx extra) made promised promised' sessions seats' pairs offers free' old.legal old.promised_is
+    (open-made pool h session name tx rx extra None here is) (omega (arith, room)) (record {
+      world_is = rw (ports, ← old.world_is) refl;
+      free_is = left ∙ ap (λ (list : List ℕ). drop (tx + rx + extra) list) old.free_is;
+      held_is = rw (held, old.held_is, old.free_is, count-world_of pool h) refl;
+    })
+
+-- a refusal by name is one of five
+abbrev IsNamed : OpenFault → Type 0
+IsNamed BadSize = Unit {0}
+IsNamed SwitchesFull = Unit {0}
+IsNamed PortsFull = Unit {0}
+IsNamed NameTaken = Unit {0}
+IsNamed (NoBuffers want have) = Unit {0}
+IsNamed (RecordFull what used want) = ⊥
+IsNamed NoMemory = ⊥
+
+abbrev IsNamedIf : Option OpenFault → Type 0
+IsNamedIf None = Unit {0}
+IsNamedIf (Some fault) = IsNamed fault
+
+named_if : (b : Bool) (fault : OpenFault) (rest : Option OpenFault) → IsNamed fault → IsNamedIf rest → IsNamedIf (cond b (Some fault) rest)
+named_if true fault rest one more = one
+named_if false fault rest one more = more
+
+named_or : (refusal : Option OpenFault) (want have : ℕ) → IsNamedIf refusal → IsNamedIf (refusal_or_room refusal want have)
+named_or (Some fault) want have one = one
+named_or None want have one = named_if (nat_lt have want) (NoBuffers want have) None tt tt
+
+refusal-named : (w : World) (name : List ℕ) (tx rx extra : ℕ) → IsNamedIf (open_refusal w name tx rx extra)
+refusal-named w name tx rx extra =
+    let taken = named_if (list_any (has_name name) w.ports) NameTaken None tt tt in
+    let ports = named_if (finds_ports_full w.ports name) PortsFull (cond (list_any (has_name name) w.ports) (Some NameTaken) None) tt taken in
+    let switches = named_if (finds_switches_full w.ports name) SwitchesFull (cond (finds_ports_full w.ports name) (Some PortsFull) (cond (list_any (has_name name) w.ports) (Some NameTaken) None)) tt ports in
+    named_or (name_refusal w.ports name tx rx extra) (tx + rx + extra) (free_count w)
+    (named_if (not (are_sizes name tx rx extra)) BadSize (cond (finds_switches_full w.ports name) (Some SwitchesFull) (cond (finds_ports_full w.ports name) (Some PortsFull) (cond (list_any (has_name name) w.ports) (Some NameTaken) None))) tt switches)
+
+unopened_by : (old new : Recorded) (ask : Ask) (fault : OpenFault) → IsNamed fault → IsRecordedAs old new ask (Refused fault) → IsUnopened old new ask fault
+unopened_by old new ask BadSize one made = made
+unopened_by old new ask SwitchesFull one made = made
+unopened_by old new ask PortsFull one made = made
+unopened_by old new ask NameTaken one made = made
+unopened_by old new ask (NoBuffers want have) one made = made
+unopened_by old new ask (RecordFull what used want) one made = absurd one
+unopened_by old new ask NoMemory one made = absurd one
+
+-- a refusal is answered as its entry says; a fault of the record is answered by the same numbers
+pub unopened-named : (old new : Recorded) (ask : Ask) (w : World) (name : List ℕ) (tx rx extra : ℕ) (fault : OpenFault)
+    → Some fault ≡ open_refusal w name tx rx extra → IsRecordedAs old new ask (Refused fault) → IsUnopened old new ask fault
+unopened-named old new ask w name tx rx extra fault is made =
+    unopened_by old new ask fault (subst IsNamedIf (sym is) (refusal-named w name tx rx extra)) made
+
+pub unopened-full : (old new : Recorded) (ask : Ask) (fault : StepFault) → new ≡ old → IsRefusal old ask fault → IsUnopened old new ask (open_fault_of fault)
+unopened-full old new ask (steps.RecordFull what used want) same full = (same, full)
+unopened-full old new ask steps.NoMemory same full = (same, full)
+
+-- an opening is enabled where its session is there
+here_by : {X : Type 0} (b : Bool) (x : X) → IsSome (cond b (Some x) None) → b ≡ true
+here_by true x e = refl
+here_by false x e = cc
+
+pub enabled-here : (s : Standing) (session : ℕ) (name : List ℕ) (tx rx extra : ℕ) → IsEnabled s (Open (record { 0 = session }) name tx rx extra) → is_session s.world session ≡ true
+enabled-here s session name tx rx extra can = here_by (is_session s.world session) (open_step s session name tx rx extra) can
+
+-- the record has the entry of the step, for which it had room
+recorded-as : (before now : Stored) (pool : ℕ) (ask : Ask) (made : Outcome)
+    → before.promised ≡ promised_of (world_of pool before.entries) → step (standing_of pool before.entries) ask ≡ Some made
+    → now.entries ≡ before.entries ++ entry_of ask made ∷ [] → now.limits ≡ before.limits → Fits before (room_wanted ask made.reply) (bytes_of ask made.reply)
+    → IsRecordedAs (record { pool = pool; limits = before.limits; entries = before.entries }) (record { pool = pool; limits = now.limits; entries = now.entries }) ask made.reply
+recorded-as before now pool ask made owed is entries limits fits = record {
+  reply_is = rw is refl;
+  entry = rw (is, entries, limits) refl;
+  room = rw is (rw (← owed) fits.0, fits.1);
+}
+
+pub recorded-opened : (before now : Stored) (pool session : ℕ) (name : List ℕ) (tx rx extra : ℕ) (sessions : List ℕ) (seats : List Seat) (pairs : List Pair) (offers : List Offer) (free : List ℕ)
+    → Stands pool before.entries before.promised sessions seats pairs offers free
+    → is_session (world_of pool before.entries) session ≡ true → open_refusal (world_of pool before.entries) name tx rx extra ≡ None
+    → now.entries ≡ before.entries ++ (record { session = record { 0 = session }; ask = Open (record { 0 = session }) name tx rx extra; reply = Opened }) ∷ [] → now.limits ≡ before.limits → Fits before 3 0
+    → IsRecordedAs (record { pool = pool; limits = before.limits; entries = before.entries }) (record { pool = pool; limits = now.limits; entries = now.entries }) (Open (record { 0 = session }) name tx rx extra) Opened
+recorded-opened before now pool session name tx rx extra sessions seats pairs offers free old here is entries limits fits =
+    recorded-as before now pool (Open (record { 0 = session }) name tx rx extra) (open_step_by None (standing_of pool before.entries) session name tx rx extra) old.promised_is
+    (open-made pool before.entries session name tx rx extra None here is) entries limits fits
+
+-- a port that is not refused finds its buffers
+pub unrefused-fits : (pool : ℕ) (h : List Entry) (promised : ℕ) (sessions : List ℕ) (seats : List Seat) (pairs : List Pair) (offers : List Offer) (free : List ℕ) (name : List ℕ) (tx rx extra : ℕ)
+    → Stands pool h promised sessions seats pairs offers free → open_refusal (world_of pool h) name tx rx extra ≡ None
+    → tx + rx + extra ≤ length free
+unrefused-fits pool h promised sessions seats pairs offers free name tx rx extra old is =
+    let count : length free ≡ free_count (world_of pool h) = ap length old.free_is ∙ (free-rises pool h old.legal).count in
+    rw count (opened-room (world_of pool h) name tx rx extra is).0
+
+pub ruleset open_steps = (sizes-fit, ports-more, held-more, refusal-stands, free-few, unopened-named, unopened-full)

@@ -1,0 +1,17 @@
+use Rattle.std.proofs.Common.{◌≡◌, rules, reverse, map, Some, option_map}
+use Rattle.vale_entry.specs.World.{Lot}
+use Rattle.vale_entry.specs.Delivery.{lease_at}
+use Rattle.vale_book.specs.Seat.{port_of}
+use Rattle.vale_book.proofs.Dones.{owed-done, stands-done}
+use Rattle.vale_book.proofs.book.Book.done.Goals as goal
+
+pub done-requires : goal.done-requires
+done-requires c =
+    let found : Some c.in-Some.session ≡ option_map (λ (lot : Lot). lot.session) (lease_at (map port_of c.self.inside.ports.items) c.args.lease.0) = search rules in
+    owed-done c.self.inside.pool c.self.inside.history.entries c.self.inside.history.promised c.args.lease.0 c.in-Some.session c.self.inside.sessions.items c.self.inside.ports.items (reverse c.self.inside.pairs.items) c.self.inside.offers.items c.self.inside.free.items c.self.invariant found
+
+pub invariant_of-self : goal.invariant_of-self
+invariant_of-self c =
+    let found : Some c.in-Some.session ≡ option_map (λ (lot : Lot). lot.session) (lease_at (map port_of c.self.inside.ports.items) c.args.lease.0) = search rules in
+    rw c.done.ensures.entries
+    (stands-done c.self.inside.pool c.self.inside.history.entries c.self.inside.history.promised c.done.new.history.promised c.args.lease.0 c.in-Some.session c.self.inside.sessions.items c.self.inside.ports.items c.done.new.ports.items (reverse c.self.inside.pairs.items) c.self.inside.offers.items c.self.inside.free.items c.self.invariant found c.done.ensures.promised c.done.ensures.ports c.done.ensures.held)

@@ -1,0 +1,74 @@
+-- What a book and a drive stand for: the entries that were made over a pool of buffers, within limits.
+use Rattle.std.specs.Prelude.{ℕ, ◌≡◌, ◌+◌, ◌<◌, ◌≤◌, List, [], ◌∷◌, ◌++◌, fold, Option, Some, None}
+use Rattle.nm_types.specs.declared.limits.Limits.{Limits}
+use Rattle.nm_types.specs.declared.fault.Part.TheVariants.{Entries, Bytes}
+use Rattle.nm_types.specs.declared.fault.StepFault.{StepFault}
+use Rattle.nm_types.specs.declared.fault.StepFault.TheVariants.{RecordFull, NoMemory}
+use Rattle.vale_entry.specs.declared.entry.Ask.{Ask}
+use Rattle.vale_entry.specs.declared.entry.Reply.{Reply}
+use Rattle.vale_entry.specs.declared.entry.Entry.{Entry}
+use Rattle.vale_entry.specs.Legal.{Standing, Outcome, step, standing_of}
+use Rattle.vale_entry.specs.Room.{room_used, room_wanted, bytes_of, frame_bytes}
+
+pub record Recorded : Type 0 where
+  pub pool : ℕ
+  pub limits : Limits
+  pub entries : List Entry
+
+abbrev pub standing : Recorded → Standing
+standing b = standing_of b.pool b.entries
+
+-- the entry of a step
+abbrev pub entry_of : Ask → Outcome → Entry
+entry_of ask made = record { session = record { 0 = made.session }; ask = ask; reply = made.reply }
+
+-- the record with the entry of a step more
+abbrev pub with_step : Recorded → Ask → Outcome → Recorded
+with_step b ask made = record b { entries = b.entries ++ entry_of ask made ∷ [] }
+
+-- the record after an ask: with its entry where it is enabled
+abbrev pub after_outcome : Recorded → Ask → Option Outcome → Recorded
+after_outcome b ask None = b
+after_outcome b ask (Some made) = with_step b ask made
+
+abbrev pub after_ask : Recorded → Ask → Recorded
+after_ask b ask = after_outcome b ask (step (standing b) ask)
+
+abbrev pub IsFullFor : Recorded → Ask → Outcome → StepFault → Type 0
+IsFullFor b ask made (RecordFull Entries used want) =
+    (used ≡ room_used b.pool b.entries) × (want ≡ room_wanted ask made.reply) × (b.limits.entries < used + want)
+IsFullFor b ask made (RecordFull Bytes used want) =
+    (room_used b.pool b.entries + room_wanted ask made.reply ≤ b.limits.entries)
+    × (used ≡ frame_bytes b.entries) × (want ≡ bytes_of ask made.reply) × (b.limits.bytes < used + want)
+IsFullFor b ask made NoMemory = Unit {0}
+
+-- the refusal says what of the record is full for the step of this ask
+abbrev pub refused_by : Recorded → Ask → StepFault → Option Outcome → Type 0
+refused_by b ask fault None = ⊥
+refused_by b ask fault (Some made) = IsFullFor b ask made fault
+
+abbrev pub IsRefusal : Recorded → Ask → StepFault → Type 0
+IsRefusal b ask fault = refused_by b ask fault (step (standing b) ask)
+
+-- the record has room for the step
+abbrev pub HasRoomFor : Recorded → Ask → Outcome → Type 0
+HasRoomFor b ask made = (room_used b.pool b.entries + room_wanted ask made.reply ≤ b.limits.entries)
+    × (frame_bytes b.entries + bytes_of ask made.reply ≤ b.limits.bytes)
+
+abbrev pub room_by : Recorded → Ask → Option Outcome → Type 0
+room_by b ask None = Unit {0}
+room_by b ask (Some made) = HasRoomFor b ask made
+
+abbrev pub HasRoom : Recorded → Ask → Type 0
+HasRoom b ask = room_by b ask (step (standing b) ask)
+
+abbrev pub reply_of : Outcome → Reply
+reply_of made = made.reply
+
+-- what is stored and promised is within the limits
+abbrev pub IsWithinLimits : Recorded → Type 0
+IsWithinLimits b = (room_used b.pool b.entries ≤ b.limits.entries) × (frame_bytes b.entries ≤ b.limits.bytes)
+
+-- the record after asks one after another, those passed over that are not enabled
+abbrev pub after_asks : Recorded → List Ask → Recorded
+after_asks b asks = fold after_ask b asks

@@ -1,0 +1,140 @@
+ghost use Rattle.std.specs.Prelude.{◌≡◌, ◌<◌, ◌≤◌, ◌^◌, [], length, OnOk, OnErr, IfOk, IfErr, IsTrue, ◌↔◌};
+ghost use Rattle.vale_entry.specs.Legal.{IsEnabled, IsLegal};
+ghost use Rattle.std.specs.List.{range_with_len};
+ghost use Rattle.vale_entry.specs.declared.entry.Ask.TheVariants as asks;
+ghost use Rattle.vale_entry.specs.Room.{frame_bytes};
+ghost use Rattle.vale_book.specs.Recorded.{standing, after_ask, IsRefusal, HasRoom, IsWithinLimits};
+
+use crate::offer::Offer;
+use crate::pair::Pair;
+use crate::port::Port;
+use crate::{ports, steps};
+use nm_types::{LeaseId, Limits, NoMemory, SessionId, StepFault};
+use std::alloc::{AllocError, Global};
+use std::marker::Model;
+use vale_entry::{Entry, History};
+
+mod grant;
+mod open_port;
+mod send;
+mod sync;
+
+pub use send::Offered;
+
+/// The switches with their ports, what they have learned, and the record of every step.
+///
+/// Contracts see a book as its record: the pool's size, the limits and the entries. Everything else
+/// is what stands after these entries.
+#[derive(Drop)]
+pub struct Book {
+    pool: u32,
+    history: History,
+    sessions: Vec<u32>,
+    ports: Vec<Port>,
+    pairs: Vec<Pair>,
+    offers: Vec<Offer>,
+    free: Vec<u32>,
+    alloc: Global,
+}
+
+impl Model for Book {
+    ghost use Rattle.vale_book.specs.Recorded.{Recorded};
+
+    ghost Value = { Recorded };
+
+    ghost use Rattle.vale_book.specs.BookView.{recorded, IsBook};
+
+    ghost view = { recorded };
+
+    ghost invariant = { IsBook };
+}
+
+/// The buffers of a pool, rising.
+fn all_buffers(alloc: Global, count: u32) -> Result<Vec<u32>, AllocError>
+    requires { count ≤ 65536 }
+    ensures { IfOk result (λ buffers. buffers.items ≡ range_with_len 2 count) }
+{
+    (2..count + 2).collect(alloc)
+}
+
+impl Book {
+    /// A book with no entries, over a pool of so many buffers, all free. A pool has 1 to 65,536
+    /// buffers, and the limit on entries is below 2^32.
+    pub fn new(alloc: Global, buffers: u32, limits: Limits) -> Result<Book, NoMemory>
+        requires pool { buffers ≤ 65536 }
+        requires few { limits.entries < 2 ^ 32 }
+        ensures { IfOk result (λ book. book ≡ record { pool = buffers; limits = limits; entries = [] }) }
+    {
+        Ok(Book {
+            pool: buffers,
+            history: History::new(alloc, limits),
+            sessions: Vec::new(alloc),
+            ports: Vec::new(alloc),
+            pairs: Vec::new(alloc),
+            offers: Vec::new(alloc),
+            free: all_buffers(alloc, buffers)?,
+            alloc,
+        })
+    }
+
+    /// The record of every step: a legal history.
+    pub fn entries(&self) -> &[Entry]
+        ensures entries { result.now ≡ self.now.entries }
+        ensures legal { IsLegal self.now.pool self.now.entries }
+    {
+        self.history.entries()
+    }
+
+    /// How many entries were made, and how many bytes of frames they keep: both are within the limits,
+    /// with what is promised.
+    #[tactic(auto, using(crate::proofs::Limits::limits))]
+    pub fn used(&self) -> (u32, u64)
+        ensures entries { result.0 ≡ length self.now.entries }
+        ensures bytes { result.1 ≡ frame_bytes self.now.entries }
+        ensures within { IsWithinLimits self.now }
+    {
+        (self.history.len(), self.history.frame_bytes())
+    }
+
+    /// The number of buffers in the pool.
+    pub fn buffers(&self) -> u32
+        ensures { result ≡ self.now.pool }
+    {
+        self.pool
+    }
+
+    /// A user comes. Room for its leaving is promised.
+    #[tactic(auto, using(crate::proofs::Enters::enters))]
+    pub fn enter(&mut self, user: u64) -> Result<SessionId, StepFault>
+        ensures made { OnOk result (self.new ≡ after_ask self.old (asks.Enter user)) }
+        ensures id { IfOk result (λ id. id.0 ≡ length self.new.entries) }
+        ensures room { OnOk result (HasRoom self.old (asks.Enter user)) }
+        ensures full { IfErr result (IsRefusal self.old (asks.Enter user)) }
+        ensures err { OnErr result (self.new ≡ self.old) }
+    {
+        match steps::enter(&mut self.history, &mut self.sessions, user) {
+            Ok(number) => Ok(SessionId(number)),
+            Err(fault) => Err(fault),
+        }
+    }
+
+    /// Whether the lease was granted and is not done.
+    #[tactic(auto, using(crate::proofs::Dones::dones))]
+    pub fn can_complete(&self, lease: LeaseId) -> bool
+        ensures { IsTrue result ↔ IsEnabled (standing self.now) (asks.Done lease) }
+    {
+        ports::lessee(&self.ports, lease.0).is_some()
+    }
+
+    /// A lease's buffers are filled.
+    #[tactic(auto, using(crate::proofs::Dones::dones))]
+    pub fn done(&mut self, lease: LeaseId)
+        requires { IsEnabled (standing self.old) (asks.Done lease) }
+        ensures { self.new ≡ after_ask self.old (asks.Done lease) }
+    {
+        match ports::lessee(&self.ports, lease.0) {
+            Some(session) => steps::done(&mut self.history, &mut self.ports, session, lease.0),
+            None => unreachable!(),
+        }
+    }
+}

@@ -1,0 +1,17 @@
+pub mod Worlds
+pub mod Steps
+pub mod ListLaws
+pub mod Each
+pub mod Rising
+pub mod Numbered
+pub mod Places
+pub mod Roomy
+pub mod FreeBuffers
+pub mod Counting
+pub mod Agreeing
+pub mod Held
+pub mod OneEntry
+pub mod SingleLots
+pub mod Promised
+pub mod HistoryLaws
+pub mod HistoryPlaces

@@ -1,0 +1,110 @@
+-- A port's id is found at one place, so a change at the id is a change at the place; and likewise for
+-- the buffers of ports and of sessions.
+use Rattle.std.proofs.Common.{ℕ, zero, suc, ◌≡◌, true, false, cond, ◌==◌, List, [], ◌∷◌, map, take, flat_map, Some, refl, ◌∙◌, ap, subst, arith, not, slice_get, slice_set}
+use Rattle.std.proofs.lemmas.Bool.{eq-eqb, ne_eqb, eqb-true, and_parts}
+use Rattle.vale_entry.specs.declared.entry.Entry.{Entry}
+use Rattle.vale_entry.specs.World.{Port, open_port, is_open_at, changed_if, changed_at}
+use Rattle.vale_entry.specs.Holdings.{PortBuffers, SessionBuffers, changed_buffers, session_given, sessions_given, session_less, sessions_less, buffers_of_session, delivered_buffers}
+use Rattle.vale_entry.specs.Legal.{world_of}
+use Rattle.vale_entry.specs.Laws.{Rise, id_of_port, id_of_held, id_of_session}
+use Rattle.vale_entry.proofs.ListLaws.{place-of}
+use Rattle.vale_entry.proofs.Rising.{map-at_key, find-at_key, rise-slice_get}
+use Rattle.vale_entry.proofs.Numbered.{world-numbered}
+
+pub changed_at-place : (change : Port → Port) (ports : List Port) (high i : ℕ) (port : Port)
+    → Rise 0 (map id_of_port ports) high → slice_get ports i ≡ Some port → changed_at port.id change ports ≡ slice_set ports i (change port)
+changed_at-place change ports high i port r e =
+    let hit : changed_if (port.id == port.id) change port ≡ change port = rw (eq-eqb port.id port.id refl) refl in
+    let all = map-at_key id_of_port (λ (p : Port). changed_if (p.id == port.id) change p) 0 ports high i port r e
+    (λ p other. rw other refl) in
+    all ∙ ap (slice_set ports i) hit
+
+-- an open port that a search finds: where it stands, and what a change at its id does
+pub record OpenPlace (ports : List Port) (id : ℕ) (port : Port) : Type 0 where
+  pub place : ℕ
+  pub here : slice_get ports place ≡ Some port
+  pub id_is : port.id ≡ id
+  pub changes : (change : Port → Port) → changed_at id change ports ≡ slice_set ports place (change port)
+
+pub open-place : (ports : List Port) (high id : ℕ) (port : Port) → Rise 0 (map id_of_port ports) high → open_port ports id ≡ Some port
+    → OpenPlace ports id port
+open-place ports high id port r e =
+    let found = place-of (is_open_at id) ports port e in
+    let same : port.id ≡ id = eqb-true port.id id (and_parts (port.id == id) (not port.shutting) found.passes).0 in
+    record {
+      place = found.place;
+      here = found.here;
+      id_is = same;
+      changes = λ change. subst (λ (k : ℕ). changed_at k change ports ≡ slice_set ports found.place (change port)) same (changed_at-place change ports high found.place port r found.here);
+    }
+
+-- the form for a caller that has the history
+pub changed_at-world : (pool : ℕ) (h : List Entry) (change : Port → Port) (i : ℕ) (port : Port) → slice_get (world_of pool h).ports i ≡ Some port
+    → changed_at port.id change (world_of pool h).ports ≡ slice_set (world_of pool h).ports i (change port)
+changed_at-world pool h change i port e =
+    changed_at-place change (world_of pool h).ports (world_of pool h).entry_count i port (world-numbered pool h).ports_rise e
+
+pub open_port-place : (ports : List Port) (high i : ℕ) (port : Port)
+    → Rise 0 (map id_of_port ports) high → slice_get ports i ≡ Some port → port.shutting ≡ false → open_port ports port.id ≡ Some port
+open_port-place ports high i port r e open' =
+    find-at_key id_of_port (is_open_at port.id) 0 ports high i port r e
+    (rw (eq-eqb port.id port.id refl, open') refl) (λ p other. rw other refl)
+
+pub open_port-world : (pool : ℕ) (h : List Entry) (i : ℕ) (port : Port) → slice_get (world_of pool h).ports i ≡ Some port → port.shutting ≡ false
+    → open_port (world_of pool h).ports port.id ≡ Some port
+open_port-world pool h i port e open' =
+    open_port-place (world_of pool h).ports (world_of pool h).entry_count i port (world-numbered pool h).ports_rise e open'
+
+pub changed_buffers-place : (change : PortBuffers → PortBuffers) (helds : List PortBuffers) (high i : ℕ) (held : PortBuffers)
+    → Rise 0 (map id_of_held helds) high → slice_get helds i ≡ Some held → changed_buffers held.port change helds ≡ slice_set helds i (change held)
+changed_buffers-place change helds high i held r e =
+    let hit : cond (held.port == held.port) (change held) held ≡ change held = rw (eq-eqb held.port held.port refl) refl in
+    let all = map-at_key id_of_held (λ (x : PortBuffers). cond (x.port == held.port) (change x) x) 0 helds high i held r e
+    (λ x other. rw other refl) in
+    all ∙ ap (slice_set helds i) hit
+
+pub sessions_given-place : (more : List ℕ) (helds : List SessionBuffers) (high i : ℕ) (held : SessionBuffers)
+    → Rise 0 (map id_of_session helds) high → slice_get helds i ≡ Some held
+    → sessions_given held.session more helds ≡ slice_set helds i (session_given held.session more held)
+sessions_given-place more helds high i held r e =
+    map-at_key id_of_session (session_given held.session more) 0 helds high i held r e (λ x other. rw other refl)
+
+pub sessions_less-place : (gone : List ℕ) (helds : List SessionBuffers) (high i : ℕ) (held : SessionBuffers)
+    → Rise 0 (map id_of_session helds) high → slice_get helds i ≡ Some held
+    → sessions_less held.session gone helds ≡ slice_set helds i (session_less held.session gone held)
+sessions_less-place gone helds high i held r e =
+    map-at_key id_of_session (session_less held.session gone) 0 helds high i held r e (λ x other. rw other refl)
+
+buffers_of_session-from : (low : ℕ) (helds : List SessionBuffers) (high i : ℕ) (held : SessionBuffers)
+    → Rise low (map id_of_session helds) high → slice_get helds i ≡ Some held → buffers_of_session helds held.session ≡ held.buffers
+buffers_of_session-from low [] high i held r e = absurd cc
+buffers_of_session-from low (x ∷ xs) high zero held r e =
+    let same : x ≡ held = cc in
+    let hit : (x.session == held.session) ≡ true = eq-eqb x.session held.session (ap id_of_session same) in
+    rw hit (ap (λ (y : SessionBuffers). y.buffers) same)
+buffers_of_session-from low (x ∷ xs) high (suc i) held r e =
+    let above = rise-slice_get id_of_session x.session xs high i held r.1 e in
+    let miss : (x.session == held.session) ≡ false = ne_eqb x.session held.session (λ k. omega arith) in
+    rw miss (buffers_of_session-from x.session xs high i held r.1 e)
+
+pub buffers_of_session-place : (helds : List SessionBuffers) (high i : ℕ) (held : SessionBuffers)
+    → Rise 0 (map id_of_session helds) high → slice_get helds i ≡ Some held → buffers_of_session helds held.session ≡ held.buffers
+buffers_of_session-place helds high i held r e = buffers_of_session-from 0 helds high i held r e
+
+delivered_buffers-from : (lots low : ℕ) (helds : List PortBuffers) (high i : ℕ) (held : PortBuffers)
+    → Rise low (map id_of_held helds) high → slice_get helds i ≡ Some held
+    → delivered_buffers held.port lots helds ≡ flat_map (λ list. list) (take lots held.lots)
+delivered_buffers-from lots low [] high i held r e = absurd cc
+delivered_buffers-from lots low (x ∷ xs) high zero held r e =
+    let same : x ≡ held = cc in
+    let hit : (x.port == held.port) ≡ true = eq-eqb x.port held.port (ap id_of_held same) in
+    rw hit (ap (λ (y : PortBuffers). flat_map (λ list. list) (take lots y.lots)) same)
+delivered_buffers-from lots low (x ∷ xs) high (suc i) held r e =
+    let above = rise-slice_get id_of_held x.port xs high i held r.1 e in
+    let miss : (x.port == held.port) ≡ false = ne_eqb x.port held.port (λ k. omega arith) in
+    rw miss (delivered_buffers-from lots x.port xs high i held r.1 e)
+
+pub delivered_buffers-place : (lots : ℕ) (helds : List PortBuffers) (high i : ℕ) (held : PortBuffers)
+    → Rise 0 (map id_of_held helds) high → slice_get helds i ≡ Some held
+    → delivered_buffers held.port lots helds ≡ flat_map (λ list. list) (take lots held.lots)
+delivered_buffers-place lots helds high i held r e = delivered_buffers-from lots 0 helds high i held r e

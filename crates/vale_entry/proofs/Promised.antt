@@ -1,0 +1,237 @@
+-- What an entry leaves promised: an equation for each ask.
+use Rattle.std.proofs.Common.{ℕ, ◌+◌, ◌≤◌, ◌≡◌, Bool, true, false, cond, not, ◌&&◌, ◌==◌, List, [], ◌∷◌, ◌++◌, map, length, drop, find, sum_by, count_by, flat_map, take_while, Option, Some, None, refl, ◌∙◌, ap, subst, arith, length-append, option_map}
+use Rattle.std.specs.List.{prefix_len}
+use Rattle.std.proofs.lemmas.List.{length-map}
+use Rattle.std.proofs.lemmas.List.Sums.{sum_by-cons, sum_by-append, sum_by_push, take_while-cons, sum_by-le-sum_by}
+use Rattle.std.proofs.lemmas.Bool.{eqb-true, ne_eqb}
+use Rattle.nm_types.specs.Frames.{Frame}
+use Rattle.nm_types.specs.declared.fault.OpenFault.{OpenFault}
+use Rattle.vale_entry.specs.declared.entry.Ask.{Ask}
+use Rattle.vale_entry.specs.declared.entry.Ask.TheVariants.{Enter, Open, Send, Grant, Done, Sync}
+use Rattle.vale_entry.specs.declared.entry.Reply.{Reply}
+use Rattle.vale_entry.specs.declared.entry.Entry.{Entry}
+use Rattle.vale_entry.specs.World.{World, Port, Lot, Offer, is_session, open_port, changed_at, space_of}
+use Rattle.vale_entry.specs.Opening.{open_refusal, opened_port}
+use Rattle.vale_entry.specs.Offers.{dest_of, is_offer_of}
+use Rattle.vale_entry.specs.Grant.{first_offer, without_first, longest_fitting, given_at, granted_frames, grant_reply_at, with_lot, port_after_grant}
+use Rattle.vale_entry.specs.Delivery.{lease_at, line_of, is_lease, is_done_lot, ready_lots, done_if, lot_after_done, port_after_done, port_after_sync}
+use Rattle.vale_entry.specs.Room.{room_of_reply, owed_by_port, is_undone, undone_of, promised_of, room_wanted}
+use Rattle.vale_entry.specs.Legal.{Standing, Outcome, step, recorded_step, after, standing_after, enter_step, open_step_by, send_step_at, send_step, can_send, offers_of_send, grant_step_at, grant_step, done_step_at, sync_step_at, sync_step, can_sync, offers_of_sync, Follows, session_and_reply}
+use Rattle.vale_entry.specs.Laws.{Rise, id_of_port, bears_number, AreSingle, room_back, IsPromised}
+use Rattle.vale_entry.proofs.Steps.{recorded-by}
+use Rattle.vale_entry.proofs.ListLaws.{place-of, sum-set, sum-map_same, sum-flat_map, front-rest}
+use Rattle.vale_entry.proofs.Counting.{sum-add}
+use Rattle.vale_entry.proofs.Each.{sum-changed_at, changed_at-same}
+use Rattle.vale_entry.proofs.Places.{open-place}
+use Rattle.vale_entry.proofs.Numbered.{Numbered}
+use Rattle.vale_entry.proofs.SingleLots.{Single}
+
+-- what an outcome leaves, against what its ask wants
+abbrev PromisedNext : World → (Reply → ℕ) → Option Outcome → Type 0
+PromisedNext w want None = Unit {0}
+PromisedNext w want (Some made) = promised_of made.next.world + 1 + room_back made.reply ≡ promised_of w + want made.reply
+
+promised_enter : (s : Standing) → PromisedNext s.world (λ reply. 2) (Some (enter_step s))
+promised_enter s =
+    let sessions = length-append s.world.sessions ((s.world.entry_count + 1) ∷ []) in
+    omega arith
+
+promised_open : (s : Standing) (session : ℕ) (name : List ℕ) (tx rx extra : ℕ) (found : Bool) (refusal : Option OpenFault)
+    → PromisedNext s.world room_of_reply (cond found (Some (open_step_by refusal s session name tx rx extra)) None)
+promised_open s session name tx rx extra false refusal = tt
+promised_open s session name tx rx extra true (Some fault) = omega arith
+promised_open s session name tx rx extra true None =
+    let port = opened_port (s.world.entry_count + 1) session name tx rx extra in
+    let owed : sum_by owed_by_port (s.world.ports ++ port ∷ []) ≡ sum_by owed_by_port s.world.ports + 2 =
+    sum_by_push owed_by_port s.world.ports port in
+    let undone : sum_by undone_of (s.world.ports ++ port ∷ []) ≡ sum_by undone_of s.world.ports + 0 = sum_by_push undone_of s.world.ports port in
+    omega arith
+
+promised_send : (s : Standing) (frames : List Frame) (found : Option Port) → PromisedNext s.world room_of_reply (send_step_at s frames found)
+promised_send s frames None = tt
+promised_send s frames (Some port) = by_test (can_send s.world frames port)
+  where
+    by_test : (can : Bool) → PromisedNext s.world room_of_reply (cond can (Some (send_step s frames port)) None)
+    by_test false = tt
+    by_test true =
+        let new = offers_of_send s.world port frames in
+        let all = length-append s.world.offers new in
+        let dests = length-map new dest_of in
+        omega arith
+
+-- Grant
+without_first_by : (offer : Offer) (offers fewer : List Offer) (here : Bool) (found : Offer) → (find_rest : Option Offer)
+    → (find_rest ≡ Some found → length fewer + 1 ≡ length offers)
+    → cond here (Some offer) find_rest ≡ Some found → length (cond here offers (offer ∷ fewer)) + 1 ≡ length (offer ∷ offers)
+without_first_by offer offers fewer true found rest later e = omega arith
+without_first_by offer offers fewer false found rest later e = let less = later e in omega arith
+
+length-without_first : (origin : ℕ) (offers : List Offer) (found : Offer) → find (is_offer_of origin) offers ≡ Some found
+    → length (without_first origin offers) + 1 ≡ length offers
+length-without_first origin [] found e = absurd cc
+length-without_first origin (offer ∷ offers) found e =
+    without_first_by offer offers (without_first origin offers) (is_offer_of origin offer) found (find (is_offer_of origin) offers) (length-without_first origin offers found) e
+
+with_lot-undone : (number session : ℕ) (given : List Frame) (line : List Lot)
+    → count_by is_undone (with_lot number session given line) + cond (length given == 0) 1 0 ≡ count_by is_undone line + 1
+with_lot-undone number session [] line = refl
+with_lot-undone number session (frame ∷ frames) line =
+    let some : (length (frame ∷ frames) == 0) ≡ false = ne_eqb (length (frame ∷ frames)) 0 (λ e. omega arith) in
+    let sum : count_by is_undone (with_lot number session (frame ∷ frames) line) ≡ count_by is_undone line + 1 =
+    sum_by_push (λ (lot : Lot). cond (is_undone lot) 1 0) line _ in
+    rw some (omega arith)
+
+undone-granted : (number session id : ℕ) (frames : List Frame) (high : ℕ) (ports : List Port) (at : Option Port) → open_port ports id ≡ at
+    → Rise 0 (map id_of_port ports) high
+    → sum_by undone_of (changed_at id (port_after_grant number session (given_at at frames)) ports) + room_back (grant_reply_at at frames) ≡ sum_by undone_of ports + 1
+undone-granted number session id frames high ports None e rise =
+    rw (changed_at-same id (port_after_grant number session []) (λ port. refl) ports) refl
+undone-granted number session id frames high ports (Some port) e rise =
+    let given = longest_fitting (space_of port) frames in
+    let change = port_after_grant number session given in
+    let p = open-place ports high id port rise e in
+    let sum = sum-set undone_of ports p.place port (change port) p.here in
+    let lot = with_lot-undone number session given port.line in
+    let same = ap (sum_by undone_of) (p.changes change) in
+    omega arith
+
+promised_grant : (s : Standing) (origin to : ℕ) (found : Option Offer) → first_offer s.world origin ≡ found → Numbered s
+    → PromisedNext s.world (λ reply. 0) (grant_step_at s to found)
+promised_grant s origin to None e n = tt
+promised_grant s origin to (Some offer) e n = by_test (offer.to == to)
+  where
+    by_test : (same : Bool) → PromisedNext s.world (λ reply. 0) (cond same (Some (grant_step s offer)) None)
+    by_test false = tt
+    by_test true =
+        let w = s.world in
+        let change = port_after_grant (w.entry_count + 1) offer.session (granted_frames w offer) in
+        let mine : offer.origin ≡ origin = eqb-true offer.origin origin (place-of (is_offer_of origin) w.offers offer e).passes in
+        let fewer = length-without_first origin w.offers offer e in
+        let same = ap (λ (k : ℕ). length (without_first k w.offers)) mine in
+        let owed = sum-changed_at owed_by_port offer.to change (λ port. refl) w.ports in
+        let undone =
+        undone-granted (w.entry_count + 1) offer.session offer.to offer.frames w.entry_count w.ports (open_port w.ports offer.to) refl n.ports_rise in
+        omega arith
+
+-- Done
+marked-undone : (number : ℕ) (lot : Lot) (mine done : Bool) → (lot.number == number) ≡ mine → lot.is_done ≡ done
+    → cond {A = ℕ} (is_undone lot) 1 0 ≡ cond (is_undone (done_if mine lot)) 1 0 + cond (mine && is_undone lot) 1 0
+marked-undone number lot true true t d = rw d refl
+marked-undone number lot true false t d = rw d refl
+marked-undone number lot false done t d = omega arith
+
+undone-marked : (number : ℕ) (line : List Lot)
+    → count_by is_undone line ≡ count_by is_undone (map (lot_after_done number) line) + count_by (is_lease number) line
+undone-marked number line =
+    let sum =
+    sum-add (λ (lot : Lot). cond (is_undone (lot_after_done number lot)) 1 0) (λ (lot : Lot). cond (is_lease number lot) 1 0) (λ (lot : Lot). cond (is_undone lot) 1 0)
+    (λ lot. marked-undone number lot (lot.number == number) lot.is_done refl refl) line in
+    let same =
+    sum-map_same (λ (lot : Lot). cond (is_undone lot) 1 0) (λ (lot : Lot). cond (is_undone (lot_after_done number lot)) 1 0) (lot_after_done number) (λ lot. refl) line in
+    omega arith
+
+abbrev leases_of : ℕ → Port → ℕ
+leases_of number port = count_by (is_lease number) port.line
+
+find-count_by : {X : Type 0} (test : X → Bool) (y : X) (ys : List X) (here : Bool) (x : X) → (find test ys ≡ Some x → 1 ≤ count_by test ys)
+    → cond here (Some y) (find test ys) ≡ Some x
+    → 1 ≤ cond here 1 0 + count_by test ys
+find-count_by test y ys true x later e = omega arith
+find-count_by test y ys false x later e = let rest = later e in omega arith
+
+find-count : {X : Type 0} (test : X → Bool) (xs : List X) (x : X) → find test xs ≡ Some x → 1 ≤ count_by test xs
+find-count test [] x e = absurd cc
+find-count test (y ∷ ys) x e =
+    let sum : count_by test (y ∷ ys) ≡ cond (test y) 1 0 + count_by test ys = sum_by-cons (λ z. cond (test z) 1 0) y ys in
+    let least = find-count_by test y ys (test y) x (find-count test ys x) e in
+    omega arith
+
+lease-bears : (mine undone : Bool) → cond {A = ℕ} (mine && undone) 1 0 ≤ cond mine 1 0
+lease-bears true true = omega arith
+lease-bears true false = omega arith
+lease-bears false undone = omega arith
+
+-- exactly one lot is the lease
+one-lease : (ports : List Port) (number : ℕ) (lot : Lot) → lease_at ports number ≡ Some lot → AreSingle ports → sum_by (leases_of number) ports ≡ 1
+one-lease ports number lot e single =
+    let least = find-count (is_lease number) (flat_map line_of ports) lot e in
+    let sum : count_by (is_lease number) (flat_map line_of ports) ≡ sum_by (leases_of number) ports =
+    sum-flat_map (λ (l : Lot). cond (is_lease number l) 1 0) line_of ports in
+    let most : sum_by (leases_of number) ports ≤ sum_by (λ (port : Port). count_by (bears_number number) port.line) ports =
+    sum_by-le-sum_by (leases_of number) (λ (port : Port). count_by (bears_number number) port.line) ports
+    (λ port. sum_by-le-sum_by (λ (l : Lot). cond (is_lease number l) 1 0) (λ (l : Lot). cond (bears_number number l) 1 0) port.line
+    (λ l. lease-bears (l.number == number) (not l.is_done))) in
+    let once = single number in
+    omega arith
+
+promised_done : (s : Standing) (number : ℕ) (found : Option Lot) → lease_at s.world.ports number ≡ found → Single s
+    → PromisedNext s.world (λ reply. 0) (done_step_at s number found)
+promised_done s number None e single = tt
+promised_done s number (Some lot) e single =
+    let ports = s.world.ports in
+    let one = one-lease ports number lot e single in
+    let parts =
+    sum-add (λ (port : Port). undone_of (port_after_done number port)) (leases_of number) undone_of (λ port. undone-marked number port.line) ports in
+    let undone = sum-map_same undone_of (λ (port : Port). undone_of (port_after_done number port)) (port_after_done number) (λ port. refl) ports in
+    let owed = sum-map_same owed_by_port owed_by_port (port_after_done number) (λ port. refl) ports in
+    omega arith
+
+-- Sync
+ready_by : (lot : Lot) (rest : List Lot) (done : Bool) → lot.is_done ≡ done → count_by is_undone rest ≡ 0
+    → count_by is_undone (cond done (lot ∷ rest) []) ≡ 0
+ready_by lot rest true d none =
+    let sum : count_by is_undone (lot ∷ rest) ≡ cond (is_undone lot) 1 0 + count_by is_undone rest =
+    sum_by-cons (λ (l : Lot). cond (is_undone l) 1 0) lot rest in
+    let here : cond {A = ℕ} (is_undone lot) 1 0 ≡ 0 = rw d refl in
+    omega arith
+ready_by lot rest false d none = refl
+
+ready-undone : (line : List Lot) → count_by is_undone (take_while is_done_lot line) ≡ 0
+ready-undone [] = refl
+ready-undone (lot ∷ lots) =
+    ap (count_by is_undone) (take_while-cons is_done_lot lot lots) ∙ ready_by lot (take_while is_done_lot lots) lot.is_done refl (ready-undone lots)
+
+undone-synced : (returned : ℕ) (port : Port) → undone_of (port_after_sync returned port) ≡ undone_of port
+undone-synced returned port =
+    let cut = ap (count_by is_undone) (front-rest (prefix_len is_done_lot port.line) port.line) in
+    let parts = sum_by-append (λ (lot : Lot). cond (is_undone lot) 1 0) (ready_lots port) (drop (length (ready_lots port)) port.line) in
+    let none = ready-undone port.line in
+    omega arith
+
+promised_sync : (s : Standing) (back : List ℕ) (found : Option Port) → PromisedNext s.world room_of_reply (sync_step_at s back found)
+promised_sync s back None = tt
+promised_sync s back (Some port) = by_test (can_sync s back port)
+  where
+    by_test : (can : Bool) → PromisedNext s.world room_of_reply (cond can (Some (sync_step s back port)) None)
+    by_test false = tt
+    by_test true =
+        let new = offers_of_sync s.world port in
+        let all = length-append s.world.offers new in
+        let dests = length-map new dest_of in
+        let undone = sum-changed_at undone_of port.id (port_after_sync (length back)) (undone-synced (length back)) s.world.ports in
+        let owed = sum-changed_at owed_by_port port.id (port_after_sync (length back)) (λ p. refl) s.world.ports in
+        omega arith
+
+promised_step : (s : Standing) (ask : Ask) → Numbered s → Single s → PromisedNext s.world (room_wanted ask) (step s ask)
+promised_step s (Enter user) n single = promised_enter s
+promised_step s (Open session name tx rx extra) n single =
+    promised_open s session.0 name tx rx extra (is_session s.world session.0) (open_refusal s.world name tx rx extra)
+promised_step s (Send port frames) n single = promised_send s frames (open_port s.world.ports port.0)
+promised_step s (Grant origin to) n single = promised_grant s origin to.0 (first_offer s.world origin) refl n
+promised_step s (Done lease) n single = promised_done s lease.0 (lease_at s.world.ports lease.0) refl single
+promised_step s (Sync port back) n single = promised_sync s back (open_port s.world.ports port.0)
+promised_step s _ n single = tt
+
+promised_after : (s : Standing) (e : Entry) (made : Option Outcome) → option_map session_and_reply made ≡ Some (e.session.0, e.reply)
+    → PromisedNext s.world (room_wanted e.ask) made
+    → IsPromised s.world (standing_after s e made).world e.ask e.reply
+promised_after s e None follows next = absurd cc
+promised_after s e (Some made) follows next =
+    let pairs : Some (session_and_reply made) ≡ Some (e.session.0, e.reply) = follows in
+    let both : session_and_reply made ≡ (e.session.0, e.reply) = cc in
+    let same : made.reply ≡ e.reply = ap (λ (p : ℕ × Reply). p.1) both in
+    subst (λ (reply : Reply). promised_of made.next.world + 1 + room_back reply ≡ promised_of s.world + room_wanted e.ask reply) same next
+
+pub promised_entry : (s : Standing) (e : Entry) → Numbered s → Single s → Follows s e → IsPromised s.world (after s e).world e.ask e.reply
+promised_entry s e n single follows =
+    promised_after s e (recorded_step s e.ask e.reply) follows (recorded-by (PromisedNext s.world (room_wanted e.ask)) s e.ask e.reply tt (promised_step s e.ask n single))

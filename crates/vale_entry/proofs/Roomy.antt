@@ -1,0 +1,218 @@
+-- After every legal history no lot is empty, each port has a slot to spare, and the ports have no more
+-- buffers than the pool.
+use Rattle.std.proofs.Common.{ℕ, ◌+◌, ◌-◌, ◌≤◌, ◌≡◌, Bool, true, false, cond, not, ◌&&◌, nat_lt, nat_le, ◌==◌, List, [], ◌∷◌, ◌++◌, map, length, drop, sum_by, Option, Some, None, refl, ap, arith}
+use Rattle.std.specs.List.{AllByRecursion as Each, prefix_len}
+use Rattle.std.proofs.lemmas.List.Sums.{sum_by-cons, sum_by-append, sum_by_push}
+use Rattle.std.proofs.lemmas.Bool.{and_parts, ltb-false, leb-true}
+use Rattle.nm_types.specs.Frames.{Frame, slots_of, size_of_frames}
+use Rattle.nm_types.specs.declared.fault.OpenFault.{OpenFault}
+use Rattle.nm_types.specs.declared.fault.OpenFault.TheVariants.{BadSize, NoBuffers}
+use Rattle.vale_entry.specs.declared.entry.Ask.{Ask}
+use Rattle.vale_entry.specs.declared.entry.Ask.TheVariants.{Enter, Open, Send, Grant, Done, Sync}
+use Rattle.vale_entry.specs.declared.entry.Entry.{Entry}
+use Rattle.vale_entry.specs.World.{World, Port, Lot, Offer, is_session, open_port, changed_at, size_of_line, space_of, buffers_of, free_count}
+use Rattle.vale_entry.specs.Opening.{is_ring_size, are_sizes, name_refusal, refusal_or_room, open_refusal, opened_port}
+use Rattle.vale_entry.specs.Grant.{longest_fitting, given_at, first_offer, with_lot, port_after_grant}
+use Rattle.vale_entry.specs.Delivery.{lease_at, is_done_lot, ready_lots, frames_of_lot, delivered_frames, done_if, lot_after_done, port_after_done, port_after_sync}
+use Rattle.vale_entry.specs.Legal.{Standing, Outcome, step, recorded_step, after, standing_after, open_step_by, send_step_at, send_step, can_send, grant_step_at, grant_step, done_step_at, sync_step_at, sync_step, can_sync}
+use Rattle.vale_entry.specs.Laws.{Rise, id_of_port, IsFilled, HasRoom, AreRoomy, IsRoomy}
+use Rattle.vale_entry.proofs.Steps.{recorded-by}
+use Rattle.vale_entry.proofs.ListLaws.{each-at, each-set, sum-map_same, sum-flat_map, front-rest}
+use Rattle.vale_entry.proofs.Each.{each-changed_at, changed_at-same, sum-changed_at, each-append, each-map, each-drop}
+use Rattle.vale_entry.proofs.Places.{open-place}
+use Rattle.vale_entry.proofs.Numbered.{Numbered}
+
+-- a port that is not refused
+sizes_by : (b : Bool) (rest : Option OpenFault) → cond (not b) (Some BadSize) rest ≡ None → b ≡ true
+sizes_by true rest e = refl
+sizes_by false rest e = absurd cc
+
+room_by : (b : Bool) (fault : OpenFault) → cond b (Some fault) None ≡ None → b ≡ false
+room_by true fault e = absurd cc
+room_by false fault e = refl
+
+room-none : (refusal : Option OpenFault) (want have : ℕ) → refusal_or_room refusal want have ≡ None → (refusal ≡ None) × (want ≤ have)
+room-none (Some fault) want have e = absurd cc
+room-none None want have e = (refl, ltb-false have want (room_by (nat_lt have want) (NoBuffers want have) e))
+
+pub opened-room : (w : World) (name : List ℕ) (tx rx extra : ℕ) → open_refusal w name tx rx extra ≡ None → (tx + rx + extra ≤ free_count w) × (2 ≤ rx)
+opened-room w name tx rx extra e =
+    let parts = room-none (name_refusal w.ports name tx rx extra) (tx + rx + extra) (free_count w) e in
+    let sizes = sizes_by (are_sizes name tx rx extra) _ parts.0 in
+    let rings = and_parts _ (is_ring_size rx && nat_le extra 1024) sizes in
+    let ring = and_parts (is_ring_size rx) (nat_le extra 1024) rings.1 in
+    let least = and_parts (nat_le 2 rx) (nat_le rx 1024) ring.0 in
+    (parts.1, leb-true 2 rx least.0)
+
+-- the ready lots and those behind them
+pub delivered-size : (port : Port)
+    → size_of_frames (delivered_frames port) + size_of_line (drop (length (ready_lots port)) port.line) ≡ size_of_line port.line
+delivered-size port =
+    let lots = ready_lots port in
+    let left = drop (length lots) port.line in
+    let all : size_of_line (lots ++ left) ≡ size_of_line port.line = ap size_of_line (front-rest (prefix_len is_done_lot port.line) port.line) in
+    let sum = sum_by-append (λ (lot : Lot). size_of_frames lot.frames) lots left in
+    let frames = sum-flat_map slots_of frames_of_lot lots in
+    omega arith
+
+-- what the step leaves
+abbrev pub Roomy : Standing → Type 0
+Roomy s = IsRoomy s.world
+
+abbrev RoomyNext : Option Outcome → Type 0
+RoomyNext None = Unit {0}
+RoomyNext (Some made) = IsRoomy made.next.world
+
+roomy_open : (s : Standing) (session : ℕ) (name : List ℕ) (tx rx extra : ℕ) (found : Bool) (refusal : Option OpenFault)
+    → open_refusal s.world name tx rx extra ≡ refusal → Roomy s
+    → RoomyNext (cond found (Some (open_step_by refusal s session name tx rx extra)) None)
+roomy_open s session name tx rx extra false refusal e n = tt
+roomy_open s session name tx rx extra true (Some fault) e n = n
+roomy_open s session name tx rx extra true None e n =
+    let w = s.world in
+    let port = opened_port (w.entry_count + 1) session name tx rx extra in
+    let facts = opened-room w name tx rx extra e in
+    let room : tx + rx + extra ≤ w.pool - sum_by buffers_of w.ports = facts.0 in
+    let least : 2 ≤ rx = facts.1 in
+    let before : sum_by buffers_of w.ports ≤ w.pool = n.within in
+    let sum : sum_by buffers_of (w.ports ++ port ∷ []) ≡ sum_by buffers_of w.ports + (tx + rx + extra) = sum_by_push buffers_of w.ports port in
+    let fresh : HasRoom port = record { lots_filled = tt; fits = omega arith } in
+    record {
+      roomy = each-append HasRoom w.ports (port ∷ []) n.roomy (fresh, tt);
+      within = omega arith;
+    }
+
+roomy_send : (s : Standing) (frames : List Frame) (found : Option Port) → Roomy s → RoomyNext (send_step_at s frames found)
+roomy_send s frames None n = tt
+roomy_send s frames (Some port) n = by_test (can_send s.world frames port)
+  where
+    by_test : (can : Bool) → RoomyNext (cond can (Some (send_step s frames port)) None)
+    by_test false = tt
+    by_test true = n
+
+-- a grant gives no more than there is space for
+fitting_by : (frame : Frame) (room : ℕ) (more : List Frame) (b : Bool) → nat_le (slots_of frame) room ≡ b
+    → size_of_frames more ≤ room - slots_of frame
+    → size_of_frames (cond b (frame ∷ more) []) ≤ room
+fitting_by frame room more false t rest = omega arith
+fitting_by frame room more true t rest =
+    let fits : 1 ≤ room = leb-true 1 room t in
+    let sum : size_of_frames (frame ∷ more) ≡ 1 + size_of_frames more = sum_by-cons slots_of frame more in
+    omega arith
+
+pub longest_fitting-size : (room : ℕ) (frames : List Frame) → size_of_frames (longest_fitting room frames) ≤ room
+longest_fitting-size room [] = omega arith
+longest_fitting-size room (frame ∷ frames) =
+    fitting_by frame room (longest_fitting (room - slots_of frame) frames) (nat_le (slots_of frame) room) refl (longest_fitting-size (room - slots_of frame) frames)
+
+pub with_lot-size : (number session : ℕ) (frames : List Frame) (line : List Lot)
+    → size_of_line (with_lot number session frames line) ≡ size_of_line line + size_of_frames frames
+with_lot-size number session [] line = omega arith
+with_lot-size number session (frame ∷ frames) line = sum_by_push (λ (lot : Lot). size_of_frames lot.frames) line _
+
+with_lot-filled : (number session : ℕ) (frames : List Frame) (line : List Lot) → Each IsFilled line
+    → Each IsFilled (with_lot number session frames line)
+with_lot-filled number session [] line all = all
+with_lot-filled number session (frame ∷ frames) line all = each-append IsFilled line _ all (omega arith, tt)
+
+granted-room : (number session : ℕ) (frames : List Frame) (port : Port) → HasRoom port
+    → HasRoom (port_after_grant number session (longest_fitting (space_of port) frames) port)
+granted-room number session frames port h =
+    let given = longest_fitting (space_of port) frames in
+    let few : size_of_frames given ≤ port.rx - 1 - port.out - size_of_line port.line = longest_fitting-size (space_of port) frames in
+    let sum = with_lot-size number session given port.line in
+    let fits : port.out + size_of_line port.line + 1 ≤ port.rx = h.fits in
+    record {
+      lots_filled = with_lot-filled number session given port.line h.lots_filled;
+      fits = omega arith;
+    }
+
+roomy-granted : (pool number session id : ℕ) (frames : List Frame) (high : ℕ) (ports : List Port) (at : Option Port) → open_port ports id ≡ at
+    → Rise 0 (map id_of_port ports) high
+    → AreRoomy pool ports → AreRoomy pool (changed_at id (port_after_grant number session (given_at at frames)) ports)
+roomy-granted pool number session id frames high ports None e rise n =
+    rw (changed_at-same id (port_after_grant number session []) (λ port. refl) ports) n
+roomy-granted pool number session id frames high ports (Some port) e rise n =
+    let p = open-place ports high id port rise e in
+    let change = port_after_grant number session (longest_fitting (space_of port) frames) in
+    let old : HasRoom port = each-at HasRoom ports p.place port n.roomy p.here in
+    record {
+      roomy = rw (p.changes change) (each-set HasRoom ports p.place (change port) n.roomy (granted-room number session frames port old));
+      within = rw (sum-changed_at buffers_of id change (λ q. refl) ports) n.within;
+    }
+
+roomy_grant : (s : Standing) (to : ℕ) (found : Option Offer) → Numbered s → Roomy s → RoomyNext (grant_step_at s to found)
+roomy_grant s to None numbered n = tt
+roomy_grant s to (Some offer) numbered n = by_test (offer.to == to)
+  where
+    by_test : (same : Bool) → RoomyNext (cond same (Some (grant_step s offer)) None)
+    by_test false = tt
+    by_test true =
+        let w = s.world in
+        roomy-granted w.pool (w.entry_count + 1) offer.session offer.to offer.frames w.entry_count w.ports (open_port w.ports offer.to) refl numbered.ports_rise n
+
+done_if-size : (b : Bool) (lot : Lot) → size_of_frames (done_if b lot).frames ≡ size_of_frames lot.frames
+done_if-size true lot = refl
+done_if-size false lot = refl
+
+done_if-filled : (b : Bool) (lot : Lot) → IsFilled lot → IsFilled (done_if b lot)
+done_if-filled true lot here = here
+done_if-filled false lot here = here
+
+pub size-after_done : (number : ℕ) (line : List Lot) → size_of_line (map (lot_after_done number) line) ≡ size_of_line line
+size-after_done number line =
+    sum-map_same (λ (lot : Lot). size_of_frames lot.frames) (λ (lot : Lot). size_of_frames lot.frames) (lot_after_done number)
+    (λ lot. done_if-size (lot.number == number) lot) line
+
+done-room : (number : ℕ) (port : Port) → HasRoom port → HasRoom (port_after_done number port)
+done-room number port h = record {
+  lots_filled = each-map IsFilled IsFilled (lot_after_done number) (λ lot here. done_if-filled (lot.number == number) lot here) port.line h.lots_filled;
+  fits = rw (size-after_done number port.line) h.fits;
+}
+
+roomy_done : (s : Standing) (number : ℕ) (found : Option Lot) → Roomy s → RoomyNext (done_step_at s number found)
+roomy_done s number None n = tt
+roomy_done s number (Some lot) n = record {
+  roomy = each-map HasRoom HasRoom (port_after_done number) (done-room number) s.world.ports n.roomy;
+  within = rw (sum-map_same buffers_of buffers_of (port_after_done number) (λ port. refl) s.world.ports) n.within;
+}
+
+synced-room : (returned : ℕ) (port : Port) → HasRoom port → HasRoom (port_after_sync returned port)
+synced-room returned port h =
+    let sizes = delivered-size port in
+    let fits : port.out + size_of_line port.line + 1 ≤ port.rx = h.fits in
+    record {
+      lots_filled = each-drop IsFilled (length (ready_lots port)) port.line h.lots_filled;
+      fits = omega arith;
+    }
+
+roomy_sync : (s : Standing) (back : List ℕ) (found : Option Port) → Roomy s → RoomyNext (sync_step_at s back found)
+roomy_sync s back None n = tt
+roomy_sync s back (Some port) n = by_test (can_sync s back port)
+  where
+    by_test : (can : Bool) → RoomyNext (cond can (Some (sync_step s back port)) None)
+    by_test false = tt
+    by_test true =
+        let change = port_after_sync (length back) in
+        record {
+          roomy = each-changed_at HasRoom HasRoom port.id change (λ p here. here) (synced-room (length back)) s.world.ports n.roomy;
+          within = rw (sum-changed_at buffers_of port.id change (λ p. refl) s.world.ports) n.within;
+        }
+
+roomy_step : (s : Standing) (ask : Ask) → Numbered s → Roomy s → RoomyNext (step s ask)
+roomy_step s (Enter user) numbered n = n
+roomy_step s (Open session name tx rx extra) numbered n =
+    roomy_open s session.0 name tx rx extra (is_session s.world session.0) (open_refusal s.world name tx rx extra) refl n
+roomy_step s (Send port frames) numbered n = roomy_send s frames (open_port s.world.ports port.0) n
+roomy_step s (Grant origin to) numbered n = roomy_grant s to.0 (first_offer s.world origin) numbered n
+roomy_step s (Done lease) numbered n = roomy_done s lease.0 (lease_at s.world.ports lease.0) n
+roomy_step s (Sync port back) numbered n = roomy_sync s back (open_port s.world.ports port.0) n
+roomy_step s _ numbered n = tt
+
+roomy_after : (s : Standing) (e : Entry) (made : Option Outcome) → Roomy s → RoomyNext made → Roomy (standing_after s e made)
+roomy_after s e None n next = n
+roomy_after s e (Some made) n next = next
+
+pub roomy_entry : (s : Standing) (e : Entry) → Numbered s → Roomy s → Roomy (after s e)
+roomy_entry s e numbered n =
+    roomy_after s e (recorded_step s e.ask e.reply) n (recorded-by RoomyNext s e.ask e.reply tt (roomy_step s e.ask numbered n))

@@ -1,0 +1,168 @@
+-- No two lots bear one number: an entry grants at most one lot.
+use Rattle.std.proofs.Common.{ℕ, ◌+◌, ◌<◌, ◌≤◌, ◌≡◌, Bool, true, false, cond, ◌==◌, List, [], ◌∷◌, ◌++◌, map, length, sum_by, count_by, Option, Some, None, refl, ◌∙◌, arith, slice_set, subst}
+use Rattle.std.specs.List.{AllByRecursion as Each}
+use Rattle.std.proofs.lemmas.List.Sums.{sum_by-cons, sum_by_push, sum_by-take-drop}
+use Rattle.std.proofs.lemmas.Bool.{eqb-true, ne_eqb}
+use Rattle.nm_types.specs.Frames.{Frame}
+use Rattle.nm_types.specs.declared.fault.OpenFault.{OpenFault}
+use Rattle.vale_entry.specs.declared.entry.Ask.{Ask}
+use Rattle.vale_entry.specs.declared.entry.Ask.TheVariants.{Enter, Open, Send, Grant, Done, Sync}
+use Rattle.vale_entry.specs.declared.entry.Entry.{Entry}
+use Rattle.vale_entry.specs.World.{Port, Lot, Offer, is_session, open_port, changed_at, space_of, changed_if}
+use Rattle.vale_entry.specs.Opening.{open_refusal, opened_port}
+use Rattle.vale_entry.specs.Grant.{first_offer, with_lot, port_after_grant, given_at, longest_fitting}
+use Rattle.vale_entry.specs.Delivery.{lease_at, ready_lots, done_if, lot_after_done, port_after_done, port_after_sync}
+use Rattle.vale_entry.specs.Legal.{Standing, Outcome, step, recorded_step, after, standing_after, open_step_by, send_step_at, send_step, can_send, grant_step_at, grant_step, done_step_at, sync_step_at, sync_step, can_sync}
+use Rattle.vale_entry.specs.Laws.{Rise, id_of_port, HasLotsUpTo, bears_number, AreSingle}
+use Rattle.vale_entry.proofs.Steps.{recorded-by}
+use Rattle.vale_entry.proofs.ListLaws.{sum-set, sum-map_same}
+use Rattle.vale_entry.proofs.Each.{changed_at-same}
+use Rattle.vale_entry.proofs.Places.{open-place}
+use Rattle.vale_entry.proofs.Numbered.{Numbered}
+
+abbrev pub Single : Standing → Type 0
+Single s = AreSingle s.world.ports
+
+abbrev SingleNext : Option Outcome → Type 0
+SingleNext None = Unit {0}
+SingleNext (Some made) = Single made.next
+
+-- how many lots of a port bear a number
+abbrev lots_of : ℕ → Port → ℕ
+lots_of number port = count_by (bears_number number) port.line
+
+none-later : (number count : ℕ) → count < number → (line : List Lot) → Each (λ (lot : Lot). lot.number ≤ count) line
+    → count_by (bears_number number) line ≡ 0
+none-later number count later [] all = refl
+none-later number count later (lot ∷ lots) all =
+    let bound : lot.number ≤ count = all.0 in
+    let miss : (lot.number == number) ≡ false = ne_eqb lot.number number (λ e. omega arith) in
+    let rest = none-later number count later lots all.1 in
+    let sum : count_by (bears_number number) (lot ∷ lots) ≡ cond (lot.number == number) 1 0 + count_by (bears_number number) lots =
+    sum_by-cons (λ (l : Lot). cond (bears_number number l) 1 0) lot lots in
+    sum ∙ rw miss (omega arith)
+
+none-of_ports : (number count : ℕ) → count < number → (ports : List Port) → Each (HasLotsUpTo count) ports → sum_by (lots_of number) ports ≡ 0
+none-of_ports number count later [] all = refl
+none-of_ports number count later (port ∷ ports) all =
+    let here = none-later number count later port.line all.0 in
+    let rest = none-of_ports number count later ports all.1 in
+    let sum = sum_by-cons (lots_of number) port ports in
+    omega arith
+
+with_lot-count : (k number session : ℕ) (given : List Frame) (line : List Lot)
+    → count_by (bears_number k) (with_lot number session given line) ≤ count_by (bears_number k) line + cond (number == k) 1 0
+with_lot-count k number session [] line = omega arith
+with_lot-count k number session (frame ∷ frames) line =
+    let sum =
+    sum_by_push (λ (lot : Lot). cond (bears_number k lot) 1 0) line (record { number = number; session = session; frames = frame ∷ frames; is_done = false }) in
+    omega arith
+
+single_by : (k number old new before more : ℕ) (mine : Bool) → (number == k) ≡ mine → (number ≡ k → old ≡ 0) → old ≤ 1 → new + before ≡ old + more
+    → more ≤ before + cond mine 1 0 → new ≤ 1
+single_by k number old new before more true t none once sum few = let zero' : old ≡ 0 = none (eqb-true number k t) in omega arith
+single_by k number old new before more false t none once sum few = omega arith
+
+single-granted : (number session id : ℕ) (frames : List Frame) (count : ℕ) (ports : List Port) (at : Option Port) → open_port ports id ≡ at
+    → count < number
+    → Rise 0 (map id_of_port ports) count → Each (HasLotsUpTo count) ports → AreSingle ports
+    → AreSingle (changed_at id (port_after_grant number session (given_at at frames)) ports)
+single-granted number session id frames count ports None e later rise lots single =
+    rw (changed_at-same id (port_after_grant number session []) (λ port. refl) ports) single
+single-granted number session id frames count ports (Some port) e later rise lots single =
+    let given = longest_fitting (space_of port) frames in
+    let change = port_after_grant number session given in
+    let p = open-place ports count id port rise e in
+    rw (p.changes change) (λ k.
+    single_by k number (sum_by (lots_of k) ports) (sum_by (lots_of k) (slice_set ports p.place (change port))) (lots_of k port) (lots_of k (change port)) (number == k) refl
+    (λ same. none-of_ports k count (subst (λ (j : ℕ). count < j) same later) ports lots) (single k)
+    (sum-set (lots_of k) ports p.place port (change port) p.here)
+    (with_lot-count k number session given port.line))
+
+single_open : (s : Standing) (session : ℕ) (name : List ℕ) (tx rx extra : ℕ) (found : Bool) (refusal : Option OpenFault) → Single s
+    → SingleNext (cond found (Some (open_step_by refusal s session name tx rx extra)) None)
+single_open s session name tx rx extra false refusal single = tt
+single_open s session name tx rx extra true (Some fault) single = single
+single_open s session name tx rx extra true None single = λ k.
+    let sum : sum_by (lots_of k) (s.world.ports ++ opened_port (s.world.entry_count + 1) session name tx rx extra ∷ []) ≡ sum_by (lots_of k) s.world.ports + 0 =
+    sum_by_push (lots_of k) s.world.ports (opened_port (s.world.entry_count + 1) session name tx rx extra) in
+    let once = single k in
+    omega arith
+
+single_send : (s : Standing) (frames : List Frame) (found : Option Port) → Single s → SingleNext (send_step_at s frames found)
+single_send s frames None single = tt
+single_send s frames (Some port) single = by_test (can_send s.world frames port)
+  where
+    by_test : (can : Bool) → SingleNext (cond can (Some (send_step s frames port)) None)
+    by_test false = tt
+    by_test true = single
+
+single_grant : (s : Standing) (to : ℕ) (found : Option Offer) → Numbered s → Single s → SingleNext (grant_step_at s to found)
+single_grant s to None n single = tt
+single_grant s to (Some offer) n single = by_test (offer.to == to)
+  where
+    by_test : (same : Bool) → SingleNext (cond same (Some (grant_step s offer)) None)
+    by_test false = tt
+    by_test true =
+        let w = s.world in
+        let later : w.entry_count < w.entry_count + 1 = omega arith in
+        single-granted (w.entry_count + 1) offer.session offer.to offer.frames w.entry_count w.ports (open_port w.ports offer.to) refl later n.ports_rise n.lots_within single
+
+done-same_number : (k : ℕ) (b : Bool) (lot : Lot) → cond {A = ℕ} (bears_number k (done_if b lot)) 1 0 ≡ cond (bears_number k lot) 1 0
+done-same_number k true lot = refl
+done-same_number k false lot = refl
+
+single_done : (s : Standing) (number : ℕ) (found : Option Lot) → Single s → SingleNext (done_step_at s number found)
+single_done s number None single = tt
+single_done s number (Some lot) single = λ k.
+    let same = sum-map_same (lots_of k) (lots_of k) (port_after_done number)
+    (λ port. sum-map_same (λ (l : Lot). cond (bears_number k l) 1 0) (λ (l : Lot). cond (bears_number k l) 1 0) (lot_after_done number) (λ l. done-same_number k (l.number == number) l) port.line) s.world.ports in
+    let once = single k in
+    omega arith
+
+-- a sync takes lots away
+sum-map_less : {X : Type 0} (f : X → ℕ) (change : X → X) → ((x : X) → f (change x) ≤ f x) → (xs : List X) → sum_by f (map change xs) ≤ sum_by f xs
+sum-map_less f change less [] = omega arith
+sum-map_less f change less (x ∷ xs) =
+    let here = less x in
+    let rest = sum-map_less f change less xs in
+    let old = sum_by-cons f x xs in
+    let new = sum_by-cons f (change x) (map change xs) in
+    omega arith
+
+changed-less : (f : Port → ℕ) (b : Bool) (change : Port → Port) (port : Port) → f (change port) ≤ f port → f (changed_if b change port) ≤ f port
+changed-less f true change port less = less
+changed-less f false change port less = omega arith
+
+single_sync : (s : Standing) (back : List ℕ) (found : Option Port) → Single s → SingleNext (sync_step_at s back found)
+single_sync s back None single = tt
+single_sync s back (Some port) single = by_test (can_sync s back port)
+  where
+    fewer : (k : ℕ) (p : Port) → lots_of k (port_after_sync (length back) p) ≤ lots_of k p
+    fewer k p = let cut = sum_by-take-drop (λ (l : Lot). cond (bears_number k l) 1 0) p.line (length (ready_lots p)) in omega arith
+
+    by_test : (can : Bool) → SingleNext (cond can (Some (sync_step s back port)) None)
+    by_test false = tt
+    by_test true = λ k.
+        let less = sum-map_less (lots_of k) (λ (p : Port). changed_if (p.id == port.id) (port_after_sync (length back)) p)
+        (λ p. changed-less (lots_of k) (p.id == port.id) (port_after_sync (length back)) p (fewer k p)) s.world.ports in
+        let once = single k in
+        omega arith
+
+single_step : (s : Standing) (ask : Ask) → Numbered s → Single s → SingleNext (step s ask)
+single_step s (Enter user) n single = single
+single_step s (Open session name tx rx extra) n single =
+    single_open s session.0 name tx rx extra (is_session s.world session.0) (open_refusal s.world name tx rx extra) single
+single_step s (Send port frames) n single = single_send s frames (open_port s.world.ports port.0) single
+single_step s (Grant origin to) n single = single_grant s to.0 (first_offer s.world origin) n single
+single_step s (Done lease) n single = single_done s lease.0 (lease_at s.world.ports lease.0) single
+single_step s (Sync port back) n single = single_sync s back (open_port s.world.ports port.0) single
+single_step s _ n single = tt
+
+single_after : (s : Standing) (e : Entry) (made : Option Outcome) → Single s → SingleNext made → Single (standing_after s e made)
+single_after s e None single next = single
+single_after s e (Some made) single next = next
+
+pub single_entry : (s : Standing) (e : Entry) → Numbered s → Single s → Single (after s e)
+single_entry s e n single =
+    single_after s e (recorded_step s e.ask e.reply) single (recorded-by SingleNext s e.ask e.reply tt (single_step s e.ask n single))

@@ -1,0 +1,51 @@
+-- What a switch learns: pairs of an address and the port behind which it was seen, newest first. A
+-- pair is never removed. A newer pair hides all older ones of its bucket, also where its port is no
+-- longer open, so nothing older comes back.
+use Rattle.std.specs.Prelude.{ℕ, Bool, not, ◌&&◌, ◌==◌, ◌+◌, ◌*◌, ◌%◌, nat_lt, if◌then◌else◌, List, ◌∷◌, length, take, drop, find, fold, Option, Some, None, slice_index, bit_xor, bytes_eq}
+use Rattle.nm_types.specs.Frames.{Frame}
+use Rattle.nm_types.specs.Names.{switch_of}
+use Rattle.vale_entry.specs.World.{Port, Pair, is_open}
+
+-- the frame is too short to have addresses and a type
+abbrev pub is_short : Frame → Bool
+is_short frame = nat_lt (length frame.bytes) 14
+
+abbrev pub destination_address : Frame → List ℕ
+destination_address frame = take 6 frame.bytes
+
+abbrev pub source_address : Frame → List ℕ
+source_address frame = take 6 (drop 6 frame.bytes)
+
+-- the lowest bit of the first byte tells a group address
+abbrev pub is_group : List ℕ → Bool
+is_group address = slice_index address 0 % 2 == 1
+
+abbrev pub half_at : List ℕ → ℕ → ℕ
+half_at address i = 256 * slice_index address i + slice_index address (i + 1)
+
+-- the xor of the three halves of 16 bits, in 1024 buckets
+abbrev pub bucket_of : List ℕ → ℕ
+bucket_of address = bit_xor (bit_xor (half_at address 0) (half_at address 2)) (half_at address 4) % 1024
+
+abbrev pub is_learnable : Frame → Bool
+is_learnable frame = not (is_short frame) && (not (is_group (source_address frame)) && not frame.no_learn)
+
+-- the pairs after a frame that the port sends
+abbrev pub learned : Port → List Pair → Frame → List Pair
+learned sender pairs frame =
+    if is_learnable frame then record { switch = switch_of sender.name; address = source_address frame; port = sender.id } ∷ pairs
+    else pairs
+
+abbrev pub learned_of_batch : Port → List Pair → List Frame → List Pair
+learned_of_batch sender pairs frames = fold (learned sender) pairs frames
+
+abbrev pub is_in_bucket : List ℕ → ℕ → Pair → Bool
+is_in_bucket switch bucket pair = (bucket_of pair.address == bucket) && bytes_eq pair.switch switch
+
+-- the port of the newest pair of the bucket, if the address is that pair's and the port is open
+abbrev pub port_of_pair : List Port → List ℕ → Option Pair → Option ℕ
+port_of_pair ports address None = None
+port_of_pair ports address (Some pair) = if bytes_eq pair.address address && is_open ports pair.port then Some pair.port else None
+
+abbrev pub port_of_address : List Port → List Pair → List ℕ → List ℕ → Option ℕ
+port_of_address ports pairs switch address = port_of_pair ports address (find (is_in_bucket switch (bucket_of address)) pairs)

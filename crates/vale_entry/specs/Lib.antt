@@ -1,0 +1,15 @@
+pub mod World
+pub mod Learning
+pub mod Lookup
+pub mod Offers
+pub mod Grant
+pub mod Delivery
+pub mod Opening
+pub mod Holdings
+pub mod Legal
+pub mod Room
+pub mod Stored
+pub mod Kept
+pub mod Transcript
+pub mod Rows
+pub mod Laws

@@ -1,0 +1,93 @@
+-- The room of a record: entries stored and promised, and bytes of frames stored.
+use Rattle.std.specs.Prelude.{ℕ, Bool, true, false, not, ◌+◌, ◌*◌, List, length, sum_by, count_by}
+use Rattle.nm_types.specs.Frames.{bytes_of_frames}
+use Rattle.vale_entry.specs.declared.entry.Ask.{Ask}
+use Rattle.vale_entry.specs.declared.entry.Ask.TheVariants.{Send}
+use Rattle.vale_entry.specs.declared.entry.Reply.{Reply}
+use Rattle.vale_entry.specs.declared.entry.Reply.TheVariants.{Made, Opened, Refused, Offered, Shared, Gave, Took, PeerGone, Unread, LeasesOut, Watching, NoTarget, Watched, Counted}
+use Rattle.vale_entry.specs.declared.entry.Entry.{Entry}
+use Rattle.vale_entry.specs.declared.entry.Ask.TheVariants.{Enter, Open, Grant, Done, Sync, Reset, Shut, Finish, Leave, Put, PutKept, Get, Watch, Stat}
+use Rattle.vale_entry.specs.World.{World, Port, Lot}
+use Rattle.vale_entry.specs.Legal.{world_of}
+
+-- a port owes its Shut, where it is open, and its Finish
+abbrev pub owed_by_port : Port → ℕ
+owed_by_port port = owed port.shutting
+  where
+    owed : Bool → ℕ
+    owed true = 1
+    owed false = 2
+
+abbrev pub is_undone : Lot → Bool
+is_undone lot = not lot.is_done
+
+abbrev pub undone_of : Port → ℕ
+undone_of port = count_by is_undone port.line
+
+-- the entries that are still to come: a Leave for each session, a Shut and a Finish for each open port
+-- and a Finish for each shutting one, a Grant and a Done for each offer, a Done for each open lease
+abbrev pub promised_of : World → ℕ
+promised_of w = length w.sessions + sum_by owed_by_port w.ports + 2 * length w.offers + sum_by undone_of w.ports
+
+-- the bytes of frames that an entry keeps: those of the frames sent
+abbrev pub bytes_of : Ask → Reply → ℕ
+bytes_of (Enter user) reply = 0
+bytes_of (Open session name tx rx extra) reply = 0
+bytes_of (Send port frames) reply = bytes_of_frames frames
+bytes_of (Grant origin to) reply = 0
+bytes_of (Done lease) reply = 0
+bytes_of (Sync port back) reply = 0
+bytes_of (Reset port side fault) reply = 0
+bytes_of (Shut port) reply = 0
+bytes_of (Finish port bufs chain) reply = 0
+bytes_of (Leave session) reply = 0
+bytes_of (Put port offered) reply = 0
+bytes_of (PutKept port offered) reply = 0
+bytes_of (Get port back) reply = 0
+bytes_of (Watch monitor target sides) reply = 0
+bytes_of (Stat port) reply = 0
+
+abbrev pub bytes_of_entry : Entry → ℕ
+bytes_of_entry entry = bytes_of entry.ask entry.reply
+
+abbrev pub frame_bytes : List Entry → ℕ
+frame_bytes entries = sum_by bytes_of_entry entries
+
+abbrev pub room_used : ℕ → List Entry → ℕ
+room_used pool history = length history + promised_of (world_of pool history)
+
+-- what a reply's destinations want: each a Grant and a Done
+abbrev pub room_of_reply : Reply → ℕ
+room_of_reply Made = 1
+room_of_reply Opened = 3
+room_of_reply (Refused fault) = 1
+room_of_reply (Offered short lone to) = 1 + 2 * length to
+room_of_reply (Shared given full gone) = 1
+room_of_reply (Gave count to) = 1 + 2 * length to
+room_of_reply (Took items to) = 1 + 2 * length to
+room_of_reply PeerGone = 1
+room_of_reply (Unread count) = 1
+room_of_reply (LeasesOut n) = 0
+room_of_reply (Watching target) = 1
+room_of_reply NoTarget = 1
+room_of_reply (Watched by) = 1
+room_of_reply (Counted counts) = 1
+
+-- the entries that a step takes or promises beyond those that were promised before: a Grant, a Done, a
+-- Shut, a Finish and a Leave were
+abbrev pub room_wanted : Ask → Reply → ℕ
+room_wanted (Enter user) reply = 2
+room_wanted (Open session name tx rx extra) reply = room_of_reply reply
+room_wanted (Send port frames) reply = room_of_reply reply
+room_wanted (Grant origin to) reply = 0
+room_wanted (Done lease) reply = 0
+room_wanted (Sync port back) reply = room_of_reply reply
+room_wanted (Reset port side fault) reply = 1
+room_wanted (Shut port) reply = 0
+room_wanted (Finish port bufs chain) reply = 0
+room_wanted (Leave session) reply = 0
+room_wanted (Put port offered) reply = room_of_reply reply
+room_wanted (PutKept port offered) reply = room_of_reply reply
+room_wanted (Get port back) reply = room_of_reply reply
+room_wanted (Watch monitor target sides) reply = 1
+room_wanted (Stat port) reply = 1

@@ -1,0 +1,130 @@
+-- The world of a history: the sessions that are there, the ports with what is queued at each, what
+-- the switches have learned, who watches whom, and the offers not yet granted. It has no buffers.
+use Rattle.std.specs.Prelude.{ℕ, Bool, true, false, not, ◌&&◌, ◌==◌, ◌+◌, ◌-◌, List, [], map, find, Option, Some, None, is_some, sum_by}
+use Rattle.std.specs.List.{list_any}
+use Rattle.nm_types.specs.declared.id.Sides.{Sides}
+use Rattle.nm_types.specs.declared.id.Sides.TheVariants.{T as Transmit, R as Receive, TR as Both}
+use Rattle.nm_types.specs.Frames.{Frame, size_of_frames}
+
+-- frames granted to a port, under the number of the entry that granted them, with the session that did
+pub record Lot : Type 0 where
+  pub number : ℕ
+  pub session : ℕ
+  pub frames : List Frame
+  pub is_done : Bool
+
+-- a port that was opened and is not gone; its line has the oldest lot first, and `out` counts the
+-- buffers that its syncs gave and that have not come back
+pub record Port : Type 0 where
+  pub id : ℕ
+  pub session : ℕ
+  pub name : List ℕ
+  pub tx : ℕ
+  pub rx : ℕ
+  pub extra : ℕ
+  pub shutting : Bool
+  pub out : ℕ
+  pub line : List Lot
+
+-- an address that a switch has learned, and the port behind which it was seen
+pub record Pair : Type 0 where
+  pub switch : List ℕ
+  pub address : List ℕ
+  pub port : ℕ
+
+pub record Watch : Type 0 where
+  pub monitor : ℕ
+  pub target : ℕ
+  pub sides : Sides
+
+-- the frames of the entry `origin` that are wanted at a port
+pub record Offer : Type 0 where
+  pub origin : ℕ
+  pub session : ℕ
+  pub to : ℕ
+  pub frames : List Frame
+
+-- pairs stand newest first, ports by rising id, and the offers of an entry by rising port
+pub record World : Type 0 where
+  pub pool : ℕ
+  pub entry_count : ℕ
+  pub sessions : List ℕ
+  pub ports : List Port
+  pub pairs : List Pair
+  pub watches : List Watch
+  pub offers : List Offer
+
+abbrev pub empty_world : ℕ → World
+empty_world pool = record { pool = pool; entry_count = 0; sessions = []; ports = []; pairs = []; watches = []; offers = [] }
+
+abbrev pub is_session : World → ℕ → Bool
+is_session w session = list_any (λ s. s == session) w.sessions
+
+abbrev pub is_open_at : ℕ → Port → Bool
+is_open_at id port = (port.id == id) && not port.shutting
+
+-- the open port of this id
+abbrev pub open_port : List Port → ℕ → Option Port
+open_port ports id = find (is_open_at id) ports
+
+abbrev pub is_open : List Port → ℕ → Bool
+is_open ports id = is_some (open_port ports id)
+
+-- the ports, with what a change makes of the one of this id
+abbrev pub changed_if : Bool → (Port → Port) → Port → Port
+changed_if true change port = change port
+changed_if false change port = port
+
+abbrev pub changed_at : ℕ → (Port → Port) → List Port → List Port
+changed_at id change ports = map (λ port. changed_if (port.id == id) change port) ports
+
+-- how many slots the frames queued at a port take
+abbrev pub size_of_line : List Lot → ℕ
+size_of_line line = sum_by (λ lot. size_of_frames lot.frames) line
+
+-- the slots that a grant can still give: one always stays with the kernel side
+abbrev pub space_of : Port → ℕ
+space_of port = port.rx - 1 - port.out - size_of_line port.line
+
+-- the buffers that a port's session holds for it
+abbrev pub due_of : Port → ℕ
+due_of port = port.tx + port.extra + port.out
+
+abbrev pub buffers_of : Port → ℕ
+buffers_of port = port.tx + port.rx + port.extra
+
+-- how many buffers of the pool are free
+abbrev pub free_count : World → ℕ
+free_count w = w.pool - sum_by buffers_of w.ports
+
+-- a lot of this session that is not done
+abbrev pub is_owed_by : ℕ → Lot → Bool
+is_owed_by session lot = (lot.session == session) && not lot.is_done
+
+abbrev pub has_lot_owed_by : ℕ → Port → Bool
+has_lot_owed_by session port = list_any (is_owed_by session) port.line
+
+-- no entry of the session has an offer that is not granted, and each lot that it was granted is done
+abbrev pub is_settled : World → ℕ → Bool
+is_settled w session = not (list_any (λ offer. offer.session == session) w.offers) && not (list_any (has_lot_owed_by session) w.ports)
+
+-- whether a monitor watches this side of a port
+abbrev pub watches_transmit : Sides → Bool
+watches_transmit Transmit = true
+watches_transmit Receive = false
+watches_transmit Both = true
+
+abbrev pub watches_receive : Sides → Bool
+watches_receive Transmit = false
+watches_receive Receive = true
+watches_receive Both = true
+
+abbrev pub monitor_id : Option Watch → Option ℕ
+monitor_id None = None
+monitor_id (Some watch) = Some watch.monitor
+
+abbrev pub transmit_monitor : World → ℕ → Option ℕ
+transmit_monitor w port = monitor_id (find (λ watch. (watch.target == port) && watches_transmit watch.sides) w.watches)
+
+abbrev pub receive_monitor : World → ℕ → Option ℕ
+receive_monitor w port = monitor_id (find (λ watch. (watch.target == port) && watches_receive watch.sides) w.watches)

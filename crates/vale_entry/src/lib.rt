@@ -1,0 +1,14 @@
+//! Entries, the stored history, and what a history means: the world of a switch, who holds which
+//! buffer, which asks are enabled, and the transcript's text.
+#![tactic(auto)]
+
+mod entry;
+mod history;
+pub mod laws;
+mod lists;
+#[cfg(test)]
+mod tests;
+
+pub use entry::{Ask, Dest, Destination, Entry, Item, Reply};
+pub use history::History;
+pub use lists::{Dests, Items, Numbers};
