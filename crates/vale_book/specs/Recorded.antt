@@ -1,5 +1,5 @@
 -- What a book and a drive stand for: the entries that were made over a pool of buffers, within limits.
-use Rattle.std.specs.Prelude.{ℕ, ◌≡◌, ◌+◌, ◌<◌, ◌≤◌, List, [], ◌∷◌, ◌++◌, fold, Option, Some, None}
+use Rattle.std.specs.Prelude.{ℕ, ◌≡◌, ◌+◌, ◌<◌, ◌≤◌, List, [], ◌∷◌, ◌++◌, fold, take, slice_get, Option, Some, None}
 use Rattle.nm_types.specs.declared.limits.Limits.{Limits}
 use Rattle.nm_types.specs.declared.fault.Part.TheVariants.{Entries, Bytes}
 use Rattle.nm_types.specs.declared.fault.StepFault.{StepFault}
@@ -72,3 +72,11 @@ IsWithinLimits b = (room_used b.pool b.entries ≤ b.limits.entries) × (frame_b
 -- the record after asks one after another, those passed over that are not enabled
 abbrev pub after_asks : Recorded → List Ask → Recorded
 after_asks b asks = fold after_ask b asks
+
+-- of these asks so many were made, and the next one was refused
+pub record IsStopped (old new : Recorded) (asks : List Ask) (fault : StepFault) : Type 0 where
+  pub count : ℕ
+  pub ask : Ask
+  pub made : new ≡ after_asks old (take count asks)
+  pub next : slice_get asks count ≡ Some ask
+  pub refused : IsRefusal new ask fault

@@ -4,7 +4,7 @@ ghost use Rattle.vale_entry.specs.declared.entry.Reply.TheVariants as replies;
 ghost use Rattle.vale_entry.specs.Legal.{step, IsLegal};
 ghost use Rattle.vale_entry.specs.Holdings.{IsParted, Agrees};
 ghost use Rattle.vale_book.specs.OpenAnswers.{unopened};
-ghost use Rattle.vale_book.specs.Recorded.{standing, after_ask, after_asks, reply_of, IsRefusal, HasRoom};
+ghost use Rattle.vale_book.specs.Recorded.{standing, after_ask, after_asks, IsStopped, reply_of, IsRefusal, HasRoom};
 
 use nm_types::{
     Batch, LeaseId, Limits, MAX_EXTRA, MAX_RING, Name, NoMemory, OpenFault, PortId, SessionId,
@@ -264,7 +264,8 @@ impl Drive {
     }
 
     fn run_each(&mut self, asks: &[Ask]) -> Result<(), StepFault>
-        ensures { OnOk result (self.new ≡ after_asks self.old asks.now) }
+        ensures made { OnOk result (self.new ≡ after_asks self.old asks.now) }
+        ensures stopped { IfErr result (IsStopped self.old self.new asks.now) }
     {
         for ask in asks {
             self.apply(ask)?;
@@ -276,6 +277,7 @@ impl Drive {
     #[tactic(auto, using(crate::proofs::DriveRuns::drive_runs))]
     pub fn run(&mut self, asks: &[Ask]) -> Result<(), StepFault>
         ensures made { OnOk result (self.new ≡ after_asks self.old asks.now) }
+        ensures stopped { IfErr result (IsStopped self.old self.new asks.now) }
         ensures legal { IsLegal self.new.pool self.new.entries }
         ensures parted { IsParted self.new.pool (standing self.new).holdings }
         ensures agrees { Agrees (standing self.new).world (standing self.new).holdings }
