@@ -7,13 +7,13 @@ use Rattle.nm_types.specs.declared.place.Place.{Place}
 use Rattle.nm_types.specs.Places.{Held, held_at, is_same_place}
 use Rattle.nm_types.specs.Exchange.{swapped, swapped_places, exchanged, Naming, after_push, EachBufferOnce, EachIsHeld, EachNamed}
 
-swapped-first : (a b : ℕ) → swapped a b a ≡ b
+pub swapped-first : (a b : ℕ) → swapped a b a ≡ b
 swapped-first a b = grind (arith, nat_tests)
 
-swapped-second : (a b : ℕ) → swapped a b b ≡ a
+pub swapped-second : (a b : ℕ) → swapped a b b ≡ a
 swapped-second a b = grind (arith, nat_tests)
 
-swapped-other : (a b x : ℕ) → x ≢ a → x ≢ b → swapped a b x ≡ x
+pub swapped-other : (a b x : ℕ) → x ≢ a → x ≢ b → swapped a b x ≡ x
 swapped-other a b x h k = grind (arith, nat_tests)
 
 swapped-swapped : (a b x : ℕ) → swapped a b (swapped a b x) ≡ x
@@ -28,7 +28,7 @@ held_at-swapped was idx (h ∷ hs) place = elim (cases_Bool (is_same_place place
 ]
 
 -- a place after an exchange, where the exchange's own place holds a buffer
-held_at-exchanged : (held : List Held) (place : Place) (idx was : ℕ) (other : Place) → held_at held place ≡ Some was
+pub held_at-exchanged : (held : List Held) (place : Place) (idx was : ℕ) (other : Place) → held_at held place ≡ Some was
     → held_at (exchanged held place idx) other ≡ option_map (swapped was idx) (held_at held other)
 held_at-exchanged held place idx was other e = rw e (held_at-swapped was idx held other)
 

@@ -2,6 +2,10 @@
 -- to a session is cleared, but for the bytes of the frame that came in it.
 use Rattle.std.specs.Prelude.{ℕ, ◌≤◌, ◌+◌, ◌-◌, List, ◌++◌, length, replicate}
 
+-- how many buffers a pool may have
+abbrev pub IsPoolSize : ℕ → Type 0
+IsPoolSize pool = (1 ≤ pool) × (pool ≤ 65536)
+
 abbrev pub IsBufferIndex : ℕ → ℕ → Type 0
 IsBufferIndex pool idx = (2 ≤ idx) × (idx ≤ pool + 1)
 

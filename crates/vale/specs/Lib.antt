@@ -1,8 +1,6 @@
-pub mod Blame
-pub mod Grammar
-pub mod Pieces
-pub mod Plays
+pub mod Machine
+pub mod Owned
+pub mod Replay
 pub mod Run
 pub mod Status
-pub mod Words
-pub mod Written
+pub mod Steps

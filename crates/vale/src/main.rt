@@ -1,14 +1,14 @@
 //! Runs a script of netmap rings and VALE ports, and writes the transcript of what the switch did.
 #![tactic(auto)]
 
-mod parse;
+mod play;
+mod port;
 mod run;
-mod script;
+mod settling;
 mod status;
 #[cfg(test)]
 mod tests;
-mod text;
-mod words;
+mod user;
 
 use crate::run::run;
 use crate::status::{Status, status_line};

@@ -1,18 +1,16 @@
 //! Runs a command.
-ghost use Rattle.std.specs.Prelude.{◌≡◌, ◌+◌, ◌-◌, ◌<◌, ◌≤◌, ◌^◌, ℕ, List, length, map, string_bytes, option_map, Some, Ok, IfOk, option_copied, find};
-ghost use Rattle.vale_entry.specs.Legal.{world_of};
-ghost use Rattle.vale_entry.specs.World.{free_count};
-ghost use Rattle.vale.specs.Plays.{is_unrun, entry_of_user, enters};
-ghost use Rattle.vale.specs.Run.{script_name, Played, Ran, IsReadFault, RunsFile, Runs};
+ghost use Rattle.std.specs.Prelude.{◌≡◌, ◌≤◌, ◌+◌, ◌<◌, ◌^◌, ℕ, List, length, map, string_bytes, option_map, IfOk};
+ghost use Rattle.vale_script.specs.Sound.{IsSound};
+ghost use Rattle.vale.specs.Run.{script_name, IsCounted, stopped, Written, Played, Ran, IsReadFault, RunsFile, Runs};
 
-use crate::parse::{ScriptFault, parse};
-use crate::script::{Act, Line, Script};
+use crate::play::run_program;
 use crate::status::{Status, What};
-use crate::text::{PutError, write_transcript};
 use nm_io::{Gate, ReadError, Shelf, Sink, read_all};
-use nm_types::{DEFAULT_POOL, LineCause, NoMemory, SessionId};
+use nm_types::{DEFAULT_POOL, Limits, Part, StepFault};
 use std::alloc::Global;
-use vale_entry::{Ask, Entry, Reply};
+use vale_book::Book;
+use vale_script::{Script, ScriptFault, parse};
+use vale_text::{PutError, write_transcript};
 
 /// The most bytes of a script.
 pub const MAX_SCRIPT: u64 = 1_048_576;
@@ -30,77 +28,80 @@ fn script_name(words: &[String]) -> Option<&str>
     }
 }
 
-fn is_unrun(line: &Line) -> bool
-    ensures { result ≡ is_unrun line.now }
+/// How a run ends that met a fault of the record.
+fn stopped(fault: StepFault) -> Status
+    requires { IsCounted fault }
+    ensures { result ≡ stopped Limits.VERSION_1 fault }
 {
-    match line.act {
-        Act::Enter => false,
-        _ => true,
-    }
-}
-
-fn first_unrun(lines: &[Line]) -> Option<&Line>
-    ensures { option_copied result ≡ find is_unrun lines.now }
-{
-    lines.iter().find(|line| is_unrun(line))
-}
-
-fn entry_of_user(number: u32) -> Entry
-    ensures { result ≡ entry_of_user number }
-{
-    Entry {
-        session: SessionId(number),
-        ask: Ask::Enter {
-            user: number as u64,
+    match fault {
+        StepFault::RecordFull {
+            what: Part::Entries,
+            used,
+            want,
+        } => Status::Over {
+            what: What::Entries,
+            count: used + want,
+            limit: Limits::VERSION_1.entries,
         },
-        reply: Reply::Made,
+        StepFault::RecordFull {
+            what: Part::Bytes,
+            used,
+            want,
+        } => Status::Over {
+            what: What::Bytes,
+            count: used + want,
+            limit: Limits::VERSION_1.bytes,
+        },
+        StepFault::NoMemory => Status::NoMemory,
     }
 }
 
-/// The users come, one after another.
-fn enters(alloc: Global, users: u32) -> Result<Vec<Entry>, NoMemory>
-    requires { users < 2 ^ 32 - 1 }
-    ensures { IfOk result (λ entries. entries.items ≡ enters users) }
-{
-    let mut entries = Vec::new(alloc);
-    for number in 0..users {
-        entries.push(entry_of_user(number + 1))?;
-    }
-    Ok(entries)
-}
-
-/// Writes the transcript of a script's run.
-fn play<K: Sink>(alloc: Global, script: &Script, out: &mut K) -> Status
-    ensures played { Played DEFAULT_POOL (enters script.now.users) (K.faults out.old, K.faults out.new) (K.holds out.old) (K.holds out.new) result }
+/// Writes the transcript of a run that has ended.
+#[tactic(auto, using(crate::proofs::Played::played, crate::proofs::Sums::sums))]
+fn write<K: Sink>(alloc: Global, book: &Book, out: &mut K) -> Status
+    requires { book.now.limits ≡ Limits.VERSION_1 }
+    ensures written { Written book.now.pool book.now.entries (K.faults out.old, K.faults out.new) (K.holds out.old) (K.holds out.new) result }
     ensures later { K.faults out.old ≤ K.faults out.new }
 {
-    let Ok(entries) = enters(alloc, script.users()) else {
-        return Status::NoMemory;
-    };
-    match write_transcript(alloc, out, DEFAULT_POOL, &entries, DEFAULT_POOL) {
+    // The entries are within the limits, so that they can be numbered.
+    book.used();
+    match write_transcript(alloc, out, book.buffers(), book.entries(), book.free()) {
         Ok(()) => Status::Done,
         Err(PutError::Failed) => Status::WriteFault,
         Err(PutError::NoMemory) => Status::NoMemory,
     }
 }
 
+/// Runs a script that was read, and writes the transcript once the run has ended.
+#[tactic(auto, using(crate::proofs::Played::played, crate::proofs::Sums::sums))]
+fn play<K: Sink>(alloc: Global, script: &Script, out: &mut K) -> Status
+    requires { IsSound script.now }
+    ensures played { Played DEFAULT_POOL Limits.VERSION_1 script.now (K.faults out.old, K.faults out.new) (K.holds out.old) (K.holds out.new) result }
+    ensures later { K.faults out.old ≤ K.faults out.new }
+{
+    let Ok(mut book) = Book::new(alloc, DEFAULT_POOL, Limits::VERSION_1) else {
+        return Status::NoMemory;
+    };
+    match run_program(alloc, &mut book, script) {
+        Ok(()) => write(alloc, &book, out),
+        Err(fault) => {
+            // What is used is within the limits, so that it can be added up.
+            book.used();
+            stopped(fault)
+        }
+    }
+}
+
 /// Runs the script that these bytes are.
 fn run_script<K: Sink>(alloc: Global, bytes: &[u8], out: &mut K) -> Status
     requires { length bytes.now ≤ MAX_SCRIPT }
-    ensures ran { Ran DEFAULT_POOL bytes.now (K.faults out.old, K.faults out.new) (K.holds out.old) (K.holds out.new) result }
+    ensures ran { Ran DEFAULT_POOL Limits.VERSION_1 bytes.now (K.faults out.old, K.faults out.new) (K.holds out.old) (K.holds out.new) result }
     ensures later { K.faults out.old ≤ K.faults out.new }
 {
-    let script = match parse(alloc, bytes) {
-        Ok(script) => script,
-        Err(ScriptFault::BadLine { line, cause }) => return Status::BadScript { line, cause },
-        Err(ScriptFault::NoMemory) => return Status::NoMemory,
-    };
-    match first_unrun(script.lines()) {
-        Some(line) => Status::BadScript {
-            line: line.at,
-            cause: LineCause::Word,
-        },
-        None => play(alloc, &script, out),
+    match parse(alloc, bytes) {
+        Ok(script) => play(alloc, &script, out),
+        Err(ScriptFault::BadLine { line, cause }) => Status::BadScript { line, cause },
+        Err(ScriptFault::NoMemory) => Status::NoMemory,
     }
 }
 
@@ -115,7 +116,7 @@ fn read_fault(alloc: Global, name: &str) -> Status
 
 /// Runs the script of this name.
 fn run_file<S: Shelf, K: Sink>(alloc: Global, name: &str, shelf: &mut S, out: &mut K) -> Status
-    ensures runs { RunsFile DEFAULT_POOL MAX_SCRIPT (S.files shelf.old) name.now (S.read_faults shelf.old name.now, S.read_faults shelf.new name.now)
+    ensures runs { RunsFile DEFAULT_POOL MAX_SCRIPT Limits.VERSION_1 (S.files shelf.old) name.now (S.read_faults shelf.old name.now, S.read_faults shelf.new name.now)
         (K.faults out.old, K.faults out.new) (K.holds out.old) (K.holds out.new) result }
     ensures files { S.files shelf.new ≡ S.files shelf.old }
     ensures reads_later { (other : List ℕ) → S.read_faults shelf.old other ≤ S.read_faults shelf.new other }
@@ -143,7 +144,7 @@ pub fn run<R: AllocGlobal, S: Shelf, K: Sink, G: Gate>(
     out: &mut K,
     _gate: &G,
 ) -> Status
-    ensures runs { Runs DEFAULT_POOL MAX_SCRIPT (script_name (map string_bytes words.now)) (S.files shelf.old) (λ name. (S.read_faults shelf.old name, S.read_faults shelf.new name))
+    ensures runs { Runs DEFAULT_POOL MAX_SCRIPT Limits.VERSION_1 (script_name (map string_bytes words.now)) (S.files shelf.old) (λ name. (S.read_faults shelf.old name, S.read_faults shelf.new name))
         (K.faults out.old, K.faults out.new) (K.holds out.old) (K.holds out.new) result }
     ensures files { S.files shelf.new ≡ S.files shelf.old }
     ensures reads_later { (other : List ℕ) → S.read_faults shelf.old other ≤ S.read_faults shelf.new other }

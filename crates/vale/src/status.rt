@@ -4,9 +4,9 @@ ghost use Rattle.nm_io.specs.Counts.{Rose};
 ghost use Rattle.nm_io.specs.Held.{Writes};
 ghost use Rattle.vale.specs.Status.{code_of, cause_text, what_text, usage_line, bad_script_line, read_fault_line, write_fault_line, over_line, no_memory_line, status_text};
 
-use crate::text::{Piece, put_pieces};
 use nm_io::{Failed, Sink, put_all};
 use nm_types::LineCause;
+use vale_text::{Piece, put_pieces};
 
 /// What passed its limit.
 #[derive(Clone, Copy, Debug, PartialEq, Eq)]

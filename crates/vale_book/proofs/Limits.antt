@@ -1,9 +1,10 @@
 -- A record within its limits has room for what was promised.
-use Rattle.std.proofs.Common.{ℕ, List, ◌≤◌, ◌+◌, length, Option, Some, None, arith}
+use Rattle.std.proofs.Common.{ℕ, List, ◌≤◌, ◌+◌, length, Option, Some, None, arith, ap, ◌∙◌, ◌≡◌}
 use Rattle.vale_entry.specs.declared.entry.Ask.TheVariants.{Grant, Done}
 use Rattle.vale_entry.specs.declared.entry.Entry.{Entry}
-use Rattle.vale_entry.specs.World.{Pair, Offer}
-use Rattle.vale_entry.specs.Legal.{Outcome, step}
+use Rattle.vale_entry.specs.World.{Pair, Offer, free_count}
+use Rattle.vale_entry.specs.Legal.{Outcome, step, world_of}
+use Rattle.vale_entry.proofs.HistoryLaws.{free-rises}
 use Rattle.vale_entry.specs.Room.{room_used}
 use Rattle.vale_book.specs.Seat.{Seat}
 use Rattle.vale_book.specs.Parts.{Stands}
@@ -29,4 +30,10 @@ room-done b lease within = by_outcome (step (standing b) (Done (record { 0 = lea
     by_outcome None = tt
     by_outcome (Some made) = (omega (arith, within.0), omega (arith, within.1))
 
-pub ruleset limits = (used-within, room-grant, room-done)
+-- the free buffers are those of the world, and no more than the pool has
+pub free-counted : (pool : ℕ) (h : List Entry) (promised : ℕ) (sessions : List ℕ) (seats : List Seat) (pairs : List Pair) (offers : List Offer) (free : List ℕ)
+    → Stands pool h promised sessions seats pairs offers free → length free ≡ free_count (world_of pool h)
+free-counted pool h promised sessions seats pairs offers free old =
+    ap (λ (bs : List ℕ). length bs) old.free_is ∙ (free-rises pool h old.legal).count
+
+pub ruleset limits = (used-within, room-grant, room-done, free-counted)

@@ -1,4 +1,5 @@
 ghost use Rattle.std.specs.Prelude.{◌≡◌, ◌<◌, ◌≤◌, ◌^◌, [], length, OnOk, OnErr, IfOk, IfErr, IsTrue, ◌↔◌};
+ghost use Rattle.vale_entry.specs.World.{free_count};
 ghost use Rattle.vale_entry.specs.Legal.{IsEnabled, IsLegal};
 ghost use Rattle.std.specs.List.{range_with_len};
 ghost use Rattle.vale_entry.specs.declared.entry.Ask.TheVariants as asks;
@@ -101,6 +102,16 @@ impl Book {
         ensures { result ≡ self.now.pool }
     {
         self.pool
+    }
+
+    /// The number of free buffers.
+    #[tactic(auto, using(crate::proofs::Limits::limits, crate::proofs::OpenSteps::open_steps))]
+    pub fn free(&self) -> u32
+        ensures { result ≡ free_count (standing self.now).world }
+    {
+        // so that their number fits the answer
+        prove!(self.free.len() <= self.pool as usize);
+        self.free.len() as u32
     }
 
     /// A user comes. Room for its leaving is promised.

@@ -341,7 +341,7 @@ take-of_take (suc n) [] = refl
 take-of_take (suc n) (x ∷ xs) = let rest = take-of_take n xs in cc
 
 -- the buffers of the lots delivered are as many as their frames take
-delivered-length : (port : Port) (held : PortBuffers) → PortAgrees port held
+pub delivered-length : (port : Port) (held : PortBuffers) → PortAgrees port held
     → length (flat_map whole (take (length (ready_lots port)) held.lots)) ≡ size_of_frames (delivered_frames port)
 delivered-length port held a =
     let n = length (ready_lots port) in

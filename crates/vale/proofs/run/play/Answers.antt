@@ -1,30 +1,23 @@
-use Rattle.std.proofs.Common.{◌≡◌, length, ap, ◌∙◌, subst, arith}
-use Rattle.nm_io.specs.Held.{grown, GrowsByPrefix}
+use Rattle.std.proofs.Common.{subst, arith}
 use Rattle.nm_types.specs.declared.limits.TheConstants.{DEFAULT_POOL}
-use Rattle.vale.specs.Plays.{enters}
-use Rattle.vale.proofs.Enters.{length-enters, text_of-enters}
+use Rattle.nm_types.specs.declared.limits.TheConstants.Limits.{VERSION_1}
+use Rattle.vale_entry.specs.Legal.{IsLegal}
+use Rattle.vale_book.specs.Recorded.{Recorded}
+use Rattle.vale.proofs.Played.{played-written, stopped-counted, played-stopped}
 use Rattle.vale.proofs.run.play.Goals as goal
 
-pub write_transcript-requires : goal.write_transcript-requires
-write_transcript-requires g c =
-    let same : c.deref.result.now ≡ enters c.users.result = c.deref.ensures.value ∙ c.in-Ok.ensures in
-    let count : length c.deref.result.now ≡ c.users.result = ap length same ∙ length-enters c.users.result in
-    omega (arith, count, c.users.ensures.users, c.users.ensures.few)
+pub returns-in-Ok-run_program-clause-played : goal.returns-in-Ok-run_program-clause-played
+returns-in-Ok-run_program-clause-played g c =
+    let b = c.run_program.new.book in
+    let legal : IsLegal b.pool b.entries = subst (λ (r : Recorded). IsLegal r.pool r.entries) c.book.view_is c.book.invariant.legal in
+    played-written DEFAULT_POOL VERSION_1 c.in-Ok.book b c.args.script.now (g.K.Sink.faults c.args.out.now, g.K.Sink.faults c.write.new.out) (g.K.Sink.holds c.args.out.now) (g.K.Sink.holds c.write.new.out) c.write.result c.in-Ok.ensures c.in-Ok-run_program.ensures.ran legal c.write.ensures.written
 
-pub returns-in-Ok-write_transcript-clause-played : goal.returns-in-Ok-write_transcript-clause-played
-returns-in-Ok-write_transcript-clause-played g c =
-    let same : c.deref.result.now ≡ enters c.args.script.now.users = c.deref.ensures.value ∙ c.in-Ok.ensures ∙ ap enters c.users.ensures.users in
-    c.in-Ok-write_transcript.ensures.writes ∙ ap (grown (g.K.Sink.holds c.args.out.now)) (text_of-enters DEFAULT_POOL c.args.script.now.users c.deref.result.now same)
-
-pub returns-in-Err-Failed-clause-played : goal.returns-in-Err-Failed-clause-played
-returns-in-Err-Failed-clause-played g c =
-    let same : c.deref.result.now ≡ enters c.args.script.now.users = c.deref.ensures.value ∙ c.in-Ok.ensures ∙ ap enters c.users.ensures.users in
-    let ensured = rw c.in-Err-Failed.field-0-is at c.in-Err-Failed.ensures in (
-      subst (GrowsByPrefix (g.K.Sink.holds c.args.out.now) (g.K.Sink.holds c.write_transcript.new.out)) (text_of-enters DEFAULT_POOL c.args.script.now.users c.deref.result.now same) c.in-Err-Failed.ensures.writes,
-      ensured.cause,
-    )
+pub stopped-requires : goal.stopped-requires
+stopped-requires g c =
+    stopped-counted DEFAULT_POOL VERSION_1 c.in-Ok.book c.run_program.new.book c.args.script.now c.in-Err.fault c.in-Ok.ensures (omega arith) (omega arith) c.used.ensures.within c.in-Err.ensures.stopped
 
 pub returns-clause-played : goal.returns-clause-played
 returns-clause-played g c =
-    let same : c.deref.result.now ≡ enters c.args.script.now.users = c.deref.ensures.value ∙ c.in-Ok.ensures ∙ ap enters c.users.ensures.users in
-    subst (GrowsByPrefix (g.K.Sink.holds c.args.out.now) (g.K.Sink.holds c.write_transcript.new.out)) (text_of-enters DEFAULT_POOL c.args.script.now.users c.deref.result.now same) c.in-Err-NoMemory.ensures.writes
+    let b = c.run_program.new.book in
+    let legal : IsLegal b.pool b.entries = subst (λ (r : Recorded). IsLegal r.pool r.entries) c.book.view_is c.book.invariant.legal in
+    rw (c.stopped.ensures) (played-stopped DEFAULT_POOL VERSION_1 c.in-Ok.book b c.args.script.now (g.K.Sink.faults c.args.out.now, g.K.Sink.faults c.args.out.now) (g.K.Sink.holds c.args.out.now) c.in-Err.fault c.in-Ok.ensures legal c.in-Err.ensures.stopped)

@@ -1,0 +1,10 @@
+//! The chain of a port's extra buffers: each links to the next, as netmap(4) has them.
+#![tactic(auto)]
+
+mod chain;
+pub mod laws;
+#[cfg(test)]
+mod tests;
+
+pub use chain::{link, walk};
+pub use nm_types::Chain;

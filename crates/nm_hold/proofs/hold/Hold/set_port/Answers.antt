@@ -1,0 +1,29 @@
+use Rattle.std.proofs.Common.{◌≡◌, ◌++◌, ◌∷◌, [], Some}
+use Rattle.nm_hold.specs.declared.table.PortTable.{PortTable}
+use Rattle.std.proofs.lemmas.List.{map-append}
+use Rattle.nm_hold.specs.Tables.{ports_of}
+use Rattle.nm_hold.specs.Ties.{IsBlank}
+use Rattle.nm_hold.proofs.Numbers.{number-push}
+use Rattle.nm_hold.proofs.Tied.{tied-same}
+use Rattle.nm_hold.proofs.Shown.{tables-push, once-push}
+use Rattle.nm_hold.proofs.hold.Hold.set_port.Goals as goal
+
+pub invariant_of-self : goal.invariant_of-self
+invariant_of-self c =
+    let inv = c.self.invariant in
+    let cells = c.self.inside.cells.items in
+    let tables = c.self.inside.tables.items in
+    let table = c.in-Some.table in
+    let is : c.self.inside.room ≡ Some table = cc in
+    let kept = rw is at inv.room in
+    let new : PortTable = record table { places = record (table.places) { port = c.args.port } } in
+    let blank : IsBlank new = record { table = record { sizes = kept.0.table.sizes; full = kept.0.table.full }; empty = kept.0.empty } in
+    let items = c.push_reserved.ensures.items in
+    record {
+      low = inv.low;
+      high = inv.high;
+      tables = rw items (tables-push tables new inv.tables blank.table);
+      once = rw (items, map-append) (once-push (ports_of tables) new.places inv.once (rw (← c.self.view_is) at c.requires.new));
+      tied = rw items (tied-same cells tables (tables ++ new ∷ []) inv.tied (λ p. number-push new tables p blank));
+      room = rw c.take.ensures.after tt;
+    }

@@ -1,0 +1,296 @@
+ghost use Rattle.std.specs.Prelude.{◌≡◌, ◌≢◌, ◌≤◌, ◌++◌, ◌∷◌, [], true, false, None, Some, IsSome, IsTrue, IfOk, IfSome, OnOk, OnErr, ◌↔◌, ℕ, filter, not, ◌==◌, length, option_map, if◌then◌else◌};
+ghost use Rattle.std.specs.Borrow.{sem};
+ghost use Rattle.std.specs.Option.{option_copied, option_copied_mut};
+ghost use Rattle.nm_types.specs.Buffers.{IsPoolSize, IsBufferIndex};
+ghost use Rattle.nm_types.specs.declared.place.Place.{Place};
+ghost use Rattle.nm_types.specs.Places.{is_same_place};
+ghost use Rattle.nm_types.specs.Exchange.{exchanged, swapped};
+ghost use Rattle.nm_region.specs.Buffers.{Buffer};
+ghost use Rattle.nm_hold.specs.declared.table.PortPlaces.{PortPlaces};
+ghost use Rattle.nm_hold.specs.Offsets.{AreSizes, has_place, has_port};
+ghost use Rattle.nm_hold.specs.Standings.{home_in, renamed};
+ghost use Rattle.nm_hold.specs.Holds.{empty_hold, buffers_of, extra_of, place_at, IsHold, standing_at, buffer_at, is_named_at, named_bytes_at, index_at, places_of, with_cell, SamePlaces, HoldsNothing};
+
+use crate::standing::{Home, Standing, buf_of, bytes_mut, home_of, move_to, named_bytes, rename};
+use crate::table::{PortPlaces, PortTable, Sizes, number, put, table_of};
+use nm_region::Buf;
+use nm_types::{NoMemory, Place, PortId};
+use std::alloc::Global;
+use std::marker::Model;
+
+/// A session's places, over all its ports, and the buffers that stand in them. It cannot be dropped:
+/// `close` ends it once it holds no buffer.
+pub struct Hold {
+    cells: Vec<Option<Standing>>,
+    tables: Vec<PortTable>,
+    room: Option<PortTable>,
+    alloc: Global,
+}
+
+impl Model for Hold {
+    ghost use Rattle.std.specs.Prelude.{option_map};
+    ghost use Rattle.nm_hold.specs.declared.table.PortTable.{PortTable};
+    ghost use Rattle.nm_hold.specs.Tables.{ports_of};
+    ghost use Rattle.nm_hold.specs.Holds.{HoldState};
+
+    ghost Value = { HoldState };
+
+    ghost use Rattle.nm_hold.specs.Stored.{IsStored};
+
+    ghost view = { λ h. record {
+      cells = h.cells.items;
+      ports = ports_of h.tables.items;
+      room = option_map (λ (t : PortTable). t.places.sizes) h.room;
+    } };
+
+    ghost invariant = { IsStored };
+}
+
+impl Hold {
+    ghost use Rattle.nm_hold.specs.Lending.{LendsBytesAt};
+
+    /// A hold with no port, for the buffers of a pool of so many.
+    pub fn new(alloc: Global, buffers: u32) -> Result<Hold, NoMemory>
+        requires { IsPoolSize buffers }
+        ensures { IfOk result (λ hold. hold ≡ empty_hold buffers) }
+    {
+        let count = buffers as usize + 2;
+        let mut cells = Vec::with_capacity(alloc, count)?;
+        for _ in 0..count {
+            cells.push_reserved(None);
+        }
+        Ok(Hold {
+            cells,
+            tables: Vec::new(alloc),
+            room: None,
+            alloc,
+        })
+    }
+
+    /// Keeps room for one more port of these sizes, in place of room that was kept before. No size
+    /// is above that of the largest ring, or of a port's extra buffers.
+    pub fn reserve(&mut self, tx: u32, rx: u32, extra: u32) -> Result<(), NoMemory>
+        requires { AreSizes (record { tx = tx; rx = rx; extra = extra }) }
+        ensures ok { OnOk result (self.new ≡ record self.old {
+            room = Some (record { tx = tx; rx = rx; extra = extra }) }) }
+        ensures err { OnErr result (self.new ≡ self.old) }
+    {
+        let sizes = Sizes { tx, rx, extra };
+        self.tables.reserve(1)?;
+        self.room = Some(PortTable::blank(self.alloc, sizes)?);
+        Ok(())
+    }
+
+    /// Uses the room that is kept for a port of these sizes. Its places hold nothing.
+    pub fn set_port(&mut self, port: PortId, tx: u32, rx: u32, extra: u32)
+        requires room { self.old.room ≡ Some (record { tx = tx; rx = rx; extra = extra }) }
+        requires new { has_port self.old.ports port.0 ≡ false }
+        ensures { self.new ≡ record self.old {
+          ports = self.old.ports ++ record { port = port; sizes = record { tx = tx; rx = rx; extra = extra } } ∷ [];
+          room = None;
+        } }
+    {
+        if let Some(mut table) = self.room.take() {
+            table.places.port = port;
+            self.tables.push_reserved(table);
+        }
+    }
+
+    /// Takes a port's places away, which hold nothing.
+    pub fn drop_port(&mut self, port: PortId)
+        requires { HoldsNothing self.old port.0 }
+        ensures { self.new ≡ record self.old {
+            ports = filter (λ (p : PortPlaces). not (p.port.0 == port.0)) self.old.ports } }
+    {
+        self.tables.retain(|t| t.places.port != port);
+    }
+
+    /// How many extra positions a port has; none where there is no such port.
+    pub fn extras(&self, port: PortId) -> u32
+        ensures extras { result ≡ extra_of self.now.ports port.0 }
+        ensures hold { IsHold self.now }
+    {
+        match table_of(&self.tables, port) {
+            Some(table) => table.places.sizes.extra,
+            None => 0,
+        }
+    }
+
+    /// The index of the buffer in a place.
+    pub fn index(&self, place: Place) -> Option<u32>
+        ensures { result ≡ index_at self.now place }
+    {
+        let idx = number(&self.tables, place);
+        if idx == 0 { None } else { Some(idx) }
+    }
+
+    // Where the buffer of an index stands.
+    fn home_at(&self, idx: u32) -> Option<Home>
+        ensures { result ≡ home_in (standing_at self.now idx) }
+    {
+        if (idx as usize) < self.cells.len() {
+            home_of(&self.cells[idx as usize])
+        } else {
+            None
+        }
+    }
+
+    /// The place in which the buffer of an index stands.
+    pub fn place(&self, idx: u32) -> Option<Place>
+        ensures { result ≡ place_at self.now idx }
+    {
+        match self.home_at(idx) {
+            Some(home) => Some(home.place),
+            None => None,
+        }
+    }
+
+    /// Whether the buffer of an index is one of the session's named ones.
+    pub fn named(&self, idx: u32) -> bool
+        ensures { result ≡ is_named_at self.now idx }
+    {
+        match self.home_at(idx) {
+            Some(home) => home.named,
+            None => false,
+        }
+    }
+
+    /// The buffer of an index, named or not.
+    pub fn buffer(&self, idx: u32) -> Option<&Buf>
+        ensures { option_copied result ≡ buffer_at self.now idx }
+    {
+        if (idx as usize) < self.cells.len() {
+            buf_of(&self.cells[idx as usize])
+        } else {
+            None
+        }
+    }
+
+    /// The bytes of a named buffer.
+    pub fn bytes(&self, idx: u32) -> Option<&[u8]>
+        ensures { option_copied result ≡ named_bytes_at self.now idx }
+    {
+        if (idx as usize) < self.cells.len() {
+            named_bytes(&self.cells[idx as usize])
+        } else {
+            None
+        }
+    }
+
+    /// The bytes of a named buffer, to be written.
+    pub fn bytes_mut(&mut self, idx: u32) -> Option<&mut [u8]>
+        ensures { option_copied_mut result ≡ named_bytes_at self.old idx }
+    {
+        if self.named(idx) {
+            Some(self.lend(idx))
+        } else {
+            None
+        }
+    }
+
+    /// The bytes of a buffer that `named` tells to be a named one, to be written. What is written is
+    /// known of the hold afterwards.
+    pub fn lend(&mut self, idx: u32) -> &mut [u8]
+        requires { is_named_at self.old idx ≡ true }
+        ensures* writes_back { sem 𝓛 (LendsBytesAt self.entry idx result) }
+        ensures bytes { named_bytes_at self.old idx ≡ Some result.now }
+    {
+        bytes_mut(&mut self.cells[idx as usize])
+    }
+
+    /// Puts a buffer into a place of one of the hold's ports, which holds none. It is not a named one.
+    pub fn add(&mut self, place: Place, buf: Buf)
+        requires belongs { has_place self.old.ports place ≡ true }
+        requires empty { index_at self.old place ≡ None }
+        requires index { IsBufferIndex (buffers_of self.old) buf.index }
+        requires apart { standing_at self.old buf.index ≡ None }
+        ensures cell { self.new ≡ with_cell self.old buf.index
+            (Some (record { home = record { place = place; named = false }; buf = buf })) }
+        ensures places { (p : Place) → index_at self.new p
+            ≡ (if is_same_place place p then Some buf.index else index_at self.old p) }
+    {
+        let idx = buf.index();
+        let home = Home {
+            place,
+            named: false,
+        };
+        let cell = &mut self.cells[idx as usize];
+        match cell.replace(Standing { home, buf }) {
+            None => put(&mut self.tables, place, idx),
+            Some(_other) => unreachable!(),
+        }
+    }
+
+    /// Takes the buffer out of a place.
+    pub fn remove(&mut self, place: Place) -> Buf
+        requires { IsSome (index_at self.old place) }
+        ensures index { index_at self.old place ≡ Some result.index }
+        ensures buffer { buffer_at self.old result.index ≡ Some result }
+        ensures cell { self.new ≡ with_cell self.old result.index None }
+        ensures places { (p : Place) → index_at self.new p
+            ≡ (if is_same_place place p then None else index_at self.old p) }
+    {
+        let idx = number(&self.tables, place);
+        put(&mut self.tables, place, 0);
+        let cell = &mut self.cells[idx as usize];
+        match cell.take() {
+            Some(Standing { home: _, buf }) => buf,
+            None => unreachable!(),
+        }
+    }
+
+    /// Makes the buffer in a place one of the session's named ones, or one that is not.
+    pub fn set_named(&mut self, place: Place, named: bool)
+        requires { IsSome (index_at self.old place) }
+        ensures cell { (idx : ℕ) → index_at self.old place ≡ Some idx
+            → self.new ≡ with_cell self.old idx (renamed named (standing_at self.old idx)) }
+        ensures places { SamePlaces (places_of self.old) (places_of self.new) }
+    {
+        let idx = number(&self.tables, place);
+        rename(&mut self.cells[idx as usize], named);
+    }
+
+    /// The buffer in a place and a named buffer change places. Each keeps its bytes, and the places
+    /// that were named stay so.
+    pub fn exchange(&mut self, place: Place, idx: u32)
+        requires held { IsSome (index_at self.old place) }
+        requires named { is_named_at self.old idx ≡ true }
+        ensures places { SamePlaces (exchanged (places_of self.old) place idx) (places_of self.new) }
+        ensures buffers { (i : ℕ) → buffer_at self.new i ≡ buffer_at self.old i }
+        ensures named { (was i : ℕ) → index_at self.old place ≡ Some was
+            → is_named_at self.new i ≡ is_named_at self.old (swapped was idx i) }
+        ensures ports { self.new.ports ≡ self.old.ports }
+        ensures room { self.new.room ≡ self.old.room }
+    {
+        let was = number(&self.tables, place);
+        if was == idx {
+            return;
+        }
+        let (Some(here), Some(there)) = (self.home_at(was), self.home_at(idx)) else {
+            unreachable!()
+        };
+        move_to(&mut self.cells[was as usize], there);
+        move_to(&mut self.cells[idx as usize], here);
+        put(&mut self.tables, place, idx);
+        put(&mut self.tables, there.place, was);
+    }
+
+    /// Ends a hold that holds no buffer.
+    pub fn close(self)
+        requires { (idx : ℕ) → standing_at self idx ≡ None }
+    {
+        let Hold {
+            mut cells,
+            tables: _,
+            room: _,
+            alloc: _,
+        } = self;
+        while let Some(cell) = cells.pop() {
+            match cell {
+                None => {}
+                Some(_held) => unreachable!(),
+            }
+        }
+        cells.destroy_empty();
+    }
+}

@@ -1,0 +1,13 @@
+//! A session's places and the buffers that stand in them.
+#![tactic(auto)]
+
+mod hold;
+pub mod laws;
+mod standing;
+mod table;
+#[cfg(test)]
+mod tests;
+
+pub use hold::Hold;
+pub use standing::{Home, Standing};
+pub use table::{PortPlaces, Sizes};

@@ -1,0 +1,119 @@
+ghost use Rattle.std.specs.Prelude.{◌≡◌, ◌==◌, All, IfOk, map, find};
+ghost use Rattle.std.specs.Option.{option_copied};
+ghost use Rattle.nm_hold.specs.declared.table.PortTable.{PortTable};
+ghost use Rattle.nm_hold.specs.Offsets.{count_of, offset_of, AreSizes};
+ghost use Rattle.nm_hold.specs.Tables.{number_at, put_in, IsTable};
+
+use nm_types::{Place, PortId};
+use std::alloc::{AllocError, Global};
+
+/// How many places a port has: transmit slots, receive slots, and extra positions.
+#[derive(Clone, Copy, Debug, PartialEq, Eq)]
+pub struct Sizes {
+    pub tx: u32,
+    pub rx: u32,
+    pub extra: u32,
+}
+
+impl Sizes {
+    /// All places together.
+    pub(crate) fn count(self) -> usize
+        ensures { result ≡ count_of self }
+    {
+        self.tx as usize + self.rx as usize + self.extra as usize
+    }
+}
+
+/// The places of a port.
+#[derive(Clone, Copy, Debug, PartialEq, Eq)]
+pub struct PortPlaces {
+    pub port: PortId,
+    pub sizes: Sizes,
+}
+
+impl PortPlaces {
+    // Which of the port's places this is: transmit slots come first, then receive slots.
+    fn offset(self, place: Place) -> Option<usize>
+        ensures { result ≡ offset_of self place }
+    {
+        let (tx, rx) = (self.sizes.tx as usize, self.sizes.rx as usize);
+        match place {
+            Place::Tx { port, slot } if port == self.port && slot < self.sizes.tx => {
+                Some(slot as usize)
+            }
+            Place::Rx { port, slot } if port == self.port && slot < self.sizes.rx => {
+                Some(tx + slot as usize)
+            }
+            Place::Extra { port, at } if port == self.port && at < self.sizes.extra => {
+                Some(tx + rx + at as usize)
+            }
+            _ => None,
+        }
+    }
+}
+
+/// The places of a port, each with the index of the buffer in it; 0 is none.
+#[derive(Drop)]
+pub(crate) struct PortTable {
+    pub(crate) places: PortPlaces,
+    pub(crate) numbers: Vec<u32>,
+}
+
+impl PortTable {
+    ghost use Rattle.nm_hold.specs.Ties.{IsBlank};
+
+    /// A table in which no place holds a buffer. Its port is still to be set.
+    pub(crate) fn blank(alloc: Global, sizes: Sizes) -> Result<PortTable, AllocError>
+        requires { AreSizes sizes }
+        ensures sizes { IfOk result (λ t. t.places.sizes ≡ sizes) }
+        ensures blank { IfOk result IsBlank }
+    {
+        Ok(PortTable {
+            places: PortPlaces {
+                port: PortId(0),
+                sizes,
+            },
+            numbers: vec![in alloc; 0; sizes.count()]?,
+        })
+    }
+
+    // Stores a number at a place, if it is one of this port's.
+    fn put(&mut self, place: Place, number: u32)
+        requires { IsTable self.old }
+        ensures { self.new ≡ put_in place number self.old }
+    {
+        if let Some(at) = self.places.offset(place) {
+            self.numbers[at] = number;
+        }
+    }
+}
+
+/// The index of the buffer in a place; 0 where it holds none.
+pub(crate) fn number(tables: &[PortTable], place: Place) -> u32
+    requires { All IsTable tables.now }
+    ensures { result ≡ number_at tables.now place }
+{
+    for table in tables {
+        if let Some(at) = table.places.offset(place) {
+            return table.numbers[at];
+        }
+    }
+    0
+}
+
+/// Puts the index of a buffer at a place.
+pub(crate) fn put(tables: &mut [PortTable], place: Place, number: u32)
+    requires { All IsTable tables.old }
+    ensures { tables.new ≡ map (put_in place number) tables.old }
+{
+    for table in tables.iter_mut() {
+        table.put(place, number);
+    }
+}
+
+/// The table of a port.
+pub(crate) fn table_of(tables: &[PortTable], port: PortId) -> Option<&PortTable>
+    ensures { option_copied result ≡ find (λ (t : PortTable). t.places.port.0 == port.0) tables.now }
+{
+    tables.iter().find(|t| t.places.port == port)
+}

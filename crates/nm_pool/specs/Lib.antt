@@ -1,0 +1,5 @@
+pub mod Free
+pub mod Kept
+pub mod Laws
+pub mod Stored
+pub mod Taking

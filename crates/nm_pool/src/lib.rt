@@ -1,0 +1,10 @@
+//! The free buffers of a pool, the smallest first.
+#![tactic(auto)]
+
+pub mod laws;
+mod pool;
+#[cfg(test)]
+mod tests;
+
+pub use nm_region::Buf;
+pub use pool::{Pool, TakeFault};

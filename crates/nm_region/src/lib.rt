@@ -1,0 +1,10 @@
+//! The buffers of a pool: 2048 bytes each, owned by whoever has them.
+#![tactic(auto)]
+
+mod buf;
+mod region;
+#[cfg(test)]
+mod tests;
+
+pub use buf::Buf;
+pub use region::Region;

@@ -1,0 +1,22 @@
+//! Laws of a learning table's answers. Each function does nothing; its contract is a law about the
+//! definitions, which the check proves.
+#![tactic(auto, using(crate::proofs::TableLaws::table_laws))]
+
+ghost use Rattle.vale_learn.specs.Laws.{FoundWhereHeld, NoneFoundAtFirst, LearningReplaces, ForgettingBringsNothingBack};
+
+/// An address is found exactly where its entry holds it, and none is at first.
+pub fn found_where_held()
+    ensures held { FoundWhereHeld }
+    ensures first { NoneFoundAtFirst }
+{}
+
+/// Learning an address makes it found, and every other address of its entry not found.
+pub fn learning_replaces()
+    ensures { LearningReplaces }
+{}
+
+/// Forgetting a port makes its addresses not found, and changes no other answer: nothing older comes
+/// back.
+pub fn forgetting_brings_nothing_back()
+    ensures { ForgettingBringsNothingBack }
+{}

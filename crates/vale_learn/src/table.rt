@@ -1,0 +1,118 @@
+ghost use Rattle.std.specs.Prelude.{◌≡◌, ◌+◌, ◌<◌, length, map, IfOk};
+ghost use Rattle.vale_learn.specs.AddressTable.{half_at, bucket_of, no_stations, entry_of, port_of_address, port_if_address, learned, without_port, forgotten};
+
+use nm_types::{Mac, NoMemory, PortId};
+use std::alloc::Global;
+use std::marker::Model;
+
+/// The number of a table's entries.
+pub const BUCKETS: usize = 1024;
+
+/// An address, and the port behind which it was seen last.
+#[derive(Clone, Copy, Debug, PartialEq, Eq)]
+pub struct Station {
+    pub address: Mac,
+    pub port: PortId,
+}
+
+/// A switch's learning table. An entry holds one station; its number is the xor of the address's
+/// three big-endian halves of 16 bits, modulo 1024.
+#[derive(Drop)]
+pub struct Table {
+    entries: Box<[Option<Station>; BUCKETS]>,
+}
+
+impl Model for Table {
+    ghost use Rattle.vale_learn.specs.AddressTable.{Entries};
+
+    ghost Value = { Entries };
+
+    ghost use Rattle.std.specs.Prelude.{◌≡◌, length};
+
+    ghost view = { λ t. t.entries.value };
+
+    ghost invariant = { λ t. length t.entries.value ≡ 1024 };
+}
+
+fn half_at(address: Mac, i: usize) -> u32
+    requires { i + 1 < 6 }
+    ensures { result ≡ half_at address.0 i }
+{
+    256 * u32::from(address.0[i]) + u32::from(address.0[i + 1])
+}
+
+fn bucket_of(address: Mac) -> usize
+    ensures value { result ≡ bucket_of address.0 }
+    ensures within { result < 1024 }
+{
+    let halves = half_at(address, 0) ^ half_at(address, 2) ^ half_at(address, 4);
+    halves as usize % BUCKETS
+}
+
+fn port_if_address(entry: Option<Station>, address: Mac) -> Option<PortId>
+    ensures { result ≡ port_if_address address.0 entry }
+{
+    match entry {
+        Some(station) if station.address == address => Some(station.port),
+        _ => None,
+    }
+}
+
+/// Empties an entry that holds a station of this port.
+fn leave_port(entry: &mut Option<Station>, port: PortId)
+    ensures { entry.new ≡ without_port port entry.old }
+{
+    if let Some(station) = entry {
+        if station.port == port {
+            *entry = None;
+        }
+    }
+}
+
+fn leave_all(entries: &mut [Option<Station>], port: PortId)
+    ensures { entries.new ≡ map (without_port port) entries.old }
+{
+    for entry in entries.iter_mut() {
+        leave_port(entry, port);
+    }
+}
+
+impl Table {
+    /// A table that has learned nothing. Only this call takes memory.
+    pub fn new(alloc: Global) -> Result<Table, NoMemory>
+        ensures { IfOk result (λ table. table ≡ no_stations) }
+    {
+        Ok(Table {
+            entries: Box::new(alloc, [None; BUCKETS])?,
+        })
+    }
+
+    /// The address was seen behind this port. Its entry no longer holds what it held.
+    pub fn learn(&mut self, address: Mac, port: PortId)
+        ensures { self.new ≡ learned self.old address port }
+    {
+        self.entries[bucket_of(address)] = Some(Station { address, port });
+    }
+
+    /// The port behind which the address was seen, where its entry holds the address.
+    pub fn find(&self, address: Mac) -> Option<PortId>
+        ensures found { result ≡ port_of_address self.now address.0 }
+        ensures entries { length self.now ≡ 1024 }
+    {
+        port_if_address(self.entries[bucket_of(address)], address)
+    }
+
+    /// Empties all entries that hold this port.
+    pub fn forget(&mut self, port: PortId)
+        ensures { self.new ≡ forgotten self.old port }
+    {
+        leave_all(self.entries.as_mut_slice(), port);
+    }
+
+    /// Makes the table equal to the other.
+    pub fn copy_from(&mut self, other: &Table)
+        ensures { self.new ≡ other.now }
+    {
+        *self.entries = *other.entries;
+    }
+}

@@ -1,0 +1,177 @@
+-- Leases in order: what opening, completing and taking leave of them.
+use Rattle.std.proofs.Common.{ℕ, zero, suc, Bool, true, false, List, [], ◌∷◌, ◌++◌, ◌≡◌, ◌≤◌, ◌<◌, ◌+◌, inl, inr, Some, None, length, map, drop, set, get_or, refl, sym, ◌∙◌, ap, arith, ◌||◌}
+use Rattle.std.specs.Prelude.{position}
+use Rattle.std.specs.List.{list_any, prefix_len, position_or_len}
+use Rattle.std.proofs.lemmas.Bool.{cases_Bool, or_parts, or_from, or_right, both_ways, false≢true, eqb-true, eqb-false, ne_eqb, lt-ltb}
+use Rattle.std.proofs.lemmas.List.Sums.{sum_by-cons, sum_by_push, sum_by-take-le, count_by-le-length}
+use Rattle.std.proofs.lemmas.List.Folds.{list_any-append, list_any_at}
+use Rattle.vale_lease.specs.declared.leases.Lease.{Lease}
+use Rattle.vale_lease.specs.Leases.{has_id, is_out, is_done, is_there, is_lease_out, slots_of, done_prefix, behind_done, first_done, out_count, completed, AreLeases}
+
+slots-cons : (lease : Lease) (leases : List Lease) → slots_of (lease ∷ leases) ≡ lease.slots + slots_of leases
+slots-cons lease leases = sum_by-cons (λ (l : Lease). l.slots) lease leases
+
+-- a ring has no more leases than leased slots
+pub length-le-slots : (leases : List Lease) → AreLeases leases → length leases ≤ slots_of leases
+length-le-slots [] are = omega arith
+length-le-slots (lease ∷ leases) are =
+    let rest : length leases ≤ slots_of leases = length-le-slots leases are.1.1 in
+    let first : 1 ≤ lease.slots = are.0 in
+    let whole : slots_of (lease ∷ leases) ≡ lease.slots + slots_of leases = slots-cons lease leases in
+    omega arith
+
+pub out-le-slots : (leases : List Lease) → AreLeases leases → out_count leases ≤ slots_of leases
+out-le-slots leases are =
+    let most : out_count leases ≤ length leases = count_by-le-length is_out leases in
+    let few : length leases ≤ slots_of leases = length-le-slots leases are in
+    omega arith
+
+pub slots-push : (leases : List Lease) (lease : Lease) → slots_of (leases ++ lease ∷ []) ≡ slots_of leases + lease.slots
+slots-push leases lease = sum_by_push (λ (l : Lease). l.slots) leases lease
+
+-- an opened lease joins those that are there
+pub leases-push : (leases : List Lease) (lease : Lease) → AreLeases leases → 1 ≤ lease.slots → is_there lease.id.0 leases ≡ false → AreLeases (leases ++ lease ∷ [])
+leases-push [] lease are some fresh = (some, (refl, tt))
+leases-push (first ∷ leases) lease are some fresh =
+    let parts = or_parts (has_id lease.id.0 first) (is_there lease.id.0 leases) fresh in
+    let differ : has_id first.id.0 lease ≡ false = ne_eqb lease.id.0 first.id.0 (λ same. eqb-false first.id.0 lease.id.0 parts.0 (sym same)) in
+    let here : is_there first.id.0 (leases ++ lease ∷ []) ≡ false =
+    list_any-append (has_id first.id.0) leases (lease ∷ [])
+    ∙ or_from (is_there first.id.0 leases) (has_id first.id.0 lease || false) are.1.0 (or_from (has_id first.id.0 lease) false differ refl) in
+    (are.0, (here, leases-push leases lease are.1.1 some parts.1))
+
+-- completing changes no id and no number of slots
+there-completed : (id q : ℕ) (leases : List Lease) → is_there q (map (completed id) leases) ≡ is_there q leases
+there-completed id q [] = refl
+there-completed id q (lease ∷ leases) = ap (λ (b : Bool). has_id q lease || b) (there-completed id q leases)
+
+pub leases-completed : (id : ℕ) (leases : List Lease) → AreLeases leases → AreLeases (map (completed id) leases)
+leases-completed id [] are = tt
+leases-completed id (lease ∷ leases) are = (are.0, (there-completed id lease.id.0 leases ∙ are.1.0, leases-completed id leases are.1.1))
+
+pub slots-completed : (id : ℕ) (leases : List Lease) → slots_of (map (completed id) leases) ≡ slots_of leases
+slots-completed id [] = refl
+slots-completed id (lease ∷ leases) =
+    slots-cons (completed id lease) (map (completed id) leases)
+    ∙ (ap (λ (n : ℕ). lease.slots + n) (slots-completed id leases) ∙ sym (slots-cons lease leases))
+
+completed_other : (id : ℕ) (lease : Lease) → has_id id lease ≡ false → completed id lease ≡ lease
+completed_other id lease other = rw other refl
+
+completed_none : (id : ℕ) (leases : List Lease) → is_there id leases ≡ false → map (completed id) leases ≡ leases
+completed_none id [] none = refl
+completed_none id (lease ∷ leases) none =
+    let parts = or_parts (has_id id lease) (is_there id leases) none in
+    let first = completed_other id lease parts.0 in
+    let rest = completed_none id leases parts.1 in
+    cc
+
+abbrev marked : Lease → Lease
+marked lease = record lease { is_done = true }
+
+completed_same : (id : ℕ) (lease : Lease) → has_id id lease ≡ true → completed id lease ≡ marked lease
+completed_same id lease same = rw same refl
+
+-- a mark at the lease's place completes it
+pub set-completed : (leases : List Lease) (id at : ℕ) (d : Lease) → AreLeases leases → at < length leases → has_id id (get_or leases at d) ≡ true
+    → set leases at (marked (get_or leases at d)) ≡ map (completed id) leases
+set-completed [] id at d are within same = absurd (omega arith)
+set-completed (lease ∷ leases) id zero d are within same =
+    let is_id : lease.id.0 ≡ id = eqb-true lease.id.0 id same in
+    let none : is_there id leases ≡ false = rw is_id at (are.1.0) in
+    let rest = completed_none id leases none in
+    let first = completed_same id lease same in
+    cc
+set-completed (lease ∷ leases) id (suc at) d are within same =
+    let rest = set-completed leases id at d are.1.1 (omega arith) same in
+    let there : is_there id leases ≡ true = list_any_at (has_id id) leases at d (omega arith) same in
+    let first : completed id lease ≡ lease = elim (cases_Bool (has_id id lease)) [
+      | inl here ↦
+          let is_id : lease.id.0 ≡ id = eqb-true lease.id.0 id here in
+          let none : is_there id leases ≡ false = rw is_id at (are.1.0) in
+          absurd (both_ways (is_there id leases) none there)
+      | inr other ↦ completed_other id lease other
+    ] in
+    cc
+
+-- a lease that is out has a place
+pub out_there : (id : ℕ) (leases : List Lease) → is_lease_out id leases ≡ true → is_there id leases ≡ true
+out_there id [] out = out
+out_there id (lease ∷ leases) out = elim (cases_Bool (has_id id lease)) [
+  | inl here ↦ rw here refl
+  | inr other ↦ (let rest : is_lease_out id leases ≡ true = rw other at out in or_right (has_id id lease) (is_there id leases) (out_there id leases rest))
+]
+
+-- the first lease is done: it leaves the prefix, and what stands behind the prefix stays
+pub first_done_more : (leases : List Lease) (slots : ℕ) → first_done leases ≡ Some slots → slots_of (done_prefix leases) ≡ slots + slots_of (done_prefix (drop 1 leases))
+first_done_more [] slots is = absurd (let wrong : None ≡ Some slots = is in cc)
+first_done_more (lease ∷ leases) slots is = elim (cases_Bool lease.is_done) [
+  | inl here ↦
+      let told : Some lease.slots ≡ Some slots = rw here at is in
+      let same : lease.slots ≡ slots = cc in
+      let next : 1 + prefix_len is_done leases ≡ suc (prefix_len is_done leases) = omega arith in
+      let cut : done_prefix (lease ∷ leases) ≡ lease ∷ done_prefix leases = rw (here, next) refl in
+      ap slots_of cut ∙ (slots-cons lease (done_prefix leases) ∙ ap (λ (n : ℕ). n + slots_of (done_prefix leases)) same)
+  | inr not_done ↦ absurd (let wrong : None ≡ Some slots = rw not_done at is in cc)
+]
+
+pub first_done_behind : (leases : List Lease) (slots : ℕ) → first_done leases ≡ Some slots → behind_done leases ≡ behind_done (drop 1 leases)
+first_done_behind [] slots is = absurd (let wrong : None ≡ Some slots = is in cc)
+first_done_behind (lease ∷ leases) slots is = elim (cases_Bool lease.is_done) [
+  | inl here ↦ (let next : 1 + prefix_len is_done leases ≡ suc (prefix_len is_done leases) = omega arith in rw (here, next) refl)
+  | inr not_done ↦ absurd (let wrong : None ≡ Some slots = rw not_done at is in cc)
+]
+
+pub first_done_some : (leases : List Lease) (slots : ℕ) → first_done leases ≡ Some slots → 1 ≤ length leases
+first_done_some [] slots is = absurd (let wrong : None ≡ Some slots = is in cc)
+first_done_some (lease ∷ leases) slots is = omega arith
+
+pub first_done_prefix : (leases : List Lease) → first_done leases ≡ None → done_prefix leases ≡ []
+first_done_prefix [] is = refl
+first_done_prefix (lease ∷ leases) is = elim (cases_Bool lease.is_done) [
+  | inl here ↦ absurd (let wrong : Some lease.slots ≡ None = rw here at is in cc)
+  | inr not_done ↦ rw not_done refl
+]
+
+pub first_done_rest : (leases : List Lease) → first_done leases ≡ None → behind_done leases ≡ leases
+first_done_rest [] is = refl
+first_done_rest (lease ∷ leases) is = elim (cases_Bool lease.is_done) [
+  | inl here ↦ absurd (let wrong : Some lease.slots ≡ None = rw here at is in cc)
+  | inr not_done ↦ rw not_done refl
+]
+
+pub prefix-le-slots : (leases : List Lease) → slots_of (done_prefix leases) ≤ slots_of leases
+prefix-le-slots leases = sum_by-take-le (λ (l : Lease). l.slots) leases (prefix_len is_done leases)
+
+-- leases of which the first ones went
+pub leases-drop : (n : ℕ) (leases : List Lease) → AreLeases leases → AreLeases (drop n leases)
+leases-drop zero leases are = are
+leases-drop (suc n) [] are = are
+leases-drop (suc n) (lease ∷ leases) are = leases-drop n leases are.1.1
+
+pub slots-drop-le : (n : ℕ) (leases : List Lease) → slots_of (drop n leases) ≤ slots_of leases
+slots-drop-le zero leases = omega arith
+slots-drop-le (suc n) [] = omega arith
+slots-drop-le (suc n) (lease ∷ leases) =
+    let rest : slots_of (drop n leases) ≤ slots_of leases = slots-drop-le n leases in
+    let whole : slots_of (lease ∷ leases) ≡ lease.slots + slots_of leases = slots-cons lease leases in
+    omega arith
+
+pub ruleset leases = (length-le-slots, out-le-slots, slots-push, leases-push, leases-completed, slots-completed, set-completed, out_there, first_done_more, first_done_behind, first_done_some, first_done_prefix, first_done_rest, prefix-le-slots, leases-drop, slots-drop-le)
+
+place_within : {X : Type 0} (p : X → Bool) (xs : List X) → list_any p xs ≡ true → position_or_len p xs < length xs
+place_within p [] there = absurd (false≢true there)
+place_within p (x ∷ xs) there = elim (cases_Bool (p x)) [
+  | inl here ↦ rw here (omega arith)
+  | inr other ↦
+      let later : list_any p xs ≡ true = rw other at there in
+      let rest : position_or_len p xs < length xs = place_within p xs later in
+      rw other (omega arith)
+]
+
+-- what is there has a place
+pub position_there : {X : Type 0} (p : X → Bool) (xs : List X) → position p xs ≡ None → list_any p xs ≡ true → ⊥
+position_there p xs none there =
+    let found : position p xs ≡ Some (position_or_len p xs) = rw (lt-ltb (position_or_len p xs) (length xs) (place_within p xs there)) refl in
+    let wrong : None ≡ Some (position_or_len p xs) = sym none ∙ found in
+    cc

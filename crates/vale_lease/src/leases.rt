@@ -1,0 +1,156 @@
+ghost use Rattle.std.specs.Prelude.{◌≡◌, ◌+◌, ◌-◌, ◌<◌, ◌≤◌, ◌^◌, [], ◌∷◌, ◌++◌, IfOk, IsTrue, false, map, position};
+ghost use Rattle.std.specs.VecDeque.{deque_capacity};
+ghost use Rattle.vale_lease.specs.Leases.{has_id, is_there, is_lease_out, slots_of, done_prefix, behind_done, first_done, out_count, completed, AreLeases, IsLeaseRing};
+
+use nm_types::{LeaseId, NoMemory};
+use std::alloc::Global;
+use std::collections::VecDeque;
+use std::marker::Model;
+
+/// A lease of a receive ring: so many slots that its holder fills, and whether they are filled.
+#[derive(Clone, Copy, Debug, PartialEq, Eq)]
+pub struct Lease {
+    pub id: LeaseId,
+    pub slots: u32,
+    pub is_done: bool,
+}
+
+/// The leases of a receive ring, in the order in which they were opened. One slot of the ring is
+/// never leased, as netmap(4)'s rings keep one slot back.
+#[derive(Drop)]
+pub struct Leases {
+    size: u32,
+    leases: VecDeque<Lease>,
+}
+
+impl Model for Leases {
+    ghost use Rattle.vale_lease.specs.Leases.{LeaseRing};
+
+    ghost Value = { LeaseRing };
+
+    ghost use Rattle.std.specs.Prelude.{◌-◌, ◌≤◌};
+    ghost use Rattle.std.specs.VecDeque.{deque_capacity};
+    ghost use Rattle.vale_lease.specs.Leases.{IsLeaseRing};
+
+    ghost view = { λ r. record { size = r.size; leases = r.leases.items } };
+
+    ghost invariant = { λ r. IsLeaseRing (record { size = r.size; leases = r.leases.items }) × (r.size - 1 ≤ deque_capacity r.leases) };
+}
+
+fn first_done(leases: &VecDeque<Lease>) -> Option<u32>
+    ensures { result ≡ first_done leases.now.items }
+{
+    match leases.front() {
+        Some(lease) if lease.is_done => Some(lease.slots),
+        _ => None,
+    }
+}
+
+#[tactic(auto, using(crate::proofs::LeaseLemmas::leases))]
+fn take_done(leases: &mut VecDeque<Lease>) -> u32
+    requires { slots_of leases.old.items < 2 ^ 32 }
+    ensures slots { result ≡ slots_of (done_prefix leases.old.items) }
+    ensures rest { leases.new.items ≡ behind_done leases.old.items }
+    ensures capacity { deque_capacity leases.new ≡ deque_capacity leases.old }
+{
+    let mut taken = 0;
+    while let Some(slots) = first_done(leases) {
+        leases.pop_front();
+        taken += slots;
+    }
+    taken
+}
+
+fn place_of(leases: &VecDeque<Lease>, id: LeaseId) -> Option<usize>
+    ensures { result ≡ position (has_id id.0) leases.now.items }
+{
+    leases.iter().position(|lease| lease.id == id)
+}
+
+#[tactic(auto, using(crate::proofs::LeaseLemmas::leases))]
+fn mark_done(leases: &mut VecDeque<Lease>, id: LeaseId)
+    requires leases { AreLeases leases.old.items }
+    requires out { IsTrue (is_lease_out id.0 leases.old.items) }
+    ensures items { leases.new.items ≡ map (completed id.0) leases.old.items }
+    ensures capacity { deque_capacity leases.new ≡ deque_capacity leases.old }
+{
+    match place_of(leases, id) {
+        Some(at) => leases[at].is_done = true,
+        None => unreachable!(),
+    }
+}
+
+fn ready_slots(leases: &VecDeque<Lease>) -> u32
+    requires { slots_of leases.now.items < 2 ^ 32 }
+    ensures { result ≡ slots_of (done_prefix leases.now.items) }
+{
+    leases
+        .iter()
+        .take_while(|lease| lease.is_done)
+        .map(|lease| lease.slots)
+        .sum()
+}
+
+impl Leases {
+    /// A ring of so many slots, at least 1, with no lease. Takes the room for all its leases, at most
+    /// one a slot, so that the other calls take no memory.
+    pub fn new(alloc: Global, size: u32) -> Result<Leases, NoMemory>
+        requires { 1 ≤ size }
+        ensures { IfOk result (λ ring. ring ≡ record { size = size; leases = [] }) }
+    {
+        Ok(Leases {
+            size,
+            leases: VecDeque::with_capacity(alloc, size as usize - 1)?,
+        })
+    }
+
+    /// Leases so many slots, at least one, behind all others.
+    #[tactic(auto, using(crate::proofs::LeaseLemmas::leases))]
+    pub fn open(&mut self, id: LeaseId, slots: u32)
+        requires some { 1 ≤ slots }
+        requires room { slots_of self.old.leases + slots ≤ self.old.size - 1 }
+        requires new { is_there id.0 self.old.leases ≡ false }
+        ensures { self.new ≡ record self.old { leases = self.old.leases ++ record { id = id; slots = slots; is_done = false } ∷ [] } }
+    {
+        self.leases.push_back_reserved(Lease {
+            id,
+            slots,
+            is_done: false,
+        });
+    }
+
+    /// The slots of a lease that is out are filled.
+    #[tactic(auto, using(crate::proofs::LeaseLemmas::leases))]
+    pub fn done(&mut self, id: LeaseId)
+        requires { IsTrue (is_lease_out id.0 self.old.leases) }
+        ensures { self.new ≡ record self.old { leases = map (completed id.0) self.old.leases } }
+    {
+        mark_done(&mut self.leases, id);
+    }
+
+    /// The number of slots that a reader could have now: those of the longest prefix of done leases.
+    pub fn ready(&self) -> u32
+        ensures slots { result ≡ slots_of (done_prefix self.now.leases) }
+        ensures ring { IsLeaseRing self.now }
+    {
+        ready_slots(&self.leases)
+    }
+
+    /// Hands these slots to the reader: the longest prefix of done leases goes.
+    #[tactic(auto, using(crate::proofs::LeaseLemmas::leases))]
+    pub fn take(&mut self) -> u32
+        ensures slots { result ≡ slots_of (done_prefix self.old.leases) }
+        ensures rest { self.new ≡ record self.old { leases = behind_done self.old.leases } }
+    {
+        take_done(&mut self.leases)
+    }
+
+    /// The number of leases that are not done.
+    #[tactic(auto, using(crate::proofs::LeaseLemmas::leases))]
+    pub fn out(&self) -> u32
+        ensures count { result ≡ out_count self.now.leases }
+        ensures ring { IsLeaseRing self.now }
+    {
+        self.leases.iter().filter(|lease| !lease.is_done).count() as u32
+    }
+}

@@ -1,0 +1,5 @@
+pub mod GroupLemmas
+pub mod NameLemmas
+pub mod OrderLemmas
+pub mod PortLemmas
+pub mod SwitchLemmas

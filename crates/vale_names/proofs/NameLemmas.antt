@@ -1,0 +1,204 @@
+-- What a name is answered, from the ports beside it.
+use Rattle.std.proofs.Common.{ℕ, suc, Bool, true, false, cond, List, [], ◌∷◌, ◌++◌, ◌≡◌, Option, Some, None, Result, Ok, Err, OnOk, OnErr, MatchResult, length, map, get_or, refl, sym, ◌∙◌, ap, arith, not, inl, inr}
+use Rattle.std.specs.Prelude.{filter, find, count_by, option_map, nat_le}
+use Rattle.std.specs.List.{list_any, list_all}
+use Rattle.std.proofs.lemmas.Bool.{cases_Bool, and_parts, or_from, le-leb, lt-leb}
+use Rattle.std.proofs.lemmas.List.{map-append}
+use Rattle.std.proofs.lemmas.List.Elements.{filter-append}
+use Rattle.std.proofs.lemmas.List.Folds.{list_any-append}
+use Rattle.std.proofs.lemmas.List.Sums.{length-filter}
+use Rattle.nm_types.specs.Names.{switch_of, is_switch_port_name, is_pipe_name, is_monitor_name}
+use Rattle.nm_types.specs.declared.fault.OpenFault.{OpenFault}
+use Rattle.nm_types.specs.declared.fault.OpenFault.TheVariants.{PortsFull, NameTaken}
+use Rattle.vale_names.specs.declared.port.NamedPort.{NamedPort}
+use Rattle.vale_names.specs.declared.switch.Switch.{Switch}
+use Rattle.vale_names.specs.Ports.{has_name, has_switch_name, has_pipe_name, has_monitor_name, is_open_as, open_port_of, is_on_switch, is_beside, Joins, has_id, shut_at, shut_in, without}
+use Rattle.vale_names.specs.Opening.{switches_of, finds_switches_full, most_beside, name_refusal, are_sizes, open_refusal}
+use Rattle.vale_names.specs.Groups.{PortGroup, group_refusal}
+use Rattle.vale_names.specs.Switches.{is_for, is_vacant, ports_on, place_for, no_place, refusal_at, place_refusal, shut_place, place_without}
+use Rattle.vale_names.specs.Named.{all_ports, AreNamed}
+use Rattle.vale_names.proofs.PortLemmas.{any_in_filter, find_in_filter, filter_none_pass, all_exclude, all_joined, all_map, all_filter, pipe_no_switch_port, monitor_no_switch_port, beside_switch_port, beside_pipe, beside_monitor, beside_itself_switch_port, beside_itself_pipe, beside_itself_monitor}
+use Rattle.vale_names.proofs.SwitchLemmas.{FoundPlace, finds_beside, place_found, place_missed, places_none, places_switch_names, place_at, switch_count, switches_append, some_count, some_all, some_fewer, places_shut, places_without, ports_shut, ports_without, name_kept}
+
+-- ---- filters and tests
+
+any_filtered : (test : NamedPort → Bool) (ports : List NamedPort) (first : NamedPort) (rest : List NamedPort) → filter test ports ≡ first ∷ rest → list_any test ports ≡ true
+any_filtered test [] first rest is = absurd (let wrong : [] ≡ first ∷ rest = is in cc)
+any_filtered test (port ∷ ports) first rest is = elim (cases_Bool (test port)) [
+  | inl here ↦ rw here refl
+  | inr away ↦ (let later : filter test ports ≡ first ∷ rest = rw away at is in rw away (any_filtered test ports first rest later))
+]
+
+none_filtered : (test : NamedPort → Bool) (ports : List NamedPort) → filter test ports ≡ [] → list_any test ports ≡ false
+none_filtered test [] is = refl
+none_filtered test (port ∷ ports) is = elim (cases_Bool (test port)) [
+  | inl here ↦ absurd (let wrong : port ∷ filter test ports ≡ [] = rw here at is in cc)
+  | inr away ↦ (let later : filter test ports ≡ [] = rw away at is in rw away (none_filtered test ports later))
+]
+
+-- ---- the refusal of a name whose ports are those of a group
+
+pub group_told : (ports : List NamedPort) (name : List ℕ) (group : PortGroup) → filter (is_beside name) ports ≡ group.ports → group.most ≡ most_beside name
+    → ((p : NamedPort) → has_name name p ≡ true → is_beside name p ≡ true) → finds_switches_full ports name ≡ false → name_refusal ports name ≡ group_refusal group name
+group_told ports name group beside most itself room =
+    let count : count_by (is_beside name) ports ≡ length group.ports = sym (length-filter (is_beside name) ports) ∙ ap (λ (ps : List NamedPort). length ps) beside in
+    let taken : list_any (has_name name) ports ≡ list_any (has_name name) group.ports = sym (any_in_filter (has_name name) (is_beside name) ports itself) ∙ ap (list_any (has_name name)) beside in
+    first ∙ (ap (λ (m : ℕ). told m (count_by (is_beside name) ports) (list_any (has_name name) ports)) (sym most)
+    ∙ (ap (λ (k : ℕ). told group.most k (list_any (has_name name) ports)) count
+    ∙ ap (λ (b : Bool). told group.most (length group.ports) b) taken))
+  where
+    told : ℕ → ℕ → Bool → Option OpenFault
+    told m k b = cond (nat_le m k) (Some PortsFull) (cond b (Some NameTaken) None)
+
+    first : name_refusal ports name ≡ told (most_beside name) (count_by (is_beside name) ports) (list_any (has_name name) ports)
+    first = rw room refl
+
+open_beside : (name : List ℕ) (p : NamedPort) → is_open_as name p ≡ true → has_name name p ≡ true
+open_beside name p open_as = (and_parts (has_name name p) (not p.shutting) open_as).0
+
+pub group_finds : (ports : List NamedPort) (name : List ℕ) (beside_ports : List NamedPort) → filter (is_beside name) ports ≡ beside_ports
+    → ((p : NamedPort) → has_name name p ≡ true → is_beside name p ≡ true) → open_port_of ports name ≡ open_port_of beside_ports name
+group_finds ports name beside_ports beside itself =
+    let found : find (is_open_as name) ports ≡ find (is_open_as name) beside_ports =
+    sym (find_in_filter (is_open_as name) (is_beside name) ports (λ p open_as. itself p (open_beside name p open_as))) ∙ ap (find (is_open_as name)) beside in
+    ap (λ (o : Option NamedPort). option_map (λ (p : NamedPort). p.id) o) found
+
+-- ---- the three kinds of names
+
+no_switch_names : (b c : List NamedPort) → list_all has_pipe_name b ≡ true → list_all has_monitor_name c ≡ true → list_any has_switch_name (b ++ c) ≡ false
+no_switch_names b c pipes monitors =
+    list_any-append has_switch_name b c
+    ∙ or_from (list_any has_switch_name b) (list_any has_switch_name c)
+    (all_exclude has_switch_name has_pipe_name b (λ p is. pipe_no_switch_port p.name is) pipes)
+    (all_exclude has_switch_name has_monitor_name c (λ p is. monitor_no_switch_port p.name is) monitors)
+
+pub names_find_switch : (s : List Switch) (p m : PortGroup) (name : List ℕ) → AreNamed s p m → is_switch_port_name name ≡ true → open_port_of (all_ports s p m) name ≡ open_port_of (ports_on s) name
+names_find_switch s p m name are kind =
+    let beside = beside_switch_port name (ports_on s) p.ports m.ports kind are.pipe_ends are.monitor_ports in
+    group_finds (all_ports s p m) name (filter (is_on_switch (switch_of name)) (ports_on s)) beside (beside_itself_switch_port name kind)
+    ∙ sym (finds_beside (ports_on s) name (filter (is_on_switch (switch_of name)) (ports_on s)) kind refl)
+
+pub names_find_pipe : (s : List Switch) (p m : PortGroup) (name : List ℕ) → AreNamed s p m → is_pipe_name name ≡ true → open_port_of (all_ports s p m) name ≡ open_port_of p.ports name
+names_find_pipe s p m name are kind =
+    let beside = beside_pipe name (ports_on s) p.ports m.ports kind (places_switch_names s are.places) are.pipe_ends are.monitor_ports in
+    group_finds (all_ports s p m) name p.ports beside (beside_itself_pipe name kind)
+
+pub names_find_monitor : (s : List Switch) (p m : PortGroup) (name : List ℕ) → AreNamed s p m → is_monitor_name name ≡ true → open_port_of (all_ports s p m) name ≡ open_port_of m.ports name
+names_find_monitor s p m name are kind =
+    let beside = beside_monitor name (ports_on s) p.ports m.ports kind (places_switch_names s are.places) are.pipe_ends are.monitor_ports in
+    group_finds (all_ports s p m) name m.ports beside (beside_itself_monitor name kind)
+
+not_full : (ports : List NamedPort) (name : List ℕ) → is_switch_port_name name ≡ false → finds_switches_full ports name ≡ false
+not_full ports name other = rw other refl
+
+pub names_refuse_pipe : (s : List Switch) (p m : PortGroup) (name : List ℕ) → AreNamed s p m → is_pipe_name name ≡ true → name_refusal (all_ports s p m) name ≡ group_refusal p name
+names_refuse_pipe s p m name are kind =
+    let beside = beside_pipe name (ports_on s) p.ports m.ports kind (places_switch_names s are.places) are.pipe_ends are.monitor_ports in
+    let other = pipe_no_switch_port name kind in
+    group_told (all_ports s p m) name p beside (are.most_pipes ∙ rw other refl) (beside_itself_pipe name kind) (not_full (all_ports s p m) name other)
+
+pub names_refuse_monitor : (s : List Switch) (p m : PortGroup) (name : List ℕ) → AreNamed s p m → is_monitor_name name ≡ true → name_refusal (all_ports s p m) name ≡ group_refusal m name
+names_refuse_monitor s p m name are kind =
+    let beside = beside_monitor name (ports_on s) p.ports m.ports kind (places_switch_names s are.places) are.pipe_ends are.monitor_ports in
+    let other = monitor_no_switch_port name kind in
+    group_told (all_ports s p m) name m beside (are.most_monitors ∙ rw other refl) (beside_itself_monitor name kind) (not_full (all_ports s p m) name other)
+
+all_switches : (s : List Switch) (p m : PortGroup) → AreNamed s p m → length (switches_of (all_ports s p m)) ≡ some_count s
+all_switches s p m are =
+    ap (λ (ps : List NamedPort). length ps) (switches_append (ports_on s) (p.ports ++ m.ports) (no_switch_names p.ports m.ports are.pipe_ends are.monitor_ports))
+    ∙ switch_count s are.places
+
+-- a switch that has a place finds no want of switches
+has_room : (s : List Switch) (p m : PortGroup) (name : List ℕ) (i : ℕ) → AreNamed s p m → is_switch_port_name name ≡ true → FoundPlace s (switch_of name) i
+    → (ports : List NamedPort) → ports ≡ (get_or s i no_place).group.ports → filter (is_beside name) (all_ports s p m) ≡ ports → finds_switches_full (all_ports s p m) name ≡ false
+has_room s p m name i are kind found [] empty beside =
+    let fewer = some_fewer s i no_place found.within (sym empty) in
+    let four = are.four in
+    let count = all_switches s p m are in
+    let few : nat_le 4 (length (switches_of (all_ports s p m))) ≡ false = lt-leb 4 (length (switches_of (all_ports s p m))) (omega arith) in
+    let none = none_filtered (is_beside name) (all_ports s p m) beside in
+    rw (kind, none, few) refl
+has_room s p m name i are kind found (port ∷ ports) some beside =
+    let there = any_filtered (is_beside name) (all_ports s p m) port ports beside in
+    rw (kind, there) refl
+
+no_room : (s : List Switch) (p m : PortGroup) (name : List ℕ) → AreNamed s p m → is_switch_port_name name ≡ true → list_any (is_for (switch_of name)) s ≡ false → list_any is_vacant s ≡ false
+    → finds_switches_full (all_ports s p m) name ≡ true
+no_room s p m name are kind none full =
+    let beside = beside_switch_port name (ports_on s) p.ports m.ports kind are.pipe_ends are.monitor_ports in
+    let away = filter_none_pass (is_on_switch (switch_of name)) (ports_on s) (places_none (switch_of name) s are.places none) in
+    let nothing = none_filtered (is_beside name) (all_ports s p m) (beside ∙ away) in
+    let all = some_all s full in
+    let four = are.four in
+    let count = all_switches s p m are in
+    let many : nat_le 4 (length (switches_of (all_ports s p m))) ≡ true = le-leb 4 (length (switches_of (all_ports s p m))) (omega arith) in
+    rw (kind, nothing, many) refl
+
+told_at : (s : List Switch) (p m : PortGroup) (name : List ℕ) (place : Option ℕ) → AreNamed s p m → is_switch_port_name name ≡ true → place_for s (switch_of name) ≡ place
+    → name_refusal (all_ports s p m) name ≡ refusal_at s name place
+told_at s p m name None are kind told =
+    let missed = place_missed s (switch_of name) told in
+    rw (no_room s p m name are kind missed.0 missed.1) refl
+told_at s p m name (Some i) are kind told =
+    let found = place_found s (switch_of name) i are.places told in
+    let beside = beside_switch_port name (ports_on s) p.ports m.ports kind are.pipe_ends are.monitor_ports ∙ found.ports in
+    let most = (place_at s i no_place are.places found.within).most in
+    group_told (all_ports s p m) name (get_or s i no_place).group beside (most ∙ rw kind refl) (beside_itself_switch_port name kind)
+    (has_room s p m name i are kind found (get_or s i no_place).group.ports refl beside)
+
+pub names_refuse_switch : (s : List Switch) (p m : PortGroup) (name : List ℕ) → AreNamed s p m → is_switch_port_name name ≡ true → name_refusal (all_ports s p m) name ≡ place_refusal s name
+names_refuse_switch s p m name are kind = told_at s p m name (place_for s (switch_of name)) are kind refl
+
+pub sized : (ports : List NamedPort) (name : List ℕ) (tx rx extra : ℕ) → are_sizes name tx rx extra ≡ true → open_refusal ports name tx rx extra ≡ name_refusal ports name
+sized ports name tx rx extra fits = rw fits refl
+
+pub told_as : (r : Result (Unit {0}) OpenFault) (a b : Option OpenFault) → a ≡ b → MatchResult r (λ _. b ≡ None) (λ fault. b ≡ Some fault) → MatchResult r (λ _. a ≡ None) (λ fault. a ≡ Some fault)
+told_as (Ok done) a b same told = same ∙ told
+told_as (Err fault) a b same told = same ∙ told
+
+-- ---- what an opening, a shutting and a going leave
+
+pub kept_joined : (test : NamedPort → Bool) (old new : PortGroup) (port : NamedPort) (r : Result (Unit {0}) OpenFault) → OnOk r (Joins old.ports port new.ports) → OnErr r (new ≡ old)
+    → list_all test old.ports ≡ true → test port ≡ true → list_all test new.ports ≡ true
+kept_joined test old new port (Ok done) joined err all here = all_joined test old.ports port new.ports joined all here
+kept_joined test old new port (Err fault) joined err all here = rw err all
+
+pub named_shut : (id : ℕ) (s : List Switch) (p m : PortGroup) → AreNamed s p m → AreNamed (map (shut_place id) s) (record p { ports = shut_in id p.ports }) (record m { ports = shut_in id m.ports })
+named_shut id s p m are = record {
+  places = places_shut id s are.places;
+  four = mapped s ∙ are.four;
+  pipe_ends = all_map has_pipe_name (shut_at id) p.ports (λ port. ap is_pipe_name (name_kept id port)) are.pipe_ends;
+  most_pipes = are.most_pipes;
+  monitor_ports = all_map has_monitor_name (shut_at id) m.ports (λ port. ap is_monitor_name (name_kept id port)) are.monitor_ports;
+  most_monitors = are.most_monitors;
+}
+  where
+    mapped : (places : List Switch) → length (map (shut_place id) places) ≡ length places
+    mapped [] = refl
+    mapped (place ∷ places) = ap suc (mapped places)
+
+pub named_without : (id : ℕ) (s : List Switch) (p m : PortGroup) → AreNamed s p m → AreNamed (map (place_without id) s) (record p { ports = without id p.ports }) (record m { ports = without id m.ports })
+named_without id s p m are = record {
+  places = places_without id s are.places;
+  four = mapped s ∙ are.four;
+  pipe_ends = all_filter has_pipe_name (λ q. not (has_id id q)) p.ports are.pipe_ends;
+  most_pipes = are.most_pipes;
+  monitor_ports = all_filter has_monitor_name (λ q. not (has_id id q)) m.ports are.monitor_ports;
+  most_monitors = are.most_monitors;
+}
+  where
+    mapped : (places : List Switch) → length (map (place_without id) places) ≡ length places
+    mapped [] = refl
+    mapped (place ∷ places) = ap suc (mapped places)
+
+pub all_shut : (id : ℕ) (s : List Switch) (p m : PortGroup) → all_ports (map (shut_place id) s) (record p { ports = shut_in id p.ports }) (record m { ports = shut_in id m.ports }) ≡ shut_in id (all_ports s p m)
+all_shut id s p m =
+    ap (λ (front : List NamedPort). front ++ (shut_in id p.ports ++ shut_in id m.ports)) (ports_shut id s)
+    ∙ (ap (λ (back : List NamedPort). shut_in id (ports_on s) ++ back) (sym (map-append (shut_at id) p.ports m.ports)) ∙ sym (map-append (shut_at id) (ports_on s) (p.ports ++ m.ports)))
+
+pub all_without : (id : ℕ) (s : List Switch) (p m : PortGroup) → all_ports (map (place_without id) s) (record p { ports = without id p.ports }) (record m { ports = without id m.ports }) ≡ without id (all_ports s p m)
+all_without id s p m =
+    ap (λ (front : List NamedPort). front ++ (without id p.ports ++ without id m.ports)) (ports_without id s)
+    ∙ (ap (λ (back : List NamedPort). without id (ports_on s) ++ back) (sym (filter-append (λ q. not (has_id id q)) p.ports m.ports)) ∙ sym (filter-append (λ q. not (has_id id q)) (ports_on s) (p.ports ++ m.ports)))
+
+pub ruleset names = (group_told, group_finds)

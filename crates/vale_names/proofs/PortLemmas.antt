@@ -1,0 +1,283 @@
+-- Lists of ports, and what a name's kind tells of the ports beside it.
+use Rattle.std.proofs.Common.{ℕ, zero, suc, Bool, true, false, cond, List, [], ◌∷◌, ◌++◌, ◌≡◌, ◌<◌, Option, Some, None, length, map, get_or, append_assoc, refl, sym, ◌∙◌, ap, arith, ◌||◌, inl, inr}
+use Rattle.std.specs.Prelude.{filter, find, bytes_eq}
+use Rattle.std.specs.List.{list_any, list_all}
+use Rattle.std.proofs.lemmas.Bool.{cases_Bool, and_parts, and_from, or_parts, or_from, both_ways, false≢true, false_from_ne_true}
+use Rattle.std.proofs.lemmas.Slice.Eq.{bytes_eq-Decides}
+use Rattle.std.proofs.lemmas.List.{append-nil}
+use Rattle.std.proofs.lemmas.List.Elements.{filter-append}
+use Rattle.nm_types.specs.declared.name.Kind.{Kind}
+use Rattle.nm_types.specs.declared.name.Kind.TheVariants.{Vale, Master, Slave, Monitor}
+use Rattle.nm_types.specs.Names.{kind_of, switch_of, is_switch_port_name, is_pipe_name, is_monitor_name, is_switch_port_kind, is_pipe_kind, is_monitor_kind}
+use Rattle.vale_names.specs.declared.port.NamedPort.{NamedPort}
+use Rattle.vale_names.specs.Ports.{has_name, has_switch_name, has_pipe_name, has_monitor_name, is_on_switch, is_beside, Joins}
+
+-- ---- lists
+
+pub any_at : {X : Type 0} (test : X → Bool) (xs : List X) (i : ℕ) (d : X) → list_any test xs ≡ false → i < length xs → test (get_or xs i d) ≡ false
+any_at test [] i d none within = absurd (omega arith)
+any_at test (x ∷ xs) zero d none within = (or_parts (test x) (list_any test xs) none).0
+any_at test (x ∷ xs) (suc i) d none within = any_at test xs i d (or_parts (test x) (list_any test xs) none).1 (omega arith)
+
+pub any_none : {X : Type 0} (test : X → Bool) (xs : List X) (d : X) → ((i : ℕ) → i < length xs → test (get_or xs i d) ≡ false) → list_any test xs ≡ false
+any_none test [] d none = refl
+any_none test (x ∷ xs) d none = or_from (test x) (list_any test xs) (none zero (omega arith)) (any_none test xs d (λ i within. none (suc i) (omega arith)))
+
+pub filter_all_pass : {X : Type 0} (test : X → Bool) (xs : List X) → list_all test xs ≡ true → filter test xs ≡ xs
+filter_all_pass test [] all = refl
+filter_all_pass test (x ∷ xs) all =
+    let parts = and_parts (test x) (list_all test xs) all in
+    rw (parts.0) (ap (λ rest. x ∷ rest) (filter_all_pass test xs parts.1))
+
+pub filter_congr : {X : Type 0} (test other : X → Bool) (xs : List X) → ((x : X) → test x ≡ other x) → filter test xs ≡ filter other xs
+filter_congr test other [] same = refl
+filter_congr test other (x ∷ xs) same =
+    let rest = filter_congr test other xs same in
+    ap (λ b. cond b (x ∷ filter test xs) (filter test xs)) (same x) ∙ ap (λ ys. cond (other x) (x ∷ ys) ys) rest
+
+pub filter_none_pass : {X : Type 0} (test : X → Bool) (xs : List X) → list_any test xs ≡ false → filter test xs ≡ []
+filter_none_pass test [] none = refl
+filter_none_pass test (x ∷ xs) none =
+    let parts = or_parts (test x) (list_any test xs) none in
+    rw (parts.0) (filter_none_pass test xs parts.1)
+
+-- no element passes a test that excludes the one that all pass
+pub all_exclude : {X : Type 0} (test other : X → Bool) (xs : List X) → ((x : X) → other x ≡ true → test x ≡ false) → list_all other xs ≡ true → list_any test xs ≡ false
+all_exclude test other [] exclude all = refl
+all_exclude test other (x ∷ xs) exclude all =
+    let parts = and_parts (other x) (list_all other xs) all in
+    or_from (test x) (list_any test xs) (exclude x parts.0) (all_exclude test other xs exclude parts.1)
+
+pub all_imply : {X : Type 0} (test other : X → Bool) (xs : List X) → ((x : X) → other x ≡ true → test x ≡ true) → list_all other xs ≡ true → list_all test xs ≡ true
+all_imply test other [] imply all = refl
+all_imply test other (x ∷ xs) imply all =
+    let parts = and_parts (other x) (list_all other xs) all in
+    and_from (test x) (list_all test xs) (imply x parts.0) (all_imply test other xs imply parts.1)
+
+pub any_in_filter : {X : Type 0} (test wide : X → Bool) (xs : List X) → ((x : X) → test x ≡ true → wide x ≡ true) → list_any test (filter wide xs) ≡ list_any test xs
+any_in_filter test wide [] within = refl
+any_in_filter test wide (x ∷ xs) within =
+    let rest = any_in_filter test wide xs within in
+    elim (cases_Bool (wide x)) [
+      | inl here ↦ rw here (ap (λ b. test x || b) rest)
+      | inr away ↦
+          let fails : test x ≡ false = false_from_ne_true (test x) (λ passes. both_ways (wide x) away (within x passes)) in
+          rw (away, fails) rest
+    ]
+
+pub find_in_filter : {X : Type 0} (test wide : X → Bool) (xs : List X) → ((x : X) → test x ≡ true → wide x ≡ true) → find test (filter wide xs) ≡ find test xs
+find_in_filter test wide [] within = refl
+find_in_filter test wide (x ∷ xs) within =
+    let rest = find_in_filter test wide xs within in
+    elim (cases_Bool (wide x)) [
+      | inl here ↦ rw here (ap (λ found. cond (test x) (Some x) found) rest)
+      | inr away ↦
+          let fails : test x ≡ false = false_from_ne_true (test x) (λ passes. both_ways (wide x) away (within x passes)) in
+          rw (away, fails) rest
+    ]
+
+pub all_filtered : {X : Type 0} (test : X → Bool) (xs : List X) → list_all test (filter test xs) ≡ true
+all_filtered test [] = refl
+all_filtered test (x ∷ xs) = elim (cases_Bool (test x)) [
+  | inl here ↦ rw here (and_from (test x) (list_all test (filter test xs)) here (all_filtered test xs))
+  | inr away ↦ rw away (all_filtered test xs)
+]
+
+pub all_append : {X : Type 0} (test : X → Bool) (xs ys : List X) → list_all test xs ≡ true → list_all test ys ≡ true → list_all test (xs ++ ys) ≡ true
+all_append test [] ys left right = right
+all_append test (x ∷ xs) ys left right =
+    let parts = and_parts (test x) (list_all test xs) left in
+    and_from (test x) (list_all test (xs ++ ys)) parts.0 (all_append test xs ys parts.1 right)
+
+pub all_filter : {X : Type 0} (test kept : X → Bool) (xs : List X) → list_all test xs ≡ true → list_all test (filter kept xs) ≡ true
+all_filter test kept [] all = refl
+all_filter test kept (x ∷ xs) all =
+    let parts = and_parts (test x) (list_all test xs) all in
+    let rest = all_filter test kept xs parts.1 in
+    elim (cases_Bool (kept x)) [
+      | inl here ↦ rw here (and_from (test x) (list_all test (filter kept xs)) parts.0 rest)
+      | inr away ↦ rw away rest
+    ]
+
+pub all_map : {X : Type 0} (test : X → Bool) (change : X → X) (xs : List X) → ((x : X) → test (change x) ≡ test x) → list_all test xs ≡ true → list_all test (map change xs) ≡ true
+all_map test change [] same all = refl
+all_map test change (x ∷ xs) same all =
+    let parts = and_parts (test x) (list_all test xs) all in
+    and_from (test (change x)) (list_all test (map change xs)) (same x ∙ parts.0) (all_map test change xs same parts.1)
+
+-- ---- joining
+
+pub all_joined : (test : NamedPort → Bool) (old : List NamedPort) (port : NamedPort) (new : List NamedPort) → Joins old port new → list_all test old ≡ true → test port ≡ true → list_all test new ≡ true
+all_joined test old port new joins all here =
+    let whole : list_all test (joins.before ++ joins.after) ≡ true = rw joins.was at all in
+    rw joins.is (both joins.before joins.after whole)
+  where
+    both : (before after : List NamedPort) → list_all test (before ++ after) ≡ true → list_all test (before ++ port ∷ after) ≡ true
+    both [] after whole = and_from (test port) (list_all test after) here whole
+    both (x ∷ before) after whole =
+        let parts = and_parts (test x) (list_all test (before ++ after)) whole in
+        and_from (test x) (list_all test (before ++ port ∷ after)) parts.0 (both before after parts.1)
+
+pub joins_behind : (front old : List NamedPort) (port : NamedPort) (new : List NamedPort) → Joins old port new → Joins (front ++ old) port (front ++ new)
+joins_behind front old port new joins = record {
+  before = front ++ joins.before;
+  after = joins.after;
+  was = ap (λ (rest : List NamedPort). front ++ rest) joins.was ∙ sym (append_assoc front joins.before joins.after);
+  is = ap (λ (rest : List NamedPort). front ++ rest) joins.is ∙ sym (append_assoc front joins.before (port ∷ joins.after));
+}
+
+pub joins_before : (old : List NamedPort) (port : NamedPort) (new back : List NamedPort) → Joins old port new → Joins (old ++ back) port (new ++ back)
+joins_before old port new back joins = record {
+  before = joins.before;
+  after = joins.after ++ back;
+  was = ap (λ (front : List NamedPort). front ++ back) joins.was ∙ append_assoc joins.before joins.after back;
+  is = ap (λ (front : List NamedPort). front ++ back) joins.is ∙ append_assoc joins.before (port ∷ joins.after) back;
+}
+
+-- ---- kinds
+
+pub vale_is_switch_port : (name : List ℕ) → kind_of name ≡ Some Vale → is_switch_port_name name ≡ true
+unfolding is_switch_port_name
+vale_is_switch_port name kind = ap is_switch_port_kind kind
+
+pub switch_port_no_pipe : (name : List ℕ) → is_switch_port_name name ≡ true → is_pipe_name name ≡ false
+unfolding is_switch_port_name is_pipe_name
+switch_port_no_pipe name is = apart (kind_of name) is
+  where
+    apart : (kind : Option Kind) → is_switch_port_kind kind ≡ true → is_pipe_kind kind ≡ false
+    apart (Some Vale) h = refl
+    apart (Some Master) h = absurd (false≢true h)
+    apart (Some Slave) h = absurd (false≢true h)
+    apart (Some Monitor) h = refl
+    apart None h = refl
+
+pub switch_port_no_monitor : (name : List ℕ) → is_switch_port_name name ≡ true → is_monitor_name name ≡ false
+unfolding is_switch_port_name is_monitor_name
+switch_port_no_monitor name is = apart (kind_of name) is
+  where
+    apart : (kind : Option Kind) → is_switch_port_kind kind ≡ true → is_monitor_kind kind ≡ false
+    apart (Some Vale) h = refl
+    apart (Some Master) h = refl
+    apart (Some Slave) h = refl
+    apart (Some Monitor) h = absurd (false≢true h)
+    apart None h = refl
+
+pub pipe_no_switch_port : (name : List ℕ) → is_pipe_name name ≡ true → is_switch_port_name name ≡ false
+unfolding is_switch_port_name is_pipe_name
+pipe_no_switch_port name is = apart (kind_of name) is
+  where
+    apart : (kind : Option Kind) → is_pipe_kind kind ≡ true → is_switch_port_kind kind ≡ false
+    apart (Some Vale) h = absurd (false≢true h)
+    apart (Some Master) h = refl
+    apart (Some Slave) h = refl
+    apart (Some Monitor) h = refl
+    apart None h = refl
+
+pub pipe_no_monitor : (name : List ℕ) → is_pipe_name name ≡ true → is_monitor_name name ≡ false
+unfolding is_pipe_name is_monitor_name
+pipe_no_monitor name is = apart (kind_of name) is
+  where
+    apart : (kind : Option Kind) → is_pipe_kind kind ≡ true → is_monitor_kind kind ≡ false
+    apart (Some Vale) h = refl
+    apart (Some Master) h = refl
+    apart (Some Slave) h = refl
+    apart (Some Monitor) h = absurd (false≢true h)
+    apart None h = refl
+
+pub monitor_no_switch_port : (name : List ℕ) → is_monitor_name name ≡ true → is_switch_port_name name ≡ false
+unfolding is_switch_port_name is_monitor_name
+monitor_no_switch_port name is = apart (kind_of name) is
+  where
+    apart : (kind : Option Kind) → is_monitor_kind kind ≡ true → is_switch_port_kind kind ≡ false
+    apart (Some Vale) h = absurd (false≢true h)
+    apart (Some Master) h = refl
+    apart (Some Slave) h = refl
+    apart (Some Monitor) h = refl
+    apart None h = refl
+
+pub monitor_no_pipe : (name : List ℕ) → is_monitor_name name ≡ true → is_pipe_name name ≡ false
+unfolding is_pipe_name is_monitor_name
+monitor_no_pipe name is = apart (kind_of name) is
+  where
+    apart : (kind : Option Kind) → is_monitor_kind kind ≡ true → is_pipe_kind kind ≡ false
+    apart (Some Vale) h = refl
+    apart (Some Master) h = absurd (false≢true h)
+    apart (Some Slave) h = absurd (false≢true h)
+    apart (Some Monitor) h = refl
+    apart None h = refl
+
+pub master_is_pipe : (name : List ℕ) → kind_of name ≡ Some Master → is_pipe_name name ≡ true
+unfolding is_pipe_name
+master_is_pipe name kind = ap is_pipe_kind kind
+
+pub slave_is_pipe : (name : List ℕ) → kind_of name ≡ Some Slave → is_pipe_name name ≡ true
+unfolding is_pipe_name
+slave_is_pipe name kind = ap is_pipe_kind kind
+
+pub monitor_is_monitor : (name : List ℕ) → kind_of name ≡ Some Monitor → is_monitor_name name ≡ true
+unfolding is_monitor_name
+monitor_is_monitor name kind = ap is_monitor_kind kind
+
+-- ---- the ports beside a name
+
+pub named : (name : List ℕ) (port : NamedPort) → has_name name port ≡ true → port.name ≡ name
+named name port has = (bytes_eq-Decides port.name name).0 has
+
+pub bytes_same : (bytes : List ℕ) → bytes_eq bytes bytes ≡ true
+bytes_same bytes = (bytes_eq-Decides bytes bytes).1 refl
+
+pub on_own_switch : (name : List ℕ) (port : NamedPort) → is_switch_port_name name ≡ true → has_name name port ≡ true → is_on_switch (switch_of name) port ≡ true
+on_own_switch name port kind has =
+    let same = named name port has in
+    let is : is_switch_port_name port.name ≡ true = ap is_switch_port_name same ∙ kind in
+    let switch : bytes_eq (switch_of port.name) (switch_of name) ≡ true = ap (λ (n : List ℕ). bytes_eq (switch_of n) (switch_of name)) same ∙ bytes_same (switch_of name) in
+    and_from (is_switch_port_name port.name) (bytes_eq (switch_of port.name) (switch_of name)) is switch
+
+-- with the switches' ports in front, then the pipe ends, then the monitors
+pub beside_switch_port : (name : List ℕ) (a b c : List NamedPort) → is_switch_port_name name ≡ true → list_all has_pipe_name b ≡ true → list_all has_monitor_name c ≡ true
+    → filter (is_beside name) (a ++ (b ++ c)) ≡ filter (is_on_switch (switch_of name)) a
+beside_switch_port name a b c kind pipes monitors =
+    let no_b = filter_none_pass (is_on_switch (switch_of name)) b (all_exclude (is_on_switch (switch_of name)) has_pipe_name b (λ p is. rw (pipe_no_switch_port p.name is) refl) pipes) in
+    let no_c = filter_none_pass (is_on_switch (switch_of name)) c (all_exclude (is_on_switch (switch_of name)) has_monitor_name c (λ p is. rw (monitor_no_switch_port p.name is) refl) monitors) in
+    filter_congr (is_beside name) (is_on_switch (switch_of name)) (a ++ (b ++ c)) (λ p. rw kind refl)
+    ∙ (filter-append (is_on_switch (switch_of name)) a (b ++ c)
+    ∙ (ap (λ (rest : List NamedPort). filter (is_on_switch (switch_of name)) a ++ rest) (filter-append (is_on_switch (switch_of name)) b c ∙ rw (no_b, no_c) refl)
+    ∙ append-nil (filter (is_on_switch (switch_of name)) a)))
+
+pub beside_pipe : (name : List ℕ) (a b c : List NamedPort) → is_pipe_name name ≡ true → list_all has_switch_name a ≡ true → list_all has_pipe_name b ≡ true → list_all has_monitor_name c ≡ true
+    → filter (is_beside name) (a ++ (b ++ c)) ≡ b
+beside_pipe name a b c kind switches pipes monitors =
+    let no_a = filter_none_pass has_pipe_name a (all_exclude has_pipe_name has_switch_name a (λ p is. switch_port_no_pipe p.name is) switches) in
+    let all_b = filter_all_pass has_pipe_name b pipes in
+    let no_c = filter_none_pass has_pipe_name c (all_exclude has_pipe_name has_monitor_name c (λ p is. monitor_no_pipe p.name is) monitors) in
+    let no_switch = pipe_no_switch_port name kind in
+    filter_congr (is_beside name) has_pipe_name (a ++ (b ++ c)) (λ p. rw (no_switch, kind) refl)
+    ∙ (filter-append has_pipe_name a (b ++ c)
+    ∙ rw no_a (filter-append has_pipe_name b c ∙ rw (all_b, no_c) (append-nil b)))
+
+pub beside_monitor : (name : List ℕ) (a b c : List NamedPort) → is_monitor_name name ≡ true → list_all has_switch_name a ≡ true → list_all has_pipe_name b ≡ true → list_all has_monitor_name c ≡ true
+    → filter (is_beside name) (a ++ (b ++ c)) ≡ c
+beside_monitor name a b c kind switches pipes monitors =
+    let no_a = filter_none_pass has_monitor_name a (all_exclude has_monitor_name has_switch_name a (λ p is. switch_port_no_monitor p.name is) switches) in
+    let no_b = filter_none_pass has_monitor_name b (all_exclude has_monitor_name has_pipe_name b (λ p is. pipe_no_monitor p.name is) pipes) in
+    let all_c = filter_all_pass has_monitor_name c monitors in
+    let no_switch = monitor_no_switch_port name kind in
+    let no_pipe = monitor_no_pipe name kind in
+    filter_congr (is_beside name) has_monitor_name (a ++ (b ++ c)) (λ p. rw (no_switch, no_pipe) refl)
+    ∙ (filter-append has_monitor_name a (b ++ c)
+    ∙ rw no_a (filter-append has_monitor_name b c ∙ rw (no_b, all_c) refl))
+
+-- a port of a name is among those beside the name
+pub beside_itself_switch_port : (name : List ℕ) → is_switch_port_name name ≡ true → (port : NamedPort) → has_name name port ≡ true → is_beside name port ≡ true
+beside_itself_switch_port name kind port has = rw kind (on_own_switch name port kind has)
+
+pub beside_itself_pipe : (name : List ℕ) → is_pipe_name name ≡ true → (port : NamedPort) → has_name name port ≡ true → is_beside name port ≡ true
+beside_itself_pipe name kind port has =
+    let no_switch = pipe_no_switch_port name kind in
+    rw (no_switch, kind) (ap is_pipe_name (named name port has) ∙ kind)
+
+pub beside_itself_monitor : (name : List ℕ) → is_monitor_name name ≡ true → (port : NamedPort) → has_name name port ≡ true → is_beside name port ≡ true
+beside_itself_monitor name kind port has =
+    let no_switch = monitor_no_switch_port name kind in
+    let no_pipe = monitor_no_pipe name kind in
+    rw (no_switch, no_pipe) (ap is_monitor_name (named name port has) ∙ kind)

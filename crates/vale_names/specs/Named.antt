@@ -1,0 +1,19 @@
+-- The ports of all places: those of the switches, the pipe ends and the monitors.
+use Rattle.std.specs.Prelude.{◌≡◌, true, List, ◌++◌, length}
+use Rattle.std.specs.List.{list_all}
+use Rattle.vale_names.specs.declared.port.NamedPort.{NamedPort}
+use Rattle.vale_names.specs.declared.switch.Switch.{Switch}
+use Rattle.vale_names.specs.Ports.{has_pipe_name, has_monitor_name}
+use Rattle.vale_names.specs.Groups.{PortGroup}
+use Rattle.vale_names.specs.Switches.{ports_on, ArePlaces}
+
+abbrev pub all_ports : List Switch → PortGroup → PortGroup → List NamedPort
+all_ports switches pipes monitors = ports_on switches ++ (pipes.ports ++ monitors.ports)
+
+pub record AreNamed (switches : List Switch) (pipes monitors : PortGroup) : Type 0 where
+  pub places : ArePlaces switches
+  pub four : length switches ≡ 4
+  pub pipe_ends : list_all has_pipe_name pipes.ports ≡ true
+  pub most_pipes : pipes.most ≡ 32
+  pub monitor_ports : list_all has_monitor_name monitors.ports ≡ true
+  pub most_monitors : monitors.most ≡ 32

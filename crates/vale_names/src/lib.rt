@@ -1,0 +1,14 @@
+//! The names of the ports that are there: the switches of vale(4) with their ports, and the pipe ends
+//! and monitors of netmap(4).
+#![tactic(auto)]
+
+mod group;
+pub mod laws;
+mod names;
+mod port;
+mod switch;
+#[cfg(test)]
+mod tests;
+
+pub use names::Names;
+pub use port::NamedPort;

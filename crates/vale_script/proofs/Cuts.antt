@@ -1,0 +1,49 @@
+-- Cutting the first line off.
+use Rattle.std.proofs.Common.{◌≡◌, ℕ, ◌+◌, ◌-◌, ◌<◌, ◌≤◌, Bool, true, false, cond, List, [], ◌∷◌, length, take, drop, nat_lt, ◌==◌, Some, None, refl, sym, ap, ◌∙◌, arith}
+use Rattle.std.specs.List.{position, position_or_len, slice_split}
+use Rattle.std.specs.Str.Lines.{lines, lines_of_parts, strip_carriage_return}
+use Rattle.std.proofs.lemmas.List.{take_rest}
+use Rattle.std.proofs.lemmas.List.Splits.{slice_split_first, slice_split_none, length-slice_split}
+use Rattle.std.proofs.lemmas.List.Sums.{fails_before_first}
+use Rattle.std.proofs.lemmas.List.Quantifiers.{position-Some}
+use Rattle.std.proofs.lemmas.Bool.Decides.{nat_tests}
+use Rattle.std.proofs.Math.Seq.{drop-length}
+use Rattle.vale_script.specs.Blame.{is_line_feed}
+
+parts_more : (x : List ℕ) (parts : List (List ℕ)) → 0 < length parts → lines_of_parts (x ∷ parts) ≡ strip_carriage_return x ∷ lines_of_parts parts
+parts_more x [] there = absurd (omega arith)
+parts_more x (y ∷ more) there = refl
+
+found : (k n m : ℕ) (b : Bool) → b ≡ nat_lt k m → cond b (Some k) None ≡ Some n → (k ≡ n) × (nat_lt k m ≡ true)
+found k n m true same is = (cc, sym same)
+found k n m false same is = cc
+
+-- a line that ends with a line feed
+pub lines_found : (bytes : List ℕ) (n : ℕ) → position is_line_feed bytes ≡ Some n → lines bytes ≡ strip_carriage_return (take n bytes) ∷ lines (take (length bytes - (n + 1)) (drop (n + 1) bytes))
+lines_found bytes n is =
+    let at = found (position_or_len is_line_feed bytes) n (length bytes) (nat_lt (position_or_len is_line_feed bytes) (length bytes)) refl is in
+    let inside : n < length bytes = (position-Some is_line_feed bytes n 0 is).0 in
+    let below : position_or_len is_line_feed bytes < length bytes = omega (arith, inside, at.0) in
+    let after : List ℕ = drop (n + 1) bytes in
+    let split : slice_split is_line_feed bytes ≡ take n bytes ∷ slice_split is_line_feed after =
+    slice_split_first is_line_feed bytes 0 below ∙ ap (λ k. take k bytes ∷ slice_split is_line_feed (drop (k + 1) bytes)) at.0 in
+    let some : 0 < length (slice_split is_line_feed after) = omega (arith, length-slice_split is_line_feed after) in
+    ap lines_of_parts split ∙ parts_more (take n bytes) (slice_split is_line_feed after) some
+    ∙ ap (λ rest. strip_carriage_return (take n bytes) ∷ lines rest) (sym (take_rest bytes (n + 1)))
+
+not_found : (k m : ℕ) (b : Bool) → b ≡ nat_lt k m → cond b (Some k) None ≡ None → nat_lt k m ≡ false
+not_found k m true same is = cc
+not_found k m false same is = sym same
+
+-- without a line feed the bytes are the last line
+pub lines_none : (bytes : List ℕ) → 0 < length bytes → position is_line_feed bytes ≡ None → lines bytes ≡ bytes ∷ lines (take (length bytes - length bytes) (drop (length bytes) bytes))
+lines_none bytes some is =
+    let past : nat_lt (position_or_len is_line_feed bytes) (length bytes) ≡ false = not_found (position_or_len is_line_feed bytes) (length bytes) (nat_lt (position_or_len is_line_feed bytes) (length bytes)) refl is in
+    let all : length bytes ≤ position_or_len is_line_feed bytes = grind (arith, nat_tests, past) in
+    let split : slice_split is_line_feed bytes ≡ bytes ∷ [] =
+    slice_split_none is_line_feed bytes (λ k d h. fails_before_first is_line_feed bytes k d (omega arith)) in
+    let test : (length bytes == 0) ≡ false = grind (arith, nat_tests) in
+    ap lines_of_parts split ∙ ap (λ b. cond b [] (bytes ∷ [])) test
+    ∙ ap (λ rest. bytes ∷ lines rest) (sym (take_rest bytes (length bytes) ∙ drop-length bytes))
+
+pub ruleset cuts = (lines_found, lines_none)

@@ -1,0 +1,6 @@
+mod Cuts
+mod Numerals
+mod Pairs
+mod PortNames
+mod Seen
+mod Soundness

@@ -1,0 +1,13 @@
+use Rattle.std.proofs.Common.{◌≡◌, ◌≤◌, ◌+◌, length}
+use Rattle.std.specs.Str.Lines.{lines}
+use Rattle.vale_script.specs.Grammar.{said_from, nothing_said}
+use Rattle.vale_script.proofs.reader.parse.Given as goal
+
+abbrev pub invariant-loop-rest : goal.invariant-loop-rest
+invariant-loop-rest l = record {
+  same : said_from l.at l.reader (lines l.rest) ≡ said_from 1 nothing_said (lines l.fn.bytes);
+  number : l.at + length l.rest ≤ length l.fn.bytes + 1;
+}
+
+abbrev pub decreases-loop-rest : goal.decreases-loop-rest
+decreases-loop-rest l = length l.rest

@@ -1,0 +1,4 @@
+pub mod Blame
+pub mod Grammar
+pub mod Sound
+pub mod Words

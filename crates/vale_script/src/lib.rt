@@ -1,0 +1,11 @@
+//! Scripts of netmap rings and VALE ports: users, and the lines that they run one after another.
+#![tactic(auto)]
+
+mod reader;
+mod script;
+#[cfg(test)]
+mod tests;
+mod words;
+
+pub use reader::{ScriptFault, parse};
+pub use script::{Act, Fill, Line, Opened, Script};

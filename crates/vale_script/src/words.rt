@@ -1,0 +1,254 @@
+//! The words of a script's lines.
+ghost use Rattle.std.specs.Prelude.{◌≡◌, ◌+◌, ◌<◌, ◌≤◌, ◌^◌, ℕ, length, map, option_map, min, true, IsTrue, IfOk, IfSome};
+ghost use Rattle.nm_types.specs.Names.{is_word_byte, are_word_bytes};
+ghost use Rattle.vale_script.specs.Words.{is_blank, has_bytes, words_of, is_line_byte, are_line_bytes, begins_with_hash, is_silent, has_up_to, is_user_name, user_name, port_name, is_digit, are_digits, is_number, number_of, number_in, is_hex, hex_value, is_pair_at, byte_at, is_colon_at, hex_byte_of, are_pairs, are_joined, is_mac, mac_value, mac_of};
+
+use nm_types::{Mac, Name};
+use std::alloc::{AllocError, Global};
+
+/// Above each number of a script.
+const CAP: u64 = 1 << 40;
+
+fn is_blank(b: u8) -> bool
+    ensures { result ≡ is_blank b }
+{
+    b == b' ' || b == b'\t'
+}
+
+fn is_line_byte(b: u8) -> bool
+    ensures { result ≡ is_line_byte b }
+{
+    is_blank(b) || (33..=126).contains(&b)
+}
+
+/// Whether a line that says something may hold these bytes.
+pub(crate) fn are_line_bytes(line: &[u8]) -> bool
+    ensures { result ≡ are_line_bytes line.now }
+{
+    line.iter().all(|b| is_line_byte(*b))
+}
+
+/// The words of a line, cut at blanks and tabs.
+pub(crate) fn words_of(alloc: Global, line: &[u8]) -> Result<Vec<&[u8]>, AllocError>
+    ensures { IfOk result (λ words. map (λ w. w.now) words.items ≡ words_of line.now) }
+{
+    line.split(|b| is_blank(*b))
+        .filter(|word| !word.is_empty())
+        .collect(alloc)
+}
+
+fn begins_with_hash(word: &[u8]) -> bool
+    ensures { result ≡ begins_with_hash word.now }
+{
+    match word.first() {
+        Some(b) => *b == b'#',
+        None => false,
+    }
+}
+
+/// Whether a line of these words says nothing.
+pub(crate) fn is_silent(words: &[&[u8]]) -> bool
+    ensures { result ≡ is_silent (map (λ w. w.now) words.now) }
+{
+    match words.first() {
+        Some(word) => begins_with_hash(word),
+        None => true,
+    }
+}
+
+fn is_word_byte(b: u8) -> bool
+    ensures { result ≡ is_word_byte b }
+{
+    b.is_ascii_alphanumeric() || b == b'_' || b == b'-'
+}
+
+fn are_word_bytes(word: &[u8]) -> bool
+    ensures { result ≡ are_word_bytes word.now }
+{
+    word.iter().all(|b| is_word_byte(*b))
+}
+
+fn has_up_to(most: usize, word: &[u8]) -> bool
+    ensures { result ≡ has_up_to most word.now }
+{
+    !word.is_empty() && word.len() <= most
+}
+
+fn is_user_name(word: &[u8]) -> bool
+    ensures { result ≡ is_user_name word.now }
+{
+    has_up_to(16, word) && are_word_bytes(word)
+}
+
+/// A user's name, or none where the word is none.
+#[tactic(auto, unfolding(crate::specs::Words::user_name))]
+pub(crate) fn user_name(word: &[u8]) -> Option<&[u8]>
+    ensures { option_map (λ name. name.now) result ≡ user_name word.now }
+{
+    if is_user_name(word) { Some(word) } else { None }
+}
+
+/// The name of a port of a switch, or none where the word is none.
+#[tactic(auto, using(crate::proofs::PortNames::port_names), unfolding(crate::specs::Words::port_name))]
+pub(crate) fn port_name(word: &[u8]) -> Option<Name>
+    ensures { result ≡ port_name word.now }
+{
+    match Name::from_bytes(word) {
+        Ok(name) => if name.is_switch_port() {
+            Some(name)
+        } else {
+            None
+        },
+        Err(_) => None,
+    }
+}
+
+fn is_digit(b: u8) -> bool
+    ensures { result ≡ is_digit b }
+{
+    b.is_ascii_digit()
+}
+
+fn are_digits(word: &[u8]) -> bool
+    ensures { result ≡ are_digits word.now }
+{
+    word.iter().all(|b| is_digit(*b))
+}
+
+fn is_number(word: &[u8]) -> bool
+    ensures { result ≡ is_number word.now }
+{
+    has_up_to(20, word) && are_digits(word)
+}
+
+/// The number that digits write, or `CAP` where it is above that.
+#[tactic(auto, using(crate::proofs::Numerals::numerals))]
+fn capped_number(word: &[u8]) -> u64
+    ensures { result ≡ min (number_of word.now) CAP }
+{
+    let mut number = 0;
+    for b in word {
+        number = (number * 10 + b.saturating_sub(b'0') as u64).min(CAP);
+    }
+    number
+}
+
+/// A number within these bounds, or none where the word is none.
+#[tactic(auto, unfolding(crate::specs::Words::number_in))]
+pub(crate) fn number_in(low: u32, high: u32, word: &[u8]) -> Option<u32>
+    ensures value { result ≡ number_in low high word.now }
+    ensures within { IfSome result (λ n. n ≤ high) }
+{
+    if !is_number(word) {
+        return None;
+    }
+    let number = capped_number(word);
+    if low as u64 <= number && number <= high as u64 {
+        Some(number as u32)
+    } else {
+        None
+    }
+}
+
+fn is_hex(b: u8) -> bool
+    ensures { result ≡ is_hex b }
+{
+    is_digit(b) || (b'a'..=b'f').contains(&b) || (b'A'..=b'F').contains(&b)
+}
+
+fn hex_value(b: u8) -> u8
+    requires { is_hex b ≡ true }
+    ensures value { result ≡ hex_value b }
+    ensures low { result < 16 }
+{
+    if is_digit(b) {
+        b - b'0'
+    } else if b >= b'a' {
+        b - b'a' + 10
+    } else {
+        b - b'A' + 10
+    }
+}
+
+fn is_pair_at(word: &[u8], i: usize) -> bool
+    requires { i + 1 < length word.now }
+    ensures { result ≡ is_pair_at word.now i }
+{
+    is_hex(word[i]) && is_hex(word[i + 1])
+}
+
+fn byte_at(word: &[u8], i: usize) -> u8
+    requires within { i + 1 < length word.now }
+    requires pair { is_pair_at word.now i ≡ true }
+    ensures { result ≡ byte_at word.now i }
+{
+    hex_value(word[i]) * 16 + hex_value(word[i + 1])
+}
+
+/// Two hexadecimal digits, or none where the word is none.
+#[tactic(auto, unfolding(crate::specs::Words::hex_byte_of))]
+pub(crate) fn hex_byte_of(word: &[u8]) -> Option<u8>
+    ensures { result ≡ hex_byte_of word.now }
+{
+    if word.len() == 2 && is_pair_at(word, 0) {
+        Some(byte_at(word, 0))
+    } else {
+        None
+    }
+}
+
+fn are_pairs(word: &[u8]) -> bool
+    requires { length word.now ≡ 17 }
+    ensures { result ≡ are_pairs word.now }
+{
+    is_pair_at(word, 0)
+        && is_pair_at(word, 3)
+        && is_pair_at(word, 6)
+        && is_pair_at(word, 9)
+        && is_pair_at(word, 12)
+        && is_pair_at(word, 15)
+}
+
+fn are_joined(word: &[u8]) -> bool
+    requires { length word.now ≡ 17 }
+    ensures { result ≡ are_joined word.now }
+{
+    word[2] == b':' && word[5] == b':' && word[8] == b':' && word[11] == b':' && word[14] == b':'
+}
+
+#[tactic(auto, unfolding(crate::specs::Words::is_mac))]
+fn is_mac(word: &[u8]) -> bool
+    ensures value { result ≡ is_mac word.now }
+    ensures length { IsTrue result → length word.now ≡ 17 }
+    ensures pairs { IsTrue result → are_pairs word.now ≡ true }
+{
+    word.len() == 17 && are_pairs(word) && are_joined(word)
+}
+
+fn mac_value(word: &[u8]) -> Mac
+    requires length { length word.now ≡ 17 }
+    requires pairs { are_pairs word.now ≡ true }
+    ensures { result ≡ mac_value word.now }
+{
+    Mac([
+        byte_at(word, 0),
+        byte_at(word, 3),
+        byte_at(word, 6),
+        byte_at(word, 9),
+        byte_at(word, 12),
+        byte_at(word, 15),
+    ])
+}
+
+/// An Ethernet address: six pairs of hexadecimal digits joined by colons, or none where the word is
+/// none.
+#[tactic(auto, unfolding(crate::specs::Words::mac_of))]
+pub(crate) fn mac_of(word: &[u8]) -> Option<Mac>
+    ensures { result ≡ mac_of word.now }
+{
+    if is_mac(word) {
+        Some(mac_value(word))
+    } else {
+        None
+    }
+}
