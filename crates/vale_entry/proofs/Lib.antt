@@ -15,3 +15,9 @@ pub mod SingleLots
 pub mod Promised
 pub mod HistoryLaws
 pub mod HistoryPlaces
+pub mod Cuts
+pub mod Numerals
+pub mod NameWords
+pub mod Lines
+pub mod Transcripts
+pub mod Printable

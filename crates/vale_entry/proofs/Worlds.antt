@@ -9,7 +9,7 @@ pub standing-push : (pool : ℕ) (h : List Entry) (e : Entry) → standing_of po
 standing-push pool h e = fold-append after (fresh_standing pool) h (e ∷ [])
 
 -- each entry is with_entry_count, also one that is not enabled
-count-standing_after : (s : Standing) (e : Entry) (made : Option Outcome) → (standing_after s e made).world.entry_count ≡ s.world.entry_count + 1
+pub count-standing_after : (s : Standing) (e : Entry) (made : Option Outcome) → (standing_after s e made).world.entry_count ≡ s.world.entry_count + 1
 count-standing_after s e None = refl
 count-standing_after s e (Some made) = refl
 

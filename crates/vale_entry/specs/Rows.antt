@@ -1,5 +1,5 @@
 -- Worked examples, as theorems that hold by computation.
-use Rattle.std.specs.Prelude.{ℕ, Bool, true, false, ◌≡◌, List, [], ◌∷◌, ◌++◌, codes, refl, replicate, take}
+use Rattle.std.specs.Prelude.{true, false, ◌≡◌, List, [], ◌∷◌, codes, refl, replicate, take}
 use Rattle.std.specs.Fmt.{digits}
 use Rattle.nm_types.specs.Frames.{Frame}
 use Rattle.nm_types.specs.Names.{is_switch_port_name, is_pipe_name, is_monitor_name, switch_of}

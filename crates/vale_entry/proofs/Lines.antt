@@ -1,0 +1,271 @@
+-- An entry's line as words: which words each kind of line has, and that the words tell the entry.
+use Rattle.std.specs.List.{AllByRecursion as Each}
+use Rattle.std.proofs.Common.{ℕ, zero, suc, ◌+◌, ◌≡◌, ◌==◌, ◌&&◌, true, false, List, [], ◌∷◌, ◌++◌, drop, codes, decimal, IsTrue, Option, Some, None, refl, sym, ◌∙◌, ap, arith, append_assoc}
+use Rattle.std.proofs.lemmas.Bool.{and_parts, eqb-true}
+use Rattle.nm_types.specs.Frames.{Frame}
+use Rattle.nm_types.specs.Names.{is_name}
+use Rattle.nm_types.specs.declared.fault.OpenFault.{OpenFault}
+use Rattle.nm_types.specs.declared.fault.OpenFault.TheVariants.{BadSize, SwitchesFull, PortsFull, NameTaken, NoBuffers, RecordFull, NoMemory}
+use Rattle.nm_types.specs.declared.id.SessionId.{SessionId}
+use Rattle.vale_entry.specs.declared.entry.Dest.{Dest}
+use Rattle.vale_entry.specs.declared.entry.Ask.{Ask}
+use Rattle.vale_entry.specs.declared.entry.Ask.TheVariants.{Enter, Open, Send, Grant, Done, Sync}
+use Rattle.vale_entry.specs.declared.entry.Reply.{Reply}
+use Rattle.vale_entry.specs.declared.entry.Reply.TheVariants.{Made, Opened, Refused, Offered, Shared, Gave}
+use Rattle.vale_entry.specs.declared.entry.Entry.{Entry}
+use Rattle.vale_entry.specs.Transcript.{frames_text, numbers_text, dests_text, entry_line, is_refusal, is_printable, IsPrintable}
+use Rattle.vale_entry.specs.Laws.{FitsU64, FitsDest, FitsRefusal, FitsAsk, FitsReply, FitsEntry}
+use Rattle.vale_entry.proofs.Cuts.{IsWord, spell}
+use Rattle.vale_entry.proofs.Numerals.{decimal-word, decimal-same, decimal-digits, not-number, numbers-same, numbers-word, dests-same, dests-word, frames-same, frames-word}
+use Rattle.vale_entry.proofs.NameWords.{literal, name-word}
+
+-- the six kinds of lines; an open's answer is what refused it, or none
+pub data Said : Type 0 where
+  entered : ℕ → Said
+  opened : ℕ → List ℕ → ℕ → ℕ → ℕ → Option OpenFault → Said
+  sent : ℕ → ℕ → List Frame → ℕ → ℕ → List Dest → Said
+  granted : ℕ → ℕ → ℕ → ℕ → ℕ → ℕ → Said
+  finished : ℕ → ℕ → Said
+  synced : ℕ → ℕ → List ℕ → ℕ → List Dest → Said
+
+abbrev open_reply : Option OpenFault → Reply
+open_reply None = Opened
+open_reply (Some fault) = Refused fault
+
+abbrev pub said_entry : ℕ → Said → Entry
+said_entry n (entered user) = record { session = (record { 0 = n }); ask = Enter user; reply = Made }
+said_entry n (opened s name tx rx extra refusal) = record { session = (record { 0 = s }); ask = Open (record { 0 = s }) name tx rx extra; reply = open_reply refusal }
+said_entry n (sent s port frames short lone to) = record { session = (record { 0 = s }); ask = Send (record { 0 = port }) frames; reply = Offered short lone to }
+said_entry n (granted s origin to given full gone) = record { session = (record { 0 = s }); ask = Grant origin (record { 0 = to }); reply = Shared given full gone }
+said_entry n (finished s lease) = record { session = (record { 0 = s }); ask = Done (record { 0 = lease }); reply = Made }
+said_entry n (synced s port back count to) = record { session = (record { 0 = s }); ask = Sync (record { 0 = port }) back; reply = Gave count to }
+
+abbrev refusal_words : Option OpenFault → List (List ℕ)
+refusal_words None = codes "ok" ∷ []
+refusal_words (Some BadSize) = codes "badsize" ∷ []
+refusal_words (Some SwitchesFull) = codes "switchesfull" ∷ []
+refusal_words (Some PortsFull) = codes "portsfull" ∷ []
+refusal_words (Some NameTaken) = codes "nametaken" ∷ []
+refusal_words (Some (NoBuffers want have)) = codes "nobuffers" ∷ decimal want ∷ decimal have ∷ []
+refusal_words (Some (RecordFull what used want)) = [] ∷ []
+refusal_words (Some NoMemory) = [] ∷ []
+
+-- the words behind the entry's number
+abbrev pub words : Said → List (List ℕ)
+words (entered user) = codes "enter" ∷ decimal user ∷ []
+words (opened s name tx rx extra refusal) = decimal s ∷ codes "open" ∷ name ∷ decimal tx ∷ decimal rx ∷ decimal extra ∷ codes "=" ∷ refusal_words refusal
+words (sent s port frames short lone to) =
+    decimal s ∷ codes "send" ∷ decimal port ∷ frames_text frames ∷ codes "=" ∷ codes "short" ∷ decimal short ∷ codes "lone" ∷ decimal lone ∷ codes "to" ∷ dests_text to ∷ []
+words (granted s origin to given full gone) =
+    decimal s ∷ codes "grant" ∷ decimal origin ∷ decimal to ∷ codes "=" ∷ codes "given" ∷ decimal given ∷ codes "full" ∷ decimal full ∷ codes "gone" ∷ decimal gone ∷ []
+words (finished s lease) = decimal s ∷ codes "done" ∷ decimal lease ∷ []
+words (synced s port back count to) = decimal s ∷ codes "sync" ∷ decimal port ∷ numbers_text back ∷ codes "=" ∷ codes "gave" ∷ decimal count ∷ codes "to" ∷ dests_text to ∷ []
+
+abbrev IsSaidRefusal : Option OpenFault → Type 0
+IsSaidRefusal None = Unit {0}
+IsSaidRefusal (Some fault) = IsTrue (is_refusal fault) × FitsRefusal fault
+
+-- the numbers fit, the name is a word, and the refusal is one that is printed
+abbrev pub IsPlain : Said → Type 0
+IsPlain (entered user) = FitsU64 user
+IsPlain (opened s name tx rx extra refusal) = FitsU64 s × IsWord name × FitsU64 tx × FitsU64 rx × FitsU64 extra × IsSaidRefusal refusal
+IsPlain (sent s port frames short lone to) = FitsU64 s × FitsU64 port × FitsU64 short × FitsU64 lone × Each FitsDest to
+IsPlain (granted s origin to given full gone) = FitsU64 s × FitsU64 origin × FitsU64 to × FitsU64 given × FitsU64 full × FitsU64 gone
+IsPlain (finished s lease) = FitsU64 s × FitsU64 lease
+IsPlain (synced s port back count to) = FitsU64 s × FitsU64 port × Each FitsU64 back × FitsU64 count × Each FitsDest to
+
+-- Each line is its words.
+
+pub line-spelled : (n : ℕ) (x : Said) (a : List ℕ) → entry_line n (said_entry n x) ++ a ≡ spell (decimal n) (words x) a
+line-spelled n (entered user) a = simp append_assoc
+line-spelled n (opened s name tx rx extra None) a = simp append_assoc
+line-spelled n (opened s name tx rx extra (Some BadSize)) a = simp append_assoc
+line-spelled n (opened s name tx rx extra (Some SwitchesFull)) a = simp append_assoc
+line-spelled n (opened s name tx rx extra (Some PortsFull)) a = simp append_assoc
+line-spelled n (opened s name tx rx extra (Some NameTaken)) a = simp append_assoc
+line-spelled n (opened s name tx rx extra (Some (NoBuffers want have))) a = simp append_assoc
+line-spelled n (opened s name tx rx extra (Some (RecordFull what used want))) a = simp append_assoc
+line-spelled n (opened s name tx rx extra (Some NoMemory)) a = simp append_assoc
+line-spelled n (sent s port frames short lone to) a = simp append_assoc
+line-spelled n (granted s origin to given full gone) a = simp append_assoc
+line-spelled n (finished s lease) a = simp append_assoc
+line-spelled n (synced s port back count to) a = simp append_assoc
+
+refusal-are-words : (refusal : Option OpenFault) → Each IsWord (refusal_words refusal)
+refusal-are-words None = (literal (codes "ok") refl, tt)
+refusal-are-words (Some BadSize) = (literal (codes "badsize") refl, tt)
+refusal-are-words (Some SwitchesFull) = (literal (codes "switchesfull") refl, tt)
+refusal-are-words (Some PortsFull) = (literal (codes "portsfull") refl, tt)
+refusal-are-words (Some NameTaken) = (literal (codes "nametaken") refl, tt)
+refusal-are-words (Some (NoBuffers want have)) = (literal (codes "nobuffers") refl, (decimal-word want, (decimal-word have, tt)))
+refusal-are-words (Some (RecordFull what used want)) = (tt, tt)
+refusal-are-words (Some NoMemory) = (tt, tt)
+
+offered-are-words : (short lone : ℕ) (to : List Dest) → Each FitsDest to
+    → Each IsWord (codes "short" ∷ decimal short ∷ codes "lone" ∷ decimal lone ∷ codes "to" ∷ dests_text to ∷ [])
+offered-are-words short lone to fits =
+    (literal (codes "short") refl, (decimal-word short, (literal (codes "lone") refl, (decimal-word lone, (literal (codes "to") refl, (dests-word to fits, tt))))))
+
+shared-are-words : (given full gone : ℕ)
+    → Each IsWord (codes "given" ∷ decimal given ∷ codes "full" ∷ decimal full ∷ codes "gone" ∷ decimal gone ∷ [])
+shared-are-words given full gone =
+    (literal (codes "given") refl, (decimal-word given, (literal (codes "full") refl, (decimal-word full, (literal (codes "gone") refl, (decimal-word gone, tt))))))
+
+gave-are-words : (count : ℕ) (to : List Dest) → Each FitsDest to → Each IsWord (codes "gave" ∷ decimal count ∷ codes "to" ∷ dests_text to ∷ [])
+gave-are-words count to fits = (literal (codes "gave") refl, (decimal-word count, (literal (codes "to") refl, (dests-word to fits, tt))))
+
+pub are-words : (x : Said) → IsPlain x → Each IsWord (words x)
+are-words (entered user) plain = (literal (codes "enter") refl, (decimal-word user, tt))
+are-words (opened s name tx rx extra refusal) plain =
+    (decimal-word s, (literal (codes "open") refl, (plain.1, (decimal-word tx, (decimal-word rx, (decimal-word extra, (literal (codes "=") refl, refusal-are-words refusal)))))))
+are-words (sent s port frames short lone to) plain =
+    let reply = offered-are-words short lone to plain.4 in
+    (decimal-word s, (literal (codes "send") refl, (decimal-word port, (frames-word frames, (literal (codes "=") refl, reply)))))
+are-words (granted s origin to given full gone) plain =
+    let reply = shared-are-words given full gone in
+    (decimal-word s, (literal (codes "grant") refl, (decimal-word origin, (decimal-word to, (literal (codes "=") refl, reply)))))
+are-words (finished s lease) plain = (decimal-word s, (literal (codes "done") refl, (decimal-word lease, tt)))
+are-words (synced s port back count to) plain =
+    let reply = gave-are-words count to plain.4 in
+    (decimal-word s, (literal (codes "sync") refl, (decimal-word port, (numbers-word back plain.2, (literal (codes "=") refl, reply)))))
+
+-- The words tell what was said.
+
+abbrev word_at : ℕ → List (List ℕ) → List ℕ
+word_at n [] = []
+word_at zero (w ∷ ws) = w
+word_at (suc n) (w ∷ ws) = word_at n ws
+
+-- the first two bytes together, which are another sum for each verb and for each answer
+abbrev mark_of : List ℕ → ℕ
+mark_of [] = 0
+mark_of (a ∷ []) = a
+mark_of (a ∷ b ∷ w) = a + b
+
+abbrev mark_at : ℕ → List (List ℕ) → ℕ
+mark_at n ws = mark_of (word_at n ws)
+
+refusal-same : (r q : Option OpenFault) → IsSaidRefusal r → IsSaidRefusal q → refusal_words r ≡ refusal_words q → r ≡ q
+refusal-same None None pr pq e = refl
+refusal-same (Some (RecordFull what used want)) q pr pq e = let no : false ≡ true = pr.0 in absurd cc
+refusal-same (Some NoMemory) q pr pq e = let no : false ≡ true = pr.0 in absurd cc
+refusal-same r (Some (RecordFull what used want)) pr pq e = let no : false ≡ true = pq.0 in absurd cc
+refusal-same r (Some NoMemory) pr pq e = let no : false ≡ true = pq.0 in absurd cc
+refusal-same (Some BadSize) (Some BadSize) pr pq e = refl
+refusal-same (Some SwitchesFull) (Some SwitchesFull) pr pq e = refl
+refusal-same (Some PortsFull) (Some PortsFull) pr pq e = refl
+refusal-same (Some NameTaken) (Some NameTaken) pr pq e = refl
+refusal-same (Some (NoBuffers want have)) (Some (NoBuffers other there)) pr pq e =
+    let first : want ≡ other = decimal-same want other pr.1.0 pq.1.0 (ap (word_at 1) e) in
+    let second : have ≡ there = decimal-same have there pr.1.1 pq.1.1 (ap (word_at 2) e) in
+    ap (λ (n : ℕ). Some (NoBuffers n have)) first ∙ ap (λ (n : ℕ). Some (NoBuffers other n)) second
+refusal-same r q pr pq e = absurd (omega (arith, ap (mark_at 0) e))
+
+abbrev said_session : Said → ℕ
+said_session (entered user) = 0
+said_session (opened s name tx rx extra refusal) = s
+said_session (sent s port frames short lone to) = s
+said_session (granted s origin to given full gone) = s
+said_session (finished s lease) = s
+said_session (synced s port back count to) = s
+
+pub words-same : (x y : Said) → IsPlain x → IsPlain y → words x ≡ words y → x ≡ y
+words-same (entered u) (entered v) px py e = let same = decimal-same u v px py (ap (word_at 1) e) in ap entered same
+words-same (entered u) y px py e = absurd (not-number (decimal (said_session y)) 101 (drop 1 (codes "enter")) (decimal-digits (said_session y)) (omega arith) (sym (ap (word_at 0) e)))
+words-same x (entered v) px py e = absurd (not-number (decimal (said_session x)) 101 (drop 1 (codes "enter")) (decimal-digits (said_session x)) (omega arith) (ap (word_at 0) e))
+words-same (opened s name tx rx extra r) (opened t other ux sx more q) px py e =
+    let e0 : s ≡ t = decimal-same s t px.0 py.0 (ap (word_at 0) e) in
+    let e1 : name ≡ other = ap (word_at 2) e in
+    let e2 : tx ≡ ux = decimal-same tx ux px.2 py.2 (ap (word_at 3) e) in
+    let e3 : rx ≡ sx = decimal-same rx sx px.3 py.3 (ap (word_at 4) e) in
+    let e4 : extra ≡ more = decimal-same extra more px.4 py.4 (ap (word_at 5) e) in
+    let e5 : r ≡ q = refusal-same r q px.5 py.5 (ap (drop 7) e) in
+    opened-with e0 e1 e2 e3 e4 e5
+  where
+    opened-with : {s t tx ux rx sx extra more : ℕ} {name other : List ℕ} {r q : Option OpenFault} → s ≡ t → name ≡ other → tx ≡ ux → rx ≡ sx → extra ≡ more → r ≡ q
+        → opened s name tx rx extra r ≡ opened t other ux sx more q
+    opened-with e0 e1 e2 e3 e4 e5 = cc
+words-same (sent s port frames short lone to) (sent t gate others few single dests) px py e =
+    let e0 : s ≡ t = decimal-same s t px.0 py.0 (ap (word_at 0) e) in
+    let e1 : port ≡ gate = decimal-same port gate px.1 py.1 (ap (word_at 2) e) in
+    let e2 : frames ≡ others = frames-same frames others (ap (word_at 3) e) in
+    let e3 : short ≡ few = decimal-same short few px.2 py.2 (ap (word_at 6) e) in
+    let e4 : lone ≡ single = decimal-same lone single px.3 py.3 (ap (word_at 8) e) in
+    let e5 : to ≡ dests = dests-same to dests px.4 py.4 (ap (word_at 10) e) in
+    sent-with e0 e1 e2 e3 e4 e5
+  where
+    sent-with : {s t port gate short few lone single : ℕ} {frames others : List Frame} {to dests : List Dest} → s ≡ t → port ≡ gate → frames ≡ others → short ≡ few → lone ≡ single → to ≡ dests
+        → sent s port frames short lone to ≡ sent t gate others few single dests
+    sent-with e0 e1 e2 e3 e4 e5 = cc
+words-same (granted s origin to given full gone) (granted t source at some over left) px py e =
+    let e0 : s ≡ t = decimal-same s t px.0 py.0 (ap (word_at 0) e) in
+    let e1 : origin ≡ source = decimal-same origin source px.1 py.1 (ap (word_at 2) e) in
+    let e2 : to ≡ at = decimal-same to at px.2 py.2 (ap (word_at 3) e) in
+    let e3 : given ≡ some = decimal-same given some px.3 py.3 (ap (word_at 6) e) in
+    let e4 : full ≡ over = decimal-same full over px.4 py.4 (ap (word_at 8) e) in
+    let e5 : gone ≡ left = decimal-same gone left px.5 py.5 (ap (word_at 10) e) in
+    granted-with e0 e1 e2 e3 e4 e5
+  where
+    granted-with : {s t origin source to at given some full over gone left : ℕ} → s ≡ t → origin ≡ source → to ≡ at → given ≡ some → full ≡ over → gone ≡ left
+        → granted s origin to given full gone ≡ granted t source at some over left
+    granted-with e0 e1 e2 e3 e4 e5 = cc
+words-same (finished s lease) (finished t other) px py e =
+    let e0 : s ≡ t = decimal-same s t px.0 py.0 (ap (word_at 0) e) in
+    let e1 : lease ≡ other = decimal-same lease other px.1 py.1 (ap (word_at 2) e) in
+    ap (λ (k : ℕ). finished k lease) e0 ∙ ap (finished t) e1
+words-same (synced s port back count to) (synced t gate others few dests) px py e =
+    let e0 : s ≡ t = decimal-same s t px.0 py.0 (ap (word_at 0) e) in
+    let e1 : port ≡ gate = decimal-same port gate px.1 py.1 (ap (word_at 2) e) in
+    let e2 : back ≡ others = numbers-same back others px.2 py.2 (ap (word_at 3) e) in
+    let e3 : count ≡ few = decimal-same count few px.3 py.3 (ap (word_at 6) e) in
+    let e4 : to ≡ dests = dests-same to dests px.4 py.4 (ap (word_at 8) e) in
+    synced-with e0 e1 e2 e3 e4
+  where
+    synced-with : {s t port gate count few : ℕ} {back others : List ℕ} {to dests : List Dest} → s ≡ t → port ≡ gate → back ≡ others → count ≡ few → to ≡ dests
+        → synced s port back count to ≡ synced t gate others few dests
+    synced-with e0 e1 e2 e3 e4 = cc
+words-same x y px py e = absurd (omega (arith, ap (mark_at 1) e))
+
+-- What a printable entry says.
+
+pub record Says (n : ℕ) (e : Entry) : Type 0 where
+  pub said : Said
+  pub is : e ≡ said_entry n said
+  pub plain : IsPlain said
+
+no-truth : {X : Type 0} → false ≡ true → X
+no-truth e = absurd cc
+
+said-by : (n : ℕ) (session : SessionId) (ask : Ask) (reply : Reply) → IsTrue (is_printable n session.0 ask reply) → FitsU64 session.0 → FitsAsk ask → FitsReply reply
+    → Says n (record { session = session; ask = ask; reply = reply })
+said-by n session (Enter user) Made h fs fa fr =
+    let number : session.0 ≡ n = eqb-true session.0 n h in
+    record { said = entered user; is = ap (λ (k : ℕ). record { session = (record { 0 = k }); ask = Enter user; reply = Made }) number; plain = fa }
+said-by n session (Open asked name tx rx extra) Opened h fs fa fr =
+    let parts = and_parts (session.0 == asked.0) (is_name name) h in
+    let one : asked.0 ≡ session.0 = sym (eqb-true session.0 asked.0 parts.0) in
+    record {
+      said = opened session.0 name tx rx extra None;
+      is = ap (λ (k : ℕ). record { session = session; ask = Open (record { 0 = k }) name tx rx extra; reply = Opened }) one;
+      plain = (fs, name-word name parts.1, fa.0, fa.1, fa.2, tt);
+    }
+said-by n session (Open asked name tx rx extra) (Refused fault) h fs fa fr =
+    let parts = and_parts (session.0 == asked.0) (is_name name && is_refusal fault) h in
+    let more = and_parts (is_name name) (is_refusal fault) parts.1 in
+    let one : asked.0 ≡ session.0 = sym (eqb-true session.0 asked.0 parts.0) in
+    record {
+      said = opened session.0 name tx rx extra (Some fault);
+      is = ap (λ (k : ℕ). record { session = session; ask = Open (record { 0 = k }) name tx rx extra; reply = Refused fault }) one;
+      plain = (fs, name-word name more.0, fa.0, fa.1, fa.2, (more.1, fr));
+    }
+said-by n session (Send port frames) (Offered short lone to) h fs fa fr =
+    record { said = sent session.0 port.0 frames short lone to; is = refl; plain = (fs, fa, fr.0, fr.1, fr.2) }
+said-by n session (Grant origin to) (Shared given full gone) h fs fa fr =
+    record { said = granted session.0 origin to.0 given full gone; is = refl; plain = (fs, fa.0, fa.1, fr.0, fr.1, fr.2) }
+said-by n session (Done lease) Made h fs fa fr = record { said = finished session.0 lease.0; is = refl; plain = (fs, fa) }
+said-by n session (Sync port back) (Gave count to) h fs fa fr =
+    record { said = synced session.0 port.0 back count to; is = refl; plain = (fs, fa.0, fa.1, fr.0, fr.1) }
+said-by n session ask reply h fs fa fr = no-truth h
+
+pub says : (n : ℕ) (e : Entry) → IsPrintable n e → FitsEntry e → Says n e
+says n e h fits = said-by n e.session e.ask e.reply h fits.0 fits.1 fits.2
