@@ -1,11 +1,14 @@
-ghost use Rattle.std.specs.Prelude.{◌≡◌, ◌∷◌, []};
-ghost use Rattle.nm_hold.specs.Holds.{empty_hold};
+ghost use Rattle.std.specs.Prelude.{ℕ, ◌≡◌, ◌≢◌, ◌∷◌, [], Some};
+ghost use Rattle.nm_region.specs.Buffers.{name_of, names_of, opened_buffers, region_names};
+ghost use Rattle.nm_hold.specs.Holds.{empty_hold, buffer_at};
+ghost use Rattle.nm_hold.specs.Names.{name_at};
 
 use crate::{Chain, link, walk};
 use nm_hold::Hold;
 use nm_region::{Buf, Region};
 use nm_types::{Place, PortId};
 use std::process::Abort;
+use std::test::Fail;
 
 const PORT: PortId = PortId(2);
 
@@ -16,10 +19,14 @@ fn extra(at: u32) -> Place {
 // The buffers 6, 7 and 8 in the extra positions, each linked to the next.
 fn fill(rt: &impl Abort, hold: &mut Hold, mut six: Buf, mut seven: Buf, mut eight: Buf)
     requires hold { hold.old ≡ record (empty_hold 64) {
-        ports = record { port = record { 0 = 2 }; sizes = record { tx = 2; rx = 2; extra = 3 } } ∷ [] } }
+      ports = record { port = record { 0 = 2 }; sizes = record { tx = 2; rx = 2; extra = 3 } } ∷ [];
+    } }
     requires six { six.index ≡ 6 }
     requires seven { seven.index ≡ 7 }
     requires eight { eight.index ≡ 8 }
+    ensures six { name_at hold.new 6 ≡ Some (name_of six) }
+    ensures seven { name_at hold.new 7 ≡ Some (name_of seven) }
+    ensures eight { name_at hold.new 8 ≡ Some (name_of eight) }
 {
     link(&mut six, 7);
     link(&mut seven, 8);
@@ -29,20 +36,26 @@ fn fill(rt: &impl Abort, hold: &mut Hold, mut six: Buf, mut seven: Buf, mut eigh
     hold.add(Place::Extra { port: PORT, at: 1 }, seven);
     assert!(rt; hold.index(extra(2)).is_none() && hold.place(8).is_none());
     hold.add(Place::Extra { port: PORT, at: 2 }, eight);
-    for at in 0..3 {
-        let place = extra(at);
-        assert!(rt; hold.index(place).is_some());
-        hold.set_named(place, true);
-    }
+    name(rt, hold, extra(0));
+    name(rt, hold, extra(1));
+    name(rt, hold, extra(2));
+}
+
+fn name(rt: &impl Abort, hold: &mut Hold, place: Place)
+    ensures { (idx : ℕ) → buffer_at hold.new idx ≡ buffer_at hold.old idx }
+{
+    assert!(rt; hold.index(place).is_some());
+    hold.set_named(place, true);
 }
 
 // Sets the lowest byte of a buffer's link.
-fn relink(hold: &mut Hold, idx: u32, next: u8) {
-    if let Some(bytes) = hold.bytes_mut(idx) {
-        if let Some(first) = bytes.first_mut() {
-            *first = next;
-        }
-    }
+fn relink(rt: &impl Abort, hold: &mut Hold, idx: u32, next: u8)
+    ensures { (i : ℕ) → name_at hold.new i ≡ name_at hold.old i }
+{
+    assert!(rt; hold.named(idx));
+    let bytes = hold.lend(idx);
+    assert!(rt; !bytes.is_empty());
+    bytes[0] = next;
 }
 
 fn is_found(hold: &Hold, head: u32, found: u32) -> bool {
@@ -53,38 +66,88 @@ fn is_found(hold: &Hold, head: u32, found: u32) -> bool {
         }
 }
 
-// The buffers stay where they are: the test ends by the panic that it expects.
-#[test]
-#[should_panic(expected = "every chain was walked")]
-fn chain_with_loop(rt: HostRuntime) {
-    let Ok((_region, mut all)) = Region::new(rt.alloc(), 8) else {
-        panic!(rt; "no memory");
-    };
-    assert_eq!(rt; all.len(), 8);
+// The chain from 6, once 7 is linked to another buffer.
+fn walks_by(rt: &impl Abort, hold: &mut Hold, seventh: u8, found: u32)
+    ensures { (i : ℕ) → name_at hold.new i ≡ name_at hold.old i }
+{
+    relink(rt, hold, 7, seventh);
+    assert!(rt; is_found(hold, 6, found), "link to {seventh}");
+}
+
+fn walk_all(rt: &impl Abort, hold: &mut Hold)
+    ensures { (i : ℕ) → name_at hold.new i ≡ name_at hold.old i }
+{
+    assert!(rt; is_found(hold, 6, 3));
+    assert!(rt; is_found(hold, 7, 2));
+    assert!(rt; is_found(hold, 0, 0));
+    assert!(rt; is_found(hold, 2, 0));
+    assert!(rt; is_found(hold, u32::MAX, 0));
+    walks_by(rt, hold, 6, 2);
+    walks_by(rt, hold, 7, 2);
+    walks_by(rt, hold, 0, 2);
+    walks_by(rt, hold, 2, 2);
+    walks_by(rt, hold, 8, 3);
+}
+
+// Takes the buffer out of an extra position, which holds the one of an index.
+fn take(rt: &impl Abort, hold: &mut Hold, at: u32, idx: u32) -> Buf
+    ensures index { result.index ≡ idx }
+    ensures name { name_at hold.old idx ≡ Some (name_of result) }
+    ensures others { (i : ℕ) → i ≢ idx → name_at hold.new i ≡ name_at hold.old i }
+{
+    let place = extra(at);
+    assert!(rt; hold.index(place).is_some());
+    let buf = hold.remove(place);
+    assert_eq!(rt; buf.index(), idx);
+    buf
+}
+
+// The last three buffers come to the hold, are walked, and go back.
+fn play(rt: &impl Abort, hold: &mut Hold, all: &mut Vec<Buf>)
+    requires hold { hold.old ≡ record (empty_hold 64) {
+      ports = record { port = record { 0 = 2 }; sizes = record { tx = 2; rx = 2; extra = 3 } } ∷ [];
+    } }
+    requires all { all.old.items ≡ opened_buffers (record { region = 7; buffers = 7 }) }
+    ensures { names_of all.new.items ≡ region_names (record { region = 7; buffers = 7 }) }
+{
     let six = all.remove(4);
     let seven = all.remove(4);
     let eight = all.remove(4);
-    assert_eq!(rt; six.index(), 6);
-    assert_eq!(rt; seven.index(), 7);
-    assert_eq!(rt; eight.index(), 8);
-    match Hold::new(rt.alloc(), 64) {
-        Ok(mut hold) => {
-            if hold.reserve(2, 2, 3).is_ok() {
-                hold.set_port(PORT, 2, 2, 3);
-                fill(&rt, &mut hold, six, seven, eight);
-                assert!(rt; is_found(&hold, 6, 3));
-                assert!(rt; is_found(&hold, 7, 2));
-                assert!(rt; is_found(&hold, 0, 0));
-                assert!(rt; is_found(&hold, 2, 0));
-                assert!(rt; is_found(&hold, u32::MAX, 0));
-                for (seventh, found) in [(6, 2), (7, 2), (0, 2), (2, 2), (8, 3)] {
-                    relink(&mut hold, 7, seventh);
-                    assert!(rt; is_found(&hold, 6, found), "link to {seventh}");
-                }
-                panic!(rt; "every chain was walked");
-            }
-            panic!(rt; "no memory");
-        }
-        Err(_) => panic!(rt; "no memory"),
+    assert!(rt; six.index() == 6 && seven.index() == 7 && eight.index() == 8);
+    fill(rt, hold, six, seven, eight);
+    walk_all(rt, hold);
+    let six = take(rt, hold, 0, 6);
+    let seven = take(rt, hold, 1, 7);
+    let eight = take(rt, hold, 2, 8);
+    all.push_reserved(six);
+    all.push_reserved(seven);
+    all.push_reserved(eight);
+}
+
+// Ends a hold, after a look that no buffer is in it.
+fn close_empty(rt: &impl Abort, hold: Hold) {
+    assert!(rt; hold.extras(PORT) <= 3);
+    for idx in 0..65538 {
+        assert!(rt; hold.buffer(idx).is_none());
     }
+    hold.close();
+}
+
+#[test]
+fn chain_with_loop(rt: HostRuntime) -> Result<(), Fail> {
+    let (region, mut all) = Region::new(rt.alloc(), 7)?;
+    let done = match Hold::new(rt.alloc(), 64) {
+        Ok(mut hold) => {
+            let made = hold.reserve(2, 2, 3);
+            if made.is_ok() {
+                hold.set_port(PORT, 2, 2, 3);
+                play(&rt, &mut hold, &mut all);
+            }
+            close_empty(&rt, hold);
+            made
+        }
+        Err(fault) => Err(fault),
+    };
+    region.close(all);
+    Ok(done?)
 }

@@ -1,3 +1,4 @@
+pub mod Emptied
 pub mod Exchanging
 pub mod Naming
 pub mod Numbers

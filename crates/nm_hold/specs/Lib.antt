@@ -1,6 +1,7 @@
 pub mod Holds
 pub mod Laws
 pub mod Lending
+pub mod Names
 pub mod Offsets
 pub mod Standings
 pub mod Stored

@@ -20,6 +20,9 @@ use std::marker::Model;
 
 /// A session's places, over all its ports, and the buffers that stand in them. It cannot be dropped:
 /// `close` ends it once it holds no buffer.
+///
+/// A buffer's place is found at its index. The table of a place's port is found by a look at each port
+/// of the session in turn, one comparison of numbers for each; a session has few ports.
 pub struct Hold {
     cells: Vec<Option<Standing>>,
     tables: Vec<PortTable>,
@@ -47,7 +50,7 @@ impl Model for Hold {
 }
 
 impl Hold {
-    ghost use Rattle.nm_hold.specs.Lending.{LendsBytesAt};
+    ghost use Rattle.nm_hold.specs.Lending.{LendsBytesAt, LendsNamedAt};
 
     /// A hold with no port, for the buffers of a pool of so many.
     pub fn new(alloc: Global, buffers: u32) -> Result<Hold, NoMemory>
@@ -72,7 +75,8 @@ impl Hold {
     pub fn reserve(&mut self, tx: u32, rx: u32, extra: u32) -> Result<(), NoMemory>
         requires { AreSizes (record { tx = tx; rx = rx; extra = extra }) }
         ensures ok { OnOk result (self.new ≡ record self.old {
-            room = Some (record { tx = tx; rx = rx; extra = extra }) }) }
+          room = Some (record { tx = tx; rx = rx; extra = extra });
+        }) }
         ensures err { OnErr result (self.new ≡ self.old) }
     {
         let sizes = Sizes { tx, rx, extra };
@@ -100,7 +104,8 @@ impl Hold {
     pub fn drop_port(&mut self, port: PortId)
         requires { HoldsNothing self.old port.0 }
         ensures { self.new ≡ record self.old {
-            ports = filter (λ (p : PortPlaces). not (p.port.0 == port.0)) self.old.ports } }
+          ports = filter (λ (p : PortPlaces). not (p.port.0 == port.0)) self.old.ports;
+        } }
     {
         self.tables.retain(|t| t.places.port != port);
     }
@@ -177,15 +182,25 @@ impl Hold {
         }
     }
 
-    /// The bytes of a named buffer, to be written.
+    /// The bytes of a named buffer, to be written. Afterwards the hold is as it was, with what was
+    /// written over the bytes of that buffer.
     pub fn bytes_mut(&mut self, idx: u32) -> Option<&mut [u8]>
-        ensures { option_copied_mut result ≡ named_bytes_at self.old idx }
+        ensures* writes_back { sem 𝓛 (LendsNamedAt self.entry idx result) }
+        ensures bytes { option_copied_mut result ≡ named_bytes_at self.old idx }
     {
-        if self.named(idx) {
+        if self.finds_named(idx) {
             Some(self.lend(idx))
         } else {
             None
         }
+    }
+
+    // `named`, asked through the reference that `bytes_mut` has.
+    fn finds_named(&mut self, idx: u32) -> bool
+        ensures named { result ≡ is_named_at self.old idx }
+        ensures same { self.new ≡ self.old }
+    {
+        self.named(idx)
     }
 
     /// The bytes of a buffer that `named` tells to be a named one, to be written. What is written is

@@ -1,5 +1,7 @@
-ghost use Rattle.std.specs.Prelude.{◌≡◌, ◌∷◌, []};
-ghost use Rattle.nm_hold.specs.Holds.{empty_hold};
+ghost use Rattle.std.specs.Prelude.{ℕ, ◌≡◌, ◌≢◌, ◌∷◌, [], Some};
+ghost use Rattle.nm_region.specs.Buffers.{name_of, names_of, opened_buffers, region_names};
+ghost use Rattle.nm_hold.specs.Holds.{empty_hold, buffer_at};
+ghost use Rattle.nm_hold.specs.Names.{name_at};
 
 use crate::Hold;
 use nm_region::{Buf, Region};
@@ -22,21 +24,20 @@ const SECOND: Place = Place::Tx {
 // Two named buffers, in the two transmit slots, change places.
 fn exchange_two(rt: &impl Abort, hold: &mut Hold, two: Buf, three: Buf)
     requires hold { hold.old ≡ record (empty_hold 8) {
-        ports = record { port = record { 0 = 3 }; sizes = record { tx = 2; rx = 2; extra = 0 } } ∷ [] } }
+      ports = record { port = record { 0 = 3 }; sizes = record { tx = 2; rx = 2; extra = 0 } } ∷ [];
+    } }
     requires two { two.index ≡ 2 }
     requires three { three.index ≡ 3 }
+    ensures two { name_at hold.new 2 ≡ Some (name_of two) }
+    ensures three { name_at hold.new 3 ≡ Some (name_of three) }
 {
     hold.add(FIRST, two);
     assert!(rt; hold.index(SECOND).is_none() && hold.place(3).is_none());
     hold.add(SECOND, three);
-    assert!(rt; !hold.named(2) && hold.bytes(2).is_none() && hold.bytes_mut(3).is_none());
-    assert!(rt; hold.index(FIRST).is_some());
-    hold.set_named(FIRST, true);
-    assert!(rt; hold.index(SECOND).is_some());
-    hold.set_named(SECOND, true);
-    if let Some(byte) = hold.bytes_mut(2).and_then(|bytes| bytes.first_mut()) {
-        *byte = 7;
-    }
+    assert!(rt; !hold.named(2) && hold.bytes(2).is_none());
+    name(rt, hold, FIRST);
+    name(rt, hold, SECOND);
+    set_first_byte(rt, hold, 2);
     assert!(rt; hold.index(FIRST).is_some() && hold.named(3));
     hold.exchange(FIRST, 3);
     assert_eq!(rt; hold.index(FIRST), Some(3));
@@ -47,33 +48,106 @@ fn exchange_two(rt: &impl Abort, hold: &mut Hold, two: Buf, three: Buf)
     assert_eq!(rt; hold.extras(PORT), 0);
 }
 
-// The buffers stay where they are: the test ends by the panic that it expects.
-#[test]
-#[should_panic(expected = "both buffers have changed places")]
-fn exchange_of_two_slots(rt: HostRuntime) {
-    let Ok((_region, mut all)) = Region::new(rt.alloc(), 2) else {
-        panic!(rt; "no memory");
-    };
-    assert_eq!(rt; all.len(), 2);
+fn name(rt: &impl Abort, hold: &mut Hold, place: Place)
+    ensures { (idx : ℕ) → buffer_at hold.new idx ≡ buffer_at hold.old idx }
+{
+    assert!(rt; hold.index(place).is_some());
+    hold.set_named(place, true);
+}
+
+fn set_first_byte(rt: &impl Abort, hold: &mut Hold, idx: u32)
+    ensures { (i : ℕ) → name_at hold.new i ≡ name_at hold.old i }
+{
+    assert!(rt; hold.named(idx));
+    let bytes = hold.lend(idx);
+    assert!(rt; !bytes.is_empty());
+    bytes[0] = 7;
+}
+
+// Takes the buffer out of a place, which holds one.
+fn take(rt: &impl Abort, hold: &mut Hold, place: Place) -> Buf
+    ensures buffer { buffer_at hold.old result.index ≡ Some result }
+    ensures others { (idx : ℕ) → idx ≢ result.index → buffer_at hold.new idx ≡ buffer_at hold.old idx }
+{
+    assert!(rt; hold.index(place).is_some());
+    hold.remove(place)
+}
+
+// The two buffers come to the hold, change places, and go back.
+fn play(rt: &impl Abort, hold: &mut Hold, all: &mut Vec<Buf>)
+    requires hold { hold.old ≡ record (empty_hold 8) {
+      ports = record { port = record { 0 = 3 }; sizes = record { tx = 2; rx = 2; extra = 0 } } ∷ [];
+    } }
+    requires all { all.old.items ≡ opened_buffers (record { region = 2; buffers = 2 }) }
+    ensures { names_of all.new.items ≡ region_names (record { region = 2; buffers = 2 }) }
+{
     let two = all.remove(0);
     let three = all.remove(0);
-    assert_eq!(rt; two.index(), 2);
-    assert_eq!(rt; three.index(), 3);
-    match Hold::new(rt.alloc(), 8) {
-        Ok(mut hold) => {
-            if hold.reserve(2, 2, 0).is_ok() {
-                hold.set_port(PORT, 2, 2, 0);
-                exchange_two(&rt, &mut hold, two, three);
-                assert!(rt; hold.index(SECOND).is_some());
-                let two = hold.remove(SECOND);
-                assert_eq!(rt; two.index(), 2);
-                assert_eq!(rt; hold.index(SECOND), None);
-                panic!(rt; "both buffers have changed places");
-            }
-            panic!(rt; "no memory");
-        }
-        Err(_) => panic!(rt; "no memory"),
+    assert!(rt; two.index() == 2 && three.index() == 3);
+    exchange_two(rt, hold, two, three);
+    let first = take(rt, hold, FIRST);
+    assert_eq!(rt; first.index(), 3);
+    let second = take(rt, hold, SECOND);
+    assert_eq!(rt; second.index(), 2);
+    assert_eq!(rt; hold.index(SECOND), None);
+    all.push_reserved(second);
+    all.push_reserved(first);
+}
+
+// Ends a hold, after a look that no buffer is in it.
+fn close_empty(rt: &impl Abort, hold: Hold) {
+    assert!(rt; hold.extras(PORT) <= 3);
+    for idx in 0..65538 {
+        assert!(rt; hold.buffer(idx).is_none());
     }
+    hold.close();
+}
+
+#[test]
+fn exchange_of_two_slots(rt: HostRuntime) -> Result<(), Fail> {
+    let (region, mut all) = Region::new(rt.alloc(), 2)?;
+    let done = match Hold::new(rt.alloc(), 8) {
+        Ok(mut hold) => {
+            let made = hold.reserve(2, 2, 0);
+            if made.is_ok() {
+                hold.set_port(PORT, 2, 2, 0);
+                play(&rt, &mut hold, &mut all);
+            }
+            close_empty(&rt, hold);
+            made
+        }
+        Err(fault) => Err(fault),
+    };
+    region.close(all);
+    Ok(done?)
+}
+
+// The buffer stays in the hold: the test ends by the panic that it expects.
+#[test]
+#[should_panic(expected = "the buffer stays")]
+fn named_bytes_are_written(rt: HostRuntime) {
+    let Ok((_region, mut all)) = Region::new(rt.alloc(), 1) else {
+        panic!(rt; "the buffer stays out: no memory");
+    };
+    assert_eq!(rt; all.len(), 1);
+    let two = all.remove(0);
+    assert_eq!(rt; two.index(), 2);
+    let Ok(mut hold) = Hold::new(rt.alloc(), 8) else {
+        panic!(rt; "the buffer stays out: no memory");
+    };
+    if hold.reserve(2, 2, 0).is_err() {
+        panic!(rt; "the buffer stays out: no memory");
+    }
+    hold.set_port(PORT, 2, 2, 0);
+    hold.add(FIRST, two);
+    assert!(rt; hold.bytes_mut(2).is_none() && hold.bytes_mut(3).is_none());
+    assert!(rt; hold.index(FIRST).is_some());
+    hold.set_named(FIRST, true);
+    if let Some(byte) = hold.bytes_mut(2).and_then(|bytes| bytes.first_mut()) {
+        *byte = 7;
+    }
+    assert_eq!(rt; hold.bytes(2).and_then(|bytes| bytes.first()), Some(&7));
+    panic!(rt; "the buffer stays in the hold");
 }
 
 #[test]

@@ -30,10 +30,10 @@ use Rattle.vale_script.specs.declared.script.Act.{Act}
 use Rattle.vale_script.specs.declared.script.Act.TheVariants as acts
 use Rattle.vale.specs.declared.port.OwnPort.{OwnPort}
 use Rattle.vale.specs.Machine.{Machine, call_of_line, resting, answered, opened_own}
-use Rattle.vale.specs.Owned.{HasDoneLots, HasPort, OwnsAll, OwnsBy, Owns, IsSettled, id_of_own, received_of, times_in}
+use Rattle.vale.specs.Owned.{HasDoneLots, HasPort, OwnsAll, OwnsBy, Owns, AllSettled, id_of_own, received_of, times_in}
 use Rattle.vale.specs.Replay.{starting}
 use Rattle.vale_script.specs.Sound.{IsSoundAct}
-use Rattle.vale.specs.Steps.{Runs, RunsLine, StopsLine, stop_of}
+use Rattle.vale.specs.Steps.{GoesOn, RunsLine, StopsLine, stop_of}
 use Rattle.vale.proofs.Lines.{next-idle, line-runs, line-nothing}
 use Rattle.vale.proofs.Owning.{KeepsOwned, owns-kept}
 use Rattle.vale.proofs.Settlements.{standing-step, after-made}
@@ -61,7 +61,7 @@ any-last : (xs : List ℕ) (n : ℕ) → list_any (λ k. k == n) (xs ++ n ∷ []
 any-last [] n = let hit : (n == n) ≡ true = eq-eqb n n refl in rw hit refl
 any-last (x ∷ xs) n = rw (any-last xs n) (or-true (x == n))
 
-pub enter-runs : (b new : Recorded) (user : Machine) → IsSettled (standing b).world → user.lines ≡ [] → new ≡ after_ask b (Enter user.number)
+pub enter-runs : (b new : Recorded) (user : Machine) → AllSettled (standing b).world → user.lines ≡ [] → new ≡ after_ask b (Enter user.number)
     → RunsLine b new acts.Enter user (record user { session = Some (record { 0 = length b.entries + 1 }); ports = [] })
 enter-runs b new user settled idle is =
     let s : Standing = standing b in
@@ -74,7 +74,7 @@ enter-runs b new user settled idle is =
     let count : s.world.entry_count ≡ length b.entries = count-world_of b.pool b.entries in
     let after_is : resting (answered s (entry_of ask made) (record user { lines = act ∷ [] })) ≡ after =
     ap (λ (n : ℕ). record user { session = Some (record { 0 = n + 1 }); ports = []; lines = [] }) count ∙ ap (λ (lines : List Act). record after { lines = lines }) (sym idle) in
-    let settled_now : IsSettled (standing new).world = subst (λ (t : Standing). IsSettled t.world) (sym now) (record { offers = settled.offers; leases = settled.leases }) in
+    let settled_now : AllSettled (standing new).world = subst (λ (t : Standing). AllSettled t.world) (sym now) (record { offers = settled.offers; leases = settled.leases }) in
     let owned : OwnsAll (entered s ask) (s.world.entry_count + 1) [] = record {
       is_in = any-last s.world.sessions (s.world.entry_count + 1);
       rise = omega arith;
@@ -82,14 +82,15 @@ enter-runs b new user settled idle is =
       holds = λ n. omega arith;
     } in
     record {
-      runs = subst (λ (n : Recorded). Runs b n (starting act user) after) (sym new_is)
-          (subst (λ (x : Machine). Runs b (with_step b ask made) (starting act user) x) after_is (line-runs b user act ask made settled refl));
+      runs = subst (λ (n : Recorded). GoesOn b n (starting act user) after) (sym new_is)
+          (subst (λ (x : Machine). GoesOn b (with_step b ask made) (starting act user) x) after_is (line-runs b user act ask made settled refl));
       ended = next-idle (standing new) after settled_now idle;
       owns = subst (λ (t : Standing). OwnsAll t (length b.entries + 1) []) (sym now) (subst (λ (n : ℕ). OwnsAll (entered s ask) (n + 1) []) count owned);
       settled = settled_now;
       others = λ other apart kept. subst (λ (t : Standing). Owns t other) (sym now)
           (entered-other s ask other.session other.ports (λ n theirs e. apart n theirs (ap (λ (k : ℕ). Some (record { 0 = k })) (ap (λ k. k + 1) (sym count) ∙ e))) kept);
       session = inr refl;
+      idle = idle;
     }
 
 -- A port is opened.
@@ -196,10 +197,10 @@ opened-owns s ask session name tx rx ports sound numbered owns =
           rw flat here;
     }
 
-pub enter-stops : (b new : Recorded) (user : Machine) (fault : StepFault) → IsSettled (standing b).world → IsRefusal b (Enter user.number) fault → new ≡ b → StopsLine b new acts.Enter user fault
+pub enter-stops : (b new : Recorded) (user : Machine) (fault : StepFault) → AllSettled (standing b).world → IsRefusal b (Enter user.number) fault → new ≡ b → StopsLine b new acts.Enter user fault
 enter-stops b new user fault settled refused same = stops-at b user acts.Enter (Enter user.number) fault new settled refl refused same
 
-pub enter-on : (b new : Recorded) (user : Machine) (session : SessionId) (ports : List OwnPort) → IsSettled (standing b).world → user.lines ≡ [] → new ≡ after_ask b (Enter user.number) → session.0 ≡ length new.entries → ports ≡ []
+pub enter-on : (b new : Recorded) (user : Machine) (session : SessionId) (ports : List OwnPort) → AllSettled (standing b).world → user.lines ≡ [] → new ≡ after_ask b (Enter user.number) → session.0 ≡ length new.entries → ports ≡ []
     → RunsLine b new acts.Enter user (record user { session = Some session; ports = ports })
 enter-on b new user session ports settled idle is id none =
     let count : length new.entries ≡ length b.entries + 1 =
@@ -208,7 +209,7 @@ enter-on b new user session ports settled idle is id none =
     subst (λ (s : SessionId). RunsLine b new acts.Enter user (record user { session = Some s; ports = ports })) same
     (subst (λ (ps : List OwnPort). RunsLine b new acts.Enter user (record user { session = Some (record { 0 = length b.entries + 1 }); ports = ps })) (sym none) (enter-runs b new user settled idle is))
 
-pub open-runs : (b new : Recorded) (user : Machine) (session : SessionId) (name : List ℕ) (tx rx : ℕ) → IsSettled (standing b).world → Owns (standing b) user → user.lines ≡ [] → user.session ≡ Some session → IsSoundAct (acts.Open name tx rx)
+pub open-runs : (b new : Recorded) (user : Machine) (session : SessionId) (name : List ℕ) (tx rx : ℕ) → AllSettled (standing b).world → Owns (standing b) user → user.lines ≡ [] → user.session ≡ Some session → IsSoundAct (acts.Open name tx rx)
     → IsRecordedAs b new (Open session name tx rx 0) Opened → RunsLine b new (acts.Open name tx rx) user (record user { ports = user.ports ++ opened_own (length b.entries + 1) name tx ∷ [] })
 open-runs b new user session name tx rx settled owns idle is sound recorded =
     let s : Standing = standing b in
@@ -223,11 +224,11 @@ open-runs b new user session name tx rx settled owns idle is sound recorded =
     let called : call_of_line (record user { lines = act ∷ [] }) act ≡ Some ask = ap (option_map (λ (n : SessionId). Open n name tx rx 0)) is in
     let after_is : resting (answered s (entry_of ask made) (record user { lines = act ∷ [] })) ≡ after =
     ap (λ (n : ℕ). record user { ports = user.ports ++ opened_own (n + 1) name tx ∷ []; lines = [] }) count ∙ ap (λ (lines : List Act). record after { lines = lines }) (sym idle) in
-    let settled_now : IsSettled (standing new).world = subst (λ (t : Standing). IsSettled t.world) (sym now) (record { offers = settled.offers; leases = each-append HasDoneLots s.world.ports _ settled.leases (tt, tt) }) in
+    let settled_now : AllSettled (standing new).world = subst (λ (t : Standing). AllSettled t.world) (sym now) (record { offers = settled.offers; leases = each-append HasDoneLots s.world.ports _ settled.leases (tt, tt) }) in
     let numbered : Rise 0 (map id_of_port (standing new).world.ports) (standing new).world.entry_count = (world-numbered new.pool new.entries).ports_rise in
     record {
-      runs = subst (λ (n : Recorded). Runs b n (starting act user) after) (sym new_is)
-          (subst (λ (x : Machine). Runs b (with_step b ask made) (starting act user) x) after_is (line-runs b user act ask made settled called));
+      runs = subst (λ (n : Recorded). GoesOn b n (starting act user) after) (sym new_is)
+          (subst (λ (x : Machine). GoesOn b (with_step b ask made) (starting act user) x) after_is (line-runs b user act ask made settled called));
       ended = next-idle (standing new) after settled_now idle;
       owns = subst (λ (t : Standing). Owns t after) (sym now)
           (subst (λ (o : Option SessionId). OwnsBy (standing_with s (entry_of ask made) made.next) o after.ports) (sym is)
@@ -237,10 +238,11 @@ open-runs b new user session name tx rx settled owns idle is sound recorded =
       settled = settled_now;
       others = λ other apart kept. subst (λ (t : Standing). Owns t other) (sym now) (opened-other s ask session.0 name tx rx other.session other.ports kept);
       session = inl refl;
+      idle = idle;
     }
 
 -- the port that is pushed is the one opened
-pub open-on : (b new : Recorded) (user : Machine) (session : SessionId) (name : List ℕ) (tx rx : ℕ) (own : OwnPort) (ports : List OwnPort) → IsSettled (standing b).world → Owns (standing b) user → user.lines ≡ [] → user.session ≡ Some session
+pub open-on : (b new : Recorded) (user : Machine) (session : SessionId) (name : List ℕ) (tx rx : ℕ) (own : OwnPort) (ports : List OwnPort) → AllSettled (standing b).world → Owns (standing b) user → user.lines ≡ [] → user.session ≡ Some session
     → IsSoundAct (acts.Open name tx rx) → IsRecordedAs b new (Open session name tx rx 0) Opened → own ≡ opened_own (length new.entries) name tx → ports ≡ user.ports ++ own ∷ []
     → RunsLine b new (acts.Open name tx rx) user (record user { ports = ports })
 open-on b new user session name tx rx own ports settled owns idle is sound recorded own_is ports_is =
@@ -258,7 +260,7 @@ nothing-keeps : (s : Standing) (ask : Ask) (session : ℕ) (name : List ℕ) (tx
     → KeepsOwned s (standing_with s (entry_of ask (open_step_by (Some fault) s session name tx rx 0)) (open_step_by (Some fault) s session name tx rx 0).next)
 nothing-keeps s ask session name tx rx fault = record { sessions = refl; count = omega arith; buffers = refl; ports = λ n own h. h }
 
-open-refused : (b new : Recorded) (user : Machine) (session : SessionId) (name : List ℕ) (tx rx : ℕ) (fault : OpenFault) → IsSettled (standing b).world → Owns (standing b) user → user.lines ≡ [] → user.session ≡ Some session
+open-refused : (b new : Recorded) (user : Machine) (session : SessionId) (name : List ℕ) (tx rx : ℕ) (fault : OpenFault) → AllSettled (standing b).world → Owns (standing b) user → user.lines ≡ [] → user.session ≡ Some session
     → IsRecordedAs b new (Open session name tx rx 0) (Refused fault) → RunsLine b new (acts.Open name tx rx) user user
 open-refused b new user session name tx rx fault settled owns idle is recorded =
     let s : Standing = standing b in
@@ -270,21 +272,22 @@ open-refused b new user session name tx rx fault settled owns idle is recorded =
     let now : standing new ≡ standing_with s (entry_of ask made) made.next = ap standing new_is ∙ standing-step b ask made made_is in
     let called : call_of_line (record user { lines = act ∷ [] }) act ≡ Some ask = ap (option_map (λ (n : SessionId). Open n name tx rx 0)) is in
     let after_is : resting (answered s (entry_of ask made) (record user { lines = act ∷ [] })) ≡ user = ap (λ (lines : List Act). record user { lines = lines }) (sym idle) in
-    let settled_now : IsSettled (standing new).world = subst (λ (t : Standing). IsSettled t.world) (sym now) (record { offers = settled.offers; leases = settled.leases }) in
+    let settled_now : AllSettled (standing new).world = subst (λ (t : Standing). AllSettled t.world) (sym now) (record { offers = settled.offers; leases = settled.leases }) in
     record {
-      runs = subst (λ (n : Recorded). Runs b n (starting act user) user) (sym new_is)
-          (subst (λ (x : Machine). Runs b (with_step b ask made) (starting act user) x) after_is (line-runs b user act ask made settled called));
+      runs = subst (λ (n : Recorded). GoesOn b n (starting act user) user) (sym new_is)
+          (subst (λ (x : Machine). GoesOn b (with_step b ask made) (starting act user) x) after_is (line-runs b user act ask made settled called));
       ended = next-idle (standing new) user settled_now idle;
       owns = subst (λ (t : Standing). Owns t user) (sym now) (owns-kept s (standing_with s (entry_of ask made) made.next) user (nothing-keeps s ask session.0 name tx rx fault) owns);
       settled = settled_now;
       others = λ other apart kept. subst (λ (t : Standing). Owns t other) (sym now) (owns-kept s (standing_with s (entry_of ask made) made.next) other (nothing-keeps s ask session.0 name tx rx fault) kept);
       session = inl refl;
+      idle = idle;
     }
 
 abbrev Unopens : Recorded → Recorded → Machine → Act → Result (Unit {0}) StepFault → Type 0
 Unopens b new user act result = OnOk result (RunsLine b new act user user) × IfErr result (StopsLine b new act user)
 
-pub open-unopened : (b new : Recorded) (user : Machine) (session : SessionId) (name : List ℕ) (tx rx : ℕ) (fault : OpenFault) → IsSettled (standing b).world → Owns (standing b) user → user.lines ≡ [] → user.session ≡ Some session
+pub open-unopened : (b new : Recorded) (user : Machine) (session : SessionId) (name : List ℕ) (tx rx : ℕ) (fault : OpenFault) → AllSettled (standing b).world → Owns (standing b) user → user.lines ≡ [] → user.session ≡ Some session
     → IsUnopened b new (Open session name tx rx 0) fault → Unopens b new user (acts.Open name tx rx) (stop_of fault)
 open-unopened b new user session name tx rx BadSize settled owns idle is un = (open-refused b new user session name tx rx BadSize settled owns idle is un, tt)
 open-unopened b new user session name tx rx SwitchesFull settled owns idle is un = (open-refused b new user session name tx rx SwitchesFull settled owns idle is un, tt)
@@ -296,7 +299,7 @@ open-unopened b new user session name tx rx (RecordFull what used want) settled 
 open-unopened b new user session name tx rx NoMemory settled owns idle is un = (tt, tt)
 
 -- a user that has not come opens nothing
-pub open-nobody : (b : Recorded) (user : Machine) (name : List ℕ) (tx rx : ℕ) → IsSettled (standing b).world → Owns (standing b) user → user.lines ≡ [] → user.session ≡ None → RunsLine b b (acts.Open name tx rx) user user
+pub open-nobody : (b : Recorded) (user : Machine) (name : List ℕ) (tx rx : ℕ) → AllSettled (standing b).world → Owns (standing b) user → user.lines ≡ [] → user.session ≡ None → RunsLine b b (acts.Open name tx rx) user user
 open-nobody b user name tx rx settled owns idle none =
     line-nothing b user (acts.Open name tx rx) settled owns idle (ap (option_map (λ (n : SessionId). Open n name tx rx 0)) none) refl
 

@@ -14,7 +14,7 @@ use Rattle.vale_book.specs.Recorded.{Recorded, IsRefusal, IsWithinLimits}
 use Rattle.vale_script.specs.Grammar.{Program}
 use Rattle.vale.specs.declared.status.Status.{Status}
 use Rattle.vale.specs.declared.status.Status.TheVariants.{Done, Usage, BadScript, ReadFault, WriteFault, Over, NoMemory}
-use Rattle.vale.specs.Replay.{Replays, IsReplaying, Plays}
+use Rattle.vale.specs.Replay.{Replays, ComesTo, Plays}
 use Rattle.vale.specs.Run.{Written, Played, StopsFull, IsCounted, stopped}
 use Rattle.vale.specs.Steps.{RanProgram, IsFull, StopsProgram}
 use Rattle.vale.proofs.Sums.{refusal-sum}
@@ -72,7 +72,7 @@ stops-full pool limits start b program what used want is legal full =
       history = b.entries;
       legal = subst (λ (p : ℕ). IsLegal p b.entries) pool_is legal;
       call = full.call;
-      replaying = subst (λ (p : ℕ). IsReplaying p program b.entries full.call) pool_is full.replaying;
+      comes = subst (λ (p : ℕ). ComesTo p program b.entries full.call) pool_is full.comes;
       used = used;
       want = want;
       refused = subst (λ (r : Recorded). IsRefusal r full.call (RecordFull what used want)) same full.refused;

@@ -22,7 +22,7 @@ use Rattle.vale_script.specs.declared.script.Line.{Line}
 use Rattle.vale_script.specs.Grammar.{Program}
 use Rattle.vale.specs.Machine.{Machine, new_machine}
 use Rattle.vale.specs.Replay.{TakesTurns, ReplaysUser, ReplaysLine, ReplaysLines, starting, numbers_between, users_of}
-use Rattle.vale.specs.Owned.{Owns, OwnsBy, OwnsAll, IsSettled, AreApart}
+use Rattle.vale.specs.Owned.{Owns, OwnsBy, OwnsAll, AllSettled, AreApart}
 use Rattle.vale.specs.Steps.{RunsLine, IsOther, StaysOrComes, StopsLine, StopsRun, IsBetweenLines, RanLine, RanLines, RanProgram, IsFull, StopsProgram}
 use Rattle.vale.proofs.Turns.{turns-longer}
 
@@ -126,6 +126,7 @@ ran-line b new users line before after between here r =
           turns = subst (λ (n : ℕ). TakesTurns b.pool new.entries (starting line.act before) (range_with_len (length b.entries + 1) n) after) (sym behind) r.runs.turns;
         };
         ended = rw (all, ← pool_is) (r.ended);
+        no_line = r.idle;
         others = refl;
       };
       between = later-between b new users (line.user - 1) line.act before after between here r;
@@ -177,6 +178,7 @@ line-longer pool history more users first line next last l =
       within = omega (arith, within, count);
       replays = user-longer pool history more (starting line.act l.before) (numbers_between first last) l.after l.replays;
       ended = rw (take-append-le last history more within) (l.ended);
+      no_line = l.no_line;
       others = l.others;
     }
 
@@ -217,7 +219,7 @@ run-start b program users fresh are =
       between = record {
         owns = none-own (standing b) 1 program.users;
         apart = none-apart program.users;
-        settled = subst (λ (es : List Entry). IsSettled (world_of b.pool es)) (sym fresh) (record { offers = refl; leases = tt });
+        settled = subst (λ (es : List Entry). AllSettled (world_of b.pool es)) (sym fresh) (record { offers = refl; leases = tt });
       };
       count = length-map (range_with_len 1 program.users) new_machine ∙ length-range_with_len 1 program.users;
     })
@@ -259,19 +261,21 @@ run-stops old b new program i line users (RecordFull what used want) ran there s
       pool_is = ran.pool_is;
       limits_are = ran.limits_are;
       call = f.full.call;
-      replaying = record {
-        count = i;
-        line = line;
-        there = there;
-        users = users;
-        first = length b.entries;
-        lines = subst (λ (p : ℕ). ReplaysLines p b.entries (users_of program) 0 (take i program.lines) users (length b.entries)) (sym ran.pool_is) ran.replayed;
-        before = f.before;
-        here = f.here;
+      comes = record {
         now = starting line.act f.before;
-        replays = record {
-          rise = rw none (omega arith);
-          turns = rw none refl;
+        reached = record {
+          count = i;
+          line = line;
+          there = there;
+          users = users;
+          first = length b.entries;
+          lines = subst (λ (p : ℕ). ReplaysLines p b.entries (users_of program) 0 (take i program.lines) users (length b.entries)) (sym ran.pool_is) ran.replayed;
+          before = f.before;
+          here = f.here;
+          replays = record {
+            rise = rw none (omega arith);
+            turns = rw none refl;
+          };
         };
         called = f.full.called;
       };

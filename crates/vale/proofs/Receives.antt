@@ -31,8 +31,8 @@ use Rattle.vale_script.specs.declared.script.Act.{Act}
 use Rattle.vale_script.specs.declared.script.Act.TheVariants as acts
 use Rattle.vale.specs.Machine.{Machine, sync_call, got_at, after_sync, call_of_line, resting, answered, is_named}
 use Rattle.vale.specs.Replay.{starting}
-use Rattle.vale.specs.Owned.{HasPort, OwnsAll, OwnsBy, Owns, IsSettled, HasDoneLots, IsDoneLot, id_of_own, received_of, times_in}
-use Rattle.vale.specs.Steps.{Runs, CanSync, GivesBack, RunsLine, StopsLine}
+use Rattle.vale.specs.Owned.{HasPort, OwnsAll, OwnsBy, Owns, AllSettled, HasDoneLots, IsDoneLot, id_of_own, received_of, times_in}
+use Rattle.vale.specs.Steps.{GoesOn, CanSync, GivesBack, RunsLine, StopsLine}
 use Rattle.vale.proofs.Lines.{next-idle, line-runs}
 use Rattle.vale.proofs.OwnPorts.{OwnAt, own-read}
 use Rattle.vale.proofs.Transmits.{with_own, stops-at}
@@ -242,7 +242,7 @@ has-synced b session own m =
 abbrev synced_standing : Standing → Ask → List ℕ → Port → Standing
 synced_standing s ask back port = standing_with s (entry_of ask (sync_step s back port)) (sync_step s back port).next
 
-synced-settled : (s : Standing) (ask : Ask) (back : List ℕ) (port : Port) → IsSettled s.world → offers_of_sync s.world port ≡ [] → IsSettled (synced_standing s ask back port).world
+synced-settled : (s : Standing) (ask : Ask) (back : List ℕ) (port : Port) → AllSettled s.world → offers_of_sync s.world port ≡ [] → AllSettled (synced_standing s ask back port).world
 synced-settled s ask back port settled none = record {
   offers = ap (λ (os : List Offer). os ++ offers_of_sync s.world port) settled.offers ∙ none;
   leases = each-changed_at HasDoneLots HasDoneLots port.id (port_after_sync (length back)) (λ p done. done) (λ p done. each-drop IsDoneLot (length (ready_lots p)) p.line done) s.world.ports settled.leases;
@@ -330,7 +330,7 @@ synced-other b ask session own m (Some n) ports apart owns =
 
 -- The line.
 
-pub can-sync : (b : Recorded) (user : Machine) (place : ℕ) (own : OwnPort) → IsLegal b.pool b.entries → IsSettled (standing b).world → Owns (standing b) user → slice_get user.ports place ≡ Some own → CanSync (standing b) own
+pub can-sync : (b : Recorded) (user : Machine) (place : ℕ) (own : OwnPort) → IsLegal b.pool b.entries → AllSettled (standing b).world → Owns (standing b) user → slice_get user.ports place ≡ Some own → CanSync (standing b) own
 can-sync b user place own legal settled owns here = by_session user.session refl owns
   where
     by_session : (session : Option SessionId) → user.session ≡ session → OwnsBy (standing b) session user.ports → CanSync (standing b) own
@@ -348,7 +348,7 @@ rx-owned b user place own ask session is legal all here m =
     subst (λ (o : Option SessionId). OwnsBy (synced_standing (standing b) ask own.received m.has.port) o (slice_set user.ports place (after_sync (standing b) own))) (sym is)
     (synced-owns b ask session.0 user.ports place own m legal all here)
 
-rx-by : (b new : Recorded) (user : Machine) (name : List ℕ) (place : ℕ) (own : OwnPort) (session : SessionId) → user.session ≡ Some session → OwnsAll (standing b) session.0 user.ports → IsLegal b.pool b.entries → IsSettled (standing b).world → user.lines ≡ []
+rx-by : (b new : Recorded) (user : Machine) (name : List ℕ) (place : ℕ) (own : OwnPort) (session : SessionId) → user.session ≡ Some session → OwnsAll (standing b) session.0 user.ports → IsLegal b.pool b.entries → AllSettled (standing b).world → user.lines ≡ []
     → OwnAt user.ports name place own → (g : GivesBack b new own) → (can : CanSync (standing b) own) → can.session ≡ session.0 → RunsLine b new (acts.Rx name) user (with_own user place (after_sync (standing b) own))
 rx-by b new user name place own session is all legal settled idle at g can same =
     let s : Standing = standing b in
@@ -362,16 +362,17 @@ rx-by b new user name place own session is all legal settled idle at g can same 
     let called : call_of_line (record user { lines = act ∷ [] }) act ≡ Some ask = ap (option_map sync_call) at.found in
     let after_is : resting (answered s (entry_of ask made) (record user { lines = act ∷ [] })) ≡ after =
     ap (λ (ports : List OwnPort). record user { ports = ports; lines = [] }) (at.changes (after_sync s)) ∙ ap (λ (lines : List Act). record after { lines = lines }) (sym idle) in
-    let settled_now : IsSettled (standing new).world = subst (λ (t : Standing). IsSettled t.world) (sym now) (synced-settled s ask own.received m.has.port settled m.offers) in
+    let settled_now : AllSettled (standing new).world = subst (λ (t : Standing). AllSettled t.world) (sym now) (synced-settled s ask own.received m.has.port settled m.offers) in
     record {
-      runs = subst (λ (n : Recorded). Runs b n (starting act user) after) (sym new_is)
-          (subst (λ (x : Machine). Runs b (with_step b ask made) (starting act user) x) after_is (line-runs b user act ask made settled called));
+      runs = subst (λ (n : Recorded). GoesOn b n (starting act user) after) (sym new_is)
+          (subst (λ (x : Machine). GoesOn b (with_step b ask made) (starting act user) x) after_is (line-runs b user act ask made settled called));
       ended = next-idle (standing new) after settled_now idle;
       owns = subst (λ (t : Standing). Owns t after) (sym now) (rx-owned b user place own ask session is legal all at.here m);
       settled = settled_now;
       others = λ other apart kept. subst (λ (t : Standing). Owns t other) (sym now)
           (synced-other b ask session.0 own m other.session other.ports (λ n theirs e. apart n theirs (is ∙ ap (λ (k : ℕ). Some (record { 0 = k })) (sym e))) kept);
       session = inl refl;
+      idle = idle;
     }
 
 session-same : (s : Standing) (user : Machine) (place : ℕ) (own : OwnPort) (session : SessionId) → OwnsAll s session.0 user.ports → slice_get user.ports place ≡ Some own → (can : CanSync s own) → can.session ≡ session.0
@@ -381,7 +382,7 @@ session-same s user place own session all here can =
     let same : h.port ≡ can.has.port = cc in
     sym can.has.session_is ∙ ap (λ (p : Port). p.session) (sym same) ∙ h.session_is
 
-pub rx-runs : (b new : Recorded) (user : Machine) (name : List ℕ) (place : ℕ) (own : OwnPort) → IsLegal b.pool b.entries → IsSettled (standing b).world → Owns (standing b) user → user.lines ≡ [] → OwnAt user.ports name place own → GivesBack b new own
+pub rx-runs : (b new : Recorded) (user : Machine) (name : List ℕ) (place : ℕ) (own : OwnPort) → IsLegal b.pool b.entries → AllSettled (standing b).world → Owns (standing b) user → user.lines ≡ [] → OwnAt user.ports name place own → GivesBack b new own
     → RunsLine b new (acts.Rx name) user (with_own user place (after_sync (standing b) own))
 rx-runs b new user name place own legal settled owns idle at g = by_session user.session refl owns
   where
@@ -391,14 +392,14 @@ rx-runs b new user name place own legal settled owns idle at g = by_session user
         let can = can-sync b user place own legal settled owns at.here in
         rx-by b new user name place own session is all legal settled idle at g can (session-same (standing b) user place own session all at.here can)
 
-pub rx-on : {T : Type 0} (b new : Recorded) (user : Machine) (name : List ℕ) (place : ℕ) (own other : OwnPort) (result : Result T StepFault) → IsLegal b.pool b.entries → IsSettled (standing b).world → Owns (standing b) user → user.lines ≡ []
+pub rx-on : {T : Type 0} (b new : Recorded) (user : Machine) (name : List ℕ) (place : ℕ) (own other : OwnPort) (result : Result T StepFault) → IsLegal b.pool b.entries → AllSettled (standing b).world → Owns (standing b) user → user.lines ≡ []
     → position (is_named name) user.ports ≡ Some place → own ≡ get_or user.ports place own → OnOk result (other ≡ after_sync (standing b) own) → OnOk result (GivesBack b new own)
     → OnOk result (RunsLine b new (acts.Rx name) user (with_own user place other))
 rx-on b new user name place own other (Ok x) legal settled owns idle is read taken g =
     subst (λ (o : OwnPort). RunsLine b new (acts.Rx name) user (with_own user place o)) (sym taken) (rx-runs b new user name place own legal settled owns idle (own-read user.ports name place own is read) g)
 rx-on b new user name place own other (Err fault) legal settled owns idle is read taken g = tt
 
-pub rx-stopped : {T : Type 0} (b new : Recorded) (user : Machine) (name : List ℕ) (place : ℕ) (own : OwnPort) (result : Result T StepFault) → IsSettled (standing b).world
+pub rx-stopped : {T : Type 0} (b new : Recorded) (user : Machine) (name : List ℕ) (place : ℕ) (own : OwnPort) (result : Result T StepFault) → AllSettled (standing b).world
     → position (is_named name) user.ports ≡ Some place → own ≡ get_or user.ports place own → IfErr result (IsRefusal b (sync_call own)) → OnErr result (new ≡ b)
     → IfErr result (StopsLine b new (acts.Rx name) user)
 rx-stopped b new user name place own (Ok x) settled is read refused same = tt

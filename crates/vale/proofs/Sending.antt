@@ -18,7 +18,7 @@ use Rattle.vale_entry.proofs.Worlds.{count-world_of}
 use Rattle.vale_book.specs.Recorded.{Recorded, standing, entry_of, with_step, after_ask, reply_of}
 use Rattle.vale.specs.declared.port.OwnPort.{OwnPort}
 use Rattle.vale.specs.Machine.{send_call}
-use Rattle.vale.specs.Owned.{Owns, Owes, IsSettled, IsDoneLot, HasDoneLots, HasPort}
+use Rattle.vale.specs.Owned.{Owns, Owes, AllSettled, IsDoneLot, HasDoneLots, HasPort}
 use Rattle.vale.specs.Steps.{CanCall, Sends, Settles, OwesSome, SettlesAll}
 use Rattle.vale.proofs.Owning.{KeepsOwned, owns-kept}
 use Rattle.vale.proofs.Settlements.{standing-step, after-made, any-none, owed-false}
@@ -28,7 +28,7 @@ use Rattle.vale.proofs.Settlements.{standing-step, after-made, any-none, owed-fa
 no-lot-owed : (session : ℕ) (port : Port) → HasDoneLots port → has_lot_owed_by session port ≡ false
 no-lot-owed session port done = any-none (is_owed_by session) port.line (each-weaker IsDoneLot (λ (lot : Lot). is_owed_by session lot ≡ false) (owed-false session) port.line done)
 
-pub settled-all : (w : World) (session : ℕ) → IsSettled w → is_settled w session ≡ true
+pub settled-all : (w : World) (session : ℕ) → AllSettled w → is_settled w session ≡ true
 settled-all w session settled =
     let none : list_any (has_lot_owed_by session) w.ports ≡ false =
     any-none (has_lot_owed_by session) w.ports (each-weaker HasDoneLots (λ (port : Port). has_lot_owed_by session port ≡ false) (no-lot-owed session) w.ports settled.leases) in
@@ -50,7 +50,7 @@ pending-sendable ports session own h =
     let slots : nat_le (size_of_frames own.pending) 1023 ≡ true = le-leb (size_of_frames own.pending) 1023 (omega (arith, size, few, most)) in
     rw (count, slots, h.short) refl
 
-pub send-made : (s : Standing) (session : ℕ) (own : OwnPort) → (h : HasPort s.world.ports session own) → IsSettled s.world → step s (send_call own) ≡ Some (send_step s own.pending h.port)
+pub send-made : (s : Standing) (session : ℕ) (own : OwnPort) → (h : HasPort s.world.ports session own) → AllSettled s.world → step s (send_call own) ≡ Some (send_step s own.pending h.port)
 send-made s session own h settled =
     let name : is_switch_port_name h.port.name ≡ true = ap is_switch_port_name h.name_is ∙ h.on_switch in
     rw (h.there, name, settled-all s.world h.port.session settled, pending-sendable s.world.ports session own h) refl
@@ -98,7 +98,7 @@ pub send-owes_some : (b : Recorded) (own : OwnPort) (entry short lone : ℕ) (to
 send-owes_some b own entry short lone to can number said =
     record { session = can.has.port.session; owes = send-owes b own entry short lone to can (number ∙ send-count b own can) said }
 
-nothing-owed : (w : World) (session origin : ℕ) → Owes w session origin [] → IsSettled w
+nothing-owed : (w : World) (session origin : ℕ) → Owes w session origin [] → AllSettled w
 nothing-owed w session origin owes = record { offers = none w.offers owes.offers; leases = owes.leases }
   where
     none : (offers : List Offer) → dests_of offers ≡ [] → offers ≡ []

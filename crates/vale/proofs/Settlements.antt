@@ -21,7 +21,7 @@ use Rattle.vale_entry.proofs.Worlds.{standing-push, count-world_of}
 use Rattle.vale_book.specs.Recorded.{Recorded, standing, entry_of, with_step, after_ask, after_outcome, reply_of}
 use Rattle.vale.specs.Machine.{Machine, next_call, resting, at_rest, answered, owed_lot, next_offer, done_call}
 use Rattle.vale.specs.Owned.{Owns, Owes, IsDoneLot, HasDoneLots}
-use Rattle.vale.specs.Steps.{Runs, Settles, OwesFirst, OwesSome, SettlesOne}
+use Rattle.vale.specs.Steps.{GoesOn, Settles, OwesFirst, OwesSome, SettlesOne}
 use Rattle.vale.proofs.Turns.{runs-none, runs-step, runs-then}
 use Rattle.vale.proofs.Owning.{LooksAs, has-changed_at, has-mapped, KeepsOwned, owns-kept}
 
@@ -311,9 +311,9 @@ call-done t session origin number rest user l is =
 
 -- one entry that settles
 settle-runs : (b : Recorded) (ask : Ask) (made : Outcome) (user : Machine) → answered (standing b) (entry_of ask made) user ≡ user → user.lines ≡ [] → next_call (standing b) user ≡ Some ask
-    → Runs b (with_step b ask made) user user
+    → GoesOn b (with_step b ask made) user user
 settle-runs b ask made user same idle called =
-    subst (λ (m : Machine). Runs b (with_step b ask made) user m) (ap resting same ∙ resting-idle user idle) (runs-step b user ask made called)
+    subst (λ (m : Machine). GoesOn b (with_step b ask made) user m) (ap resting same ∙ resting-idle user idle) (runs-step b user ask made called)
 
 some-same : {X : Type 0} (x y : X) → Some x ≡ Some y → x ≡ y
 some-same x y e = cc
@@ -382,7 +382,7 @@ settles-leased b origin to given full gone said some session first rest first_to
     subst (λ (n : Recorded). Settles b n session × Owes (standing n).world session origin rest) (sym is_new) (
       record {
         runs = λ user is idle. runs-then b middle (with_step middle end finished) user user user
-            (subst (λ (m : Recorded). Runs b m user user) (sym is_middle) (settle-runs b ask made user refl idle (call-grant s session origin to rest user g owes.leases is)))
+            (subst (λ (m : Recorded). GoesOn b m user user) (sym is_middle) (settle-runs b ask made user refl idle (call-grant s session origin to rest user g owes.leases is)))
             (settle-runs middle end finished user refl idle (call-done t session origin number rest user l is));
         keeps = λ user owns.
             let between : Owns t user = subst (λ (x : Standing). Owns x user) (sym now) (owns-kept s (standing_with s (entry_of ask made) made.next) user (grant-keeps s g.offer (entry_of ask made)) owns) in

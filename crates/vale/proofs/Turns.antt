@@ -10,7 +10,7 @@ use Rattle.vale_entry.specs.Legal.{Standing, Outcome, standing_of}
 use Rattle.vale_book.specs.Recorded.{Recorded, standing, entry_of, with_step}
 use Rattle.vale.specs.Machine.{Machine, next_call, answered, resting}
 use Rattle.vale.specs.Replay.{TakesTurn, TakesTurns, standing_before}
-use Rattle.vale.specs.Steps.{Runs}
+use Rattle.vale.specs.Steps.{GoesOn}
 
 slice_get-append : {X : Type 0} (xs ys : List X) (i : ℕ) (x : X) → slice_get xs i ≡ Some x → slice_get (xs ++ ys) i ≡ Some x
 slice_get-append [] ys i x e = absurd cc
@@ -75,12 +75,12 @@ turn-next pool history before ask made called =
     }
 
 -- no entry
-pub runs-none : (book : Recorded) (user : Machine) → Runs book book user user
+pub runs-none : (book : Recorded) (user : Machine) → GoesOn book book user user
 runs-none book user = record { more = []; grown = ap (λ (es : List Entry). record book { entries = es }) (sym (append-nil book.entries)); turns = refl }
 
 -- one entry
 pub runs-step : (book : Recorded) (user : Machine) (ask : Ask) (made : Outcome) → next_call (standing book) user ≡ Some ask
-    → Runs book (with_step book ask made) user (resting (answered (standing book) (entry_of ask made) user))
+    → GoesOn book (with_step book ask made) user (resting (answered (standing book) (entry_of ask made) user))
 runs-step book user ask made called = record {
   more = entry_of ask made ∷ [];
   grown = refl;
@@ -88,7 +88,7 @@ runs-step book user ask made called = record {
 }
 
 -- one after the other
-pub runs-then : (old middle new : Recorded) (before between after : Machine) → Runs old middle before between → Runs middle new between after → Runs old new before after
+pub runs-then : (old middle new : Recorded) (before between after : Machine) → GoesOn old middle before between → GoesOn middle new between after → GoesOn old new before after
 runs-then old middle new before between after front back =
     let pool_is : middle.pool ≡ old.pool = ap (λ (b : Recorded). b.pool) front.grown in
     let middle_is : middle.entries ≡ old.entries ++ front.more = ap (λ (b : Recorded). b.entries) front.grown in

@@ -1,6 +1,8 @@
 -- One user's machine: what is the user's own, what its lines do by themselves, and the call that they
--- need next. What is offered to the user and what it has leased stands in the world, and is read there.
-use Rattle.std.specs.Prelude.{ℕ, Bool, true, false, ◌+◌, ◌-◌, nat_le, if◌then◌else◌, List, [], ◌∷◌, ◌++◌, length, find, flat_map, Option, Some, None, is_some, option_map, option_and_then, unwrap_or, bytes_eq, ◌==◌}
+-- need next. The offers of its session that are not granted, and its leases that are not done, stand in
+-- the world and are read there.
+use Rattle.std.specs.Prelude.{ℕ, Bool, true, false, not, ◌+◌, ◌-◌, nat_le, if◌then◌else◌, List, [], ◌∷◌, ◌++◌, length, find, flat_map, Option, Some, None, is_some, option_map, option_and_then, unwrap_or, bytes_eq, ◌==◌}
+use Rattle.std.specs.Option.{option_or}
 use Rattle.nm_types.specs.Frames.{Frame}
 use Rattle.nm_types.specs.declared.id.SessionId.{SessionId}
 use Rattle.vale_entry.specs.declared.entry.Ask.{Ask}
@@ -105,12 +107,8 @@ owed_lot w session = find (is_owed_by session) (flat_map line_of w.ports)
 abbrev pub next_offer : World → ℕ → Option Offer
 next_offer w session = find (λ (offer : Offer). offer.session == session) w.offers
 
-abbrev pub first_of : Option Ask → Option Ask → Option Ask
-first_of (Some ask) other = Some ask
-first_of None other = other
-
 abbrev pub settling_call : World → SessionId → Option Ask
-settling_call w session = first_of (option_map done_call (owed_lot w session.0)) (option_map grant_call (next_offer w session.0))
+settling_call w session = option_or (option_map done_call (owed_lot w session.0)) (option_map grant_call (next_offer w session.0))
 
 abbrev pub call_of_lines : Machine → List Act → Option Ask
 call_of_lines user [] = None
@@ -118,7 +116,7 @@ call_of_lines user (line ∷ lines) = call_of_line user line
 
 -- the next call of a resting user; none where its lines have ended and it is settled
 abbrev pub next_call : Standing → Machine → Option Ask
-next_call s user = first_of (option_and_then (settling_call s.world) user.session) (call_of_lines user user.lines)
+next_call s user = option_or (option_and_then (settling_call s.world) user.session) (call_of_lines user user.lines)
 
 -- what the reply to its call makes of the line under way
 
@@ -152,11 +150,18 @@ got_at s id = unwrap_or (option_map (given_buffers s) (open_port s.world.ports i
 abbrev pub after_sync : Standing → OwnPort → OwnPort
 after_sync s port = synced (got_at s port.id.0) port
 
--- a put that needed a sync still has its frame to put
+-- what a put does next whose ring was sent: it puts its frame, or ends where the ring has no slot still
+abbrev pub has_room : Option OwnPort → Bool
+has_room None = false
+has_room (Some port) = not (is_full port)
+
+abbrev pub put_again : List ℕ → Fill → List OwnPort → List Act → List Act
+put_again name fill ports rest = if has_room (own_port ports name) then acts.Put name fill ∷ rest else rest
+
 abbrev pub after_call : Standing → Reply → Machine → Act → List Act → Machine
 after_call s reply user acts.Enter rest = record (came (s.world.entry_count + 1) user) { lines = rest }
 after_call s reply user (acts.Open name tx rx) rest = record user { ports = ports_after_open (s.world.entry_count + 1) name tx reply user.ports; lines = rest }
-after_call s reply user (acts.Put name fill) rest = record user { ports = with_port name sent user.ports; lines = acts.Put name fill ∷ rest }
+after_call s reply user (acts.Put name fill) rest = record user { ports = with_port name sent user.ports; lines = put_again name fill (with_port name sent user.ports) rest }
 after_call s reply user (acts.Tx name) rest = record user { ports = with_port name sent user.ports; lines = rest }
 after_call s reply user (acts.Rx name) rest = record user { ports = with_port name (after_sync s) user.ports; lines = rest }
 

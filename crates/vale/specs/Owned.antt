@@ -62,7 +62,7 @@ pub record Owes (w : World) (session origin : ℕ) (to : List Dest) : Type 0 whe
   pub leases : Each HasDoneLots w.ports
 
 -- nobody has an offer to grant or a lease to complete
-pub record IsSettled (w : World) : Type 0 where
+pub record AllSettled (w : World) : Type 0 where
   pub offers : w.offers ≡ []
   pub leases : Each HasDoneLots w.ports
 

@@ -1,6 +1,6 @@
 -- The histories that play a script: each user's entries are the calls of its machine, one after
 -- another, and the lines of the script have consecutive ranges of entries.
-use Rattle.std.specs.Prelude.{ℕ, ◌≡◌, ◌+◌, ◌-◌, ◌≤◌, List, [], ◌∷◌, length, map, take, slice_get, slice_set, Some, None}
+use Rattle.std.specs.Prelude.{ℕ, ◌⊎◌, ◌≡◌, ◌+◌, ◌-◌, ◌≤◌, List, [], ◌∷◌, length, map, take, slice_get, slice_set, Some, None}
 use Rattle.std.specs.List.{range_with_len}
 use Rattle.vale_entry.specs.declared.entry.Ask.{Ask}
 use Rattle.vale_entry.specs.declared.entry.Entry.{Entry}
@@ -50,6 +50,7 @@ pub record ReplaysLine (pool : ℕ) (history : List Entry) (users : List Machine
   pub within : last ≤ length history
   pub replays : ReplaysUser pool history (starting line.act before) (numbers_between first last) after
   pub ended : next_call (standing_of pool (take last history)) after ≡ None
+  pub no_line : after.lines ≡ []
   pub others : next ≡ slice_set users (line.user - 1) after
 
 -- lines one after another
@@ -66,9 +67,9 @@ pub record Replays (pool : ℕ) (program : Program) (history : List Entry) : Typ
   pub users : List Machine
   pub lines : ReplaysLines pool history (users_of program) 0 program.lines users (length history)
 
--- the history is that of some lines of the program and of the beginning of the next one, and this is the
--- call that comes then
-pub record IsReplaying (pool : ℕ) (program : Program) (history : List Entry) (call : Ask) : Type 0 where
+-- the history is that of some lines of the program and of the beginning of the next one, whose user it
+-- has brought to this state
+pub record Reaches (pool : ℕ) (program : Program) (history : List Entry) (now : Machine) : Type 0 where
   pub count : ℕ
   pub line : Line
   pub there : slice_get program.lines count ≡ Some line
@@ -77,8 +78,16 @@ pub record IsReplaying (pool : ℕ) (program : Program) (history : List Entry) (
   pub lines : ReplaysLines pool history (users_of program) 0 (take count program.lines) users first
   pub before : Machine
   pub here : slice_get users (line.user - 1) ≡ Some before
-  pub now : Machine
   pub replays : ReplaysUser pool history (starting line.act before) (numbers_between first (length history)) now
+
+-- a history that need not be at its end
+abbrev pub IsReplaying : ℕ → Program → List Entry → Type 0
+IsReplaying pool program history = Replays pool program history ⊎ ((now : Machine) × Reaches pool program history now)
+
+-- the history is under way, and this is the call that comes next
+pub record ComesTo (pool : ℕ) (program : Program) (history : List Entry) (call : Ask) : Type 0 where
+  pub now : Machine
+  pub reached : Reaches pool program history now
   pub called : next_call (standing_of pool history) now ≡ Some call
 
 -- a legal history that plays a program

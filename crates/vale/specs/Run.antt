@@ -18,7 +18,7 @@ use Rattle.vale_entry.specs.declared.entry.Ask.{Ask}
 use Rattle.vale_entry.specs.Legal.{IsLegal}
 use Rattle.vale_book.specs.Recorded.{IsRefusal}
 use Rattle.vale_script.specs.Grammar.{Program, script_of}
-use Rattle.vale.specs.Replay.{Plays, IsReplaying}
+use Rattle.vale.specs.Replay.{Plays, ComesTo}
 
 -- the words `run SCRIPT`, of which this gives the script's name
 abbrev pub script_name : List (List ℕ) → Option (List ℕ)
@@ -42,7 +42,7 @@ pub record StopsFull (pool : ℕ) (limits : Limits) (program : Program) (part : 
   pub history : List Entry
   pub legal : IsLegal pool history
   pub call : Ask
-  pub replaying : IsReplaying pool program history call
+  pub comes : ComesTo pool program history call
   pub used : ℕ
   pub want : ℕ
   pub refused : IsRefusal (record { pool = pool; limits = limits; entries = history }) call (RecordFull part used want)

@@ -22,11 +22,11 @@ use Rattle.vale_script.specs.declared.script.Line.{Line}
 use Rattle.vale_script.specs.Grammar.{Program}
 use Rattle.vale.specs.declared.port.OwnPort.{OwnPort}
 use Rattle.vale.specs.Machine.{Machine, next_call, is_full, sent, with_frame, send_call, sync_call}
-use Rattle.vale.specs.Replay.{TakesTurns, starting, users_of, ReplaysLine, ReplaysLines, Replays, IsReplaying}
-use Rattle.vale.specs.Owned.{HasPort, Owns, Owes, IsSettled, AreApart}
+use Rattle.vale.specs.Replay.{TakesTurns, starting, users_of, ReplaysLine, ReplaysLines, Replays, ComesTo}
+use Rattle.vale.specs.Owned.{HasPort, Owns, Owes, AllSettled, AreApart}
 
 -- with some entries more, all of them the user's
-pub record Runs (old new : Recorded) (before after : Machine) : Type 0 where
+pub record GoesOn (old new : Recorded) (before after : Machine) : Type 0 where
   pub more : List Entry
   pub grown : new ≡ record old { entries = old.entries ++ more }
   pub turns : TakesTurns old.pool new.entries before (range_with_len (length old.entries + 1) (length more)) after
@@ -37,7 +37,7 @@ Keeps old new user = Owns (standing old) user → Owns (standing new) user
 
 -- entries that only settle a session, whose user stays as it is
 pub record Settles (old new : Recorded) (session : ℕ) : Type 0 where
-  pub runs : (user : Machine) → user.session ≡ Some (record { 0 = session }) → user.lines ≡ [] → Runs old new user user
+  pub runs : (user : Machine) → user.session ≡ Some (record { 0 = session }) → user.lines ≡ [] → GoesOn old new user user
   pub keeps : (user : Machine) → Keeps old new user
 
 -- some session owes this: what is owed first is owed to this port
@@ -66,13 +66,13 @@ SettlesAll old new origin to =
 pub record CanCall (s : Standing) (own : OwnPort) : Type 0 where
   pub session : ℕ
   pub has : HasPort s.world.ports session own
-  pub settled : IsSettled s.world
+  pub settled : AllSettled s.world
 
 -- the same, and its session holds what its receive ring holds
 pub record CanSync (s : Standing) (own : OwnPort) : Type 0 where
   pub session : ℕ
   pub has : HasPort s.world.ports session own
-  pub settled : IsSettled s.world
+  pub settled : AllSettled s.world
   pub held : holds_all s.holdings session own.received ≡ true
 
 -- what lies in a transmit ring was sent, and what the send owes was settled
@@ -80,7 +80,7 @@ pub record Sends (old new : Recorded) (own : OwnPort) : Type 0 where
   pub made : Outcome
   pub made_is : step (standing old) (send_call own) ≡ Some made
   pub settles : Settles (with_step old (send_call own) made) new made.session
-  pub settled : IsSettled (standing new).world
+  pub settled : AllSettled (standing new).world
   pub keeps : (user : Machine) → Keeps old new user
 
 -- a frame was put into a transmit ring, which was sent before where it was full
@@ -109,12 +109,13 @@ StaysOrComes old before after = (after.session ≡ before.session) ⊎ (after.se
 
 -- a user ran a line
 pub record RunsLine (old new : Recorded) (act : Act) (before after : Machine) : Type 0 where
-  pub runs : Runs old new (starting act before) after
+  pub runs : GoesOn old new (starting act before) after
   pub ended : next_call (standing new) after ≡ None
   pub owns : Owns (standing new) after
-  pub settled : IsSettled (standing new).world
+  pub settled : AllSettled (standing new).world
   pub others : (other : Machine) → IsOther after other → Keeps old new other
   pub session : StaysOrComes old before after
+  pub idle : after.lines ≡ []
 
 -- the record is full for the call of a line: nothing was recorded
 pub record IsFullAt (book : Recorded) (act : Act) (before : Machine) (fault : StepFault) : Type 0 where
@@ -140,7 +141,7 @@ stop_of opens.NoMemory = Err NoMemory
 pub record IsBetweenLines (book : Recorded) (users : List Machine) : Type 0 where
   pub owns : Each (Owns (standing book)) users
   pub apart : AreApart users
-  pub settled : IsSettled (standing book).world
+  pub settled : AllSettled (standing book).world
 
 -- a user's line was run
 pub record RanLine (old new : Recorded) (users : List Machine) (line : Line) (next : List Machine) : Type 0 where
@@ -151,13 +152,13 @@ pub record RanLine (old new : Recorded) (users : List Machine) (line : Line) (ne
   pub count : length next ≡ length users
 
 -- the record is full for the call of a user's line
-pub record IsFullFor (book : Recorded) (users : List Machine) (line : Line) (fault : StepFault) : Type 0 where
+pub record IsFullForUser (book : Recorded) (users : List Machine) (line : Line) (fault : StepFault) : Type 0 where
   pub before : Machine
   pub here : slice_get users (line.user - 1) ≡ Some before
   pub full : IsFullAt book line.act before fault
 
 abbrev pub StopsRun : Recorded → Recorded → List Machine → Line → StepFault → Type 0
-StopsRun old new users line (RecordFull what used want) = (new ≡ old) × IsFullFor old users line (RecordFull what used want)
+StopsRun old new users line (RecordFull what used want) = (new ≡ old) × IsFullForUser old users line (RecordFull what used want)
 StopsRun old new users line NoMemory = Unit {0}
 
 -- lines were run from the beginning, over a pool and within limits
@@ -179,7 +180,7 @@ pub record IsFull (old new : Recorded) (program : Program) (fault : StepFault) :
   pub pool_is : new.pool ≡ old.pool
   pub limits_are : new.limits ≡ old.limits
   pub call : Ask
-  pub replaying : IsReplaying new.pool program new.entries call
+  pub comes : ComesTo new.pool program new.entries call
   pub refused : IsRefusal new call fault
 
 abbrev pub StopsProgram : Recorded → Recorded → Program → StepFault → Type 0

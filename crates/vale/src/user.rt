@@ -4,7 +4,7 @@ ghost use Rattle.nm_types.specs.Names.{is_switch_port_name};
 ghost use Rattle.vale_script.specs.declared.script.Act.TheVariants as acts;
 ghost use Rattle.vale_book.specs.Recorded.{standing};
 ghost use Rattle.vale.specs.Machine.{is_named};
-ghost use Rattle.vale.specs.Owned.{Owns, IsSettled};
+ghost use Rattle.vale.specs.Owned.{Owns, AllSettled};
 ghost use Rattle.vale_script.specs.Sound.{IsSoundAct};
 ghost use Rattle.vale.specs.Steps.{RunsLine, StopsLine, stop_of};
 
@@ -77,7 +77,7 @@ impl User {
     #[tactic(auto, using(crate::proofs::Arrivals::arrivals))]
     fn enter(&mut self, alloc: Global, book: &mut Book) -> Result<(), StepFault>
         requires owns { Owns (standing book.old) self.old }
-        requires settled { IsSettled (standing book.old).world }
+        requires settled { AllSettled (standing book.old).world }
         ensures ran { OnOk result (RunsLine book.old book.new acts.Enter self.old self.new) }
         ensures stopped { IfErr result (StopsLine book.old book.new acts.Enter self.old) }
     {
@@ -101,7 +101,7 @@ impl User {
         rx: u32,
     ) -> Result<(), StepFault>
         requires owns { Owns (standing book.old) self.old }
-        requires settled { IsSettled (standing book.old).world }
+        requires settled { AllSettled (standing book.old).world }
         requires sound { IsSoundAct (acts.Open name tx rx) }
         ensures ran { OnOk result (RunsLine book.old book.new (acts.Open name tx rx) self.old self.new) }
         ensures stopped { IfErr result (StopsLine book.old book.new (acts.Open name tx rx) self.old) }
@@ -133,7 +133,7 @@ impl User {
         fill: &Fill,
     ) -> Result<(), StepFault>
         requires owns { Owns (standing book.old) self.old }
-        requires settled { IsSettled (standing book.old).world }
+        requires settled { AllSettled (standing book.old).world }
         requires sound { IsSoundAct (acts.Put name fill.now) }
         ensures ran { OnOk result (RunsLine book.old book.new (acts.Put name fill.now) self.old self.new) }
         ensures stopped { IfErr result (StopsLine book.old book.new (acts.Put name fill.now) self.old) }
@@ -147,7 +147,7 @@ impl User {
     #[tactic(auto, using(crate::proofs::Transmits::transmits))]
     fn tx(&mut self, alloc: Global, book: &mut Book, name: Name) -> Result<(), StepFault>
         requires owns { Owns (standing book.old) self.old }
-        requires settled { IsSettled (standing book.old).world }
+        requires settled { AllSettled (standing book.old).world }
         ensures ran { OnOk result (RunsLine book.old book.new (acts.Tx name) self.old self.new) }
         ensures stopped { IfErr result (StopsLine book.old book.new (acts.Tx name) self.old) }
     {
@@ -160,7 +160,7 @@ impl User {
     #[tactic(auto, using(crate::proofs::Receives::receives))]
     fn rx(&mut self, alloc: Global, book: &mut Book, name: Name) -> Result<(), StepFault>
         requires owns { Owns (standing book.old) self.old }
-        requires settled { IsSettled (standing book.old).world }
+        requires settled { AllSettled (standing book.old).world }
         ensures ran { OnOk result (RunsLine book.old book.new (acts.Rx name) self.old self.new) }
         ensures stopped { IfErr result (StopsLine book.old book.new (acts.Rx name) self.old) }
     {
@@ -177,7 +177,7 @@ impl User {
     /// Runs a line of its own.
     pub fn run(&mut self, alloc: Global, book: &mut Book, act: &Act) -> Result<(), StepFault>
         requires owns { Owns (standing book.old) self.old }
-        requires settled { IsSettled (standing book.old).world }
+        requires settled { AllSettled (standing book.old).world }
         requires sound { IsSoundAct act.now }
         ensures ran { OnOk result (RunsLine book.old book.new act.now self.old self.new) }
         ensures stopped { IfErr result (StopsLine book.old book.new act.now self.old) }

@@ -1,4 +1,4 @@
--- What the lines of a script that was accepted keep: their ranges.
+-- What a run of the lines of an accepted script stands on.
 use Rattle.std.specs.Prelude.{ℕ, true, ◌≡◌, ◌≤◌}
 use Rattle.std.specs.List.{AllByRecursion as Each}
 use Rattle.nm_types.specs.Names.{is_switch_port_name}
@@ -19,6 +19,7 @@ pub record IsSoundLine (users : ℕ) (line : Line) : Type 0 where
   pub most : line.user ≤ users
   pub act : IsSoundAct line.act
 
--- each line is of a declared user, and its numbers and names are in their ranges
+-- each line is of a declared user, its port has a switch port's name and a transmit ring that can be sent
+-- at once, and its frame fits a buffer
 abbrev pub IsSound : Program → Type 0
 IsSound program = Each (IsSoundLine program.users) program.lines
