@@ -107,72 +107,28 @@ fn ring_goes_round(rt: HostRuntime) {
     assert!(rt; ring.head() == 9 && ring.cur() == 9 && ring.tail() == 8);
 }
 
+/// A head that is not among the slots from 0 to this one.
+fn head_out(head: u32, to: u32) -> RingFault {
+    RingFault::HeadOut { head, from: 0, to }
+}
+
+/// A cur that is not among the slots from this one to 3.
+fn cur_out(cur: u32, from: u32) -> RingFault {
+    RingFault::CurOut { cur, from, to: 3 }
+}
+
 #[test]
 fn bad_positions_reset(rt: HostRuntime) {
     let rx = Ring::rx(4);
     let tx = Ring::tx(4);
     let last = u32::MAX;
     let refused = [
-        (
-            rx,
-            1,
-            1,
-            RingFault::HeadOut {
-                head: 1,
-                from: 0,
-                to: 0,
-            },
-        ),
-        (
-            tx,
-            2,
-            1,
-            RingFault::CurOut {
-                cur: 1,
-                from: 2,
-                to: 3,
-            },
-        ),
-        (
-            tx,
-            4,
-            4,
-            RingFault::HeadOut {
-                head: 4,
-                from: 0,
-                to: 3,
-            },
-        ),
-        (
-            tx,
-            last,
-            0,
-            RingFault::HeadOut {
-                head: last,
-                from: 0,
-                to: 3,
-            },
-        ),
-        (
-            tx,
-            0,
-            last,
-            RingFault::CurOut {
-                cur: last,
-                from: 0,
-                to: 3,
-            },
-        ),
-        (
-            rx,
-            last,
-            last,
-            RingFault::HeadOut {
-                head: last,
-                from: 0,
-                to: 0,
-            },
-        ),
+        (rx, 1, 1, head_out(1, 0)),
+        (tx, 2, 1, cur_out(1, 2)),
+        (tx, 4, 4, head_out(4, 3)),
+        (tx, last, 0, head_out(last, 3)),
+        (tx, 0, last, cur_out(last, 0)),
+        (rx, last, last, head_out(last, 0)),
     ];
     for (opened, head, cur, fault) in refused {
         let mut ring = opened;

@@ -1,6 +1,7 @@
 use crate::{Seen, Slot, SlotFault, judge};
 use bitflags::Flags;
 use nm_types::{Side, SlotFlags};
+use std::process::Abort;
 
 /// A slot whose address is 0.
 fn slot(buf_idx: u32, flags: u16, len: u16) -> Slot {
@@ -22,117 +23,163 @@ fn seen(was: u32, held: bool, doubled: bool) -> Seen {
     }
 }
 
-/// A port with transmit buffers 2 to 5 and receive buffers 6 to 9: one frame is put, its slot is
-/// changed, and the ring is synced.
-#[test]
-fn bad_slots(rt: HostRuntime) {
-    let refused = [
-        (
-            0,
-            slot(1, 0, 14),
-            seen(2, false, false),
-            SlotFault::IndexOut { slot: 0, idx: 1 },
-        ),
-        (
-            0,
-            slot(66, 0, 14),
-            seen(2, false, false),
-            SlotFault::IndexOut { slot: 0, idx: 66 },
-        ),
-        (
-            0,
-            slot(6, 0, 14),
-            seen(2, false, false),
-            SlotFault::NotHeld { slot: 0, idx: 6 },
-        ),
-        (
-            0,
-            slot(2, 0, 2049),
-            seen(2, true, false),
-            SlotFault::LongLen { slot: 0, len: 2049 },
-        ),
-        (
-            0,
-            slot(2, 16, 14),
-            seen(2, true, false),
-            SlotFault::Indirect { slot: 0 },
-        ),
-        (
-            0,
-            slot(2, 32, 14),
-            seen(2, true, false),
-            SlotFault::Fragment { slot: 0 },
-        ),
-        (
-            1,
-            slot(2, 1, 14),
-            seen(3, true, true),
-            SlotFault::Doubled { slot: 1, idx: 2 },
-        ),
-        (
-            0,
-            slot(14, 0, 14),
-            seen(10, true, false),
-            SlotFault::Unannounced {
-                slot: 0,
-                idx: 14,
-                was: 10,
-            },
-        ),
-    ];
-    for (at, slot, seen, fault) in refused {
+/// Each of these slots, at its place of the ring, is refused for this fault.
+fn refused(rt: &impl Abort, cases: &[(u32, Slot, Seen, SlotFault)]) {
+    for (at, slot, seen, fault) in cases {
         assert!(rt;
-            judge(at, &slot, &seen, Side::Tx) == Err(fault),
+            judge(*at, slot, seen, Side::Tx) == Err(*fault),
             "{fault:?}"
         );
     }
 }
 
-/// Each slot is refused for the first of its faults, which the one after it no longer has.
+// A port with transmit buffers 2 to 5 and receive buffers 6 to 9: one frame is put, its slot is
+// changed, and the ring is synced.
+
+#[test]
+fn bad_indices(rt: HostRuntime) {
+    refused(
+        &rt,
+        &[
+            (
+                0,
+                slot(1, 0, 14),
+                seen(2, false, false),
+                SlotFault::IndexOut { slot: 0, idx: 1 },
+            ),
+            (
+                0,
+                slot(66, 0, 14),
+                seen(2, false, false),
+                SlotFault::IndexOut { slot: 0, idx: 66 },
+            ),
+            (
+                0,
+                slot(6, 0, 14),
+                seen(2, false, false),
+                SlotFault::NotHeld { slot: 0, idx: 6 },
+            ),
+        ],
+    );
+}
+
+#[test]
+fn bad_lengths_and_flags(rt: HostRuntime) {
+    refused(
+        &rt,
+        &[
+            (
+                0,
+                slot(2, 0, 2049),
+                seen(2, true, false),
+                SlotFault::LongLen { slot: 0, len: 2049 },
+            ),
+            (
+                0,
+                slot(2, 16, 14),
+                seen(2, true, false),
+                SlotFault::Indirect { slot: 0 },
+            ),
+            (
+                0,
+                slot(2, 32, 14),
+                seen(2, true, false),
+                SlotFault::Fragment { slot: 0 },
+            ),
+        ],
+    );
+}
+
+#[test]
+fn bad_exchanges(rt: HostRuntime) {
+    refused(
+        &rt,
+        &[
+            (
+                1,
+                slot(2, 1, 14),
+                seen(3, true, true),
+                SlotFault::Doubled { slot: 1, idx: 2 },
+            ),
+            (
+                0,
+                slot(14, 0, 14),
+                seen(10, true, false),
+                SlotFault::Unannounced {
+                    slot: 0,
+                    idx: 14,
+                    was: 10,
+                },
+            ),
+        ],
+    );
+}
+
+// Each slot is refused for the first of its faults, which the one after it no longer has.
+
 #[test]
 fn first_fault_is_told(rt: HostRuntime) {
-    let every = slot(66, 48, 2049);
     let known = slot(5, 32, 2049);
-    let refused = [
-        (every, seen(2, false, true), SlotFault::Indirect { slot: 7 }),
-        (
-            slot(66, 32, 2049),
-            seen(2, false, true),
-            SlotFault::IndexOut { slot: 7, idx: 66 },
-        ),
-        (
-            known,
-            seen(2, false, true),
-            SlotFault::NotHeld { slot: 7, idx: 5 },
-        ),
-        (
-            known,
-            seen(2, true, true),
-            SlotFault::Doubled { slot: 7, idx: 5 },
-        ),
-        (
-            known,
-            seen(2, true, false),
-            SlotFault::Unannounced {
-                slot: 7,
-                idx: 5,
-                was: 2,
-            },
-        ),
-        (
-            slot(5, 33, 2049),
-            seen(2, true, false),
-            SlotFault::LongLen { slot: 7, len: 2049 },
-        ),
-        (
-            slot(5, 33, 2048),
-            seen(2, true, false),
-            SlotFault::Fragment { slot: 7 },
-        ),
-    ];
-    for (slot, seen, fault) in refused {
-        assert!(rt; judge(7, &slot, &seen, Side::Tx) == Err(fault), "{fault:?}");
-    }
+    refused(
+        &rt,
+        &[
+            (
+                7,
+                slot(66, 48, 2049),
+                seen(2, false, true),
+                SlotFault::Indirect { slot: 7 },
+            ),
+            (
+                7,
+                slot(66, 32, 2049),
+                seen(2, false, true),
+                SlotFault::IndexOut { slot: 7, idx: 66 },
+            ),
+            (
+                7,
+                known,
+                seen(2, false, true),
+                SlotFault::NotHeld { slot: 7, idx: 5 },
+            ),
+            (
+                7,
+                known,
+                seen(2, true, true),
+                SlotFault::Doubled { slot: 7, idx: 5 },
+            ),
+        ],
+    );
+}
+
+#[test]
+fn last_faults_are_told(rt: HostRuntime) {
+    refused(
+        &rt,
+        &[
+            (
+                7,
+                slot(5, 32, 2049),
+                seen(2, true, false),
+                SlotFault::Unannounced {
+                    slot: 7,
+                    idx: 5,
+                    was: 2,
+                },
+            ),
+            (
+                7,
+                slot(5, 33, 2049),
+                seen(2, true, false),
+                SlotFault::LongLen { slot: 7, len: 2049 },
+            ),
+            (
+                7,
+                slot(5, 33, 2048),
+                seen(2, true, false),
+                SlotFault::Fragment { slot: 7 },
+            ),
+        ],
+    );
 }
 
 /// The first and the last buffer, a whole buffer of bytes, an announced buffer, other flags.

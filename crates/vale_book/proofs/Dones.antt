@@ -6,7 +6,7 @@ use Rattle.vale_entry.specs.declared.entry.Entry.{Entry}
 use Rattle.vale_entry.specs.World.{World, Pair, Offer, Lot}
 use Rattle.vale_entry.specs.Delivery.{lease_at, ports_after_done}
 use Rattle.vale_entry.specs.Legal.{Outcome, standing_of, world_of, done_step_at}
-use Rattle.vale_book.specs.Seat.{Seat, port_of, held_of}
+use Rattle.vale_world.specs.Seat.{Seat, port_of, held_of}
 use Rattle.vale_book.specs.Parts.{Stands}
 use Rattle.vale_book.proofs.Stands.{stands-next, owed-next}
 

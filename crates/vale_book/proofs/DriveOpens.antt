@@ -18,11 +18,12 @@ use Rattle.vale_entry.specs.Laws.{id_of_session}
 use Rattle.vale_entry.proofs.Agreeing.{SessionPlace, given-place}
 use Rattle.vale_entry.proofs.HistoryLaws.{history-stands}
 use Rattle.vale_entry.proofs.HistoryPlaces.{users-rise}
-use Rattle.vale_book.specs.declared.session.Session.{Session}
-use Rattle.vale_book.specs.Sessions.{held_by, IsPlaceOf, AreHeldAt}
+use Rattle.vale_world.specs.declared.session.Session.{Session}
+use Rattle.vale_world.specs.Sessions.{held_by, IsPlaceOf, AreHeldAt}
 use Rattle.vale_book.specs.Recorded.{Recorded, standing, after_ask, after_outcome}
 use Rattle.vale_book.specs.OpenAnswers.{IsRecordedAs, IsUnopened}
-use Rattle.vale_book.proofs.OpenSteps.{sizes-fit, open-made}
+use Rattle.vale_world.proofs.PortSizes.{sizes-fit}
+use Rattle.vale_book.proofs.OpenSteps.{open-made}
 use Rattle.vale_book.proofs.Drives.{sessions-step}
 
 -- the ids of the sessions of a drive are those of its world

@@ -13,8 +13,8 @@ use Rattle.vale_entry.proofs.Numbered.{world-numbered}
 use Rattle.vale_entry.proofs.Each.{each-find}
 use Rattle.vale_entry.proofs.Agreeing.{SessionPlace, moved-place}
 use Rattle.vale_entry.proofs.HistoryPlaces.{users-rise, buffers_of_session-world}
-use Rattle.vale_book.specs.declared.session.Session.{Session}
-use Rattle.vale_book.specs.Sessions.{held_by, IsPlaceOf, AreHeldAt}
+use Rattle.vale_world.specs.declared.session.Session.{Session}
+use Rattle.vale_world.specs.Sessions.{held_by, IsPlaceOf, AreHeldAt}
 use Rattle.vale_book.specs.Recorded.{Recorded, standing, after_ask}
 use Rattle.vale_book.specs.Syncing.{session_of_port, given_buffers}
 use Rattle.vale_book.proofs.Syncs.{sessions-after_sync}

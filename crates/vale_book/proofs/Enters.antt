@@ -9,7 +9,7 @@ use Rattle.vale_entry.specs.Legal.{Standing, standing_of, world_of, IsLegal, aft
 use Rattle.vale_entry.specs.Room.{promised_of}
 use Rattle.vale_entry.proofs.Worlds.{standing-push, count-world_of, legal-push}
 use Rattle.vale_book.specs.Recorded.{entry_of}
-use Rattle.vale_book.specs.Seat.{Seat}
+use Rattle.vale_world.specs.Seat.{Seat}
 use Rattle.vale_book.specs.Parts.{Stands}
 
 pub entry-enter : (pool : ℕ) (h : List Entry) (user : ℕ) → entry_of (Enter user) (enter_step (standing_of pool h)) ≡ (record { session = record { 0 = length h + 1 }; ask = Enter user; reply = Made })

@@ -22,7 +22,7 @@ use Rattle.vale_entry.proofs.Each.{changed_at-same}
 use Rattle.vale_entry.proofs.ListLaws.{place-of}
 use Rattle.nm_types.specs.declared.id.PortId.{PortId}
 use Rattle.vale_book.specs.Recorded.{Recorded, standing, after_ask, after_outcome, entry_of, reply_of}
-use Rattle.vale_book.specs.Seat.{Seat, port_of, held_of, seat_given}
+use Rattle.vale_world.specs.Seat.{Seat, port_of, held_of, seat_given}
 use Rattle.vale_book.specs.Parts.{Stands}
 use Rattle.vale_book.proofs.Stands.{stands-next}
 

@@ -6,7 +6,7 @@ use Rattle.vale_entry.specs.World.{Pair, Offer, free_count}
 use Rattle.vale_entry.specs.Legal.{Outcome, step, world_of}
 use Rattle.vale_entry.proofs.HistoryLaws.{free-rises}
 use Rattle.vale_entry.specs.Room.{room_used}
-use Rattle.vale_book.specs.Seat.{Seat}
+use Rattle.vale_world.specs.Seat.{Seat}
 use Rattle.vale_book.specs.Parts.{Stands}
 use Rattle.vale_book.specs.Recorded.{Recorded, standing, room_by, HasRoom, IsWithinLimits}
 

@@ -1,12 +1,9 @@
 -- Open: why it is refused, and what stands after it.
-use Rattle.std.proofs.Common.{ℕ, List, [], ◌∷◌, ◌++◌, ◌≡◌, ◌≤◌, ◌+◌, ◌==◌, ◌&&◌, not, nat_le, nat_lt, Bool, true, false, cond, length, map, take, drop, refl, sym, ◌∙◌, ap, arith, Option, Some, None, IsSome, subst}
+use Rattle.std.proofs.Common.{ℕ, List, [], ◌∷◌, ◌++◌, ◌≡◌, ◌≤◌, ◌+◌, not, nat_lt, Bool, true, false, cond, length, map, take, drop, refl, sym, ◌∙◌, ap, arith, Option, Some, None, IsSome, subst}
 use Rattle.std.specs.List.{list_any}
-use Rattle.std.proofs.lemmas.List.{map-append}
-use Rattle.std.proofs.lemmas.Bool.{and_parts, leb-true, eqb-true}
-use Rattle.nm_types.specs.Names.{is_monitor_name}
 use Rattle.nm_types.specs.declared.fault.OpenFault.{OpenFault}
 use Rattle.nm_types.specs.declared.fault.OpenFault.TheVariants.{BadSize, SwitchesFull, PortsFull, NameTaken, NoBuffers, RecordFull, NoMemory}
-use Rattle.vale_entry.specs.Opening.{is_ring_size, are_sizes, finds_switches_full, finds_ports_full, has_name, name_refusal, refusal_or_room, open_refusal, opened_port}
+use Rattle.vale_entry.specs.Opening.{are_sizes, finds_switches_full, finds_ports_full, has_name, name_refusal, refusal_or_room, open_refusal, opened_port}
 use Rattle.nm_types.specs.declared.fault.StepFault.{StepFault}
 use Rattle.nm_types.specs.declared.fault.StepFault.TheVariants as steps
 use Rattle.nm_types.specs.Faults.{open_fault_of}
@@ -14,42 +11,19 @@ use Rattle.vale_entry.specs.declared.entry.Ask.{Ask}
 use Rattle.vale_entry.specs.declared.entry.Ask.TheVariants.{Open}
 use Rattle.vale_entry.specs.declared.entry.Reply.TheVariants.{Opened, Refused}
 use Rattle.vale_entry.specs.declared.entry.Entry.{Entry}
-use Rattle.vale_entry.specs.World.{World, Port, Pair, Offer, is_session, free_count}
+use Rattle.vale_entry.specs.World.{World, Pair, Offer, is_session, free_count}
 use Rattle.vale_entry.specs.Legal.{Standing, Outcome, standing_of, world_of, open_step_by, open_step, step, IsEnabled}
 use Rattle.vale_entry.specs.Room.{promised_of, room_wanted, bytes_of}
 use Rattle.vale_entry.specs.Stored.{Stored, Fits}
 use Rattle.vale_entry.proofs.Roomy.{opened-room}
 use Rattle.vale_entry.proofs.HistoryLaws.{free-rises}
 use Rattle.vale_entry.proofs.Worlds.{count-world_of}
-use Rattle.vale_book.specs.Seat.{Seat, port_of, held_of}
+use Rattle.vale_world.specs.Seat.{Seat, port_of, held_of}
 use Rattle.vale_book.specs.Parts.{Stands}
 use Rattle.vale_book.specs.Recorded.{Recorded, IsRefusal, entry_of}
 use Rattle.vale_book.specs.OpenAnswers.{IsRecordedAs, IsUnopened}
+use Rattle.vale_world.proofs.PortSizes.{sizes-fit}
 use Rattle.vale_book.proofs.Stands.{stands-next}
-
--- a name that is not refused has sizes in range
-sizes_by : (b : Bool) (rest : Option OpenFault) → cond (not b) (Some BadSize) rest ≡ None → b ≡ true
-sizes_by true rest e = refl
-sizes_by false rest e = absurd cc
-
-tx_small : (tx : ℕ) (monitor : Bool) → cond monitor (tx == 0) (is_ring_size tx) ≡ true → tx ≤ 1024
-tx_small tx true e = let none = eqb-true tx 0 e in omega (arith, none)
-tx_small tx false e = leb-true tx 1024 (and_parts (nat_le 2 tx) (nat_le tx 1024) e).1
-
-pub sizes-fit : (ports : List Port) (name : List ℕ) (tx rx extra : ℕ) → None ≡ name_refusal ports name tx rx extra
-    → (tx ≤ 1024) × (2 ≤ rx) × (rx ≤ 1024) × (extra ≤ 1024)
-sizes-fit ports name tx rx extra e =
-    let sizes = sizes_by (are_sizes name tx rx extra) _ (sym e) in
-    let rings = and_parts _ (is_ring_size rx && nat_le extra 1024) sizes in
-    let ring = and_parts (is_ring_size rx) (nat_le extra 1024) rings.1 in
-    let bounds = and_parts (nat_le 2 rx) (nat_le rx 1024) ring.0 in
-    (tx_small tx (is_monitor_name name) rings.0, leb-true 2 rx bounds.0, leb-true rx 1024 bounds.1, leb-true extra 1024 ring.1)
-
-pub ports-more : (seats : List Seat) (seat : Seat) → map port_of (seats ++ seat ∷ []) ≡ map port_of seats ++ seat.port ∷ []
-ports-more seats seat = map-append port_of seats (seat ∷ [])
-
-pub held-more : (seats : List Seat) (seat : Seat) → map held_of (seats ++ seat ∷ []) ≡ map held_of seats ++ seat.held ∷ []
-held-more seats seat = map-append held_of seats (seat ∷ [])
 
 -- the step of an opening by a session that is there
 pub open-made : (pool : ℕ) (h : List Entry) (session : ℕ) (name : List ℕ) (tx rx extra : ℕ) (refusal : Option OpenFault)
@@ -195,4 +169,4 @@ unrefused-fits pool h promised sessions seats pairs offers free name tx rx extra
     let count : length free ≡ free_count (world_of pool h) = ap length old.free_is ∙ (free-rises pool h old.legal).count in
     rw count (opened-room (world_of pool h) name tx rx extra is).0
 
-pub ruleset open_steps = (sizes-fit, ports-more, held-more, refusal-stands, free-few, unopened-named, unopened-full)
+pub ruleset open_steps = (sizes-fit, refusal-stands, free-few, unopened-named, unopened-full)

@@ -19,19 +19,15 @@ use Rattle.vale_entry.specs.Legal.{Standing, Outcome, standing_of, world_of, ste
 use Rattle.vale_entry.specs.Room.{room_of_reply, room_wanted}
 use Rattle.vale_entry.specs.Stored.{Stored, Fits, IsFull}
 use Rattle.vale_book.specs.Recorded.{after_ask, reply_of, IsRefusal, HasRoom}
-use Rattle.vale_book.specs.Seat.{Seat, port_of}
+use Rattle.vale_world.specs.Seat.{Seat, port_of}
 use Rattle.vale_book.specs.Parts.{Stands}
 use Rattle.vale_book.specs.declared.book.Book.TheInside.{Inside}
 use Rattle.vale_book.specs.BookView.{recorded, IsBook}
-use Rattle.vale_book.specs.Sending.{may_send, can_send_over, reply_over, IsSent}
+use Rattle.vale_world.specs.Enabled.{may_send, can_send_over}
+use Rattle.vale_world.proofs.PortPlaces.{place-is}
+use Rattle.vale_book.specs.Sending.{reply_over, IsSent}
 use Rattle.vale_book.proofs.Stands.{stands-next}
 use Rattle.vale_book.proofs.Answered.{after-step, refusal-step, room-step}
-
--- a sender stands at its place
-pub place-is : (seats : List Seat) (i : ℕ) (seat : Seat) → i < length seats → slice_get (map port_of seats) i ≡ Some (port_of (get_or seats i seat))
-place-is [] i seat h = absurd (omega arith)
-place-is (s ∷ ss) zero seat h = refl
-place-is (s ∷ ss) (suc i) seat h = place-is ss i seat (omega arith)
 
 -- the frames of a batch that may be sent have few bytes
 bytes-fit : (fs : List Frame) → list_all fits_buffer fs ≡ true → bytes_of_frames fs ≤ 2048 * length fs

@@ -11,7 +11,7 @@ use Rattle.vale_entry.specs.Laws.{room_back}
 use Rattle.vale_entry.proofs.HistoryLaws.{room-promised}
 use Rattle.vale_entry.proofs.Worlds.{standing-push, count-world_of, legal-push}
 use Rattle.vale_book.specs.Recorded.{entry_of}
-use Rattle.vale_book.specs.Seat.{Seat, port_of, held_of}
+use Rattle.vale_world.specs.Seat.{Seat, port_of, held_of}
 use Rattle.vale_book.specs.Parts.{world_in, Stands}
 
 -- the parts of a book after a step

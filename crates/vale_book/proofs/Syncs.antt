@@ -21,9 +21,10 @@ use Rattle.vale_entry.proofs.Places.{changed_at-world}
 use Rattle.vale_entry.proofs.HistoryPlaces.{held-world, changed_buffers-world, delivered_buffers-world}
 use Rattle.vale_book.specs.declared.syncing.Synced.{Synced}
 use Rattle.vale_book.specs.Recorded.{Recorded, reply_of, standing, after_ask, entry_of, IsRefusal, HasRoom}
-use Rattle.vale_book.specs.Seat.{Seat, port_of, held_of}
+use Rattle.vale_world.specs.Seat.{Seat, port_of, held_of, ready_buffers, seat_synced}
 use Rattle.vale_book.specs.Parts.{world_in, Stands}
-use Rattle.vale_book.specs.Syncing.{session_of_port, given_buffers, ready_buffers, seat_synced, sync_entry, may_sync, session_if}
+use Rattle.vale_world.specs.Enabled.{may_sync, session_if}
+use Rattle.vale_book.specs.Syncing.{session_of_port, given_buffers, sync_entry}
 use Rattle.vale_book.proofs.Stands.{stands-next}
 
 -- The condition.

@@ -1,11 +1,6 @@
-pub mod Seat
-pub mod Queue
-pub mod PortView
-pub mod Named
 pub mod Recorded
 pub mod Parts
 pub mod BookView
-pub mod Sessions
 pub mod DriveView
 pub mod Syncing
 pub mod OpenAnswers

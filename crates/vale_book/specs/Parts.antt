@@ -4,7 +4,7 @@ use Rattle.vale_entry.specs.declared.entry.Entry.{Entry}
 use Rattle.vale_entry.specs.World.{World, Port, Pair, Offer}
 use Rattle.vale_entry.specs.Legal.{world_of, holdings_of, IsLegal}
 use Rattle.vale_entry.specs.Room.{promised_of}
-use Rattle.vale_book.specs.Seat.{Seat, port_of, held_of}
+use Rattle.vale_world.specs.Seat.{Seat, port_of, held_of}
 
 -- the world of these parts; nobody watches yet
 abbrev pub world_in : ℕ → ℕ → List ℕ → List Port → List Pair → List Offer → World

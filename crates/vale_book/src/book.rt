@@ -6,14 +6,13 @@ ghost use Rattle.vale_entry.specs.declared.entry.Ask.TheVariants as asks;
 ghost use Rattle.vale_entry.specs.Room.{frame_bytes};
 ghost use Rattle.vale_book.specs.Recorded.{standing, after_ask, IsRefusal, HasRoom, IsWithinLimits};
 
-use crate::offer::Offer;
-use crate::pair::Pair;
-use crate::port::Port;
-use crate::{ports, steps};
+use crate::steps;
 use nm_types::{LeaseId, Limits, NoMemory, SessionId, StepFault};
 use std::alloc::{AllocError, Global};
 use std::marker::Model;
 use vale_entry::{Entry, History};
+use vale_world::offer::Offer;
+use vale_world::{Pair, Port, ports};
 
 mod grant;
 mod open_port;

@@ -13,12 +13,12 @@ use nm_types::{
 use std::alloc::{AllocError, Global};
 use std::marker::Model;
 use vale_entry::{Ask, Dests, Entry, Numbers, Reply};
+use vale_world::session::{Session, exchange_at, give_at, place_of, reserve_at};
 
 #[cfg(test)]
 mod tests;
 
 use crate::book::Book;
-use crate::session::{Session, exchange_at, give_at, place_of, reserve_at};
 
 /// What is answered where no port is opened.
 fn unopened(fault: OpenFault) -> Result<Reply, StepFault>

@@ -1,16 +1,15 @@
-ghost use Rattle.std.specs.Prelude.{◌≡◌, ◌<◌, ◌≤◌, ◌+◌, ◌-◌, [], ◌∷◌, ◌++◌, length, map, None, Some, slice_get, slice_set, if◌then◌else◌, ◌==◌};
-ghost use Rattle.nm_types.specs.Frames.{size_of_frames};
+ghost use Rattle.std.specs.Prelude.{◌≡◌, ◌<◌, ◌≤◌, ◌+◌, ◌-◌, [], ◌∷◌, ◌++◌, length, None, Some, slice_get, slice_set, if◌then◌else◌, ◌==◌};
 ghost use Rattle.vale_entry.specs.declared.entry.Ask.TheVariants as asks;
 ghost use Rattle.vale_entry.specs.declared.entry.Reply.TheVariants as replies;
 ghost use Rattle.vale_entry.specs.World.{space_of};
-ghost use Rattle.vale_entry.specs.Grant.{longest_fitting, port_after_grant};
-ghost use Rattle.vale_entry.specs.Holdings.{with_lot_buffers};
-ghost use Rattle.vale_book.specs.Seat.{Seat, port_of, held_of, seat_given};
+ghost use Rattle.vale_entry.specs.Grant.{longest_fitting};
+ghost use Rattle.vale_world.specs.Seat.{Seat, seat_given};
 
-use crate::offer::Offer;
-use crate::port::Port;
 use nm_types::{LeaseId, PortId, SessionId};
 use vale_entry::{Ask, Entry, History, Reply};
+use vale_world::Port;
+use vale_world::offer::Offer;
+use vale_world::ports::give_at;
 
 /// What a grant gave: the frames for which there was room, those for which there was none, and those
 /// whose port is not open. A lease is there exactly where some were given.
@@ -20,15 +19,6 @@ pub struct Granted {
     pub full: u32,
     pub gone: u32,
     pub lease: Option<LeaseId>,
-}
-
-fn give_at(ports: &mut Vec<Port>, place: usize, number: u32, offer: Offer) -> u32
-    requires { place < length ports.old.items }
-    ensures given { (seat : Seat) → slice_get ports.old.items place ≡ Some seat → result ≡ length (longest_fitting (space_of seat.port) offer.frames) }
-    ensures few { result ≤ length offer.frames }
-    ensures ports { (seat : Seat) → slice_get ports.old.items place ≡ Some seat → ports.new.items ≡ slice_set ports.old.items place (seat_given number offer seat) }
-{
-    ports[place].give(number, offer)
 }
 
 /// Records a grant. One that gives nothing makes no lease, and needs no room for its Done.
@@ -81,7 +71,7 @@ pub(crate) fn grant_gone(history: &mut History, origin: u32, offer: Offer) -> Gr
 }
 
 /// Grants an offer to the open port at this place.
-#[tactic(auto, using(crate::proofs::Grants::grants))]
+#[tactic(auto, using(vale_world::proofs::Grants::grants))]
 pub(crate) fn grant_at(
     history: &mut History,
     ports: &mut Vec<Port>,

@@ -1,94 +1,21 @@
-ghost use Rattle.std.specs.Prelude.{◌≡◌, ◌<◌, ◌≤◌, ◌+◌, ◌*◌, ◌^◌, ◌==◌, [], ◌∷◌, ◌++◌, length, take, map, reverse, count_by, OnOk, OnErr, IfOk, IfErr};
-ghost use Rattle.std.specs.List.{list_any};
+ghost use Rattle.std.specs.Prelude.{◌≡◌, ◌<◌, ◌+◌, ◌*◌, ◌^◌, [], ◌∷◌, ◌++◌, length, take, map, reverse, OnOk, OnErr, IfOk, IfErr};
 ghost use Rattle.nm_types.specs.Frames.{bytes_of_frames};
 ghost use Rattle.nm_types.specs.Sendable.{IsSendable};
 ghost use Rattle.vale_entry.specs.declared.entry.Ask.TheVariants as asks;
 ghost use Rattle.vale_entry.specs.declared.entry.Reply.TheVariants as replies;
-ghost use Rattle.vale_entry.specs.World.{open_port};
-ghost use Rattle.vale_entry.specs.Learning.{is_short, learned_of_batch};
 ghost use Rattle.vale_entry.specs.Offers.{dests_of};
 ghost use Rattle.vale_entry.specs.Room.{room_of_reply};
 ghost use Rattle.vale_entry.specs.Stored.{Fits, IsFull};
-ghost use Rattle.vale_book.specs.Seat.{port_of};
-ghost use Rattle.vale_book.specs.Sending.{is_settled_over, may_send, can_send_over, offers_over, lone_over, reply_over, IsSent};
+ghost use Rattle.vale_world.specs.Seat.{port_of};
+ghost use Rattle.vale_book.specs.Sending.{reply_over, IsSent};
 
 use crate::book::Offered;
-use crate::naming::{Made, lone_count, name_frames, offers_of, short_count};
-use crate::offer::{Offer, dests_of};
-use crate::pair::Pair;
-use crate::port::Port;
-use crate::ports::{open_port, owes};
 use nm_types::{Batch, NoMemory, PortId, SessionId, StepFault};
 use std::alloc::Global;
 use vale_entry::{Ask, Dests, Entry, History, Reply};
-
-fn has_offer(offers: &[Offer], session: u32) -> bool
-    ensures { result ≡ list_any (λ offer. offer.session == session) offers.now }
-{
-    offers.iter().any(|offer| offer.session() == session)
-}
-
-/// Whether all offers of the session are granted, and all lots that it was granted are done.
-pub(crate) fn is_settled(ports: &[Port], offers: &[Offer], session: u32) -> bool
-    ensures { result ≡ is_settled_over (map port_of ports.now) offers.now session }
-{
-    !has_offer(offers, session) && !owes(ports, session)
-}
-
-fn may_send(ports: &[Port], offers: &[Offer], sender: &Port, batch: &Batch) -> bool
-    ensures { result ≡ may_send (map port_of ports.now) offers.now batch.now sender.now.port }
-{
-    sender.name().is_switch_port()
-        && is_settled(ports, offers, sender.session())
-        && batch.is_sendable()
-}
-
-/// Whether the port of this id is open and may send the batch.
-#[tactic(auto, using(crate::proofs::Sends::sends))]
-pub(crate) fn can_send(ports: &[Port], offers: &[Offer], port: u32, batch: &Batch) -> bool
-    ensures { result ≡ can_send_over (map port_of ports.now) offers.now batch.now (open_port (map port_of ports.now) port) }
-{
-    match open_port(ports, port) {
-        Some(place) => may_send(ports, offers, &ports[place], batch),
-        None => false,
-    }
-}
-
-/// What a send makes of its batch: how many frames are short and how many are for nobody, and the
-/// offers of the others.
-#[derive(Drop)]
-struct Tally {
-    short: u32,
-    lone: u32,
-    offers: Vec<Offer>,
-}
-
-/// Learns and names the frames of a batch. Where memory is wanting the pairs may have grown.
-#[tactic(auto, using(crate::proofs::Sends::sends))]
-fn offer_batch(
-    alloc: Global,
-    made: Made,
-    ports: &[Port],
-    sender: &Port,
-    pairs: &mut Vec<Pair>,
-    batch: &Batch,
-) -> Result<Tally, NoMemory>
-    requires session { made.session ≡ sender.now.port.session }
-    requires few { length batch.now ≤ 1023 }
-    ensures short { IfOk result (λ tally. tally.short ≡ count_by is_short batch.now) }
-    ensures lone { IfOk result (λ tally. tally.lone ≡ lone_over (map port_of ports.now) sender.now.port (reverse pairs.old.items) batch.now) }
-    ensures offers { IfOk result (λ tally. tally.offers.items ≡ offers_over made.origin (map port_of ports.now) sender.now.port (reverse pairs.old.items) batch.now) }
-    ensures learned { OnOk result (reverse pairs.new.items ≡ learned_of_batch sender.now.port (reverse pairs.old.items) batch.now) }
-    ensures kept { take (length pairs.old.items) pairs.new.items ≡ pairs.old.items }
-{
-    let destinations = name_frames(alloc, ports, sender, pairs, batch)?;
-    let offers = offers_of(alloc, made, ports, sender, &destinations, batch)?;
-    Ok(Tally {
-        short: short_count(batch),
-        lone: lone_count(ports, sender, &destinations, batch),
-        offers,
-    })
-}
+use vale_world::naming::{Made, Tally, offer_batch};
+use vale_world::offer::{Offer, dests_of};
+use vale_world::{Pair, Port};
 
 fn copy_of(batch: &Batch) -> Result<Batch, NoMemory>
     ensures { IfOk result (λ copy. copy ≡ batch.now) }

@@ -1,14 +1,13 @@
-ghost use Rattle.std.specs.Prelude.{◌≡◌, ◌<◌, ◌≤◌, ◌+◌, ◌-◌, ◌*◌, ◌^◌, [], ◌∷◌, ◌++◌, length, map, OnOk, OnErr, IfOk, IfErr};
+ghost use Rattle.std.specs.Prelude.{◌≡◌, ◌<◌, ◌+◌, ◌-◌, [], ◌∷◌, ◌++◌, length, map, OnOk, OnErr, IfOk, IfErr};
 ghost use Rattle.vale_entry.specs.declared.entry.Ask.TheVariants as asks;
 ghost use Rattle.vale_entry.specs.declared.entry.Reply.TheVariants as replies;
 ghost use Rattle.vale_entry.specs.Delivery.{ports_after_done};
-ghost use Rattle.vale_book.specs.Seat.{port_of, held_of};
+ghost use Rattle.vale_world.specs.Seat.{port_of, held_of};
 ghost use Rattle.vale_entry.specs.Stored.{Fits, IsFull};
 
-use crate::port::Port;
-use crate::ports;
 use nm_types::{LeaseId, SessionId, StepFault};
 use vale_entry::{Ask, Entry, History, Reply};
+use vale_world::{Port, ports};
 
 /// Records that a user came, as a session.
 pub(crate) fn enter(

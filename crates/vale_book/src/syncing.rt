@@ -1,17 +1,13 @@
-ghost use Rattle.std.specs.Prelude.{◌≡◌, ◌==◌, ◌≤◌, ◌+◌, [], ◌∷◌, ◌++◌, length, map, vec_capacity, OnOk, OnErr, IfOk, IfErr};
-ghost use Rattle.std.specs.List.{list_any};
-ghost use Rattle.vale_entry.specs.World.{open_port};
+ghost use Rattle.std.specs.Prelude.{◌≡◌, ◌≤◌, ◌+◌, [], ◌∷◌, ◌++◌, length, vec_capacity, OnOk, OnErr, IfOk, IfErr};
 ghost use Rattle.vale_entry.specs.Delivery.{delivered_frames};
 ghost use Rattle.vale_entry.specs.Stored.{Fits, IsFull};
-ghost use Rattle.vale_book.specs.Seat.{port_of};
-ghost use Rattle.vale_book.specs.Syncing.{is_settled_in, may_sync, session_if, seat_synced, ready_buffers, sync_entry};
+ghost use Rattle.vale_world.specs.Seat.{seat_synced, ready_buffers};
+ghost use Rattle.vale_book.specs.Syncing.{sync_entry};
 
-use crate::offer::Offer;
-use crate::port::{Port, Ready};
-use crate::ports;
 use nm_types::{PortId, SessionId, StepFault};
 use std::alloc::Global;
 use vale_entry::{Ask, Dests, Entry, History, Numbers, Reply};
+use vale_world::{Port, Ready};
 
 /// What a sync gave.
 #[derive(Drop)]
@@ -22,40 +18,6 @@ pub struct Synced {
     pub got: Vec<u32>,
     /// The number of these frames.
     pub count: u32,
-}
-
-fn some_of_session(offers: &[Offer], session: u32) -> bool
-    ensures { result ≡ list_any (λ offer. offer.session == session) offers.now }
-{
-    offers.iter().any(|offer| offer.session() == session)
-}
-
-/// Whether the session has nothing to grant and nothing to complete.
-fn is_settled(ports: &[Port], offers: &[Offer], session: u32) -> bool
-    ensures { result ≡ is_settled_in (map port_of ports.now) offers.now session }
-{
-    !some_of_session(offers, session) && !ports::owes(ports, session)
-}
-
-fn may_sync_port(ports: &[Port], offers: &[Offer], port: &Port, returned: usize) -> bool
-    ensures { result ≡ may_sync (map port_of ports.now) offers.now returned port.now.port }
-{
-    (port.name().is_switch_port() || port.name().is_monitor())
-        && is_settled(ports, offers, port.session())
-        && returned <= port.out() as usize
-}
-
-/// The session of the open port of this id, if so many buffers may come back to it now.
-#[tactic(auto, using(crate::proofs::Syncs::syncs))]
-pub(crate) fn may_sync(ports: &[Port], offers: &[Offer], id: u32, returned: usize) -> Option<u32>
-    ensures { result ≡ session_if (may_sync (map port_of ports.now) offers.now returned) (open_port (map port_of ports.now) id) }
-{
-    let port = &ports[ports::open_port(ports, id)?];
-    if may_sync_port(ports, offers, port, returned) {
-        Some(port.session())
-    } else {
-        None
-    }
 }
 
 /// Memory for the buffers that are given, and room for the entry.

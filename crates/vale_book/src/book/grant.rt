@@ -5,9 +5,10 @@ ghost use Rattle.vale_entry.specs.Legal.{IsEnabled, step};
 ghost use Rattle.vale_book.specs.Recorded.{standing, after_ask, reply_of};
 
 use crate::book::Book;
+use crate::granting;
 use crate::granting::Granted;
-use crate::{granting, offer, ports};
 use nm_types::PortId;
+use vale_world::{offer, ports};
 
 impl Book {
     /// Whether the first offer of the entry that is not granted is the one to this port.

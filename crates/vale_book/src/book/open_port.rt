@@ -11,9 +11,10 @@ ghost use Rattle.vale_book.specs.OpenAnswers.{IsRecordedAs, IsUnopened};
 mod tests;
 
 use crate::book::Book;
-use crate::opens::{self, Opened};
-use crate::port::Sizes;
+use crate::opens;
 use nm_types::{Name, OpenFault, SessionId, StepFault};
+use vale_world::Sizes;
+use vale_world::opening::{self, Opened};
 
 impl Book {
     /// Whether the session has come and not left, so that it may open ports.
@@ -32,7 +33,7 @@ impl Book {
     {
         // so that their number fits the refusal
         prove!(self.free.len() <= self.pool as usize);
-        opens::refusal(&self.ports, &self.free, name, sizes)
+        opening::refusal(&self.ports, &self.free, name, sizes)
     }
 
     /// Records that an opening is refused.

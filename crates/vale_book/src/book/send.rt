@@ -5,9 +5,10 @@ ghost use Rattle.vale_entry.specs.Legal.{IsEnabled, step};
 ghost use Rattle.vale_book.specs.Recorded.{standing, after_ask, reply_of, IsRefusal, HasRoom};
 
 use super::Book;
-use crate::{ports, sending};
+use crate::sending;
 use nm_types::{Batch, PortId, StepFault};
 use vale_entry::Dests;
+use vale_world::{enabled, ports};
 
 /// The answer to a send: the number of its entry, how many of its frames are short and how many of
 /// the others are for nobody, and the ports that want frames.
@@ -25,7 +26,7 @@ impl Book {
     pub fn can_send(&self, port: PortId, batch: &Batch) -> bool
         ensures { IsTrue result ↔ IsEnabled (standing self.now) (asks.Send port batch.now) }
     {
-        sending::can_send(&self.ports, &self.offers, port.0, batch)
+        enabled::can_send(&self.ports, &self.offers, port.0, batch)
     }
 
     /// Frames are sent into the port's switch, which learns their sources. Room for a grant and its end

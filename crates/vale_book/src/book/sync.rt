@@ -8,10 +8,11 @@ ghost use Rattle.vale_book.specs.Recorded.{standing, after_ask, reply_of, IsRefu
 ghost use Rattle.vale_book.specs.Syncing.{session_of_port, given_buffers};
 
 use crate::book::Book;
+use crate::syncing;
 use crate::syncing::Synced;
-use crate::{ports, syncing};
 use nm_types::{PortId, SessionId, StepFault};
 use vale_entry::Numbers;
+use vale_world::{enabled, ports};
 
 impl Book {
     /// The session of an open port of a switch or of a monitor, where that session has nothing to
@@ -24,7 +25,7 @@ impl Book {
         ensures some { IfSome result (λ session. IsEnabled (standing self.now) (asks.Sync port back.now) ↔ IsTrue (holds_all (standing self.now).holdings session.0 back.now)) }
         ensures legal { IsLegal self.now.pool self.now.entries }
     {
-        syncing::may_sync(&self.ports, &self.offers, port.0, back.len()).map(SessionId)
+        enabled::may_sync(&self.ports, &self.offers, port.0, back.len()).map(SessionId)
     }
 
     /// Buffers come back to a port's receive ring, and those of its frames that are ready go to its

@@ -62,17 +62,9 @@ fn given(drive: &mut Drive, alloc: Global, port: u32) -> Option<u32> {
     }
 }
 
-#[test]
-fn one_broadcast(rt: HostRuntime) -> Result<(), Fail> {
-    let mut drive = Drive::new(rt.alloc(), 8192, Limits::VERSION_1)?;
-    for user in 1..3 {
-        assert!(rt; matches!(drive.apply(&Ask::Enter { user }), Ok(Some(Reply::Made))));
-    }
-    for (session, name) in [(1, "vale0:a"), (2, "vale0:b")] {
-        let ask = open(session, name).ok_or("name")?;
-        assert!(rt; matches!(drive.apply(&ask), Ok(Some(Reply::Opened))));
-    }
-    match drive.apply(&send(rt.alloc(), 3, 10)?) {
+/// Whether a send's one frame is offered to this port alone.
+fn is_offered_to(drive: &mut Drive, ask: &Ask, port: u32) -> bool {
+    match drive.apply(ask) {
         Ok(
             Some(
                 Reply::Offered {
@@ -83,13 +75,27 @@ fn one_broadcast(rt: HostRuntime) -> Result<(), Fail> {
             ),
         ) => {
             let dest = Dest {
-                to: PortId(4),
+                to: PortId(port),
                 count: 1,
             };
-            assert!(rt; to.as_slice() == [dest].as_slice());
+            to.as_slice() == [dest].as_slice()
         }
-        _ => assert!(rt; false),
+        _ => false,
     }
+}
+
+#[test]
+fn one_broadcast(rt: HostRuntime) -> Result<(), Fail> {
+    let mut drive = Drive::new(rt.alloc(), 8192, Limits::VERSION_1)?;
+    for user in 1..3 {
+        assert!(rt; matches!(drive.apply(&Ask::Enter { user }), Ok(Some(Reply::Made))));
+    }
+    for (session, name) in [(1, "vale0:a"), (2, "vale0:b")] {
+        let ask = open(session, name).ok_or("name")?;
+        assert!(rt; matches!(drive.apply(&ask), Ok(Some(Reply::Opened))));
+    }
+    let ask = send(rt.alloc(), 3, 10)?;
+    assert!(rt; is_offered_to(&mut drive, &ask, 4));
     let shared = drive.apply(&grant(5, 4));
     assert!(rt;
         matches!(

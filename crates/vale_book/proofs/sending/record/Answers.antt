@@ -1,7 +1,7 @@
 use Rattle.std.proofs.Common.{◌+◌, map, reverse, length, None}
 use Rattle.vale_entry.specs.Lookup.{named_frames}
 use Rattle.vale_entry.specs.Offers.{wanted_frames}
-use Rattle.vale_book.specs.Seat.{port_of}
+use Rattle.vale_world.specs.Seat.{port_of}
 use Rattle.vale_book.proofs.Sends.{dests-origin}
 use Rattle.vale_book.proofs.sending.record.Goals as goal
 

@@ -1,7 +1,7 @@
 use Rattle.std.proofs.Common.{◌≡◌, rules, reverse, map, Some, option_map}
 use Rattle.vale_entry.specs.World.{Lot}
 use Rattle.vale_entry.specs.Delivery.{lease_at}
-use Rattle.vale_book.specs.Seat.{port_of}
+use Rattle.vale_world.specs.Seat.{port_of}
 use Rattle.vale_book.proofs.Dones.{owed-done, stands-done}
 use Rattle.vale_book.proofs.book.Book.done.Goals as goal
 

@@ -1,9 +1,8 @@
-use Rattle.std.proofs.Common.{◌≡◌, ◌≤◌, ◌∙◌, ap, length, reverse, arith, rules}
+use Rattle.std.proofs.Common.{◌≡◌, ◌≤◌, ◌∙◌, length, reverse, arith, rules}
 use Rattle.vale_entry.specs.Legal.{world_of}
 use Rattle.vale_entry.specs.World.{free_count}
 use Rattle.vale_book.proofs.Limits.{free-counted}
 use Rattle.vale_book.proofs.OpenSteps.{free-few}
-use Rattle.vale_book.specs.Seat.{port_of}
 use Rattle.vale_book.proofs.book.Book.free.Goals as goal
 
 pub prove-unreachable-requires : goal.prove-unreachable-requires

@@ -4,7 +4,7 @@ use Rattle.vale_entry.specs.Offers.{is_offer_of}
 use Rattle.vale_entry.specs.Legal.{standing_of}
 use Rattle.vale_entry.specs.declared.entry.Ask.TheVariants.{Grant}
 use Rattle.vale_entry.specs.declared.entry.Reply.TheVariants.{Shared}
-use Rattle.vale_book.specs.Seat.{port_of}
+use Rattle.vale_world.specs.Seat.{port_of}
 use Rattle.vale_book.specs.Recorded.{Recorded}
 use Rattle.vale_book.proofs.GrantSteps.{placed-seat, seat-at, stands-grant_at, stands-grant_gone, granted-to, first-world, entry-grant_at, reply-at, after-grant, said-grant}
 use Rattle.vale_book.proofs.book.Book.grant.Goals as goal

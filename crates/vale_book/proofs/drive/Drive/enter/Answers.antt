@@ -2,7 +2,7 @@ use Rattle.std.proofs.Common.{◌≡◌, ◌∙◌, ◌+◌, ◌++◌, ◌∷◌
 use Rattle.std.proofs.lemmas.List.{length-append, map-append}
 use Rattle.vale_entry.specs.Legal.{holdings_of}
 use Rattle.vale_book.specs.Recorded.{Recorded}
-use Rattle.vale_book.specs.Sessions.{held_by}
+use Rattle.vale_world.specs.Sessions.{held_by}
 use Rattle.vale_book.proofs.Drives.{sessions-enter}
 use Rattle.vale_book.proofs.drive.Drive.enter.Goals as goal
 

@@ -2,7 +2,7 @@ use Rattle.std.proofs.Common.{ℕ, List, ◌≡◌, ◌+◌, ◌++◌, true, len
 use Rattle.vale_entry.specs.World.{is_session}
 use Rattle.vale_entry.specs.Holdings.{SessionBuffers}
 use Rattle.vale_entry.specs.Legal.{world_of}
-use Rattle.vale_book.specs.Sessions.{held_by, IsPlaceOf, AreHeldAt}
+use Rattle.vale_world.specs.Sessions.{held_by, IsPlaceOf, AreHeldAt}
 use Rattle.vale_book.specs.Recorded.{standing}
 use Rattle.vale_book.proofs.DriveOpens.{session-found, given-held, sessions-opened, sessions-unopened, opened-few, put-back, put-back-given}
 use Rattle.vale_book.proofs.drive.Drive.open.Goals as goal

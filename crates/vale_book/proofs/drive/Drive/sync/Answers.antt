@@ -3,7 +3,7 @@ use Rattle.std.specs.Prelude.{◌↔◌}
 use Rattle.vale_entry.specs.declared.entry.Ask.TheVariants as asks
 use Rattle.vale_entry.specs.Holdings.{SessionBuffers, buffers_without}
 use Rattle.vale_entry.specs.Legal.{IsEnabled}
-use Rattle.vale_book.specs.Sessions.{held_by, IsPlaceOf, AreHeldAt}
+use Rattle.vale_world.specs.Sessions.{held_by, IsPlaceOf, AreHeldAt}
 use Rattle.vale_book.specs.Recorded.{standing}
 use Rattle.vale_book.proofs.DriveOpens.{session-found, put-back, put-back-given}
 use Rattle.vale_book.proofs.DriveSyncs.{session-of_port, holds_each, switched, exchanged-held, sessions-synced}

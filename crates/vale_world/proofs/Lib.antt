@@ -1,0 +1,10 @@
+pub mod Queues
+pub mod Newest
+pub mod NamedFrames
+pub mod OfferSteps
+pub mod PortPlaces
+pub mod Openings
+pub mod PortSizes
+pub mod Grants
+pub mod FirstOffers
+pub mod SessionPlaces
