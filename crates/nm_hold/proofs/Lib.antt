@@ -1,5 +1,6 @@
 pub mod Emptied
 pub mod Exchanging
+pub mod Finding
 pub mod Naming
 pub mod Numbers
 pub mod Shown

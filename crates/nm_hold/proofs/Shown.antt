@@ -81,10 +81,10 @@ all_push (u ∷ tables) t all new = (all.0, all_push tables t all.1 new)
 pub tables-push : (tables : List PortTable) (t : PortTable) → All IsTable tables → IsTable t → All IsTable (tables ++ t ∷ [])
 tables-push tables t all new = All-from_recursion IsTable (tables ++ t ∷ []) (all_push tables t (recursion_from_All IsTable tables all) new)
 
--- room that is kept stays when there is no more to hold
-pub room_kept : (room : Option PortTable) (len cap new_len new_cap : ℕ) → new_len ≤ len → new_cap ≡ cap → IfSome room (λ t. IsBlank t × (len < cap)) → IfSome room (λ t. IsBlank t × (new_len < new_cap))
-room_kept None len cap new_len new_cap h e kept = tt
-room_kept (Some t) len cap new_len new_cap h e kept = (kept.0, omega (arith, kept.1))
+-- room that is kept stays where no less is spare
+pub room_kept : (room : Option PortTable) (spare new : ℕ) → spare ≤ new → IfSome room (λ t. IsBlank t × (0 < spare)) → IfSome room (λ t. IsBlank t × (0 < new))
+room_kept None spare new h kept = tt
+room_kept (Some t) spare new h kept = (kept.0, omega (arith, kept.1))
 
 -- a place that holds a buffer has its number
 pub held_has_number : (cells : List (Option Standing)) (tables : List PortTable) (p : Place) → IsTied cells tables → IsSome (held_at (places_in cells) p) → 0 < number_at tables p

@@ -1,9 +1,6 @@
 -- A buffer that comes to a place, leaves it, or gets another name there.
 use Rattle.std.proofs.Common.{ℕ, ◌≡◌, ◌<◌, ◌≤◌, Bool, true, false, if◌then◌else◌, List, length, map, slice_set, Option, Some, None, refl, sym, ◌∙◌, ap}
 use Rattle.std.specs.Prelude.{All}
-use Rattle.std.specs.Vec.{with_items}
-use Rattle.std.proofs.Common.{Vec, Global}
-use Rattle.std.proofs.lemmas.List.{with_items_is, length-map}
 use Rattle.std.proofs.lemmas.List.Elements.{All-from_recursion, recursion_from_All}
 use Rattle.nm_types.specs.declared.place.Place.{Place}
 use Rattle.nm_types.specs.Places.{held_at, is_same_place}
@@ -15,12 +12,6 @@ use Rattle.nm_hold.specs.Holds.{cell_at, places_in}
 use Rattle.nm_hold.specs.Ties.{IsTied}
 use Rattle.nm_hold.proofs.Numbers.{number-put, tables-put, has_place-from_number}
 use Rattle.nm_hold.proofs.Tied.{number_if, number_if-some, held-number, tied-added, tied-removed}
-
--- tables that were lent and came back
-pub put_tables : (v : Vec PortTable Global) (new : List PortTable) (p : Place) (number : ℕ) → new ≡ map (put_in p number) v.items → (with_items v new).items ≡ map (put_in p number) v.items
-put_tables v new p number e =
-    let count : length new ≡ v.len = ap length e ∙ (length-map v.items (put_in p number) ∙ sym v.ok.0) in
-    with_items_is v new count ∙ e
 
 pub put_are_tables : (p : Place) (number : ℕ) (tables : List PortTable) → All IsTable tables → All IsTable (map (put_in p number) tables)
 put_are_tables p number tables all = All-from_recursion IsTable (map (put_in p number) tables) (tables-put p number tables (recursion_from_All IsTable tables all))

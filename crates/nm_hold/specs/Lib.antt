@@ -1,8 +1,10 @@
 pub mod Holds
+pub mod Indexed
 pub mod Laws
 pub mod Lending
 pub mod Names
 pub mod Offsets
+pub mod PortLists
 pub mod Standings
 pub mod Stored
 pub mod Tables

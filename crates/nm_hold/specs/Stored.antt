@@ -1,6 +1,5 @@
 -- The fields of a hold.
 use Rattle.std.specs.Prelude.{◌<◌, ◌≤◌, length, All, IfSome}
-use Rattle.std.specs.Vec.{vec_len, vec_capacity}
 use Rattle.nm_hold.specs.Offsets.{ArePortsOnce}
 use Rattle.nm_hold.specs.Tables.{IsTable, ports_of}
 use Rattle.nm_hold.specs.Ties.{IsTied, IsBlank}
@@ -9,7 +8,7 @@ use Rattle.nm_hold.specs.declared.hold.Hold.TheInside.{Inside}
 pub record IsStored (h : Inside) : Type 0 where
   pub low : 3 ≤ length h.cells.items
   pub high : length h.cells.items ≤ 65538
-  pub tables : All IsTable h.tables.items
-  pub once : ArePortsOnce (ports_of h.tables.items)
-  pub tied : IsTied h.cells.items h.tables.items
-  pub room : IfSome h.room (λ t. IsBlank t × (vec_len h.tables < vec_capacity h.tables))
+  pub tables : All IsTable h.ports.tables
+  pub once : ArePortsOnce (ports_of h.ports.tables)
+  pub tied : IsTied h.cells.items h.ports.tables
+  pub room : IfSome h.room (λ t. IsBlank t × (0 < h.ports.spare))

@@ -14,6 +14,10 @@ pub record IsTable (t : PortTable) : Type 0 where
 abbrev pub ports_of : List PortTable → List PortPlaces
 ports_of tables = map (λ (t : PortTable). t.places) tables
 
+-- the number at a place of this port
+abbrev pub number_in : PortTable → Place → ℕ
+number_in t place = option_map_or (λ at. slice_index t.numbers.items at) (offset_of t.places place) 0
+
 -- the number at a place, in the first table that has the place
 abbrev pub number_at : List PortTable → Place → ℕ
 number_at [] place = 0

@@ -11,8 +11,9 @@ ghost use Rattle.nm_hold.specs.Offsets.{AreSizes, has_place, has_port};
 ghost use Rattle.nm_hold.specs.Standings.{home_in, renamed};
 ghost use Rattle.nm_hold.specs.Holds.{empty_hold, buffers_of, extra_of, place_at, IsHold, standing_at, buffer_at, is_named_at, named_bytes_at, index_at, places_of, with_cell, SamePlaces, HoldsNothing};
 
+use crate::ports::Ports;
 use crate::standing::{Home, Standing, buf_of, bytes_mut, home_of, move_to, named_bytes, rename};
-use crate::table::{PortPlaces, PortTable, Sizes, number, put, table_of};
+use crate::table::{PortPlaces, PortTable, Sizes};
 use nm_region::Buf;
 use nm_types::{NoMemory, Place, PortId};
 use std::alloc::Global;
@@ -21,11 +22,11 @@ use std::marker::Model;
 /// A session's places, over all its ports, and the buffers that stand in them. It cannot be dropped:
 /// `close` ends it once it holds no buffer.
 ///
-/// A buffer's place is found at its index. The table of a place's port is found by a look at each port
-/// of the session in turn, one comparison of numbers for each; a session has few ports.
+/// A buffer's place is found at its index in a list, and the buffer of a place at its offset in the table
+/// of its port, which a hash map finds: in constant time, however many ports and buffers there are.
 pub struct Hold {
     cells: Vec<Option<Standing>>,
-    tables: Vec<PortTable>,
+    ports: Ports,
     room: Option<PortTable>,
     alloc: Global,
 }
@@ -42,7 +43,7 @@ impl Model for Hold {
 
     ghost view = { λ h. record {
       cells = h.cells.items;
-      ports = ports_of h.tables.items;
+      ports = ports_of h.ports.tables;
       room = option_map (λ (t : PortTable). t.places.sizes) h.room;
     } };
 
@@ -64,7 +65,7 @@ impl Hold {
         }
         Ok(Hold {
             cells,
-            tables: Vec::new(alloc),
+            ports: Ports::new(alloc),
             room: None,
             alloc,
         })
@@ -80,7 +81,7 @@ impl Hold {
         ensures err { OnErr result (self.new ≡ self.old) }
     {
         let sizes = Sizes { tx, rx, extra };
-        self.tables.reserve(1)?;
+        self.ports.reserve()?;
         self.room = Some(PortTable::blank(self.alloc, sizes)?);
         Ok(())
     }
@@ -96,7 +97,7 @@ impl Hold {
     {
         if let Some(mut table) = self.room.take() {
             table.places.port = port;
-            self.tables.push_reserved(table);
+            self.ports.push(table);
         }
     }
 
@@ -107,7 +108,7 @@ impl Hold {
           ports = filter (λ (p : PortPlaces). not (p.port.0 == port.0)) self.old.ports;
         } }
     {
-        self.tables.retain(|t| t.places.port != port);
+        self.ports.remove(port);
     }
 
     /// How many extra positions a port has; none where there is no such port.
@@ -115,7 +116,7 @@ impl Hold {
         ensures extras { result ≡ extra_of self.now.ports port.0 }
         ensures hold { IsHold self.now }
     {
-        match table_of(&self.tables, port) {
+        match self.ports.table(port) {
             Some(table) => table.places.sizes.extra,
             None => 0,
         }
@@ -125,7 +126,7 @@ impl Hold {
     pub fn index(&self, place: Place) -> Option<u32>
         ensures { result ≡ index_at self.now place }
     {
-        let idx = number(&self.tables, place);
+        let idx = self.ports.number(place);
         if idx == 0 { None } else { Some(idx) }
     }
 
@@ -231,7 +232,7 @@ impl Hold {
         };
         let cell = &mut self.cells[idx as usize];
         match cell.replace(Standing { home, buf }) {
-            None => put(&mut self.tables, place, idx),
+            None => self.ports.put(place, idx),
             Some(_other) => unreachable!(),
         }
     }
@@ -245,8 +246,8 @@ impl Hold {
         ensures places { (p : Place) → index_at self.new p
             ≡ (if is_same_place place p then None else index_at self.old p) }
     {
-        let idx = number(&self.tables, place);
-        put(&mut self.tables, place, 0);
+        let idx = self.ports.number(place);
+        self.ports.put(place, 0);
         let cell = &mut self.cells[idx as usize];
         match cell.take() {
             Some(Standing { home: _, buf }) => buf,
@@ -261,7 +262,7 @@ impl Hold {
             → self.new ≡ with_cell self.old idx (renamed named (standing_at self.old idx)) }
         ensures places { SamePlaces (places_of self.old) (places_of self.new) }
     {
-        let idx = number(&self.tables, place);
+        let idx = self.ports.number(place);
         rename(&mut self.cells[idx as usize], named);
     }
 
@@ -277,7 +278,7 @@ impl Hold {
         ensures ports { self.new.ports ≡ self.old.ports }
         ensures room { self.new.room ≡ self.old.room }
     {
-        let was = number(&self.tables, place);
+        let was = self.ports.number(place);
         if was == idx {
             return;
         }
@@ -286,8 +287,8 @@ impl Hold {
         };
         move_to(&mut self.cells[was as usize], there);
         move_to(&mut self.cells[idx as usize], here);
-        put(&mut self.tables, place, idx);
-        put(&mut self.tables, there.place, was);
+        self.ports.put(place, idx);
+        self.ports.put(there.place, was);
     }
 
     /// Ends a hold that holds no buffer.
@@ -296,7 +297,7 @@ impl Hold {
     {
         let Hold {
             mut cells,
-            tables: _,
+            ports: _,
             room: _,
             alloc: _,
         } = self;

@@ -3,6 +3,7 @@
 
 mod hold;
 pub mod laws;
+mod ports;
 mod standing;
 mod table;
 #[cfg(test)]

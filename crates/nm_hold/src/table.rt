@@ -1,8 +1,6 @@
-ghost use Rattle.std.specs.Prelude.{◌≡◌, ◌==◌, All, IfOk, map, find};
-ghost use Rattle.std.specs.Option.{option_copied};
-ghost use Rattle.nm_hold.specs.declared.table.PortTable.{PortTable};
+ghost use Rattle.std.specs.Prelude.{◌≡◌, IfOk};
 ghost use Rattle.nm_hold.specs.Offsets.{count_of, offset_of, AreSizes};
-ghost use Rattle.nm_hold.specs.Tables.{number_at, put_in, IsTable};
+ghost use Rattle.nm_hold.specs.Tables.{number_in, put_in, IsTable};
 
 use nm_types::{Place, PortId};
 use std::alloc::{AllocError, Global};
@@ -77,8 +75,19 @@ impl PortTable {
         })
     }
 
-    // Stores a number at a place, if it is one of this port's.
-    fn put(&mut self, place: Place, number: u32)
+    /// The number at a place; 0 where it is not one of this port's.
+    pub(crate) fn number(&self, place: Place) -> u32
+        requires { IsTable self.now }
+        ensures { result ≡ number_in self.now place }
+    {
+        match self.places.offset(place) {
+            Some(at) => self.numbers[at],
+            None => 0,
+        }
+    }
+
+    /// Stores a number at a place, if it is one of this port's.
+    pub(crate) fn put(&mut self, place: Place, number: u32)
         requires { IsTable self.old }
         ensures { self.new ≡ put_in place number self.old }
     {
@@ -86,34 +95,4 @@ impl PortTable {
             self.numbers[at] = number;
         }
     }
-}
-
-/// The index of the buffer in a place; 0 where it holds none.
-pub(crate) fn number(tables: &[PortTable], place: Place) -> u32
-    requires { All IsTable tables.now }
-    ensures { result ≡ number_at tables.now place }
-{
-    for table in tables {
-        if let Some(at) = table.places.offset(place) {
-            return table.numbers[at];
-        }
-    }
-    0
-}
-
-/// Puts the index of a buffer at a place.
-pub(crate) fn put(tables: &mut [PortTable], place: Place, number: u32)
-    requires { All IsTable tables.old }
-    ensures { tables.new ≡ map (put_in place number) tables.old }
-{
-    for table in tables.iter_mut() {
-        table.put(place, number);
-    }
-}
-
-/// The table of a port.
-pub(crate) fn table_of(tables: &[PortTable], port: PortId) -> Option<&PortTable>
-    ensures { option_copied result ≡ find (λ (t : PortTable). t.places.port.0 == port.0) tables.now }
-{
-    tables.iter().find(|t| t.places.port == port)
 }

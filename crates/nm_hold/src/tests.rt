@@ -1,11 +1,12 @@
-ghost use Rattle.std.specs.Prelude.{ℕ, ◌≡◌, ◌≢◌, ◌∷◌, [], Some};
+ghost use Rattle.std.specs.Prelude.{ℕ, ◌≡◌, ◌≢◌, ◌≤◌, ◌++◌, ◌∷◌, [], false, Some, OnOk};
 ghost use Rattle.nm_region.specs.Buffers.{name_of, names_of, opened_buffers, region_names};
 ghost use Rattle.nm_hold.specs.Holds.{empty_hold, buffer_at};
 ghost use Rattle.nm_hold.specs.Names.{name_at};
+ghost use Rattle.nm_hold.specs.Offsets.{has_port};
 
 use crate::Hold;
 use nm_region::{Buf, Region};
-use nm_types::{Place, PortId};
+use nm_types::{NoMemory, Place, PortId};
 use std::process::Abort;
 use std::test::Fail;
 
@@ -150,16 +151,43 @@ fn named_bytes_are_written(rt: HostRuntime) {
     panic!(rt; "the buffer stays in the hold");
 }
 
+// Opens a port with two slots in each ring and so many extra positions.
+fn open(hold: &mut Hold, port: u32, extra: u32) -> Result<(), NoMemory>
+    requires new { has_port hold.old.ports port ≡ false }
+    requires few { extra ≤ 1024 }
+    ensures cells { hold.new.cells ≡ hold.old.cells }
+    ensures ports { OnOk result (hold.new.ports ≡ hold.old.ports
+        ++ record { port = record { 0 = port }; sizes = record { tx = 2; rx = 2; extra = extra } } ∷ []) }
+{
+    hold.reserve(2, 2, extra)?;
+    hold.set_port(PortId(port), 2, 2, extra);
+    Ok(())
+}
+
+// Of four ports the first three go; when one more comes, the rows that they left are closed up.
+fn four_ports(rt: &impl Abort, hold: &mut Hold) -> Result<(), NoMemory>
+    requires { hold.old ≡ empty_hold 8 }
+    ensures { hold.new.cells ≡ hold.old.cells }
+{
+    open(hold, 3, 3)?;
+    open(hold, 4, 4)?;
+    open(hold, 5, 5)?;
+    open(hold, 6, 6)?;
+    hold.drop_port(PortId(4));
+    hold.drop_port(PortId(3));
+    hold.drop_port(PortId(5));
+    assert_eq!(rt; hold.extras(PortId(6)), 6);
+    open(hold, 4, 7)?;
+    assert_eq!(rt; hold.extras(PortId(3)) + hold.extras(PortId(5)), 0);
+    assert_eq!(rt; hold.extras(PortId(6)), 6);
+    assert_eq!(rt; hold.extras(PortId(4)), 7);
+    Ok(())
+}
+
 #[test]
 fn ports_come_and_go(rt: HostRuntime) -> Result<(), Fail> {
     let mut hold = Hold::new(rt.alloc(), 8)?;
-    let made = hold.reserve(2, 2, 3);
-    if made.is_ok() {
-        hold.set_port(PORT, 2, 2, 3);
-        assert_eq!(rt; hold.extras(PORT), 3);
-        hold.drop_port(PORT);
-        assert_eq!(rt; hold.extras(PORT), 0);
-    }
+    let made = four_ports(&rt, &mut hold);
     hold.close();
     Ok(made?)
 }

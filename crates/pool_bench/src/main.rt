@@ -1,6 +1,9 @@
-//! How long a pool takes to open, to give out all its buffers and to take them back.
-//! With no argument it has few buffers, and prints how many were free; with the argument `time` it has 65,536, and prints the milliseconds.
+//! How long a pool takes to open, to give out all its buffers and to take them back, and a hold to find
+//! the buffer of a place. With no argument the pool has few buffers, and how many were free is printed;
+//! with the argument `time` it has 65,536, and the milliseconds are printed.
 #![tactic(auto)]
+
+mod look;
 
 ghost use Rattle.std.specs.Prelude.{◌≡◌, ◌+◌, ◌<◌, [], length, IfOk, IfErr, OnErr};
 ghost use Rattle.nm_types.specs.Buffers.{IsPoolSize};
@@ -107,7 +110,15 @@ fn main(rt: HostRuntime) -> io::Result<()> {
         let start = Instant::now(&rt)?;
         let free = run(rt.alloc(), MANY);
         let millis = start.elapsed(&rt)?.as_millis();
-        println!(rt; "{free} buffers opened, taken and given back in {millis} ms")
+        println!(rt; "{free} buffers opened, taken and given back in {millis} ms")?;
+        for ports in [1, 64, 1000] {
+            let millis = look::time_look_ups(&rt, rt.alloc(), ports)?.as_millis();
+            println!(rt;
+                "{} places looked up among {ports} ports in {millis} ms",
+                look::TURNS
+            )?;
+        }
+        Ok(())
     } else {
         let free = run(rt.alloc(), FEW);
         println!(rt; "{free} buffers opened, taken and given back")

@@ -1,5 +1,4 @@
 use Rattle.std.proofs.Common.{ℕ, if◌then◌else◌, ◌≡◌, ◌<◌, ◌≤◌, true, false, length, map, slice_set, Some, None, refl, sym, ◌∙◌, ap, arith}
-use Rattle.std.specs.Vec.{with_items}
 use Rattle.std.proofs.lemmas.List.{length-set}
 use Rattle.nm_hold.specs.declared.standing.Standing.{Standing}
 use Rattle.nm_hold.specs.Offsets.{has_place}
@@ -10,26 +9,25 @@ use Rattle.nm_hold.specs.Ties.{IsTied}
 use Rattle.nm_hold.proofs.Numbers.{ports_of-put}
 use Rattle.nm_hold.proofs.Tied.{held-number}
 use Rattle.nm_hold.proofs.Shown.{number_if-none}
-use Rattle.nm_hold.proofs.Steps.{put_tables, put_are_tables, added_tied, added_places}
+use Rattle.nm_hold.proofs.Steps.{put_are_tables, added_tied, added_places}
 use Rattle.nm_hold.proofs.hold.Hold.add.Goals as goal
 
 -- the facts of the step, over the fields
-record Step (c : goal.After-self-in-None-1) : Type 0 where
-  same : (with_items c.self.inside.tables c.put.new.tables).items ≡ map (put_in c.args.place c.index-idx.result) c.self.inside.tables.items
-  has : has_place (ports_of c.self.inside.tables.items) c.args.place ≡ true
+record Step (c : goal.After-put) : Type 0 where
+  same : c.put.new.self.tables ≡ map (put_in c.args.place c.index-idx.result) c.self.inside.ports.tables
+  has : has_place (ports_of c.self.inside.ports.tables) c.args.place ≡ true
   low : 2 ≤ c.index-idx.result
   after : c.replace.new.self ≡ Some (record { home = record { place = c.args.place; named = false }; buf = c.args.buf })
-  tied : IsTied (slice_set c.self.inside.cells.items c.index-idx.result (Some (record { home = record { place = c.args.place; named = false }; buf = c.args.buf }))) (map (put_in c.args.place c.index-idx.result) c.self.inside.tables.items)
+  tied : IsTied (slice_set c.self.inside.cells.items c.index-idx.result (Some (record { home = record { place = c.args.place; named = false }; buf = c.args.buf }))) (map (put_in c.args.place c.index-idx.result) c.self.inside.ports.tables)
 
-step : (c : goal.After-self-in-None-1) → Step c
+step : (c : goal.After-put) → Step c
 step c =
     let cells = c.self.inside.cells.items in
-    let tables = c.self.inside.tables.items in
+    let tables = c.self.inside.ports.tables in
     let p = c.args.place in
     let idx = c.index-idx.result in
     let inv = c.self.invariant in
     let s : Standing = record { home = record { place = p; named = false }; buf = c.args.buf } in
-    let put = c.put.ensures ∙ ap (map (put_in p idx)) c.deref_mut.ensures.value in
     let has = rw (← c.self.view_is) at c.requires.belongs in
     let unheld = rw (← c.self.view_is) at c.requires.empty in
     let empty = number_if-none (number_at tables p) (sym (held-number cells tables p inv.tied) ∙ unheld) in
@@ -39,7 +37,7 @@ step c =
     let within : idx < length cells = omega (arith, index, c.index-idx.ensures, inv.low) in
     let low : 2 ≤ idx = omega (arith, index, c.index-idx.ensures) in
     record {
-      same = put_tables c.self.inside.tables c.put.new.tables p idx put;
+      same = c.put.ensures.tables;
       has = has;
       low = low;
       after = c.replace.ensures.after;
@@ -54,16 +52,16 @@ invariant_of-self c =
     record {
       low = rw count inv.low;
       high = rw count inv.high;
-      tables = rw f.same (put_are_tables c.args.place c.index-idx.result c.self.inside.tables.items inv.tables);
-      once = rw (f.same, ports_of-put c.args.place c.index-idx.result c.self.inside.tables.items) inv.once;
+      tables = rw f.same (put_are_tables c.args.place c.index-idx.result c.self.inside.ports.tables inv.tables);
+      once = rw (f.same, ports_of-put c.args.place c.index-idx.result c.self.inside.ports.tables) inv.once;
       tied = rw (f.same, f.after) f.tied;
-      room = inv.room;
+      room = rw c.put.ensures.spare inv.room;
     }
 
 pub returns-clause-cell : goal.returns-clause-cell
 returns-clause-cell c =
     let f = step c in
-    rw (← c.self.view_is, f.same, f.after, ports_of-put c.args.place c.index-idx.result c.self.inside.tables.items, c.index-idx.ensures) refl
+    rw (← c.self.view_is, f.same, f.after, ports_of-put c.args.place c.index-idx.result c.self.inside.ports.tables, c.index-idx.ensures) refl
 
 pub returns-clause-places : goal.returns-clause-places
 returns-clause-places c p =
@@ -71,6 +69,6 @@ returns-clause-places c p =
     let inv = c.self.invariant in
     let cells = c.self.inside.cells.items in
     let s : Standing = record { home = record { place = c.args.place; named = false }; buf = c.args.buf } in
-    let places = added_places cells (slice_set cells c.index-idx.result (Some s)) c.self.inside.tables.items c.args.place c.index-idx.result inv.tables inv.tied f.has (omega (arith, f.low)) f.tied p in
+    let places = added_places cells (slice_set cells c.index-idx.result (Some s)) c.self.inside.ports.tables c.args.place c.index-idx.result inv.tables inv.tied f.has (omega (arith, f.low)) f.tied p in
     let named = ap (λ (n : ℕ). if is_same_place c.args.place p then Some n else held_at (places_in cells) p) c.index-idx.ensures in
     rw (← c.self.view_is, f.after) (places ∙ named)

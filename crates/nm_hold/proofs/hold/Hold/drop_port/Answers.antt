@@ -1,9 +1,6 @@
-use Rattle.std.proofs.Common.{◌≡◌, not, nat_eq, sym, ◌∙◌, refl, rules}
-use Rattle.std.specs.Vec.{vec_len, vec_capacity}
-use Rattle.std.proofs.lemmas.Fn.{filter_same}
+use Rattle.std.proofs.Common.{◌≡◌, sym, ◌∙◌, refl}
 use Rattle.std.proofs.lemmas.List.Elements.{All-from_recursion, recursion_from_All}
 use Rattle.nm_types.specs.declared.place.Place.{Place}
-use Rattle.nm_hold.specs.declared.table.PortTable.{PortTable}
 use Rattle.nm_hold.specs.Tables.{IsTable, ports_of, number_at}
 use Rattle.nm_hold.specs.Holds.{port_of}
 use Rattle.nm_hold.proofs.Numbers.{without, number-without, tables-without, ports_of-without}
@@ -15,9 +12,9 @@ pub invariant_of-self : goal.invariant_of-self
 invariant_of-self c =
     let inv = c.self.invariant in
     let cells = c.self.inside.cells.items in
-    let tables = c.self.inside.tables.items in
+    let tables = c.self.inside.ports.tables in
     let port = c.args.port.0 in
-    let kept : c.retain.new.self.items ≡ without port tables = filter_same _ (λ (t : PortTable). not (nat_eq t.places.port.0 port)) _ (λ x b q k. search rules) _ _ c.retain.ensures.filtered in
+    let kept : c.remove.new.self.tables ≡ without port tables = c.remove.ensures.tables in
     let empty : (p : Place) → port_of p ≡ port → number_at tables p ≡ 0 = (λ p e.
     let none = rw (← c.self.view_is) at (c.requires p e) in
     number_if-none (number_at tables p) (sym (held-number cells tables p inv.tied) ∙ none)) in
@@ -27,12 +24,12 @@ invariant_of-self c =
       tables = rw kept (All-from_recursion IsTable (without port tables) (tables-without port tables (recursion_from_All IsTable tables inv.tables)));
       once = rw (kept, ports_of-without port tables) (once-without port (ports_of tables) inv.once);
       tied = rw kept (tied-same cells tables (without port tables) inv.tied (λ p. number-without port tables p (empty p)));
-      room = room_kept c.self.inside.room (vec_len c.self.inside.tables) (vec_capacity c.self.inside.tables) (vec_len c.retain.new.self) (vec_capacity c.retain.new.self) c.retain.ensures.bound c.retain.ensures.capacity inv.room;
+      room = room_kept c.self.inside.room c.self.inside.ports.spare c.remove.new.self.spare c.remove.ensures.spare inv.room;
     }
 
 pub returns : goal.returns
 returns c =
-    let tables = c.self.inside.tables.items in
+    let tables = c.self.inside.ports.tables in
     let port = c.args.port.0 in
-    let kept : c.retain.new.self.items ≡ without port tables = filter_same _ (λ (t : PortTable). not (nat_eq t.places.port.0 port)) _ (λ x b q k. search rules) _ _ c.retain.ensures.filtered in
+    let kept : c.remove.new.self.tables ≡ without port tables = c.remove.ensures.tables in
     rw (← c.self.view_is, kept, ports_of-without port tables) refl

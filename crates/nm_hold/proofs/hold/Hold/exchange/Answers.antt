@@ -1,11 +1,10 @@
 use Rattle.std.proofs.Common.{ℕ, ◌≡◌, ◌≢◌, ◌<◌, map, slice_set, Option, Some, None, refl, sym, ◌∙◌, ap, arith}
-use Rattle.std.specs.Vec.{with_items}
 use Rattle.std.proofs.lemmas.List.{length-set, get_or-set_other}
 use Rattle.nm_types.specs.Exchange.{swapped}
 use Rattle.nm_hold.specs.declared.standing.Home.{Home}
 use Rattle.nm_hold.specs.declared.standing.Standing.{Standing}
 use Rattle.nm_hold.specs.Standings.{home_in, moved_to}
-use Rattle.nm_hold.proofs.Steps.{put_tables, put_are_tables}
+use Rattle.nm_hold.proofs.Steps.{put_are_tables}
 use Rattle.nm_hold.proofs.hold.Hold.exchange.Goals.{in_default-via-in-Some+in_default, in_default-via-in_default}
 use Rattle.nm_hold.specs.Tables.{number_at, put_in}
 use Rattle.nm_hold.specs.Holds.{cell_at, places_in, is_named_in}
@@ -17,9 +16,9 @@ use Rattle.nm_hold.proofs.hold.Hold.exchange.Goals as goal
 pub returns-then-was-idx-clause-places : goal.returns-then-was-idx-clause-places
 returns-then-was-idx-clause-places c q =
     let cells = c.self.inside.cells.items in
-    let tables = c.self.inside.tables.items in
+    let tables = c.self.inside.ports.tables in
     let tied = c.self.invariant.tied in
-    let number = c.number-was.ensures ∙ ap (λ ts. number_at ts c.args.place) c.deref.ensures.value in
+    let number = c.number-was.ensures in
     let some = held_has_number cells tables c.args.place tied (rw (← c.self.view_is) at c.requires.held) in
     let at : number_at tables c.args.place ≡ c.args.idx = sym number ∙ c.if-was-idx.true in
     let held = held-number cells tables c.args.place tied ∙ (number_if-some (number_at tables c.args.place) some ∙ ap (λ (n : ℕ). Some n) at) in
@@ -28,8 +27,8 @@ returns-then-was-idx-clause-places c q =
 pub returns-then-was-idx-clause-named : goal.returns-then-was-idx-clause-named
 returns-then-was-idx-clause-named c was i e =
     let cells = c.self.inside.cells.items in
-    let tables = c.self.inside.tables.items in
-    let number = c.number-was.ensures ∙ ap (λ ts. number_at ts c.args.place) c.deref.ensures.value in
+    let tables = c.self.inside.ports.tables in
+    let number = c.number-was.ensures in
     let held = held-number cells tables c.args.place c.self.invariant.tied in
     let at = (number_if-is (number_at tables c.args.place) was (sym held ∙ (rw (← c.self.view_is) at e))).0 in
     let idx : was ≡ c.args.idx = sym at ∙ (sym number ∙ c.if-was-idx.true) in
@@ -50,9 +49,9 @@ none_home o s cell e f g = none_some s.home (sym e ∙ (f ∙ ap home_in g))
 pub unreachable-requires : goal.unreachable-requires
 unreachable-requires c =
     let cells = c.self.inside.cells.items in
-    let tables = c.self.inside.tables.items in
+    let tables = c.self.inside.ports.tables in
     let tied = c.self.invariant.tied in
-    let number = c.number-was.ensures ∙ ap (λ ts. number_at ts c.args.place) c.deref.ensures.value in
+    let number = c.number-was.ensures in
     let some = held_has_number cells tables c.args.place tied (rw (← c.self.view_is) at c.requires.held) in
     let found = standing_by_number cells tables c.args.place tied some in
     let named = named_stands (cell_at cells c.args.idx) (rw (← c.self.view_is) at c.requires.named) in
@@ -65,33 +64,31 @@ unreachable-requires c =
 
 pub put-requires-2 : goal.put-requires-2
 put-requires-2 c =
-    let tables = c.self.inside.tables.items in
-    let put = c.put.ensures ∙ ap (map (put_in c.args.place c.args.idx)) c.deref_mut.ensures.value in
-    let same = put_tables c.self.inside.tables c.put.new.tables c.args.place c.args.idx put in
-    rw (c.deref_mut-2.ensures.value, same) (put_are_tables c.args.place c.args.idx tables c.self.invariant.tables)
+    let tables = c.self.inside.ports.tables in
+    rw c.put.ensures.tables (put_are_tables c.args.place c.args.idx tables c.self.invariant.tables)
 
 -- the facts of the step, over the fields
-record Step (c : goal.After-self-4-1) : Type 0 where
+record Step (c : goal.After-put-2) : Type 0 where
   s : Standing
   t : Standing
-  number : c.number-was.result ≡ number_at c.self.inside.tables.items c.args.place
-  some : 0 < number_at c.self.inside.tables.items c.args.place
-  made : Exchange c.self.inside.cells.items c.self.inside.tables.items
-      (put_both c.args.place c.args.idx t.home.place (number_at c.self.inside.tables.items c.args.place) c.self.inside.tables.items) c.args.place c.args.idx s t
+  number : c.number-was.result ≡ number_at c.self.inside.ports.tables c.args.place
+  some : 0 < number_at c.self.inside.ports.tables c.args.place
+  made : Exchange c.self.inside.cells.items c.self.inside.ports.tables
+      (put_both c.args.place c.args.idx t.home.place (number_at c.self.inside.ports.tables c.args.place) c.self.inside.ports.tables) c.args.place c.args.idx s t
   cells : slice_set (slice_set c.self.inside.cells.items c.number-was.result c.move_to.new.cell) c.args.idx c.move_to-2.new.cell
-      ≡ moved c.self.inside.cells.items c.self.inside.tables.items (put_both c.args.place c.args.idx t.home.place (number_at c.self.inside.tables.items c.args.place) c.self.inside.tables.items) c.args.place c.args.idx s t made
-  same : (with_items (with_items c.self.inside.tables c.put.new.tables) c.put-2.new.tables).items
-      ≡ put_both c.args.place c.args.idx t.home.place (number_at c.self.inside.tables.items c.args.place) c.self.inside.tables.items
+      ≡ moved c.self.inside.cells.items c.self.inside.ports.tables (put_both c.args.place c.args.idx t.home.place (number_at c.self.inside.ports.tables c.args.place) c.self.inside.ports.tables) c.args.place c.args.idx s t made
+  same : c.put-2.new.self.tables
+      ≡ put_both c.args.place c.args.idx t.home.place (number_at c.self.inside.ports.tables c.args.place) c.self.inside.ports.tables
 
-step : (c : goal.After-self-4-1) → Step c
+step : (c : goal.After-put-2) → Step c
 step c =
     let cells = c.self.inside.cells.items in
-    let tables = c.self.inside.tables.items in
+    let tables = c.self.inside.ports.tables in
     let p = c.args.place in
     let idx = c.args.idx in
     let was = c.number-was.result in
     let inv = c.self.invariant in
-    let number = c.number-was.ensures ∙ ap (λ ts. number_at ts p) c.deref.ensures.value in
+    let number = c.number-was.ensures in
     let some = held_has_number cells tables p inv.tied (rw (← c.self.view_is) at c.requires.held) in
     let found = standing_by_number cells tables p inv.tied some in
     let named = named_stands (cell_at cells idx) (rw (← c.self.view_is) at c.requires.named) in
@@ -110,9 +107,8 @@ step c =
     let read_two = cell_read (slice_set cells was c.move_to.new.cell) idx c.index_mut-2.result.now (omega (arith, count, idx_within)) c.index_mut-2.ensures.value in
     let still : cell_at (slice_set cells was c.move_to.new.cell) idx ≡ Some t = get_or-set_other cells was idx c.move_to.new.cell None other ∙ t_there in
     let two : c.move_to-2.new.cell ≡ Some (record t { home = s.home }) = c.move_to-2.ensures ∙ (ap (moved_to c.in-Some-Some.here) (read_two ∙ still) ∙ ap (λ (h : Home). Some (record t { home = h })) here) in
-    let put = c.put.ensures ∙ ap (map (put_in p idx)) c.deref_mut.ensures.value in
-    let first = put_tables c.self.inside.tables c.put.new.tables p idx put in
-    let second = put_tables (with_items c.self.inside.tables c.put.new.tables) c.put-2.new.tables c.in-Some-Some.there.place was (c.put-2.ensures ∙ ap (map (put_in c.in-Some-Some.there.place was)) c.deref_mut-2.ensures.value) in
+    let first = c.put.ensures.tables in
+    let second = c.put-2.ensures.tables in
     record {
       s = s;
       t = t;
@@ -131,7 +127,7 @@ invariant_of-self c =
     let f = step c in
     let inv = c.self.invariant in
     let cells = c.self.inside.cells.items in
-    let tables = c.self.inside.tables.items in
+    let tables = c.self.inside.ports.tables in
     let new = put_both c.args.place c.args.idx f.t.home.place (number_at tables c.args.place) tables in
     let count = count_moved cells tables new c.args.place c.args.idx f.s f.t f.made in
     let tied = tied_moved cells tables new c.args.place c.args.idx f.s f.t f.made in
@@ -141,14 +137,14 @@ invariant_of-self c =
       tables = rw f.same (put_are_tables f.t.home.place (number_at tables c.args.place) (map (put_in c.args.place c.args.idx) tables) (put_are_tables c.args.place c.args.idx tables inv.tables));
       once = rw (f.same, ports_of-put_both c.args.place c.args.idx f.t.home.place (number_at tables c.args.place) tables) inv.once;
       tied = rw (f.same, f.cells) tied;
-      room = inv.room;
+      room = rw (c.put-2.ensures.spare, c.put.ensures.spare) inv.room;
     }
 
 pub returns-clause-places : goal.returns-clause-places
 returns-clause-places c q =
     let f = step c in
     let cells = c.self.inside.cells.items in
-    let tables = c.self.inside.tables.items in
+    let tables = c.self.inside.ports.tables in
     let new = put_both c.args.place c.args.idx f.t.home.place (number_at tables c.args.place) tables in
     rw (← c.self.view_is, f.cells) (places_moved cells tables new c.args.place c.args.idx f.s f.t f.made q)
 
@@ -156,7 +152,7 @@ pub returns-clause-buffers : goal.returns-clause-buffers
 returns-clause-buffers c i =
     let f = step c in
     let cells = c.self.inside.cells.items in
-    let tables = c.self.inside.tables.items in
+    let tables = c.self.inside.ports.tables in
     let new = put_both c.args.place c.args.idx f.t.home.place (number_at tables c.args.place) tables in
     rw (← c.self.view_is, f.cells) (bufs_moved cells tables new c.args.place c.args.idx f.s f.t f.made i)
 
@@ -164,7 +160,7 @@ pub returns-clause-named : goal.returns-clause-named
 returns-clause-named c was i e =
     let f = step c in
     let cells = c.self.inside.cells.items in
-    let tables = c.self.inside.tables.items in
+    let tables = c.self.inside.ports.tables in
     let new = put_both c.args.place c.args.idx f.t.home.place (number_at tables c.args.place) tables in
     let held = held-number cells tables c.args.place c.self.invariant.tied in
     let at = (number_if-is (number_at tables c.args.place) was (sym held ∙ (rw (← c.self.view_is) at e))).0 in
@@ -173,5 +169,5 @@ returns-clause-named c was i e =
 pub returns-clause-ports : goal.returns-clause-ports
 returns-clause-ports c =
     let f = step c in
-    let tables = c.self.inside.tables.items in
+    let tables = c.self.inside.ports.tables in
     rw (← c.self.view_is, f.same) (ports_of-put_both c.args.place c.args.idx f.t.home.place (number_at tables c.args.place) tables)

@@ -5,21 +5,21 @@ use Rattle.nm_hold.proofs.hold.Hold.extras.Goals as goal
 pub returns-in-Some-clause-hold : goal.returns-in-Some-clause-hold
 returns-in-Some-clause-hold c =
     let inv = c.self.invariant in
-    rw (← c.self.view_is) (IsHold-stored c.self.inside.cells.items c.self.inside.tables.items _ inv.low inv.high inv.tables inv.once inv.tied)
+    rw (← c.self.view_is) (IsHold-stored c.self.inside.cells.items c.self.inside.ports.tables _ inv.low inv.high inv.tables inv.once inv.tied)
 
 pub returns-in-None-clause-hold : goal.returns-in-None-clause-hold
 returns-in-None-clause-hold c =
     let inv = c.self.invariant in
-    rw (← c.self.view_is) (IsHold-stored c.self.inside.cells.items c.self.inside.tables.items _ inv.low inv.high inv.tables inv.once inv.tied)
+    rw (← c.self.view_is) (IsHold-stored c.self.inside.cells.items c.self.inside.ports.tables _ inv.low inv.high inv.tables inv.once inv.tied)
 
 pub returns-in-Some-clause-extras : goal.returns-in-Some-clause-extras
 returns-in-Some-clause-extras c =
-    let tables = c.self.inside.tables.items in
-    let found = rw (c.in-Some.is, c.deref.ensures.value) at c.table_of.ensures in
+    let tables = c.self.inside.ports.tables in
+    let found = rw c.in-Some.is at c.table.ensures.table in
     rw (← c.self.view_is) (extra_of-tables c.args.port.0 tables (Some c.in-Some.table.now) found)
 
 pub returns-in-None-clause-extras : goal.returns-in-None-clause-extras
 returns-in-None-clause-extras c =
-    let tables = c.self.inside.tables.items in
-    let found = rw (c.in-None.is, c.deref.ensures.value) at c.table_of.ensures in
+    let tables = c.self.inside.ports.tables in
+    let found = rw c.in-None.is at c.table.ensures.table in
     rw (← c.self.view_is) (extra_of-tables c.args.port.0 tables None found)

@@ -5,14 +5,14 @@ use Rattle.nm_hold.proofs.hold.Hold.index.Goals as goal
 
 pub returns-then-idx-eq0 : goal.returns-then-idx-eq0
 returns-then-idx-eq0 c =
-    let held = held-number c.self.inside.cells.items c.self.inside.tables.items c.args.place c.self.invariant.tied in
-    let number = rw c.deref.ensures.value at c.number-idx.ensures in
-    let none : number_at c.self.inside.tables.items c.args.place ≡ 0 = sym number ∙ c.if-idx-eq0.true in
+    let held = held-number c.self.inside.cells.items c.self.inside.ports.tables c.args.place c.self.invariant.tied in
+    let number = c.number-idx.ensures in
+    let none : number_at c.self.inside.ports.tables c.args.place ≡ 0 = sym number ∙ c.if-idx-eq0.true in
     rw (← c.self.view_is) (sym (held ∙ ap number_if none))
 
 pub returns-else-idx-eq0 : goal.returns-else-idx-eq0
 returns-else-idx-eq0 c =
-    let held = held-number c.self.inside.cells.items c.self.inside.tables.items c.args.place c.self.invariant.tied in
-    let number = rw c.deref.ensures.value at c.number-idx.ensures in
+    let held = held-number c.self.inside.cells.items c.self.inside.ports.tables c.args.place c.self.invariant.tied in
+    let number = c.number-idx.ensures in
     let some : 0 < c.number-idx.result = omega arith in
     rw (← c.self.view_is) (sym (held ∙ (ap number_if (sym number) ∙ number_if-some c.number-idx.result some)))

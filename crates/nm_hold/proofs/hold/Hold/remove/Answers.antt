@@ -1,5 +1,4 @@
 use Rattle.std.proofs.Common.{ℕ, ◌≡◌, ◌<◌, map, slice_set, Some, None, refl, sym, ◌∙◌, ap}
-use Rattle.std.specs.Vec.{with_items}
 use Rattle.std.proofs.lemmas.List.{length-set}
 use Rattle.nm_hold.specs.declared.standing.Standing.{Standing}
 use Rattle.nm_hold.specs.Standings.{buf_in}
@@ -9,17 +8,17 @@ use Rattle.nm_hold.specs.Ties.{IsTied}
 use Rattle.nm_hold.proofs.Numbers.{ports_of-put}
 use Rattle.nm_hold.proofs.Tied.{number_if-some, held-number, standing_by_number, within_cells}
 use Rattle.nm_hold.proofs.Shown.{cell_read, held_has_number}
-use Rattle.nm_hold.proofs.Steps.{put_tables, put_are_tables, removed_tied, removed_places}
+use Rattle.nm_hold.proofs.Steps.{put_are_tables, removed_tied, removed_places}
 use Rattle.nm_hold.proofs.hold.Hold.remove.Goals as goal
 
 pub unreachable-requires : goal.unreachable-requires
 unreachable-requires c =
     let cells = c.self.inside.cells.items in
-    let tables = c.self.inside.tables.items in
+    let tables = c.self.inside.ports.tables in
     let p = c.args.place in
     let idx = c.number-idx.result in
     let tied = c.self.invariant.tied in
-    let number = c.number-idx.ensures ∙ ap (λ ts. number_at ts p) c.deref.ensures.value in
+    let number = c.number-idx.ensures in
     let some = held_has_number cells tables p tied (rw (← c.self.view_is) at c.requires) in
     let found = standing_by_number cells tables p tied some in
     let there : cell_at cells idx ≡ Some found.0 = ap (cell_at cells) number ∙ found.1 in
@@ -32,33 +31,32 @@ unreachable-requires c =
 
 -- the facts of the step, over the fields
 record Step (c : goal.In-Some) : Type 0 where
-  number : c.number-idx.result ≡ number_at c.self.inside.tables.items c.args.place
-  some : 0 < number_at c.self.inside.tables.items c.args.place
+  number : c.number-idx.result ≡ number_at c.self.inside.ports.tables c.args.place
+  some : 0 < number_at c.self.inside.ports.tables c.args.place
   there : cell_at c.self.inside.cells.items c.number-idx.result ≡ Some c.in-Some.field-0
   index : c.in-Some.field-0.buf.index ≡ c.number-idx.result
-  same : (with_items c.self.inside.tables c.put.new.tables).items ≡ map (put_in c.args.place 0) c.self.inside.tables.items
-  tied : IsTied (slice_set c.self.inside.cells.items c.number-idx.result None) (map (put_in c.args.place 0) c.self.inside.tables.items)
+  same : c.put.new.self.tables ≡ map (put_in c.args.place 0) c.self.inside.ports.tables
+  tied : IsTied (slice_set c.self.inside.cells.items c.number-idx.result None) (map (put_in c.args.place 0) c.self.inside.ports.tables)
 
 step : (c : goal.In-Some) → Step c
 step c =
     let cells = c.self.inside.cells.items in
-    let tables = c.self.inside.tables.items in
+    let tables = c.self.inside.ports.tables in
     let p = c.args.place in
     let idx = c.number-idx.result in
     let inv = c.self.invariant in
-    let number = c.number-idx.ensures ∙ ap (λ ts. number_at ts p) c.deref.ensures.value in
+    let number = c.number-idx.ensures in
     let some = held_has_number cells tables p inv.tied (rw (← c.self.view_is) at c.requires) in
     let found = standing_by_number cells tables p inv.tied some in
     let within = within_cells cells idx found.0 (ap (cell_at cells) number ∙ found.1) in
     let read = cell_read cells idx c.index_mut-cell.result.now within c.index_mut-cell.ensures.value in
     let there : cell_at cells idx ≡ Some c.in-Some.field-0 = sym read ∙ (sym c.take.ensures.value ∙ c.in-Some.is) in
-    let put = c.put.ensures ∙ ap (map (put_in p 0)) c.deref_mut.ensures.value in
     record {
       number = number;
       some = some;
       there = there;
       index = (inv.tied.standing idx c.in-Some.field-0 there).index;
-      same = put_tables c.self.inside.tables c.put.new.tables p 0 put;
+      same = c.put.ensures.tables;
       tied = rw number (removed_tied cells tables p inv.tables inv.tied some);
     }
 
@@ -70,18 +68,18 @@ invariant_of-self c =
     record {
       low = rw count inv.low;
       high = rw count inv.high;
-      tables = rw f.same (put_are_tables c.args.place 0 c.self.inside.tables.items inv.tables);
-      once = rw (f.same, ports_of-put c.args.place 0 c.self.inside.tables.items) inv.once;
+      tables = rw f.same (put_are_tables c.args.place 0 c.self.inside.ports.tables inv.tables);
+      once = rw (f.same, ports_of-put c.args.place 0 c.self.inside.ports.tables) inv.once;
       tied = rw (f.same, c.take.ensures.after) f.tied;
-      room = inv.room;
+      room = rw c.put.ensures.spare inv.room;
     }
 
 pub returns-clause-index : goal.returns-clause-index
 returns-clause-index c =
     let f = step c in
-    let held = held-number c.self.inside.cells.items c.self.inside.tables.items c.args.place c.self.invariant.tied in
+    let held = held-number c.self.inside.cells.items c.self.inside.ports.tables c.args.place c.self.invariant.tied in
     let idx = f.index ∙ f.number in
-    rw (← c.self.view_is, idx) (held ∙ number_if-some (number_at c.self.inside.tables.items c.args.place) f.some)
+    rw (← c.self.view_is, idx) (held ∙ number_if-some (number_at c.self.inside.ports.tables c.args.place) f.some)
 
 pub returns-clause-buffer : goal.returns-clause-buffer
 returns-clause-buffer c = let f = step c in rw (← c.self.view_is) (ap (λ (n : ℕ). buf_in (cell_at c.self.inside.cells.items n)) f.index ∙ ap buf_in f.there)
@@ -89,11 +87,11 @@ returns-clause-buffer c = let f = step c in rw (← c.self.view_is) (ap (λ (n :
 pub returns-clause-cell : goal.returns-clause-cell
 returns-clause-cell c =
     let f = step c in
-    rw (← c.self.view_is, f.same, c.take.ensures.after, ports_of-put c.args.place 0 c.self.inside.tables.items, f.index) refl
+    rw (← c.self.view_is, f.same, c.take.ensures.after, ports_of-put c.args.place 0 c.self.inside.ports.tables, f.index) refl
 
 pub returns-clause-places : goal.returns-clause-places
 returns-clause-places c q =
     let f = step c in
     let inv = c.self.invariant in
     let cells = c.self.inside.cells.items in
-    rw (← c.self.view_is, c.take.ensures.after) (removed_places cells (slice_set cells c.number-idx.result None) c.self.inside.tables.items c.args.place inv.tables inv.tied f.some f.tied q)
+    rw (← c.self.view_is, c.take.ensures.after) (removed_places cells (slice_set cells c.number-idx.result None) c.self.inside.ports.tables c.args.place inv.tables inv.tied f.some f.tied q)

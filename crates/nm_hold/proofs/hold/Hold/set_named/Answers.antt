@@ -12,18 +12,18 @@ use Rattle.nm_hold.proofs.hold.Hold.set_named.Goals as goal
 
 -- the facts of the step, over the fields
 record Step (c : goal.After-self-1) : Type 0 where
-  number : c.number-idx.result ≡ number_at c.self.inside.tables.items c.args.place
+  number : c.number-idx.result ≡ number_at c.self.inside.ports.tables c.args.place
   after : c.rename.new.cell ≡ renamed c.args.named (cell_at c.self.inside.cells.items c.number-idx.result)
-  tied : IsTied (slice_set c.self.inside.cells.items c.number-idx.result c.rename.new.cell) c.self.inside.tables.items
+  tied : IsTied (slice_set c.self.inside.cells.items c.number-idx.result c.rename.new.cell) c.self.inside.ports.tables
 
 step : (c : goal.After-self-1) → Step c
 step c =
     let cells = c.self.inside.cells.items in
-    let tables = c.self.inside.tables.items in
+    let tables = c.self.inside.ports.tables in
     let p = c.args.place in
     let idx = c.number-idx.result in
     let tied = c.self.invariant.tied in
-    let number = c.number-idx.ensures ∙ ap (λ ts. number_at ts p) c.deref.ensures.value in
+    let number = c.number-idx.ensures in
     let some = held_has_number cells tables p tied (rw (← c.self.view_is) at c.requires) in
     let found = standing_by_number cells tables p tied some in
     let there : cell_at cells idx ≡ Some found.0 = ap (cell_at cells) number ∙ found.1 in
@@ -48,11 +48,11 @@ invariant_of-self c =
 pub returns-clause-cell : goal.returns-clause-cell
 returns-clause-cell c idx e =
     let f = step c in
-    let held = held-number c.self.inside.cells.items c.self.inside.tables.items c.args.place c.self.invariant.tied in
-    let at = (number_if-is (number_at c.self.inside.tables.items c.args.place) idx (sym held ∙ (rw (← c.self.view_is) at e))).0 in
+    let held = held-number c.self.inside.cells.items c.self.inside.ports.tables c.args.place c.self.invariant.tied in
+    let at = (number_if-is (number_at c.self.inside.ports.tables c.args.place) idx (sym held ∙ (rw (← c.self.view_is) at e))).0 in
     rw (← c.self.view_is, ← (f.number ∙ at), f.after) refl
 
 pub returns-clause-places : goal.returns-clause-places
 returns-clause-places c q =
     let f = step c in
-    rw (← c.self.view_is) (same_places c.self.inside.cells.items (slice_set c.self.inside.cells.items c.number-idx.result c.rename.new.cell) c.self.inside.tables.items c.self.invariant.tied f.tied q)
+    rw (← c.self.view_is) (same_places c.self.inside.cells.items (slice_set c.self.inside.cells.items c.number-idx.result c.rename.new.cell) c.self.inside.ports.tables c.self.invariant.tied f.tied q)

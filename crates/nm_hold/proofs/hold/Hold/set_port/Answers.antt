@@ -12,13 +12,13 @@ pub invariant_of-self : goal.invariant_of-self
 invariant_of-self c =
     let inv = c.self.invariant in
     let cells = c.self.inside.cells.items in
-    let tables = c.self.inside.tables.items in
+    let tables = c.self.inside.ports.tables in
     let table = c.in-Some.table in
     let is : c.self.inside.room ≡ Some table = cc in
     let kept = rw is at inv.room in
     let new : PortTable = record table { places = record (table.places) { port = c.args.port } } in
     let blank : IsBlank new = record { table = record { sizes = kept.0.table.sizes; full = kept.0.table.full }; empty = kept.0.empty } in
-    let items = c.push_reserved.ensures.items in
+    let items = c.push.ensures in
     record {
       low = inv.low;
       high = inv.high;

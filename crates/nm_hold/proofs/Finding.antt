@@ -1,0 +1,400 @@
+-- The table of a port, found in its row.
+use Rattle.std.proofs.Common.{ℕ, zero, suc, ◌≡◌, ◌≢◌, ◌<◌, Bool, true, false, nat_eq, if◌then◌else◌, List, [], ◌∷◌, ◌++◌, length, map, filter, find, get_or, slice_set, Option, Some, None, inl, inr, refl, sym, ◌∙◌, ap, arith}
+use Rattle.std.specs.Prelude.{◌||◌, All, IfSome, IsSome, option_map, is_some}
+use Rattle.std.specs.List.{AllByRecursion}
+use Rattle.std.specs.Option.{option_map_or}
+use Rattle.std.proofs.lemmas.Bool.{cases_Bool}
+use Rattle.std.proofs.lemmas.Bool.Decides.{nat_tests}
+use Rattle.std.proofs.lemmas.List.{get_or_read, get_or-set_same, get_or-set_other}
+use Rattle.std.proofs.lemmas.List.Elements.{recursion_from_All}
+use Rattle.nm_types.specs.declared.place.Place.{Place}
+use Rattle.nm_hold.specs.declared.table.PortTable.{PortTable}
+use Rattle.nm_hold.specs.Offsets.{offset_of, has_port, ArePortsOnce}
+use Rattle.nm_hold.specs.Holds.{port_of}
+use Rattle.nm_hold.specs.Tables.{IsTable, ports_of, number_in, number_at, put_in}
+use Rattle.nm_hold.specs.Indexed.{present, row_at, port_in, port_at, noted, IsIndexed, AreKeys}
+use Rattle.nm_hold.proofs.Spots.{nat_eq-is, offset-port}
+use Rattle.nm_hold.proofs.Numbers.{without}
+
+true_false : {X : Type 0} → true ≡ false → X
+true_false e = cc
+
+none_some : {X : Type 0} (n : ℕ) → None ≡ Some n → X
+none_some n e = cc
+
+some_is : (a b : ℕ) → Some a ≡ Some b → a ≡ b
+some_is a b e = cc
+
+nat_eq-same : (a b : ℕ) → a ≡ b → nat_eq a b ≡ true
+nat_eq-same a b e = grind (arith, nat_tests)
+
+nat_eq-differs : (a b : ℕ) → a ≢ b → nat_eq a b ≡ false
+nat_eq-differs a b e = grind (arith, nat_tests)
+
+apart_from : (a b : ℕ) → nat_eq a b ≡ false → a ≢ b
+apart_from a b e f = true_false (sym (nat_eq-same a b f) ∙ e)
+
+or_true : (a b : Bool) → b ≡ true → (a || b) ≡ true
+or_true true b e = refl
+or_true false b e = e
+
+-- the table in a row that has a port
+pub table_in : (row : Option PortTable) (port : ℕ) → port_in row ≡ Some port → (t : PortTable) × (row ≡ Some t) × (t.places.port.0 ≡ port)
+table_in None port e = none_some port e
+table_in (Some t) port e = (t, refl, some_is t.places.port.0 port e)
+
+-- what is read at a row
+pub row_read : (rows : List (Option PortTable)) (at : ℕ) (row : Option PortTable) → at < length rows → row ≡ get_or rows at row → row ≡ row_at rows at
+row_read rows at row h e = get_or_read rows at row h e None
+
+pub within_rows : (rows : List (Option PortTable)) (at port : ℕ) → port_at rows at ≡ Some port → at < length rows
+within_rows [] at port e = none_some port e
+within_rows (s ∷ rows) zero port e = omega arith
+within_rows (s ∷ rows) (suc at) port e = omega (arith, within_rows rows at port e)
+
+-- no port has two rows
+abbrev pub AreApart : List (Option PortTable) → Type 0
+AreApart rows = (at other port : ℕ) → port_at rows at ≡ Some port → port_at rows other ≡ Some port → at ≡ other
+
+pub apart-indexed : (rows : List (Option PortTable)) (index : ℕ → Option ℕ) → IsIndexed rows index → AreApart rows
+apart-indexed rows index is at other port e f = some_is at other (sym (is.found at port e) ∙ is.found other port f)
+
+tail_apart : (s : Option PortTable) (rows : List (Option PortTable)) → AreApart (s ∷ rows) → AreApart rows
+tail_apart s rows apart at other port e f = let next : suc at ≡ suc other = apart (suc at) (suc other) port e f in omega (arith, next)
+
+-- a row has the port exactly where it is among those present
+pub port-there : (rows : List (Option PortTable)) (at port : ℕ) → port_at rows at ≡ Some port → has_port (ports_of (present rows)) port ≡ true
+port-there [] at port e = none_some port e
+port-there (None ∷ rows) zero port e = none_some port e
+port-there (None ∷ rows) (suc at) port e = port-there rows at port e
+port-there (Some t ∷ rows) zero port e = rw (nat_eq-same t.places.port.0 port (some_is t.places.port.0 port e)) refl
+port-there (Some t ∷ rows) (suc at) port e = or_true (nat_eq t.places.port.0 port) (has_port (ports_of (present rows)) port) (port-there rows at port e)
+
+pub row-there : (rows : List (Option PortTable)) (port : ℕ) → has_port (ports_of (present rows)) port ≡ true → (at : ℕ) × (port_at rows at ≡ Some port)
+row-there [] port has = cc
+row-there (None ∷ rows) port has = let rest = row-there rows port has in (suc rest.0, rest.1)
+row-there (Some t ∷ rows) port has = elim (cases_Bool (nat_eq t.places.port.0 port)) [
+  | inl same ↦ (0, ap (λ (n : ℕ). Some n) (nat_eq-is t.places.port.0 port same))
+  | inr differs ↦ (let rest = row-there rows port (rw differs at has) in (suc rest.0, rest.1))
+]
+
+pub once-apart : (rows : List (Option PortTable)) → AreApart rows → ArePortsOnce (ports_of (present rows))
+once-apart [] apart = tt
+once-apart (None ∷ rows) apart = once-apart rows (tail_apart None rows apart)
+once-apart (Some t ∷ rows) apart = (
+  elim (cases_Bool (has_port (ports_of (present rows)) t.places.port.0)) [
+    | inl has ↦ (let there = row-there rows t.places.port.0 has in let same : 0 ≡ suc there.0 = apart 0 (suc there.0) t.places.port.0 refl there.1 in absurd (omega (arith, same)))
+    | inr none ↦ none
+  ],
+  once-apart rows (tail_apart (Some t) rows apart),
+)
+
+pub apart-once : (rows : List (Option PortTable)) → ArePortsOnce (ports_of (present rows)) → AreApart rows
+apart-once [] once at other port e f = none_some port e
+apart-once (None ∷ rows) once zero other port e f = none_some port e
+apart-once (None ∷ rows) once (suc at) zero port e f = none_some port f
+apart-once (None ∷ rows) once (suc at) (suc other) port e f = ap suc (apart-once rows once at other port e f)
+apart-once (Some t ∷ rows) once zero zero port e f = refl
+apart-once (Some t ∷ rows) once zero (suc other) port e f =
+    let same : t.places.port.0 ≡ port = some_is t.places.port.0 port e in
+    true_false (sym (port-there rows other port f) ∙ (ap (has_port (ports_of (present rows))) (sym same) ∙ once.0))
+apart-once (Some t ∷ rows) once (suc at) zero port e f =
+    let same : t.places.port.0 ≡ port = some_is t.places.port.0 port f in
+    true_false (sym (port-there rows at port e) ∙ (ap (has_port (ports_of (present rows))) (sym same) ∙ once.0))
+apart-once (Some t ∷ rows) once (suc at) (suc other) port e f = ap suc (apart-once rows once.1 at other port e f)
+
+-- the numbers that are found are those of the ports
+pub keys-indexed : (rows : List (Option PortTable)) (index : ℕ → Option ℕ) → IsIndexed rows index → AreKeys rows index
+keys-indexed rows index is = record { once = once-apart rows (apart-indexed rows index is); known = λ port. by_index port (index port) refl }
+  where
+    by_index : (port : ℕ) (o : Option ℕ) → index port ≡ o → is_some (index port) ≡ has_port (ports_of (present rows)) port
+    by_index port (Some at) e = rw e (sym (port-there rows at port (is.there at port e)))
+    by_index port None e = elim (cases_Bool (has_port (ports_of (present rows)) port)) [
+      | inl has ↦ (let there = row-there rows port has in none_some there.0 (sym e ∙ is.found there.0 port there.1))
+      | inr none ↦ rw (e, none) refl
+    ]
+
+-- the table of a port
+pub find-row : (rows : List (Option PortTable)) (at port : ℕ) → AreApart rows → port_at rows at ≡ Some port → find (λ (t : PortTable). nat_eq t.places.port.0 port) (present rows) ≡ row_at rows at
+find-row [] at port apart e = none_some port e
+find-row (None ∷ rows) zero port apart e = none_some port e
+find-row (None ∷ rows) (suc at) port apart e = find-row rows at port (tail_apart None rows apart) e
+find-row (Some t ∷ rows) zero port apart e = rw (nat_eq-same t.places.port.0 port (some_is t.places.port.0 port e)) refl
+find-row (Some t ∷ rows) (suc at) port apart e =
+    let differ : t.places.port.0 ≢ port = (λ (same : t.places.port.0 ≡ port). let first : 0 ≡ suc at = apart 0 (suc at) port (ap (λ (n : ℕ). Some n) same) e in absurd (omega (arith, first))) in
+    rw (nat_eq-differs t.places.port.0 port differ) (find-row rows at port (tail_apart (Some t) rows apart) e)
+
+pub find-none : (rows : List (Option PortTable)) (port : ℕ) → has_port (ports_of (present rows)) port ≡ false → find (λ (t : PortTable). nat_eq t.places.port.0 port) (present rows) ≡ None
+find-none rows port none = over (present rows) none
+  where
+    over : (tables : List PortTable) → has_port (ports_of tables) port ≡ false → find (λ (t : PortTable). nat_eq t.places.port.0 port) tables ≡ None
+    over [] none = refl
+    over (t ∷ tables) none = elim (cases_Bool (nat_eq t.places.port.0 port)) [
+      | inl same ↦ true_false (sym (rw same refl) ∙ none)
+      | inr differs ↦ rw differs (over tables (rw differs at none))
+    ]
+
+pub no_index : (rows : List (Option PortTable)) (index : ℕ → Option ℕ) (port : ℕ) → IsIndexed rows index → index port ≡ None → has_port (ports_of (present rows)) port ≡ false
+no_index rows index port is e = let keys = keys-indexed rows index is in sym (keys.known port) ∙ ap is_some e
+
+-- the number at a place is in the table of its port
+number-absent : (tables : List PortTable) (place : Place) → has_port (ports_of tables) (port_of place) ≡ false → number_at tables place ≡ 0
+number-absent [] place none = refl
+number-absent (t ∷ tables) place none = by_offset (offset_of t.places place) refl (number-absent tables place)
+  where
+    by_offset : (o : Option ℕ) → offset_of t.places place ≡ o → (has_port (ports_of tables) (port_of place) ≡ false → number_at tables place ≡ 0) → number_at (t ∷ tables) place ≡ 0
+    by_offset (Some at) e rest =
+        let same : nat_eq t.places.port.0 (port_of place) ≡ true = nat_eq-same t.places.port.0 (port_of place) (sym (offset-port t.places place at e)) in
+        true_false (sym (rw same refl) ∙ none)
+    by_offset None e rest = elim (cases_Bool (nat_eq t.places.port.0 (port_of place))) [
+      | inl same ↦ true_false (sym (rw same refl) ∙ none)
+      | inr differs ↦ rw e (rest (rw differs at none))
+    ]
+
+pub number-found : (tables : List PortTable) (place : Place) → ArePortsOnce (ports_of tables)
+    → number_at tables place ≡ option_map_or (λ (t : PortTable). number_in t place) (find (λ (t : PortTable). nat_eq t.places.port.0 (port_of place)) tables) 0
+number-found [] place once = refl
+number-found (t ∷ tables) place once = by_offset (offset_of t.places place) refl (number-found tables place once.1)
+  where
+    by_offset : (o : Option ℕ) → offset_of t.places place ≡ o → number_at tables place ≡ option_map_or (λ (t : PortTable). number_in t place) (find (λ (t : PortTable). nat_eq t.places.port.0 (port_of place)) tables) 0
+        → number_at (t ∷ tables) place ≡ option_map_or (λ (t : PortTable). number_in t place) (find (λ (t : PortTable). nat_eq t.places.port.0 (port_of place)) (t ∷ tables)) 0
+    by_offset (Some at) e rest =
+        let same : nat_eq t.places.port.0 (port_of place) ≡ true = nat_eq-same t.places.port.0 (port_of place) (sym (offset-port t.places place at e)) in
+        rw (same, e) refl
+    by_offset None e rest = elim (cases_Bool (nat_eq t.places.port.0 (port_of place))) [
+      | inl same ↦ (let none : has_port (ports_of tables) (port_of place) ≡ false = ap (has_port (ports_of tables)) (sym (nat_eq-is t.places.port.0 (port_of place) same)) ∙ once.0 in
+          rw (same, e) (number-absent tables place none))
+      | inr differs ↦ rw (differs, e) rest
+    ]
+
+-- a number put at a place changes the table of its port alone
+put-apart : (place : Place) (number : ℕ) (t : PortTable) → t.places.port.0 ≢ port_of place → put_in place number t ≡ t
+put-apart place number t differ = by_offset (offset_of t.places place) refl
+  where
+    by_offset : (o : Option ℕ) → offset_of t.places place ≡ o → put_in place number t ≡ t
+    by_offset (Some at) e = absurd (differ (sym (offset-port t.places place at e)))
+    by_offset None e = rw e refl
+
+put-port : (place : Place) (number : ℕ) (row : Option PortTable) → port_in (option_map (put_in place number) row) ≡ port_in row
+put-port place number None = refl
+put-port place number (Some t) = by_offset (offset_of t.places place) refl
+  where
+    by_offset : (o : Option ℕ) → offset_of t.places place ≡ o → port_in (Some (put_in place number t)) ≡ port_in (Some t)
+    by_offset (Some at) e = rw e refl
+    by_offset None e = rw e refl
+
+pub put-absent : (rows : List (Option PortTable)) (place : Place) (number : ℕ) → has_port (ports_of (present rows)) (port_of place) ≡ false → map (put_in place number) (present rows) ≡ present rows
+put-absent rows place number none = over (present rows) none
+  where
+    over : (tables : List PortTable) → has_port (ports_of tables) (port_of place) ≡ false → map (put_in place number) tables ≡ tables
+    over [] none = refl
+    over (t ∷ tables) none = elim (cases_Bool (nat_eq t.places.port.0 (port_of place))) [
+      | inl same ↦ true_false (sym (rw same refl) ∙ none)
+      | inr differs ↦ (let first = put-apart place number t (apart_from t.places.port.0 (port_of place) differs) in
+          let rest = over tables (rw differs at none) in cc)
+    ]
+
+pub put-row : (rows : List (Option PortTable)) (at : ℕ) (place : Place) (number : ℕ) → AreApart rows → port_at rows at ≡ Some (port_of place)
+    → map (put_in place number) (present rows) ≡ present (slice_set rows at (option_map (put_in place number) (row_at rows at)))
+put-row [] at place number apart e = none_some (port_of place) e
+put-row (None ∷ rows) zero place number apart e = none_some (port_of place) e
+put-row (None ∷ rows) (suc at) place number apart e = put-row rows at place number (tail_apart None rows apart) e
+put-row (Some t ∷ rows) zero place number apart e =
+    let once = once-apart (Some t ∷ rows) apart in
+    let same : t.places.port.0 ≡ port_of place = some_is t.places.port.0 (port_of place) e in
+    let none : has_port (ports_of (present rows)) (port_of place) ≡ false = ap (has_port (ports_of (present rows))) (sym same) ∙ once.0 in
+    ap (λ (ts : List PortTable). put_in place number t ∷ ts) (put-absent rows place number none)
+put-row (Some t ∷ rows) (suc at) place number apart e =
+    let differ : t.places.port.0 ≢ port_of place = (λ (same : t.places.port.0 ≡ port_of place).
+    let first : 0 ≡ suc at = apart 0 (suc at) (port_of place) (ap (λ (n : ℕ). Some n) same) e in absurd (omega (arith, first))) in
+    let first = put-apart place number t differ in
+    let rest = put-row rows at place number (tail_apart (Some t) rows apart) e in
+    cc
+
+-- rows with the same ports
+indexed-same : (rows new : List (Option PortTable)) (index : ℕ → Option ℕ) → IsIndexed rows index → ((at : ℕ) → port_at new at ≡ port_at rows at) → IsIndexed new index
+indexed-same rows new index is same = record {
+  found = λ at port e. is.found at port (sym (same at) ∙ e);
+  there = λ at port e. same at ∙ is.there at port e;
+}
+
+pub indexed-put : (rows : List (Option PortTable)) (index : ℕ → Option ℕ) (at : ℕ) (place : Place) (number : ℕ) → IsIndexed rows index
+    → IsIndexed (slice_set rows at (option_map (put_in place number) (row_at rows at))) index
+indexed-put rows index at place number is = indexed-same rows (slice_set rows at (option_map (put_in place number) (row_at rows at))) index is (λ other. same rows at other)
+  where
+    same : (rows : List (Option PortTable)) (at other : ℕ) → port_at (slice_set rows at (option_map (put_in place number) (row_at rows at))) other ≡ port_at rows other
+    same [] at other = refl
+    same (s ∷ rows) zero zero = put-port place number s
+    same (s ∷ rows) zero (suc other) = refl
+    same (s ∷ rows) (suc at) zero = refl
+    same (s ∷ rows) (suc at) (suc other) = same rows at other
+
+-- one more table, behind the others
+pub present-push : (rows : List (Option PortTable)) (t : PortTable) → present (rows ++ Some t ∷ []) ≡ present rows ++ t ∷ []
+present-push [] t = refl
+present-push (None ∷ rows) t = present-push rows t
+present-push (Some u ∷ rows) t = ap (λ (ts : List PortTable). u ∷ ts) (present-push rows t)
+
+pub indexed-push : (rows : List (Option PortTable)) (t : PortTable) (index new : ℕ → Option ℕ) → IsIndexed rows index → has_port (ports_of (present rows)) t.places.port.0 ≡ false
+    → ((port : ℕ) → new port ≡ (if nat_eq t.places.port.0 port then Some (length rows) else index port)) → IsIndexed (rows ++ Some t ∷ []) new
+indexed-push rows t index new is none put = record {
+  found = λ at port e. elim (cases_Bool (nat_eq at (length rows))) [
+    | inl last ↦ (let here = nat_eq-is at (length rows) last in
+        let port_is : t.places.port.0 ≡ port = some_is t.places.port.0 port (sym (at_last rows) ∙ (ap (port_at (rows ++ Some t ∷ [])) (sym here) ∙ e)) in
+        let same = nat_eq-same t.places.port.0 port port_is in
+        rw (put port, same, here) refl)
+    | inr other ↦ (let before : port_at rows at ≡ Some port = sym (elsewhere rows at (apart_from at (length rows) other)) ∙ e in
+        let differ : t.places.port.0 ≢ port = (λ (same : t.places.port.0 ≡ port). true_false (sym (port-there rows at port before) ∙ (ap (has_port (ports_of (present rows))) (sym same) ∙ none))) in
+        rw (put port, nat_eq-differs t.places.port.0 port differ) (is.found at port before))
+  ];
+  there = λ at port e. elim (cases_Bool (nat_eq t.places.port.0 port)) [
+    | inl same ↦ (let here : length rows ≡ at = some_is (length rows) at (sym (rw same at (put port)) ∙ e) in
+        rw (← here) (at_last rows ∙ ap (λ (n : ℕ). Some n) (nat_eq-is t.places.port.0 port same)))
+    | inr differs ↦ (let before : port_at rows at ≡ Some port = is.there at port (sym (rw differs at (put port)) ∙ e) in
+        let within = within_rows rows at port before in
+        elsewhere rows at (λ (last : at ≡ length rows). absurd (omega (arith, last, within))) ∙ before)
+  ];
+}
+  where
+    at_last : (rows : List (Option PortTable)) → port_at (rows ++ Some t ∷ []) (length rows) ≡ Some t.places.port.0
+    at_last [] = refl
+    at_last (s ∷ rows) = at_last rows
+
+    elsewhere : (rows : List (Option PortTable)) (at : ℕ) → at ≢ length rows → port_at (rows ++ Some t ∷ []) at ≡ port_at rows at
+    elsewhere [] zero differ = absurd (differ refl)
+    elsewhere [] (suc at) differ = refl
+    elsewhere (s ∷ rows) zero differ = refl
+    elsewhere (s ∷ rows) (suc at) differ = elsewhere rows at (λ (e : at ≡ length rows). differ (ap suc e))
+
+-- a table is taken away
+pub without-absent : (rows : List (Option PortTable)) (port : ℕ) → has_port (ports_of (present rows)) port ≡ false → without port (present rows) ≡ present rows
+without-absent rows port none = over (present rows) none
+  where
+    over : (tables : List PortTable) → has_port (ports_of tables) port ≡ false → without port tables ≡ tables
+    over [] none = refl
+    over (t ∷ tables) none = elim (cases_Bool (nat_eq t.places.port.0 port)) [
+      | inl same ↦ true_false (sym (rw same refl) ∙ none)
+      | inr differs ↦ rw differs (ap (λ (ts : List PortTable). t ∷ ts) (over tables (rw differs at none)))
+    ]
+
+pub without-row : (rows : List (Option PortTable)) (at port : ℕ) → AreApart rows → port_at rows at ≡ Some port → present (slice_set rows at None) ≡ without port (present rows)
+without-row [] at port apart e = none_some port e
+without-row (None ∷ rows) zero port apart e = none_some port e
+without-row (None ∷ rows) (suc at) port apart e = without-row rows at port (tail_apart None rows apart) e
+without-row (Some t ∷ rows) zero port apart e =
+    let once = once-apart (Some t ∷ rows) apart in
+    let same : t.places.port.0 ≡ port = some_is t.places.port.0 port e in
+    let none : has_port (ports_of (present rows)) port ≡ false = ap (has_port (ports_of (present rows))) (sym same) ∙ once.0 in
+    rw (nat_eq-same t.places.port.0 port same) (sym (without-absent rows port none))
+without-row (Some t ∷ rows) (suc at) port apart e =
+    let differ : t.places.port.0 ≢ port = (λ (same : t.places.port.0 ≡ port). let first : 0 ≡ suc at = apart 0 (suc at) port (ap (λ (n : ℕ). Some n) same) e in absurd (omega (arith, first))) in
+    rw (nat_eq-differs t.places.port.0 port differ) (ap (λ (ts : List PortTable). t ∷ ts) (without-row rows at port (tail_apart (Some t) rows apart) e))
+
+pub indexed-without : (rows : List (Option PortTable)) (at port : ℕ) (index new : ℕ → Option ℕ) → IsIndexed rows index → index port ≡ Some at
+    → ((other : ℕ) → new other ≡ (if nat_eq port other then None else index other)) → IsIndexed (slice_set rows at None) new
+indexed-without rows at port index new is there gone = record {
+  found = λ k other e. elim (cases_Bool (nat_eq k at)) [
+    | inl same ↦ (let here : port_at (slice_set rows at None) at ≡ Some other = ap (port_at (slice_set rows at None)) (sym (nat_eq-is k at same)) ∙ e in
+        none_some other (sym (ap port_in (get_or-set_same rows at None None (within_rows rows at port (is.there at port there)))) ∙ here))
+    | inr differs ↦ (let before : port_at rows k ≡ Some other = sym (ap port_in (get_or-set_other rows at k None None (apart_from k at differs))) ∙ e in
+        let index_is = is.found k other before in
+        let differ : port ≢ other = (λ (same : port ≡ other). apart_from k at differs (some_is k at (sym index_is ∙ (ap index (sym same) ∙ there)))) in
+        rw (gone other, nat_eq-differs port other differ) index_is)
+  ];
+  there = λ k other e. elim (cases_Bool (nat_eq port other)) [
+    | inl same ↦ none_some k (sym (rw same at (gone other)) ∙ e)
+    | inr differs ↦ (let index_is : index other ≡ Some k = sym (rw differs at (gone other)) ∙ e in
+        let before = is.there k other index_is in
+        let differ : k ≢ at = (λ (same : k ≡ at). apart_from port other differs (some_is port other (sym (is.there at port there) ∙ (ap (port_at rows) (sym same) ∙ before)))) in
+        ap port_in (get_or-set_other rows at k None None differ) ∙ before)
+  ];
+}
+
+-- rows without those that are empty
+pub present-closed : (rows : List (Option PortTable)) → present (filter (λ (s : Option PortTable). is_some s) rows) ≡ present rows
+present-closed [] = refl
+present-closed (None ∷ rows) = present-closed rows
+present-closed (Some t ∷ rows) = ap (λ (ts : List PortTable). t ∷ ts) (present-closed rows)
+
+pub keys-closed : (rows new : List (Option PortTable)) (index : ℕ → Option ℕ) → present new ≡ present rows → IsIndexed rows index → AreKeys new index
+keys-closed rows new index same is = let keys = keys-indexed rows index is in record {
+  once = rw same keys.once;
+  known = λ port. keys.known port ∙ ap (λ (ts : List PortTable). has_port (ports_of ts) port) (sym same);
+}
+
+-- the rows before this one are noted
+abbrev pub IsNoted : List (Option PortTable) → (ℕ → Option ℕ) → ℕ → Type 0
+IsNoted rows index next = (at port : ℕ) → at < next → port_at rows at ≡ Some port → index port ≡ Some at
+
+pub indexed-noted : (rows : List (Option PortTable)) (index : ℕ → Option ℕ) → AreKeys rows index → IsNoted rows index (length rows) → IsIndexed rows index
+indexed-noted rows index keys noted = record {
+  found = all;
+  there = λ at port e. (let has : has_port (ports_of (present rows)) port ≡ true = sym (keys.known port) ∙ ap is_some e in
+      let there = row-there rows port has in
+      let same : there.0 ≡ at = some_is there.0 at (sym (all there.0 port there.1) ∙ e) in
+      ap (port_at rows) (sym same) ∙ there.1);
+}
+  where
+    all : (at port : ℕ) → port_at rows at ≡ Some port → index port ≡ Some at
+    all at port e = noted at port (within_rows rows at port e) e
+
+pub noted-next : (rows : List (Option PortTable)) (index new : ℕ → Option ℕ) (next : ℕ) → AreKeys rows index → IsNoted rows index next
+    → ((port : ℕ) → new port ≡ noted (port_at rows next) next port (index port)) → IsNoted rows new (suc next)
+noted-next rows index new next keys before put at other within e = by_port (port_at rows next) refl
+  where
+    by_port : (o : Option ℕ) → port_at rows next ≡ o → new other ≡ Some at
+    by_port None none =
+        let other_row : at ≢ next = (λ (same : at ≡ next). none_some other (sym none ∙ (ap (port_at rows) (sym same) ∙ e))) in
+        rw (put other, none) (before at other (omega (arith, within, other_row)) e)
+    by_port (Some port) there = elim (cases_Bool (nat_eq port other)) [
+      | inl same ↦ (let here : at ≡ next = apart-once rows keys.once at next other e (there ∙ ap (λ (n : ℕ). Some n) (nat_eq-is port other same)) in rw (put other, there, same, here) refl)
+      | inr differs ↦ (let other_row : at ≢ next = (λ (same : at ≡ next). apart_from port other differs (some_is port other (sym there ∙ (ap (port_at rows) (sym same) ∙ e)))) in
+          rw (put other, there, differs) (before at other (omega (arith, within, other_row)) e))
+    ]
+
+pub keys-noted : (rows : List (Option PortTable)) (index new : ℕ → Option ℕ) (next : ℕ) → AreKeys rows index
+    → ((port : ℕ) → new port ≡ noted (port_at rows next) next port (index port)) → AreKeys rows new
+keys-noted rows index new next keys put = record { once = keys.once; known = λ other. by_port other (port_at rows next) refl }
+  where
+    by_port : (other : ℕ) (o : Option ℕ) → port_at rows next ≡ o → is_some (new other) ≡ has_port (ports_of (present rows)) other
+    by_port other None none = rw (put other, none) (keys.known other)
+    by_port other (Some port) there = elim (cases_Bool (nat_eq port other)) [
+      | inl same ↦ (let has = port-there rows next other (there ∙ ap (λ (n : ℕ). Some n) (nat_eq-is port other same)) in rw (put other, there, same) (sym has))
+      | inr differs ↦ rw (put other, there, differs) (keys.known other)
+    ]
+
+pub known_at : (rows : List (Option PortTable)) (index : ℕ → Option ℕ) (next : ℕ) → AreKeys rows index → IfSome (port_at rows next) (λ port. IsSome (index port))
+known_at rows index next keys = by_port (port_at rows next) refl
+  where
+    known : (o : Option ℕ) → is_some o ≡ true → IsSome o
+    known None e = cc
+    known (Some n) e = refl
+
+    by_port : (o : Option ℕ) → port_at rows next ≡ o → IfSome (port_at rows next) (λ port. IsSome (index port))
+    by_port None e = rw e tt
+    by_port (Some port) e = rw e (known (index port) (keys.known port ∙ port-there rows next port e))
+
+-- the table in a row is one of the tables
+pub row_is_table : (rows : List (Option PortTable)) (at : ℕ) → All IsTable (present rows) → IfSome (row_at rows at) IsTable
+row_is_table rows at all = over rows at (recursion_from_All IsTable (present rows) all)
+  where
+    over : (rows : List (Option PortTable)) (at : ℕ) → AllByRecursion IsTable (present rows) → IfSome (row_at rows at) IsTable
+    over [] at all = tt
+    over (None ∷ rows) zero all = tt
+    over (None ∷ rows) (suc at) all = over rows at all
+    over (Some t ∷ rows) zero all = all.0
+    over (Some t ∷ rows) (suc at) all = over rows at all.1
+
+-- a table that is found is one of the tables
+pub found_is_table : (tables : List PortTable) (port : ℕ) (t : PortTable) → All IsTable tables → find (λ (t : PortTable). nat_eq t.places.port.0 port) tables ≡ Some t → IsTable t
+found_is_table tables port t all e = over tables (recursion_from_All IsTable tables all) e
+  where
+    is : (a b : PortTable) → Some a ≡ Some b → a ≡ b
+    is a b e = cc
+
+    over : (tables : List PortTable) → AllByRecursion IsTable tables → find (λ (t : PortTable). nat_eq t.places.port.0 port) tables ≡ Some t → IsTable t
+    over [] all e = cc
+    over (u ∷ tables) all e = elim (cases_Bool (nat_eq u.places.port.0 port)) [
+      | inl same ↦ (let there : u ≡ t = is u t (rw same at e) in rw (← there) all.0)
+      | inr differs ↦ over tables all.1 (rw differs at e)
+    ]
