@@ -1,6 +1,14 @@
 mod Arrivals
+mod Buffers
 mod Changing
-mod Lines
+mod Closing
+mod Deliveries
+mod Departures
+mod Ends
+mod Resting
+mod Tasks
+mod OneHistory
+mod Openings
 mod OwnPorts
 mod Owning
 mod Played

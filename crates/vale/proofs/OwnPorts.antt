@@ -1,16 +1,17 @@
 -- A user's port of a name, at its place.
-use Rattle.std.proofs.Common.{ℕ, suc, ◌+◌, ◌<◌, ◌≤◌, ◌≡◌, Bool, true, false, cond, not, nat_lt, List, [], ◌∷◌, length, Some, None, slice_get, slice_set, get_or, bytes_eq, refl, sym, ◌∙◌, ap, subst, arith}
+use Rattle.std.proofs.Common.{ℕ, zero, suc, ◌+◌, ◌<◌, ◌≤◌, ◌≡◌, Bool, true, false, cond, not, nat_lt, List, [], ◌∷◌, length, Some, None, slice_get, slice_set, get_or, bytes_eq, refl, sym, ◌∙◌, ap, subst, arith}
 use Rattle.std.proofs.lemmas.Bool.Decides.{nat_tests}
 use Rattle.std.proofs.lemmas.List.Quantifiers.{position-Some}
 use Rattle.std.proofs.lemmas.Option.{slice_get-get_or}
-use Rattle.std.specs.List.{position, position_or_len}
+use Rattle.std.specs.List.{position, position_or_len, prefix_len, remove}
 use Rattle.vale.specs.declared.port.OwnPort.{OwnPort}
-use Rattle.vale.specs.Machine.{is_named, own_port, with_port}
+use Rattle.vale.specs.Machine.{is_named, own_port, with_port, without_port}
 
 pub record OwnAt (ports : List OwnPort) (name : List ℕ) (place : ℕ) (own : OwnPort) : Type 0 where
   pub here : slice_get ports place ≡ Some own
   pub found : own_port ports name ≡ Some own
   pub changes : (change : OwnPort → OwnPort) → with_port name change ports ≡ slice_set ports place (change own)
+  pub removes : without_port name ports ≡ remove ports place
   pub named : is_named name own ≡ true
 
 some-own : (x y : OwnPort) → Some x ≡ Some y → x ≡ y
@@ -21,6 +22,7 @@ own-first port ports name own t same = record {
   here = ap (λ (p : OwnPort). Some p) same;
   found = rw t (ap (λ (p : OwnPort). Some p) same);
   changes = λ change. rw t (ap (λ (p : OwnPort). change p ∷ ports) same);
+  removes = rw t refl;
   named = subst (λ (p : OwnPort). is_named name p ≡ true) same t;
 }
 
@@ -29,6 +31,7 @@ own-later port ports name place own t rest = record {
   here = rest.here;
   found = rw t rest.found;
   changes = λ change. rw t (ap (λ (ps : List OwnPort). port ∷ ps) (rest.changes change));
+  removes = rw t (ap (λ (ps : List OwnPort). port ∷ ps) rest.removes);
   named = rest.named;
 }
 
@@ -83,9 +86,9 @@ pub own-none : (ports : List OwnPort) (name : List ℕ) → position (is_named n
 own-none ports name is = own-none_by ports name (none-past (position_or_len (is_named name) ports) (nat_lt (position_or_len (is_named name) ports) (length ports)) is)
 
 -- no port of the name is changed
-pub without-port : (name : List ℕ) (change : OwnPort → OwnPort) (ports : List OwnPort) → own_port ports name ≡ None → with_port name change ports ≡ ports
-without-port name change [] none = refl
-without-port name change (port ∷ ports) none = by_head (is_named name port) (without-port name change ports) none
+pub with_port-none : (name : List ℕ) (change : OwnPort → OwnPort) (ports : List OwnPort) → own_port ports name ≡ None → with_port name change ports ≡ ports
+with_port-none name change [] none = refl
+with_port-none name change (port ∷ ports) none = by_head (is_named name port) (with_port-none name change ports) none
   where
     by_head : (b : Bool) → (own_port ports name ≡ None → with_port name change ports ≡ ports) → cond b (Some port) (own_port ports name) ≡ None → cond b (change port ∷ ports) (port ∷ with_port name change ports) ≡ port ∷ ports
     by_head true later e = absurd cc
@@ -115,5 +118,23 @@ with_port-twice first then' keeps (port ∷ ports) name = by_head (is_named name
         → with_port name then' (cond b (first port ∷ ports) (port ∷ with_port name first ports)) ≡ cond b (then' (first port) ∷ ports) (port ∷ with_port name (λ port. then' (first port)) ports)
     by_head true t rest = let again : is_named name (first port) ≡ true = ap (λ (n : List ℕ). bytes_eq n name) (keeps port) ∙ t in rw again refl
     by_head false t rest = rw t (ap (λ (ps : List OwnPort). port ∷ ps) rest)
+
+-- an element changed that passes the test as before
+prefix_len-set : {X : Type 0} (test : X → Bool) (xs : List X) (i : ℕ) (x y : X) → slice_get xs i ≡ Some x → test y ≡ test x → prefix_len test (slice_set xs i y) ≡ prefix_len test xs
+prefix_len-set test [] i x y e same = refl
+prefix_len-set test (z ∷ zs) zero x y e same =
+    let here : z ≡ x = cc in
+    ap (λ (b : Bool). cond b (1 + prefix_len test zs) 0) (same ∙ ap test (sym here))
+prefix_len-set test (z ∷ zs) (suc i) x y e same = ap (λ (n : ℕ). cond (test z) (1 + n) 0) (prefix_len-set test zs i x y e same)
+
+length-set : {X : Type 0} (xs : List X) (i : ℕ) (x : X) → length (slice_set xs i x) ≡ length xs
+length-set [] i x = refl
+length-set (y ∷ ys) zero x = refl
+length-set (y ∷ ys) (suc i) x = ap (λ n. suc n) (length-set ys i x)
+
+pub position-set : {X : Type 0} (test : X → Bool) (xs : List X) (i : ℕ) (x y : X) → slice_get xs i ≡ Some x → test y ≡ test x → position test (slice_set xs i y) ≡ position test xs
+position-set test xs i x y e same =
+    ap (λ n. cond (nat_lt n (length (slice_set xs i y))) (Some n) None) (prefix_len-set (λ z. not (test z)) xs i x y e (ap not same))
+    ∙ ap (λ n. cond (nat_lt (prefix_len (λ z. not (test z)) xs) n) (Some (prefix_len (λ z. not (test z)) xs)) None) (length-set xs i y)
 
 pub ruleset own_ports = (own-none)

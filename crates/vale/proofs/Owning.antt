@@ -1,13 +1,14 @@
 -- What a user owns stays as it is where its ports, its session and the buffers that it holds do.
-use Rattle.std.proofs.Common.{ℕ, ◌≤◌, ◌≡◌, Bool, true, false, cond, ◌==◌, List, [], ◌∷◌, map, Option, Some, None, option_map, refl, ◌∙◌, ap, arith}
+use Rattle.std.proofs.Common.{ℕ, ◌≤◌, ◌≡◌, Bool, true, false, cond, ◌==◌, List, [], ◌∷◌, map, Option, Some, None, option_map, refl, sym, ◌∙◌, ap, arith}
+use Rattle.std.specs.List.{AllByRecursion as Each, list_any}
 use Rattle.nm_types.specs.declared.id.SessionId.{SessionId}
 use Rattle.vale_entry.specs.World.{Port, is_open_at, open_port, is_session, changed_if, changed_at}
 use Rattle.vale_entry.specs.Legal.{Standing}
-use Rattle.vale_entry.proofs.Each.{each-weaker}
+use Rattle.vale_entry.proofs.Each.{each-weaker, each-map}
 use Rattle.vale_entry.proofs.Rising.{rise-wider}
 use Rattle.vale.specs.declared.port.OwnPort.{OwnPort}
 use Rattle.vale.specs.Machine.{Machine}
-use Rattle.vale.specs.Owned.{HasPort, OwnsBy, Owns, id_of_own}
+use Rattle.vale.specs.Owned.{HasPort, OwnsBy, Owns, IsAmong, is_of_id, id_of_own}
 
 -- the port is as its user sees it, whatever is queued at it
 pub record LooksAs (port other : Port) : Type 0 where
@@ -15,10 +16,12 @@ pub record LooksAs (port other : Port) : Type 0 where
   pub shutting : other.shutting ≡ port.shutting
   pub session : other.session ≡ port.session
   pub name : other.name ≡ port.name
+  pub tx : other.tx ≡ port.tx
+  pub extra : other.extra ≡ port.extra
   pub out : other.out ≡ port.out
 
 pub looks-same : (port : Port) → LooksAs port port
-looks-same port = record { id = refl; shutting = refl; session = refl; name = refl; out = refl }
+looks-same port = record { id = refl; shutting = refl; session = refl; name = refl; tx = refl; extra = refl; out = refl }
 
 pub looks-changed_if : (b : Bool) (change : Port → Port) (port : Port) → LooksAs port (change port) → LooksAs port (changed_if b change port)
 looks-changed_if true change port looks = looks
@@ -45,6 +48,8 @@ has-again ports others session own other h there looks = record {
   session_is = looks.session ∙ h.session_is;
   name_is = looks.name ∙ h.name_is;
   out_is = looks.out ∙ h.out_is;
+  tx_is = looks.tx ∙ h.tx_is;
+  no_extra = looks.extra ∙ h.no_extra;
   on_switch = h.on_switch;
   least = h.least;
   most = h.most;
@@ -61,12 +66,27 @@ pub has-changed_at : (id : ℕ) (change : Port → Port) → ((port : Port) → 
 has-changed_at id change looks ports session own h =
     has-mapped (λ (port : Port). changed_if (port.id == id) change port) (λ port. looks-changed_if (port.id == id) change port (looks port)) ports session own h
 
+-- a port that keeps its id and its session is still among the user's
+pub only-kept : (g : Port → Port) → ((port : Port) → (g port).id ≡ port.id) → ((port : Port) → (g port).session ≡ port.session) → (ports : List Port) (session : ℕ) (owns : List OwnPort) → Each (IsAmong session owns) ports
+    → Each (IsAmong session owns) (map g ports)
+only-kept g ids sessions ports session owns all =
+    each-map (IsAmong session owns) (IsAmong session owns) g (λ port among mine. ap (λ (id : ℕ). list_any (is_of_id id) owns) (ids port) ∙ among (sym (sessions port) ∙ mine)) ports all
+
+pub only-mapped : (g : Port → Port) → ((port : Port) → LooksAs port (g port)) → (ports : List Port) (session : ℕ) (owns : List OwnPort) → Each (IsAmong session owns) ports → Each (IsAmong session owns) (map g ports)
+only-mapped g looks ports session owns all = only-kept g (λ port. (looks port).id) (λ port. (looks port).session) ports session owns all
+
+pub only-changed_at : (id : ℕ) (change : Port → Port) → ((port : Port) → LooksAs port (change port)) → (ports : List Port) (session : ℕ) (owns : List OwnPort) → Each (IsAmong session owns) ports
+    → Each (IsAmong session owns) (changed_at id change ports)
+only-changed_at id change looks ports session owns all =
+    only-mapped (λ (port : Port). changed_if (port.id == id) change port) (λ port. looks-changed_if (port.id == id) change port (looks port)) ports session owns all
+
 -- what a step keeps that changes no session, no session's buffers, and no port but its queue
 pub record KeepsOwned (s t : Standing) : Type 0 where
   pub sessions : t.world.sessions ≡ s.world.sessions
   pub count : s.world.entry_count ≤ t.world.entry_count
   pub buffers : t.holdings.sessions ≡ s.holdings.sessions
   pub ports : (session : ℕ) (own : OwnPort) → HasPort s.world.ports session own → HasPort t.world.ports session own
+  pub only : (session : ℕ) (owns : List OwnPort) → Each (IsAmong session owns) s.world.ports → Each (IsAmong session owns) t.world.ports
 
 owns-by : (s t : Standing) (session : Option SessionId) (ports : List OwnPort) → KeepsOwned s t → OwnsBy s session ports → OwnsBy t session ports
 owns-by s t None ports keeps owns = owns
@@ -74,6 +94,7 @@ owns-by s t (Some session) ports keeps owns = record {
   is_in = ap (λ (ids : List ℕ). is_session (record s.world { sessions = ids }) session.0) keeps.sessions ∙ owns.is_in;
   rise = rise-wider 0 0 (map id_of_own ports) s.world.entry_count t.world.entry_count (omega arith) keeps.count owns.rise;
   has = each-weaker (HasPort s.world.ports session.0) (HasPort t.world.ports session.0) (keeps.ports session.0) ports owns.has;
+  only = keeps.only session.0 ports owns.only;
   holds = λ b. rw keeps.buffers (owns.holds b);
 }
 

@@ -1,30 +1,28 @@
--- Lines one after another, up to the end of a program or to a call for which the record is full.
-use Rattle.std.proofs.Common.{ℕ, zero, suc, ◌+◌, ◌-◌, ◌<◌, ◌≤◌, ◌≡◌, Bool, true, false, ◌==◌, inl, inr, List, [], ◌∷◌, ◌++◌, map, take, length, Option, Some, None, slice_get, slice_set, get_or, Result, Ok, Err, OnOk, IfErr, refl, sym, ◌∙◌, ap, subst, arith, length-append}
+-- Units one after another, up to the end of a program or to a call for which the record is full.
+use Rattle.std.proofs.Common.{ℕ, zero, suc, ◌+◌, ◌-◌, ◌<◌, ◌≤◌, ◌≡◌, ◌⊎◌, Bool, true, false, ◌==◌, inl, inr, List, [], ◌∷◌, ◌++◌, take, length, Option, Some, None, slice_get, slice_set, get_or, Result, Ok, Err, OnOk, IfErr, refl, sym, ◌∙◌, ap, subst, arith, length-append, append_assoc}
 use Rattle.std.specs.List.{range_with_len, AllByRecursion as Each}
-use Rattle.std.proofs.lemmas.List.{take_all, take-append-le, length-map}
-use Rattle.std.proofs.lemmas.List.FromFn.{length-range_with_len}
+use Rattle.std.proofs.lemmas.List.{take_all, take-append-le, append-nil}
 use Rattle.std.proofs.lemmas.Bool.{eqb-true, eqb-false}
-use Rattle.std.proofs.lemmas.Option.{slice_get-get_or}
+use Rattle.std.proofs.lemmas.Option.{slice_get-get_or, slice_get_within}
+use Rattle.std.proofs.Math.Seq.{take-append-add}
 use Rattle.nm_types.specs.declared.id.SessionId.{SessionId}
-use Rattle.nm_types.specs.declared.limits.Limits.{Limits}
 use Rattle.nm_types.specs.declared.fault.StepFault.{StepFault}
 use Rattle.nm_types.specs.declared.fault.StepFault.TheVariants.{RecordFull, NoMemory}
 use Rattle.vale_entry.specs.declared.entry.Entry.{Entry}
-use Rattle.vale_entry.specs.Legal.{Standing, world_of}
+use Rattle.vale_entry.specs.World.{is_session}
+use Rattle.vale_entry.specs.Legal.{world_of}
 use Rattle.vale_entry.proofs.Agreeing.{among-bound}
 use Rattle.vale_entry.proofs.ListLaws.{each-at}
 use Rattle.vale_entry.proofs.Numbered.{world-numbered}
 use Rattle.vale_entry.proofs.Rising.{rise-wider, rise-range}
 use Rattle.vale_entry.proofs.Worlds.{count-world_of}
 use Rattle.vale_book.specs.Recorded.{Recorded, standing}
-use Rattle.vale_script.specs.declared.script.Act.{Act}
-use Rattle.vale_script.specs.declared.script.Line.{Line}
-use Rattle.vale_script.specs.Grammar.{Program}
-use Rattle.vale.specs.Machine.{Machine, new_machine}
-use Rattle.vale.specs.Replay.{TakesTurns, ReplaysUser, ReplaysLine, ReplaysLines, starting, numbers_between, users_of}
-use Rattle.vale.specs.Owned.{Owns, OwnsBy, OwnsAll, AllSettled, AreApart}
-use Rattle.vale.specs.Steps.{RunsLine, IsOther, StaysOrComes, StopsLine, StopsRun, IsBetweenLines, RanLine, RanLines, RanProgram, IsFull, StopsProgram}
-use Rattle.vale.proofs.Turns.{turns-longer}
+use Rattle.vale.specs.Machine.{Machine, Task, resting}
+use Rattle.vale.specs.Replay.{ScriptUnit, TakesTurns, ReplaysUser, ReplaysUnit, ReplaysUnits, starting, numbers_between}
+use Rattle.vale.specs.Owned.{Owns, OwnsBy, OwnsAll, IsUsers}
+use Rattle.vale.specs.Steps.{GoesOn, IsOther, KeepsOrder, DoesTasks, StopsAt, StopsTasks, IsInOrder, DoesUnits, StopsUnits}
+use Rattle.vale.proofs.Tasks.{next-idle}
+use Rattle.vale.proofs.Turns.{turns-longer, grown-longer}
 
 -- A list with one element changed.
 
@@ -65,97 +63,131 @@ old-session b session user owns is =
     let count = count-world_of b.pool b.entries in
     omega (arith, bound, count)
 
--- the user of a line is no other one
-line-apart : (b : Recorded) (users : List Machine) (i j : ℕ) (before after other : Machine) → IsBetweenLines b users → slice_get users i ≡ Some before → slice_get users j ≡ Some other → (j ≡ i → ⊥) → StaysOrComes b before after → IsOther after other
-line-apart b users i j before after other between here there apart (inl same) session theirs mine = apart (sym (between.apart i j before other session here there (sym same ∙ mine) theirs))
-line-apart b users i j before after other between here there apart (inr new) session theirs mine =
-    let old = old-session b session other (each-at (Owns (standing b)) users j other between.owns there) theirs in
-    let one : Some session ≡ Some (record { 0 = length b.entries + 1 }) = sym mine ∙ new in
-    let same : session.0 ≡ length b.entries + 1 = cc in
-    absurd (omega (arith, old, same))
+-- The user of a unit is no other one.
 
--- A user's line was run.
+place-other : (b : Recorded) (users : List Machine) (i j : ℕ) (before other : Machine) → IsInOrder b users → slice_get users i ≡ Some before → slice_get users j ≡ Some other → (j ≡ i → ⊥) → IsOther before other
+place-other b users i j before other order here there apart session theirs mine = apart (order.apart j i other before session there here theirs mine)
 
-changed-apart : (b new : Recorded) (users : List Machine) (i : ℕ) (act : Act) (before after : Machine) → IsBetweenLines b users → slice_get users i ≡ Some before → RunsLine b new act before after
+later-other : (b new : Recorded) (users : List Machine) (i j : ℕ) (before after other : Machine) → IsInOrder b users → slice_get users i ≡ Some before → slice_get users j ≡ Some other → (j ≡ i → ⊥) → KeepsOrder b new before after → IsOther after other
+later-other b new users i j before after other order here there apart k session theirs mine = by_origin (k.origin session mine)
+  where
+    by_origin : (before.session ≡ Some session) ⊎ (length b.entries < session.0) → ⊥
+    by_origin (inl same) = place-other b users i j before other order here there apart session theirs same
+    by_origin (inr above) = let old = old-session b session other (each-at (Owns (standing b)) users j other order.owns there) theirs in omega (arith, old, above)
+
+changed-apart : (b new : Recorded) (users : List Machine) (i : ℕ) (before after : Machine) → IsInOrder b users → slice_get users i ≡ Some before → KeepsOrder b new before after
     → (j k : ℕ) (u v : Machine) (session : SessionId) → slice_get (slice_set users i after) j ≡ Some u → slice_get (slice_set users i after) k ≡ Some v → u.session ≡ Some session → v.session ≡ Some session
     → (c d : Bool) → (j == i) ≡ c → (k == i) ≡ d → j ≡ k
-changed-apart b new users i act before after between here r j k u v session ju kv us vs true true e f = eqb-true j i e ∙ sym (eqb-true k i f)
-changed-apart b new users i act before after between here r j k u v session ju kv us vs true false e f =
+changed-apart b new users i before after order here r j k u v session ju kv us vs true true e f = eqb-true j i e ∙ sym (eqb-true k i f)
+changed-apart b new users i before after order here r j k u v session ju kv us vs true false e f =
     let at : j ≡ i = eqb-true j i e in
     let one : Some u ≡ Some after = sym ju ∙ ap (slice_get (slice_set users i after)) at ∙ get-set users i after before here in
     let same : u ≡ after = cc in
     let there : slice_get users k ≡ Some v = sym (get-set_other users i k after (eqb-false k i f)) ∙ kv in
-    absurd (line-apart b users i k before after v between here there (eqb-false k i f) r.session session vs (ap (λ (m : Machine). m.session) (sym same) ∙ us))
-changed-apart b new users i act before after between here r j k u v session ju kv us vs false true e f =
+    absurd (later-other b new users i k before after v order here there (eqb-false k i f) r session vs (ap (λ (m : Machine). m.session) (sym same) ∙ us))
+changed-apart b new users i before after order here r j k u v session ju kv us vs false true e f =
     let at : k ≡ i = eqb-true k i f in
     let one : Some v ≡ Some after = sym kv ∙ ap (slice_get (slice_set users i after)) at ∙ get-set users i after before here in
     let same : v ≡ after = cc in
     let there : slice_get users j ≡ Some u = sym (get-set_other users i j after (eqb-false j i e)) ∙ ju in
-    absurd (line-apart b users i j before after u between here there (eqb-false j i e) r.session session us (ap (λ (m : Machine). m.session) (sym same) ∙ vs))
-changed-apart b new users i act before after between here r j k u v session ju kv us vs false false e f =
-    between.apart j k u v session (sym (get-set_other users i j after (eqb-false j i e)) ∙ ju) (sym (get-set_other users i k after (eqb-false k i f)) ∙ kv) us vs
+    absurd (later-other b new users i j before after u order here there (eqb-false j i e) r session us (ap (λ (m : Machine). m.session) (sym same) ∙ vs))
+changed-apart b new users i before after order here r j k u v session ju kv us vs false false e f =
+    order.apart j k u v session (sym (get-set_other users i j after (eqb-false j i e)) ∙ ju) (sym (get-set_other users i k after (eqb-false k i f)) ∙ kv) us vs
 
-later-between : (b new : Recorded) (users : List Machine) (i : ℕ) (act : Act) (before after : Machine) → IsBetweenLines b users → slice_get users i ≡ Some before → RunsLine b new act before after → IsBetweenLines new (slice_set users i after)
-later-between b new users i act before after between here r = record {
-  owns = each-set_at (Owns (standing b)) (Owns (standing new)) users i after (λ j other there apart mine. r.others other (line-apart b users i j before after other between here there apart r.session) mine) between.owns r.owns;
-  apart = λ j k u v session ju kv us vs. changed-apart b new users i act before after between here r j k u v session ju kv us vs (j == i) (k == i) refl refl;
+-- Each session is a user's still.
+
+is-its : (o : Option SessionId) (session : SessionId) → (o ≡ Some session) ⊎ (o ≡ Some session → ⊥)
+is-its None session = inr (λ e. absurd cc)
+is-its (Some n) session = by_number (n.0 == session.0) refl
+  where
+    by_number : (b : Bool) → (n.0 == session.0) ≡ b → (Some n ≡ Some session) ⊎ (Some n ≡ Some session → ⊥)
+    by_number true t = inl (ap (λ (k : ℕ). Some (record { 0 = k })) (eqb-true n.0 session.0 t))
+    by_number false t = inr (λ e. let same : n ≡ session = cc in eqb-false n.0 session.0 t (ap (λ (s : SessionId). s.0) same))
+
+changed-theirs : (b new : Recorded) (users : List Machine) (i : ℕ) (before after : Machine) → IsInOrder b users → slice_get users i ≡ Some before → KeepsOrder b new before after → (session : ℕ) → is_session (standing new).world session ≡ true
+    → IsUsers (slice_set users i after) session
+changed-theirs b new users i before after order here r session there = by_its (is-its after.session (record { 0 = session }))
+  where
+    by_place : (k : IsUsers users session) → (before.session ≡ Some (record { 0 = session }) → ⊥) → (c : Bool) → (k.place == i) ≡ c → IsUsers (slice_set users i after) session
+    by_place k apart true t =
+        let one : Some k.user ≡ Some before = sym k.here ∙ ap (slice_get users) (eqb-true k.place i t) ∙ here in
+        let same : k.user ≡ before = cc in
+        absurd (apart (ap (λ (m : Machine). m.session) (sym same) ∙ k.is))
+    by_place k apart false t = record { place = k.place; user = k.user; here = get-set_other users i k.place after (eqb-false k.place i t) ∙ k.here; is = k.is }
+
+    by_its : (after.session ≡ Some (record { 0 = session })) ⊎ (after.session ≡ Some (record { 0 = session }) → ⊥) → IsUsers (slice_set users i after) session
+    by_its (inl mine) = record { place = i; user = after; here = get-set users i after before here; is = mine }
+    by_its (inr apart) =
+        let old = r.theirs (record { 0 = session }) there apart in
+        let k = order.theirs session old.0 in
+        by_place k old.1 (k.place == i) refl
+
+later-order : (b new : Recorded) (users : List Machine) (i : ℕ) (before after : Machine) → IsInOrder b users → slice_get users i ≡ Some before → KeepsOrder b new before after → IsInOrder new (slice_set users i after)
+later-order b new users i before after order here r = record {
+  owns = each-set_at (Owns (standing b)) (Owns (standing new)) users i after
+      (λ j other there apart mine. r.others other (place-other b users i j before other order here there apart) (later-other b new users i j before after other order here there apart r) mine) order.owns r.owns;
+  apart = λ j k u v session ju kv us vs. changed-apart b new users i before after order here r j k u v session ju kv us vs (j == i) (k == i) refl refl;
   settled = r.settled;
+  theirs = λ session there. changed-theirs b new users i before after order here r session there;
 }
 
-pub ran-line : (b new : Recorded) (users : List Machine) (line : Line) (before after : Machine) → IsBetweenLines b users → slice_get users (line.user - 1) ≡ Some before → RunsLine b new line.act before after
-    → RanLine b new users line (slice_set users (line.user - 1) after)
-ran-line b new users line before after between here r =
-    let more : List Entry = r.runs.more in
-    let entries_are : new.entries ≡ b.entries ++ more = ap (λ (x : Recorded). x.entries) r.runs.grown in
-    let pool_is : new.pool ≡ b.pool = ap (λ (x : Recorded). x.pool) r.runs.grown in
-    let count : length new.entries ≡ length b.entries + length more = ap (λ (es : List Entry). length es) entries_are ∙ length-append b.entries more in
-    let behind : length new.entries - length b.entries ≡ length more = omega (arith, count) in
-    let all : take (length new.entries) new.entries ≡ new.entries = take_all (length new.entries) new.entries (omega arith) in
+-- A unit was done.
+
+-- the user's own entries are those behind the first ones
+pub entries-between : (old new : Recorded) (from after : Machine) → GoesOn old new from after → ReplaysUser old.pool new.entries from (numbers_between (length old.entries) (length new.entries)) after
+entries-between old new from after goes =
+    let count : length new.entries ≡ length old.entries + length goes.more = ap (λ (b : Recorded). length b.entries) goes.grown ∙ length-append old.entries goes.more in
+    let behind : length new.entries - length old.entries ≡ length goes.more = omega (arith, count) in
     record {
-      more = more;
-      grown = r.runs.grown;
-      replays = record {
-        before = before;
-        after = after;
-        here = here;
-        forward = omega (arith, count);
-        within = omega arith;
-        replays = record {
-          rise = rise-wider 0 (length b.entries) (numbers_between (length b.entries) (length new.entries)) (length new.entries - length b.entries + length b.entries) (length new.entries) (omega arith) (omega (arith, count))
-              (rise-range (length b.entries) (length new.entries - length b.entries));
-          turns = subst (λ (n : ℕ). TakesTurns b.pool new.entries (starting line.act before) (range_with_len (length b.entries + 1) n) after) (sym behind) r.runs.turns;
-        };
-        ended = rw (all, ← pool_is) (r.ended);
-        no_line = r.idle;
-        others = refl;
-      };
-      between = later-between b new users (line.user - 1) line.act before after between here r;
-      count = length-set users (line.user - 1) after;
+      rise = rise-wider 0 (length old.entries) (numbers_between (length old.entries) (length new.entries)) (length new.entries - length old.entries + length old.entries) (length new.entries) (omega arith) (omega (arith, count))
+          (rise-range (length old.entries) (length new.entries - length old.entries));
+      turns = subst (λ (n : ℕ). TakesTurns old.pool new.entries from (range_with_len (length old.entries + 1) n) after) (sym behind) goes.turns;
     }
 
--- over the result of the call
-pub ran-on : {T : Type 0} (b new : Recorded) (users : List Machine) (line : Line) (before after : Machine) (result : Result T StepFault) → IsBetweenLines b users → slice_get users (line.user - 1) ≡ Some before
-    → OnOk result (RunsLine b new line.act before after) → OnOk result (RanLine b new users line (slice_set users (line.user - 1) after))
-ran-on b new users line before after (Ok x) between here r = ran-line b new users line before after between here r
-ran-on b new users line before after (Err fault) between here r = tt
+-- a user that rests with nothing to do is itself
+rests-idle : (after : Machine) → after.tasks ≡ [] → resting (record after { tasks = [] }) ≡ after
+rests-idle after idle = ap (λ (tasks : List Task). record after { tasks = tasks }) (sym idle)
 
-stops-by : (b new : Recorded) (users : List Machine) (line : Line) (before : Machine) (fault : StepFault) → slice_get users (line.user - 1) ≡ Some before → StopsLine b new line.act before fault → StopsRun b new users line fault
-stops-by b new users line before (RecordFull what used want) here stops = (stops.0, record { before = before; here = here; full = stops.1 })
-stops-by b new users line before NoMemory here stops = tt
+starts-from : (unit : ScriptUnit) (before : Machine) → resting (record before { tasks = unit.tasks before ++ [] }) ≡ starting unit before
+starts-from unit before = ap (λ (tasks : List Task). resting (record before { tasks = tasks })) (append-nil (unit.tasks before))
 
-pub stopped-on : {T : Type 0} (b new : Recorded) (users : List Machine) (line : Line) (before : Machine) (result : Result T StepFault) → slice_get users (line.user - 1) ≡ Some before → IfErr result (StopsLine b new line.act before)
-    → IfErr result (StopsRun b new users line)
-stopped-on b new users line before (Ok x) here stops = tt
-stopped-on b new users line before (Err fault) here stops = stops-by b new users line before fault here stops
+pub unit-done : (b new : Recorded) (users : List Machine) (unit : ScriptUnit) (before after : Machine) → IsInOrder b users → slice_get users (unit.user - 1) ≡ Some before → DoesTasks b new (unit.tasks before) before after
+    → DoesUnits b new users (unit ∷ []) (slice_set users (unit.user - 1) after)
+unit-done b new users unit before after order here does =
+    let goes : GoesOn b new (starting unit before) after =
+    subst (λ (m : Machine). GoesOn b new m after) (starts-from unit before) (subst (λ (m : Machine). GoesOn b new (resting (record before { tasks = unit.tasks before ++ [] })) m) (rests-idle after does.order.idle) (does.runs [])) in
+    let pool_is : new.pool ≡ b.pool = ap (λ (x : Recorded). x.pool) goes.grown in
+    let all : take (length new.entries) new.entries ≡ new.entries = take_all (length new.entries) new.entries (omega arith) in
+    let done : ReplaysUnit b.pool new.entries users (length b.entries) unit (slice_set users (unit.user - 1) after) (length new.entries) = record {
+      before = before;
+      after = after;
+      here = here;
+      forward = grown-longer b new (starting unit before) after goes;
+      within = omega arith;
+      replays = entries-between b new (starting unit before) after goes;
+      ended = rw (all, ← pool_is) (next-idle (standing new) after does.order.settled does.order.idle);
+      no_task = does.order.idle;
+      others = refl;
+    } in
+    record {
+      more = goes.more;
+      grown = goes.grown;
+      replayed = (slice_set users (unit.user - 1) after, (length new.entries, (done, (refl, refl))));
+      order = later-order b new users (unit.user - 1) before after order here does.order;
+      count = length-set users (unit.user - 1) after;
+    }
 
--- what a user that is read at its place owns
-pub reads-user : (b : Recorded) (users : List Machine) (i : ℕ) (user : Machine) → IsBetweenLines b users → i < length users → user ≡ get_or users i user → slice_get users i ≡ Some user
-reads-user b users i user between inside read = slice_get-get_or users i user inside ∙ ap (λ (m : Machine). Some m) (sym read)
+-- none was
+pub units-none : (b : Recorded) (users : List Machine) → IsInOrder b users → DoesUnits b b users [] users
+units-none b users order = record {
+  more = [];
+  grown = ap (λ (es : List Entry). record b { entries = es }) (sym (append-nil b.entries));
+  replayed = (refl, refl);
+  order = order;
+  count = refl;
+}
 
-pub owns-read : (b : Recorded) (users : List Machine) (i : ℕ) (user : Machine) → IsBetweenLines b users → i < length users → user ≡ get_or users i user → Owns (standing b) user
-owns-read b users i user between inside read = each-at (Owns (standing b)) users i user between.owns (reads-user b users i user between inside read)
-
--- Lines over a longer history, and one line more.
+-- Units over a longer history, and one after the other.
 
 user-longer : (pool : ℕ) (history more : List Entry) (before : Machine) (numbers : List ℕ) (after : Machine) → ReplaysUser pool history before numbers after → ReplaysUser pool (history ++ more) before numbers after
 user-longer pool history more before numbers after u =
@@ -165,9 +197,9 @@ user-longer pool history more before numbers after u =
       turns = turns-longer pool history more before numbers after u.turns;
     }
 
-line-longer : (pool : ℕ) (history more : List Entry) (users : List Machine) (first : ℕ) (line : Line) (next : List Machine) (last : ℕ) → ReplaysLine pool history users first line next last
-    → ReplaysLine pool (history ++ more) users first line next last
-line-longer pool history more users first line next last l =
+unit-longer : (pool : ℕ) (history more : List Entry) (users : List Machine) (first : ℕ) (unit : ScriptUnit) (next : List Machine) (last : ℕ) → ReplaysUnit pool history users first unit next last
+    → ReplaysUnit pool (history ++ more) users first unit next last
+unit-longer pool history more users first unit next last l =
     let count = length-append history more in
     let within = l.within in
     record {
@@ -176,111 +208,125 @@ line-longer pool history more users first line next last l =
       here = l.here;
       forward = l.forward;
       within = omega (arith, within, count);
-      replays = user-longer pool history more (starting line.act l.before) (numbers_between first last) l.after l.replays;
+      replays = user-longer pool history more (starting unit l.before) (numbers_between first last) l.after l.replays;
       ended = rw (take-append-le last history more within) (l.ended);
-      no_line = l.no_line;
+      no_task = l.no_task;
       others = l.others;
     }
 
-lines-longer : (pool : ℕ) (history more : List Entry) (users : List Machine) (first : ℕ) (lines : List Line) (next : List Machine) (last : ℕ) → ReplaysLines pool history users first lines next last
-    → ReplaysLines pool (history ++ more) users first lines next last
-lines-longer pool history more users first [] next last l = l
-lines-longer pool history more users first (line ∷ lines) next last l =
-    (l.0, (l.1.0, (line-longer pool history more users first line l.0 l.1.0 l.1.1.0, lines-longer pool history more l.0 l.1.0 lines next last l.1.1.1)))
+pub units-longer : (pool : ℕ) (history more : List Entry) (users : List Machine) (first : ℕ) (units : List ScriptUnit) (next : List Machine) (last : ℕ) → ReplaysUnits pool history users first units next last
+    → ReplaysUnits pool (history ++ more) users first units next last
+units-longer pool history more users first [] next last l = l
+units-longer pool history more users first (unit ∷ units) next last l =
+    (l.0, (l.1.0, (unit-longer pool history more users first unit l.0 l.1.0 l.1.1.0, units-longer pool history more l.0 l.1.0 units next last l.1.1.1)))
 
-lines-push : (pool : ℕ) (history : List Entry) (users : List Machine) (first : ℕ) (lines : List Line) (line : Line) (middle : List Machine) (number : ℕ) (next : List Machine) (last : ℕ)
-    → ReplaysLines pool history users first lines middle number → ReplaysLine pool history middle number line next last → ReplaysLines pool history users first (lines ++ line ∷ []) next last
-lines-push pool history users first [] line middle number next last done l =
-    (next, (last, (subst (λ (us : List Machine). ReplaysLine pool history us first line next last) done.0 (subst (λ (n : ℕ). ReplaysLine pool history middle n line next last) done.1 l), (refl, refl))))
-lines-push pool history users first (one ∷ lines) line middle number next last done l =
-    (done.0, (done.1.0, (done.1.1.0, lines-push pool history done.0 done.1.0 lines line middle number next last done.1.1.1 l)))
+units-append : (pool : ℕ) (history : List Entry) (users : List Machine) (first : ℕ) (units others : List ScriptUnit) (middle : List Machine) (number : ℕ) (next : List Machine) (last : ℕ)
+    → ReplaysUnits pool history users first units middle number → ReplaysUnits pool history middle number others next last → ReplaysUnits pool history users first (units ++ others) next last
+units-append pool history users first [] others middle number next last done l =
+    subst (λ (us : List Machine). ReplaysUnits pool history us first others next last) done.0 (subst (λ (n : ℕ). ReplaysUnits pool history middle n others next last) done.1 l)
+units-append pool history users first (one ∷ units) others middle number next last done l =
+    (done.0, (done.1.0, (done.1.1.0, units-append pool history done.0 done.1.0 units others middle number next last done.1.1.1 l)))
 
--- The run of a program.
-
-none-apart : (count : ℕ) → AreApart (map new_machine (range_with_len 1 count))
-none-apart count i j u v session iu jv us vs = absurd (none-there 1 count i u session iu us)
-  where
-    none-there : (from n i : ℕ) (u : Machine) (session : SessionId) → slice_get (map new_machine (range_with_len from n)) i ≡ Some u → u.session ≡ Some session → ⊥
-    none-there from zero i u session iu us = absurd cc
-    none-there from (suc n) zero u session iu us = let same : new_machine from ≡ u = cc in let none : u.session ≡ None = ap (λ (m : Machine). m.session) (sym same) in absurd cc
-    none-there from (suc n) (suc i) u session iu us = none-there (from + 1) n i u session iu us
-
-none-own : (s : Standing) (from count : ℕ) → Each (Owns s) (map new_machine (range_with_len from count))
-none-own s from zero = tt
-none-own s from (suc count) = (refl, none-own s (from + 1) count)
-
-pub run-start : (b : Recorded) (program : Program) (users : List Machine) → b.entries ≡ [] → users ≡ map new_machine (range_with_len 1 program.users) → RanLines b.pool b.limits b program [] users
-run-start b program users fresh are =
-    let none : length b.entries ≡ 0 = ap (λ (es : List Entry). length es) fresh in
-    rw are (record {
-      pool_is = refl;
-      limits_are = refl;
-      replayed = (refl, none);
-      between = record {
-        owns = none-own (standing b) 1 program.users;
-        apart = none-apart program.users;
-        settled = subst (λ (es : List Entry). AllSettled (world_of b.pool es)) (sym fresh) (record { offers = refl; leases = tt });
-      };
-      count = length-map (range_with_len 1 program.users) new_machine ∙ length-range_with_len 1 program.users;
-    })
-
-pub run-next : (pool : ℕ) (limits : Limits) (b new : Recorded) (program : Program) (lines : List Line) (line : Line) (users next : List Machine) → RanLines pool limits b program lines users → RanLine b new users line next
-    → RanLines pool limits new program (lines ++ line ∷ []) next
-run-next pool limits b new program lines line users next ran l =
-    let entries_are : new.entries ≡ b.entries ++ l.more = ap (λ (x : Recorded). x.entries) l.grown in
-    let before : ReplaysLines pool new.entries (users_of program) 0 lines users (length b.entries) =
-    subst (λ (es : List Entry). ReplaysLines pool es (users_of program) 0 lines users (length b.entries)) (sym entries_are) (lines-longer pool b.entries l.more (users_of program) 0 lines users (length b.entries) ran.replayed) in
-    let here : ReplaysLine pool new.entries users (length b.entries) line next (length new.entries) =
-    subst (λ (p : ℕ). ReplaysLine p new.entries users (length b.entries) line next (length new.entries)) ran.pool_is l.replays in
+pub units-then : (old middle new : Recorded) (users between next : List Machine) (units others : List ScriptUnit) → DoesUnits old middle users units between → DoesUnits middle new between others next → DoesUnits old new users (units ++ others) next
+units-then old middle new users between next units others front back =
+    let pool_is : middle.pool ≡ old.pool = ap (λ (b : Recorded). b.pool) front.grown in
+    let middle_is : middle.entries ≡ old.entries ++ front.more = ap (λ (b : Recorded). b.entries) front.grown in
+    let new_is : new ≡ record old { entries = middle.entries ++ back.more } = back.grown ∙ ap (λ (b : Recorded). record b { entries = middle.entries ++ back.more }) front.grown in
+    let entries_are : new.entries ≡ middle.entries ++ back.more = ap (λ (b : Recorded). b.entries) back.grown in
+    let before : ReplaysUnits old.pool new.entries users (length old.entries) units between (length middle.entries) =
+    subst (λ (es : List Entry). ReplaysUnits old.pool es users (length old.entries) units between (length middle.entries)) (sym entries_are) (units-longer old.pool middle.entries back.more users (length old.entries) units between (length middle.entries) front.replayed) in
+    let after : ReplaysUnits old.pool new.entries between (length middle.entries) others next (length new.entries) =
+    subst (λ (p : ℕ). ReplaysUnits p new.entries between (length middle.entries) others next (length new.entries)) pool_is back.replayed in
     record {
-      pool_is = ap (λ (x : Recorded). x.pool) l.grown ∙ ran.pool_is;
-      limits_are = ap (λ (x : Recorded). x.limits) l.grown ∙ ran.limits_are;
-      replayed = lines-push pool new.entries (users_of program) 0 lines line users (length b.entries) next (length new.entries) before here;
-      between = l.between;
-      count = l.count ∙ ran.count;
+      more = front.more ++ back.more;
+      grown = new_is ∙ ap (λ (es : List Entry). record old { entries = es }) (ap (λ (es : List Entry). es ++ back.more) middle_is ∙ append_assoc old.entries front.more back.more);
+      replayed = units-append old.pool new.entries users (length old.entries) units others between (length middle.entries) next (length new.entries) before after;
+      order = back.order;
+      count = back.count ∙ front.count;
     }
 
--- all of them were run
-pub run-ends : (old new : Recorded) (program : Program) (lines : List Line) (users : List Machine) → RanLines old.pool old.limits new program lines users → lines ≡ program.lines → RanProgram old new program
-run-ends old new program lines users ran all = record {
-  pool_is = ran.pool_is;
-  limits_are = ran.limits_are;
-  replayed = record {
-    users = users;
-    lines = subst (λ (ls : List Line). ReplaysLines old.pool new.entries (users_of program) 0 ls users (length new.entries)) all ran.replayed;
-  };
-}
+-- Where the record is full.
 
--- the record is full for a line
-pub run-stops : (old b new : Recorded) (program : Program) (i : ℕ) (line : Line) (users : List Machine) (fault : StepFault) → RanLines old.pool old.limits b program (take i program.lines) users
-    → slice_get program.lines i ≡ Some line → StopsRun b new users line fault → StopsProgram old new program fault
-run-stops old b new program i line users (RecordFull what used want) ran there stops =
-    let f = stops.1 in
-    let none : length b.entries - length b.entries ≡ 0 = omega arith in
-    subst (λ (n : Recorded). IsFull old n program (RecordFull what used want)) (sym stops.0) (record {
-      pool_is = ran.pool_is;
-      limits_are = ran.limits_are;
-      call = f.full.call;
-      comes = record {
-        now = starting line.act f.before;
-        reached = record {
-          count = i;
-          line = line;
-          there = there;
-          users = users;
-          first = length b.entries;
-          lines = subst (λ (p : ℕ). ReplaysLines p b.entries (users_of program) 0 (take i program.lines) users (length b.entries)) (sym ran.pool_is) ran.replayed;
-          before = f.before;
-          here = f.here;
-          replays = record {
-            rise = rw none (omega arith);
-            turns = rw none refl;
-          };
-        };
-        called = f.full.called;
-      };
-      refused = f.full.refused;
-    })
-run-stops old b new program i line users NoMemory ran there stops = tt
+pub unit-stops : (b new : Recorded) (users : List Machine) (unit : ScriptUnit) (before after : Machine) (fault : StepFault) → IsInOrder b users → slice_get users (unit.user - 1) ≡ Some before → StopsTasks b new (unit.tasks before) before after fault
+    → StopsUnits b new users (unit ∷ []) (slice_set users (unit.user - 1) after) fault
+unit-stops b new users unit before after (RecordFull what used want) order here stops = record {
+  done = 0;
+  unit = unit;
+  there = refl;
+  middle = b;
+  between = users;
+  does = units-none b users order;
+  before = before;
+  here = here;
+  stops = subst (λ (m : Machine). StopsAt b new m (RecordFull what used want)) (starts-from unit before) (stops.stops []);
+  order = later-order b new users (unit.user - 1) before after order here stops.order;
+  count = length-set users (unit.user - 1) after;
+}
+unit-stops b new users unit before after NoMemory order here stops = tt
+
+pub slice_get-front : {X : Type 0} (xs ys : List X) (i : ℕ) (x : X) → slice_get xs i ≡ Some x → slice_get (xs ++ ys) i ≡ Some x
+slice_get-front [] ys i x e = absurd cc
+slice_get-front (z ∷ zs) ys zero x e = e
+slice_get-front (z ∷ zs) ys (suc i) x e = slice_get-front zs ys i x e
+
+slice_get-back : {X : Type 0} (xs ys : List X) (i : ℕ) → slice_get (xs ++ ys) (length xs + i) ≡ slice_get ys i
+slice_get-back [] ys i = ap (slice_get ys) (omega arith)
+slice_get-back (x ∷ xs) ys i =
+    let next : suc (length xs) + i ≡ suc (length xs + i) = omega arith in
+    ap (slice_get (x ∷ (xs ++ ys))) next ∙ slice_get-back xs ys i
+
+pub stops-then_units : (old middle new : Recorded) (users between next : List Machine) (units others : List ScriptUnit) (fault : StepFault) → DoesUnits old middle users units between → StopsUnits middle new between others next fault
+    → StopsUnits old new users (units ++ others) next fault
+stops-then_units old middle new users between next units others (RecordFull what used want) front f = record {
+  done = length units + f.done;
+  unit = f.unit;
+  there = slice_get-back units others f.done ∙ f.there;
+  middle = f.middle;
+  between = f.between;
+  does = subst (λ (us : List ScriptUnit). DoesUnits old f.middle users us f.between) (sym (take-append-add units others f.done)) (units-then old middle f.middle users between f.between units (take f.done others) front f.does);
+  before = f.before;
+  here = f.here;
+  stops = f.stops;
+  order = f.order;
+  count = f.count ∙ front.count;
+}
+stops-then_units old middle new users between next units others NoMemory front f = tt
+
+pub stops-before_units : (old new : Recorded) (users next : List Machine) (units others : List ScriptUnit) (fault : StepFault) → StopsUnits old new users units next fault → StopsUnits old new users (units ++ others) next fault
+stops-before_units old new users next units others (RecordFull what used want) f =
+    let inside : f.done < length units = slice_get_within units f.done f.unit f.there in
+    record {
+      done = f.done;
+      unit = f.unit;
+      there = slice_get-front units others f.done f.unit f.there;
+      middle = f.middle;
+      between = f.between;
+      does = subst (λ (us : List ScriptUnit). DoesUnits old f.middle users us f.between) (sym (take-append-le f.done units others (omega (arith, inside)))) f.does;
+      before = f.before;
+      here = f.here;
+      stops = f.stops;
+      order = f.order;
+      count = f.count;
+    }
+stops-before_units old new users next units others NoMemory f = tt
+
+-- what a user that is read at its place owns
+pub reads-user : (users : List Machine) (i : ℕ) (user : Machine) → i < length users → user ≡ get_or users i user → slice_get users i ≡ Some user
+reads-user users i user inside read = slice_get-get_or users i user inside ∙ ap (λ (m : Machine). Some m) (sym read)
+
+pub owns-read : (b : Recorded) (users : List Machine) (i : ℕ) (user : Machine) → IsInOrder b users → i < length users → user ≡ get_or users i user → Owns (standing b) user
+owns-read b users i user order inside read = each-at (Owns (standing b)) users i user order.owns (reads-user users i user inside read)
+
+-- the same, over the results of the calls
+
+pub done-on : {T E : Type 0} (b new : Recorded) (users : List Machine) (unit : ScriptUnit) (before after : Machine) (result : Result T E) → IsInOrder b users → slice_get users (unit.user - 1) ≡ Some before → OnOk result (DoesTasks b new (unit.tasks before) before after)
+    → OnOk result (DoesUnits b new users (unit ∷ []) (slice_set users (unit.user - 1) after))
+done-on b new users unit before after (Ok x) order here does = unit-done b new users unit before after order here does
+done-on b new users unit before after (Err fault) order here does = tt
+
+pub stopped-on : {T : Type 0} (b new : Recorded) (users : List Machine) (unit : ScriptUnit) (before after : Machine) (result : Result T StepFault) → IsInOrder b users → slice_get users (unit.user - 1) ≡ Some before
+    → IfErr result (StopsTasks b new (unit.tasks before) before after) → IfErr result (StopsUnits b new users (unit ∷ []) (slice_set users (unit.user - 1) after))
+stopped-on b new users unit before after (Ok x) order here stops = tt
+stopped-on b new users unit before after (Err fault) order here stops = unit-stops b new users unit before after fault order here stops
 
 pub ruleset programs = (owns-read)

@@ -106,7 +106,7 @@ nothing-owed w session origin owes = record { offers = none w.offers owes.offers
     none (offer ∷ offers) e = absurd cc
 
 send-keeps : (s : Standing) (frames : List Frame) (port : Port) (ask : Ask) → KeepsOwned s (standing_with s (entry_of ask (send_step s frames port)) (send_step s frames port).next)
-send-keeps s frames port ask = record { sessions = refl; count = omega arith; buffers = refl; ports = λ session own h. h }
+send-keeps s frames port ask = record { sessions = refl; count = omega arith; buffers = refl; ports = λ session own h. h; only = λ session owns all. all }
 
 pub sends-all : (b new : Recorded) (own : OwnPort) (entry short lone : ℕ) (to : List Dest) → CanCall (standing b) own → entry ≡ length (after_ask b (send_call own)).entries
     → option_map reply_of (step (standing b) (send_call own)) ≡ Some (Offered short lone to) → SettlesAll (after_ask b (send_call own)) new entry to
@@ -126,6 +126,7 @@ sends-all b new own entry short lone to can number said settles =
       made_is = made_is;
       settles = subst (λ (m : Recorded). Settles m new port.session) middle done.0;
       settled = nothing-owed (standing new).world port.session entry done.1;
+      sessions = done.0.sessions ∙ ap (λ (t : Standing). t.world.sessions) now;
       keeps = λ user owns. done.0.keeps user (subst (λ (t : Standing). Owns t user) (sym now) (owns-kept s (standing_with s (entry_of ask made) made.next) user (send-keeps s own.pending port ask) owns));
     }
 

@@ -8,7 +8,6 @@ use Rattle.vale_entry.specs.declared.entry.Ask.{Ask}
 use Rattle.vale_entry.specs.declared.entry.Ask.TheVariants.{Grant, Done}
 use Rattle.vale_entry.specs.declared.entry.Dest.{Dest}
 use Rattle.vale_entry.specs.declared.entry.Entry.{Entry}
-use Rattle.vale_script.specs.declared.script.Act.{Act}
 use Rattle.vale_entry.specs.declared.entry.Reply.TheVariants.{Made, Shared}
 use Rattle.vale_entry.specs.World.{World, Port, Lot, Offer, open_port, changed_if, changed_at, is_owed_by}
 use Rattle.vale_entry.specs.Delivery.{line_of, is_lease, done_if, lot_after_done, port_after_done, ports_after_done}
@@ -19,11 +18,12 @@ use Rattle.vale_entry.proofs.Each.{each-weaker, each-append, each-map, each-chan
 use Rattle.vale_entry.proofs.ListLaws.{place-of}
 use Rattle.vale_entry.proofs.Worlds.{standing-push, count-world_of}
 use Rattle.vale_book.specs.Recorded.{Recorded, standing, entry_of, with_step, after_ask, after_outcome, reply_of}
-use Rattle.vale.specs.Machine.{Machine, next_call, resting, at_rest, answered, owed_lot, next_offer, done_call}
+use Rattle.vale.specs.Machine.{Machine, next_call, resting, answered, owed_lot, next_offer, done_call}
+use Rattle.vale.specs.Replay.{caller_of}
 use Rattle.vale.specs.Owned.{Owns, Owes, IsDoneLot, HasDoneLots}
 use Rattle.vale.specs.Steps.{GoesOn, Settles, OwesFirst, OwesSome, SettlesOne}
 use Rattle.vale.proofs.Turns.{runs-none, runs-step, runs-then}
-use Rattle.vale.proofs.Owning.{LooksAs, has-changed_at, has-mapped, KeepsOwned, owns-kept}
+use Rattle.vale.proofs.Owning.{LooksAs, has-changed_at, has-mapped, only-changed_at, only-mapped, KeepsOwned, owns-kept}
 
 -- what stands after a step
 pub standing-step : (b : Recorded) (ask : Ask) (made : Outcome) → recorded_step (standing b) ask made.reply ≡ Some made
@@ -92,30 +92,30 @@ any-changed test id change (p ∷ ps) port found there =
 
 -- the only lease that is not done is the one of this number
 
-abbrev IsOnlyLease : ℕ → Lot → Type 0
-IsOnlyLease number lot = lot.is_done ≡ false → lot.number ≡ number
+abbrev IsOnlyLease : ℕ → ℕ → Lot → Type 0
+IsOnlyLease number session lot = lot.is_done ≡ false → (lot.number ≡ number) × (lot.session ≡ session)
 
-abbrev HasOnlyLease : ℕ → Port → Type 0
-HasOnlyLease number port = Each (IsOnlyLease number) port.line
+abbrev HasOnlyLease : ℕ → ℕ → Port → Type 0
+HasOnlyLease number session port = Each (IsOnlyLease number session) port.line
 
-only-done : (number : ℕ) (lot : Lot) → IsDoneLot lot → IsOnlyLease number lot
-only-done number lot done undone = absurd cc
+only-done : (number session : ℕ) (lot : Lot) → IsDoneLot lot → IsOnlyLease number session lot
+only-done number session lot done undone = absurd cc
 
-only-granted : (number session : ℕ) (frames : List Frame) (port : Port) → HasDoneLots port → HasOnlyLease number (port_after_grant number session frames port)
-only-granted number session [] port done = each-weaker IsDoneLot (IsOnlyLease number) (only-done number) port.line done
-only-granted number session (frame ∷ frames) port done =
-    each-append (IsOnlyLease number) port.line _ (each-weaker IsDoneLot (IsOnlyLease number) (only-done number) port.line done) ((λ e. refl), tt)
+only-granted : (number session mine : ℕ) (frames : List Frame) (port : Port) → session ≡ mine → HasDoneLots port → HasOnlyLease number mine (port_after_grant number session frames port)
+only-granted number session mine [] port same done = each-weaker IsDoneLot (IsOnlyLease number mine) (only-done number mine) port.line done
+only-granted number session mine (frame ∷ frames) port same done =
+    each-append (IsOnlyLease number mine) port.line _ (each-weaker IsDoneLot (IsOnlyLease number mine) (only-done number mine) port.line done) ((λ e. (refl, same)), tt)
 
-done-marked_by : (number : ℕ) (lot : Lot) (b d : Bool) → (lot.number == number) ≡ b → lot.is_done ≡ d → IsOnlyLease number lot → IsDoneLot (done_if b lot)
-done-marked_by number lot true d t u only = refl
-done-marked_by number lot false true t u only = u
-done-marked_by number lot false false t u only = let hit : (lot.number == number) ≡ true = eq-eqb lot.number number (only u) in absurd cc
+done-marked_by : (number session : ℕ) (lot : Lot) (b d : Bool) → (lot.number == number) ≡ b → lot.is_done ≡ d → IsOnlyLease number session lot → IsDoneLot (done_if b lot)
+done-marked_by number session lot true d t u only = refl
+done-marked_by number session lot false true t u only = u
+done-marked_by number session lot false false t u only = let hit : (lot.number == number) ≡ true = eq-eqb lot.number number (only u).0 in absurd cc
 
-done-marked : (number : ℕ) (lot : Lot) → IsOnlyLease number lot → IsDoneLot (lot_after_done number lot)
-done-marked number lot only = done-marked_by number lot (lot.number == number) lot.is_done refl refl only
+done-marked : (number session : ℕ) (lot : Lot) → IsOnlyLease number session lot → IsDoneLot (lot_after_done number lot)
+done-marked number session lot only = done-marked_by number session lot (lot.number == number) lot.is_done refl refl only
 
-done-port : (number : ℕ) (port : Port) → HasOnlyLease number port → HasDoneLots (port_after_done number port)
-done-port number port only = each-map (IsOnlyLease number) IsDoneLot (lot_after_done number) (done-marked number) port.line only
+done-port : (number session : ℕ) (port : Port) → HasOnlyLease number session port → HasDoneLots (port_after_done number port)
+done-port number session port only = each-map (IsOnlyLease number session) IsDoneLot (lot_after_done number) (done-marked number session) port.line only
 
 -- the lots of a session that are owed
 pub owed-false : (session : ℕ) (lot : Lot) → IsDoneLot lot → is_owed_by session lot ≡ false
@@ -136,14 +136,14 @@ undone true true e = absurd cc
 undone false d e = absurd cc
 
 -- the lease just granted is the one to complete
-owed-only : (w : World) (session number : ℕ) → Each (HasOnlyLease number) w.ports → list_any (is_owed_by session) (flat_map line_of w.ports) ≡ true
+owed-only : (w : World) (session number : ℕ) → Each (HasOnlyLease number session) w.ports → list_any (is_owed_by session) (flat_map line_of w.ports) ≡ true
     → option_map (λ (lot : Lot). lot.number) (owed_lot w session) ≡ Some number
 owed-only w session number only some =
     let lots = flat_map line_of w.ports in
     let found = any-found (is_owed_by session) lots some in
     let passes : is_owed_by session found.item ≡ true = (place-of (is_owed_by session) lots found.item found.is).passes in
     let number_is : found.item.number ≡ number =
-    each-find (IsOnlyLease number) (is_owed_by session) lots found.item (each-lots (IsOnlyLease number) w.ports only) found.is (undone (found.item.session == session) found.item.is_done passes) in
+    (each-find (IsOnlyLease number session) (is_owed_by session) lots found.item (each-lots (IsOnlyLease number session) w.ports only) found.is (undone (found.item.session == session) found.item.is_done passes)).0 in
     ap (λ (o : Option Lot). option_map (λ (lot : Lot). lot.number) o) found.is ∙ ap (λ (n : ℕ). Some n) number_is
 
 -- A grant of the first offer that is owed.
@@ -198,7 +198,7 @@ abbrev after_granted : Standing → Offer → Standing
 after_granted s offer = standing_with s (entry_of (Grant offer.origin (record { 0 = offer.to })) (grant_step s offer)) (grant_step s offer).next
 
 grants-looks : (number session : ℕ) (frames : List Frame) (port : Port) → LooksAs port (port_after_grant number session frames port)
-grants-looks number session frames port = record { id = refl; shutting = refl; session = refl; name = refl; out = refl }
+grants-looks number session frames port = record { id = refl; shutting = refl; session = refl; name = refl; tx = refl; extra = refl; out = refl }
 
 grant-keeps : (s : Standing) (offer : Offer) (e : Entry) → KeepsOwned s (standing_with s e (grant_step s offer).next)
 grant-keeps s offer e = record {
@@ -206,6 +206,7 @@ grant-keeps s offer e = record {
   count = omega arith;
   buffers = refl;
   ports = λ session own h. has-changed_at offer.to (port_after_grant (s.world.entry_count + 1) offer.session (granted_frames s.world offer)) (grants-looks (s.world.entry_count + 1) offer.session (granted_frames s.world offer)) s.world.ports session own h;
+  only = λ session owns all. only-changed_at offer.to (port_after_grant (s.world.entry_count + 1) offer.session (granted_frames s.world offer)) (grants-looks (s.world.entry_count + 1) offer.session (granted_frames s.world offer)) s.world.ports session owns all;
 }
 
 -- where it gave nothing, nothing is leased
@@ -220,7 +221,7 @@ grant-empty s session origin to rest [] g done is none = record {
 
 -- where it gave something, that is leased
 pub record LeasedAt (t : Standing) (session origin number : ℕ) (rest : List Dest) : Type 0 where
-  pub only : Each (HasOnlyLease number) t.world.ports
+  pub only : Each (HasOnlyLease number session) t.world.ports
   pub offers : dests_of t.world.offers ≡ rest
   pub of_entry : Each (λ (o : Offer). (o.session ≡ session) × (o.origin ≡ origin)) t.world.offers
   pub owed : list_any (is_owed_by session) (flat_map line_of t.world.ports) ≡ true
@@ -251,7 +252,7 @@ grant-leased s session origin to rest (frame ∷ frames) g done is some =
     let number : ℕ = s.world.entry_count + 1 in
     let there = some-item (open_port s.world.ports g.offer.to) (granted-open (open_port s.world.ports g.offer.to) g.offer.frames frame frames is) in
     record {
-      only = rw is (each-changed_at HasDoneLots (HasOnlyLease number) g.offer.to (port_after_grant number g.offer.session (frame ∷ frames)) (λ port here. each-weaker IsDoneLot (IsOnlyLease number) (only-done number) port.line here) (λ port here. only-granted number g.offer.session (frame ∷ frames) port here) s.world.ports done);
+      only = rw is (each-changed_at HasDoneLots (HasOnlyLease number session) g.offer.to (port_after_grant number g.offer.session (frame ∷ frames)) (λ port here. each-weaker IsDoneLot (IsOnlyLease number session) (only-done number session) port.line here) (λ port here. only-granted number g.offer.session session (frame ∷ frames) port g.session_is here) s.world.ports done);
       offers = ap dests_of g.left ∙ g.rest_is;
       of_entry = subst (Each (λ (o : Offer). (o.session ≡ session) × (o.origin ≡ origin))) (sym g.left) g.rest_of;
       owed = rw is (any-changed (is_owed_by session) g.offer.to (port_after_grant number g.offer.session (frame ∷ frames)) s.world.ports there.0 there.1 (lot-owed number session g.offer.session frame frames there.0.line g.session_is));
@@ -263,17 +264,24 @@ grant-leased s session origin to rest (frame ∷ frames) g done is some =
 abbrev done_outcome : Standing → ℕ → Lot → Outcome
 done_outcome t number lot = record { session = lot.session; reply = Made; next = record t { world = record t.world { ports = ports_after_done number t.world.ports } } }
 
-pub record DoneAt (t : Standing) (number : ℕ) : Type 0 where
+pub record DoneAt (t : Standing) (session number : ℕ) : Type 0 where
   pub lot : Lot
+  pub session_is : lot.session ≡ session
   pub made : step t (Done (record { 0 = number })) ≡ Some (done_outcome t number lot)
 
-done-at : (t : Standing) (session origin number : ℕ) (rest : List Dest) → LeasedAt t session origin number rest → DoneAt t number
+done-at : (t : Standing) (session origin number : ℕ) (rest : List Dest) → LeasedAt t session origin number rest → DoneAt t session number
 done-at t session origin number rest l =
-    let found = any-found (is_lease number) (flat_map line_of t.world.ports) l.leased in
-    record { lot = found.item; made = rw (found.is) refl }
+    let lots = flat_map line_of t.world.ports in
+    let found = any-found (is_lease number) lots l.leased in
+    let passes : is_lease number found.item ≡ true = (place-of (is_lease number) lots found.item found.is).passes in
+    record {
+      lot = found.item;
+      session_is = (each-find (IsOnlyLease number session) (is_lease number) lots found.item (each-lots (IsOnlyLease number session) t.world.ports l.only) found.is (undone (found.item.number == number) found.item.is_done passes)).1;
+      made = rw (found.is) refl;
+    }
 
 done-looks : (number : ℕ) (port : Port) → LooksAs port (port_after_done number port)
-done-looks number port = record { id = refl; shutting = refl; session = refl; name = refl; out = refl }
+done-looks number port = record { id = refl; shutting = refl; session = refl; name = refl; tx = refl; extra = refl; out = refl }
 
 done-keeps : (t : Standing) (number : ℕ) (lot : Lot) (ask : Ask) → KeepsOwned t (standing_with t (entry_of ask (done_outcome t number lot)) (done_outcome t number lot).next)
 done-keeps t number lot ask = record {
@@ -281,6 +289,7 @@ done-keeps t number lot ask = record {
   count = omega arith;
   buffers = refl;
   ports = λ session own h. has-mapped (port_after_done number) (done-looks number) t.world.ports session own h;
+  only = λ session owns all. only-mapped (port_after_done number) (done-looks number) t.world.ports session owns all;
 }
 
 done-owes : (t : Standing) (session origin number : ℕ) (rest : List Dest) (lot : Lot) (ask : Ask) → LeasedAt t session origin number rest
@@ -288,13 +297,10 @@ done-owes : (t : Standing) (session origin number : ℕ) (rest : List Dest) (lot
 done-owes t session origin number rest lot ask l = record {
   offers = l.offers;
   of_entry = l.of_entry;
-  leases = each-map (HasOnlyLease number) HasDoneLots (port_after_done number) (done-port number) t.world.ports l.only;
+  leases = each-map (HasOnlyLease number session) HasDoneLots (port_after_done number) (done-port number session) t.world.ports l.only;
 }
 
 -- The calls of the user whose session is settled.
-
-pub resting-idle : (user : Machine) → user.lines ≡ [] → resting user ≡ user
-resting-idle user none = ap (at_rest user) none ∙ ap (λ (lines : List Act). record user { lines = lines }) (sym none)
 
 call-grant : (s : Standing) (session origin to : ℕ) (rest : List Dest) (user : Machine) → (g : GrantAt s session origin to rest) → Each HasDoneLots s.world.ports → user.session ≡ Some (record { 0 = session })
     → next_call s user ≡ Some (Grant origin (record { 0 = to }))
@@ -310,10 +316,10 @@ call-done t session origin number rest user l is =
     rw (is, done-call_by (owed_lot t.world session) number (owed-only t.world session number l.only l.owed)) refl
 
 -- one entry that settles
-settle-runs : (b : Recorded) (ask : Ask) (made : Outcome) (user : Machine) → answered (standing b) (entry_of ask made) user ≡ user → user.lines ≡ [] → next_call (standing b) user ≡ Some ask
-    → GoesOn b (with_step b ask made) user user
-settle-runs b ask made user same idle called =
-    subst (λ (m : Machine). GoesOn b (with_step b ask made) user m) (ap resting same ∙ resting-idle user idle) (runs-step b user ask made called)
+settle-runs : (b : Recorded) (ask : Ask) (made : Outcome) (user : Machine) → answered (standing b) (entry_of ask made) user ≡ user → resting user ≡ user → next_call (standing b) user ≡ Some ask
+    → recorded_step (standing b) ask made.reply ≡ Some made → caller_of (length b.entries + 1) user ask ≡ Some (record { 0 = made.session }) → GoesOn b (with_step b ask made) user user
+settle-runs b ask made user same idle called recorded caller =
+    subst (λ (m : Machine). GoesOn b (with_step b ask made) user m) (ap resting same ∙ idle) (runs-step b user ask made called recorded caller)
 
 some-same : {X : Type 0} (x y : X) → Some x ≡ Some y → x ≡ y
 some-same x y e = cc
@@ -338,7 +344,8 @@ settles-empty b origin to given full gone said none session first rest first_to 
     let left : Owes (standing_with s (entry_of ask made) made.next).world session origin rest = grant-empty s session origin to rest (granted_frames s.world g.offer) g owes.leases refl empty in
     subst (λ (n : Recorded). Settles b n session × Owes (standing n).world session origin rest) (sym new) (
       record {
-        runs = λ user is idle. settle-runs b ask made user refl idle (call-grant s session origin to rest user g owes.leases is);
+        runs = λ user is idle. settle-runs b ask made user refl idle (call-grant s session origin to rest user g owes.leases is) g.made (is ∙ ap (λ n. Some (record { 0 = n })) (sym g.session_is));
+        sessions = ap (λ (t : Standing). t.world.sessions) now;
         keeps = λ user owns. subst (λ (t : Standing). Owns t user) (sym now) (owns-kept s (standing_with s (entry_of ask made) made.next) user (grant-keeps s g.offer (entry_of ask made)) owns);
       },
       subst (λ (t : Standing). Owes t.world session origin rest) (sym now) left,
@@ -382,8 +389,9 @@ settles-leased b origin to given full gone said some session first rest first_to
     subst (λ (n : Recorded). Settles b n session × Owes (standing n).world session origin rest) (sym is_new) (
       record {
         runs = λ user is idle. runs-then b middle (with_step middle end finished) user user user
-            (subst (λ (m : Recorded). GoesOn b m user user) (sym is_middle) (settle-runs b ask made user refl idle (call-grant s session origin to rest user g owes.leases is)))
-            (settle-runs middle end finished user refl idle (call-done t session origin number rest user l is));
+            (subst (λ (m : Recorded). GoesOn b m user user) (sym is_middle) (settle-runs b ask made user refl idle (call-grant s session origin to rest user g owes.leases is) g.made (is ∙ ap (λ n. Some (record { 0 = n })) (sym g.session_is))))
+            (settle-runs middle end finished user refl idle (call-done t session origin number rest user l is) d.made (is ∙ ap (λ n. Some (record { 0 = n })) (sym d.session_is)));
+        sessions = ap (λ (x : Standing). x.world.sessions) (then' ∙ refl) ∙ ap (λ (x : Standing). x.world.sessions) now;
         keeps = λ user owns.
             let between : Owns t user = subst (λ (x : Standing). Owns x user) (sym now) (owns-kept s (standing_with s (entry_of ask made) made.next) user (grant-keeps s g.offer (entry_of ask made)) owns) in
             subst (λ (x : Standing). Owns x user) (sym then') (owns-kept t (standing_with t (entry_of end finished) finished.next) user (done-keeps t number d.lot end) between);
@@ -432,12 +440,13 @@ granted-count b origin to o =
 -- one settling after the other
 
 pub settles-none : (b : Recorded) (session : ℕ) → Settles b b session
-settles-none b session = record { runs = λ user is idle. runs-none b user; keeps = λ user owns. owns }
+settles-none b session = record { runs = λ user is idle. runs-none b user; keeps = λ user owns. owns; sessions = refl }
 
 pub settles-then : (old middle new : Recorded) (session : ℕ) → Settles old middle session → Settles middle new session → Settles old new session
 settles-then old middle new session front back = record {
   runs = λ user is idle. runs-then old middle new user user user (front.runs user is idle) (back.runs user is idle);
   keeps = λ user owns. back.keeps user (front.keeps user owns);
+  sessions = back.sessions ∙ front.sessions;
 }
 
 -- so much of what was owed is settled

@@ -7,6 +7,7 @@ use Rattle.std.proofs.lemmas.List.Sums.{sum_by-cons}
 use Rattle.nm_types.specs.Frames.{Frame, bytes_of_frames, size_of_frames}
 use Rattle.nm_types.specs.Names.{is_switch_port_name}
 use Rattle.nm_types.specs.Sendable.{is_sendable, fits_buffer}
+use Rattle.nm_types.specs.declared.id.Chain.{Chain}
 use Rattle.nm_types.specs.declared.id.LeaseId.{LeaseId}
 use Rattle.nm_types.specs.declared.id.PortId.{PortId}
 use Rattle.nm_types.specs.declared.id.SessionId.{SessionId}
@@ -15,14 +16,15 @@ use Rattle.nm_types.specs.declared.fault.Part.TheVariants.{Entries, Bytes}
 use Rattle.nm_types.specs.declared.fault.OpenFault.{OpenFault}
 use Rattle.nm_types.specs.declared.fault.StepFault.TheVariants.{RecordFull}
 use Rattle.vale_entry.specs.declared.entry.Ask.{Ask}
-use Rattle.vale_entry.specs.declared.entry.Ask.TheVariants.{Enter, Open, Send, Grant, Done, Sync}
+use Rattle.vale_entry.specs.declared.entry.Ask.TheVariants.{Enter, Open, Send, Grant, Done, Sync, Shut, Finish, Leave}
 use Rattle.vale_entry.specs.World.{Port, Lot, Offer, open_port, is_settled, is_session, transmit_monitor, receive_monitor}
 use Rattle.vale_entry.specs.Opening.{open_refusal}
 use Rattle.vale_entry.specs.Offers.{offers_of, offer_to, dest_of, dests_of, wanted_frames, monitored_frames}
 use Rattle.vale_entry.specs.Grant.{first_offer}
 use Rattle.vale_entry.specs.Delivery.{lease_at, delivered_frames}
 use Rattle.vale_entry.specs.Laws.{Rise, id_of_port}
-use Rattle.vale_entry.specs.Legal.{Standing, Outcome, step, world_of, open_step_by, send_step, send_step_at, can_send, named_of, offers_of_send, grant_step, grant_step_at, done_step_at, sync_step, sync_step_at, can_sync, offers_of_sync}
+use Rattle.vale_entry.specs.Legal.{Standing, Outcome, step, world_of, open_step_by, send_step, send_step_at, can_send, named_of, offers_of_send, grant_step, grant_step_at, done_step_at, sync_step, sync_step_at, can_sync, offers_of_sync, shut_step, shut_step_at, can_finish, finish_step, finish_step_at, leave_step}
+use Rattle.vale_entry.specs.Closing.{shutting_port, leases_out, can_leave}
 use Rattle.vale_entry.specs.Room.{room_wanted, bytes_of}
 use Rattle.vale_entry.proofs.Numbered.{world-numbered}
 use Rattle.vale_entry.proofs.Worlds.{count-world_of}
@@ -117,6 +119,14 @@ sync-little entries s id back (Some port) few = little-if entries (Sync id back)
     let same = dests-count (offers_of_sync s.world port) in
     record { room = omega (arith, offers, same, few); bytes = omega arith })
 
+shut-little : (entries : ℕ) (s : Standing) (id : PortId) (found : Option Port) → Little entries (Shut id) (shut_step_at s found)
+shut-little entries s id None = tt
+shut-little entries s id (Some port) = little-if entries (Shut id) (is_settled s.world port.session) (shut_step s port) (λ can. record { room = omega arith; bytes = omega arith })
+
+finish-little : (entries : ℕ) (s : Standing) (id : PortId) (bufs : List ℕ) (chain : Chain) (found : Option Port) → Little entries (Finish id bufs chain) (finish_step_at s bufs found)
+finish-little entries s id bufs chain None = tt
+finish-little entries s id bufs chain (Some port) = little-if entries (Finish id bufs chain) (can_finish s bufs port && (leases_out port == 0)) (finish_step s bufs port) (λ can. record { room = omega arith; bytes = omega arith })
+
 step-little : (entries : ℕ) (s : Standing) (ask : Ask) → length s.world.ports ≤ entries → Little entries ask (step s ask)
 step-little entries s (Enter user) few = record { room = omega arith; bytes = omega arith }
 step-little entries s (Open session name tx rx extra) few =
@@ -126,6 +136,9 @@ step-little entries s (Send port frames) few = send-little entries s port frames
 step-little entries s (Grant origin to) few = grant-little entries origin s to (first_offer s.world origin)
 step-little entries s (Done lease) few = done-little entries s lease (lease_at s.world.ports lease.0)
 step-little entries s (Sync port back) few = sync-little entries s port back (open_port s.world.ports port.0) few
+step-little entries s (Shut port) few = shut-little entries s port (open_port s.world.ports port.0)
+step-little entries s (Finish port bufs chain) few = finish-little entries s port bufs chain (shutting_port s.world.ports port.0)
+step-little entries s (Leave session) few = little-if entries (Leave session) (can_leave s.world session.0) (leave_step s session.0) (λ can. record { room = omega arith; bytes = omega arith })
 step-little entries s _ few = tt
 
 -- what is used and wanted is a number of 64 bits

@@ -1,5 +1,5 @@
--- The lines that send: `tx`, and a `put` into a full ring.
-use Rattle.std.proofs.Common.{ℕ, ◌-◌, ◌≤◌, ◌≡◌, Bool, true, false, List, [], ◌∷◌, Option, Some, None, option_map, slice_get, slice_set, get_or, inl, Result, Ok, Err, OnOk, OnErr, IfErr, refl, sym, ◌∙◌, ap, subst, arith}
+-- The tasks that send: a sync of a transmit ring, and a frame put into a full one.
+use Rattle.std.proofs.Common.{ℕ, zero, suc, ◌+◌, ◌-◌, ◌≤◌, ◌≡◌, Bool, true, false, List, [], ◌∷◌, ◌++◌, length, replicate, Option, Some, None, option_map, slice_get, slice_set, get_or, inl, Result, Ok, Err, OnOk, OnErr, IfErr, refl, sym, ◌∙◌, ap, subst, arith, zero-add}
 use Rattle.std.specs.Prelude.{option_and_then}
 use Rattle.std.specs.List.{position}
 use Rattle.std.proofs.lemmas.Bool.{lt-leb}
@@ -10,18 +10,16 @@ use Rattle.vale_entry.specs.declared.entry.Ask.{Ask}
 use Rattle.vale_entry.specs.Legal.{Standing, Outcome, send_step}
 use Rattle.vale_entry.proofs.ListLaws.{each-at}
 use Rattle.vale_book.specs.Recorded.{Recorded, standing, entry_of, with_step, IsRefusal}
-use Rattle.vale_script.specs.declared.script.Act.{Act}
-use Rattle.vale_script.specs.declared.script.Act.TheVariants as acts
 use Rattle.vale_script.specs.declared.script.Fill.{Fill}
 use Rattle.vale.specs.declared.port.OwnPort.{OwnPort}
-use Rattle.vale.specs.Machine.{Machine, call_of_line, resting, answered, own_port, with_port, is_named, is_full, put_call, put_again, send_call, sent, with_frame}
-use Rattle.vale.specs.Replay.{starting}
+use Rattle.vale.specs.Machine.{Machine, Task, PutFrame, SendFrames, call_of_task, resting, answered, own_port, with_port, is_named, is_full, put_call, put_again, send_call, sent, with_frame, buffers_in}
 use Rattle.vale.specs.Owned.{Owns, OwnsBy, AllSettled, HasPort}
-use Rattle.vale.specs.Steps.{GoesOn, RunsLine, StopsLine, Sends, PutsBy, StopsPut, CanCall}
-use Rattle.vale.proofs.Turns.{runs-then}
-use Rattle.vale.proofs.OwnPorts.{OwnAt, own-read, own-changed, with_port-twice}
+use Rattle.vale.specs.Steps.{GoesOn, KeepsOrder, DoesTasks, StopsTasks, Sends, PutsBy, StopsPut, CanCall}
+use Rattle.vale.proofs.Turns.{runs-then, grown-longer}
+use Rattle.vale.proofs.Resting.{rest-session, rest-twice, rest-done}
+use Rattle.vale.proofs.OwnPorts.{OwnAt, own-read, own-changed, with_port-twice, with_port-none, position-set}
 use Rattle.vale.proofs.Sending.{send-made}
-use Rattle.vale.proofs.Lines.{next-idle, line-call, line-runs, line-own, starting-own}
+use Rattle.vale.proofs.Tasks.{Rests, task-runs, task-own, task-nothing, theirs-same, stops-task, does-none, does-then, stops-then, stops-before}
 use Rattle.vale.proofs.Changing.{owns-changed_by, has-sent, has-frame}
 
 -- the session of a user that has a port
@@ -54,134 +52,184 @@ sends-session b new user own settled h sends =
 abbrev pub with_own : Machine → ℕ → OwnPort → Machine
 with_own user place own = record user { ports = slice_set user.ports place own }
 
-owns-own : (s : Standing) (user : Machine) (place : ℕ) (own other : OwnPort) → slice_get user.ports place ≡ Some own → other.id.0 ≡ own.id.0 → other.received ≡ own.received
+owns-own : (s : Standing) (user : Machine) (place : ℕ) (own other : OwnPort) → slice_get user.ports place ≡ Some own → other.id.0 ≡ own.id.0 → buffers_in other ≡ buffers_in own
     → ((id : ℕ) → HasPort s.world.ports id own → HasPort s.world.ports id other) → Owns s user → Owns s (with_own user place other)
-owns-own s user place own other here id_is received_is has owns = owns-changed_by s user.session user.ports place own other here id_is received_is has owns
+owns-own s user place own other here id_is buffers_are has owns = owns-changed_by s user.session user.ports place own other here id_is buffers_are has owns
 
-pub tx-runs : (b new : Recorded) (user : Machine) (name : List ℕ) (place : ℕ) (own : OwnPort) → AllSettled (standing b).world → Owns (standing b) user → user.lines ≡ [] → OwnAt user.ports name place own → Sends b new own
-    → RunsLine b new (acts.Tx name) user (with_own user place (sent own))
-tx-runs b new user name place own settled owns idle at sends =
-    let act : Act = acts.Tx name in
+-- a send and what it owes, whatever its user has to do next
+sends-go : (b new : Recorded) (user after : Machine) (task : Task) (rest : List Task) (own : OwnPort) → AllSettled (standing b).world → (h : HasSession (standing b) user own) → call_of_task user task ≡ Some (send_call own) → (sends : Sends b new own)
+    → after.session ≡ user.session → resting after ≡ after → resting (answered (standing b) (entry_of (send_call own) sends.made) (record user { tasks = task ∷ rest })) ≡ after
+    → GoesOn b new (resting (record user { tasks = task ∷ rest })) after
+sends-go b new user after task rest own settled h called sends same rests is =
     let ask : Ask = send_call own in
-    let after : Machine = with_own user place (sent own) in
-    let called : call_of_line (record user { lines = act ∷ [] }) act ≡ Some ask = ap (option_map send_call) at.found in
-    let after_is : resting (answered (standing b) (entry_of ask sends.made) (record user { lines = act ∷ [] })) ≡ after =
-    ap (λ (ports : List OwnPort). record user { ports = ports; lines = [] }) (at.changes sent) ∙ ap (λ (lines : List Act). record after { lines = lines }) (sym idle) in
-    let first : GoesOn b (with_step b ask sends.made) (starting act user) after =
-    subst (λ (m : Machine). GoesOn b (with_step b ask sends.made) (starting act user) m) after_is (line-runs b user act ask sends.made settled called) in
-    let h = has-session (standing b) user place own owns at.here in
-    let kept : Owns (standing new) user = sends.keeps user owns in
+    let caller = sends-session b new user own settled h sends in
+    let first : GoesOn b (with_step b ask sends.made) (resting (record user { tasks = task ∷ rest })) after =
+    subst (λ (m : Machine). GoesOn b (with_step b ask sends.made) (resting (record user { tasks = task ∷ rest })) m) is (task-runs b user task rest ask sends.made settled called sends.made_is caller) in
+    runs-then b (with_step b ask sends.made) new (resting (record user { tasks = task ∷ rest })) after after first (sends.settles.runs after (same ∙ caller) rests)
+
+-- all others stay as they are
+sends-order : (b new : Recorded) (user after : Machine) (own : OwnPort) → Sends b new own → length b.entries ≤ length new.entries → Owns (standing new) after → after.session ≡ user.session → after.tasks ≡ [] → KeepsOrder b new user after
+sends-order b new user after own sends longer owns same idle = record {
+  owns = owns;
+  settled = sends.settled;
+  others = λ other apart later kept. sends.keeps other kept;
+  theirs = theirs-same b new user after sends.sessions same;
+  origin = λ session is. inl (sym same ∙ is);
+  longer = longer;
+  idle = idle;
+}
+
+sends-do : (b new : Recorded) (user after : Machine) (task : Task) (own : OwnPort) → AllSettled (standing b).world → (h : HasSession (standing b) user own) → call_of_task user task ≡ Some (send_call own) → (sends : Sends b new own)
+    → after.session ≡ user.session → after.tasks ≡ [] → Owns (standing new) after → Rests b user after task (send_call own) sends.made → DoesTasks b new (task ∷ []) user after
+sends-do b new user after task own settled h called sends same idle owns rests =
+    let goes : (rest : List Task) → GoesOn b new (resting (record user { tasks = task ∷ rest })) (resting (record after { tasks = rest })) =
+    λ rest. sends-go b new user (resting (record after { tasks = rest })) task rest own settled h called sends (rest-session (record after { tasks = rest }) rest ∙ same) (rest-twice (record after { tasks = rest }) rest) (rests rest) in
     record {
-      runs = runs-then b (with_step b ask sends.made) new (starting act user) after after first (sends.settles.runs after (sends-session b new user own settled h sends) idle);
-      ended = next-idle (standing new) after sends.settled idle;
-      owns = owns-own (standing new) user place own (sent own) at.here refl refl (λ id. has-sent (standing new).world.ports id own) kept;
-      settled = sends.settled;
-      others = λ other apart mine. sends.keeps other mine;
-      session = inl refl;
-      idle = idle;
+      runs = goes;
+      order = sends-order b new user after own sends (grown-longer b new (resting (record user { tasks = task ∷ [] })) (resting (record after { tasks = [] })) (goes [])) owns same idle;
     }
 
--- the call of a line, where it was refused
-pub stops-at : (b : Recorded) (user : Machine) (act : Act) (ask : Ask) (fault : StepFault) (new : Recorded) → AllSettled (standing b).world → call_of_line (record user { lines = act ∷ [] }) act ≡ Some ask → IsRefusal b ask fault → new ≡ b
-    → StopsLine b new act user fault
-stops-at b user act ask (RecordFull what used want) new settled called refused same = (same, record { call = ask; called = line-call (standing b) user act ask settled called; refused = refused })
-stops-at b user act ask NoMemory new settled called refused same = tt
-
-pub tx-stops : (b new : Recorded) (user : Machine) (name : List ℕ) (place : ℕ) (own : OwnPort) (fault : StepFault) → AllSettled (standing b).world → OwnAt user.ports name place own → IsRefusal b (send_call own) fault → new ≡ b
-    → StopsLine b new (acts.Tx name) user fault
-tx-stops b new user name place own fault settled at refused same = stops-at b user (acts.Tx name) (send_call own) fault new settled (ap (option_map send_call) at.found) refused same
+pub tx-does : (b new : Recorded) (user : Machine) (name : List ℕ) (place : ℕ) (own : OwnPort) → AllSettled (standing b).world → Owns (standing b) user → user.tasks ≡ [] → OwnAt user.ports name place own → Sends b new own
+    → DoesTasks b new (SendFrames name ∷ []) user (with_own user place (sent own))
+tx-does b new user name place own settled owns idle at sends =
+    sends-do b new user (with_own user place (sent own)) (SendFrames name) own settled (has-session (standing b) user place own owns at.here) (ap (option_map send_call) at.found) sends refl idle
+    (owns-own (standing new) user place own (sent own) at.here refl refl (λ id. has-sent (standing new).world.ports id own) (sends.keeps user owns))
+    (λ rest. ap (λ (ports : List OwnPort). resting (record user { ports = ports; tasks = rest })) (at.changes sent))
 
 -- the same, over the results of the calls
 
-pub tx-on : {T : Type 0} (b new : Recorded) (user : Machine) (name : List ℕ) (place : ℕ) (own other : OwnPort) (result : Result T StepFault) → AllSettled (standing b).world → Owns (standing b) user → user.lines ≡ []
+pub tx-on : {T : Type 0} (b new : Recorded) (user : Machine) (name : List ℕ) (place : ℕ) (own other : OwnPort) (result : Result T StepFault) → AllSettled (standing b).world → Owns (standing b) user → user.tasks ≡ []
     → position (is_named name) user.ports ≡ Some place → own ≡ get_or user.ports place own → OnOk result (other ≡ sent own) → OnOk result (Sends b new own)
-    → OnOk result (RunsLine b new (acts.Tx name) user (with_own user place other))
+    → OnOk result (DoesTasks b new (SendFrames name ∷ []) user (with_own user place other))
 tx-on b new user name place own other (Ok x) settled owns idle is read emptied sends =
-    subst (λ (o : OwnPort). RunsLine b new (acts.Tx name) user (with_own user place o)) (sym emptied) (tx-runs b new user name place own settled owns idle (own-read user.ports name place own is read) sends)
+    subst (λ (o : OwnPort). DoesTasks b new (SendFrames name ∷ []) user (with_own user place o)) (sym emptied) (tx-does b new user name place own settled owns idle (own-read user.ports name place own is read) sends)
 tx-on b new user name place own other (Err fault) settled owns idle is read emptied sends = tt
 
-pub tx-stopped : {T : Type 0} (b new : Recorded) (user : Machine) (name : List ℕ) (place : ℕ) (own : OwnPort) (result : Result T StepFault) → AllSettled (standing b).world
-    → position (is_named name) user.ports ≡ Some place → own ≡ get_or user.ports place own → IfErr result (IsRefusal b (send_call own)) → OnErr result (new ≡ b)
-    → IfErr result (StopsLine b new (acts.Tx name) user)
-tx-stopped b new user name place own (Ok x) settled is read refused same = tt
-tx-stopped b new user name place own (Err fault) settled is read refused same = tx-stops b new user name place own fault settled (own-read user.ports name place own is read) refused same
+pub own-same : (user : Machine) (name : List ℕ) (place : ℕ) (own other : OwnPort) → OwnAt user.ports name place own → other ≡ own → with_own user place other ≡ user
+own-same user name place own other at same = ap (with_own user place) same ∙ ap (λ (ports : List OwnPort). record user { ports = ports }) (set-same user.ports place own at.here)
+  where
+    set-same : (ports : List OwnPort) (i : ℕ) (port : OwnPort) → slice_get ports i ≡ Some port → slice_set ports i port ≡ ports
+    set-same [] i port e = refl
+    set-same (p ∷ ps) zero port e = let same' : p ≡ port = cc in ap (λ (o : OwnPort). o ∷ ps) (sym same')
+    set-same (p ∷ ps) (suc i) port e = ap (λ (os : List OwnPort). p ∷ os) (set-same ps i port e)
+
+pub tx-stopped : {T : Type 0} (b new : Recorded) (user : Machine) (name : List ℕ) (place : ℕ) (own other : OwnPort) (result : Result T StepFault) → AllSettled (standing b).world → Owns (standing b) user → user.tasks ≡ []
+    → position (is_named name) user.ports ≡ Some place → own ≡ get_or user.ports place own → IfErr result (IsRefusal b (send_call own)) → OnErr result (new ≡ b) → OnErr result (other ≡ own)
+    → IfErr result (StopsTasks b new (SendFrames name ∷ []) user (with_own user place other))
+tx-stopped b new user name place own other (Ok x) settled owns idle is read refused same still = tt
+tx-stopped b new user name place own other (Err fault) settled owns idle is read refused same still =
+    let at = own-read user.ports name place own is read in
+    stops-task b new user (with_own user place other) (SendFrames name) (send_call own) fault settled owns idle (ap (option_map send_call) at.found) refused same (own-same user name place own other at still)
 
 -- A frame that is put.
 
-pub put-room : (b : Recorded) (user : Machine) (name : List ℕ) (fill : Fill) (place : ℕ) (own : OwnPort) → AllSettled (standing b).world → Owns (standing b) user → user.lines ≡ [] → fill.len ≤ 2048 → OwnAt user.ports name place own
-    → is_full own ≡ false → RunsLine b b (acts.Put name fill) user (with_own user place (with_frame fill own))
+pub put-room : (b : Recorded) (user : Machine) (name : List ℕ) (fill : Fill) (place : ℕ) (own : OwnPort) → AllSettled (standing b).world → Owns (standing b) user → user.tasks ≡ [] → fill.len ≤ 2048 → OwnAt user.ports name place own
+    → is_full own ≡ false → DoesTasks b b (PutFrame name fill ∷ []) user (with_own user place (with_frame fill own))
 put-room b user name fill place own settled owns idle fits at room =
-    let act : Act = acts.Put name fill in
-    let after : Machine = with_own user place (with_frame fill own) in
-    let none : call_of_line (record user { lines = act ∷ [] }) act ≡ None = ap (option_and_then put_call) at.found ∙ rw room refl in
-    let is : starting act user ≡ after =
-    starting-own user act none ∙ ap (λ (ports : List OwnPort). record user { ports = ports; lines = [] }) (at.changes (with_frame fill)) ∙ ap (λ (lines : List Act). record after { lines = lines }) (sym idle) in
-    line-own b user after act settled is idle
-    (owns-own (standing b) user place own (with_frame fill own) at.here refl refl (λ id. has-frame (standing b).world.ports id own fill fits room) owns) refl
+    task-own b user (with_own user place (with_frame fill own)) (PutFrame name fill) settled (ap (option_and_then put_call) at.found ∙ rw room refl)
+    (ap (λ (ports : List OwnPort). record user { ports = ports }) (sym (at.changes (with_frame fill)))) idle
+    (owns-own (standing b) user place own (with_frame fill own) at.here refl refl (λ id. has-frame (standing b).world.ports id own fill fits room) owns)
 
-sent-room : (own : OwnPort) → 2 ≤ own.tx → is_full (sent own) ≡ false
-sent-room own least = lt-leb (own.tx - 1) 0 (omega (arith, least))
+sent-room : (own : OwnPort) → 2 ≤ length own.transmit → is_full (sent own) ≡ false
+sent-room own least = lt-leb (length own.transmit - 1) 0 (omega (arith, least))
 
-pub put-full : (b new : Recorded) (user : Machine) (name : List ℕ) (fill : Fill) (place : ℕ) (own : OwnPort) → AllSettled (standing b).world → Owns (standing b) user → user.lines ≡ [] → fill.len ≤ 2048 → OwnAt user.ports name place own
-    → is_full own ≡ true → Sends b new own → RunsLine b new (acts.Put name fill) user (with_own user place (with_frame fill (sent own)))
+pub put-full : (b new : Recorded) (user : Machine) (name : List ℕ) (fill : Fill) (place : ℕ) (own : OwnPort) → AllSettled (standing b).world → Owns (standing b) user → user.tasks ≡ [] → fill.len ≤ 2048 → OwnAt user.ports name place own
+    → is_full own ≡ true → Sends b new own → DoesTasks b new (PutFrame name fill ∷ []) user (with_own user place (with_frame fill (sent own)))
 put-full b new user name fill place own settled owns idle fits at full sends =
-    let act : Act = acts.Put name fill in
-    let ask : Ask = send_call own in
+    let task : Task = PutFrame name fill in
     let after : Machine = with_own user place (with_frame fill (sent own)) in
-    let called : call_of_line (record user { lines = act ∷ [] }) act ≡ Some ask = ap (option_and_then put_call) at.found ∙ rw full refl in
     let h = has-session (standing b) user place own owns at.here in
     let free : is_full (sent own) ≡ false = sent-room own h.has.least in
-    let middle : Machine = record user { ports = with_port name sent user.ports; lines = act ∷ [] } in
-    let again : own_port middle.ports name ≡ Some (sent own) = own-changed sent (λ port. refl) user.ports name own at.found in
-    let none : call_of_line middle act ≡ None = ap (option_and_then put_call) again ∙ rw free refl in
+    let emptied : Machine = record user { ports = with_port name sent user.ports } in
+    let again : own_port emptied.ports name ≡ Some (sent own) = own-changed sent (λ port. refl) user.ports name own at.found in
+    let none : call_of_task emptied task ≡ None = ap (option_and_then put_call) again ∙ rw free refl in
     let twice : with_port name (with_frame fill) (with_port name sent user.ports) ≡ slice_set user.ports place (with_frame fill (sent own)) =
     with_port-twice sent (with_frame fill) (λ port. refl) user.ports name ∙ at.changes (λ port. with_frame fill (sent port)) in
-    let goes : put_again name fill (with_port name sent user.ports) [] ≡ act ∷ [] = rw (again, free) refl in
-    let after_is : resting (answered (standing b) (entry_of ask sends.made) (record user { lines = act ∷ [] })) ≡ after =
-    ap (λ (lines : List Act). resting (record user { ports = with_port name sent user.ports; lines = lines })) goes
-    ∙ starting-own (record user { ports = with_port name sent user.ports }) act none ∙ ap (λ (ports : List OwnPort). record user { ports = ports; lines = [] }) twice ∙ ap (λ (lines : List Act). record after { lines = lines }) (sym idle) in
-    let first : GoesOn b (with_step b ask sends.made) (starting act user) after =
-    subst (λ (m : Machine). GoesOn b (with_step b ask sends.made) (starting act user) m) after_is (line-runs b user act ask sends.made settled called) in
+    let goes : (rest : List Task) → put_again name fill (with_port name sent user.ports) rest ≡ task ∷ rest = λ rest. rw (again, free) refl in
     let kept : Owns (standing new) user = sends.keeps user owns in
-    let emptied : Owns (standing new) (with_own user place (sent own)) = owns-own (standing new) user place own (sent own) at.here refl refl (λ id. has-sent (standing new).world.ports id own) kept in
-    record {
-      runs = runs-then b (with_step b ask sends.made) new (starting act user) after after first (sends.settles.runs after (sends-session b new user own settled h sends) idle);
-      ended = next-idle (standing new) after sends.settled idle;
-      owns = owns-own (standing new) user place own (with_frame fill (sent own)) at.here refl refl (λ id mine. has-frame (standing new).world.ports id (sent own) fill fits free (has-sent (standing new).world.ports id own mine)) kept;
-      settled = sends.settled;
-      others = λ other apart mine. sends.keeps other mine;
-      session = inl refl;
-      idle = idle;
-    }
+    sends-do b new user after task own settled h (ap (option_and_then put_call) at.found ∙ rw full refl) sends refl idle
+    (owns-own (standing new) user place own (with_frame fill (sent own)) at.here refl refl (λ id mine. has-frame (standing new).world.ports id (sent own) fill fits free (has-sent (standing new).world.ports id own mine)) kept)
+    (λ rest. ap (λ (tasks : List Task). resting (record emptied { tasks = tasks })) (goes rest) ∙ rest-done emptied task rest none ∙ ap (λ (ports : List OwnPort). resting (record user { ports = ports; tasks = rest })) twice)
 
-put-by : (b new : Recorded) (user : Machine) (name : List ℕ) (fill : Fill) (place : ℕ) (own other : OwnPort) (full : Bool) → is_full own ≡ full → AllSettled (standing b).world → Owns (standing b) user → user.lines ≡ [] → fill.len ≤ 2048
-    → OwnAt user.ports name place own → PutsBy full b new own fill other → RunsLine b new (acts.Put name fill) user (with_own user place other)
+put-by : (b new : Recorded) (user : Machine) (name : List ℕ) (fill : Fill) (place : ℕ) (own other : OwnPort) (full : Bool) → is_full own ≡ full → AllSettled (standing b).world → Owns (standing b) user → user.tasks ≡ [] → fill.len ≤ 2048
+    → OwnAt user.ports name place own → PutsBy full b new own fill other → DoesTasks b new (PutFrame name fill ∷ []) user (with_own user place other)
 put-by b new user name fill place own other true full settled owns idle fits at puts =
-    subst (λ (o : OwnPort). RunsLine b new (acts.Put name fill) user (with_own user place o)) (sym puts.0) (put-full b new user name fill place own settled owns idle fits at full puts.1)
+    subst (λ (o : OwnPort). DoesTasks b new (PutFrame name fill ∷ []) user (with_own user place o)) (sym puts.0) (put-full b new user name fill place own settled owns idle fits at full puts.1)
 put-by b new user name fill place own other false room settled owns idle fits at puts =
-    subst (λ (o : OwnPort). RunsLine b new (acts.Put name fill) user (with_own user place o)) (sym puts.0)
-    (subst (λ (n : Recorded). RunsLine b n (acts.Put name fill) user (with_own user place (with_frame fill own))) (sym puts.1) (put-room b user name fill place own settled owns idle fits at room))
+    subst (λ (o : OwnPort). DoesTasks b new (PutFrame name fill ∷ []) user (with_own user place o)) (sym puts.0)
+    (subst (λ (n : Recorded). DoesTasks b n (PutFrame name fill ∷ []) user (with_own user place (with_frame fill own))) (sym puts.1) (put-room b user name fill place own settled owns idle fits at room))
 
-pub put-on : {T : Type 0} (b new : Recorded) (user : Machine) (name : List ℕ) (fill : Fill) (place : ℕ) (own other : OwnPort) (result : Result T StepFault) → AllSettled (standing b).world → Owns (standing b) user → user.lines ≡ []
+pub put-on : {T : Type 0} (b new : Recorded) (user : Machine) (name : List ℕ) (fill : Fill) (place : ℕ) (own other : OwnPort) (result : Result T StepFault) → AllSettled (standing b).world → Owns (standing b) user → user.tasks ≡ []
     → fill.len ≤ 2048 → position (is_named name) user.ports ≡ Some place → own ≡ get_or user.ports place own → OnOk result (PutsBy (is_full own) b new own fill other)
-    → OnOk result (RunsLine b new (acts.Put name fill) user (with_own user place other))
+    → OnOk result (DoesTasks b new (PutFrame name fill ∷ []) user (with_own user place other))
 put-on b new user name fill place own other (Ok x) settled owns idle fits is read puts = put-by b new user name fill place own other (is_full own) refl settled owns idle fits (own-read user.ports name place own is read) puts
 put-on b new user name fill place own other (Err fault) settled owns idle fits is read puts = tt
 
-put-stops : (b new : Recorded) (user : Machine) (name : List ℕ) (fill : Fill) (place : ℕ) (own : OwnPort) (fault : StepFault) → AllSettled (standing b).world → OwnAt user.ports name place own → StopsPut b new own fault
-    → StopsLine b new (acts.Put name fill) user fault
-put-stops b new user name fill place own (RecordFull what used want) settled at stops =
-    stops-at b user (acts.Put name fill) (send_call own) (RecordFull what used want) new settled (ap (option_and_then put_call) at.found ∙ rw (stops.0) refl) stops.1.0 stops.1.1
-put-stops b new user name fill place own NoMemory settled at stops = tt
+-- the port keeps its name
+put-name : (b new : Recorded) (own other : OwnPort) (fill : Fill) (full : Bool) → PutsBy full b new own fill other → other.name ≡ own.name
+put-name b new own other fill true puts = ap (λ (o : OwnPort). o.name) puts.0
+put-name b new own other fill false puts = ap (λ (o : OwnPort). o.name) puts.0
 
-pub put-stopped : {T : Type 0} (b new : Recorded) (user : Machine) (name : List ℕ) (fill : Fill) (place : ℕ) (own : OwnPort) (result : Result T StepFault) → AllSettled (standing b).world
-    → position (is_named name) user.ports ≡ Some place → own ≡ get_or user.ports place own → IfErr result (StopsPut b new own) → IfErr result (StopsLine b new (acts.Put name fill) user)
-put-stopped b new user name fill place own (Ok x) settled is read stops = tt
-put-stopped b new user name fill place own (Err fault) settled is read stops = put-stops b new user name fill place own fault settled (own-read user.ports name place own is read) stops
+pub put-named : {T : Type 0} (b new : Recorded) (ports : List OwnPort) (name : List ℕ) (fill : Fill) (place : ℕ) (own other : OwnPort) (result : Result T StepFault)
+    → position (is_named name) ports ≡ Some place → own ≡ get_or ports place own → OnOk result (PutsBy (is_full own) b new own fill other) → OnOk result (position (is_named name) (slice_set ports place other) ≡ Some place)
+put-named b new ports name fill place own other (Ok x) is read puts =
+    let at = own-read ports name place own is read in
+    position-set (is_named name) ports place own other at.here (ap (λ (n : List ℕ). is_named name (record own { name = n })) (put-name b new own other fill (is_full own) puts)) ∙ is
+put-named b new ports name fill place own other (Err fault) is read puts = tt
+
+put-stops : (b new : Recorded) (user : Machine) (name : List ℕ) (fill : Fill) (place : ℕ) (own other : OwnPort) (fault : StepFault) → AllSettled (standing b).world → Owns (standing b) user → user.tasks ≡ [] → OwnAt user.ports name place own
+    → StopsPut b new own other fault → StopsTasks b new (PutFrame name fill ∷ []) user (with_own user place other) fault
+put-stops b new user name fill place own other (RecordFull what used want) settled owns idle at stops =
+    stops-task b new user (with_own user place other) (PutFrame name fill) (send_call own) (RecordFull what used want) settled owns idle (ap (option_and_then put_call) at.found ∙ rw (stops.0) refl) stops.1.0 stops.1.1.0
+    (own-same user name place own other at stops.1.1.1)
+put-stops b new user name fill place own other NoMemory settled owns idle at stops = tt
+
+pub put-stopped : {T : Type 0} (b new : Recorded) (user : Machine) (name : List ℕ) (fill : Fill) (place : ℕ) (own other : OwnPort) (result : Result T StepFault) → AllSettled (standing b).world → Owns (standing b) user → user.tasks ≡ []
+    → position (is_named name) user.ports ≡ Some place → own ≡ get_or user.ports place own → IfErr result (StopsPut b new own other) → IfErr result (StopsTasks b new (PutFrame name fill ∷ []) user (with_own user place other))
+put-stopped b new user name fill place own other (Ok x) settled owns idle is read stops = tt
+put-stopped b new user name fill place own other (Err fault) settled owns idle is read stops = put-stops b new user name fill place own other fault settled owns idle (own-read user.ports name place own is read) stops
 
 -- the port's own put
-pub stops-put : (old new : Recorded) (own : OwnPort) (fault : StepFault) → is_full own ≡ true → IsRefusal old (send_call own) fault → new ≡ old → StopsPut old new own fault
-stops-put old new own (RecordFull what used want) full refused same = (full, (refused, same))
-stops-put old new own NoMemory full refused same = tt
+pub stops-put : (old new : Recorded) (own after : OwnPort) (fault : StepFault) → is_full own ≡ true → IsRefusal old (send_call own) fault → new ≡ old → after ≡ own → StopsPut old new own after fault
+stops-put old new own after (RecordFull what used want) full refused same still = (full, (refused, (same, still)))
+stops-put old new own after NoMemory full refused same still = tt
+
+-- Frames one after another.
+
+replicate-split : {X : Type 0} (n m : ℕ) (x : X) → replicate n x ++ replicate m x ≡ replicate (n + m) x
+replicate-split zero m x = ap (λ (k : ℕ). replicate k x) (sym (zero-add m))
+replicate-split (suc n) m x =
+    let next : suc (n + m) ≡ suc n + m = omega arith in
+    ap (λ (xs : List _). x ∷ xs) (replicate-split n m x) ∙ ap (λ (k : ℕ). replicate k x) next
+
+-- so many frames were put, by a user that keeps its session, at the place of its port
+pub record HasPut (old now : Recorded) (name : List ℕ) (fill : Fill) (place count : ℕ) (before after : Machine) : Type 0 where
+  pub does : DoesTasks old now (replicate count (PutFrame name fill)) before after
+  pub session_is : after.session ≡ before.session
+  pub place_is : position (is_named name) after.ports ≡ Some place
+
+pub has-put_none : (b : Recorded) (user : Machine) (name : List ℕ) (fill : Fill) (place : ℕ) → AllSettled (standing b).world → Owns (standing b) user → user.tasks ≡ [] → position (is_named name) user.ports ≡ Some place → HasPut b b name fill place 0 user user
+has-put_none b user name fill place settled owns idle is = record { does = does-none b user settled owns idle; session_is = refl; place_is = is }
+
+pub has-put_more : (old middle new : Recorded) (name : List ℕ) (fill : Fill) (place count : ℕ) (before between after : Machine) → HasPut old middle name fill place count before between → DoesTasks middle new (PutFrame name fill ∷ []) between after
+    → after.session ≡ between.session → position (is_named name) after.ports ≡ Some place → HasPut old new name fill place (count + 1) before after
+has-put_more old middle new name fill place count before between after front back same is = record {
+  does = subst (λ (ts : List Task). DoesTasks old new ts before after) (replicate-split count 1 (PutFrame name fill)) (does-then old middle new (replicate count (PutFrame name fill)) (PutFrame name fill ∷ []) before between after front.session_is front.does back);
+  session_is = same ∙ front.session_is;
+  place_is = is;
+}
+
+pub put-stopped_after : (old middle new : Recorded) (name : List ℕ) (fill : Fill) (place done left : ℕ) (before between after : Machine) (fault : StepFault) → HasPut old middle name fill place done before between → StopsTasks middle new (PutFrame name fill ∷ []) between after fault
+    → StopsTasks old new (replicate (done + suc left) (PutFrame name fill)) before after fault
+put-stopped_after old middle new name fill place done left before between after fault front back =
+    subst (λ (ts : List Task). StopsTasks old new ts before after fault) (replicate-split done (suc left) (PutFrame name fill))
+    (stops-then old middle new (replicate done (PutFrame name fill)) (replicate (suc left) (PutFrame name fill)) before between after fault front.session_is front.does (stops-before middle new (PutFrame name fill ∷ []) (replicate left (PutFrame name fill)) between after fault back))
+
+-- none of them needs a call where the user has no port of the name
+pub put-nothing : (b : Recorded) (user : Machine) (name : List ℕ) (fill : Fill) (count : ℕ) → AllSettled (standing b).world → Owns (standing b) user → user.tasks ≡ [] → own_port user.ports name ≡ None → DoesTasks b b (replicate count (PutFrame name fill)) user user
+put-nothing b user name fill zero settled owns idle none = does-none b user settled owns idle
+put-nothing b user name fill (suc count) settled owns idle none =
+    does-then b b b (PutFrame name fill ∷ []) (replicate count (PutFrame name fill)) user user user refl
+    (task-nothing b user (PutFrame name fill) settled owns idle (ap (option_and_then put_call) none) (with_port-none name (with_frame fill) user.ports none)) (put-nothing b user name fill count settled owns idle none)
 
 pub ruleset transmits = (own-read, stops-put)

@@ -1,15 +1,15 @@
 -- A user's turns: over a longer history, one after another, and as the entries behind those of a record.
-use Rattle.std.proofs.Common.{ℕ, zero, suc, ◌+◌, ◌-◌, ◌<◌, ◌≤◌, ◌≡◌, List, [], ◌∷◌, ◌++◌, length, take, slice_get, Some, refl, sym, ◌∙◌, ap, subst, arith, append_assoc, length-append}
+use Rattle.std.proofs.Common.{ℕ, zero, suc, ◌+◌, ◌-◌, ◌<◌, ◌≤◌, ◌≡◌, List, [], ◌∷◌, ◌++◌, length, take, slice_get, Some, option_map, refl, sym, ◌∙◌, ap, subst, arith, append_assoc, length-append}
 use Rattle.std.specs.List.{range_with_len}
 use Rattle.std.proofs.lemmas.List.{take-append-le, append-nil}
 use Rattle.std.proofs.lemmas.Option.{slice_get_within}
 use Rattle.std.proofs.Math.Seq.{take-append_seam}
 use Rattle.vale_entry.specs.declared.entry.Ask.{Ask}
 use Rattle.vale_entry.specs.declared.entry.Entry.{Entry}
-use Rattle.vale_entry.specs.Legal.{Standing, Outcome, standing_of}
+use Rattle.vale_entry.specs.Legal.{Standing, Outcome, Follows, recorded_step, session_and_reply, standing_of}
 use Rattle.vale_book.specs.Recorded.{Recorded, standing, entry_of, with_step}
 use Rattle.vale.specs.Machine.{Machine, next_call, answered, resting}
-use Rattle.vale.specs.Replay.{TakesTurn, TakesTurns, standing_before}
+use Rattle.vale.specs.Replay.{TakesTurn, TakesTurns, standing_before, caller_of}
 use Rattle.vale.specs.Steps.{GoesOn}
 
 slice_get-append : {X : Type 0} (xs ys : List X) (i : ℕ) (x : X) → slice_get xs i ≡ Some x → slice_get (xs ++ ys) i ≡ Some x
@@ -33,6 +33,8 @@ turn-longer pool history more before number after turn =
       entry = turn.entry;
       there = slice_get-append history more (number - 1) turn.entry turn.there;
       asked = ap (λ (s : Standing). next_call s before) same ∙ turn.asked;
+      caller = turn.caller;
+      follows = subst (λ (s : Standing). Follows s turn.entry) (sym same) turn.follows;
       goes_on = turn.goes_on ∙ ap (λ (s : Standing). resting (answered s turn.entry before)) (sym same);
     }
 
@@ -62,8 +64,9 @@ range-append from (suc count) more =
 
 -- the entry behind a history, which is the user's next call
 pub turn-next : (pool : ℕ) (history : List Entry) (before : Machine) (ask : Ask) (made : Outcome) → next_call (standing_of pool history) before ≡ Some ask
+    → recorded_step (standing_of pool history) ask made.reply ≡ Some made → caller_of (length history + 1) before ask ≡ Some (record { 0 = made.session })
     → TakesTurn pool (history ++ entry_of ask made ∷ []) before (length history + 1) (resting (answered (standing_of pool history) (entry_of ask made) before))
-turn-next pool history before ask made called =
+turn-next pool history before ask made called recorded caller =
     let at : length history + 1 - 1 ≡ length history = omega arith in
     let same : standing_before pool (history ++ entry_of ask made ∷ []) (length history + 1) ≡ standing_of pool history =
     ap (λ n. standing_of pool (take n (history ++ entry_of ask made ∷ []))) at ∙ ap (standing_of pool) (take-append_seam history (entry_of ask made ∷ [])) in
@@ -71,6 +74,8 @@ turn-next pool history before ask made called =
       entry = entry_of ask made;
       there = ap (slice_get (history ++ entry_of ask made ∷ [])) at ∙ slice_get-seam history (entry_of ask made) [];
       asked = ap (λ (s : Standing). next_call s before) same ∙ called;
+      caller = caller;
+      follows = subst (λ (s : Standing). Follows s (entry_of ask made)) (sym same) (ap (option_map session_and_reply) recorded);
       goes_on = ap (λ (s : Standing). resting (answered s (entry_of ask made) before)) (sym same);
     }
 
@@ -79,12 +84,13 @@ pub runs-none : (book : Recorded) (user : Machine) → GoesOn book book user use
 runs-none book user = record { more = []; grown = ap (λ (es : List Entry). record book { entries = es }) (sym (append-nil book.entries)); turns = refl }
 
 -- one entry
-pub runs-step : (book : Recorded) (user : Machine) (ask : Ask) (made : Outcome) → next_call (standing book) user ≡ Some ask
+pub runs-step : (book : Recorded) (user : Machine) (ask : Ask) (made : Outcome) → next_call (standing book) user ≡ Some ask → recorded_step (standing book) ask made.reply ≡ Some made
+    → caller_of (length book.entries + 1) user ask ≡ Some (record { 0 = made.session })
     → GoesOn book (with_step book ask made) user (resting (answered (standing book) (entry_of ask made) user))
-runs-step book user ask made called = record {
+runs-step book user ask made called recorded caller = record {
   more = entry_of ask made ∷ [];
   grown = refl;
-  turns = (resting (answered (standing book) (entry_of ask made) user), (turn-next book.pool book.entries user ask made called, refl));
+  turns = (resting (answered (standing book) (entry_of ask made) user), (turn-next book.pool book.entries user ask made called recorded caller, refl));
 }
 
 -- one after the other
@@ -110,3 +116,8 @@ runs-then old middle new before between after front back =
       turns = subst (λ (ns : List ℕ). TakesTurns old.pool new.entries before ns after) numbers
           (turns-append old.pool new.entries before (range_with_len (length old.entries + 1) (length front.more)) (range_with_len (length old.entries + 1 + length front.more) (length back.more)) between after first second);
     }
+
+pub grown-longer : (old new : Recorded) (before after : Machine) → GoesOn old new before after → length old.entries ≤ length new.entries
+grown-longer old new before after goes =
+    let count : length new.entries ≡ length old.entries + length goes.more = ap (λ (b : Recorded). length b.entries) goes.grown ∙ length-append old.entries goes.more in
+    omega (arith, count)

@@ -1,3 +1,5 @@
+pub mod Delivery
+pub mod Laws
 pub mod Machine
 pub mod Owned
 pub mod Replay

@@ -3,7 +3,7 @@ use Rattle.std.specs.Prelude.{ℕ, List, [], ◌++◌, codes, decimal, string_by
 use Rattle.nm_types.specs.declared.fault.LineCause.{LineCause}
 use Rattle.nm_types.specs.declared.fault.LineCause.TheVariants.{Word, Count, Number, Name, User, Port, Order, Twice}
 use Rattle.vale.specs.declared.status.What.{What}
-use Rattle.vale.specs.declared.status.What.TheVariants.{Script, Entries, Bytes}
+use Rattle.vale.specs.declared.status.What.TheVariants.{Script, Lines, Counts, Entries, Bytes}
 use Rattle.vale.specs.declared.status.Status.{Status}
 use Rattle.vale.specs.declared.status.Status.TheVariants.{Done, Usage, BadScript, ReadFault, WriteFault, Over, NoMemory}
 
@@ -28,6 +28,8 @@ cause_text Twice = codes "twice"
 
 abbrev pub what_text : What → List ℕ
 what_text Script = codes "script"
+what_text Lines = codes "lines"
+what_text Counts = codes "counts"
 what_text Entries = codes "entries"
 what_text Bytes = codes "bytes"
 

@@ -1,8 +1,7 @@
 -- What the steps of a run make: entries behind those of a record, and what they are for a user.
-use Rattle.std.specs.Prelude.{ℕ, Bool, true, false, option_map, ◌≡◌, ◌+◌, ◌-◌, slice_get, List, [], ◌∷◌, ◌++◌, ◌⊎◌, length, Some, None, Result, Ok, Err}
+use Rattle.std.specs.Prelude.{ℕ, Bool, true, false, option_map, ◌≡◌, ◌+◌, ◌-◌, ◌<◌, ◌≤◌, slice_get, take, List, [], ◌∷◌, ◌++◌, ◌⊎◌, length, Some, None, Result, Ok, Err}
 use Rattle.std.specs.List.{range_with_len, AllByRecursion as Each}
 use Rattle.nm_types.specs.declared.id.SessionId.{SessionId}
-use Rattle.nm_types.specs.declared.limits.Limits.{Limits}
 use Rattle.nm_types.specs.declared.fault.OpenFault.{OpenFault}
 use Rattle.nm_types.specs.declared.fault.OpenFault.TheVariants as opens
 use Rattle.nm_types.specs.declared.fault.OpenFault.TheVariants.{BadSize, SwitchesFull, PortsFull, NameTaken, NoBuffers}
@@ -13,17 +12,15 @@ use Rattle.vale_entry.specs.declared.entry.Dest.{Dest}
 use Rattle.vale_entry.specs.declared.entry.Entry.{Entry}
 use Rattle.vale_entry.specs.declared.entry.Reply.TheVariants.{Gave}
 use Rattle.vale_entry.specs.Holdings.{holds_all}
-use Rattle.vale_entry.specs.World.{World}
-use Rattle.vale_entry.specs.Legal.{Standing, Outcome, step}
-use Rattle.vale_book.specs.Recorded.{Recorded, standing, with_step, after_ask, reply_of, IsRefusal}
-use Rattle.vale_script.specs.declared.script.Act.{Act}
+use Rattle.vale_entry.specs.World.{World, is_session, free_count}
+use Rattle.vale_entry.specs.Legal.{Standing, Outcome, IsLegal, step}
+use Rattle.vale_book.specs.Recorded.{Recorded, standing, with_step, after_ask, reply_of, IsRefusal, IsWithinLimits, HadRoom}
 use Rattle.vale_script.specs.declared.script.Fill.{Fill}
-use Rattle.vale_script.specs.declared.script.Line.{Line}
 use Rattle.vale_script.specs.Grammar.{Program}
 use Rattle.vale.specs.declared.port.OwnPort.{OwnPort}
-use Rattle.vale.specs.Machine.{Machine, next_call, is_full, sent, with_frame, send_call, sync_call}
-use Rattle.vale.specs.Replay.{TakesTurns, starting, users_of, ReplaysLine, ReplaysLines, Replays, ComesTo}
-use Rattle.vale.specs.Owned.{HasPort, Owns, Owes, AllSettled, AreApart}
+use Rattle.vale.specs.Machine.{Machine, Task, resting, next_call, is_full, sent, with_frame, send_call, sync_call, shut_call, finish_call}
+use Rattle.vale.specs.Replay.{ScriptUnit, TakesTurns, starting, ReplaysUnits, Replays, ComesTo}
+use Rattle.vale.specs.Owned.{HasPort, Owns, Owes, AllSettled, AreApart, AreUsers}
 
 -- with some entries more, all of them the user's
 pub record GoesOn (old new : Recorded) (before after : Machine) : Type 0 where
@@ -37,8 +34,9 @@ Keeps old new user = Owns (standing old) user → Owns (standing new) user
 
 -- entries that only settle a session, whose user stays as it is
 pub record Settles (old new : Recorded) (session : ℕ) : Type 0 where
-  pub runs : (user : Machine) → user.session ≡ Some (record { 0 = session }) → user.lines ≡ [] → GoesOn old new user user
+  pub runs : (user : Machine) → user.session ≡ Some (record { 0 = session }) → resting user ≡ user → GoesOn old new user user
   pub keeps : (user : Machine) → Keeps old new user
+  pub sessions : (standing new).world.sessions ≡ (standing old).world.sessions
 
 -- some session owes this: what is owed first is owed to this port
 pub record OwesFirst (w : World) (origin to : ℕ) : Type 0 where
@@ -68,12 +66,12 @@ pub record CanCall (s : Standing) (own : OwnPort) : Type 0 where
   pub has : HasPort s.world.ports session own
   pub settled : AllSettled s.world
 
--- the same, and its session holds what its receive ring holds
-pub record CanSync (s : Standing) (own : OwnPort) : Type 0 where
+-- the same, and its session holds these buffers
+pub record CanGive (s : Standing) (own : OwnPort) (buffers : List ℕ) : Type 0 where
   pub session : ℕ
   pub has : HasPort s.world.ports session own
   pub settled : AllSettled s.world
-  pub held : holds_all s.holdings session own.received ≡ true
+  pub held : holds_all s.holdings session buffers ≡ true
 
 -- what lies in a transmit ring was sent, and what the send owes was settled
 pub record Sends (old new : Recorded) (own : OwnPort) : Type 0 where
@@ -82,16 +80,17 @@ pub record Sends (old new : Recorded) (own : OwnPort) : Type 0 where
   pub settles : Settles (with_step old (send_call own) made) new made.session
   pub settled : AllSettled (standing new).world
   pub keeps : (user : Machine) → Keeps old new user
+  pub sessions : (standing new).world.sessions ≡ (standing old).world.sessions
 
 -- a frame was put into a transmit ring, which was sent before where it was full
 abbrev pub PutsBy : Bool → Recorded → Recorded → OwnPort → Fill → OwnPort → Type 0
 PutsBy true old new own fill after = (after ≡ with_frame fill (sent own)) × Sends old new own
 PutsBy false old new own fill after = (after ≡ with_frame fill own) × (new ≡ old)
 
--- the record is full for that send
-abbrev pub StopsPut : Recorded → Recorded → OwnPort → StepFault → Type 0
-StopsPut old new own (RecordFull what used want) = (is_full own ≡ true) × (IsRefusal old (send_call own) (RecordFull what used want) × (new ≡ old))
-StopsPut old new own NoMemory = Unit {0}
+-- the record is full for that send, and nothing has changed
+abbrev pub StopsPut : Recorded → Recorded → OwnPort → OwnPort → StepFault → Type 0
+StopsPut old new own after (RecordFull what used want) = (is_full own ≡ true) × (IsRefusal old (send_call own) (RecordFull what used want) × ((new ≡ old) × (after ≡ own)))
+StopsPut old new own after NoMemory = Unit {0}
 
 -- what a receive ring held was given back, and nobody watches
 pub record GivesBack (old new : Recorded) (own : OwnPort) : Type 0 where
@@ -99,33 +98,47 @@ pub record GivesBack (old new : Recorded) (own : OwnPort) : Type 0 where
   pub count : ℕ
   pub said : option_map reply_of (step (standing old) (sync_call own)) ≡ Some (Gave count [])
 
+-- a port was shut and finished
+abbrev pub Closes : Recorded → Recorded → OwnPort → Type 0
+Closes old new own = new ≡ after_ask (after_ask old (shut_call own)) (finish_call own)
+
 -- of another session
 abbrev pub IsOther : Machine → Machine → Type 0
 IsOther user other = (session : SessionId) → other.session ≡ Some session → user.session ≡ Some session → ⊥
 
--- a session is kept, but by a user that comes
-abbrev pub StaysOrComes : Recorded → Machine → Machine → Type 0
-StaysOrComes old before after = (after.session ≡ before.session) ⊎ (after.session ≡ Some (record { 0 = length old.entries + 1 }))
-
--- a user ran a line
-pub record RunsLine (old new : Recorded) (act : Act) (before after : Machine) : Type 0 where
-  pub runs : GoesOn old new (starting act before) after
-  pub ended : next_call (standing new) after ≡ None
+-- Whatever a user has done: it owns what it has, nobody owes anything, all others own what they had, no
+-- session is left without its user, and its own is the one that it had or a new one.
+pub record KeepsOrder (old new : Recorded) (before after : Machine) : Type 0 where
   pub owns : Owns (standing new) after
   pub settled : AllSettled (standing new).world
-  pub others : (other : Machine) → IsOther after other → Keeps old new other
-  pub session : StaysOrComes old before after
-  pub idle : after.lines ≡ []
+  pub others : (other : Machine) → IsOther before other → IsOther after other → Keeps old new other
+  pub theirs : (session : SessionId) → is_session (standing new).world session.0 ≡ true → (after.session ≡ Some session → ⊥)
+      → (is_session (standing old).world session.0 ≡ true) × (before.session ≡ Some session → ⊥)
+  pub origin : (session : SessionId) → after.session ≡ Some session → (before.session ≡ Some session) ⊎ (length old.entries < session.0)
+  pub longer : length old.entries ≤ length new.entries
+  pub idle : after.tasks ≡ []
 
--- the record is full for the call of a line: nothing was recorded
-pub record IsFullAt (book : Recorded) (act : Act) (before : Machine) (fault : StepFault) : Type 0 where
+-- a user did these tasks, whatever it has to do next
+pub record DoesTasks (old new : Recorded) (tasks : List Task) (before after : Machine) : Type 0 where
+  pub runs : (rest : List Task) → GoesOn old new (resting (record before { tasks = tasks ++ rest })) (resting (record after { tasks = rest }))
+  pub order : KeepsOrder old new before after
+
+-- the record is full for a call of a user, after some entries of its own
+pub record StopsAt (old new : Recorded) (from : Machine) (fault : StepFault) : Type 0 where
+  pub now : Machine
+  pub runs : GoesOn old new from now
   pub call : Ask
-  pub called : next_call (standing book) (starting act before) ≡ Some call
-  pub refused : IsRefusal book call fault
+  pub called : next_call (standing new) now ≡ Some call
+  pub refused : IsRefusal new call fault
 
-abbrev pub StopsLine : Recorded → Recorded → Act → Machine → StepFault → Type 0
-StopsLine old new act before (RecordFull what used want) = (new ≡ old) × IsFullAt old act before (RecordFull what used want)
-StopsLine old new act before NoMemory = Unit {0}
+-- the record is full for a call of these tasks
+pub record IsFullIn (old new : Recorded) (tasks : List Task) (before after : Machine) (fault : StepFault) : Type 0 where
+  pub stops : (rest : List Task) → StopsAt old new (resting (record before { tasks = tasks ++ rest })) fault
+  pub order : KeepsOrder old new before after
+
+abbrev pub StopsTasks : Recorded → Recorded → List Task → Machine → Machine → StepFault → Type 0
+StopsTasks old new tasks before after (RecordFull what used want) = IsFullIn old new tasks before after (RecordFull what used want)
+StopsTasks old new tasks before after NoMemory = Unit {0}
 
 -- a port that is refused is none, and its lines go on; a fault of the record stops them
 abbrev pub stop_of : OpenFault → Result (Unit {0}) StepFault
@@ -137,51 +150,69 @@ stop_of (NoBuffers want have) = Ok tt
 stop_of (opens.RecordFull what used want) = Err (RecordFull what used want)
 stop_of opens.NoMemory = Err NoMemory
 
--- all that holds between lines: users that own what they have, all apart, and nothing owed
-pub record IsBetweenLines (book : Recorded) (users : List Machine) : Type 0 where
+-- all that holds between the units of a script: users that own what they have, all apart, and nothing
+-- owed; each session is a user's
+pub record IsInOrder (book : Recorded) (users : List Machine) : Type 0 where
   pub owns : Each (Owns (standing book)) users
   pub apart : AreApart users
   pub settled : AllSettled (standing book).world
+  pub theirs : AreUsers (standing book).world users
 
--- a user's line was run
-pub record RanLine (old new : Recorded) (users : List Machine) (line : Line) (next : List Machine) : Type 0 where
+-- units were done one after another
+pub record DoesUnits (old new : Recorded) (users : List Machine) (units : List ScriptUnit) (next : List Machine) : Type 0 where
   pub more : List Entry
   pub grown : new ≡ record old { entries = old.entries ++ more }
-  pub replays : ReplaysLine old.pool new.entries users (length old.entries) line next (length new.entries)
-  pub between : IsBetweenLines new next
+  pub replayed : ReplaysUnits old.pool new.entries users (length old.entries) units next (length new.entries)
+  pub order : IsInOrder new next
   pub count : length next ≡ length users
 
--- the record is full for the call of a user's line
-pub record IsFullForUser (book : Recorded) (users : List Machine) (line : Line) (fault : StepFault) : Type 0 where
+-- some of these units were done, and the record is full for a call of the next one
+pub record IsFullFor (old new : Recorded) (users : List Machine) (units : List ScriptUnit) (next : List Machine) (fault : StepFault) : Type 0 where
+  pub done : ℕ
+  pub unit : ScriptUnit
+  pub there : slice_get units done ≡ Some unit
+  pub middle : Recorded
+  pub between : List Machine
+  pub does : DoesUnits old middle users (take done units) between
   pub before : Machine
-  pub here : slice_get users (line.user - 1) ≡ Some before
-  pub full : IsFullAt book line.act before fault
+  pub here : slice_get between (unit.user - 1) ≡ Some before
+  pub stops : StopsAt middle new (starting unit before) fault
+  pub order : IsInOrder new next
+  pub count : length next ≡ length users
 
-abbrev pub StopsRun : Recorded → Recorded → List Machine → Line → StepFault → Type 0
-StopsRun old new users line (RecordFull what used want) = (new ≡ old) × IsFullForUser old users line (RecordFull what used want)
-StopsRun old new users line NoMemory = Unit {0}
+abbrev pub StopsUnits : Recorded → Recorded → List Machine → List ScriptUnit → List Machine → StepFault → Type 0
+StopsUnits old new users units next (RecordFull what used want) = IsFullFor old new users units next (RecordFull what used want)
+StopsUnits old new users units next NoMemory = Unit {0}
 
--- lines were run from the beginning, over a pool and within limits
-pub record RanLines (pool : ℕ) (limits : Limits) (book : Recorded) (program : Program) (lines : List Line) (users : List Machine) : Type 0 where
-  pub pool_is : book.pool ≡ pool
-  pub limits_are : book.limits ≡ limits
-  pub replayed : ReplaysLines pool book.entries (users_of program) 0 lines users (length book.entries)
-  pub between : IsBetweenLines book users
-  pub count : length users ≡ program.users
+-- the first users have left
+abbrev pub HasLeft : Machine → Type 0
+HasLeft user = user.session ≡ None
 
--- all lines were run
-pub record RanProgram (old new : Recorded) (program : Program) : Type 0 where
+abbrev pub HaveLeft : ℕ → List Machine → Type 0
+HaveLeft count users = Each HasLeft (take count users)
+
+-- all units of a program were done; no session is left, and all buffers are free
+pub record DoesProgram (old new : Recorded) (program : Program) : Type 0 where
   pub pool_is : new.pool ≡ old.pool
   pub limits_are : new.limits ≡ old.limits
-  pub replayed : Replays old.pool program new.entries
+  pub replayed : Replays program new.entries
+  pub left : (standing new).world.sessions ≡ []
+  pub whole : free_count (standing new).world ≡ new.pool
 
--- the record is full for a call of the program
+-- after some of a program the record was full for the call that came next; what follows in the record are
+-- the users' leavings
 pub record IsFull (old new : Recorded) (program : Program) (fault : StepFault) : Type 0 where
-  pub pool_is : new.pool ≡ old.pool
-  pub limits_are : new.limits ≡ old.limits
+  pub history : List Entry
+  pub legal : IsLegal program.pool history
+  pub roomy : HadRoom (record old { entries = history })
   pub call : Ask
-  pub comes : ComesTo new.pool program new.entries call
-  pub refused : IsRefusal new call fault
+  pub comes : ComesTo program history call
+  pub refused : IsRefusal (record old { entries = history }) call fault
+  pub within : IsWithinLimits (record old { entries = history })
+  pub closing : List Entry
+  pub closed : new.entries ≡ history ++ closing
+  pub left : (standing new).world.sessions ≡ []
+  pub whole : free_count (standing new).world ≡ new.pool
 
 abbrev pub StopsProgram : Recorded → Recorded → Program → StepFault → Type 0
 StopsProgram old new program (RecordFull what used want) = IsFull old new program (RecordFull what used want)

@@ -1,6 +1,7 @@
 //! Runs a script of netmap rings and VALE ports, and writes the transcript of what the switch did.
 #![tactic(auto)]
 
+pub mod laws;
 mod play;
 mod port;
 mod run;

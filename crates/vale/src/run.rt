@@ -1,19 +1,27 @@
 //! Runs a command.
 ghost use Rattle.std.specs.Prelude.{◌≡◌, ◌≤◌, ◌+◌, ◌<◌, ◌^◌, ℕ, List, length, map, string_bytes, option_map, IfOk};
 ghost use Rattle.vale_script.specs.Sound.{IsSound};
-ghost use Rattle.vale.specs.Run.{script_name, IsCounted, stopped, Written, Played, Ran, IsReadFault, RunsFile, Runs};
+ghost use Rattle.vale.specs.Run.{script_name, IsCounted, stopped, Written, Played, RanFrames, Ran, IsReadFault, RunsFile, Runs};
+ghost use Rattle.vale_entry.specs.World.{free_count};
+ghost use Rattle.vale_book.specs.Recorded.{standing};
 
 use crate::play::run_program;
 use crate::status::{Status, What};
 use nm_io::{Gate, ReadError, Shelf, Sink, read_all};
-use nm_types::{DEFAULT_POOL, Limits, Part, StepFault};
+use nm_types::{Limits, Part, StepFault};
 use std::alloc::Global;
 use vale_book::Book;
-use vale_script::{Script, ScriptFault, parse};
+use vale_script::{Script, ScriptFault, line_count, parse};
 use vale_text::{PutError, write_transcript};
 
 /// The most bytes of a script.
 pub const MAX_SCRIPT: u64 = 1_048_576;
+
+/// The most lines of a script, silent ones too.
+pub const MAX_LINES: u64 = 10_000;
+
+/// The most frames that the lines of a script put.
+pub const MAX_COUNTS: u64 = 1_000_000;
 
 fn script_name(words: &[String]) -> Option<&str>
     ensures { option_map (λ name. name.now) result ≡ script_name (map string_bytes words.now) }
@@ -58,14 +66,17 @@ fn stopped(fault: StepFault) -> Status
 
 /// Writes the transcript of a run that has ended.
 #[tactic(auto, using(crate::proofs::Played::played, crate::proofs::Sums::sums))]
-fn write<K: Sink>(alloc: Global, book: &Book, out: &mut K) -> Status
-    requires { book.now.limits ≡ Limits.VERSION_1 }
-    ensures written { Written book.now.pool book.now.entries (K.faults out.old, K.faults out.new) (K.holds out.old) (K.holds out.new) result }
+fn write<K: Sink>(alloc: Global, book: Book, out: &mut K) -> Status
+    requires limits { book.limits ≡ Limits.VERSION_1 }
+    requires whole { free_count (standing book).world ≡ book.pool }
+    ensures written { Written book.pool book.entries (K.faults out.old, K.faults out.new) (K.holds out.old) (K.holds out.new) result }
     ensures later { K.faults out.old ≤ K.faults out.new }
 {
     // The entries are within the limits, so that they can be numbered.
     book.used();
-    match write_transcript(alloc, out, book.buffers(), book.entries(), book.free()) {
+    let (pool, free) = (book.buffers(), book.free());
+    let history = book.close();
+    match write_transcript(alloc, out, pool, history.entries(), free) {
         Ok(()) => Status::Done,
         Err(PutError::Failed) => Status::WriteFault,
         Err(PutError::NoMemory) => Status::NoMemory,
@@ -76,30 +87,56 @@ fn write<K: Sink>(alloc: Global, book: &Book, out: &mut K) -> Status
 #[tactic(auto, using(crate::proofs::Played::played, crate::proofs::Sums::sums))]
 fn play<K: Sink>(alloc: Global, script: &Script, out: &mut K) -> Status
     requires { IsSound script.now }
-    ensures played { Played DEFAULT_POOL Limits.VERSION_1 script.now (K.faults out.old, K.faults out.new) (K.holds out.old) (K.holds out.new) result }
+    ensures played { Played Limits.VERSION_1 script.now (K.faults out.old, K.faults out.new) (K.holds out.old) (K.holds out.new) result }
     ensures later { K.faults out.old ≤ K.faults out.new }
 {
-    let Ok(mut book) = Book::new(alloc, DEFAULT_POOL, Limits::VERSION_1) else {
+    let Ok(mut book) = Book::new(alloc, script.pool(), Limits::VERSION_1) else {
         return Status::NoMemory;
     };
     match run_program(alloc, &mut book, script) {
-        Ok(()) => write(alloc, &book, out),
-        Err(fault) => {
-            // What is used is within the limits, so that it can be added up.
-            book.used();
-            stopped(fault)
+        Ok(()) => {
+            // What is recorded is a legal history.
+            book.entries();
+            write(alloc, book, out)
         }
+        Err(fault) => stopped(fault),
     }
+}
+
+/// Runs a script whose lines are few, if they put few frames.
+fn run_lines<K: Sink>(alloc: Global, script: &Script, out: &mut K) -> Status
+    requires sound { IsSound script.now }
+    requires few { length script.now.lines ≤ MAX_LINES }
+    ensures over { RanFrames Limits.VERSION_1 script.now (K.faults out.old, K.faults out.new) (K.holds out.old) (K.holds out.new) result }
+    ensures later { K.faults out.old ≤ K.faults out.new }
+{
+    let count = script.frames_put();
+    if count > MAX_COUNTS {
+        return Status::Over {
+            what: What::Counts,
+            count,
+            limit: MAX_COUNTS,
+        };
+    }
+    play(alloc, script, out)
 }
 
 /// Runs the script that these bytes are.
 fn run_script<K: Sink>(alloc: Global, bytes: &[u8], out: &mut K) -> Status
     requires { length bytes.now ≤ MAX_SCRIPT }
-    ensures ran { Ran DEFAULT_POOL Limits.VERSION_1 bytes.now (K.faults out.old, K.faults out.new) (K.holds out.old) (K.holds out.new) result }
+    ensures ran { Ran Limits.VERSION_1 bytes.now (K.faults out.old, K.faults out.new) (K.holds out.old) (K.holds out.new) result }
     ensures later { K.faults out.old ≤ K.faults out.new }
 {
+    let count = line_count(bytes) as u64;
+    if count > MAX_LINES {
+        return Status::Over {
+            what: What::Lines,
+            count,
+            limit: MAX_LINES,
+        };
+    }
     match parse(alloc, bytes) {
-        Ok(script) => play(alloc, &script, out),
+        Ok(script) => run_lines(alloc, &script, out),
         Err(ScriptFault::BadLine { line, cause }) => Status::BadScript { line, cause },
         Err(ScriptFault::NoMemory) => Status::NoMemory,
     }
@@ -116,7 +153,7 @@ fn read_fault(alloc: Global, name: &str) -> Status
 
 /// Runs the script of this name.
 fn run_file<S: Shelf, K: Sink>(alloc: Global, name: &str, shelf: &mut S, out: &mut K) -> Status
-    ensures runs { RunsFile DEFAULT_POOL MAX_SCRIPT Limits.VERSION_1 (S.files shelf.old) name.now (S.read_faults shelf.old name.now, S.read_faults shelf.new name.now)
+    ensures runs { RunsFile MAX_SCRIPT Limits.VERSION_1 (S.files shelf.old) name.now (S.read_faults shelf.old name.now, S.read_faults shelf.new name.now)
         (K.faults out.old, K.faults out.new) (K.holds out.old) (K.holds out.new) result }
     ensures files { S.files shelf.new ≡ S.files shelf.old }
     ensures reads_later { (other : List ℕ) → S.read_faults shelf.old other ≤ S.read_faults shelf.new other }
@@ -144,7 +181,7 @@ pub fn run<R: AllocGlobal, S: Shelf, K: Sink, G: Gate>(
     out: &mut K,
     _gate: &G,
 ) -> Status
-    ensures runs { Runs DEFAULT_POOL MAX_SCRIPT Limits.VERSION_1 (script_name (map string_bytes words.now)) (S.files shelf.old) (λ name. (S.read_faults shelf.old name, S.read_faults shelf.new name))
+    ensures runs { Runs MAX_SCRIPT Limits.VERSION_1 (script_name (map string_bytes words.now)) (S.files shelf.old) (λ name. (S.read_faults shelf.old name, S.read_faults shelf.new name))
         (K.faults out.old, K.faults out.new) (K.holds out.old) (K.holds out.new) result }
     ensures files { S.files shelf.new ≡ S.files shelf.old }
     ensures reads_later { (other : List ℕ) → S.read_faults shelf.old other ≤ S.read_faults shelf.new other }

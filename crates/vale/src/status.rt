@@ -13,6 +13,10 @@ use vale_text::{Piece, put_pieces};
 pub enum What {
     /// The script's bytes.
     Script,
+    /// The script's lines.
+    Lines,
+    /// The frames that its lines put.
+    Counts,
     /// The entries of a history, stored and promised.
     Entries,
     /// The bytes of the frames that a history keeps.
@@ -58,6 +62,8 @@ fn what_text(what: What) -> &'static [u8]
 {
     match what {
         What::Script => b"script",
+        What::Lines => b"lines",
+        What::Counts => b"counts",
         What::Entries => b"entries",
         What::Bytes => b"bytes",
     }

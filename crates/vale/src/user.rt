@@ -1,15 +1,15 @@
 //! A user of a script: its session, and its ports.
-ghost use Rattle.std.specs.Prelude.{◌≡◌, ◌≤◌, true, position, OnOk, IfErr};
+ghost use Rattle.std.specs.Prelude.{◌≡◌, ◌≤◌, [], ◌∷◌, true, position, replicate, remove, flat_map, Some, None, OnOk, IfErr};
 ghost use Rattle.nm_types.specs.Names.{is_switch_port_name};
-ghost use Rattle.vale_script.specs.declared.script.Act.TheVariants as acts;
+ghost use Rattle.vale_entry.specs.Legal.{IsLegal};
 ghost use Rattle.vale_book.specs.Recorded.{standing};
-ghost use Rattle.vale.specs.Machine.{is_named};
+ghost use Rattle.vale.specs.Machine.{is_named, tasks_of, closing_of, closing_tasks, Arrive, OpenPort, PutFrame, SendFrames, TakeFrames, ShutPort, FinishPort};
 ghost use Rattle.vale.specs.Owned.{Owns, AllSettled};
 ghost use Rattle.vale_script.specs.Sound.{IsSoundAct};
-ghost use Rattle.vale.specs.Steps.{RunsLine, StopsLine, stop_of};
+ghost use Rattle.vale.specs.Steps.{DoesTasks, StopsTasks, stop_of};
 
 use crate::port::OwnPort;
-use nm_types::{Batch, Name, OpenFault, SessionId, StepFault};
+use nm_types::{Batch, Name, NoMemory, OpenFault, SessionId, StepFault};
 use std::alloc::Global;
 use std::marker::Model;
 use vale_book::Book;
@@ -25,7 +25,7 @@ fn place_of(ports: &[OwnPort], name: &Name) -> Option<usize>
         .position(|port| port.name.as_bytes() == name.as_bytes())
 }
 
-/// A user between its lines: its number, its session once it has come, and its ports in the order in
+/// A user between its lines: its number, its session while it is there, and its ports in the order in
 /// which it opened them.
 #[derive(Drop)]
 pub(crate) struct User {
@@ -40,7 +40,7 @@ impl Model for User {
 
     ghost Value = { Machine };
 
-    ghost view = { λ u. record { number = u.number; session = u.session; ports = u.ports.items; lines = [] } };
+    ghost view = { λ u. record { number = u.number; session = u.session; ports = u.ports.items; tasks = [] } };
 }
 
 impl User {
@@ -75,23 +75,25 @@ fn unless_refused(fault: OpenFault) -> Result<(), StepFault>
 
 impl User {
     #[tactic(auto, using(crate::proofs::Arrivals::arrivals))]
-    fn enter(&mut self, alloc: Global, book: &mut Book) -> Result<(), StepFault>
+    fn enter(&mut self, book: &mut Book) -> Result<(), StepFault>
         requires owns { Owns (standing book.old) self.old }
         requires settled { AllSettled (standing book.old).world }
-        ensures ran { OnOk result (RunsLine book.old book.new acts.Enter self.old self.new) }
-        ensures stopped { IfErr result (StopsLine book.old book.new acts.Enter self.old) }
+        ensures does { OnOk result (DoesTasks book.old book.new (Arrive ∷ []) self.old self.new) }
+        ensures stopped { IfErr result (StopsTasks book.old book.new (Arrive ∷ []) self.old self.new) }
     {
+        let None = self.session else {
+            return Ok(());
+        };
         match book.enter(self.number as u64) {
             Ok(session) => {
                 self.session = Some(session);
-                self.ports = Vec::new(alloc);
                 Ok(())
             }
             Err(fault) => Err(fault),
         }
     }
 
-    #[tactic(auto, using(crate::proofs::Arrivals::arrivals))]
+    #[tactic(auto, using(crate::proofs::Openings::openings))]
     fn open(
         &mut self,
         alloc: Global,
@@ -102,26 +104,49 @@ impl User {
     ) -> Result<(), StepFault>
         requires owns { Owns (standing book.old) self.old }
         requires settled { AllSettled (standing book.old).world }
-        requires sound { IsSoundAct (acts.Open name tx rx) }
-        ensures ran { OnOk result (RunsLine book.old book.new (acts.Open name tx rx) self.old self.new) }
-        ensures stopped { IfErr result (StopsLine book.old book.new (acts.Open name tx rx) self.old) }
+        requires legal { IsLegal book.old.pool book.old.entries }
+        requires named { is_switch_port_name name ≡ true }
+        ensures does { OnOk result (DoesTasks book.old book.new (OpenPort name tx rx ∷ []) self.old self.new) }
+        ensures stopped { IfErr result (StopsTasks book.old book.new (OpenPort name tx rx ∷ []) self.old self.new) }
     {
         let Some(session) = self.session else {
             return Ok(());
         };
+        self.ports.reserve(1)?;
         match book.open(session, name, tx, rx, 0) {
             Ok(opened) => {
-                self.ports.push(OwnPort {
+                self.ports.push_reserved(OwnPort {
                     name,
                     id: opened.port,
-                    tx,
+                    transmit: Numbers::from(opened.tx),
                     pending: Batch::new(alloc),
                     received: Numbers::from(Vec::new(alloc)),
-                })?;
+                });
                 Ok(())
             }
             Err(fault) => unless_refused(fault),
         }
+    }
+
+    #[tactic(auto, using(crate::proofs::Transmits::transmits))]
+    fn put_frame(
+        &mut self,
+        alloc: Global,
+        book: &mut Book,
+        place: usize,
+        name: Name,
+        fill: &Fill,
+    ) -> Result<(), StepFault>
+        requires place { position (is_named name) self.old.ports ≡ Some place }
+        requires owns { Owns (standing book.old) self.old }
+        requires settled { AllSettled (standing book.old).world }
+        requires short { fill.now.len ≤ 2048 }
+        ensures does { OnOk result (DoesTasks book.old book.new (PutFrame name fill.now ∷ []) self.old self.new) }
+        ensures named { OnOk result (position (is_named name) self.new.ports ≡ Some place) }
+        ensures same { OnOk result (self.new.session ≡ self.old.session) }
+        ensures stopped { IfErr result (StopsTasks book.old book.new (PutFrame name fill.now ∷ []) self.old self.new) }
+    {
+        self.ports[place].put(alloc, book, fill)
     }
 
     #[tactic(auto, using(crate::proofs::Transmits::transmits))]
@@ -130,26 +155,30 @@ impl User {
         alloc: Global,
         book: &mut Book,
         name: Name,
+        count: u32,
         fill: &Fill,
     ) -> Result<(), StepFault>
         requires owns { Owns (standing book.old) self.old }
         requires settled { AllSettled (standing book.old).world }
-        requires sound { IsSoundAct (acts.Put name fill.now) }
-        ensures ran { OnOk result (RunsLine book.old book.new (acts.Put name fill.now) self.old self.new) }
-        ensures stopped { IfErr result (StopsLine book.old book.new (acts.Put name fill.now) self.old) }
+        requires short { fill.now.len ≤ 2048 }
+        ensures does { OnOk result (DoesTasks book.old book.new (replicate count (PutFrame name fill.now)) self.old self.new) }
+        ensures stopped { IfErr result (StopsTasks book.old book.new (replicate count (PutFrame name fill.now)) self.old self.new) }
     {
-        match place_of(&self.ports, &name) {
-            Some(place) => self.ports[place].put(alloc, book, fill),
-            None => Ok(()),
+        let Some(place) = place_of(&self.ports, &name) else {
+            return Ok(());
+        };
+        for _ in 0..count {
+            self.put_frame(alloc, book, place, name, fill)?;
         }
+        Ok(())
     }
 
     #[tactic(auto, using(crate::proofs::Transmits::transmits))]
     fn tx(&mut self, alloc: Global, book: &mut Book, name: Name) -> Result<(), StepFault>
         requires owns { Owns (standing book.old) self.old }
         requires settled { AllSettled (standing book.old).world }
-        ensures ran { OnOk result (RunsLine book.old book.new (acts.Tx name) self.old self.new) }
-        ensures stopped { IfErr result (StopsLine book.old book.new (acts.Tx name) self.old) }
+        ensures does { OnOk result (DoesTasks book.old book.new (SendFrames name ∷ []) self.old self.new) }
+        ensures stopped { IfErr result (StopsTasks book.old book.new (SendFrames name ∷ []) self.old self.new) }
     {
         match place_of(&self.ports, &name) {
             Some(place) => self.ports[place].send(alloc, book),
@@ -161,33 +190,101 @@ impl User {
     fn rx(&mut self, alloc: Global, book: &mut Book, name: Name) -> Result<(), StepFault>
         requires owns { Owns (standing book.old) self.old }
         requires settled { AllSettled (standing book.old).world }
-        ensures ran { OnOk result (RunsLine book.old book.new (acts.Rx name) self.old self.new) }
-        ensures stopped { IfErr result (StopsLine book.old book.new (acts.Rx name) self.old) }
+        requires legal { IsLegal book.old.pool book.old.entries }
+        ensures does { OnOk result (DoesTasks book.old book.new (TakeFrames name ∷ []) self.old self.new) }
+        ensures stopped { IfErr result (StopsTasks book.old book.new (TakeFrames name ∷ []) self.old self.new) }
     {
         match place_of(&self.ports, &name) {
-            Some(place) => {
-                // What is recorded is a legal history.
-                book.entries();
-                self.ports[place].sync(alloc, book)
-            }
+            Some(place) => self.ports[place].sync(alloc, book),
             None => Ok(()),
         }
     }
 
-    /// Runs a line of its own.
+    #[tactic(auto, using(crate::proofs::Departures::departures))]
+    fn close_at(
+        &mut self,
+        alloc: Global,
+        book: &mut Book,
+        place: usize,
+        name: Name,
+    ) -> Result<(), NoMemory>
+        requires place { position (is_named name) self.old.ports ≡ Some place }
+        requires owns { Owns (standing book.old) self.old }
+        requires settled { AllSettled (standing book.old).world }
+        requires legal { IsLegal book.old.pool book.old.entries }
+        ensures does { OnOk result (DoesTasks book.old book.new (ShutPort name ∷ FinishPort name ∷ []) self.old self.new) }
+        ensures fewer { OnOk result (self.new.ports ≡ remove self.old.ports place) }
+        ensures same { OnOk result (self.new.session ≡ self.old.session) }
+    {
+        self.ports[place].close(alloc, book)?;
+        self.ports.remove(place);
+        Ok(())
+    }
+
+    #[tactic(auto, using(crate::proofs::Departures::departures))]
+    fn close(&mut self, alloc: Global, book: &mut Book, name: Name) -> Result<(), NoMemory>
+        requires owns { Owns (standing book.old) self.old }
+        requires settled { AllSettled (standing book.old).world }
+        requires legal { IsLegal book.old.pool book.old.entries }
+        ensures does { OnOk result (DoesTasks book.old book.new (ShutPort name ∷ FinishPort name ∷ []) self.old self.new) }
+    {
+        match place_of(&self.ports, &name) {
+            Some(place) => self.close_at(alloc, book, place, name),
+            None => Ok(()),
+        }
+    }
+
+    /// Does what a line of its own says.
+    #[tactic(auto, using(crate::proofs::Departures::departures))]
     pub fn run(&mut self, alloc: Global, book: &mut Book, act: &Act) -> Result<(), StepFault>
         requires owns { Owns (standing book.old) self.old }
         requires settled { AllSettled (standing book.old).world }
         requires sound { IsSoundAct act.now }
-        ensures ran { OnOk result (RunsLine book.old book.new act.now self.old self.new) }
-        ensures stopped { IfErr result (StopsLine book.old book.new act.now self.old) }
+        ensures does { OnOk result (DoesTasks book.old book.new (tasks_of act.now) self.old self.new) }
+        ensures stopped { IfErr result (StopsTasks book.old book.new (tasks_of act.now) self.old self.new) }
     {
+        // What is recorded is a legal history.
+        book.entries();
         match act {
-            Act::Enter => self.enter(alloc, book),
+            Act::Enter => self.enter(book),
             Act::Open { name, tx, rx } => self.open(alloc, book, *name, *tx, *rx),
-            Act::Put { name, fill } => self.put(alloc, book, *name, fill),
+            Act::Put { name, count, fill } => self.put(alloc, book, *name, *count, fill),
             Act::Tx { name } => self.tx(alloc, book, *name),
             Act::Rx { name } => self.rx(alloc, book, *name),
+            Act::Close { name } => Ok(self.close(alloc, book, *name)?),
         }
+    }
+
+    #[tactic(auto, using(crate::proofs::Departures::departures))]
+    fn close_all(&mut self, alloc: Global, book: &mut Book) -> Result<(), NoMemory>
+        requires owns { Owns (standing book.old) self.old }
+        requires settled { AllSettled (standing book.old).world }
+        ensures does { OnOk result (DoesTasks book.old book.new (flat_map closing_of self.old.ports) self.old self.new) }
+        ensures none { OnOk result (self.new.ports ≡ []) }
+        ensures same { OnOk result (self.new.session ≡ self.old.session) }
+    {
+        for _ in 0..self.ports.len() {
+            let name = self.ports[0].name;
+            // What is recorded is a legal history.
+            book.entries();
+            self.close_at(alloc, book, 0, name)?;
+        }
+        Ok(())
+    }
+
+    /// Closes its ports in the order in which it opened them, and leaves.
+    #[tactic(auto, using(crate::proofs::Departures::departures))]
+    pub fn leave(&mut self, alloc: Global, book: &mut Book) -> Result<(), NoMemory>
+        requires owns { Owns (standing book.old) self.old }
+        requires settled { AllSettled (standing book.old).world }
+        ensures does { OnOk result (DoesTasks book.old book.new (closing_tasks self.old) self.old self.new) }
+        ensures left { OnOk result (self.new.session ≡ None) }
+    {
+        self.close_all(alloc, book)?;
+        if let Some(session) = self.session {
+            book.leave(session);
+            self.session = None;
+        }
+        Ok(())
     }
 }

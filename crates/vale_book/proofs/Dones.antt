@@ -8,6 +8,9 @@ use Rattle.vale_entry.specs.Delivery.{lease_at, ports_after_done}
 use Rattle.vale_entry.specs.Legal.{Outcome, standing_of, world_of, done_step_at}
 use Rattle.vale_world.specs.Seat.{Seat, port_of, held_of}
 use Rattle.vale_book.specs.Parts.{Stands}
+use Rattle.vale_entry.specs.Stored.{Stored}
+use Rattle.vale_book.specs.Recorded.{HadRoom}
+use Rattle.vale_book.proofs.Answered.{recorded_in, rooms-owed}
 use Rattle.vale_book.proofs.Stands.{stands-next, owed-next}
 
 -- the lease that stands in the ports stands in the world
@@ -53,5 +56,16 @@ stands-done pool h promised promised' lease session sessions seats seats' pairs 
       free_is = old.free_is;
       held_is = held ∙ old.held_is;
     })
+
+pub rooms-done : (pool : ℕ) (old new : Stored) (lease session : ℕ) (sessions : List ℕ) (seats : List Seat) (pairs : List Pair) (offers : List Offer) (free : List ℕ)
+    → Stands pool old.entries old.promised sessions seats pairs offers free → Some session ≡ option_map (λ (lot : Lot). lot.session) (lease_at (map port_of seats) lease)
+    → HadRoom (recorded_in pool old) → new.limits ≡ old.limits
+    → new.entries ≡ old.entries ++ (record { session = record { 0 = session }; ask = Done (record { 0 = lease }); reply = Made }) ∷ []
+    → HadRoom (recorded_in pool new)
+rooms-done pool old new lease session sessions seats pairs offers free stands found had limits entries =
+    let s = standing_of pool old.entries in
+    let made : Outcome = record { session = session; reply = Made; next = record s { world = record s.world { ports = ports_after_done lease s.world.ports } } } in
+    rooms-owed pool old new (Done (record { 0 = lease })) made stands.legal had
+    (done-made pool old.entries old.promised lease session sessions seats pairs offers free stands (sym found)) (λ reply. (refl, refl)) limits entries
 
 pub ruleset dones = (owed-done, stands-done)

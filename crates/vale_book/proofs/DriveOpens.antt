@@ -67,6 +67,13 @@ put-back-given sessions new newer place session change e at changed =
     sym (length-map newer held_by) ∙ (length-changed (map held_by sessions.items) place (held_by at.session) change (map held_by newer) (held-at sessions.items place at.session at.here) changed ∙ length-map sessions.items held_by) in
     with_items_is (with_items sessions new) newer (grown ∙ sym (sessions.ok.0))
 
+pub put-back-changed : (sessions : Vec Session Global) (new : List Session) (place session : ℕ) (change : List ℕ → List ℕ)
+    → IsPlaceOf sessions.items session place → AreHeldAt (map held_by sessions.items) place change (map held_by new) → (with_items sessions new).items ≡ new
+put-back-changed sessions new place session change at changed =
+    let grown : length new ≡ length sessions.items =
+    sym (length-map new held_by) ∙ (length-changed (map held_by sessions.items) place (held_by at.session) change (map held_by new) (held-at sessions.items place at.session at.here) changed ∙ length-map sessions.items held_by) in
+    with_items_is sessions new (grown ∙ sym (sessions.ok.0))
+
 -- what is given to the session at a place is given to the session
 pub given-held : (pool : ℕ) (h : List Entry) (sessions : List Session) (session place : ℕ) (more : List ℕ) (new : List SessionBuffers) → IsLegal pool h
     → map held_by sessions ≡ (holdings_of pool h).sessions → IsPlaceOf sessions session place
@@ -79,7 +86,7 @@ given-held pool h sessions session place more new legal held at changed =
     let p : SessionPlace helds session = record { place = place; held = found.0; here = found.1; id_is = found.2 } in
     change found.0 found.1 ∙ sym (given-place more helds (world_of pool h).entry_count session (users-rise pool h legal) p)
 
-same-pool : (b : Recorded) (ask : Ask) → (holdings_of (after_ask b ask).pool (after_ask b ask).entries).sessions ≡ (holdings_of b.pool (after_ask b ask).entries).sessions
+pub same-pool : (b : Recorded) (ask : Ask) → (holdings_of (after_ask b ask).pool (after_ask b ask).entries).sessions ≡ (holdings_of b.pool (after_ask b ask).entries).sessions
 same-pool b ask = by_outcome (step (standing b) ask)
   where
     by_outcome : (made : Option Outcome) → (holdings_of (after_outcome b ask made).pool (after_outcome b ask made).entries).sessions ≡ (holdings_of b.pool (after_outcome b ask made).entries).sessions

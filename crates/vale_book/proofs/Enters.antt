@@ -15,6 +15,14 @@ use Rattle.vale_book.specs.Parts.{Stands}
 pub entry-enter : (pool : ℕ) (h : List Entry) (user : ℕ) → entry_of (Enter user) (enter_step (standing_of pool h)) ≡ (record { session = record { 0 = length h + 1 }; ask = Enter user; reply = Made })
 entry-enter pool h user = rw (count-world_of pool h) refl
 
+-- the entry that is stored is the step's
+pub stored-enter : (pool : ℕ) (h new : List Entry) (user number : ℕ) → number ≡ length h + 1
+    → new ≡ h ++ (record { session = record { 0 = number }; ask = Enter user; reply = Made }) ∷ []
+    → new ≡ h ++ entry_of (Enter user) (enter_step (standing_of pool h)) ∷ []
+stored-enter pool h new user number is stored =
+    stored ∙ (ap (λ (n : ℕ). let e : Entry = record { session = record { 0 = n }; ask = Enter user; reply = Made } in h ++ e ∷ []) is
+    ∙ ap (λ (e : Entry). h ++ e ∷ []) (sym (entry-enter pool h user)))
+
 pub legal-enter : (pool : ℕ) (h : List Entry) (user : ℕ) → IsLegal pool h → IsLegal pool (h ++ (record { session = record { 0 = length h + 1 }; ask = Enter user; reply = Made }) ∷ [])
 legal-enter pool h user legal = legal-push pool h (record { session = record { 0 = length h + 1 }; ask = Enter user; reply = Made }) legal (rw (count-world_of pool h) refl)
 

@@ -21,7 +21,9 @@ use Rattle.vale_entry.proofs.HistoryPlaces.{changed_buffers-world, held-world}
 use Rattle.vale_entry.proofs.Each.{changed_at-same}
 use Rattle.vale_entry.proofs.ListLaws.{place-of}
 use Rattle.nm_types.specs.declared.id.PortId.{PortId}
-use Rattle.vale_book.specs.Recorded.{Recorded, standing, after_ask, after_outcome, entry_of, reply_of}
+use Rattle.vale_entry.specs.Stored.{Stored}
+use Rattle.vale_book.specs.Recorded.{Recorded, standing, after_ask, after_outcome, entry_of, reply_of, HadRoom}
+use Rattle.vale_book.proofs.Answered.{recorded_in, rooms-owed}
 use Rattle.vale_world.specs.Seat.{Seat, port_of, held_of, seat_given}
 use Rattle.vale_book.specs.Parts.{Stands}
 use Rattle.vale_book.proofs.Stands.{stands-next}
@@ -168,6 +170,27 @@ changed_buffers-same id (x ∷ xs) = let rest = changed_buffers-same id xs in rw
     same true = refl
     same false = refl
 
+pub ports-in : (pool : ℕ) (h : List Entry) (promised : ℕ) (sessions : List ℕ) (seats : List Seat) (pairs : List Pair) (offers : List Offer) (free : List ℕ)
+    → Stands pool h promised sessions seats pairs offers free → (world_of pool h).ports ≡ map port_of seats
+ports-in pool h promised sessions seats pairs offers free old = sym (ap (λ (w : World). w.ports) old.world_is)
+
+pub entry-grant_gone : (pool : ℕ) (h : List Entry) (origin : ℕ) (seats : List Seat) (offer : Offer) → (world_of pool h).ports ≡ map port_of seats → open_port (map port_of seats) offer.to ≡ None
+    → entry_of (Grant origin (record { 0 = offer.to })) (grant_step (standing_of pool h) offer)
+    ≡ (record { session = record { 0 = offer.session }; ask = Grant origin (record { 0 = offer.to }); reply = Shared 0 0 (length offer.frames) })
+entry-grant_gone pool h origin seats offer ports none =
+    let none' : open_port (world_of pool h).ports offer.to ≡ None = rw ports none in
+    let reply : grant_reply (world_of pool h) offer ≡ Shared 0 0 (length offer.frames) = rw none' refl in
+    ap (λ (r : Reply). let e : Entry = record { session = record { 0 = offer.session }; ask = Grant origin (record { 0 = offer.to }); reply = r } in e) reply
+
+-- the room of a grant was promised
+pub rooms-grant : (pool : ℕ) (old new : Stored) (origin : ℕ) (offer : Offer) → IsLegal pool old.entries → HadRoom (recorded_in pool old)
+    → first_offer (world_of pool old.entries) origin ≡ Some offer → new.limits ≡ old.limits
+    → new.entries ≡ old.entries ++ entry_of (Grant origin (record { 0 = offer.to })) (grant_step (standing_of pool old.entries) offer) ∷ []
+    → HadRoom (recorded_in pool new)
+rooms-grant pool old new origin offer legal had first limits entries =
+    rooms-owed pool old new (Grant origin (record { 0 = offer.to })) (grant_step (standing_of pool old.entries) offer) legal had
+    (granted-made (standing_of pool old.entries) origin offer first) (λ reply. (refl, refl)) limits entries
+
 pub stands-grant_gone : (pool : ℕ) (h : List Entry) (promised promised' origin : ℕ) (offer : Offer)
     (sessions : List ℕ) (seats : List Seat) (pairs : List Pair) (offers : List Offer) (free : List ℕ)
     → Stands pool h promised sessions seats pairs offers free
@@ -189,8 +212,7 @@ stands-grant_gone pool h promised promised' origin offer sessions seats pairs of
     let ports_are : w.ports ≡ changed_at offer.to change w.ports = rw nothing (sym (changed_at-same offer.to (port_after_grant (w.entry_count + 1) offer.session []) (λ port. refl) w.ports)) in
     let held_are : (holdings_of pool h).ports ≡ changed_buffers offer.to (with_lot_buffers (size_of_frames (granted_frames w offer))) (holdings_of pool h).ports =
     rw nothing (sym (changed_buffers-same offer.to (holdings_of pool h).ports)) in
-    let entry : entry_of (Grant origin (record { 0 = offer.to })) made ≡ (record { session = record { 0 = offer.session }; ask = Grant origin (record { 0 = offer.to }); reply = Shared 0 0 (length offer.frames) }) =
-    ap (λ (r : Reply). let e : Entry = record { session = record { 0 = offer.session }; ask = Grant origin (record { 0 = offer.to }); reply = r } in e) reply in
+    let entry = entry-grant_gone pool h origin seats offer ports none in
     let next = stands-next pool h (Grant origin (record { 0 = offer.to })) made promised promised' sessions seats pairs (without_first origin offers) free old.legal old.promised_is is (omega (arith, room, owed)) (record {
       world_is =
           ap (λ (v : World). let x : World = record v { entry_count = length h + 1; offers = without_first origin v.offers } in x) old.world_is

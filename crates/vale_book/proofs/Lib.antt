@@ -11,3 +11,8 @@ pub mod DriveOpens
 pub mod DriveSyncs
 pub mod Limits
 pub mod DriveRuns
+pub mod Rooms
+pub mod Closes
+pub mod DriveEnds
+pub mod Winding
+pub mod Ends

@@ -22,7 +22,7 @@ use Rattle.vale_book.specs.Recorded.{after_ask, reply_of, IsRefusal, HasRoom}
 use Rattle.vale_world.specs.Seat.{Seat, port_of}
 use Rattle.vale_book.specs.Parts.{Stands}
 use Rattle.vale_book.specs.declared.book.Book.TheInside.{Inside}
-use Rattle.vale_book.specs.BookView.{recorded, IsBook}
+use Rattle.vale_book.specs.BookView.{recorded, StandsIn}
 use Rattle.vale_world.specs.Enabled.{may_send, can_send_over}
 use Rattle.vale_world.proofs.PortPlaces.{place-is}
 use Rattle.vale_book.specs.Sending.{reply_over, IsSent}
@@ -73,11 +73,11 @@ some-step : {X : Type 0} (b : Bool) (x : X) → b ≡ true → cond b (Some x) N
 some-step true x e = refl
 some-step false x e = cc
 
-can_send-is : (b : Inside) (frames : List Frame) (sender : Port) → IsBook b
+can_send-is : (b : Inside) (frames : List Frame) (sender : Port) → StandsIn b
     → can_send (world_of b.pool b.history.entries) frames sender ≡ may_send (map port_of b.ports.items) b.offers.items frames sender
 can_send-is b frames sender stands = ap (λ (w : World). can_send w frames sender) (sym stands.world_is)
 
-open_port-is : (b : Inside) (id : ℕ) → IsBook b → open_port (world_of b.pool b.history.entries).ports id ≡ open_port (map port_of b.ports.items) id
+open_port-is : (b : Inside) (id : ℕ) → StandsIn b → open_port (world_of b.pool b.history.entries).ports id ≡ open_port (map port_of b.ports.items) id
 open_port-is b id stands = ap (λ (w : World). open_port w.ports id) (sym stands.world_is)
 
 some-send : (s : Standing) (ports : List Port) (offers : List Offer) (frames : List Frame) (found : Option Port)
@@ -86,7 +86,7 @@ some-send : (s : Standing) (ports : List Port) (offers : List Offer) (frames : L
 some-send s ports offers frames None same = refl
 some-send s ports offers frames (Some sender) same = some-if (can_send s.world frames sender) (send_step s frames sender) ∙ same sender
 
-pub enabled-send : (b : Inside) (port : PortId) (frames : List Frame) → IsBook b
+pub enabled-send : (b : Inside) (port : PortId) (frames : List Frame) → StandsIn b
     → is_some (step (standing_of b.pool b.history.entries) (Send port frames)) ≡ can_send_over (map port_of b.ports.items) b.offers.items frames (open_port (map port_of b.ports.items) port.0)
 enabled-send b port frames stands =
     some-send (standing_of b.pool b.history.entries) (map port_of b.ports.items) b.offers.items frames (open_port (world_of b.pool b.history.entries).ports port.0) (λ sender. can_send-is b frames sender stands)
@@ -94,11 +94,11 @@ enabled-send b port frames stands =
 
 -- the send is enabled, and this is the port that sends
 pub record IsSending (b : Inside) (port : PortId) (frames : List Frame) (sender : Port) : Type 0 where
-  pub stands : IsBook b
+  pub stands : StandsIn b
   pub found : open_port (map port_of b.ports.items) port.0 ≡ Some sender
   pub may : may_send (map port_of b.ports.items) b.offers.items frames sender ≡ true
 
-pub is-sending : (b : Inside) (port : PortId) (frames : List Frame) (place : ℕ) (seat : Seat) → IsBook b
+pub is-sending : (b : Inside) (port : PortId) (frames : List Frame) (place : ℕ) (seat : Seat) → StandsIn b
     → (place < length b.ports.items) × (open_port (map port_of b.ports.items) port.0 ≡ slice_get (map port_of b.ports.items) place)
     → seat ≡ get_or b.ports.items place seat → IsEnabled (standing_of b.pool b.history.entries) (Send port frames) → IsSending b port frames seat.port
 is-sending b port frames place seat stands at is enabled =

@@ -5,3 +5,5 @@ pub mod DriveView
 pub mod Syncing
 pub mod OpenAnswers
 pub mod Sending
+pub mod Ending
+pub mod Winding

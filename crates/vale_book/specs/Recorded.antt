@@ -5,9 +5,9 @@ use Rattle.nm_types.specs.declared.fault.Part.TheVariants.{Entries, Bytes}
 use Rattle.nm_types.specs.declared.fault.StepFault.{StepFault}
 use Rattle.nm_types.specs.declared.fault.StepFault.TheVariants.{RecordFull, NoMemory}
 use Rattle.vale_entry.specs.declared.entry.Ask.{Ask}
-use Rattle.vale_entry.specs.declared.entry.Reply.{Reply}
 use Rattle.vale_entry.specs.declared.entry.Entry.{Entry}
 use Rattle.vale_entry.specs.Legal.{Standing, Outcome, step, standing_of}
+pub use Rattle.vale_entry.specs.Legal.{reply_of}
 use Rattle.vale_entry.specs.Room.{room_used, room_wanted, bytes_of, frame_bytes}
 
 pub record Recorded : Type 0 where
@@ -62,8 +62,13 @@ room_by b ask (Some made) = HasRoomFor b ask made
 abbrev pub HasRoom : Recorded → Ask → Type 0
 HasRoom b ask = room_by b ask (step (standing b) ask)
 
-abbrev pub reply_of : Outcome → Reply
-reply_of made = made.reply
+-- each entry had room in the record of those before it
+abbrev pub HadRoomFrom : Recorded → List Entry → Type 0
+HadRoomFrom b [] = Unit {0}
+HadRoomFrom b (entry ∷ entries) = HasRoom b entry.ask × HadRoomFrom (record b { entries = b.entries ++ entry ∷ [] }) entries
+
+abbrev pub HadRoom : Recorded → Type 0
+HadRoom b = HadRoomFrom (record b { entries = [] }) b.entries
 
 -- what is stored and promised is within the limits
 abbrev pub IsWithinLimits : Recorded → Type 0

@@ -4,7 +4,7 @@ ghost use Rattle.vale_entry.specs.Legal.{IsEnabled, IsLegal};
 ghost use Rattle.std.specs.List.{range_with_len};
 ghost use Rattle.vale_entry.specs.declared.entry.Ask.TheVariants as asks;
 ghost use Rattle.vale_entry.specs.Room.{frame_bytes};
-ghost use Rattle.vale_book.specs.Recorded.{standing, after_ask, IsRefusal, HasRoom, IsWithinLimits};
+ghost use Rattle.vale_book.specs.Recorded.{standing, after_ask, IsRefusal, HasRoom, HadRoom, IsWithinLimits};
 
 use crate::steps;
 use nm_types::{LeaseId, Limits, NoMemory, SessionId, StepFault};
@@ -14,10 +14,12 @@ use vale_entry::{Entry, History};
 use vale_world::offer::Offer;
 use vale_world::{Pair, Port, ports};
 
+mod close;
 mod grant;
 mod open_port;
 mod send;
 mod sync;
+mod wind;
 
 pub use send::Offered;
 
@@ -77,9 +79,10 @@ impl Book {
         })
     }
 
-    /// The record of every step: a legal history.
+    /// The record of every step: a legal history, each entry of which had room.
     pub fn entries(&self) -> &[Entry]
         ensures entries { result.now ≡ self.now.entries }
+        ensures roomy { HadRoom self.now }
         ensures legal { IsLegal self.now.pool self.now.entries }
     {
         self.history.entries()
@@ -140,7 +143,8 @@ impl Book {
     #[tactic(auto, using(crate::proofs::Dones::dones))]
     pub fn done(&mut self, lease: LeaseId)
         requires { IsEnabled (standing self.old) (asks.Done lease) }
-        ensures { self.new ≡ after_ask self.old (asks.Done lease) }
+        ensures made { self.new ≡ after_ask self.old (asks.Done lease) }
+        ensures room { HasRoom self.old (asks.Done lease) }
     {
         match ports::lessee(&self.ports, lease.0) {
             Some(session) => steps::done(&mut self.history, &mut self.ports, session, lease.0),

@@ -1,10 +1,12 @@
 ghost use Rattle.std.specs.Prelude.{◌≡◌, ◌<◌, ◌≤◌, ◌^◌, [], Some, option_map, OnOk, OnErr, IfOk, IfErr};
 ghost use Rattle.vale_entry.specs.declared.entry.Ask.TheVariants as asks;
 ghost use Rattle.vale_entry.specs.declared.entry.Reply.TheVariants as replies;
-ghost use Rattle.vale_entry.specs.Legal.{step, IsLegal};
+ghost use Rattle.vale_entry.specs.World.{free_count};
+ghost use Rattle.vale_entry.specs.Legal.{step, reply_to, world_of, IsLegal};
 ghost use Rattle.vale_entry.specs.Holdings.{IsParted, Agrees};
 ghost use Rattle.vale_book.specs.OpenAnswers.{unopened};
-ghost use Rattle.vale_book.specs.Recorded.{standing, after_ask, after_asks, IsStopped, reply_of, IsRefusal, HasRoom};
+ghost use Rattle.vale_book.specs.Winding.{StartsWith};
+ghost use Rattle.vale_book.specs.Recorded.{standing, after_ask, after_asks, IsStopped, reply_of, IsRefusal, HasRoom, HadRoom};
 
 use nm_types::{
     Batch, LeaseId, Limits, MAX_EXTRA, MAX_RING, Name, NoMemory, OpenFault, PortId, SessionId,
@@ -12,9 +14,10 @@ use nm_types::{
 };
 use std::alloc::{AllocError, Global};
 use std::marker::Model;
-use vale_entry::{Ask, Dests, Entry, Numbers, Reply};
+use vale_entry::{Ask, Dests, Entry, History, Numbers, Reply};
 use vale_world::session::{Session, exchange_at, give_at, place_of, reserve_at};
 
+mod ending;
 #[cfg(test)]
 mod tests;
 
@@ -230,9 +233,10 @@ impl Drive {
         }
     }
 
-    /// Makes one ask: its reply, or `None` where it is not enabled, and then nothing changes.
+    /// Makes one ask: its reply, or `None` where it is not enabled, and then nothing changes. Nor does
+    /// anything where a port cannot go yet, as it has leases out.
     pub fn apply(&mut self, ask: &Ask) -> Result<Option<Reply>, StepFault>
-        ensures replied { IfOk result (λ reply. reply ≡ option_map reply_of (step (standing self.old) ask.now)) }
+        ensures replied { IfOk result (λ reply. reply ≡ reply_to (standing self.old) ask.now) }
         ensures made { OnOk result (self.new ≡ after_ask self.old ask.now) }
         ensures room { OnOk result (HasRoom self.old ask.now) }
         ensures full { IfErr result (IsRefusal self.old ask.now) }
@@ -251,10 +255,10 @@ impl Drive {
             Ask::Grant { origin, to } => Ok(self.grant(*origin, *to)),
             Ask::Done { lease } => Ok(self.done(*lease)),
             Ask::Sync { port, back } => self.sync(*port, back),
+            Ask::Shut { port } => Ok(self.shut(*port)),
+            Ask::Finish { port, bufs, chain } => Ok(self.finish(*port, bufs, *chain)),
+            Ask::Leave { session } => Ok(self.leave(*session)),
             Ask::Reset { .. }
-            | Ask::Shut { .. }
-            | Ask::Finish { .. }
-            | Ask::Leave { .. }
             | Ask::Put { .. }
             | Ask::PutKept { .. }
             | Ask::Get { .. }
@@ -279,6 +283,7 @@ impl Drive {
         ensures made { OnOk result (self.new ≡ after_asks self.old asks.now) }
         ensures stopped { IfErr result (IsStopped self.old self.new asks.now) }
         ensures legal { IsLegal self.new.pool self.new.entries }
+        ensures roomy { HadRoom self.new }
         ensures parted { IsParted self.new.pool (standing self.new).holdings }
         ensures agrees { Agrees (standing self.new).world (standing self.new).holdings }
     {
@@ -286,5 +291,32 @@ impl Drive {
         // Its entries are a legal history, made or refused.
         self.book.entries();
         made
+    }
+
+    /// Ends the drive: makes what was promised and is wanting still. First the grants, then the ends of
+    /// the leases, each by rising number; then for each session its ports are shut and go, each with the
+    /// smallest ones of the session's buffers, and it leaves. Room and memory were kept for all of it,
+    /// and all buffers are free after it.
+    #[tactic(auto, using(crate::proofs::Winding::winding))]
+    pub fn close(self) -> History
+        ensures more { StartsWith self.entries result.entries }
+        ensures legal { IsLegal self.pool result.entries }
+        ensures free { free_count (world_of self.pool result.entries) ≡ self.pool }
+        ensures limits { result.limits ≡ self.limits }
+    {
+        let Drive {
+            mut book,
+            sessions,
+            alloc: _,
+        } = self;
+        book.grant_all();
+        book.complete_all();
+        for mut session in sessions {
+            session.buffers.sort_unstable();
+            book.end_session(SessionId(session.id), &session.buffers);
+        }
+        // The record is a legal history.
+        book.entries();
+        book.close()
     }
 }

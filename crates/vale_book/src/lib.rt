@@ -3,6 +3,7 @@
 #![tactic(auto)]
 
 mod book;
+mod closing;
 mod drive;
 mod granting;
 mod opens;
@@ -11,6 +12,7 @@ mod steps;
 mod syncing;
 
 pub use book::{Book, Offered};
+pub use closing::LeasesOut;
 pub use drive::Drive;
 pub use granting::Granted;
 pub use syncing::Synced;

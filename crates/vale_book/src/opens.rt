@@ -1,4 +1,4 @@
-ghost use Rattle.std.specs.Prelude.{◌≡◌, ◌<◌, ◌≤◌, ◌+◌, [], ◌∷◌, ◌++◌, ◌==◌, length, map, take, drop, OnOk, OnErr, IfOk, IfErr};
+ghost use Rattle.std.specs.Prelude.{◌≡◌, ◌<◌, ◌≤◌, ◌+◌, [], ◌∷◌, ◌++◌, ◌==◌, length, map, take, drop, vec_capacity, OnOk, OnErr, IfOk, IfErr};
 ghost use Rattle.std.specs.List.{list_any};
 ghost use Rattle.vale_entry.specs.declared.entry.Ask.TheVariants as asks;
 ghost use Rattle.vale_entry.specs.declared.entry.Reply.TheVariants as replies;
@@ -66,6 +66,7 @@ pub(crate) fn open(
     ensures ports { OnOk result (map port_of ports.new.items ≡ map port_of ports.old.items ++ opened_port (length history.old.entries + 1) session.0 name sizes.tx sizes.rx sizes.extra ∷ []) }
     ensures held { OnOk result (map held_of ports.new.items ≡ map held_of ports.old.items ++ (record { port = length history.old.entries + 1; idle = take sizes.rx (drop sizes.tx free.old.items); lots = [] }) ∷ []) }
     ensures free { OnOk result (free.new.items ≡ drop (sizes.tx + sizes.rx + sizes.extra) free.old.items) }
+    ensures capacity { vec_capacity free.new ≡ vec_capacity free.old }
     ensures port { IfOk result (λ opened. opened.port.0 ≡ length history.old.entries + 1) }
     ensures tx { IfOk result (λ opened. opened.tx.items ≡ take sizes.tx free.old.items) }
     ensures rx { IfOk result (λ opened. opened.rx.items ≡ take sizes.rx (drop sizes.tx free.old.items)) }

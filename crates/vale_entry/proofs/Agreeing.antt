@@ -1,12 +1,14 @@
 -- Ports and the buffers held for them, side by side; sessions and the buffers that they hold.
 use Rattle.std.proofs.Common.{ℕ, zero, suc, ◌+◌, ◌<◌, ◌≤◌, ◌≡◌, Bool, true, false, cond, ◌||◌, ◌==◌, List, [], ◌∷◌, ◌++◌, map, filter, sum_by, Some, refl, sym, ◌∙◌, ap, subst, arith, slice_get, slice_set}
-use Rattle.std.specs.List.{AllByRecursion as Each, list_any}
+use Rattle.std.specs.List.{AllByRecursion as Each, list_any, remove}
 use Rattle.std.proofs.lemmas.List.Sums.{sum_by-cons, sum_by_push}
 use Rattle.std.proofs.lemmas.Bool.{eqb-true, eq-eqb, ne_eqb}
 use Rattle.vale_entry.specs.World.{Port, due_of}
 use Rattle.vale_entry.specs.Holdings.{PortBuffers, SessionBuffers, PortAgrees, PortsAgree, due_of_session, session_given, sessions_given, session_less, sessions_less, buffers_without, changed_buffers}
 use Rattle.vale_entry.specs.Laws.{Rise, id_of_port, id_of_held, id_of_session, IsThere}
 use Rattle.vale_entry.proofs.Rising.{rise-bounds, rise-slice_get, map-at_key}
+use Rattle.vale_entry.proofs.Each.{each-weaker}
+use Rattle.vale_entry.proofs.Removals.{sum-remove}
 use Rattle.vale_entry.proofs.ListLaws.{sum-set, sum-map_same}
 
 pub agree-ids : (ports : List Port) (helds : List PortBuffers) → PortsAgree ports helds → map id_of_held helds ≡ map id_of_port ports
@@ -50,6 +52,14 @@ agree-push [] (h ∷ hs) port held a new = absurd a
 agree-push (p ∷ ps) [] port held a new = absurd a
 agree-push (p ∷ ps) (h ∷ hs) port held a new = (a.0, agree-push ps hs port held a.1 new)
 
+pub agree-remove : (ports : List Port) (helds : List PortBuffers) (i : ℕ) → PortsAgree ports helds → PortsAgree (remove ports i) (remove helds i)
+agree-remove [] [] zero a = tt
+agree-remove [] [] (suc i) a = tt
+agree-remove [] (h ∷ hs) i a = absurd a
+agree-remove (p ∷ ps) [] i a = absurd a
+agree-remove (p ∷ ps) (h ∷ hs) zero a = a.1
+agree-remove (p ∷ ps) (h ∷ hs) (suc i) a = (a.0, agree-remove ps hs i a.1)
+
 pub agree-map : (change : Port → Port) → ((port : Port) (held : PortBuffers) → PortAgrees port held → PortAgrees (change port) held)
     → (ports : List Port) (helds : List PortBuffers) → PortsAgree ports helds → PortsAgree (map change ports) helds
 agree-map change keeps [] [] a = tt
@@ -91,20 +101,33 @@ due-push ports port session =
     let sum = sum_by_push (due_for session) ports port in
     omega arith
 
--- a session of later number is due nothing
-due_none_by : (session : ℕ) (port : Port) → port.session < session → due_for session port ≡ 0
-due_none_by session port later = let miss : (port.session == session) ≡ false = ne_eqb port.session session (λ e. omega arith) in rw miss refl
+-- a port that is gone
+pub due-remove : (ports : List Port) (i : ℕ) (port : Port) (session : ℕ) → slice_get ports i ≡ Some port
+    → due_of_session (remove ports i) session + due_for session port ≡ due_of_session ports session
+due-remove ports i port session e =
+    let old = due-sum ports session in
+    let new = due-sum (remove ports i) session in
+    let sum = sum-remove (due_for session) ports i port e in
+    omega arith
 
-pub due-none : (ports : List Port) (session : ℕ) → Each (λ (port : Port). port.session < session) ports → due_of_session ports session ≡ 0
-due-none ports session all = due-sum ports session ∙ zeros ports all
+-- a session without a port is due nothing
+pub due-without : (ports : List Port) (session : ℕ) → Each (λ (port : Port). (port.session == session) ≡ false) ports
+    → due_of_session ports session ≡ 0
+due-without ports session all = due-sum ports session ∙ zeros ports all
   where
-    zeros : (ps : List Port) → Each (λ (port : Port). port.session < session) ps → sum_by (due_for session) ps ≡ 0
+    zeros : (ps : List Port) → Each (λ (port : Port). (port.session == session) ≡ false) ps → sum_by (due_for session) ps ≡ 0
     zeros [] all = refl
     zeros (p ∷ ps) all =
-        let here = due_none_by session p all.0 in
+        let here : due_for session p ≡ 0 = rw (all.0) refl in
         let rest = zeros ps all.1 in
         let sum = sum_by-cons (due_for session) p ps in
         omega arith
+
+-- nor is a session of later number
+pub due-none : (ports : List Port) (session : ℕ) → Each (λ (port : Port). port.session < session) ports → due_of_session ports session ≡ 0
+due-none ports session all =
+    due-without ports session (each-weaker (λ (port : Port). port.session < session) (λ (port : Port). (port.session == session) ≡ false)
+    (λ port later. ne_eqb port.session session (λ e. omega arith)) ports all)
 
 -- a number among numbers that rise is within their bounds
 among_by : (low n : ℕ) (ns : List ℕ) (high k : ℕ) (here : Bool) → (n == k) ≡ here → n ≤ high → (list_any (λ (s : ℕ). s == k) ns ≡ true → k ≤ high)
@@ -164,6 +187,15 @@ given-place more helds high session r p =
     let all = map-at_key id_of_session change 0 helds high p.place p.held r p.here (λ x other. rw other refl) in
     let hit : change p.held ≡ record p.held { buffers = p.held.buffers ++ more } = rw (eq-eqb p.held.session p.held.session refl) refl in
     subst (λ (k : ℕ). sessions_given k more helds ≡ slice_set helds p.place (record p.held { buffers = p.held.buffers ++ more })) p.id_is (all ∙ ap (slice_set helds p.place) hit)
+
+pub less-place : (gone : List ℕ) (helds : List SessionBuffers) (high session : ℕ) → Rise 0 (map id_of_session helds) high
+    → (p : SessionPlace helds session)
+    → sessions_less session gone helds ≡ slice_set helds p.place (record p.held { buffers = buffers_without gone p.held.buffers })
+less-place gone helds high session r p =
+    let change = session_less p.held.session gone in
+    let all = map-at_key id_of_session change 0 helds high p.place p.held r p.here (λ x other. rw other refl) in
+    let hit : change p.held ≡ record p.held { buffers = buffers_without gone p.held.buffers } = rw (eq-eqb p.held.session p.held.session refl) refl in
+    subst (λ (k : ℕ). sessions_less k gone helds ≡ slice_set helds p.place (record p.held { buffers = buffers_without gone p.held.buffers })) p.id_is (all ∙ ap (slice_set helds p.place) hit)
 
 map-twice : {X : Type 0} (f g : X → X) (xs : List X) → map f (map g xs) ≡ map (λ x. f (g x)) xs
 map-twice f g [] = refl

@@ -1,6 +1,7 @@
 -- What holds of each element of a list, as the list is mapped, cut or joined.
 use Rattle.std.proofs.Common.{ℕ, zero, suc, ◌≡◌, Bool, true, false, cond, ◌||◌, List, [], ◌∷◌, ◌++◌, map, drop, find, Option, Some, refl, subst, ◌==◌, sum_by}
 use Rattle.std.specs.List.{AllByRecursion as Each, list_any, cons_option}
+use Rattle.std.proofs.lemmas.Bool.{or_parts}
 use Rattle.nm_types.specs.Frames.{Frame}
 use Rattle.vale_entry.specs.World.{Port, Offer, changed_if, changed_at}
 use Rattle.vale_entry.specs.Offers.{offers_of, offer_to, is_offer_of}
@@ -10,6 +11,17 @@ use Rattle.vale_entry.proofs.ListLaws.{sum-map_same}
 pub each-weaker : {X : Type 0} (P Q : X → Type 0) → ((x : X) → P x → Q x) → (xs : List X) → Each P xs → Each Q xs
 each-weaker P Q weaker [] all = tt
 each-weaker P Q weaker (x ∷ xs) all = (weaker x all.0, each-weaker P Q weaker xs all.1)
+
+-- two facts of each element together
+pub each-both : {X : Type 0} (P Q R : X → Type 0) → ((x : X) → P x → Q x → R x) → (xs : List X) → Each P xs → Each Q xs → Each R xs
+each-both P Q R joins [] ps qs = tt
+each-both P Q R joins (x ∷ xs) ps qs = (joins x ps.0 qs.0, each-both P Q R joins xs ps.1 qs.1)
+
+pub each-none : {X : Type 0} (test : X → Bool) (xs : List X) → list_any test xs ≡ false → Each (λ x. test x ≡ false) xs
+each-none test [] e = tt
+each-none test (x ∷ xs) e =
+    let parts = or_parts (test x) (list_any test xs) e in
+    (parts.0, each-none test xs parts.1)
 
 pub each-append : {X : Type 0} (P : X → Type 0) (xs ys : List X) → Each P xs → Each P ys → Each P (xs ++ ys)
 each-append P [] ys front back = back

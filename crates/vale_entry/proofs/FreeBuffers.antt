@@ -1,27 +1,35 @@
 -- The free buffers rise strictly, so that taking from the front takes the smallest; they are as many as
 -- the ports leave of the pool.
-use Rattle.std.proofs.Common.{ℕ, zero, suc, ◌+◌, ◌-◌, ◌≤◌, ◌≡◌, Bool, true, false, cond, ◌==◌, List, [], ◌∷◌, ◌++◌, length, drop, sum_by, Option, Some, None, refl, arith, length-drop}
+use Rattle.std.proofs.Common.{ℕ, zero, suc, ◌+◌, ◌-◌, ◌≤◌, ◌≡◌, Bool, true, false, cond, ◌==◌, List, [], ◌∷◌, ◌++◌, length, map, drop, sum_by, Option, Some, None, refl, ap, subst, arith, length-drop, length-append}
 use Rattle.std.specs.List.{range_with_len}
 use Rattle.std.proofs.lemmas.List.Sums.{sum_by_push}
+use Rattle.std.proofs.lemmas.Bool.{and_parts, eqb-true}
 use Rattle.nm_types.specs.Frames.{Frame}
 use Rattle.nm_types.specs.declared.fault.OpenFault.{OpenFault}
 use Rattle.vale_entry.specs.declared.entry.Ask.{Ask}
-use Rattle.vale_entry.specs.declared.entry.Ask.TheVariants.{Enter, Open, Send, Grant, Done, Sync}
+use Rattle.vale_entry.specs.declared.entry.Ask.TheVariants.{Enter, Open, Send, Grant, Done, Sync, Shut, Finish, Leave}
 use Rattle.vale_entry.specs.declared.entry.Entry.{Entry}
-use Rattle.vale_entry.specs.World.{Port, Lot, Offer, is_session, open_port, buffers_of}
+use Rattle.vale_entry.specs.World.{Port, Lot, Offer, is_session, open_port, buffers_of, due_of}
 use Rattle.vale_entry.specs.Opening.{open_refusal, opened_port}
 use Rattle.vale_entry.specs.Grant.{granted_frames, first_offer, port_after_grant}
 use Rattle.vale_entry.specs.Delivery.{lease_at, port_after_done, port_after_sync}
-use Rattle.vale_entry.specs.Legal.{Standing, Outcome, step, recorded_step, after, standing_after, open_step_by, send_step_at, send_step, can_send, grant_step_at, grant_step, done_step_at, sync_step_at, sync_step, can_sync}
-use Rattle.vale_entry.specs.Laws.{AreFree}
+use Rattle.vale_entry.specs.Closing.{shut, shutting_port}
+use Rattle.vale_entry.specs.Holdings.{buffers_of_port, buffers_at_port, is_buffer_index, holds_all}
+use Rattle.vale_entry.specs.Legal.{Standing, Outcome, step, recorded_step, after, standing_after, open_step_by, send_step_at, send_step, can_send, grant_step_at, grant_step, done_step_at, sync_step_at, sync_step, can_sync, shut_step, can_finish, finish_step}
+use Rattle.vale_entry.specs.Laws.{Rise, AreFree, HasRoom, id_of_held}
 use Rattle.vale_entry.proofs.Steps.{recorded-by}
-use Rattle.vale_entry.proofs.ListLaws.{sum-map_same}
+use Rattle.vale_entry.proofs.ListLaws.{each-at, sum-map_same}
 use Rattle.vale_entry.proofs.Each.{sum-changed_at}
 use Rattle.vale_entry.proofs.Rising.{rise-drop, rise-range}
+use Rattle.vale_entry.proofs.Removals.{sum-remove}
+use Rattle.vale_entry.proofs.Freeing.{count-all_with_free, length-all_with_free, rise-all_with_free, held-bounds}
+use Rattle.vale_entry.proofs.Agreeing.{agree-ids, agree-at}
+use Rattle.vale_entry.proofs.Places.{buffers_of_port-place, shutting-place}
+use Rattle.vale_entry.proofs.Closings.{shut-by, finish-by, leave-by}
+use Rattle.vale_entry.proofs.Numbered.{Numbered}
 use Rattle.vale_entry.proofs.Roomy.{Roomy, opened-room}
-
-abbrev pub HasFree : Standing → Type 0
-HasFree s = AreFree s.world.pool s.world.ports s.holdings.free
+use Rattle.vale_entry.proofs.Holding.{times_held, Held, HasFree, once-by}
+use Rattle.vale_entry.proofs.Held.{held-length, held_finished}
 
 abbrev HasFreeNext : Option Outcome → Type 0
 HasFreeNext None = Unit {0}
@@ -79,22 +87,66 @@ free_sync s back (Some port) f = by_test (can_sync s back port)
       count = rw (sum-changed_at buffers_of port.id (port_after_sync (length back)) (λ p. refl) s.world.ports) f.count;
     }
 
-free_step : (s : Standing) (ask : Ask) → Roomy s → HasFree s → HasFreeNext (step s ask)
-free_step s (Enter user) roomy f = f
-free_step s (Open session name tx rx extra) roomy f =
+free_shut : (s : Standing) (port : Port) → HasFree s → HasFreeNext (Some (shut_step s port))
+free_shut s port f = record {
+  rise = f.rise;
+  count = rw (sum-changed_at buffers_of port.id shut (λ p. refl) s.world.ports) f.count;
+}
+
+-- the buffers that come back are held once, so each finds its place, and they are all the port's
+free_finish : (s : Standing) (bufs : List ℕ) (id : ℕ) (port : Port) → shutting_port s.world.ports id ≡ Some port → can_finish s bufs port ≡ true
+    → Numbered s → Roomy s → Held s → HasFree s
+    → HasFreeNext (Some (finish_step s bufs port))
+free_finish s bufs id port e can n roomy h f =
+    let w = s.world in
+    let x = s.holdings in
+    let p = shutting-place w.ports w.entry_count id port n.ports_rise e in
+    let a = agree-at w.ports x.ports p.place port h.ports_agree p.here in
+    let helds_rise : Rise 0 (map id_of_held x.ports) w.entry_count = rw (agree-ids w.ports x.ports h.ports_agree) n.ports_rise in
+    let next = held_finished s bufs id port e can n h in
+    let back = buffers_of_port port.id x.ports ++ bufs in
+    let y = (finish_step s bufs port).next.holdings in
+    let own : buffers_of_port port.id x.ports ≡ buffers_at_port a.held =
+    subst (λ (k : ℕ). buffers_of_port k x.ports ≡ buffers_at_port a.held) a.agrees.id (buffers_of_port-place x.ports w.entry_count p.place a.held helds_rise a.here) in
+    let own_length = ap (λ (bs : List ℕ). length bs) own in
+    let given : length bufs ≡ due_of port = eqb-true (length bufs) (due_of port) (and_parts (length bufs == due_of port) (holds_all x port.session bufs) can).0 in
+    let sizes = held-length port a.held (each-at HasRoom w.ports p.place port roomy.roomy p.here) a.agrees in
+    let joined = length-append (buffers_of_port port.id x.ports) bufs in
+    let freed = length-all_with_free back x.free in
+    let ports_sum = sum-remove buffers_of w.ports p.place port p.here in
+    let ports_same = ap (sum_by buffers_of) p.goes in
+    let count : length x.free + sum_by buffers_of w.ports ≡ w.pool = f.count in
+    record {
+      rise = rise-all_with_free 1 back x.free (w.pool + 1)
+          (λ b some. held-bounds w.pool b (times_held b y) (next.parted b) (let all = count-all_with_free b back x.free in omega arith))
+          (λ b.
+          let all = count-all_with_free b back x.free in
+          let once = once-by (times_held b y) (is_buffer_index w.pool b) (next.parted b) in
+          omega arith) f.rise;
+      count = omega arith;
+    }
+
+free_step : (s : Standing) (ask : Ask) → Numbered s → Roomy s → Held s → HasFree s → HasFreeNext (step s ask)
+free_step s (Enter user) n roomy h f = f
+free_step s (Open session name tx rx extra) n roomy h f =
     free_open s session.0 name tx rx extra (is_session s.world session.0) (open_refusal s.world name tx rx extra) refl roomy f
-free_step s (Send port frames) roomy f = free_send s frames (open_port s.world.ports port.0) f
-free_step s (Grant origin to) roomy f = free_grant s to.0 (first_offer s.world origin) f
-free_step s (Done lease) roomy f = free_done s lease.0 (lease_at s.world.ports lease.0) f
-free_step s (Sync port back) roomy f = free_sync s back (open_port s.world.ports port.0) f
-free_step s _ roomy f = tt
+free_step s (Send port frames) n roomy h f = free_send s frames (open_port s.world.ports port.0) f
+free_step s (Grant origin to) n roomy h f = free_grant s to.0 (first_offer s.world origin) f
+free_step s (Done lease) n roomy h f = free_done s lease.0 (lease_at s.world.ports lease.0) f
+free_step s (Sync port back) n roomy h f = free_sync s back (open_port s.world.ports port.0) f
+free_step s (Shut port) n roomy h f = shut-by HasFreeNext s (open_port s.world.ports port.0) tt (λ at e. free_shut s at f)
+free_step s (Finish port bufs chain) n roomy h f =
+    finish-by HasFreeNext s bufs (shutting_port s.world.ports port.0) tt (λ at e can out. free_finish s bufs port.0 at e can n roomy h f)
+free_step s (Leave session) n roomy h f = leave-by HasFreeNext s session.0 tt (λ can. f)
+free_step s _ n roomy h f = tt
 
 free_after : (s : Standing) (e : Entry) (made : Option Outcome) → HasFree s → HasFreeNext made → HasFree (standing_after s e made)
 free_after s e None f next = f
 free_after s e (Some made) f next = next
 
-pub free_entry : (s : Standing) (e : Entry) → Roomy s → HasFree s → HasFree (after s e)
-free_entry s e roomy f = free_after s e (recorded_step s e.ask e.reply) f (recorded-by HasFreeNext s e.ask e.reply tt (free_step s e.ask roomy f))
+pub free_entry : (s : Standing) (e : Entry) → Numbered s → Roomy s → Held s → HasFree s → HasFree (after s e)
+free_entry s e n roomy h f =
+    free_after s e (recorded_step s e.ask e.reply) f (recorded-by HasFreeNext s e.ask e.reply tt (free_step s e.ask n roomy h f))
 
 length-range : (first count : ℕ) → length (range_with_len first count) ≡ count
 length-range first zero = refl

@@ -1,9 +1,9 @@
 -- After every legal history each buffer of the pool is held once, and the buffers held agree with the
 -- world: a port's idle ones with its space, its lots with their frames, a session's with its dues.
-use Rattle.std.proofs.Common.{ℕ, zero, suc, ◌+◌, ◌-◌, ◌<◌, ◌≤◌, ◌≡◌, Bool, true, false, cond, ◌&&◌, ◌||◌, nat_le, ◌==◌, List, [], ◌∷◌, ◌++◌, map, length, take, drop, sum_by, flat_map, Option, Some, None, refl, sym, ◌∙◌, ap, subst, arith, slice_get, slice_set, length-append, length-drop, append-nil, ap₂, sum}
-use Rattle.std.specs.List.{AllByRecursion as Each, list_all, prefix_len}
+use Rattle.std.proofs.Common.{ℕ, zero, suc, ◌+◌, ◌-◌, ◌<◌, ◌≤◌, ◌≡◌, Bool, true, false, cond, ◌&&◌, ◌||◌, nat_le, ◌==◌, List, [], ◌∷◌, ◌++◌, map, length, take, drop, sum_by, flat_map, filter, not, Option, Some, None, refl, sym, ◌∙◌, ap, subst, arith, slice_get, slice_set, length-append, length-drop, append-nil, ap₂, sum}
+use Rattle.std.specs.List.{AllByRecursion as Each, list_all, prefix_len, remove}
 use Rattle.std.proofs.lemmas.List.{map-append, length-take-le, drop-drop, drop-map, take-map, take-append-drop}
-use Rattle.std.proofs.lemmas.List.Sums.{sum_by-cons, sum_by_push, sum_by-take-drop, sum-map}
+use Rattle.std.proofs.lemmas.List.Sums.{sum_by-cons, sum_by_push, sum_by-take-drop, sum-map, count_by-le-length}
 use Rattle.std.proofs.lemmas.List.Concat.{flat_map-append, length-flat_map}
 use Rattle.std.proofs.lemmas.List.Elements.{All-from_recursion}
 use Rattle.std.proofs.lemmas.Bool.{and_parts, leb-true, eqb-true, eqb-false, eq-eqb, ne_eqb}
@@ -11,67 +11,28 @@ use Rattle.nm_types.specs.Frames.{Frame, slots_of, size_of_frames}
 use Rattle.nm_types.specs.Names.{is_switch_port_name, is_monitor_name}
 use Rattle.nm_types.specs.declared.fault.OpenFault.{OpenFault}
 use Rattle.vale_entry.specs.declared.entry.Ask.{Ask}
-use Rattle.vale_entry.specs.declared.entry.Ask.TheVariants.{Enter, Open, Send, Grant, Done, Sync}
+use Rattle.vale_entry.specs.declared.entry.Ask.TheVariants.{Enter, Open, Send, Grant, Done, Sync, Shut, Finish, Leave}
 use Rattle.vale_entry.specs.declared.entry.Entry.{Entry}
-use Rattle.vale_entry.specs.World.{World, Port, Lot, Offer, is_session, is_settled, open_port, changed_at, space_of, due_of, buffers_of}
+use Rattle.vale_entry.specs.World.{World, Port, Lot, Offer, is_session, is_settled, open_port, changed_at, changed_if, space_of, due_of, buffers_of}
 use Rattle.vale_entry.specs.Opening.{open_refusal, opened_port}
 use Rattle.vale_entry.specs.Grant.{longest_fitting, given_at, first_offer, port_after_grant}
 use Rattle.vale_entry.specs.Delivery.{lease_at, is_done_lot, ready_lots, delivered_frames, frames_of_lot, lot_after_done, done_if, port_after_done, port_after_sync}
-use Rattle.vale_entry.specs.Holdings.{Holdings, PortBuffers, SessionBuffers, PortAgrees, PortsAgree, Agrees, IsParted, all_free, all_buffers, buffers_at_port, buffers_held, is_buffer_index, contains, are_distinct, holds_all, due_of_session, sessions_given, sessions_less, session_given, buffers_without, buffers_of_session, delivered_buffers, changed_buffers, with_lot_buffers, with_returned, holdings_after_grant, holdings_after_sync}
-use Rattle.vale_entry.specs.Legal.{Standing, Outcome, step, recorded_step, after, standing_after, enter_step, open_step_by, send_step_at, send_step, can_send, grant_step_at, grant_step, done_step_at, sync_step_at, sync_step, can_sync}
+use Rattle.vale_entry.specs.Closing.{shut, shutting_port, ports_without, sessions_without}
+use Rattle.vale_entry.specs.Holdings.{Holdings, PortBuffers, SessionBuffers, PortAgrees, Agrees, IsParted, all_free, buffers_at_port, is_buffer_index, contains, are_distinct, holds_all, due_of_session, sessions_given, sessions_less, session_given, buffers_without, buffers_of_session, delivered_buffers, changed_buffers, with_lot_buffers, with_returned, holdings_after_grant, holdings_after_sync, holdings_after_finish, buffers_of_port}
+use Rattle.vale_entry.specs.Legal.{Standing, Outcome, step, recorded_step, after, standing_after, enter_step, open_step_by, send_step_at, send_step, can_send, grant_step_at, grant_step, done_step_at, sync_step_at, sync_step, can_sync, shut_step, can_finish, finish_step, leave_step}
 use Rattle.vale_entry.specs.Laws.{Rise, id_of_port, id_of_held, id_of_session, IsThere, HasRoom, IsPortOf}
 use Rattle.vale_entry.proofs.Steps.{recorded-by}
 use Rattle.vale_entry.proofs.ListLaws.{each-at, map-set_same, sum-at, sum-set, sum-map_same, sum-flat_map}
-use Rattle.vale_entry.proofs.Each.{each-append, each-map, each-weaker, changed_at-same}
+use Rattle.vale_entry.proofs.Each.{each-append, each-map, each-weaker, changed_at-same, sum-changed_at}
 use Rattle.vale_entry.proofs.Counting.{count_of, count_of-append, count-away, length-away, count-pool}
-use Rattle.vale_entry.proofs.Agreeing.{agree-ids, agree-at, agree-set, agree-push, agree-map, due_for, due-sum, due-set, due-push, due-none, among-bound, SessionPlace, session-place, each-set_key, given-place, moved-place, changed_buffers-same, sum-changed_buffers}
-use Rattle.vale_entry.proofs.Places.{open-place, changed_at-place, changed_buffers-place, buffers_of_session-place, delivered_buffers-place}
+use Rattle.vale_entry.proofs.Freeing.{count-all_with_free}
+use Rattle.vale_entry.proofs.Removals.{each-filter, filter-at_key, sum-remove, sum-filter_same, map-filter}
+use Rattle.vale_entry.proofs.Closings.{CanLeave, shut-by, finish-by, leave-by}
+use Rattle.vale_entry.proofs.Agreeing.{agree-ids, agree-at, agree-set, agree-push, agree-map, due_for, due-sum, due-set, due-push, due-remove, due-without, due-none, among-bound, agree-remove, less-place, SessionPlace, session-place, each-set_key, given-place, moved-place, changed_buffers-same, sum-changed_buffers}
+use Rattle.vale_entry.proofs.Places.{open-place, changed_at-place, changed_buffers-place, buffers_of_session-place, delivered_buffers-place, buffers_of_port-place, shutting-place}
 use Rattle.vale_entry.proofs.Numbered.{Numbered}
 use Rattle.vale_entry.proofs.Roomy.{Roomy, opened-room, longest_fitting-size, with_lot-size, size-after_done, delivered-size}
-use Rattle.vale_entry.proofs.FreeBuffers.{HasFree}
-
-abbrev whole : List ℕ → List ℕ
-whole list = list
-
-abbrev size_of_lot : Lot → ℕ
-size_of_lot lot = size_of_frames lot.frames
-
--- how often a buffer is held
-abbrev pub at_port : ℕ → PortBuffers → ℕ
-at_port b held = count_of b (buffers_at_port held)
-
-abbrev pub at_session : ℕ → SessionBuffers → ℕ
-at_session b held = count_of b held.buffers
-
-abbrev pub times_held : ℕ → Holdings → ℕ
-times_held b x = count_of b x.free + sum_by (at_port b) x.ports + sum_by (at_session b) x.sessions
-
-pub times-held : (b : ℕ) (x : Holdings) → count_of b (all_buffers x) ≡ times_held b x
-times-held b x =
-    let ports = flat_map buffers_at_port x.ports in
-    let sessions = flat_map buffers_held x.sessions in
-    let one = count_of-append b (x.free ++ ports) sessions in
-    let two = count_of-append b x.free ports in
-    let three = sum-flat_map (λ (y : ℕ). cond (y == b) 1 0) buffers_at_port x.ports in
-    let four = sum-flat_map (λ (y : ℕ). cond (y == b) 1 0) buffers_held x.sessions in
-    omega arith
-
--- a session holds what it is due
-abbrev IsPaid : List Port → SessionBuffers → Type 0
-IsPaid ports held = length held.buffers ≡ due_of_session ports held.session
-
-pub record AreHeld (pool : ℕ) (sessions : List ℕ) (ports : List Port) (x : Holdings) : Type 0 where
-  pub ports_agree : PortsAgree ports x.ports
-  pub session_ids : map id_of_session x.sessions ≡ sessions
-  pub dues : Each (IsPaid ports) x.sessions
-  pub parted : (b : ℕ) → times_held b x ≡ cond (is_buffer_index pool b) 1 0
-
-abbrev pub Held : Standing → Type 0
-Held s = AreHeld s.world.pool s.world.sessions s.world.ports s.holdings
-
-abbrev HeldNext : Option Outcome → Type 0
-HeldNext None = Unit {0}
-HeldNext (Some made) = Held made.next
+use Rattle.vale_entry.proofs.Holding.{whole, size_of_lot, at_port, at_session, times_held, times-held, IsPaid, AreHeld, Held, HeldNext, HasFree, once-by}
 
 -- Enter
 owner-before : (count : ℕ) (sessions : List ℕ) (port : Port) → Rise 0 sessions count → IsThere sessions port.session → port.session < count + 1
@@ -384,10 +345,6 @@ returned-count b n back held =
     let idle = count_of-append b held.idle back in
     omega arith
 
-once-by : (n : ℕ) (b : Bool) → n ≡ cond b 1 0 → n ≤ 1
-once-by n true e = omega arith
-once-by n false e = omega arith
-
 -- a session holds no buffer twice
 pub held-once : (pool : ℕ) (sessions : List ℕ) (ports : List Port) (x : Holdings) (i : ℕ) (user : SessionBuffers) → AreHeld pool sessions ports x
     → slice_get x.sessions i ≡ Some user
@@ -499,6 +456,151 @@ held_sync s back id (Some port) e n roomy h = by_test (can_sync s back port) ref
     by_test false t = tt
     by_test true t = held_synced s back id port e t n roomy h
 
+-- Shut
+agrees-shut : (shuts : Bool) (port : Port) (held : PortBuffers) → PortAgrees port held → PortAgrees (changed_if shuts shut port) held
+agrees-shut true port held a = record { id = a.id; idle = a.idle; lots = a.lots }
+agrees-shut false port held a = a
+
+held_shut : (s : Standing) (port : Port) → Held s → HeldNext (Some (shut_step s port))
+held_shut s port h =
+    let w = s.world in
+    let ports = changed_at port.id shut w.ports in
+    record {
+      ports_agree = agree-map (λ (p : Port). changed_if (p.id == port.id) shut p) (λ p held a. agrees-shut (p.id == port.id) p held a) w.ports s.holdings.ports h.ports_agree;
+      session_ids = h.session_ids;
+      dues = each-weaker (IsPaid w.ports) (IsPaid ports)
+          (λ held here.
+          let old = due-sum w.ports held.session in
+          let new = due-sum ports held.session in
+          let same = sum-changed_at (due_for held.session) port.id shut (λ p. refl) w.ports in
+          omega arith) s.holdings.sessions h.dues;
+      parted = h.parted;
+    }
+
+-- Finish
+-- what a port's session holds for it, and what the port holds, are all its buffers
+pub held-length : (port : Port) (held : PortBuffers) → HasRoom port → PortAgrees port held
+    → length (buffers_at_port held) + due_of port ≡ buffers_of port
+held-length port held room a =
+    let idle = a.idle in
+    let fits = room.fits in
+    let lists : length (flat_map whole held.lots) ≡ sum_by (λ (list : List ℕ). length list) held.lots = length-flat_map whole held.lots in
+    let one = sum-map (λ (list : List ℕ). length list) held.lots in
+    let two = sum-map size_of_lot port.line in
+    let same = ap sum (a.lots) in
+    let joined = length-append held.idle (flat_map whole held.lots) in
+    omega arith
+
+-- another session is due what it was, and the port's own less by the port's
+due-others : (ports : List Port) (i : ℕ) (port : Port) (session : ℕ) → slice_get ports i ≡ Some port → (port.session == session) ≡ false
+    → due_of_session (remove ports i) session ≡ due_of_session ports session
+due-others ports i port session e other =
+    let sum = due-remove ports i port session e in
+    let none : due_for session port ≡ 0 = rw other refl in
+    omega arith
+
+due-left : (ports : List Port) (i : ℕ) (port : Port) (session : ℕ) (bufs buffers : List ℕ) → slice_get ports i ≡ Some port
+    → port.session ≡ session → length bufs ≡ due_of port → length (buffers_without bufs buffers) + length bufs ≡ length buffers
+    → length buffers ≡ due_of_session ports session
+    → length (buffers_without bufs buffers) ≡ due_of_session (remove ports i) session
+due-left ports i port session bufs buffers e own all away here =
+    let sum = due-remove ports i port session e in
+    let mine : (port.session == session) ≡ true = eq-eqb port.session session own in
+    let due : due_for session port ≡ due_of port = rw mine refl in
+    omega arith
+
+finished-at : (pool high : ℕ) (sessions : List ℕ) (ports : List Port) (x : Holdings) (bufs : List ℕ) (port : Port) (i : ℕ) (held : PortBuffers) (user : SessionPlace x.sessions port.session)
+    → Rise 0 (map id_of_held x.ports) high → Rise 0 (map id_of_session x.sessions) high
+    → slice_get ports i ≡ Some port → ports_without port.id ports ≡ remove ports i → slice_get x.ports i ≡ Some held → held.port ≡ port.id
+    → length bufs ≡ due_of port → list_all (λ b. contains b user.held.buffers) bufs ≡ true → are_distinct bufs ≡ true
+    → AreHeld pool sessions ports x
+    → AreHeld pool sessions (ports_without port.id ports) (holdings_after_finish port.id port.session bufs x)
+finished-at pool high sessions ports x bufs port i held user held_rise user_rise e ports_are f id_is all within distinct h =
+    let after_user : SessionBuffers = record user.held { buffers = buffers_without bufs user.held.buffers } in
+    let helds_are : filter (λ (y : PortBuffers). not (y.port == port.id)) x.ports ≡ remove x.ports i =
+    subst (λ (k : ℕ). filter (λ (y : PortBuffers). not (y.port == k)) x.ports ≡ remove x.ports i) id_is (filter-at_key id_of_held 0 x.ports high i held held_rise f) in
+    let own_are : buffers_of_port port.id x.ports ≡ buffers_at_port held =
+    subst (λ (k : ℕ). buffers_of_port k x.ports ≡ buffers_at_port held) id_is (buffers_of_port-place x.ports high i held held_rise f) in
+    let users_are : sessions_less port.session bufs x.sessions ≡ slice_set x.sessions user.place after_user = less-place bufs x.sessions high port.session user_rise user in
+    let once = held-once pool sessions ports x user.place user.held h user.here in
+    let away = length-away bufs user.held.buffers distinct within once in
+    let old = each-at (IsPaid ports) x.sessions user.place user.held h.dues user.here in
+    let own = due-left ports i port user.held.session bufs user.held.buffers e (sym user.id_is) all away old in
+    let dues : Each (IsPaid (remove ports i)) (slice_set x.sessions user.place after_user) =
+    each-set_key id_of_session (IsPaid ports) (IsPaid (remove ports i)) 0 x.sessions high user.place user.held after_user user_rise user.here
+    (λ z other here. here ∙ sym (due-others ports i port z.session e
+    (ne_eqb port.session z.session (λ same. eqb-false z.session user.held.session other (sym same ∙ sym user.id_is))))) h.dues own in
+    record {
+      ports_agree = rw (ports_are, helds_are) (agree-remove ports x.ports i h.ports_agree);
+      session_ids = ap (map id_of_session) users_are ∙ map-set_same id_of_session x.sessions user.place user.held after_user user.here refl ∙ h.session_ids;
+      dues = rw (ports_are, users_are) dues;
+      parted = λ b.
+          let before = h.parted b in
+          let freed = count-all_with_free b (buffers_of_port port.id x.ports ++ bufs) x.free in
+          let joined = count_of-append b (buffers_of_port port.id x.ports) bufs in
+          let own_same = ap (count_of b) own_are in
+          let helds_sum = sum-remove (at_port b) x.ports i held f in
+          let helds_same = ap (sum_by (at_port b)) helds_are in
+          let users_sum = sum-set (at_session b) x.sessions user.place user.held after_user user.here in
+          let users_same = ap (sum_by (at_session b)) users_are in
+          let left = count-away b bufs user.held.buffers distinct within (once b) in
+          omega arith;
+    }
+
+pub held_finished : (s : Standing) (bufs : List ℕ) (id : ℕ) (port : Port) → shutting_port s.world.ports id ≡ Some port → can_finish s bufs port ≡ true
+    → Numbered s → Held s
+    → Held (finish_step s bufs port).next
+held_finished s bufs id port e can n h =
+    let w = s.world in
+    let x = s.holdings in
+    let p = shutting-place w.ports w.entry_count id port n.ports_rise e in
+    let a = agree-at w.ports x.ports p.place port h.ports_agree p.here in
+    let rise : Rise 0 (map id_of_session x.sessions) w.entry_count = rw h.session_ids n.sessions_rise in
+    let owned : IsThere w.sessions port.session = each-at (IsPortOf w.sessions) w.ports p.place port n.ports_owned p.here in
+    let among : IsThere (map id_of_session x.sessions) port.session = rw h.session_ids owned in
+    let user = session-place x.sessions port.session among in
+    let parts = and_parts (length bufs == due_of port) (holds_all x port.session bufs) can in
+    let holds = and_parts (list_all (λ b. contains b (buffers_of_session x.sessions port.session)) bufs) (are_distinct bufs) parts.1 in
+    let own : buffers_of_session x.sessions port.session ≡ user.held.buffers =
+    subst (λ (k : ℕ). buffers_of_session x.sessions k ≡ user.held.buffers) user.id_is (buffers_of_session-place x.sessions w.entry_count user.place user.held rise user.here) in
+    let within : list_all (λ b. contains b user.held.buffers) bufs ≡ true =
+    subst (λ (bs : List ℕ). list_all (λ b. contains b bs) bufs ≡ true) own holds.0 in
+    finished-at w.pool w.entry_count w.sessions w.ports x bufs port p.place a.held user (rw (agree-ids w.ports x.ports h.ports_agree) n.ports_rise) rise
+    p.here p.goes a.here a.agrees.id (eqb-true (length bufs) (due_of port) parts.0) within holds.1 h
+
+-- Leave
+-- a session that is due nothing holds nothing
+left-nothing : (session : ℕ) (ports : List Port) (b : ℕ) (held : SessionBuffers) → due_of_session ports session ≡ 0 → IsPaid ports held
+    → not (held.session == session) ≡ false
+    → at_session b held ≡ 0
+left-nothing session ports b held none paid goes = by_test (held.session == session) refl goes
+  where
+    by_test : (mine : Bool) → (held.session == session) ≡ mine → not mine ≡ false → at_session b held ≡ 0
+    by_test false t g = absurd cc
+    by_test true t g =
+        let same = ap (due_of_session ports) (eqb-true held.session session t) in
+        let few = count_by-le-length (λ (y : ℕ). y == b) held.buffers in
+        omega arith
+
+held_leave : (s : Standing) (session : ℕ) → CanLeave s.world session → Held s → HeldNext (Some (leave_step s session))
+held_leave s session can h =
+    let w = s.world in
+    let x = s.holdings in
+    let none = due-without w.ports session can.no_port in
+    let stays : SessionBuffers → Bool = λ (held : SessionBuffers). not (held.session == session) in
+    record {
+      ports_agree = h.ports_agree;
+      session_ids = map-filter id_of_session (λ (k : ℕ). not (k == session)) x.sessions ∙ ap (sessions_without session) h.session_ids;
+      dues = each-filter (IsPaid w.ports) stays x.sessions h.dues;
+      parted = λ b.
+          let before = h.parted b in
+          let same =
+          sum-filter_same (at_session b) stays x.sessions
+          (each-weaker (IsPaid w.ports) (λ (held : SessionBuffers). stays held ≡ false → at_session b held ≡ 0)
+          (λ held paid goes. left-nothing session w.ports b held none paid goes) x.sessions h.dues) in
+          omega arith;
+    }
+
 held_step : (s : Standing) (ask : Ask) → Numbered s → Roomy s → HasFree s → Held s → HeldNext (step s ask)
 held_step s (Enter user) n roomy free h = held_enter s n h
 held_step s (Open session name tx rx extra) n roomy free h =
@@ -507,6 +609,10 @@ held_step s (Send port frames) n roomy free h = held_send s frames (open_port s.
 held_step s (Grant origin to) n roomy free h = held_grant s to.0 (first_offer s.world origin) n roomy h
 held_step s (Done lease) n roomy free h = held_done s lease.0 (lease_at s.world.ports lease.0) h
 held_step s (Sync port back) n roomy free h = held_sync s back port.0 (open_port s.world.ports port.0) refl n roomy h
+held_step s (Shut port) n roomy free h = shut-by HeldNext s (open_port s.world.ports port.0) tt (λ at e. held_shut s at h)
+held_step s (Finish port bufs chain) n roomy free h =
+    finish-by HeldNext s bufs (shutting_port s.world.ports port.0) tt (λ at e can out. held_finished s bufs port.0 at e can n h)
+held_step s (Leave session) n roomy free h = leave-by HeldNext s session.0 tt (λ can. held_leave s session.0 can h)
 held_step s _ n roomy free h = tt
 
 held_after : (s : Standing) (e : Entry) (made : Option Outcome) → Held s → HeldNext made → Held (standing_after s e made)

@@ -5,23 +5,26 @@ use Rattle.std.proofs.lemmas.List.Elements.{All-from_recursion}
 use Rattle.nm_types.specs.Frames.{Frame}
 use Rattle.nm_types.specs.declared.fault.OpenFault.{OpenFault}
 use Rattle.vale_entry.specs.declared.entry.Ask.{Ask}
-use Rattle.vale_entry.specs.declared.entry.Ask.TheVariants.{Enter, Open, Send, Grant, Done, Sync}
+use Rattle.vale_entry.specs.declared.entry.Ask.TheVariants.{Enter, Open, Send, Grant, Done, Sync, Shut, Finish, Leave}
 use Rattle.vale_entry.specs.declared.entry.Entry.{Entry}
 use Rattle.vale_entry.specs.World.{Port, Lot, Offer, is_session, open_port, size_of_line, space_of, due_of, buffers_of}
 use Rattle.vale_entry.specs.Opening.{open_refusal}
 use Rattle.vale_entry.specs.Grant.{first_offer}
 use Rattle.vale_entry.specs.Delivery.{lease_at}
+use Rattle.vale_entry.specs.Closing.{shutting_port}
 use Rattle.vale_entry.specs.Holdings.{IsParted}
 use Rattle.vale_entry.specs.Legal.{Standing, Outcome, step, recorded_step, after, standing_after, standing_of, world_of, holdings_of, fresh_standing, open_step_by, send_step_at, send_step, can_send, grant_step_at, grant_step, done_step_at, sync_step_at, sync_step, can_sync, IsLegal, Follows}
 use Rattle.vale_entry.specs.Laws.{Rise, IsFilled, HasRoom, AreNumbered, IsPromised, NumbersRise, PortsAreWithinSizes, FreeBuffersRise, BuffersAreParted, HoldingsAgree, SessionsHaveOneUnsettled, RoomIsPromised, RoomIsUsed}
 use Rattle.vale_entry.proofs.Worlds.{standing-push, count-world_of}
 use Rattle.vale_entry.proofs.Steps.{recorded-by, legal-by}
+use Rattle.vale_entry.proofs.Closings.{shut-by, finish-by, leave-by}
 use Rattle.vale_entry.proofs.Rising.{rise-cut}
 use Rattle.vale_entry.proofs.Each.{each-weaker}
 use Rattle.vale_entry.proofs.Numbered.{Numbered, numbered_entry, world-numbered}
 use Rattle.vale_entry.proofs.Roomy.{Roomy, roomy_entry}
-use Rattle.vale_entry.proofs.FreeBuffers.{HasFree, free_entry, free_fresh}
-use Rattle.vale_entry.proofs.Held.{Held, held_entry, held_fresh, held-parted, held-agrees}
+use Rattle.vale_entry.proofs.FreeBuffers.{free_entry, free_fresh}
+use Rattle.vale_entry.proofs.Holding.{Held, HasFree}
+use Rattle.vale_entry.proofs.Held.{held_entry, held_fresh, held-parted, held-agrees}
 use Rattle.vale_entry.proofs.OneEntry.{OneEntry, one_entry}
 use Rattle.vale_entry.proofs.SingleLots.{Single, single_entry}
 use Rattle.vale_entry.proofs.Promised.{promised_entry}
@@ -64,6 +67,9 @@ pool_step s (Send port frames) = pool_send s frames (open_port s.world.ports por
 pool_step s (Grant origin to) = pool_grant s to.0 (first_offer s.world origin)
 pool_step s (Done lease) = pool_done s lease.0 (lease_at s.world.ports lease.0)
 pool_step s (Sync port back) = pool_sync s back (open_port s.world.ports port.0)
+pool_step s (Shut port) = shut-by (PoolNext s.world.pool) s (open_port s.world.ports port.0) tt (λ at e. refl)
+pool_step s (Finish port bufs chain) = finish-by (PoolNext s.world.pool) s bufs (shutting_port s.world.ports port.0) tt (λ at e can out. refl)
+pool_step s (Leave session) = leave-by (PoolNext s.world.pool) s session.0 tt (λ can. refl)
 pool_step s _ = tt
 
 pool_after : (s : Standing) (e : Entry) (made : Option Outcome) → PoolNext s.world.pool made → (standing_after s e made).world.pool ≡ s.world.pool
@@ -88,7 +94,7 @@ stands_entry pool s e k follows = record {
   pool_is = pool_entry s e ∙ k.pool_is;
   numbered = numbered_entry s e k.numbered;
   roomy = roomy_entry s e k.numbered k.roomy;
-  free = free_entry s e k.roomy k.free;
+  free = free_entry s e k.numbered k.roomy k.held k.free;
   held = held_entry s e k.numbered k.roomy k.free k.held;
   one = one_entry s e k.one;
   single = single_entry s e k.numbered k.single;

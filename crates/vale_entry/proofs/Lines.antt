@@ -9,9 +9,9 @@ use Rattle.nm_types.specs.declared.fault.OpenFault.TheVariants.{BadSize, Switche
 use Rattle.nm_types.specs.declared.id.SessionId.{SessionId}
 use Rattle.vale_entry.specs.declared.entry.Dest.{Dest}
 use Rattle.vale_entry.specs.declared.entry.Ask.{Ask}
-use Rattle.vale_entry.specs.declared.entry.Ask.TheVariants.{Enter, Open, Send, Grant, Done, Sync}
+use Rattle.vale_entry.specs.declared.entry.Ask.TheVariants.{Enter, Open, Send, Grant, Done, Sync, Shut, Finish, Leave}
 use Rattle.vale_entry.specs.declared.entry.Reply.{Reply}
-use Rattle.vale_entry.specs.declared.entry.Reply.TheVariants.{Made, Opened, Refused, Offered, Shared, Gave}
+use Rattle.vale_entry.specs.declared.entry.Reply.TheVariants.{Made, Opened, Refused, Offered, Shared, Gave, Unread}
 use Rattle.vale_entry.specs.declared.entry.Entry.{Entry}
 use Rattle.vale_entry.specs.Transcript.{frames_text, numbers_text, dests_text, entry_line, is_refusal, is_printable, IsPrintable}
 use Rattle.vale_entry.specs.Laws.{FitsU64, FitsDest, FitsRefusal, FitsAsk, FitsReply, FitsEntry}
@@ -19,14 +19,17 @@ use Rattle.vale_entry.proofs.Cuts.{IsWord, spell}
 use Rattle.vale_entry.proofs.Numerals.{decimal-word, decimal-same, decimal-digits, not-number, numbers-same, numbers-word, dests-same, dests-word, frames-same, frames-word}
 use Rattle.vale_entry.proofs.NameWords.{literal, name-word}
 
--- the six kinds of lines; an open's answer is what refused it, or none
+-- the nine kinds of lines; an open's answer is what refused it, or none
 pub data Said : Type 0 where
   entered : ℕ → Said
   opened : ℕ → List ℕ → ℕ → ℕ → ℕ → Option OpenFault → Said
   sent : ℕ → ℕ → List Frame → ℕ → ℕ → List Dest → Said
   granted : ℕ → ℕ → ℕ → ℕ → ℕ → ℕ → Said
-  finished : ℕ → ℕ → Said
+  completed : ℕ → ℕ → Said
   synced : ℕ → ℕ → List ℕ → ℕ → List Dest → Said
+  closed : ℕ → ℕ → Said
+  finished : ℕ → ℕ → List ℕ → ℕ → ℕ → ℕ → Said
+  departed : ℕ → Said
 
 abbrev open_reply : Option OpenFault → Reply
 open_reply None = Opened
@@ -37,8 +40,11 @@ said_entry n (entered user) = record { session = (record { 0 = n }); ask = Enter
 said_entry n (opened s name tx rx extra refusal) = record { session = (record { 0 = s }); ask = Open (record { 0 = s }) name tx rx extra; reply = open_reply refusal }
 said_entry n (sent s port frames short lone to) = record { session = (record { 0 = s }); ask = Send (record { 0 = port }) frames; reply = Offered short lone to }
 said_entry n (granted s origin to given full gone) = record { session = (record { 0 = s }); ask = Grant origin (record { 0 = to }); reply = Shared given full gone }
-said_entry n (finished s lease) = record { session = (record { 0 = s }); ask = Done (record { 0 = lease }); reply = Made }
+said_entry n (completed s lease) = record { session = (record { 0 = s }); ask = Done (record { 0 = lease }); reply = Made }
 said_entry n (synced s port back count to) = record { session = (record { 0 = s }); ask = Sync (record { 0 = port }) back; reply = Gave count to }
+said_entry n (closed s port) = record { session = (record { 0 = s }); ask = Shut (record { 0 = port }); reply = Made }
+said_entry n (finished s port bufs found astray count) = record { session = (record { 0 = s }); ask = Finish (record { 0 = port }) bufs (record { found = found; astray = astray }); reply = Unread count }
+said_entry n (departed s) = record { session = (record { 0 = s }); ask = Leave (record { 0 = s }); reply = Made }
 
 abbrev refusal_words : Option OpenFault → List (List ℕ)
 refusal_words None = codes "ok" ∷ []
@@ -58,8 +64,12 @@ words (sent s port frames short lone to) =
     decimal s ∷ codes "send" ∷ decimal port ∷ frames_text frames ∷ codes "=" ∷ codes "short" ∷ decimal short ∷ codes "lone" ∷ decimal lone ∷ codes "to" ∷ dests_text to ∷ []
 words (granted s origin to given full gone) =
     decimal s ∷ codes "grant" ∷ decimal origin ∷ decimal to ∷ codes "=" ∷ codes "given" ∷ decimal given ∷ codes "full" ∷ decimal full ∷ codes "gone" ∷ decimal gone ∷ []
-words (finished s lease) = decimal s ∷ codes "done" ∷ decimal lease ∷ []
+words (completed s lease) = decimal s ∷ codes "done" ∷ decimal lease ∷ []
 words (synced s port back count to) = decimal s ∷ codes "sync" ∷ decimal port ∷ numbers_text back ∷ codes "=" ∷ codes "gave" ∷ decimal count ∷ codes "to" ∷ dests_text to ∷ []
+words (closed s port) = decimal s ∷ codes "shut" ∷ decimal port ∷ []
+words (finished s port bufs found astray count) =
+    decimal s ∷ codes "finish" ∷ decimal port ∷ numbers_text bufs ∷ codes "found" ∷ decimal found ∷ codes "astray" ∷ decimal astray ∷ codes "=" ∷ codes "unread" ∷ decimal count ∷ []
+words (departed s) = decimal s ∷ codes "leave" ∷ []
 
 abbrev IsSaidRefusal : Option OpenFault → Type 0
 IsSaidRefusal None = Unit {0}
@@ -71,8 +81,11 @@ IsPlain (entered user) = FitsU64 user
 IsPlain (opened s name tx rx extra refusal) = FitsU64 s × IsWord name × FitsU64 tx × FitsU64 rx × FitsU64 extra × IsSaidRefusal refusal
 IsPlain (sent s port frames short lone to) = FitsU64 s × FitsU64 port × FitsU64 short × FitsU64 lone × Each FitsDest to
 IsPlain (granted s origin to given full gone) = FitsU64 s × FitsU64 origin × FitsU64 to × FitsU64 given × FitsU64 full × FitsU64 gone
-IsPlain (finished s lease) = FitsU64 s × FitsU64 lease
+IsPlain (completed s lease) = FitsU64 s × FitsU64 lease
 IsPlain (synced s port back count to) = FitsU64 s × FitsU64 port × Each FitsU64 back × FitsU64 count × Each FitsDest to
+IsPlain (closed s port) = FitsU64 s × FitsU64 port
+IsPlain (finished s port bufs found astray count) = FitsU64 s × FitsU64 port × Each FitsU64 bufs × FitsU64 found × FitsU64 astray × FitsU64 count
+IsPlain (departed s) = FitsU64 s
 
 -- Each line is its words.
 
@@ -88,8 +101,11 @@ line-spelled n (opened s name tx rx extra (Some (RecordFull what used want))) a 
 line-spelled n (opened s name tx rx extra (Some NoMemory)) a = simp append_assoc
 line-spelled n (sent s port frames short lone to) a = simp append_assoc
 line-spelled n (granted s origin to given full gone) a = simp append_assoc
-line-spelled n (finished s lease) a = simp append_assoc
+line-spelled n (completed s lease) a = simp append_assoc
 line-spelled n (synced s port back count to) a = simp append_assoc
+line-spelled n (closed s port) a = simp append_assoc
+line-spelled n (finished s port bufs found astray count) a = simp append_assoc
+line-spelled n (departed s) a = simp append_assoc
 
 refusal-are-words : (refusal : Option OpenFault) → Each IsWord (refusal_words refusal)
 refusal-are-words None = (literal (codes "ok") refl, tt)
@@ -114,6 +130,11 @@ shared-are-words given full gone =
 gave-are-words : (count : ℕ) (to : List Dest) → Each FitsDest to → Each IsWord (codes "gave" ∷ decimal count ∷ codes "to" ∷ dests_text to ∷ [])
 gave-are-words count to fits = (literal (codes "gave") refl, (decimal-word count, (literal (codes "to") refl, (dests-word to fits, tt))))
 
+found-are-words : (found astray count : ℕ)
+    → Each IsWord (codes "found" ∷ decimal found ∷ codes "astray" ∷ decimal astray ∷ codes "=" ∷ codes "unread" ∷ decimal count ∷ [])
+found-are-words found astray count =
+    (literal (codes "found") refl, (decimal-word found, (literal (codes "astray") refl, (decimal-word astray, (literal (codes "=") refl, (literal (codes "unread") refl, (decimal-word count, tt)))))))
+
 pub are-words : (x : Said) → IsPlain x → Each IsWord (words x)
 are-words (entered user) plain = (literal (codes "enter") refl, (decimal-word user, tt))
 are-words (opened s name tx rx extra refusal) plain =
@@ -124,10 +145,15 @@ are-words (sent s port frames short lone to) plain =
 are-words (granted s origin to given full gone) plain =
     let reply = shared-are-words given full gone in
     (decimal-word s, (literal (codes "grant") refl, (decimal-word origin, (decimal-word to, (literal (codes "=") refl, reply)))))
-are-words (finished s lease) plain = (decimal-word s, (literal (codes "done") refl, (decimal-word lease, tt)))
+are-words (completed s lease) plain = (decimal-word s, (literal (codes "done") refl, (decimal-word lease, tt)))
 are-words (synced s port back count to) plain =
     let reply = gave-are-words count to plain.4 in
     (decimal-word s, (literal (codes "sync") refl, (decimal-word port, (numbers-word back plain.2, (literal (codes "=") refl, reply)))))
+are-words (closed s port) plain = (decimal-word s, (literal (codes "shut") refl, (decimal-word port, tt)))
+are-words (finished s port bufs found astray count) plain =
+    let rest = found-are-words found astray count in
+    (decimal-word s, (literal (codes "finish") refl, (decimal-word port, (numbers-word bufs plain.2, rest))))
+are-words (departed s) plain = (decimal-word s, (literal (codes "leave") refl, tt))
 
 -- The words tell what was said.
 
@@ -166,8 +192,11 @@ said_session (entered user) = 0
 said_session (opened s name tx rx extra refusal) = s
 said_session (sent s port frames short lone to) = s
 said_session (granted s origin to given full gone) = s
-said_session (finished s lease) = s
+said_session (completed s lease) = s
 said_session (synced s port back count to) = s
+said_session (closed s port) = s
+said_session (finished s port bufs found astray count) = s
+said_session (departed s) = s
 
 pub words-same : (x y : Said) → IsPlain x → IsPlain y → words x ≡ words y → x ≡ y
 words-same (entered u) (entered v) px py e = let same = decimal-same u v px py (ap (word_at 1) e) in ap entered same
@@ -209,10 +238,10 @@ words-same (granted s origin to given full gone) (granted t source at some over 
     granted-with : {s t origin source to at given some full over gone left : ℕ} → s ≡ t → origin ≡ source → to ≡ at → given ≡ some → full ≡ over → gone ≡ left
         → granted s origin to given full gone ≡ granted t source at some over left
     granted-with e0 e1 e2 e3 e4 e5 = cc
-words-same (finished s lease) (finished t other) px py e =
+words-same (completed s lease) (completed t other) px py e =
     let e0 : s ≡ t = decimal-same s t px.0 py.0 (ap (word_at 0) e) in
     let e1 : lease ≡ other = decimal-same lease other px.1 py.1 (ap (word_at 2) e) in
-    ap (λ (k : ℕ). finished k lease) e0 ∙ ap (finished t) e1
+    ap (λ (k : ℕ). completed k lease) e0 ∙ ap (completed t) e1
 words-same (synced s port back count to) (synced t gate others few dests) px py e =
     let e0 : s ≡ t = decimal-same s t px.0 py.0 (ap (word_at 0) e) in
     let e1 : port ≡ gate = decimal-same port gate px.1 py.1 (ap (word_at 2) e) in
@@ -224,6 +253,23 @@ words-same (synced s port back count to) (synced t gate others few dests) px py 
     synced-with : {s t port gate count few : ℕ} {back others : List ℕ} {to dests : List Dest} → s ≡ t → port ≡ gate → back ≡ others → count ≡ few → to ≡ dests
         → synced s port back count to ≡ synced t gate others few dests
     synced-with e0 e1 e2 e3 e4 = cc
+words-same (closed s port) (closed t gate) px py e =
+    let e0 : s ≡ t = decimal-same s t px.0 py.0 (ap (word_at 0) e) in
+    let e1 : port ≡ gate = decimal-same port gate px.1 py.1 (ap (word_at 2) e) in
+    ap (λ (k : ℕ). closed k port) e0 ∙ ap (closed t) e1
+words-same (finished s port bufs found astray count) (finished t gate others seen lost few) px py e =
+    let e0 : s ≡ t = decimal-same s t px.0 py.0 (ap (word_at 0) e) in
+    let e1 : port ≡ gate = decimal-same port gate px.1 py.1 (ap (word_at 2) e) in
+    let e2 : bufs ≡ others = numbers-same bufs others px.2 py.2 (ap (word_at 3) e) in
+    let e3 : found ≡ seen = decimal-same found seen px.3 py.3 (ap (word_at 5) e) in
+    let e4 : astray ≡ lost = decimal-same astray lost px.4 py.4 (ap (word_at 7) e) in
+    let e5 : count ≡ few = decimal-same count few px.5 py.5 (ap (word_at 10) e) in
+    finished-with e0 e1 e2 e3 e4 e5
+  where
+    finished-with : {s t port gate found seen astray lost count few : ℕ} {bufs others : List ℕ} → s ≡ t → port ≡ gate → bufs ≡ others → found ≡ seen → astray ≡ lost → count ≡ few
+        → finished s port bufs found astray count ≡ finished t gate others seen lost few
+    finished-with e0 e1 e2 e3 e4 e5 = cc
+words-same (departed s) (departed t) px py e = ap departed (decimal-same s t px py (ap (word_at 0) e))
 words-same x y px py e = absurd (omega (arith, ap (mark_at 1) e))
 
 -- What a printable entry says.
@@ -262,9 +308,15 @@ said-by n session (Send port frames) (Offered short lone to) h fs fa fr =
     record { said = sent session.0 port.0 frames short lone to; is = refl; plain = (fs, fa, fr.0, fr.1, fr.2) }
 said-by n session (Grant origin to) (Shared given full gone) h fs fa fr =
     record { said = granted session.0 origin to.0 given full gone; is = refl; plain = (fs, fa.0, fa.1, fr.0, fr.1, fr.2) }
-said-by n session (Done lease) Made h fs fa fr = record { said = finished session.0 lease.0; is = refl; plain = (fs, fa) }
+said-by n session (Done lease) Made h fs fa fr = record { said = completed session.0 lease.0; is = refl; plain = (fs, fa) }
 said-by n session (Sync port back) (Gave count to) h fs fa fr =
     record { said = synced session.0 port.0 back count to; is = refl; plain = (fs, fa.0, fa.1, fr.0, fr.1) }
+said-by n session (Shut port) Made h fs fa fr = record { said = closed session.0 port.0; is = refl; plain = (fs, fa) }
+said-by n session (Finish port bufs chain) (Unread count) h fs fa fr =
+    record { said = finished session.0 port.0 bufs chain.found chain.astray count; is = refl; plain = (fs, fa.0, fa.1, fa.2, fa.3, fr) }
+said-by n session (Leave asked) Made h fs fa fr =
+    let one : asked.0 ≡ session.0 = sym (eqb-true session.0 asked.0 h) in
+    record { said = departed session.0; is = ap (λ (k : ℕ). record { session = session; ask = Leave (record { 0 = k }); reply = Made }) one; plain = fs }
 said-by n session ask reply h fs fa fr = no-truth h
 
 pub says : (n : ℕ) (e : Entry) → IsPrintable n e → FitsEntry e → Says n e

@@ -1,22 +1,26 @@
 -- After every history sessions, ports, lots and offers bear the numbers of the entries that made them.
-use Rattle.std.proofs.Common.{ℕ, ◌+◌, ◌<◌, ◌≤◌, ◌≡◌, Bool, true, false, cond, ◌==◌, List, [], ◌∷◌, ◌++◌, map, length, Option, Some, None, refl, arith, le_refl}
+use Rattle.std.proofs.Common.{ℕ, ◌+◌, ◌<◌, ◌≤◌, ◌≡◌, Bool, true, false, cond, not, ◌==◌, List, [], ◌∷◌, ◌++◌, map, length, Option, Some, None, refl, arith, le_refl}
 use Rattle.std.specs.List.{AllByRecursion as Each}
 use Rattle.std.proofs.lemmas.List.{map-append}
+use Rattle.std.proofs.lemmas.Bool.{eqb-false}
 use Rattle.nm_types.specs.Frames.{Frame}
 use Rattle.nm_types.specs.declared.fault.OpenFault.{OpenFault}
 use Rattle.vale_entry.specs.declared.entry.Ask.{Ask}
-use Rattle.vale_entry.specs.declared.entry.Ask.TheVariants.{Enter, Open, Send, Grant, Done, Sync}
+use Rattle.vale_entry.specs.declared.entry.Ask.TheVariants.{Enter, Open, Send, Grant, Done, Sync, Shut, Finish, Leave}
 use Rattle.vale_entry.specs.declared.entry.Entry.{Entry}
 use Rattle.vale_entry.specs.World.{World, Port, Lot, Offer, is_session, open_port, is_open_at}
 use Rattle.vale_entry.specs.Opening.{open_refusal, opened_port}
 use Rattle.vale_entry.specs.Offers.{offers_of}
 use Rattle.vale_entry.specs.Grant.{first_offer, with_lot, port_after_grant, granted_frames}
 use Rattle.vale_entry.specs.Delivery.{lease_at, port_after_done, lot_after_done, done_if, port_after_sync, ready_lots}
-use Rattle.vale_entry.specs.Legal.{Standing, Outcome, step, recorded_step, after, standing_after, world_of, fresh_standing, enter_step, open_step_by, send_step_at, send_step, can_send, grant_step_at, grant_step, done_step_at, sync_step_at, sync_step, can_sync}
+use Rattle.vale_entry.specs.Closing.{shut, shutting_port, sessions_without}
+use Rattle.vale_entry.specs.Legal.{Standing, Outcome, step, recorded_step, after, standing_after, world_of, fresh_standing, enter_step, open_step_by, send_step_at, send_step, can_send, grant_step_at, grant_step, done_step_at, sync_step_at, sync_step, can_sync, shut_step, finish_step, leave_step}
 use Rattle.vale_entry.specs.Laws.{id_of_port, IsThere, HasLotsUpTo, AreNumbered, IsNumbered, IsPortOf, IsOfferOf, IsFrom, IsGrantedBy}
 use Rattle.vale_entry.proofs.Steps.{recorded-by, standing-by}
 use Rattle.vale_entry.proofs.Rising.{rise-wider, rise-push}
-use Rattle.vale_entry.proofs.Each.{each-weaker, each-append, each-map, each-drop, each-find, map-changed_at, each-changed_at, any-append_left, each-offers_of, each-without_first}
+use Rattle.vale_entry.proofs.Removals.{each-filter, rise-filter, rise-kept, there-filter}
+use Rattle.vale_entry.proofs.Closings.{CanLeave, shut-by, finish-by, leave-by}
+use Rattle.vale_entry.proofs.Each.{each-weaker, each-both, each-append, each-map, each-drop, each-find, map-changed_at, each-changed_at, any-append_left, each-offers_of, each-without_first}
 
 abbrev pub Numbered : Standing → Type 0
 Numbered s = IsNumbered s.world
@@ -182,6 +186,50 @@ numbered_sync s back id (Some port) e n = by_test (can_sync s back port)
           offers_owned = m.offers_owned;
         }
 
+numbered_shut : (s : Standing) (port : Port) → Numbered s → NumberedNext (s.world.entry_count + 1) (Some (shut_step s port))
+numbered_shut s port n =
+    let w = s.world in
+    let m = numbered-later w.entry_count w.sessions w.ports w.offers n in
+    record {
+      sessions_rise = m.sessions_rise;
+      ports_rise = rw (map-changed_at id_of_port port.id shut (λ p. refl) w.ports) m.ports_rise;
+      ports_owned = each-changed_at (IsPortOf w.sessions) (IsPortOf w.sessions) port.id shut (λ p here. here) (λ p here. here) w.ports m.ports_owned;
+      lots_within = each-changed_at (HasLotsUpTo (w.entry_count + 1)) (HasLotsUpTo (w.entry_count + 1)) port.id shut (λ p here. here) (λ p here. here) w.ports m.lots_within;
+      offers_within = m.offers_within;
+      offers_owned = m.offers_owned;
+    }
+
+numbered_finish : (s : Standing) (bufs : List ℕ) (port : Port) → Numbered s → NumberedNext (s.world.entry_count + 1) (Some (finish_step s bufs port))
+numbered_finish s bufs port n =
+    let w = s.world in
+    let m = numbered-later w.entry_count w.sessions w.ports w.offers n in
+    let stays : Port → Bool = λ (p : Port). not (p.id == port.id) in
+    record {
+      sessions_rise = m.sessions_rise;
+      ports_rise = rise-filter id_of_port stays 0 w.ports (w.entry_count + 1) m.ports_rise;
+      ports_owned = each-filter (IsPortOf w.sessions) stays w.ports m.ports_owned;
+      lots_within = each-filter (HasLotsUpTo (w.entry_count + 1)) stays w.ports m.lots_within;
+      offers_within = m.offers_within;
+      offers_owned = m.offers_owned;
+    }
+
+numbered_leave : (s : Standing) (session : ℕ) → CanLeave s.world session → Numbered s
+    → NumberedNext (s.world.entry_count + 1) (Some (leave_step s session))
+numbered_leave s session can n =
+    let w = s.world in
+    let m = numbered-later w.entry_count w.sessions w.ports w.offers n in
+    let left = sessions_without session w.sessions in
+    record {
+      sessions_rise = rise-kept (λ (k : ℕ). not (k == session)) 0 w.sessions (w.entry_count + 1) m.sessions_rise;
+      ports_rise = m.ports_rise;
+      ports_owned = each-both (λ (port : Port). (port.session == session) ≡ false) (IsPortOf w.sessions) (IsPortOf left)
+          (λ port other owned. there-filter w.sessions port.session session (eqb-false port.session session other) owned) w.ports can.no_port m.ports_owned;
+      lots_within = m.lots_within;
+      offers_within = m.offers_within;
+      offers_owned = each-both (λ (offer : Offer). (offer.session == session) ≡ false) (IsOfferOf w.sessions) (IsOfferOf left)
+          (λ offer other owned. there-filter w.sessions offer.session session (eqb-false offer.session session other) owned) w.offers can.no_offer m.offers_owned;
+    }
+
 numbered_step : (s : Standing) (ask : Ask) → Numbered s → NumberedNext (s.world.entry_count + 1) (step s ask)
 numbered_step s (Enter user) n = numbered_enter s n
 numbered_step s (Open session name tx rx extra) n =
@@ -190,6 +238,12 @@ numbered_step s (Send port frames) n = numbered_send s frames port.0 (open_port 
 numbered_step s (Grant origin to) n = numbered_grant s origin to.0 (first_offer s.world origin) n
 numbered_step s (Done lease) n = numbered_done s lease.0 (lease_at s.world.ports lease.0) n
 numbered_step s (Sync port back) n = numbered_sync s back port.0 (open_port s.world.ports port.0) refl n
+numbered_step s (Shut port) n =
+    shut-by (NumberedNext (s.world.entry_count + 1)) s (open_port s.world.ports port.0) tt (λ at e. numbered_shut s at n)
+numbered_step s (Finish port bufs chain) n =
+    finish-by (NumberedNext (s.world.entry_count + 1)) s bufs (shutting_port s.world.ports port.0) tt (λ at e can out. numbered_finish s bufs at n)
+numbered_step s (Leave session) n =
+    leave-by (NumberedNext (s.world.entry_count + 1)) s session.0 tt (λ can. numbered_leave s session.0 can n)
 numbered_step s _ n = tt
 
 numbered_after : (s : Standing) (e : Entry) (made : Option Outcome) → Numbered s → NumberedNext (s.world.entry_count + 1) made

@@ -1,22 +1,24 @@
 -- A session has at most one entry that is not settled: all its offers that are not granted are of one.
-use Rattle.std.proofs.Common.{ℕ, ◌+◌, ◌≡◌, Bool, true, false, cond, not, ◌&&◌, ◌||◌, ◌==◌, ◌⊎◌, inl, inr, List, [], ◌∷◌, ◌++◌, Option, Some, None, refl, sym, ◌∙◌}
-use Rattle.std.specs.List.{AllByRecursion as Each, list_any}
-use Rattle.std.proofs.lemmas.Bool.{and_parts, or_parts, not-true, eqb-false, cases_eq}
+use Rattle.std.proofs.Common.{ℕ, ◌+◌, ◌≡◌, Bool, true, false, cond, ◌&&◌, ◌||◌, ◌==◌, ◌⊎◌, inl, inr, List, ◌++◌, Option, Some, None, refl, sym, ◌∙◌}
+use Rattle.std.specs.List.{AllByRecursion as Each}
+use Rattle.std.proofs.lemmas.Bool.{and_parts, eqb-false, cases_eq}
 use Rattle.nm_types.specs.Frames.{Frame}
 use Rattle.nm_types.specs.Names.{is_switch_port_name, is_monitor_name}
 use Rattle.nm_types.specs.Sendable.{is_sendable}
 use Rattle.vale_entry.specs.declared.entry.Ask.{Ask}
-use Rattle.vale_entry.specs.declared.entry.Ask.TheVariants.{Enter, Open, Send, Grant, Done, Sync}
+use Rattle.vale_entry.specs.declared.entry.Ask.TheVariants.{Enter, Open, Send, Grant, Done, Sync, Shut, Finish, Leave}
 use Rattle.vale_entry.specs.declared.entry.Entry.{Entry}
 use Rattle.nm_types.specs.declared.fault.OpenFault.{OpenFault}
-use Rattle.vale_entry.specs.World.{World, Port, Lot, Offer, is_session, is_settled, has_lot_owed_by, open_port}
+use Rattle.vale_entry.specs.World.{World, Port, Lot, Offer, is_session, is_settled, open_port}
 use Rattle.vale_entry.specs.Opening.{open_refusal}
 use Rattle.vale_entry.specs.Offers.{offers_of}
 use Rattle.vale_entry.specs.Grant.{first_offer}
 use Rattle.vale_entry.specs.Delivery.{lease_at}
+use Rattle.vale_entry.specs.Closing.{shutting_port}
 use Rattle.vale_entry.specs.Legal.{Standing, Outcome, step, recorded_step, after, standing_after, open_step_by, send_step_at, send_step, can_send, grant_step_at, grant_step, done_step_at, sync_step_at, sync_step, can_sync}
 use Rattle.vale_entry.specs.Laws.{OffersAreOfOneEntry}
 use Rattle.vale_entry.proofs.Steps.{recorded-by}
+use Rattle.vale_entry.proofs.Closings.{settled-none, shut-by, finish-by, leave-by}
 use Rattle.vale_entry.proofs.Each.{each-append, each-weaker, each-offers_of, each-without_first}
 
 abbrev pub OneEntry : Standing → Type 0
@@ -25,19 +27,6 @@ OneEntry s = OffersAreOfOneEntry s.world.offers
 abbrev OneEntryNext : Option Outcome → Type 0
 OneEntryNext None = Unit {0}
 OneEntryNext (Some made) = OneEntry made.next
-
-each-none : {X : Type 0} (test : X → Bool) (xs : List X) → list_any test xs ≡ false → Each (λ x. test x ≡ false) xs
-each-none test [] e = tt
-each-none test (x ∷ xs) e =
-    let parts = or_parts (test x) (list_any test xs) e in
-    (parts.0, each-none test xs parts.1)
-
--- a settled session has no offer left
-settled-none : (w : World) (session : ℕ) → is_settled w session ≡ true → Each (λ (offer : Offer). (offer.session == session) ≡ false) w.offers
-settled-none w session e =
-    let parts =
-    and_parts (not (list_any (λ (offer : Offer). offer.session == session) w.offers)) (not (list_any (has_lot_owed_by session) w.ports)) e in
-    each-none (λ (offer : Offer). offer.session == session) w.offers (not-true (list_any (λ (offer : Offer). offer.session == session) w.offers) parts.0)
 
 -- the offers of a new entry, where its session has none
 one-more : (w : World) (origin owner : ℕ) (wanted : Port → List Frame) → is_settled w owner ≡ true → OffersAreOfOneEntry w.offers
@@ -108,6 +97,9 @@ one_step s (Send port frames) one = one_send s frames (open_port s.world.ports p
 one_step s (Grant origin to) one = one_grant s to.0 (first_offer s.world origin) one
 one_step s (Done lease) one = one_done s lease.0 (lease_at s.world.ports lease.0) one
 one_step s (Sync port back) one = one_sync s back (open_port s.world.ports port.0) one
+one_step s (Shut port) one = shut-by OneEntryNext s (open_port s.world.ports port.0) tt (λ at e. one)
+one_step s (Finish port bufs chain) one = finish-by OneEntryNext s bufs (shutting_port s.world.ports port.0) tt (λ at e can out. one)
+one_step s (Leave session) one = leave-by OneEntryNext s session.0 tt (λ can. one)
 one_step s _ one = tt
 
 one_after : (s : Standing) (e : Entry) (made : Option Outcome) → OneEntry s → OneEntryNext made → OneEntry (standing_after s e made)

@@ -1,14 +1,17 @@
 -- A port's id is found at one place, so a change at the id is a change at the place; and likewise for
 -- the buffers of ports and of sessions.
 use Rattle.std.proofs.Common.{ℕ, zero, suc, ◌≡◌, true, false, cond, ◌==◌, List, [], ◌∷◌, map, take, flat_map, Some, refl, ◌∙◌, ap, subst, arith, not, slice_get, slice_set}
-use Rattle.std.proofs.lemmas.Bool.{eq-eqb, ne_eqb, eqb-true, and_parts}
+use Rattle.std.specs.List.{remove}
+use Rattle.std.proofs.lemmas.Bool.{eq-eqb, ne_eqb, eqb-true, and_parts, not-true}
 use Rattle.vale_entry.specs.declared.entry.Entry.{Entry}
 use Rattle.vale_entry.specs.World.{Port, open_port, is_open_at, changed_if, changed_at}
-use Rattle.vale_entry.specs.Holdings.{PortBuffers, SessionBuffers, changed_buffers, session_given, sessions_given, session_less, sessions_less, buffers_of_session, delivered_buffers}
+use Rattle.vale_entry.specs.Closing.{is_shutting_at, shutting_port, ports_without, sessions_without}
+use Rattle.vale_entry.specs.Holdings.{PortBuffers, SessionBuffers, changed_buffers, session_given, sessions_given, session_less, sessions_less, buffers_of_session, delivered_buffers, buffers_of_port, buffers_at_port}
 use Rattle.vale_entry.specs.Legal.{world_of}
 use Rattle.vale_entry.specs.Laws.{Rise, id_of_port, id_of_held, id_of_session}
 use Rattle.vale_entry.proofs.ListLaws.{place-of}
 use Rattle.vale_entry.proofs.Rising.{map-at_key, find-at_key, rise-slice_get}
+use Rattle.vale_entry.proofs.Removals.{filter-at_key, filter-at_number}
 use Rattle.vale_entry.proofs.Numbered.{world-numbered}
 
 pub changed_at-place : (change : Port → Port) (ports : List Port) (high i : ℕ) (port : Port)
@@ -24,21 +27,51 @@ pub record OpenPlace (ports : List Port) (id : ℕ) (port : Port) : Type 0 where
   pub place : ℕ
   pub here : slice_get ports place ≡ Some port
   pub id_is : port.id ≡ id
+  pub stands_open : port.shutting ≡ false
   pub changes : (change : Port → Port) → changed_at id change ports ≡ slice_set ports place (change port)
 
 pub open-place : (ports : List Port) (high id : ℕ) (port : Port) → Rise 0 (map id_of_port ports) high → open_port ports id ≡ Some port
     → OpenPlace ports id port
 open-place ports high id port r e =
     let found = place-of (is_open_at id) ports port e in
-    let same : port.id ≡ id = eqb-true port.id id (and_parts (port.id == id) (not port.shutting) found.passes).0 in
+    let tests = and_parts (port.id == id) (not port.shutting) found.passes in
+    let same : port.id ≡ id = eqb-true port.id id tests.0 in
     record {
       place = found.place;
       here = found.here;
       id_is = same;
+      stands_open = not-true port.shutting tests.1;
       changes = λ change. subst (λ (k : ℕ). changed_at k change ports ≡ slice_set ports found.place (change port)) same (changed_at-place change ports high found.place port r found.here);
     }
 
--- the form for a caller that has the history
+-- a shutting port that a search finds: where it stands, and what is left without it
+pub record ShuttingPlace (ports : List Port) (id : ℕ) (port : Port) : Type 0 where
+  pub place : ℕ
+  pub here : slice_get ports place ≡ Some port
+  pub id_is : port.id ≡ id
+  pub shuts : port.shutting ≡ true
+  pub goes : ports_without port.id ports ≡ remove ports place
+
+pub shutting-place : (ports : List Port) (high id : ℕ) (port : Port) → Rise 0 (map id_of_port ports) high → shutting_port ports id ≡ Some port
+    → ShuttingPlace ports id port
+shutting-place ports high id port r e =
+    let found = place-of (is_shutting_at id) ports port e in
+    let tests = and_parts (port.id == id) port.shutting found.passes in
+    record {
+      place = found.place;
+      here = found.here;
+      id_is = eqb-true port.id id tests.0;
+      shuts = tests.1;
+      goes = filter-at_key id_of_port 0 ports high found.place port r found.here;
+    }
+
+pub shutting_port-place : (ports : List Port) (high i : ℕ) (port : Port)
+    → Rise 0 (map id_of_port ports) high → slice_get ports i ≡ Some port → port.shutting ≡ true → shutting_port ports port.id ≡ Some port
+shutting_port-place ports high i port r e shuts =
+    find-at_key id_of_port (is_shutting_at port.id) 0 ports high i port r e
+    (rw (eq-eqb port.id port.id refl, shuts) refl) (λ p other. rw other refl)
+
+-- the forms for a caller that has the history
 pub changed_at-world : (pool : ℕ) (h : List Entry) (change : Port → Port) (i : ℕ) (port : Port) → slice_get (world_of pool h).ports i ≡ Some port
     → changed_at port.id change (world_of pool h).ports ≡ slice_set (world_of pool h).ports i (change port)
 changed_at-world pool h change i port e =
@@ -54,6 +87,22 @@ pub open_port-world : (pool : ℕ) (h : List Entry) (i : ℕ) (port : Port) → 
     → open_port (world_of pool h).ports port.id ≡ Some port
 open_port-world pool h i port e open' =
     open_port-place (world_of pool h).ports (world_of pool h).entry_count i port (world-numbered pool h).ports_rise e open'
+
+pub shutting_port-world : (pool : ℕ) (h : List Entry) (i : ℕ) (port : Port) → slice_get (world_of pool h).ports i ≡ Some port → port.shutting ≡ true
+    → shutting_port (world_of pool h).ports port.id ≡ Some port
+shutting_port-world pool h i port e shuts =
+    shutting_port-place (world_of pool h).ports (world_of pool h).entry_count i port (world-numbered pool h).ports_rise e shuts
+
+-- the ports left without one, and the sessions
+pub ports_without-world : (pool : ℕ) (h : List Entry) (i : ℕ) (port : Port) → slice_get (world_of pool h).ports i ≡ Some port
+    → ports_without port.id (world_of pool h).ports ≡ remove (world_of pool h).ports i
+ports_without-world pool h i port e =
+    filter-at_key id_of_port 0 (world_of pool h).ports (world_of pool h).entry_count i port (world-numbered pool h).ports_rise e
+
+pub sessions_without-world : (pool : ℕ) (h : List Entry) (i session : ℕ) → slice_get (world_of pool h).sessions i ≡ Some session
+    → sessions_without session (world_of pool h).sessions ≡ remove (world_of pool h).sessions i
+sessions_without-world pool h i session e =
+    filter-at_number (world_of pool h).sessions (world_of pool h).entry_count i session (world-numbered pool h).sessions_rise e
 
 pub changed_buffers-place : (change : PortBuffers → PortBuffers) (helds : List PortBuffers) (high i : ℕ) (held : PortBuffers)
     → Rise 0 (map id_of_held helds) high → slice_get helds i ≡ Some held → changed_buffers held.port change helds ≡ slice_set helds i (change held)
@@ -90,6 +139,22 @@ buffers_of_session-from low (x ∷ xs) high (suc i) held r e =
 pub buffers_of_session-place : (helds : List SessionBuffers) (high i : ℕ) (held : SessionBuffers)
     → Rise 0 (map id_of_session helds) high → slice_get helds i ≡ Some held → buffers_of_session helds held.session ≡ held.buffers
 buffers_of_session-place helds high i held r e = buffers_of_session-from 0 helds high i held r e
+
+buffers_of_port-from : (low : ℕ) (helds : List PortBuffers) (high i : ℕ) (held : PortBuffers)
+    → Rise low (map id_of_held helds) high → slice_get helds i ≡ Some held → buffers_of_port held.port helds ≡ buffers_at_port held
+buffers_of_port-from low [] high i held r e = absurd cc
+buffers_of_port-from low (x ∷ xs) high zero held r e =
+    let same : x ≡ held = cc in
+    let hit : (x.port == held.port) ≡ true = eq-eqb x.port held.port (ap id_of_held same) in
+    rw hit (ap buffers_at_port same)
+buffers_of_port-from low (x ∷ xs) high (suc i) held r e =
+    let above = rise-slice_get id_of_held x.port xs high i held r.1 e in
+    let miss : (x.port == held.port) ≡ false = ne_eqb x.port held.port (λ k. omega arith) in
+    rw miss (buffers_of_port-from x.port xs high i held r.1 e)
+
+pub buffers_of_port-place : (helds : List PortBuffers) (high i : ℕ) (held : PortBuffers)
+    → Rise 0 (map id_of_held helds) high → slice_get helds i ≡ Some held → buffers_of_port held.port helds ≡ buffers_at_port held
+buffers_of_port-place helds high i held r e = buffers_of_port-from 0 helds high i held r e
 
 delivered_buffers-from : (lots low : ℕ) (helds : List PortBuffers) (high i : ℕ) (held : PortBuffers)
     → Rise low (map id_of_held helds) high → slice_get helds i ≡ Some held

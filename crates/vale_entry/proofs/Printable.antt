@@ -12,7 +12,7 @@ use Rattle.nm_types.specs.declared.id.SessionId.{SessionId}
 use Rattle.nm_types.specs.declared.id.PortId.{PortId}
 use Rattle.nm_types.specs.declared.id.LeaseId.{LeaseId}
 use Rattle.vale_entry.specs.declared.entry.Ask.{Ask}
-use Rattle.vale_entry.specs.declared.entry.Ask.TheVariants.{Enter, Open, Send, Grant, Done, Sync}
+use Rattle.vale_entry.specs.declared.entry.Ask.TheVariants.{Enter, Open, Send, Grant, Done, Sync, Shut, Finish, Leave}
 use Rattle.vale_entry.specs.declared.entry.Reply.{Reply}
 use Rattle.vale_entry.specs.declared.entry.Dest.{Dest}
 use Rattle.vale_entry.specs.declared.entry.Entry.{Entry}
@@ -21,11 +21,13 @@ use Rattle.vale_entry.specs.Offers.{offers_of, offer_to, dests_of, wanted_frames
 use Rattle.vale_entry.specs.Opening.{are_sizes, finds_switches_full, finds_ports_full, has_name, name_refusal, refusal_or_room, open_refusal}
 use Rattle.vale_entry.specs.Grant.{first_offer, grant_reply_at}
 use Rattle.vale_entry.specs.Delivery.{lease_at, delivered_frames}
+use Rattle.vale_entry.specs.Closing.{shutting_port}
 use Rattle.vale_entry.specs.Legal.{Standing, Outcome, step, recorded_step, after, fresh_standing, session_and_reply, open_step_by, send_step_at, send_step, can_send, grant_step_at, grant_step, done_step_at, sync_step_at, sync_step, can_sync, named_of, offers_of_send, offers_of_sync, IsLegalFrom, Follows}
 use Rattle.vale_entry.specs.Transcript.{dests_rise, is_refusal, is_printable, IsPrintable}
 use Rattle.vale_entry.specs.Laws.{Rise, id_of_port, ArePrintable, IsNamedAsk, IsNamedEntry, LegalHistoriesArePrintable}
 use Rattle.vale_entry.proofs.Rising.{rise-wider}
 use Rattle.vale_entry.proofs.Steps.{recorded-by}
+use Rattle.vale_entry.proofs.Closings.{shut-by, finish-by, leave-by}
 use Rattle.vale_entry.proofs.Worlds.{count-standing_after}
 use Rattle.vale_entry.proofs.Numbered.{Numbered, numbered_entry, world-numbered}
 
@@ -137,6 +139,10 @@ printed-step s n (Send port frames) is numbered named = printed-send s n port fr
 printed-step s n (Grant origin to) is numbered named = printed-grant s n origin to (first_offer s.world origin)
 printed-step s n (Done lease) is numbered named = printed-done s n lease (lease_at s.world.ports lease.0)
 printed-step s n (Sync port back) is numbered named = printed-sync s n port back (open_port s.world.ports port.0) numbered
+printed-step s n (Shut port) is numbered named = shut-by (Printed n (Shut port)) s (open_port s.world.ports port.0) tt (λ at e. refl)
+printed-step s n (Finish port bufs chain) is numbered named =
+    finish-by (Printed n (Finish port bufs chain)) s bufs (shutting_port s.world.ports port.0) tt (λ at e can out. refl)
+printed-step s n (Leave session) is numbered named = leave-by (Printed n (Leave session)) s session.0 tt (λ can. eq-eqb session.0 session.0 refl)
 printed-step s n _ is numbered named = tt
 
 printed-made : (n : ℕ) (ask : Ask) (session : ℕ) (reply : Reply) (found : Option Outcome) → Printed n ask found → option_map session_and_reply found ≡ Some (session, reply)

@@ -7,22 +7,25 @@ use Rattle.std.proofs.lemmas.Bool.{eqb-true, ne_eqb}
 use Rattle.nm_types.specs.Frames.{Frame}
 use Rattle.nm_types.specs.declared.fault.OpenFault.{OpenFault}
 use Rattle.vale_entry.specs.declared.entry.Ask.{Ask}
-use Rattle.vale_entry.specs.declared.entry.Ask.TheVariants.{Enter, Open, Send, Grant, Done, Sync}
+use Rattle.vale_entry.specs.declared.entry.Ask.TheVariants.{Enter, Open, Send, Grant, Done, Sync, Shut, Finish, Leave}
 use Rattle.vale_entry.specs.declared.entry.Reply.{Reply}
 use Rattle.vale_entry.specs.declared.entry.Entry.{Entry}
-use Rattle.vale_entry.specs.World.{World, Port, Lot, Offer, is_session, open_port, changed_at, space_of}
+use Rattle.vale_entry.specs.World.{World, Port, Lot, Offer, is_session, open_port, changed_at, space_of, is_undone}
 use Rattle.vale_entry.specs.Opening.{open_refusal, opened_port}
 use Rattle.vale_entry.specs.Offers.{dest_of, is_offer_of}
 use Rattle.vale_entry.specs.Grant.{first_offer, without_first, longest_fitting, given_at, granted_frames, grant_reply_at, with_lot, port_after_grant}
 use Rattle.vale_entry.specs.Delivery.{lease_at, line_of, is_lease, is_done_lot, ready_lots, done_if, lot_after_done, port_after_done, port_after_sync}
-use Rattle.vale_entry.specs.Room.{room_of_reply, owed_by_port, is_undone, undone_of, promised_of, room_wanted}
-use Rattle.vale_entry.specs.Legal.{Standing, Outcome, step, recorded_step, after, standing_after, enter_step, open_step_by, send_step_at, send_step, can_send, offers_of_send, grant_step_at, grant_step, done_step_at, sync_step_at, sync_step, can_sync, offers_of_sync, Follows, session_and_reply}
+use Rattle.vale_entry.specs.Closing.{shut, shutting_port, leases_out}
+use Rattle.vale_entry.specs.Room.{room_of_reply, owed_by_port, undone_of, promised_of, room_wanted}
+use Rattle.vale_entry.specs.Legal.{Standing, Outcome, step, recorded_step, after, standing_after, enter_step, open_step_by, send_step_at, send_step, can_send, offers_of_send, grant_step_at, grant_step, done_step_at, sync_step_at, sync_step, can_sync, offers_of_sync, shut_step, finish_step, leave_step, Follows, session_and_reply}
 use Rattle.vale_entry.specs.Laws.{Rise, id_of_port, bears_number, AreSingle, room_back, IsPromised}
 use Rattle.vale_entry.proofs.Steps.{recorded-by}
 use Rattle.vale_entry.proofs.ListLaws.{place-of, sum-set, sum-map_same, sum-flat_map, front-rest}
 use Rattle.vale_entry.proofs.Counting.{sum-add}
 use Rattle.vale_entry.proofs.Each.{sum-changed_at, changed_at-same}
-use Rattle.vale_entry.proofs.Places.{open-place}
+use Rattle.vale_entry.proofs.Removals.{sum-remove, length-remove_at, number-place, filter-at_number}
+use Rattle.vale_entry.proofs.Closings.{CanLeave, shut-by, finish-by, leave-by}
+use Rattle.vale_entry.proofs.Places.{open-place, changed_at-place, shutting-place}
 use Rattle.vale_entry.proofs.Numbered.{Numbered}
 use Rattle.vale_entry.proofs.SingleLots.{Single}
 
@@ -212,6 +215,38 @@ promised_sync s back (Some port) = by_test (can_sync s back port)
         let owed = sum-changed_at owed_by_port port.id (port_after_sync (length back)) (λ p. refl) s.world.ports in
         omega arith
 
+-- Shut, Finish and Leave were promised
+promised_shut : (s : Standing) (id : ℕ) (port : Port) → open_port s.world.ports id ≡ Some port → Numbered s
+    → PromisedNext s.world (λ reply. 0) (Some (shut_step s port))
+promised_shut s id port e n =
+    let w = s.world in
+    let p = open-place w.ports w.entry_count id port n.ports_rise e in
+    let owed = sum-set owed_by_port w.ports p.place port (shut port) p.here in
+    let same = ap (sum_by owed_by_port) (changed_at-place shut w.ports w.entry_count p.place port n.ports_rise p.here) in
+    let before : owed_by_port port ≡ 2 = rw p.stands_open refl in
+    let undone = sum-changed_at undone_of port.id shut (λ q. refl) w.ports in
+    omega arith
+
+promised_finish : (s : Standing) (bufs : List ℕ) (id : ℕ) (port : Port) → shutting_port s.world.ports id ≡ Some port → leases_out port ≡ 0 → Numbered s
+    → PromisedNext s.world (λ reply. 0) (Some (finish_step s bufs port))
+promised_finish s bufs id port e out n =
+    let w = s.world in
+    let p = shutting-place w.ports w.entry_count id port n.ports_rise e in
+    let owed = sum-remove owed_by_port w.ports p.place port p.here in
+    let undone = sum-remove undone_of w.ports p.place port p.here in
+    let owed_same = ap (sum_by owed_by_port) p.goes in
+    let undone_same = ap (sum_by undone_of) p.goes in
+    let before : owed_by_port port ≡ 1 = rw p.shuts refl in
+    omega arith
+
+promised_leave : (s : Standing) (session : ℕ) → CanLeave s.world session → Numbered s → PromisedNext s.world (λ reply. 0) (Some (leave_step s session))
+promised_leave s session can n =
+    let w = s.world in
+    let p = number-place w.sessions session can.found in
+    let fewer = length-remove_at w.sessions p.place session p.here in
+    let same = ap (λ (ks : List ℕ). length ks) (filter-at_number w.sessions w.entry_count p.place session n.sessions_rise p.here) in
+    omega arith
+
 promised_step : (s : Standing) (ask : Ask) → Numbered s → Single s → PromisedNext s.world (room_wanted ask) (step s ask)
 promised_step s (Enter user) n single = promised_enter s
 promised_step s (Open session name tx rx extra) n single =
@@ -220,6 +255,11 @@ promised_step s (Send port frames) n single = promised_send s frames (open_port 
 promised_step s (Grant origin to) n single = promised_grant s origin to.0 (first_offer s.world origin) refl n
 promised_step s (Done lease) n single = promised_done s lease.0 (lease_at s.world.ports lease.0) refl single
 promised_step s (Sync port back) n single = promised_sync s back (open_port s.world.ports port.0)
+promised_step s (Shut port) n single =
+    shut-by (PromisedNext s.world (λ reply. 0)) s (open_port s.world.ports port.0) tt (λ at e. promised_shut s port.0 at e n)
+promised_step s (Finish port bufs chain) n single =
+    finish-by (PromisedNext s.world (λ reply. 0)) s bufs (shutting_port s.world.ports port.0) tt (λ at e can out. promised_finish s bufs port.0 at e out n)
+promised_step s (Leave session) n single = leave-by (PromisedNext s.world (λ reply. 0)) s session.0 tt (λ can. promised_leave s session.0 can n)
 promised_step s _ n single = tt
 
 promised_after : (s : Standing) (e : Entry) (made : Option Outcome) → option_map session_and_reply made ≡ Some (e.session.0, e.reply)

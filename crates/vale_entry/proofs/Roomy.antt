@@ -8,17 +8,20 @@ use Rattle.nm_types.specs.Frames.{Frame, slots_of, size_of_frames}
 use Rattle.nm_types.specs.declared.fault.OpenFault.{OpenFault}
 use Rattle.nm_types.specs.declared.fault.OpenFault.TheVariants.{BadSize, NoBuffers}
 use Rattle.vale_entry.specs.declared.entry.Ask.{Ask}
-use Rattle.vale_entry.specs.declared.entry.Ask.TheVariants.{Enter, Open, Send, Grant, Done, Sync}
+use Rattle.vale_entry.specs.declared.entry.Ask.TheVariants.{Enter, Open, Send, Grant, Done, Sync, Shut, Finish, Leave}
 use Rattle.vale_entry.specs.declared.entry.Entry.{Entry}
 use Rattle.vale_entry.specs.World.{World, Port, Lot, Offer, is_session, open_port, changed_at, size_of_line, space_of, buffers_of, free_count}
 use Rattle.vale_entry.specs.Opening.{is_ring_size, are_sizes, name_refusal, refusal_or_room, open_refusal, opened_port}
 use Rattle.vale_entry.specs.Grant.{longest_fitting, given_at, first_offer, with_lot, port_after_grant}
 use Rattle.vale_entry.specs.Delivery.{lease_at, is_done_lot, ready_lots, frames_of_lot, delivered_frames, done_if, lot_after_done, port_after_done, port_after_sync}
-use Rattle.vale_entry.specs.Legal.{Standing, Outcome, step, recorded_step, after, standing_after, open_step_by, send_step_at, send_step, can_send, grant_step_at, grant_step, done_step_at, sync_step_at, sync_step, can_sync}
+use Rattle.vale_entry.specs.Closing.{shut, shutting_port}
+use Rattle.vale_entry.specs.Legal.{Standing, Outcome, step, recorded_step, after, standing_after, open_step_by, send_step_at, send_step, can_send, grant_step_at, grant_step, done_step_at, sync_step_at, sync_step, can_sync, shut_step, finish_step}
 use Rattle.vale_entry.specs.Laws.{Rise, id_of_port, IsFilled, HasRoom, AreRoomy, IsRoomy}
 use Rattle.vale_entry.proofs.Steps.{recorded-by}
 use Rattle.vale_entry.proofs.ListLaws.{each-at, each-set, sum-map_same, sum-flat_map, front-rest}
 use Rattle.vale_entry.proofs.Each.{each-changed_at, changed_at-same, sum-changed_at, each-append, each-map, each-drop}
+use Rattle.vale_entry.proofs.Removals.{each-filter, sum-filter_less}
+use Rattle.vale_entry.proofs.Closings.{shut-by, finish-by, leave-by}
 use Rattle.vale_entry.proofs.Places.{open-place}
 use Rattle.vale_entry.proofs.Numbered.{Numbered}
 
@@ -199,6 +202,19 @@ roomy_sync s back (Some port) n = by_test (can_sync s back port)
           within = rw (sum-changed_at buffers_of port.id change (λ p. refl) s.world.ports) n.within;
         }
 
+roomy_shut : (s : Standing) (port : Port) → Roomy s → RoomyNext (Some (shut_step s port))
+roomy_shut s port n = record {
+  roomy = each-changed_at HasRoom HasRoom port.id shut (λ p here. here) (λ p here. record { lots_filled = here.lots_filled; fits = here.fits }) s.world.ports n.roomy;
+  within = rw (sum-changed_at buffers_of port.id shut (λ p. refl) s.world.ports) n.within;
+}
+
+roomy_finish : (s : Standing) (bufs : List ℕ) (port : Port) → Roomy s → RoomyNext (Some (finish_step s bufs port))
+roomy_finish s bufs port n =
+    let stays : Port → Bool = λ (p : Port). not (p.id == port.id) in
+    let less = sum-filter_less buffers_of stays s.world.ports in
+    let before : sum_by buffers_of s.world.ports ≤ s.world.pool = n.within in
+    record { roomy = each-filter HasRoom stays s.world.ports n.roomy; within = omega arith }
+
 roomy_step : (s : Standing) (ask : Ask) → Numbered s → Roomy s → RoomyNext (step s ask)
 roomy_step s (Enter user) numbered n = n
 roomy_step s (Open session name tx rx extra) numbered n =
@@ -207,6 +223,9 @@ roomy_step s (Send port frames) numbered n = roomy_send s frames (open_port s.wo
 roomy_step s (Grant origin to) numbered n = roomy_grant s to.0 (first_offer s.world origin) numbered n
 roomy_step s (Done lease) numbered n = roomy_done s lease.0 (lease_at s.world.ports lease.0) n
 roomy_step s (Sync port back) numbered n = roomy_sync s back (open_port s.world.ports port.0) n
+roomy_step s (Shut port) numbered n = shut-by RoomyNext s (open_port s.world.ports port.0) tt (λ at e. roomy_shut s at n)
+roomy_step s (Finish port bufs chain) numbered n = finish-by RoomyNext s bufs (shutting_port s.world.ports port.0) tt (λ at e can out. roomy_finish s bufs at n)
+roomy_step s (Leave session) numbered n = leave-by RoomyNext s session.0 tt (λ can. n)
 roomy_step s _ numbered n = tt
 
 roomy_after : (s : Standing) (e : Entry) (made : Option Outcome) → Roomy s → RoomyNext made → Roomy (standing_after s e made)

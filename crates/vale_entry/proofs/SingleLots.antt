@@ -1,22 +1,25 @@
 -- No two lots bear one number: an entry grants at most one lot.
-use Rattle.std.proofs.Common.{ℕ, ◌+◌, ◌<◌, ◌≤◌, ◌≡◌, Bool, true, false, cond, ◌==◌, List, [], ◌∷◌, ◌++◌, map, length, sum_by, count_by, Option, Some, None, refl, ◌∙◌, arith, slice_set, subst}
+use Rattle.std.proofs.Common.{ℕ, ◌+◌, ◌<◌, ◌≤◌, ◌≡◌, Bool, true, false, cond, not, ◌==◌, List, [], ◌∷◌, ◌++◌, map, length, sum_by, count_by, Option, Some, None, refl, ◌∙◌, arith, slice_set, subst}
 use Rattle.std.specs.List.{AllByRecursion as Each}
 use Rattle.std.proofs.lemmas.List.Sums.{sum_by-cons, sum_by_push, sum_by-take-drop}
 use Rattle.std.proofs.lemmas.Bool.{eqb-true, ne_eqb}
 use Rattle.nm_types.specs.Frames.{Frame}
 use Rattle.nm_types.specs.declared.fault.OpenFault.{OpenFault}
 use Rattle.vale_entry.specs.declared.entry.Ask.{Ask}
-use Rattle.vale_entry.specs.declared.entry.Ask.TheVariants.{Enter, Open, Send, Grant, Done, Sync}
+use Rattle.vale_entry.specs.declared.entry.Ask.TheVariants.{Enter, Open, Send, Grant, Done, Sync, Shut, Finish, Leave}
 use Rattle.vale_entry.specs.declared.entry.Entry.{Entry}
 use Rattle.vale_entry.specs.World.{Port, Lot, Offer, is_session, open_port, changed_at, space_of, changed_if}
 use Rattle.vale_entry.specs.Opening.{open_refusal, opened_port}
 use Rattle.vale_entry.specs.Grant.{first_offer, with_lot, port_after_grant, given_at, longest_fitting}
 use Rattle.vale_entry.specs.Delivery.{lease_at, ready_lots, done_if, lot_after_done, port_after_done, port_after_sync}
-use Rattle.vale_entry.specs.Legal.{Standing, Outcome, step, recorded_step, after, standing_after, open_step_by, send_step_at, send_step, can_send, grant_step_at, grant_step, done_step_at, sync_step_at, sync_step, can_sync}
+use Rattle.vale_entry.specs.Closing.{shut, shutting_port}
+use Rattle.vale_entry.specs.Legal.{Standing, Outcome, step, recorded_step, after, standing_after, open_step_by, send_step_at, send_step, can_send, grant_step_at, grant_step, done_step_at, sync_step_at, sync_step, can_sync, shut_step, finish_step}
 use Rattle.vale_entry.specs.Laws.{Rise, id_of_port, HasLotsUpTo, bears_number, AreSingle}
 use Rattle.vale_entry.proofs.Steps.{recorded-by}
 use Rattle.vale_entry.proofs.ListLaws.{sum-set, sum-map_same}
-use Rattle.vale_entry.proofs.Each.{changed_at-same}
+use Rattle.vale_entry.proofs.Each.{changed_at-same, sum-changed_at}
+use Rattle.vale_entry.proofs.Removals.{sum-filter_less}
+use Rattle.vale_entry.proofs.Closings.{shut-by, finish-by, leave-by}
 use Rattle.vale_entry.proofs.Places.{open-place}
 use Rattle.vale_entry.proofs.Numbered.{Numbered}
 
@@ -149,6 +152,18 @@ single_sync s back (Some port) single = by_test (can_sync s back port)
         let once = single k in
         omega arith
 
+single_shut : (s : Standing) (port : Port) → Single s → SingleNext (Some (shut_step s port))
+single_shut s port single = λ k.
+    let same = sum-changed_at (lots_of k) port.id shut (λ p. refl) s.world.ports in
+    let once = single k in
+    omega arith
+
+single_finish : (s : Standing) (bufs : List ℕ) (port : Port) → Single s → SingleNext (Some (finish_step s bufs port))
+single_finish s bufs port single = λ k.
+    let less = sum-filter_less (lots_of k) (λ (p : Port). not (p.id == port.id)) s.world.ports in
+    let once = single k in
+    omega arith
+
 single_step : (s : Standing) (ask : Ask) → Numbered s → Single s → SingleNext (step s ask)
 single_step s (Enter user) n single = single
 single_step s (Open session name tx rx extra) n single =
@@ -157,6 +172,9 @@ single_step s (Send port frames) n single = single_send s frames (open_port s.wo
 single_step s (Grant origin to) n single = single_grant s to.0 (first_offer s.world origin) n single
 single_step s (Done lease) n single = single_done s lease.0 (lease_at s.world.ports lease.0) single
 single_step s (Sync port back) n single = single_sync s back (open_port s.world.ports port.0) single
+single_step s (Shut port) n single = shut-by SingleNext s (open_port s.world.ports port.0) tt (λ at e. single_shut s at single)
+single_step s (Finish port bufs chain) n single = finish-by SingleNext s bufs (shutting_port s.world.ports port.0) tt (λ at e can out. single_finish s bufs at single)
+single_step s (Leave session) n single = leave-by SingleNext s session.0 tt (λ can. single)
 single_step s _ n single = tt
 
 single_after : (s : Standing) (e : Entry) (made : Option Outcome) → Single s → SingleNext made → Single (standing_after s e made)

@@ -37,7 +37,7 @@ port_after_grant number session frames port = record port { line = with_lot numb
 abbrev pub first_offer : World → ℕ → Option Offer
 first_offer w origin = find (is_offer_of origin) w.offers
 
--- the offers buffers_without the first one of this entry
+-- the offers without the first one of this entry
 abbrev pub without_first : ℕ → List Offer → List Offer
 without_first origin [] = []
 without_first origin (offer ∷ offers) = if is_offer_of origin offer then offers else offer ∷ without_first origin offers

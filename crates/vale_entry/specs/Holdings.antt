@@ -1,6 +1,6 @@
 -- Who holds which buffer: the free ones, for each port its idle ones and those of each lot, and those
 -- of each session. The buffers of a pool of N are 2 to N + 1.
-use Rattle.std.specs.Prelude.{ℕ, Bool, true, not, ◌&&◌, ◌==◌, ◌≡◌, ◌+◌, nat_le, if◌then◌else◌, List, [], ◌∷◌, ◌++◌, length, map, filter, take, drop, count_by, sum_by, flat_map, All}
+use Rattle.std.specs.Prelude.{ℕ, Bool, true, not, ◌&&◌, ◌==◌, ◌≡◌, ◌+◌, nat_le, nat_lt, if◌then◌else◌, List, [], ◌∷◌, ◌++◌, length, map, filter, take, drop, count_by, sum_by, flat_map, All}
 use Rattle.std.specs.List.{list_any, list_all, range_with_len}
 use Rattle.nm_types.specs.Frames.{size_of_frames}
 use Rattle.vale_entry.specs.World.{Port, Lot, World, space_of, due_of}
@@ -33,7 +33,7 @@ session_given session more held = if held.session == session then record held { 
 abbrev pub sessions_given : ℕ → List ℕ → List SessionBuffers → List SessionBuffers
 sessions_given session more sessions = map (session_given session more) sessions
 
--- a session's buffers buffers_without some
+-- a session's buffers without some
 abbrev pub buffers_without : List ℕ → List ℕ → List ℕ
 buffers_without gone buffers = filter (λ b. not (contains b gone)) buffers
 
@@ -47,10 +47,13 @@ abbrev pub buffers_of_session : List SessionBuffers → ℕ → List ℕ
 buffers_of_session [] session = []
 buffers_of_session (held ∷ others) session = if held.session == session then held.buffers else buffers_of_session others session
 
+abbrev pub buffers_at_port : PortBuffers → List ℕ
+buffers_at_port held = held.idle ++ flat_map (λ list. list) held.lots
+
 abbrev pub changed_buffers : ℕ → (PortBuffers → PortBuffers) → List PortBuffers → List PortBuffers
 changed_buffers port change ports = map (λ held. if held.port == port then change held else held) ports
 
--- Enter: a session buffers_without buffers
+-- Enter: a session without buffers
 abbrev pub holdings_after_enter : ℕ → Holdings → Holdings
 holdings_after_enter session x = record x { sessions = x.sessions ++ (record { session = session; buffers = [] }) ∷ [] }
 
@@ -87,6 +90,31 @@ holdings_after_sync port session lots back x = record x {
   sessions = sessions_given session (delivered_buffers port lots x.ports) (sessions_less session back x.sessions);
 }
 
+-- Finish: the port's buffers and those that its session brings back are free again, each at its place
+-- among the free ones, which rise
+abbrev pub with_free : ℕ → List ℕ → List ℕ
+with_free b [] = b ∷ []
+with_free b (first ∷ free) = if nat_lt b first then b ∷ first ∷ free else first ∷ with_free b free
+
+abbrev pub all_with_free : List ℕ → List ℕ → List ℕ
+all_with_free [] free = free
+all_with_free (b ∷ bs) free = all_with_free bs (with_free b free)
+
+abbrev pub buffers_of_port : ℕ → List PortBuffers → List ℕ
+buffers_of_port port [] = []
+buffers_of_port port (held ∷ others) = if held.port == port then buffers_at_port held else buffers_of_port port others
+
+abbrev pub holdings_after_finish : ℕ → ℕ → List ℕ → Holdings → Holdings
+holdings_after_finish port session bufs x = record {
+  free = all_with_free (buffers_of_port port x.ports ++ bufs) x.free;
+  ports = filter (λ (held : PortBuffers). not (held.port == port)) x.ports;
+  sessions = sessions_less session bufs x.sessions;
+}
+
+-- Leave: the session has no buffers left
+abbrev pub holdings_after_leave : ℕ → Holdings → Holdings
+holdings_after_leave session x = record x { sessions = filter (λ (held : SessionBuffers). not (held.session == session)) x.sessions }
+
 -- buffers that a session may bring back: its own, each once
 abbrev pub are_distinct : List ℕ → Bool
 are_distinct [] = true
@@ -96,9 +124,6 @@ abbrev pub holds_all : Holdings → ℕ → List ℕ → Bool
 holds_all x session bs = list_all (λ b. contains b (buffers_of_session x.sessions session)) bs && are_distinct bs
 
 -- all buffers that somebody holds
-abbrev pub buffers_at_port : PortBuffers → List ℕ
-buffers_at_port held = held.idle ++ flat_map (λ list. list) held.lots
-
 abbrev pub buffers_held : SessionBuffers → List ℕ
 buffers_held held = held.buffers
 

@@ -8,7 +8,7 @@ use Rattle.vale_entry.specs.declared.entry.Ask.{Ask}
 use Rattle.nm_types.specs.Names.{IsName}
 use Rattle.nm_types.specs.declared.fault.OpenFault.{OpenFault}
 use Rattle.nm_types.specs.declared.fault.OpenFault.TheVariants.{NoBuffers}
-use Rattle.vale_entry.specs.declared.entry.Ask.TheVariants.{Enter, Open, Send, Grant, Done, Sync}
+use Rattle.vale_entry.specs.declared.entry.Ask.TheVariants.{Enter, Open, Send, Grant, Done, Sync, Shut, Finish}
 use Rattle.vale_entry.specs.declared.entry.Dest.{Dest}
 use Rattle.vale_entry.specs.Transcript.{IsPrintable, transcript_text}
 use Rattle.std.specs.Prelude.{ℕ, true, ◌==◌, ◌≡◌, ◌+◌, ◌^◌, ◌<◌, ◌≤◌, List, [], ◌∷◌, map, length, sum_by, count_by, Bool, if◌then◌else◌, All, ◌++◌, take, drop}
@@ -157,6 +157,8 @@ FitsAsk (Send port frames) = FitsU64 port.0
 FitsAsk (Grant origin to) = FitsU64 origin × FitsU64 to.0
 FitsAsk (Done lease) = FitsU64 lease.0
 FitsAsk (Sync port back) = FitsU64 port.0 × AllByRecursion FitsU64 back
+FitsAsk (Shut port) = FitsU64 port.0
+FitsAsk (Finish port bufs chain) = FitsU64 port.0 × AllByRecursion FitsU64 bufs × FitsU64 chain.found × FitsU64 chain.astray
 FitsAsk _ = Unit {0}
 
 abbrev pub FitsReply : Reply → Type 0
@@ -164,6 +166,7 @@ FitsReply (Refused fault) = FitsRefusal fault
 FitsReply (Offered short lone to) = FitsU64 short × FitsU64 lone × AllByRecursion FitsDest to
 FitsReply (Shared given full gone) = FitsU64 given × FitsU64 full × FitsU64 gone
 FitsReply (Gave count to) = FitsU64 count × AllByRecursion FitsDest to
+FitsReply (Unread count) = FitsU64 count
 FitsReply _ = Unit {0}
 
 -- the numbers of an entry's line fit

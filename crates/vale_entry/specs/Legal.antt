@@ -7,16 +7,17 @@ use Rattle.nm_types.specs.declared.fault.OpenFault.{OpenFault}
 use Rattle.vale_entry.specs.declared.entry.Ask.{Ask}
 use Rattle.vale_entry.specs.declared.entry.Ask.TheVariants.{Enter, Open, Send, Grant, Done, Sync, Reset, Shut, Finish, Leave, Put, PutKept, Get, Watch, Stat}
 use Rattle.vale_entry.specs.declared.entry.Reply.{Reply}
-use Rattle.vale_entry.specs.declared.entry.Reply.TheVariants.{Made, Opened, Refused, Offered, Gave}
+use Rattle.vale_entry.specs.declared.entry.Reply.TheVariants.{Made, Opened, Refused, Offered, Gave, Unread, LeasesOut}
 use Rattle.vale_entry.specs.declared.entry.Entry.{Entry}
-use Rattle.vale_entry.specs.World.{World, Port, Lot, Offer, empty_world, is_session, open_port, changed_at, is_settled, transmit_monitor, receive_monitor}
+use Rattle.vale_entry.specs.World.{World, Port, Lot, Offer, empty_world, is_session, open_port, changed_at, due_of, is_settled, transmit_monitor, receive_monitor}
 use Rattle.vale_entry.specs.Learning.{is_short, learned_of_batch}
 use Rattle.vale_entry.specs.Lookup.{Named, named_frames, is_lone}
 use Rattle.vale_entry.specs.Offers.{wanted_frames, monitored_frames, offers_of, dests_of}
 use Rattle.vale_entry.specs.Grant.{first_offer, grant_reply, after_grant, granted_frames}
 use Rattle.vale_entry.specs.Delivery.{lease_at, ports_after_done, ready_lots, delivered_frames, port_after_sync}
 use Rattle.vale_entry.specs.Opening.{open_refusal, after_open}
-use Rattle.vale_entry.specs.Holdings.{Holdings, all_free, holdings_after_enter, holdings_after_open, holdings_after_grant, holdings_after_sync, holds_all}
+use Rattle.vale_entry.specs.Closing.{shutting_port, shut, watches_without, leases_out, unread_count, ports_without, can_leave, sessions_without}
+use Rattle.vale_entry.specs.Holdings.{Holdings, all_free, holdings_after_enter, holdings_after_open, holdings_after_grant, holdings_after_sync, holdings_after_finish, holdings_after_leave, holds_all}
 use Rattle.nm_types.specs.Sendable.{is_sendable}
 
 -- what stands after a history: its entries, its world, and who holds which buffer
@@ -125,7 +126,47 @@ abbrev pub sync_step_at : Standing → List ℕ → Option Port → Option Outco
 sync_step_at s back None = None
 sync_step_at s back (Some port) = if can_sync s back port then Some (sync_step s back port) else None
 
--- the step of an ask, or none where it is not enabled
+abbrev pub shut_step : Standing → Port → Outcome
+shut_step s port = record {
+  session = port.session;
+  reply = Made;
+  next = record s { world = record s.world { ports = changed_at port.id shut s.world.ports; watches = watches_without port.id s.world.watches } };
+}
+
+abbrev pub shut_step_at : Standing → Option Port → Option Outcome
+shut_step_at s None = None
+shut_step_at s (Some port) = if is_settled s.world port.session then Some (shut_step s port) else None
+
+-- a port goes with the buffers that its session is due for it
+abbrev pub can_finish : Standing → List ℕ → Port → Bool
+can_finish s bufs port = (length bufs == due_of port) && holds_all s.holdings port.session bufs
+
+abbrev pub finish_step : Standing → List ℕ → Port → Outcome
+finish_step s bufs port = record {
+  session = port.session;
+  reply = Unread (unread_count port);
+  next = record s {
+    world = record s.world { ports = ports_without port.id s.world.ports };
+    holdings = holdings_after_finish port.id port.session bufs s.holdings;
+  };
+}
+
+abbrev pub finish_step_at : Standing → List ℕ → Option Port → Option Outcome
+finish_step_at s bufs None = None
+finish_step_at s bufs (Some port) = if can_finish s bufs port && (leases_out port == 0) then Some (finish_step s bufs port) else None
+
+abbrev pub leave_step : Standing → ℕ → Outcome
+leave_step s session = record {
+  session = session;
+  reply = Made;
+  next = record s {
+    world = record s.world { sessions = sessions_without session s.world.sessions };
+    holdings = holdings_after_leave session s.holdings;
+  };
+}
+
+-- the step of an ask, or none where it makes no entry: where it is not enabled, where a Finish waits for
+-- leases, and for the asks that are not made yet (Reset, Put, PutKept, Get, Watch, Stat)
 abbrev pub step : Standing → Ask → Option Outcome
 step s (Enter user) = Some (enter_step s)
 step s (Open session name tx rx extra) = if is_session s.world session.0 then Some (open_step s session.0 name tx rx extra) else None
@@ -134,20 +175,63 @@ step s (Grant origin to) = grant_step_at s to.0 (first_offer s.world origin)
 step s (Done lease) = done_step_at s lease.0 (lease_at s.world.ports lease.0)
 step s (Sync port back) = sync_step_at s back (open_port s.world.ports port.0)
 step s (Reset port side fault) = None
-step s (Shut port) = None
-step s (Finish port bufs chain) = None
-step s (Leave session) = None
+step s (Shut port) = shut_step_at s (open_port s.world.ports port.0)
+step s (Finish port bufs chain) = finish_step_at s bufs (shutting_port s.world.ports port.0)
+step s (Leave session) = if can_leave s.world session.0 then Some (leave_step s session.0) else None
 step s (Put port offered) = None
 step s (PutKept port offered) = None
 step s (Get port back) = None
 step s (Watch monitor target sides) = None
 step s (Stat port) = None
 
-abbrev pub IsEnabled : Standing → Ask → Type 0
-IsEnabled s ask = IsSome (step s ask)
+abbrev pub reply_of : Outcome → Reply
+reply_of made = made.reply
 
--- what an entry records: a Put is stored as a PutKept alone, and a Finish that waits for leases is not
--- stored
+-- a Finish that waits for leases is answered how many, and makes no entry
+abbrev pub finish_reply : Port → Reply
+finish_reply port = if leases_out port == 0 then Unread (unread_count port) else LeasesOut (leases_out port)
+
+abbrev pub finish_reply_at : Standing → List ℕ → Option Port → Option Reply
+finish_reply_at s bufs None = None
+finish_reply_at s bufs (Some port) = if can_finish s bufs port then Some (finish_reply port) else None
+
+-- the reply to an ask, or none where it is not enabled
+abbrev pub reply_to : Standing → Ask → Option Reply
+reply_to s (Enter user) = option_map reply_of (step s (Enter user))
+reply_to s (Open session name tx rx extra) = option_map reply_of (step s (Open session name tx rx extra))
+reply_to s (Send port frames) = option_map reply_of (step s (Send port frames))
+reply_to s (Grant origin to) = option_map reply_of (step s (Grant origin to))
+reply_to s (Done lease) = option_map reply_of (step s (Done lease))
+reply_to s (Sync port back) = option_map reply_of (step s (Sync port back))
+reply_to s (Reset port side fault) = option_map reply_of (step s (Reset port side fault))
+reply_to s (Shut port) = option_map reply_of (step s (Shut port))
+reply_to s (Finish port bufs chain) = finish_reply_at s bufs (shutting_port s.world.ports port.0)
+reply_to s (Leave session) = option_map reply_of (step s (Leave session))
+reply_to s (Put port offered) = option_map reply_of (step s (Put port offered))
+reply_to s (PutKept port offered) = option_map reply_of (step s (PutKept port offered))
+reply_to s (Get port back) = option_map reply_of (step s (Get port back))
+reply_to s (Watch monitor target sides) = option_map reply_of (step s (Watch monitor target sides))
+reply_to s (Stat port) = option_map reply_of (step s (Stat port))
+
+-- a Finish is enabled also where it waits
+abbrev pub IsEnabled : Standing → Ask → Type 0
+IsEnabled s (Enter user) = IsSome (step s (Enter user))
+IsEnabled s (Open session name tx rx extra) = IsSome (step s (Open session name tx rx extra))
+IsEnabled s (Send port frames) = IsSome (step s (Send port frames))
+IsEnabled s (Grant origin to) = IsSome (step s (Grant origin to))
+IsEnabled s (Done lease) = IsSome (step s (Done lease))
+IsEnabled s (Sync port back) = IsSome (step s (Sync port back))
+IsEnabled s (Reset port side fault) = IsSome (step s (Reset port side fault))
+IsEnabled s (Shut port) = IsSome (step s (Shut port))
+IsEnabled s (Finish port bufs chain) = IsSome (reply_to s (Finish port bufs chain))
+IsEnabled s (Leave session) = IsSome (step s (Leave session))
+IsEnabled s (Put port offered) = IsSome (step s (Put port offered))
+IsEnabled s (PutKept port offered) = IsSome (step s (PutKept port offered))
+IsEnabled s (Get port back) = IsSome (step s (Get port back))
+IsEnabled s (Watch monitor target sides) = IsSome (step s (Watch monitor target sides))
+IsEnabled s (Stat port) = IsSome (step s (Stat port))
+
+-- what an entry records: a Put is stored as a PutKept alone
 abbrev pub recorded_step : Standing → Ask → Reply → Option Outcome
 recorded_step s (Enter user) reply = step s (Enter user)
 recorded_step s (Open session name tx rx extra) reply = step s (Open session name tx rx extra)
@@ -157,7 +241,7 @@ recorded_step s (Done lease) reply = step s (Done lease)
 recorded_step s (Sync port back) reply = step s (Sync port back)
 recorded_step s (Reset port side fault) reply = step s (Reset port side fault)
 recorded_step s (Shut port) reply = step s (Shut port)
-recorded_step s (Finish port bufs chain) reply = None
+recorded_step s (Finish port bufs chain) reply = step s (Finish port bufs chain)
 recorded_step s (Leave session) reply = step s (Leave session)
 recorded_step s (Put port offered) reply = None
 recorded_step s (PutKept port offered) reply = None

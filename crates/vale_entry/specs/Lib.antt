@@ -5,6 +5,7 @@ pub mod Offers
 pub mod Grant
 pub mod Delivery
 pub mod Opening
+pub mod Closing
 pub mod Holdings
 pub mod Legal
 pub mod Room
@@ -13,3 +14,6 @@ pub mod Kept
 pub mod Transcript
 pub mod Rows
 pub mod Laws
+pub mod Delivered
+pub mod Fate
+pub mod DeliveryLaws

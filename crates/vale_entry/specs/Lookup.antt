@@ -17,7 +17,7 @@ abbrev pub destination_found : Port → Option ℕ → Destination
 destination_found sender None = Others
 destination_found sender (Some port) = if port == sender.id then Nobody else Only (record { 0 = port })
 
--- a short frame goes nowhere; one to a group or to an unknown address goes to all other ports
+-- a short frame goes to no port of the switch; one to a group or to an unknown address goes to all other ports
 abbrev pub destination_of : List Port → Port → List Pair → Frame → Destination
 destination_of ports sender pairs frame =
     if is_short frame then Nobody

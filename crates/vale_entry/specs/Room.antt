@@ -1,5 +1,5 @@
 -- The room of a record: entries stored and promised, and bytes of frames stored.
-use Rattle.std.specs.Prelude.{ℕ, Bool, true, false, not, ◌+◌, ◌*◌, List, length, sum_by, count_by}
+use Rattle.std.specs.Prelude.{ℕ, Bool, true, false, ◌+◌, ◌*◌, List, length, sum_by, count_by}
 use Rattle.nm_types.specs.Frames.{bytes_of_frames}
 use Rattle.vale_entry.specs.declared.entry.Ask.{Ask}
 use Rattle.vale_entry.specs.declared.entry.Ask.TheVariants.{Send}
@@ -7,7 +7,7 @@ use Rattle.vale_entry.specs.declared.entry.Reply.{Reply}
 use Rattle.vale_entry.specs.declared.entry.Reply.TheVariants.{Made, Opened, Refused, Offered, Shared, Gave, Took, PeerGone, Unread, LeasesOut, Watching, NoTarget, Watched, Counted}
 use Rattle.vale_entry.specs.declared.entry.Entry.{Entry}
 use Rattle.vale_entry.specs.declared.entry.Ask.TheVariants.{Enter, Open, Grant, Done, Sync, Reset, Shut, Finish, Leave, Put, PutKept, Get, Watch, Stat}
-use Rattle.vale_entry.specs.World.{World, Port, Lot}
+use Rattle.vale_entry.specs.World.{World, Port, is_undone}
 use Rattle.vale_entry.specs.Legal.{world_of}
 
 -- a port owes its Shut, where it is open, and its Finish
@@ -17,9 +17,6 @@ owed_by_port port = owed port.shutting
     owed : Bool → ℕ
     owed true = 1
     owed false = 2
-
-abbrev pub is_undone : Lot → Bool
-is_undone lot = not lot.is_done
 
 abbrev pub undone_of : Port → ℕ
 undone_of port = count_by is_undone port.line

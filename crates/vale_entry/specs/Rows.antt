@@ -1,15 +1,18 @@
 -- Worked examples, as theorems that hold by computation.
-use Rattle.std.specs.Prelude.{true, false, ◌≡◌, List, [], ◌∷◌, codes, refl, replicate, take}
+use Rattle.std.specs.Prelude.{true, false, ◌≡◌, List, [], ◌∷◌, ◌++◌, Some, codes, refl, replicate, take}
+use Rattle.std.specs.List.{range_with_len}
 use Rattle.std.specs.Fmt.{digits}
 use Rattle.nm_types.specs.Frames.{Frame}
 use Rattle.nm_types.specs.Names.{is_switch_port_name, is_pipe_name, is_monitor_name, switch_of}
-use Rattle.vale_entry.specs.declared.entry.Ask.TheVariants.{Enter, Open, Send, Grant, Done, Sync}
-use Rattle.vale_entry.specs.declared.entry.Reply.TheVariants.{Made, Opened, Refused, Offered, Shared, Gave}
+use Rattle.vale_entry.specs.declared.entry.Ask.TheVariants.{Enter, Open, Send, Grant, Done, Sync, Shut, Finish, Leave}
+use Rattle.vale_entry.specs.declared.entry.Reply.TheVariants.{Made, Opened, Refused, Offered, Shared, Gave, Unread, LeasesOut}
 use Rattle.nm_types.specs.declared.fault.OpenFault.TheVariants.{BadSize, SwitchesFull, NameTaken, NoBuffers}
 use Rattle.vale_entry.specs.declared.entry.Entry.{Entry}
-use Rattle.vale_entry.specs.Legal.{IsLegal, world_of}
-use Rattle.vale_entry.specs.World.{World, Offer}
+use Rattle.vale_entry.specs.Legal.{IsLegal, standing_of, world_of, holdings_of, reply_to}
+use Rattle.vale_entry.specs.World.{World, Offer, free_count}
 use Rattle.vale_entry.specs.Grant.{grant_reply, after_grant}
+use Rattle.vale_entry.specs.Delivered.{given_frames, read_frames, unread_counts}
+use Rattle.vale_entry.specs.Fate.{Pending, Given, Full, Gone, fates_at, entries_of, grants_between}
 use Rattle.vale_entry.specs.Transcript.{transcript_text, start_line, end_line}
 
 abbrev frame_f : Frame
@@ -251,6 +254,69 @@ no_learn_mark-legal : IsLegal 64 no_learn_mark
 unfolding is_switch_port_name is_pipe_name is_monitor_name switch_of
 no_learn_mark-legal = (refl, (refl, (refl, (refl, (refl, (refl, (refl, (refl, (refl, (refl, (refl, (refl, tt))))))))))))
 
+-- The first run with its closing: all buffers are free at the end.
+abbrev first_run_whole : List Entry
+first_run_whole = first_run ++ (
+    (record { session = (record { 0 = 1 }); ask = Shut (record { 0 = 3 }); reply = Made })
+    ∷ (record { session = (record { 0 = 1 }); ask = Finish (record { 0 = 3 }) (2 ∷ 3 ∷ 4 ∷ 5 ∷ []) (record { found = 0; astray = 0 }); reply = Unread 0 })
+    ∷ (record { session = (record { 0 = 1 }); ask = Leave (record { 0 = 1 }); reply = Made })
+    ∷ (record { session = (record { 0 = 2 }); ask = Shut (record { 0 = 4 }); reply = Made })
+    ∷ (record { session = (record { 0 = 2 }); ask = Finish (record { 0 = 4 }) (10 ∷ 11 ∷ 12 ∷ 13 ∷ 14 ∷ []) (record { found = 0; astray = 0 }); reply = Unread 0 })
+    ∷ (record { session = (record { 0 = 2 }); ask = Leave (record { 0 = 2 }); reply = Made })
+    ∷ [])
+
+first_run_whole-legal : IsLegal 8192 first_run_whole
+unfolding is_switch_port_name is_pipe_name is_monitor_name switch_of
+first_run_whole-legal = (refl, (refl, (refl, (refl, (refl, (refl, (refl, (refl, (refl, (refl, (refl, (refl, (refl, (refl, tt))))))))))))))
+
+first_run_whole-text : transcript_text 8192 first_run_whole ≡ codes "vale 1 pool 8192\n1 enter 1\n2 enter 2\n3 1 open vale0:a 4 4 0 = ok\n4 2 open vale0:b 4 4 0 = ok\n5 1 send 3 ffffffffffff02000000000a88b511111111111111111111111111111111111111111111111111111111111111111111111111111111111111111111 = short 0 lone 0 to 4*1\n6 1 grant 5 4 = given 1 full 0 gone 0\n7 1 done 6\n8 2 sync 4 - = gave 1 to -\n9 1 shut 3\n10 1 finish 3 2,3,4,5 found 0 astray 0 = unread 0\n11 1 leave\n12 2 shut 4\n13 2 finish 4 10,11,12,13,14 found 0 astray 0 = unread 0\n14 2 leave\nend 14 free 8192\n"
+unfolding digits start_line end_line is_switch_port_name is_pipe_name is_monitor_name switch_of
+first_run_whole-text = refl
+
+first_run_whole-free : (holdings_of 8192 first_run_whole).free ≡ range_with_len 2 8192
+unfolding is_switch_port_name is_pipe_name is_monitor_name switch_of
+first_run_whole-free = refl
+
+-- A port that was gone when its offer was granted gets nothing, though its name is open again.
+abbrev offer_to_reopened_port : List Entry
+offer_to_reopened_port = take 7 learned_unicast ++ (
+    (record { session = (record { 0 = 3 }); ask = Shut (record { 0 = 6 }); reply = Made })
+    ∷ (record { session = (record { 0 = 3 }); ask = Finish (record { 0 = 6 }) (18 ∷ 19 ∷ 20 ∷ 21 ∷ []) (record { found = 0; astray = 0 }); reply = Unread 0 })
+    ∷ (record { session = (record { 0 = 3 }); ask = Open (record { 0 = 3 }) (codes "vale0:c") 4 4 0; reply = Opened })
+    ∷ (record { session = (record { 0 = 1 }); ask = Grant 7 (record { 0 = 5 }); reply = Shared 1 0 0 })
+    ∷ (record { session = (record { 0 = 1 }); ask = Done (record { 0 = 11 }); reply = Made })
+    ∷ (record { session = (record { 0 = 1 }); ask = Grant 7 (record { 0 = 6 }); reply = Shared 0 0 1 })
+    ∷ [])
+
+offer_to_reopened_port-legal : IsLegal 64 offer_to_reopened_port
+unfolding is_switch_port_name is_pipe_name is_monitor_name switch_of
+offer_to_reopened_port-legal = (refl, (refl, (refl, (refl, (refl, (refl, (refl, (refl, (refl, (refl, (refl, (refl, (refl, tt)))))))))))))
+
+-- A port that is shut waits for the lease of another session; then its frame is counted unread.
+abbrev lease_to_shut_port : List Entry
+lease_to_shut_port = take 10 learned_unicast ++ (
+    (record { session = (record { 0 = 3 }); ask = Shut (record { 0 = 6 }); reply = Made })
+    ∷ [])
+
+-- The same, once the lease is done.
+abbrev finish_waits_for_leases : List Entry
+finish_waits_for_leases = lease_to_shut_port ++ (
+    (record { session = (record { 0 = 1 }); ask = Done (record { 0 = 10 }); reply = Made })
+    ∷ (record { session = (record { 0 = 3 }); ask = Finish (record { 0 = 6 }) (18 ∷ 19 ∷ 20 ∷ 21 ∷ []) (record { found = 0; astray = 0 }); reply = Unread 1 })
+    ∷ [])
+
+finish_waits : reply_to (standing_of 64 lease_to_shut_port) (Finish (record { 0 = 6 }) (18 ∷ 19 ∷ 20 ∷ 21 ∷ []) (record { found = 0; astray = 0 })) ≡ Some (LeasesOut 1)
+unfolding is_switch_port_name is_pipe_name is_monitor_name switch_of
+finish_waits = refl
+
+finish_waits_for_leases-legal : IsLegal 64 finish_waits_for_leases
+unfolding is_switch_port_name is_pipe_name is_monitor_name switch_of
+finish_waits_for_leases-legal = (refl, (refl, (refl, (refl, (refl, (refl, (refl, (refl, (refl, (refl, (refl, (refl, (refl, tt)))))))))))))
+
+finish_waits_for_leases-free : free_count (world_of 64 finish_waits_for_leases) ≡ 48
+unfolding is_switch_port_name is_pipe_name is_monitor_name switch_of
+finish_waits_for_leases-free = refl
+
 -- An offer to a port that is not open: all its frames are gone, and the offer is granted.
 abbrev after_first_send : World
 after_first_send = world_of 64 (take 7 learned_unicast)
@@ -268,3 +334,49 @@ offer_to_gone_port = refl
 offer_to_gone_port-ports : (after_grant without_third_port offer_to_third).ports ≡ without_third_port.ports
 unfolding is_switch_port_name is_pipe_name is_monitor_name switch_of
 offer_to_gone_port-ports = refl
+
+-- What was given, read and left unread in these histories, and what became of each frame.
+ring_full-given : given_frames 64 ring_full 4 ≡ frame_f ∷ []
+unfolding is_switch_port_name is_pipe_name is_monitor_name switch_of
+ring_full-given = refl
+
+ring_full-read : read_frames 64 ring_full 4 ≡ frame_f ∷ []
+unfolding is_switch_port_name is_pipe_name is_monitor_name switch_of
+ring_full-read = refl
+
+ring_full-fates : fates_at 64 ring_full 5 4 ≡ Given ∷ Full ∷ Full ∷ []
+unfolding is_switch_port_name is_pipe_name is_monitor_name switch_of
+ring_full-fates = refl
+
+finish_waits_for_leases-given : given_frames 64 finish_waits_for_leases 6 ≡ frame_f ∷ []
+unfolding is_switch_port_name is_pipe_name is_monitor_name switch_of
+finish_waits_for_leases-given = refl
+
+finish_waits_for_leases-read : read_frames 64 finish_waits_for_leases 6 ≡ []
+unfolding is_switch_port_name is_pipe_name is_monitor_name switch_of
+finish_waits_for_leases-read = refl
+
+finish_waits_for_leases-unread : unread_counts finish_waits_for_leases 6 ≡ 1 ∷ []
+finish_waits_for_leases-unread = refl
+
+first_send-fates : fates_at 64 (take 7 learned_unicast) 7 6 ≡ Pending ∷ []
+unfolding is_switch_port_name is_pipe_name is_monitor_name switch_of
+first_send-fates = refl
+
+offer_to_reopened_port-fates : fates_at 64 offer_to_reopened_port 7 6 ≡ Gone ∷ []
+unfolding is_switch_port_name is_pipe_name is_monitor_name switch_of
+offer_to_reopened_port-fates = refl
+
+-- nothing for the port that was gone, nor for the one that has its name
+offer_to_reopened_port-given : given_frames 64 offer_to_reopened_port 6 ++ given_frames 64 offer_to_reopened_port 10 ≡ []
+unfolding is_switch_port_name is_pipe_name is_monitor_name switch_of
+offer_to_reopened_port-given = refl
+
+-- two senders of one port: each has its entry and its grant
+published_in_lease_order-senders : entries_of 64 published_in_lease_order 4 ++ entries_of 64 published_in_lease_order 5 ≡ 7 ∷ 11 ∷ []
+unfolding is_switch_port_name is_pipe_name is_monitor_name switch_of
+published_in_lease_order-senders = refl
+
+published_in_lease_order-between : grants_between 64 published_in_lease_order 4 6 ≡ (record { origin = 7; frames = frame_f ∷ [] }) ∷ []
+unfolding is_switch_port_name is_pipe_name is_monitor_name switch_of
+published_in_lease_order-between = refl

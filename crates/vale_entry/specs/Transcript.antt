@@ -8,9 +8,9 @@ use Rattle.nm_types.specs.declared.fault.OpenFault.{OpenFault}
 use Rattle.nm_types.specs.declared.fault.OpenFault.TheVariants.{BadSize, SwitchesFull, PortsFull, NameTaken, NoBuffers, RecordFull, NoMemory}
 use Rattle.vale_entry.specs.declared.entry.Dest.{Dest}
 use Rattle.vale_entry.specs.declared.entry.Ask.{Ask}
-use Rattle.vale_entry.specs.declared.entry.Ask.TheVariants.{Enter, Open, Send, Grant, Done, Sync}
+use Rattle.vale_entry.specs.declared.entry.Ask.TheVariants.{Enter, Open, Send, Grant, Done, Sync, Shut, Finish, Leave}
 use Rattle.vale_entry.specs.declared.entry.Reply.{Reply}
-use Rattle.vale_entry.specs.declared.entry.Reply.TheVariants.{Made, Opened, Refused, Offered, Shared, Gave}
+use Rattle.vale_entry.specs.declared.entry.Reply.TheVariants.{Made, Opened, Refused, Offered, Shared, Gave, Unread}
 use Rattle.vale_entry.specs.declared.entry.Entry.{Entry}
 use Rattle.vale_entry.specs.Legal.{world_of}
 use Rattle.vale_entry.specs.World.{free_count}
@@ -64,6 +64,7 @@ reply_text (Refused fault) = codes " = " ++ refusal_text fault
 reply_text (Offered short lone to) = codes " = short " ++ decimal short ++ codes " lone " ++ decimal lone ++ codes " to " ++ dests_text to
 reply_text (Shared given full gone) = codes " = given " ++ decimal given ++ codes " full " ++ decimal full ++ codes " gone " ++ decimal gone
 reply_text (Gave count to) = codes " = gave " ++ decimal count ++ codes " to " ++ dests_text to
+reply_text (Unread count) = codes " = unread " ++ decimal count
 reply_text _ = []
 
 abbrev pub ask_text : ℕ → Ask → List ℕ
@@ -73,6 +74,9 @@ ask_text session (Send port frames) = codes " " ++ decimal session ++ codes " se
 ask_text session (Grant origin to) = codes " " ++ decimal session ++ codes " grant " ++ decimal origin ++ codes " " ++ decimal to.0
 ask_text session (Done lease) = codes " " ++ decimal session ++ codes " done " ++ decimal lease.0
 ask_text session (Sync port back) = codes " " ++ decimal session ++ codes " sync " ++ decimal port.0 ++ codes " " ++ numbers_text back
+ask_text session (Shut port) = codes " " ++ decimal session ++ codes " shut " ++ decimal port.0
+ask_text session (Finish port bufs chain) = codes " " ++ decimal session ++ codes " finish " ++ decimal port.0 ++ codes " " ++ numbers_text bufs ++ codes " found " ++ decimal chain.found ++ codes " astray " ++ decimal chain.astray
+ask_text session (Leave left) = codes " " ++ decimal session ++ codes " leave"
 ask_text session _ = []
 
 abbrev pub entry_line : ℕ → Entry → List ℕ
@@ -107,7 +111,7 @@ is_refusal (RecordFull what used want) = false
 is_refusal NoMemory = false
 
 -- an entry's ask and reply stand together in one line; destinations rise, an Enter's session is the
--- entry's number, and an Open's is the one that it names
+-- entry's number, and that of an Open or a Leave is the one that it names
 abbrev pub is_printable : ℕ → ℕ → Ask → Reply → Bool
 is_printable number session (Enter user) Made = session == number
 is_printable number session (Open asked name tx rx extra) Opened = (session == asked.0) && is_name name
@@ -116,6 +120,9 @@ is_printable number session (Send port frames) (Offered short lone to) = dests_r
 is_printable number session (Grant origin to) (Shared given full gone) = true
 is_printable number session (Done lease) Made = true
 is_printable number session (Sync port back) (Gave count to) = dests_rise to
+is_printable number session (Shut port) Made = true
+is_printable number session (Finish port bufs chain) (Unread count) = true
+is_printable number session (Leave left) Made = session == left.0
 is_printable number session _ _ = false
 
 abbrev pub IsPrintable : ℕ → Entry → Type 0

@@ -97,6 +97,9 @@ buffers_of port = port.tx + port.rx + port.extra
 abbrev pub free_count : World → ℕ
 free_count w = w.pool - sum_by buffers_of w.ports
 
+abbrev pub is_undone : Lot → Bool
+is_undone lot = not lot.is_done
+
 -- a lot of this session that is not done
 abbrev pub is_owed_by : ℕ → Lot → Bool
 is_owed_by session lot = (lot.session == session) && not lot.is_done

@@ -2,6 +2,7 @@
 //! the check proves.
 #![tactic(auto, using(crate::proofs::HistoryLaws::history_laws))]
 
+ghost use Rattle.vale_entry.specs.DeliveryLaws.{ReadIsPrefixOfGiven, GivenOnlyByWanted, ShortAndLoneAreForNobody, WantedIsSharedOnce, DroppedFramesAreCounted, NothingIsPendingAtTheEnd, SenderOrderIsKept, FramesAreDroppedForCause, RepliesCountFrames};
 ghost use Rattle.vale_entry.specs.Laws.{NumbersRise, PortsAreWithinSizes, FreeBuffersRise, BuffersAreParted, HoldingsAgree, SessionsHaveOneUnsettled, RoomIsPromised, RoomIsUsed, TranscriptsTellHistories, LegalHistoriesArePrintable};
 
 /// After every history sessions and ports rise by number, none is numbered beyond the last entry, and
@@ -56,4 +57,61 @@ pub fn transcripts_tell_histories()
 /// Each entry of a legal history is printable at its number, if ports are opened under names.
 pub fn legal_histories_are_printable()
     ensures { LegalHistoriesArePrintable }
+{}
+
+/// In every legal history what was given to a port is what it read, and behind that what it has not
+/// read: its line's frames while it is there, and once it is gone as many as its Finish counted.
+#[tactic(auto, using(crate::proofs::DeliveryLaws::delivery_laws))]
+pub fn read_is_prefix_of_given()
+    ensures { ReadIsPrefixOfGiven }
+{}
+
+/// In every legal history what is granted to a port is, each time, a prefix of the frames of an entry
+/// that are wanted there.
+#[tactic(auto, using(crate::proofs::DeliveryLaws::delivery_laws))]
+pub fn given_only_by_wanted()
+    ensures { GivenOnlyByWanted }
+{}
+
+/// A frame that is short, or lone, is named for no port of the switch.
+#[tactic(auto, using(crate::proofs::DeliveryLaws::delivery_laws))]
+pub fn short_and_lone_are_for_nobody()
+    ensures { ShortAndLoneAreForNobody }
+{}
+
+/// In every legal history the frames of an entry that are wanted at a port stand in one offer until one
+/// Grant shares them out, which counts each of them and gives the first ones.
+pub fn wanted_is_shared_once()
+    ensures { WantedIsSharedOnce }
+{}
+
+/// In every legal history each wanted frame has one fate; those given, full and gone are as many as the
+/// Grant's reply says.
+#[tactic(auto, using(crate::proofs::DeliveryLaws::delivery_laws))]
+pub fn dropped_frames_are_counted()
+    ensures { DroppedFramesAreCounted }
+{}
+
+/// A Grant of a legal history drops frames for a cause: they are gone where the port is not open, and
+/// full where it is open, those given fit its space, and one more does not.
+pub fn frames_are_dropped_for_cause()
+    ensures { FramesAreDroppedForCause }
+{}
+
+/// In every legal history the replies count what is given and read: each Grant its frames, and the Syncs
+/// of a port all that it read.
+pub fn replies_count_frames()
+    ensures { RepliesCountFrames }
+{}
+
+/// Once no session is left, no frame is pending.
+#[tactic(auto, using(crate::proofs::DeliveryLaws::delivery_laws))]
+pub fn nothing_is_pending_at_the_end()
+    ensures { NothingIsPendingAtTheEnd }
+{}
+
+/// In every legal history what a port sent is given to another in the order of its entries, of each
+/// entry the first frames that are wanted there.
+pub fn sender_order_is_kept()
+    ensures { SenderOrderIsKept }
 {}

@@ -7,5 +7,5 @@ mod script;
 mod tests;
 mod words;
 
-pub use reader::{ScriptFault, parse};
+pub use reader::{ScriptFault, line_count, parse};
 pub use script::{Act, Fill, Line, Opened, Script};

@@ -1,10 +1,10 @@
 //! Reads a script, line by line.
-ghost use Rattle.std.specs.Prelude.{◌≡◌, ◌+◌, ◌-◌, ◌<◌, ◌≤◌, ◌^◌, ◌∷◌, ℕ, List, length, map, codes, option_map, true, Some, None, Ok, Err, IfOk, IfErr, IfSome, IsTrue, position, bytes_eq};
+ghost use Rattle.std.specs.Prelude.{◌≡◌, ◌+◌, ◌-◌, ◌<◌, ◌≤◌, ◌^◌, ◌∷◌, ℕ, List, length, map, codes, option_map, filter, not, true, Some, None, Ok, Err, OnOk, IfOk, IfErr, IfSome, IsTrue, position, bytes_eq};
 ghost use Rattle.std.specs.List.{list_any};
 ghost use Rattle.std.specs.Str.Lines.{strip_carriage_return, lines};
 ghost use Rattle.vale_script.specs.declared.reader.ScriptFault.TheVariants.{NoMemory as MemoryWanting};
 ghost use Rattle.vale_script.specs.Blame.{is_line_feed, BlamesLine};
-ghost use Rattle.vale_script.specs.Grammar.{script_of, line_step, nothing_said, said_if, enter_step, act_step, request_step, words_step, user_number, has_name, is_port_of, may_enter, may_open, may_act, enter_act, open_with, open_act, fill_with, fill_of, put_with, put_act, tx_act, rx_act, act_of};
+ghost use Rattle.vale_script.specs.Grammar.{script_of, line_step, nothing_said, said_if, enter_step, act_step, request_step, words_step, program_said, user_number, is_port_of, has_port, may_enter, may_act, opened_with, says_nothing, pool_step, enter_act, open_with, open_act, fill_with, fill_of, put_with, put_act, tx_act, rx_act, close_act, act_of};
 ghost use Rattle.vale_script.specs.Sound.{IsSound};
 ghost use Rattle.vale_script.specs.Words.{port_name, mac_of, number_in, hex_byte_of};
 
@@ -12,9 +12,12 @@ use crate::script::{Act, Fill, Line, Opened, Script};
 use crate::words::{
     are_line_bytes, hex_byte_of, is_silent, mac_of, number_in, port_name, user_name, words_of,
 };
-use nm_types::{LineCause, Name, NoMemory};
+use nm_types::{DEFAULT_POOL, LineCause, MAX_POOL, Name, NoMemory};
 use std::alloc::Global;
 use std::marker::Model;
+
+/// The most frames that one line puts.
+const MAX_COUNT: u32 = 1_000_000;
 
 fn enter_act(places: &[&[u8]]) -> Option<Act>
     ensures { result ≡ enter_act (map (λ w. w.now) places.now) }
@@ -27,11 +30,11 @@ fn enter_act(places: &[&[u8]]) -> Option<Act>
 }
 
 fn open_with(name: &[u8], tx: &[u8], rx: &[u8]) -> Option<Act>
-    ensures { result ≡ open_with (port_name name.now) (number_in 2 1024 tx.now) (number_in 2 1024 rx.now) }
+    ensures { result ≡ open_with (port_name name.now) (number_in 0 4294967295 tx.now) (number_in 0 4294967295 rx.now) }
 {
     let name = port_name(name)?;
-    let tx = number_in(2, 1024, tx)?;
-    let rx = number_in(2, 1024, rx)?;
+    let tx = number_in(0, u32::MAX, tx)?;
+    let rx = number_in(0, u32::MAX, rx)?;
     Some(Act::Open { name, tx, rx })
 }
 
@@ -69,12 +72,12 @@ fn fill_of(places: &[&[u8]]) -> Option<Fill>
 }
 
 fn put_with(name: &[u8], count: &[u8], frame: &[&[u8]]) -> Option<Act>
-    ensures { result ≡ put_with (port_name name.now) (number_in 1 1 count.now) (fill_of (map (λ w. w.now) frame.now)) }
+    ensures { result ≡ put_with (port_name name.now) (number_in 0 1000000 count.now) (fill_of (map (λ w. w.now) frame.now)) }
 {
     let name = port_name(name)?;
-    number_in(1, 1, count)?;
+    let count = number_in(0, MAX_COUNT, count)?;
     let fill = fill_of(frame)?;
-    Some(Act::Put { name, fill })
+    Some(Act::Put { name, count, fill })
 }
 
 fn put_act(places: &[&[u8]]) -> Option<Act>
@@ -107,6 +110,17 @@ fn rx_act(places: &[&[u8]]) -> Option<Act>
     })
 }
 
+fn close_act(places: &[&[u8]]) -> Option<Act>
+    ensures { result ≡ close_act (map (λ w. w.now) places.now) }
+{
+    let [name] = places else {
+        return None;
+    };
+    Some(Act::Close {
+        name: port_name(name)?,
+    })
+}
+
 fn act_of(verb: &[u8], places: &[&[u8]]) -> Option<Act>
     ensures { result ≡ act_of verb.now (map (λ w. w.now) places.now) }
 {
@@ -120,6 +134,8 @@ fn act_of(verb: &[u8], places: &[&[u8]]) -> Option<Act>
         tx_act(places)
     } else if verb == b"rx".as_slice() {
         rx_act(places)
+    } else if verb == b"close".as_slice() {
+        close_act(places)
     } else {
         None
     }
@@ -128,6 +144,7 @@ fn act_of(verb: &[u8], places: &[&[u8]]) -> Option<Act>
 /// What the lines so far have said.
 #[derive(Drop)]
 struct Reader<'a> {
+    pool: Option<u32>,
     users: Vec<&'a [u8]>,
     opened: Vec<Opened>,
     lines: Vec<Line>,
@@ -139,7 +156,7 @@ impl<'a> Model for Reader<'a> {
 
     ghost Value = { Said };
 
-    ghost view = { λ r. record { users = map (λ w. w.now) r.users.items; opened = r.opened.items; lines = r.lines.items } };
+    ghost view = { λ r. record { pool = r.pool; users = map (λ w. w.now) r.users.items; opened = r.opened.items; lines = r.lines.items } };
 
     ghost invariant = { λ r. length r.users.items ≤ 64 };
 }
@@ -157,22 +174,10 @@ fn is_declared(users: &[&[u8]], name: &[u8]) -> bool
     users.iter().any(|user| name == *user)
 }
 
-fn has_name(name: &Name, port: &Opened) -> bool
-    ensures { result ≡ has_name name.now port.now }
-{
-    name.as_bytes() == port.name.as_bytes()
-}
-
 fn is_port_of(user: u32, name: &Name, port: &Opened) -> bool
     ensures { result ≡ is_port_of user name.now port.now }
 {
     port.user == user && name.as_bytes() == port.name.as_bytes()
-}
-
-fn is_opened(opened: &[Opened], name: &Name) -> bool
-    ensures { result ≡ list_any (has_name name.now) opened.now }
-{
-    opened.iter().any(|port| has_name(name, port))
 }
 
 fn is_opened_by(opened: &[Opened], user: u32, name: &Name) -> bool
@@ -181,11 +186,18 @@ fn is_opened_by(opened: &[Opened], user: u32, name: &Name) -> bool
     opened.iter().any(|port| is_port_of(user, name, port))
 }
 
+fn close_port(opened: &mut Vec<Opened>, user: u32, name: &Name)
+    ensures { opened.new.items ≡ filter (λ port. not (is_port_of user name.now port)) opened.old.items }
+{
+    opened.retain(|port| !is_port_of(user, name, port));
+}
+
 impl<'a> Reader<'a> {
     fn new(alloc: Global) -> Self
         ensures { result ≡ nothing_said }
     {
         Reader {
+            pool: None,
             users: Vec::new(alloc),
             opened: Vec::new(alloc),
             lines: Vec::new(alloc),
@@ -210,14 +222,8 @@ impl<'a> Reader<'a> {
         self.users.len() < 64 && !is_declared(&self.users, name)
     }
 
-    fn may_open(&self, name: &Name) -> bool
-        ensures { result ≡ may_open self.now name.now }
-    {
-        self.opened.len() < 4 && !is_opened(&self.opened, name)
-    }
-
     fn has_port(&self, user: u32, name: &Name) -> bool
-        ensures { result ≡ list_any (is_port_of user name.now) self.now.opened }
+        ensures { result ≡ has_port self.now user name.now }
     {
         is_opened_by(&self.opened, user, name)
     }
@@ -227,10 +233,9 @@ impl<'a> Reader<'a> {
     {
         match act {
             Act::Enter => false,
-            Act::Open { name, .. } => self.may_open(name),
-            Act::Put { name, .. } | Act::Tx { name } | Act::Rx { name } => self.has_port(
-                user, name,
-            ),
+            Act::Open { name, .. } => !self.has_port(user, name),
+            Act::Put { name, .. } | Act::Tx { name } | Act::Rx { name } | Act::Close { name } =>
+                self.has_port(user, name),
         }
     }
 
@@ -250,15 +255,25 @@ impl<'a> Reader<'a> {
         Ok(true)
     }
 
+    /// Keeps which ports stand open by the lines.
+    fn declare(&mut self, user: u32, act: &Act) -> Result<(), NoMemory>
+        ensures { OnOk result (self.new ≡ record self.old { opened = opened_with user act.now self.old.opened }) }
+    {
+        match act {
+            Act::Open { name, .. } => self.opened.push(Opened { name: *name, user })?,
+            Act::Close { name } => close_port(&mut self.opened, user, name),
+            _ => {}
+        }
+        Ok(())
+    }
+
     fn act(&mut self, at: u32, user: u32, act: Act) -> Result<bool, NoMemory>
         ensures { IfOk result (λ made. act_step self.old at (Some user) act ≡ said_if made self.new) }
     {
         if !self.may_act(user, &act) {
             return Ok(false);
         }
-        if let Act::Open { name, .. } = act {
-            self.opened.push(Opened { name, user })?;
-        }
+        self.declare(user, &act)?;
         self.lines.push(Line { at, user, act })?;
         Ok(true)
     }
@@ -275,16 +290,36 @@ impl<'a> Reader<'a> {
         }
     }
 
+    fn says_nothing(&self) -> bool
+        ensures { result ≡ says_nothing self.now }
+    {
+        self.pool.is_none() && self.lines.is_empty()
+    }
+
+    /// Takes the size of the pool; whether it may.
+    fn pool(&mut self, size: Option<u32>, words: &[&[u8]]) -> bool
+        ensures { pool_step self.old size (map (λ w. w.now) words.now) ≡ said_if result self.new }
+    {
+        if size.is_none() || !words.is_empty() || !self.says_nothing() {
+            return false;
+        }
+        self.pool = size;
+        true
+    }
+
     fn words(&mut self, at: u32, words: &[&'a [u8]]) -> Result<bool, NoMemory>
         ensures { IfOk result (λ made. words_step self.old at (map (λ w. w.now) words.now) ≡ said_if made self.new) }
     {
         let Some((verb, others)) = words.split_first() else {
             return Ok(false);
         };
-        let Some((name, places)) = others.split_first() else {
+        let Some((word, places)) = others.split_first() else {
             return Ok(false);
         };
-        let Some(name) = user_name(name) else {
+        if *verb == b"pool".as_slice() {
+            return Ok(self.pool(number_in(1, MAX_POOL, word), places));
+        }
+        let Some(name) = user_name(word) else {
             return Ok(false);
         };
         match act_of(verb, places) {
@@ -307,14 +342,15 @@ impl<'a> Reader<'a> {
     }
 
     fn script(self) -> Script
-        ensures { result ≡ record { users = length self.entry.users; lines = self.entry.lines } }
+        ensures { result ≡ program_said self.entry }
     {
         let Reader {
+            pool,
             users,
             opened: _,
             lines,
         } = self;
-        Script::new(users.len() as u32, lines)
+        Script::new(pool.unwrap_or(DEFAULT_POOL), users.len() as u32, lines)
     }
 }
 
@@ -363,12 +399,26 @@ impl From<NoMemory> for ScriptFault {
     }
 }
 
+/// How many lines a script has, silent ones too.
+pub fn line_count(bytes: &[u8]) -> usize
+    ensures { result ≡ length (lines bytes.now) }
+{
+    let mut rest = bytes;
+    let mut count = 0;
+    while !rest.is_empty() {
+        rest = first_line(rest).1;
+        count += 1;
+    }
+    count
+}
+
 /// Reads a script.
 #[tactic(auto, using(crate::proofs::Soundness::soundness))]
 pub fn parse(alloc: Global, bytes: &[u8]) -> Result<Script, ScriptFault>
     requires { length bytes.now < 2 ^ 32 - 1 }
     ensures ok { IfOk result (λ script. script_of bytes.now ≡ Ok script) }
     ensures sound { IfOk result IsSound }
+    ensures few { IfOk result (λ script. length script.lines ≤ length (lines bytes.now)) }
     ensures bad { IfErr result (BlamesLine (script_of bytes.now)) }
 {
     let mut reader = Reader::new(alloc);

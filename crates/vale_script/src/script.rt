@@ -1,6 +1,7 @@
 //! What a script says.
-ghost use Rattle.std.specs.Prelude.{◌≡◌, ◌≤◌, IfOk};
-ghost use Rattle.vale_script.specs.Grammar.{frame_of_put};
+ghost use Rattle.std.specs.Prelude.{◌≡◌, ◌<◌, ◌≤◌, ◌^◌, length, IfOk};
+ghost use Rattle.vale_script.specs.Grammar.{frame_of_put, count_of, frames_put};
+ghost use Rattle.vale_script.specs.Sound.{IsSound};
 
 use nm_types::{Mac, Name, NoMemory};
 use std::alloc::Global;
@@ -21,14 +22,16 @@ pub struct Fill {
 pub enum Act {
     /// The user comes.
     Enter,
-    /// Opens a port of this name, with rings of so many slots.
+    /// Opens a port of this name, with rings of so many slots, where these are sizes of rings.
     Open { name: Name, tx: u32, rx: u32 },
-    /// Puts a frame into the port's transmit ring.
-    Put { name: Name, fill: Fill },
+    /// Puts so many frames into the port's transmit ring.
+    Put { name: Name, count: u32, fill: Fill },
     /// Syncs the port's transmit ring.
     Tx { name: Name },
     /// Syncs the port's receive ring.
     Rx { name: Name },
+    /// Closes the port.
+    Close { name: Name },
 }
 
 /// A line that says something: its number, counted from 1 with silent lines, and its user's, from 1.
@@ -60,9 +63,10 @@ impl Fill {
     }
 }
 
-/// A script that was read: how many users it declares, and its lines that say something.
+/// A script that was read: the size of its pool, how many users it declares, and their lines.
 #[derive(Drop)]
 pub struct Script {
+    pool: u32,
     users: u32,
     lines: Vec<Line>,
 }
@@ -73,17 +77,36 @@ impl Model for Script {
 
     ghost Value = { Program };
 
-    ghost view = { λ s. record { users = s.users; lines = s.lines.items } };
+    ghost view = { λ s. record { pool = s.pool; users = s.users; lines = s.lines.items } };
 
     ghost invariant = { λ s. s.users ≤ 64 };
 }
 
-impl Script {
-    pub fn new(users: u32, lines: Vec<Line>) -> Script
-        requires { users ≤ 64 }
-        ensures { result ≡ record { users = users; lines = lines.items } }
+impl Act {
+    /// How many frames it puts.
+    fn count(&self) -> u32
+        ensures { result ≡ count_of self.now }
     {
-        Script { users, lines }
+        match self {
+            Act::Put { count, .. } => *count,
+            _ => 0,
+        }
+    }
+}
+
+impl Script {
+    pub(crate) fn new(pool: u32, users: u32, lines: Vec<Line>) -> Script
+        requires { users ≤ 64 }
+        ensures { result ≡ record { pool = pool; users = users; lines = lines.items } }
+    {
+        Script { pool, users, lines }
+    }
+
+    /// How many buffers its pool has.
+    pub fn pool(&self) -> u32
+        ensures { result ≡ self.now.pool }
+    {
+        self.pool
     }
 
     /// How many users it declares.
@@ -94,10 +117,23 @@ impl Script {
         self.users
     }
 
-    /// Its lines that say something, in order.
+    /// The lines that its users run, in order.
     pub fn lines(&self) -> &[Line]
         ensures { result.now ≡ self.now.lines }
     {
         &self.lines
+    }
+
+    /// How many frames its lines put.
+    pub fn frames_put(&self) -> u64
+        requires few { length self.now.lines < 2 ^ 32 }
+        requires sound { IsSound self.now }
+        ensures { result ≡ frames_put self.now }
+    {
+        let mut count = 0;
+        for line in &self.lines {
+            count += line.act.count() as u64;
+        }
+        count
     }
 }

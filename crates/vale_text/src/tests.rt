@@ -1,8 +1,8 @@
 ghost use Rattle.std.specs.Prelude.{[], ◌∷◌};
 
-use crate::text::write_transcript;
-use nm_io::MemorySink;
-use nm_types::{Batch, LeaseId, Name, PortId, SessionId};
+use crate::text::{EntryLine, write_transcript};
+use nm_io::{MemorySink, Sink, Text};
+use nm_types::{Batch, Chain, LeaseId, Name, PortId, SessionId};
 use std::alloc::Global;
 use std::test::Fail;
 use vale_entry::{Ask, Dest, Dests, Entry, Numbers, Reply};
@@ -82,6 +82,32 @@ fn entries_are_written(rt: HostRuntime) -> Result<(), Fail> {
     assert_eq!(rt;
         out.bytes(),
         b"vale 1 pool 64\n1 enter 1\n2 1 open vale0:a 4 4 0 = ok\n3 1 send 3 ff0a,~. = short 2 lone 0 to 4*1\n4 1 grant 5 4 = given 1 full 0 gone 0\n5 1 done 6\n6 2 sync 4 12,13 = gave 1 to -\nend 6 free 56\n".as_slice()
+    );
+    Ok(())
+}
+
+fn put_line<K: Sink>(out: &mut K, number: u32, entry: &Entry) -> Result<(), Fail> {
+    EntryLine { number, entry }
+        .write(out)
+        .ok()
+        .ok_or("written")?;
+    Ok(())
+}
+
+#[test]
+fn closing_and_leaving_are_written(rt: HostRuntime) -> Result<(), Fail> {
+    let mut out = MemorySink::new(rt.alloc(), Vec::new(rt.alloc()));
+    let (session, port) = (SessionId(1), PortId(3));
+    let bufs = Numbers::from(vec![in rt.alloc(); 2u32, 3, 4, 5]?);
+    let (found, astray) = (0, 0);
+    let chain = Chain { found, astray };
+    let finish = Ask::Finish { port, bufs, chain };
+    put_line(&mut out, 9, &entry(1, Ask::Shut { port }, Reply::Made))?;
+    put_line(&mut out, 10, &entry(1, finish, Reply::Unread { count: 0 }))?;
+    put_line(&mut out, 11, &entry(1, Ask::Leave { session }, Reply::Made))?;
+    assert_eq!(rt;
+        out.bytes(),
+        b"9 1 shut 3\n10 1 finish 3 2,3,4,5 found 0 astray 0 = unread 0\n11 1 leave\n".as_slice()
     );
     Ok(())
 }

@@ -14,7 +14,7 @@ ghost use Rattle.vale_text.specs.Pieces.{with_comma, piece_text, pieces_text};
 use arrayvec::ArrayVec;
 use itoa::Buffer;
 use nm_io::{Failed, Page, Sink, Text, put_all, put_page, put_text};
-use nm_types::{Batch, LeaseId, Name, NoMemory, OpenFault, PortId};
+use nm_types::{Batch, Chain, LeaseId, Name, NoMemory, OpenFault, PortId};
 use std::alloc::Global;
 use vale_entry::{Ask, Dest, Dests, Entry, Numbers, Reply};
 
@@ -413,6 +413,50 @@ fn put_sync<K: Sink>(out: &mut K, session: u32, port: PortId, back: &Numbers) ->
     )
 }
 
+fn put_shut<K: Sink>(out: &mut K, session: u32, port: PortId) -> Result<(), Failed>
+    ensures writes { Writes (K.holds out.old) (K.holds out.new) result (ask_text session (asks.Shut port)) }
+    ensures later { K.faults out.old ≤ K.faults out.new }
+    ensures cause { OnErr result (Rose (K.faults out.old) (K.faults out.new)) }
+{
+    put_pieces(
+        out,
+        &[
+            Piece::Word(b" "),
+            Piece::Number(session as u64),
+            Piece::Word(b" shut "),
+            Piece::Number(port.0 as u64),
+        ],
+    )
+}
+
+fn put_finish<K: Sink>(
+    out: &mut K,
+    session: u32,
+    port: PortId,
+    bufs: &Numbers,
+    chain: Chain,
+) -> Result<(), Failed>
+    ensures writes { Writes (K.holds out.old) (K.holds out.new) result (ask_text session (asks.Finish port bufs.now chain)) }
+    ensures later { K.faults out.old ≤ K.faults out.new }
+    ensures cause { OnErr result (Rose (K.faults out.old) (K.faults out.new)) }
+{
+    put_pieces(
+        out,
+        &[
+            Piece::Word(b" "),
+            Piece::Number(session as u64),
+            Piece::Word(b" finish "),
+            Piece::Number(port.0 as u64),
+            Piece::Word(b" "),
+            Piece::Numbers(bufs.as_slice()),
+            Piece::Word(b" found "),
+            Piece::Number(chain.found as u64),
+            Piece::Word(b" astray "),
+            Piece::Number(chain.astray as u64),
+        ],
+    )
+}
+
 fn put_ask<K: Sink>(out: &mut K, session: u32, ask: &Ask) -> Result<(), Failed>
     ensures writes { Writes (K.holds out.old) (K.holds out.new) result (ask_text session ask.now) }
     ensures later { K.faults out.old ≤ K.faults out.new }
@@ -431,6 +475,16 @@ fn put_ask<K: Sink>(out: &mut K, session: u32, ask: &Ask) -> Result<(), Failed>
         Ask::Grant { origin, to } => put_grant(out, session, *origin, *to),
         Ask::Done { lease } => put_done(out, session, *lease),
         Ask::Sync { port, back } => put_sync(out, session, *port, back),
+        Ask::Shut { port } => put_shut(out, session, *port),
+        Ask::Finish { port, bufs, chain } => put_finish(out, session, *port, bufs, *chain),
+        Ask::Leave { session: _ } => put_pieces(
+            out,
+            &[
+                Piece::Word(b" "),
+                Piece::Number(session as u64),
+                Piece::Word(b" leave"),
+            ],
+        ),
         _ => put_all(out, b""),
     }
 }
@@ -491,6 +545,10 @@ fn put_reply<K: Sink>(out: &mut K, reply: &Reply) -> Result<(), Failed>
                 Piece::Word(b" to "),
                 Piece::Dests(to.as_slice()),
             ],
+        ),
+        Reply::Unread { count } => put_pieces(
+            out,
+            &[Piece::Word(b" = unread "), Piece::Number(*count as u64)],
         ),
         _ => put_all(out, b""),
     }

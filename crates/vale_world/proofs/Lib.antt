@@ -8,3 +8,5 @@ pub mod PortSizes
 pub mod Grants
 pub mod FirstOffers
 pub mod SessionPlaces
+pub mod Frees
+pub mod LeasePlaces

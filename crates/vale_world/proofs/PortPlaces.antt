@@ -7,6 +7,7 @@ use Rattle.std.proofs.lemmas.List.Folds.{find-append}
 use Rattle.std.proofs.Math.Seq.{drop-cons}
 use Rattle.std.specs.List.{list_any, flat_map, position_or_len}
 use Rattle.vale_entry.specs.World.{Port, Lot, is_open_at, open_port, has_lot_owed_by}
+use Rattle.vale_entry.specs.Closing.{is_shutting_at, shutting_port, is_port_of}
 use Rattle.vale_entry.specs.Delivery.{is_lease, lease_at, line_of, port_after_done, ports_after_done}
 use Rattle.vale_world.specs.Seat.{Seat, port_of, held_of, seat_done}
 use Rattle.vale_world.proofs.Newest.{list_any-map}
@@ -44,6 +45,19 @@ pub not_found : (seats : List Seat) (id : ℕ) → position (λ (seat : Seat). i
 not_found seats id e = find_map-past (is_open_at id) port_of seats
     (ltb-false (position_or_len (λ (seat : Seat). is_open_at id seat.port) seats) (length seats) (none_is (nat_lt (position_or_len (λ (seat : Seat). is_open_at id seat.port) seats) (length seats)) (position_or_len (λ (seat : Seat). is_open_at id seat.port) seats) e))
 
+pub shutting_at : (seats : List Seat) (id i : ℕ) → position (λ (seat : Seat). is_shutting_at id seat.port) seats ≡ Some i → (i < length seats) × (shutting_port (map port_of seats) id ≡ slice_get (map port_of seats) i)
+shutting_at [] id i e = cc
+shutting_at (s ∷ ss) id i e =
+    let at = position-Some (λ (seat : Seat). is_shutting_at id seat.port) (s ∷ ss) i s e in
+    (at.0, find_map-at (is_shutting_at id) port_of (s ∷ ss) i s at.0 at.1 at.2)
+
+pub none_shutting : (seats : List Seat) (id : ℕ) → position (λ (seat : Seat). is_shutting_at id seat.port) seats ≡ None → shutting_port (map port_of seats) id ≡ None
+none_shutting seats id e = find_map-past (is_shutting_at id) port_of seats
+    (ltb-false (position_or_len (λ (seat : Seat). is_shutting_at id seat.port) seats) (length seats) (none_is (nat_lt (position_or_len (λ (seat : Seat). is_shutting_at id seat.port) seats) (length seats)) (position_or_len (λ (seat : Seat). is_shutting_at id seat.port) seats) e))
+
+pub has_port-seats : (seats : List Seat) (session : ℕ) → list_any (is_port_of session) (map port_of seats) ≡ list_any (λ (seat : Seat). is_port_of session seat.port) seats
+has_port-seats seats session = list_any-map (is_port_of session) port_of seats
+
 pub owes-seats : (seats : List Seat) (session : ℕ) → list_any (has_lot_owed_by session) (map port_of seats) ≡ list_any (λ (seat : Seat). has_lot_owed_by session seat.port) seats
 owes-seats seats session = list_any-map (has_lot_owed_by session) port_of seats
 
@@ -67,7 +81,7 @@ or-none (Some lot) q e = cc
 lease-cons : (number : ℕ) (port : Port) (ports : List Port) → lease_at (port ∷ ports) number ≡ option_or (find (is_lease number) port.line) (lease_at ports number)
 lease-cons number port ports = find-append (is_lease number) port.line (flat_map line_of ports)
 
-seat-cut : (seats : List Seat) (i : ℕ) (seat : Seat) → i < length seats → seat ≡ get_or seats i seat → drop i seats ≡ seat ∷ drop (i + 1) seats
+pub seat-cut : (seats : List Seat) (i : ℕ) (seat : Seat) → i < length seats → seat ≡ get_or seats i seat → drop i seats ≡ seat ∷ drop (i + 1) seats
 seat-cut seats i seat h is = rw add-one (drop-cons seats i seat h ∙ ap (λ (s : Seat). s ∷ drop (suc i) seats) (sym is))
 
 pub lessee-some : (number : ℕ) (seats : List Seat) (i : ℕ) (seat : Seat) (session : ℕ) → i < length seats → seat ≡ get_or seats i seat
@@ -84,7 +98,7 @@ lessee-none number seats i seat h is found =
     rw (seat-cut seats i seat h is, lease-cons number seat.port (map port_of (drop (i + 1) seats)))
     (or-none (find (is_lease number) seat.port.line) (lease_at (map port_of (drop (i + 1) seats)) number) (sym found))
 
-pub ruleset port_places = (found_at, not_found, owes-seats, ports-done, held-done)
+pub ruleset port_places = (found_at, not_found, shutting_at, none_shutting, has_port-seats, owes-seats, ports-done, held-done)
 
 -- a port at a place of the seats stands there among the ports
 pub place-is : (seats : List Seat) (i : ℕ) (seat : Seat) → i < length seats → slice_get (map port_of seats) i ≡ Some (port_of (get_or seats i seat))

@@ -5,3 +5,5 @@ pub mod Named
 pub mod Offering
 pub mod Enabled
 pub mod Sessions
+pub mod Climbing
+pub mod Leases

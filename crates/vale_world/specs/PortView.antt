@@ -1,5 +1,5 @@
 -- what a port of the switch state stands for, and what it keeps
-use Rattle.std.specs.Prelude.{◌≡◌, ◌+◌, ◌≤◌, length, vec_capacity}
+use Rattle.std.specs.Prelude.{◌≡◌, ◌+◌, ◌≤◌, [], length, vec_capacity}
 use Rattle.vale_world.specs.declared.port.Port.TheInside.{Inside}
 use Rattle.vale_entry.specs.World.{size_of_line}
 use Rattle.vale_world.specs.Seat.{Seat}
@@ -18,4 +18,6 @@ pub record IsSeat (p : Inside) : Type 0 where
   pub idle_left : p.queued + 1 + p.out ≤ p.rx
   pub line_room : p.rx ≤ vec_capacity p.line
   pub kernel_room : p.rx ≤ vec_capacity p.kernel
+  pub list_none : p.list.items ≡ []
+  pub list_room : p.tx + p.rx + p.extra ≤ vec_capacity p.list
   pub nonempty : AreNonempty p.line.items

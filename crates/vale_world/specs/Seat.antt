@@ -4,6 +4,7 @@ use Rattle.std.specs.List.{flat_map}
 use Rattle.nm_types.specs.Frames.{size_of_frames}
 use Rattle.vale_entry.specs.World.{Port, Offer, space_of}
 use Rattle.vale_entry.specs.Grant.{longest_fitting, port_after_grant}
+use Rattle.vale_entry.specs.Closing.{shut}
 use Rattle.vale_entry.specs.Delivery.{ready_lots, port_after_done, port_after_sync}
 use Rattle.vale_entry.specs.Holdings.{PortBuffers, with_lot_buffers, with_returned}
 
@@ -35,3 +36,7 @@ ready_buffers seat = flat_map (λ list. list) (take (length (ready_lots seat.por
 -- the port with these buffers back, and with what was ready given
 abbrev pub seat_synced : List ℕ → Seat → Seat
 seat_synced back seat = record { port = port_after_sync (length back) seat.port; held = with_returned (length (ready_lots seat.port)) back seat.held }
+
+-- the port, shut
+abbrev pub seat_shut : Seat → Seat
+seat_shut seat = record { port = shut seat.port; held = seat.held }

@@ -2,11 +2,12 @@ ghost use Rattle.std.specs.Prelude.{◌≡◌, ◌==◌, map};
 ghost use Rattle.std.specs.List.{list_any};
 ghost use Rattle.vale_entry.specs.World.{open_port};
 ghost use Rattle.vale_world.specs.Seat.{port_of};
-ghost use Rattle.vale_world.specs.Enabled.{is_settled_over, may_send, can_send_over, may_sync, session_if};
+ghost use Rattle.vale_entry.specs.Closing.{shutting_port};
+ghost use Rattle.vale_world.specs.Enabled.{is_settled_over, may_send, can_send_over, may_sync, session_if, can_shut_over, is_due, may_leave};
 
 use crate::offer::Offer;
 use crate::port::Port;
-use crate::ports::{open_port, owes};
+use crate::ports::{has_port, open_port, owes, shutting_port};
 use nm_types::Batch;
 
 fn has_offer(offers: &[Offer], session: u32) -> bool
@@ -59,4 +60,34 @@ pub fn may_sync(ports: &[Port], offers: &[Offer], id: u32, returned: usize) -> O
     } else {
         None
     }
+}
+
+/// Whether the port of this id is open, and its session has nothing to grant or complete.
+#[tactic(auto, using(crate::proofs::PortPlaces::sender_places))]
+pub fn can_shut(ports: &[Port], offers: &[Offer], id: u32) -> bool
+    ensures { result ≡ can_shut_over (map port_of ports.now) offers.now (open_port (map port_of ports.now) id) }
+{
+    match open_port(ports, id) {
+        Some(place) => is_settled(ports, offers, ports[place].session()),
+        None => false,
+    }
+}
+
+/// The session of the shutting port of this id, if it is due so many buffers for it.
+pub fn may_finish(ports: &[Port], id: u32, count: usize) -> Option<u32>
+    ensures { result ≡ session_if (is_due count) (shutting_port (map port_of ports.now) id) }
+{
+    let port = &ports[shutting_port(ports, id)?];
+    if count as u64 == port.due() {
+        Some(port.session())
+    } else {
+        None
+    }
+}
+
+/// Whether the session has no port, and nothing to grant or complete.
+pub fn may_leave(ports: &[Port], offers: &[Offer], session: u32) -> bool
+    ensures { result ≡ may_leave (map port_of ports.now) offers.now session }
+{
+    !has_port(ports, session) && is_settled(ports, offers, session)
 }

@@ -35,6 +35,12 @@ impl Lot {
         }
     }
 
+    pub(crate) fn number(&self) -> u32
+        ensures { result ≡ self.now.number }
+    {
+        self.number
+    }
+
     pub(crate) fn session(&self) -> u32
         ensures { result ≡ self.now.session }
     {

@@ -40,7 +40,8 @@ impl Offer {
         }
     }
 
-    pub(crate) fn origin(&self) -> u32
+    /// The number of the entry that made it.
+    pub fn origin(&self) -> u32
         ensures { result ≡ self.now.origin }
     {
         self.origin

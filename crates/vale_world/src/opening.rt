@@ -225,6 +225,7 @@ pub fn add_port(
     ensures ports { OnOk result (map port_of ports.new.items ≡ map port_of ports.old.items ++ opened_port id.0 session.0 name sizes.tx sizes.rx sizes.extra ∷ []) }
     ensures held { OnOk result (map held_of ports.new.items ≡ map held_of ports.old.items ++ (record { port = id.0; idle = take sizes.rx (drop sizes.tx free.old.items); lots = [] }) ∷ []) }
     ensures free { OnOk result (free.new.items ≡ drop (sizes.tx + sizes.rx + sizes.extra) free.old.items) }
+    ensures capacity { vec_capacity free.new ≡ vec_capacity free.old }
     ensures port { IfOk result (λ opened. opened.port ≡ id) }
     ensures tx { IfOk result (λ opened. opened.tx.items ≡ take sizes.tx free.old.items) }
     ensures rx { IfOk result (λ opened. opened.rx.items ≡ take sizes.rx (drop sizes.tx free.old.items)) }

@@ -1,9 +1,13 @@
-ghost use Rattle.std.specs.Prelude.{◌≡◌, ◌<◌, ◌≤◌, ◌+◌, ◌-◌, ◌^◌, [], ◌∷◌, ◌++◌, length, take, drop, vec_len, vec_capacity, false, IfOk, IfSome, find, option_map, map};
+ghost use Rattle.std.specs.Prelude.{◌≡◌, ◌<◌, ◌≤◌, ◌+◌, ◌-◌, ◌^◌, [], ◌∷◌, ◌++◌, length, take, drop, vec_len, vec_capacity, false, IfOk, IfSome, find, option_map, map, count_by};
+ghost use Rattle.std.specs.List.Sorted.{IsPermutation};
 ghost use Rattle.nm_types.specs.Frames.{size_of_frames};
-ghost use Rattle.vale_entry.specs.World.{size_of_line, buffers_of, is_open_at, space_of, has_lot_owed_by, is_owed_by};
+ghost use Rattle.vale_entry.specs.World.{size_of_line, buffers_of, due_of, is_open_at, is_undone, space_of, has_lot_owed_by, is_owed_by};
+ghost use Rattle.vale_entry.specs.Closing.{is_shutting_at, leases_out, unread_count};
 ghost use Rattle.vale_entry.specs.Opening.{opened_port};
 ghost use Rattle.vale_entry.specs.Grant.{longest_fitting, port_after_grant};
-ghost use Rattle.vale_entry.specs.Holdings.{with_lot_buffers, with_returned, holdings_after_open};
+ghost use Rattle.vale_entry.specs.Holdings.{with_lot_buffers, with_returned, buffers_at_port};
+ghost use Rattle.vale_world.specs.Seat.{seat_shut};
+ghost use Rattle.vale_world.specs.Leases.{first_undone};
 ghost use Rattle.vale_entry.specs.Delivery.{is_lease, is_done_lot, port_after_done, port_after_sync, ready_lots, delivered_frames, lot_after_done};
 ghost use Rattle.std.specs.List.{take_while, flat_map};
 
@@ -16,7 +20,8 @@ use std::marker::Model;
 /// A port of a switch, an end of a pipe or a monitor, with the kernel side of its receive ring.
 ///
 /// `kernel` has the buffers of the lots in the order of the line, and behind them the idle ones: a
-/// grant moves none of them.
+/// grant moves none of them. `list` is empty: it keeps memory for the numbers of the buffers that the
+/// session brings back when the port goes.
 #[derive(Drop)]
 pub struct Port {
     id: u32,
@@ -30,6 +35,7 @@ pub struct Port {
     queued: u32,
     line: Vec<Lot>,
     kernel: Vec<u32>,
+    list: Vec<u32>,
 }
 
 impl Model for Port {
@@ -80,6 +86,12 @@ fn ready_count(line: &Vec<Lot>) -> usize
         count += 1;
     }
     count
+}
+
+fn undone_count(line: &Vec<Lot>) -> usize
+    ensures { result ≡ count_by is_undone line.now.items }
+{
+    line.iter().filter(|lot| !lot.is_done()).count()
 }
 
 /// How many slots the first lots take.
@@ -134,6 +146,10 @@ impl Port {
             queued: 0,
             line: Vec::with_capacity(alloc, sizes.rx as usize)?,
             kernel,
+            list: Vec::with_capacity(
+                alloc,
+                sizes.tx as usize + sizes.rx as usize + sizes.extra as usize,
+            )?,
         })
     }
 
@@ -179,6 +195,66 @@ impl Port {
         self.tx as u64 + self.rx as u64 + self.extra as u64
     }
 
+    /// The buffers that its session holds for it.
+    pub fn due(&self) -> u64
+        ensures { result ≡ due_of self.now.port }
+    {
+        self.tx as u64 + self.extra as u64 + self.out as u64
+    }
+
+    /// How many of its leases are not done.
+    #[tactic(auto, using(crate::proofs::Queues::queues, crate::proofs::Frees::leases))]
+    pub fn leases_out(&self) -> u32
+        ensures { result ≡ leases_out self.now.port }
+    {
+        undone_count(&self.line) as u32
+    }
+
+    /// The frames in its line, which no sync gave.
+    #[tactic(auto, using(crate::proofs::Queues::queues))]
+    pub fn unread(&self) -> u32
+        ensures { result ≡ unread_count self.now.port }
+    {
+        self.queued
+    }
+
+    /// The buffers of the kernel side of its receive ring.
+    #[tactic(auto, using(crate::proofs::Frees::kernels))]
+    pub(crate) fn kernel(&self) -> &[u32]
+        ensures buffers { IsPermutation result.now (buffers_at_port self.now.held) }
+        ensures count { length result.now + self.now.port.out ≡ self.now.port.rx }
+    {
+        &self.kernel
+    }
+
+    /// The empty list, with memory for the numbers of all its buffers.
+    pub fn into_list(self) -> Vec<u32>
+        ensures none { result.items ≡ [] }
+        ensures room { buffers_of self.port ≤ vec_capacity result }
+    {
+        let Port {
+            id: _,
+            session: _,
+            name: _,
+            tx: _,
+            rx: _,
+            extra: _,
+            shutting: _,
+            out: _,
+            queued: _,
+            line: _,
+            kernel: _,
+            list,
+        } = self;
+        list
+    }
+
+    pub(crate) fn is_shutting_at(&self, id: u32) -> bool
+        ensures { result ≡ is_shutting_at id self.now.port }
+    {
+        self.id == id && self.shutting
+    }
+
     pub(crate) fn is_open_at(&self, id: u32) -> bool
         ensures { result ≡ is_open_at id self.now.port }
     {
@@ -197,6 +273,16 @@ impl Port {
         ensures { result ≡ has_lot_owed_by session self.now.port }
     {
         self.line.iter().any(|lot| lot.is_owed_by(session))
+    }
+
+    /// The number of the first lot that is not done.
+    pub(crate) fn first_lease(&self) -> Option<u32>
+        ensures { result ≡ first_undone self.now.port }
+    {
+        match self.line.iter().find(|lot| !lot.is_done()) {
+            Some(lot) => Some(lot.number()),
+            None => None,
+        }
     }
 
     /// The session of the lot of that number, if it is here and not done.
@@ -240,6 +326,13 @@ impl Port {
         frames.truncate(given as usize);
         self.grant(Lot::new(number, session, frames));
         given
+    }
+
+    /// Closes it for new frames.
+    pub(crate) fn shut(&mut self)
+        ensures { self.new ≡ seat_shut self.old }
+    {
+        self.shutting = true;
     }
 
     /// What a sync would give.

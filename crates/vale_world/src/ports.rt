@@ -1,9 +1,11 @@
-ghost use Rattle.std.specs.Prelude.{◌≡◌, ◌<◌, ◌≤◌, length, map, IfSome, IfNone, None, Some, slice_get, slice_set, option_map, position, vec_capacity};
+ghost use Rattle.std.specs.Prelude.{◌≡◌, ◌<◌, ◌≤◌, length, map, IfSome, IfNone, None, Some, slice_get, slice_set, option_map, position, find, option_copied, vec_capacity};
 ghost use Rattle.std.specs.List.{list_any};
 ghost use Rattle.vale_entry.specs.World.{open_port, is_open_at, has_lot_owed_by, space_of};
 ghost use Rattle.vale_entry.specs.Delivery.{lease_at, ports_after_done};
 ghost use Rattle.vale_entry.specs.Grant.{longest_fitting};
-ghost use Rattle.vale_world.specs.Seat.{Seat, port_of, held_of, seat_done, seat_given};
+ghost use Rattle.vale_entry.specs.Closing.{shutting_port, is_shutting_at, is_port_of};
+ghost use Rattle.vale_world.specs.Leases.{earliest, first_lease, id_and_due};
+ghost use Rattle.vale_world.specs.Seat.{Seat, port_of, held_of, seat_done, seat_given, seat_shut};
 
 use crate::offer::Offer;
 use crate::port::Port;
@@ -21,6 +23,74 @@ pub fn open_port(ports: &[Port], id: u32) -> Option<usize>
     ensures none { IfNone result (open_port (map port_of ports.now) id ≡ None) }
 {
     place_of(ports, id)
+}
+
+fn place_of_shutting(ports: &[Port], id: u32) -> Option<usize>
+    ensures { result ≡ position (λ seat. is_shutting_at id seat.port) ports.now }
+{
+    ports.iter().position(|port| port.is_shutting_at(id))
+}
+
+/// The place of the shutting port of this id.
+#[tactic(auto, using(crate::proofs::PortPlaces::port_places))]
+pub fn shutting_port(ports: &[Port], id: u32) -> Option<usize>
+    ensures some { IfSome result (λ place. (place < length ports.now) × (shutting_port (map port_of ports.now) id ≡ slice_get (map port_of ports.now) place)) }
+    ensures none { IfNone result (shutting_port (map port_of ports.now) id ≡ None) }
+{
+    place_of_shutting(ports, id)
+}
+
+fn some_of_session(ports: &[Port], session: u32) -> bool
+    ensures { result ≡ list_any (λ seat. is_port_of session seat.port) ports.now }
+{
+    ports.iter().any(|port| port.session() == session)
+}
+
+/// Whether this session has a port, open or shutting.
+#[tactic(auto, using(crate::proofs::PortPlaces::port_places))]
+pub(crate) fn has_port(ports: &[Port], session: u32) -> bool
+    ensures { result ≡ list_any (is_port_of session) (map port_of ports.now) }
+{
+    some_of_session(ports, session)
+}
+
+fn find_of_session(ports: &[Port], session: u32) -> Option<&Port>
+    ensures { option_copied result ≡ find (λ seat. is_port_of session seat.port) ports.now }
+{
+    ports.iter().find(|port| port.session() == session)
+}
+
+/// The id of the first port of this session, and how many buffers the session is due for it.
+#[tactic(auto, using(crate::proofs::LeasePlaces::lease_places))]
+pub fn first_of_session(ports: &[Port], session: u32) -> Option<(u32, u64)>
+    ensures { result ≡ option_map id_and_due (find (is_port_of session) (map port_of ports.now)) }
+{
+    match find_of_session(ports, session) {
+        Some(port) => Some((port.id(), port.due())),
+        None => None,
+    }
+}
+
+fn earlier(first: Option<u32>, other: Option<u32>) -> Option<u32>
+    ensures { result ≡ earliest first other }
+{
+    match (first, other) {
+        (Some(first), Some(other)) => Some(first.min(other)),
+        (None, other) => other,
+        (first, None) => first,
+    }
+}
+
+/// The smallest number among the first lots of the ports that are not done.
+#[tactic(auto, using(crate::proofs::LeasePlaces::lease_places))]
+pub fn first_lease(ports: &[Port]) -> Option<u32>
+    ensures { result ≡ first_lease (map port_of ports.now) }
+{
+    let mut first = None;
+    for port in ports {
+        first = earlier(first, port.first_lease());
+    }
+    first
 }
 
 fn some_owes(ports: &[Port], session: u32) -> bool
@@ -85,4 +155,12 @@ pub fn give_at(ports: &mut Vec<Port>, place: usize, number: u32, offer: Offer) -
     ensures ports { (seat : Seat) → slice_get ports.old.items place ≡ Some seat → ports.new.items ≡ slice_set ports.old.items place (seat_given number offer seat) }
 {
     ports[place].give(number, offer)
+}
+
+/// Closes the port at this place for new frames.
+pub fn shut(ports: &mut Vec<Port>, place: usize)
+    requires { place < length ports.old.items }
+    ensures ports { (seat : Seat) → slice_get ports.old.items place ≡ Some seat → ports.new.items ≡ slice_set ports.old.items place (seat_shut seat) }
+{
+    ports[place].shut();
 }

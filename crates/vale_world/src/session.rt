@@ -1,6 +1,6 @@
-ghost use Rattle.std.specs.Prelude.{◌≡◌, ◌<◌, ◌≤◌, ◌+◌, ◌++◌, ◌&&◌, [], length, map, vec_len, vec_capacity, OnOk, IfSome, IfNone, false, position, ◌==◌};
+ghost use Rattle.std.specs.Prelude.{◌≡◌, ◌<◌, ◌≤◌, ◌+◌, ◌++◌, ◌&&◌, [], length, map, vec_len, vec_capacity, OnOk, IfSome, IfNone, false, not, filter, position, ◌==◌};
 ghost use Rattle.std.specs.List.{list_all, list_any};
-ghost use Rattle.vale_entry.specs.Holdings.{contains, buffers_without, are_distinct};
+ghost use Rattle.vale_entry.specs.Holdings.{SessionBuffers, contains, buffers_without, are_distinct};
 ghost use Rattle.vale_world.specs.Sessions.{held_by, CanTake, AreHeldAt, IsPlaceOf};
 
 use std::alloc::{AllocError, Global};
@@ -100,6 +100,14 @@ impl Session {
     }
 }
 
+/// The session of this id is gone.
+#[tactic(auto, using(crate::proofs::SessionPlaces::session_places))]
+pub fn remove(sessions: &mut Vec<Session>, id: u32)
+    ensures { map held_by sessions.new.items ≡ filter (λ (held : SessionBuffers). not (held.session == id)) (map held_by sessions.old.items) }
+{
+    sessions.retain(|session| session.id != id);
+}
+
 fn position_of(sessions: &[Session], id: u32) -> Option<usize>
     ensures { result ≡ position (λ s. s.id == id) sessions.now }
 {
@@ -143,4 +151,13 @@ pub fn exchange_at(sessions: &mut [Session], place: usize, gone: &[u32], more: &
     ensures { AreHeldAt (map held_by sessions.old) place (λ held. buffers_without gone.now held ++ more.now) (map held_by sessions.new) }
 {
     sessions[place].exchange(gone, more);
+}
+
+/// Takes some buffers from one session.
+#[tactic(auto, using(crate::proofs::SessionPlaces::session_places))]
+pub fn take_at(sessions: &mut [Session], place: usize, gone: &[u32])
+    requires { place < length sessions.old }
+    ensures { AreHeldAt (map held_by sessions.old) place (buffers_without gone.now) (map held_by sessions.new) }
+{
+    sessions[place].remove(gone);
 }

@@ -2,7 +2,7 @@ ghost use Rattle.std.specs.Prelude.{◌≡◌, length, IsTrue, ◌↔◌, None, 
 ghost use Rattle.vale_entry.specs.declared.entry.Ask.TheVariants as asks;
 ghost use Rattle.vale_entry.specs.declared.entry.Reply.TheVariants as replies;
 ghost use Rattle.vale_entry.specs.Legal.{IsEnabled, step};
-ghost use Rattle.vale_book.specs.Recorded.{standing, after_ask, reply_of};
+ghost use Rattle.vale_book.specs.Recorded.{standing, after_ask, reply_of, HasRoom};
 
 use crate::book::Book;
 use crate::granting;
@@ -27,6 +27,7 @@ impl Book {
     pub fn grant(&mut self, origin: u32, to: PortId) -> Granted
         requires { IsEnabled (standing self.old) (asks.Grant origin to) }
         ensures made { self.new ≡ after_ask self.old (asks.Grant origin to) }
+        ensures room { HasRoom self.old (asks.Grant origin to) }
         ensures said { option_map reply_of (step (standing self.old) (asks.Grant origin to)) ≡ Some (replies.Shared result.given result.full result.gone) }
         ensures lease { result.lease ≡ (if result.given == 0 then None else Some (record { 0 = length self.new.entries })) }
     {

@@ -21,7 +21,7 @@ returns-in-Some c =
     let settles = settles-leased b c.args.origin c.args.to.0 g.result.given g.result.full g.result.gone g.ensures.said is.0 in
     let count : length g.new.self.entries ≡ length b.entries + 1 = ap (λ (r : Recorded). length r.entries) g.ensures.made ∙ granted-count b c.args.origin c.args.to.0 c.requires in
     let lease_is : c.in-Some.lease ≡ record { 0 = length b.entries + 1 } = is.1 ∙ ap (λ n. record { 0 = n }) count in
-    rw (c.done.ensures, g.ensures.made, lease_is) settles
+    rw (c.done.ensures.made, g.ensures.made, lease_is) settles
 
 pub returns-in_default : goal.returns-in_default
 returns-in_default c =

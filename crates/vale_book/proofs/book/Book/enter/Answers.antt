@@ -1,13 +1,26 @@
-use Rattle.std.proofs.Common.{reverse}
-use Rattle.vale_book.proofs.Enters.{stands-enter}
+use Rattle.std.proofs.Common.{reverse, refl}
+use Rattle.vale_entry.specs.declared.entry.Ask.TheVariants.{Enter}
+use Rattle.vale_entry.specs.Legal.{standing_of, enter_step}
+use Rattle.vale_book.proofs.Enters.{stands-enter, stored-enter}
+use Rattle.vale_book.proofs.Answered.{rooms-fit}
 use Rattle.vale_book.proofs.book.Book.enter.Goals as goal
 use Rattle.vale_book.proofs.book.Book.enter.Goals.{in-Ok, in-Err}
 
 pub invariant_of-self : goal.invariant_of-self
 invariant_of-self c =
+    let b = c.self.inside in
+    let kept = c.self.invariant in
     elim c.match-enter.branch [
-      | in-Ok w ↦
-          rw (w.in-Ok.ensures.entries, w.in-Ok.ensures.promised, w.in-Ok.ensures.sessions, w.in-Ok.ensures.number)
-          (stands-enter c.self.inside.pool c.self.inside.history.entries c.self.inside.history.promised c.args.user c.self.inside.sessions.items c.self.inside.ports.items (reverse c.self.inside.pairs.items) c.self.inside.offers.items c.self.inside.free.items c.self.invariant)
-      | in-Err w ↦ rw (w.in-Err.ensures.err.0, w.in-Err.ensures.err.1, w.in-Err.ensures.err.2) c.self.invariant
+      | in-Ok w ↦ record {
+        stands = rw (w.in-Ok.ensures.entries, w.in-Ok.ensures.promised, w.in-Ok.ensures.sessions, w.in-Ok.ensures.number)
+            (stands-enter b.pool b.history.entries b.history.promised c.args.user b.sessions.items b.ports.items (reverse b.pairs.items) b.offers.items b.free.items kept.stands);
+        rooms = rooms-fit b.pool b.history c.enter.new.history (Enter c.args.user) (enter_step (standing_of b.pool b.history.entries)) kept.rooms kept.stands.promised_is refl w.in-Ok.ensures.fits c.enter.ensures.limits
+            (stored-enter b.pool b.history.entries c.enter.new.history.entries c.args.user w.in-Ok.number w.in-Ok.ensures.number w.in-Ok.ensures.entries);
+        memory = kept.memory;
+      }
+      | in-Err w ↦ record {
+        stands = rw (w.in-Err.ensures.err.0, w.in-Err.ensures.err.1, w.in-Err.ensures.err.2) kept.stands;
+        rooms = rw (w.in-Err.ensures.err.0, c.enter.ensures.limits) kept.rooms;
+        memory = kept.memory;
+      }
     ]

@@ -29,6 +29,8 @@ invariant_of-self c =
       idle_left = omega (arith, split, slots, queued, kernel, idle, returned);
       line_room = search rules;
       kernel_room = search rules;
+      list_none = c.self.invariant.list_none;
+      list_room = c.self.invariant.list_room;
       nonempty = rw c.remove_front-2.ensures.items (nonempty-drop c.ready_count-lots.result c.self.inside.line.items c.self.invariant.nonempty);
     }
 

@@ -1,0 +1,163 @@
+-- Promised entries one after another: each leaves one promised entry fewer.
+use Rattle.std.proofs.Common.{ℕ, List, map, [], ◌∷◌, ◌++◌, ◌≡◌, ◌<◌, Bool, true, false, cond, ◌==◌, Option, Some, None, is_some, refl, sym, ◌∙◌, ap, subst, arith}
+use Rattle.std.specs.List.{AllByRecursion as Each}
+use Rattle.std.proofs.lemmas.List.{append-nil, append_assoc}
+use Rattle.std.proofs.lemmas.Bool.{eq-eqb}
+use Rattle.nm_types.specs.declared.id.PortId.{PortId}
+use Rattle.nm_types.specs.declared.id.LeaseId.{LeaseId}
+use Rattle.vale_entry.specs.declared.entry.Ask.{Ask}
+use Rattle.vale_entry.specs.declared.entry.Ask.TheVariants.{Grant, Done}
+use Rattle.vale_entry.specs.declared.entry.Reply.TheVariants.{Made}
+use Rattle.vale_entry.specs.declared.entry.Entry.{Entry}
+use Rattle.vale_entry.specs.World.{World, Lot, Offer}
+use Rattle.vale_entry.specs.Delivery.{lease_at, ports_after_done}
+use Rattle.vale_entry.specs.Holdings.{Holdings}
+use Rattle.vale_entry.specs.Grant.{first_offer}
+use Rattle.vale_entry.specs.Legal.{Standing, Outcome, step, recorded_step, standing_with, standing_after, Follows, IsLegal, IsEnabled, grant_step, grant_step_at, done_step_at}
+use Rattle.vale_entry.specs.Room.{promised_of, room_wanted}
+use Rattle.vale_entry.proofs.HistoryLaws.{room-promised}
+use Rattle.vale_entry.proofs.Worlds.{standing-push, legal-push}
+use Rattle.vale_world.specs.Leases.{IsDone, first_lease}
+use Rattle.vale_world.specs.Seat.{port_of}
+use Rattle.vale_world.proofs.LeasePlaces.{first_lease-some, first_lease-none}
+use Rattle.vale_book.specs.declared.book.Book.TheInside.{Inside}
+use Rattle.vale_book.specs.BookView.{recorded, StandsIn}
+use Rattle.vale_book.specs.Recorded.{Recorded, standing, after_outcome, after_ask, with_step, entry_of}
+use Rattle.vale_book.specs.Winding.{IsContinued}
+
+pub continued-same : (b : Recorded) → IsContinued b b
+continued-same b = record { pool = refl; limits = refl; starts = record { more = []; is = sym (append-nil b.entries) } }
+
+continued-step : (old b : Recorded) (ask : Ask) (made : Outcome) → IsContinued old b → IsContinued old (with_step b ask made)
+continued-step old b ask made on = record {
+  pool = on.pool;
+  limits = on.limits;
+  starts = record {
+    more = on.starts.more ++ entry_of ask made ∷ [];
+    is = ap (λ (h : List Entry). h ++ entry_of ask made ∷ []) on.starts.is ∙ append_assoc old.entries on.starts.more (entry_of ask made ∷ []);
+  };
+}
+
+-- an ask adds to the entries, or leaves them
+pub continued-after : (old b : Recorded) (ask : Ask) → IsContinued old b → IsContinued old (after_ask b ask)
+continued-after old b ask on = by_outcome (step (standing b) ask)
+  where
+    by_outcome : (made : Option Outcome) → IsContinued old (after_outcome b ask made)
+    by_outcome None = on
+    by_outcome (Some made) = continued-step old b ask made on
+
+pub continued-on : (old mid new : Recorded) → IsContinued old mid → IsContinued mid new → IsContinued old new
+continued-on old mid new one two = record {
+  pool = two.pool ∙ one.pool;
+  limits = two.limits ∙ one.limits;
+  starts = record {
+    more = one.starts.more ++ two.starts.more;
+    is = two.starts.is ∙ (ap (λ (h : List Entry). h ++ two.starts.more) one.starts.is ∙ append_assoc old.entries one.starts.more two.starts.more);
+  };
+}
+
+-- what an ask that was promised leaves
+pub record IsStepped (b new : Recorded) (ask : Ask) (made : Outcome) : Type 0 where
+  pub standing_is : standing new ≡ standing_with (standing b) (entry_of ask made) made.next
+  pub legal : IsLegal new.pool new.entries
+  pub less : promised_of (standing new).world < promised_of (standing b).world
+
+pub stepped : (b new : Recorded) (ask : Ask) (made : Outcome) → new ≡ after_ask b ask → IsLegal b.pool b.entries → step (standing b) ask ≡ Some made → recorded_step (standing b) ask made.reply ≡ Some made
+    → room_wanted ask made.reply ≡ 0 → IsStepped b new ask made
+stepped b new ask made new_is legal is stored none =
+    let entry = entry_of ask made in
+    let follows : Follows (standing b) entry = rw stored refl in
+    let law = room-promised b.pool b.entries entry legal follows in
+    let next : new ≡ with_step b ask made = new_is ∙ ap (after_outcome b ask) is in
+    let here : IsStepped b (with_step b ask made) ask made = record {
+      standing_is = standing-push b.pool b.entries entry ∙ ap (standing_after (standing b) entry) stored;
+      legal = legal-push b.pool b.entries entry legal follows;
+      less = omega (arith, law, none);
+    } in
+    subst (λ (r : Recorded). IsStepped b r ask made) (sym next) here
+
+-- Grants.
+
+-- a grant that is enabled, and its offer
+pub record IsGrant (s : Standing) (origin : ℕ) (to : ℕ) : Type 0 where
+  pub offer : Offer
+  pub made : grant_step_at s to (first_offer s.world origin) ≡ Some (grant_step s offer)
+
+some-of : {X : Type 0} (b : Bool) (x : X) → is_some (cond b (Some x) None) ≡ true → cond b (Some x) None ≡ Some x
+some-of true x e = refl
+some-of false x e = absurd cc
+
+grant-by : (s : Standing) (to : ℕ) (found : Option Offer) → is_some (grant_step_at s to found) ≡ true → (offer : Offer) × (grant_step_at s to found ≡ Some (grant_step s offer))
+grant-by s to None e = absurd cc
+grant-by s to (Some offer) e = (offer, some-of (offer.to == to) (grant_step s offer) e)
+
+pub grant-of : (s : Standing) (origin to : ℕ) → is_some (grant_step_at s to (first_offer s.world origin)) ≡ true → IsGrant s origin to
+grant-of s origin to e = let found = grant-by s to (first_offer s.world origin) e in record { offer = found.0; made = found.1 }
+
+-- what a grant leaves, and what a loop of grants
+pub record IsGranting (old new : Recorded) : Type 0 where
+  pub more : IsContinued old new
+  pub held : (standing new).holdings.sessions ≡ (standing old).holdings.sessions
+
+pub granting-next : (old b new : Recorded) (origin : ℕ) (to : PortId) → IsLegal b.pool b.entries → IsGranting old b → IsEnabled (standing b) (Grant origin to) → new ≡ after_ask b (Grant origin to)
+    → IsGranting old new × (promised_of (standing new).world < promised_of (standing b).world)
+granting-next old b new origin to legal on enabled made =
+    let k = grant-of (standing b) origin to.0 enabled in
+    let next = stepped b new (Grant origin to) (grant_step (standing b) k.offer) made legal k.made k.made refl in (
+      record {
+        more = subst (λ (r : Recorded). IsContinued old r) (sym made) (continued-after old b (Grant origin to) on.more);
+        held = ap (λ (s : Standing). s.holdings.sessions) next.standing_is ∙ on.held;
+      },
+      next.less,
+    )
+
+-- the first offer can be granted
+pub first-enabled : (b : Inside) (offer : Offer) (offers : List Offer) → StandsIn b → b.offers.items ≡ offer ∷ offers
+    → is_some (grant_step_at (standing (recorded b)) offer.to (first_offer (standing (recorded b)).world offer.origin)) ≡ true
+first-enabled b offer offers stands are =
+    let same : (standing (recorded b)).world.offers ≡ offer ∷ offers = sym (ap (λ (w : World). w.offers) stands.world_is) ∙ are in
+    let first : first_offer (standing (recorded b)).world offer.origin ≡ Some offer = rw (same, eq-eqb offer.origin offer.origin refl) refl in
+    rw (first, eq-eqb offer.to offer.to refl) refl
+
+-- Leases.
+
+pub record IsCompleting (old new : Recorded) : Type 0 where
+  pub more : IsContinued old new
+  pub granted : (standing new).world.offers ≡ []
+  pub held : (standing new).holdings.sessions ≡ (standing old).holdings.sessions
+
+done-by : (s : Standing) (lease : ℕ) (found : Option Lot) → is_some (done_step_at s lease found) ≡ true
+    → (made : Outcome) × (done_step_at s lease found ≡ Some made) × (made.next.world.offers ≡ s.world.offers) × (made.next.holdings ≡ s.holdings)
+done-by s lease None e = absurd cc
+done-by s lease (Some lot) e = (record { session = lot.session; reply = Made; next = record s { world = record s.world { ports = ports_after_done lease s.world.ports } } }, refl, refl, refl)
+
+pub completing-next : (old b new : Recorded) (lease : LeaseId) → IsLegal b.pool b.entries → IsCompleting old b → IsEnabled (standing b) (Done lease) → new ≡ after_ask b (Done lease)
+    → IsCompleting old new × (promised_of (standing new).world < promised_of (standing b).world)
+completing-next old b new lease legal on enabled made =
+    let k = done-by (standing b) lease.0 (lease_at (standing b).world.ports lease.0) enabled in
+    let next = stepped b new (Done lease) k.0 made legal k.1 k.1 refl in (
+      record {
+        more = subst (λ (r : Recorded). IsContinued old r) (sym made) (continued-after old b (Done lease) on.more);
+        granted = ap (λ (s : Standing). s.world.offers) next.standing_is ∙ (k.2 ∙ on.granted);
+        held = ap (λ (s : Standing). s.holdings.sessions) next.standing_is ∙ (ap (λ (x : Holdings). x.sessions) k.3 ∙ on.held);
+      },
+      next.less,
+    )
+
+some-done : (s : Standing) (n : ℕ) (found : Option Lot) → is_some found ≡ true → is_some (done_step_at s n found) ≡ true
+some-done s n None e = absurd cc
+some-done s n (Some lot) e = refl
+
+pub lease-enabled : (b : Inside) (n : ℕ) → StandsIn b → Some n ≡ first_lease (map port_of b.ports.items) → IsEnabled (standing (recorded b)) (Done (record { 0 = n }))
+lease-enabled b n stands e =
+    let w = (standing (recorded b)).world in
+    let same : map port_of b.ports.items ≡ w.ports = ap (λ (v : World). v.ports) stands.world_is in
+    some-done (standing (recorded b)) n (lease_at w.ports n) (first_lease-some w.ports n (ap first_lease (sym same) ∙ sym e))
+
+pub leases-done : (b : Inside) → StandsIn b → None ≡ first_lease (map port_of b.ports.items) → Each IsDone (standing (recorded b)).world.ports
+leases-done b stands e =
+    let w = (standing (recorded b)).world in
+    let same : map port_of b.ports.items ≡ w.ports = ap (λ (v : World). v.ports) stands.world_is in
+    first_lease-none w.ports (ap first_lease (sym same) ∙ sym e)
+
+pub ruleset winding = (lease-enabled, leases-done)

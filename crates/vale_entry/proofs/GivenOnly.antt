@@ -1,0 +1,80 @@
+-- What is granted is a prefix of what an entry wants there; a short or lone frame is named for no port.
+use Rattle.std.proofs.Common.{ℕ, ◌≡◌, Bool, true, false, cond, not, ◌&&◌, ◌||◌, ◌==◌, List, [], ◌∷◌, ◌++◌, map, filter, take, drop, refl, sym, subst, take-append-drop}
+use Rattle.std.specs.List.{AllByRecursion as Each, list_any}
+use Rattle.std.proofs.lemmas.Bool.{eqb-true, eq-eqb, not-true}
+use Rattle.nm_types.specs.Frames.{Frame}
+use Rattle.vale_entry.specs.declared.entry.Destination.{Destination}
+use Rattle.vale_entry.specs.declared.entry.Destination.TheVariants.{Nobody, Only, Others}
+use Rattle.vale_entry.specs.World.{Port, Pair}
+use Rattle.vale_entry.specs.Learning.{is_short, learned}
+use Rattle.vale_entry.specs.Lookup.{destination_of, is_named, is_other_port, names_some_port}
+use Rattle.vale_entry.specs.Delivered.{Granted, frames_of_granted, grants_to}
+use Rattle.vale_entry.specs.Fate.{wanted_at, Share, shares_at, is_granted_of, granted_at}
+use Rattle.vale_entry.specs.DeliveryLaws.{IsPrefixOfWanted, GivenOnlyByWanted, ShortAndLoneAreForNobody}
+use Rattle.vale_entry.proofs.Each.{each-none, each-both}
+use Rattle.vale_entry.proofs.Removals.{each-kept}
+use Rattle.vale_entry.proofs.SharedOnce.{history-account}
+
+pub each-all : {X : Type 0} (P : X → Type 0) → ((x : X) → P x) → (xs : List X) → Each P xs
+each-all P holds [] = tt
+each-all P holds (x ∷ xs) = (holds x, each-all P holds xs)
+
+pub each-unmap : {X Y : Type 0} (Q : Y → Type 0) (f : X → Y) (xs : List X) → Each Q (map f xs) → Each (λ x. Q (f x)) xs
+each-unmap Q f [] all = tt
+each-unmap Q f (x ∷ xs) all = (all.0, each-unmap Q f xs all.1)
+
+pub each-image : {X Y : Type 0} (Q : Y → Type 0) (f : X → Y) (xs : List X) → Each (λ x. Q (f x)) xs → Each Q (map f xs)
+each-image Q f [] all = tt
+each-image Q f (x ∷ xs) all = (all.0, each-image Q f xs all.1)
+
+each_rest : {X : Type 0} (P : X → Type 0) (x : X) (xs : List X) (b : Bool) → Each P (cond b (x ∷ xs) xs) → Each P xs
+each_rest P x xs true all = all.1
+each_rest P x xs false all = all
+
+each_head : {X : Type 0} (P : X → Type 0) (x : X) (xs : List X) (b : Bool) → b ≡ true → Each P (cond b (x ∷ xs) xs) → P x
+each_head P x xs true e all = all.0
+each_head P x xs false e all = absurd cc
+
+-- what holds of the elements of each key holds of all
+pub each-by_key : {X : Type 0} (key : X → ℕ) (P : X → Type 0) (xs : List X) → ((k : ℕ) → Each P (filter (λ x. key x == k) xs)) → Each P xs
+each-by_key key P [] all = tt
+each-by_key key P (x ∷ xs) all = (
+  each_head P x (filter (λ y. key y == key x) xs) (key x == key x) (eq-eqb (key x) (key x) refl) (all (key x)),
+  each-by_key key P xs (λ k. each_rest P x (filter (λ y. key y == k) xs) (key x == k) (all k)),
+)
+
+pub given-only : GivenOnlyByWanted
+given-only pool h legal port = each-by_key (λ (granted : Granted). granted.origin) (IsPrefixOfWanted pool h port) (grants_to pool h port) of_entry
+  where
+    of_entry : (k : ℕ) → Each (IsPrefixOfWanted pool h port) (granted_at pool h k port)
+    of_entry k =
+        let account = history-account pool h legal k port in
+        let wanted = wanted_at pool h k port in
+        let prefixes = each-all (λ (share : Share). (rest : List Frame) × (wanted ≡ take share.given wanted ++ rest)) (λ share. (drop share.given wanted, sym (take-append-drop share.given wanted))) (shares_at h k port) in
+        let images = each-image (λ (frames : List Frame). (rest : List Frame) × (wanted ≡ frames ++ rest)) (λ (share : Share). take share.given wanted) (shares_at h k port) prefixes in
+        let same = subst (λ (xs : List (List Frame)). Each (λ (frames : List Frame). (rest : List Frame) × (wanted ≡ frames ++ rest)) xs) (sym account.first_given) images in
+        let mine = each-kept (λ (granted : Granted). Unit {0}) (λ (granted : Granted). granted.origin ≡ k) (is_granted_of k) (λ granted t here. eqb-true granted.origin k t) (grants_to pool h port) (each-all (λ (granted : Granted). Unit {0}) (λ granted. tt) (grants_to pool h port)) in
+        each-both (λ (granted : Granted). granted.origin ≡ k) (λ (granted : Granted). (rest : List Frame) × (wanted ≡ granted.frames ++ rest)) (IsPrefixOfWanted pool h port)
+        (λ granted here prefix. subst (λ (number : ℕ). (rest : List Frame) × (wanted_at pool h number port ≡ granted.frames ++ rest)) (sym here) prefix)
+        (granted_at pool h k port) mine (each-unmap (λ (frames : List Frame). (rest : List Frame) × (wanted ≡ frames ++ rest)) frames_of_granted (granted_at pool h k port) same)
+
+-- Short and lone frames.
+
+for_nobody : (ports : List Port) (sender : Port) (destination : Destination) → not (names_some_port ports sender destination) ≡ true
+    → Each (λ (port : Port). is_named sender destination port ≡ false) ports
+for_nobody ports sender Nobody e = each-all (λ (port : Port). false ≡ false) (λ port. refl) ports
+for_nobody ports sender (Only id) e = absurd cc
+for_nobody ports sender Others e = each-none (is_other_port sender) ports (not-true (list_any (is_other_port sender) ports) e)
+
+short_or_lone_at : (ports : List Port) (sender : Port) (pairs : List Pair) (frame : Frame) (short : Bool) → is_short frame ≡ short
+    → (short || (not short && not (names_some_port ports sender (destination_of ports sender pairs frame)))) ≡ true
+    → Each (λ (port : Port). is_named sender (destination_of ports sender pairs frame) port ≡ false) ports
+short_or_lone_at ports sender pairs frame true t e = rw t (each-all (λ (port : Port). false ≡ false) (λ port. refl) ports)
+short_or_lone_at ports sender pairs frame false t e = for_nobody ports sender (destination_of ports sender pairs frame) e
+
+pub short-lone : ShortAndLoneAreForNobody
+short-lone ports sender pairs [] = tt
+short-lone ports sender pairs (frame ∷ frames) = (
+  λ e. short_or_lone_at ports sender (learned sender pairs frame) frame (is_short frame) refl e,
+  short-lone ports sender (learned sender pairs frame) frames,
+)

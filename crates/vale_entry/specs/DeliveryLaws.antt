@@ -1,0 +1,102 @@
+-- Laws of delivery, as statements: what is given, read, dropped and counted in every legal history.
+use Rattle.std.specs.Prelude.{ℕ, true, false, ◌≡◌, ◌≢◌, ◌||◌, ◌+◌, ◌<◌, ◌≤◌, ◌⊎◌, min, List, [], ◌++◌, length, map, take, replicate, sum, flat_map, Option, Some, None}
+use Rattle.std.specs.List.{AllByRecursion}
+use Rattle.nm_types.specs.Frames.{Frame, size_of_frames}
+use Rattle.vale_entry.specs.declared.entry.Entry.{Entry}
+use Rattle.vale_entry.specs.World.{Port, Pair, Offer, open_port, space_of}
+use Rattle.vale_entry.specs.Learning.{is_short}
+use Rattle.vale_entry.specs.Lookup.{Named, named_frames, is_named, is_lone}
+use Rattle.vale_entry.specs.Legal.{world_of, standing_of, IsLegal, Follows}
+use Rattle.vale_entry.specs.Laws.{Rise}
+use Rattle.vale_entry.specs.Delivered.{port_at, frames_of_line, Granted, frames_of_granted, count_of_granted, grants_to, given_frames, given_counts, read_frames, read_counts, unread_counts}
+use Rattle.vale_entry.specs.Fate.{wanted_at, offers_at, Share, share_in, shares_at, granted_at, Fate, Pending, Given, Full, Gone, fates_at, given_prefix, entries_of, origin_of, grants_between}
+
+-- What was given to a port is what it read, and behind that a rest: the frames in its line while the
+-- port is there, and once it is gone as many as its one Finish counted.
+pub record IsReadInOrder (given read : List Frame) (found : Option Port) (unread : List ℕ) : Type 0 where
+  pub rest : List Frame
+  pub in_order : given ≡ read ++ rest
+  pub queued : (port : Port) → found ≡ Some port → rest ≡ frames_of_line port.line
+  pub counted : AllByRecursion (λ count. length rest ≡ count) unread
+  pub counted_once : length unread ≤ 1
+  pub else_none : found ≡ None → unread ≡ [] → rest ≡ []
+
+abbrev pub ReadIsPrefixOfGiven : Type 0
+ReadIsPrefixOfGiven = (pool : ℕ) (history : List Entry) → IsLegal pool history → (port : ℕ)
+    → IsReadInOrder (given_frames pool history port) (read_frames pool history port) (port_at (world_of pool history).ports port) (unread_counts history port)
+
+-- What is granted to a port is, each time, a prefix of the frames of an entry that are wanted there.
+abbrev pub IsPrefixOfWanted : ℕ → List Entry → ℕ → Granted → Type 0
+IsPrefixOfWanted pool history port granted = (rest : List Frame) × (wanted_at pool history granted.origin port ≡ granted.frames ++ rest)
+
+abbrev pub GivenOnlyByWanted : Type 0
+GivenOnlyByWanted = (pool : ℕ) (history : List Entry) → IsLegal pool history → (port : ℕ)
+    → AllByRecursion (IsPrefixOfWanted pool history port) (grants_to pool history port)
+
+-- A short frame, and a lone one, is named for no port of the switch.
+abbrev pub IsForNobody : List Port → Port → Named → Type 0
+IsForNobody ports sender named = AllByRecursion (λ port. is_named sender named.destination port ≡ false) ports
+
+abbrev pub ShortAndLoneAreForNobody : Type 0
+ShortAndLoneAreForNobody = (ports : List Port) (sender : Port) (pairs : List Pair) (frames : List Frame)
+    → AllByRecursion (λ named. (is_short named.frame || is_lone ports sender named) ≡ true → IsForNobody ports sender named) (named_frames ports sender pairs frames)
+
+-- The frames of an entry that are wanted at a port stand in one offer until one Grant shares them out:
+-- its reply counts each of them, for one cause at most, and those given are the first ones.
+pub record AreSharedOnce (wanted : List Frame) (offers : List Offer) (shares : List Share) (granted : List Granted) : Type 0 where
+  pub once : length offers + length shares ≡ min 1 (length wanted)
+  pub offered : AllByRecursion (λ offer. offer.frames ≡ wanted) offers
+  pub counted : AllByRecursion (λ share. share.given + share.full + share.gone ≡ length wanted) shares
+  pub one_cause : AllByRecursion (λ share. (share.full ≡ 0) ⊎ (share.gone ≡ 0)) shares
+  pub first_given : map frames_of_granted granted ≡ map (λ share. take share.given wanted) shares
+
+abbrev pub WantedIsSharedOnce : Type 0
+WantedIsSharedOnce = (pool : ℕ) (history : List Entry) → IsLegal pool history → (number to : ℕ)
+    → AreSharedOnce (wanted_at pool history number to) (offers_at (world_of pool history) number to) (shares_at history number to) (granted_at pool history number to)
+
+-- Each wanted frame has one fate: all are pending before the Grant; after it the first ones are given,
+-- and the others full, or gone, as many as its reply says.
+pub record HaveFates (fates : List Fate) (wanted : List Frame) (shares : List Share) : Type 0 where
+  pub pending : shares ≡ [] → fates ≡ replicate (length wanted) Pending
+  pub counted : AllByRecursion (λ share. fates ≡ replicate share.given Given ++ (replicate share.full Full ++ replicate share.gone Gone)) shares
+
+abbrev pub DroppedFramesAreCounted : Type 0
+DroppedFramesAreCounted = (pool : ℕ) (history : List Entry) → IsLegal pool history → (number to : ℕ)
+    → HaveFates (fates_at pool history number to) (wanted_at pool history number to) (shares_at history number to)
+
+-- A Grant drops frames for a cause: they are gone where the port is not open; they are full where it is
+-- open, those given fit its space, and one more does not.
+pub record HasCause (found : Option Port) (wanted : List Frame) (share : Share) : Type 0 where
+  pub gone_closed : 0 < share.gone → found ≡ None
+  pub full_open : 0 < share.full → (port : Port) × ((found ≡ Some port) × (space_of port < size_of_frames (take (share.given + 1) wanted)))
+  pub given_fits : (port : Port) → found ≡ Some port → size_of_frames (take share.given wanted) ≤ space_of port
+
+abbrev pub FramesAreDroppedForCause : Type 0
+FramesAreDroppedForCause = (pool : ℕ) (history : List Entry) (entry : Entry) → IsLegal pool history → Follows (standing_of pool history) entry → (number to : ℕ)
+    → AllByRecursion (HasCause (open_port (world_of pool history).ports to) (wanted_at pool history number to)) (share_in number to entry)
+
+-- The replies count what is given and read: each Grant its frames, and the Syncs of a port all that it read.
+pub record AreCounted (granted : List Granted) (given : List ℕ) (read : List Frame) (gave : List ℕ) : Type 0 where
+  pub given_counted : map count_of_granted granted ≡ given
+  pub read_counted : length read ≡ sum gave
+
+abbrev pub RepliesCountFrames : Type 0
+RepliesCountFrames = (pool : ℕ) (history : List Entry) → IsLegal pool history → (port : ℕ)
+    → AreCounted (grants_to pool history port) (given_counts history port) (read_frames pool history port) (read_counts history port)
+
+-- Once no session is left, no frame is pending.
+abbrev pub NothingIsPendingAtTheEnd : Type 0
+NothingIsPendingAtTheEnd = (pool : ℕ) (history : List Entry) → IsLegal pool history → (world_of pool history).sessions ≡ [] → (number to : ℕ)
+    → AllByRecursion (λ fate. fate ≢ Pending) (fates_at pool history number to)
+
+-- The entries that a port sent rise by number, and so do those of which something is granted to a port.
+-- The frames granted are what was given of each entry, one entry after the other: a sender's frames
+-- keep their order.
+pub record AreInSenderOrder (count : ℕ) (numbers : List ℕ) (grants : List Granted) (given : ℕ → List Frame) : Type 0 where
+  pub numbers_rise : Rise 0 numbers count
+  pub grants_rise : Rise 0 (map origin_of grants) count
+  pub one_after_another : flat_map frames_of_granted grants ≡ flat_map given numbers
+
+abbrev pub SenderOrderIsKept : Type 0
+SenderOrderIsKept = (pool : ℕ) (history : List Entry) → IsLegal pool history → (from to : ℕ)
+    → AreInSenderOrder (length history) (entries_of pool history from) (grants_between pool history from to) (λ number. given_prefix pool history number to)
