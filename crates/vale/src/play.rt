@@ -90,7 +90,7 @@ fn leave_all(alloc: Global, book: &mut Book, users: &mut Vec<User>) -> Result<()
         leave_at(alloc, book, users, place)?;
     }
     // What is recorded is a legal history.
-    book.entries();
+    book.history();
     Ok(())
 }
 
@@ -113,7 +113,7 @@ pub(crate) fn run_program(alloc: Global, book: &mut Book, script: &Script) -> Re
         Err(StepFault::NoMemory) => Err(StepFault::NoMemory),
         Err(fault) => {
             // What stands recorded is a legal history within its limits.
-            book.entries();
+            book.history();
             book.used();
             leave_all(alloc, book, &mut users)?;
             Err(fault)

@@ -96,7 +96,7 @@ fn play<K: Sink>(alloc: Global, script: &Script, out: &mut K) -> Status
     match run_program(alloc, &mut book, script) {
         Ok(()) => {
             // What is recorded is a legal history.
-            book.entries();
+            book.history();
             write(alloc, book, out)
         }
         Err(fault) => stopped(fault),

@@ -244,7 +244,7 @@ impl User {
         ensures stopped { IfErr result (StopsTasks book.old book.new (tasks_of act.now) self.old self.new) }
     {
         // What is recorded is a legal history.
-        book.entries();
+        book.history();
         match act {
             Act::Enter => self.enter(book),
             Act::Open { name, tx, rx } => self.open(alloc, book, *name, *tx, *rx),
@@ -266,7 +266,7 @@ impl User {
         for _ in 0..self.ports.len() {
             let name = self.ports[0].name;
             // What is recorded is a legal history.
-            book.entries();
+            book.history();
             self.close_at(alloc, book, 0, name)?;
         }
         Ok(())

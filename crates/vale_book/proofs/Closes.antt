@@ -31,7 +31,7 @@ use Rattle.vale_book.specs.Recorded.{after_ask}
 use Rattle.vale_book.specs.Parts.{Stands}
 use Rattle.vale_book.specs.Syncing.{session_of_port}
 use Rattle.vale_book.specs.Ending.{shut_entry, leave_entry, IsFinished}
-use Rattle.vale_book.proofs.Stands.{stands-next, owed-next}
+use Rattle.vale_book.proofs.Stands.{stands-next}
 use Rattle.vale_book.proofs.Answered.{recorded_in, after-stored}
 use Rattle.vale_book.proofs.GrantSteps.{seat-at}
 
@@ -94,26 +94,6 @@ session-found count (Some port) session e =
 same-shutting : (b : Inside) (count id : ℕ) → StandsIn b
     → session_if (is_due count) (shutting_port (map port_of b.ports.items) id) ≡ session_if (is_due count) (shutting_port (world_of b.pool b.history.entries).ports id)
 same-shutting b count id stands = ap (λ (w : World). session_if (is_due count) (shutting_port w.ports id)) stands.world_is
-
-pub may_finish-none : (b : Inside) (id : PortId) (count : ℕ) (bufs : List ℕ) (chain : Chain) → StandsIn b → None ≡ session_if (is_due count) (shutting_port (map port_of b.ports.items) id.0)
-    → length bufs ≡ count → IsEnabled (standing_of b.pool b.history.entries) (Finish id bufs chain) → ⊥
-may_finish-none b id count bufs chain stands e size enabled =
-    let s = standing_of b.pool b.history.entries in
-    finish-none s bufs (shutting_port s.world.ports id.0)
-    (ap (λ (n : ℕ). session_if (is_due n) (shutting_port s.world.ports id.0)) size ∙ (sym (same-shutting b count id.0 stands) ∙ sym e)) enabled
-
-pub may_finish-session : (b : Inside) (id : PortId) (count session : ℕ) → StandsIn b → Some session ≡ session_if (is_due count) (shutting_port (map port_of b.ports.items) id.0)
-    → option_map session_of_port (shutting_port (world_of b.pool b.history.entries).ports id.0) ≡ Some session
-may_finish-session b id count session stands e =
-    session-found count (shutting_port (world_of b.pool b.history.entries).ports id.0) session (sym (same-shutting b count id.0 stands) ∙ sym e)
-
-pub may_finish-some : (b : Inside) (id : PortId) (count session : ℕ) (bufs : List ℕ) (chain : Chain) → StandsIn b → Some session ≡ session_if (is_due count) (shutting_port (map port_of b.ports.items) id.0)
-    → length bufs ≡ count → IsEnabled (standing_of b.pool b.history.entries) (Finish id bufs chain) ↔ IsTrue (holds_all (holdings_of b.pool b.history.entries) session bufs)
-may_finish-some b id count session bufs chain stands e size =
-    let s = standing_of b.pool b.history.entries in
-    same-test (is_some (finish_reply_at s bufs (shutting_port s.world.ports id.0))) (holds_all s.holdings session bufs)
-    (finish-some s bufs (shutting_port s.world.ports id.0) session
-    (ap (λ (n : ℕ). session_if (is_due n) (shutting_port s.world.ports id.0)) size ∙ (sym (same-shutting b count id.0 stands) ∙ sym e)))
 
 -- Places.
 
@@ -341,10 +321,6 @@ pub leave-made : (b : Inside) (session : SessionId) → IsEnabled (standing_of b
 leave-made b session enabled =
     let s = standing_of b.pool b.history.entries in
     (cond-some (can_leave s.world session.0) (leave_step s session.0) enabled).1
-
-pub owed-leave : (b : Inside) (session : SessionId) → StandsIn b → IsEnabled (standing_of b.pool b.history.entries) (Leave session) → 0 < b.history.promised
-owed-leave b session stands enabled =
-    owed-next b.pool b.history.entries (Leave session) (leave_step (standing_of b.pool b.history.entries) session.0) b.history.promised stands.legal stands.promised_is (leave-made b session enabled) refl
 
 pub stands-leave : (b : Inside) (session : SessionId) (new : Stored) (sessions : List ℕ) → StandsIn b → IsEnabled (standing_of b.pool b.history.entries) (Leave session)
     → new.entries ≡ b.history.entries ++ leave_entry session ∷ [] → new.promised + 1 ≡ b.history.promised → sessions ≡ sessions_without session.0 b.sessions.items

@@ -8,6 +8,7 @@ use Rattle.std.proofs.lemmas.List.Sums.{sum_by-cons, sum_by-take-drop}
 use Rattle.nm_types.specs.declared.id.PortId.{PortId}
 use Rattle.nm_types.specs.declared.id.SessionId.{SessionId}
 use Rattle.vale_entry.specs.declared.entry.Ask.TheVariants.{Shut, Finish, Leave}
+use Rattle.vale_entry.specs.declared.entry.Entry.{Entry}
 use Rattle.vale_entry.specs.declared.entry.Reply.TheVariants.{Unread, LeasesOut}
 use Rattle.vale_entry.specs.World.{World, Port, Lot, is_undone, is_owed_by, has_lot_owed_by, is_settled, is_session, is_open_at, open_port, changed_at, changed_if, due_of, buffers_of, free_count}
 use Rattle.vale_entry.specs.Closing.{shut, shutting_port, leases_out, unread_count, ports_without, is_port_of, can_leave}
@@ -31,7 +32,8 @@ use Rattle.vale_world.proofs.Newest.{is_some-find}
 use Rattle.vale_book.specs.declared.book.Book.TheInside.{Inside}
 use Rattle.vale_book.specs.BookView.{recorded, StandsIn}
 use Rattle.vale_book.specs.Recorded.{Recorded, standing, after_outcome, after_ask}
-use Rattle.vale_book.specs.Winding.{IsContinued, IsQuiet, IsHeldFirst, IsGoing, no_chain}
+use Rattle.vale_book.specs.Winding.{IsContinued, IsQuiet, IsHeldFirst, IsTurn, IsGoing, IsEnded, no_chain, next_ending}
+use Rattle.vale_book.proofs.Turns.{climbs-drop, first-shut, next-leave, next-none, next-port_ending, rising-is}
 use Rattle.vale_book.proofs.Winding.{continued-after, continued-on, continued-same, stepped}
 
 abbrev one_if : Bool → ℕ
@@ -93,6 +95,7 @@ pub record IsShut (s : Standing) (id session : ℕ) (bufs : List ℕ) : Type 0 w
   pub id_is : port.id ≡ id
   pub whose : port.session ≡ session
   pub can : can_finish s bufs port ≡ true
+  pub turn : IsTurn s session port bufs
   pub shuts : port.shutting ≡ true
 
 -- what stands after a Shut, made or not
@@ -146,7 +149,7 @@ shutting-next b new id session bufs made legal quiet going = by_shutting going.p
           sessions = refl;
           due = λ other. refl;
           most = omega arith;
-          port = record { place = going.place; port = going.port; here = going.here; id_is = going.id_is; whose = going.whose; can = going.can; shuts = t };
+          port = record { place = going.place; port = going.port; here = going.here; id_is = going.id_is; whose = going.whose; can = going.can; turn = going.turn; shuts = t };
         })
     by_shutting false t =
         let s = standing b in
@@ -158,9 +161,13 @@ shutting-next b new id session bufs made legal quiet going = by_shutting going.p
         let offers : (standing new).world.offers ≡ s.world.offers = ap (λ (x : Standing). x.world.offers) next.standing_is in
         let holdings : (standing new).holdings ≡ s.holdings = ap (λ (x : Standing). x.holdings) next.standing_is in
         let changed = changed_at-world b.pool b.entries shut going.place port going.here in
+        let sessions : (standing new).world.sessions ≡ s.world.sessions = ap (λ (x : Standing). x.world.sessions) next.standing_is in
+        let pool : (standing new).world.pool ≡ s.world.pool = ap (λ (x : Standing). x.world.pool) next.standing_is in
+        let hit : changed_if (port.id == port.id) shut port ≡ shut port = rw (eq-eqb port.id port.id refl) refl in
+        let asked : next_ending s ≡ Some (Shut id) = next-port_ending s session port bufs quiet going.turn ∙ rw (t, going.id_is) refl in
         let less = next.less in
         record {
-          more = subst (λ (r : Recorded). IsContinued b r) (sym made) (continued-after b b (Shut id) (continued-same b));
+          more = subst (λ (r : Recorded). IsContinued b r) (sym made) (continued-after b b (Shut id) (continued-same b) asked);
           legal = next.legal;
           quiet = record {
             granted = offers ∙ quiet.granted;
@@ -176,6 +183,13 @@ shutting-next b new id session bufs made legal quiet going = by_shutting going.p
             id_is = going.id_is;
             whose = going.whose;
             can = ap (λ (x : Holdings). (length bufs == due_of port) && holds_all x port.session bufs) holdings ∙ going.can;
+            turn = record {
+              others = going.turn.others;
+              sessions = sessions ∙ going.turn.sessions;
+              first = ap (find (is_port_of session)) ports
+                  ∙ (first-shut port.id session s.world.ports ∙ (ap (option_map (λ (q : Port). changed_if (q.id == port.id) shut q)) going.turn.first ∙ ap (λ (q : Port). Some q) hit));
+              smallest = rw (pool, holdings) going.turn.smallest;
+            };
             shuts = refl;
           };
         }
@@ -220,9 +234,10 @@ finish-next b new id session bufs made legal quiet k =
     let gone = due-remove s.world.ports k.place port session k.here in
     let mine : due_for session port ≡ due_of port = rw (eq-eqb port.session session k.whose) refl in
     let size : length bufs ≡ due_of port = eqb-true (length bufs) (due_of port) (and_parts (length bufs == due_of port) (holds_all s.holdings port.session bufs) k.can).0 in
+    let asked : next_ending s ≡ Some (Finish id bufs no_chain) = next-port_ending s session port bufs quiet k.turn ∙ rw (k.shuts, k.id_is, ← k.turn.smallest) refl in
     let left : due_of_session (standing new).world.ports session ≡ due_of_session (remove s.world.ports k.place) session = ap (λ (ps : List Port). due_of_session ps session) (ports ∙ goes) in
     record {
-      more = subst (λ (r : Recorded). IsContinued b r) (sym made) (continued-after b b (Finish id bufs no_chain) (continued-same b));
+      more = subst (λ (r : Recorded). IsContinued b r) (sym made) (continued-after b b (Finish id bufs no_chain) (continued-same b) asked);
       legal = next.legal;
       quiet = record {
         granted = ap (λ (x : Standing). x.world.offers) next.standing_is ∙ quiet.granted;
@@ -265,16 +280,22 @@ all-in (b ∷ bs) xs within =
         let most = within b in
         absurd (omega (arith, none, front, hit, most))
 
--- each buffer is held once at most
-held-once : (b : Recorded) (held : SessionBuffers) (others : List SessionBuffers) → IsLegal b.pool b.entries → (standing b).holdings.sessions ≡ held ∷ others → (n : ℕ) → count_of n held.buffers ≤ 1
-held-once b held others legal are n =
+-- only buffers of the pool are held, each once at most
+held-within : (b : Recorded) (held : SessionBuffers) (others : List SessionBuffers) → IsLegal b.pool b.entries → (standing b).holdings.sessions ≡ held ∷ others → (n : ℕ)
+    → count_of n held.buffers ≤ one_if (is_buffer_index b.pool n)
+held-within b held others legal are n =
     let x = (standing b).holdings in
     let parted = buffers-parted b.pool b.entries legal n in
     let outer = count_of-append n (x.free ++ flat_map buffers_at_port x.ports) (flat_map buffers_held x.sessions) in
     let mine : count_of n (flat_map buffers_held x.sessions) ≡ count_of n held.buffers + count_of n (flat_map buffers_held others) =
     ap (λ (hs : List SessionBuffers). count_of n (flat_map buffers_held hs)) are ∙ count_of-append n held.buffers (flat_map buffers_held others) in
+    omega (arith, parted, outer, mine)
+
+held-once : (b : Recorded) (held : SessionBuffers) (others : List SessionBuffers) → IsLegal b.pool b.entries → (standing b).holdings.sessions ≡ held ∷ others → (n : ℕ) → count_of n held.buffers ≤ 1
+held-once b held others legal are n =
+    let within = held-within b held others legal are n in
     let most = one-most (is_buffer_index b.pool n) in
-    omega (arith, parted, outer, mine, most)
+    omega (arith, within, most)
 
 -- what the first session holds is what its ports are due
 held-due : (b : Recorded) (held : SessionBuffers) (others : List SessionBuffers) → IsLegal b.pool b.entries → (standing b).holdings.sessions ≡ held ∷ others
@@ -297,6 +318,13 @@ seen-port p d None e = absurd cc
 seen-port p d (Some port) e =
     let same = ap (pair-or (p, d)) e in
     (port, refl, sym (ap (λ (x : ℕ × ℕ). x.0) same), sym (ap (λ (x : ℕ × ℕ). x.1) same))
+
+-- the session that holds the first ones of the buffers is the first one of the world
+first-session : (b : Recorded) (others : List SessionBuffers) (session : ℕ) (left : List ℕ) → IsLegal b.pool b.entries → IsHeldFirst (standing b).holdings.sessions others session left
+    → (standing b).world.sessions ≡ session ∷ map (λ (held : SessionBuffers). held.session) others
+first-session b others session left legal first =
+    let agrees = holdings-agree b.pool b.entries legal in
+    sym agrees.session_ids ∙ (ap (map (λ (held : SessionBuffers). held.session)) first.helds_are ∙ ap (λ (id : ℕ). id ∷ map (λ (held : SessionBuffers). held.session) others) first.id_is)
 
 -- the next port of the first session, and the next ones of its buffers
 pub next-port : (b : Recorded) (others : List SessionBuffers) (session : ℕ) (left : List ℕ) (p d : ℕ) → IsLegal b.pool b.entries → IsHeldFirst (standing b).holdings.sessions others session left
@@ -328,6 +356,13 @@ next-port b others session left p d legal first e =
         id_is = seen.2;
         whose = whose;
         can = rw (eq-eqb (length bufs) (due_of port) size) holds;
+        turn = record {
+          others = map (λ (h : SessionBuffers). h.session) others;
+          sessions = first-session b others session left legal first;
+          first = seen.1;
+          smallest = rw (held, seen.3, (ports-within b.pool b.entries legal).pool_is)
+              (ap (take d) (rising-is b.pool first.held.buffers left first.rise first.counts (held-within b first.held others legal first.helds_are)));
+        };
       },
     )
 
@@ -387,6 +422,7 @@ winding-next start b new others session left p d legal on e made =
               left-counts_by n bufs (count_of n (drop d left)) (count_of n first.held.buffers) (contains n bufs) refl (omega (arith, parts, same)) (once n)
               ∙ sym (count-without n bufs first.held.buffers);
           size = omega (arith, left_due, was_due, mid_due, gone, size, taken, rest, next.0);
+          rise = climbs-drop d left first.rise;
         };
       },
       omega (arith, most, less),
@@ -398,15 +434,17 @@ no-port : (found : Option Port) → None ≡ option_map id_and_due found → is_
 no-port None e = refl
 no-port (Some port) e = absurd cc
 
+no-seen : (found : Option Port) → None ≡ option_map id_and_due found → found ≡ None
+no-seen None e = refl
+no-seen (Some port) e = absurd cc
+
 pub leave-enabled : (start b : Recorded) (others : List SessionBuffers) (session : SessionId) (left : List ℕ) → IsLegal b.pool b.entries → IsWinding start b others session.0 left
     → None ≡ option_map id_and_due (find (is_port_of session.0) (standing b).world.ports) → IsEnabled (standing b) (Leave session)
 leave-enabled start b others session left legal on e =
     let w = (standing b).world in
     let first = on.first in
     let none : list_any (is_port_of session.0) w.ports ≡ false = sym (is_some-find (is_port_of session.0) w.ports) ∙ no-port (find (is_port_of session.0) w.ports) e in
-    let agrees = holdings-agree b.pool b.entries legal in
-    let ids : first.held.session ∷ map (λ (held : SessionBuffers). held.session) others ≡ w.sessions = ap (map (λ (held : SessionBuffers). held.session)) (sym first.helds_are) ∙ agrees.session_ids in
-    let there : is_session w session.0 ≡ true = rw (← ids, eq-eqb first.held.session session.0 first.id_is) refl in
+    let there : is_session w session.0 ≡ true = rw (first-session b others session.0 left legal first, eq-eqb session.0 session.0 refl) refl in
     let can : can_leave w session.0 ≡ true = rw (there, none) (settled-quiet w session.0 on.quiet) in
     rw can refl
 
@@ -416,16 +454,18 @@ pub record IsLeft (start new : Recorded) (others : List SessionBuffers) : Type 0
   pub sessions : (standing new).holdings.sessions ≡ others
 
 pub leave-next : (start b new : Recorded) (others : List SessionBuffers) (session : SessionId) (left : List ℕ) → IsLegal b.pool b.entries → IsWinding start b others session.0 left
-    → IsEnabled (standing b) (Leave session) → new ≡ after_ask b (Leave session) → IsLeft start new others
-leave-next start b new others session left legal on enabled made =
+    → None ≡ option_map id_and_due (find (is_port_of session.0) (standing b).world.ports) → IsEnabled (standing b) (Leave session) → new ≡ after_ask b (Leave session) → IsLeft start new others
+leave-next start b new others session left legal on e enabled made =
     let s = standing b in
     let first = on.first in
+    let asked : next_ending s ≡ Some (Leave session) =
+    next-leave s session.0 (map (λ (held : SessionBuffers). held.session) others) on.quiet (first-session b others session.0 left legal first) (no-seen (find (is_port_of session.0) s.world.ports) e) in
     let is = some-of (can_leave s.world session.0) (leave_step s session.0) enabled in
     let next = stepped b new (Leave session) (leave_step s session.0) made legal is is refl in
     let here : slice_get s.holdings.sessions 0 ≡ Some first.held = rw (first.helds_are) refl in
     let goes = users_without-world b.pool b.entries 0 first.held legal here in
     record {
-      more = subst (λ (r : Recorded). IsContinued start r) (sym made) (continued-after start b (Leave session) on.more);
+      more = subst (λ (r : Recorded). IsContinued start r) (sym made) (continued-after start b (Leave session) on.more asked);
       quiet = record {
         granted = ap (λ (x : Standing). x.world.offers) next.standing_is ∙ on.quiet.granted;
         done = subst (Each IsDone) (sym (ap (λ (x : Standing). x.world.ports) next.standing_is)) on.quiet.done;
@@ -450,6 +490,15 @@ all-free b legal none =
     let empty = ap (λ (ps : List Port). sum_by buffers_of ps) (no-ports w.ports owned) in
     let pool = (ports-within b.pool b.entries legal).pool_is in
     omega (arith, empty, pool)
+
+-- and nothing is left to do
+pub all-over : (b : Recorded) → IsLegal b.pool b.entries → IsQuiet (standing b).world → (standing b).holdings.sessions ≡ [] → next_ending (standing b) ≡ None
+all-over b legal quiet none =
+    let agrees = holdings-agree b.pool b.entries legal in
+    next-none (standing b) quiet (sym agrees.session_ids ∙ ap (map (λ (held : SessionBuffers). held.session)) none)
+
+pub all-ended : (old b : Recorded) (entries : List Entry) → IsContinued old b → next_ending (standing b) ≡ None → entries ≡ b.entries → IsEnded old.pool old.entries entries
+all-ended old b entries on over are = record { more = on.more; is = are ∙ on.is; goes = on.goes; over = rw (are, ← on.pool) over }
 
 pub no-items : {X : Type 0} (xs : List X) → length xs ≡ 0 → xs ≡ []
 no-items [] e = refl

@@ -14,5 +14,6 @@ pub mod DriveRuns
 pub mod Rooms
 pub mod Closes
 pub mod DriveEnds
+pub mod Turns
 pub mod Winding
 pub mod Ends

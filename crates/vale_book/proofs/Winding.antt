@@ -2,7 +2,6 @@
 use Rattle.std.proofs.Common.{ℕ, List, map, [], ◌∷◌, ◌++◌, ◌≡◌, ◌<◌, Bool, true, false, cond, ◌==◌, Option, Some, None, is_some, refl, sym, ◌∙◌, ap, subst, arith}
 use Rattle.std.specs.List.{AllByRecursion as Each}
 use Rattle.std.proofs.lemmas.List.{append-nil, append_assoc}
-use Rattle.std.proofs.lemmas.Bool.{eq-eqb}
 use Rattle.nm_types.specs.declared.id.PortId.{PortId}
 use Rattle.nm_types.specs.declared.id.LeaseId.{LeaseId}
 use Rattle.vale_entry.specs.declared.entry.Ask.{Ask}
@@ -13,7 +12,7 @@ use Rattle.vale_entry.specs.World.{World, Lot, Offer}
 use Rattle.vale_entry.specs.Delivery.{lease_at, ports_after_done}
 use Rattle.vale_entry.specs.Holdings.{Holdings}
 use Rattle.vale_entry.specs.Grant.{first_offer}
-use Rattle.vale_entry.specs.Legal.{Standing, Outcome, step, recorded_step, standing_with, standing_after, Follows, IsLegal, IsEnabled, grant_step, grant_step_at, done_step_at}
+use Rattle.vale_entry.specs.Legal.{Standing, Outcome, step, recorded_step, standing_of, standing_with, standing_after, Follows, IsLegal, IsEnabled, grant_step, grant_step_at, done_step_at}
 use Rattle.vale_entry.specs.Room.{promised_of, room_wanted}
 use Rattle.vale_entry.proofs.HistoryLaws.{room-promised}
 use Rattle.vale_entry.proofs.Worlds.{standing-push, legal-push}
@@ -23,38 +22,55 @@ use Rattle.vale_world.proofs.LeasePlaces.{first_lease-some, first_lease-none}
 use Rattle.vale_book.specs.declared.book.Book.TheInside.{Inside}
 use Rattle.vale_book.specs.BookView.{recorded, StandsIn}
 use Rattle.vale_book.specs.Recorded.{Recorded, standing, after_outcome, after_ask, with_step, entry_of}
-use Rattle.vale_book.specs.Winding.{IsContinued}
+use Rattle.vale_book.specs.Winding.{IsContinued, GoesToEnd, next_ending}
 
 pub continued-same : (b : Recorded) → IsContinued b b
-continued-same b = record { pool = refl; limits = refl; starts = record { more = []; is = sym (append-nil b.entries) } }
+continued-same b = record { pool = refl; limits = refl; more = []; is = sym (append-nil b.entries); goes = tt }
 
-continued-step : (old b : Recorded) (ask : Ask) (made : Outcome) → IsContinued old b → IsContinued old (with_step b ask made)
-continued-step old b ask made on = record {
-  pool = on.pool;
-  limits = on.limits;
-  starts = record {
-    more = on.starts.more ++ entry_of ask made ∷ [];
-    is = ap (λ (h : List Entry). h ++ entry_of ask made ∷ []) on.starts.is ∙ append_assoc old.entries on.starts.more (entry_of ask made ∷ []);
-  };
-}
+-- The way to the end, in parts.
 
--- an ask adds to the entries, or leaves them
-pub continued-after : (old b : Recorded) (ask : Ask) → IsContinued old b → IsContinued old (after_ask b ask)
-continued-after old b ask on = by_outcome (step (standing b) ask)
+goes-step : (pool : ℕ) (h more : List Entry) (entry : Entry) → GoesToEnd pool h more → next_ending (standing_of pool (h ++ more)) ≡ Some entry.ask → GoesToEnd pool h (more ++ entry ∷ [])
+goes-step pool h [] entry goes next = (subst (λ (old : List Entry). next_ending (standing_of pool old) ≡ Some entry.ask) (append-nil h) next, tt)
+goes-step pool h (first ∷ more) entry goes next =
+    let along : next_ending (standing_of pool ((h ++ first ∷ []) ++ more)) ≡ Some entry.ask =
+    subst (λ (old : List Entry). next_ending (standing_of pool old) ≡ Some entry.ask) (sym (append_assoc h (first ∷ []) more)) next in
+    (goes.0, goes-step pool (h ++ first ∷ []) more entry goes.1 along)
+
+goes-on : (pool : ℕ) (h one two : List Entry) → GoesToEnd pool h one → GoesToEnd pool (h ++ one) two → GoesToEnd pool h (one ++ two)
+goes-on pool h [] two goes later = subst (λ (old : List Entry). GoesToEnd pool old two) (append-nil h) later
+goes-on pool h (first ∷ one) two goes later =
+    let along : GoesToEnd pool ((h ++ first ∷ []) ++ one) two = subst (λ (old : List Entry). GoesToEnd pool old two) (sym (append_assoc h (first ∷ []) one)) later in
+    (goes.0, goes-on pool (h ++ first ∷ []) one two goes.1 along)
+
+continued-step : (old b : Recorded) (ask : Ask) (made : Outcome) → IsContinued old b → next_ending (standing b) ≡ Some ask → IsContinued old (with_step b ask made)
+continued-step old b ask made on next =
+    let here : next_ending (standing_of old.pool (old.entries ++ on.more)) ≡ Some ask = rw (← on.pool, ← on.is) next in
+    record {
+      pool = on.pool;
+      limits = on.limits;
+      more = on.more ++ entry_of ask made ∷ [];
+      is = ap (λ (h : List Entry). h ++ entry_of ask made ∷ []) on.is ∙ append_assoc old.entries on.more (entry_of ask made ∷ []);
+      goes = goes-step old.pool old.entries on.more (entry_of ask made) on.goes here;
+    }
+
+-- the ask that comes next adds to the entries, or leaves them
+pub continued-after : (old b : Recorded) (ask : Ask) → IsContinued old b → next_ending (standing b) ≡ Some ask → IsContinued old (after_ask b ask)
+continued-after old b ask on next = by_outcome (step (standing b) ask)
   where
     by_outcome : (made : Option Outcome) → IsContinued old (after_outcome b ask made)
     by_outcome None = on
-    by_outcome (Some made) = continued-step old b ask made on
+    by_outcome (Some made) = continued-step old b ask made on next
 
 pub continued-on : (old mid new : Recorded) → IsContinued old mid → IsContinued mid new → IsContinued old new
-continued-on old mid new one two = record {
-  pool = two.pool ∙ one.pool;
-  limits = two.limits ∙ one.limits;
-  starts = record {
-    more = one.starts.more ++ two.starts.more;
-    is = two.starts.is ∙ (ap (λ (h : List Entry). h ++ two.starts.more) one.starts.is ∙ append_assoc old.entries one.starts.more two.starts.more);
-  };
-}
+continued-on old mid new one two =
+    let later : GoesToEnd old.pool (old.entries ++ one.more) two.more = rw (← one.pool, ← one.is) two.goes in
+    record {
+      pool = two.pool ∙ one.pool;
+      limits = two.limits ∙ one.limits;
+      more = one.more ++ two.more;
+      is = two.is ∙ (ap (λ (h : List Entry). h ++ two.more) one.is ∙ append_assoc old.entries one.more two.more);
+      goes = goes-on old.pool old.entries one.more two.more one.goes later;
+    }
 
 -- what an ask that was promised leaves
 pub record IsStepped (b new : Recorded) (ask : Ask) (made : Outcome) : Type 0 where
@@ -99,25 +115,18 @@ pub record IsGranting (old new : Recorded) : Type 0 where
   pub more : IsContinued old new
   pub held : (standing new).holdings.sessions ≡ (standing old).holdings.sessions
 
-pub granting-next : (old b new : Recorded) (origin : ℕ) (to : PortId) → IsLegal b.pool b.entries → IsGranting old b → IsEnabled (standing b) (Grant origin to) → new ≡ after_ask b (Grant origin to)
+pub granting-next : (old b new : Recorded) (origin : ℕ) (to : PortId) → IsLegal b.pool b.entries → IsGranting old b → IsEnabled (standing b) (Grant origin to) → next_ending (standing b) ≡ Some (Grant origin to)
+    → new ≡ after_ask b (Grant origin to)
     → IsGranting old new × (promised_of (standing new).world < promised_of (standing b).world)
-granting-next old b new origin to legal on enabled made =
+granting-next old b new origin to legal on enabled goes made =
     let k = grant-of (standing b) origin to.0 enabled in
     let next = stepped b new (Grant origin to) (grant_step (standing b) k.offer) made legal k.made k.made refl in (
       record {
-        more = subst (λ (r : Recorded). IsContinued old r) (sym made) (continued-after old b (Grant origin to) on.more);
+        more = subst (λ (r : Recorded). IsContinued old r) (sym made) (continued-after old b (Grant origin to) on.more goes);
         held = ap (λ (s : Standing). s.holdings.sessions) next.standing_is ∙ on.held;
       },
       next.less,
     )
-
--- the first offer can be granted
-pub first-enabled : (b : Inside) (offer : Offer) (offers : List Offer) → StandsIn b → b.offers.items ≡ offer ∷ offers
-    → is_some (grant_step_at (standing (recorded b)) offer.to (first_offer (standing (recorded b)).world offer.origin)) ≡ true
-first-enabled b offer offers stands are =
-    let same : (standing (recorded b)).world.offers ≡ offer ∷ offers = sym (ap (λ (w : World). w.offers) stands.world_is) ∙ are in
-    let first : first_offer (standing (recorded b)).world offer.origin ≡ Some offer = rw (same, eq-eqb offer.origin offer.origin refl) refl in
-    rw (first, eq-eqb offer.to offer.to refl) refl
 
 -- Leases.
 
@@ -131,13 +140,15 @@ done-by : (s : Standing) (lease : ℕ) (found : Option Lot) → is_some (done_st
 done-by s lease None e = absurd cc
 done-by s lease (Some lot) e = (record { session = lot.session; reply = Made; next = record s { world = record s.world { ports = ports_after_done lease s.world.ports } } }, refl, refl, refl)
 
-pub completing-next : (old b new : Recorded) (lease : LeaseId) → IsLegal b.pool b.entries → IsCompleting old b → IsEnabled (standing b) (Done lease) → new ≡ after_ask b (Done lease)
+pub completing-next : (old b new : Recorded) (lease : LeaseId) → IsLegal b.pool b.entries → IsCompleting old b → IsEnabled (standing b) (Done lease) → first_lease (standing b).world.ports ≡ Some lease.0
+    → new ≡ after_ask b (Done lease)
     → IsCompleting old new × (promised_of (standing new).world < promised_of (standing b).world)
-completing-next old b new lease legal on enabled made =
+completing-next old b new lease legal on enabled first made =
+    let goes : next_ending (standing b) ≡ Some (Done lease) = rw (on.granted, first) refl in
     let k = done-by (standing b) lease.0 (lease_at (standing b).world.ports lease.0) enabled in
     let next = stepped b new (Done lease) k.0 made legal k.1 k.1 refl in (
       record {
-        more = subst (λ (r : Recorded). IsContinued old r) (sym made) (continued-after old b (Done lease) on.more);
+        more = subst (λ (r : Recorded). IsContinued old r) (sym made) (continued-after old b (Done lease) on.more goes);
         granted = ap (λ (s : Standing). s.world.offers) next.standing_is ∙ (k.2 ∙ on.granted);
         held = ap (λ (s : Standing). s.holdings.sessions) next.standing_is ∙ (ap (λ (x : Holdings). x.sessions) k.3 ∙ on.held);
       },
@@ -154,10 +165,13 @@ lease-enabled b n stands e =
     let same : map port_of b.ports.items ≡ w.ports = ap (λ (v : World). v.ports) stands.world_is in
     some-done (standing (recorded b)) n (lease_at w.ports n) (first_lease-some w.ports n (ap first_lease (sym same) ∙ sym e))
 
+pub lease-stands : (b : Inside) (n : ℕ) → StandsIn b → Some n ≡ first_lease (map port_of b.ports.items) → first_lease (standing (recorded b)).world.ports ≡ Some n
+lease-stands b n stands e = ap first_lease (sym (ap (λ (v : World). v.ports) stands.world_is)) ∙ sym e
+
 pub leases-done : (b : Inside) → StandsIn b → None ≡ first_lease (map port_of b.ports.items) → Each IsDone (standing (recorded b)).world.ports
 leases-done b stands e =
     let w = (standing (recorded b)).world in
     let same : map port_of b.ports.items ≡ w.ports = ap (λ (v : World). v.ports) stands.world_is in
     first_lease-none w.ports (ap first_lease (sym same) ∙ sym e)
 
-pub ruleset winding = (lease-enabled, leases-done)
+pub ruleset winding = (lease-enabled, lease-stands, leases-done)

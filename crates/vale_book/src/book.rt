@@ -3,14 +3,14 @@ ghost use Rattle.vale_entry.specs.World.{free_count};
 ghost use Rattle.vale_entry.specs.Legal.{IsEnabled, IsLegal};
 ghost use Rattle.std.specs.List.{range_with_len};
 ghost use Rattle.vale_entry.specs.declared.entry.Ask.TheVariants as asks;
-ghost use Rattle.vale_entry.specs.Room.{frame_bytes};
+ghost use Rattle.vale_entry.specs.Room.{frame_bytes, promised_of};
 ghost use Rattle.vale_book.specs.Recorded.{standing, after_ask, IsRefusal, HasRoom, HadRoom, IsWithinLimits};
 
 use crate::steps;
 use nm_types::{LeaseId, Limits, NoMemory, SessionId, StepFault};
 use std::alloc::{AllocError, Global};
 use std::marker::Model;
-use vale_entry::{Entry, History};
+use vale_entry::History;
 use vale_world::offer::Offer;
 use vale_world::{Pair, Port, ports};
 
@@ -80,12 +80,14 @@ impl Book {
     }
 
     /// The record of every step: a legal history, each entry of which had room.
-    pub fn entries(&self) -> &[Entry]
-        ensures entries { result.now ≡ self.now.entries }
+    pub fn history(&self) -> &History
+        ensures entries { result.now.entries ≡ self.now.entries }
+        ensures limits { result.now.limits ≡ self.now.limits }
+        ensures promised { result.now.promised ≡ promised_of (standing self.now).world }
         ensures roomy { HadRoom self.now }
         ensures legal { IsLegal self.now.pool self.now.entries }
     {
-        self.history.entries()
+        &self.history
     }
 
     /// How many entries were made, and how many bytes of frames they keep: both are within the limits,

@@ -5,7 +5,7 @@ ghost use Rattle.vale_entry.specs.World.{free_count};
 ghost use Rattle.vale_entry.specs.Legal.{step, reply_to, world_of, IsLegal};
 ghost use Rattle.vale_entry.specs.Holdings.{IsParted, Agrees};
 ghost use Rattle.vale_book.specs.OpenAnswers.{unopened};
-ghost use Rattle.vale_book.specs.Winding.{StartsWith};
+ghost use Rattle.vale_book.specs.Winding.{IsEnded};
 ghost use Rattle.vale_book.specs.Recorded.{standing, after_ask, after_asks, IsStopped, reply_of, IsRefusal, HasRoom, HadRoom};
 
 use nm_types::{
@@ -14,7 +14,7 @@ use nm_types::{
 };
 use std::alloc::{AllocError, Global};
 use std::marker::Model;
-use vale_entry::{Ask, Dests, Entry, History, Numbers, Reply};
+use vale_entry::{Ask, Dests, History, Numbers, Reply};
 use vale_world::session::{Session, exchange_at, give_at, place_of, reserve_at};
 
 mod ending;
@@ -88,11 +88,12 @@ impl Drive {
         })
     }
 
-    /// The entries made so far.
-    pub fn entries(&self) -> &[Entry]
-        ensures { result.now ≡ self.now.entries }
+    /// The record of every step that was made.
+    pub fn history(&self) -> &History
+        ensures entries { result.now.entries ≡ self.now.entries }
+        ensures limits { result.now.limits ≡ self.now.limits }
     {
-        self.book.entries()
+        self.book.history()
     }
 
     #[tactic(auto, using(crate::proofs::Drives::drives))]
@@ -113,14 +114,12 @@ impl Drive {
         }
     }
 
-    #[tactic(auto, using(crate::proofs::Drives::drives, crate::proofs::Limits::limits))]
+    #[tactic(auto, using(crate::proofs::DriveEnds::drive_ends))]
     fn grant(&mut self, origin: u32, to: PortId) -> Option<Reply>
         ensures replied { result ≡ option_map reply_of (step (standing self.old) (asks.Grant origin to)) }
         ensures made { self.new ≡ after_ask self.old (asks.Grant origin to) }
         ensures room { HasRoom self.old (asks.Grant origin to) }
     {
-        // A grant has the room that was promised it.
-        self.book.used();
         if !self.book.can_grant(origin, to) {
             return None;
         }
@@ -132,14 +131,12 @@ impl Drive {
         })
     }
 
-    #[tactic(auto, using(crate::proofs::Drives::drives, crate::proofs::Limits::limits))]
+    #[tactic(auto, using(crate::proofs::DriveEnds::drive_ends))]
     fn done(&mut self, lease: LeaseId) -> Option<Reply>
         ensures replied { result ≡ option_map reply_of (step (standing self.old) (asks.Done lease)) }
         ensures made { self.new ≡ after_ask self.old (asks.Done lease) }
         ensures room { HasRoom self.old (asks.Done lease) }
     {
-        // So has the end of a lease.
-        self.book.used();
         if !self.book.can_complete(lease) {
             return None;
         }
@@ -289,7 +286,7 @@ impl Drive {
     {
         let made = self.run_each(asks);
         // Its entries are a legal history, made or refused.
-        self.book.entries();
+        self.book.history();
         made
     }
 
@@ -299,8 +296,9 @@ impl Drive {
     /// and all buffers are free after it.
     #[tactic(auto, using(crate::proofs::Winding::winding))]
     pub fn close(self) -> History
-        ensures more { StartsWith self.entries result.entries }
+        ensures ended { IsEnded self.pool self.entries result.entries }
         ensures legal { IsLegal self.pool result.entries }
+        ensures roomy { HadRoom (record self { entries = result.entries }) }
         ensures free { free_count (world_of self.pool result.entries) ≡ self.pool }
         ensures limits { result.limits ≡ self.limits }
     {
@@ -316,7 +314,7 @@ impl Drive {
             book.end_session(SessionId(session.id), &session.buffers);
         }
         // The record is a legal history.
-        book.entries();
+        book.history();
         book.close()
     }
 }

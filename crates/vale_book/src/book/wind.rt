@@ -1,11 +1,11 @@
-ghost use Rattle.std.specs.Prelude.{◌≡◌, [], drop, find, option_map, IfSome, IfNone};
+ghost use Rattle.std.specs.Prelude.{◌≡◌, [], Some, drop, find, option_map, IfSome, IfNone};
 ghost use Rattle.std.specs.List.{AllByRecursion};
 ghost use Rattle.vale_entry.specs.declared.entry.Ask.TheVariants as asks;
 ghost use Rattle.vale_entry.specs.Closing.{is_port_of};
 ghost use Rattle.vale_entry.specs.Legal.{IsEnabled, IsLegal};
-ghost use Rattle.vale_world.specs.Leases.{IsDone, id_and_due};
+ghost use Rattle.vale_world.specs.Leases.{IsDone, first_lease, id_and_due};
 ghost use Rattle.vale_book.specs.Recorded.{standing, after_ask};
-ghost use Rattle.vale_book.specs.Winding.{IsContinued, IsQuiet, IsGoing, IsHeldFirst, no_chain};
+ghost use Rattle.vale_book.specs.Winding.{IsContinued, IsQuiet, IsGoing, IsHeldFirst, next_ending, no_chain};
 
 use crate::book::Book;
 use nm_types::{Chain, LeaseId, PortId, SessionId};
@@ -16,6 +16,7 @@ impl Book {
     #[tactic(auto, using(crate::proofs::Winding::winding))]
     fn first_wanted(&self) -> Option<(u32, PortId)>
         ensures some { IfSome result (λ wanted. IsEnabled (standing self.now) (asks.Grant wanted.0 wanted.1)) }
+        ensures next { IfSome result (λ wanted. next_ending (standing self.now) ≡ Some (asks.Grant wanted.0 wanted.1)) }
         ensures none { IfNone result ((standing self.now).world.offers ≡ []) }
         ensures legal { IsLegal self.now.pool self.now.entries }
     {
@@ -40,6 +41,7 @@ impl Book {
     #[tactic(auto, using(crate::proofs::Winding::winding))]
     fn first_lease(&self) -> Option<LeaseId>
         ensures some { IfSome result (λ lease. IsEnabled (standing self.now) (asks.Done lease)) }
+        ensures first { IfSome result (λ lease. first_lease (standing self.now).world.ports ≡ Some lease.0) }
         ensures none { IfNone result (AllByRecursion IsDone (standing self.now).world.ports) }
         ensures legal { IsLegal self.now.pool self.now.entries }
     {

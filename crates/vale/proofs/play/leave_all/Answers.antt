@@ -24,4 +24,4 @@ returns-clause-left c =
     all-left c.loop-place.book c.loop-place.users.items c.loop-place.place c.loop-place.invariant.does.order c.loop-place.invariant.left most
 
 pub returns-clause-whole : goal.returns-clause-whole
-returns-clause-whole c = all-free c.loop-place.book c.entries.ensures.legal (returns-clause-left c)
+returns-clause-whole c = all-free c.loop-place.book c.history.ensures.legal (returns-clause-left c)

@@ -30,4 +30,4 @@ returns-clause-stopped c =
     let are : c.in_ok-users.users.items ≡ map new_machine (range_with_len 1 c.args.script.now.users) = c.in_ok-users.ensures ∙ ap (λ (n : ℕ). map new_machine (range_with_len 1 n)) c.users.ensures.users in
     program-stopped c.args.book.now c.run_lines.new.book c.leave_all-in-Err.new.book c.args.script.now c.in_ok-users.users.items c.run_lines.new.users.items c.leave_all-in-Err.new.users.items c.in-Err.fault c.requires.fresh c.requires.pool are
     (subst (λ (lines : List Line). StopsUnits c.args.book.now c.run_lines.new.book c.in_ok-users.users.items (map unit_of_line lines) c.run_lines.new.users.items c.in-Err.fault) c.lines.ensures c.in-Err.ensures.stopped)
-    c.entries.ensures.legal c.entries.ensures.roomy c.used.ensures.within c.in_ok-leave_all-in-Err.ensures.does c.in_ok-leave_all-in-Err.ensures.left c.in_ok-leave_all-in-Err.ensures.whole
+    c.history.ensures.legal c.history.ensures.roomy c.used.ensures.within c.in_ok-leave_all-in-Err.ensures.does c.in_ok-leave_all-in-Err.ensures.left c.in_ok-leave_all-in-Err.ensures.whole

@@ -43,7 +43,7 @@ fn refusals(book: &mut Book) -> Result<[Option<OpenFault>; 7], StepFault> {
 fn refused_openings(rt: HostRuntime) -> Result<(), Fail> {
     let mut book = Book::new(rt.alloc(), 10, Limits::VERSION_1)?;
     let faults = refusals(&mut book);
-    let count = book.entries().len();
+    let count = book.history().len();
     assert_eq!(rt;
         faults?,
         [

@@ -7,8 +7,8 @@ loop-lease-init c = record { more = continued-same c.args.self.now; granted = c.
 
 pub loop-lease-smaller : goal.loop-lease-smaller
 loop-lease-smaller c =
-    (completing-next c.args.self.now c.loop-lease.self c.done.new.self c.in-Some.lease c.first_lease.ensures.legal c.loop-lease.invariant c.in-Some.ensures.some c.done.ensures.made).1
+    (completing-next c.args.self.now c.loop-lease.self c.done.new.self c.in-Some.lease c.first_lease.ensures.legal c.loop-lease.invariant c.in-Some.ensures.some c.in-Some.ensures.first c.done.ensures.made).1
 
 pub loop-lease-preserved : goal.loop-lease-preserved
 loop-lease-preserved c =
-    (completing-next c.args.self.now c.loop-lease.self c.done.new.self c.in-Some.lease c.first_lease.ensures.legal c.loop-lease.invariant c.in-Some.ensures.some c.done.ensures.made).0
+    (completing-next c.args.self.now c.loop-lease.self c.done.new.self c.in-Some.lease c.first_lease.ensures.legal c.loop-lease.invariant c.in-Some.ensures.some c.in-Some.ensures.first c.done.ensures.made).0

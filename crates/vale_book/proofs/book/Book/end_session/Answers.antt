@@ -34,8 +34,20 @@ leave-requires c =
     let none : None ≡ option_map id_and_due (find (is_port_of c.args.session.0) (standing c.loop-port.self).world.ports) = search rules in
     leave-enabled c.args.self.now c.loop-port.self (drop 1 (standing c.args.self.now).holdings.sessions) c.args.session c.loop-port.left.now c.first_port.ensures.legal c.loop-port.invariant none
 
+pub returns-clause-more : goal.returns-clause-more
+returns-clause-more c =
+    let none : None ≡ option_map id_and_due (find (is_port_of c.args.session.0) (standing c.loop-port.self).world.ports) = search rules in
+    let enabled = leave-enabled c.args.self.now c.loop-port.self (drop 1 (standing c.args.self.now).holdings.sessions) c.args.session c.loop-port.left.now c.first_port.ensures.legal c.loop-port.invariant none in
+    (leave-next c.args.self.now c.loop-port.self c.leave.new.self (drop 1 (standing c.args.self.now).holdings.sessions) c.args.session c.loop-port.left.now c.first_port.ensures.legal c.loop-port.invariant none enabled c.leave.ensures.made).more
+
+pub returns-clause-quiet : goal.returns-clause-quiet
+returns-clause-quiet c =
+    let none : None ≡ option_map id_and_due (find (is_port_of c.args.session.0) (standing c.loop-port.self).world.ports) = search rules in
+    let enabled = leave-enabled c.args.self.now c.loop-port.self (drop 1 (standing c.args.self.now).holdings.sessions) c.args.session c.loop-port.left.now c.first_port.ensures.legal c.loop-port.invariant none in
+    (leave-next c.args.self.now c.loop-port.self c.leave.new.self (drop 1 (standing c.args.self.now).holdings.sessions) c.args.session c.loop-port.left.now c.first_port.ensures.legal c.loop-port.invariant none enabled c.leave.ensures.made).quiet
+
 pub returns-clause-held : goal.returns-clause-held
 returns-clause-held c =
     let none : None ≡ option_map id_and_due (find (is_port_of c.args.session.0) (standing c.loop-port.self).world.ports) = search rules in
     let enabled = leave-enabled c.args.self.now c.loop-port.self (drop 1 (standing c.args.self.now).holdings.sessions) c.args.session c.loop-port.left.now c.first_port.ensures.legal c.loop-port.invariant none in
-    (leave-next c.args.self.now c.loop-port.self c.leave.new.self (drop 1 (standing c.args.self.now).holdings.sessions) c.args.session c.loop-port.left.now c.first_port.ensures.legal c.loop-port.invariant enabled c.leave.ensures.made).sessions
+    (leave-next c.args.self.now c.loop-port.self c.leave.new.self (drop 1 (standing c.args.self.now).holdings.sessions) c.args.session c.loop-port.left.now c.first_port.ensures.legal c.loop-port.invariant none enabled c.leave.ensures.made).sessions
