@@ -1,0 +1,262 @@
+#!/usr/bin/env python3
+"""What the rules of docs/RULES.md make of a script, worked out without vale.
+
+`play` answers the transcript, the line on standard error and the status. The switch is kept here as
+people think of it, as rings of buffers, tables of addresses and a set of free buffers, and no history
+is asked what stands. `python3 model.py SCRIPT` writes what vale is to write.
+"""
+
+import re
+import sys
+
+MOST = {"lines": 10_000, "counts": 1_000_000, "users": 64, "switches": 4, "ports": 16}
+# the words of a line behind its first one
+WORDS = {b"pool": 1, b"user": 1, b"open": 4, b"put": 7, b"tx": 2, b"rx": 2, b"close": 2}
+
+
+class BadLine(Exception):
+    """A line that is no line of a script."""
+
+
+def matched(pattern, word):
+    if not re.fullmatch(pattern, word):
+        raise BadLine()
+    return word
+
+
+def number(word, low, high):
+    value = int(matched(rb"[0-9]{1,20}", word))
+    if not low <= value <= high:
+        raise BadLine()
+    return value
+
+
+def user_name(word):
+    return matched(rb"[A-Za-z0-9_-]{1,16}", word)
+
+
+def port_name(word):
+    if len(word) > 16:
+        raise BadLine()
+    return matched(rb"vale[A-Za-z0-9_-]*:[A-Za-z0-9_-]+", word)
+
+
+def address(word):
+    return bytes(int(pair, 16) for pair in matched(rb"[0-9a-fA-F]{2}(:[0-9a-fA-F]{2}){5}", word).split(b":"))
+
+
+def numbers_of(kind, words):
+    """What an `open` and a `put` say behind the user and the port."""
+    if kind == b"open":
+        return tuple(number(word, 0, 2**32 - 1) for word in words)
+    if kind == b"put":
+        count, to, source, length, fill = words
+        fill = int(matched(rb"[0-9a-fA-F]{2}", fill), 16)
+        return number(count, 0, 1_000_000), address(to), address(source), number(length, 0, 2048), fill
+    return ()
+
+
+class Reader:
+    """The lines of a script, judged one after another."""
+
+    def __init__(self):
+        self.pool, self.said, self.users, self.opened, self.lines = 8192, False, [], [], []
+
+    def read(self, words):
+        if not all(33 <= byte <= 126 for word in words for byte in word):
+            raise BadLine()
+        kind, words = words[0], words[1:]
+        if WORDS.get(kind) != len(words):
+            raise BadLine()
+        if kind == b"pool":
+            if self.said:
+                raise BadLine()
+            self.pool = number(words[0], 1, 65536)
+        elif kind == b"user":
+            name = user_name(words[0])
+            if name in self.users or len(self.users) == MOST["users"]:
+                raise BadLine()
+            self.users.append(name)
+            self.opened.append(set())
+            self.lines.append((kind, len(self.users) - 1))
+        else:
+            self.read_of_port(kind, user_name(words[0]), port_name(words[1]), words[2:])
+        self.said = True
+
+    def read_of_port(self, kind, user, name, words):
+        said = numbers_of(kind, words)
+        if user not in self.users:
+            raise BadLine()
+        user = self.users.index(user)
+        if (kind == b"open") == (name in self.opened[user]):
+            raise BadLine()
+        if kind == b"open":
+            self.opened[user].add(name)
+        if kind == b"close":
+            self.opened[user].remove(name)
+        self.lines.append((kind, user, name, *said))
+
+
+def lines_of(script):
+    *ended, last = script.split(b"\n")
+    lines = [line[:-1] if line.endswith(b"\r") else line for line in ended]
+    return lines + [last] if last else lines
+
+
+class Port:
+    def __init__(self, number, session, name, buffers, slots):
+        self.number, self.session, self.name = number, session, name
+        self.transmit, self.idle = buffers[:slots], buffers[slots:]
+        self.put, self.queue, self.received = [], [], []
+
+    def switch(self):
+        return self.name.split(b":")[0]
+
+
+class Switches:
+    """The switches, the users' sessions and ports, and the pool."""
+
+    def __init__(self, pool, users):
+        self.free, self.text, self.count = set(range(2, pool + 2)), [], 0
+        self.ports, self.learned = {}, {}
+        self.sessions, self.own = [None] * users, [{} for _ in range(users)]
+
+    def entry(self, text):
+        self.count += 1
+        self.text.append(f"{self.count} {text}\n")
+        return self.count
+
+    def enter(self, user):
+        self.sessions[user] = self.entry(f"enter {user + 1}")
+
+    def refusal(self, name, transmit, receive):
+        switch, there = name.split(b":")[0], [port.switch() for port in self.ports.values()]
+        if not all(2 <= slots <= 1024 for slots in (transmit, receive)):
+            return "badsize"
+        if switch not in there and len(set(there)) == MOST["switches"]:
+            return "switchesfull"
+        if there.count(switch) == MOST["ports"]:
+            return "portsfull"
+        if name in [port.name for port in self.ports.values()]:
+            return "nametaken"
+        if transmit + receive > len(self.free):
+            return f"nobuffers {transmit + receive} {len(self.free)}"
+        return None
+
+    def open(self, user, name, transmit, receive):
+        session, refusal = self.sessions[user], self.refusal(name, transmit, receive)
+        number = self.entry(f"{session} open {name.decode()} {transmit} {receive} 0 = {refusal or 'ok'}")
+        if refusal is None:
+            buffers = sorted(self.free)[: transmit + receive]
+            self.free.difference_update(buffers)
+            self.ports[number] = self.own[user][name] = Port(number, session, name, buffers, transmit)
+
+    def named(self, port, frame, others):
+        """The ports for which a frame is, once its source is learned."""
+        place = lambda mac: (port.switch(), (int.from_bytes(mac[:2]) ^ int.from_bytes(mac[2:4]) ^ int.from_bytes(mac[4:])) % 1024)
+        to, source = frame[:6], frame[6:12]
+        if source[0] % 2 == 0:
+            self.learned[place(source)] = (source, port.number)
+        known, number = self.learned.get(place(to), (None, None))
+        if to[0] % 2 or known != to:
+            return others
+        return [number] if number != port.number else []
+
+    def tx(self, port):
+        frames, port.put = port.put, []
+        others = [other.number for other in self.ports.values() if other.switch() == port.switch() and other != port]
+        wanted, short, lone = dict.fromkeys(others, 0), 0, 0
+        for frame in frames:
+            to = self.named(port, frame, others) if len(frame) >= 14 else []
+            short += len(frame) < 14
+            lone += len(frame) >= 14 and not to
+            for number in to:
+                wanted[number] += 1
+        offers = [(number, wanted[number]) for number in sorted(wanted) if wanted[number]]
+        text = ",".join(frame.hex() or "." for frame in frames) or "-"
+        to = ",".join(f"{number}*{count}" for number, count in offers) or "-"
+        origin = self.entry(f"{port.session} send {port.number} {text} = short {short} lone {lone} to {to}")
+        for number, count in offers:
+            self.grant(port.session, origin, self.ports[number], count)
+
+    def grant(self, session, origin, port, count):
+        given = min(count, len(port.idle) - 1)
+        lease = self.entry(f"{session} grant {origin} {port.number} = given {given} full {count - given} gone 0")
+        port.queue, port.idle = port.queue + port.idle[:given], port.idle[given:]
+        if given:
+            self.entry(f"{session} done {lease}")
+
+    def put(self, port, count, to, source, length, fill):
+        frame = (to + source + b"\x88\xb5" + bytes([fill]) * 2048)[:length]
+        for _ in range(count):
+            if len(port.put) == len(port.transmit) - 1:
+                self.tx(port)
+            port.put.append(frame)
+
+    def rx(self, port):
+        back, port.received, port.queue = port.received, port.queue, []
+        port.idle += back
+        self.entry(f"{port.session} sync {port.number} {','.join(map(str, back)) or '-'} = gave {len(port.received)} to -")
+
+    def close(self, user, name):
+        port = self.own[user].pop(name)
+        self.entry(f"{port.session} shut {port.number}")
+        self.learned = {place: held for place, held in self.learned.items() if held[1] != port.number}
+        buffers = port.transmit + port.received
+        listed = ",".join(map(str, buffers))
+        self.entry(f"{port.session} finish {port.number} {listed} found 0 astray 0 = unread {len(port.queue)}")
+        del self.ports[port.number]
+        self.free.update(buffers, port.idle, port.queue)
+
+    def run(self, line):
+        kind, user, *said = line
+        if kind == b"user":
+            self.enter(user)
+        elif kind == b"open":
+            self.open(user, *said)
+        elif said[0] in self.own[user]:
+            port = self.own[user][said[0]]
+            if kind == b"close":
+                self.close(user, said[0])
+            elif kind == b"put":
+                self.put(port, *said[1:])
+            else:
+                {b"tx": self.tx, b"rx": self.rx}[kind](port)
+
+    def end(self):
+        for user, session in enumerate(self.sessions):
+            for name in list(self.own[user]):
+                self.close(user, name)
+            self.entry(f"{session} leave")
+
+
+def play(script):
+    """What vale writes on standard output and on standard error, and its status."""
+    reader, lines = Reader(), lines_of(script)
+    if len(lines) > MOST["lines"]:
+        return b"", f"vale: lines {len(lines)} over {MOST['lines']}\n".encode(), 7
+    for at, line in enumerate(lines, 1):
+        words = [word for word in re.split(rb"[ \t]+", line) if word]
+        if not words or words[0].startswith(b"#"):
+            continue
+        try:
+            reader.read(words)
+        except BadLine:
+            return b"", f"vale: script line {at}: word\n".encode(), 3
+    counts = sum(line[3] for line in reader.lines if line[0] == b"put")
+    if counts > MOST["counts"]:
+        return b"", f"vale: counts {counts} over {MOST['counts']}\n".encode(), 7
+    switches = Switches(reader.pool, len(reader.users))
+    for line in reader.lines:
+        switches.run(line)
+    switches.end()
+    text = f"vale 1 pool {reader.pool}\n{''.join(switches.text)}end {switches.count} free {len(switches.free)}\n"
+    return text.encode(), b"", 0
+
+
+if __name__ == "__main__":
+    with open(sys.argv[1], "rb") as file:
+        written, line, status = play(file.read())
+    sys.stdout.buffer.write(written)
+    sys.stderr.buffer.write(line)
+    sys.exit(status)
