@@ -1,3 +1,4 @@
+pub mod Command
 pub mod Delivery
 pub mod Laws
 pub mod Machine

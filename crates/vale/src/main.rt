@@ -11,9 +11,14 @@ mod status;
 mod tests;
 mod user;
 
-use crate::run::run;
+ghost use Rattle.std.specs.Prelude.{◌≡◌, ◌≤◌, ℕ, List, map, string_bytes, option_map};
+ghost use Rattle.vale.specs.Command.{answer_to, Answers};
+ghost use Rattle.vale.specs.Run.{script_name};
+
+use crate::run::{MAX_SCRIPT, run};
 use crate::status::{Status, status_line};
-use nm_io::{FileShelf, NoGate, StdSink};
+use nm_io::{FileShelf, NoGate, Shelf, Sink, StdSink, put_all};
+use nm_types::Limits;
 use std::alloc::AllocError;
 use std::process::ExitCode;
 use std::{env, io};
@@ -36,7 +41,10 @@ fn words_of_command(rt: &HostRuntime) -> io::Result<Vec<String>> {
 }
 
 /// What `--help` and `--version` answer.
-fn answer(words: &[String]) -> Option<&'static str> {
+#[tactic(auto, unfolding(crate::specs::Command::help_text, crate::specs::Command::version_text))]
+fn answer(words: &[String]) -> Option<&'static str>
+    ensures { option_map (λ text. text.now) result ≡ answer_to (map string_bytes words.now) }
+{
     match words {
         [word] if word.as_str() == "--help" => Some(HELP),
         [word] if word.as_str() == "--version" => Some(VERSION),
@@ -44,25 +52,37 @@ fn answer(words: &[String]) -> Option<&'static str> {
     }
 }
 
-fn run_command(rt: &HostRuntime, words: &[String]) -> Status {
-    if let Some(text) = answer(words) {
-        return match rt.print(text) {
-            Ok(()) => Status::Done,
-            Err(_) => Status::WriteFault,
-        };
+/// Writes what `--help` or `--version` answers, or runs the command.
+fn run_command<S: Shelf, K: Sink>(
+    rt: &HostRuntime,
+    words: &[String],
+    shelf: &mut S,
+    out: &mut K,
+) -> Status
+    ensures answers { Answers MAX_SCRIPT Limits.VERSION_1 (answer_to (map string_bytes words.now)) (script_name (map string_bytes words.now)) (S.files shelf.old) (λ name. (S.read_faults shelf.old name, S.read_faults shelf.new name))
+        (K.faults out.old, K.faults out.new) (K.holds out.old) (K.holds out.new) result }
+    ensures files { S.files shelf.new ≡ S.files shelf.old }
+    ensures reads_later { (other : List ℕ) → S.read_faults shelf.old other ≤ S.read_faults shelf.new other }
+    ensures appends_later { (other : List ℕ) → S.append_faults shelf.old other ≤ S.append_faults shelf.new other }
+    ensures later { K.faults out.old ≤ K.faults out.new }
+{
+    let Some(text) = answer(words) else {
+        return run(rt, words, shelf, out, &NoGate);
+    };
+    match put_all(out, text.as_bytes()) {
+        Ok(()) => Status::Done,
+        Err(_) => Status::WriteFault,
     }
-    run(
-        rt,
-        words,
-        &mut FileShelf::new(rt),
-        &mut StdSink::new(rt),
-        &NoGate,
-    )
 }
 
 fn main(rt: HostRuntime) -> ExitCode {
     let status = match words_of_command(&rt) {
-        Ok(words) => run_command(&rt, &words),
+        Ok(words) => run_command(
+            &rt,
+            &words,
+            &mut FileShelf::new(&rt),
+            &mut StdSink::new(&rt),
+        ),
         Err(error) if error.kind() == io::ErrorKind::OutOfMemory => Status::NoMemory,
         Err(_) => Status::Usage,
     };

@@ -187,8 +187,15 @@ fn longest_scripts_are_run(rt: HostRuntime) -> Result<(), Fail> {
 #[test]
 fn help_and_version_are_told(rt: HostRuntime) -> Result<(), Fail> {
     for (word, text) in [("--help", HELP), ("--version", VERSION)] {
-        let told = answer(&command(rt.alloc(), &[word])?).ok_or("told")?;
+        let alloc = rt.alloc();
+        let words = command(alloc, &[word])?;
+        let told = answer(&words).ok_or("told")?;
         assert_eq!(rt; told, text);
+        let mut shelf = MemoryShelf::new(alloc, Vec::new(alloc));
+        let mut out = MemorySink::new(alloc, Vec::new(alloc));
+        let status = run_command(&rt, &words, &mut shelf, &mut out);
+        assert_eq!(rt; status.code(), 0);
+        assert_eq!(rt; out.bytes(), text.as_bytes());
         let (out, line) = outcome(&rt, &[word], b"", 99, 99)?;
         assert_eq!(rt; line.bytes(), "usage: vale run SCRIPT\n".as_bytes());
         assert_eq!(rt; out.bytes(), "".as_bytes());
