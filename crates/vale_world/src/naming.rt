@@ -43,7 +43,7 @@ fn name_frames(
     for i in 0..batch.len() {
         let (bytes, no_learn) = batch.get(i);
         learn(pairs, sender, bytes, no_learn)?;
-        destinations.push(destination_of(ports, sender, pairs, bytes, no_learn))?;
+        destinations.push(destination_of(ports, sender, pairs, bytes))?;
     }
     Ok(destinations)
 }

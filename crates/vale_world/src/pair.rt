@@ -1,4 +1,4 @@
-ghost use Rattle.std.specs.Prelude.{◌≡◌, ◌+◌, ◌<◌, ◌≤◌, length, take, reverse, nat_lt, find, OnOk, OnErr, bytes_eq, map, option_copied};
+ghost use Rattle.std.specs.Prelude.{◌≡◌, ◌+◌, ◌<◌, ◌≤◌, false, length, take, reverse, nat_lt, find, OnOk, OnErr, bytes_eq, map, option_copied};
 ghost use Rattle.nm_types.specs.Names.{switch_of};
 ghost use Rattle.vale_entry.specs.Learning.{is_short, is_group, bucket_of, is_learnable, learned, is_in_bucket, port_of_address, half_at};
 ghost use Rattle.vale_entry.specs.World.{is_open, is_open_at};
@@ -156,15 +156,15 @@ fn port_of_address(ports: &[Port], pairs: &[Pair], name: Name, address: &[u8]) -
     }
 }
 
-/// Where a switch sends a frame: the first part of the frame names the destination.
+/// Where a switch sends a frame: the first part of the frame names the destination, whether or not its
+/// source is learned.
 pub(crate) fn destination_of(
     ports: &[Port],
     sender: &Port,
     pairs: &[Pair],
     bytes: &[u8],
-    no_learn: bool,
 ) -> Destination
-    ensures { result ≡ destination_of (map port_of ports.now) sender.now.port (reverse pairs.now) (record { bytes = bytes.now; no_learn = no_learn }) }
+    ensures { result ≡ destination_of (map port_of ports.now) sender.now.port (reverse pairs.now) (record { bytes = bytes.now; no_learn = false }) }
 {
     if is_short(bytes) {
         return Destination::Nobody;
