@@ -40,10 +40,7 @@ fn outcome(
 #[test]
 fn examples_are_played(rt: HostRuntime) -> Result<(), Fail> {
     for (script, text) in [
-        (
-            b"".as_slice(),
-            b"vale 1 pool 8192\nend 0 free 8192\n".as_slice(),
-        ),
+        (EMPTY, EMPTY_TEXT),
         (FIRST, FIRST_TEXT),
         (LEARNING, LEARNING_TEXT),
         (FULL, FULL_TEXT),
@@ -60,34 +57,13 @@ fn examples_are_played(rt: HostRuntime) -> Result<(), Fail> {
 #[test]
 fn lines_are_run(rt: HostRuntime) -> Result<(), Fail> {
     for (script, lines) in [
-        (
-            SHORT,
-            b"5 1 send 3 ffffffffffff02000000000a88,ffffffffffff02000000000a88b5 = short 1 lone 0 to 4*1\n".as_slice(),
-        ),
-        (
-            GROUP_SOURCE,
-            b"12 2 send 5 02000000000a02000000000b88b5 = short 0 lone 0 to 4*1,6*1\n".as_slice(),
-        ),
-        (
-            BUCKETS,
-            b"22 3 send 6 02000001000002000000000c88b5 = short 0 lone 0 to 5*1\n".as_slice(),
-        ),
-        (
-            LONE,
-            b"8 1 send 3 02000000000a02000000000a88b5 = short 0 lone 1 to -\n".as_slice(),
-        ),
-        (
-            PUT_TOO_MANY,
-            b"2 1 open vale0:a 2 4 0 = ok\n3 1 send 2 ffffffffffff02000000000a88b5 = short 0 lone 1 to -\n4 1 send 2 ffffffffffff02000000000a88b5 = short 0 lone 1 to -\n5 1 shut 2\n".as_slice(),
-        ),
-        (
-            NAME_TAKEN,
-            b"4 2 open vale0:a 4 4 0 = nametaken\n5 1 shut 3\n6 1 finish 3 2,3,4,5 found 0 astray 0 = unread 0\n7 1 leave\n8 2 leave\nend 8 free 64\n".as_slice(),
-        ),
-        (
-            SWITCHES,
-            b"5 1 open vale3:a 2 2 0 = ok\n6 1 open vale4:a 2 2 0 = switchesfull\n".as_slice(),
-        ),
+        (SHORT, SHORT_LINES),
+        (GROUP_SOURCE, GROUP_SOURCE_LINES),
+        (BUCKETS, BUCKETS_LINES),
+        (LONE, LONE_LINES),
+        (PUT_TOO_MANY, PUT_TOO_MANY_LINES),
+        (NAME_TAKEN, NAME_TAKEN_LINES),
+        (SWITCHES, SWITCHES_LINES),
     ] {
         let (out, line) = outcome(&rt, &["run", "s"], script, 99, 99)?;
         assert_eq!(rt; line.bytes(), "".as_bytes());
@@ -114,34 +90,13 @@ fn faults_are_told(rt: HostRuntime) -> Result<(), Fail> {
 #[test]
 fn bad_scripts_are_told(rt: HostRuntime) -> Result<(), Fail> {
     for (script, text) in [
-        (
-            "user a\nuser a\n".as_bytes(),
-            "vale: script line 2: word\n".as_bytes(),
-        ),
-        (
-            "user a\npool 9\n".as_bytes(),
-            "vale: script line 2: word\n".as_bytes(),
-        ),
-        (
-            "user a\nclose a vale0:a\n".as_bytes(),
-            "vale: script line 2: word\n".as_bytes(),
-        ),
-        (
-            "user a\nuser b\nopen a vale0:a 2 2\nrx b vale0:a\n".as_bytes(),
-            "vale: script line 4: word\n".as_bytes(),
-        ),
-        (
-            "user a\nopen a vale0:a 2 2\nclose a vale0:a\nclose a vale0:a\n".as_bytes(),
-            "vale: script line 4: word\n".as_bytes(),
-        ),
-        (
-            "user a\nopen a vale0:a 4 4\nput a vale0:a 1000000 ff:ff:ff:ff:ff:ff 02:00:00:00:00:0a 14 00\nput a vale0:a 1 ff:ff:ff:ff:ff:ff 02:00:00:00:00:0a 14 00\n".as_bytes(),
-            "vale: counts 1000001 over 1000000\n".as_bytes(),
-        ),
-        (
-            "user a\nopen a vale0:a 1024 4\nput a vale0:a 300000 ff:ff:ff:ff:ff:ff 02:00:00:00:00:0a 2048 00\n".as_bytes(),
-            "vale: bytes 538441728 over 536870912\n".as_bytes(),
-        ),
+        (USER_TWICE, BAD_SECOND),
+        (LATE_POOL, BAD_SECOND),
+        (NOT_OPEN, BAD_SECOND),
+        (OTHERS_PORT, BAD_FOURTH),
+        (CLOSED_TWICE, BAD_FOURTH),
+        (MANY_FRAMES, MANY_FRAMES_LINE),
+        (MANY_BYTES, MANY_BYTES_LINE),
     ] {
         let (out, line) = outcome(&rt, &["run", "s"], script, 99, 99)?;
         assert_eq!(rt; line.bytes(), text);
@@ -164,23 +119,20 @@ fn other_words_are_refused(rt: HostRuntime) -> Result<(), Fail> {
     Ok(())
 }
 
+/// As long as a script may be, and one byte or one line longer.
 #[test]
 fn longest_scripts_are_run(rt: HostRuntime) -> Result<(), Fail> {
-    let long = vec![in rt.alloc(); b'#'; 1_048_577]?;
-    let (out, line) = outcome(&rt, &["run", "s"], &long, 9999, 99)?;
-    assert_eq!(rt;
-        line.bytes(),
-        "vale: script 1048577 over 1048576\n".as_bytes()
-    );
-    assert_eq!(rt; out.bytes(), "".as_bytes());
-    let (_, line) = outcome(&rt, &["run", "s"], &long[1..], 9999, 99)?;
-    assert_eq!(rt; line.bytes(), "".as_bytes());
-    let lines = vec![in rt.alloc(); b'\n'; 10_001]?;
-    let (out, line) = outcome(&rt, &["run", "s"], &lines, 99, 99)?;
-    assert_eq!(rt; line.bytes(), "vale: lines 10001 over 10000\n".as_bytes());
-    assert_eq!(rt; out.bytes(), "".as_bytes());
-    let (_, line) = outcome(&rt, &["run", "s"], &lines[1..], 99, 99)?;
-    assert_eq!(rt; line.bytes(), "".as_bytes());
+    for (byte, count, line, text) in [
+        (b'#', 1_048_576, EMPTY, EMPTY_TEXT),
+        (b'#', 1_048_577, LONG_SCRIPT_LINE, EMPTY),
+        (b'\n', 10_000, EMPTY, EMPTY_TEXT),
+        (b'\n', 10_001, MANY_LINES_LINE, EMPTY),
+    ] {
+        let script = vec![in rt.alloc(); byte; count]?;
+        let (out, told) = outcome(&rt, &["run", "s"], &script, 9999, 99)?;
+        assert_eq!(rt; told.bytes(), line);
+        assert_eq!(rt; out.bytes(), text);
+    }
     Ok(())
 }
 

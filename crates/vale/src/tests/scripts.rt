@@ -1,4 +1,8 @@
-//! Scripts, and what they write.
+//! Scripts, what they write, and how their runs end.
+
+pub(super) const EMPTY: &[u8] = b"";
+
+pub(super) const EMPTY_TEXT: &[u8] = b"vale 1 pool 8192\nend 0 free 8192\n";
 
 /// Two ports, one broadcast, one read.
 pub(super) const FIRST: &[u8] =
@@ -27,21 +31,71 @@ pub(super) const REFUSED_TEXT: &[u8] =
 /// A short frame before another.
 pub(super) const SHORT: &[u8] =
     b"pool 64\nuser a\nuser b\nopen a vale0:a 4 4\nopen b vale0:b 4 4\nput a vale0:a 1 ff:ff:ff:ff:ff:ff 02:00:00:00:00:0a 13 00\nput a vale0:a 1 ff:ff:ff:ff:ff:ff 02:00:00:00:00:0a 14 00\ntx a vale0:a\n";
+
+pub(super) const SHORT_LINES: &[u8] =
+    b"5 1 send 3 ffffffffffff02000000000a88,ffffffffffff02000000000a88b5 = short 1 lone 0 to 4*1\n";
 /// A group as a source is not learned.
 pub(super) const GROUP_SOURCE: &[u8] =
     b"pool 64\nuser a\nuser b\nuser c\nopen a vale0:a 4 4\nopen b vale0:b 4 4\nopen c vale0:c 4 4\nput a vale0:a 1 ff:ff:ff:ff:ff:ff 03:00:00:00:00:0a 14 00\ntx a vale0:a\nput b vale0:b 1 02:00:00:00:00:0a 02:00:00:00:00:0b 14 00\ntx b vale0:b\n";
+
+pub(super) const GROUP_SOURCE_LINES: &[u8] =
+    b"12 2 send 5 02000000000a02000000000b88b5 = short 0 lone 0 to 4*1,6*1\n";
 /// Two stations in one bucket: the newer one hides the older.
 pub(super) const BUCKETS: &[u8] =
     b"pool 64\nuser a\nuser b\nuser c\nopen a vale0:a 4 4\nopen b vale0:b 4 4\nopen c vale0:c 4 4\nput a vale0:a 1 ff:ff:ff:ff:ff:ff 02:00:00:00:00:01 14 00\ntx a vale0:a\nput b vale0:b 1 ff:ff:ff:ff:ff:ff 02:00:00:01:00:00 14 00\ntx b vale0:b\nput c vale0:c 1 02:00:00:00:00:01 02:00:00:00:00:0c 14 00\ntx c vale0:c\nput c vale0:c 1 02:00:00:01:00:00 02:00:00:00:00:0c 14 00\ntx c vale0:c\n";
+
+pub(super) const BUCKETS_LINES: &[u8] =
+    b"22 3 send 6 02000001000002000000000c88b5 = short 0 lone 0 to 5*1\n";
 /// A frame to its own sender.
 pub(super) const LONE: &[u8] =
     b"pool 64\nuser a\nuser b\nopen a vale0:a 4 4\nopen b vale0:b 4 4\nput a vale0:a 1 ff:ff:ff:ff:ff:ff 02:00:00:00:00:0a 14 00\ntx a vale0:a\nput a vale0:a 1 02:00:00:00:00:0a 02:00:00:00:00:0a 14 00\ntx a vale0:a\n";
+
+pub(super) const LONE_LINES: &[u8] =
+    b"8 1 send 3 02000000000a02000000000a88b5 = short 0 lone 1 to -\n";
 /// More frames than a ring takes.
 pub(super) const PUT_TOO_MANY: &[u8] =
     b"pool 64\nuser a\nopen a vale0:a 2 4\nput a vale0:a 3 ff:ff:ff:ff:ff:ff 02:00:00:00:00:0a 14 00\n";
+
+pub(super) const PUT_TOO_MANY_LINES: &[u8] =
+    b"2 1 open vale0:a 2 4 0 = ok\n3 1 send 2 ffffffffffff02000000000a88b5 = short 0 lone 1 to -\n4 1 send 2 ffffffffffff02000000000a88b5 = short 0 lone 1 to -\n5 1 shut 2\n";
 /// A name that is taken, and the lines of the port that is refused.
 pub(super) const NAME_TAKEN: &[u8] =
     b"pool 64\nuser a\nuser b\nopen a vale0:a 4 4\nopen b vale0:a 4 4\nput b vale0:a 1 ff:ff:ff:ff:ff:ff 02:00:00:00:00:0b 14 00\ntx b vale0:a\nrx b vale0:a\nclose b vale0:a\n";
+
+pub(super) const NAME_TAKEN_LINES: &[u8] =
+    b"4 2 open vale0:a 4 4 0 = nametaken\n5 1 shut 3\n6 1 finish 3 2,3,4,5 found 0 astray 0 = unread 0\n7 1 leave\n8 2 leave\nend 8 free 64\n";
 /// More switches than there may be.
 pub(super) const SWITCHES: &[u8] =
     b"user a\nopen a vale0:a 2 2\nopen a vale1:a 2 2\nopen a vale2:a 2 2\nopen a vale3:a 2 2\nopen a vale4:a 2 2\n";
+
+pub(super) const SWITCHES_LINES: &[u8] =
+    b"5 1 open vale3:a 2 2 0 = ok\n6 1 open vale4:a 2 2 0 = switchesfull\n";
+/// A user that is declared twice.
+pub(super) const USER_TWICE: &[u8] = b"user a\nuser a\n";
+/// A pool behind another line.
+pub(super) const LATE_POOL: &[u8] = b"user a\npool 9\n";
+/// A port that is not open.
+pub(super) const NOT_OPEN: &[u8] = b"user a\nclose a vale0:a\n";
+/// A port that is another user's.
+pub(super) const OTHERS_PORT: &[u8] = b"user a\nuser b\nopen a vale0:a 2 2\nrx b vale0:a\n";
+/// A port that is closed twice.
+pub(super) const CLOSED_TWICE: &[u8] =
+    b"user a\nopen a vale0:a 2 2\nclose a vale0:a\nclose a vale0:a\n";
+/// One frame more than the lines may put.
+pub(super) const MANY_FRAMES: &[u8] =
+    b"user a\nopen a vale0:a 4 4\nput a vale0:a 1000000 ff:ff:ff:ff:ff:ff 02:00:00:00:00:0a 14 00\nput a vale0:a 1 ff:ff:ff:ff:ff:ff 02:00:00:00:00:0a 14 00\n";
+/// More bytes of frames than a record keeps.
+pub(super) const MANY_BYTES: &[u8] =
+    b"user a\nopen a vale0:a 1024 4\nput a vale0:a 300000 ff:ff:ff:ff:ff:ff 02:00:00:00:00:0a 2048 00\n";
+
+pub(super) const BAD_SECOND: &[u8] = b"vale: script line 2: word\n";
+
+pub(super) const BAD_FOURTH: &[u8] = b"vale: script line 4: word\n";
+
+pub(super) const MANY_FRAMES_LINE: &[u8] = b"vale: counts 1000001 over 1000000\n";
+
+pub(super) const MANY_BYTES_LINE: &[u8] = b"vale: bytes 538441728 over 536870912\n";
+
+pub(super) const LONG_SCRIPT_LINE: &[u8] = b"vale: script 1048577 over 1048576\n";
+
+pub(super) const MANY_LINES_LINE: &[u8] = b"vale: lines 10001 over 10000\n";
