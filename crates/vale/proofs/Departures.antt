@@ -5,7 +5,7 @@ use Rattle.std.proofs.lemmas.Bool.{eqb-true, eqb-false, ne_eqb, and_parts}
 use Rattle.std.proofs.lemmas.Bool.Decides.{nat_tests}
 use Rattle.std.proofs.lemmas.Grind.{flat_map-append}
 use Rattle.std.proofs.lemmas.Slice.Eq.{bytes_eq-Decides}
-use Rattle.std.proofs.lemmas.List.{append-nil, take_all, drop_all, length-drop}
+use Rattle.std.proofs.lemmas.List.{append-nil, length-drop}
 use Rattle.nm_types.specs.declared.id.SessionId.{SessionId}
 use Rattle.vale_entry.specs.declared.entry.Ask.{Ask}
 use Rattle.vale_entry.specs.declared.entry.Ask.TheVariants.{Leave}
@@ -30,7 +30,7 @@ use Rattle.vale.proofs.OwnPorts.{OwnAt, own-read}
 use Rattle.vale.proofs.Receives.{can-give}
 use Rattle.vale.proofs.Sending.{settled-all}
 use Rattle.vale.proofs.Settlements.{standing-step, after-made, any-none}
-use Rattle.vale.proofs.Tasks.{task-runs, task-nothing, does-none, does-then, does-step, step-longer, theirs-same, no-port}
+use Rattle.vale.proofs.Tasks.{task-runs, task-nothing, does-then, does-step, step-longer, theirs-same, no-port}
 use Rattle.vale.proofs.Turns.{runs-then, grown-longer}
 
 -- What is left of the ports where one is closed.
@@ -291,9 +291,6 @@ pub record HasClosed (old now : Recorded) (count : ℕ) (before after : Machine)
   pub ports_are : after.ports ≡ drop count before.ports
   pub session_is : after.session ≡ before.session
 
-pub has-closed_none : (b : Recorded) (user : Machine) → AllSettled (standing b).world → Owns (standing b) user → user.tasks ≡ [] → HasClosed b b 0 user user
-has-closed_none b user settled owns idle = record { does = does-none b user settled owns idle; ports_are = refl; session_is = refl }
-
 cut-drop : {X : Type 0} (n : ℕ) (xs : List X) (x : X) (ys : List X) → drop n xs ≡ x ∷ ys → (take (suc n) xs ≡ take n xs ++ x ∷ []) × (drop (suc n) xs ≡ ys)
 cut-drop zero [] x ys e = absurd cc
 cut-drop zero (z ∷ zs) x ys e = (cc, cc)
@@ -333,14 +330,6 @@ first-named ports own some read =
     let same : is_named own.name own ≡ true = (bytes_eq-Decides own.name own.name).1 refl in
     let inside : nat_lt 0 (suc (length (drop 1 ports))) ≡ true = grind (arith, nat_tests) in
     subst (λ (os : List OwnPort). position (is_named own.name) os ≡ Some 0) (sym cut) (rw (same, inside) refl)
-
-pub has-closed_all : (old now : Recorded) (count : ℕ) (before after : Machine) → HasClosed old now count before after → length before.ports ≤ count → DoesTasks old now (flat_map closing_of before.ports) before after
-has-closed_all old now count before after closed all = subst (λ (os : List OwnPort). DoesTasks old now (flat_map closing_of os) before after) (take_all count before.ports all) closed.does
-
-pub has-closed_none_left : (old now : Recorded) (count : ℕ) (before after : Machine) → HasClosed old now count before after → length before.ports ≤ count → after.ports ≡ []
-has-closed_none_left old now count before after closed all = closed.ports_are ∙ drop_all count before.ports all
-
--- A user leaves.
 
 none-left : (ports : List Port) (session : ℕ) → Each (IsAmong session []) ports → list_any (is_port_of session) ports ≡ false
 none-left ports session all = any-none (is_port_of session) ports (each-weaker (IsAmong session []) (λ (port : Port). is_port_of session port ≡ false) (λ port among. by_test port (port.session == session) refl among) ports all)

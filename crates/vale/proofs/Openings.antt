@@ -20,7 +20,7 @@ use Rattle.vale_entry.specs.World.{World, Port, is_open_at, is_session, free_cou
 use Rattle.vale_entry.specs.Opening.{open_refusal, name_refusal, refusal_or_room, opened_port, are_sizes, is_ring_size, finds_switches_full, finds_ports_full, has_name}
 use Rattle.vale_entry.specs.Holdings.{SessionBuffers, buffers_of_session, sessions_given}
 use Rattle.vale_entry.specs.Laws.{Rise, id_of_port}
-use Rattle.vale_entry.specs.Legal.{Standing, Outcome, step, standing_with, open_step_by, IsEnabled, IsLegal}
+use Rattle.vale_entry.specs.Legal.{Standing, Outcome, step, standing_with, open_step_by, IsLegal}
 use Rattle.vale_entry.proofs.Counting.{count_of-append}
 use Rattle.vale_entry.proofs.Each.{each-weaker, each-append}
 use Rattle.vale_entry.proofs.HistoryLaws.{free-rises}
@@ -326,10 +326,5 @@ open-unopened b new user session name tx rx NoMemory settled owns idle is un = (
 pub open-nobody : (b : Recorded) (user : Machine) (name : List ℕ) (tx rx : ℕ) → AllSettled (standing b).world → Owns (standing b) user → user.tasks ≡ [] → user.session ≡ None → DoesTasks b b (OpenPort name tx rx ∷ []) user user
 open-nobody b user name tx rx settled owns idle none =
     task-nothing b user (OpenPort name tx rx) settled owns idle (ap (option_map (λ (n : SessionId). Open n name tx rx 0)) none) refl
-
-pub open-enabled : (b : Recorded) (user : Machine) (session : SessionId) (name : List ℕ) (tx rx : ℕ) → Owns (standing b) user → user.session ≡ Some session → IsEnabled (standing b) (Open session name tx rx 0)
-open-enabled b user session name tx rx owns is =
-    let all : OwnsAll (standing b) session.0 user.ports = subst (λ (o : Option SessionId). OwnsBy (standing b) o user.ports) is owns in
-    rw (all.is_in) refl
 
 pub ruleset openings = (open-nobody)

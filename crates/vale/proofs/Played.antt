@@ -1,8 +1,6 @@
 -- How a run's promise comes from its parts.
-use Rattle.std.proofs.Common.{ℕ, ◌+◌, ◌-◌, ◌<◌, ◌≤◌, ◌^◌, ◌≡◌, List, [], ◌++◌, length, Option, inl, inr, refl, sym, ◌∙◌, ap, subst, arith}
+use Rattle.std.proofs.Common.{ℕ, ◌-◌, ◌<◌, ◌≤◌, ◌^◌, ◌≡◌, List, [], ◌++◌, length, Option, inr, sym, ◌∙◌, ap, subst, arith}
 use Rattle.nm_types.specs.declared.limits.Limits.{Limits}
-use Rattle.nm_types.specs.declared.fault.Part.{Part}
-use Rattle.nm_types.specs.declared.fault.Part.TheVariants as parts
 use Rattle.nm_types.specs.declared.fault.StepFault.{StepFault}
 use Rattle.nm_types.specs.declared.fault.StepFault.TheVariants.{RecordFull}
 use Rattle.nm_types.specs.declared.fault.StepFault.TheVariants as faults
@@ -10,13 +8,13 @@ use Rattle.vale_entry.specs.declared.entry.Entry.{Entry}
 use Rattle.vale_entry.specs.World.{free_count}
 use Rattle.vale_entry.specs.Legal.{world_of, IsLegal}
 use Rattle.vale_entry.specs.Transcript.{start_line, entry_lines, end_line, transcript_text}
-use Rattle.vale_book.specs.Recorded.{Recorded, IsRefusal, IsWithinLimits, HadRoom}
+use Rattle.vale_book.specs.Recorded.{Recorded, IsWithinLimits, HadRoom}
 use Rattle.vale_script.specs.Grammar.{Program}
 use Rattle.vale.specs.declared.status.Status.{Status}
 use Rattle.vale.specs.declared.status.Status.TheVariants.{Done, Usage, BadScript, ReadFault, WriteFault, Over, NoMemory}
 use Rattle.vale.specs.Replay.{Plays}
-use Rattle.vale.specs.Run.{Written, Played, StopsFull, IsCounted, stopped}
-use Rattle.vale.specs.Steps.{DoesProgram, IsFull, StopsProgram}
+use Rattle.vale.specs.Run.{Written, Played, IsCounted}
+use Rattle.vale.specs.Steps.{DoesProgram, StopsProgram}
 use Rattle.vale.proofs.Deliveries.{delivers}
 use Rattle.vale.proofs.Sums.{refusal-sum}
 use Rattle.vale_text.specs.Written.{text_of}
@@ -66,26 +64,5 @@ stopped-counted limits start b program (RecordFull what used want) is entries by
     let are : start.limits ≡ limits = ap (λ (r : Recorded). r.limits) is in
     refusal-sum (record start { entries = stops.history }) stops.call what used want stops.within (subst (λ (l : Limits). l.entries ≤ 8388608) (sym are) entries) (subst (λ (l : Limits). l.bytes ≤ 536870912) (sym are) bytes) stops.refused
 stopped-counted limits start b program faults.NoMemory is entries bytes stops = tt
-
-stops-full : (limits : Limits) (start b : Recorded) (program : Program) (what : Part) (used want : ℕ) → start ≡ fresh_book program.pool limits → IsFull start b program (RecordFull what used want) → StopsFull limits program what (used + want)
-stops-full limits start b program what used want is full =
-    let same : record start { entries = full.history } ≡ record { pool = program.pool; limits = limits; entries = full.history } = ap (λ (r : Recorded). record r { entries = full.history }) is in
-    record {
-      history = full.history;
-      legal = full.legal;
-      roomy = subst (λ (r : Recorded). HadRoom r) same full.roomy;
-      call = full.call;
-      comes = full.comes;
-      used = used;
-      want = want;
-      refused = subst (λ (r : Recorded). IsRefusal r full.call (RecordFull what used want)) same full.refused;
-      counted = refl;
-    }
-
-pub played-stopped : (limits : Limits) (start b : Recorded) (program : Program) (write_faults : ℕ × ℕ) (held : Option (List ℕ)) (fault : StepFault) → start ≡ fresh_book program.pool limits → StopsProgram start b program fault
-    → Played limits program write_faults held held (stopped limits fault)
-played-stopped limits start b program write_faults held (RecordFull parts.Entries used want) is stops = (stops-full limits start b program parts.Entries used want is stops, (refl, refl))
-played-stopped limits start b program write_faults held (RecordFull parts.Bytes used want) is stops = (stops-full limits start b program parts.Bytes used want is stops, (refl, refl))
-played-stopped limits start b program write_faults held faults.NoMemory is stops = inl refl
 
 pub ruleset played = (text-is, few-entries)

@@ -1,5 +1,5 @@
 -- A user at rest: its next task needs a call, or it has none.
-use Rattle.std.proofs.Common.{◌≡◌, Bool, true, false, cond, List, [], ◌∷◌, Some, None, is_some, refl, sym, ◌∙◌, ap}
+use Rattle.std.proofs.Common.{◌≡◌, Bool, true, false, cond, List, [], ◌∷◌, Some, None, is_some, refl}
 use Rattle.vale_entry.specs.declared.entry.Ask.{Ask}
 use Rattle.vale.specs.Machine.{Machine, Task, call_of_task, ports_after_task, at_rest, resting}
 
@@ -35,9 +35,6 @@ rest-twice user (task ∷ tasks) = by_call (is_some (call_of_task user task)) re
         ≡ cond b (record user { tasks = task ∷ tasks }) (at_rest (record user { ports = ports_after_task task user.ports }) tasks)
     by_call true t rest = rw t refl
     by_call false t rest = rest
-
-pub rest-idle : (user : Machine) → user.tasks ≡ [] → resting user ≡ user
-rest-idle user none = ap (at_rest user) none ∙ ap (λ (tasks : List Task). record user { tasks = tasks }) (sym none)
 
 -- a task whose call this is waits for it
 pub rest-calls : (user : Machine) (task : Task) (tasks : List Task) (ask : Ask) → call_of_task user task ≡ Some ask → resting (record user { tasks = task ∷ tasks }) ≡ record user { tasks = task ∷ tasks }

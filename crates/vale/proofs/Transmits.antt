@@ -14,7 +14,7 @@ use Rattle.vale_script.specs.declared.script.Fill.{Fill}
 use Rattle.vale.specs.declared.port.OwnPort.{OwnPort}
 use Rattle.vale.specs.Machine.{Machine, Task, PutFrame, SendFrames, call_of_task, resting, answered, own_port, with_port, is_named, is_full, put_call, put_again, send_call, sent, with_frame, buffers_in}
 use Rattle.vale.specs.Owned.{Owns, OwnsBy, AllSettled, HasPort}
-use Rattle.vale.specs.Steps.{GoesOn, KeepsOrder, DoesTasks, StopsTasks, Sends, PutsBy, StopsPut, CanCall}
+use Rattle.vale.specs.Steps.{GoesOn, KeepsOrder, DoesTasks, StopsTasks, Sends, PutsBy, StopsPut}
 use Rattle.vale.proofs.Turns.{runs-then, grown-longer}
 use Rattle.vale.proofs.Resting.{rest-session, rest-twice, rest-done}
 use Rattle.vale.proofs.OwnPorts.{OwnAt, own-read, own-changed, with_port-twice, with_port-none, position-set}
@@ -34,9 +34,6 @@ has-session_by s user place own (Some session) is owns here = record { session =
 
 pub has-session : (s : Standing) (user : Machine) (place : ℕ) (own : OwnPort) → Owns s user → slice_get user.ports place ≡ Some own → HasSession s user own
 has-session s user place own owns here = has-session_by s user place own user.session refl owns here
-
-pub can-call : (s : Standing) (user : Machine) (place : ℕ) (own : OwnPort) → AllSettled s.world → Owns s user → slice_get user.ports place ≡ Some own → CanCall s own
-can-call s user place own settled owns here = let h = has-session s user place own owns here in record { session = h.session.0; has = h.has; settled = settled }
 
 some-outcome : (x y : Outcome) → Some x ≡ Some y → x ≡ y
 some-outcome x y e = cc
@@ -207,9 +204,6 @@ pub record HasPut (old now : Recorded) (name : List ℕ) (fill : Fill) (place co
   pub does : DoesTasks old now (replicate count (PutFrame name fill)) before after
   pub session_is : after.session ≡ before.session
   pub place_is : position (is_named name) after.ports ≡ Some place
-
-pub has-put_none : (b : Recorded) (user : Machine) (name : List ℕ) (fill : Fill) (place : ℕ) → AllSettled (standing b).world → Owns (standing b) user → user.tasks ≡ [] → position (is_named name) user.ports ≡ Some place → HasPut b b name fill place 0 user user
-has-put_none b user name fill place settled owns idle is = record { does = does-none b user settled owns idle; session_is = refl; place_is = is }
 
 pub has-put_more : (old middle new : Recorded) (name : List ℕ) (fill : Fill) (place count : ℕ) (before between after : Machine) → HasPut old middle name fill place count before between → DoesTasks middle new (PutFrame name fill ∷ []) between after
     → after.session ≡ between.session → position (is_named name) after.ports ≡ Some place → HasPut old new name fill place (count + 1) before after

@@ -1,7 +1,6 @@
 -- Closing a port and leaving: when it may be made, what it makes, and what stands after it.
 use Rattle.std.proofs.Common.{ℕ, zero, suc, List, [], ◌∷◌, ◌++◌, ◌≡◌, ◌≤◌, ◌<◌, ◌+◌, ◌&&◌, ◌==◌, not, Bool, true, false, cond, length, map, filter, sum_by, slice_get, slice_set, refl, sym, ◌∙◌, ap, subst, arith, Option, Some, None, option_map, is_some, Result, Ok, Err, OnOk, OnErr, IfOk, reverse, vec_capacity}
 use Rattle.std.specs.List.{remove, list_any}
-use Rattle.std.specs.Prelude.{IsTrue, ◌↔◌}
 use Rattle.std.proofs.lemmas.List.{map-set}
 use Rattle.std.proofs.lemmas.Option.{slice_get-map}
 use Rattle.std.proofs.lemmas.Bool.{and_parts, eqb-true, ne_eqb}
@@ -24,12 +23,11 @@ use Rattle.vale_entry.proofs.Places.{changed_at-world, ports_without-world}
 use Rattle.vale_entry.proofs.HistoryPlaces.{held-world, helds_without-world, buffers_of_port-world}
 use Rattle.vale_world.specs.Seat.{Seat, port_of, held_of, seat_shut}
 use Rattle.vale_world.specs.Climbing.{Climbs}
-use Rattle.vale_world.specs.Enabled.{can_shut_over, is_due, may_leave, session_if}
+use Rattle.vale_world.specs.Enabled.{can_shut_over, may_leave}
 use Rattle.vale_book.specs.declared.book.Book.TheInside.{Inside}
 use Rattle.vale_book.specs.BookView.{recorded, StandsIn}
 use Rattle.vale_book.specs.Recorded.{after_ask}
 use Rattle.vale_book.specs.Parts.{Stands}
-use Rattle.vale_book.specs.Syncing.{session_of_port}
 use Rattle.vale_book.specs.Ending.{shut_entry, leave_entry, IsFinished}
 use Rattle.vale_book.proofs.Stands.{stands-next}
 use Rattle.vale_book.proofs.Answered.{recorded_in, after-stored}
@@ -44,10 +42,6 @@ some-if false x = refl
 cond-some : {X : Type 0} (b : Bool) (x : X) → is_some (cond b (Some x) None) ≡ true → (b ≡ true) × (cond b (Some x) None ≡ Some x)
 cond-some true x e = (refl, refl)
 cond-some false x e = absurd cc
-
--- a test that gives what another does holds where that one does
-pub same-test : (a b : Bool) → a ≡ b → IsTrue a ↔ (b ≡ true)
-same-test a b e = (λ yes. sym e ∙ yes, λ yes. e ∙ yes)
 
 shut-some : (s : Standing) (found : Option Port) → is_some (shut_step_at s found) ≡ can_shut_over s.world.ports s.world.offers found
 shut-some s None = refl
@@ -64,38 +58,6 @@ pub enabled-leave : (b : Inside) (session : SessionId) → StandsIn b
 enabled-leave b session stands =
     let s = standing_of b.pool b.history.entries in
     ap (λ (w : World). can_leave w session.0) stands.world_is ∙ sym (some-if (can_leave s.world session.0) (leave_step s session.0))
-
-finish-parts : {X Y : Type 0} (a b : Bool) (x : X) (y : Y) → cond a (Some x) None ≡ None → is_some (cond (a && b) (Some y) None) ≡ true → ⊥
-finish-parts false b x y e some = absurd cc
-finish-parts true b x y e some = absurd cc
-
-finish-none : (s : Standing) (bufs : List ℕ) (found : Option Port) → session_if (is_due (length bufs)) found ≡ None → is_some (finish_reply_at s bufs found) ≡ true → ⊥
-finish-none s bufs None e some = absurd cc
-finish-none s bufs (Some port) e some = finish-parts (length bufs == due_of port) (holds_all s.holdings port.session bufs) port.session (finish_reply port) e some
-
-finish-session : {X Y : Type 0} (a b : Bool) (x z : X) (y : Y) → cond a (Some x) None ≡ Some z → (x ≡ z) × (is_some (cond (a && b) (Some y) None) ≡ b)
-finish-session false b x z y e = absurd cc
-finish-session true false x z y e = (cc, refl)
-finish-session true true x z y e = (cc, refl)
-
-finish-some : (s : Standing) (bufs : List ℕ) (found : Option Port) (session : ℕ) → session_if (is_due (length bufs)) found ≡ Some session
-    → is_some (finish_reply_at s bufs found) ≡ holds_all s.holdings session bufs
-finish-some s bufs None session e = absurd cc
-finish-some s bufs (Some port) session e =
-    let parts = finish-session (length bufs == due_of port) (holds_all s.holdings port.session bufs) port.session session (finish_reply port) e in
-    parts.1 ∙ ap (λ (n : ℕ). holds_all s.holdings n bufs) parts.0
-
-session-found : (count : ℕ) (found : Option Port) (session : ℕ) → session_if (is_due count) found ≡ Some session → option_map session_of_port found ≡ Some session
-session-found count None session e = absurd cc
-session-found count (Some port) session e =
-    let parts = finish-session (count == due_of port) true port.session session count e in
-    ap (λ (n : ℕ). Some n) parts.0
-
-same-shutting : (b : Inside) (count id : ℕ) → StandsIn b
-    → session_if (is_due count) (shutting_port (map port_of b.ports.items) id) ≡ session_if (is_due count) (shutting_port (world_of b.pool b.history.entries).ports id)
-same-shutting b count id stands = ap (λ (w : World). session_if (is_due count) (shutting_port w.ports id)) stands.world_is
-
--- Places.
 
 map-remove : {X Y : Type 0} (f : X → Y) (xs : List X) (i : ℕ) → map f (remove xs i) ≡ remove (map f xs) i
 map-remove f [] zero = refl

@@ -18,10 +18,11 @@ use Rattle.vale_book.specs.Recorded.{Recorded}
 abbrev pub no_chain : Chain
 no_chain = record { found = 0; astray = 0 }
 
--- so many of these buffers, the smallest ones, rising
+-- the buffers of a pool that are among these, rising
 abbrev pub rising : ℕ → List ℕ → List ℕ
 rising pool buffers = filter (λ b. contains b buffers) (range_with_len 2 pool)
 
+-- so many of these buffers, the smallest ones
 abbrev pub smallest : ℕ → ℕ → List ℕ → List ℕ
 smallest pool count buffers = take count (rising pool buffers)
 

@@ -152,7 +152,7 @@ fn asks_of(alloc: Global, steps: &[Step]) -> Result<Vec<Ask>, Fail> {
     Ok(asks)
 }
 
-/// A drive over so many buffers that has run these steps.
+/// The drive, once it has run these steps.
 fn after(alloc: Global, mut drive: Drive, steps: &[Step]) -> Result<Drive, Fail> {
     drive.run(&asks_of(alloc, steps)?).ok().ok_or("a run")?;
     Ok(drive)
