@@ -71,6 +71,9 @@ fn first_entries(alloc: Global) -> Result<Vec<Entry>, Fail> {
     ]?)
 }
 
+const FIRST_ENTRIES: &[u8] =
+    b"vale 1 pool 64\n1 enter 1\n2 1 open vale0:a 4 4 0 = ok\n3 1 send 3 ff0a,~. = short 2 lone 0 to 4*1\n4 1 grant 5 4 = given 1 full 0 gone 0\n5 1 done 6\n6 2 sync 4 12,13 = gave 1 to -\nend 6 free 56\n";
+
 #[test]
 fn entries_are_written(rt: HostRuntime) -> Result<(), Fail> {
     let mut out = MemorySink::new(rt.alloc(), Vec::new(rt.alloc()));
@@ -79,10 +82,7 @@ fn entries_are_written(rt: HostRuntime) -> Result<(), Fail> {
     write_transcript(rt.alloc(), &mut out, 64, &entries, 56)
         .ok()
         .ok_or("written")?;
-    assert_eq!(rt;
-        out.bytes(),
-        b"vale 1 pool 64\n1 enter 1\n2 1 open vale0:a 4 4 0 = ok\n3 1 send 3 ff0a,~. = short 2 lone 0 to 4*1\n4 1 grant 5 4 = given 1 full 0 gone 0\n5 1 done 6\n6 2 sync 4 12,13 = gave 1 to -\nend 6 free 56\n".as_slice()
-    );
+    assert_eq!(rt; out.bytes(), FIRST_ENTRIES);
     Ok(())
 }
 
@@ -93,6 +93,9 @@ fn put_line<K: Sink>(out: &mut K, number: u32, entry: &Entry) -> Result<(), Fail
         .ok_or("written")?;
     Ok(())
 }
+
+const LAST_ENTRIES: &[u8] =
+    b"9 1 shut 3\n10 1 finish 3 2,3,4,5 found 0 astray 0 = unread 0\n11 1 leave\n";
 
 #[test]
 fn closing_and_leaving_are_written(rt: HostRuntime) -> Result<(), Fail> {
@@ -105,9 +108,6 @@ fn closing_and_leaving_are_written(rt: HostRuntime) -> Result<(), Fail> {
     put_line(&mut out, 9, &entry(1, Ask::Shut { port }, Reply::Made))?;
     put_line(&mut out, 10, &entry(1, finish, Reply::Unread { count: 0 }))?;
     put_line(&mut out, 11, &entry(1, Ask::Leave { session }, Reply::Made))?;
-    assert_eq!(rt;
-        out.bytes(),
-        b"9 1 shut 3\n10 1 finish 3 2,3,4,5 found 0 astray 0 = unread 0\n11 1 leave\n".as_slice()
-    );
+    assert_eq!(rt; out.bytes(), LAST_ENTRIES);
     Ok(())
 }
