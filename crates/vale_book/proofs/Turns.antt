@@ -1,34 +1,36 @@
 -- Whose turn it is on the way to the end, and which buffers are the smallest ones.
-use Rattle.std.proofs.Common.{ℕ, zero, suc, List, [], ◌∷◌, ◌≡◌, ◌≤◌, ◌+◌, Bool, true, false, cond, ◌==◌, filter, fold, find, count_by, drop, Option, Some, None, option_map, refl, sym, ◌∙◌, ap, subst, arith}
+use Rattle.std.proofs.Common.{ℕ, zero, suc, List, [], ◌∷◌, ◌≡◌, ◌≤◌, ◌+◌, Bool, true, false, cond, ◌==◌, filter, flat_map, fold, find, count_by, drop, Option, Some, None, option_map, refl, sym, ◌∙◌, ap, subst, arith}
 use Rattle.std.specs.List.{AllByRecursion as Each, range_with_len}
 use Rattle.std.proofs.lemmas.Bool.{eqb-true}
-use Rattle.std.proofs.lemmas.List.Sums.{sum_by-cons}
+use Rattle.std.proofs.lemmas.List.Sums.{fold-append, sum_by-cons}
 use Rattle.vale_entry.specs.World.{Port, Lot, is_undone, changed_at, changed_if}
 use Rattle.vale_entry.specs.Closing.{shut, is_port_of}
+use Rattle.vale_entry.specs.Delivery.{line_of}
 use Rattle.vale_entry.specs.Holdings.{contains, is_buffer_index}
 use Rattle.vale_entry.specs.Legal.{Standing}
 use Rattle.vale_entry.proofs.Counting.{count_of, count_of-cons, contains-count, contains-none, count-pool}
 use Rattle.vale_world.specs.Climbing.{Climbs}
-use Rattle.vale_world.specs.Leases.{IsDone, first_lease, first_undone, number_of, with_port}
+use Rattle.vale_world.specs.Leases.{IsDone, earliest, first_lease, with_lot}
 use Rattle.vale_world.proofs.Frees.{climb-same}
 use Rattle.vale_book.specs.Winding.{IsQuiet, IsTurn, next_ending, port_ending, session_ending, rising}
 
 -- Where each lease is done, none is the first.
 
-no-undone_by : (lot : Lot) (lots : List Lot) (undone : Bool) → cond undone 1 0 + count_by is_undone lots ≡ 0 → (count_by is_undone lots ≡ 0 → find is_undone lots ≡ None)
-    → cond undone (Some lot) (find is_undone lots) ≡ None
-no-undone_by lot lots true sum later = absurd (omega (arith, sum))
-no-undone_by lot lots false sum later = later (omega (arith, sum))
+no-lot_by : (first : Option ℕ) (lot : Lot) (lots : List Lot) (undone : Bool) → cond undone 1 0 + count_by is_undone lots ≡ 0 → ((start : Option ℕ) → count_by is_undone lots ≡ 0 → fold with_lot start lots ≡ start)
+    → fold with_lot (cond undone (earliest first (Some lot.number)) first) lots ≡ first
+no-lot_by first lot lots true sum later = absurd (omega (arith, sum))
+no-lot_by first lot lots false sum later = later first (omega (arith, sum))
 
-no-undone : (line : List Lot) → count_by is_undone line ≡ 0 → find is_undone line ≡ None
-no-undone [] e = refl
-no-undone (lot ∷ lots) e = no-undone_by lot lots (is_undone lot) (sym (sum_by-cons (λ (l : Lot). cond (is_undone l) 1 0) lot lots) ∙ e) (no-undone lots)
+no-lot : (lots : List Lot) (first : Option ℕ) → count_by is_undone lots ≡ 0 → fold with_lot first lots ≡ first
+no-lot [] first e = refl
+no-lot (lot ∷ lots) first e =
+    no-lot_by first lot lots (is_undone lot) (sym (sum_by-cons (λ (l : Lot). cond (is_undone l) 1 0) lot lots) ∙ e) (λ start none. no-lot lots start none)
 
 no-lease : (ports : List Port) → Each IsDone ports → first_lease ports ≡ None
 no-lease [] all = refl
 no-lease (port ∷ ports) all =
-    let none : first_undone port ≡ None = ap (option_map number_of) (no-undone port.line all.0) in
-    ap (λ (first : Option ℕ). fold with_port first ports) none ∙ no-lease ports all.1
+    fold-append with_lot None port.line (flat_map line_of ports)
+    ∙ (ap (λ (first : Option ℕ). fold with_lot first (flat_map line_of ports)) (no-lot port.line None all.0) ∙ no-lease ports all.1)
 
 -- The first port of the first session goes on, or the first session leaves.
 

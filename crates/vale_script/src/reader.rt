@@ -12,7 +12,7 @@ use crate::script::{Act, Fill, Line, Opened, Script};
 use crate::words::{
     are_line_bytes, hex_byte_of, is_silent, mac_of, number_in, port_name, user_name, words_of,
 };
-use nm_types::{DEFAULT_POOL, LineCause, MAX_POOL, Name, NoMemory};
+use nm_types::{DEFAULT_POOL, LineCause, MAX_POOL, MAX_USERS, Name, NoMemory};
 use std::alloc::Global;
 use std::marker::Model;
 
@@ -219,7 +219,7 @@ impl<'a> Reader<'a> {
         ensures value { result ≡ may_enter self.now name.now }
         ensures few { IsTrue result → length self.now.users < 64 }
     {
-        self.users.len() < 64 && !is_declared(&self.users, name)
+        self.users.len() < MAX_USERS && !is_declared(&self.users, name)
     }
 
     fn has_port(&self, user: u32, name: &Name) -> bool

@@ -1,7 +1,8 @@
 -- The leases of ports that are not done, and the first port of a session.
-use Rattle.std.specs.Prelude.{ℕ, ◌≡◌, min, List, fold, find, Option, Some, None, option_map}
+use Rattle.std.specs.Prelude.{ℕ, ◌≡◌, min, if◌then◌else◌, List, fold, flat_map, Option, Some, None}
 use Rattle.vale_entry.specs.World.{Port, Lot, is_undone, due_of}
 use Rattle.vale_entry.specs.Closing.{leases_out}
+use Rattle.vale_entry.specs.Delivery.{line_of}
 
 -- the smaller of two numbers, where they are there
 abbrev pub earliest : Option ℕ → Option ℕ → Option ℕ
@@ -9,19 +10,13 @@ earliest None other = other
 earliest (Some first) None = Some first
 earliest (Some first) (Some other) = Some (min first other)
 
-abbrev pub number_of : Lot → ℕ
-number_of lot = lot.number
+-- the smaller of a number, where it is there, and that of a lot that is not done
+abbrev pub with_lot : Option ℕ → Lot → Option ℕ
+with_lot first lot = if is_undone lot then earliest first (Some lot.number) else first
 
--- the first lot of the port's line that is not done
-abbrev pub first_undone : Port → Option ℕ
-first_undone port = option_map number_of (find is_undone port.line)
-
-abbrev pub with_port : Option ℕ → Port → Option ℕ
-with_port first port = earliest first (first_undone port)
-
--- the smallest number among the first lots of the ports that are not done
+-- the smallest number of a lot that is not done, of those of all ports
 abbrev pub first_lease : List Port → Option ℕ
-first_lease ports = fold with_port None ports
+first_lease ports = fold with_lot None (flat_map line_of ports)
 
 -- each lease of the port is done
 abbrev pub IsDone : Port → Type 0

@@ -7,9 +7,9 @@ ghost use Rattle.vale_entry.specs.Opening.{opened_port};
 ghost use Rattle.vale_entry.specs.Grant.{longest_fitting, port_after_grant};
 ghost use Rattle.vale_entry.specs.Holdings.{with_lot_buffers, with_returned, buffers_at_port};
 ghost use Rattle.vale_world.specs.Seat.{seat_shut};
-ghost use Rattle.vale_world.specs.Leases.{first_undone};
+ghost use Rattle.vale_world.specs.Leases.{with_lot};
 ghost use Rattle.vale_entry.specs.Delivery.{is_lease, is_done_lot, port_after_done, port_after_sync, ready_lots, delivered_frames, lot_after_done};
-ghost use Rattle.std.specs.List.{take_while, flat_map};
+ghost use Rattle.std.specs.List.{fold, take_while, flat_map};
 
 use crate::lot::Lot;
 use crate::offer::Offer;
@@ -92,6 +92,28 @@ fn undone_count(line: &Vec<Lot>) -> usize
     ensures { result ≡ count_by is_undone line.now.items }
 {
     line.iter().filter(|lot| !lot.is_done()).count()
+}
+
+/// The smaller of that number and the lot's, if that is not done.
+fn with_lot(first: Option<u32>, lot: &Lot) -> Option<u32>
+    ensures { result ≡ with_lot first lot.now }
+{
+    match first {
+        _ if lot.is_done() => first,
+        Some(first) => Some(first.min(lot.number())),
+        None => Some(lot.number()),
+    }
+}
+
+#[tactic(auto, using(crate::proofs::LeasePlaces::lots))]
+fn first_of(start: Option<u32>, line: &Vec<Lot>) -> Option<u32>
+    ensures { result ≡ fold with_lot start line.now.items }
+{
+    let mut first = start;
+    for lot in line {
+        first = with_lot(first, lot);
+    }
+    first
 }
 
 /// How many slots the first lots take.
@@ -275,14 +297,11 @@ impl Port {
         self.line.iter().any(|lot| lot.is_owed_by(session))
     }
 
-    /// The number of the first lot that is not done.
-    pub(crate) fn first_lease(&self) -> Option<u32>
-        ensures { result ≡ first_undone self.now.port }
+    /// The smaller of that number and those of its leases that are not done.
+    pub(crate) fn first_lease(&self, first: Option<u32>) -> Option<u32>
+        ensures { result ≡ fold with_lot first self.now.port.line }
     {
-        match self.line.iter().find(|lot| !lot.is_done()) {
-            Some(lot) => Some(lot.number()),
-            None => None,
-        }
+        first_of(first, &self.line)
     }
 
     /// The session of the lot of that number, if it is here and not done.

@@ -4,7 +4,7 @@ ghost use Rattle.vale_entry.specs.World.{open_port, is_open_at, has_lot_owed_by,
 ghost use Rattle.vale_entry.specs.Delivery.{lease_at, ports_after_done};
 ghost use Rattle.vale_entry.specs.Grant.{longest_fitting};
 ghost use Rattle.vale_entry.specs.Closing.{shutting_port, is_shutting_at, is_port_of};
-ghost use Rattle.vale_world.specs.Leases.{earliest, first_lease, id_and_due};
+ghost use Rattle.vale_world.specs.Leases.{first_lease, id_and_due};
 ghost use Rattle.vale_world.specs.Seat.{Seat, port_of, held_of, seat_done, seat_given, seat_shut};
 
 use crate::offer::Offer;
@@ -71,24 +71,14 @@ pub fn first_of_session(ports: &[Port], session: u32) -> Option<(u32, u64)>
     }
 }
 
-fn earlier(first: Option<u32>, other: Option<u32>) -> Option<u32>
-    ensures { result ≡ earliest first other }
-{
-    match (first, other) {
-        (Some(first), Some(other)) => Some(first.min(other)),
-        (None, other) => other,
-        (first, None) => first,
-    }
-}
-
-/// The smallest number among the first lots of the ports that are not done.
+/// The smallest number of a lease that is not done.
 #[tactic(auto, using(crate::proofs::LeasePlaces::lease_places))]
 pub fn first_lease(ports: &[Port]) -> Option<u32>
     ensures { result ≡ first_lease (map port_of ports.now) }
 {
     let mut first = None;
     for port in ports {
-        first = earlier(first, port.first_lease());
+        first = port.first_lease(first);
     }
     first
 }
