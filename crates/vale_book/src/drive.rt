@@ -3,6 +3,7 @@ ghost use Rattle.vale_entry.specs.declared.entry.Ask.TheVariants as asks;
 ghost use Rattle.vale_entry.specs.declared.entry.Reply.TheVariants as replies;
 ghost use Rattle.vale_entry.specs.World.{free_count};
 ghost use Rattle.vale_entry.specs.Legal.{step, reply_to, world_of, IsLegal};
+ghost use Rattle.vale_entry.specs.Room.{promised_of};
 ghost use Rattle.vale_entry.specs.Holdings.{IsParted, Agrees};
 ghost use Rattle.vale_book.specs.OpenAnswers.{unopened};
 ghost use Rattle.vale_book.specs.Winding.{IsEnded};
@@ -88,10 +89,13 @@ impl Drive {
         })
     }
 
-    /// The record of every step that was made.
+    /// The record of every step that was made: a legal history, each entry of which had room.
     pub fn history(&self) -> &History
         ensures entries { result.now.entries ≡ self.now.entries }
         ensures limits { result.now.limits ≡ self.now.limits }
+        ensures promised { result.now.promised ≡ promised_of (standing self.now).world }
+        ensures roomy { HadRoom self.now }
+        ensures legal { IsLegal self.now.pool self.now.entries }
     {
         self.book.history()
     }

@@ -6,6 +6,7 @@ ghost use Rattle.vale_entry.specs.World.{free_count};
 ghost use Rattle.vale_entry.specs.Closing.{shutting_port};
 ghost use Rattle.vale_entry.specs.Holdings.{holds_all};
 ghost use Rattle.vale_entry.specs.Legal.{IsEnabled, IsLegal, reply_to};
+ghost use Rattle.vale_entry.specs.Room.{promised_of};
 ghost use Rattle.vale_book.specs.Recorded.{standing, after_ask, HasRoom};
 ghost use Rattle.vale_book.specs.Syncing.{session_of_port};
 
@@ -116,6 +117,7 @@ impl Book {
         requires { free_count (standing self).world ≡ self.pool }
         ensures entries { result.entries ≡ self.entries }
         ensures limits { result.limits ≡ self.limits }
+        ensures promised { result.promised ≡ promised_of (standing self).world }
     {
         let Book {
             pool: _,
