@@ -1,8 +1,9 @@
 -- Names of ports. `valeS:P` is the port P of the switch S, `pipeS{` the master end and `pipeS}` the
 -- slave end of the pipe S, `monS` a monitor. S and P are of letters, digits, `_` and `-`; neither is
 -- empty but the S of a switch. A name has at most 16 bytes.
-use Rattle.std.specs.Prelude.{ℕ, Bool, true, false, ◌||◌, ◌&&◌, ◌==◌, ◌+◌, ◌-◌, ◌≡◌, nat_lt, nat_le, nat_eq, if◌then◌else◌, List, [], ◌∷◌, ◌++◌, length, take, drop, codes, slice_index, Option, Some, None, IsSome, is_some, position}
+use Rattle.std.specs.Prelude.{ℕ, Bool, true, false, ◌||◌, ◌&&◌, ◌==◌, ◌+◌, ◌-◌, ◌≡◌, nat_lt, nat_le, nat_eq, if◌then◌else◌, List, [], ◌∷◌, ◌++◌, length, take, drop, codes, slice_index, Option, Some, None, is_some, position}
 use Rattle.std.specs.List.{starts_with, list_all, before_first}
+use Rattle.nm_types.specs.Limits.{name_bytes}
 use Rattle.nm_types.specs.declared.name.Kind.{Kind}
 use Rattle.nm_types.specs.declared.name.Kind.TheVariants.{Vale, Master, Slave, Monitor}
 
@@ -37,7 +38,7 @@ pipe_kind rest = if is_word (take (length rest - 1) rest) then pipe_end (slice_i
 -- what the name names, or none where the text is no name
 abbrev pub kind_of : List ℕ → Option Kind
 kind_of text =
-    if nat_lt 16 (length text) then None
+    if nat_lt name_bytes (length text) then None
     else (if starts_with nat_eq text (codes "vale") then (if is_switch_port (drop 4 text) then Some Vale else None)
     else (if starts_with nat_eq text (codes "pipe") then pipe_kind (drop 4 text)
     else (if starts_with nat_eq text (codes "mon") then (if is_word (drop 3 text) then Some Monitor else None)
@@ -84,3 +85,10 @@ is_pipe_name text = is_pipe_kind (kind_of text)
 
 unfoldable pub is_monitor_name : List ℕ → Bool
 is_monitor_name text = is_monitor_kind (kind_of text)
+
+abbrev pub peer_byte : ℕ → ℕ
+peer_byte b = if b == 123 then 125 else 123
+
+-- the name of a pipe's other end
+unfoldable pub peer_name : List ℕ → List ℕ
+peer_name text = take (length text - 1) text ++ peer_byte (slice_index text (length text - 1)) ∷ []

@@ -34,7 +34,9 @@ impl Model for Name {
     ghost view = { λ n. take n.len n.bytes };
 
     // The bytes behind the text are zero, so that names of one text are one value.
-    ghost invariant = { λ n. (length n.bytes ≡ 16) × (n.len ≤ 16) × (n.bytes ≡ take n.len n.bytes ++ replicate (16 - n.len) 0) × IsName (take n.len n.bytes) };
+    ghost invariant = { λ n. (length n.bytes ≡ 16) × (n.len ≤ 16)
+        × (n.bytes ≡ take n.len n.bytes ++ replicate (16 - n.len) 0)
+        × IsName (take n.len n.bytes) };
 
     ghost inverse = { λ text. record { bytes = text ++ replicate (16 - length text) 0; len = length text } };
 }
@@ -92,8 +94,8 @@ fn pipe_kind(rest: &[u8]) -> Option<Kind>
     }
 }
 
+/// What a name names, or none if the text is no name.
 #[tactic(auto, using(crate::proofs::PipeNames::pipe_names))]
-/// What a name names, or none where the text is no name.
 pub fn kind_of(text: &[u8]) -> Option<Kind>
     ensures { result ≡ kind_of text.now }
 {
@@ -127,7 +129,7 @@ fn is_name(text: &[u8]) -> bool
 }
 
 impl Name {
-    /// The name that a text is; `BadName` exactly where the text is none.
+    /// Reads a name; `BadName` exactly if `text` is none.
     pub fn parse(text: &str) -> Result<Name, BadName>
         ensures ok { IfOk result (λ name. (name ≡ text.now) × IsName text.now) }
         ensures bad { OnErr result (is_name text.now ≡ false) }
@@ -135,7 +137,7 @@ impl Name {
         Name::from_bytes(text.as_bytes())
     }
 
-    /// The name that these bytes are; `BadName` exactly where they are none.
+    /// Reads a name of bytes; `BadName` exactly if they are none.
     pub fn from_bytes(text: &[u8]) -> Result<Name, BadName>
         ensures ok { IfOk result (λ name. (name ≡ text.now) × IsName text.now) }
         ensures bad { OnErr result (is_name text.now ≡ false) }
@@ -170,37 +172,28 @@ impl Name {
         }
     }
 
-    /// Whether it names a port of a switch.
+    /// Tells whether it names a port of a switch.
     #[tactic(auto, unfolding(crate::specs::Names::is_switch_port_name))]
     pub fn is_switch_port(&self) -> bool
         ensures { result ≡ is_switch_port_name self.now }
     {
-        match self.kind() {
-            Kind::Vale => true,
-            Kind::Master | Kind::Slave | Kind::Monitor => false,
-        }
+        matches!(&self.kind(), Kind::Vale)
     }
 
-    /// Whether it names an end of a pipe.
+    /// Tells whether it names an end of a pipe.
     #[tactic(auto, unfolding(crate::specs::Names::is_pipe_name))]
     pub fn is_pipe(&self) -> bool
         ensures { result ≡ is_pipe_name self.now }
     {
-        match self.kind() {
-            Kind::Master | Kind::Slave => true,
-            Kind::Vale | Kind::Monitor => false,
-        }
+        matches!(&self.kind(), Kind::Master | Kind::Slave)
     }
 
-    /// Whether it names a monitor.
+    /// Tells whether it names a monitor.
     #[tactic(auto, unfolding(crate::specs::Names::is_monitor_name))]
     pub fn is_monitor(&self) -> bool
         ensures { result ≡ is_monitor_name self.now }
     {
-        match self.kind() {
-            Kind::Monitor => true,
-            Kind::Vale | Kind::Master | Kind::Slave => false,
-        }
+        matches!(&self.kind(), Kind::Monitor)
     }
 
     /// The switch of a switch port's name.
