@@ -9,6 +9,10 @@ pub mod Frames
 pub mod Limits
 pub mod Names
 pub mod Openings
+pub mod OwnEdits
+pub mod OwnPorts
+pub mod OwnRows
+pub mod OwnSyncs
 pub mod Places
 pub mod Positions
 pub mod Reset

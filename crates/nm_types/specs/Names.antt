@@ -56,24 +56,16 @@ switch_of text = before_first (λ b. b == 58) (drop 4 text)
 
 abbrev pub is_switch_port_kind : Option Kind → Bool
 is_switch_port_kind (Some Vale) = true
-is_switch_port_kind (Some Master) = false
-is_switch_port_kind (Some Slave) = false
-is_switch_port_kind (Some Monitor) = false
-is_switch_port_kind None = false
+is_switch_port_kind _ = false
 
 abbrev pub is_pipe_kind : Option Kind → Bool
-is_pipe_kind (Some Vale) = false
 is_pipe_kind (Some Master) = true
 is_pipe_kind (Some Slave) = true
-is_pipe_kind (Some Monitor) = false
-is_pipe_kind None = false
+is_pipe_kind _ = false
 
 abbrev pub is_monitor_kind : Option Kind → Bool
-is_monitor_kind (Some Vale) = false
-is_monitor_kind (Some Master) = false
-is_monitor_kind (Some Slave) = false
 is_monitor_kind (Some Monitor) = true
-is_monitor_kind None = false
+is_monitor_kind _ = false
 
 -- a port of a VALE switch
 unfoldable pub is_switch_port_name : List ℕ → Bool
