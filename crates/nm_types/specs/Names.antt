@@ -1,7 +1,7 @@
 -- Names of ports. `valeS:P` is the port P of the switch S, `pipeS{` the master end and `pipeS}` the
 -- slave end of the pipe S, `monS` a monitor. S and P are of letters, digits, `_` and `-`; neither is
 -- empty but the S of a switch. A name has at most 16 bytes.
-use Rattle.std.specs.Prelude.{ℕ, Bool, true, false, ◌||◌, ◌&&◌, ◌==◌, ◌+◌, ◌-◌, ◌≡◌, nat_lt, nat_le, nat_eq, if◌then◌else◌, List, [], ◌∷◌, ◌++◌, length, take, drop, codes, slice_index, Option, Some, None, is_some, position}
+use Rattle.std.specs.Prelude.{ℕ, Bool, true, false, ◌||◌, ◌&&◌, ◌==◌, ◌+◌, ◌-◌, ◌≡◌, nat_lt, nat_le, nat_eq, if◌then◌else◌, List, length, take, drop, codes, slice_index, slice_set, Option, Some, None, is_some, position}
 use Rattle.std.specs.List.{starts_with, list_all, before_first}
 use Rattle.nm_types.specs.Limits.{name_bytes}
 use Rattle.nm_types.specs.declared.name.Kind.{Kind}
@@ -81,6 +81,6 @@ is_monitor_name text = is_monitor_kind (kind_of text)
 abbrev pub peer_byte : ℕ → ℕ
 peer_byte b = if b == 123 then 125 else 123
 
--- the name of a pipe's other end
+-- the name of a pipe's other end: its last byte is exchanged
 unfoldable pub peer_name : List ℕ → List ℕ
-peer_name text = take (length text - 1) text ++ peer_byte (slice_index text (length text - 1)) ∷ []
+peer_name text = slice_set text (length text - 1) (peer_byte (slice_index text (length text - 1)))

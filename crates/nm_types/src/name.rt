@@ -1,5 +1,8 @@
-ghost use Rattle.std.specs.Prelude.{◌≡◌, IfOk, OnErr, IsTrue, None, Some, false, length, ◌≤◌};
-ghost use Rattle.nm_types.specs.Names.{is_word_byte, are_word_bytes, is_word, colon_in, is_switch_port, pipe_end, pipe_kind, kind_of, is_name, is_switch_port_name, is_pipe_name, is_monitor_name, switch_of, IsName};
+ghost use Rattle.std.specs.Prelude.{◌≡◌, ◌≤◌, IfOk, OnErr, IsTrue, None, Some, true, false, length};
+ghost use Rattle.nm_types.specs.Names.{is_word_byte, are_word_bytes, is_word, colon_in};
+ghost use Rattle.nm_types.specs.Names.{is_switch_port, pipe_end, pipe_kind, kind_of, is_name, IsName};
+ghost use Rattle.nm_types.specs.Names.{is_switch_port_name, is_pipe_name, is_monitor_name};
+ghost use Rattle.nm_types.specs.Names.{switch_of, peer_byte, peer_name};
 
 use crate::fault::BadName;
 use std::marker::Model;
@@ -128,6 +131,12 @@ fn is_name(text: &[u8]) -> bool
     kind_of(text).is_some()
 }
 
+fn peer_byte(b: u8) -> u8
+    ensures { result ≡ peer_byte b }
+{
+    if b == b'{' { b'}' } else { b'{' }
+}
+
 impl Name {
     /// Reads a name; `BadName` exactly if `text` is none.
     pub fn parse(text: &str) -> Result<Name, BadName>
@@ -194,6 +203,21 @@ impl Name {
         ensures { result ≡ is_monitor_name self.now }
     {
         matches!(&self.kind(), Kind::Monitor)
+    }
+
+    /// The name of the pipe's other end.
+    pub fn peer(&self) -> Name
+        requires { is_pipe_name self.now ≡ true }
+        ensures peer { result ≡ peer_name self.now }
+        ensures pipe { is_pipe_name result ≡ true }
+    {
+        let last = self.len as usize - 1;
+        let mut bytes = self.bytes;
+        bytes[last] = peer_byte(bytes[last]);
+        Name {
+            bytes,
+            len: self.len,
+        }
     }
 
     /// The switch of a switch port's name.
