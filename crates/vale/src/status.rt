@@ -6,7 +6,7 @@ ghost use Rattle.vale.specs.Status.{code_of, cause_text, what_text, status_text,
 
 use nm_io::{Failed, Sink, put_all};
 use nm_types::LineCause;
-use vale_text::{Piece, put_pieces};
+use vale_text::{Part, put_parts};
 
 /// What passed its limit.
 #[derive(Clone, Copy, Debug, PartialEq, Eq)]
@@ -96,35 +96,35 @@ fn put_status<K: Sink>(out: &mut K, status: &Status) -> Result<(), Failed>
     match status {
         Status::Done => put_all(out, b""),
         Status::Usage => put_all(out, b"usage: vale run SCRIPT\n"),
-        Status::BadScript { line, cause } => put_pieces(
+        Status::BadScript { line, cause } => put_parts(
             out,
             &[
-                Piece::Word(b"vale: script line "),
-                Piece::Number(*line as u64),
-                Piece::Word(b": "),
-                Piece::Word(cause_text(*cause)),
-                Piece::Word(b"\n"),
+                Part::Text(b"vale: script line "),
+                Part::Number(*line as u64),
+                Part::Text(b": "),
+                Part::Text(cause_text(*cause)),
+                Part::Text(b"\n"),
             ],
         ),
-        Status::ReadFault { name } => put_pieces(
+        Status::ReadFault { name } => put_parts(
             out,
             &[
-                Piece::Word(b"vale: cannot read "),
-                Piece::Word(name.as_bytes()),
-                Piece::Word(b"\n"),
+                Part::Text(b"vale: cannot read "),
+                Part::Text(name.as_bytes()),
+                Part::Text(b"\n"),
             ],
         ),
         Status::WriteFault => put_all(out, b"vale: cannot write\n"),
-        Status::Over { what, count, limit } => put_pieces(
+        Status::Over { what, count, limit } => put_parts(
             out,
             &[
-                Piece::Word(b"vale: "),
-                Piece::Word(what_text(*what)),
-                Piece::Word(b" "),
-                Piece::Number(*count),
-                Piece::Word(b" over "),
-                Piece::Number(*limit),
-                Piece::Word(b"\n"),
+                Part::Text(b"vale: "),
+                Part::Text(what_text(*what)),
+                Part::Text(b" "),
+                Part::Number(*count),
+                Part::Text(b" over "),
+                Part::Number(*limit),
+                Part::Text(b"\n"),
             ],
         ),
         Status::NoMemory => put_all(out, b"vale: no memory\n"),

@@ -8,5 +8,6 @@ mod rows;
 mod tests;
 mod transcript;
 
+pub use pieces::{Part, put_parts};
 pub use rows::{EndLine, EntryLine, StartLine, write_line};
 pub use transcript::{PutError, write_transcript};

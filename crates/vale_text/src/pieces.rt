@@ -23,11 +23,14 @@ pub(crate) trait Spelled {
         ensures cause { OnErr result (Rose (K.faults out.old) (K.faults out.new)) };
 }
 
-/// A part of a word.
+/// A part of a text.
 #[derive(Clone, Copy)]
-pub(crate) enum Part<'a> {
+pub enum Part<'a> {
+    /// A number in decimal digits.
     Number(u64),
+    /// The bytes themselves.
     Text(&'a [u8]),
+    /// Two hexadecimal digits for each byte.
     Hex(&'a [u8]),
 }
 
@@ -76,7 +79,7 @@ fn put_each<T: Spelled, K: Sink>(out: &mut K, items: &[T]) -> Result<(), Failed>
 
 /// Writes parts one after another.
 #[tactic(auto, using(crate::proofs::Flat::parts_are))]
-pub(crate) fn put_parts<K: Sink>(out: &mut K, parts: &[Part<'_>]) -> Result<(), Failed>
+pub fn put_parts<K: Sink>(out: &mut K, parts: &[Part<'_>]) -> Result<(), Failed>
     ensures writes { Writes (K.holds out.old) (K.holds out.new) result (parts_text parts.now) }
     ensures later { K.faults out.old ≤ K.faults out.new }
     ensures cause { OnErr result (Rose (K.faults out.old) (K.faults out.new)) }

@@ -3,11 +3,11 @@ use Rattle.vale.proofs.status.put_status.Goals as goal
 
 pub returns-in-BadScript-clause-writes : goal.returns-in-BadScript-clause-writes
 unfolding bad_script_line
-returns-in-BadScript-clause-writes g c = rw (c.in-BadScript.is, ← c.cause_text.ensures) c.put_pieces.ensures.writes
+returns-in-BadScript-clause-writes g c = rw (c.in-BadScript.is, ← c.cause_text.ensures) c.put_parts.ensures.writes
 
 pub returns-in-ReadFault-clause-writes : goal.returns-in-ReadFault-clause-writes
 unfolding read_fault_line
-returns-in-ReadFault-clause-writes g c = rw (c.in-ReadFault.is, ← c.as_bytes.ensures.value) c.put_pieces-in-ReadFault.ensures.writes
+returns-in-ReadFault-clause-writes g c = rw (c.in-ReadFault.is, ← c.as_bytes.ensures.value) c.put_parts-in-ReadFault.ensures.writes
 
 pub returns-in-WriteFault-clause-writes : goal.returns-in-WriteFault-clause-writes
 unfolding write_fault_line
