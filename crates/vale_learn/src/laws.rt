@@ -2,7 +2,7 @@
 //! definitions, which the check proves.
 #![tactic(auto, using(crate::proofs::TableLaws::table_laws))]
 
-ghost use Rattle.vale_learn.specs.Laws.{FoundWhereHeld, NoneFoundAtFirst, LearningReplaces, ForgettingBringsNothingBack};
+ghost use Rattle.vale_learn.specs.Laws.{FoundWhereHeld, NoneFoundAtFirst, LearningReplaces, RestoringUndoesLearning, ForgettingBringsNothingBack};
 
 /// An address is found exactly where its entry holds it, and none is at first.
 pub fn found_where_held()
@@ -13,6 +13,11 @@ pub fn found_where_held()
 /// Learning an address makes it found, and every other address of its entry not found.
 pub fn learning_replaces()
     ensures { LearningReplaces }
+{}
+
+/// A table is as it was before once what was learned is undone.
+pub fn restoring_undoes_learning()
+    ensures { RestoringUndoesLearning }
 {}
 
 /// Forgetting a port makes its addresses not found, and changes no other answer: nothing older comes
