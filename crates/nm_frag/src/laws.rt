@@ -1,5 +1,5 @@
-//! Laws of a frame's parts. Each function does nothing; its contract is a law about the definitions,
-//! which the check proves.
+//! Laws of a frame's parts. Each function does nothing; its contract is a law about the
+//! definitions, which the check proves.
 #![tactic(auto, using(crate::proofs::PartLemmas::part_laws))]
 
 ghost use Rattle.nm_frag.specs.Laws.{PartsAreTheFrame, PartsFitSlots};

@@ -20,11 +20,12 @@ fn take_first<T>(pending: &mut Vec<T>, taken: &mut Vec<T>, count: usize)
     pending.reverse();
 }
 
-/// Exchanges buffers that the peer lent for as many frames: moves the first frames of `pending` to the
-/// end of `taken`, and all of `lent` to the end of `back`, both in order. Takes no memory.
+/// Exchanges buffers that the peer lent for as many frames: moves the first frames of `pending` to
+/// the end of `taken`, and all of `lent` to the end of `back`, both in order. Takes no memory.
 pub fn give<T>(pending: &mut Vec<T>, taken: &mut Vec<T>, lent: &mut Vec<Buf>, back: &mut Vec<Buf>)
     requires enough { length lent.old.items ≤ length pending.old.items }
-    requires taken_room { length taken.old.items + length lent.old.items ≤ vec_capacity taken.old }
+    requires taken_room { length taken.old.items + length lent.old.items
+        ≤ vec_capacity taken.old }
     requires back_room { length back.old.items + length lent.old.items ≤ vec_capacity back.old }
     ensures taken { taken.new.items
         ≡ taken.old.items ++ take (length lent.old.items) pending.old.items }

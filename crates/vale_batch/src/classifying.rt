@@ -16,8 +16,8 @@ fn is_short(looked: &Looked) -> bool
     looked.destination == Destination::Short
 }
 
-/// Whether a frame is long enough and goes to no port. `others` says whether the sender's switch has
-/// other ports.
+/// Whether a frame is long enough and goes to no port. `others` says whether the sender's switch
+/// has other ports.
 fn is_lone(others: bool, looked: &Looked) -> bool
     ensures { result ≡ is_lone_if others looked.now }
 {
@@ -56,7 +56,8 @@ fn lists_of(
     requires few { length all.now < 2 ^ 32 }
     requires ports { IsTrue (are_different ports.now) }
     ensures short { IfOk result (λ lists. lists.short ≡ count_by is_short_destination all.now) }
-    ensures lone { IfOk result (λ lists. lists.lone ≡ count_by (is_lone from ports.now) all.now) }
+    ensures lone { IfOk result (λ lists.
+        lists.lone ≡ count_by (is_lone from ports.now) all.now) }
     ensures to { IfOk result (λ lists.
         map wanted lists.to.items ≡ wants_of from all.now ports.now) }
 {
@@ -86,8 +87,8 @@ pub fn classify(
     ensures table { OnOk result (table.new ≡ learned_of_batch from table.old batch.now) }
     ensures err { OnErr result (table.new ≡ table.old) }
     ensures short { IfOk result (λ lists. lists.short ≡ count_by is_short batch.now) }
-    ensures lone { IfOk result (λ lists.
-        lists.lone ≡ count_by (is_lone from ports.now) (looked_up_batch from table.old batch.now)) }
+    ensures lone { IfOk result (λ lists. lists.lone
+        ≡ count_by (is_lone from ports.now) (looked_up_batch from table.old batch.now)) }
     ensures to { IfOk result (λ lists. map wanted lists.to.items
         ≡ wants_of from (looked_up_batch from table.old batch.now) ports.now) }
 {

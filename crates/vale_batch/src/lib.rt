@@ -1,5 +1,5 @@
-//! Where the frames of a batch go, as vale(4) forwards: each frame's source is learned first, then its
-//! destination is looked up.
+//! Where the frames of a batch go, as vale(4) forwards: each frame's source is learned first, then
+//! its destination is looked up.
 #![tactic(auto)]
 
 mod addresses;

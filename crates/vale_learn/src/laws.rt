@@ -20,8 +20,8 @@ pub fn restoring_undoes_learning()
     ensures { RestoringUndoesLearning }
 {}
 
-/// Forgetting a port makes its addresses not found, and changes no other answer: nothing older comes
-/// back.
+/// Forgetting a port makes its addresses not found, and changes no other answer: nothing older
+/// comes back.
 pub fn forgetting_brings_nothing_back()
     ensures { ForgettingBringsNothingBack }
 {}

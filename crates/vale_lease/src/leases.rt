@@ -7,7 +7,7 @@ use std::alloc::Global;
 use std::collections::VecDeque;
 use std::marker::Model;
 
-/// A lease of a receive ring: so many slots that its holder fills, and whether they are filled.
+/// A lease of `slots` slots of a receive ring, and whether its holder has filled them.
 #[derive(Clone, Copy, Debug, PartialEq, Eq)]
 pub struct LeaseSlots {
     pub id: LeaseId,
@@ -34,7 +34,8 @@ impl Model for Leases {
 
     ghost view = { λ r. record { size = r.size; leases = r.leases.items } };
 
-    ghost invariant = { λ r. IsLeaseRing (record { size = r.size; leases = r.leases.items }) × (r.size - 1 ≤ deque_capacity r.leases) };
+    ghost invariant = { λ r. IsLeaseRing (record { size = r.size; leases = r.leases.items })
+        × (r.size - 1 ≤ deque_capacity r.leases) };
 }
 
 fn first_done(leases: &VecDeque<LeaseSlots>) -> Option<u32>
@@ -97,8 +98,8 @@ fn ready_slots(leases: &VecDeque<LeaseSlots>) -> u32
 }
 
 impl Leases {
-    /// A ring of so many slots, at least 1, with no lease. Takes the room for all its leases, at most
-    /// one a slot, so that the other calls take no memory.
+    /// A ring of `size` slots, at least 1, with no lease. Takes the room for all its leases, at
+    /// most one a slot: the other calls take no memory.
     pub fn new(alloc: Global, size: u32) -> Result<Leases, NoMemory>
         requires { 1 ≤ size }
         ensures { IfOk result (λ ring. ring ≡ record { size = size; leases = [] }) }
@@ -109,13 +110,16 @@ impl Leases {
         })
     }
 
-    /// Leases so many slots, at least one, behind all others.
+    /// Opens a lease of `slots` slots at the end of the queue.
     #[tactic(auto, using(crate::proofs::LeaseLemmas::leases))]
     pub fn open(&mut self, id: LeaseId, slots: u32)
         requires some { 1 ≤ slots }
         requires room { slots_of self.old.leases + slots ≤ self.old.size - 1 }
         requires new { is_there id.0 self.old.leases ≡ false }
-        ensures { self.new ≡ record self.old { leases = self.old.leases ++ record { id = id; slots = slots; is_done = false } ∷ [] } }
+        ensures { self.new ≡ record self.old {
+          leases = self.old.leases
+              ++ record { id = id; slots = slots; is_done = false } ∷ [];
+        } }
     {
         self.leases.push_back_reserved(LeaseSlots {
             id,
@@ -124,7 +128,7 @@ impl Leases {
         });
     }
 
-    /// The slots of a lease that is out are filled.
+    /// Completes a lease that is out: its slots are filled.
     #[tactic(auto, using(crate::proofs::LeaseLemmas::leases))]
     pub fn done(&mut self, id: LeaseId)
         requires { IsTrue (is_lease_out id.0 self.old.leases) }
@@ -133,7 +137,8 @@ impl Leases {
         mark_done(&mut self.leases, id);
     }
 
-    /// The number of slots that a reader could have now: those of the longest prefix of done leases.
+    /// The number of slots that a reader could take now: those of the longest prefix of done
+    /// leases.
     pub fn ready(&self) -> u32
         ensures slots { result ≡ slots_of (done_prefix self.now.leases) }
         ensures ring { IsLeaseRing self.now }
@@ -141,7 +146,7 @@ impl Leases {
         ready_slots(&self.leases)
     }
 
-    /// Hands these slots to the reader: the longest prefix of done leases goes.
+    /// Hands these slots to the reader: removes the longest prefix of done leases.
     #[tactic(auto, using(crate::proofs::LeaseLemmas::leases))]
     pub fn take(&mut self) -> u32
         ensures slots { result ≡ slots_of (done_prefix self.old.leases) }

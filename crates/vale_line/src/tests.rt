@@ -69,7 +69,8 @@ fn grant(rt: &impl Abort, alloc: Global, line: &mut Line, id: u32, want: &[u32])
 }
 
 /// A ring of 8 buffers leases 4 and then 1. The second lease is completed first, and nothing is
-/// given before the first one is done. The buffers stay out: the test ends by the panic that it expects.
+/// given before the first one is done. The buffers stay out: the test ends by the panic that it
+/// expects.
 #[test]
 #[should_panic(expected = "the buffers stay out")]
 fn frames_in_lease_order(rt: HostRuntime) {
