@@ -3,24 +3,23 @@ use Rattle.std.proofs.Common.{ℕ, ◌+◌, ◌≡◌, Bool, true, false, cond, 
 use Rattle.std.proofs.lemmas.List.{map-append}
 use Rattle.std.proofs.lemmas.List.Sums.{sum_by-append}
 use Rattle.nm_types.specs.Frames.{Frame}
-use Rattle.vale_entry.specs.declared.entry.Ask.{Ask}
-use Rattle.vale_entry.specs.declared.entry.Reply.{Reply}
 use Rattle.vale_entry.specs.declared.entry.Reply.TheVariants.{Gave}
 use Rattle.vale_entry.specs.declared.entry.Dest.{Dest}
 use Rattle.vale_entry.specs.declared.entry.Entry.{Entry}
 use Rattle.vale_entry.specs.World.{World, Port, Offer, open_port}
 use Rattle.vale_entry.specs.Grant.{first_offer, given_at, grant_reply, grant_reply_at}
 use Rattle.vale_entry.specs.Delivery.{delivered_frames}
-use Rattle.vale_entry.specs.Legal.{Standing, standing_of, world_of, IsLegal, Follows, offers_of_sync}
+use Rattle.vale_entry.specs.Legal.{Standing, standing_of, world_of, IsLegal, Follows, sync_step, offers_of_sync}
 use Rattle.vale_entry.specs.Offers.{dests_of}
-use Rattle.vale_entry.specs.Delivered.{frames_at, Granted, count_of_granted, granted_of_offer, granted_by, granted_in, grants_to, read_by, read_in, read_frames, count_given, given_by, given_in, given_counts, count_gave, gave_by, gave_in, read_counts}
+use Rattle.vale_entry.specs.Delivered.{frames_at, Granted, count_of_granted, granted_of_offer, granted_in, grants_to, read_in, read_frames, count_given, given_in, given_counts, count_gave, gave_in, read_counts}
 use Rattle.vale_entry.specs.DeliveryLaws.{AreCounted, RepliesCountFrames}
 use Rattle.vale_entry.proofs.Told.{told-push, flat_map-push, history-by}
-use Rattle.vale_entry.proofs.Follows.{EachKind, follows-by}
+use Rattle.vale_entry.proofs.Follows.{EachKind, Left, follows-by}
+use Rattle.vale_entry.proofs.Tells.{tells-nothing, tells-received}
 
 -- what one entry grants and reads, and what its reply counts of it
-abbrev Counted : ℕ → World → Ask → ℕ → Reply → World → Type 0
-Counted port w ask session reply left = AreCounted (granted_by port w ask) (given_by port ask reply) (read_by port w ask) (gave_by port ask reply)
+abbrev Counted : ℕ → World → Entry → Standing → Type 0
+Counted port w e left = AreCounted (granted_in port w e) (given_in port e) (read_in port w e) (gave_in port e)
 
 none : AreCounted [] [] [] []
 none = record { given_counted = refl; read_counted = refl }
@@ -39,17 +38,21 @@ syncs : (port : Port) (found : Option Port) (to : List Dest) (hit : Bool) → fo
 syncs port found to true e = rw e (record { given_counted = refl; read_counted = omega arith })
 syncs port found to false e = none
 
-counts : (s : Standing) (port : ℕ) → EachKind s (Counted port s.world)
+counts : (s : Standing) (port : ℕ) → EachKind s (Left s (Counted port s.world))
 counts s port = record {
   enters = λ user. none;
-  refuses = λ session name tx rx extra fault. none;
-  opens = λ session name tx rx extra. none;
-  sends = λ from frames sender e settled. none;
+  quiet = λ ask session reply quiet.
+      let tells = tells-nothing s ask session reply quiet in
+      rw (tells.granted port, tells.given port, tells.read port, tells.gave port) none;
+  opens = λ session name tx rx extra here refusal. none;
+  sends = λ from frames sender e can settled. none;
   grants = λ origin to offer first same. grants s.world offer (first_offer s.world origin) (to.0 == port) first;
-  completes = λ lease lot. none;
-  syncs = λ at back reader e settled. syncs reader (open_port s.world.ports at.0) (dests_of (offers_of_sync s.world reader)) (at.0 == port) e;
-  shuts = λ at reader e. none;
-  finishes = λ at bufs chain reader e. none;
+  completes = λ lease lot e. none;
+  receives = λ ask at back reader receives e can.
+      let tells = tells-received s ask at back (sync_step s back reader) receives in
+      rw (tells.granted port, tells.given port, tells.read port, tells.gave port) (syncs reader (open_port s.world.ports at.0) (dests_of (offers_of_sync s.world reader)) (at.0 == port) e);
+  shuts = λ at reader e settled. none;
+  finishes = λ at bufs chain reader e can out. none;
   leaves = λ session can. none;
 }
 

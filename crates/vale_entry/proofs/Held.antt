@@ -1,6 +1,6 @@
 -- After every legal history each buffer of the pool is held once, and the buffers held agree with the
 -- world: a port's idle ones with its space, its lots with their frames, a session's with its dues.
-use Rattle.std.proofs.Common.{ℕ, zero, suc, ◌+◌, ◌-◌, ◌<◌, ◌≤◌, ◌≡◌, Bool, true, false, cond, ◌&&◌, ◌||◌, nat_le, ◌==◌, List, [], ◌∷◌, ◌++◌, map, length, take, drop, sum_by, flat_map, filter, not, Option, Some, None, refl, sym, ◌∙◌, ap, subst, arith, slice_get, slice_set, length-append, length-drop, append-nil, ap₂, sum}
+use Rattle.std.proofs.Common.{ℕ, zero, suc, ◌+◌, ◌-◌, ◌<◌, ◌≤◌, ◌≡◌, Bool, true, false, cond, ◌==◌, List, [], ◌∷◌, ◌++◌, map, length, take, drop, sum_by, flat_map, filter, not, Option, Some, None, refl, sym, ◌∙◌, ap, subst, arith, slice_get, slice_set, length-append, length-drop, append-nil, ap₂, sum}
 use Rattle.std.specs.List.{AllByRecursion as Each, list_all, prefix_len, remove}
 use Rattle.std.proofs.lemmas.List.{map-append, length-take-le, drop-drop, drop-map, take-map, take-append-drop}
 use Rattle.std.proofs.lemmas.List.Sums.{sum_by-cons, sum_by_push, sum_by-take-drop, sum-map, count_by-le-length}
@@ -8,26 +8,22 @@ use Rattle.std.proofs.lemmas.List.Concat.{flat_map-append, length-flat_map}
 use Rattle.std.proofs.lemmas.List.Elements.{All-from_recursion}
 use Rattle.std.proofs.lemmas.Bool.{and_parts, leb-true, eqb-true, eqb-false, eq-eqb, ne_eqb}
 use Rattle.nm_types.specs.Frames.{Frame, slots_of, size_of_frames}
-use Rattle.nm_types.specs.Names.{is_switch_port_name, is_monitor_name}
-use Rattle.nm_types.specs.declared.fault.OpenFault.{OpenFault}
-use Rattle.vale_entry.specs.declared.entry.Ask.{Ask}
-use Rattle.vale_entry.specs.declared.entry.Ask.TheVariants.{Enter, Open, Send, Grant, Done, Sync, Shut, Finish, Leave}
 use Rattle.vale_entry.specs.declared.entry.Entry.{Entry}
-use Rattle.vale_entry.specs.World.{World, Port, Lot, Offer, is_session, is_settled, open_port, changed_at, changed_if, space_of, due_of, buffers_of}
+use Rattle.vale_entry.specs.World.{World, Port, Lot, Offer, is_session, open_port, changed_at, changed_if, space_of, due_of, buffers_of}
 use Rattle.vale_entry.specs.Opening.{open_refusal, opened_port}
-use Rattle.vale_entry.specs.Grant.{longest_fitting, given_at, first_offer, port_after_grant}
-use Rattle.vale_entry.specs.Delivery.{lease_at, is_done_lot, ready_lots, delivered_frames, frames_of_lot, lot_after_done, done_if, port_after_done, port_after_sync}
+use Rattle.vale_entry.specs.Grant.{longest_fitting, given_at, port_after_grant}
+use Rattle.vale_entry.specs.Delivery.{is_done_lot, ready_lots, delivered_frames, frames_of_lot, lot_after_done, done_if, port_after_done, port_after_sync}
 use Rattle.vale_entry.specs.Closing.{shut, shutting_port, ports_without, sessions_without}
 use Rattle.vale_entry.specs.Holdings.{Holdings, PortBuffers, SessionBuffers, PortAgrees, Agrees, IsParted, all_free, buffers_at_port, is_buffer_index, contains, are_distinct, holds_all, due_of_session, sessions_given, sessions_less, session_given, buffers_without, buffers_of_session, delivered_buffers, changed_buffers, with_lot_buffers, with_returned, holdings_after_grant, holdings_after_sync, holdings_after_finish, buffers_of_port}
-use Rattle.vale_entry.specs.Legal.{Standing, Outcome, step, recorded_step, after, standing_after, enter_step, open_step_by, send_step_at, send_step, can_send, grant_step_at, grant_step, done_step_at, sync_step_at, sync_step, can_sync, shut_step, can_finish, finish_step, leave_step}
+use Rattle.vale_entry.specs.Legal.{Standing, after, enter_step, open_step_by, grant_step, sync_step, shut_step, can_finish, finish_step, leave_step}
 use Rattle.vale_entry.specs.Laws.{Rise, id_of_port, id_of_held, id_of_session, IsThere, HasRoom, IsPortOf}
-use Rattle.vale_entry.proofs.Steps.{recorded-by}
+use Rattle.vale_entry.proofs.Follows.{EachKind, CanReceive, after-by, done_step}
 use Rattle.vale_entry.proofs.ListLaws.{each-at, map-set_same, sum-at, sum-set, sum-map_same, sum-flat_map}
 use Rattle.vale_entry.proofs.Each.{each-append, each-map, each-weaker, changed_at-same, sum-changed_at}
 use Rattle.vale_entry.proofs.Counting.{count_of, count_of-append, count-away, length-away, count-pool}
 use Rattle.vale_entry.proofs.Freeing.{count-all_with_free}
 use Rattle.vale_entry.proofs.Removals.{each-filter, filter-at_key, sum-remove, sum-filter_same, map-filter}
-use Rattle.vale_entry.proofs.Closings.{CanLeave, shut-by, finish-by, leave-by}
+use Rattle.vale_entry.proofs.Closings.{CanLeave}
 use Rattle.vale_entry.proofs.Agreeing.{agree-ids, agree-at, agree-set, agree-push, agree-map, due_for, due-sum, due-set, due-push, due-remove, due-without, due-none, among-bound, agree-remove, less-place, SessionPlace, session-place, each-set_key, given-place, moved-place, changed_buffers-same, sum-changed_buffers}
 use Rattle.vale_entry.proofs.Places.{open-place, changed_at-place, changed_buffers-place, buffers_of_session-place, delivered_buffers-place, buffers_of_port-place, shutting-place}
 use Rattle.vale_entry.proofs.Numbered.{Numbered}
@@ -38,7 +34,7 @@ use Rattle.vale_entry.proofs.Holding.{whole, size_of_lot, at_port, at_session, t
 owner-before : (count : ℕ) (sessions : List ℕ) (port : Port) → Rise 0 sessions count → IsThere sessions port.session → port.session < count + 1
 owner-before count sessions port rise owned = let bound = among-bound 0 sessions count port.session rise owned in omega arith
 
-held_enter : (s : Standing) → Numbered s → Held s → HeldNext (Some (enter_step s))
+held_enter : (s : Standing) → Numbered s → Held s → HeldNext (enter_step s)
 held_enter s n h =
     let w = s.world in
     let x = s.holdings in
@@ -98,7 +94,7 @@ given_by session more held ports port false t owner size here =
 
 held_opened : (s : Standing) (session : ℕ) (name : List ℕ) (tx rx extra : ℕ) → is_session s.world session ≡ true
     → open_refusal s.world name tx rx extra ≡ None → Numbered s → Roomy s → HasFree s → Held s
-    → HeldNext (Some (open_step_by None s session name tx rx extra))
+    → HeldNext (open_step_by None s session name tx rx extra)
 held_opened s session name tx rx extra found e n roomy free h =
     let w = s.world in
     let x = s.holdings in
@@ -147,21 +143,6 @@ held_opened s session name tx rx extra found e n roomy free h =
         let here = id_kept session more held (held.session == session) in
         let rest = ids_kept session more helds in
         cc
-
-held_open : (s : Standing) (session : ℕ) (name : List ℕ) (tx rx extra : ℕ) (found : Bool) (refusal : Option OpenFault)
-    → is_session s.world session ≡ found → open_refusal s.world name tx rx extra ≡ refusal
-    → Numbered s → Roomy s → HasFree s → Held s → HeldNext (cond found (Some (open_step_by refusal s session name tx rx extra)) None)
-held_open s session name tx rx extra false refusal t e n roomy free h = tt
-held_open s session name tx rx extra true (Some fault) t e n roomy free h = h
-held_open s session name tx rx extra true None t e n roomy free h = held_opened s session name tx rx extra t e n roomy free h
-
-held_send : (s : Standing) (frames : List Frame) (found : Option Port) → Held s → HeldNext (send_step_at s frames found)
-held_send s frames None h = tt
-held_send s frames (Some port) h = by_test (can_send s.world frames port)
-  where
-    by_test : (can : Bool) → HeldNext (cond can (Some (send_step s frames port)) None)
-    by_test false = tt
-    by_test true = h
 
 -- Grant
 lots-granted : (size : ℕ) (lists : List (List ℕ)) (idle : List ℕ) (line : List Lot) (lot : Lot) → length (take size idle) ≡ size_of_frames lot.frames
@@ -249,15 +230,10 @@ held-granted pool number session id frames sessions high ports x (Some port) e r
           omega arith;
     }
 
-held_grant : (s : Standing) (to : ℕ) (found : Option Offer) → Numbered s → Roomy s → Held s → HeldNext (grant_step_at s to found)
-held_grant s to None n roomy h = tt
-held_grant s to (Some offer) n roomy h = by_test (offer.to == to)
-  where
-    by_test : (same : Bool) → HeldNext (cond same (Some (grant_step s offer)) None)
-    by_test false = tt
-    by_test true =
-        let w = s.world in
-        held-granted w.pool (w.entry_count + 1) offer.session offer.to offer.frames w.sessions w.entry_count w.ports s.holdings (open_port w.ports offer.to) refl n.ports_rise roomy.roomy h
+held_grant : (s : Standing) (offer : Offer) → Numbered s → Roomy s → Held s → HeldNext (grant_step s offer)
+held_grant s offer n roomy h =
+    let w = s.world in
+    held-granted w.pool (w.entry_count + 1) offer.session offer.to offer.frames w.sessions w.entry_count w.ports s.holdings (open_port w.ports offer.to) refl n.ports_rise roomy.roomy h
 
 -- Done
 done-same_size : (b : Bool) (lot : Lot) → size_of_frames (done_if b lot).frames ≡ size_of_frames lot.frames
@@ -278,9 +254,8 @@ agrees-done number port held a =
     let idle = a.idle in
     record { id = a.id; idle = omega arith; lots = a.lots ∙ sym (sizes-after_done number port.line) }
 
-held_done : (s : Standing) (number : ℕ) (found : Option Lot) → Held s → HeldNext (done_step_at s number found)
-held_done s number None h = tt
-held_done s number (Some lot) h =
+held_done : (s : Standing) (number : ℕ) (lot : Lot) → Held s → HeldNext (done_step s number lot)
+held_done s number lot h =
     let w = s.world in
     let ports = map (port_after_done number) w.ports in
     record {
@@ -423,9 +398,9 @@ synced-at pool high sessions ports x back port i held user port_rise held_rise u
           omega arith;
     }
 
-held_synced : (s : Standing) (back : List ℕ) (id : ℕ) (port : Port) → open_port s.world.ports id ≡ Some port → can_sync s back port ≡ true
+held_synced : (s : Standing) (back : List ℕ) (id : ℕ) (port : Port) → open_port s.world.ports id ≡ Some port → CanReceive s back port
     → Numbered s → Roomy s → Held s
-    → Held (sync_step s back port).next
+    → HeldNext (sync_step s back port)
 held_synced s back id port e can n roomy h =
     let w = s.world in
     let x = s.holdings in
@@ -435,33 +410,20 @@ held_synced s back id port e can n roomy h =
     let owned : IsThere w.sessions port.session = each-at (IsPortOf w.sessions) w.ports p.place port n.ports_owned p.here in
     let among : IsThere (map id_of_session x.sessions) port.session = rw h.session_ids owned in
     let user = session-place x.sessions port.session among in
-    let named =
-    and_parts (is_switch_port_name port.name || is_monitor_name port.name) (is_settled w port.session && (nat_le (length back) port.out && holds_all x port.session back)) can in
-    let settled = and_parts (is_settled w port.session) (nat_le (length back) port.out && holds_all x port.session back) named.1 in
-    let limits = and_parts (nat_le (length back) port.out) (holds_all x port.session back) settled.1 in
-    let holds = and_parts (list_all (λ b. contains b (buffers_of_session x.sessions port.session)) back) (are_distinct back) limits.1 in
+    let holds = and_parts (list_all (λ b. contains b (buffers_of_session x.sessions port.session)) back) (are_distinct back) can.held in
     let own : buffers_of_session x.sessions port.session ≡ user.held.buffers =
     subst (λ (k : ℕ). buffers_of_session x.sessions k ≡ user.held.buffers) user.id_is (buffers_of_session-place x.sessions w.entry_count user.place user.held rise user.here) in
     let within : list_all (λ b. contains b user.held.buffers) back ≡ true =
     subst (λ (bs : List ℕ). list_all (λ b. contains b bs) back ≡ true) own holds.0 in
     synced-at w.pool w.entry_count w.sessions w.ports x back port p.place a.held user n.ports_rise (rw (agree-ids w.ports x.ports h.ports_agree) n.ports_rise) rise p.here a.here a.agrees
-    (each-at HasRoom w.ports p.place port roomy.roomy p.here) (leb-true (length back) port.out limits.0) within holds.1 h
-
-held_sync : (s : Standing) (back : List ℕ) (id : ℕ) (found : Option Port) → open_port s.world.ports id ≡ found → Numbered s → Roomy s → Held s
-    → HeldNext (sync_step_at s back found)
-held_sync s back id None e n roomy h = tt
-held_sync s back id (Some port) e n roomy h = by_test (can_sync s back port) refl
-  where
-    by_test : (can : Bool) → can_sync s back port ≡ can → HeldNext (cond can (Some (sync_step s back port)) None)
-    by_test false t = tt
-    by_test true t = held_synced s back id port e t n roomy h
+    (each-at HasRoom w.ports p.place port roomy.roomy p.here) (leb-true (length back) port.out can.few) within holds.1 h
 
 -- Shut
 agrees-shut : (shuts : Bool) (port : Port) (held : PortBuffers) → PortAgrees port held → PortAgrees (changed_if shuts shut port) held
 agrees-shut true port held a = record { id = a.id; idle = a.idle; lots = a.lots }
 agrees-shut false port held a = a
 
-held_shut : (s : Standing) (port : Port) → Held s → HeldNext (Some (shut_step s port))
+held_shut : (s : Standing) (port : Port) → Held s → HeldNext (shut_step s port)
 held_shut s port h =
     let w = s.world in
     let ports = changed_at port.id shut w.ports in
@@ -582,7 +544,7 @@ left-nothing session ports b held none paid goes = by_test (held.session == sess
         let few = count_by-le-length (λ (y : ℕ). y == b) held.buffers in
         omega arith
 
-held_leave : (s : Standing) (session : ℕ) → CanLeave s.world session → Held s → HeldNext (Some (leave_step s session))
+held_leave : (s : Standing) (session : ℕ) → CanLeave s.world session → Held s → HeldNext (leave_step s session)
 held_leave s session can h =
     let w = s.world in
     let x = s.holdings in
@@ -601,27 +563,22 @@ held_leave s session can h =
           omega arith;
     }
 
-held_step : (s : Standing) (ask : Ask) → Numbered s → Roomy s → HasFree s → Held s → HeldNext (step s ask)
-held_step s (Enter user) n roomy free h = held_enter s n h
-held_step s (Open session name tx rx extra) n roomy free h =
-    held_open s session.0 name tx rx extra (is_session s.world session.0) (open_refusal s.world name tx rx extra) refl refl n roomy free h
-held_step s (Send port frames) n roomy free h = held_send s frames (open_port s.world.ports port.0) h
-held_step s (Grant origin to) n roomy free h = held_grant s to.0 (first_offer s.world origin) n roomy h
-held_step s (Done lease) n roomy free h = held_done s lease.0 (lease_at s.world.ports lease.0) h
-held_step s (Sync port back) n roomy free h = held_sync s back port.0 (open_port s.world.ports port.0) refl n roomy h
-held_step s (Shut port) n roomy free h = shut-by HeldNext s (open_port s.world.ports port.0) tt (λ at e. held_shut s at h)
-held_step s (Finish port bufs chain) n roomy free h =
-    finish-by HeldNext s bufs (shutting_port s.world.ports port.0) tt (λ at e can out. held_finished s bufs port.0 at e can n h)
-held_step s (Leave session) n roomy free h = leave-by HeldNext s session.0 tt (λ can. held_leave s session.0 can h)
-held_step s _ n roomy free h = tt
-
-held_after : (s : Standing) (e : Entry) (made : Option Outcome) → Held s → HeldNext made → Held (standing_after s e made)
-held_after s e None h next = h
-held_after s e (Some made) h next = next
+held_kinds : (s : Standing) → Numbered s → Roomy s → HasFree s → Held s → EachKind s (λ ask made. HeldNext made)
+held_kinds s n roomy free h = record {
+  enters = λ user. held_enter s n h;
+  quiet = λ ask session reply quiet. h;
+  opens = λ session name tx rx extra here refusal. held_opened s session.0 name tx rx extra here refusal n roomy free h;
+  sends = λ from frames port e can settled. h;
+  grants = λ origin to offer first same. held_grant s offer n roomy h;
+  completes = λ lease lot e. held_done s lease.0 lot h;
+  receives = λ ask at back port receives e can. held_synced s back at.0 port e can n roomy h;
+  shuts = λ at port e settled. held_shut s port h;
+  finishes = λ at bufs chain port e can out. held_finished s bufs at.0 port e can n h;
+  leaves = λ session can. held_leave s session.0 can h;
+}
 
 pub held_entry : (s : Standing) (e : Entry) → Numbered s → Roomy s → HasFree s → Held s → Held (after s e)
-held_entry s e n roomy free h =
-    held_after s e (recorded_step s e.ask e.reply) h (recorded-by HeldNext s e.ask e.reply tt (held_step s e.ask n roomy free h))
+held_entry s e n roomy free h = after-by s Held e h (held_kinds s n roomy free h)
 
 pub held_fresh : (pool : ℕ) → AreHeld pool [] [] (all_free pool)
 held_fresh pool = record {

@@ -7,6 +7,7 @@ pub mod Removals
 pub mod Closings
 pub mod Told
 pub mod Follows
+pub mod Tells
 pub mod Numbered
 pub mod Places
 pub mod PortAt

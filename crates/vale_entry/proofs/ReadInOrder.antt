@@ -5,20 +5,19 @@ use Rattle.std.specs.Prelude.{option_map}
 use Rattle.std.proofs.lemmas.Grind.{flat_map-append}
 use Rattle.std.proofs.lemmas.Bool.{eq-eqb, eqb-true, eqb-false, ne_eqb}
 use Rattle.nm_types.specs.Frames.{Frame}
-use Rattle.vale_entry.specs.declared.entry.Ask.{Ask}
-use Rattle.vale_entry.specs.declared.entry.Reply.{Reply}
 use Rattle.vale_entry.specs.declared.entry.Entry.{Entry}
 use Rattle.vale_entry.specs.World.{World, Port, Lot, Offer, open_port, changed_if, changed_at}
 use Rattle.vale_entry.specs.Grant.{first_offer, with_lot, port_after_grant, granted_frames}
 use Rattle.vale_entry.specs.Delivery.{frames_of_lot, lot_after_done, done_if, port_after_done, port_after_sync, ready_lots, is_done_lot, delivered_frames}
 use Rattle.vale_entry.specs.Closing.{shut, ports_without, unread_count}
-use Rattle.vale_entry.specs.Legal.{Standing, standing_of, world_of, IsLegal, Follows}
-use Rattle.vale_entry.specs.Delivered.{has_id, port_at, frames_at, frames_of_line, frames_of_granted, granted_of_offer, granted_by, granted_in, grants_to, given_frames, read_by, read_in, read_frames, unread_by, unread_in, unread_counts}
+use Rattle.vale_entry.specs.Legal.{Standing, standing_of, world_of, sync_step, IsLegal, Follows}
+use Rattle.vale_entry.specs.Delivered.{has_id, port_at, frames_at, frames_of_line, frames_of_granted, granted_of_offer, granted_in, grants_to, given_frames, read_in, read_frames, unread_in, unread_counts}
 use Rattle.vale_entry.specs.Opening.{opened_port}
 use Rattle.vale_entry.specs.DeliveryLaws.{IsReadInOrder, ReadIsPrefixOfGiven}
 use Rattle.vale_entry.proofs.Worlds.{standing-push}
 use Rattle.vale_entry.proofs.Told.{told-push, flat_map-push, history-by}
-use Rattle.vale_entry.proofs.Follows.{EachKind, follows-by}
+use Rattle.vale_entry.proofs.Follows.{EachKind, Left, follows-by}
+use Rattle.vale_entry.proofs.Tells.{tells-nothing, tells-received}
 use Rattle.vale_entry.proofs.ListLaws.{front-rest}
 use Rattle.vale_entry.proofs.Numbered.{Numbered, world-numbered}
 use Rattle.vale_entry.proofs.Queues.{Queue, queue-still, queue-grants, queue-syncs, queue-finishes}
@@ -56,9 +55,9 @@ line_frames port = frames_of_line port.line
 abbrev QueueAt : ℕ → World → List Frame → List Frame → List ℕ → Type 0
 QueueAt id w given read unread = Queue id w.entry_count (is_some (port_at w.ports id)) (frames_at line_frames (port_at w.ports id)) given read unread
 
-abbrev KeptQueue : ℕ → World → List Frame → List Frame → List ℕ → Ask → ℕ → Reply → World → Type 0
-KeptQueue id w given read unread ask session reply left =
-    QueueAt id left (given ++ flat_map frames_of_granted (granted_by id w ask)) (read ++ read_by id w ask) (unread ++ unread_by id ask reply)
+abbrev KeptQueue : ℕ → World → List Frame → List Frame → List ℕ → Entry → Standing → Type 0
+KeptQueue id w given read unread e left =
+    QueueAt id left.world (given ++ flat_map frames_of_granted (granted_in id w e)) (read ++ read_in id w e) (unread ++ unread_in id e)
 
 some_map : (change : Port → Port) (found : Option Port) → is_some (option_map change found) ≡ is_some found
 some_map change None = refl
@@ -215,17 +214,22 @@ module _ (s : Standing) (id : ℕ) (given read : List Frame) (unread : List ℕ)
       let same = port_at-without_other w.ports port.id id other in
       still _ (ap (λ (p : Option Port). is_some p) same) (ap (frames_at line_frames) same)
 
-  kinds : EachKind s (KeptQueue id w given read unread)
+  kinds : EachKind s (Left s (KeptQueue id w given read unread))
   kinds = record {
     enters = λ user. still _ refl refl;
-    refuses = λ session name tx rx extra fault. still _ refl refl;
-    opens = λ session name tx rx extra. opens_queue session.0 name tx rx extra _ (find-append (has_id id) w.ports (opened_port (w.entry_count + 1) session.0 name tx rx extra ∷ []));
-    sends = λ from frames port e settled. still _ refl refl;
+    quiet = λ ask session reply quiet.
+        let tells = tells-nothing s ask session reply quiet in
+        rw (tells.granted id, tells.read id, tells.unread id) (still _ refl refl);
+    opens = λ session name tx rx extra here refusal. opens_queue session.0 name tx rx extra _ (find-append (has_id id) w.ports (opened_port (w.entry_count + 1) session.0 name tx rx extra ∷ []));
+    sends = λ from frames port e can settled. still _ refl refl;
     grants = λ origin to offer first same. grants_queue offer to.0 (first_offer w origin) first same;
-    completes = λ lease lot. moved _ (port_after_done lease.0) (λ port. line-done lease.0 port.line) (port_at-map (port_after_done lease.0) (λ port. refl) w.ports id);
-    syncs = λ at back port e settled. syncs_queue at.0 back port (open_port w.ports at.0) e (found-open w.ports w.entry_count at.0 port n.ports_rise e) (at.0 == id) refl;
-    shuts = λ at port e. moved _ (λ (p : Port). changed_if (p.id == port.id) shut p) (λ p. frames_if (p.id == port.id) shut p refl) (port_at-changed port.id shut (λ p. refl) w.ports id);
-    finishes = λ at bufs chain port e.
+    completes = λ lease lot e. moved _ (port_after_done lease.0) (λ port. line-done lease.0 port.line) (port_at-map (port_after_done lease.0) (λ port. refl) w.ports id);
+    receives = λ ask at back port receives e can.
+        let tells = tells-received s ask at back (sync_step s back port) receives in
+        rw (tells.granted id, tells.read id, tells.unread id)
+        (syncs_queue at.0 back port (open_port w.ports at.0) e (found-open w.ports w.entry_count at.0 port n.ports_rise e) (at.0 == id) refl);
+    shuts = λ at port e settled. moved _ (λ (p : Port). changed_if (p.id == port.id) shut p) (λ p. frames_if (p.id == port.id) shut p refl) (port_at-changed port.id shut (λ p. refl) w.ports id);
+    finishes = λ at bufs chain port e can out.
         let place = found-shutting w.ports w.entry_count at.0 port n.ports_rise e in
         finishes_queue at.0 port place (port_at-below w.ports w.entry_count at.0 port n.ports_rise place) (at.0 == id) refl;
     leaves = λ session can. still _ refl refl;
@@ -234,9 +238,9 @@ module _ (s : Standing) (id : ℕ) (given read : List Frame) (unread : List ℕ)
 -- The law.
 
 given_frames-push : (pool : ℕ) (h : List Entry) (e : Entry) (id : ℕ)
-    → given_frames pool (h ++ e ∷ []) id ≡ given_frames pool h id ++ flat_map frames_of_granted (granted_by id (world_of pool h) e.ask)
+    → given_frames pool (h ++ e ∷ []) id ≡ given_frames pool h id ++ flat_map frames_of_granted (granted_in id (world_of pool h) e)
 given_frames-push pool h e id =
-    ap (flat_map frames_of_granted) (told-push (granted_in id) pool h e) ∙ flat_map-append frames_of_granted (grants_to pool h id) (granted_by id (world_of pool h) e.ask)
+    ap (flat_map frames_of_granted) (told-push (granted_in id) pool h e) ∙ flat_map-append frames_of_granted (grants_to pool h id) (granted_in id (world_of pool h) e)
 
 queue-is : (id : ℕ) (w v : World) (given gifts read got : List Frame) (unread counts : List ℕ) → w ≡ v → given ≡ gifts → read ≡ got → unread ≡ counts
     → QueueAt id v gifts got counts → QueueAt id w given read unread

@@ -4,8 +4,6 @@ use Rattle.std.specs.List.{AllByRecursion as Each}
 use Rattle.std.specs.Prelude.{option_map}
 use Rattle.std.proofs.lemmas.Bool.{eqb-true, eq-eqb, cases_eq}
 use Rattle.nm_types.specs.Frames.{Frame}
-use Rattle.vale_entry.specs.declared.entry.Ask.{Ask}
-use Rattle.vale_entry.specs.declared.entry.Reply.{Reply}
 use Rattle.vale_entry.specs.declared.entry.Entry.{Entry}
 use Rattle.vale_entry.specs.World.{World, Port, Offer, open_port, is_settled, changed_if, changed_at, transmit_monitor, receive_monitor}
 use Rattle.vale_entry.specs.Opening.{opened_port}
@@ -13,14 +11,15 @@ use Rattle.vale_entry.specs.Offers.{offers_of, wanted_frames, monitored_frames, 
 use Rattle.vale_entry.specs.Grant.{first_offer, without_first, port_after_grant, granted_frames}
 use Rattle.vale_entry.specs.Delivery.{delivered_frames, port_after_done, port_after_sync}
 use Rattle.vale_entry.specs.Closing.{shut, ports_without}
-use Rattle.vale_entry.specs.Legal.{Standing, standing_of, world_of, IsLegal, Follows, named_of}
+use Rattle.vale_entry.specs.Legal.{Standing, standing_of, world_of, sync_step, IsLegal, Follows, named_of}
 use Rattle.vale_entry.specs.Laws.{Rise, IsThere, IsFrom}
-use Rattle.vale_entry.specs.Delivered.{has_id, port_at, Granted, frames_of_granted, granted_of_offer, granted_by, granted_in, grants_to}
-use Rattle.vale_entry.specs.Fate.{wanted_at, is_offer_to, offers_at, Share, shares_at, is_granted_of, granted_at, given_prefix, is_sent_by, numbers_in, entries_of, is_among, origin_of, grants_between}
+use Rattle.vale_entry.specs.Delivered.{has_id, port_at, Granted, frames_of_granted, granted_of_offer, granted_in, grants_to}
+use Rattle.vale_entry.specs.Fate.{wanted_at, is_offer_to, offers_at, Share, shares_at, is_granted_of, granted_at, given_prefix, numbers_in, entries_of, is_among, origin_of, grants_between}
 use Rattle.vale_entry.specs.DeliveryLaws.{SenderOrderIsKept}
 use Rattle.vale_entry.proofs.Worlds.{standing-push, count-world_of}
 use Rattle.vale_entry.proofs.Told.{told-push, history-by}
-use Rattle.vale_entry.proofs.Follows.{EachKind, follows-by}
+use Rattle.vale_entry.proofs.Follows.{EachKind, Left, follows-by}
+use Rattle.vale_entry.proofs.Tells.{tells-nothing, tells-received}
 use Rattle.vale_entry.proofs.Closings.{settled-none}
 use Rattle.vale_entry.proofs.Each.{each-find, each-offers_of, each-without_first}
 use Rattle.vale_entry.proofs.PortAt.{first_of, find-append, port_at-map, port_at-changed, port_at-below, port_at-without, port_at-without_other, Found, found-open}
@@ -68,9 +67,9 @@ kept_open numbers None false new later e fresh port is = absurd (absurd_some (sy
     absurd_some : None ≡ Some port → ⊥
     absurd_some eq = absurd cc
 
-abbrev KeptOrder : ℕ → ℕ → World → List ℕ → List Granted → Ask → ℕ → Reply → World → Type 0
-KeptOrder id to w numbers granted ask session reply left =
-    Ordered id left.entry_count (port_at left.ports id) left.offers (numbers ++ cond (is_sent_by id ask) ((w.entry_count + 1) ∷ []) []) (granted ++ granted_by to w ask)
+abbrev KeptOrder : ℕ → ℕ → World → List ℕ → List Granted → Entry → Standing → Type 0
+KeptOrder id to w numbers granted e left =
+    Ordered id left.world.entry_count (port_at left.world.ports id) left.world.offers (numbers ++ numbers_in id w e) (granted ++ granted_in to w e)
 
 abbrev IsAlone : World → ℕ → List Granted → Type 0
 IsAlone w to granted = (number : ℕ) (offer : Offer) (less : List Offer) → offers_at w number to ≡ offer ∷ less → Each (λ (gift : Granted). (gift.origin == number) ≡ false) granted
@@ -157,21 +156,25 @@ module _ (s : Standing) (id to : ℕ) (numbers : List ℕ) (granted : List Grant
       same_map (λ (p : Port). changed_if (p.id == at) change p) (λ p. session_if (p.id == at) change p (sessions p)) (port_at w.ports id) (port_at (changed_at at change w.ports) id)
       (port_at-changed at change ids w.ports id)
 
-  kinds : EachKind s (KeptOrder id to w numbers granted)
+  kinds : EachKind s (Left s (KeptOrder id to w numbers granted))
   kinds = record {
     enters = λ user. same;
-    refuses = λ session name tx rx extra fault. same;
-    opens = λ session name tx rx extra. opens session.0 name tx rx extra _ (find-append (has_id id) w.ports (opened_port (w.entry_count + 1) session.0 name tx rx extra ∷ []));
-    sends = λ from frames port e settled. makes from.0 port (wanted_frames port (transmit_monitor w port.id) (named_of w port frames)) (port_at w.ports id) e settled (λ p is. (p, (is, refl))) (from.0 == id) refl;
+    quiet = λ ask session reply quiet.
+        let tells = tells-nothing s ask session reply quiet in
+        rw (tells.sent id, tells.granted to) same;
+    opens = λ session name tx rx extra here refusal. opens session.0 name tx rx extra _ (find-append (has_id id) w.ports (opened_port (w.entry_count + 1) session.0 name tx rx extra ∷ []));
+    sends = λ from frames port e can settled. makes from.0 port (wanted_frames port (transmit_monitor w port.id) (named_of w port frames)) (port_at w.ports id) e settled (λ p is. (p, (is, refl))) (from.0 == id) refl;
     grants = λ origin at offer first e.
         let mine = first-origin origin w.offers offer first in
         rw (sym e) (grants at.0 offer (first_offer w origin) _ first (subst (λ (m : ℕ). find (is_offer_of m) w.offers ≡ Some offer) (sym mine) first)
         (changed_same offer.to (port_after_grant (w.entry_count + 1) offer.session (granted_frames w offer)) (λ p. refl) (λ p. refl)) (offer.to == to) refl);
-    completes = λ lease lot. still _ (λ p is. inr (same_map (port_after_done lease.0) (λ p. refl) (port_at w.ports id) _ (port_at-map (port_after_done lease.0) (λ p. refl) w.ports id) p is));
-    syncs = λ at back port e settled. makes at.0 port (monitored_frames (receive_monitor w port.id) (delivered_frames port)) _ e settled
-        (changed_same port.id (port_after_sync (length back)) (λ p. refl) (λ p. refl)) (at.0 == id) refl;
-    shuts = λ at port e. still _ (λ p is. inr (changed_same port.id shut (λ p. refl) (λ p. refl) p is));
-    finishes = λ at bufs chain port e. finishes port.id;
+    completes = λ lease lot e. still _ (λ p is. inr (same_map (port_after_done lease.0) (λ p. refl) (port_at w.ports id) _ (port_at-map (port_after_done lease.0) (λ p. refl) w.ports id) p is));
+    receives = λ ask at back port receives e can.
+        let tells = tells-received s ask at back (sync_step s back port) receives in
+        rw (tells.sent id, tells.granted to) (makes at.0 port (monitored_frames (receive_monitor w port.id) (delivered_frames port)) _ e can.settled
+        (changed_same port.id (port_after_sync (length back)) (λ p. refl) (λ p. refl)) (at.0 == id) refl);
+    shuts = λ at port e settled. still _ (λ p is. inr (changed_same port.id shut (λ p. refl) (λ p. refl) p is));
+    finishes = λ at bufs chain port e can out. finishes port.id;
     leaves = λ session can. same;
   }
 
