@@ -18,6 +18,7 @@ use Rattle.vale_entry.proofs.Each.{each-weaker, each-changed_at}
 use Rattle.vale_entry.proofs.ListLaws.{place-of, each-at}
 use Rattle.vale_entry.proofs.Removals.{each-kept, each-filter, rise-filter, filter-at_key, sum-remove, there-filter}
 use Rattle.vale_entry.proofs.Rising.{rise-wider}
+use Rattle.vale_entry.proofs.Enabled.{has-enabled}
 use Rattle.vale_book.specs.Recorded.{Recorded, standing, entry_of, with_step, after_ask}
 use Rattle.vale.specs.declared.port.OwnPort.{OwnPort}
 use Rattle.vale.specs.Machine.{Machine, Task, ShutPort, FinishPort, Depart, shut_call, finish_call, closing_of, closing_tasks, is_named, resting, buffers_in}
@@ -32,6 +33,7 @@ use Rattle.vale.proofs.Sending.{settled-all}
 use Rattle.vale.proofs.Settlements.{standing-step, after-made, any-none}
 use Rattle.vale.proofs.Tasks.{task-runs, task-nothing, does-then, does-step, step-longer, theirs-same, no-port}
 use Rattle.vale.proofs.Turns.{runs-then, grown-longer}
+use Rattle.vale.proofs.Changing.{has-kept}
 
 -- What is left of the ports where one is closed.
 
@@ -59,20 +61,8 @@ open-elsewhere (port ∷ ports) id wanted apart = by_head (port.id == id) refl (
     by_head false t rest = rw t (ap (λ (o : Option Port). cond ((port.id == wanted) && not port.shutting) (Some port) o) rest)
 
 has-elsewhere : (ports : List Port) (id session : ℕ) (own : OwnPort) → (own.id.0 ≡ id → ⊥) → HasPort ports session own → HasPort (ports_closed id ports) session own
-has-elsewhere ports id session own apart h = record {
-  port = h.port;
-  there = open-elsewhere ports id own.id.0 apart ∙ h.there;
-  session_is = h.session_is;
-  name_is = h.name_is;
-  out_is = h.out_is;
-  tx_is = h.tx_is;
-  no_extra = h.no_extra;
-  on_switch = h.on_switch;
-  least = h.least;
-  most = h.most;
-  few = h.few;
-  short = h.short;
-}
+has-elsewhere ports id session own apart h =
+    has-kept ports (ports_closed id ports) session own h (open-elsewhere ports id own.id.0 apart ∙ h.there)
 
 only-shut : (id : ℕ) (ports : List Port) (session : ℕ) (owns : List OwnPort) → Each (IsAmong session owns) ports → Each (IsAmong session owns) (changed_at id shut ports)
 only-shut id ports session owns all = only-kept (λ (p : Port). changed_if (p.id == id) shut p) (λ p. shut-id (p.id == id) p) (λ p. shut-session (p.id == id) p) ports session owns all
@@ -344,7 +334,7 @@ leave-made s session settled owns = rw (owns.is_in, none-left s.world.ports sess
 pub leave-enabled : (b : Recorded) (user : Machine) (session : SessionId) → AllSettled (standing b).world → Owns (standing b) user → user.session ≡ Some session → user.ports ≡ [] → IsEnabled (standing b) (Leave session)
 leave-enabled b user session settled owns is none =
     let all : OwnsAll (standing b) session.0 [] = subst (OwnsAll (standing b) session.0) none (subst (λ (o : Option SessionId). OwnsBy (standing b) o user.ports) is owns) in
-    rw (leave-made (standing b) session settled all) refl
+    has-enabled (standing b) (Leave session) (rw (leave-made (standing b) session settled all) refl)
 
 abbrev left_standing : Standing → SessionId → Standing
 left_standing s session = standing_with s (entry_of (Leave session) (leave_step s session.0)) (leave_step s session.0).next

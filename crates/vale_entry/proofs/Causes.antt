@@ -13,7 +13,7 @@ use Rattle.vale_entry.specs.Fate.{wanted_at, is_offer_to, offers_at, share_of, s
 use Rattle.vale_entry.specs.DeliveryLaws.{HasCause, FramesAreDroppedForCause}
 use Rattle.vale_entry.proofs.Roomy.{longest_fitting-size}
 use Rattle.vale_entry.proofs.Follows.{EachKind, Left, follows-by}
-use Rattle.vale_entry.proofs.Tells.{tells-nothing, tells-received}
+use Rattle.vale_entry.proofs.Tells.{tells-nothing, tells-received, tells-put}
 use Rattle.vale_entry.proofs.Shares.{fitting-front}
 use Rattle.vale_entry.proofs.Offered.{first-origin, offers-granted}
 use Rattle.vale_entry.proofs.SharedOnce.{share_at, share_of-reply, history-account}
@@ -95,15 +95,17 @@ module _ (s : Standing) (number to : ℕ) (wanted : List Frame) (offered : Each 
 
   causes : EachKind s (Left s (Caused number to w wanted))
   causes = record {
-    enters = λ user. tt;
+    enters = λ user fits. tt;
     quiet = λ ask session reply quiet. rw ((tells-nothing s ask session reply quiet).shares number to) tt;
-    opens = λ session name tx rx extra here refusal. tt;
+    opens = λ session name tx rx extra can refusal. tt;
     sends = λ from frames port e can settled. tt;
     grants = λ origin at offer first same. shared origin at.0 offer first same ((origin == number) && (at.0 == to)) refl;
     completes = λ lease lot e. tt;
     receives = λ ask at back port receives e can. rw ((tells-received s ask at back (sync_step s back port) receives).shares number to) tt;
+    puts = λ at offered items port peer e can found. tt;
+    watches = λ at target sides port found e can there none. tt;
     shuts = λ at port e settled. tt;
-    finishes = λ at bufs chain port e can out. tt;
+    finishes = λ at bufs chain port fits e can out. tt;
     leaves = λ session can. tt;
   }
 

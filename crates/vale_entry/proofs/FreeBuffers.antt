@@ -11,9 +11,11 @@ use Rattle.vale_entry.specs.Grant.{granted_frames, port_after_grant}
 use Rattle.vale_entry.specs.Delivery.{port_after_done, port_after_sync}
 use Rattle.vale_entry.specs.Closing.{shut, shutting_port}
 use Rattle.vale_entry.specs.Holdings.{buffers_of_port, buffers_at_port, is_buffer_index, holds_all}
-use Rattle.vale_entry.specs.Legal.{Standing, Outcome, after, open_step_by, grant_step, sync_step, shut_step, can_finish, finish_step}
+use Rattle.vale_entry.specs.Legal.{Standing, Outcome, after, open_step_by, grant_step, sync_step, shut_step, can_finish, finish_step, done_step, put_step}
 use Rattle.vale_entry.specs.Laws.{Rise, AreFree, HasRoom, id_of_held}
-use Rattle.vale_entry.proofs.Follows.{EachKind, after-by, done_step}
+use Rattle.vale_entry.specs.Pipe.{frames_of_items, port_after_put}
+use Rattle.vale_entry.specs.declared.entry.Item.{Item}
+use Rattle.vale_entry.proofs.Follows.{EachKind, after-by}
 use Rattle.vale_entry.proofs.ListLaws.{each-at, sum-map_same}
 use Rattle.vale_entry.proofs.Each.{sum-changed_at}
 use Rattle.vale_entry.proofs.Rising.{rise-drop, rise-range}
@@ -59,6 +61,12 @@ free_sync s back port f = record {
   count = rw (sum-changed_at buffers_of port.id (port_after_sync (length back)) (λ p. refl) s.world.ports) f.count;
 }
 
+free_put : (s : Standing) (items : List Item) (port peer : Port) → HasFree s → HasFreeNext (put_step s items port peer)
+free_put s items port peer f = record {
+  rise = f.rise;
+  count = rw (sum-changed_at buffers_of peer.id (port_after_put (s.world.entry_count + 1) port.session (frames_of_items items)) (λ p. refl) s.world.ports) f.count;
+}
+
 free_shut : (s : Standing) (port : Port) → HasFree s → HasFreeNext (shut_step s port)
 free_shut s port f = record {
   rise = f.rise;
@@ -100,15 +108,17 @@ free_finish s bufs id port e can n roomy h f =
 
 free_kinds : (s : Standing) → Numbered s → Roomy s → Held s → HasFree s → EachKind s (λ ask made. HasFreeNext made)
 free_kinds s n roomy h f = record {
-  enters = λ user. f;
+  enters = λ user fits. f;
   quiet = λ ask session reply quiet. f;
-  opens = λ session name tx rx extra here refusal. free_open s session.0 name tx rx extra refusal roomy f;
+  opens = λ session name tx rx extra can refusal. free_open s session.0 name tx rx extra refusal roomy f;
   sends = λ from frames port e can settled. f;
   grants = λ origin to offer first same. free_grant s offer f;
   completes = λ lease lot e. free_done s lease.0 lot f;
   receives = λ ask at back port receives e can. free_sync s back port f;
+  puts = λ at offered items port peer e can found. free_put s items port peer f;
+  watches = λ at target sides port found e can there none. f;
   shuts = λ at port e settled. free_shut s port f;
-  finishes = λ at bufs chain port e can out. free_finish s bufs at.0 port e can n roomy h f;
+  finishes = λ at bufs chain port fits e can out. free_finish s bufs at.0 port e can n roomy h f;
   leaves = λ session can. f;
 }
 

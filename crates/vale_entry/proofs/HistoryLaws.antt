@@ -6,7 +6,7 @@ use Rattle.vale_entry.specs.declared.entry.Entry.{Entry}
 use Rattle.vale_entry.specs.World.{Port, size_of_line, space_of, due_of, buffers_of}
 use Rattle.vale_entry.specs.Holdings.{IsParted}
 use Rattle.vale_entry.specs.Legal.{Standing, after, standing_of, world_of, holdings_of, fresh_standing, IsLegal, Follows}
-use Rattle.vale_entry.specs.Laws.{Rise, IsFilled, HasRoom, AreNumbered, IsPromised, NumbersRise, PortsAreWithinSizes, FreeBuffersRise, BuffersAreParted, HoldingsAgree, SessionsHaveOneUnsettled, RoomIsPromised, RoomIsUsed}
+use Rattle.vale_entry.specs.Laws.{Rise, IsFilled, HasRoom, AreNumbered, IsPromised, NumbersRise, PortsAreWithinSizes, FreeBuffersRise, BuffersAreParted, HoldingsAgree, SessionsHaveOneUnsettled, WatchesAreOpen, LotsAreSingle, RoomIsPromised, RoomIsUsed}
 use Rattle.vale_entry.proofs.Worlds.{standing-push, count-world_of}
 use Rattle.vale_entry.proofs.Steps.{legal-by}
 use Rattle.vale_entry.proofs.Follows.{EachKind, after-by}
@@ -19,20 +19,23 @@ use Rattle.vale_entry.proofs.Holding.{Held, HasFree}
 use Rattle.vale_entry.proofs.Held.{held_entry, held_fresh, held-parted, held-agrees}
 use Rattle.vale_entry.proofs.OneEntry.{OneEntry, one_entry}
 use Rattle.vale_entry.proofs.SingleLots.{Single, single_entry}
+use Rattle.vale_entry.proofs.Watched.{Watched, watched_entry}
 use Rattle.vale_entry.proofs.Promised.{promised_entry}
 
 -- no entry changes the pool
 pool_kinds : (s : Standing) → EachKind s (λ ask made. made.next.world.pool ≡ s.world.pool)
 pool_kinds s = record {
-  enters = λ user. refl;
+  enters = λ user fits. refl;
   quiet = λ ask session reply quiet. refl;
-  opens = λ session name tx rx extra here refusal. refl;
+  opens = λ session name tx rx extra can refusal. refl;
   sends = λ from frames port e can settled. refl;
   grants = λ origin to offer first same. refl;
   completes = λ lease lot e. refl;
   receives = λ ask at back port receives e can. refl;
+  puts = λ at offered items port peer e can found. refl;
+  watches = λ at target sides port found e can there none. refl;
   shuts = λ at port e settled. refl;
-  finishes = λ at bufs chain port e can out. refl;
+  finishes = λ at bufs chain port fits e can out. refl;
   leaves = λ session can. refl;
 }
 
@@ -48,6 +51,7 @@ pub record Stands (pool : ℕ) (s : Standing) : Type 0 where
   pub held : Held s
   pub one : OneEntry s
   pub single : Single s
+  pub watched : Watched s
 
 stands_entry : (pool : ℕ) (s : Standing) (e : Entry) → Stands pool s → Follows s e → Stands pool (after s e)
 stands_entry pool s e k follows = record {
@@ -58,6 +62,7 @@ stands_entry pool s e k follows = record {
   held = held_entry s e k.numbered k.roomy k.free k.held;
   one = one_entry s e k.one;
   single = single_entry s e k.numbered k.single;
+  watched = watched_entry s e k.numbered k.watched;
 }
 
 stands_fresh : (pool : ℕ) → Stands pool (fresh_standing pool)
@@ -69,6 +74,7 @@ stands_fresh pool = record {
   held = held_fresh pool;
   one = λ session. (0, tt);
   single = λ number. omega arith;
+  watched = record { each = tt; once = λ target. omega arith };
 }
 
 pub history-stands : (pool : ℕ) (h : List Entry) → IsLegal pool h → Stands pool (standing_of pool h)
@@ -125,15 +131,21 @@ holdings-agree pool h legal = held-agrees (world_of pool h) (holdings_of pool h)
 pub sessions-one_unsettled : SessionsHaveOneUnsettled
 sessions-one_unsettled pool h legal = (history-stands pool h legal).one
 
+pub watches-open : WatchesAreOpen
+watches-open pool h legal = (history-stands pool h legal).watched
+
+pub lots-single : LotsAreSingle
+lots-single pool h legal = (history-stands pool h legal).single
+
 pub room-promised : RoomIsPromised
-room-promised pool h e legal follows =
+room-promised pool h e made legal follows is =
     let k = history-stands pool h legal in
-    subst (λ (s : Standing). IsPromised (world_of pool h) s.world e.ask e.reply) (sym (standing-push pool h e)) (promised_entry (standing_of pool h) e k.numbered k.single follows)
+    subst (λ (s : Standing). IsPromised (world_of pool h) s.world made) (sym (standing-push pool h e)) (promised_entry (standing_of pool h) e made k.numbered k.single is)
 
 pub room-used : RoomIsUsed
-room-used pool h e legal follows =
-    let step = room-promised pool h e legal follows in
+room-used pool h e made legal follows is =
+    let step = room-promised pool h e made legal follows is in
     let size = length-append h (e ∷ []) in
-    omega arith
+    omega (arith, step, size)
 
-pub ruleset history_laws = (numbers-rise, ports-within, free-rises, buffers-parted, holdings-agree, sessions-one_unsettled, room-promised, room-used)
+pub ruleset history_laws = (numbers-rise, ports-within, free-rises, buffers-parted, holdings-agree, sessions-one_unsettled, watches-open, lots-single, room-promised, room-used)

@@ -5,6 +5,9 @@ pub mod Each
 pub mod Rising
 pub mod Removals
 pub mod Closings
+pub mod Enabled
+pub mod Wants
+pub mod KeptPuts
 pub mod Told
 pub mod Follows
 pub mod Tells
@@ -14,6 +17,9 @@ pub mod PortAt
 pub mod Queues
 pub mod ReadInOrder
 pub mod Shares
+pub mod Watched
+pub mod Puts
+pub mod OutCounted
 pub mod Offered
 pub mod SharedOnce
 pub mod GivenOnly
@@ -35,10 +41,6 @@ pub mod SingleLots
 pub mod Promised
 pub mod HistoryLaws
 pub mod HistoryPlaces
-pub mod Cuts
-pub mod Numerals
-pub mod NameWords
-pub mod Lines
-pub mod Transcripts
+pub mod ItemBytes
 pub mod Printable
 pub mod DeliveryLaws

@@ -11,10 +11,12 @@ use Rattle.vale_entry.specs.Offers.{offers_of}
 use Rattle.vale_entry.specs.Grant.{with_lot, port_after_grant, granted_frames}
 use Rattle.vale_entry.specs.Delivery.{port_after_done, lot_after_done, done_if, port_after_sync, ready_lots}
 use Rattle.vale_entry.specs.Closing.{shut, sessions_without}
-use Rattle.vale_entry.specs.Legal.{Standing, Outcome, after, world_of, fresh_standing, enter_step, open_step_by, send_step, grant_step, sync_step, shut_step, finish_step, leave_step}
+use Rattle.vale_entry.specs.Legal.{Standing, Outcome, after, world_of, fresh_standing, enter_step, open_step_by, send_step, grant_step, sync_step, shut_step, finish_step, leave_step, done_step, put_step}
 use Rattle.vale_entry.specs.Laws.{id_of_port, IsThere, HasLotsUpTo, AreNumbered, IsNumbered, IsPortOf, IsOfferOf, IsFrom, IsGrantedBy}
+use Rattle.vale_entry.specs.Pipe.{frames_of_items, port_after_put}
+use Rattle.vale_entry.specs.declared.entry.Item.{Item}
 use Rattle.vale_entry.proofs.Steps.{standing-by}
-use Rattle.vale_entry.proofs.Follows.{EachKind, after-by, done_step}
+use Rattle.vale_entry.proofs.Follows.{EachKind, after-by}
 use Rattle.vale_entry.proofs.Rising.{rise-wider, rise-push}
 use Rattle.vale_entry.proofs.Removals.{each-filter, rise-filter, rise-kept, there-filter}
 use Rattle.vale_entry.proofs.Closings.{CanLeave}
@@ -100,10 +102,10 @@ numbered_send s frames id port e n =
     offers-later s.world port.session _ n owned
 
 -- a port with one lot more, of the entry's number
-lots-with_lot : (count session : ℕ) (frames : List Frame) (line : List Lot) → Each (IsGrantedBy count) line
-    → Each (IsGrantedBy count) (with_lot count session frames line)
-lots-with_lot count session [] line all = all
-lots-with_lot count session (frame ∷ frames) line all =
+lots-with_lot : (count session : ℕ) (done : Bool) (frames : List Frame) (line : List Lot) → Each (IsGrantedBy count) line
+    → Each (IsGrantedBy count) (with_lot count session done frames line)
+lots-with_lot count session done [] line all = all
+lots-with_lot count session done (frame ∷ frames) line all =
     each-append (IsGrantedBy count) line _ all (le_refl count, tt)
 
 numbered_grant : (s : Standing) (offer : Offer) → Numbered s → NumberedNext s (grant_step s offer)
@@ -116,7 +118,7 @@ numbered_grant s offer n =
       ports_rise = rw (map-changed_at id_of_port offer.to change (λ port. refl) w.ports) m.ports_rise;
       ports_owned = each-changed_at (IsPortOf w.sessions) (IsPortOf w.sessions) offer.to change (λ port here. here) (λ port here. here) w.ports m.ports_owned;
       lots_within = each-changed_at (HasLotsUpTo (w.entry_count + 1)) (HasLotsUpTo (w.entry_count + 1)) offer.to change (λ port here. here)
-          (λ port here. lots-with_lot (w.entry_count + 1) offer.session (granted_frames w offer) port.line here) w.ports m.lots_within;
+          (λ port here. lots-with_lot (w.entry_count + 1) offer.session false (granted_frames w offer) port.line here) w.ports m.lots_within;
       offers_within = each-without_first (IsFrom (w.entry_count + 1)) offer.origin w.offers m.offers_within;
       offers_owned = each-without_first (IsOfferOf w.sessions) offer.origin w.offers m.offers_owned;
     }
@@ -157,6 +159,23 @@ numbered_sync s back id port e n =
       ports_owned = each-changed_at (IsPortOf w.sessions) (IsPortOf w.sessions) port.id change (λ p here. here) (λ p here. here) w.ports m.ports_owned;
       lots_within = each-changed_at (HasLotsUpTo (w.entry_count + 1)) (HasLotsUpTo (w.entry_count + 1)) port.id change (λ p here. here)
           (λ p here. each-drop (IsGrantedBy (w.entry_count + 1)) (length (ready_lots p)) p.line here) w.ports m.lots_within;
+      offers_within = m.offers_within;
+      offers_owned = m.offers_owned;
+    }
+
+numbered_put : (s : Standing) (id : ℕ) (items : List Item) (port peer : Port) → open_port s.world.ports id ≡ Some port → Numbered s → NumberedNext s (put_step s items port peer)
+numbered_put s id items port peer e n =
+    let w = s.world in
+    let owned : IsThere w.sessions port.session = each-find (IsPortOf w.sessions) (is_open_at id) w.ports port n.ports_owned e in
+    let m = offers-later w port.session _ n owned in
+    let frames = frames_of_items items in
+    let change = port_after_put (w.entry_count + 1) port.session frames in
+    record {
+      sessions_rise = m.sessions_rise;
+      ports_rise = rw (map-changed_at id_of_port peer.id change (λ p. refl) w.ports) m.ports_rise;
+      ports_owned = each-changed_at (IsPortOf w.sessions) (IsPortOf w.sessions) peer.id change (λ p here. here) (λ p here. here) w.ports m.ports_owned;
+      lots_within = each-changed_at (HasLotsUpTo (w.entry_count + 1)) (HasLotsUpTo (w.entry_count + 1)) peer.id change (λ p here. here)
+          (λ p here. lots-with_lot (w.entry_count + 1) port.session true frames p.line here) w.ports m.lots_within;
       offers_within = m.offers_within;
       offers_owned = m.offers_owned;
     }
@@ -206,15 +225,17 @@ numbered_leave s session can n =
 
 numbered_kinds : (s : Standing) → Numbered s → EachKind s (λ ask made. NumberedNext s made)
 numbered_kinds s n = record {
-  enters = λ user. numbered_enter s n;
+  enters = λ user fits. numbered_enter s n;
   quiet = λ ask session reply quiet. numbered-later s.world.entry_count s.world.sessions s.world.ports s.world.offers n;
-  opens = λ session name tx rx extra here refusal. numbered_open s session.0 name tx rx extra here n;
+  opens = λ session name tx rx extra can refusal. numbered_open s session.0 name tx rx extra can.here n;
   sends = λ from frames port e can settled. numbered_send s frames from.0 port e n;
   grants = λ origin to offer first same. numbered_grant s offer n;
   completes = λ lease lot e. numbered_done s lease.0 lot n;
   receives = λ ask at back port receives e can. numbered_sync s back at.0 port e n;
+  puts = λ at offered items port peer e can found. numbered_put s at.0 items port peer e n;
+  watches = λ at target sides port found e can there none. numbered-later s.world.entry_count s.world.sessions s.world.ports s.world.offers n;
   shuts = λ at port e settled. numbered_shut s port n;
-  finishes = λ at bufs chain port e can out. numbered_finish s bufs port n;
+  finishes = λ at bufs chain port fits e can out. numbered_finish s bufs port n;
   leaves = λ session can. numbered_leave s session.0 can n;
 }
 

@@ -41,16 +41,18 @@ one-more w origin owner wanted settled one session = by_session (cases_eq owner 
 
 one_kinds : (s : Standing) → OneEntry s → EachKind s (λ ask made. OneEntryNext made)
 one_kinds s one = record {
-  enters = λ user. one;
+  enters = λ user fits. one;
   quiet = λ ask session reply quiet. one;
-  opens = λ session name tx rx extra here refusal. one;
+  opens = λ session name tx rx extra can refusal. one;
   sends = λ from frames port e can settled. one-more s.world (s.world.entry_count + 1) port.session _ settled one;
   grants = λ origin to offer first same session.
       ((one session).0, each-without_first (λ (o : Offer). o.session ≡ session → o.origin ≡ (one session).0) offer.origin s.world.offers (one session).1);
   completes = λ lease lot e. one;
   receives = λ ask at back port receives e can. one-more s.world (s.world.entry_count + 1) port.session _ can.settled one;
+  puts = λ at offered items port peer e can found. one-more s.world (s.world.entry_count + 1) port.session _ can.settled one;
+  watches = λ at target sides port found e can there none. one;
   shuts = λ at port e settled. one;
-  finishes = λ at bufs chain port e can out. one;
+  finishes = λ at bufs chain port fits e can out. one;
   leaves = λ session can. one;
 }
 

@@ -1,10 +1,10 @@
 -- Each entry of a legal history is printable at its number.
-use Rattle.std.specs.List.{AllByRecursion as Each, cons_option}
+use Rattle.std.specs.List.{AllByRecursion as Each, cons_option, list_all}
 use Rattle.std.proofs.Common.{ℕ, ◌+◌, ◌<◌, ◌≡◌, ◌==◌, ◌&&◌, not, Bool, true, false, cond, nat_lt, List, [], ◌∷◌, map, length, IsTrue, Option, Some, None, refl, subst, arith}
 use Rattle.std.specs.List.{list_any}
-use Rattle.std.proofs.lemmas.Bool.{eq-eqb, lt-ltb}
+use Rattle.std.proofs.lemmas.Bool.{eq-eqb, lt-ltb, and_parts}
 use Rattle.nm_types.specs.Frames.{Frame}
-use Rattle.nm_types.specs.Names.{is_name, IsName}
+use Rattle.nm_types.specs.Names.{is_name, IsName, is_monitor_name}
 use Rattle.nm_types.specs.declared.fault.OpenFault.{OpenFault}
 use Rattle.nm_types.specs.declared.fault.OpenFault.TheVariants.{BadSize, SwitchesFull, PortsFull, NameTaken, NoBuffers}
 use Rattle.nm_types.specs.declared.id.SessionId.{SessionId}
@@ -20,11 +20,16 @@ use Rattle.vale_entry.specs.Offers.{offers_of, offer_to, dests_of, wanted_frames
 use Rattle.vale_entry.specs.Opening.{are_sizes, finds_switches_full, finds_ports_full, has_name, name_refusal, refusal_or_room, open_refusal}
 use Rattle.vale_entry.specs.Grant.{grant_reply_at}
 use Rattle.vale_entry.specs.Delivery.{delivered_frames}
-use Rattle.vale_entry.specs.Legal.{Standing, Outcome, recorded_step, after, fresh_standing, named_of, offers_of_sync, IsLegalFrom, Follows}
-use Rattle.vale_entry.specs.Transcript.{dests_rise, is_refusal, is_printable, IsPrintable}
-use Rattle.vale_entry.specs.Laws.{Rise, id_of_port, IsNumbered, ArePrintable, IsNamedAsk, IsNamedEntry, LegalHistoriesArePrintable}
+use Rattle.nm_types.specs.SyncFaults.{is_check_fault}
+use Rattle.vale_entry.specs.Legal.{Standing, Outcome, recorded_step, after, fresh_standing, named_of, offers_of_sync, IsLegalFrom, Follows, has_ring, fits_fault, offers_of_put}
+use Rattle.vale_entry.specs.Transcript.{dests_rise, is_refusal, is_printable, IsPrintable, is_unmarked}
+use Rattle.vale_entry.specs.Laws.{Rise, id_of_port, IsNumbered, ArePrintable, LegalHistoriesArePrintable}
+use Rattle.vale_entry.specs.Monitors.{can_watch}
+use Rattle.vale_entry.specs.Pipe.{frames_of_items, is_pipe_item}
+use Rattle.vale_entry.specs.declared.entry.Item.{Item}
+use Rattle.nm_types.specs.Sendable.{fits_buffer}
 use Rattle.vale_entry.proofs.Rising.{rise-wider}
-use Rattle.vale_entry.proofs.Follows.{EachKind, Receives, by_sync, IsQuiet, refused_open, follows-by}
+use Rattle.vale_entry.proofs.Follows.{EachKind, Receives, by_sync, by_get, IsQuiet, refused_open, resets, finds_no_peer, finds_no_target, finds_watched, counts, follows-by}
 use Rattle.vale_entry.proofs.Worlds.{count-standing_after}
 use Rattle.vale_entry.proofs.Numbered.{Numbered, numbered_entry, world-numbered}
 
@@ -100,45 +105,69 @@ printed-refused w asked name tx rx extra fault e named =
     (name-refusal-well (are_sizes name tx rx extra) (finds_switches_full w.ports name) (finds_ports_full w.ports name) (list_any (has_name name) w.ports)) in
     both (asked.0 == asked.0) (is_name name && is_refusal fault) (eq-eqb asked.0 asked.0 refl) (both (is_name name) (is_refusal fault) named (subst IsRefusedWell e well))
 
-printed-quiet : (s : Standing) (n : ℕ) (ask : Ask) (session : ℕ) (reply : Reply) → IsQuiet s ask session reply → IsNamedAsk ask → IsTrue (is_printable n session ask reply)
-printed-quiet s n _ _ _ (refused_open session name tx rx extra fault here e) named = printed-refused s.world session name tx rx extra fault e named
+watch-named : (target : List ℕ) (port : Port) → can_watch target port ≡ true → is_name target ≡ true
+watch-named target port can =
+    let parts = and_parts (is_monitor_name port.name) (is_name target && not (is_monitor_name target)) can in
+    (and_parts (is_name target) (not (is_monitor_name target)) parts.1).0
+
+printed-quiet : (s : Standing) (n : ℕ) (ask : Ask) (session : ℕ) (reply : Reply) → IsQuiet s ask session reply → IsTrue (is_printable n session ask reply)
+printed-quiet s n _ _ _ (refused_open session name tx rx extra fault can e) = printed-refused s.world session name tx rx extra fault e can.named
+printed-quiet s n _ _ _ (resets at side fault port e can) =
+    (and_parts (is_check_fault fault) (fits_fault fault) (and_parts (has_ring side port) (is_check_fault fault && fits_fault fault) can).1).0
+printed-quiet s n _ _ _ (finds_no_peer at offered port e few gone) = refl
+printed-quiet s n _ _ _ (finds_no_target at target sides port e can none) = watch-named target port can
+printed-quiet s n _ _ _ (finds_watched at target sides port found watch e can there some) = watch-named target port can
+printed-quiet s n _ _ _ (counts at port e) = refl
+
+-- frames that were taken bear no mark
+unmarked : (items : List Item) → list_all is_pipe_item items ≡ true → list_all is_unmarked items ≡ true
+unmarked [] e = refl
+unmarked (item ∷ items) e =
+    let parts = and_parts (is_pipe_item item) (list_all is_pipe_item items) e in
+    let here = and_parts (fits_buffer item.bytes) (not item.bytes.no_learn) parts.0 in
+    both (is_unmarked item) (list_all is_unmarked items) here.1 (unmarked items parts.1)
 
 printed-received : (n session : ℕ) (ask : Ask) (at : PortId) (back : List ℕ) (count : ℕ) (to : List Dest) → Receives ask at back → dests_rise to ≡ true
     → IsTrue (is_printable n session ask (Gave count to))
 printed-received n session _ _ _ count to (by_sync at back) rise = rise
+printed-received n session _ _ _ count to (by_get at back) rise = rise
 
 abbrev Printed : Standing → Ask → Outcome → Type 0
-Printed s ask made = IsNamedAsk ask → IsTrue (is_printable (s.world.entry_count + 1) made.session ask made.reply)
+Printed s ask made = IsTrue (is_printable (s.world.entry_count + 1) made.session ask made.reply)
 
 printed-kinds : (s : Standing) → Numbered s → EachKind s (Printed s)
 printed-kinds s numbered = record {
-  enters = λ user named. eq-eqb (s.world.entry_count + 1) (s.world.entry_count + 1) refl;
-  quiet = λ ask session reply quiet named. printed-quiet s (s.world.entry_count + 1) ask session reply quiet named;
-  opens = λ session name tx rx extra here refusal named. printed-open session name named;
-  sends = λ from frames port e can settled named. offered-rise s.world port.session (wanted_frames port (transmit_monitor s.world port.id) (named_of s.world port frames)) numbered;
-  grants = λ origin to offer first same named. printed-grant (open_port s.world.ports offer.to) offer.frames (s.world.entry_count + 1) offer.session origin to;
-  completes = λ lease lot e named. refl;
-  receives = λ ask at back port receives e can named.
+  enters = λ user fits. eq-eqb (s.world.entry_count + 1) (s.world.entry_count + 1) refl;
+  quiet = λ ask session reply quiet. printed-quiet s (s.world.entry_count + 1) ask session reply quiet;
+  opens = λ session name tx rx extra can refusal. printed-open session name can.named;
+  sends = λ from frames port e can settled. offered-rise s.world port.session (wanted_frames port (transmit_monitor s.world port.id) (named_of s.world port frames)) numbered;
+  grants = λ origin to offer first same. printed-grant (open_port s.world.ports offer.to) offer.frames (s.world.entry_count + 1) offer.session origin to;
+  completes = λ lease lot e. refl;
+  receives = λ ask at back port receives e can.
       printed-received (s.world.entry_count + 1) port.session ask at back (length (delivered_frames port)) (dests_of (offers_of_sync s.world port)) receives
       (offered-rise s.world port.session (monitored_frames (receive_monitor s.world port.id) (delivered_frames port)) numbered);
-  shuts = λ at port e settled named. refl;
-  finishes = λ at bufs chain port e can out named. refl;
-  leaves = λ session can named. eq-eqb session.0 session.0 refl;
+  puts = λ at offered items port peer e can found.
+      both (list_all is_unmarked items) (dests_rise (dests_of (offers_of_put s.world port (frames_of_items items)))) (unmarked items can.sound)
+      (offered-rise s.world port.session (monitored_frames (transmit_monitor s.world port.id) (frames_of_items items)) numbered);
+  watches = λ at target sides port found e can there none. watch-named target port can;
+  shuts = λ at port e settled. refl;
+  finishes = λ at bufs chain port fits e can out. refl;
+  leaves = λ session can. eq-eqb session.0 session.0 refl;
 }
 
 abbrev IsPrinted : ℕ → Entry → Standing → Type 0
-IsPrinted n e left = IsNamedAsk e.ask → IsPrintable n e
+IsPrinted n e left = IsPrintable n e
 
-printed-entry : (s : Standing) (n : ℕ) (e : Entry) → s.world.entry_count + 1 ≡ n → Numbered s → IsNamedEntry e → Follows s e → IsPrintable n e
-printed-entry s n e is numbered named follows =
-    subst (λ (k : ℕ). IsPrintable k e) is (follows-by s (IsPrinted (s.world.entry_count + 1)) e follows (printed-kinds s numbered) named)
+printed-entry : (s : Standing) (n : ℕ) (e : Entry) → s.world.entry_count + 1 ≡ n → Numbered s → Follows s e → IsPrintable n e
+printed-entry s n e is numbered follows =
+    subst (λ (k : ℕ). IsPrintable k e) is (follows-by s (IsPrinted (s.world.entry_count + 1)) e follows (printed-kinds s numbered))
 
-printed-from : (s : Standing) (n : ℕ) (h : List Entry) → s.world.entry_count + 1 ≡ n → Numbered s → IsLegalFrom s h → Each IsNamedEntry h → ArePrintable n h
-printed-from s n [] is numbered legal named = tt
-printed-from s n (e ∷ es) is numbered legal named =
+printed-from : (s : Standing) (n : ℕ) (h : List Entry) → s.world.entry_count + 1 ≡ n → Numbered s → IsLegalFrom s h → ArePrintable n h
+printed-from s n [] is numbered legal = tt
+printed-from s n (e ∷ es) is numbered legal =
     let count = count-standing_after s e (recorded_step s e.ask e.reply) in
     let next : (after s e).world.entry_count + 1 ≡ n + 1 = omega (arith, count, is) in
-    (printed-entry s n e is numbered named.0 legal.0, printed-from (after s e) (n + 1) es next (numbered_entry s e numbered) legal.1 named.1)
+    (printed-entry s n e is numbered legal.0, printed-from (after s e) (n + 1) es next (numbered_entry s e numbered) legal.1)
 
 pub legal-printable : LegalHistoriesArePrintable
-legal-printable pool h legal named = printed-from (fresh_standing pool) 1 h refl (world-numbered pool []) legal named
+legal-printable pool h legal = printed-from (fresh_standing pool) 1 h refl (world-numbered pool []) legal

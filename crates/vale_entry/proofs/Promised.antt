@@ -1,5 +1,5 @@
 -- What an entry leaves promised: an equation for each ask.
-use Rattle.std.proofs.Common.{ℕ, ◌+◌, ◌≤◌, ◌≡◌, Bool, true, false, cond, not, ◌&&◌, ◌==◌, List, [], ◌∷◌, ◌++◌, map, length, drop, find, sum_by, count_by, flat_map, take_while, Option, Some, None, refl, ◌∙◌, ap, arith, length-append}
+use Rattle.std.proofs.Common.{ℕ, ◌+◌, ◌≤◌, ◌≡◌, Bool, true, false, cond, not, ◌&&◌, ◌==◌, List, [], ◌∷◌, ◌++◌, map, length, drop, find, sum_by, count_by, flat_map, take_while, Option, Some, None, refl, ◌∙◌, ap, arith, length-append, sym, subst}
 use Rattle.std.specs.List.{prefix_len}
 use Rattle.std.proofs.lemmas.List.{length-map}
 use Rattle.std.proofs.lemmas.List.Sums.{sum_by-cons, sum_by-append, sum_by_push, take_while-cons, sum_by-le-sum_by}
@@ -14,11 +14,13 @@ use Rattle.vale_entry.specs.Offers.{dest_of, is_offer_of}
 use Rattle.vale_entry.specs.Grant.{first_offer, without_first, longest_fitting, given_at, granted_frames, grant_reply_at, with_lot, port_after_grant}
 use Rattle.vale_entry.specs.Delivery.{lease_at, line_of, is_lease, is_done_lot, ready_lots, done_if, lot_after_done, port_after_done, port_after_sync}
 use Rattle.vale_entry.specs.Closing.{shut, shutting_port, leases_out}
-use Rattle.vale_entry.specs.Room.{room_of_reply, owed_by_port, undone_of, promised_of, room_wanted}
-use Rattle.vale_entry.specs.Legal.{Standing, Outcome, after, enter_step, open_step_by, send_step, offers_of_send, grant_step, sync_step, offers_of_sync, shut_step, finish_step, leave_step, Follows}
+use Rattle.vale_entry.specs.Room.{owed_by_port, undone_of, promised_of}
+use Rattle.vale_entry.specs.Legal.{Standing, Outcome, recorded_step, after, enter_step, open_step_by, send_step, offers_of_send, grant_step, sync_step, offers_of_sync, shut_step, finish_step, leave_step, Follows, done_step, put_step, offers_of_put, standing_after}
 use Rattle.vale_entry.specs.Laws.{Rise, id_of_port, bears_number, AreSingle, room_back, IsPromised}
 use Rattle.nm_types.specs.declared.id.PortId.{PortId}
-use Rattle.vale_entry.proofs.Follows.{EachKind, Left, Receives, by_sync, IsQuiet, refused_open, follows-by, done_step}
+use Rattle.vale_entry.specs.Pipe.{frames_of_items, port_after_put}
+use Rattle.vale_entry.specs.declared.entry.Item.{Item}
+use Rattle.vale_entry.proofs.Follows.{EachKind, IfMade, IsQuiet, refused_open, resets, finds_no_peer, finds_no_target, finds_watched, counts, recorded-by}
 use Rattle.vale_entry.proofs.ListLaws.{place-of, sum-set, sum-map_same, sum-flat_map, front-rest}
 use Rattle.vale_entry.proofs.Counting.{sum-add}
 use Rattle.vale_entry.proofs.Each.{sum-changed_at, changed_at-same}
@@ -29,15 +31,15 @@ use Rattle.vale_entry.proofs.Numbered.{Numbered}
 use Rattle.vale_entry.proofs.SingleLots.{Single}
 
 -- what an outcome leaves, against what its ask wants
-abbrev PromisedNext : World → ℕ → Outcome → Type 0
-PromisedNext w want made = promised_of made.next.world + 1 + room_back made.reply ≡ promised_of w + want
+abbrev PromisedNext : World → Outcome → Type 0
+PromisedNext w made = IsPromised w made.next.world made
 
-promised_enter : (s : Standing) → PromisedNext s.world 2 (enter_step s)
+promised_enter : (s : Standing) → PromisedNext s.world (enter_step s)
 promised_enter s =
     let sessions = length-append s.world.sessions ((s.world.entry_count + 1) ∷ []) in
     omega arith
 
-promised_open : (s : Standing) (session : ℕ) (name : List ℕ) (tx rx extra : ℕ) → PromisedNext s.world 3 (open_step_by None s session name tx rx extra)
+promised_open : (s : Standing) (session : ℕ) (name : List ℕ) (tx rx extra : ℕ) → PromisedNext s.world (open_step_by None s session name tx rx extra)
 promised_open s session name tx rx extra =
     let port = opened_port (s.world.entry_count + 1) session name tx rx extra in
     let owed : sum_by owed_by_port (s.world.ports ++ port ∷ []) ≡ sum_by owed_by_port s.world.ports + 2 =
@@ -45,7 +47,7 @@ promised_open s session name tx rx extra =
     let undone : sum_by undone_of (s.world.ports ++ port ∷ []) ≡ sum_by undone_of s.world.ports + 0 = sum_by_push undone_of s.world.ports port in
     omega arith
 
-promised_send : (s : Standing) (frames : List Frame) (port : Port) → PromisedNext s.world (room_of_reply (send_step s frames port).reply) (send_step s frames port)
+promised_send : (s : Standing) (frames : List Frame) (port : Port) → PromisedNext s.world (send_step s frames port)
 promised_send s frames port =
     let new = offers_of_send s.world port frames in
     let all = length-append s.world.offers new in
@@ -66,11 +68,11 @@ length-without_first origin (offer ∷ offers) found e =
     without_first_by offer offers (without_first origin offers) (is_offer_of origin offer) found (find (is_offer_of origin) offers) (length-without_first origin offers found) e
 
 with_lot-undone : (number session : ℕ) (given : List Frame) (line : List Lot)
-    → count_by is_undone (with_lot number session given line) + cond (length given == 0) 1 0 ≡ count_by is_undone line + 1
+    → count_by is_undone (with_lot number session false given line) + cond (length given == 0) 1 0 ≡ count_by is_undone line + 1
 with_lot-undone number session [] line = refl
 with_lot-undone number session (frame ∷ frames) line =
     let some : (length (frame ∷ frames) == 0) ≡ false = ne_eqb (length (frame ∷ frames)) 0 (λ e. omega arith) in
-    let sum : count_by is_undone (with_lot number session (frame ∷ frames) line) ≡ count_by is_undone line + 1 =
+    let sum : count_by is_undone (with_lot number session false (frame ∷ frames) line) ≡ count_by is_undone line + 1 =
     sum_by_push (λ (lot : Lot). cond (is_undone lot) 1 0) line _ in
     rw some (omega arith)
 
@@ -89,7 +91,7 @@ undone-granted number session id frames high ports (Some port) e rise =
     omega arith
 
 promised_grant : (s : Standing) (origin : ℕ) (offer : Offer) → first_offer s.world origin ≡ Some offer → Numbered s
-    → PromisedNext s.world 0 (grant_step s offer)
+    → PromisedNext s.world (grant_step s offer)
 promised_grant s origin offer e n =
     let w = s.world in
     let change = port_after_grant (w.entry_count + 1) offer.session (granted_frames w offer) in
@@ -153,7 +155,7 @@ one-lease ports number lot e single =
     omega arith
 
 promised_done : (s : Standing) (number : ℕ) (lot : Lot) → lease_at s.world.ports number ≡ Some lot → Single s
-    → PromisedNext s.world 0 (done_step s number lot)
+    → PromisedNext s.world (done_step s number lot)
 promised_done s number lot e single =
     let ports = s.world.ports in
     let one = one-lease ports number lot e single in
@@ -185,7 +187,7 @@ undone-synced returned port =
     let none = ready-undone port.line in
     omega arith
 
-promised_sync : (s : Standing) (back : List ℕ) (port : Port) → PromisedNext s.world (room_of_reply (sync_step s back port).reply) (sync_step s back port)
+promised_sync : (s : Standing) (back : List ℕ) (port : Port) → PromisedNext s.world (sync_step s back port)
 promised_sync s back port =
     let new = offers_of_sync s.world port in
     let all = length-append s.world.offers new in
@@ -196,7 +198,7 @@ promised_sync s back port =
 
 -- Shut, Finish and Leave were promised
 promised_shut : (s : Standing) (id : ℕ) (port : Port) → open_port s.world.ports id ≡ Some port → Numbered s
-    → PromisedNext s.world 0 (shut_step s port)
+    → PromisedNext s.world (shut_step s port)
 promised_shut s id port e n =
     let w = s.world in
     let p = open-place w.ports w.entry_count id port n.ports_rise e in
@@ -207,7 +209,7 @@ promised_shut s id port e n =
     omega arith
 
 promised_finish : (s : Standing) (bufs : List ℕ) (id : ℕ) (port : Port) → shutting_port s.world.ports id ≡ Some port → leases_out port ≡ 0 → Numbered s
-    → PromisedNext s.world 0 (finish_step s bufs port)
+    → PromisedNext s.world (finish_step s bufs port)
 promised_finish s bufs id port e out n =
     let w = s.world in
     let p = shutting-place w.ports w.entry_count id port n.ports_rise e in
@@ -218,7 +220,7 @@ promised_finish s bufs id port e out n =
     let before : owed_by_port port ≡ 1 = rw p.shuts refl in
     omega arith
 
-promised_leave : (s : Standing) (session : ℕ) → CanLeave s.world session → Numbered s → PromisedNext s.world 0 (leave_step s session)
+promised_leave : (s : Standing) (session : ℕ) → CanLeave s.world session → Numbered s → PromisedNext s.world (leave_step s session)
 promised_leave s session can n =
     let w = s.world in
     let p = number-place w.sessions session can.found in
@@ -226,28 +228,50 @@ promised_leave s session can n =
     let same = ap (λ (ks : List ℕ). length ks) (filter-at_number w.sessions w.entry_count p.place session n.sessions_rise p.here) in
     omega arith
 
-quiet-room : (s : Standing) (ask : Ask) (session : ℕ) (reply : Reply) → IsQuiet s ask session reply → (room_wanted ask reply ≡ 1) × (room_back reply ≡ 0)
-quiet-room s _ _ _ (refused_open session name tx rx extra fault here e) = (refl, refl)
+-- Put
+with_lot-done : (number session : ℕ) (frames : List Frame) (line : List Lot) → count_by is_undone (with_lot number session true frames line) ≡ count_by is_undone line
+with_lot-done number session [] line = refl
+with_lot-done number session (frame ∷ frames) line =
+    let sum : count_by is_undone (with_lot number session true (frame ∷ frames) line) ≡ count_by is_undone line + 0 = sum_by_push (λ (lot : Lot). cond (is_undone lot) 1 0) line _ in
+    omega (arith, sum)
 
-received-room : (ask : Ask) (at : PortId) (back : List ℕ) (reply : Reply) → Receives ask at back → room_wanted ask reply ≡ room_of_reply reply
-received-room _ _ _ reply (by_sync at back) = refl
+promised_put : (s : Standing) (items : List Item) (port peer : Port) → PromisedNext s.world (put_step s items port peer)
+promised_put s items port peer =
+    let frames = frames_of_items items in
+    let new = offers_of_put s.world port frames in
+    let change = port_after_put (s.world.entry_count + 1) port.session frames in
+    let all = length-append s.world.offers new in
+    let dests = length-map new dest_of in
+    let undone = sum-changed_at undone_of peer.id change (λ p. with_lot-done (s.world.entry_count + 1) port.session frames p.line) s.world.ports in
+    let owed = sum-changed_at owed_by_port peer.id change (λ p. refl) s.world.ports in
+    omega (arith, all, dests, undone, owed)
 
-abbrev Promises : World → Entry → Standing → Type 0
-Promises before e left = IsPromised before left.world e.ask e.reply
+quiet-back : (s : Standing) (ask : Ask) (session : ℕ) (reply : Reply) → IsQuiet s ask session reply → room_back reply ≡ 0
+quiet-back s _ _ _ (refused_open session name tx rx extra fault can e) = refl
+quiet-back s _ _ _ (resets at side fault port e can) = refl
+quiet-back s _ _ _ (finds_no_peer at offered port e few gone) = refl
+quiet-back s _ _ _ (finds_no_target at target sides port e can none) = refl
+quiet-back s _ _ _ (finds_watched at target sides port found watch e can there some) = refl
+quiet-back s _ _ _ (counts at port e) = refl
 
-promised_kinds : (s : Standing) → Numbered s → Single s → EachKind s (Left s (Promises s.world))
+promised_kinds : (s : Standing) → Numbered s → Single s → EachKind s (λ ask made. PromisedNext s.world made)
 promised_kinds s n single = record {
-  enters = λ user. promised_enter s;
-  quiet = λ ask session reply quiet. let room = quiet-room s ask session reply quiet in omega (arith, room.0, room.1);
-  opens = λ session name tx rx extra here refusal. promised_open s session.0 name tx rx extra;
+  enters = λ user fits. promised_enter s;
+  quiet = λ ask session reply quiet. let back = quiet-back s ask session reply quiet in omega (arith, back);
+  opens = λ session name tx rx extra can refusal. promised_open s session.0 name tx rx extra;
   sends = λ from frames port e can settled. promised_send s frames port;
   grants = λ origin to offer first same. promised_grant s origin offer first n;
   completes = λ lease lot e. promised_done s lease.0 lot e single;
-  receives = λ ask at back port receives e can. rw (received-room ask at back (sync_step s back port).reply receives) (promised_sync s back port);
+  receives = λ ask at back port receives e can. promised_sync s back port;
+  puts = λ at offered items port peer e can found. promised_put s items port peer;
+  watches = λ at target sides port found e can there none. omega arith;
   shuts = λ at port e settled. promised_shut s at.0 port e n;
-  finishes = λ at bufs chain port e can out. promised_finish s bufs at.0 port e out n;
+  finishes = λ at bufs chain port fits e can out. promised_finish s bufs at.0 port e out n;
   leaves = λ session can. promised_leave s session.0 can n;
 }
 
-pub promised_entry : (s : Standing) (e : Entry) → Numbered s → Single s → Follows s e → IsPromised s.world (after s e).world e.ask e.reply
-promised_entry s e n single follows = follows-by s (Promises s.world) e follows (promised_kinds s n single)
+pub promised_entry : (s : Standing) (e : Entry) (made : Outcome) → Numbered s → Single s → recorded_step s e.ask e.reply ≡ Some made → IsPromised s.world (after s e).world made
+promised_entry s e made n single is =
+    let all = recorded-by s (λ ask made. PromisedNext s.world made) e.ask e.reply (promised_kinds s n single) in
+    let here : PromisedNext s.world made = subst (IfMade (PromisedNext s.world)) is all in
+    subst (λ (o : Option Outcome). IsPromised s.world (standing_after s e o).world made) (sym is) here

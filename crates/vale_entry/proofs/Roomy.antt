@@ -1,6 +1,6 @@
 -- After every legal history no lot is empty, each port has a slot to spare, and the ports have no more
 -- buffers than the pool.
-use Rattle.std.proofs.Common.{ℕ, ◌+◌, ◌-◌, ◌≤◌, ◌≡◌, Bool, true, false, cond, not, ◌&&◌, nat_lt, nat_le, ◌==◌, List, [], ◌∷◌, ◌++◌, map, length, drop, sum_by, Option, Some, None, refl, ap, arith}
+use Rattle.std.proofs.Common.{ℕ, ◌+◌, ◌-◌, ◌≤◌, ◌≡◌, Bool, true, false, cond, not, ◌&&◌, nat_lt, nat_le, ◌==◌, List, [], ◌∷◌, ◌++◌, map, length, drop, sum_by, Option, Some, None, refl, ap, arith, min, ◌∙◌}
 use Rattle.std.specs.List.{AllByRecursion as Each, prefix_len}
 use Rattle.std.proofs.lemmas.List.Sums.{sum_by-cons, sum_by-append, sum_by_push}
 use Rattle.std.proofs.lemmas.Bool.{and_parts, ltb-false, leb-true}
@@ -13,13 +13,15 @@ use Rattle.vale_entry.specs.Opening.{is_ring_size, are_sizes, name_refusal, refu
 use Rattle.vale_entry.specs.Grant.{longest_fitting, given_at, with_lot, port_after_grant}
 use Rattle.vale_entry.specs.Delivery.{is_done_lot, ready_lots, frames_of_lot, delivered_frames, done_if, lot_after_done, port_after_done, port_after_sync}
 use Rattle.vale_entry.specs.Closing.{shut}
-use Rattle.vale_entry.specs.Legal.{Standing, Outcome, after, open_step_by, grant_step, sync_step, shut_step, finish_step}
+use Rattle.vale_entry.specs.Legal.{Standing, Outcome, after, open_step_by, grant_step, sync_step, shut_step, finish_step, done_step, put_step}
 use Rattle.vale_entry.specs.Laws.{Rise, id_of_port, IsFilled, HasRoom, AreRoomy, IsRoomy}
-use Rattle.vale_entry.proofs.Follows.{EachKind, after-by, done_step}
+use Rattle.vale_entry.specs.Pipe.{peer_of, taken_count, frames_of_items, port_after_put}
+use Rattle.vale_entry.specs.declared.entry.Item.{Item}
+use Rattle.vale_entry.proofs.Follows.{EachKind, after-by, CanKeep}
 use Rattle.vale_entry.proofs.ListLaws.{each-at, each-set, sum-map_same, sum-flat_map, front-rest}
 use Rattle.vale_entry.proofs.Each.{each-changed_at, changed_at-same, sum-changed_at, each-append, each-map, each-drop}
 use Rattle.vale_entry.proofs.Removals.{each-filter, sum-filter_less}
-use Rattle.vale_entry.proofs.Places.{open-place}
+use Rattle.vale_entry.proofs.Places.{open-place, peer-place}
 use Rattle.vale_entry.proofs.Numbered.{Numbered}
 
 -- a port that is not refused
@@ -93,27 +95,45 @@ longest_fitting-size room [] = omega arith
 longest_fitting-size room (frame ∷ frames) =
     fitting_by frame room (longest_fitting (room - slots_of frame) frames) (nat_le (slots_of frame) room) refl (longest_fitting-size (room - slots_of frame) frames)
 
-pub with_lot-size : (number session : ℕ) (frames : List Frame) (line : List Lot)
-    → size_of_line (with_lot number session frames line) ≡ size_of_line line + size_of_frames frames
-with_lot-size number session [] line = omega arith
-with_lot-size number session (frame ∷ frames) line = sum_by_push (λ (lot : Lot). size_of_frames lot.frames) line _
+pub with_lot-size : (number session : ℕ) (done : Bool) (frames : List Frame) (line : List Lot)
+    → size_of_line (with_lot number session done frames line) ≡ size_of_line line + size_of_frames frames
+with_lot-size number session done [] line = omega arith
+with_lot-size number session done (frame ∷ frames) line = sum_by_push (λ (lot : Lot). size_of_frames lot.frames) line _
 
-with_lot-filled : (number session : ℕ) (frames : List Frame) (line : List Lot) → Each IsFilled line
-    → Each IsFilled (with_lot number session frames line)
-with_lot-filled number session [] line all = all
-with_lot-filled number session (frame ∷ frames) line all = each-append IsFilled line _ all (omega arith, tt)
+with_lot-filled : (number session : ℕ) (done : Bool) (frames : List Frame) (line : List Lot) → Each IsFilled line
+    → Each IsFilled (with_lot number session done frames line)
+with_lot-filled number session done [] line all = all
+with_lot-filled number session done (frame ∷ frames) line all = each-append IsFilled line _ all (omega arith, tt)
+
+-- a port with one lot more that it has space for
+lot-room : (number session : ℕ) (done : Bool) (frames : List Frame) (port : Port) → size_of_frames frames ≤ space_of port → HasRoom port
+    → HasRoom (record port { line = with_lot number session done frames port.line })
+lot-room number session done frames port few h =
+    let sum = with_lot-size number session done frames port.line in
+    let fits : port.out + size_of_line port.line + 1 ≤ port.rx = h.fits in
+    record {
+      lots_filled = with_lot-filled number session done frames port.line h.lots_filled;
+      fits = omega arith;
+    }
 
 granted-room : (number session : ℕ) (frames : List Frame) (port : Port) → HasRoom port
     → HasRoom (port_after_grant number session (longest_fitting (space_of port) frames) port)
 granted-room number session frames port h =
-    let given = longest_fitting (space_of port) frames in
-    let few : size_of_frames given ≤ port.rx - 1 - port.out - size_of_line port.line = longest_fitting-size (space_of port) frames in
-    let sum = with_lot-size number session given port.line in
-    let fits : port.out + size_of_line port.line + 1 ≤ port.rx = h.fits in
-    record {
-      lots_filled = with_lot-filled number session given port.line h.lots_filled;
-      fits = omega arith;
-    }
+    lot-room number session false (longest_fitting (space_of port) frames) port (longest_fitting-size (space_of port) frames) h
+
+-- items take one slot each
+pub items-size : (items : List Item) → size_of_frames (frames_of_items items) ≡ length items
+items-size [] = refl
+items-size (item ∷ items) =
+    let rest = items-size items in
+    let sum = sum_by-cons slots_of item.bytes (frames_of_items items) in
+    omega (arith, rest, sum)
+
+-- no more of them are taken than there is space for
+pub taken-few : (s : Standing) (offered : ℕ) (items : List Item) (port peer : Port) → CanKeep s offered items port → peer_of s.world.ports port ≡ Some peer → length items ≤ space_of peer
+taken-few s offered items port peer can found =
+    let taken : length items ≡ min offered (space_of peer) = can.taken ∙ ap (λ (o : Option Port). taken_count o offered) found in
+    omega (arith, taken)
 
 roomy-granted : (pool number session id : ℕ) (frames : List Frame) (high : ℕ) (ports : List Port) (at : Option Port) → open_port ports id ≡ at
     → Rise 0 (map id_of_port ports) high
@@ -133,6 +153,21 @@ roomy_grant : (s : Standing) (offer : Offer) → Numbered s → Roomy s → Room
 roomy_grant s offer numbered n =
     let w = s.world in
     roomy-granted w.pool (w.entry_count + 1) offer.session offer.to offer.frames w.entry_count w.ports (open_port w.ports offer.to) refl numbered.ports_rise n
+
+roomy_put : (s : Standing) (offered : ℕ) (items : List Item) (port peer : Port) → CanKeep s offered items port → peer_of s.world.ports port ≡ Some peer → Numbered s → Roomy s
+    → RoomyNext (put_step s items port peer)
+roomy_put s offered items port peer can found numbered n =
+    let w = s.world in
+    let p = peer-place w.ports w.entry_count port peer numbered.ports_rise found in
+    let few = taken-few s offered items port peer can found in
+    let size = items-size items in
+    let change = port_after_put (w.entry_count + 1) port.session (frames_of_items items) in
+    let old : HasRoom peer = each-at HasRoom w.ports p.place peer n.roomy p.here in
+    record {
+      roomy = rw (p.changes change) (each-set HasRoom w.ports p.place (change peer) n.roomy
+          (lot-room (w.entry_count + 1) port.session true (frames_of_items items) peer (omega (arith, few, size)) old));
+      within = rw (sum-changed_at buffers_of peer.id change (λ q. refl) w.ports) n.within;
+    }
 
 done_if-size : (b : Bool) (lot : Lot) → size_of_frames (done_if b lot).frames ≡ size_of_frames lot.frames
 done_if-size true lot = refl
@@ -191,15 +226,17 @@ roomy_finish s bufs port n =
 
 roomy_kinds : (s : Standing) → Numbered s → Roomy s → EachKind s (λ ask made. RoomyNext made)
 roomy_kinds s numbered n = record {
-  enters = λ user. n;
+  enters = λ user fits. n;
   quiet = λ ask session reply quiet. n;
-  opens = λ session name tx rx extra here refusal. roomy_open s session.0 name tx rx extra refusal n;
+  opens = λ session name tx rx extra can refusal. roomy_open s session.0 name tx rx extra refusal n;
   sends = λ from frames port e can settled. n;
   grants = λ origin to offer first same. roomy_grant s offer numbered n;
   completes = λ lease lot e. roomy_done s lease.0 lot n;
   receives = λ ask at back port receives e can. roomy_sync s back port n;
+  puts = λ at offered items port peer e can found. roomy_put s offered items port peer can found numbered n;
+  watches = λ at target sides port found e can there none. n;
   shuts = λ at port e settled. roomy_shut s port n;
-  finishes = λ at bufs chain port e can out. roomy_finish s bufs port n;
+  finishes = λ at bufs chain port fits e can out. roomy_finish s bufs port n;
   leaves = λ session can. n;
 }
 

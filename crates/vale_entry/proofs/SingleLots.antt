@@ -10,13 +10,15 @@ use Rattle.vale_entry.specs.Opening.{opened_port}
 use Rattle.vale_entry.specs.Grant.{with_lot, port_after_grant, given_at, longest_fitting}
 use Rattle.vale_entry.specs.Delivery.{ready_lots, done_if, lot_after_done, port_after_done, port_after_sync}
 use Rattle.vale_entry.specs.Closing.{shut}
-use Rattle.vale_entry.specs.Legal.{Standing, Outcome, after, open_step_by, grant_step, sync_step, shut_step, finish_step}
+use Rattle.vale_entry.specs.Legal.{Standing, Outcome, after, open_step_by, grant_step, sync_step, shut_step, finish_step, done_step, put_step}
 use Rattle.vale_entry.specs.Laws.{Rise, id_of_port, HasLotsUpTo, bears_number, AreSingle}
-use Rattle.vale_entry.proofs.Follows.{EachKind, after-by, done_step}
+use Rattle.vale_entry.specs.Pipe.{peer_of, frames_of_items, port_after_put}
+use Rattle.vale_entry.specs.declared.entry.Item.{Item}
+use Rattle.vale_entry.proofs.Follows.{EachKind, after-by}
 use Rattle.vale_entry.proofs.ListLaws.{sum-set, sum-map_same}
 use Rattle.vale_entry.proofs.Each.{changed_at-same, sum-changed_at}
 use Rattle.vale_entry.proofs.Removals.{sum-filter_less}
-use Rattle.vale_entry.proofs.Places.{open-place}
+use Rattle.vale_entry.proofs.Places.{open-place, peer-place}
 use Rattle.vale_entry.proofs.Numbered.{Numbered}
 
 abbrev pub Single : Standing → Type 0
@@ -48,12 +50,12 @@ none-of_ports number count later (port ∷ ports) all =
     let sum = sum_by-cons (lots_of number) port ports in
     omega arith
 
-with_lot-count : (k number session : ℕ) (given : List Frame) (line : List Lot)
-    → count_by (bears_number k) (with_lot number session given line) ≤ count_by (bears_number k) line + cond (number == k) 1 0
-with_lot-count k number session [] line = omega arith
-with_lot-count k number session (frame ∷ frames) line =
+with_lot-count : (k number session : ℕ) (done : Bool) (given : List Frame) (line : List Lot)
+    → count_by (bears_number k) (with_lot number session done given line) ≤ count_by (bears_number k) line + cond (number == k) 1 0
+with_lot-count k number session done [] line = omega arith
+with_lot-count k number session done (frame ∷ frames) line =
     let sum =
-    sum_by_push (λ (lot : Lot). cond (bears_number k lot) 1 0) line (record { number = number; session = session; frames = frame ∷ frames; is_done = false }) in
+    sum_by_push (λ (lot : Lot). cond (bears_number k lot) 1 0) line (record { number = number; session = session; frames = frame ∷ frames; is_done = done }) in
     omega arith
 
 single_by : (k number old new before more : ℕ) (mine : Bool) → (number == k) ≡ mine → (number ≡ k → old ≡ 0) → old ≤ 1 → new + before ≡ old + more
@@ -75,7 +77,7 @@ single-granted number session id frames count ports (Some port) e later rise lot
     single_by k number (sum_by (lots_of k) ports) (sum_by (lots_of k) (slice_set ports p.place (change port))) (lots_of k port) (lots_of k (change port)) (number == k) refl
     (λ same. none-of_ports k count (subst (λ (j : ℕ). count < j) same later) ports lots) (single k)
     (sum-set (lots_of k) ports p.place port (change port) p.here)
-    (with_lot-count k number session given port.line))
+    (with_lot-count k number session false given port.line))
 
 single_open : (s : Standing) (session : ℕ) (name : List ℕ) (tx rx extra : ℕ) → Single s → SingleNext (open_step_by None s session name tx rx extra)
 single_open s session name tx rx extra single = λ k.
@@ -89,6 +91,19 @@ single_grant s offer n single =
     let w = s.world in
     let later : w.entry_count < w.entry_count + 1 = omega arith in
     single-granted (w.entry_count + 1) offer.session offer.to offer.frames w.entry_count w.ports (open_port w.ports offer.to) refl later n.ports_rise n.lots_within single
+
+single_put : (s : Standing) (items : List Item) (port peer : Port) → peer_of s.world.ports port ≡ Some peer → Numbered s → Single s → SingleNext (put_step s items port peer)
+single_put s items port peer found n single =
+    let w = s.world in
+    let number = w.entry_count + 1 in
+    let later : w.entry_count < number = omega arith in
+    let change = port_after_put number port.session (frames_of_items items) in
+    let p = peer-place w.ports w.entry_count port peer n.ports_rise found in
+    rw (p.changes change) (λ k.
+    single_by k number (sum_by (lots_of k) w.ports) (sum_by (lots_of k) (slice_set w.ports p.place (change peer))) (lots_of k peer) (lots_of k (change peer)) (number == k) refl
+    (λ same. none-of_ports k w.entry_count (subst (λ (j : ℕ). w.entry_count < j) same later) w.ports n.lots_within) (single k)
+    (sum-set (lots_of k) w.ports p.place peer (change peer) p.here)
+    (with_lot-count k number port.session true (frames_of_items items) peer.line))
 
 done-same_number : (k : ℕ) (b : Bool) (lot : Lot) → cond {A = ℕ} (bears_number k (done_if b lot)) 1 0 ≡ cond (bears_number k lot) 1 0
 done-same_number k true lot = refl
@@ -139,15 +154,17 @@ single_finish s bufs port single = λ k.
 
 single_kinds : (s : Standing) → Numbered s → Single s → EachKind s (λ ask made. SingleNext made)
 single_kinds s n single = record {
-  enters = λ user. single;
+  enters = λ user fits. single;
   quiet = λ ask session reply quiet. single;
-  opens = λ session name tx rx extra here refusal. single_open s session.0 name tx rx extra single;
+  opens = λ session name tx rx extra can refusal. single_open s session.0 name tx rx extra single;
   sends = λ from frames port e can settled. single;
   grants = λ origin to offer first same. single_grant s offer n single;
   completes = λ lease lot e. single_done s lease.0 lot single;
   receives = λ ask at back port receives e can. single_sync s back port single;
+  puts = λ at offered items port peer e can found. single_put s items port peer found n single;
+  watches = λ at target sides port found e can there none. single;
   shuts = λ at port e settled. single_shut s port single;
-  finishes = λ at bufs chain port e can out. single_finish s bufs port single;
+  finishes = λ at bufs chain port fits e can out. single_finish s bufs port single;
   leaves = λ session can. single;
 }
 

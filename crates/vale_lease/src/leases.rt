@@ -1,4 +1,4 @@
-ghost use Rattle.std.specs.Prelude.{◌≡◌, ◌+◌, ◌-◌, ◌<◌, ◌≤◌, ◌^◌, [], ◌∷◌, ◌++◌, IfOk, IsTrue, false, map, position};
+ghost use Rattle.std.specs.Prelude.{All, ◌≡◌, ◌+◌, ◌-◌, ◌<◌, ◌≤◌, ◌^◌, [], ◌∷◌, ◌++◌, IfOk, IfSome, IfNone, IsTrue, false, length, map, slice_get};
 ghost use Rattle.std.specs.VecDeque.{deque_capacity};
 ghost use Rattle.vale_lease.specs.Leases.{has_id, is_there, is_lease_out, slots_of, done_prefix, behind_done, first_done, out_count, completed, AreLeases, IsLeaseRing};
 
@@ -9,7 +9,7 @@ use std::marker::Model;
 
 /// A lease of a receive ring: so many slots that its holder fills, and whether they are filled.
 #[derive(Clone, Copy, Debug, PartialEq, Eq)]
-pub struct Lease {
+pub struct LeaseSlots {
     pub id: LeaseId,
     pub slots: u32,
     pub is_done: bool,
@@ -20,7 +20,7 @@ pub struct Lease {
 #[derive(Drop)]
 pub struct Leases {
     size: u32,
-    leases: VecDeque<Lease>,
+    leases: VecDeque<LeaseSlots>,
 }
 
 impl Model for Leases {
@@ -37,7 +37,7 @@ impl Model for Leases {
     ghost invariant = { λ r. IsLeaseRing (record { size = r.size; leases = r.leases.items }) × (r.size - 1 ≤ deque_capacity r.leases) };
 }
 
-fn first_done(leases: &VecDeque<Lease>) -> Option<u32>
+fn first_done(leases: &VecDeque<LeaseSlots>) -> Option<u32>
     ensures { result ≡ first_done leases.now.items }
 {
     match leases.front() {
@@ -47,7 +47,7 @@ fn first_done(leases: &VecDeque<Lease>) -> Option<u32>
 }
 
 #[tactic(auto, using(crate::proofs::LeaseLemmas::leases))]
-fn take_done(leases: &mut VecDeque<Lease>) -> u32
+fn take_done(leases: &mut VecDeque<LeaseSlots>) -> u32
     requires { slots_of leases.old.items < 2 ^ 32 }
     ensures slots { result ≡ slots_of (done_prefix leases.old.items) }
     ensures rest { leases.new.items ≡ behind_done leases.old.items }
@@ -61,14 +61,19 @@ fn take_done(leases: &mut VecDeque<Lease>) -> u32
     taken
 }
 
-fn place_of(leases: &VecDeque<Lease>, id: LeaseId) -> Option<usize>
-    ensures { result ≡ position (has_id id.0) leases.now.items }
+/// The place of the lease of this id, found from the back, where the newest leases are.
+#[tactic(auto, using(crate::proofs::LeaseLemmas::leases))]
+fn place_of(leases: &VecDeque<LeaseSlots>, id: LeaseId) -> Option<usize>
+    ensures within { IfSome result (λ at. at < length leases.now.items) }
+    ensures found { IfSome result (λ at.
+        IfSome (slice_get leases.now.items at) (λ lease. IsTrue (has_id id.0 lease))) }
+    ensures none { IfNone result (All (λ lease. has_id id.0 lease ≡ false) leases.now.items) }
 {
-    leases.iter().position(|lease| lease.id == id)
+    leases.iter().rposition(|lease| lease.id == id)
 }
 
 #[tactic(auto, using(crate::proofs::LeaseLemmas::leases))]
-fn mark_done(leases: &mut VecDeque<Lease>, id: LeaseId)
+fn mark_done(leases: &mut VecDeque<LeaseSlots>, id: LeaseId)
     requires leases { AreLeases leases.old.items }
     requires out { IsTrue (is_lease_out id.0 leases.old.items) }
     ensures items { leases.new.items ≡ map (completed id.0) leases.old.items }
@@ -80,7 +85,7 @@ fn mark_done(leases: &mut VecDeque<Lease>, id: LeaseId)
     }
 }
 
-fn ready_slots(leases: &VecDeque<Lease>) -> u32
+fn ready_slots(leases: &VecDeque<LeaseSlots>) -> u32
     requires { slots_of leases.now.items < 2 ^ 32 }
     ensures { result ≡ slots_of (done_prefix leases.now.items) }
 {
@@ -112,7 +117,7 @@ impl Leases {
         requires new { is_there id.0 self.old.leases ≡ false }
         ensures { self.new ≡ record self.old { leases = self.old.leases ++ record { id = id; slots = slots; is_done = false } ∷ [] } }
     {
-        self.leases.push_back_reserved(Lease {
+        self.leases.push_back_reserved(LeaseSlots {
             id,
             slots,
             is_done: false,
