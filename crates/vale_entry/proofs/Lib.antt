@@ -40,6 +40,9 @@ pub mod OneEntry
 pub mod SingleLots
 pub mod Promised
 pub mod HistoryLaws
+pub mod NamesApart
+pub mod OffersClimb
+pub mod Waiting
 pub mod HistoryPlaces
 pub mod ItemBytes
 pub mod Printable

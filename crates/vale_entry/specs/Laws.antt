@@ -2,14 +2,16 @@
 use Rattle.vale_entry.specs.declared.entry.Entry.{Entry}
 use Rattle.vale_entry.specs.Legal.{Standing, Outcome, step, reply_to, kept_ask, is_enabled, world_of, holdings_of, standing_of, recorded_step, IsLegal, Follows}
 use Rattle.nm_types.specs.declared.id.PortId.{PortId}
+use Rattle.nm_types.specs.declared.id.Chain.{Chain}
+use Rattle.vale_entry.specs.Closing.{leases_out, shutting_port}
 use Rattle.vale_entry.specs.Room.{promised_of, room_used}
 use Rattle.vale_entry.specs.declared.entry.Reply.TheVariants.{Made, Opened, Refused, Offered, Shared, Gave, Took, PeerGone, Unread, LeasesOut, Watching, NoTarget, Watched, Counted}
 use Rattle.vale_entry.specs.declared.entry.Reply.{Reply}
 use Rattle.vale_entry.specs.declared.entry.Ask.{Ask}
-use Rattle.vale_entry.specs.declared.entry.Ask.TheVariants.{Put}
+use Rattle.vale_entry.specs.declared.entry.Ask.TheVariants.{Finish, Put}
 use Rattle.vale_entry.specs.declared.entry.Item.{Item}
 use Rattle.vale_entry.specs.Transcript.{IsPrintable}
-use Rattle.std.specs.Prelude.{ℕ, true, ◌&&◌, ◌==◌, ◌≡◌, ◌+◌, ◌<◌, ◌≤◌, List, [], ◌∷◌, Some, map, length, sum_by, count_by, Bool, if◌then◌else◌, All, ◌++◌, take, drop, is_some}
+use Rattle.std.specs.Prelude.{ℕ, true, false, ◌&&◌, ◌==◌, ◌≡◌, ◌+◌, ◌<◌, ◌≤◌, List, [], ◌∷◌, Some, map, length, sum_by, count_by, Bool, if◌then◌else◌, All, ◌++◌, take, drop, is_some, Option, bytes_eq}
 use Rattle.std.specs.List.{list_any, AllByRecursion}
 use Rattle.nm_types.specs.Names.{is_monitor_name}
 use Rattle.vale_entry.specs.Monitors.{is_watch_at}
@@ -105,6 +107,26 @@ pub record AreWatches (ports : List Port) (watches : List Watcher) : Type 0 wher
   pub each : AllByRecursion (IsWatch ports) watches
   pub once : (target : ℕ) → count_by (is_watch_at target) watches ≤ 1
 
+-- no two ports bear one name
+abbrev pub IsNamedApart : Port → Port → Type 0
+IsNamedApart port other = bytes_eq port.name other.name ≡ false
+
+abbrev pub AreNamedApart : List Port → Type 0
+AreNamedApart [] = Unit {0}
+AreNamedApart (port ∷ ports) = AllByRecursion (IsNamedApart port) ports × AreNamedApart ports
+
+-- offers stand in the order of the entries that made them
+abbrev pub Climb : ℕ → List Offer → Type 0
+Climb low [] = Unit {0}
+Climb low (offer ∷ offers) = (low ≤ offer.origin) × Climb offer.origin offers
+
+-- a port that waits is there and shutting, and has leases out, so many as are told
+pub record IsWaiting (found : Option Port) (n : ℕ) : Type 0 where
+  pub port : Port
+  pub found_is : found ≡ Some port
+  pub some : 0 < n
+  pub counted : n ≡ leases_out port
+
 -- all offers of a session that are not granted are of one entry
 abbrev pub OffersAreOfOneEntry : List Offer → Type 0
 OffersAreOfOneEntry offers = (session : ℕ) → (origin : ℕ) × AllByRecursion (λ (offer : Offer). offer.session ≡ session → offer.origin ≡ origin) offers
@@ -181,6 +203,16 @@ HoldingsAgree = (pool : ℕ) (history : List Entry) → IsLegal pool history →
 
 abbrev pub SessionsHaveOneUnsettled : Type 0
 SessionsHaveOneUnsettled = (pool : ℕ) (history : List Entry) → IsLegal pool history → OffersAreOfOneEntry (world_of pool history).offers
+
+abbrev pub FinishWaitsForLeases : Type 0
+FinishWaitsForLeases = (s : Standing) (port : PortId) (bufs : List ℕ) (chain : Chain) (n : ℕ) → reply_to s (Finish port bufs chain) ≡ Some (LeasesOut n)
+    → IsWaiting (shutting_port s.world.ports port.0) n
+
+abbrev pub NamesDiffer : Type 0
+NamesDiffer = (pool : ℕ) (history : List Entry) → IsLegal pool history → AreNamedApart (world_of pool history).ports
+
+abbrev pub OffersClimb : Type 0
+OffersClimb = (pool : ℕ) (history : List Entry) → IsLegal pool history → Climb 0 (world_of pool history).offers
 
 abbrev pub WatchesAreOpen : Type 0
 WatchesAreOpen = (pool : ℕ) (history : List Entry) → IsLegal pool history → AreWatches (world_of pool history).ports (world_of pool history).watches

@@ -3,7 +3,7 @@
 #![tactic(auto, using(crate::proofs::HistoryLaws::history_laws))]
 
 ghost use Rattle.vale_entry.specs.DeliveryLaws.{ReadIsPrefixOfGiven, GivenOnlyByWanted, ShortAndLoneAreForNobody, WantedIsSharedOnce, DroppedFramesAreCounted, NothingIsPendingAtTheEnd, SenderOrderIsKept, FramesAreDroppedForCause, RepliesCountFrames, PutsBringOnce, OutIsCounted};
-ghost use Rattle.vale_entry.specs.Laws.{AsksAreAnswered, PutsAreKept, NumbersRise, PortsAreWithinSizes, FreeBuffersRise, BuffersAreParted, HoldingsAgree, SessionsHaveOneUnsettled, WatchesAreOpen, LotsAreSingle, RoomIsPromised, RoomIsUsed, LegalHistoriesArePrintable};
+ghost use Rattle.vale_entry.specs.Laws.{AsksAreAnswered, PutsAreKept, FinishWaitsForLeases, NamesDiffer, OffersClimb, NumbersRise, PortsAreWithinSizes, FreeBuffersRise, BuffersAreParted, HoldingsAgree, SessionsHaveOneUnsettled, WatchesAreOpen, LotsAreSingle, RoomIsPromised, RoomIsUsed, LegalHistoriesArePrintable};
 
 /// The table of the asks that are enabled says which asks are answered.
 pub fn asks_are_answered()
@@ -13,6 +13,22 @@ pub fn asks_are_answered()
 /// What a Put makes is what its entry records, which keeps of what was offered the number alone.
 pub fn puts_are_kept()
     ensures { PutsAreKept }
+{}
+
+/// A Finish that is answered with leases out finds a shutting port that has as many out, and some.
+pub fn finish_waits_for_leases()
+    ensures { FinishWaitsForLeases }
+{}
+
+/// After every legal history no two ports that are there, open or shutting, bear one name.
+pub fn names_differ()
+    ensures { NamesDiffer }
+{}
+
+/// After every legal history the offers that are not granted stand in the order of the entries that
+/// made them: the first of all is of the oldest.
+pub fn offers_climb()
+    ensures { OffersClimb }
 {}
 
 /// After every history sessions and ports rise by number, none is numbered beyond the last entry, and

@@ -85,6 +85,9 @@ fn lists_keep_their_items(rt: HostRuntime) -> Result<(), Fail> {
 fn laws_are_called(_rt: HostRuntime) {
     laws::asks_are_answered();
     laws::puts_are_kept();
+    laws::finish_waits_for_leases();
+    laws::names_differ();
+    laws::offers_climb();
     laws::numbers_rise();
     laws::ports_are_within_sizes();
     laws::free_buffers_rise();

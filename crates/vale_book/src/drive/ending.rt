@@ -12,8 +12,7 @@ use vale_world::session::{self, place_of, take_at};
 #[tactic(auto, using(crate::proofs::DriveEnds::chain_counts))]
 fn count_chain(chain: Chain)
     ensures { fits_chain chain ≡ true }
-{
-}
+{}
 
 impl Drive {
     #[tactic(auto, using(crate::proofs::DriveEnds::drive_ends))]
