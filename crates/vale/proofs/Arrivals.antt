@@ -1,5 +1,5 @@
 -- A user comes.
-use Rattle.std.proofs.Common.{ℕ, ◌+◌, ◌<◌, ◌≤◌, ◌≡◌, Bool, true, false, cond, ◌==◌, ◌||◌, List, [], ◌∷◌, ◌++◌, map, length, Option, Some, None, inr, refl, sym, ◌∙◌, ap, subst, arith, length-append}
+use Rattle.std.proofs.Common.{ℕ, ◌+◌, ◌^◌, ◌<◌, ◌≤◌, ◌≡◌, Bool, true, false, cond, ◌==◌, ◌||◌, List, [], ◌∷◌, ◌++◌, map, length, Option, Some, None, inr, refl, sym, ◌∙◌, ap, subst, arith, length-append}
 use Rattle.std.specs.List.{list_any, AllByRecursion as Each}
 use Rattle.std.proofs.lemmas.Bool.{eq-eqb, ne_eqb}
 use Rattle.std.proofs.Math.Bool.{or-true}
@@ -10,11 +10,12 @@ use Rattle.vale_entry.specs.declared.entry.Ask.TheVariants.{Enter}
 use Rattle.vale_entry.specs.World.{Port, is_session}
 use Rattle.vale_entry.specs.Laws.{IsPortOf}
 use Rattle.vale_entry.specs.Holdings.{SessionBuffers, buffers_of_session}
-use Rattle.vale_entry.specs.Legal.{Standing, Outcome, standing_with, enter_step}
+use Rattle.vale_entry.specs.Legal.{Standing, Outcome, step, standing_with, enter_step}
 use Rattle.vale_entry.proofs.Agreeing.{among-bound}
 use Rattle.vale_entry.proofs.Each.{each-weaker, any-append_left}
 use Rattle.vale_entry.proofs.Numbered.{world-numbered}
 use Rattle.vale_entry.proofs.Rising.{rise-wider}
+use Rattle.vale_book.proofs.Enters.{enter-made}
 use Rattle.vale_entry.proofs.Worlds.{count-world_of}
 use Rattle.vale_book.specs.Recorded.{Recorded, standing, entry_of, with_step, after_ask, IsRefusal}
 use Rattle.vale.specs.declared.port.OwnPort.{OwnPort}
@@ -69,16 +70,17 @@ none-among : (ports : List Port) (count session : ℕ) → count < session → E
 none-among [] count session later all = tt
 none-among (port ∷ ports) count session later all = (λ is. let old = all.0 in absurd (omega (arith, later, old, is)), none-among ports count session later all.1)
 
-enter-does : (b new : Recorded) (user : Machine) → AllSettled (standing b).world → user.tasks ≡ [] → user.session ≡ None → user.ports ≡ [] → new ≡ after_ask b (Enter user.number)
+enter-does : (b new : Recorded) (user : Machine) → user.number < 2 ^ 64 → AllSettled (standing b).world → user.tasks ≡ [] → user.session ≡ None → user.ports ≡ [] → new ≡ after_ask b (Enter user.number)
     → DoesTasks b new (Arrive ∷ []) user (record user { session = Some (record { 0 = length b.entries + 1 }) })
-enter-does b new user settled idle nobody none is =
+enter-does b new user small settled idle nobody none is =
     let s : Standing = standing b in
     let ask : Ask = Enter user.number in
     let made : Outcome = enter_step s in
+    let entering : step s ask ≡ Some made = enter-made s user.number small in
     let n : ℕ = length b.entries + 1 in
     let after : Machine = record user { session = Some (record { 0 = n }) } in
-    let new_is : new ≡ with_step b ask made = is ∙ after-made b ask made refl in
-    let now : standing new ≡ entered s ask = ap standing new_is ∙ standing-step b ask made refl in
+    let new_is : new ≡ with_step b ask made = is ∙ after-made b ask made entering in
+    let now : standing new ≡ entered s ask = ap standing new_is ∙ standing-step b ask made entering in
     let count : s.world.entry_count ≡ length b.entries = count-world_of b.pool b.entries in
     let called : call_of_task user Arrive ≡ Some ask = ap (enter_call user.number) nobody in
     let after_is : Rests b user after Arrive ask made = λ rest. ap (λ (k : ℕ). resting (record user { session = Some (record { 0 = k + 1 }); tasks = rest })) count in
@@ -89,7 +91,7 @@ enter-does b new user settled idle nobody none is =
       only = none-among s.world.ports s.world.entry_count (s.world.entry_count + 1) (omega arith) (ports-old b);
       holds = λ k. omega arith;
     }) in
-    does-step b new user after Arrive ask made settled called refl (ap (λ (k : ℕ). Some (record { 0 = k + 1 })) (sym count)) new_is after_is (record {
+    does-step b new user after Arrive ask made settled called entering (ap (λ (k : ℕ). Some (record { 0 = k + 1 })) (sym count)) new_is after_is (record {
       owns = subst (λ (t : Standing). OwnsAll t n user.ports) (sym now) (subst (λ (k : ℕ). OwnsAll (entered s ask) (k + 1) user.ports) count owned);
       settled = subst (λ (t : Standing). AllSettled t.world) (sym now) (record { offers = settled.offers; leases = settled.leases });
       others = λ other apart later kept. subst (λ (t : Standing). Owns t other) (sym now)
@@ -106,13 +108,13 @@ enter-does b new user settled idle nobody none is =
 nothing-owned : (s : Standing) (user : Machine) → Owns s user → user.session ≡ None → user.ports ≡ []
 nothing-owned s user owns nobody = subst (λ (o : Option SessionId). OwnsBy s o user.ports) nobody owns
 
-pub enter-on : (b new : Recorded) (user : Machine) (session : SessionId) → AllSettled (standing b).world → Owns (standing b) user → user.tasks ≡ [] → user.session ≡ None → new ≡ after_ask b (Enter user.number) → session.0 ≡ length new.entries
+pub enter-on : (b new : Recorded) (user : Machine) (session : SessionId) → user.number < 2 ^ 64 → AllSettled (standing b).world → Owns (standing b) user → user.tasks ≡ [] → user.session ≡ None → new ≡ after_ask b (Enter user.number) → session.0 ≡ length new.entries
     → DoesTasks b new (Arrive ∷ []) user (record user { session = Some session })
-enter-on b new user session settled owns idle nobody is id =
+enter-on b new user session small settled owns idle nobody is id =
     let count : length new.entries ≡ length b.entries + 1 =
-    ap (λ (r : Recorded). length r.entries) (is ∙ after-made b (Enter user.number) (enter_step (standing b)) refl) ∙ length-append b.entries _ in
+    ap (λ (r : Recorded). length r.entries) (is ∙ after-made b (Enter user.number) (enter_step (standing b)) (enter-made (standing b) user.number small)) ∙ length-append b.entries _ in
     let same : record { 0 = length b.entries + 1 } ≡ session = ap (λ (n : ℕ). record { 0 = n }) (sym (id ∙ count)) in
-    subst (λ (n : SessionId). DoesTasks b new (Arrive ∷ []) user (record user { session = Some n })) same (enter-does b new user settled idle nobody (nothing-owned (standing b) user owns nobody) is)
+    subst (λ (n : SessionId). DoesTasks b new (Arrive ∷ []) user (record user { session = Some n })) same (enter-does b new user small settled idle nobody (nothing-owned (standing b) user owns nobody) is)
 
 pub enter-stops : (b new : Recorded) (user : Machine) (fault : StepFault) → AllSettled (standing b).world → Owns (standing b) user → user.tasks ≡ [] → user.session ≡ None → IsRefusal b (Enter user.number) fault → new ≡ b
     → StopsTasks b new (Arrive ∷ []) user user fault

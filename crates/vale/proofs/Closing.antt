@@ -12,6 +12,7 @@ use Rattle.vale_entry.specs.Legal.{Standing, step, standing_with, shut_step, can
 use Rattle.vale_entry.proofs.Each.{each-find}
 use Rattle.vale_entry.proofs.Numbered.{world-numbered}
 use Rattle.vale_entry.proofs.Places.{open-place, shutting_port-place}
+use Rattle.vale_entry.proofs.Enabled.{has-enabled}
 use Rattle.vale_book.specs.Recorded.{Recorded, standing, entry_of, after_ask}
 use Rattle.vale.specs.declared.port.OwnPort.{OwnPort}
 use Rattle.vale.specs.Machine.{shut_call, finish_call, buffers_in}
@@ -26,7 +27,7 @@ pub shut-made : (s : Standing) (session : ℕ) (own : OwnPort) → (h : HasPort 
 shut-made s session own h settled = rw (h.there, settled-all s.world h.port.session settled) refl
 
 pub shut-enabled : (s : Standing) (own : OwnPort) (some : List ℕ) → CanGive s own some → IsEnabled s (shut_call own)
-shut-enabled s own some can = rw (shut-made s can.session own can.has can.settled) refl
+shut-enabled s own some can = has-enabled s (shut_call own) (rw (shut-made s can.session own can.has can.settled) refl)
 
 -- what stands after it
 abbrev pub shut_standing : Standing → OwnPort → Port → Standing
@@ -92,7 +93,8 @@ finish-replies b own can =
     rw (shut-found b can.session own can.has can.settled, finish-can (standing b) own can, none) refl
 
 pub finish-enabled : (b : Recorded) (own : OwnPort) → CanGive (standing b) own (buffers_in own) → IsEnabled (standing (after_ask b (shut_call own))) (finish_call own)
-finish-enabled b own can = rw (shut-standing b can.session own can.has can.settled, finish-replies b own can) refl
+finish-enabled b own can =
+    has-enabled (standing (after_ask b (shut_call own))) (finish_call own) (rw (shut-standing b can.session own can.has can.settled, finish-replies b own can) refl)
 
 pub finish-goes : (b : Recorded) (own : OwnPort) (n : ℕ) → CanGive (standing b) own (buffers_in own) → reply_to (standing (after_ask b (shut_call own))) (finish_call own) ≡ Some (LeasesOut n) → ⊥
 finish-goes b own n can e =

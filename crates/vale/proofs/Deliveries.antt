@@ -4,6 +4,7 @@ use Rattle.vale_entry.specs.declared.entry.Entry.{Entry}
 use Rattle.vale_entry.specs.Legal.{Standing, IsLegal, IsLegalFrom, Follows, after, fresh_standing, world_of}
 use Rattle.vale_entry.proofs.ReadInOrder.{read-prefix}
 use Rattle.vale_entry.proofs.GivenOnly.{given-only}
+use Rattle.vale_entry.proofs.Puts.{puts-once}
 use Rattle.vale_entry.proofs.Fates.{dropped-counted, none-pending}
 use Rattle.vale_entry.proofs.SharedOnce.{wanted-shared}
 use Rattle.vale_entry.proofs.Causes.{dropped-cause}
@@ -32,6 +33,7 @@ pub delivers : (pool : ℕ) (history : List Entry) → IsLegal pool history → 
 delivers pool history legal left = record {
   read_in_order = read-prefix pool history legal;
   given_where_wanted = given-only pool history legal;
+  put_once = puts-once pool history legal;
   shared_once = wanted-shared pool history legal;
   dropped_counted = dropped-counted pool history legal;
   dropped_for_cause = λ count entry there. dropped-cause pool (take count history) entry (legal-take (fresh_standing pool) history count legal) (follows-at (fresh_standing pool) history count entry legal there);

@@ -18,6 +18,7 @@ use Rattle.vale_entry.proofs.Each.{each-weaker, each-changed_at}
 use Rattle.vale_entry.proofs.ListLaws.{place-of, each-at}
 use Rattle.vale_entry.proofs.Removals.{each-kept, each-filter, rise-filter, filter-at_key, sum-remove, there-filter}
 use Rattle.vale_entry.proofs.Rising.{rise-wider}
+use Rattle.vale_entry.proofs.Enabled.{has-enabled}
 use Rattle.vale_book.specs.Recorded.{Recorded, standing, entry_of, with_step, after_ask}
 use Rattle.vale.specs.declared.port.OwnPort.{OwnPort}
 use Rattle.vale.specs.Machine.{Machine, Task, ShutPort, FinishPort, Depart, shut_call, finish_call, closing_of, closing_tasks, is_named, resting, buffers_in}
@@ -333,7 +334,7 @@ leave-made s session settled owns = rw (owns.is_in, none-left s.world.ports sess
 pub leave-enabled : (b : Recorded) (user : Machine) (session : SessionId) → AllSettled (standing b).world → Owns (standing b) user → user.session ≡ Some session → user.ports ≡ [] → IsEnabled (standing b) (Leave session)
 leave-enabled b user session settled owns is none =
     let all : OwnsAll (standing b) session.0 [] = subst (OwnsAll (standing b) session.0) none (subst (λ (o : Option SessionId). OwnsBy (standing b) o user.ports) is owns) in
-    rw (leave-made (standing b) session settled all) refl
+    has-enabled (standing b) (Leave session) (rw (leave-made (standing b) session settled all) refl)
 
 abbrev left_standing : Standing → SessionId → Standing
 left_standing s session = standing_with s (entry_of (Leave session) (leave_step s session.0)) (leave_step s session.0).next

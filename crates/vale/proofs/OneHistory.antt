@@ -1,5 +1,7 @@
 -- A program's users are machines, so that their calls and the replies make one history.
-use Rattle.std.proofs.Common.{ℕ, zero, suc, ◌+◌, ◌-◌, ◌≤◌, ◌≡◌, ◌⊎◌, inl, inr, List, [], ◌∷◌, ◌++◌, length, take, drop, Some, None, option_map, slice_get, slice_set, refl, sym, ◌∙◌, ap, subst, arith, take-append-drop}
+use Rattle.std.specs.Prelude.{option_and_then}
+use Rattle.std.specs.Option.{option_or}
+use Rattle.std.proofs.Common.{Bool, true, false, cond, Option, ℕ, zero, suc, ◌+◌, ◌-◌, ◌≤◌, ◌≡◌, ◌⊎◌, inl, inr, List, [], ◌∷◌, ◌++◌, length, take, drop, Some, None, option_map, slice_get, slice_set, refl, sym, ◌∙◌, ap, subst, arith, take-append-drop}
 use Rattle.std.specs.List.{range_with_len}
 use Rattle.std.proofs.lemmas.List.{take_all}
 use Rattle.vale_entry.specs.declared.entry.Ask.{Ask}
@@ -7,37 +9,93 @@ use Rattle.vale_entry.specs.declared.entry.Ask.TheVariants.{Enter, Open, Send, G
 use Rattle.vale_entry.specs.declared.entry.Reply.{Reply}
 use Rattle.vale_entry.specs.declared.entry.Entry.{Entry}
 use Rattle.vale_entry.specs.Legal.{Standing, recorded_step, session_and_reply, Follows, standing_of}
-use Rattle.vale.specs.Machine.{Machine, next_call, resting, answered}
+use Rattle.vale_entry.specs.World.{World}
+use Rattle.nm_types.specs.declared.id.SessionId.{SessionId}
+use Rattle.vale.specs.declared.port.OwnPort.{OwnPort}
+use Rattle.vale.specs.Machine.{Machine, Task, Arrive, OpenPort, PutFrame, SendFrames, TakeFrames, ShutPort, FinishPort, Depart, is_full, own_port, enter_call, send_call, put_call, sync_call, shut_call, finish_call, call_of_task, call_of_tasks, done_call, grant_call, owed_lot, next_offer, settling_call, next_call, resting, answered}
 use Rattle.vale.specs.Replay.{ScriptUnit, standing_before, TakesTurn, TakesTurns, ReplaysUnit, ReplaysUnits, starting, numbers_between, units_of, users_of}
 use Rattle.vale.specs.Laws.{PlaysOneHistory, BeginsWith, UnderWayIsBeginning, UnderWayIsOne}
 
 -- One entry.
 
--- what an entry records does not hang on its reply
-recorded-same : (s : Standing) (ask : Ask) (reply other : Reply) → recorded_step s ask reply ≡ recorded_step s ask other
-recorded-same s (Enter user) reply other = refl
-recorded-same s (Open session name tx rx extra) reply other = refl
-recorded-same s (Send port frames) reply other = refl
-recorded-same s (Grant origin to) reply other = refl
-recorded-same s (Done lease) reply other = refl
-recorded-same s (Sync port back) reply other = refl
-recorded-same s (Reset port side fault) reply other = refl
-recorded-same s (Shut port) reply other = refl
-recorded-same s (Finish port bufs chain) reply other = refl
-recorded-same s (Leave session) reply other = refl
-recorded-same s (Put port offered) reply other = refl
-recorded-same s (PutKept port offered) reply other = refl
-recorded-same s (Get port back) reply other = refl
-recorded-same s (Watch monitor target sides) reply other = refl
-recorded-same s (Stat port) reply other = refl
+-- an ask whose entry keeps in its reply what it asked
+abbrev is_kept : Ask → Bool
+is_kept (PutKept port offered) = true
+is_kept _ = false
+
+-- what any other entry records does not hang on its reply
+recorded-same : (s : Standing) (ask : Ask) (reply other : Reply) → is_kept ask ≡ false → recorded_step s ask reply ≡ recorded_step s ask other
+recorded-same s (Enter user) reply other e = refl
+recorded-same s (Open session name tx rx extra) reply other e = refl
+recorded-same s (Send port frames) reply other e = refl
+recorded-same s (Grant origin to) reply other e = refl
+recorded-same s (Done lease) reply other e = refl
+recorded-same s (Sync port back) reply other e = refl
+recorded-same s (Reset port side fault) reply other e = refl
+recorded-same s (Shut port) reply other e = refl
+recorded-same s (Finish port bufs chain) reply other e = refl
+recorded-same s (Leave session) reply other e = refl
+recorded-same s (Put port offered) reply other e = refl
+recorded-same s (PutKept port offered) reply other e = absurd cc
+recorded-same s (Get port back) reply other e = refl
+recorded-same s (Watch monitor target sides) reply other e = refl
+recorded-same s (Stat port) reply other e = refl
+
+-- no call of a user is one
+abbrev IsCall : Option Ask → Type 0
+IsCall None = Unit {0}
+IsCall (Some ask) = is_kept ask ≡ false
+
+mapped-call : {X : Type 0} (f : X → Ask) (found : Option X) → ((x : X) → is_kept (f x) ≡ false) → IsCall (option_map f found)
+mapped-call f None all = tt
+mapped-call f (Some x) all = all x
+
+either-call : (one other : Option Ask) → IsCall one → IsCall other → IsCall (option_or one other)
+either-call None other a b = b
+either-call (Some ask) other a b = a
+
+enter-calls : (number : ℕ) (session : Option SessionId) → IsCall (enter_call number session)
+enter-calls number None = refl
+enter-calls number (Some session) = tt
+
+put-calls : (found : Option OwnPort) → IsCall (option_and_then put_call found)
+put-calls None = tt
+put-calls (Some port) = by_full (is_full port)
+  where
+    by_full : (b : Bool) → IsCall (cond b (Some (send_call port)) None)
+    by_full true = refl
+    by_full false = tt
+
+task-calls : (user : Machine) (task : Task) → IsCall (call_of_task user task)
+task-calls user Arrive = enter-calls user.number user.session
+task-calls user (OpenPort name tx rx) = mapped-call (λ (session : SessionId). Open session name tx rx 0) user.session (λ session. refl)
+task-calls user (PutFrame name fill) = put-calls (own_port user.ports name)
+task-calls user (SendFrames name) = mapped-call send_call (own_port user.ports name) (λ port. refl)
+task-calls user (TakeFrames name) = mapped-call sync_call (own_port user.ports name) (λ port. refl)
+task-calls user (ShutPort name) = mapped-call shut_call (own_port user.ports name) (λ port. refl)
+task-calls user (FinishPort name) = mapped-call finish_call (own_port user.ports name) (λ port. refl)
+task-calls user Depart = mapped-call Leave user.session (λ session. refl)
+
+tasks-call : (user : Machine) (tasks : List Task) → IsCall (call_of_tasks user tasks)
+tasks-call user [] = tt
+tasks-call user (task ∷ tasks) = task-calls user task
+
+settling-calls : (w : World) (session : Option SessionId) → IsCall (option_and_then (settling_call w) session)
+settling-calls w None = tt
+settling-calls w (Some session) =
+    either-call (option_map done_call (owed_lot w session.0)) (option_map grant_call (next_offer w session.0)) (mapped-call done_call (owed_lot w session.0) (λ lot. refl)) (mapped-call grant_call (next_offer w session.0) (λ offer. refl))
+
+call-plain : (s : Standing) (user : Machine) (ask : Ask) → next_call s user ≡ Some ask → is_kept ask ≡ false
+call-plain s user ask e =
+    subst IsCall e (either-call (option_and_then (settling_call s.world) user.session) (call_of_tasks user user.tasks) (settling-calls s.world user.session) (tasks-call user user.tasks))
 
 some-same : {X : Type 0} (x y : X) → Some x ≡ Some y → x ≡ y
 some-same x y e = cc
 
-entry-same : (s : Standing) (e f : Entry) → e.ask ≡ f.ask → Follows s e → Follows s f → e ≡ f
-entry-same s e f asks one other =
+entry-same : (s : Standing) (e f : Entry) → is_kept f.ask ≡ false → e.ask ≡ f.ask → Follows s e → Follows s f → e ≡ f
+entry-same s e f plain asks one other =
     let step : option_map session_and_reply (recorded_step s e.ask e.reply) ≡ option_map session_and_reply (recorded_step s f.ask f.reply) =
-    ap (option_map session_and_reply) (ap (λ (a : Ask). recorded_step s a e.reply) asks ∙ recorded-same s f.ask e.reply f.reply) in
+    ap (option_map session_and_reply) (ap (λ (a : Ask). recorded_step s a e.reply) asks ∙ recorded-same s f.ask e.reply f.reply plain) in
     let both : (e.session.0, e.reply) ≡ (f.session.0, f.reply) = some-same (e.session.0, e.reply) (f.session.0, f.reply) (sym one ∙ step ∙ other) in
     let session : e.session.0 ≡ f.session.0 = ap (λ (p : ℕ × Reply). p.0) both in
     let reply : e.reply ≡ f.reply = ap (λ (p : ℕ × Reply). p.1) both in
@@ -61,7 +119,7 @@ turn-same pool h k first m after after' same one other =
     let stands : standing_before pool h (first + 1) ≡ standing_before pool k (first + 1) =
     ap (λ n. standing_of pool (take n h)) at ∙ ap (standing_of pool) same ∙ ap (λ n. standing_of pool (take n k)) (sym at) in
     let asks : one.entry.ask ≡ other.entry.ask = some-same one.entry.ask other.entry.ask (sym one.asked ∙ ap (λ (s : Standing). next_call s m) stands ∙ other.asked) in
-    let entries : one.entry ≡ other.entry = entry-same (standing_before pool h (first + 1)) one.entry other.entry asks one.follows (subst (λ (s : Standing). Follows s other.entry) (sym stands) other.follows) in
+    let entries : one.entry ≡ other.entry = entry-same (standing_before pool h (first + 1)) one.entry other.entry (call-plain (standing_before pool k (first + 1)) m other.entry.ask other.asked) asks one.follows (subst (λ (s : Standing). Follows s other.entry) (sym stands) other.follows) in
     let here : slice_get h first ≡ Some one.entry = ap (slice_get h) (sym at) ∙ one.there in
     let there : slice_get k first ≡ Some other.entry = ap (slice_get k) (sym at) ∙ other.there in
     record {

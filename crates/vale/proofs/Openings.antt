@@ -1,11 +1,11 @@
 -- A port is opened.
-use Rattle.std.proofs.Common.{ℕ, ◌+◌, ◌≤◌, ◌≡◌, Bool, true, false, cond, not, ◌&&◌, ◌==◌, ◌||◌, nat_le, nat_lt, List, [], ◌∷◌, ◌++◌, map, length, take, drop, flat_map, find, Option, Some, None, option_map, slice_get, inl, Result, OnOk, IfErr, refl, sym, ◌∙◌, ap, subst, arith, length-append}
+use Rattle.std.proofs.Common.{ℕ, ◌+◌, ◌<◌, ◌^◌, ◌≤◌, ◌≡◌, is_some, Bool, true, false, cond, not, ◌&&◌, ◌==◌, ◌||◌, nat_le, nat_lt, List, [], ◌∷◌, ◌++◌, map, length, take, drop, flat_map, find, Option, Some, None, option_map, slice_get, inl, Result, OnOk, IfErr, refl, sym, ◌∙◌, ap, subst, arith, length-append}
 use Rattle.std.specs.List.{list_any}
 use Rattle.std.proofs.lemmas.Bool.{eq-eqb, and_parts, leb-true, ltb-false}
 use Rattle.std.proofs.lemmas.Grind.{flat_map-append}
 use Rattle.std.proofs.lemmas.List.{append-nil, map-append, length-take-le}
 use Rattle.std.proofs.Math.Bool.{or-true}
-use Rattle.nm_types.specs.Names.{kind_of, is_switch_port_name, is_monitor_name, is_switch_port_kind, is_monitor_kind}
+use Rattle.nm_types.specs.Names.{is_name, IsName, kind_of, is_switch_port_name, is_monitor_name, is_switch_port_kind, is_monitor_kind}
 use Rattle.nm_types.specs.declared.name.Kind.{Kind}
 use Rattle.nm_types.specs.declared.name.Kind.TheVariants.{Vale, Master, Slave, Monitor}
 use Rattle.nm_types.specs.declared.id.SessionId.{SessionId}
@@ -20,7 +20,7 @@ use Rattle.vale_entry.specs.World.{World, Port, is_open_at, is_session, free_cou
 use Rattle.vale_entry.specs.Opening.{open_refusal, name_refusal, refusal_or_room, opened_port, are_sizes, is_ring_size, finds_switches_full, finds_ports_full, has_name}
 use Rattle.vale_entry.specs.Holdings.{SessionBuffers, buffers_of_session, sessions_given}
 use Rattle.vale_entry.specs.Laws.{Rise, id_of_port}
-use Rattle.vale_entry.specs.Legal.{Standing, Outcome, step, standing_with, open_step_by, IsLegal}
+use Rattle.vale_entry.specs.Legal.{Standing, Outcome, step, can_open, IsEnabled, standing_with, open_step_by, IsLegal}
 use Rattle.vale_entry.proofs.Counting.{count_of-append}
 use Rattle.vale_entry.proofs.Each.{each-weaker, each-append}
 use Rattle.vale_entry.proofs.HistoryLaws.{free-rises}
@@ -28,6 +28,7 @@ use Rattle.vale_entry.proofs.Numbered.{world-numbered}
 use Rattle.vale_entry.proofs.Places.{open_port-place}
 use Rattle.vale_entry.proofs.Rising.{rise-wider, rise-push}
 use Rattle.vale_entry.proofs.Worlds.{count-world_of}
+use Rattle.vale_book.proofs.OpenSteps.{session-opens}
 use Rattle.vale_book.specs.Recorded.{Recorded, standing, entry_of, with_step, reply_of}
 use Rattle.vale_book.specs.OpenAnswers.{IsRecordedAs, IsUnopened}
 use Rattle.vale.specs.declared.port.OwnPort.{OwnPort}
@@ -131,6 +132,20 @@ has-more : (ports : List Port) (port : Port) (session : ℕ) (own : OwnPort) →
 has-more ports port session own h =
     has-kept ports (ports ++ port ∷ []) session own h (find-front (is_open_at own.id.0) ports (port ∷ []) h.port h.there)
 
+switch-name : (name : List ℕ) → is_switch_port_name name ≡ true → IsName name
+unfolding is_switch_port_name is_name
+switch-name name e = by_kind (kind_of name) refl e
+  where
+    by_kind : (kind : Option Kind) → kind_of name ≡ kind → is_switch_port_kind kind ≡ true → is_some (kind_of name) ≡ true
+    by_kind None is e = absurd cc
+    by_kind (Some kind) is e = rw is refl
+
+-- who is there may open a port under a switch's name
+pub open-enabled : (s : Standing) (session : SessionId) (name : List ℕ) (tx rx : ℕ) → is_session s.world session.0 ≡ true → is_switch_port_name name ≡ true → tx < 2 ^ 32 → rx < 2 ^ 32
+    → IsEnabled s (Open session name tx rx 0)
+open-enabled s session name tx rx here named first second =
+    session-opens s.world session.0 name tx rx 0 (switch-name name named) first second (omega arith) ∙ here
+
 -- what opening makes, where it is not refused
 open-made_by : (s : Standing) (session : ℕ) (name : List ℕ) (tx rx : ℕ) (found : Bool) (refusal : Option OpenFault) → option_map reply_of (cond found (Some (open_step_by refusal s session name tx rx 0)) None) ≡ Some Opened
     → cond found (Some (open_step_by refusal s session name tx rx 0)) None ≡ Some (open_step_by None s session name tx rx 0)
@@ -232,8 +247,8 @@ open-does b new user session name tx rx settled owns idle is on_switch legal rec
     let task : Task = OpenPort name tx rx in
     let ask : Ask = Open session name tx rx 0 in
     let made : Outcome = open_step_by None s session.0 name tx rx 0 in
-    let made_is : step s ask ≡ Some made = open-made_by s session.0 name tx rx (is_session s.world session.0) (open_refusal s.world name tx rx 0) recorded.reply_is in
-    let free : IsUnrefused s.world tx rx = unrefused s.world name tx rx on_switch (unrefused_by s session.0 name tx rx (is_session s.world session.0) (open_refusal s.world name tx rx 0) recorded.reply_is) in
+    let made_is : step s ask ≡ Some made = open-made_by s session.0 name tx rx (can_open s.world session.0 name tx rx 0) (open_refusal s.world name tx rx 0) recorded.reply_is in
+    let free : IsUnrefused s.world tx rx = unrefused s.world name tx rx on_switch (unrefused_by s session.0 name tx rx (can_open s.world session.0 name tx rx 0) (open_refusal s.world name tx rx 0) recorded.reply_is) in
     let given : List ℕ = take tx s.holdings.free in
     let after : Machine = record user { ports = user.ports ++ opened_own (length b.entries + 1) name given ∷ [] } in
     let new_is : new ≡ with_step b ask made = recorded.entry ∙ after-made b ask made made_is in
@@ -263,7 +278,7 @@ pub open-on : (b new : Recorded) (user : Machine) (session : SessionId) (name : 
 open-on b new user session name tx rx own ports settled owns idle is on_switch legal recorded own_is ports_is =
     let s : Standing = standing b in
     let given : List ℕ = take tx s.holdings.free in
-    let made_is = open-made_by s session.0 name tx rx (is_session s.world session.0) (open_refusal s.world name tx rx 0) recorded.reply_is in
+    let made_is = open-made_by s session.0 name tx rx (can_open s.world session.0 name tx rx 0) (open_refusal s.world name tx rx 0) recorded.reply_is in
     let count : length new.entries ≡ length b.entries + 1 =
     ap (λ (r : Recorded). length r.entries) (recorded.entry ∙ after-made b (Open session name tx rx 0) (open_step_by None s session.0 name tx rx 0) made_is) ∙ length-append b.entries _ in
     let all : ports ≡ user.ports ++ opened_own (length b.entries + 1) name given ∷ [] =
@@ -283,7 +298,7 @@ open-refused b new user session name tx rx fault settled owns idle is recorded =
     let task : Task = OpenPort name tx rx in
     let ask : Ask = Open session name tx rx 0 in
     let made : Outcome = open_step_by (Some fault) s session.0 name tx rx 0 in
-    let made_is : step s ask ≡ Some made = refused-made_by s session.0 name tx rx (is_session s.world session.0) (open_refusal s.world name tx rx 0) fault recorded.reply_is in
+    let made_is : step s ask ≡ Some made = refused-made_by s session.0 name tx rx (can_open s.world session.0 name tx rx 0) (open_refusal s.world name tx rx 0) fault recorded.reply_is in
     let new_is : new ≡ with_step b ask made = recorded.entry ∙ after-made b ask made made_is in
     let now : standing new ≡ standing_with s (entry_of ask made) made.next = ap standing new_is ∙ standing-step b ask made made_is in
     let keeps = nothing-keeps s ask session.0 name tx rx fault in

@@ -5,6 +5,7 @@ use Rattle.nm_types.specs.Names.{is_switch_port_name}
 use Rattle.vale_entry.specs.World.{open_port}
 use Rattle.vale_entry.specs.Holdings.{holds_all}
 use Rattle.vale_entry.specs.Legal.{Standing, step, sync_step, IsEnabled}
+use Rattle.vale_entry.proofs.Enabled.{has-enabled}
 use Rattle.vale_book.specs.Syncing.{given_buffers}
 use Rattle.vale.specs.declared.port.OwnPort.{OwnPort}
 use Rattle.vale.specs.Machine.{sync_call, got_at}
@@ -21,7 +22,7 @@ sync-made s own can =
     rw (h.there, name, settled-all s.world h.port.session can.settled, few, held) refl
 
 pub sync-enabled : (s : Standing) (own : OwnPort) → CanGive s own own.received → IsEnabled s (sync_call own)
-sync-enabled s own can = rw (sync-made s own can) refl
+sync-enabled s own can = has-enabled s (sync_call own) (rw (sync-made s own can) refl)
 
 pub got-is : (s : Standing) (id : ℕ) (got : List ℕ) → option_map (given_buffers s) (open_port s.world.ports id) ≡ Some got → got_at s id ≡ got
 got-is s id got e = ap (λ (o : Option (List ℕ)). unwrap_or o []) e

@@ -15,6 +15,7 @@ use Rattle.vale_entry.specs.Legal.{Standing, Outcome, step, standing_with, send_
 use Rattle.vale_entry.specs.Offers.{dests_of, wanted_frames}
 use Rattle.vale_entry.proofs.Each.{each-weaker, each-offers_of}
 use Rattle.vale_entry.proofs.Worlds.{count-world_of}
+use Rattle.vale_entry.proofs.Enabled.{has-enabled}
 use Rattle.vale_book.specs.Recorded.{Recorded, standing, entry_of, with_step, after_ask, reply_of}
 use Rattle.vale.specs.declared.port.OwnPort.{OwnPort}
 use Rattle.vale.specs.Machine.{send_call}
@@ -56,7 +57,7 @@ send-made s session own h settled =
     rw (h.there, name, settled-all s.world h.port.session settled, pending-sendable s.world.ports session own h) refl
 
 pub send-enabled : (s : Standing) (own : OwnPort) → CanCall s own → IsEnabled s (send_call own)
-send-enabled s own can = rw (send-made s can.session own can.has can.settled) refl
+send-enabled s own can = has-enabled s (send_call own) (rw (send-made s can.session own can.has can.settled) refl)
 
 -- What a send owes.
 

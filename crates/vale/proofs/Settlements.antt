@@ -17,7 +17,8 @@ use Rattle.vale_entry.specs.Offers.{dest_of, dests_of, is_offer_of}
 use Rattle.vale_entry.proofs.Each.{each-weaker, each-append, each-map, each-changed_at, each-find}
 use Rattle.vale_entry.proofs.ListLaws.{place-of}
 use Rattle.vale_entry.proofs.Worlds.{standing-push, count-world_of}
-use Rattle.vale_book.specs.Recorded.{Recorded, standing, entry_of, with_step, after_ask, after_outcome, reply_of}
+use Rattle.vale_entry.proofs.Enabled.{has-enabled}
+use Rattle.vale_book.specs.Recorded.{Recorded, standing, served_step, entry_of, with_step, after_ask, after_outcome, reply_of}
 use Rattle.vale.specs.Machine.{Machine, next_call, resting, answered, owed_lot, next_offer, done_call}
 use Rattle.vale.specs.Replay.{caller_of}
 use Rattle.vale.specs.Owned.{Owns, Owes, IsDoneLot, HasDoneLots}
@@ -30,7 +31,7 @@ pub standing-step : (b : Recorded) (ask : Ask) (made : Outcome) → recorded_ste
     → standing (with_step b ask made) ≡ standing_with (standing b) (entry_of ask made) made.next
 standing-step b ask made is = standing-push b.pool b.entries (entry_of ask made) ∙ ap (standing_after (standing b) (entry_of ask made)) is
 
-pub after-made : (b : Recorded) (ask : Ask) (made : Outcome) → step (standing b) ask ≡ Some made → after_ask b ask ≡ with_step b ask made
+pub after-made : (b : Recorded) (ask : Ask) (made : Outcome) → served_step (standing b) ask ≡ Some made → after_ask b ask ≡ with_step b ask made
 after-made b ask made is = ap (after_outcome b ask) is
 
 -- lists of lots
@@ -227,12 +228,12 @@ pub record LeasedAt (t : Standing) (session origin number : ℕ) (rest : List De
   pub owed : list_any (is_owed_by session) (flat_map line_of t.world.ports) ≡ true
   pub leased : list_any (is_lease number) (flat_map line_of t.world.ports) ≡ true
 
-lot-owed : (number session other : ℕ) (frame : Frame) (frames : List Frame) (line : List Lot) → other ≡ session → list_any (is_owed_by session) (with_lot number other (frame ∷ frames) line) ≡ true
+lot-owed : (number session other : ℕ) (frame : Frame) (frames : List Frame) (line : List Lot) → other ≡ session → list_any (is_owed_by session) (with_lot number other false (frame ∷ frames) line) ≡ true
 lot-owed number session other frame frames line e =
     let hit : (other == session) ≡ true = eq-eqb other session e in
     any-back (is_owed_by session) line _ (rw hit refl)
 
-lot-leased : (number session : ℕ) (frame : Frame) (frames : List Frame) (line : List Lot) → list_any (is_lease number) (with_lot number session (frame ∷ frames) line) ≡ true
+lot-leased : (number session : ℕ) (frame : Frame) (frames : List Frame) (line : List Lot) → list_any (is_lease number) (with_lot number session false (frame ∷ frames) line) ≡ true
 lot-leased number session frame frames line =
     let hit : (number == number) ≡ true = eq-eqb number number refl in
     any-back (is_lease number) line _ (rw hit refl)
@@ -262,7 +263,7 @@ grant-leased s session origin to rest (frame ∷ frames) g done is some =
 -- The completion of that lease.
 
 abbrev done_outcome : Standing → ℕ → Lot → Outcome
-done_outcome t number lot = record { session = lot.session; reply = Made; next = record t { world = record t.world { ports = ports_after_done number t.world.ports } } }
+done_outcome t number lot = record { session = lot.session; reply = Made; want = 0; next = record t { world = record t.world { ports = ports_after_done number t.world.ports } } }
 
 pub record DoneAt (t : Standing) (session number : ℕ) : Type 0 where
   pub lot : Lot
@@ -341,7 +342,8 @@ settles-empty b origin to given full gone said none session first rest first_to 
     let new : after_ask b ask ≡ with_step b ask made = after-made b ask made g.made in
     let now : standing (with_step b ask made) ≡ standing_with s (entry_of ask made) made.next = standing-step b ask made g.made in
     let empty : length (granted_frames s.world g.offer) ≡ 0 = sym (given-frames s session origin to given full gone rest g said) ∙ none in
-    let left : Owes (standing_with s (entry_of ask made) made.next).world session origin rest = grant-empty s session origin to rest (granted_frames s.world g.offer) g owes.leases refl empty in
+    let kept = grant-empty s session origin to rest (granted_frames s.world g.offer) g owes.leases refl empty in
+    let left : Owes (standing_with s (entry_of ask made) made.next).world session origin rest = record { offers = kept.offers; of_entry = kept.of_entry; leases = kept.leases } in
     subst (λ (n : Recorded). Settles b n session × Owes (standing n).world session origin rest) (sym new) (
       record {
         runs = λ user is idle. settle-runs b ask made user refl idle (call-grant s session origin to rest user g owes.leases is) g.made (is ∙ ap (λ n. Some (record { 0 = n })) (sym g.session_is));
@@ -402,7 +404,7 @@ settles-leased b origin to given full gone said some session first rest first_to
 -- what the calls require
 
 pub grant-enabled : (s : Standing) (origin to : ℕ) → OwesFirst s.world origin to → IsEnabled s (Grant origin (record { 0 = to }))
-grant-enabled s origin to o = let g = grant-at s o.session origin to o.first o.rest o.first_to o.owes in rw (g.made) refl
+grant-enabled s origin to o = let g = grant-at s o.session origin to o.first o.rest o.first_to o.owes in has-enabled s (Grant origin (record { 0 = to })) (rw (g.made) refl)
 
 pub done-enabled : (b : Recorded) (origin to given full gone : ℕ) → OwesFirst (standing b).world origin to
     → option_map reply_of (step (standing b) (Grant origin (record { 0 = to }))) ≡ Some (Shared given full gone) → 0 < given
@@ -411,7 +413,7 @@ done-enabled b origin to given full gone o said some =
     let g = grant-at (standing b) o.session origin to o.first o.rest o.first_to o.owes in
     let l = leased-at b o.session origin to given full gone o.rest g o.owes.leases said some in
     let d = done-at (standing (after_ask b (Grant origin (record { 0 = to })))) o.session origin (length b.entries + 1) o.rest l in
-    rw (d.made) refl
+    has-enabled (standing (after_ask b (Grant origin (record { 0 = to })))) (Done (record { 0 = length b.entries + 1 })) (rw (d.made) refl)
 
 -- the lease of a grant
 

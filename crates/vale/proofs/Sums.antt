@@ -23,12 +23,12 @@ use Rattle.vale_entry.specs.Offers.{offers_of, offer_to, dest_of, dests_of, want
 use Rattle.vale_entry.specs.Grant.{first_offer}
 use Rattle.vale_entry.specs.Delivery.{lease_at, delivered_frames}
 use Rattle.vale_entry.specs.Laws.{Rise, id_of_port}
-use Rattle.vale_entry.specs.Legal.{Standing, Outcome, step, world_of, open_step_by, send_step, send_step_at, can_send, named_of, offers_of_send, grant_step, grant_step_at, done_step_at, sync_step, sync_step_at, can_sync, offers_of_sync, shut_step, shut_step_at, can_finish, finish_step, finish_step_at, leave_step}
+use Rattle.vale_entry.specs.Legal.{Standing, Outcome, fits_u64, fits_chain, can_open, enter_step, world_of, open_step_by, send_step, send_step_at, can_send, named_of, offers_of_send, grant_step, grant_step_at, done_step_at, sync_step, sync_step_at, can_sync, offers_of_sync, shut_step, shut_step_at, can_finish, finish_step, finish_step_at, leave_step}
 use Rattle.vale_entry.specs.Closing.{shutting_port, leases_out, can_leave}
-use Rattle.vale_entry.specs.Room.{room_wanted, bytes_of}
+use Rattle.vale_entry.specs.Room.{bytes_of}
 use Rattle.vale_entry.proofs.Numbered.{world-numbered}
 use Rattle.vale_entry.proofs.Worlds.{count-world_of}
-use Rattle.vale_book.specs.Recorded.{Recorded, standing, IsRefusal, IsWithinLimits, refused_by}
+use Rattle.vale_book.specs.Recorded.{Recorded, standing, served_step, IsRefusal, IsWithinLimits, refused_by}
 
 -- ports are no more than entries, and offers no more than ports
 
@@ -77,7 +77,7 @@ sendable-bytes frames may =
 -- so a step wants little
 
 pub record WantsLittle (entries : ℕ) (ask : Ask) (made : Outcome) : Type 0 where
-  pub room : room_wanted ask made.reply ≤ 3 + 2 * entries
+  pub room : made.want ≤ 3 + 2 * entries
   pub bytes : bytes_of ask made.reply ≤ 2048 * 1023
 
 abbrev Little : ℕ → Ask → Option Outcome → Type 0
@@ -127,17 +127,21 @@ finish-little : (entries : ℕ) (s : Standing) (id : PortId) (bufs : List ℕ) (
 finish-little entries s id bufs chain None = tt
 finish-little entries s id bufs chain (Some port) = little-if entries (Finish id bufs chain) (can_finish s bufs port && (leases_out port == 0)) (finish_step s bufs port) (λ can. record { room = omega arith; bytes = omega arith })
 
-step-little : (entries : ℕ) (s : Standing) (ask : Ask) → length s.world.ports ≤ entries → Little entries ask (step s ask)
-step-little entries s (Enter user) few = record { room = omega arith; bytes = omega arith }
+step-little : (entries : ℕ) (s : Standing) (ask : Ask) → length s.world.ports ≤ entries → Little entries ask (served_step s ask)
+step-little entries s (Enter user) few = little-if entries (Enter user) (fits_u64 user) (enter_step s) (λ fits. record { room = omega arith; bytes = omega arith })
 step-little entries s (Open session name tx rx extra) few =
-    little-if entries (Open session name tx rx extra) (is_session s.world session.0) (open_step_by (open_refusal s.world name tx rx extra) s session.0 name tx rx extra)
+    little-if entries (Open session name tx rx extra) (can_open s.world session.0 name tx rx extra) (open_step_by (open_refusal s.world name tx rx extra) s session.0 name tx rx extra)
     (λ here. open-little entries s session session.0 name tx rx extra (open_refusal s.world name tx rx extra))
 step-little entries s (Send port frames) few = send-little entries s port frames (open_port s.world.ports port.0) few
 step-little entries s (Grant origin to) few = grant-little entries origin s to (first_offer s.world origin)
 step-little entries s (Done lease) few = done-little entries s lease (lease_at s.world.ports lease.0)
 step-little entries s (Sync port back) few = sync-little entries s port back (open_port s.world.ports port.0) few
 step-little entries s (Shut port) few = shut-little entries s port (open_port s.world.ports port.0)
-step-little entries s (Finish port bufs chain) few = finish-little entries s port bufs chain (shutting_port s.world.ports port.0)
+step-little entries s (Finish port bufs chain) few = by_chain (fits_chain chain)
+  where
+    by_chain : (fits : Bool) → Little entries (Finish port bufs chain) (cond fits (finish_step_at s bufs (shutting_port s.world.ports port.0)) None)
+    by_chain true = finish-little entries s port bufs chain (shutting_port s.world.ports port.0)
+    by_chain false = tt
 step-little entries s (Leave session) few = little-if entries (Leave session) (can_leave s.world session.0) (leave_step s session.0) (λ can. record { room = omega arith; bytes = omega arith })
 step-little entries s _ few = tt
 
@@ -161,6 +165,6 @@ sum-by b ask (Some made) Bytes used want little within entries bytes refused =
 
 pub refusal-sum : (b : Recorded) (ask : Ask) (what : Part) (used want : ℕ) → IsWithinLimits b → b.limits.entries ≤ 8388608 → b.limits.bytes ≤ 536870912 → IsRefusal b ask (RecordFull what used want) → used + want < 2 ^ 64
 refusal-sum b ask what used want within entries bytes refused =
-    sum-by b ask (step (standing b) ask) what used want (step-little (length b.entries) (standing b) ask (ports-few b)) within entries bytes refused
+    sum-by b ask (served_step (standing b) ask) what used want (step-little (length b.entries) (standing b) ask (ports-few b)) within entries bytes refused
 
 pub ruleset sums = (refusal-sum)

@@ -13,7 +13,7 @@ use Rattle.vale_entry.specs.declared.entry.Reply.TheVariants.{Unread, LeasesOut}
 use Rattle.vale_entry.specs.World.{World, Port, is_settled, open_port, due_of, buffers_of, free_count}
 use Rattle.vale_entry.specs.Closing.{shutting_port, shut, leases_out, unread_count, sessions_without, can_leave}
 use Rattle.vale_entry.specs.Holdings.{PortBuffers, holds_all, all_with_free, buffers_at_port, buffers_of_port}
-use Rattle.vale_entry.specs.Legal.{Standing, standing_of, world_of, holdings_of, step, IsEnabled, reply_to, shut_step, shut_step_at, can_finish, finish_step, finish_step_at, finish_reply, finish_reply_at, leave_step}
+use Rattle.vale_entry.specs.Legal.{Standing, standing_of, world_of, holdings_of, step, is_enabled, is_met, IsEnabled, fits_chain, can_shut, reply_to, shut_step, shut_step_at, can_finish, finish_step, finish_step_at, finish_reply, finish_reply_at, leave_step}
 use Rattle.vale_entry.specs.Laws.{Rise}
 use Rattle.vale_entry.specs.Room.{owed_by_port}
 use Rattle.vale_entry.specs.Stored.{Stored}
@@ -35,29 +35,25 @@ use Rattle.vale_book.proofs.GrantSteps.{seat-at}
 
 -- The conditions.
 
-some-if : {X : Type 0} (b : Bool) (x : X) → is_some (cond b (Some x) None) ≡ b
-some-if true x = refl
-some-if false x = refl
+met : {X : Type 0} (b : Bool) (x : X) → b ≡ true → cond b (Some x) None ≡ Some x
+met true x e = refl
+met false x e = absurd cc
 
-cond-some : {X : Type 0} (b : Bool) (x : X) → is_some (cond b (Some x) None) ≡ true → (b ≡ true) × (cond b (Some x) None ≡ Some x)
-cond-some true x e = (refl, refl)
-cond-some false x e = absurd cc
-
-shut-some : (s : Standing) (found : Option Port) → is_some (shut_step_at s found) ≡ can_shut_over s.world.ports s.world.offers found
+shut-some : (s : Standing) (found : Option Port) → is_met (can_shut s.world) found ≡ can_shut_over s.world.ports s.world.offers found
 shut-some s None = refl
-shut-some s (Some port) = some-if (is_settled s.world port.session) (shut_step s port)
+shut-some s (Some port) = refl
 
 pub enabled-shut : (b : Inside) (id : PortId) → StandsIn b
-    → can_shut_over (map port_of b.ports.items) b.offers.items (open_port (map port_of b.ports.items) id.0) ≡ is_some (step (standing_of b.pool b.history.entries) (Shut id))
+    → can_shut_over (map port_of b.ports.items) b.offers.items (open_port (map port_of b.ports.items) id.0) ≡ is_enabled (standing_of b.pool b.history.entries) (Shut id)
 enabled-shut b id stands =
     let s = standing_of b.pool b.history.entries in
     ap (λ (w : World). can_shut_over w.ports w.offers (open_port w.ports id.0)) stands.world_is ∙ sym (shut-some s (open_port s.world.ports id.0))
 
 pub enabled-leave : (b : Inside) (session : SessionId) → StandsIn b
-    → (list_any (λ s. s == session.0) b.sessions.items && may_leave (map port_of b.ports.items) b.offers.items session.0) ≡ is_some (step (standing_of b.pool b.history.entries) (Leave session))
+    → (list_any (λ s. s == session.0) b.sessions.items && may_leave (map port_of b.ports.items) b.offers.items session.0) ≡ is_enabled (standing_of b.pool b.history.entries) (Leave session)
 enabled-leave b session stands =
     let s = standing_of b.pool b.history.entries in
-    ap (λ (w : World). can_leave w session.0) stands.world_is ∙ sym (some-if (can_leave s.world session.0) (leave_step s session.0))
+    ap (λ (w : World). can_leave w session.0) stands.world_is
 
 map-remove : {X Y : Type 0} (f : X → Y) (xs : List X) (i : ℕ) → map f (remove xs i) ≡ remove (map f xs) i
 map-remove f [] zero = refl
@@ -117,7 +113,7 @@ shut-made b id place seat at enabled found =
     let s = standing_of b.pool b.history.entries in
     let here : open_port s.world.ports id.0 ≡ Some seat.port = rw (ports-are b at.stands) (found ∙ port-found b place seat at.seated) in
     ap (shut_step_at s) here
-    ∙ (cond-some (is_settled s.world seat.port.session) (shut_step s seat.port) (subst (λ (o : Option Port). is_some (shut_step_at s o) ≡ true) here enabled)).1
+    ∙ met (is_settled s.world seat.port.session) (shut_step s seat.port) (subst (λ (o : Option Port). is_met (can_shut s.world) o ≡ true) here enabled)
 
 pub stands-shut : (b : Inside) (id : PortId) (place : ℕ) (seat : Seat) (new : Stored) (seats : List Seat) → SeatAt b place seat
     → step (standing_of b.pool b.history.entries) (Shut id) ≡ Some (shut_step (standing_of b.pool b.history.entries) seat.port)
@@ -152,33 +148,35 @@ shut-at b id place stands enabled found =
 
 pub finish-can : (b : Inside) (id : PortId) (bufs : List ℕ) (chain : Chain) (place : ℕ) (seat : Seat) → SeatAt b place seat → IsEnabled (standing_of b.pool b.history.entries) (Finish id bufs chain)
     → shutting_port (map port_of b.ports.items) id.0 ≡ slice_get (map port_of b.ports.items) place
-    → (shutting_port (world_of b.pool b.history.entries).ports id.0 ≡ Some seat.port) × (can_finish (standing_of b.pool b.history.entries) bufs seat.port ≡ true)
+    → (shutting_port (world_of b.pool b.history.entries).ports id.0 ≡ Some seat.port) × (can_finish (standing_of b.pool b.history.entries) bufs seat.port ≡ true) × (fits_chain chain ≡ true)
 finish-can b id bufs chain place seat at enabled found =
     let s = standing_of b.pool b.history.entries in
     let here : shutting_port s.world.ports id.0 ≡ Some seat.port = rw (ports-are b at.stands) (found ∙ port-found b place seat at.seated) in
-    (here, (cond-some (can_finish s bufs seat.port) (finish_reply seat.port) (subst (λ (o : Option Port). is_some (finish_reply_at s bufs o) ≡ true) here enabled)).0)
+    let parts = and_parts (fits_chain chain) (is_met (can_finish s bufs) (shutting_port s.world.ports id.0)) enabled in
+    (here, subst (λ (o : Option Port). is_met (can_finish s bufs) o ≡ true) here parts.1, parts.0)
 
 -- a finish that is enabled, at the place of its port
-pub record FinishAt (b : Inside) (id : PortId) (bufs : List ℕ) (place : ℕ) : Type 0 where
+pub record FinishAt (b : Inside) (id : PortId) (bufs : List ℕ) (chain : Chain) (place : ℕ) : Type 0 where
   pub seat : Seat
   pub at : SeatAt b place seat
   pub found : shutting_port (world_of b.pool b.history.entries).ports id.0 ≡ Some seat.port
   pub can : can_finish (standing_of b.pool b.history.entries) bufs seat.port ≡ true
+  pub fits : fits_chain chain ≡ true
 
 pub finish-at : (b : Inside) (id : PortId) (bufs : List ℕ) (chain : Chain) (place : ℕ) → StandsIn b → IsEnabled (standing_of b.pool b.history.entries) (Finish id bufs chain)
     → (place < length b.ports.items) × (shutting_port (map port_of b.ports.items) id.0 ≡ slice_get (map port_of b.ports.items) place)
-    → FinishAt b id bufs place
+    → FinishAt b id bufs chain place
 finish-at b id bufs chain place stands enabled found =
     let here = seat-at b.ports.items place found.0 in
     let at = seat_at b place here.0 stands here.1 in
     let can = finish-can b id bufs chain place here.0 at enabled found.1 in
-    record { seat = here.0; at = at; found = can.0; can = can.1 }
+    record { seat = here.0; at = at; found = can.0; can = can.1; fits = can.2 }
 
 same-seat : (seats : List Seat) (place : ℕ) (a b : Seat) → slice_get seats place ≡ Some a → slice_get seats place ≡ Some b → a ≡ b
 same-seat seats place a b one two = let both : Some a ≡ Some b = sym one ∙ two in cc
 
-pub finish-due : (b : Inside) (id : PortId) (bufs : List ℕ) (place : ℕ) → FinishAt b id bufs place → (seat : Seat) → slice_get b.ports.items place ≡ Some seat → length bufs ≡ due_of seat.port
-finish-due b id bufs place k seat seated =
+pub finish-due : (b : Inside) (id : PortId) (bufs : List ℕ) (chain : Chain) (place : ℕ) → FinishAt b id bufs chain place → (seat : Seat) → slice_get b.ports.items place ≡ Some seat → length bufs ≡ due_of seat.port
+finish-due b id bufs chain place k seat seated =
     rw (same-seat b.ports.items place seat k.seat seated k.at.seated)
     (eqb-true (length bufs) (due_of k.seat.port) (and_parts (length bufs == due_of k.seat.port) (holds_all (holdings_of b.pool b.history.entries) k.seat.port.session bufs) k.can).0)
 
@@ -210,17 +208,17 @@ free-climb b stands =
     rw stands.free_is (climb-lower 1 (holdings_of b.pool b.history.entries).free
     (climb-rise 1 (holdings_of b.pool b.history.entries).free (b.pool + 1) (free-rises b.pool b.history.entries stands.legal).rise))
 
-pub finish-made : (b : Inside) (id : PortId) (bufs : List ℕ) (chain : Chain) (place : ℕ) (k : FinishAt b id bufs place) → leases_out k.seat.port ≡ 0
+pub finish-made : (b : Inside) (id : PortId) (bufs : List ℕ) (chain : Chain) (place : ℕ) (k : FinishAt b id bufs chain place) → leases_out k.seat.port ≡ 0
     → step (standing_of b.pool b.history.entries) (Finish id bufs chain) ≡ Some (finish_step (standing_of b.pool b.history.entries) bufs k.seat.port)
 finish-made b id bufs chain place k quiet =
     let s = standing_of b.pool b.history.entries in
-    ap (finish_step_at s bufs) k.found ∙ rw (k.can, quiet) refl
+    rw k.fits (ap (finish_step_at s bufs) k.found ∙ rw (k.can, quiet) refl)
 
-pub finish-said : (b : Inside) (id : PortId) (bufs : List ℕ) (chain : Chain) (place : ℕ) (k : FinishAt b id bufs place)
+pub finish-said : (b : Inside) (id : PortId) (bufs : List ℕ) (chain : Chain) (place : ℕ) (k : FinishAt b id bufs chain place)
     → reply_to (standing_of b.pool b.history.entries) (Finish id bufs chain) ≡ Some (finish_reply k.seat.port)
 finish-said b id bufs chain place k =
     let s = standing_of b.pool b.history.entries in
-    ap (finish_reply_at s bufs) k.found ∙ rw k.can refl
+    rw k.fits (ap (finish_reply_at s bufs) k.found ∙ rw k.can refl)
 
 pub said-unread : (port : Port) → leases_out port ≡ 0 → finish_reply port ≡ Unread (unread_count port)
 said-unread port quiet = rw quiet refl
@@ -228,7 +226,7 @@ said-unread port quiet = rw quiet refl
 pub said-waits : (port : Port) → 0 < leases_out port → finish_reply port ≡ LeasesOut (leases_out port)
 said-waits port some = rw (ne_eqb (leases_out port) 0 (λ none. omega (arith, some, none))) refl
 
-pub stands-finish : (b : Inside) (id : PortId) (bufs : List ℕ) (chain : Chain) (place : ℕ) (new : Stored) (seats : List Seat) (free : List ℕ) (k : FinishAt b id bufs place)
+pub stands-finish : (b : Inside) (id : PortId) (bufs : List ℕ) (chain : Chain) (place : ℕ) (new : Stored) (seats : List Seat) (free : List ℕ) (k : FinishAt b id bufs chain place)
     → IsFinished id bufs chain k.seat b.history new b.free.items free → seats ≡ remove b.ports.items place
     → Stands b.pool new.entries new.promised b.sessions.items seats (reverse b.pairs.items) b.offers.items free
 stands-finish b id bufs chain place new seats free k done ports =
@@ -252,26 +250,26 @@ stands-finish b id bufs chain place new seats free k done ports =
 
 -- after a finish that was made, or waits and changed nothing
 
-pub stands-finished : {E : Type 0} (r : Result ℕ E) (b : Inside) (id : PortId) (bufs : List ℕ) (chain : Chain) (place : ℕ) (new : Stored) (seats : List Seat) (free : List ℕ) (k : FinishAt b id bufs place)
+pub stands-finished : {E : Type 0} (r : Result ℕ E) (b : Inside) (id : PortId) (bufs : List ℕ) (chain : Chain) (place : ℕ) (new : Stored) (seats : List Seat) (free : List ℕ) (k : FinishAt b id bufs chain place)
     → OnOk r (IsFinished id bufs chain k.seat b.history new b.free.items free) → OnOk r (seats ≡ remove b.ports.items place)
     → OnErr r ((new ≡ b.history) × (seats ≡ b.ports.items) × (free ≡ b.free.items))
     → Stands b.pool new.entries new.promised b.sessions.items seats (reverse b.pairs.items) b.offers.items free
 stands-finished (Ok count) b id bufs chain place new seats free k done ports same = stands-finish b id bufs chain place new seats free k done ports
 stands-finished (Err out) b id bufs chain place new seats free k done ports same = rw (same.0, same.1, same.2) k.at.stands
 
-pub after-finished : (b : Inside) (id : PortId) (bufs : List ℕ) (chain : Chain) (place : ℕ) (new : Stored) (free : List ℕ) (k : FinishAt b id bufs place)
+pub after-finished : (b : Inside) (id : PortId) (bufs : List ℕ) (chain : Chain) (place : ℕ) (new : Stored) (free : List ℕ) (k : FinishAt b id bufs chain place)
     → new.limits ≡ b.history.limits → IsFinished id bufs chain k.seat b.history new b.free.items free → recorded_in b.pool new ≡ after_ask (recorded b) (Finish id bufs chain)
 after-finished b id bufs chain place new free k limits done =
     after-stored b.pool b.history new (Finish id bufs chain) (finish_step (standing_of b.pool b.history.entries) bufs k.seat.port) (finish-made b id bufs chain place k done.quiet) limits done.entries
 
-pub said-finished : {E : Type 0} (r : Result ℕ E) (b : Inside) (id : PortId) (bufs : List ℕ) (chain : Chain) (place : ℕ) (new : Stored) (free : List ℕ) (k : FinishAt b id bufs place)
+pub said-finished : {E : Type 0} (r : Result ℕ E) (b : Inside) (id : PortId) (bufs : List ℕ) (chain : Chain) (place : ℕ) (new : Stored) (free : List ℕ) (k : FinishAt b id bufs chain place)
     → OnOk r (IsFinished id bufs chain k.seat b.history new b.free.items free) → IfOk r (λ count. count ≡ unread_count k.seat.port)
     → IfOk r (λ count. reply_to (standing_of b.pool b.history.entries) (Finish id bufs chain) ≡ Some (Unread count))
 said-finished (Ok count) b id bufs chain place new free k done is =
     finish-said b id bufs chain place k ∙ ap (λ (reply : Reply). Some reply) (said-unread k.seat.port done.quiet ∙ ap Unread (sym is))
 said-finished (Err out) b id bufs chain place new free k done is = tt
 
-pub waits-finished : (b : Inside) (id : PortId) (bufs : List ℕ) (chain : Chain) (place n : ℕ) (k : FinishAt b id bufs place) → 0 < n → n ≡ leases_out k.seat.port
+pub waits-finished : (b : Inside) (id : PortId) (bufs : List ℕ) (chain : Chain) (place n : ℕ) (k : FinishAt b id bufs chain place) → 0 < n → n ≡ leases_out k.seat.port
     → reply_to (standing_of b.pool b.history.entries) (Finish id bufs chain) ≡ Some (LeasesOut n)
 waits-finished b id bufs chain place n k some is =
     finish-said b id bufs chain place k ∙ ap (λ (reply : Reply). Some reply) (said-waits k.seat.port (omega (arith, some, is)) ∙ ap LeasesOut (sym is))
@@ -282,7 +280,7 @@ pub leave-made : (b : Inside) (session : SessionId) → IsEnabled (standing_of b
     → step (standing_of b.pool b.history.entries) (Leave session) ≡ Some (leave_step (standing_of b.pool b.history.entries) session.0)
 leave-made b session enabled =
     let s = standing_of b.pool b.history.entries in
-    (cond-some (can_leave s.world session.0) (leave_step s session.0) enabled).1
+    met (can_leave s.world session.0) (leave_step s session.0) enabled
 
 pub stands-leave : (b : Inside) (session : SessionId) (new : Stored) (sessions : List ℕ) → StandsIn b → IsEnabled (standing_of b.pool b.history.entries) (Leave session)
     → new.entries ≡ b.history.entries ++ leave_entry session ∷ [] → new.promised + 1 ≡ b.history.promised → sessions ≡ sessions_without session.0 b.sessions.items

@@ -25,19 +25,19 @@ some-lot (Some lot) session e = (lot, refl, cc)
 done-made : (pool : ℕ) (h : List Entry) (promised lease session : ℕ) (sessions : List ℕ) (seats : List Seat) (pairs : List Pair) (offers : List Offer) (free : List ℕ)
     → Stands pool h promised sessions seats pairs offers free → option_map (λ (lot : Lot). lot.session) (lease_at (map port_of seats) lease) ≡ Some session
     → done_step_at (standing_of pool h) lease (lease_at (world_of pool h).ports lease)
-    ≡ Some (record { session = session; reply = Made; next = record (standing_of pool h) { world = record (standing_of pool h).world { ports = ports_after_done lease (standing_of pool h).world.ports } } })
+    ≡ Some (record { session = session; reply = Made; want = 0; next = record (standing_of pool h) { world = record (standing_of pool h).world { ports = ports_after_done lease (standing_of pool h).world.ports } } })
 done-made pool h promised lease session sessions seats pairs offers free old found =
     let lot = some-lot (lease_at (map port_of seats) lease) session found in
     let found' : lease_at (world_of pool h).ports lease ≡ Some lot.0 = rw (lease_stands pool h promised sessions seats pairs offers free old) lot.1 in
     ap (done_step_at (standing_of pool h) lease) found' ∙ ap (λ (n : ℕ).
-    let made : Outcome = record { session = n; reply = Made; next = record (standing_of pool h) { world = record (standing_of pool h).world { ports = ports_after_done lease (standing_of pool h).world.ports } } } in Some made) lot.2
+    let made : Outcome = record { session = n; reply = Made; want = 0; next = record (standing_of pool h) { world = record (standing_of pool h).world { ports = ports_after_done lease (standing_of pool h).world.ports } } } in Some made) lot.2
 
 pub owed-done : (pool : ℕ) (h : List Entry) (promised lease session : ℕ) (sessions : List ℕ) (seats : List Seat) (pairs : List Pair) (offers : List Offer) (free : List ℕ)
     → Stands pool h promised sessions seats pairs offers free → Some session ≡ option_map (λ (lot : Lot). lot.session) (lease_at (map port_of seats) lease)
     → 0 < promised
 owed-done pool h promised lease session sessions seats pairs offers free old found =
     let s = standing_of pool h in
-    let made : Outcome = record { session = session; reply = Made; next = record s { world = record s.world { ports = ports_after_done lease s.world.ports } } } in
+    let made : Outcome = record { session = session; reply = Made; want = 0; next = record s { world = record s.world { ports = ports_after_done lease s.world.ports } } } in
     owed-next pool h (Done (record { 0 = lease })) made promised old.legal old.promised_is
     (done-made pool h promised lease session sessions seats pairs offers free old (sym found)) refl
 
@@ -48,7 +48,7 @@ pub stands-done : (pool : ℕ) (h : List Entry) (promised promised' lease sessio
     → Stands pool (h ++ (record { session = record { 0 = session }; ask = Done (record { 0 = lease }); reply = Made }) ∷ []) promised' sessions seats' pairs offers free
 stands-done pool h promised promised' lease session sessions seats seats' pairs offers free old found room ports held =
     let s = standing_of pool h in
-    let made : Outcome = record { session = session; reply = Made; next = record s { world = record s.world { ports = ports_after_done lease s.world.ports } } } in
+    let made : Outcome = record { session = session; reply = Made; want = 0; next = record s { world = record s.world { ports = ports_after_done lease s.world.ports } } } in
     let some = owed-done pool h promised lease session sessions seats pairs offers free old found in
     stands-next pool h (Done (record { 0 = lease })) made promised promised' sessions seats' pairs offers free old.legal old.promised_is
     (done-made pool h promised lease session sessions seats pairs offers free old (sym found)) (omega (arith, room, some)) (record {
@@ -64,8 +64,8 @@ pub rooms-done : (pool : ℕ) (old new : Stored) (lease session : ℕ) (sessions
     → HadRoom (recorded_in pool new)
 rooms-done pool old new lease session sessions seats pairs offers free stands found had limits entries =
     let s = standing_of pool old.entries in
-    let made : Outcome = record { session = session; reply = Made; next = record s { world = record s.world { ports = ports_after_done lease s.world.ports } } } in
+    let made : Outcome = record { session = session; reply = Made; want = 0; next = record s { world = record s.world { ports = ports_after_done lease s.world.ports } } } in
     rooms-owed pool old new (Done (record { 0 = lease })) made stands.legal had
-    (done-made pool old.entries old.promised lease session sessions seats pairs offers free stands (sym found)) (λ reply. (refl, refl)) limits entries
+    (done-made pool old.entries old.promised lease session sessions seats pairs offers free stands (sym found)) refl limits entries
 
 pub ruleset dones = (owed-done, stands-done)

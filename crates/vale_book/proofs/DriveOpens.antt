@@ -13,14 +13,14 @@ use Rattle.vale_entry.specs.declared.entry.Entry.{Entry}
 use Rattle.vale_entry.specs.World.{is_session}
 use Rattle.vale_entry.specs.Opening.{open_refusal, name_refusal, refusal_or_room}
 use Rattle.vale_entry.specs.Holdings.{SessionBuffers, sessions_given}
-use Rattle.vale_entry.specs.Legal.{Standing, Outcome, world_of, holdings_of, IsLegal, step, open_step_by}
+use Rattle.vale_entry.specs.Legal.{Standing, Outcome, world_of, holdings_of, IsLegal, can_open, open_step_by}
 use Rattle.vale_entry.specs.Laws.{id_of_session}
 use Rattle.vale_entry.proofs.Agreeing.{SessionPlace, given-place}
 use Rattle.vale_entry.proofs.HistoryLaws.{history-stands}
 use Rattle.vale_entry.proofs.HistoryPlaces.{users-rise}
 use Rattle.vale_world.specs.declared.session.Session.{Session}
 use Rattle.vale_world.specs.Sessions.{held_by, IsPlaceOf, AreHeldAt}
-use Rattle.vale_book.specs.Recorded.{Recorded, standing, after_ask, after_outcome}
+use Rattle.vale_book.specs.Recorded.{Recorded, standing, served_step, after_ask, after_outcome}
 use Rattle.vale_book.specs.OpenAnswers.{IsRecordedAs, IsUnopened}
 use Rattle.vale_world.proofs.PortSizes.{sizes-fit}
 use Rattle.vale_book.proofs.OpenSteps.{open-made}
@@ -87,7 +87,7 @@ given-held pool h sessions session place more new legal held at changed =
     change found.0 found.1 ∙ sym (given-place more helds (world_of pool h).entry_count session (users-rise pool h legal) p)
 
 pub same-pool : (b : Recorded) (ask : Ask) → (holdings_of (after_ask b ask).pool (after_ask b ask).entries).sessions ≡ (holdings_of b.pool (after_ask b ask).entries).sessions
-same-pool b ask = by_outcome (step (standing b) ask)
+same-pool b ask = by_outcome (served_step (standing b) ask)
   where
     by_outcome : (made : Option Outcome) → (holdings_of (after_outcome b ask made).pool (after_outcome b ask made).entries).sessions ≡ (holdings_of b.pool (after_outcome b ask made).entries).sessions
     by_outcome None = refl
@@ -110,7 +110,7 @@ pub sessions-opened : (b new : Recorded) (session : ℕ) (name : List ℕ) (tx r
     → (holdings_of new.pool new.entries).sessions
     ≡ sessions_given session (take tx (standing b).holdings.free ++ take extra (drop (tx + rx) (standing b).holdings.free)) (holdings_of b.pool b.entries).sessions
 sessions-opened b new session name tx rx extra made =
-    let was = opened_by (standing b) session name tx rx extra (is_session (standing b).world session) (open_refusal (standing b).world name tx rx extra) made.reply_is in
+    let was = opened_by (standing b) session name tx rx extra (can_open (standing b).world session name tx rx extra) (open_refusal (standing b).world name tx rx extra) made.reply_is in
     let is = open-made b.pool b.entries session name tx rx extra None was.0 was.1 in
     ap (λ (r : Recorded). (holdings_of r.pool r.entries).sessions) made.entry
     ∙ (same-pool b (Open (record { 0 = session }) name tx rx extra) ∙ sessions-step b (Open (record { 0 = session }) name tx rx extra) (open_step_by None (standing b) session name tx rx extra) is is)
@@ -118,7 +118,7 @@ sessions-opened b new session name tx rx extra made =
 sessions-refused : (b new : Recorded) (session : ℕ) (name : List ℕ) (tx rx extra : ℕ) (fault : OpenFault) → IsRecordedAs b new (Open (record { 0 = session }) name tx rx extra) (Refused fault)
     → (holdings_of new.pool new.entries).sessions ≡ (holdings_of b.pool b.entries).sessions
 sessions-refused b new session name tx rx extra fault made =
-    let was = refused_as (standing b) session name tx rx extra fault (is_session (standing b).world session) (open_refusal (standing b).world name tx rx extra) made.reply_is in
+    let was = refused_as (standing b) session name tx rx extra fault (can_open (standing b).world session name tx rx extra) (open_refusal (standing b).world name tx rx extra) made.reply_is in
     let is = open-made b.pool b.entries session name tx rx extra (Some fault) was.0 was.1 in
     ap (λ (r : Recorded). (holdings_of r.pool r.entries).sessions) made.entry
     ∙ (same-pool b (Open (record { 0 = session }) name tx rx extra) ∙ sessions-step b (Open (record { 0 = session }) name tx rx extra) (open_step_by (Some fault) (standing b) session name tx rx extra) is is)
@@ -144,7 +144,7 @@ none-named None want have e = refl
 pub opened-few : (b new : Recorded) (session : ℕ) (name : List ℕ) (tx rx extra : ℕ) (ring others : List ℕ) → IsRecordedAs b new (Open (record { 0 = session }) name tx rx extra) Opened
     → length (take tx ring) + length (take extra others) ≤ min tx 1024 + min extra 1024
 opened-few b new session name tx rx extra ring others made =
-    let was = opened_by (standing b) session name tx rx extra (is_session (standing b).world session) (open_refusal (standing b).world name tx rx extra) made.reply_is in
+    let was = opened_by (standing b) session name tx rx extra (can_open (standing b).world session name tx rx extra) (open_refusal (standing b).world name tx rx extra) made.reply_is in
     let sizes = sizes-fit (standing b).world.ports name tx rx extra (none-named (name_refusal (standing b).world.ports name tx rx extra) _ _ was.1) in
     let one = length-take tx ring in
     let two = length-take extra others in

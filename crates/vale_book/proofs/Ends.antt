@@ -460,7 +460,7 @@ leave-next start b new others session left legal on e enabled made =
     let first = on.first in
     let asked : next_ending s ≡ Some (Leave session) =
     next-leave s session.0 (map (λ (held : SessionBuffers). held.session) others) on.quiet (first-session b others session.0 left legal first) (no-seen (find (is_port_of session.0) s.world.ports) e) in
-    let is = some-of (can_leave s.world session.0) (leave_step s session.0) enabled in
+    let is : step s (Leave session) ≡ Some (leave_step s session.0) = rw enabled refl in
     let next = stepped b new (Leave session) (leave_step s session.0) made legal is is refl in
     let here : slice_get s.holdings.sessions 0 ≡ Some first.held = rw (first.helds_are) refl in
     let goes = users_without-world b.pool b.entries 0 first.held legal here in

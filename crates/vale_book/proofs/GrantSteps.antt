@@ -1,5 +1,5 @@
 -- Grant: what stands after it.
-use Rattle.std.proofs.Common.{ℕ, zero, suc, List, [], ◌∷◌, ◌++◌, ◌≡◌, ◌≤◌, ◌<◌, ◌+◌, ◌-◌, ◌==◌, length, map, refl, sym, ◌∙◌, ap, arith, Bool, true, false, cond, Some, None, option_map, find, slice_get, slice_set, IsSome}
+use Rattle.std.proofs.Common.{ℕ, zero, suc, List, [], ◌∷◌, ◌++◌, ◌≡◌, ◌≤◌, ◌<◌, ◌+◌, ◌-◌, ◌==◌, length, map, refl, sym, ◌∙◌, ap, arith, Bool, true, false, cond, Option, Some, None, option_map, find, slice_get, slice_set, subst}
 use Rattle.std.proofs.lemmas.List.{map-set}
 use Rattle.std.proofs.lemmas.Option.{slice_get-map}
 use Rattle.std.proofs.lemmas.Bool.{eq-eqb, eqb-true}
@@ -13,7 +13,7 @@ use Rattle.vale_entry.specs.World.{World, Port, Pair, Offer, open_port, space_of
 use Rattle.vale_entry.specs.Offers.{is_offer_of}
 use Rattle.vale_entry.specs.Grant.{longest_fitting, port_after_grant, without_first, first_offer, grant_reply, granted_frames}
 use Rattle.vale_entry.specs.Holdings.{PortBuffers, with_lot_buffers, changed_buffers}
-use Rattle.vale_entry.specs.Legal.{Standing, standing_of, world_of, holdings_of, IsLegal, grant_step, grant_step_at}
+use Rattle.vale_entry.specs.Legal.{Standing, standing_of, world_of, holdings_of, IsLegal, IsEnabled, is_met, is_offer_next, grant_step, grant_step_at}
 use Rattle.vale_entry.proofs.Worlds.{count-world_of}
 use Rattle.vale_entry.proofs.Numbered.{world-numbered}
 use Rattle.vale_entry.proofs.Places.{open-place, changed_at-world}
@@ -73,10 +73,6 @@ pub helds-changed : (pool : ℕ) (h : List Entry) (seats : List Seat) (id place 
 helds-changed pool h seats id place seat change legal placed =
     rw (← placed.held_id, ← placed.helds_are) (changed_buffers-world pool h change place seat.held legal placed.held_here)
 
-enabled_by : {X : Type 0} (b : Bool) (x : X) → IsSome (cond b (Some x) None) → b ≡ true
-enabled_by true x e = refl
-enabled_by false x e = cc
-
 -- the first offer of an entry is the one that a grant of it grants
 pub first-world : (pool : ℕ) (h : List Entry) (promised : ℕ) (sessions : List ℕ) (seats : List Seat) (pairs : List Pair) (offers : List Offer) (free : List ℕ) (origin : ℕ) (offer : Offer)
     → Stands pool h promised sessions seats pairs offers free → find (is_offer_of origin) offers ≡ Some offer
@@ -86,9 +82,9 @@ first-world pool h promised sessions seats pairs offers free origin offer old fi
     rw same first
 
 pub granted-to : (s : Standing) (origin to : ℕ) (offer : Offer) → first_offer s.world origin ≡ Some offer
-    → IsSome (grant_step_at s to (first_offer s.world origin)) → offer.to ≡ to
+    → IsEnabled s (Grant origin (record { 0 = to })) → offer.to ≡ to
 granted-to s origin to offer first enabled =
-    eqb-true offer.to to (enabled_by (offer.to == to) (grant_step s offer) (rw first at enabled))
+    eqb-true offer.to to (subst (λ (o : Option Offer). is_met (is_offer_next to) o ≡ true) first enabled)
 
 pub granted-made : (s : Standing) (origin : ℕ) (offer : Offer) → first_offer s.world origin ≡ Some offer
     → grant_step_at s offer.to (first_offer s.world origin) ≡ Some (grant_step s offer)
@@ -189,7 +185,7 @@ pub rooms-grant : (pool : ℕ) (old new : Stored) (origin : ℕ) (offer : Offer)
     → HadRoom (recorded_in pool new)
 rooms-grant pool old new origin offer legal had first limits entries =
     rooms-owed pool old new (Grant origin (record { 0 = offer.to })) (grant_step (standing_of pool old.entries) offer) legal had
-    (granted-made (standing_of pool old.entries) origin offer first) (λ reply. (refl, refl)) limits entries
+    (granted-made (standing_of pool old.entries) origin offer first) refl limits entries
 
 pub stands-grant_gone : (pool : ℕ) (h : List Entry) (promised promised' origin : ℕ) (offer : Offer)
     (sessions : List ℕ) (seats : List Seat) (pairs : List Pair) (offers : List Offer) (free : List ℕ)

@@ -1,6 +1,8 @@
 -- Open: why it is refused, and what stands after it.
-use Rattle.std.proofs.Common.{ℕ, List, [], ◌∷◌, ◌++◌, ◌≡◌, ◌≤◌, ◌+◌, not, nat_lt, Bool, true, false, cond, length, map, take, drop, refl, sym, ◌∙◌, ap, arith, Option, Some, None, IsSome, subst}
+use Rattle.std.proofs.Common.{ℕ, List, [], ◌∷◌, ◌++◌, ◌≡◌, ◌≤◌, ◌<◌, ◌^◌, ◌+◌, ◌&&◌, not, nat_lt, Bool, true, false, cond, length, map, take, drop, refl, sym, ◌∙◌, ap, arith, Option, Some, None, IsSome, subst}
 use Rattle.std.specs.List.{list_any}
+use Rattle.std.proofs.lemmas.Bool.{lt-ltb}
+use Rattle.nm_types.specs.Names.{IsName}
 use Rattle.nm_types.specs.declared.fault.OpenFault.{OpenFault}
 use Rattle.nm_types.specs.declared.fault.OpenFault.TheVariants.{BadSize, SwitchesFull, PortsFull, NameTaken, NoBuffers, RecordFull, NoMemory}
 use Rattle.vale_entry.specs.Opening.{are_sizes, finds_switches_full, finds_ports_full, has_name, name_refusal, refusal_or_room, open_refusal, opened_port}
@@ -12,22 +14,22 @@ use Rattle.vale_entry.specs.declared.entry.Ask.TheVariants.{Open}
 use Rattle.vale_entry.specs.declared.entry.Reply.TheVariants.{Opened, Refused}
 use Rattle.vale_entry.specs.declared.entry.Entry.{Entry}
 use Rattle.vale_entry.specs.World.{World, Pair, Offer, is_session, free_count}
-use Rattle.vale_entry.specs.Legal.{Standing, Outcome, standing_of, world_of, open_step_by, open_step, step, IsEnabled}
-use Rattle.vale_entry.specs.Room.{promised_of, room_wanted, bytes_of}
+use Rattle.vale_entry.specs.Legal.{Standing, Outcome, standing_of, world_of, open_step_by, open_step, step, IsEnabled, can_open, fits_u32}
+use Rattle.vale_entry.specs.Room.{promised_of, bytes_of}
 use Rattle.vale_entry.specs.Stored.{Stored, Fits}
 use Rattle.vale_entry.proofs.Roomy.{opened-room}
 use Rattle.vale_entry.proofs.HistoryLaws.{free-rises}
 use Rattle.vale_entry.proofs.Worlds.{count-world_of}
 use Rattle.vale_world.specs.Seat.{Seat, port_of, held_of}
 use Rattle.vale_book.specs.Parts.{Stands}
-use Rattle.vale_book.specs.Recorded.{Recorded, IsRefusal, entry_of}
+use Rattle.vale_book.specs.Recorded.{Recorded, served_step, IsRefusal, entry_of}
 use Rattle.vale_book.specs.OpenAnswers.{IsRecordedAs, IsUnopened}
 use Rattle.vale_world.proofs.PortSizes.{sizes-fit}
 use Rattle.vale_book.proofs.Stands.{stands-next}
 
--- the step of an opening by a session that is there
+-- the step of an opening that is enabled
 pub open-made : (pool : ℕ) (h : List Entry) (session : ℕ) (name : List ℕ) (tx rx extra : ℕ) (refusal : Option OpenFault)
-    → is_session (world_of pool h) session ≡ true → open_refusal (world_of pool h) name tx rx extra ≡ refusal
+    → can_open (world_of pool h) session name tx rx extra ≡ true → open_refusal (world_of pool h) name tx rx extra ≡ refusal
     → step (standing_of pool h) (Open (record { 0 = session }) name tx rx extra) ≡ Some (open_step_by refusal (standing_of pool h) session name tx rx extra)
 open-made pool h session name tx rx extra refusal here is =
     ap (λ b. cond b (Some (open_step (standing_of pool h) session name tx rx extra)) None) here
@@ -53,7 +55,7 @@ free-few pool h promised sessions seats pairs offers free old =
 -- what stands for the entries stands for them with a refused opening more
 pub stands-refused : (pool : ℕ) (h : List Entry) (promised session : ℕ) (name : List ℕ) (tx rx extra : ℕ) (fault : OpenFault) (sessions : List ℕ) (seats : List Seat) (pairs : List Pair) (offers : List Offer) (free : List ℕ)
     → Stands pool h promised sessions seats pairs offers free
-    → is_session (world_of pool h) session ≡ true → open_refusal (world_of pool h) name tx rx extra ≡ Some fault
+    → can_open (world_of pool h) session name tx rx extra ≡ true → open_refusal (world_of pool h) name tx rx extra ≡ Some fault
     → Stands pool (h ++ (record { session = record { 0 = session }; ask = Open (record { 0 = session }) name tx rx extra; reply = Refused fault }) ∷ []) promised sessions seats pairs offers free
 stands-refused pool h promised session name tx rx extra fault sessions seats pairs offers free old here is =
     let s = standing_of pool h in
@@ -68,7 +70,7 @@ stands-refused pool h promised session name tx rx extra fault sessions seats pai
 -- and with an opening more, where the port is added and its buffers are taken from the front
 pub stands-opened : (pool : ℕ) (h : List Entry) (promised promised' session : ℕ) (name : List ℕ) (tx rx extra : ℕ) (sessions : List ℕ) (seats seats' : List Seat) (pairs : List Pair) (offers : List Offer) (free free' : List ℕ)
     → Stands pool h promised sessions seats pairs offers free
-    → is_session (world_of pool h) session ≡ true → open_refusal (world_of pool h) name tx rx extra ≡ None
+    → can_open (world_of pool h) session name tx rx extra ≡ true → open_refusal (world_of pool h) name tx rx extra ≡ None
     → promised' ≡ promised + 2
     → map port_of seats' ≡ map port_of seats ++ opened_port (length h + 1) session name tx rx extra ∷ []
     → map held_of seats' ≡ map held_of seats ++ (record { port = length h + 1; idle = take rx (drop tx free); lots = [] }) ∷ []
@@ -133,33 +135,38 @@ pub unopened-full : (old new : Recorded) (ask : Ask) (fault : StepFault) → new
 unopened-full old new ask (steps.RecordFull what used want) same full = (same, full)
 unopened-full old new ask steps.NoMemory same full = (same, full)
 
--- an opening is enabled where its session is there
-here_by : {X : Type 0} (b : Bool) (x : X) → IsSome (cond b (Some x) None) → b ≡ true
-here_by true x e = refl
-here_by false x e = cc
-
-pub enabled-here : (s : Standing) (session : ℕ) (name : List ℕ) (tx rx extra : ℕ) → IsEnabled s (Open (record { 0 = session }) name tx rx extra) → is_session s.world session ≡ true
-enabled-here s session name tx rx extra can = here_by (is_session s.world session) (open_step s session name tx rx extra) can
+-- an opening is enabled where its session is there, under a name and with sizes that fit
+pub session-opens : (w : World) (session : ℕ) (name : List ℕ) (tx rx extra : ℕ) → IsName name → tx < 2 ^ 32 → rx < 2 ^ 32 → extra < 2 ^ 32
+    → can_open w session name tx rx extra ≡ is_session w session
+session-opens w session name tx rx extra named first second third =
+    let one : fits_u32 tx ≡ true = lt-ltb tx (2 ^ 32) first in
+    let two : fits_u32 rx ≡ true = lt-ltb rx (2 ^ 32) second in
+    let three : fits_u32 extra ≡ true = lt-ltb extra (2 ^ 32) third in
+    rw (named, one, two, three) (and-true (is_session w session))
+  where
+    and-true : (b : Bool) → (b && true) ≡ b
+    and-true true = refl
+    and-true false = refl
 
 -- the record has the entry of the step, for which it had room
 recorded-as : (before now : Stored) (pool : ℕ) (ask : Ask) (made : Outcome)
-    → before.promised ≡ promised_of (world_of pool before.entries) → step (standing_of pool before.entries) ask ≡ Some made
-    → now.entries ≡ before.entries ++ entry_of ask made ∷ [] → now.limits ≡ before.limits → Fits before (room_wanted ask made.reply) (bytes_of ask made.reply)
+    → before.promised ≡ promised_of (world_of pool before.entries) → served_step (standing_of pool before.entries) ask ≡ Some made → step (standing_of pool before.entries) ask ≡ Some made
+    → now.entries ≡ before.entries ++ entry_of ask made ∷ [] → now.limits ≡ before.limits → Fits before (made.want) (bytes_of ask made.reply)
     → IsRecordedAs (record { pool = pool; limits = before.limits; entries = before.entries }) (record { pool = pool; limits = now.limits; entries = now.entries }) ask made.reply
-recorded-as before now pool ask made owed is entries limits fits = record {
-  reply_is = rw is refl;
+recorded-as before now pool ask made owed is steps entries limits fits = record {
+  reply_is = rw steps refl;
   entry = rw (is, entries, limits) refl;
   room = rw is (rw (← owed) fits.0, fits.1);
 }
 
 pub recorded-opened : (before now : Stored) (pool session : ℕ) (name : List ℕ) (tx rx extra : ℕ) (sessions : List ℕ) (seats : List Seat) (pairs : List Pair) (offers : List Offer) (free : List ℕ)
     → Stands pool before.entries before.promised sessions seats pairs offers free
-    → is_session (world_of pool before.entries) session ≡ true → open_refusal (world_of pool before.entries) name tx rx extra ≡ None
+    → can_open (world_of pool before.entries) session name tx rx extra ≡ true → open_refusal (world_of pool before.entries) name tx rx extra ≡ None
     → now.entries ≡ before.entries ++ (record { session = record { 0 = session }; ask = Open (record { 0 = session }) name tx rx extra; reply = Opened }) ∷ [] → now.limits ≡ before.limits → Fits before 3 0
     → IsRecordedAs (record { pool = pool; limits = before.limits; entries = before.entries }) (record { pool = pool; limits = now.limits; entries = now.entries }) (Open (record { 0 = session }) name tx rx extra) Opened
 recorded-opened before now pool session name tx rx extra sessions seats pairs offers free old here is entries limits fits =
     recorded-as before now pool (Open (record { 0 = session }) name tx rx extra) (open_step_by None (standing_of pool before.entries) session name tx rx extra) old.promised_is
-    (open-made pool before.entries session name tx rx extra None here is) entries limits fits
+    (open-made pool before.entries session name tx rx extra None here is) (open-made pool before.entries session name tx rx extra None here is) entries limits fits
 
 -- a port that is not refused finds its buffers
 pub unrefused-fits : (pool : ℕ) (h : List Entry) (promised : ℕ) (sessions : List ℕ) (seats : List Seat) (pairs : List Pair) (offers : List Offer) (free : List ℕ) (name : List ℕ) (tx rx extra : ℕ)

@@ -1,6 +1,6 @@
 -- Each entry of a record had room in what stood before it: one entry more, and what follows for the
 -- limits.
-use Rattle.std.proofs.Common.{ℕ, List, [], ◌∷◌, ◌++◌, ◌≡◌, ◌≤◌, ◌+◌, Option, Some, None, option_map, Result, Ok, Err, OnOk, OnErr, sym, ap, subst, arith}
+use Rattle.std.proofs.Common.{ℕ, List, [], ◌∷◌, ◌++◌, ◌≡◌, ◌≤◌, ◌+◌, Option, Some, None, option_map, Result, Ok, Err, OnOk, OnErr, refl, true, sym, ◌∙◌, ap, subst, arith}
 use Rattle.std.proofs.lemmas.List.{append-nil, append_assoc}
 use Rattle.std.proofs.lemmas.List.Sums.{sum_by_push}
 use Rattle.vale_entry.specs.declared.entry.Ask.{Ask}
@@ -8,24 +8,48 @@ use Rattle.vale_entry.specs.declared.entry.Ask.TheVariants.{Enter, Open, Send, G
 use Rattle.vale_entry.specs.declared.entry.Reply.{Reply}
 use Rattle.vale_entry.specs.declared.entry.Entry.{Entry}
 use Rattle.vale_entry.specs.Legal.{Standing, Outcome, step, recorded_step, session_and_reply, Follows, IsLegal, IsLegalFrom}
-use Rattle.vale_entry.specs.Room.{room_used, room_wanted, bytes_of, bytes_of_entry, frame_bytes}
+use Rattle.vale_entry.specs.Room.{room_used, bytes_of, bytes_of_entry, frame_bytes}
 use Rattle.vale_entry.proofs.HistoryLaws.{room-used}
 use Rattle.vale_entry.proofs.Worlds.{standing-push, legal-push}
-use Rattle.vale_book.specs.Recorded.{Recorded, standing, entry_of, after_outcome, after_ask, room_by, HasRoom, HadRoomFrom, HadRoom, IsWithinLimits}
+use Rattle.vale_entry.proofs.Wants.{is_owed, want-owed}
+use Rattle.vale_book.specs.Recorded.{Recorded, standing, served_step, entry_of, after_outcome, after_ask, room_by, HasRoom, HadRoomFrom, HadRoom, IsWithinLimits}
 
-had-push : (b : Recorded) (entries : List Entry) (entry : Entry) → HadRoomFrom b entries → HasRoom (record b { entries = b.entries ++ entries }) entry.ask
+abbrev HadRoomFor : Recorded → Entry → List Entry → Type 0
+HadRoomFor b entry h = room_by (record b { entries = h }) entry.ask (recorded_step (standing (record b { entries = h })) entry.ask entry.reply)
+
+had-push : (b : Recorded) (entries : List Entry) (entry : Entry) → HadRoomFrom b entries
+    → (let c : Recorded = record b { entries = b.entries ++ entries } in room_by c entry.ask (recorded_step (standing c) entry.ask entry.reply))
     → HadRoomFrom b (entries ++ entry ∷ [])
-had-push b [] entry had room = (subst (λ (h : List Entry). HasRoom (record b { entries = h }) entry.ask) (append-nil b.entries) room, tt)
+had-push b [] entry had room = (subst (HadRoomFor b entry) (append-nil b.entries) room, tt)
 had-push b (e ∷ es) entry had room =
-    (had.0, had-push (record b { entries = b.entries ++ e ∷ [] }) es entry had.1 (subst (λ (h : List Entry). HasRoom (record b { entries = h }) entry.ask) (sym (append_assoc b.entries (e ∷ []) es)) room))
+    (had.0, had-push (record b { entries = b.entries ++ e ∷ [] }) es entry had.1 (subst (HadRoomFor b entry) (sym (append_assoc b.entries (e ∷ []) es)) room))
+
+-- what is served is what its entry records
+pub served-recorded : (s : Standing) (ask : Ask) (made : Outcome) → served_step s ask ≡ Some made → recorded_step s ask made.reply ≡ Some made
+served-recorded s (Enter user) made e = e
+served-recorded s (Open session name tx rx extra) made e = e
+served-recorded s (Send port frames) made e = e
+served-recorded s (Grant origin to) made e = e
+served-recorded s (Done lease) made e = e
+served-recorded s (Sync port back) made e = e
+served-recorded s (Reset port side fault) made e = absurd cc
+served-recorded s (Shut port) made e = e
+served-recorded s (Finish port bufs chain) made e = e
+served-recorded s (Leave session) made e = e
+served-recorded s (Put port offered) made e = absurd cc
+served-recorded s (PutKept port offered) made e = absurd cc
+served-recorded s (Get port back) made e = absurd cc
+served-recorded s (Watch monitor target sides) made e = absurd cc
+served-recorded s (Stat port) made e = absurd cc
 
 -- the record after an ask that it had room for
 pub had-after : (old new : Recorded) (ask : Ask) → HadRoom old → new ≡ after_ask old ask → HasRoom old ask → HadRoom new
-had-after old new ask had made room = subst HadRoom (sym made) (by_outcome (step (standing old) ask) room)
+had-after old new ask had made room = subst HadRoom (sym made) (by_outcome (served_step (standing old) ask) refl room)
   where
-    by_outcome : (made : Option Outcome) → HasRoom old ask → HadRoom (after_outcome old ask made)
-    by_outcome None room = had
-    by_outcome (Some made) room = had-push (record old { entries = [] }) old.entries (entry_of ask made) had room
+    by_outcome : (made : Option Outcome) → served_step (standing old) ask ≡ made → room_by old ask made → HadRoom (after_outcome old ask made)
+    by_outcome None is room = had
+    by_outcome (Some made) is room =
+        had-push (record old { entries = [] }) old.entries (entry_of ask made) had (subst (room_by old ask) (sym (served-recorded (standing old) ask made is)) room)
 
 -- whether it was made or not
 pub had-made : {A E : Type 0} (r : Result A E) (old new : Recorded) (ask : Ask) → HadRoom old → OnOk r (new ≡ after_ask old ask) → OnOk r (HasRoom old ask) → OnErr r (new ≡ old)
@@ -43,39 +67,19 @@ abbrev reply-or : Reply → Option (ℕ × Reply) → Reply
 reply-or reply None = reply
 reply-or reply (Some made) = made.1
 
-same-reply : (b : Recorded) (entry : Entry) (found : Option Outcome) → option_map session_and_reply found ≡ Some (entry.session.0, entry.reply) → room_by b entry.ask found
-    → (room_used b.pool b.entries + room_wanted entry.ask entry.reply ≤ b.limits.entries) × (frame_bytes b.entries + bytes_of entry.ask entry.reply ≤ b.limits.bytes)
-same-reply b entry None e room = absurd cc
-same-reply b entry (Some made) e room =
-    let same : made.reply ≡ entry.reply = ap (reply-or entry.reply) e in
-    subst (λ (r : Reply). (room_used b.pool b.entries + room_wanted entry.ask r ≤ b.limits.entries) × (frame_bytes b.entries + bytes_of entry.ask r ≤ b.limits.bytes)) same room
-
--- an entry that follows is the one that its ask makes
-stepped : (s : Standing) (ask : Ask) (reply : Reply) (made : ℕ × Reply) → option_map session_and_reply (recorded_step s ask reply) ≡ Some made
-    → option_map session_and_reply (step s ask) ≡ Some made
-stepped s (Enter user) reply made e = e
-stepped s (Open session name tx rx extra) reply made e = e
-stepped s (Send port frames) reply made e = e
-stepped s (Grant origin to) reply made e = e
-stepped s (Done lease) reply made e = e
-stepped s (Sync port back) reply made e = e
-stepped s (Reset port side fault) reply made e = e
-stepped s (Shut port) reply made e = e
-stepped s (Finish port bufs chain) reply made e = e
-stepped s (Leave session) reply made e = e
-stepped s (Put port offered) reply made e = absurd cc
-stepped s (PutKept port offered) reply made e = absurd cc
-stepped s (Get port back) reply made e = e
-stepped s (Watch monitor target sides) reply made e = e
-stepped s (Stat port) reply made e = e
-
-within-push : (b : Recorded) (entry : Entry) → IsLegal b.pool b.entries → Follows (standing b) entry → HasRoom b entry.ask
+within-push : (b : Recorded) (entry : Entry) → IsLegal b.pool b.entries → Follows (standing b) entry → room_by b entry.ask (recorded_step (standing b) entry.ask entry.reply)
     → IsWithinLimits (record b { entries = b.entries ++ entry ∷ [] })
-within-push b entry legal follows room =
-    let fits = same-reply b entry (step (standing b) entry.ask) (stepped (standing b) entry.ask entry.reply (entry.session.0, entry.reply) follows) room in
-    let law = room-used b.pool b.entries entry legal follows in
-    let bytes = sum_by_push bytes_of_entry b.entries entry in
-    (omega (arith, fits.0, law), omega (arith, fits.1, bytes))
+within-push b entry legal follows room = by_outcome (recorded_step (standing b) entry.ask entry.reply) refl room
+  where
+    by_outcome : (found : Option Outcome) → recorded_step (standing b) entry.ask entry.reply ≡ found → room_by b entry.ask found → IsWithinLimits (record b { entries = b.entries ++ entry ∷ [] })
+    by_outcome None is room = let none : option_map session_and_reply None ≡ Some (entry.session.0, entry.reply) = ap (option_map session_and_reply) (sym is) ∙ follows in absurd cc
+    by_outcome (Some made) is room =
+        let same : Some (made.session, made.reply) ≡ Some (entry.session.0, entry.reply) = ap (option_map session_and_reply) (sym is) ∙ follows in
+        let reply : made.reply ≡ entry.reply = ap (reply-or entry.reply) same in
+        let law = room-used b.pool b.entries entry made legal follows is in
+        let bytes = sum_by_push bytes_of_entry b.entries entry in
+        let size = ap (bytes_of entry.ask) reply in
+        (omega (arith, room.0, law), omega (arith, room.1, bytes, size))
 
 within-from : (b : Recorded) (entries : List Entry) → IsLegal b.pool b.entries → IsLegalFrom (standing b) entries → IsWithinLimits b → HadRoomFrom b entries
     → IsWithinLimits (record b { entries = b.entries ++ entries })
@@ -91,12 +95,12 @@ pub within-had : (b : Recorded) → IsLegal b.pool b.entries → HadRoom b → I
 within-had b legal had = within-from (record b { entries = [] }) b.entries tt legal (omega arith, omega arith) had
 
 -- So there is room for what was promised.
-pub room-owed : (b : Recorded) (ask : Ask) → IsLegal b.pool b.entries → HadRoom b → ((reply : Reply) → (room_wanted ask reply ≡ 0) × (bytes_of ask reply ≡ 0)) → HasRoom b ask
-room-owed b ask legal had none = by_outcome (step (standing b) ask)
+pub room-owed : (b : Recorded) (ask : Ask) → IsLegal b.pool b.entries → HadRoom b → is_owed ask ≡ true → HasRoom b ask
+room-owed b ask legal had owed = by_outcome (served_step (standing b) ask) refl
   where
-    by_outcome : (made : Option Outcome) → room_by b ask made
-    by_outcome None = tt
-    by_outcome (Some made) =
+    by_outcome : (made : Option Outcome) → served_step (standing b) ask ≡ made → room_by b ask made
+    by_outcome None is = tt
+    by_outcome (Some made) is =
         let within = within-had b legal had in
-        let free = none made.reply in
+        let free = want-owed (standing b) ask made owed (served-recorded (standing b) ask made is) in
         (omega (arith, within.0, free.0), omega (arith, within.1, free.1))

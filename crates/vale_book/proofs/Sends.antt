@@ -15,8 +15,8 @@ use Rattle.vale_entry.specs.World.{World, Port, Pair, Offer, open_port}
 use Rattle.vale_entry.specs.Learning.{is_short}
 use Rattle.vale_entry.specs.Lookup.{is_lone}
 use Rattle.vale_entry.specs.Offers.{dest_of, dests_of, offer_to, offers_of}
-use Rattle.vale_entry.specs.Legal.{Standing, Outcome, standing_of, world_of, step, IsEnabled, can_send, send_step, send_step_at, named_of, offers_of_send}
-use Rattle.vale_entry.specs.Room.{room_of_reply, room_wanted}
+use Rattle.vale_entry.specs.Legal.{Standing, Outcome, standing_of, world_of, step, is_enabled, is_met, IsEnabled, can_send, send_step, send_step_at, named_of, offers_of_send}
+use Rattle.vale_entry.specs.Room.{room_of_reply}
 use Rattle.vale_entry.specs.Stored.{Stored, Fits, IsFull}
 use Rattle.vale_book.specs.Recorded.{after_ask, reply_of, IsRefusal, HasRoom}
 use Rattle.vale_world.specs.Seat.{Seat, port_of}
@@ -65,10 +65,6 @@ dests-origin origin other session wanted (port ∷ ports) =
 
 -- A send over the parts of a book.
 
-some-if : {X : Type 0} (b : Bool) (x : X) → is_some (cond b (Some x) None) ≡ b
-some-if true x = refl
-some-if false x = refl
-
 some-step : {X : Type 0} (b : Bool) (x : X) → b ≡ true → cond b (Some x) None ≡ Some x
 some-step true x e = refl
 some-step false x e = cc
@@ -82,12 +78,12 @@ open_port-is b id stands = ap (λ (w : World). open_port w.ports id) (sym stands
 
 some-send : (s : Standing) (ports : List Port) (offers : List Offer) (frames : List Frame) (found : Option Port)
     → ((sender : Port) → can_send s.world frames sender ≡ may_send ports offers frames sender)
-    → is_some (send_step_at s frames found) ≡ can_send_over ports offers frames found
+    → is_met (can_send s.world frames) found ≡ can_send_over ports offers frames found
 some-send s ports offers frames None same = refl
-some-send s ports offers frames (Some sender) same = some-if (can_send s.world frames sender) (send_step s frames sender) ∙ same sender
+some-send s ports offers frames (Some sender) same = same sender
 
 pub enabled-send : (b : Inside) (port : PortId) (frames : List Frame) → StandsIn b
-    → is_some (step (standing_of b.pool b.history.entries) (Send port frames)) ≡ can_send_over (map port_of b.ports.items) b.offers.items frames (open_port (map port_of b.ports.items) port.0)
+    → is_enabled (standing_of b.pool b.history.entries) (Send port frames) ≡ can_send_over (map port_of b.ports.items) b.offers.items frames (open_port (map port_of b.ports.items) port.0)
 enabled-send b port frames stands =
     some-send (standing_of b.pool b.history.entries) (map port_of b.ports.items) b.offers.items frames (open_port (world_of b.pool b.history.entries).ports port.0) (λ sender. can_send-is b frames sender stands)
     ∙ ap (can_send_over (map port_of b.ports.items) b.offers.items frames) (open_port-is b port.0 stands)
@@ -132,7 +128,7 @@ stands-send : (b : Inside) (port : PortId) (frames : List Frame) (sender : Port)
 stands-send b port frames sender new pairs offers k sent =
     let reply = send-replied b port frames sender k in
     let room = sent.promised in
-    let same : room_wanted (Send port frames) (sent_by b frames sender).reply ≡ room_of_reply (replied b frames sender) = ap room_of_reply reply in
+    let same : (sent_by b frames sender).want ≡ room_of_reply (replied b frames sender) = ap room_of_reply reply in
     rw (sent.entries, ← reply)
     (stands-next b.pool b.history.entries (Send port frames) (sent_by b frames sender) b.history.promised new.promised b.sessions.items b.ports.items pairs offers b.free.items
     k.stands.legal k.stands.promised_is (send-made b port frames sender k) (omega (arith, room, same)) (record {

@@ -13,7 +13,7 @@ use Rattle.vale_entry.specs.World.{World, Port, Pair, Offer, open_port, changed_
 use Rattle.vale_entry.specs.Offers.{offers_of, dests_of}
 use Rattle.vale_entry.specs.Delivery.{ready_lots, delivered_frames, port_after_sync}
 use Rattle.vale_entry.specs.Holdings.{PortBuffers, delivered_buffers, changed_buffers, with_returned, holdings_after_sync, holds_all, sessions_given, sessions_less}
-use Rattle.vale_entry.specs.Legal.{Standing, Outcome, standing_of, world_of, holdings_of, IsLegal, step, IsEnabled, offers_of_sync, sync_step, can_sync, sync_step_at, standing_after}
+use Rattle.vale_entry.specs.Legal.{Standing, Outcome, standing_of, world_of, holdings_of, IsLegal, step, is_enabled, is_met, IsEnabled, room_of_dests, offers_of_sync, sync_step, can_sync, sync_step_at, standing_after}
 use Rattle.vale_entry.specs.Room.{promised_of}
 use Rattle.vale_entry.specs.Stored.{Stored, Fits, IsFull}
 use Rattle.vale_entry.proofs.Worlds.{standing-push}
@@ -29,34 +29,34 @@ use Rattle.vale_book.proofs.Stands.{stands-next}
 
 -- The condition.
 
-parts-none : {X Y : Type 0} (a b c d : Bool) (x : X) (y : Y) → cond (a && (b && c)) (Some x) None ≡ None → is_some (cond (a && (b && (c && d))) (Some y) None) ≡ true → ⊥
-parts-none false b c d x y e some = absurd cc
-parts-none true false c d x y e some = absurd cc
-parts-none true true false d x y e some = absurd cc
-parts-none true true true d x y e some = absurd cc
+parts-none : {X : Type 0} (a b c d : Bool) (x : X) → cond (a && (b && c)) (Some x) None ≡ None → (a && (b && (c && d))) ≡ true → ⊥
+parts-none false b c d x e some = absurd cc
+parts-none true false c d x e some = absurd cc
+parts-none true true false d x e some = absurd cc
+parts-none true true true d x e some = absurd cc
 
-parts-some : {X Y : Type 0} (a b c d : Bool) (x z : X) (y : Y) → cond (a && (b && c)) (Some x) None ≡ Some z
-    → (x ≡ z) × (is_some (cond (a && (b && (c && d))) (Some y) None) ≡ d)
-parts-some false b c d x z y e = absurd cc
-parts-some true false c d x z y e = absurd cc
-parts-some true true false d x z y e = absurd cc
-parts-some true true true false x z y e = (cc, refl)
-parts-some true true true true x z y e = (cc, refl)
+parts-some : {X : Type 0} (a b c d : Bool) (x z : X) → cond (a && (b && c)) (Some x) None ≡ Some z
+    → (x ≡ z) × ((a && (b && (c && d))) ≡ d)
+parts-some false b c d x z e = absurd cc
+parts-some true false c d x z e = absurd cc
+parts-some true true false d x z e = absurd cc
+parts-some true true true false x z e = (cc, refl)
+parts-some true true true true x z e = (cc, refl)
 
 none-by : (s : Standing) (back : List ℕ) (found : Option Port) → session_if (may_sync s.world.ports s.world.offers (length back)) found ≡ None
-    → is_some (sync_step_at s back found) ≡ true → ⊥
+    → is_met (can_sync s back) found ≡ true → ⊥
 none-by s back None e some = absurd cc
 none-by s back (Some port) e some =
-    parts-none _ (is_settled s.world port.session) (nat_le (length back) port.out) (holds_all s.holdings port.session back) port.session (sync_step s back port) e some
+    parts-none _ (is_settled s.world port.session) (nat_le (length back) port.out) (holds_all s.holdings port.session back) port.session e some
 
 some-by : (s : Standing) (back : List ℕ) (found : Option Port) (session : ℕ) → session_if (may_sync s.world.ports s.world.offers (length back)) found ≡ Some session
-    → (option_map session_of_port found ≡ Some session) × (is_some (sync_step_at s back found) ≡ holds_all s.holdings session back)
+    → (option_map session_of_port found ≡ Some session) × (is_met (can_sync s back) found ≡ holds_all s.holdings session back)
 some-by s back None session e = absurd cc
 some-by s back (Some port) session e =
-    let parts = parts-some _ (is_settled s.world port.session) (nat_le (length back) port.out) (holds_all s.holdings port.session back) port.session session (sync_step s back port) e in
+    let parts = parts-some _ (is_settled s.world port.session) (nat_le (length back) port.out) (holds_all s.holdings port.session back) port.session session e in
     (ap (λ (n : ℕ). Some n) parts.0, parts.1 ∙ ap (λ (n : ℕ). holds_all s.holdings n back) parts.0)
 
-same-parts : (w : World) (pool count : ℕ) (sessions : List ℕ) (ports : List Port) (pairs : List Pair) (offers : List Offer) (returned id : ℕ) → world_in pool count sessions ports pairs offers ≡ w
+same-parts : (w : World) (pool count : ℕ) (sessions : List ℕ) (ports : List Port) (pairs : List Pair) (offers : List Offer) (returned id : ℕ) → world_in pool count sessions ports pairs offers w.counts ≡ w
     → session_if (may_sync w.ports w.offers returned) (open_port w.ports id) ≡ session_if (may_sync ports offers returned) (open_port ports id)
 same-parts w pool count sessions ports pairs offers returned id e = rw (← e) refl
 
@@ -70,7 +70,7 @@ may_sync-none pool h promised id back sessions seats pairs offers free old e ena
 pub may_sync-some : (pool : ℕ) (h : List Entry) (promised id session : ℕ) (back : List ℕ) (sessions : List ℕ) (seats : List Seat) (pairs : List Pair) (offers : List Offer) (free : List ℕ)
     → Stands pool h promised sessions seats pairs offers free → Some session ≡ session_if (may_sync (map port_of seats) offers (length back)) (open_port (map port_of seats) id)
     → (option_map session_of_port (open_port (world_of pool h).ports id) ≡ Some session)
-    × (is_some (step (standing_of pool h) (Sync (record { 0 = id }) back)) ≡ holds_all (holdings_of pool h) session back)
+    × (is_enabled (standing_of pool h) (Sync (record { 0 = id }) back) ≡ holds_all (holdings_of pool h) session back)
 may_sync-some pool h promised id session back sessions seats pairs offers free old e =
     some-by (standing_of pool h) back (open_port (world_of pool h).ports id) session
     (same-parts (world_of pool h) pool (length h) sessions (map port_of seats) pairs offers (length back) id old.world_is ∙ sym e)
@@ -89,6 +89,7 @@ abbrev synced : Standing → List ℕ → Port → List Offer → Outcome
 synced s back port new = record {
   session = port.session;
   reply = Gave (length (delivered_frames port)) (dests_of new);
+  want = room_of_dests (dests_of new);
   next = record s {
     world = record s.world {
       ports = changed_at port.id (port_after_sync (length back)) s.world.ports;
@@ -98,9 +99,9 @@ synced s back port new = record {
   };
 }
 
-cond-some : {X : Type 0} (b : Bool) (x : X) → is_some (cond b (Some x) None) ≡ true → (b ≡ true) × (cond b (Some x) None ≡ Some x)
-cond-some true x e = (refl, refl)
-cond-some false x e = absurd cc
+met : {X : Type 0} (b : Bool) (x : X) → b ≡ true → cond b (Some x) None ≡ Some x
+met true x e = refl
+met false x e = absurd cc
 
 -- a sync that is enabled, at the place of its port
 pub record SyncAt (pool : ℕ) (h : List Entry) (id : ℕ) (back : List ℕ) (place : ℕ) (seat : Seat) : Type 0 where
@@ -130,8 +131,8 @@ sync-at pool h promised id back sessions seats place seat pairs offers free old 
     let world = held-world pool h place seat.port old.legal here in
     let same : world.held ≡ seat.held = cc (world.here, held) in
     let found : open_port (world_of pool h).ports id ≡ Some seat.port = rw ports (at ∙ stood) in
-    let can = cond-some (can_sync s back seat.port) (sync_step s back seat.port) (subst (λ (o : Option Port). is_some (sync_step_at s back o) ≡ true) found enabled) in
-    let settled = (and_parts _ _ can.0).1 in
+    let can : can_sync s back seat.port ≡ true = subst (λ (o : Option Port). is_met (can_sync s back) o ≡ true) found enabled in
+    let settled = (and_parts _ _ can).1 in
     let rest = (and_parts _ _ settled).1 in
     record {
       here = here;
@@ -139,7 +140,7 @@ sync-at pool h promised id back sessions seats place seat pairs offers free old 
       held = held;
       id_is = ap (λ (x : PortBuffers). x.port) (sym same) ∙ world.agrees.id;
       few = leb-true _ _ (and_parts _ _ rest).0;
-      made = ap (sync_step_at s back) found ∙ can.1 ∙ ap (λ (new : List Offer). let o : Outcome = synced s back seat.port new in Some o) (offers_of_sync-none s.world seat.port quiet);
+      made = ap (sync_step_at s back) found ∙ met (can_sync s back seat.port) (sync_step s back seat.port) can ∙ ap (λ (new : List Offer). let o : Outcome = synced s back seat.port new in Some o) (offers_of_sync-none s.world seat.port quiet);
     }
 
 pub sync-few : (pool : ℕ) (h : List Entry) (promised id : ℕ) (back : List ℕ) (sessions : List ℕ) (seats : List Seat) (place : ℕ) (seat : Seat) (pairs : List Pair) (offers : List Offer) (free : List ℕ)
@@ -232,8 +233,8 @@ sessions-after_sync b id session back got enabled = by_port (open_port (standing
     by_port None found whose given = absurd cc
     by_port (Some port) found whose given =
         let s = standing b in
-        let can = cond-some (can_sync s back port) (sync_step s back port) (subst (λ (o : Option Port). is_some (sync_step_at s back o) ≡ true) found enabled) in
-        let made : step s (Sync (record { 0 = id }) back) ≡ Some (sync_step s back port) = ap (sync_step_at s back) found ∙ can.1 in
+        let can : can_sync s back port ≡ true = subst (λ (o : Option Port). is_met (can_sync s back) o ≡ true) found enabled in
+        let made : step s (Sync (record { 0 = id }) back) ≡ Some (sync_step s back port) = ap (sync_step_at s back) found ∙ met (can_sync s back port) (sync_step s back port) can in
         let entry = entry_of (Sync (record { 0 = id }) back) (sync_step s back port) in
         let next : standing_of b.pool (b.entries ++ entry ∷ []) ≡ standing_after s entry (Some (sync_step s back port)) = standing-push b.pool b.entries entry ∙ ap (standing_after s entry) made in
         let mine : port.session ≡ session = cc in

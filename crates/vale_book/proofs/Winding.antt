@@ -12,8 +12,9 @@ use Rattle.vale_entry.specs.World.{World, Lot, Offer}
 use Rattle.vale_entry.specs.Delivery.{lease_at, ports_after_done}
 use Rattle.vale_entry.specs.Holdings.{Holdings}
 use Rattle.vale_entry.specs.Grant.{first_offer}
-use Rattle.vale_entry.specs.Legal.{Standing, Outcome, step, recorded_step, standing_of, standing_with, standing_after, Follows, IsLegal, IsEnabled, grant_step, grant_step_at, done_step_at}
-use Rattle.vale_entry.specs.Room.{promised_of, room_wanted}
+use Rattle.vale_entry.specs.Legal.{Standing, Outcome, step, recorded_step, standing_of, standing_with, standing_after, Follows, IsLegal, IsEnabled, grant_step, grant_step_at, done_step, done_step_at}
+use Rattle.vale_entry.specs.Room.{promised_of}
+use Rattle.vale_entry.proofs.Enabled.{enabled-has, has-enabled}
 use Rattle.vale_entry.proofs.HistoryLaws.{room-promised}
 use Rattle.vale_entry.proofs.Worlds.{standing-push, legal-push}
 use Rattle.vale_world.specs.Leases.{IsDone, first_lease}
@@ -21,7 +22,7 @@ use Rattle.vale_world.specs.Seat.{port_of}
 use Rattle.vale_world.proofs.LeasePlaces.{first_lease-some, first_lease-none}
 use Rattle.vale_book.specs.declared.book.Book.TheInside.{Inside}
 use Rattle.vale_book.specs.BookView.{recorded, StandsIn}
-use Rattle.vale_book.specs.Recorded.{Recorded, standing, after_outcome, after_ask, with_step, entry_of}
+use Rattle.vale_book.specs.Recorded.{Recorded, standing, served_step, after_outcome, after_ask, with_step, entry_of}
 use Rattle.vale_book.specs.Winding.{IsContinued, GoesToEnd, next_ending}
 
 pub continued-same : (b : Recorded) → IsContinued b b
@@ -55,7 +56,7 @@ continued-step old b ask made on next =
 
 -- the ask that comes next adds to the entries, or leaves them
 pub continued-after : (old b : Recorded) (ask : Ask) → IsContinued old b → next_ending (standing b) ≡ Some ask → IsContinued old (after_ask b ask)
-continued-after old b ask on next = by_outcome (step (standing b) ask)
+continued-after old b ask on next = by_outcome (served_step (standing b) ask)
   where
     by_outcome : (made : Option Outcome) → IsContinued old (after_outcome b ask made)
     by_outcome None = on
@@ -78,12 +79,12 @@ pub record IsStepped (b new : Recorded) (ask : Ask) (made : Outcome) : Type 0 wh
   pub legal : IsLegal new.pool new.entries
   pub less : promised_of (standing new).world < promised_of (standing b).world
 
-pub stepped : (b new : Recorded) (ask : Ask) (made : Outcome) → new ≡ after_ask b ask → IsLegal b.pool b.entries → step (standing b) ask ≡ Some made → recorded_step (standing b) ask made.reply ≡ Some made
-    → room_wanted ask made.reply ≡ 0 → IsStepped b new ask made
+pub stepped : (b new : Recorded) (ask : Ask) (made : Outcome) → new ≡ after_ask b ask → IsLegal b.pool b.entries → served_step (standing b) ask ≡ Some made → recorded_step (standing b) ask made.reply ≡ Some made
+    → made.want ≡ 0 → IsStepped b new ask made
 stepped b new ask made new_is legal is stored none =
     let entry = entry_of ask made in
     let follows : Follows (standing b) entry = rw stored refl in
-    let law = room-promised b.pool b.entries entry legal follows in
+    let law = room-promised b.pool b.entries entry made legal follows stored in
     let next : new ≡ with_step b ask made = new_is ∙ ap (after_outcome b ask) is in
     let here : IsStepped b (with_step b ask made) ask made = record {
       standing_is = standing-push b.pool b.entries entry ∙ ap (standing_after (standing b) entry) stored;
@@ -119,7 +120,7 @@ pub granting-next : (old b new : Recorded) (origin : ℕ) (to : PortId) → IsLe
     → new ≡ after_ask b (Grant origin to)
     → IsGranting old new × (promised_of (standing new).world < promised_of (standing b).world)
 granting-next old b new origin to legal on enabled goes made =
-    let k = grant-of (standing b) origin to.0 enabled in
+    let k = grant-of (standing b) origin to.0 (enabled-has (standing b) (Grant origin to) enabled) in
     let next = stepped b new (Grant origin to) (grant_step (standing b) k.offer) made legal k.made k.made refl in (
       record {
         more = subst (λ (r : Recorded). IsContinued old r) (sym made) (continued-after old b (Grant origin to) on.more goes);
@@ -136,17 +137,17 @@ pub record IsCompleting (old new : Recorded) : Type 0 where
   pub held : (standing new).holdings.sessions ≡ (standing old).holdings.sessions
 
 done-by : (s : Standing) (lease : ℕ) (found : Option Lot) → is_some (done_step_at s lease found) ≡ true
-    → (made : Outcome) × (done_step_at s lease found ≡ Some made) × (made.next.world.offers ≡ s.world.offers) × (made.next.holdings ≡ s.holdings)
+    → (made : Outcome) × (done_step_at s lease found ≡ Some made) × (made.next.world.offers ≡ s.world.offers) × (made.next.holdings ≡ s.holdings) × (made.want ≡ 0)
 done-by s lease None e = absurd cc
-done-by s lease (Some lot) e = (record { session = lot.session; reply = Made; next = record s { world = record s.world { ports = ports_after_done lease s.world.ports } } }, refl, refl, refl)
+done-by s lease (Some lot) e = (done_step s lease lot, refl, refl, refl, refl)
 
 pub completing-next : (old b new : Recorded) (lease : LeaseId) → IsLegal b.pool b.entries → IsCompleting old b → IsEnabled (standing b) (Done lease) → first_lease (standing b).world.ports ≡ Some lease.0
     → new ≡ after_ask b (Done lease)
     → IsCompleting old new × (promised_of (standing new).world < promised_of (standing b).world)
 completing-next old b new lease legal on enabled first made =
     let goes : next_ending (standing b) ≡ Some (Done lease) = rw (on.granted, first) refl in
-    let k = done-by (standing b) lease.0 (lease_at (standing b).world.ports lease.0) enabled in
-    let next = stepped b new (Done lease) k.0 made legal k.1 k.1 refl in (
+    let k = done-by (standing b) lease.0 (lease_at (standing b).world.ports lease.0) (enabled-has (standing b) (Done lease) enabled) in
+    let next = stepped b new (Done lease) k.0 made legal k.1 k.1 k.4 in (
       record {
         more = subst (λ (r : Recorded). IsContinued old r) (sym made) (continued-after old b (Done lease) on.more goes);
         granted = ap (λ (s : Standing). s.world.offers) next.standing_is ∙ (k.2 ∙ on.granted);
@@ -163,7 +164,7 @@ pub lease-enabled : (b : Inside) (n : ℕ) → StandsIn b → Some n ≡ first_l
 lease-enabled b n stands e =
     let w = (standing (recorded b)).world in
     let same : map port_of b.ports.items ≡ w.ports = ap (λ (v : World). v.ports) stands.world_is in
-    some-done (standing (recorded b)) n (lease_at w.ports n) (first_lease-some w.ports n (ap first_lease (sym same) ∙ sym e))
+    has-enabled (standing (recorded b)) (Done (record { 0 = n })) (some-done (standing (recorded b)) n (lease_at w.ports n) (first_lease-some w.ports n (ap first_lease (sym same) ∙ sym e)))
 
 pub lease-stands : (b : Inside) (n : ℕ) → StandsIn b → Some n ≡ first_lease (map port_of b.ports.items) → first_lease (standing (recorded b)).world.ports ≡ Some n
 lease-stands b n stands e = ap first_lease (sym (ap (λ (v : World). v.ports) stands.world_is)) ∙ sym e

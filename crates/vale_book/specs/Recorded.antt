@@ -5,10 +5,12 @@ use Rattle.nm_types.specs.declared.fault.Part.TheVariants.{Entries, Bytes}
 use Rattle.nm_types.specs.declared.fault.StepFault.{StepFault}
 use Rattle.nm_types.specs.declared.fault.StepFault.TheVariants.{RecordFull, NoMemory}
 use Rattle.vale_entry.specs.declared.entry.Ask.{Ask}
+use Rattle.vale_entry.specs.declared.entry.Ask.TheVariants.{Enter, Open, Send, Grant, Done, Sync, Reset, Shut, Finish, Leave, Put, PutKept, Get, Watch, Stat}
+use Rattle.vale_entry.specs.declared.entry.Reply.{Reply}
 use Rattle.vale_entry.specs.declared.entry.Entry.{Entry}
-use Rattle.vale_entry.specs.Legal.{Standing, Outcome, step, standing_of}
+use Rattle.vale_entry.specs.Legal.{Standing, Outcome, step, recorded_step, reply_to, standing_of}
 pub use Rattle.vale_entry.specs.Legal.{reply_of}
-use Rattle.vale_entry.specs.Room.{room_used, room_wanted, bytes_of, frame_bytes}
+use Rattle.vale_entry.specs.Room.{room_used, bytes_of, frame_bytes}
 
 pub record Recorded : Type 0 where
   pub pool : ℕ
@@ -18,6 +20,42 @@ pub record Recorded : Type 0 where
 abbrev pub standing : Recorded → Standing
 standing b = standing_of b.pool b.entries
 
+-- the step of an ask that a book serves
+abbrev pub served_step : Standing → Ask → Option Outcome
+served_step s (Enter user) = step s (Enter user)
+served_step s (Open session name tx rx extra) = step s (Open session name tx rx extra)
+served_step s (Send port frames) = step s (Send port frames)
+served_step s (Grant origin to) = step s (Grant origin to)
+served_step s (Done lease) = step s (Done lease)
+served_step s (Sync port back) = step s (Sync port back)
+served_step s (Reset port side fault) = None
+served_step s (Shut port) = step s (Shut port)
+served_step s (Finish port bufs chain) = step s (Finish port bufs chain)
+served_step s (Leave session) = step s (Leave session)
+served_step s (Put port offered) = None
+served_step s (PutKept port offered) = None
+served_step s (Get port back) = None
+served_step s (Watch monitor target sides) = None
+served_step s (Stat port) = None
+
+-- what an ask is answered: one that is not served is not enabled here
+abbrev pub served_reply : Standing → Ask → Option Reply
+served_reply s (Enter user) = reply_to s (Enter user)
+served_reply s (Open session name tx rx extra) = reply_to s (Open session name tx rx extra)
+served_reply s (Send port frames) = reply_to s (Send port frames)
+served_reply s (Grant origin to) = reply_to s (Grant origin to)
+served_reply s (Done lease) = reply_to s (Done lease)
+served_reply s (Sync port back) = reply_to s (Sync port back)
+served_reply s (Reset port side fault) = None
+served_reply s (Shut port) = reply_to s (Shut port)
+served_reply s (Finish port bufs chain) = reply_to s (Finish port bufs chain)
+served_reply s (Leave session) = reply_to s (Leave session)
+served_reply s (Put port offered) = None
+served_reply s (PutKept port offered) = None
+served_reply s (Get port back) = None
+served_reply s (Watch monitor target sides) = None
+served_reply s (Stat port) = None
+
 -- the entry of a step
 abbrev pub entry_of : Ask → Outcome → Entry
 entry_of ask made = record { session = record { 0 = made.session }; ask = ask; reply = made.reply }
@@ -26,19 +64,19 @@ entry_of ask made = record { session = record { 0 = made.session }; ask = ask; r
 abbrev pub with_step : Recorded → Ask → Outcome → Recorded
 with_step b ask made = record b { entries = b.entries ++ entry_of ask made ∷ [] }
 
--- the record after an ask: with its entry where it is enabled
+-- the record after an ask: with its entry where it is served and enabled
 abbrev pub after_outcome : Recorded → Ask → Option Outcome → Recorded
 after_outcome b ask None = b
 after_outcome b ask (Some made) = with_step b ask made
 
 abbrev pub after_ask : Recorded → Ask → Recorded
-after_ask b ask = after_outcome b ask (step (standing b) ask)
+after_ask b ask = after_outcome b ask (served_step (standing b) ask)
 
 abbrev pub IsFullFor : Recorded → Ask → Outcome → StepFault → Type 0
 IsFullFor b ask made (RecordFull Entries used want) =
-    (used ≡ room_used b.pool b.entries) × (want ≡ room_wanted ask made.reply) × (b.limits.entries < used + want)
+    (used ≡ room_used b.pool b.entries) × (want ≡ made.want) × (b.limits.entries < used + want)
 IsFullFor b ask made (RecordFull Bytes used want) =
-    (room_used b.pool b.entries + room_wanted ask made.reply ≤ b.limits.entries)
+    (room_used b.pool b.entries + made.want ≤ b.limits.entries)
     × (used ≡ frame_bytes b.entries) × (want ≡ bytes_of ask made.reply) × (b.limits.bytes < used + want)
 IsFullFor b ask made NoMemory = Unit {0}
 
@@ -48,11 +86,11 @@ refused_by b ask fault None = ⊥
 refused_by b ask fault (Some made) = IsFullFor b ask made fault
 
 abbrev pub IsRefusal : Recorded → Ask → StepFault → Type 0
-IsRefusal b ask fault = refused_by b ask fault (step (standing b) ask)
+IsRefusal b ask fault = refused_by b ask fault (served_step (standing b) ask)
 
 -- the record has room for the step
 abbrev pub HasRoomFor : Recorded → Ask → Outcome → Type 0
-HasRoomFor b ask made = (room_used b.pool b.entries + room_wanted ask made.reply ≤ b.limits.entries)
+HasRoomFor b ask made = (room_used b.pool b.entries + made.want ≤ b.limits.entries)
     × (frame_bytes b.entries + bytes_of ask made.reply ≤ b.limits.bytes)
 
 abbrev pub room_by : Recorded → Ask → Option Outcome → Type 0
@@ -60,12 +98,12 @@ room_by b ask None = Unit {0}
 room_by b ask (Some made) = HasRoomFor b ask made
 
 abbrev pub HasRoom : Recorded → Ask → Type 0
-HasRoom b ask = room_by b ask (step (standing b) ask)
+HasRoom b ask = room_by b ask (served_step (standing b) ask)
 
--- each entry had room in the record of those before it
+-- what each entry records had room in the record of those before it
 abbrev pub HadRoomFrom : Recorded → List Entry → Type 0
 HadRoomFrom b [] = Unit {0}
-HadRoomFrom b (entry ∷ entries) = HasRoom b entry.ask × HadRoomFrom (record b { entries = b.entries ++ entry ∷ [] }) entries
+HadRoomFrom b (entry ∷ entries) = room_by b entry.ask (recorded_step (standing b) entry.ask entry.reply) × HadRoomFrom (record b { entries = b.entries ++ entry ∷ [] }) entries
 
 abbrev pub HadRoom : Recorded → Type 0
 HadRoom b = HadRoomFrom (record b { entries = [] }) b.entries

@@ -123,6 +123,7 @@ impl Book {
     pub fn enter(&mut self, user: u64) -> Result<SessionId, StepFault>
         ensures made { OnOk result (self.new ≡ after_ask self.old (asks.Enter user)) }
         ensures id { IfOk result (λ id. id.0 ≡ length self.new.entries) }
+        ensures fits { user < 2 ^ 64 }
         ensures room { OnOk result (HasRoom self.old (asks.Enter user)) }
         ensures full { IfErr result (IsRefusal self.old (asks.Enter user)) }
         ensures err { OnErr result (self.new ≡ self.old) }

@@ -2,12 +2,12 @@ ghost use Rattle.std.specs.Prelude.{◌≡◌, ◌<◌, ◌≤◌, ◌^◌, [], 
 ghost use Rattle.vale_entry.specs.declared.entry.Ask.TheVariants as asks;
 ghost use Rattle.vale_entry.specs.declared.entry.Reply.TheVariants as replies;
 ghost use Rattle.vale_entry.specs.World.{free_count};
-ghost use Rattle.vale_entry.specs.Legal.{step, reply_to, world_of, IsLegal};
+ghost use Rattle.vale_entry.specs.Legal.{step, world_of, IsLegal};
 ghost use Rattle.vale_entry.specs.Room.{promised_of};
 ghost use Rattle.vale_entry.specs.Holdings.{IsParted, Agrees};
 ghost use Rattle.vale_book.specs.OpenAnswers.{unopened};
 ghost use Rattle.vale_book.specs.Winding.{IsEnded};
-ghost use Rattle.vale_book.specs.Recorded.{standing, after_ask, after_asks, IsStopped, reply_of, IsRefusal, HasRoom, HadRoom};
+ghost use Rattle.vale_book.specs.Recorded.{standing, served_reply, after_ask, after_asks, IsStopped, reply_of, IsRefusal, HasRoom, HadRoom};
 
 use nm_types::{
     Batch, LeaseId, Limits, MAX_EXTRA, MAX_RING, Name, NoMemory, OpenFault, PortId, SessionId,
@@ -16,6 +16,7 @@ use nm_types::{
 use std::alloc::{AllocError, Global};
 use std::marker::Model;
 use vale_entry::{Ask, Dests, History, Numbers, Reply};
+use vale_world::Sizes;
 use vale_world::session::{Session, exchange_at, give_at, place_of, reserve_at};
 
 mod ending;
@@ -185,7 +186,7 @@ impl Drive {
         ensures full { IfErr result (IsRefusal self.old (asks.Open session name tx rx extra)) }
         ensures err { OnErr result (self.new ≡ self.old) }
     {
-        if !self.book.is_in(session) {
+        if !self.book.can_open(session, name, Sizes { tx, rx, extra }) {
             return Ok(None);
         }
         let Some(place) = place_of(&self.sessions, session.0) else {
@@ -234,10 +235,10 @@ impl Drive {
         }
     }
 
-    /// Makes one ask: its reply, or `None` where it is not enabled, and then nothing changes. Nor does
+    /// Makes one ask: its reply, or `None` where it is not enabled or not served, and then nothing changes. Nor does
     /// anything where a port cannot go yet, as it has leases out.
     pub fn apply(&mut self, ask: &Ask) -> Result<Option<Reply>, StepFault>
-        ensures replied { IfOk result (λ reply. reply ≡ reply_to (standing self.old) ask.now) }
+        ensures replied { IfOk result (λ reply. reply ≡ served_reply (standing self.old) ask.now) }
         ensures made { OnOk result (self.new ≡ after_ask self.old ask.now) }
         ensures room { OnOk result (HasRoom self.old ask.now) }
         ensures full { IfErr result (IsRefusal self.old ask.now) }

@@ -5,15 +5,15 @@ use Rattle.std.specs.List.{AllByRecursion as Each}
 use Rattle.std.proofs.lemmas.List.Sums.{sum_by-cons}
 use Rattle.std.proofs.lemmas.Bool.{leb-true, leb-false, and_parts, eqb-true, eq-eqb}
 use Rattle.nm_types.specs.Frames.{Frame, slots_of, size_of_frames}
-use Rattle.vale_entry.specs.declared.entry.Ask.{Ask}
-use Rattle.vale_entry.specs.declared.entry.Reply.{Reply}
+use Rattle.vale_entry.specs.declared.entry.Entry.{Entry}
 use Rattle.vale_entry.specs.World.{World, Port, Offer, open_port, space_of}
 use Rattle.vale_entry.specs.Grant.{longest_fitting, first_offer, without_first, grant_reply}
-use Rattle.vale_entry.specs.Legal.{Standing, standing_of, world_of}
-use Rattle.vale_entry.specs.Fate.{wanted_at, is_offer_to, offers_at, share_of, share_by}
+use Rattle.vale_entry.specs.Legal.{Standing, standing_of, world_of, sync_step}
+use Rattle.vale_entry.specs.Fate.{wanted_at, is_offer_to, offers_at, share_of, share_in}
 use Rattle.vale_entry.specs.DeliveryLaws.{HasCause, FramesAreDroppedForCause}
 use Rattle.vale_entry.proofs.Roomy.{longest_fitting-size}
-use Rattle.vale_entry.proofs.Follows.{EachKind, follows-by}
+use Rattle.vale_entry.proofs.Follows.{EachKind, Left, follows-by}
+use Rattle.vale_entry.proofs.Tells.{tells-nothing, tells-received, tells-put}
 use Rattle.vale_entry.proofs.Shares.{fitting-front}
 use Rattle.vale_entry.proofs.Offered.{first-origin, offers-granted}
 use Rattle.vale_entry.proofs.SharedOnce.{share_at, share_of-reply, history-account}
@@ -55,8 +55,8 @@ share-cause (Some port) frames = record {
       (subst (λ (given : List Frame). size_of_frames given ≤ space_of port) (fitting-front (space_of port) frames) (longest_fitting-size (space_of port) frames));
 }
 
-abbrev Caused : ℕ → ℕ → World → List Frame → Ask → ℕ → Reply → World → Type 0
-Caused number to w wanted ask session reply left = Each (HasCause (open_port w.ports to) wanted) (share_by number to ask reply)
+abbrev Caused : ℕ → ℕ → World → List Frame → Entry → Standing → Type 0
+Caused number to w wanted e left = Each (HasCause (open_port w.ports to) wanted) (share_in number to e)
 
 module _ (s : Standing) (number to : ℕ) (wanted : List Frame) (offered : Each (λ (offer : Offer). offer.frames ≡ wanted) (offers_at s.world number to)) where
   abbrev w : World
@@ -93,17 +93,19 @@ module _ (s : Standing) (number to : ℕ) (wanted : List Frame) (offered : Each 
           (subst (λ (xs : List Frame). HasCause (open_port w.ports offer.to) xs (share_at (open_port w.ports offer.to) offer.frames)) frames (share-cause (open_port w.ports offer.to) offer.frames))
   shared origin at offer first same false t = tt
 
-  causes : EachKind s (Caused number to w wanted)
+  causes : EachKind s (Left s (Caused number to w wanted))
   causes = record {
-    enters = λ user. tt;
-    refuses = λ session name tx rx extra fault. tt;
-    opens = λ session name tx rx extra. tt;
-    sends = λ from frames port e settled. tt;
+    enters = λ user fits. tt;
+    quiet = λ ask session reply quiet. rw ((tells-nothing s ask session reply quiet).shares number to) tt;
+    opens = λ session name tx rx extra can refusal. tt;
+    sends = λ from frames port e can settled. tt;
     grants = λ origin at offer first same. shared origin at.0 offer first same ((origin == number) && (at.0 == to)) refl;
-    completes = λ lease lot. tt;
-    syncs = λ at back port e settled. tt;
-    shuts = λ at port e. tt;
-    finishes = λ at bufs chain port e. tt;
+    completes = λ lease lot e. tt;
+    receives = λ ask at back port receives e can. rw ((tells-received s ask at back (sync_step s back port) receives).shares number to) tt;
+    puts = λ at offered items port peer e can found. tt;
+    watches = λ at target sides port found e can there none. tt;
+    shuts = λ at port e settled. tt;
+    finishes = λ at bufs chain port fits e can out. tt;
     leaves = λ session can. tt;
   }
 

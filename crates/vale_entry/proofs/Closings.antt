@@ -20,9 +20,9 @@ made-if P made false none some = none
 
 -- an open port is shut
 pub shut-by : (P : Option Outcome → Type 0) (s : Standing) (found : Option Port) → P None
-    → ((port : Port) → found ≡ Some port → P (Some (shut_step s port))) → P (shut_step_at s found)
+    → ((port : Port) → found ≡ Some port → is_settled s.world port.session ≡ true → P (Some (shut_step s port))) → P (shut_step_at s found)
 shut-by P s None none some = none
-shut-by P s (Some port) none some = made-if P (shut_step s port) (is_settled s.world port.session) none (λ can. some port refl)
+shut-by P s (Some port) none some = made-if P (shut_step s port) (is_settled s.world port.session) none (λ can. some port refl can)
 
 -- a shutting port goes that has no lease out
 pub finish-by : (P : Option Outcome → Type 0) (s : Standing) (bufs : List ℕ) (found : Option Port) → P None

@@ -32,6 +32,18 @@ pub each-map : {X Y : Type 0} (P : X → Type 0) (Q : Y → Type 0) (f : X → Y
 each-map P Q f keeps [] all = tt
 each-map P Q f keeps (x ∷ xs) all = (keeps x all.0, each-map P Q f keeps xs all.1)
 
+pub each-all : {X : Type 0} (P : X → Type 0) → ((x : X) → P x) → (xs : List X) → Each P xs
+each-all P holds [] = tt
+each-all P holds (x ∷ xs) = (holds x, each-all P holds xs)
+
+pub each-unmap : {X Y : Type 0} (Q : Y → Type 0) (f : X → Y) (xs : List X) → Each Q (map f xs) → Each (λ x. Q (f x)) xs
+each-unmap Q f [] all = tt
+each-unmap Q f (x ∷ xs) all = (all.0, each-unmap Q f xs all.1)
+
+pub each-image : {X Y : Type 0} (Q : Y → Type 0) (f : X → Y) (xs : List X) → Each (λ x. Q (f x)) xs → Each Q (map f xs)
+each-image Q f [] all = tt
+each-image Q f (x ∷ xs) all = (all.0, each-image Q f xs all.1)
+
 pub each-drop : {X : Type 0} (P : X → Type 0) (n : ℕ) (xs : List X) → Each P xs → Each P (drop n xs)
 each-drop P zero xs all = all
 each-drop P (suc n) [] all = tt

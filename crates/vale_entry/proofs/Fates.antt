@@ -8,8 +8,8 @@ use Rattle.vale_entry.specs.Legal.{world_of}
 use Rattle.vale_entry.specs.Laws.{IsOfferOf}
 use Rattle.vale_entry.specs.Fate.{wanted_at, offers_at, is_offer_to, Share, shares_at, Fate, Pending, Given, Full, Gone, fate_by}
 use Rattle.vale_entry.specs.DeliveryLaws.{HaveFates, DroppedFramesAreCounted, NothingIsPendingAtTheEnd}
+use Rattle.vale_entry.proofs.Each.{each-all, each-image}
 use Rattle.vale_entry.proofs.Numbered.{world-numbered}
-use Rattle.vale_entry.proofs.GivenOnly.{each-all, each-image}
 use Rattle.vale_entry.proofs.SharedOnce.{history-account}
 
 map_same : (f : ℕ → Fate) (fate : Fate) (a n : ℕ) → ((j : ℕ) → a ≤ j → j < a + n → f j ≡ fate) → map f (range_with_len a n) ≡ replicate n fate

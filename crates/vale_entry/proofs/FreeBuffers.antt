@@ -1,23 +1,21 @@
 -- The free buffers rise strictly, so that taking from the front takes the smallest; they are as many as
 -- the ports leave of the pool.
-use Rattle.std.proofs.Common.{ℕ, zero, suc, ◌+◌, ◌-◌, ◌≤◌, ◌≡◌, Bool, true, false, cond, ◌==◌, List, [], ◌∷◌, ◌++◌, length, map, drop, sum_by, Option, Some, None, refl, ap, subst, arith, length-drop, length-append}
+use Rattle.std.proofs.Common.{ℕ, zero, suc, ◌+◌, ◌-◌, ◌≤◌, ◌≡◌, true, ◌==◌, List, [], ◌∷◌, ◌++◌, length, map, drop, sum_by, Some, None, refl, ap, subst, arith, length-drop, length-append}
 use Rattle.std.specs.List.{range_with_len}
 use Rattle.std.proofs.lemmas.List.Sums.{sum_by_push}
 use Rattle.std.proofs.lemmas.Bool.{and_parts, eqb-true}
-use Rattle.nm_types.specs.Frames.{Frame}
-use Rattle.nm_types.specs.declared.fault.OpenFault.{OpenFault}
-use Rattle.vale_entry.specs.declared.entry.Ask.{Ask}
-use Rattle.vale_entry.specs.declared.entry.Ask.TheVariants.{Enter, Open, Send, Grant, Done, Sync, Shut, Finish, Leave}
 use Rattle.vale_entry.specs.declared.entry.Entry.{Entry}
-use Rattle.vale_entry.specs.World.{Port, Lot, Offer, is_session, open_port, buffers_of, due_of}
+use Rattle.vale_entry.specs.World.{Port, Lot, Offer, buffers_of, due_of}
 use Rattle.vale_entry.specs.Opening.{open_refusal, opened_port}
-use Rattle.vale_entry.specs.Grant.{granted_frames, first_offer, port_after_grant}
-use Rattle.vale_entry.specs.Delivery.{lease_at, port_after_done, port_after_sync}
+use Rattle.vale_entry.specs.Grant.{granted_frames, port_after_grant}
+use Rattle.vale_entry.specs.Delivery.{port_after_done, port_after_sync}
 use Rattle.vale_entry.specs.Closing.{shut, shutting_port}
 use Rattle.vale_entry.specs.Holdings.{buffers_of_port, buffers_at_port, is_buffer_index, holds_all}
-use Rattle.vale_entry.specs.Legal.{Standing, Outcome, step, recorded_step, after, standing_after, open_step_by, send_step_at, send_step, can_send, grant_step_at, grant_step, done_step_at, sync_step_at, sync_step, can_sync, shut_step, can_finish, finish_step}
+use Rattle.vale_entry.specs.Legal.{Standing, Outcome, after, open_step_by, grant_step, sync_step, shut_step, can_finish, finish_step, done_step, put_step}
 use Rattle.vale_entry.specs.Laws.{Rise, AreFree, HasRoom, id_of_held}
-use Rattle.vale_entry.proofs.Steps.{recorded-by}
+use Rattle.vale_entry.specs.Pipe.{frames_of_items, port_after_put}
+use Rattle.vale_entry.specs.declared.entry.Item.{Item}
+use Rattle.vale_entry.proofs.Follows.{EachKind, after-by}
 use Rattle.vale_entry.proofs.ListLaws.{each-at, sum-map_same}
 use Rattle.vale_entry.proofs.Each.{sum-changed_at}
 use Rattle.vale_entry.proofs.Rising.{rise-drop, rise-range}
@@ -25,22 +23,17 @@ use Rattle.vale_entry.proofs.Removals.{sum-remove}
 use Rattle.vale_entry.proofs.Freeing.{count-all_with_free, length-all_with_free, rise-all_with_free, held-bounds}
 use Rattle.vale_entry.proofs.Agreeing.{agree-ids, agree-at}
 use Rattle.vale_entry.proofs.Places.{buffers_of_port-place, shutting-place}
-use Rattle.vale_entry.proofs.Closings.{shut-by, finish-by, leave-by}
 use Rattle.vale_entry.proofs.Numbered.{Numbered}
 use Rattle.vale_entry.proofs.Roomy.{Roomy, opened-room}
 use Rattle.vale_entry.proofs.Holding.{times_held, Held, HasFree, once-by}
 use Rattle.vale_entry.proofs.Held.{held-length, held_finished}
 
-abbrev HasFreeNext : Option Outcome → Type 0
-HasFreeNext None = Unit {0}
-HasFreeNext (Some made) = HasFree made.next
+abbrev HasFreeNext : Outcome → Type 0
+HasFreeNext made = HasFree made.next
 
-free_open : (s : Standing) (session : ℕ) (name : List ℕ) (tx rx extra : ℕ) (found : Bool) (refusal : Option OpenFault)
-    → open_refusal s.world name tx rx extra ≡ refusal → Roomy s → HasFree s
-    → HasFreeNext (cond found (Some (open_step_by refusal s session name tx rx extra)) None)
-free_open s session name tx rx extra false refusal e roomy f = tt
-free_open s session name tx rx extra true (Some fault) e roomy f = f
-free_open s session name tx rx extra true None e roomy f =
+free_open : (s : Standing) (session : ℕ) (name : List ℕ) (tx rx extra : ℕ) → open_refusal s.world name tx rx extra ≡ None → Roomy s → HasFree s
+    → HasFreeNext (open_step_by None s session name tx rx extra)
+free_open s session name tx rx extra e roomy f =
     let w = s.world in
     let port = opened_port (w.entry_count + 1) session name tx rx extra in
     let room : tx + rx + extra ≤ w.pool - sum_by buffers_of w.ports = (opened-room w name tx rx extra e).0 in
@@ -51,43 +44,30 @@ free_open s session name tx rx extra true None e roomy f =
     let count : length s.holdings.free + sum_by buffers_of w.ports ≡ w.pool = f.count in
     record { rise = rise-drop 1 (tx + rx + extra) s.holdings.free (w.pool + 1) f.rise; count = omega arith }
 
-free_send : (s : Standing) (frames : List Frame) (found : Option Port) → HasFree s → HasFreeNext (send_step_at s frames found)
-free_send s frames None f = tt
-free_send s frames (Some port) f = by_test (can_send s.world frames port)
-  where
-    by_test : (can : Bool) → HasFreeNext (cond can (Some (send_step s frames port)) None)
-    by_test false = tt
-    by_test true = f
+free_grant : (s : Standing) (offer : Offer) → HasFree s → HasFreeNext (grant_step s offer)
+free_grant s offer f =
+    let change = port_after_grant (s.world.entry_count + 1) offer.session (granted_frames s.world offer) in
+    record { rise = f.rise; count = rw (sum-changed_at buffers_of offer.to change (λ port. refl) s.world.ports) f.count }
 
-free_grant : (s : Standing) (to : ℕ) (found : Option Offer) → HasFree s → HasFreeNext (grant_step_at s to found)
-free_grant s to None f = tt
-free_grant s to (Some offer) f = by_test (offer.to == to)
-  where
-    by_test : (same : Bool) → HasFreeNext (cond same (Some (grant_step s offer)) None)
-    by_test false = tt
-    by_test true =
-        let change = port_after_grant (s.world.entry_count + 1) offer.session (granted_frames s.world offer) in
-        record { rise = f.rise; count = rw (sum-changed_at buffers_of offer.to change (λ port. refl) s.world.ports) f.count }
-
-free_done : (s : Standing) (number : ℕ) (found : Option Lot) → HasFree s → HasFreeNext (done_step_at s number found)
-free_done s number None f = tt
-free_done s number (Some lot) f = record {
+free_done : (s : Standing) (number : ℕ) (lot : Lot) → HasFree s → HasFreeNext (done_step s number lot)
+free_done s number lot f = record {
   rise = f.rise;
   count = rw (sum-map_same buffers_of buffers_of (port_after_done number) (λ port. refl) s.world.ports) f.count;
 }
 
-free_sync : (s : Standing) (back : List ℕ) (found : Option Port) → HasFree s → HasFreeNext (sync_step_at s back found)
-free_sync s back None f = tt
-free_sync s back (Some port) f = by_test (can_sync s back port)
-  where
-    by_test : (can : Bool) → HasFreeNext (cond can (Some (sync_step s back port)) None)
-    by_test false = tt
-    by_test true = record {
-      rise = f.rise;
-      count = rw (sum-changed_at buffers_of port.id (port_after_sync (length back)) (λ p. refl) s.world.ports) f.count;
-    }
+free_sync : (s : Standing) (back : List ℕ) (port : Port) → HasFree s → HasFreeNext (sync_step s back port)
+free_sync s back port f = record {
+  rise = f.rise;
+  count = rw (sum-changed_at buffers_of port.id (port_after_sync (length back)) (λ p. refl) s.world.ports) f.count;
+}
 
-free_shut : (s : Standing) (port : Port) → HasFree s → HasFreeNext (Some (shut_step s port))
+free_put : (s : Standing) (items : List Item) (port peer : Port) → HasFree s → HasFreeNext (put_step s items port peer)
+free_put s items port peer f = record {
+  rise = f.rise;
+  count = rw (sum-changed_at buffers_of peer.id (port_after_put (s.world.entry_count + 1) port.session (frames_of_items items)) (λ p. refl) s.world.ports) f.count;
+}
+
+free_shut : (s : Standing) (port : Port) → HasFree s → HasFreeNext (shut_step s port)
 free_shut s port f = record {
   rise = f.rise;
   count = rw (sum-changed_at buffers_of port.id shut (λ p. refl) s.world.ports) f.count;
@@ -96,7 +76,7 @@ free_shut s port f = record {
 -- the buffers that come back are held once, so each finds its place, and they are all the port's
 free_finish : (s : Standing) (bufs : List ℕ) (id : ℕ) (port : Port) → shutting_port s.world.ports id ≡ Some port → can_finish s bufs port ≡ true
     → Numbered s → Roomy s → Held s → HasFree s
-    → HasFreeNext (Some (finish_step s bufs port))
+    → HasFreeNext (finish_step s bufs port)
 free_finish s bufs id port e can n roomy h f =
     let w = s.world in
     let x = s.holdings in
@@ -126,27 +106,24 @@ free_finish s bufs id port e can n roomy h f =
       count = omega arith;
     }
 
-free_step : (s : Standing) (ask : Ask) → Numbered s → Roomy s → Held s → HasFree s → HasFreeNext (step s ask)
-free_step s (Enter user) n roomy h f = f
-free_step s (Open session name tx rx extra) n roomy h f =
-    free_open s session.0 name tx rx extra (is_session s.world session.0) (open_refusal s.world name tx rx extra) refl roomy f
-free_step s (Send port frames) n roomy h f = free_send s frames (open_port s.world.ports port.0) f
-free_step s (Grant origin to) n roomy h f = free_grant s to.0 (first_offer s.world origin) f
-free_step s (Done lease) n roomy h f = free_done s lease.0 (lease_at s.world.ports lease.0) f
-free_step s (Sync port back) n roomy h f = free_sync s back (open_port s.world.ports port.0) f
-free_step s (Shut port) n roomy h f = shut-by HasFreeNext s (open_port s.world.ports port.0) tt (λ at e. free_shut s at f)
-free_step s (Finish port bufs chain) n roomy h f =
-    finish-by HasFreeNext s bufs (shutting_port s.world.ports port.0) tt (λ at e can out. free_finish s bufs port.0 at e can n roomy h f)
-free_step s (Leave session) n roomy h f = leave-by HasFreeNext s session.0 tt (λ can. f)
-free_step s _ n roomy h f = tt
-
-free_after : (s : Standing) (e : Entry) (made : Option Outcome) → HasFree s → HasFreeNext made → HasFree (standing_after s e made)
-free_after s e None f next = f
-free_after s e (Some made) f next = next
+free_kinds : (s : Standing) → Numbered s → Roomy s → Held s → HasFree s → EachKind s (λ ask made. HasFreeNext made)
+free_kinds s n roomy h f = record {
+  enters = λ user fits. f;
+  quiet = λ ask session reply quiet. f;
+  opens = λ session name tx rx extra can refusal. free_open s session.0 name tx rx extra refusal roomy f;
+  sends = λ from frames port e can settled. f;
+  grants = λ origin to offer first same. free_grant s offer f;
+  completes = λ lease lot e. free_done s lease.0 lot f;
+  receives = λ ask at back port receives e can. free_sync s back port f;
+  puts = λ at offered items port peer e can found. free_put s items port peer f;
+  watches = λ at target sides port found e can there none. f;
+  shuts = λ at port e settled. free_shut s port f;
+  finishes = λ at bufs chain port fits e can out. free_finish s bufs at.0 port e can n roomy h f;
+  leaves = λ session can. f;
+}
 
 pub free_entry : (s : Standing) (e : Entry) → Numbered s → Roomy s → Held s → HasFree s → HasFree (after s e)
-free_entry s e n roomy h f =
-    free_after s e (recorded_step s e.ask e.reply) f (recorded-by HasFreeNext s e.ask e.reply tt (free_step s e.ask n roomy h f))
+free_entry s e n roomy h f = after-by s HasFree e f (free_kinds s n roomy h f)
 
 length-range : (first count : ℕ) → length (range_with_len first count) ≡ count
 length-range first zero = refl

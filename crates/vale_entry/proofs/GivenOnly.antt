@@ -1,5 +1,5 @@
 -- What is granted is a prefix of what an entry wants there; a short or lone frame is named for no port.
-use Rattle.std.proofs.Common.{ℕ, ◌≡◌, Bool, true, false, cond, not, ◌&&◌, ◌||◌, ◌==◌, List, [], ◌∷◌, ◌++◌, map, filter, take, drop, refl, sym, subst, take-append-drop}
+use Rattle.std.proofs.Common.{ℕ, ◌≡◌, ◌≤◌, ◌⊎◌, inl, inr, length, arith, Bool, true, false, cond, not, ◌&&◌, ◌||◌, ◌==◌, List, [], ◌∷◌, ◌++◌, map, filter, take, drop, refl, sym, subst, take-append-drop}
 use Rattle.std.specs.List.{AllByRecursion as Each, list_any}
 use Rattle.std.proofs.lemmas.Bool.{eqb-true, eq-eqb, not-true}
 use Rattle.nm_types.specs.Frames.{Frame}
@@ -8,24 +8,13 @@ use Rattle.vale_entry.specs.declared.entry.Destination.TheVariants.{Nobody, Only
 use Rattle.vale_entry.specs.World.{Port, Pair}
 use Rattle.vale_entry.specs.Learning.{is_short, learned}
 use Rattle.vale_entry.specs.Lookup.{destination_of, is_named, is_other_port, names_some_port}
-use Rattle.vale_entry.specs.Delivered.{Granted, frames_of_granted, grants_to}
-use Rattle.vale_entry.specs.Fate.{wanted_at, Share, shares_at, is_granted_of, granted_at}
-use Rattle.vale_entry.specs.DeliveryLaws.{IsPrefixOfWanted, GivenOnlyByWanted, ShortAndLoneAreForNobody}
-use Rattle.vale_entry.proofs.Each.{each-none, each-both}
+use Rattle.vale_entry.specs.Delivered.{Brought, frames_brought, grants_to, puts_to, brought_to}
+use Rattle.vale_entry.specs.Fate.{wanted_at, Share, shares_at, is_brought_of, granted_at, puts_at}
+use Rattle.vale_entry.specs.DeliveryLaws.{IsPrefixOfWanted, IsTaken, IsBroughtFor, GivenOnlyByWanted, ShortAndLoneAreForNobody}
+use Rattle.vale_entry.proofs.Each.{each-none, each-both, each-weaker, each-append, each-all, each-unmap, each-image}
+use Rattle.vale_entry.proofs.Puts.{history-puts}
 use Rattle.vale_entry.proofs.Removals.{each-kept}
 use Rattle.vale_entry.proofs.SharedOnce.{history-account}
-
-pub each-all : {X : Type 0} (P : X → Type 0) → ((x : X) → P x) → (xs : List X) → Each P xs
-each-all P holds [] = tt
-each-all P holds (x ∷ xs) = (holds x, each-all P holds xs)
-
-pub each-unmap : {X Y : Type 0} (Q : Y → Type 0) (f : X → Y) (xs : List X) → Each Q (map f xs) → Each (λ x. Q (f x)) xs
-each-unmap Q f [] all = tt
-each-unmap Q f (x ∷ xs) all = (all.0, each-unmap Q f xs all.1)
-
-pub each-image : {X Y : Type 0} (Q : Y → Type 0) (f : X → Y) (xs : List X) → Each (λ x. Q (f x)) xs → Each Q (map f xs)
-each-image Q f [] all = tt
-each-image Q f (x ∷ xs) all = (all.0, each-image Q f xs all.1)
 
 each_rest : {X : Type 0} (P : X → Type 0) (x : X) (xs : List X) (b : Bool) → Each P (cond b (x ∷ xs) xs) → Each P xs
 each_rest P x xs true all = all.1
@@ -43,20 +32,40 @@ each-by_key key P (x ∷ xs) all = (
   each-by_key key P xs (λ k. each_rest P x (filter (λ y. key y == k) xs) (key x == k) (all k)),
 )
 
+-- a single element is what the list is
+each-single : (xs : List Brought) → length xs ≤ 1 → Each (λ (x : Brought). xs ≡ x ∷ []) xs
+each-single [] few = tt
+each-single (x ∷ []) few = (refl, tt)
+each-single (x ∷ y ∷ ys) few = absurd (omega (arith, few))
+
 pub given-only : GivenOnlyByWanted
-given-only pool h legal port = each-by_key (λ (granted : Granted). granted.origin) (IsPrefixOfWanted pool h port) (grants_to pool h port) of_entry
+given-only pool h legal port = each-by_key (λ (brought : Brought). brought.origin) (IsBroughtFor pool h port) (brought_to pool h port) of_entry
   where
-    of_entry : (k : ℕ) → Each (IsPrefixOfWanted pool h port) (granted_at pool h k port)
-    of_entry k =
+    granted : (k : ℕ) → Each (IsPrefixOfWanted pool h port) (granted_at pool h k port)
+    granted k =
         let account = history-account pool h legal k port in
         let wanted = wanted_at pool h k port in
         let prefixes = each-all (λ (share : Share). (rest : List Frame) × (wanted ≡ take share.given wanted ++ rest)) (λ share. (drop share.given wanted, sym (take-append-drop share.given wanted))) (shares_at h k port) in
         let images = each-image (λ (frames : List Frame). (rest : List Frame) × (wanted ≡ frames ++ rest)) (λ (share : Share). take share.given wanted) (shares_at h k port) prefixes in
         let same = subst (λ (xs : List (List Frame)). Each (λ (frames : List Frame). (rest : List Frame) × (wanted ≡ frames ++ rest)) xs) (sym account.first_given) images in
-        let mine = each-kept (λ (granted : Granted). Unit {0}) (λ (granted : Granted). granted.origin ≡ k) (is_granted_of k) (λ granted t here. eqb-true granted.origin k t) (grants_to pool h port) (each-all (λ (granted : Granted). Unit {0}) (λ granted. tt) (grants_to pool h port)) in
-        each-both (λ (granted : Granted). granted.origin ≡ k) (λ (granted : Granted). (rest : List Frame) × (wanted ≡ granted.frames ++ rest)) (IsPrefixOfWanted pool h port)
-        (λ granted here prefix. subst (λ (number : ℕ). (rest : List Frame) × (wanted_at pool h number port ≡ granted.frames ++ rest)) (sym here) prefix)
-        (granted_at pool h k port) mine (each-unmap (λ (frames : List Frame). (rest : List Frame) × (wanted ≡ frames ++ rest)) frames_of_granted (granted_at pool h k port) same)
+        let mine = each-kept (λ (brought : Brought). Unit {0}) (λ (brought : Brought). brought.origin ≡ k) (is_brought_of k) (λ brought t here. eqb-true brought.origin k t) (grants_to pool h port) (each-all (λ (brought : Brought). Unit {0}) (λ brought. tt) (grants_to pool h port)) in
+        each-both (λ (brought : Brought). brought.origin ≡ k) (λ (brought : Brought). (rest : List Frame) × (wanted ≡ brought.frames ++ rest)) (IsPrefixOfWanted pool h port)
+        (λ brought here prefix. subst (λ (number : ℕ). (rest : List Frame) × (wanted_at pool h number port ≡ brought.frames ++ rest)) (sym here) prefix)
+        (granted_at pool h k port) mine (each-unmap (λ (frames : List Frame). (rest : List Frame) × (wanted ≡ frames ++ rest)) frames_brought (granted_at pool h k port) same)
+
+    put : (k : ℕ) → Each (IsTaken pool h port) (puts_at pool h k port)
+    put k =
+        let mine = each-kept (λ (brought : Brought). Unit {0}) (λ (brought : Brought). brought.origin ≡ k) (is_brought_of k) (λ brought t here. eqb-true brought.origin k t) (puts_to pool h port) (each-all (λ (brought : Brought). Unit {0}) (λ brought. tt) (puts_to pool h port)) in
+        each-both (λ (brought : Brought). brought.origin ≡ k) (λ (brought : Brought). puts_at pool h k port ≡ brought ∷ []) (IsTaken pool h port)
+        (λ brought here single. subst (λ (number : ℕ). puts_at pool h number port ≡ brought ∷ []) (sym here) single)
+        (puts_at pool h k port) mine (each-single (puts_at pool h k port) (history-puts pool h legal k port).once)
+
+    of_entry : (k : ℕ) → Each (IsBroughtFor pool h port) (filter (is_brought_of k) (brought_to pool h port))
+    of_entry k =
+        subst (λ (xs : List Brought). Each (IsBroughtFor pool h port) xs) (sym (history-puts pool h legal k port).parts)
+        (each-append (IsBroughtFor pool h port) (puts_at pool h k port) (granted_at pool h k port)
+        (each-weaker (IsTaken pool h port) (IsBroughtFor pool h port) (λ brought here. inr here) (puts_at pool h k port) (put k))
+        (each-weaker (IsPrefixOfWanted pool h port) (IsBroughtFor pool h port) (λ brought here. inl here) (granted_at pool h k port) (granted k)))
 
 -- Short and lone frames.
 

@@ -1,44 +1,42 @@
 -- After every legal history each buffer of the pool is held once, and the buffers held agree with the
 -- world: a port's idle ones with its space, its lots with their frames, a session's with its dues.
-use Rattle.std.proofs.Common.{ℕ, zero, suc, ◌+◌, ◌-◌, ◌<◌, ◌≤◌, ◌≡◌, Bool, true, false, cond, ◌&&◌, ◌||◌, nat_le, ◌==◌, List, [], ◌∷◌, ◌++◌, map, length, take, drop, sum_by, flat_map, filter, not, Option, Some, None, refl, sym, ◌∙◌, ap, subst, arith, slice_get, slice_set, length-append, length-drop, append-nil, ap₂, sum}
+use Rattle.std.proofs.Common.{ℕ, zero, suc, ◌+◌, ◌-◌, ◌<◌, ◌≤◌, ◌≡◌, Bool, true, false, cond, ◌==◌, List, [], ◌∷◌, ◌++◌, map, length, take, drop, sum_by, flat_map, filter, not, Option, Some, None, refl, sym, ◌∙◌, ap, subst, arith, slice_get, slice_set, length-append, length-drop, append-nil, ap₂, sum}
 use Rattle.std.specs.List.{AllByRecursion as Each, list_all, prefix_len, remove}
-use Rattle.std.proofs.lemmas.List.{map-append, length-take-le, drop-drop, drop-map, take-map, take-append-drop}
+use Rattle.std.proofs.lemmas.List.{map-append, length-take-le, drop-drop, drop-map, take-map, take-append-drop, length-map}
 use Rattle.std.proofs.lemmas.List.Sums.{sum_by-cons, sum_by_push, sum_by-take-drop, sum-map, count_by-le-length}
 use Rattle.std.proofs.lemmas.List.Concat.{flat_map-append, length-flat_map}
 use Rattle.std.proofs.lemmas.List.Elements.{All-from_recursion}
 use Rattle.std.proofs.lemmas.Bool.{and_parts, leb-true, eqb-true, eqb-false, eq-eqb, ne_eqb}
 use Rattle.nm_types.specs.Frames.{Frame, slots_of, size_of_frames}
-use Rattle.nm_types.specs.Names.{is_switch_port_name, is_monitor_name}
-use Rattle.nm_types.specs.declared.fault.OpenFault.{OpenFault}
-use Rattle.vale_entry.specs.declared.entry.Ask.{Ask}
-use Rattle.vale_entry.specs.declared.entry.Ask.TheVariants.{Enter, Open, Send, Grant, Done, Sync, Shut, Finish, Leave}
 use Rattle.vale_entry.specs.declared.entry.Entry.{Entry}
-use Rattle.vale_entry.specs.World.{World, Port, Lot, Offer, is_session, is_settled, open_port, changed_at, changed_if, space_of, due_of, buffers_of}
+use Rattle.vale_entry.specs.World.{World, Port, Lot, Offer, is_session, open_port, changed_at, changed_if, space_of, due_of, buffers_of}
 use Rattle.vale_entry.specs.Opening.{open_refusal, opened_port}
-use Rattle.vale_entry.specs.Grant.{longest_fitting, given_at, first_offer, port_after_grant}
-use Rattle.vale_entry.specs.Delivery.{lease_at, is_done_lot, ready_lots, delivered_frames, frames_of_lot, lot_after_done, done_if, port_after_done, port_after_sync}
+use Rattle.vale_entry.specs.Grant.{longest_fitting, given_at, port_after_grant}
+use Rattle.vale_entry.specs.Delivery.{is_done_lot, ready_lots, delivered_frames, frames_of_lot, lot_after_done, done_if, port_after_done, port_after_sync}
 use Rattle.vale_entry.specs.Closing.{shut, shutting_port, ports_without, sessions_without}
-use Rattle.vale_entry.specs.Holdings.{Holdings, PortBuffers, SessionBuffers, PortAgrees, Agrees, IsParted, all_free, buffers_at_port, is_buffer_index, contains, are_distinct, holds_all, due_of_session, sessions_given, sessions_less, session_given, buffers_without, buffers_of_session, delivered_buffers, changed_buffers, with_lot_buffers, with_returned, holdings_after_grant, holdings_after_sync, holdings_after_finish, buffers_of_port}
-use Rattle.vale_entry.specs.Legal.{Standing, Outcome, step, recorded_step, after, standing_after, enter_step, open_step_by, send_step_at, send_step, can_send, grant_step_at, grant_step, done_step_at, sync_step_at, sync_step, can_sync, shut_step, can_finish, finish_step, leave_step}
+use Rattle.vale_entry.specs.Holdings.{Holdings, PortBuffers, SessionBuffers, PortAgrees, Agrees, IsParted, all_free, buffers_at_port, is_buffer_index, contains, are_distinct, holds_all, due_of_session, sessions_given, sessions_less, session_given, buffers_without, buffers_of_session, delivered_buffers, changed_buffers, with_lot_buffers, with_returned, holdings_after_grant, holdings_after_sync, holdings_after_finish, buffers_of_port, with_put_buffers, first_idle, holdings_after_put}
+use Rattle.vale_entry.specs.Legal.{Standing, after, enter_step, open_step_by, grant_step, sync_step, shut_step, can_finish, finish_step, leave_step, done_step, put_step}
 use Rattle.vale_entry.specs.Laws.{Rise, id_of_port, id_of_held, id_of_session, IsThere, HasRoom, IsPortOf}
-use Rattle.vale_entry.proofs.Steps.{recorded-by}
+use Rattle.vale_entry.specs.Pipe.{peer_of, index_of_item, indices_of, frames_of_items, port_after_put}
+use Rattle.vale_entry.specs.declared.entry.Item.{Item}
+use Rattle.vale_entry.proofs.Follows.{EachKind, CanReceive, after-by, CanKeep}
 use Rattle.vale_entry.proofs.ListLaws.{each-at, map-set_same, sum-at, sum-set, sum-map_same, sum-flat_map}
 use Rattle.vale_entry.proofs.Each.{each-append, each-map, each-weaker, changed_at-same, sum-changed_at}
 use Rattle.vale_entry.proofs.Counting.{count_of, count_of-append, count-away, length-away, count-pool}
 use Rattle.vale_entry.proofs.Freeing.{count-all_with_free}
 use Rattle.vale_entry.proofs.Removals.{each-filter, filter-at_key, sum-remove, sum-filter_same, map-filter}
-use Rattle.vale_entry.proofs.Closings.{CanLeave, shut-by, finish-by, leave-by}
+use Rattle.vale_entry.proofs.Closings.{CanLeave}
 use Rattle.vale_entry.proofs.Agreeing.{agree-ids, agree-at, agree-set, agree-push, agree-map, due_for, due-sum, due-set, due-push, due-remove, due-without, due-none, among-bound, agree-remove, less-place, SessionPlace, session-place, each-set_key, given-place, moved-place, changed_buffers-same, sum-changed_buffers}
-use Rattle.vale_entry.proofs.Places.{open-place, changed_at-place, changed_buffers-place, buffers_of_session-place, delivered_buffers-place, buffers_of_port-place, shutting-place}
+use Rattle.vale_entry.proofs.Places.{open-place, changed_at-place, changed_buffers-place, buffers_of_session-place, delivered_buffers-place, buffers_of_port-place, shutting-place, PeerPlace, peer-place, first_idle-place}
 use Rattle.vale_entry.proofs.Numbered.{Numbered}
-use Rattle.vale_entry.proofs.Roomy.{Roomy, opened-room, longest_fitting-size, with_lot-size, size-after_done, delivered-size}
+use Rattle.vale_entry.proofs.Roomy.{Roomy, opened-room, longest_fitting-size, with_lot-size, size-after_done, delivered-size, items-size, taken-few}
 use Rattle.vale_entry.proofs.Holding.{whole, size_of_lot, at_port, at_session, times_held, times-held, IsPaid, AreHeld, Held, HeldNext, HasFree, once-by}
 
 -- Enter
 owner-before : (count : ℕ) (sessions : List ℕ) (port : Port) → Rise 0 sessions count → IsThere sessions port.session → port.session < count + 1
 owner-before count sessions port rise owned = let bound = among-bound 0 sessions count port.session rise owned in omega arith
 
-held_enter : (s : Standing) → Numbered s → Held s → HeldNext (Some (enter_step s))
+held_enter : (s : Standing) → Numbered s → Held s → HeldNext (enter_step s)
 held_enter s n h =
     let w = s.world in
     let x = s.holdings in
@@ -98,7 +96,7 @@ given_by session more held ports port false t owner size here =
 
 held_opened : (s : Standing) (session : ℕ) (name : List ℕ) (tx rx extra : ℕ) → is_session s.world session ≡ true
     → open_refusal s.world name tx rx extra ≡ None → Numbered s → Roomy s → HasFree s → Held s
-    → HeldNext (Some (open_step_by None s session name tx rx extra))
+    → HeldNext (open_step_by None s session name tx rx extra)
 held_opened s session name tx rx extra found e n roomy free h =
     let w = s.world in
     let x = s.holdings in
@@ -148,27 +146,12 @@ held_opened s session name tx rx extra found e n roomy free h =
         let rest = ids_kept session more helds in
         cc
 
-held_open : (s : Standing) (session : ℕ) (name : List ℕ) (tx rx extra : ℕ) (found : Bool) (refusal : Option OpenFault)
-    → is_session s.world session ≡ found → open_refusal s.world name tx rx extra ≡ refusal
-    → Numbered s → Roomy s → HasFree s → Held s → HeldNext (cond found (Some (open_step_by refusal s session name tx rx extra)) None)
-held_open s session name tx rx extra false refusal t e n roomy free h = tt
-held_open s session name tx rx extra true (Some fault) t e n roomy free h = h
-held_open s session name tx rx extra true None t e n roomy free h = held_opened s session name tx rx extra t e n roomy free h
-
-held_send : (s : Standing) (frames : List Frame) (found : Option Port) → Held s → HeldNext (send_step_at s frames found)
-held_send s frames None h = tt
-held_send s frames (Some port) h = by_test (can_send s.world frames port)
-  where
-    by_test : (can : Bool) → HeldNext (cond can (Some (send_step s frames port)) None)
-    by_test false = tt
-    by_test true = h
-
 -- Grant
-lots-granted : (size : ℕ) (lists : List (List ℕ)) (idle : List ℕ) (line : List Lot) (lot : Lot) → length (take size idle) ≡ size_of_frames lot.frames
+lots-pushed : (lists : List (List ℕ)) (taken : List ℕ) (line : List Lot) (lot : Lot) → length taken ≡ size_of_frames lot.frames
     → map (λ (list : List ℕ). length list) lists ≡ map size_of_lot line
-    → map (λ (list : List ℕ). length list) (lists ++ take size idle ∷ []) ≡ map size_of_lot (line ++ lot ∷ [])
-lots-granted size lists idle line lot here e =
-    map-append (λ (list : List ℕ). length list) lists (take size idle ∷ []) ∙ ap₂ (λ (sizes : List ℕ) (n : ℕ). sizes ++ n ∷ []) e here ∙ sym (map-append size_of_lot line (lot ∷ []))
+    → map (λ (list : List ℕ). length list) (lists ++ taken ∷ []) ≡ map size_of_lot (line ++ lot ∷ [])
+lots-pushed lists taken line lot here e =
+    map-append (λ (list : List ℕ). length list) lists (taken ∷ []) ∙ ap₂ (λ (sizes : List ℕ) (n : ℕ). sizes ++ n ∷ []) e here ∙ sym (map-append size_of_lot line (lot ∷ []))
 
 agrees-granted : (number session : ℕ) (given : List Frame) (port : Port) (held : PortBuffers) → size_of_frames given ≤ space_of port → HasRoom port
     → PortAgrees port held
@@ -182,12 +165,12 @@ agrees-granted number session (frame ∷ frames) port held few room a =
     let taken : length (take (size_of_frames given) held.idle) ≡ size_of_frames given =
     length-take-le (size_of_frames given) held.idle (omega arith) in
     let left = length-drop (size_of_frames given) held.idle in
-    let line = with_lot-size number session given port.line in
+    let line = with_lot-size number session false given port.line in
     let fits = room.fits in
     rw some (record {
       id = a.id;
       idle = omega arith;
-      lots = lots-granted (size_of_frames given) held.lots held.idle port.line _ taken a.lots;
+      lots = lots-pushed held.lots (take (size_of_frames given) held.idle) port.line _ taken a.lots;
     })
 
 -- a grant moves buffers from idle to a lot
@@ -249,15 +232,10 @@ held-granted pool number session id frames sessions high ports x (Some port) e r
           omega arith;
     }
 
-held_grant : (s : Standing) (to : ℕ) (found : Option Offer) → Numbered s → Roomy s → Held s → HeldNext (grant_step_at s to found)
-held_grant s to None n roomy h = tt
-held_grant s to (Some offer) n roomy h = by_test (offer.to == to)
-  where
-    by_test : (same : Bool) → HeldNext (cond same (Some (grant_step s offer)) None)
-    by_test false = tt
-    by_test true =
-        let w = s.world in
-        held-granted w.pool (w.entry_count + 1) offer.session offer.to offer.frames w.sessions w.entry_count w.ports s.holdings (open_port w.ports offer.to) refl n.ports_rise roomy.roomy h
+held_grant : (s : Standing) (offer : Offer) → Numbered s → Roomy s → Held s → HeldNext (grant_step s offer)
+held_grant s offer n roomy h =
+    let w = s.world in
+    held-granted w.pool (w.entry_count + 1) offer.session offer.to offer.frames w.sessions w.entry_count w.ports s.holdings (open_port w.ports offer.to) refl n.ports_rise roomy.roomy h
 
 -- Done
 done-same_size : (b : Bool) (lot : Lot) → size_of_frames (done_if b lot).frames ≡ size_of_frames lot.frames
@@ -278,9 +256,8 @@ agrees-done number port held a =
     let idle = a.idle in
     record { id = a.id; idle = omega arith; lots = a.lots ∙ sym (sizes-after_done number port.line) }
 
-held_done : (s : Standing) (number : ℕ) (found : Option Lot) → Held s → HeldNext (done_step_at s number found)
-held_done s number None h = tt
-held_done s number (Some lot) h =
+held_done : (s : Standing) (number : ℕ) (lot : Lot) → Held s → HeldNext (done_step s number lot)
+held_done s number lot h =
     let w = s.world in
     let ports = map (port_after_done number) w.ports in
     record {
@@ -423,9 +400,9 @@ synced-at pool high sessions ports x back port i held user port_rise held_rise u
           omega arith;
     }
 
-held_synced : (s : Standing) (back : List ℕ) (id : ℕ) (port : Port) → open_port s.world.ports id ≡ Some port → can_sync s back port ≡ true
+held_synced : (s : Standing) (back : List ℕ) (id : ℕ) (port : Port) → open_port s.world.ports id ≡ Some port → CanReceive s back port
     → Numbered s → Roomy s → Held s
-    → Held (sync_step s back port).next
+    → HeldNext (sync_step s back port)
 held_synced s back id port e can n roomy h =
     let w = s.world in
     let x = s.holdings in
@@ -435,33 +412,133 @@ held_synced s back id port e can n roomy h =
     let owned : IsThere w.sessions port.session = each-at (IsPortOf w.sessions) w.ports p.place port n.ports_owned p.here in
     let among : IsThere (map id_of_session x.sessions) port.session = rw h.session_ids owned in
     let user = session-place x.sessions port.session among in
-    let named =
-    and_parts (is_switch_port_name port.name || is_monitor_name port.name) (is_settled w port.session && (nat_le (length back) port.out && holds_all x port.session back)) can in
-    let settled = and_parts (is_settled w port.session) (nat_le (length back) port.out && holds_all x port.session back) named.1 in
-    let limits = and_parts (nat_le (length back) port.out) (holds_all x port.session back) settled.1 in
-    let holds = and_parts (list_all (λ b. contains b (buffers_of_session x.sessions port.session)) back) (are_distinct back) limits.1 in
+    let holds = and_parts (list_all (λ b. contains b (buffers_of_session x.sessions port.session)) back) (are_distinct back) can.held in
     let own : buffers_of_session x.sessions port.session ≡ user.held.buffers =
     subst (λ (k : ℕ). buffers_of_session x.sessions k ≡ user.held.buffers) user.id_is (buffers_of_session-place x.sessions w.entry_count user.place user.held rise user.here) in
     let within : list_all (λ b. contains b user.held.buffers) back ≡ true =
     subst (λ (bs : List ℕ). list_all (λ b. contains b bs) back ≡ true) own holds.0 in
     synced-at w.pool w.entry_count w.sessions w.ports x back port p.place a.held user n.ports_rise (rw (agree-ids w.ports x.ports h.ports_agree) n.ports_rise) rise p.here a.here a.agrees
-    (each-at HasRoom w.ports p.place port roomy.roomy p.here) (leb-true (length back) port.out limits.0) within holds.1 h
+    (each-at HasRoom w.ports p.place port roomy.roomy p.here) (leb-true (length back) port.out can.few) within holds.1 h
 
-held_sync : (s : Standing) (back : List ℕ) (id : ℕ) (found : Option Port) → open_port s.world.ports id ≡ found → Numbered s → Roomy s → Held s
-    → HeldNext (sync_step_at s back found)
-held_sync s back id None e n roomy h = tt
-held_sync s back id (Some port) e n roomy h = by_test (can_sync s back port) refl
-  where
-    by_test : (can : Bool) → can_sync s back port ≡ can → HeldNext (cond can (Some (sync_step s back port)) None)
-    by_test false t = tt
-    by_test true t = held_synced s back id port e t n roomy h
+-- Put
+agrees-put : (number session : ℕ) (items : List Item) (peer : Port) (held : PortBuffers) → length items ≤ space_of peer → HasRoom peer → PortAgrees peer held
+    → PortAgrees (port_after_put number session (frames_of_items items) peer) (with_put_buffers (indices_of items) held)
+agrees-put number session [] peer held few room a = a
+agrees-put number session (item ∷ items) peer held few room a =
+    let taken = indices_of (item ∷ items) in
+    let frames = frames_of_items (item ∷ items) in
+    let count : length taken ≡ length (item ∷ items) = length-map (item ∷ items) index_of_item in
+    let size = items-size (item ∷ items) in
+    let some : (length taken == 0) ≡ false = ne_eqb (length taken) 0 (λ e. omega (arith, e)) in
+    let idle = a.idle in
+    let left = length-drop (length taken) held.idle in
+    let line = with_lot-size number session true frames peer.line in
+    let fits = room.fits in
+    let lots = lots-pushed held.lots taken peer.line (record { number = number; session = session; frames = frames; is_done = true }) (omega (arith, count, size)) a.lots in
+    rw some (record {
+      id = a.id;
+      idle = omega (arith, idle, left, line, fits, few, size, count);
+      lots = lots;
+    })
+
+-- a put moves buffers from the session to a lot, and from idle to the session
+put-count : (b : ℕ) (taken : List ℕ) (held : PortBuffers) → at_port b (with_put_buffers taken held) + count_of b (take (length taken) held.idle) ≡ at_port b held + count_of b taken
+put-count b [] held = refl
+put-count b (t ∷ ts) held =
+    let taken : List ℕ = t ∷ ts in
+    let some : (length taken == 0) ≡ false = ne_eqb (length taken) 0 (λ e. omega (arith, e)) in
+    let cut = sum_by-take-drop (λ (y : ℕ). cond (y == b) 1 0) held.idle (length taken) in
+    let lots : flat_map whole (held.lots ++ taken ∷ []) ≡ flat_map whole held.lots ++ (taken ++ []) = flat_map-append whole held.lots (taken ∷ []) in
+    let counts = ap (count_of b) lots in
+    let one = count_of-append b (flat_map whole held.lots) (taken ++ []) in
+    let two = ap (count_of b) (append-nil taken) in
+    let new = count_of-append b (drop (length taken) held.idle) (flat_map whole (held.lots ++ taken ∷ [])) in
+    let old = count_of-append b held.idle (flat_map whole held.lots) in
+    rw some (omega (arith, cut, counts, one, two, new, old))
+
+-- whose dues a put leaves
+due-put : (ports : List Port) (i : ℕ) (peer changed : Port) (session : ℕ) → slice_get ports i ≡ Some peer → changed.session ≡ peer.session → due_of changed ≡ due_of peer
+    → due_of_session (slice_set ports i changed) session ≡ due_of_session ports session
+due-put ports i peer changed session e owner due =
+    let sum = due-set ports i peer changed session e in
+    let same : due_for session changed ≡ due_for session peer = ap₂ (λ (k d : ℕ). cond (k == session) d 0) owner due in
+    omega (arith, sum, same)
+
+put-at : (pool high number : ℕ) (sessions : List ℕ) (ports : List Port) (x : Holdings) (items : List Item) (session : ℕ) (peer : Port) (p : PeerPlace ports peer) (held : PortBuffers)
+    (user : SessionPlace x.sessions session) → Rise 0 (map id_of_held x.ports) high → Rise 0 (map id_of_session x.sessions) high
+    → slice_get x.ports p.place ≡ Some held → PortAgrees peer held → HasRoom peer → length items ≤ space_of peer
+    → list_all (λ b. contains b user.held.buffers) (indices_of items) ≡ true → are_distinct (indices_of items) ≡ true
+    → AreHeld pool sessions ports x
+    → AreHeld pool sessions (changed_at peer.id (port_after_put number session (frames_of_items items)) ports) (holdings_after_put peer.id session (indices_of items) x)
+put-at pool high number sessions ports x items session peer p held user held_rise user_rise f a room few within distinct h =
+    let taken = indices_of items in
+    let change = port_after_put number session (frames_of_items items) in
+    let move = with_put_buffers taken in
+    let given = take (length taken) held.idle in
+    let after_user : SessionBuffers = record user.held { buffers = buffers_without taken user.held.buffers ++ given } in
+    let ports_are : changed_at peer.id change ports ≡ slice_set ports p.place (change peer) = p.changes change in
+    let helds_are : changed_buffers peer.id move x.ports ≡ slice_set x.ports p.place (move held) =
+    subst (λ (k : ℕ). changed_buffers k move x.ports ≡ slice_set x.ports p.place (move held)) a.id (changed_buffers-place move x.ports high p.place held held_rise f) in
+    let given_are : first_idle peer.id (length taken) x.ports ≡ given =
+    subst (λ (k : ℕ). first_idle k (length taken) x.ports ≡ given) a.id (first_idle-place (length taken) x.ports high p.place held held_rise f) in
+    let users_are : sessions_given session (first_idle peer.id (length taken) x.ports) (sessions_less session taken x.sessions) ≡ slice_set x.sessions user.place after_user =
+    ap (λ (more : List ℕ). sessions_given session more (sessions_less session taken x.sessions)) given_are ∙ moved-place taken given x.sessions high session user_rise user in
+    let once = held-once pool sessions ports x user.place user.held h user.here in
+    let away = length-away taken user.held.buffers distinct within once in
+    let count : length taken ≡ length items = length-map items index_of_item in
+    let idle = a.idle in
+    let size : length given ≡ length taken = length-take-le (length taken) held.idle (omega (arith, count, idle, few)) in
+    let joined = length-append (buffers_without taken user.held.buffers) given in
+    let old = each-at (IsPaid ports) x.sessions user.place user.held h.dues user.here in
+    let same_due = due-put ports p.place peer (change peer) user.held.session p.here refl refl in
+    let own : length (buffers_without taken user.held.buffers ++ given) ≡ due_of_session (slice_set ports p.place (change peer)) user.held.session = omega (arith, away, size, joined, old, same_due) in
+    let dues : Each (IsPaid (slice_set ports p.place (change peer))) (slice_set x.sessions user.place after_user) =
+    each-set_key id_of_session (IsPaid ports) (IsPaid (slice_set ports p.place (change peer))) 0 x.sessions high user.place user.held after_user user_rise user.here
+    (λ z other here. here ∙ sym (due-put ports p.place peer (change peer) z.session p.here refl refl)) h.dues own in
+    record {
+      ports_agree = rw (ports_are, helds_are) (agree-set ports x.ports p.place (change peer) (move held) h.ports_agree (agrees-put number session items peer held few room a));
+      session_ids = ap (map id_of_session) users_are ∙ map-set_same id_of_session x.sessions user.place user.held after_user user.here refl ∙ h.session_ids;
+      dues = rw (ports_are, users_are) dues;
+      parted = λ b.
+          let before = h.parted b in
+          let helds_sum = sum-set (at_port b) x.ports p.place held (move held) f in
+          let helds_same = ap (sum_by (at_port b)) helds_are in
+          let users_sum = sum-set (at_session b) x.sessions user.place user.held after_user user.here in
+          let users_same = ap (sum_by (at_session b)) users_are in
+          let moved = put-count b taken held in
+          let left = count-away b taken user.held.buffers distinct within (once b) in
+          let both = count_of-append b (buffers_without taken user.held.buffers) given in
+          omega (arith, before, helds_sum, helds_same, users_sum, users_same, moved, left, both);
+    }
+
+held_put : (s : Standing) (id offered : ℕ) (items : List Item) (port peer : Port) → open_port s.world.ports id ≡ Some port → CanKeep s offered items port → peer_of s.world.ports port ≡ Some peer
+    → Numbered s → Roomy s → Held s
+    → HeldNext (put_step s items port peer)
+held_put s id offered items port peer e can found n roomy h =
+    let w = s.world in
+    let x = s.holdings in
+    let own_place = open-place w.ports w.entry_count id port n.ports_rise e in
+    let p = peer-place w.ports w.entry_count port peer n.ports_rise found in
+    let a = agree-at w.ports x.ports p.place peer h.ports_agree p.here in
+    let rise : Rise 0 (map id_of_session x.sessions) w.entry_count = rw h.session_ids n.sessions_rise in
+    let owned : IsThere w.sessions port.session = each-at (IsPortOf w.sessions) w.ports own_place.place port n.ports_owned own_place.here in
+    let among : IsThere (map id_of_session x.sessions) port.session = rw h.session_ids owned in
+    let user = session-place x.sessions port.session among in
+    let taken = indices_of items in
+    let holds = and_parts (list_all (λ b. contains b (buffers_of_session x.sessions port.session)) taken) (are_distinct taken) can.held in
+    let own : buffers_of_session x.sessions port.session ≡ user.held.buffers =
+    subst (λ (k : ℕ). buffers_of_session x.sessions k ≡ user.held.buffers) user.id_is (buffers_of_session-place x.sessions w.entry_count user.place user.held rise user.here) in
+    let within : list_all (λ b. contains b user.held.buffers) taken ≡ true =
+    subst (λ (bs : List ℕ). list_all (λ b. contains b bs) taken ≡ true) own holds.0 in
+    put-at w.pool w.entry_count (w.entry_count + 1) w.sessions w.ports x items port.session peer p a.held user (rw (agree-ids w.ports x.ports h.ports_agree) n.ports_rise) rise a.here a.agrees
+    (each-at HasRoom w.ports p.place peer roomy.roomy p.here) (taken-few s offered items port peer can found) within holds.1 h
 
 -- Shut
 agrees-shut : (shuts : Bool) (port : Port) (held : PortBuffers) → PortAgrees port held → PortAgrees (changed_if shuts shut port) held
 agrees-shut true port held a = record { id = a.id; idle = a.idle; lots = a.lots }
 agrees-shut false port held a = a
 
-held_shut : (s : Standing) (port : Port) → Held s → HeldNext (Some (shut_step s port))
+held_shut : (s : Standing) (port : Port) → Held s → HeldNext (shut_step s port)
 held_shut s port h =
     let w = s.world in
     let ports = changed_at port.id shut w.ports in
@@ -582,7 +659,7 @@ left-nothing session ports b held none paid goes = by_test (held.session == sess
         let few = count_by-le-length (λ (y : ℕ). y == b) held.buffers in
         omega arith
 
-held_leave : (s : Standing) (session : ℕ) → CanLeave s.world session → Held s → HeldNext (Some (leave_step s session))
+held_leave : (s : Standing) (session : ℕ) → CanLeave s.world session → Held s → HeldNext (leave_step s session)
 held_leave s session can h =
     let w = s.world in
     let x = s.holdings in
@@ -601,27 +678,24 @@ held_leave s session can h =
           omega arith;
     }
 
-held_step : (s : Standing) (ask : Ask) → Numbered s → Roomy s → HasFree s → Held s → HeldNext (step s ask)
-held_step s (Enter user) n roomy free h = held_enter s n h
-held_step s (Open session name tx rx extra) n roomy free h =
-    held_open s session.0 name tx rx extra (is_session s.world session.0) (open_refusal s.world name tx rx extra) refl refl n roomy free h
-held_step s (Send port frames) n roomy free h = held_send s frames (open_port s.world.ports port.0) h
-held_step s (Grant origin to) n roomy free h = held_grant s to.0 (first_offer s.world origin) n roomy h
-held_step s (Done lease) n roomy free h = held_done s lease.0 (lease_at s.world.ports lease.0) h
-held_step s (Sync port back) n roomy free h = held_sync s back port.0 (open_port s.world.ports port.0) refl n roomy h
-held_step s (Shut port) n roomy free h = shut-by HeldNext s (open_port s.world.ports port.0) tt (λ at e. held_shut s at h)
-held_step s (Finish port bufs chain) n roomy free h =
-    finish-by HeldNext s bufs (shutting_port s.world.ports port.0) tt (λ at e can out. held_finished s bufs port.0 at e can n h)
-held_step s (Leave session) n roomy free h = leave-by HeldNext s session.0 tt (λ can. held_leave s session.0 can h)
-held_step s _ n roomy free h = tt
-
-held_after : (s : Standing) (e : Entry) (made : Option Outcome) → Held s → HeldNext made → Held (standing_after s e made)
-held_after s e None h next = h
-held_after s e (Some made) h next = next
+held_kinds : (s : Standing) → Numbered s → Roomy s → HasFree s → Held s → EachKind s (λ ask made. HeldNext made)
+held_kinds s n roomy free h = record {
+  enters = λ user fits. held_enter s n h;
+  quiet = λ ask session reply quiet. h;
+  opens = λ session name tx rx extra can refusal. held_opened s session.0 name tx rx extra can.here refusal n roomy free h;
+  sends = λ from frames port e can settled. h;
+  grants = λ origin to offer first same. held_grant s offer n roomy h;
+  completes = λ lease lot e. held_done s lease.0 lot h;
+  receives = λ ask at back port receives e can. held_synced s back at.0 port e can n roomy h;
+  puts = λ at offered items port peer e can found. held_put s at.0 offered items port peer e can found n roomy h;
+  watches = λ at target sides port found e can there none. h;
+  shuts = λ at port e settled. held_shut s port h;
+  finishes = λ at bufs chain port fits e can out. held_finished s bufs at.0 port e can n h;
+  leaves = λ session can. held_leave s session.0 can h;
+}
 
 pub held_entry : (s : Standing) (e : Entry) → Numbered s → Roomy s → HasFree s → Held s → Held (after s e)
-held_entry s e n roomy free h =
-    held_after s e (recorded_step s e.ask e.reply) h (recorded-by HeldNext s e.ask e.reply tt (held_step s e.ask n roomy free h))
+held_entry s e n roomy free h = after-by s Held e h (held_kinds s n roomy free h)
 
 pub held_fresh : (pool : ℕ) → AreHeld pool [] [] (all_free pool)
 held_fresh pool = record {

@@ -1,23 +1,15 @@
 -- The laws of legal histories: what each entry keeps, from the fresh pool on.
 use Rattle.std.specs.List.{AllByRecursion as Each}
-use Rattle.std.proofs.Common.{ℕ, ◌+◌, ◌≤◌, ◌≡◌, Bool, List, [], ◌∷◌, sum_by, Option, Some, None, refl, sym, ◌∙◌, subst, arith, All, length-append, true, false, cond, ◌==◌, ◌<◌, take, drop}
+use Rattle.std.proofs.Common.{ℕ, ◌+◌, ◌≤◌, ◌≡◌, List, [], ◌∷◌, sum_by, refl, sym, ◌∙◌, subst, arith, All, length-append, ◌<◌, take, drop}
 use Rattle.std.proofs.lemmas.List.Elements.{All-from_recursion}
-use Rattle.nm_types.specs.Frames.{Frame}
-use Rattle.nm_types.specs.declared.fault.OpenFault.{OpenFault}
-use Rattle.vale_entry.specs.declared.entry.Ask.{Ask}
-use Rattle.vale_entry.specs.declared.entry.Ask.TheVariants.{Enter, Open, Send, Grant, Done, Sync, Shut, Finish, Leave}
 use Rattle.vale_entry.specs.declared.entry.Entry.{Entry}
-use Rattle.vale_entry.specs.World.{Port, Lot, Offer, is_session, open_port, size_of_line, space_of, due_of, buffers_of}
-use Rattle.vale_entry.specs.Opening.{open_refusal}
-use Rattle.vale_entry.specs.Grant.{first_offer}
-use Rattle.vale_entry.specs.Delivery.{lease_at}
-use Rattle.vale_entry.specs.Closing.{shutting_port}
+use Rattle.vale_entry.specs.World.{Port, size_of_line, space_of, due_of, buffers_of}
 use Rattle.vale_entry.specs.Holdings.{IsParted}
-use Rattle.vale_entry.specs.Legal.{Standing, Outcome, step, recorded_step, after, standing_after, standing_of, world_of, holdings_of, fresh_standing, open_step_by, send_step_at, send_step, can_send, grant_step_at, grant_step, done_step_at, sync_step_at, sync_step, can_sync, IsLegal, Follows}
-use Rattle.vale_entry.specs.Laws.{Rise, IsFilled, HasRoom, AreNumbered, IsPromised, NumbersRise, PortsAreWithinSizes, FreeBuffersRise, BuffersAreParted, HoldingsAgree, SessionsHaveOneUnsettled, RoomIsPromised, RoomIsUsed}
+use Rattle.vale_entry.specs.Legal.{Standing, after, standing_of, world_of, holdings_of, fresh_standing, IsLegal, Follows}
+use Rattle.vale_entry.specs.Laws.{Rise, IsFilled, HasRoom, AreNumbered, IsPromised, NumbersRise, PortsAreWithinSizes, FreeBuffersRise, BuffersAreParted, HoldingsAgree, SessionsHaveOneUnsettled, WatchesAreOpen, LotsAreSingle, RoomIsPromised, RoomIsUsed}
 use Rattle.vale_entry.proofs.Worlds.{standing-push, count-world_of}
-use Rattle.vale_entry.proofs.Steps.{recorded-by, legal-by}
-use Rattle.vale_entry.proofs.Closings.{shut-by, finish-by, leave-by}
+use Rattle.vale_entry.proofs.Steps.{legal-by}
+use Rattle.vale_entry.proofs.Follows.{EachKind, after-by}
 use Rattle.vale_entry.proofs.Rising.{rise-cut}
 use Rattle.vale_entry.proofs.Each.{each-weaker}
 use Rattle.vale_entry.proofs.Numbered.{Numbered, numbered_entry, world-numbered}
@@ -27,57 +19,28 @@ use Rattle.vale_entry.proofs.Holding.{Held, HasFree}
 use Rattle.vale_entry.proofs.Held.{held_entry, held_fresh, held-parted, held-agrees}
 use Rattle.vale_entry.proofs.OneEntry.{OneEntry, one_entry}
 use Rattle.vale_entry.proofs.SingleLots.{Single, single_entry}
+use Rattle.vale_entry.proofs.Watched.{Watched, watched_entry}
 use Rattle.vale_entry.proofs.Promised.{promised_entry}
 
 -- no entry changes the pool
-abbrev PoolNext : ℕ → Option Outcome → Type 0
-PoolNext pool None = Unit {0}
-PoolNext pool (Some made) = made.next.world.pool ≡ pool
-
-pool_if : (pool : ℕ) (made : Outcome) (b : Bool) → made.next.world.pool ≡ pool → PoolNext pool (cond b (Some made) None)
-pool_if pool made true e = e
-pool_if pool made false e = tt
-
-pool_open : (s : Standing) (session : ℕ) (name : List ℕ) (tx rx extra : ℕ) (refusal : Option OpenFault)
-    → (open_step_by refusal s session name tx rx extra).next.world.pool ≡ s.world.pool
-pool_open s session name tx rx extra None = refl
-pool_open s session name tx rx extra (Some fault) = refl
-
-pool_send : (s : Standing) (frames : List Frame) (found : Option Port) → PoolNext s.world.pool (send_step_at s frames found)
-pool_send s frames None = tt
-pool_send s frames (Some port) = pool_if s.world.pool (send_step s frames port) (can_send s.world frames port) refl
-
-pool_grant : (s : Standing) (to : ℕ) (found : Option Offer) → PoolNext s.world.pool (grant_step_at s to found)
-pool_grant s to None = tt
-pool_grant s to (Some offer) = pool_if s.world.pool (grant_step s offer) (offer.to == to) refl
-
-pool_done : (s : Standing) (number : ℕ) (found : Option Lot) → PoolNext s.world.pool (done_step_at s number found)
-pool_done s number None = tt
-pool_done s number (Some lot) = refl
-
-pool_sync : (s : Standing) (back : List ℕ) (found : Option Port) → PoolNext s.world.pool (sync_step_at s back found)
-pool_sync s back None = tt
-pool_sync s back (Some port) = pool_if s.world.pool (sync_step s back port) (can_sync s back port) refl
-
-pool_step : (s : Standing) (ask : Ask) → PoolNext s.world.pool (step s ask)
-pool_step s (Enter user) = refl
-pool_step s (Open session name tx rx extra) =
-    pool_if s.world.pool (open_step_by (open_refusal s.world name tx rx extra) s session.0 name tx rx extra) (is_session s.world session.0) (pool_open s session.0 name tx rx extra (open_refusal s.world name tx rx extra))
-pool_step s (Send port frames) = pool_send s frames (open_port s.world.ports port.0)
-pool_step s (Grant origin to) = pool_grant s to.0 (first_offer s.world origin)
-pool_step s (Done lease) = pool_done s lease.0 (lease_at s.world.ports lease.0)
-pool_step s (Sync port back) = pool_sync s back (open_port s.world.ports port.0)
-pool_step s (Shut port) = shut-by (PoolNext s.world.pool) s (open_port s.world.ports port.0) tt (λ at e. refl)
-pool_step s (Finish port bufs chain) = finish-by (PoolNext s.world.pool) s bufs (shutting_port s.world.ports port.0) tt (λ at e can out. refl)
-pool_step s (Leave session) = leave-by (PoolNext s.world.pool) s session.0 tt (λ can. refl)
-pool_step s _ = tt
-
-pool_after : (s : Standing) (e : Entry) (made : Option Outcome) → PoolNext s.world.pool made → (standing_after s e made).world.pool ≡ s.world.pool
-pool_after s e None next = refl
-pool_after s e (Some made) next = next
+pool_kinds : (s : Standing) → EachKind s (λ ask made. made.next.world.pool ≡ s.world.pool)
+pool_kinds s = record {
+  enters = λ user fits. refl;
+  quiet = λ ask session reply quiet. refl;
+  opens = λ session name tx rx extra can refusal. refl;
+  sends = λ from frames port e can settled. refl;
+  grants = λ origin to offer first same. refl;
+  completes = λ lease lot e. refl;
+  receives = λ ask at back port receives e can. refl;
+  puts = λ at offered items port peer e can found. refl;
+  watches = λ at target sides port found e can there none. refl;
+  shuts = λ at port e settled. refl;
+  finishes = λ at bufs chain port fits e can out. refl;
+  leaves = λ session can. refl;
+}
 
 pool_entry : (s : Standing) (e : Entry) → (after s e).world.pool ≡ s.world.pool
-pool_entry s e = pool_after s e (recorded_step s e.ask e.reply) (recorded-by (PoolNext s.world.pool) s e.ask e.reply tt (pool_step s e.ask))
+pool_entry s e = after-by s (λ (t : Standing). t.world.pool ≡ s.world.pool) e refl (pool_kinds s)
 
 -- what stands after a legal history
 pub record Stands (pool : ℕ) (s : Standing) : Type 0 where
@@ -88,6 +51,7 @@ pub record Stands (pool : ℕ) (s : Standing) : Type 0 where
   pub held : Held s
   pub one : OneEntry s
   pub single : Single s
+  pub watched : Watched s
 
 stands_entry : (pool : ℕ) (s : Standing) (e : Entry) → Stands pool s → Follows s e → Stands pool (after s e)
 stands_entry pool s e k follows = record {
@@ -98,6 +62,7 @@ stands_entry pool s e k follows = record {
   held = held_entry s e k.numbered k.roomy k.free k.held;
   one = one_entry s e k.one;
   single = single_entry s e k.numbered k.single;
+  watched = watched_entry s e k.numbered k.watched;
 }
 
 stands_fresh : (pool : ℕ) → Stands pool (fresh_standing pool)
@@ -109,6 +74,7 @@ stands_fresh pool = record {
   held = held_fresh pool;
   one = λ session. (0, tt);
   single = λ number. omega arith;
+  watched = record { each = tt; once = λ target. omega arith };
 }
 
 pub history-stands : (pool : ℕ) (h : List Entry) → IsLegal pool h → Stands pool (standing_of pool h)
@@ -165,15 +131,21 @@ holdings-agree pool h legal = held-agrees (world_of pool h) (holdings_of pool h)
 pub sessions-one_unsettled : SessionsHaveOneUnsettled
 sessions-one_unsettled pool h legal = (history-stands pool h legal).one
 
+pub watches-open : WatchesAreOpen
+watches-open pool h legal = (history-stands pool h legal).watched
+
+pub lots-single : LotsAreSingle
+lots-single pool h legal = (history-stands pool h legal).single
+
 pub room-promised : RoomIsPromised
-room-promised pool h e legal follows =
+room-promised pool h e made legal follows is =
     let k = history-stands pool h legal in
-    subst (λ (s : Standing). IsPromised (world_of pool h) s.world e.ask e.reply) (sym (standing-push pool h e)) (promised_entry (standing_of pool h) e k.numbered k.single follows)
+    subst (λ (s : Standing). IsPromised (world_of pool h) s.world made) (sym (standing-push pool h e)) (promised_entry (standing_of pool h) e made k.numbered k.single is)
 
 pub room-used : RoomIsUsed
-room-used pool h e legal follows =
-    let step = room-promised pool h e legal follows in
+room-used pool h e made legal follows is =
+    let step = room-promised pool h e made legal follows is in
     let size = length-append h (e ∷ []) in
-    omega arith
+    omega (arith, step, size)
 
-pub ruleset history_laws = (numbers-rise, ports-within, free-rises, buffers-parted, holdings-agree, sessions-one_unsettled, room-promised, room-used)
+pub ruleset history_laws = (numbers-rise, ports-within, free-rises, buffers-parted, holdings-agree, sessions-one_unsettled, watches-open, lots-single, room-promised, room-used)

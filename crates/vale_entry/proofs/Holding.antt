@@ -1,6 +1,6 @@
 -- Who holds what, in the form that every entry keeps: each buffer of the pool is held once, and the
 -- buffers held agree with the world.
-use Rattle.std.proofs.Common.{ℕ, ◌+◌, ◌≤◌, ◌≡◌, Bool, true, false, cond, ◌==◌, List, ◌++◌, map, length, sum_by, flat_map, Option, Some, None, arith}
+use Rattle.std.proofs.Common.{ℕ, ◌+◌, ◌≤◌, ◌≡◌, Bool, true, false, cond, ◌==◌, List, ◌++◌, map, length, sum_by, flat_map, arith}
 use Rattle.std.specs.List.{AllByRecursion as Each}
 use Rattle.nm_types.specs.Frames.{size_of_frames}
 use Rattle.vale_entry.specs.World.{Port, Lot}
@@ -49,9 +49,8 @@ pub record AreHeld (pool : ℕ) (sessions : List ℕ) (ports : List Port) (x : H
 abbrev pub Held : Standing → Type 0
 Held s = AreHeld s.world.pool s.world.sessions s.world.ports s.holdings
 
-abbrev pub HeldNext : Option Outcome → Type 0
-HeldNext None = Unit {0}
-HeldNext (Some made) = Held made.next
+abbrev pub HeldNext : Outcome → Type 0
+HeldNext made = Held made.next
 
 abbrev pub HasFree : Standing → Type 0
 HasFree s = AreFree s.world.pool s.world.ports s.holdings.free

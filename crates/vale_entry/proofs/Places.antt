@@ -6,9 +6,13 @@ use Rattle.std.proofs.lemmas.Bool.{eq-eqb, ne_eqb, eqb-true, and_parts, not-true
 use Rattle.vale_entry.specs.declared.entry.Entry.{Entry}
 use Rattle.vale_entry.specs.World.{Port, open_port, is_open_at, changed_if, changed_at}
 use Rattle.vale_entry.specs.Closing.{is_shutting_at, shutting_port, ports_without, sessions_without}
-use Rattle.vale_entry.specs.Holdings.{PortBuffers, SessionBuffers, changed_buffers, session_given, sessions_given, session_less, sessions_less, buffers_of_session, delivered_buffers, buffers_of_port, buffers_at_port}
+use Rattle.vale_entry.specs.Holdings.{PortBuffers, SessionBuffers, changed_buffers, session_given, sessions_given, session_less, sessions_less, buffers_of_session, delivered_buffers, buffers_of_port, buffers_at_port, first_idle}
 use Rattle.vale_entry.specs.Legal.{world_of}
 use Rattle.vale_entry.specs.Laws.{Rise, id_of_port, id_of_held, id_of_session}
+use Rattle.vale_entry.specs.Pipe.{is_peer, peer_of}
+use Rattle.vale_entry.specs.Monitors.{is_open_as}
+use Rattle.nm_types.specs.Names.{is_pipe_name, peer_name}
+use Rattle.std.specs.Prelude.{bytes_eq}
 use Rattle.vale_entry.proofs.ListLaws.{place-of}
 use Rattle.vale_entry.proofs.Rising.{map-at_key, find-at_key, rise-slice_get}
 use Rattle.vale_entry.proofs.Removals.{filter-at_key, filter-at_number}
@@ -63,6 +67,27 @@ shutting-place ports high id port r e =
       id_is = eqb-true port.id id tests.0;
       shuts = tests.1;
       goes = filter-at_key id_of_port 0 ports high found.place port r found.here;
+    }
+
+-- the other end of a pipe that a search finds: where it stands, and what a change at its id does
+pub record PeerPlace (ports : List Port) (peer : Port) : Type 0 where
+  pub place : ℕ
+  pub here : slice_get ports place ≡ Some peer
+  pub is_pipe : is_pipe_name peer.name ≡ true
+  pub stands_open : peer.shutting ≡ false
+  pub changes : (change : Port → Port) → changed_at peer.id change ports ≡ slice_set ports place (change peer)
+
+pub peer-place : (ports : List Port) (high : ℕ) (port peer : Port) → Rise 0 (map id_of_port ports) high → peer_of ports port ≡ Some peer → PeerPlace ports peer
+peer-place ports high port peer r e =
+    let found = place-of (is_peer port.name) ports peer e in
+    let tests = and_parts (is_pipe_name peer.name) (is_open_as (peer_name port.name) peer) found.passes in
+    let opens = and_parts (not peer.shutting) (bytes_eq peer.name (peer_name port.name)) tests.1 in
+    record {
+      place = found.place;
+      here = found.here;
+      is_pipe = tests.0;
+      stands_open = not-true peer.shutting opens.0;
+      changes = λ change. changed_at-place change ports high found.place peer r found.here;
     }
 
 pub shutting_port-place : (ports : List Port) (high i : ℕ) (port : Port)
@@ -155,6 +180,22 @@ buffers_of_port-from low (x ∷ xs) high (suc i) held r e =
 pub buffers_of_port-place : (helds : List PortBuffers) (high i : ℕ) (held : PortBuffers)
     → Rise 0 (map id_of_held helds) high → slice_get helds i ≡ Some held → buffers_of_port held.port helds ≡ buffers_at_port held
 buffers_of_port-place helds high i held r e = buffers_of_port-from 0 helds high i held r e
+
+first_idle-from : (count low : ℕ) (helds : List PortBuffers) (high i : ℕ) (held : PortBuffers)
+    → Rise low (map id_of_held helds) high → slice_get helds i ≡ Some held → first_idle held.port count helds ≡ take count held.idle
+first_idle-from count low [] high i held r e = absurd cc
+first_idle-from count low (x ∷ xs) high zero held r e =
+    let same : x ≡ held = cc in
+    let hit : (x.port == held.port) ≡ true = eq-eqb x.port held.port (ap id_of_held same) in
+    rw hit (ap (λ (y : PortBuffers). take count y.idle) same)
+first_idle-from count low (x ∷ xs) high (suc i) held r e =
+    let above = rise-slice_get id_of_held x.port xs high i held r.1 e in
+    let miss : (x.port == held.port) ≡ false = ne_eqb x.port held.port (λ k. omega arith) in
+    rw miss (first_idle-from count x.port xs high i held r.1 e)
+
+pub first_idle-place : (count : ℕ) (helds : List PortBuffers) (high i : ℕ) (held : PortBuffers)
+    → Rise 0 (map id_of_held helds) high → slice_get helds i ≡ Some held → first_idle held.port count helds ≡ take count held.idle
+first_idle-place count helds high i held r e = first_idle-from count 0 helds high i held r e
 
 delivered_buffers-from : (lots low : ℕ) (helds : List PortBuffers) (high i : ℕ) (held : PortBuffers)
     → Rise low (map id_of_held helds) high → slice_get helds i ≡ Some held

@@ -6,8 +6,9 @@ use Rattle.vale_entry.specs.World.{Port, changed_if, changed_at, open_port}
 use Rattle.vale_entry.specs.Closing.{shutting_port, ports_without}
 use Rattle.vale_entry.specs.Laws.{Rise, id_of_port}
 use Rattle.vale_entry.specs.Delivered.{has_id, port_at}
+use Rattle.vale_entry.specs.Pipe.{peer_of}
 use Rattle.vale_entry.proofs.Rising.{find-at_key, rise-bounds}
-use Rattle.vale_entry.proofs.Places.{open-place, shutting-place}
+use Rattle.vale_entry.proofs.Places.{open-place, shutting-place, peer-place}
 
 find_map_by : {X : Type 0} (f : X → X) (x : X) (rest more : Option X) (b : Bool) → more ≡ option_map f rest
     → cond b (Some (f x)) more ≡ option_map f (cond b (Some x) rest)
@@ -111,6 +112,9 @@ found-shutting ports high id port r e =
     let p = shutting-place ports high id port r e in
     record { id_is = p.id_is; here = subst (λ (k : ℕ). port_at ports k ≡ Some port) p.id_is (port_at-place ports high p.place port r p.here) }
 
+pub found-peer : (ports : List Port) (high : ℕ) (port peer : Port) → Rise 0 (map id_of_port ports) high → peer_of ports port ≡ Some peer → port_at ports peer.id ≡ Some peer
+found-peer ports high port peer r e = let p = peer-place ports high port peer r e in port_at-place ports high p.place peer r p.here
+
 -- an id is none of a later entry
 key_below : (id : ℕ) (x port : Port) (rest : Option Port) (high : ℕ) (b : Bool) → x.id ≤ high → (rest ≡ Some port → port.id ≤ high) → cond b (Some x) rest ≡ Some port → port.id ≤ high
 key_below id x port rest high true here later e = let same : x ≡ port = cc in subst (λ (p : Port). p.id ≤ high) same here
@@ -120,6 +124,9 @@ below_from : (low : ℕ) (ports : List Port) (high id : ℕ) (port : Port) → R
 below_from low [] high id port r e = absurd cc
 below_from low (x ∷ xs) high id port r e =
     key_below id x port (port_at xs id) high (x.id == id) (rise-bounds x.id (map id_of_port xs) high r.1) (below_from x.id xs high id port r.1) e
+
+pub port_at-under : (ports : List Port) (high id : ℕ) (port : Port) → Rise 0 (map id_of_port ports) high → port_at ports id ≡ Some port → id ≤ high
+port_at-under ports high id port r e = subst (λ (n : ℕ). n ≤ high) (port_at-id ports id port e) (below_from 0 ports high id port r e)
 
 pub port_at-below : (ports : List Port) (high id : ℕ) (port : Port) → Rise 0 (map id_of_port ports) high → Found ports id port → port.id ≤ high
 port_at-below ports high id port r found = below_from 0 ports high id port r found.here

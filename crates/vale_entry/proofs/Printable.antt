@@ -1,33 +1,35 @@
 -- Each entry of a legal history is printable at its number.
-use Rattle.std.specs.List.{AllByRecursion as Each, cons_option}
-use Rattle.std.proofs.Common.{ℕ, ◌+◌, ◌<◌, ◌≡◌, ◌==◌, ◌&&◌, not, Bool, true, false, cond, nat_lt, List, [], ◌∷◌, map, IsTrue, Option, Some, None, option_map, refl, subst, arith}
+use Rattle.std.specs.List.{AllByRecursion as Each, cons_option, list_all}
+use Rattle.std.proofs.Common.{ℕ, ◌+◌, ◌<◌, ◌≡◌, ◌==◌, ◌&&◌, not, Bool, true, false, cond, nat_lt, List, [], ◌∷◌, map, length, IsTrue, Option, Some, None, refl, subst, arith}
 use Rattle.std.specs.List.{list_any}
-use Rattle.std.proofs.lemmas.Bool.{eq-eqb, lt-ltb}
-use Rattle.std.proofs.lemmas.Option.{same_Some}
+use Rattle.std.proofs.lemmas.Bool.{eq-eqb, lt-ltb, and_parts}
 use Rattle.nm_types.specs.Frames.{Frame}
-use Rattle.nm_types.specs.Names.{is_name, IsName}
+use Rattle.nm_types.specs.Names.{is_name, IsName, is_monitor_name}
 use Rattle.nm_types.specs.declared.fault.OpenFault.{OpenFault}
 use Rattle.nm_types.specs.declared.fault.OpenFault.TheVariants.{BadSize, SwitchesFull, PortsFull, NameTaken, NoBuffers}
 use Rattle.nm_types.specs.declared.id.SessionId.{SessionId}
 use Rattle.nm_types.specs.declared.id.PortId.{PortId}
-use Rattle.nm_types.specs.declared.id.LeaseId.{LeaseId}
 use Rattle.vale_entry.specs.declared.entry.Ask.{Ask}
-use Rattle.vale_entry.specs.declared.entry.Ask.TheVariants.{Enter, Open, Send, Grant, Done, Sync, Shut, Finish, Leave}
+use Rattle.vale_entry.specs.declared.entry.Ask.TheVariants.{Grant}
 use Rattle.vale_entry.specs.declared.entry.Reply.{Reply}
+use Rattle.vale_entry.specs.declared.entry.Reply.TheVariants.{Gave}
 use Rattle.vale_entry.specs.declared.entry.Dest.{Dest}
 use Rattle.vale_entry.specs.declared.entry.Entry.{Entry}
-use Rattle.vale_entry.specs.World.{Port, Lot, Offer, is_session, open_port, free_count, transmit_monitor, receive_monitor}
+use Rattle.vale_entry.specs.World.{World, Port, Offer, open_port, free_count, transmit_monitor, receive_monitor}
 use Rattle.vale_entry.specs.Offers.{offers_of, offer_to, dests_of, wanted_frames, monitored_frames}
 use Rattle.vale_entry.specs.Opening.{are_sizes, finds_switches_full, finds_ports_full, has_name, name_refusal, refusal_or_room, open_refusal}
-use Rattle.vale_entry.specs.Grant.{first_offer, grant_reply_at}
-use Rattle.vale_entry.specs.Delivery.{lease_at, delivered_frames}
-use Rattle.vale_entry.specs.Closing.{shutting_port}
-use Rattle.vale_entry.specs.Legal.{Standing, Outcome, step, recorded_step, after, fresh_standing, session_and_reply, open_step_by, send_step_at, send_step, can_send, grant_step_at, grant_step, done_step_at, sync_step_at, sync_step, can_sync, named_of, offers_of_send, offers_of_sync, IsLegalFrom, Follows}
-use Rattle.vale_entry.specs.Transcript.{dests_rise, is_refusal, is_printable, IsPrintable}
-use Rattle.vale_entry.specs.Laws.{Rise, id_of_port, ArePrintable, IsNamedAsk, IsNamedEntry, LegalHistoriesArePrintable}
+use Rattle.vale_entry.specs.Grant.{grant_reply_at}
+use Rattle.vale_entry.specs.Delivery.{delivered_frames}
+use Rattle.nm_types.specs.SyncFaults.{is_check_fault}
+use Rattle.vale_entry.specs.Legal.{Standing, Outcome, recorded_step, after, fresh_standing, named_of, offers_of_sync, IsLegalFrom, Follows, has_ring, fits_fault, offers_of_put}
+use Rattle.vale_entry.specs.Transcript.{dests_rise, is_refusal, is_printable, IsPrintable, is_unmarked}
+use Rattle.vale_entry.specs.Laws.{Rise, id_of_port, IsNumbered, ArePrintable, LegalHistoriesArePrintable}
+use Rattle.vale_entry.specs.Monitors.{can_watch}
+use Rattle.vale_entry.specs.Pipe.{frames_of_items, is_pipe_item}
+use Rattle.vale_entry.specs.declared.entry.Item.{Item}
+use Rattle.nm_types.specs.Sendable.{fits_buffer}
 use Rattle.vale_entry.proofs.Rising.{rise-wider}
-use Rattle.vale_entry.proofs.Steps.{recorded-by}
-use Rattle.vale_entry.proofs.Closings.{shut-by, finish-by, leave-by}
+use Rattle.vale_entry.proofs.Follows.{EachKind, Receives, by_sync, by_get, IsQuiet, refused_open, resets, finds_no_peer, finds_no_target, finds_watched, counts, follows-by}
 use Rattle.vale_entry.proofs.Worlds.{count-standing_after}
 use Rattle.vale_entry.proofs.Numbered.{Numbered, numbered_entry, world-numbered}
 
@@ -84,85 +86,88 @@ room-well None want have well = by_room (nat_lt have want)
 
 -- What each ask makes.
 
-abbrev Printed : ℕ → Ask → Option Outcome → Type 0
-Printed n ask None = Unit {0}
-Printed n ask (Some made) = IsTrue (is_printable n made.session ask made.reply)
+printed-open : (asked : SessionId) (name : List ℕ) → IsName name → ((asked.0 == asked.0) && is_name name) ≡ true
+printed-open asked name named = both (asked.0 == asked.0) (is_name name) (eq-eqb asked.0 asked.0 refl) named
 
-printed-if : (n : ℕ) (ask : Ask) (made : Outcome) (b : Bool) → IsTrue (is_printable n made.session ask made.reply) → Printed n ask (cond b (Some made) None)
-printed-if n ask made true well = well
-printed-if n ask made false well = tt
+printed-grant : (found : Option Port) (frames : List Frame) (n session origin : ℕ) (to : PortId) → IsTrue (is_printable n session (Grant origin to) (grant_reply_at found frames))
+printed-grant None frames n session origin to = refl
+printed-grant (Some port) frames n session origin to = refl
 
-abbrev opens : ℕ → SessionId → List ℕ → ℕ → ℕ → ℕ → Outcome → Type 0
-opens n asked name tx rx extra made = IsTrue (is_printable n made.session (Open asked name tx rx extra) made.reply)
+-- the offers of an entry rise
+offered-rise : (w : World) (session : ℕ) (wanted : Port → List Frame) → IsNumbered w → dests_rise (dests_of (offers_of (w.entry_count + 1) session wanted w.ports)) ≡ true
+offered-rise w session wanted numbered =
+    rise-dests 0 (dests_of (offers_of (w.entry_count + 1) session wanted w.ports)) w.entry_count (rise-offers 0 (w.entry_count + 1) session wanted w.ports w.entry_count numbered.ports_rise)
 
-printed-open : (s : Standing) (n : ℕ) (asked : SessionId) (name : List ℕ) (tx rx extra : ℕ) (refusal : Option OpenFault) → IsName name → IsRefusedWell refusal
-    → opens n asked name tx rx extra (open_step_by refusal s asked.0 name tx rx extra)
-printed-open s n asked name tx rx extra None named well = both (asked.0 == asked.0) (is_name name) (eq-eqb asked.0 asked.0 refl) named
-printed-open s n asked name tx rx extra (Some fault) named well =
-    both (asked.0 == asked.0) (is_name name && is_refusal fault) (eq-eqb asked.0 asked.0 refl) (both (is_name name) (is_refusal fault) named well)
+printed-refused : (w : World) (asked : SessionId) (name : List ℕ) (tx rx extra : ℕ) (fault : OpenFault) → open_refusal w name tx rx extra ≡ Some fault → IsName name
+    → ((asked.0 == asked.0) && (is_name name && is_refusal fault)) ≡ true
+printed-refused w asked name tx rx extra fault e named =
+    let well : IsRefusedWell (open_refusal w name tx rx extra) = room-well (name_refusal w.ports name tx rx extra) (tx + rx + extra) (free_count w)
+    (name-refusal-well (are_sizes name tx rx extra) (finds_switches_full w.ports name) (finds_ports_full w.ports name) (list_any (has_name name) w.ports)) in
+    both (asked.0 == asked.0) (is_name name && is_refusal fault) (eq-eqb asked.0 asked.0 refl) (both (is_name name) (is_refusal fault) named (subst IsRefusedWell e well))
 
-printed-send : (s : Standing) (n : ℕ) (port : PortId) (frames : List Frame) (found : Option Port) → Numbered s → Printed n (Send port frames) (send_step_at s frames found)
-printed-send s n port frames None numbered = tt
-printed-send s n port frames (Some from) numbered =
-    printed-if n (Send port frames) (send_step s frames from) (can_send s.world frames from)
-    (rise-dests 0 (dests_of (offers_of_send s.world from frames)) s.world.entry_count
-    (rise-offers 0 (s.world.entry_count + 1) from.session (wanted_frames from (transmit_monitor s.world from.id) (named_of s.world from frames)) s.world.ports s.world.entry_count numbered.ports_rise))
+watch-named : (target : List ℕ) (port : Port) → can_watch target port ≡ true → is_name target ≡ true
+watch-named target port can =
+    let parts = and_parts (is_monitor_name port.name) (is_name target && not (is_monitor_name target)) can in
+    (and_parts (is_name target) (not (is_monitor_name target)) parts.1).0
 
-printed-grant : (s : Standing) (n origin : ℕ) (to : PortId) (found : Option Offer) → Printed n (Grant origin to) (grant_step_at s to.0 found)
-printed-grant s n origin to None = tt
-printed-grant s n origin to (Some offer) = printed-if n (Grant origin to) (grant_step s offer) (offer.to == to.0) (by_port (open_port s.world.ports offer.to))
-  where
-    by_port : (found : Option Port) → IsTrue (is_printable n offer.session (Grant origin to) (grant_reply_at found offer.frames))
-    by_port None = refl
-    by_port (Some port) = refl
+printed-quiet : (s : Standing) (n : ℕ) (ask : Ask) (session : ℕ) (reply : Reply) → IsQuiet s ask session reply → IsTrue (is_printable n session ask reply)
+printed-quiet s n _ _ _ (refused_open session name tx rx extra fault can e) = printed-refused s.world session name tx rx extra fault e can.named
+printed-quiet s n _ _ _ (resets at side fault port e can) =
+    (and_parts (is_check_fault fault) (fits_fault fault) (and_parts (has_ring side port) (is_check_fault fault && fits_fault fault) can).1).0
+printed-quiet s n _ _ _ (finds_no_peer at offered port e few gone) = refl
+printed-quiet s n _ _ _ (finds_no_target at target sides port e can none) = watch-named target port can
+printed-quiet s n _ _ _ (finds_watched at target sides port found watch e can there some) = watch-named target port can
+printed-quiet s n _ _ _ (counts at port e) = refl
 
-printed-done : (s : Standing) (n : ℕ) (lease : LeaseId) (found : Option Lot) → Printed n (Done lease) (done_step_at s lease.0 found)
-printed-done s n lease None = tt
-printed-done s n lease (Some lot) = refl
+-- frames that were taken bear no mark
+unmarked : (items : List Item) → list_all is_pipe_item items ≡ true → list_all is_unmarked items ≡ true
+unmarked [] e = refl
+unmarked (item ∷ items) e =
+    let parts = and_parts (is_pipe_item item) (list_all is_pipe_item items) e in
+    let here = and_parts (fits_buffer item.bytes) (not item.bytes.no_learn) parts.0 in
+    both (is_unmarked item) (list_all is_unmarked items) here.1 (unmarked items parts.1)
 
-printed-sync : (s : Standing) (n : ℕ) (port : PortId) (back : List ℕ) (found : Option Port) → Numbered s → Printed n (Sync port back) (sync_step_at s back found)
-printed-sync s n port back None numbered = tt
-printed-sync s n port back (Some at) numbered =
-    printed-if n (Sync port back) (sync_step s back at) (can_sync s back at)
-    (rise-dests 0 (dests_of (offers_of_sync s.world at)) s.world.entry_count
-    (rise-offers 0 (s.world.entry_count + 1) at.session (monitored_frames (receive_monitor s.world at.id) (delivered_frames at)) s.world.ports s.world.entry_count numbered.ports_rise))
+printed-received : (n session : ℕ) (ask : Ask) (at : PortId) (back : List ℕ) (count : ℕ) (to : List Dest) → Receives ask at back → dests_rise to ≡ true
+    → IsTrue (is_printable n session ask (Gave count to))
+printed-received n session _ _ _ count to (by_sync at back) rise = rise
+printed-received n session _ _ _ count to (by_get at back) rise = rise
 
-printed-step : (s : Standing) (n : ℕ) (ask : Ask) → s.world.entry_count + 1 ≡ n → Numbered s → IsNamedAsk ask → Printed n ask (step s ask)
-printed-step s n (Enter user) is numbered named = eq-eqb (s.world.entry_count + 1) n is
-printed-step s n (Open asked name tx rx extra) is numbered named =
-    let refusal : Option OpenFault = open_refusal s.world name tx rx extra in
-    let well : IsRefusedWell refusal =
-    room-well (name_refusal s.world.ports name tx rx extra) (tx + rx + extra) (free_count s.world)
-    (name-refusal-well (are_sizes name tx rx extra) (finds_switches_full s.world.ports name) (finds_ports_full s.world.ports name) (list_any (has_name name) s.world.ports)) in
-    printed-if n (Open asked name tx rx extra) (open_step_by refusal s asked.0 name tx rx extra) (is_session s.world asked.0) (printed-open s n asked name tx rx extra refusal named well)
-printed-step s n (Send port frames) is numbered named = printed-send s n port frames (open_port s.world.ports port.0) numbered
-printed-step s n (Grant origin to) is numbered named = printed-grant s n origin to (first_offer s.world origin)
-printed-step s n (Done lease) is numbered named = printed-done s n lease (lease_at s.world.ports lease.0)
-printed-step s n (Sync port back) is numbered named = printed-sync s n port back (open_port s.world.ports port.0) numbered
-printed-step s n (Shut port) is numbered named = shut-by (Printed n (Shut port)) s (open_port s.world.ports port.0) tt (λ at e. refl)
-printed-step s n (Finish port bufs chain) is numbered named =
-    finish-by (Printed n (Finish port bufs chain)) s bufs (shutting_port s.world.ports port.0) tt (λ at e can out. refl)
-printed-step s n (Leave session) is numbered named = leave-by (Printed n (Leave session)) s session.0 tt (λ can. eq-eqb session.0 session.0 refl)
-printed-step s n _ is numbered named = tt
+abbrev Printed : Standing → Ask → Outcome → Type 0
+Printed s ask made = IsTrue (is_printable (s.world.entry_count + 1) made.session ask made.reply)
 
-printed-made : (n : ℕ) (ask : Ask) (session : ℕ) (reply : Reply) (found : Option Outcome) → Printed n ask found → option_map session_and_reply found ≡ Some (session, reply)
-    → IsTrue (is_printable n session ask reply)
-printed-made n ask session reply None well e = absurd cc
-printed-made n ask session reply (Some made) well e =
-    let pair : session_and_reply made ≡ (session, reply) = same_Some (session_and_reply made) (session, reply) e in
-    subst (λ (p : ℕ × Reply). IsTrue (is_printable n p.0 ask p.1)) pair well
+printed-kinds : (s : Standing) → Numbered s → EachKind s (Printed s)
+printed-kinds s numbered = record {
+  enters = λ user fits. eq-eqb (s.world.entry_count + 1) (s.world.entry_count + 1) refl;
+  quiet = λ ask session reply quiet. printed-quiet s (s.world.entry_count + 1) ask session reply quiet;
+  opens = λ session name tx rx extra can refusal. printed-open session name can.named;
+  sends = λ from frames port e can settled. offered-rise s.world port.session (wanted_frames port (transmit_monitor s.world port.id) (named_of s.world port frames)) numbered;
+  grants = λ origin to offer first same. printed-grant (open_port s.world.ports offer.to) offer.frames (s.world.entry_count + 1) offer.session origin to;
+  completes = λ lease lot e. refl;
+  receives = λ ask at back port receives e can.
+      printed-received (s.world.entry_count + 1) port.session ask at back (length (delivered_frames port)) (dests_of (offers_of_sync s.world port)) receives
+      (offered-rise s.world port.session (monitored_frames (receive_monitor s.world port.id) (delivered_frames port)) numbered);
+  puts = λ at offered items port peer e can found.
+      both (list_all is_unmarked items) (dests_rise (dests_of (offers_of_put s.world port (frames_of_items items)))) (unmarked items can.sound)
+      (offered-rise s.world port.session (monitored_frames (transmit_monitor s.world port.id) (frames_of_items items)) numbered);
+  watches = λ at target sides port found e can there none. watch-named target port can;
+  shuts = λ at port e settled. refl;
+  finishes = λ at bufs chain port fits e can out. refl;
+  leaves = λ session can. eq-eqb session.0 session.0 refl;
+}
 
-printed-entry : (s : Standing) (n : ℕ) (e : Entry) → s.world.entry_count + 1 ≡ n → Numbered s → IsNamedEntry e → Follows s e → IsPrintable n e
-printed-entry s n e is numbered named follows =
-    printed-made n e.ask e.session.0 e.reply (recorded_step s e.ask e.reply)
-    (recorded-by (Printed n e.ask) s e.ask e.reply tt (printed-step s n e.ask is numbered named)) follows
+abbrev IsPrinted : ℕ → Entry → Standing → Type 0
+IsPrinted n e left = IsPrintable n e
 
-printed-from : (s : Standing) (n : ℕ) (h : List Entry) → s.world.entry_count + 1 ≡ n → Numbered s → IsLegalFrom s h → Each IsNamedEntry h → ArePrintable n h
-printed-from s n [] is numbered legal named = tt
-printed-from s n (e ∷ es) is numbered legal named =
+printed-entry : (s : Standing) (n : ℕ) (e : Entry) → s.world.entry_count + 1 ≡ n → Numbered s → Follows s e → IsPrintable n e
+printed-entry s n e is numbered follows =
+    subst (λ (k : ℕ). IsPrintable k e) is (follows-by s (IsPrinted (s.world.entry_count + 1)) e follows (printed-kinds s numbered))
+
+printed-from : (s : Standing) (n : ℕ) (h : List Entry) → s.world.entry_count + 1 ≡ n → Numbered s → IsLegalFrom s h → ArePrintable n h
+printed-from s n [] is numbered legal = tt
+printed-from s n (e ∷ es) is numbered legal =
     let count = count-standing_after s e (recorded_step s e.ask e.reply) in
     let next : (after s e).world.entry_count + 1 ≡ n + 1 = omega (arith, count, is) in
-    (printed-entry s n e is numbered named.0 legal.0, printed-from (after s e) (n + 1) es next (numbered_entry s e numbered) legal.1 named.1)
+    (printed-entry s n e is numbered legal.0, printed-from (after s e) (n + 1) es next (numbered_entry s e numbered) legal.1)
 
 pub legal-printable : LegalHistoriesArePrintable
-legal-printable pool h legal named = printed-from (fresh_standing pool) 1 h refl (world-numbered pool []) legal named
+legal-printable pool h legal = printed-from (fresh_standing pool) 1 h refl (world-numbered pool []) legal

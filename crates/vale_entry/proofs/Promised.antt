@@ -1,66 +1,58 @@
 -- What an entry leaves promised: an equation for each ask.
-use Rattle.std.proofs.Common.{ℕ, ◌+◌, ◌≤◌, ◌≡◌, Bool, true, false, cond, not, ◌&&◌, ◌==◌, List, [], ◌∷◌, ◌++◌, map, length, drop, find, sum_by, count_by, flat_map, take_while, Option, Some, None, refl, ◌∙◌, ap, subst, arith, length-append, option_map}
+use Rattle.std.proofs.Common.{ℕ, ◌+◌, ◌≤◌, ◌≡◌, Bool, true, false, cond, not, ◌&&◌, ◌==◌, List, [], ◌∷◌, ◌++◌, map, length, drop, find, sum_by, count_by, flat_map, take_while, Option, Some, None, refl, ◌∙◌, ap, arith, length-append, sym, subst}
 use Rattle.std.specs.List.{prefix_len}
 use Rattle.std.proofs.lemmas.List.{length-map}
 use Rattle.std.proofs.lemmas.List.Sums.{sum_by-cons, sum_by-append, sum_by_push, take_while-cons, sum_by-le-sum_by}
 use Rattle.std.proofs.lemmas.Bool.{eqb-true, ne_eqb}
 use Rattle.nm_types.specs.Frames.{Frame}
-use Rattle.nm_types.specs.declared.fault.OpenFault.{OpenFault}
 use Rattle.vale_entry.specs.declared.entry.Ask.{Ask}
-use Rattle.vale_entry.specs.declared.entry.Ask.TheVariants.{Enter, Open, Send, Grant, Done, Sync, Shut, Finish, Leave}
 use Rattle.vale_entry.specs.declared.entry.Reply.{Reply}
 use Rattle.vale_entry.specs.declared.entry.Entry.{Entry}
-use Rattle.vale_entry.specs.World.{World, Port, Lot, Offer, is_session, open_port, changed_at, space_of, is_undone}
-use Rattle.vale_entry.specs.Opening.{open_refusal, opened_port}
+use Rattle.vale_entry.specs.World.{World, Port, Lot, Offer, open_port, changed_at, space_of, is_undone}
+use Rattle.vale_entry.specs.Opening.{opened_port}
 use Rattle.vale_entry.specs.Offers.{dest_of, is_offer_of}
 use Rattle.vale_entry.specs.Grant.{first_offer, without_first, longest_fitting, given_at, granted_frames, grant_reply_at, with_lot, port_after_grant}
 use Rattle.vale_entry.specs.Delivery.{lease_at, line_of, is_lease, is_done_lot, ready_lots, done_if, lot_after_done, port_after_done, port_after_sync}
 use Rattle.vale_entry.specs.Closing.{shut, shutting_port, leases_out}
-use Rattle.vale_entry.specs.Room.{room_of_reply, owed_by_port, undone_of, promised_of, room_wanted}
-use Rattle.vale_entry.specs.Legal.{Standing, Outcome, step, recorded_step, after, standing_after, enter_step, open_step_by, send_step_at, send_step, can_send, offers_of_send, grant_step_at, grant_step, done_step_at, sync_step_at, sync_step, can_sync, offers_of_sync, shut_step, finish_step, leave_step, Follows, session_and_reply}
+use Rattle.vale_entry.specs.Room.{owed_by_port, undone_of, promised_of}
+use Rattle.vale_entry.specs.Legal.{Standing, Outcome, recorded_step, after, enter_step, open_step_by, send_step, offers_of_send, grant_step, sync_step, offers_of_sync, shut_step, finish_step, leave_step, Follows, done_step, put_step, offers_of_put, standing_after}
 use Rattle.vale_entry.specs.Laws.{Rise, id_of_port, bears_number, AreSingle, room_back, IsPromised}
-use Rattle.vale_entry.proofs.Steps.{recorded-by}
+use Rattle.nm_types.specs.declared.id.PortId.{PortId}
+use Rattle.vale_entry.specs.Pipe.{frames_of_items, port_after_put}
+use Rattle.vale_entry.specs.declared.entry.Item.{Item}
+use Rattle.vale_entry.proofs.Follows.{EachKind, IfMade, IsQuiet, refused_open, resets, finds_no_peer, finds_no_target, finds_watched, counts, recorded-by}
 use Rattle.vale_entry.proofs.ListLaws.{place-of, sum-set, sum-map_same, sum-flat_map, front-rest}
 use Rattle.vale_entry.proofs.Counting.{sum-add}
 use Rattle.vale_entry.proofs.Each.{sum-changed_at, changed_at-same}
 use Rattle.vale_entry.proofs.Removals.{sum-remove, length-remove_at, number-place, filter-at_number}
-use Rattle.vale_entry.proofs.Closings.{CanLeave, shut-by, finish-by, leave-by}
+use Rattle.vale_entry.proofs.Closings.{CanLeave}
 use Rattle.vale_entry.proofs.Places.{open-place, changed_at-place, shutting-place}
 use Rattle.vale_entry.proofs.Numbered.{Numbered}
 use Rattle.vale_entry.proofs.SingleLots.{Single}
 
 -- what an outcome leaves, against what its ask wants
-abbrev PromisedNext : World → (Reply → ℕ) → Option Outcome → Type 0
-PromisedNext w want None = Unit {0}
-PromisedNext w want (Some made) = promised_of made.next.world + 1 + room_back made.reply ≡ promised_of w + want made.reply
+abbrev PromisedNext : World → Outcome → Type 0
+PromisedNext w made = IsPromised w made.next.world made
 
-promised_enter : (s : Standing) → PromisedNext s.world (λ reply. 2) (Some (enter_step s))
+promised_enter : (s : Standing) → PromisedNext s.world (enter_step s)
 promised_enter s =
     let sessions = length-append s.world.sessions ((s.world.entry_count + 1) ∷ []) in
     omega arith
 
-promised_open : (s : Standing) (session : ℕ) (name : List ℕ) (tx rx extra : ℕ) (found : Bool) (refusal : Option OpenFault)
-    → PromisedNext s.world room_of_reply (cond found (Some (open_step_by refusal s session name tx rx extra)) None)
-promised_open s session name tx rx extra false refusal = tt
-promised_open s session name tx rx extra true (Some fault) = omega arith
-promised_open s session name tx rx extra true None =
+promised_open : (s : Standing) (session : ℕ) (name : List ℕ) (tx rx extra : ℕ) → PromisedNext s.world (open_step_by None s session name tx rx extra)
+promised_open s session name tx rx extra =
     let port = opened_port (s.world.entry_count + 1) session name tx rx extra in
     let owed : sum_by owed_by_port (s.world.ports ++ port ∷ []) ≡ sum_by owed_by_port s.world.ports + 2 =
     sum_by_push owed_by_port s.world.ports port in
     let undone : sum_by undone_of (s.world.ports ++ port ∷ []) ≡ sum_by undone_of s.world.ports + 0 = sum_by_push undone_of s.world.ports port in
     omega arith
 
-promised_send : (s : Standing) (frames : List Frame) (found : Option Port) → PromisedNext s.world room_of_reply (send_step_at s frames found)
-promised_send s frames None = tt
-promised_send s frames (Some port) = by_test (can_send s.world frames port)
-  where
-    by_test : (can : Bool) → PromisedNext s.world room_of_reply (cond can (Some (send_step s frames port)) None)
-    by_test false = tt
-    by_test true =
-        let new = offers_of_send s.world port frames in
-        let all = length-append s.world.offers new in
-        let dests = length-map new dest_of in
-        omega arith
+promised_send : (s : Standing) (frames : List Frame) (port : Port) → PromisedNext s.world (send_step s frames port)
+promised_send s frames port =
+    let new = offers_of_send s.world port frames in
+    let all = length-append s.world.offers new in
+    let dests = length-map new dest_of in
+    omega arith
 
 -- Grant
 without_first_by : (offer : Offer) (offers fewer : List Offer) (here : Bool) (found : Offer) → (find_rest : Option Offer)
@@ -76,11 +68,11 @@ length-without_first origin (offer ∷ offers) found e =
     without_first_by offer offers (without_first origin offers) (is_offer_of origin offer) found (find (is_offer_of origin) offers) (length-without_first origin offers found) e
 
 with_lot-undone : (number session : ℕ) (given : List Frame) (line : List Lot)
-    → count_by is_undone (with_lot number session given line) + cond (length given == 0) 1 0 ≡ count_by is_undone line + 1
+    → count_by is_undone (with_lot number session false given line) + cond (length given == 0) 1 0 ≡ count_by is_undone line + 1
 with_lot-undone number session [] line = refl
 with_lot-undone number session (frame ∷ frames) line =
     let some : (length (frame ∷ frames) == 0) ≡ false = ne_eqb (length (frame ∷ frames)) 0 (λ e. omega arith) in
-    let sum : count_by is_undone (with_lot number session (frame ∷ frames) line) ≡ count_by is_undone line + 1 =
+    let sum : count_by is_undone (with_lot number session false (frame ∷ frames) line) ≡ count_by is_undone line + 1 =
     sum_by_push (λ (lot : Lot). cond (is_undone lot) 1 0) line _ in
     rw some (omega arith)
 
@@ -98,23 +90,18 @@ undone-granted number session id frames high ports (Some port) e rise =
     let same = ap (sum_by undone_of) (p.changes change) in
     omega arith
 
-promised_grant : (s : Standing) (origin to : ℕ) (found : Option Offer) → first_offer s.world origin ≡ found → Numbered s
-    → PromisedNext s.world (λ reply. 0) (grant_step_at s to found)
-promised_grant s origin to None e n = tt
-promised_grant s origin to (Some offer) e n = by_test (offer.to == to)
-  where
-    by_test : (same : Bool) → PromisedNext s.world (λ reply. 0) (cond same (Some (grant_step s offer)) None)
-    by_test false = tt
-    by_test true =
-        let w = s.world in
-        let change = port_after_grant (w.entry_count + 1) offer.session (granted_frames w offer) in
-        let mine : offer.origin ≡ origin = eqb-true offer.origin origin (place-of (is_offer_of origin) w.offers offer e).passes in
-        let fewer = length-without_first origin w.offers offer e in
-        let same = ap (λ (k : ℕ). length (without_first k w.offers)) mine in
-        let owed = sum-changed_at owed_by_port offer.to change (λ port. refl) w.ports in
-        let undone =
-        undone-granted (w.entry_count + 1) offer.session offer.to offer.frames w.entry_count w.ports (open_port w.ports offer.to) refl n.ports_rise in
-        omega arith
+promised_grant : (s : Standing) (origin : ℕ) (offer : Offer) → first_offer s.world origin ≡ Some offer → Numbered s
+    → PromisedNext s.world (grant_step s offer)
+promised_grant s origin offer e n =
+    let w = s.world in
+    let change = port_after_grant (w.entry_count + 1) offer.session (granted_frames w offer) in
+    let mine : offer.origin ≡ origin = eqb-true offer.origin origin (place-of (is_offer_of origin) w.offers offer e).passes in
+    let fewer = length-without_first origin w.offers offer e in
+    let same = ap (λ (k : ℕ). length (without_first k w.offers)) mine in
+    let owed = sum-changed_at owed_by_port offer.to change (λ port. refl) w.ports in
+    let undone =
+    undone-granted (w.entry_count + 1) offer.session offer.to offer.frames w.entry_count w.ports (open_port w.ports offer.to) refl n.ports_rise in
+    omega arith
 
 -- Done
 marked-undone : (number : ℕ) (lot : Lot) (mine done : Bool) → (lot.number == number) ≡ mine → lot.is_done ≡ done
@@ -167,10 +154,9 @@ one-lease ports number lot e single =
     let once = single number in
     omega arith
 
-promised_done : (s : Standing) (number : ℕ) (found : Option Lot) → lease_at s.world.ports number ≡ found → Single s
-    → PromisedNext s.world (λ reply. 0) (done_step_at s number found)
-promised_done s number None e single = tt
-promised_done s number (Some lot) e single =
+promised_done : (s : Standing) (number : ℕ) (lot : Lot) → lease_at s.world.ports number ≡ Some lot → Single s
+    → PromisedNext s.world (done_step s number lot)
+promised_done s number lot e single =
     let ports = s.world.ports in
     let one = one-lease ports number lot e single in
     let parts =
@@ -201,23 +187,18 @@ undone-synced returned port =
     let none = ready-undone port.line in
     omega arith
 
-promised_sync : (s : Standing) (back : List ℕ) (found : Option Port) → PromisedNext s.world room_of_reply (sync_step_at s back found)
-promised_sync s back None = tt
-promised_sync s back (Some port) = by_test (can_sync s back port)
-  where
-    by_test : (can : Bool) → PromisedNext s.world room_of_reply (cond can (Some (sync_step s back port)) None)
-    by_test false = tt
-    by_test true =
-        let new = offers_of_sync s.world port in
-        let all = length-append s.world.offers new in
-        let dests = length-map new dest_of in
-        let undone = sum-changed_at undone_of port.id (port_after_sync (length back)) (undone-synced (length back)) s.world.ports in
-        let owed = sum-changed_at owed_by_port port.id (port_after_sync (length back)) (λ p. refl) s.world.ports in
-        omega arith
+promised_sync : (s : Standing) (back : List ℕ) (port : Port) → PromisedNext s.world (sync_step s back port)
+promised_sync s back port =
+    let new = offers_of_sync s.world port in
+    let all = length-append s.world.offers new in
+    let dests = length-map new dest_of in
+    let undone = sum-changed_at undone_of port.id (port_after_sync (length back)) (undone-synced (length back)) s.world.ports in
+    let owed = sum-changed_at owed_by_port port.id (port_after_sync (length back)) (λ p. refl) s.world.ports in
+    omega arith
 
 -- Shut, Finish and Leave were promised
 promised_shut : (s : Standing) (id : ℕ) (port : Port) → open_port s.world.ports id ≡ Some port → Numbered s
-    → PromisedNext s.world (λ reply. 0) (Some (shut_step s port))
+    → PromisedNext s.world (shut_step s port)
 promised_shut s id port e n =
     let w = s.world in
     let p = open-place w.ports w.entry_count id port n.ports_rise e in
@@ -228,7 +209,7 @@ promised_shut s id port e n =
     omega arith
 
 promised_finish : (s : Standing) (bufs : List ℕ) (id : ℕ) (port : Port) → shutting_port s.world.ports id ≡ Some port → leases_out port ≡ 0 → Numbered s
-    → PromisedNext s.world (λ reply. 0) (Some (finish_step s bufs port))
+    → PromisedNext s.world (finish_step s bufs port)
 promised_finish s bufs id port e out n =
     let w = s.world in
     let p = shutting-place w.ports w.entry_count id port n.ports_rise e in
@@ -239,7 +220,7 @@ promised_finish s bufs id port e out n =
     let before : owed_by_port port ≡ 1 = rw p.shuts refl in
     omega arith
 
-promised_leave : (s : Standing) (session : ℕ) → CanLeave s.world session → Numbered s → PromisedNext s.world (λ reply. 0) (Some (leave_step s session))
+promised_leave : (s : Standing) (session : ℕ) → CanLeave s.world session → Numbered s → PromisedNext s.world (leave_step s session)
 promised_leave s session can n =
     let w = s.world in
     let p = number-place w.sessions session can.found in
@@ -247,31 +228,50 @@ promised_leave s session can n =
     let same = ap (λ (ks : List ℕ). length ks) (filter-at_number w.sessions w.entry_count p.place session n.sessions_rise p.here) in
     omega arith
 
-promised_step : (s : Standing) (ask : Ask) → Numbered s → Single s → PromisedNext s.world (room_wanted ask) (step s ask)
-promised_step s (Enter user) n single = promised_enter s
-promised_step s (Open session name tx rx extra) n single =
-    promised_open s session.0 name tx rx extra (is_session s.world session.0) (open_refusal s.world name tx rx extra)
-promised_step s (Send port frames) n single = promised_send s frames (open_port s.world.ports port.0)
-promised_step s (Grant origin to) n single = promised_grant s origin to.0 (first_offer s.world origin) refl n
-promised_step s (Done lease) n single = promised_done s lease.0 (lease_at s.world.ports lease.0) refl single
-promised_step s (Sync port back) n single = promised_sync s back (open_port s.world.ports port.0)
-promised_step s (Shut port) n single =
-    shut-by (PromisedNext s.world (λ reply. 0)) s (open_port s.world.ports port.0) tt (λ at e. promised_shut s port.0 at e n)
-promised_step s (Finish port bufs chain) n single =
-    finish-by (PromisedNext s.world (λ reply. 0)) s bufs (shutting_port s.world.ports port.0) tt (λ at e can out. promised_finish s bufs port.0 at e out n)
-promised_step s (Leave session) n single = leave-by (PromisedNext s.world (λ reply. 0)) s session.0 tt (λ can. promised_leave s session.0 can n)
-promised_step s _ n single = tt
+-- Put
+with_lot-done : (number session : ℕ) (frames : List Frame) (line : List Lot) → count_by is_undone (with_lot number session true frames line) ≡ count_by is_undone line
+with_lot-done number session [] line = refl
+with_lot-done number session (frame ∷ frames) line =
+    let sum : count_by is_undone (with_lot number session true (frame ∷ frames) line) ≡ count_by is_undone line + 0 = sum_by_push (λ (lot : Lot). cond (is_undone lot) 1 0) line _ in
+    omega (arith, sum)
 
-promised_after : (s : Standing) (e : Entry) (made : Option Outcome) → option_map session_and_reply made ≡ Some (e.session.0, e.reply)
-    → PromisedNext s.world (room_wanted e.ask) made
-    → IsPromised s.world (standing_after s e made).world e.ask e.reply
-promised_after s e None follows next = absurd cc
-promised_after s e (Some made) follows next =
-    let pairs : Some (session_and_reply made) ≡ Some (e.session.0, e.reply) = follows in
-    let both : session_and_reply made ≡ (e.session.0, e.reply) = cc in
-    let same : made.reply ≡ e.reply = ap (λ (p : ℕ × Reply). p.1) both in
-    subst (λ (reply : Reply). promised_of made.next.world + 1 + room_back reply ≡ promised_of s.world + room_wanted e.ask reply) same next
+promised_put : (s : Standing) (items : List Item) (port peer : Port) → PromisedNext s.world (put_step s items port peer)
+promised_put s items port peer =
+    let frames = frames_of_items items in
+    let new = offers_of_put s.world port frames in
+    let change = port_after_put (s.world.entry_count + 1) port.session frames in
+    let all = length-append s.world.offers new in
+    let dests = length-map new dest_of in
+    let undone = sum-changed_at undone_of peer.id change (λ p. with_lot-done (s.world.entry_count + 1) port.session frames p.line) s.world.ports in
+    let owed = sum-changed_at owed_by_port peer.id change (λ p. refl) s.world.ports in
+    omega (arith, all, dests, undone, owed)
 
-pub promised_entry : (s : Standing) (e : Entry) → Numbered s → Single s → Follows s e → IsPromised s.world (after s e).world e.ask e.reply
-promised_entry s e n single follows =
-    promised_after s e (recorded_step s e.ask e.reply) follows (recorded-by (PromisedNext s.world (room_wanted e.ask)) s e.ask e.reply tt (promised_step s e.ask n single))
+quiet-back : (s : Standing) (ask : Ask) (session : ℕ) (reply : Reply) → IsQuiet s ask session reply → room_back reply ≡ 0
+quiet-back s _ _ _ (refused_open session name tx rx extra fault can e) = refl
+quiet-back s _ _ _ (resets at side fault port e can) = refl
+quiet-back s _ _ _ (finds_no_peer at offered port e few gone) = refl
+quiet-back s _ _ _ (finds_no_target at target sides port e can none) = refl
+quiet-back s _ _ _ (finds_watched at target sides port found watch e can there some) = refl
+quiet-back s _ _ _ (counts at port e) = refl
+
+promised_kinds : (s : Standing) → Numbered s → Single s → EachKind s (λ ask made. PromisedNext s.world made)
+promised_kinds s n single = record {
+  enters = λ user fits. promised_enter s;
+  quiet = λ ask session reply quiet. let back = quiet-back s ask session reply quiet in omega (arith, back);
+  opens = λ session name tx rx extra can refusal. promised_open s session.0 name tx rx extra;
+  sends = λ from frames port e can settled. promised_send s frames port;
+  grants = λ origin to offer first same. promised_grant s origin offer first n;
+  completes = λ lease lot e. promised_done s lease.0 lot e single;
+  receives = λ ask at back port receives e can. promised_sync s back port;
+  puts = λ at offered items port peer e can found. promised_put s items port peer;
+  watches = λ at target sides port found e can there none. omega arith;
+  shuts = λ at port e settled. promised_shut s at.0 port e n;
+  finishes = λ at bufs chain port fits e can out. promised_finish s bufs at.0 port e out n;
+  leaves = λ session can. promised_leave s session.0 can n;
+}
+
+pub promised_entry : (s : Standing) (e : Entry) (made : Outcome) → Numbered s → Single s → recorded_step s e.ask e.reply ≡ Some made → IsPromised s.world (after s e).world made
+promised_entry s e made n single is =
+    let all = recorded-by s (λ ask made. PromisedNext s.world made) e.ask e.reply (promised_kinds s n single) in
+    let here : PromisedNext s.world made = subst (IfMade (PromisedNext s.world)) is all in
+    subst (λ (o : Option Outcome). IsPromised s.world (standing_after s e o).world made) (sym is) here

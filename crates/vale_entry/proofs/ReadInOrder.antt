@@ -5,31 +5,32 @@ use Rattle.std.specs.Prelude.{option_map}
 use Rattle.std.proofs.lemmas.Grind.{flat_map-append}
 use Rattle.std.proofs.lemmas.Bool.{eq-eqb, eqb-true, eqb-false, ne_eqb}
 use Rattle.nm_types.specs.Frames.{Frame}
-use Rattle.vale_entry.specs.declared.entry.Ask.{Ask}
-use Rattle.vale_entry.specs.declared.entry.Reply.{Reply}
 use Rattle.vale_entry.specs.declared.entry.Entry.{Entry}
 use Rattle.vale_entry.specs.World.{World, Port, Lot, Offer, open_port, changed_if, changed_at}
 use Rattle.vale_entry.specs.Grant.{first_offer, with_lot, port_after_grant, granted_frames}
 use Rattle.vale_entry.specs.Delivery.{frames_of_lot, lot_after_done, done_if, port_after_done, port_after_sync, ready_lots, is_done_lot, delivered_frames}
 use Rattle.vale_entry.specs.Closing.{shut, ports_without, unread_count}
-use Rattle.vale_entry.specs.Legal.{Standing, standing_of, world_of, IsLegal, Follows}
-use Rattle.vale_entry.specs.Delivered.{has_id, port_at, frames_at, frames_of_line, frames_of_granted, granted_of_offer, granted_by, granted_in, grants_to, given_frames, read_by, read_in, read_frames, unread_by, unread_in, unread_counts}
+use Rattle.vale_entry.specs.Legal.{Standing, standing_of, world_of, sync_step, IsLegal, Follows}
+use Rattle.vale_entry.specs.Delivered.{has_id, port_at, frames_at, frames_of_line, frames_brought, granted_of_offer, brought_in, brought_to, given_frames, read_in, read_frames, unread_in, unread_counts}
 use Rattle.vale_entry.specs.Opening.{opened_port}
 use Rattle.vale_entry.specs.DeliveryLaws.{IsReadInOrder, ReadIsPrefixOfGiven}
+use Rattle.vale_entry.specs.Pipe.{frames_of_items, port_after_put}
+use Rattle.vale_entry.specs.declared.entry.Item.{Item}
 use Rattle.vale_entry.proofs.Worlds.{standing-push}
 use Rattle.vale_entry.proofs.Told.{told-push, flat_map-push, history-by}
-use Rattle.vale_entry.proofs.Follows.{EachKind, follows-by}
+use Rattle.vale_entry.proofs.Follows.{EachKind, Left, follows-by}
+use Rattle.vale_entry.proofs.Tells.{tells-nothing, tells-received, tells-put}
 use Rattle.vale_entry.proofs.ListLaws.{front-rest}
 use Rattle.vale_entry.proofs.Numbered.{Numbered, world-numbered}
 use Rattle.vale_entry.proofs.Queues.{Queue, queue-still, queue-grants, queue-syncs, queue-finishes}
-use Rattle.vale_entry.proofs.PortAt.{first_of, find-append, port_at-map, port_at-changed, port_at-id, open_port-none, port_at-without, port_at-without_other, port_at-below, Found, found-open, found-shutting}
+use Rattle.vale_entry.proofs.PortAt.{first_of, find-append, port_at-map, port_at-changed, port_at-id, open_port-none, port_at-without, port_at-without_other, port_at-below, Found, found-open, found-shutting, found-peer}
 
 -- A line's frames.
 
-pub line-granted : (number session : ℕ) (frames : List Frame) (line : List Lot) → frames_of_line (with_lot number session frames line) ≡ frames_of_line line ++ frames
-line-granted number session [] line = sym (append-nil (frames_of_line line))
-line-granted number session (frame ∷ frames) line =
-    flat_map-append frames_of_lot line (record { number = number; session = session; frames = frame ∷ frames; is_done = false } ∷ [])
+pub line-granted : (number session : ℕ) (done : Bool) (frames : List Frame) (line : List Lot) → frames_of_line (with_lot number session done frames line) ≡ frames_of_line line ++ frames
+line-granted number session done [] line = sym (append-nil (frames_of_line line))
+line-granted number session done (frame ∷ frames) line =
+    flat_map-append frames_of_lot line (record { number = number; session = session; frames = frame ∷ frames; is_done = done } ∷ [])
     ∙ ap (λ (xs : List Frame). frames_of_line line ++ xs) (append-nil (frame ∷ frames))
 
 same_frames : (b : Bool) (lot : Lot) → (done_if b lot).frames ≡ lot.frames
@@ -56,9 +57,9 @@ line_frames port = frames_of_line port.line
 abbrev QueueAt : ℕ → World → List Frame → List Frame → List ℕ → Type 0
 QueueAt id w given read unread = Queue id w.entry_count (is_some (port_at w.ports id)) (frames_at line_frames (port_at w.ports id)) given read unread
 
-abbrev KeptQueue : ℕ → World → List Frame → List Frame → List ℕ → Ask → ℕ → Reply → World → Type 0
-KeptQueue id w given read unread ask session reply left =
-    QueueAt id left (given ++ flat_map frames_of_granted (granted_by id w ask)) (read ++ read_by id w ask) (unread ++ unread_by id ask reply)
+abbrev KeptQueue : ℕ → World → List Frame → List Frame → List ℕ → Entry → Standing → Type 0
+KeptQueue id w given read unread e left =
+    QueueAt id left.world (given ++ flat_map frames_brought (brought_in id w e)) (read ++ read_in id w e) (unread ++ unread_in id e)
 
 some_map : (change : Port → Port) (found : Option Port) → is_some (option_map change found) ≡ is_some found
 some_map change None = refl
@@ -95,12 +96,12 @@ granted_none w offer id true t none =
     rw closed refl
 granted_none w offer id false t none = refl
 
-granted_at : (port : Port) (to id number session : ℕ) (frames : List Frame) (hit : Bool) → (to == id) ≡ hit → port.id ≡ id
-    → line_frames (changed_if (port.id == to) (port_after_grant number session frames) port) ≡ line_frames port ++ cond hit frames []
-granted_at port to id number session frames true t here =
+granted_at : (port : Port) (to id number session : ℕ) (done : Bool) (frames : List Frame) (hit : Bool) → (to == id) ≡ hit → port.id ≡ id
+    → line_frames (changed_if (port.id == to) (λ (p : Port). record p { line = with_lot number session done frames p.line }) port) ≡ line_frames port ++ cond hit frames []
+granted_at port to id number session done frames true t here =
     let same : (port.id == to) ≡ true = eq-eqb port.id to (here ∙ sym (eqb-true to id t)) in
-    rw same (line-granted number session frames port.line)
-granted_at port to id number session frames false t here =
+    rw same (line-granted number session done frames port.line)
+granted_at port to id number session done frames false t here =
     let other : (port.id == to) ≡ false = ne_eqb port.id to (λ e. eqb-false to id t (sym e ∙ here)) in
     rw other (sym (append-nil (line_frames port)))
 
@@ -109,10 +110,25 @@ granted_line : (w : World) (offer : Offer) (id number : ℕ) (found : Option Por
     ≡ frames_at line_frames found ++ cond hit (granted_frames w offer) []
 granted_line w offer id number None hit e t = sym (granted_none w offer id hit t e)
 granted_line w offer id number (Some port) hit e t =
-    granted_at port offer.to id number offer.session (granted_frames w offer) hit t (port_at-id w.ports id port e)
+    granted_at port offer.to id number offer.session false (granted_frames w offer) hit t (port_at-id w.ports id port e)
+
+-- what a put takes goes behind the line's frames of the other end
+put_line : (ports : List Port) (peer : Port) (id number session : ℕ) (frames : List Frame) (found : Option Port) (hit : Bool) → port_at ports peer.id ≡ Some peer → port_at ports id ≡ found → (peer.id == id) ≡ hit
+    → frames_at line_frames (option_map (λ (port : Port). changed_if (port.id == peer.id) (port_after_put number session frames) port) found) ≡ frames_at line_frames found ++ cond hit frames []
+put_line ports peer id number session frames None true there e t =
+    absurd (none_some (subst (λ (k : ℕ). port_at ports k ≡ Some peer) (eqb-true peer.id id t) there) e)
+  where
+    none_some : port_at ports id ≡ Some peer → port_at ports id ≡ None → ⊥
+    none_some one other = absurd cc
+put_line ports peer id number session frames None false there e t = refl
+put_line ports peer id number session frames (Some port) hit there e t = granted_at port peer.id id number session true frames hit t (port_at-id ports id port e)
+
+taken_list : (number : ℕ) (frames : List Frame) (hit : Bool) → flat_map frames_brought (cond hit (record { origin = number; frames = frames } ∷ []) []) ≡ cond hit frames []
+taken_list number frames true = append-nil frames
+taken_list number frames false = refl
 
 granted_list : (w : World) (offer : Offer) (hit : Bool)
-    → flat_map frames_of_granted (cond hit (granted_of_offer w (Some offer)) []) ≡ cond hit (granted_frames w offer) []
+    → flat_map frames_brought (cond hit (granted_of_offer w (Some offer)) [] ++ []) ≡ cond hit (granted_frames w offer) []
 granted_list w offer true = append-nil (granted_frames w offer)
 granted_list w offer false = refl
 
@@ -151,7 +167,7 @@ module _ (s : Standing) (id : ℕ) (given read : List Frame) (unread : List ℕ)
   grants_queue : (offer : Offer) (to : ℕ) (found : Option Offer) → found ≡ Some offer → offer.to ≡ to
       → Queue id (w.entry_count + 1) (is_some (port_at (changed_at offer.to (port_after_grant (w.entry_count + 1) offer.session (granted_frames w offer)) w.ports) id))
       (frames_at line_frames (port_at (changed_at offer.to (port_after_grant (w.entry_count + 1) offer.session (granted_frames w offer)) w.ports) id))
-      (given ++ flat_map frames_of_granted (cond (to == id) (granted_of_offer w found) [])) (read ++ []) (unread ++ [])
+      (given ++ flat_map frames_brought (cond (to == id) (granted_of_offer w found) [] ++ [])) (read ++ []) (unread ++ [])
   grants_queue offer to found first same =
       let change = port_after_grant (w.entry_count + 1) offer.session (granted_frames w offer) in
       let later = port_at-changed offer.to change (λ port. refl) w.ports id in
@@ -161,6 +177,20 @@ module _ (s : Standing) (id : ℕ) (given read : List Frame) (unread : List ℕ)
       (ap (λ (port : Option Port). is_some port) later ∙ some_map (λ (port : Port). changed_if (port.id == offer.to) change port) (port_at w.ports id))
       (ap (frames_at line_frames) later ∙ whole) q in
       rw (first, sym same, list) all
+
+  puts_queue : (items : List Item) (session : ℕ) (peer : Port) → port_at w.ports peer.id ≡ Some peer
+      → Queue id (w.entry_count + 1) (is_some (port_at (changed_at peer.id (port_after_put (w.entry_count + 1) session (frames_of_items items)) w.ports) id))
+      (frames_at line_frames (port_at (changed_at peer.id (port_after_put (w.entry_count + 1) session (frames_of_items items)) w.ports) id))
+      (given ++ flat_map frames_brought (cond (peer.id == id) (record { origin = w.entry_count + 1; frames = frames_of_items items } ∷ []) [])) (read ++ []) (unread ++ [])
+  puts_queue items session peer there =
+      let frames = frames_of_items items in
+      let change = port_after_put (w.entry_count + 1) session frames in
+      let later = port_at-changed peer.id change (λ port. refl) w.ports id in
+      let whole = put_line w.ports peer id (w.entry_count + 1) session frames (port_at w.ports id) (peer.id == id) there refl refl in
+      rw (taken_list (w.entry_count + 1) frames (peer.id == id))
+      (queue-grants id w.entry_count (is_some (port_at w.ports id)) _ (frames_at line_frames (port_at w.ports id)) _ given read (cond (peer.id == id) frames []) unread
+      (ap (λ (port : Option Port). is_some port) later ∙ some_map (λ (port : Port). changed_if (port.id == peer.id) change port) (port_at w.ports id))
+      (ap (frames_at line_frames) later ∙ whole) q)
 
   syncs_queue : (at : ℕ) (back : List ℕ) (port : Port) (found : Option Port) → found ≡ Some port → Found w.ports at port → (hit : Bool) → (at == id) ≡ hit
       → Queue id (w.entry_count + 1) (is_some (port_at (changed_at port.id (port_after_sync (length back)) w.ports) id))
@@ -215,17 +245,26 @@ module _ (s : Standing) (id : ℕ) (given read : List Frame) (unread : List ℕ)
       let same = port_at-without_other w.ports port.id id other in
       still _ (ap (λ (p : Option Port). is_some p) same) (ap (frames_at line_frames) same)
 
-  kinds : EachKind s (KeptQueue id w given read unread)
+  kinds : EachKind s (Left s (KeptQueue id w given read unread))
   kinds = record {
-    enters = λ user. still _ refl refl;
-    refuses = λ session name tx rx extra fault. still _ refl refl;
-    opens = λ session name tx rx extra. opens_queue session.0 name tx rx extra _ (find-append (has_id id) w.ports (opened_port (w.entry_count + 1) session.0 name tx rx extra ∷ []));
-    sends = λ from frames port e settled. still _ refl refl;
+    enters = λ user fits. still _ refl refl;
+    quiet = λ ask session reply quiet.
+        let tells = tells-nothing s ask session reply quiet in
+        rw (tells.granted id, tells.put id, tells.read id, tells.unread id) (still _ refl refl);
+    opens = λ session name tx rx extra can refusal. opens_queue session.0 name tx rx extra _ (find-append (has_id id) w.ports (opened_port (w.entry_count + 1) session.0 name tx rx extra ∷ []));
+    sends = λ from frames port e can settled. still _ refl refl;
     grants = λ origin to offer first same. grants_queue offer to.0 (first_offer w origin) first same;
-    completes = λ lease lot. moved _ (port_after_done lease.0) (λ port. line-done lease.0 port.line) (port_at-map (port_after_done lease.0) (λ port. refl) w.ports id);
-    syncs = λ at back port e settled. syncs_queue at.0 back port (open_port w.ports at.0) e (found-open w.ports w.entry_count at.0 port n.ports_rise e) (at.0 == id) refl;
-    shuts = λ at port e. moved _ (λ (p : Port). changed_if (p.id == port.id) shut p) (λ p. frames_if (p.id == port.id) shut p refl) (port_at-changed port.id shut (λ p. refl) w.ports id);
-    finishes = λ at bufs chain port e.
+    completes = λ lease lot e. moved _ (port_after_done lease.0) (λ port. line-done lease.0 port.line) (port_at-map (port_after_done lease.0) (λ port. refl) w.ports id);
+    receives = λ ask at back port receives e can.
+        let tells = tells-received s ask at back (sync_step s back port) receives in
+        rw (tells.granted id, tells.put id, tells.read id, tells.unread id)
+        (syncs_queue at.0 back port (open_port w.ports at.0) e (found-open w.ports w.entry_count at.0 port n.ports_rise e) (at.0 == id) refl);
+    puts = λ at offered items port peer e can found.
+        let tells = tells-put s at offered items port peer e found in
+        rw (tells.granted id, tells.put id, tells.read id, tells.unread id) (puts_queue items port.session peer (found-peer w.ports w.entry_count port peer n.ports_rise found));
+    watches = λ at target sides port found e can there none. still _ refl refl;
+    shuts = λ at port e settled. moved _ (λ (p : Port). changed_if (p.id == port.id) shut p) (λ p. frames_if (p.id == port.id) shut p refl) (port_at-changed port.id shut (λ p. refl) w.ports id);
+    finishes = λ at bufs chain port fits e can out.
         let place = found-shutting w.ports w.entry_count at.0 port n.ports_rise e in
         finishes_queue at.0 port place (port_at-below w.ports w.entry_count at.0 port n.ports_rise place) (at.0 == id) refl;
     leaves = λ session can. still _ refl refl;
@@ -234,9 +273,9 @@ module _ (s : Standing) (id : ℕ) (given read : List Frame) (unread : List ℕ)
 -- The law.
 
 given_frames-push : (pool : ℕ) (h : List Entry) (e : Entry) (id : ℕ)
-    → given_frames pool (h ++ e ∷ []) id ≡ given_frames pool h id ++ flat_map frames_of_granted (granted_by id (world_of pool h) e.ask)
+    → given_frames pool (h ++ e ∷ []) id ≡ given_frames pool h id ++ flat_map frames_brought (brought_in id (world_of pool h) e)
 given_frames-push pool h e id =
-    ap (flat_map frames_of_granted) (told-push (granted_in id) pool h e) ∙ flat_map-append frames_of_granted (grants_to pool h id) (granted_by id (world_of pool h) e.ask)
+    ap (flat_map frames_brought) (told-push (brought_in id) pool h e) ∙ flat_map-append frames_brought (brought_to pool h id) (brought_in id (world_of pool h) e)
 
 queue-is : (id : ℕ) (w v : World) (given gifts read got : List Frame) (unread counts : List ℕ) → w ≡ v → given ≡ gifts → read ≡ got → unread ≡ counts
     → QueueAt id v gifts got counts → QueueAt id w given read unread

@@ -1,28 +1,27 @@
 -- After every legal history no lot is empty, each port has a slot to spare, and the ports have no more
 -- buffers than the pool.
-use Rattle.std.proofs.Common.{ℕ, ◌+◌, ◌-◌, ◌≤◌, ◌≡◌, Bool, true, false, cond, not, ◌&&◌, nat_lt, nat_le, ◌==◌, List, [], ◌∷◌, ◌++◌, map, length, drop, sum_by, Option, Some, None, refl, ap, arith}
+use Rattle.std.proofs.Common.{ℕ, ◌+◌, ◌-◌, ◌≤◌, ◌≡◌, Bool, true, false, cond, not, ◌&&◌, nat_lt, nat_le, ◌==◌, List, [], ◌∷◌, ◌++◌, map, length, drop, sum_by, Option, Some, None, refl, ap, arith, min, ◌∙◌}
 use Rattle.std.specs.List.{AllByRecursion as Each, prefix_len}
 use Rattle.std.proofs.lemmas.List.Sums.{sum_by-cons, sum_by-append, sum_by_push}
 use Rattle.std.proofs.lemmas.Bool.{and_parts, ltb-false, leb-true}
 use Rattle.nm_types.specs.Frames.{Frame, slots_of, size_of_frames}
 use Rattle.nm_types.specs.declared.fault.OpenFault.{OpenFault}
 use Rattle.nm_types.specs.declared.fault.OpenFault.TheVariants.{BadSize, NoBuffers}
-use Rattle.vale_entry.specs.declared.entry.Ask.{Ask}
-use Rattle.vale_entry.specs.declared.entry.Ask.TheVariants.{Enter, Open, Send, Grant, Done, Sync, Shut, Finish, Leave}
 use Rattle.vale_entry.specs.declared.entry.Entry.{Entry}
-use Rattle.vale_entry.specs.World.{World, Port, Lot, Offer, is_session, open_port, changed_at, size_of_line, space_of, buffers_of, free_count}
+use Rattle.vale_entry.specs.World.{World, Port, Lot, Offer, open_port, changed_at, size_of_line, space_of, buffers_of, free_count}
 use Rattle.vale_entry.specs.Opening.{is_ring_size, are_sizes, name_refusal, refusal_or_room, open_refusal, opened_port}
-use Rattle.vale_entry.specs.Grant.{longest_fitting, given_at, first_offer, with_lot, port_after_grant}
-use Rattle.vale_entry.specs.Delivery.{lease_at, is_done_lot, ready_lots, frames_of_lot, delivered_frames, done_if, lot_after_done, port_after_done, port_after_sync}
-use Rattle.vale_entry.specs.Closing.{shut, shutting_port}
-use Rattle.vale_entry.specs.Legal.{Standing, Outcome, step, recorded_step, after, standing_after, open_step_by, send_step_at, send_step, can_send, grant_step_at, grant_step, done_step_at, sync_step_at, sync_step, can_sync, shut_step, finish_step}
+use Rattle.vale_entry.specs.Grant.{longest_fitting, given_at, with_lot, port_after_grant}
+use Rattle.vale_entry.specs.Delivery.{is_done_lot, ready_lots, frames_of_lot, delivered_frames, done_if, lot_after_done, port_after_done, port_after_sync}
+use Rattle.vale_entry.specs.Closing.{shut}
+use Rattle.vale_entry.specs.Legal.{Standing, Outcome, after, open_step_by, grant_step, sync_step, shut_step, finish_step, done_step, put_step}
 use Rattle.vale_entry.specs.Laws.{Rise, id_of_port, IsFilled, HasRoom, AreRoomy, IsRoomy}
-use Rattle.vale_entry.proofs.Steps.{recorded-by}
+use Rattle.vale_entry.specs.Pipe.{peer_of, taken_count, frames_of_items, port_after_put}
+use Rattle.vale_entry.specs.declared.entry.Item.{Item}
+use Rattle.vale_entry.proofs.Follows.{EachKind, after-by, CanKeep}
 use Rattle.vale_entry.proofs.ListLaws.{each-at, each-set, sum-map_same, sum-flat_map, front-rest}
 use Rattle.vale_entry.proofs.Each.{each-changed_at, changed_at-same, sum-changed_at, each-append, each-map, each-drop}
 use Rattle.vale_entry.proofs.Removals.{each-filter, sum-filter_less}
-use Rattle.vale_entry.proofs.Closings.{shut-by, finish-by, leave-by}
-use Rattle.vale_entry.proofs.Places.{open-place}
+use Rattle.vale_entry.proofs.Places.{open-place, peer-place}
 use Rattle.vale_entry.proofs.Numbered.{Numbered}
 
 -- a port that is not refused
@@ -62,16 +61,12 @@ delivered-size port =
 abbrev pub Roomy : Standing → Type 0
 Roomy s = IsRoomy s.world
 
-abbrev RoomyNext : Option Outcome → Type 0
-RoomyNext None = Unit {0}
-RoomyNext (Some made) = IsRoomy made.next.world
+abbrev RoomyNext : Outcome → Type 0
+RoomyNext made = IsRoomy made.next.world
 
-roomy_open : (s : Standing) (session : ℕ) (name : List ℕ) (tx rx extra : ℕ) (found : Bool) (refusal : Option OpenFault)
-    → open_refusal s.world name tx rx extra ≡ refusal → Roomy s
-    → RoomyNext (cond found (Some (open_step_by refusal s session name tx rx extra)) None)
-roomy_open s session name tx rx extra false refusal e n = tt
-roomy_open s session name tx rx extra true (Some fault) e n = n
-roomy_open s session name tx rx extra true None e n =
+roomy_open : (s : Standing) (session : ℕ) (name : List ℕ) (tx rx extra : ℕ) → open_refusal s.world name tx rx extra ≡ None → Roomy s
+    → RoomyNext (open_step_by None s session name tx rx extra)
+roomy_open s session name tx rx extra e n =
     let w = s.world in
     let port = opened_port (w.entry_count + 1) session name tx rx extra in
     let facts = opened-room w name tx rx extra e in
@@ -84,14 +79,6 @@ roomy_open s session name tx rx extra true None e n =
       roomy = each-append HasRoom w.ports (port ∷ []) n.roomy (fresh, tt);
       within = omega arith;
     }
-
-roomy_send : (s : Standing) (frames : List Frame) (found : Option Port) → Roomy s → RoomyNext (send_step_at s frames found)
-roomy_send s frames None n = tt
-roomy_send s frames (Some port) n = by_test (can_send s.world frames port)
-  where
-    by_test : (can : Bool) → RoomyNext (cond can (Some (send_step s frames port)) None)
-    by_test false = tt
-    by_test true = n
 
 -- a grant gives no more than there is space for
 fitting_by : (frame : Frame) (room : ℕ) (more : List Frame) (b : Bool) → nat_le (slots_of frame) room ≡ b
@@ -108,27 +95,45 @@ longest_fitting-size room [] = omega arith
 longest_fitting-size room (frame ∷ frames) =
     fitting_by frame room (longest_fitting (room - slots_of frame) frames) (nat_le (slots_of frame) room) refl (longest_fitting-size (room - slots_of frame) frames)
 
-pub with_lot-size : (number session : ℕ) (frames : List Frame) (line : List Lot)
-    → size_of_line (with_lot number session frames line) ≡ size_of_line line + size_of_frames frames
-with_lot-size number session [] line = omega arith
-with_lot-size number session (frame ∷ frames) line = sum_by_push (λ (lot : Lot). size_of_frames lot.frames) line _
+pub with_lot-size : (number session : ℕ) (done : Bool) (frames : List Frame) (line : List Lot)
+    → size_of_line (with_lot number session done frames line) ≡ size_of_line line + size_of_frames frames
+with_lot-size number session done [] line = omega arith
+with_lot-size number session done (frame ∷ frames) line = sum_by_push (λ (lot : Lot). size_of_frames lot.frames) line _
 
-with_lot-filled : (number session : ℕ) (frames : List Frame) (line : List Lot) → Each IsFilled line
-    → Each IsFilled (with_lot number session frames line)
-with_lot-filled number session [] line all = all
-with_lot-filled number session (frame ∷ frames) line all = each-append IsFilled line _ all (omega arith, tt)
+with_lot-filled : (number session : ℕ) (done : Bool) (frames : List Frame) (line : List Lot) → Each IsFilled line
+    → Each IsFilled (with_lot number session done frames line)
+with_lot-filled number session done [] line all = all
+with_lot-filled number session done (frame ∷ frames) line all = each-append IsFilled line _ all (omega arith, tt)
+
+-- a port with one lot more that it has space for
+lot-room : (number session : ℕ) (done : Bool) (frames : List Frame) (port : Port) → size_of_frames frames ≤ space_of port → HasRoom port
+    → HasRoom (record port { line = with_lot number session done frames port.line })
+lot-room number session done frames port few h =
+    let sum = with_lot-size number session done frames port.line in
+    let fits : port.out + size_of_line port.line + 1 ≤ port.rx = h.fits in
+    record {
+      lots_filled = with_lot-filled number session done frames port.line h.lots_filled;
+      fits = omega arith;
+    }
 
 granted-room : (number session : ℕ) (frames : List Frame) (port : Port) → HasRoom port
     → HasRoom (port_after_grant number session (longest_fitting (space_of port) frames) port)
 granted-room number session frames port h =
-    let given = longest_fitting (space_of port) frames in
-    let few : size_of_frames given ≤ port.rx - 1 - port.out - size_of_line port.line = longest_fitting-size (space_of port) frames in
-    let sum = with_lot-size number session given port.line in
-    let fits : port.out + size_of_line port.line + 1 ≤ port.rx = h.fits in
-    record {
-      lots_filled = with_lot-filled number session given port.line h.lots_filled;
-      fits = omega arith;
-    }
+    lot-room number session false (longest_fitting (space_of port) frames) port (longest_fitting-size (space_of port) frames) h
+
+-- items take one slot each
+pub items-size : (items : List Item) → size_of_frames (frames_of_items items) ≡ length items
+items-size [] = refl
+items-size (item ∷ items) =
+    let rest = items-size items in
+    let sum = sum_by-cons slots_of item.bytes (frames_of_items items) in
+    omega (arith, rest, sum)
+
+-- no more of them are taken than there is space for
+pub taken-few : (s : Standing) (offered : ℕ) (items : List Item) (port peer : Port) → CanKeep s offered items port → peer_of s.world.ports port ≡ Some peer → length items ≤ space_of peer
+taken-few s offered items port peer can found =
+    let taken : length items ≡ min offered (space_of peer) = can.taken ∙ ap (λ (o : Option Port). taken_count o offered) found in
+    omega (arith, taken)
 
 roomy-granted : (pool number session id : ℕ) (frames : List Frame) (high : ℕ) (ports : List Port) (at : Option Port) → open_port ports id ≡ at
     → Rise 0 (map id_of_port ports) high
@@ -144,15 +149,25 @@ roomy-granted pool number session id frames high ports (Some port) e rise n =
       within = rw (sum-changed_at buffers_of id change (λ q. refl) ports) n.within;
     }
 
-roomy_grant : (s : Standing) (to : ℕ) (found : Option Offer) → Numbered s → Roomy s → RoomyNext (grant_step_at s to found)
-roomy_grant s to None numbered n = tt
-roomy_grant s to (Some offer) numbered n = by_test (offer.to == to)
-  where
-    by_test : (same : Bool) → RoomyNext (cond same (Some (grant_step s offer)) None)
-    by_test false = tt
-    by_test true =
-        let w = s.world in
-        roomy-granted w.pool (w.entry_count + 1) offer.session offer.to offer.frames w.entry_count w.ports (open_port w.ports offer.to) refl numbered.ports_rise n
+roomy_grant : (s : Standing) (offer : Offer) → Numbered s → Roomy s → RoomyNext (grant_step s offer)
+roomy_grant s offer numbered n =
+    let w = s.world in
+    roomy-granted w.pool (w.entry_count + 1) offer.session offer.to offer.frames w.entry_count w.ports (open_port w.ports offer.to) refl numbered.ports_rise n
+
+roomy_put : (s : Standing) (offered : ℕ) (items : List Item) (port peer : Port) → CanKeep s offered items port → peer_of s.world.ports port ≡ Some peer → Numbered s → Roomy s
+    → RoomyNext (put_step s items port peer)
+roomy_put s offered items port peer can found numbered n =
+    let w = s.world in
+    let p = peer-place w.ports w.entry_count port peer numbered.ports_rise found in
+    let few = taken-few s offered items port peer can found in
+    let size = items-size items in
+    let change = port_after_put (w.entry_count + 1) port.session (frames_of_items items) in
+    let old : HasRoom peer = each-at HasRoom w.ports p.place peer n.roomy p.here in
+    record {
+      roomy = rw (p.changes change) (each-set HasRoom w.ports p.place (change peer) n.roomy
+          (lot-room (w.entry_count + 1) port.session true (frames_of_items items) peer (omega (arith, few, size)) old));
+      within = rw (sum-changed_at buffers_of peer.id change (λ q. refl) w.ports) n.within;
+    }
 
 done_if-size : (b : Bool) (lot : Lot) → size_of_frames (done_if b lot).frames ≡ size_of_frames lot.frames
 done_if-size true lot = refl
@@ -173,9 +188,8 @@ done-room number port h = record {
   fits = rw (size-after_done number port.line) h.fits;
 }
 
-roomy_done : (s : Standing) (number : ℕ) (found : Option Lot) → Roomy s → RoomyNext (done_step_at s number found)
-roomy_done s number None n = tt
-roomy_done s number (Some lot) n = record {
+roomy_done : (s : Standing) (number : ℕ) (lot : Lot) → Roomy s → RoomyNext (done_step s number lot)
+roomy_done s number lot n = record {
   roomy = each-map HasRoom HasRoom (port_after_done number) (done-room number) s.world.ports n.roomy;
   within = rw (sum-map_same buffers_of buffers_of (port_after_done number) (λ port. refl) s.world.ports) n.within;
 }
@@ -189,49 +203,42 @@ synced-room returned port h =
       fits = omega arith;
     }
 
-roomy_sync : (s : Standing) (back : List ℕ) (found : Option Port) → Roomy s → RoomyNext (sync_step_at s back found)
-roomy_sync s back None n = tt
-roomy_sync s back (Some port) n = by_test (can_sync s back port)
-  where
-    by_test : (can : Bool) → RoomyNext (cond can (Some (sync_step s back port)) None)
-    by_test false = tt
-    by_test true =
-        let change = port_after_sync (length back) in
-        record {
-          roomy = each-changed_at HasRoom HasRoom port.id change (λ p here. here) (synced-room (length back)) s.world.ports n.roomy;
-          within = rw (sum-changed_at buffers_of port.id change (λ p. refl) s.world.ports) n.within;
-        }
+roomy_sync : (s : Standing) (back : List ℕ) (port : Port) → Roomy s → RoomyNext (sync_step s back port)
+roomy_sync s back port n =
+    let change = port_after_sync (length back) in
+    record {
+      roomy = each-changed_at HasRoom HasRoom port.id change (λ p here. here) (synced-room (length back)) s.world.ports n.roomy;
+      within = rw (sum-changed_at buffers_of port.id change (λ p. refl) s.world.ports) n.within;
+    }
 
-roomy_shut : (s : Standing) (port : Port) → Roomy s → RoomyNext (Some (shut_step s port))
+roomy_shut : (s : Standing) (port : Port) → Roomy s → RoomyNext (shut_step s port)
 roomy_shut s port n = record {
   roomy = each-changed_at HasRoom HasRoom port.id shut (λ p here. here) (λ p here. record { lots_filled = here.lots_filled; fits = here.fits }) s.world.ports n.roomy;
   within = rw (sum-changed_at buffers_of port.id shut (λ p. refl) s.world.ports) n.within;
 }
 
-roomy_finish : (s : Standing) (bufs : List ℕ) (port : Port) → Roomy s → RoomyNext (Some (finish_step s bufs port))
+roomy_finish : (s : Standing) (bufs : List ℕ) (port : Port) → Roomy s → RoomyNext (finish_step s bufs port)
 roomy_finish s bufs port n =
     let stays : Port → Bool = λ (p : Port). not (p.id == port.id) in
     let less = sum-filter_less buffers_of stays s.world.ports in
     let before : sum_by buffers_of s.world.ports ≤ s.world.pool = n.within in
     record { roomy = each-filter HasRoom stays s.world.ports n.roomy; within = omega arith }
 
-roomy_step : (s : Standing) (ask : Ask) → Numbered s → Roomy s → RoomyNext (step s ask)
-roomy_step s (Enter user) numbered n = n
-roomy_step s (Open session name tx rx extra) numbered n =
-    roomy_open s session.0 name tx rx extra (is_session s.world session.0) (open_refusal s.world name tx rx extra) refl n
-roomy_step s (Send port frames) numbered n = roomy_send s frames (open_port s.world.ports port.0) n
-roomy_step s (Grant origin to) numbered n = roomy_grant s to.0 (first_offer s.world origin) numbered n
-roomy_step s (Done lease) numbered n = roomy_done s lease.0 (lease_at s.world.ports lease.0) n
-roomy_step s (Sync port back) numbered n = roomy_sync s back (open_port s.world.ports port.0) n
-roomy_step s (Shut port) numbered n = shut-by RoomyNext s (open_port s.world.ports port.0) tt (λ at e. roomy_shut s at n)
-roomy_step s (Finish port bufs chain) numbered n = finish-by RoomyNext s bufs (shutting_port s.world.ports port.0) tt (λ at e can out. roomy_finish s bufs at n)
-roomy_step s (Leave session) numbered n = leave-by RoomyNext s session.0 tt (λ can. n)
-roomy_step s _ numbered n = tt
-
-roomy_after : (s : Standing) (e : Entry) (made : Option Outcome) → Roomy s → RoomyNext made → Roomy (standing_after s e made)
-roomy_after s e None n next = n
-roomy_after s e (Some made) n next = next
+roomy_kinds : (s : Standing) → Numbered s → Roomy s → EachKind s (λ ask made. RoomyNext made)
+roomy_kinds s numbered n = record {
+  enters = λ user fits. n;
+  quiet = λ ask session reply quiet. n;
+  opens = λ session name tx rx extra can refusal. roomy_open s session.0 name tx rx extra refusal n;
+  sends = λ from frames port e can settled. n;
+  grants = λ origin to offer first same. roomy_grant s offer numbered n;
+  completes = λ lease lot e. roomy_done s lease.0 lot n;
+  receives = λ ask at back port receives e can. roomy_sync s back port n;
+  puts = λ at offered items port peer e can found. roomy_put s offered items port peer can found numbered n;
+  watches = λ at target sides port found e can there none. n;
+  shuts = λ at port e settled. roomy_shut s port n;
+  finishes = λ at bufs chain port fits e can out. roomy_finish s bufs port n;
+  leaves = λ session can. n;
+}
 
 pub roomy_entry : (s : Standing) (e : Entry) → Numbered s → Roomy s → Roomy (after s e)
-roomy_entry s e numbered n =
-    roomy_after s e (recorded_step s e.ask e.reply) n (recorded-by RoomyNext s e.ask e.reply tt (roomy_step s e.ask numbered n))
+roomy_entry s e numbered n = after-by s Roomy e n (roomy_kinds s numbered n)

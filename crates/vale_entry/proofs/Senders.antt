@@ -7,7 +7,7 @@ use Rattle.std.proofs.lemmas.List.Folds.{list_any-append}
 use Rattle.std.proofs.lemmas.Bool.{eqb-true, eqb-false, ne_eqb}
 use Rattle.vale_entry.specs.World.{Port, Offer}
 use Rattle.vale_entry.specs.Laws.{Rise, IsThere}
-use Rattle.vale_entry.specs.Delivered.{Granted}
+use Rattle.vale_entry.specs.Delivered.{Brought}
 use Rattle.vale_entry.specs.Fate.{is_among, origin_of}
 use Rattle.vale_entry.proofs.Each.{each-weaker, each-append, each-both, each-map}
 use Rattle.vale_entry.proofs.Rising.{rise-wider, rise-push, rise-bounds, rise-above}
@@ -54,10 +54,10 @@ rise-more low (n ∷ ns) high k higher r all first last = (r.0, rise-more n ns h
 
 -- What stands of a sender port, and of the grants to one port.
 
-pub record Ordered (id count : ℕ) (found : Option Port) (offers : List Offer) (numbers : List ℕ) (granted : List Granted) : Type 0 where
+pub record Ordered (id count : ℕ) (found : Option Port) (offers : List Offer) (numbers : List ℕ) (granted : List Brought) : Type 0 where
   pub numbers_rise : Rise 0 numbers count
-  pub within : Each (λ (gift : Granted). gift.origin ≤ count) granted
-  pub grants_rise : Rise 0 (map origin_of (filter (is_among numbers) granted)) count
+  pub within : Each (λ (gift : Brought). gift.origin ≤ count) granted
+  pub brought_rises : Rise 0 (map origin_of (filter (is_among numbers) granted)) count
   pub last : Each (λ (offer : Offer). IsThere numbers offer.origin → Each (λ (n : ℕ). n ≤ offer.origin) numbers) offers
   pub owner : Each (λ (offer : Offer). IsThere numbers offer.origin → (port : Port) → found ≡ Some port → port.session ≡ offer.session) offers
   pub future : count < id → numbers ≡ []
@@ -75,14 +75,14 @@ owner-later numbers found later offer kept before there port e = by_case (kept p
     by_case (inl none) = absurd (true≢false (sym (subst (λ (ns : List ℕ). IsThere ns offer.origin) none there)))
     by_case (inr old) = sym old.1.1 ∙ before there old.0 old.1.0
 
-pub ordered-still : (id count : ℕ) (found later : Option Port) (offers : List Offer) (numbers : List ℕ) (granted : List Granted) → IsKept numbers found later
+pub ordered-still : (id count : ℕ) (found later : Option Port) (offers : List Offer) (numbers : List ℕ) (granted : List Brought) → IsKept numbers found later
     → Ordered id count found offers numbers granted
     → Ordered id (count + 1) later offers (numbers ++ []) (granted ++ [])
 ordered-still id count found later offers numbers granted kept o =
     rw (append-nil numbers, append-nil granted) (record {
       numbers_rise = rise-wider 0 0 numbers count (count + 1) (omega arith) (omega arith) o.numbers_rise;
-      within = each-weaker (λ (gift : Granted). gift.origin ≤ count) (λ (gift : Granted). gift.origin ≤ count + 1) (λ gift here. omega (arith, here)) granted o.within;
-      grants_rise = rise-wider 0 0 (map origin_of (filter (is_among numbers) granted)) count (count + 1) (omega arith) (omega arith) o.grants_rise;
+      within = each-weaker (λ (gift : Brought). gift.origin ≤ count) (λ (gift : Brought). gift.origin ≤ count + 1) (λ gift here. omega (arith, here)) granted o.within;
+      brought_rises = rise-wider 0 0 (map origin_of (filter (is_among numbers) granted)) count (count + 1) (omega arith) (omega arith) o.brought_rises;
       last = o.last;
       owner = each-weaker (λ (offer : Offer). IsThere numbers offer.origin → (port : Port) → found ≡ Some port → port.session ≡ offer.session)
           (λ (offer : Offer). IsThere numbers offer.origin → (port : Port) → later ≡ Some port → port.session ≡ offer.session)
@@ -94,7 +94,7 @@ abbrev pub IsOf : ℕ → ℕ → Offer → Type 0
 IsOf origin session offer = (offer.origin ≡ origin) × (offer.session ≡ session)
 
 -- offers of an entry that another port sent
-pub ordered-others : (id count session : ℕ) (found later : Option Port) (offers fresh : List Offer) (numbers : List ℕ) (granted : List Granted) → IsKept numbers found later
+pub ordered-others : (id count session : ℕ) (found later : Option Port) (offers fresh : List Offer) (numbers : List ℕ) (granted : List Brought) → IsKept numbers found later
     → Each (IsOf (count + 1) session) fresh
     → Ordered id count found offers numbers granted
     → Ordered id (count + 1) later (offers ++ fresh) (numbers ++ []) (granted ++ [])
@@ -104,7 +104,7 @@ ordered-others id count session found later offers fresh numbers granted kept mi
     record {
       numbers_rise = next.numbers_rise;
       within = next.within;
-      grants_rise = next.grants_rise;
+      brought_rises = next.brought_rises;
       last = each-append (λ (offer : Offer). IsThere (numbers ++ []) offer.origin → Each (λ (n : ℕ). n ≤ offer.origin) (numbers ++ [])) offers fresh next.last
           (each-weaker (IsOf (count + 1) session) (λ (offer : Offer). IsThere (numbers ++ []) offer.origin → Each (λ (n : ℕ). n ≤ offer.origin) (numbers ++ []))
           (λ offer of there. absurd (not_there offer of.0 (subst (λ (ns : List ℕ). IsThere ns offer.origin) same there))) fresh mine);
@@ -120,7 +120,7 @@ ordered-others id count session found later offers fresh numbers granted kept mi
         omega (arith, at, below)
 
 -- offers of an entry that the port sent: its session had none
-pub ordered-sends : (id count : ℕ) (port : Port) (found later : Option Port) (offers fresh : List Offer) (numbers : List ℕ) (granted : List Granted)
+pub ordered-sends : (id count : ℕ) (port : Port) (found later : Option Port) (offers fresh : List Offer) (numbers : List ℕ) (granted : List Brought)
     → found ≡ Some port → ((next : Port) → later ≡ Some next → next.session ≡ port.session) → id ≤ count
     → Each (λ (offer : Offer). (offer.session == port.session) ≡ false) offers → Each (λ (offer : Offer). offer.origin ≤ count) offers → Each (IsOf (count + 1) port.session) fresh
     → Ordered id count found offers numbers granted
@@ -128,9 +128,9 @@ pub ordered-sends : (id count : ℕ) (port : Port) (found later : Option Port) (
 ordered-sends id count port found later offers fresh numbers granted here same old settled bounds mine o =
     rw (append-nil granted) (record {
       numbers_rise = rise;
-      within = each-weaker (λ (gift : Granted). gift.origin ≤ count) (λ (gift : Granted). gift.origin ≤ count + 1) (λ gift below. omega (arith, below)) granted o.within;
-      grants_rise = subst (λ (gifts : List Granted). Rise 0 (map origin_of gifts) (count + 1)) (sym unseen)
-          (rise-wider 0 0 (map origin_of (filter (is_among numbers) granted)) count (count + 1) (omega arith) (omega arith) o.grants_rise);
+      within = each-weaker (λ (gift : Brought). gift.origin ≤ count) (λ (gift : Brought). gift.origin ≤ count + 1) (λ gift below. omega (arith, below)) granted o.within;
+      brought_rises = subst (λ (gifts : List Brought). Rise 0 (map origin_of gifts) (count + 1)) (sym unseen)
+          (rise-wider 0 0 (map origin_of (filter (is_among numbers) granted)) count (count + 1) (omega arith) (omega arith) o.brought_rises);
       last = each-append (λ (offer : Offer). IsThere more offer.origin → Each (λ (n : ℕ). n ≤ offer.origin) more) offers fresh
           (each-weaker (λ (offer : Offer). IsThere more offer.origin → ⊥) (λ (offer : Offer). IsThere more offer.origin → Each (λ (n : ℕ). n ≤ offer.origin) more) (λ offer none there. absurd (none there)) offers nothing)
           (each-weaker (IsOf (count + 1) port.session) (λ (offer : Offer). IsThere more offer.origin → Each (λ (n : ℕ). n ≤ offer.origin) more)
@@ -151,7 +151,7 @@ ordered-sends id count port found later offers fresh numbers granted here same o
     unseen : filter (is_among (numbers ++ (count + 1) ∷ [])) granted ≡ filter (is_among numbers) granted
     unseen =
         filter-same (is_among (numbers ++ (count + 1) ∷ [])) (is_among numbers) granted
-        (each-weaker (λ (gift : Granted). gift.origin ≤ count) (λ (gift : Granted). is_among (numbers ++ (count + 1) ∷ []) gift ≡ is_among numbers gift)
+        (each-weaker (λ (gift : Brought). gift.origin ≤ count) (λ (gift : Brought). is_among (numbers ++ (count + 1) ∷ []) gift ≡ is_among numbers gift)
         (λ gift below. there-push_other numbers (count + 1) gift.origin (ne_eqb (count + 1) gift.origin (λ e. omega (arith, e, below)))) granted o.within)
 
     -- no offer that stood is of an entry of the port
@@ -164,15 +164,15 @@ ordered-sends id count port found later offers fresh numbers granted here same o
 
 -- A Grant to the port.
 
-granted_by_test : (numbers : List ℕ) (granted : List Granted) (gift : Granted) (count : ℕ) (hit : Bool) → is_among numbers gift ≡ hit
-    → (hit ≡ true → Each (λ (n : ℕ). n ≤ gift.origin) numbers) → Each (λ (other : Granted). (other.origin == gift.origin) ≡ false) granted → (hit ≡ true → 0 < gift.origin) → gift.origin ≤ count
+granted_by_test : (numbers : List ℕ) (granted : List Brought) (gift : Brought) (count : ℕ) (hit : Bool) → is_among numbers gift ≡ hit
+    → (hit ≡ true → Each (λ (n : ℕ). n ≤ gift.origin) numbers) → Each (λ (other : Brought). (other.origin == gift.origin) ≡ false) granted → (hit ≡ true → 0 < gift.origin) → gift.origin ≤ count
     → Rise 0 (map origin_of (filter (is_among numbers) granted)) count
     → Rise 0 (map origin_of (filter (is_among numbers) granted ++ cond hit (gift ∷ []) [])) (count + 1)
 granted_by_test numbers granted gift count true t last alone first below r =
     rw (map-append origin_of (filter (is_among numbers) granted) (gift ∷ []))
     (rise-more 0 (map origin_of (filter (is_among numbers) granted)) count gift.origin (count + 1) r
-    (each-map (λ (other : Granted). other.origin < gift.origin) (λ (n : ℕ). n < gift.origin) origin_of (λ other here. here) (filter (is_among numbers) granted)
-    (each-kept (λ (other : Granted). (other.origin == gift.origin) ≡ false) (λ (other : Granted). other.origin < gift.origin) (is_among numbers)
+    (each-map (λ (other : Brought). other.origin < gift.origin) (λ (n : ℕ). n < gift.origin) origin_of (λ other here. here) (filter (is_among numbers) granted)
+    (each-kept (λ (other : Brought). (other.origin == gift.origin) ≡ false) (λ (other : Brought). other.origin < gift.origin) (is_among numbers)
     (λ other among apart.
     let under : other.origin ≤ gift.origin = there-each (λ (n : ℕ). n ≤ gift.origin) numbers other.origin (last refl) among in
     below_other other.origin gift.origin under (eqb-false other.origin gift.origin apart)) granted alone))
@@ -183,9 +183,9 @@ granted_by_test numbers granted gift count true t last alone first below r =
 granted_by_test numbers granted gift count false t last alone first below r =
     rw (append-nil (filter (is_among numbers) granted)) (rise-wider 0 0 (map origin_of (filter (is_among numbers) granted)) count (count + 1) (omega arith) (omega arith) r)
 
-pub ordered-grants : (id count : ℕ) (found later : Option Port) (offers fewer : List Offer) (numbers : List ℕ) (granted : List Granted) (gift : Granted) → IsKept numbers found later
+pub ordered-grants : (id count : ℕ) (found later : Option Port) (offers fewer : List Offer) (numbers : List ℕ) (granted : List Brought) (gift : Brought) → IsKept numbers found later
     → ((P : Offer → Type 0) → Each P offers → Each P fewer)
-    → (IsThere numbers gift.origin → Each (λ (n : ℕ). n ≤ gift.origin) numbers) → Each (λ (other : Granted). (other.origin == gift.origin) ≡ false) granted → gift.origin ≤ count
+    → (IsThere numbers gift.origin → Each (λ (n : ℕ). n ≤ gift.origin) numbers) → Each (λ (other : Brought). (other.origin == gift.origin) ≡ false) granted → gift.origin ≤ count
     → Ordered id count found offers numbers granted
     → Ordered id (count + 1) later fewer (numbers ++ []) (granted ++ gift ∷ [])
 ordered-grants id count found later offers fewer numbers granted gift kept less last alone below o =
@@ -193,18 +193,18 @@ ordered-grants id count found later offers fewer numbers granted gift kept less 
     let same = append-nil numbers in
     record {
       numbers_rise = next.numbers_rise;
-      within = each-append (λ (g : Granted). g.origin ≤ count + 1) granted (gift ∷ []) (each-weaker (λ (g : Granted). g.origin ≤ count) (λ (g : Granted). g.origin ≤ count + 1) (λ g here. omega (arith, here)) granted o.within) (omega (arith, below), tt);
-      grants_rise = subst (λ (ns : List ℕ). Rise 0 (map origin_of (filter (is_among ns) (granted ++ gift ∷ []))) (count + 1)) (sym same)
-          (subst (λ (gifts : List Granted). Rise 0 (map origin_of gifts) (count + 1)) (sym (filter-append (is_among numbers) granted (gift ∷ [])))
+      within = each-append (λ (g : Brought). g.origin ≤ count + 1) granted (gift ∷ []) (each-weaker (λ (g : Brought). g.origin ≤ count) (λ (g : Brought). g.origin ≤ count + 1) (λ g here. omega (arith, here)) granted o.within) (omega (arith, below), tt);
+      brought_rises = subst (λ (ns : List ℕ). Rise 0 (map origin_of (filter (is_among ns) (granted ++ gift ∷ []))) (count + 1)) (sym same)
+          (subst (λ (gifts : List Brought). Rise 0 (map origin_of gifts) (count + 1)) (sym (filter-append (is_among numbers) granted (gift ∷ [])))
           (granted_by_test numbers granted gift count (is_among numbers gift) refl last alone
-          (λ there. there-each (λ (n : ℕ). 0 < n) numbers gift.origin (rise-above 0 numbers count o.numbers_rise) there) below o.grants_rise));
+          (λ there. there-each (λ (n : ℕ). 0 < n) numbers gift.origin (rise-above 0 numbers count o.numbers_rise) there) below o.brought_rises));
       last = less (λ (offer : Offer). IsThere (numbers ++ []) offer.origin → Each (λ (n : ℕ). n ≤ offer.origin) (numbers ++ [])) next.last;
       owner = less (λ (offer : Offer). IsThere (numbers ++ []) offer.origin → (port : Port) → later ≡ Some port → port.session ≡ offer.session) next.owner;
       future = next.future;
     }
 
 -- and one to another port
-pub ordered-fewer : (id count : ℕ) (found later : Option Port) (offers fewer : List Offer) (numbers : List ℕ) (granted : List Granted) → IsKept numbers found later
+pub ordered-fewer : (id count : ℕ) (found later : Option Port) (offers fewer : List Offer) (numbers : List ℕ) (granted : List Brought) → IsKept numbers found later
     → ((P : Offer → Type 0) → Each P offers → Each P fewer)
     → Ordered id count found offers numbers granted
     → Ordered id (count + 1) later fewer (numbers ++ []) (granted ++ [])
@@ -213,8 +213,31 @@ ordered-fewer id count found later offers fewer numbers granted kept less o =
     record {
       numbers_rise = next.numbers_rise;
       within = next.within;
-      grants_rise = next.grants_rise;
+      brought_rises = next.brought_rises;
       last = less (λ (offer : Offer). IsThere (numbers ++ []) offer.origin → Each (λ (n : ℕ). n ≤ offer.origin) (numbers ++ [])) next.last;
       owner = less (λ (offer : Offer). IsThere (numbers ++ []) offer.origin → (port : Port) → later ≡ Some port → port.session ≡ offer.session) next.owner;
       future = next.future;
     }
+
+-- what a Put brings there, under the number of its own entry
+pub ordered-brings : (id count : ℕ) (later : Option Port) (offers : List Offer) (numbers : List ℕ) (brought : List Brought) (gift : Brought)
+    → gift.origin ≡ count + 1 → Each (λ (other : Brought). other.origin ≤ count) brought
+    → Ordered id (count + 1) later offers numbers brought
+    → Ordered id (count + 1) later offers numbers (brought ++ gift ∷ [])
+ordered-brings id count later offers numbers brought gift mine before o = record {
+  numbers_rise = o.numbers_rise;
+  within = each-append (λ (g : Brought). g.origin ≤ count + 1) brought (gift ∷ []) o.within (omega (arith, mine), tt);
+  brought_rises = subst (λ (gifts : List Brought). Rise 0 (map origin_of gifts) (count + 1)) (sym (filter-append (is_among numbers) brought (gift ∷ []))) (by_test (is_among numbers gift) refl);
+  last = o.last;
+  owner = o.owner;
+  future = o.future;
+}
+  where
+    by_test : (hit : Bool) → is_among numbers gift ≡ hit → Rise 0 (map origin_of (filter (is_among numbers) brought ++ cond hit (gift ∷ []) [])) (count + 1)
+    by_test true t =
+        rw (map-append origin_of (filter (is_among numbers) brought) (gift ∷ []))
+        (rise-more 0 (map origin_of (filter (is_among numbers) brought)) (count + 1) gift.origin (count + 1) o.brought_rises
+        (each-map (λ (other : Brought). other.origin < gift.origin) (λ (n : ℕ). n < gift.origin) origin_of (λ other here. here) (filter (is_among numbers) brought)
+        (each-kept (λ (other : Brought). other.origin ≤ count) (λ (other : Brought). other.origin < gift.origin) (is_among numbers) (λ other among below. omega (arith, below, mine)) brought before))
+        (omega (arith, mine)) (omega (arith, mine)))
+    by_test false t = rw (append-nil (filter (is_among numbers) brought)) o.brought_rises

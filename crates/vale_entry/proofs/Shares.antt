@@ -7,17 +7,17 @@ use Rattle.std.proofs.lemmas.List.{map-append}
 use Rattle.nm_types.specs.Frames.{Frame, slots_of}
 use Rattle.vale_entry.specs.World.{Offer}
 use Rattle.vale_entry.specs.Grant.{longest_fitting}
-use Rattle.vale_entry.specs.Delivered.{Granted, frames_of_granted}
+use Rattle.vale_entry.specs.Delivered.{Brought, frames_brought}
 use Rattle.vale_entry.specs.Fate.{Share}
 use Rattle.vale_entry.proofs.Each.{each-append}
 
 -- what is offered, shared out and granted of one entry at one port, after so many entries
-pub record Accounted (number count : ℕ) (wanted : List Frame) (offers : List Offer) (shares : List Share) (granted : List Granted) : Type 0 where
+pub record Accounted (number count : ℕ) (wanted : List Frame) (offers : List Offer) (shares : List Share) (granted : List Brought) : Type 0 where
   pub once : length offers + length shares ≡ min 1 (length wanted)
   pub offered : Each (λ (offer : Offer). offer.frames ≡ wanted) offers
   pub counted : Each (λ (share : Share). share.given + share.full + share.gone ≡ length wanted) shares
   pub one_cause : Each (λ (share : Share). (share.full ≡ 0) ⊎ (share.gone ≡ 0)) shares
-  pub first_given : map frames_of_granted granted ≡ map (λ (share : Share). take share.given wanted) shares
+  pub first_given : map frames_brought granted ≡ map (λ (share : Share). take share.given wanted) shares
   pub future : count < number → wanted ≡ []
 
 pub no_items : {X : Type 0} (xs : List X) → length xs ≡ 0 → xs ≡ []
@@ -29,7 +29,7 @@ no_image f [] e = refl
 no_image f (x ∷ xs) e = absurd cc
 
 -- an entry that wants nothing here, and grants nothing
-pub accounted-still : (number count : ℕ) (wanted : List Frame) (offers : List Offer) (shares : List Share) (granted : List Granted)
+pub accounted-still : (number count : ℕ) (wanted : List Frame) (offers : List Offer) (shares : List Share) (granted : List Brought)
     → Accounted number count wanted offers shares granted
     → Accounted number (count + 1) (wanted ++ []) offers (shares ++ []) (granted ++ [])
 accounted-still number count wanted offers shares granted k =
@@ -43,7 +43,7 @@ accounted-still number count wanted offers shares granted k =
     })
 
 -- the entry of this number
-pub accounted-wants : (number count : ℕ) (wanted : List Frame) (offers : List Offer) (shares : List Share) (granted : List Granted) (frames : List Frame) (fresh : List Offer)
+pub accounted-wants : (number count : ℕ) (wanted : List Frame) (offers : List Offer) (shares : List Share) (granted : List Brought) (frames : List Frame) (fresh : List Offer)
     → count + 1 ≡ number → length fresh ≡ min 1 (length frames) → Each (λ (offer : Offer). offer.frames ≡ frames) fresh
     → Accounted number count wanted offers shares granted
     → Accounted number (count + 1) (wanted ++ frames) (offers ++ fresh) (shares ++ []) (granted ++ [])
@@ -53,8 +53,8 @@ accounted-wants number count wanted offers shares granted frames fresh mine one 
     let once : length offers + length shares ≡ min 1 (length wanted) = k.once in
     let no_offers : offers ≡ [] = no_items offers (omega (arith, once, empty)) in
     let no_shares : shares ≡ [] = no_items shares (omega (arith, once, empty)) in
-    let given : map frames_of_granted granted ≡ [] = k.first_given ∙ ap (λ (xs : List Share). map (λ (share : Share). take share.given wanted) xs) no_shares in
-    let no_granted : granted ≡ [] = no_image frames_of_granted granted given in
+    let given : map frames_brought granted ≡ [] = k.first_given ∙ ap (λ (xs : List Share). map (λ (share : Share). take share.given wanted) xs) no_shares in
+    let no_granted : granted ≡ [] = no_image frames_brought granted given in
     rw (none, no_offers, no_shares, no_granted) (record {
       once = omega (arith, one);
       offered = same;
@@ -65,7 +65,7 @@ accounted-wants number count wanted offers shares granted frames fresh mine one 
     })
 
 -- the Grant of it
-pub accounted-grants : (number count : ℕ) (wanted : List Frame) (offer : Offer) (offers : List Offer) (shares : List Share) (granted : List Granted) (share : Share) (gift : Granted)
+pub accounted-grants : (number count : ℕ) (wanted : List Frame) (offer : Offer) (offers : List Offer) (shares : List Share) (granted : List Brought) (share : Share) (gift : Brought)
     → share.given + share.full + share.gone ≡ length offer.frames → (share.full ≡ 0) ⊎ (share.gone ≡ 0) → gift.frames ≡ take share.given offer.frames
     → Accounted number count wanted (offer ∷ offers) shares granted
     → Accounted number (count + 1) (wanted ++ []) offers (shares ++ share ∷ []) (granted ++ gift ∷ [])
@@ -81,7 +81,7 @@ accounted-grants number count wanted offer offers shares granted share gift sum 
       counted = each-append (λ (share : Share). share.given + share.full + share.gone ≡ length wanted) shares (share ∷ []) k.counted (sum ∙ size, tt);
       one_cause = each-append (λ (share : Share). (share.full ≡ 0) ⊎ (share.gone ≡ 0)) shares (share ∷ []) k.one_cause (cause, tt);
       first_given =
-          rw (map-append frames_of_granted granted (gift ∷ []), map-append (λ (share : Share). take share.given wanted) shares (share ∷ [])) (given_more (map frames_of_granted granted) (map (λ (share : Share). take share.given wanted) shares) gift.frames (take share.given wanted) k.first_given front);
+          rw (map-append frames_brought granted (gift ∷ []), map-append (λ (share : Share). take share.given wanted) shares (share ∷ [])) (given_more (map frames_brought granted) (map (λ (share : Share). take share.given wanted) shares) gift.frames (take share.given wanted) k.first_given front);
       future = λ above. k.future (omega (arith, above));
     })
   where

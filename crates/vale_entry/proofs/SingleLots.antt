@@ -4,31 +4,28 @@ use Rattle.std.specs.List.{AllByRecursion as Each}
 use Rattle.std.proofs.lemmas.List.Sums.{sum_by-cons, sum_by_push, sum_by-take-drop}
 use Rattle.std.proofs.lemmas.Bool.{eqb-true, ne_eqb}
 use Rattle.nm_types.specs.Frames.{Frame}
-use Rattle.nm_types.specs.declared.fault.OpenFault.{OpenFault}
-use Rattle.vale_entry.specs.declared.entry.Ask.{Ask}
-use Rattle.vale_entry.specs.declared.entry.Ask.TheVariants.{Enter, Open, Send, Grant, Done, Sync, Shut, Finish, Leave}
 use Rattle.vale_entry.specs.declared.entry.Entry.{Entry}
-use Rattle.vale_entry.specs.World.{Port, Lot, Offer, is_session, open_port, changed_at, space_of, changed_if}
-use Rattle.vale_entry.specs.Opening.{open_refusal, opened_port}
-use Rattle.vale_entry.specs.Grant.{first_offer, with_lot, port_after_grant, given_at, longest_fitting}
-use Rattle.vale_entry.specs.Delivery.{lease_at, ready_lots, done_if, lot_after_done, port_after_done, port_after_sync}
-use Rattle.vale_entry.specs.Closing.{shut, shutting_port}
-use Rattle.vale_entry.specs.Legal.{Standing, Outcome, step, recorded_step, after, standing_after, open_step_by, send_step_at, send_step, can_send, grant_step_at, grant_step, done_step_at, sync_step_at, sync_step, can_sync, shut_step, finish_step}
+use Rattle.vale_entry.specs.World.{Port, Lot, Offer, open_port, changed_at, space_of, changed_if}
+use Rattle.vale_entry.specs.Opening.{opened_port}
+use Rattle.vale_entry.specs.Grant.{with_lot, port_after_grant, given_at, longest_fitting}
+use Rattle.vale_entry.specs.Delivery.{ready_lots, done_if, lot_after_done, port_after_done, port_after_sync}
+use Rattle.vale_entry.specs.Closing.{shut}
+use Rattle.vale_entry.specs.Legal.{Standing, Outcome, after, open_step_by, grant_step, sync_step, shut_step, finish_step, done_step, put_step}
 use Rattle.vale_entry.specs.Laws.{Rise, id_of_port, HasLotsUpTo, bears_number, AreSingle}
-use Rattle.vale_entry.proofs.Steps.{recorded-by}
+use Rattle.vale_entry.specs.Pipe.{peer_of, frames_of_items, port_after_put}
+use Rattle.vale_entry.specs.declared.entry.Item.{Item}
+use Rattle.vale_entry.proofs.Follows.{EachKind, after-by}
 use Rattle.vale_entry.proofs.ListLaws.{sum-set, sum-map_same}
 use Rattle.vale_entry.proofs.Each.{changed_at-same, sum-changed_at}
 use Rattle.vale_entry.proofs.Removals.{sum-filter_less}
-use Rattle.vale_entry.proofs.Closings.{shut-by, finish-by, leave-by}
-use Rattle.vale_entry.proofs.Places.{open-place}
+use Rattle.vale_entry.proofs.Places.{open-place, peer-place}
 use Rattle.vale_entry.proofs.Numbered.{Numbered}
 
 abbrev pub Single : Standing → Type 0
 Single s = AreSingle s.world.ports
 
-abbrev SingleNext : Option Outcome → Type 0
-SingleNext None = Unit {0}
-SingleNext (Some made) = Single made.next
+abbrev SingleNext : Outcome → Type 0
+SingleNext made = Single made.next
 
 -- how many lots of a port bear a number
 abbrev lots_of : ℕ → Port → ℕ
@@ -53,12 +50,12 @@ none-of_ports number count later (port ∷ ports) all =
     let sum = sum_by-cons (lots_of number) port ports in
     omega arith
 
-with_lot-count : (k number session : ℕ) (given : List Frame) (line : List Lot)
-    → count_by (bears_number k) (with_lot number session given line) ≤ count_by (bears_number k) line + cond (number == k) 1 0
-with_lot-count k number session [] line = omega arith
-with_lot-count k number session (frame ∷ frames) line =
+with_lot-count : (k number session : ℕ) (done : Bool) (given : List Frame) (line : List Lot)
+    → count_by (bears_number k) (with_lot number session done given line) ≤ count_by (bears_number k) line + cond (number == k) 1 0
+with_lot-count k number session done [] line = omega arith
+with_lot-count k number session done (frame ∷ frames) line =
     let sum =
-    sum_by_push (λ (lot : Lot). cond (bears_number k lot) 1 0) line (record { number = number; session = session; frames = frame ∷ frames; is_done = false }) in
+    sum_by_push (λ (lot : Lot). cond (bears_number k lot) 1 0) line (record { number = number; session = session; frames = frame ∷ frames; is_done = done }) in
     omega arith
 
 single_by : (k number old new before more : ℕ) (mine : Bool) → (number == k) ≡ mine → (number ≡ k → old ≡ 0) → old ≤ 1 → new + before ≡ old + more
@@ -80,44 +77,40 @@ single-granted number session id frames count ports (Some port) e later rise lot
     single_by k number (sum_by (lots_of k) ports) (sum_by (lots_of k) (slice_set ports p.place (change port))) (lots_of k port) (lots_of k (change port)) (number == k) refl
     (λ same. none-of_ports k count (subst (λ (j : ℕ). count < j) same later) ports lots) (single k)
     (sum-set (lots_of k) ports p.place port (change port) p.here)
-    (with_lot-count k number session given port.line))
+    (with_lot-count k number session false given port.line))
 
-single_open : (s : Standing) (session : ℕ) (name : List ℕ) (tx rx extra : ℕ) (found : Bool) (refusal : Option OpenFault) → Single s
-    → SingleNext (cond found (Some (open_step_by refusal s session name tx rx extra)) None)
-single_open s session name tx rx extra false refusal single = tt
-single_open s session name tx rx extra true (Some fault) single = single
-single_open s session name tx rx extra true None single = λ k.
+single_open : (s : Standing) (session : ℕ) (name : List ℕ) (tx rx extra : ℕ) → Single s → SingleNext (open_step_by None s session name tx rx extra)
+single_open s session name tx rx extra single = λ k.
     let sum : sum_by (lots_of k) (s.world.ports ++ opened_port (s.world.entry_count + 1) session name tx rx extra ∷ []) ≡ sum_by (lots_of k) s.world.ports + 0 =
     sum_by_push (lots_of k) s.world.ports (opened_port (s.world.entry_count + 1) session name tx rx extra) in
     let once = single k in
     omega arith
 
-single_send : (s : Standing) (frames : List Frame) (found : Option Port) → Single s → SingleNext (send_step_at s frames found)
-single_send s frames None single = tt
-single_send s frames (Some port) single = by_test (can_send s.world frames port)
-  where
-    by_test : (can : Bool) → SingleNext (cond can (Some (send_step s frames port)) None)
-    by_test false = tt
-    by_test true = single
+single_grant : (s : Standing) (offer : Offer) → Numbered s → Single s → SingleNext (grant_step s offer)
+single_grant s offer n single =
+    let w = s.world in
+    let later : w.entry_count < w.entry_count + 1 = omega arith in
+    single-granted (w.entry_count + 1) offer.session offer.to offer.frames w.entry_count w.ports (open_port w.ports offer.to) refl later n.ports_rise n.lots_within single
 
-single_grant : (s : Standing) (to : ℕ) (found : Option Offer) → Numbered s → Single s → SingleNext (grant_step_at s to found)
-single_grant s to None n single = tt
-single_grant s to (Some offer) n single = by_test (offer.to == to)
-  where
-    by_test : (same : Bool) → SingleNext (cond same (Some (grant_step s offer)) None)
-    by_test false = tt
-    by_test true =
-        let w = s.world in
-        let later : w.entry_count < w.entry_count + 1 = omega arith in
-        single-granted (w.entry_count + 1) offer.session offer.to offer.frames w.entry_count w.ports (open_port w.ports offer.to) refl later n.ports_rise n.lots_within single
+single_put : (s : Standing) (items : List Item) (port peer : Port) → peer_of s.world.ports port ≡ Some peer → Numbered s → Single s → SingleNext (put_step s items port peer)
+single_put s items port peer found n single =
+    let w = s.world in
+    let number = w.entry_count + 1 in
+    let later : w.entry_count < number = omega arith in
+    let change = port_after_put number port.session (frames_of_items items) in
+    let p = peer-place w.ports w.entry_count port peer n.ports_rise found in
+    rw (p.changes change) (λ k.
+    single_by k number (sum_by (lots_of k) w.ports) (sum_by (lots_of k) (slice_set w.ports p.place (change peer))) (lots_of k peer) (lots_of k (change peer)) (number == k) refl
+    (λ same. none-of_ports k w.entry_count (subst (λ (j : ℕ). w.entry_count < j) same later) w.ports n.lots_within) (single k)
+    (sum-set (lots_of k) w.ports p.place peer (change peer) p.here)
+    (with_lot-count k number port.session true (frames_of_items items) peer.line))
 
 done-same_number : (k : ℕ) (b : Bool) (lot : Lot) → cond {A = ℕ} (bears_number k (done_if b lot)) 1 0 ≡ cond (bears_number k lot) 1 0
 done-same_number k true lot = refl
 done-same_number k false lot = refl
 
-single_done : (s : Standing) (number : ℕ) (found : Option Lot) → Single s → SingleNext (done_step_at s number found)
-single_done s number None single = tt
-single_done s number (Some lot) single = λ k.
+single_done : (s : Standing) (number : ℕ) (lot : Lot) → Single s → SingleNext (done_step s number lot)
+single_done s number lot single = λ k.
     let same = sum-map_same (lots_of k) (lots_of k) (port_after_done number)
     (λ port. sum-map_same (λ (l : Lot). cond (bears_number k l) 1 0) (λ (l : Lot). cond (bears_number k l) 1 0) (lot_after_done number) (λ l. done-same_number k (l.number == number) l) port.line) s.world.ports in
     let once = single k in
@@ -137,50 +130,43 @@ changed-less : (f : Port → ℕ) (b : Bool) (change : Port → Port) (port : Po
 changed-less f true change port less = less
 changed-less f false change port less = omega arith
 
-single_sync : (s : Standing) (back : List ℕ) (found : Option Port) → Single s → SingleNext (sync_step_at s back found)
-single_sync s back None single = tt
-single_sync s back (Some port) single = by_test (can_sync s back port)
+single_sync : (s : Standing) (back : List ℕ) (port : Port) → Single s → SingleNext (sync_step s back port)
+single_sync s back port single = λ k.
+    let less = sum-map_less (lots_of k) (λ (p : Port). changed_if (p.id == port.id) (port_after_sync (length back)) p)
+    (λ p. changed-less (lots_of k) (p.id == port.id) (port_after_sync (length back)) p (fewer k p)) s.world.ports in
+    let once = single k in
+    omega arith
   where
     fewer : (k : ℕ) (p : Port) → lots_of k (port_after_sync (length back) p) ≤ lots_of k p
     fewer k p = let cut = sum_by-take-drop (λ (l : Lot). cond (bears_number k l) 1 0) p.line (length (ready_lots p)) in omega arith
 
-    by_test : (can : Bool) → SingleNext (cond can (Some (sync_step s back port)) None)
-    by_test false = tt
-    by_test true = λ k.
-        let less = sum-map_less (lots_of k) (λ (p : Port). changed_if (p.id == port.id) (port_after_sync (length back)) p)
-        (λ p. changed-less (lots_of k) (p.id == port.id) (port_after_sync (length back)) p (fewer k p)) s.world.ports in
-        let once = single k in
-        omega arith
-
-single_shut : (s : Standing) (port : Port) → Single s → SingleNext (Some (shut_step s port))
+single_shut : (s : Standing) (port : Port) → Single s → SingleNext (shut_step s port)
 single_shut s port single = λ k.
     let same = sum-changed_at (lots_of k) port.id shut (λ p. refl) s.world.ports in
     let once = single k in
     omega arith
 
-single_finish : (s : Standing) (bufs : List ℕ) (port : Port) → Single s → SingleNext (Some (finish_step s bufs port))
+single_finish : (s : Standing) (bufs : List ℕ) (port : Port) → Single s → SingleNext (finish_step s bufs port)
 single_finish s bufs port single = λ k.
     let less = sum-filter_less (lots_of k) (λ (p : Port). not (p.id == port.id)) s.world.ports in
     let once = single k in
     omega arith
 
-single_step : (s : Standing) (ask : Ask) → Numbered s → Single s → SingleNext (step s ask)
-single_step s (Enter user) n single = single
-single_step s (Open session name tx rx extra) n single =
-    single_open s session.0 name tx rx extra (is_session s.world session.0) (open_refusal s.world name tx rx extra) single
-single_step s (Send port frames) n single = single_send s frames (open_port s.world.ports port.0) single
-single_step s (Grant origin to) n single = single_grant s to.0 (first_offer s.world origin) n single
-single_step s (Done lease) n single = single_done s lease.0 (lease_at s.world.ports lease.0) single
-single_step s (Sync port back) n single = single_sync s back (open_port s.world.ports port.0) single
-single_step s (Shut port) n single = shut-by SingleNext s (open_port s.world.ports port.0) tt (λ at e. single_shut s at single)
-single_step s (Finish port bufs chain) n single = finish-by SingleNext s bufs (shutting_port s.world.ports port.0) tt (λ at e can out. single_finish s bufs at single)
-single_step s (Leave session) n single = leave-by SingleNext s session.0 tt (λ can. single)
-single_step s _ n single = tt
-
-single_after : (s : Standing) (e : Entry) (made : Option Outcome) → Single s → SingleNext made → Single (standing_after s e made)
-single_after s e None single next = single
-single_after s e (Some made) single next = next
+single_kinds : (s : Standing) → Numbered s → Single s → EachKind s (λ ask made. SingleNext made)
+single_kinds s n single = record {
+  enters = λ user fits. single;
+  quiet = λ ask session reply quiet. single;
+  opens = λ session name tx rx extra can refusal. single_open s session.0 name tx rx extra single;
+  sends = λ from frames port e can settled. single;
+  grants = λ origin to offer first same. single_grant s offer n single;
+  completes = λ lease lot e. single_done s lease.0 lot single;
+  receives = λ ask at back port receives e can. single_sync s back port single;
+  puts = λ at offered items port peer e can found. single_put s items port peer found n single;
+  watches = λ at target sides port found e can there none. single;
+  shuts = λ at port e settled. single_shut s port single;
+  finishes = λ at bufs chain port fits e can out. single_finish s bufs port single;
+  leaves = λ session can. single;
+}
 
 pub single_entry : (s : Standing) (e : Entry) → Numbered s → Single s → Single (after s e)
-single_entry s e n single =
-    single_after s e (recorded_step s e.ask e.reply) single (recorded-by SingleNext s e.ask e.reply tt (single_step s e.ask n single))
+single_entry s e n single = after-by s Single e single (single_kinds s n single)

@@ -1,9 +1,8 @@
 -- The buffers that an entry brings to its session, each with the bytes of the frame in it; all its other
 -- bytes are zero.
-use Rattle.std.specs.Prelude.{ℕ, Bool, not, ◌&&◌, ◌==◌, ◌+◌, ◌-◌, if◌then◌else◌, List, [], ◌∷◌, ◌++◌, length, map, find, take, drop, slice_index, Option}
+use Rattle.std.specs.Prelude.{ℕ, ◌+◌, List, [], ◌++◌, length, map, take, drop}
 use Rattle.std.specs.Option.{option_map_or}
 use Rattle.std.specs.List.{zip}
-use Rattle.std.specs.Str.{bytes_eq}
 use Rattle.nm_types.specs.Frames.{Frame}
 use Rattle.nm_types.specs.OwnPorts.{Arrival}
 use Rattle.vale_entry.specs.declared.entry.Ask.{Ask}
@@ -12,7 +11,8 @@ use Rattle.vale_entry.specs.declared.entry.Reply.{Reply}
 use Rattle.vale_entry.specs.declared.entry.Reply.TheVariants.{Opened, Gave, Took}
 use Rattle.vale_entry.specs.World.{Port, open_port}
 use Rattle.vale_entry.specs.Delivery.{ready_lots, delivered_frames}
-use Rattle.vale_entry.specs.Holdings.{PortBuffers, delivered_buffers}
+use Rattle.vale_entry.specs.Holdings.{PortBuffers, delivered_buffers, first_idle}
+use Rattle.vale_entry.specs.Pipe.{peer_of}
 use Rattle.vale_entry.specs.Legal.{Standing}
 
 abbrev pub blank_arrival : ℕ → Arrival
@@ -31,30 +31,14 @@ abbrev pub given_arrivals : Standing → Port → List Arrival
 given_arrivals s port = map frame_arrival (zip (delivered_buffers port.id (length (ready_lots port)) s.holdings.ports) (delivered_frames port))
 
 -- a put: the first idle buffers of the other end, one for each frame taken
-abbrev pub other_brace : ℕ → ℕ
-other_brace brace = if brace == 123 then 125 else 123
-
-abbrev pub other_end_name : List ℕ → List ℕ
-other_end_name name = take (length name - 1) name ++ other_brace (slice_index name (length name - 1)) ∷ []
-
-abbrev pub idle_of : List PortBuffers → ℕ → List ℕ
-idle_of held id = option_map_or (λ (h : PortBuffers). h.idle) (find (λ (h : PortBuffers). h.port == id) held) []
-
 abbrev pub lent_arrivals : List PortBuffers → ℕ → ℕ → List Arrival
-lent_arrivals held id count = map blank_arrival (take count (idle_of held id))
+lent_arrivals held id count = map blank_arrival (first_idle id count held)
 
 abbrev pub given_at : Standing → ℕ → List Arrival
 given_at s id = option_map_or (given_arrivals s) (open_port s.world.ports id) []
 
-abbrev pub is_open_named : List ℕ → Port → Bool
-is_open_named name port = bytes_eq name port.name && not port.shutting
-
--- the open port that is the other end of this one
-abbrev pub other_end : Standing → Port → Option Port
-other_end s port = find (is_open_named (other_end_name port.name)) s.world.ports
-
 abbrev pub lent_to : Standing → ℕ → Port → List Arrival
-lent_to s count port = option_map_or (λ (peer : Port). lent_arrivals s.holdings.ports peer.id count) (other_end s port) []
+lent_to s count port = option_map_or (λ (peer : Port). lent_arrivals s.holdings.ports peer.id count) (peer_of s.world.ports port) []
 
 abbrev pub lent_at : Standing → ℕ → ℕ → List Arrival
 lent_at s id count = option_map_or (lent_to s count) (open_port s.world.ports id) []

@@ -1,14 +1,16 @@
--- What a history gave to a port, and what the port read: what each entry tells, in the order of entries.
-use Rattle.std.specs.Prelude.{ℕ, Bool, ◌==◌, if◌then◌else◌, List, [], ◌∷◌, ◌++◌, length, find, flat_map, Option, Some, None}
+-- What a history brought to a port, and what the port read: what each entry tells, in the order of
+-- entries.
+use Rattle.std.specs.Prelude.{ℕ, Bool, ◌==◌, ◌+◌, if◌then◌else◌, List, [], ◌∷◌, ◌++◌, length, find, flat_map, Option, Some, None}
 use Rattle.nm_types.specs.Frames.{Frame}
 use Rattle.vale_entry.specs.declared.entry.Ask.{Ask}
-use Rattle.vale_entry.specs.declared.entry.Ask.TheVariants.{Grant, Sync, Finish}
+use Rattle.vale_entry.specs.declared.entry.Ask.TheVariants.{Enter, Open, Send, Grant, Done, Sync, Reset, Shut, Finish, Leave, Put, PutKept, Get, Watch, Stat}
 use Rattle.vale_entry.specs.declared.entry.Reply.{Reply}
-use Rattle.vale_entry.specs.declared.entry.Reply.TheVariants.{Shared, Gave, Unread}
+use Rattle.vale_entry.specs.declared.entry.Reply.TheVariants.{Shared, Gave, Took, Unread}
 use Rattle.vale_entry.specs.declared.entry.Entry.{Entry}
 use Rattle.vale_entry.specs.World.{World, Port, Lot, Offer, open_port}
 use Rattle.vale_entry.specs.Grant.{first_offer, granted_frames}
 use Rattle.vale_entry.specs.Delivery.{frames_of_lot, delivered_frames}
+use Rattle.vale_entry.specs.Pipe.{puts_to_port, frames_of_items}
 use Rattle.vale_entry.specs.Legal.{Standing, after, fresh_standing}
 
 -- what each entry tells in the world before it, one entry after the other
@@ -36,49 +38,124 @@ frames_at frames (Some port) = frames port
 abbrev pub frames_of_line : List Lot → List Frame
 frames_of_line line = flat_map frames_of_lot line
 
--- the frames that a Grant gave, under the number of the entry whose frames they are
-pub record Granted : Type 0 where
+-- frames that were brought to a port, under the number of the entry whose frames they are
+pub record Brought : Type 0 where
   pub origin : ℕ
   pub frames : List Frame
 
-abbrev pub frames_of_granted : Granted → List Frame
-frames_of_granted granted = granted.frames
+abbrev pub frames_brought : Brought → List Frame
+frames_brought brought = brought.frames
 
-abbrev pub count_of_granted : Granted → ℕ
-count_of_granted granted = length granted.frames
+abbrev pub count_brought : Brought → ℕ
+count_brought brought = length brought.frames
 
 -- what the Grant of an offer gives
-abbrev pub granted_of_offer : World → Option Offer → List Granted
+abbrev pub granted_of_offer : World → Option Offer → List Brought
 granted_of_offer w None = []
 granted_of_offer w (Some offer) = (record { origin = offer.origin; frames = granted_frames w offer }) ∷ []
 
 -- what an ask grants to a port
-abbrev pub granted_by : ℕ → World → Ask → List Granted
+abbrev pub granted_by : ℕ → World → Ask → List Brought
+granted_by port w (Enter user) = []
+granted_by port w (Open session name tx rx extra) = []
+granted_by port w (Send from frames) = []
 granted_by port w (Grant origin to) = if to.0 == port then granted_of_offer w (first_offer w origin) else []
-granted_by port w _ = []
+granted_by port w (Done lease) = []
+granted_by port w (Sync at back) = []
+granted_by port w (Reset at side fault) = []
+granted_by port w (Shut at) = []
+granted_by port w (Finish at bufs chain) = []
+granted_by port w (Leave session) = []
+granted_by port w (Put at offered) = []
+granted_by port w (PutKept at offered) = []
+granted_by port w (Get at back) = []
+granted_by port w (Watch monitor target sides) = []
+granted_by port w (Stat at) = []
 
-abbrev pub granted_in : ℕ → World → Entry → List Granted
+abbrev pub granted_in : ℕ → World → Entry → List Brought
 granted_in port w entry = granted_by port w entry.ask
 
 -- the grants to a port
-abbrev pub grants_to : ℕ → List Entry → ℕ → List Granted
+abbrev pub grants_to : ℕ → List Entry → ℕ → List Brought
 grants_to pool history port = told (granted_in port) pool history
+
+-- what a Put of this number took
+abbrev pub taken_of : ℕ → Reply → List Brought
+taken_of number (Took items to) = (record { origin = number; frames = frames_of_items items }) ∷ []
+taken_of number _ = []
+
+-- what a Put brings to a port: what the port took as the other end
+abbrev pub put_by : ℕ → World → Ask → Reply → List Brought
+put_by port w (Enter user) reply = []
+put_by port w (Open session name tx rx extra) reply = []
+put_by port w (Send from frames) reply = []
+put_by port w (Grant origin to) reply = []
+put_by port w (Done lease) reply = []
+put_by port w (Sync at back) reply = []
+put_by port w (Reset at side fault) reply = []
+put_by port w (Shut at) reply = []
+put_by port w (Finish at bufs chain) reply = []
+put_by port w (Leave session) reply = []
+put_by port w (Put at offered) reply = []
+put_by port w (PutKept at offered) reply = if puts_to_port w.ports at.0 port then taken_of (w.entry_count + 1) reply else []
+put_by port w (Get at back) reply = []
+put_by port w (Watch monitor target sides) reply = []
+put_by port w (Stat at) reply = []
+
+abbrev pub put_in : ℕ → World → Entry → List Brought
+put_in port w entry = put_by port w entry.ask entry.reply
+
+-- what Puts brought to a port
+abbrev pub puts_to : ℕ → List Entry → ℕ → List Brought
+puts_to pool history port = told (put_in port) pool history
+
+-- what Grants and Puts brought to a port
+abbrev pub brought_in : ℕ → World → Entry → List Brought
+brought_in port w entry = granted_in port w entry ++ put_in port w entry
+
+abbrev pub brought_to : ℕ → List Entry → ℕ → List Brought
+brought_to pool history port = told (brought_in port) pool history
 
 -- the frames that were given to a port
 abbrev pub given_frames : ℕ → List Entry → ℕ → List Frame
-given_frames pool history port = flat_map frames_of_granted (grants_to pool history port)
+given_frames pool history port = flat_map frames_brought (brought_to pool history port)
 
 -- what an ask reads at a port
 abbrev pub read_by : ℕ → World → Ask → List Frame
+read_by port w (Enter user) = []
+read_by port w (Open session name tx rx extra) = []
+read_by port w (Send from frames) = []
+read_by port w (Grant origin to) = []
+read_by port w (Done lease) = []
 read_by port w (Sync at back) = if at.0 == port then frames_at delivered_frames (open_port w.ports at.0) else []
-read_by port w _ = []
+read_by port w (Reset at side fault) = []
+read_by port w (Shut at) = []
+read_by port w (Finish at bufs chain) = []
+read_by port w (Leave session) = []
+read_by port w (Put at offered) = []
+read_by port w (PutKept at offered) = []
+read_by port w (Get at back) = if at.0 == port then frames_at delivered_frames (open_port w.ports at.0) else []
+read_by port w (Watch monitor target sides) = []
+read_by port w (Stat at) = []
 
 abbrev pub read_in : ℕ → World → Entry → List Frame
 read_in port w entry = read_by port w entry.ask
 
--- the frames that a port's syncs gave
+-- the frames that a port's syncs and gets gave
 abbrev pub read_frames : ℕ → List Entry → ℕ → List Frame
 read_frames pool history port = told (read_in port) pool history
+
+-- how many buffers a port's syncs and gets brought back
+abbrev pub returned_by : ℕ → Ask → List ℕ
+returned_by port (Sync at back) = if at.0 == port then length back ∷ [] else []
+returned_by port (Get at back) = if at.0 == port then length back ∷ [] else []
+returned_by port _ = []
+
+abbrev pub returned_in : ℕ → Entry → List ℕ
+returned_in port entry = returned_by port entry.ask
+
+abbrev pub returned_counts : List Entry → ℕ → List ℕ
+returned_counts history port = flat_map (returned_in port) history
 
 -- what a Finish counts unread
 abbrev pub count_unread : Reply → List ℕ
@@ -92,38 +169,44 @@ unread_by port _ reply = []
 abbrev pub unread_in : ℕ → Entry → List ℕ
 unread_in port entry = unread_by port entry.ask entry.reply
 
--- how many frames nobody read, as the port's Finish counted them: none before it stands
+-- how many frames nobody read, as the port's Finish counted them: none before it is made
 abbrev pub unread_counts : List Entry → ℕ → List ℕ
 unread_counts history port = flat_map (unread_in port) history
 
--- how many frames a Grant gave, as its reply says
+-- how many frames a Grant gave, as its reply says, and how many a Put's other end took
 abbrev pub count_given : Reply → List ℕ
 count_given (Shared given full gone) = given ∷ []
 count_given _ = []
 
-abbrev pub given_by : ℕ → Ask → Reply → List ℕ
-given_by port (Grant origin to) reply = if to.0 == port then count_given reply else []
-given_by port _ reply = []
+abbrev pub count_taken : Reply → List ℕ
+count_taken (Took items to) = length items ∷ []
+count_taken _ = []
 
-abbrev pub given_in : ℕ → Entry → List ℕ
-given_in port entry = given_by port entry.ask entry.reply
+abbrev pub given_by : ℕ → World → Ask → Reply → List ℕ
+given_by port w (Grant origin to) reply = if to.0 == port then count_given reply else []
+given_by port w (PutKept at offered) reply = if puts_to_port w.ports at.0 port then count_taken reply else []
+given_by port w _ reply = []
 
--- the counts of the Grants to a port, one after the other
-abbrev pub given_counts : List Entry → ℕ → List ℕ
-given_counts history port = flat_map (given_in port) history
+abbrev pub given_in : ℕ → World → Entry → List ℕ
+given_in port w entry = given_by port w entry.ask entry.reply
 
--- how many frames a Sync gave, as its reply says
+-- the counts of the Grants and Puts to a port, one after the other
+abbrev pub given_counts : ℕ → List Entry → ℕ → List ℕ
+given_counts pool history port = told (given_in port) pool history
+
+-- how many frames a Sync or a Get gave, as its reply says
 abbrev pub count_gave : Reply → List ℕ
 count_gave (Gave count to) = count ∷ []
 count_gave _ = []
 
 abbrev pub gave_by : ℕ → Ask → Reply → List ℕ
 gave_by port (Sync at back) reply = if at.0 == port then count_gave reply else []
+gave_by port (Get at back) reply = if at.0 == port then count_gave reply else []
 gave_by port _ reply = []
 
 abbrev pub gave_in : ℕ → Entry → List ℕ
 gave_in port entry = gave_by port entry.ask entry.reply
 
--- the counts of a port's syncs, one after the other
+-- the counts of a port's syncs and gets, one after the other
 abbrev pub read_counts : List Entry → ℕ → List ℕ
 read_counts history port = flat_map (gave_in port) history

@@ -36,7 +36,7 @@ ready_lots port = take_while is_done_lot port.line
 abbrev pub frames_of_lot : Lot → List Frame
 frames_of_lot lot = lot.frames
 
--- the frames that a sync of the port gives
+-- the frames that a sync of the port gives, or a get
 abbrev pub delivered_frames : Port → List Frame
 delivered_frames port = flat_map frames_of_lot (ready_lots port)
 

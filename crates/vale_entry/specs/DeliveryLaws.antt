@@ -1,15 +1,15 @@
 -- Laws of delivery, as statements: what is given, read, dropped and counted in every legal history.
-use Rattle.std.specs.Prelude.{ℕ, true, false, ◌≡◌, ◌≢◌, ◌||◌, ◌+◌, ◌<◌, ◌≤◌, ◌⊎◌, min, List, [], ◌++◌, length, map, take, replicate, sum, flat_map, Option, Some, None}
+use Rattle.std.specs.Prelude.{ℕ, true, false, ◌≡◌, ◌≢◌, ◌||◌, ◌+◌, ◌<◌, ◌≤◌, ◌⊎◌, min, List, [], ◌∷◌, ◌++◌, length, map, take, replicate, sum, flat_map, Option, Some, None}
 use Rattle.std.specs.List.{AllByRecursion}
 use Rattle.nm_types.specs.Frames.{Frame, size_of_frames}
 use Rattle.vale_entry.specs.declared.entry.Entry.{Entry}
-use Rattle.vale_entry.specs.World.{Port, Pair, Offer, open_port, space_of}
+use Rattle.vale_entry.specs.World.{World, Port, Pair, Offer, open_port, space_of}
 use Rattle.vale_entry.specs.Learning.{is_short}
 use Rattle.vale_entry.specs.Lookup.{Named, named_frames, is_named, is_lone}
 use Rattle.vale_entry.specs.Legal.{world_of, standing_of, IsLegal, Follows}
 use Rattle.vale_entry.specs.Laws.{Rise}
-use Rattle.vale_entry.specs.Delivered.{port_at, frames_of_line, Granted, frames_of_granted, count_of_granted, grants_to, given_frames, given_counts, read_frames, read_counts, unread_counts}
-use Rattle.vale_entry.specs.Fate.{wanted_at, offers_at, Share, share_in, shares_at, granted_at, Fate, Pending, Given, Full, Gone, fates_at, given_prefix, entries_of, origin_of, grants_between}
+use Rattle.vale_entry.specs.Delivered.{port_at, frames_of_line, Brought, frames_brought, count_brought, grants_to, brought_to, given_frames, given_counts, read_frames, read_counts, returned_counts, unread_counts}
+use Rattle.vale_entry.specs.Fate.{wanted_at, offers_at, Share, share_in, shares_at, granted_at, puts_at, Fate, Pending, Given, Full, Gone, fates_at, given_of, entries_of, origin_of, brought_between}
 
 -- What was given to a port is what it read, and behind that a rest: the frames in its line while the
 -- port is there, and once it is gone as many as its one Finish counted.
@@ -25,13 +25,29 @@ abbrev pub ReadIsPrefixOfGiven : Type 0
 ReadIsPrefixOfGiven = (pool : ℕ) (history : List Entry) → IsLegal pool history → (port : ℕ)
     → IsReadInOrder (given_frames pool history port) (read_frames pool history port) (port_at (world_of pool history).ports port) (unread_counts history port)
 
--- What is granted to a port is, each time, a prefix of the frames of an entry that are wanted there.
-abbrev pub IsPrefixOfWanted : ℕ → List Entry → ℕ → Granted → Type 0
-IsPrefixOfWanted pool history port granted = (rest : List Frame) × (wanted_at pool history granted.origin port ≡ granted.frames ++ rest)
+-- What is brought to a port is, each time, a prefix of the frames of an entry that are wanted there, or
+-- the frames that a Put's other end took.
+abbrev pub IsPrefixOfWanted : ℕ → List Entry → ℕ → Brought → Type 0
+IsPrefixOfWanted pool history port brought = (rest : List Frame) × (wanted_at pool history brought.origin port ≡ brought.frames ++ rest)
+
+abbrev pub IsTaken : ℕ → List Entry → ℕ → Brought → Type 0
+IsTaken pool history port brought = puts_at pool history brought.origin port ≡ brought ∷ []
+
+abbrev pub IsBroughtFor : ℕ → List Entry → ℕ → Brought → Type 0
+IsBroughtFor pool history port brought = IsPrefixOfWanted pool history port brought ⊎ IsTaken pool history port brought
 
 abbrev pub GivenOnlyByWanted : Type 0
 GivenOnlyByWanted = (pool : ℕ) (history : List Entry) → IsLegal pool history → (port : ℕ)
-    → AllByRecursion (IsPrefixOfWanted pool history port) (grants_to pool history port)
+    → AllByRecursion (IsBroughtFor pool history port) (brought_to pool history port)
+
+-- What a Put brings to a port is not wanted there beside.
+pub record IsPutOnce (puts : List Brought) (wanted : List Frame) : Type 0 where
+  pub once : length puts ≤ 1
+  pub alone : (puts ≡ []) ⊎ (wanted ≡ [])
+
+abbrev pub PutsBringOnce : Type 0
+PutsBringOnce = (pool : ℕ) (history : List Entry) → IsLegal pool history → (number to : ℕ)
+    → IsPutOnce (puts_at pool history number to) (wanted_at pool history number to)
 
 -- A short frame, and a lone one, is named for no port of the switch.
 abbrev pub IsForNobody : List Port → Port → Named → Type 0
@@ -43,12 +59,12 @@ ShortAndLoneAreForNobody = (ports : List Port) (sender : Port) (pairs : List Pai
 
 -- The frames of an entry that are wanted at a port stand in one offer until one Grant shares them out:
 -- its reply counts each of them, for one cause at most, and those given are the first ones.
-pub record AreSharedOnce (wanted : List Frame) (offers : List Offer) (shares : List Share) (granted : List Granted) : Type 0 where
+pub record AreSharedOnce (wanted : List Frame) (offers : List Offer) (shares : List Share) (granted : List Brought) : Type 0 where
   pub once : length offers + length shares ≡ min 1 (length wanted)
   pub offered : AllByRecursion (λ offer. offer.frames ≡ wanted) offers
   pub counted : AllByRecursion (λ share. share.given + share.full + share.gone ≡ length wanted) shares
   pub one_cause : AllByRecursion (λ share. (share.full ≡ 0) ⊎ (share.gone ≡ 0)) shares
-  pub first_given : map frames_of_granted granted ≡ map (λ share. take share.given wanted) shares
+  pub first_given : map frames_brought granted ≡ map (λ share. take share.given wanted) shares
 
 abbrev pub WantedIsSharedOnce : Type 0
 WantedIsSharedOnce = (pool : ℕ) (history : List Entry) → IsLegal pool history → (number to : ℕ)
@@ -75,28 +91,34 @@ abbrev pub FramesAreDroppedForCause : Type 0
 FramesAreDroppedForCause = (pool : ℕ) (history : List Entry) (entry : Entry) → IsLegal pool history → Follows (standing_of pool history) entry → (number to : ℕ)
     → AllByRecursion (HasCause (open_port (world_of pool history).ports to) (wanted_at pool history number to)) (share_in number to entry)
 
--- The replies count what is given and read: each Grant its frames, and the Syncs of a port all that it read.
-pub record AreCounted (granted : List Granted) (given : List ℕ) (read : List Frame) (gave : List ℕ) : Type 0 where
-  pub given_counted : map count_of_granted granted ≡ given
+-- The replies count what is given and read: each Grant its frames, each Put those that were taken, and
+-- the Syncs and Gets of a port all that it read.
+pub record AreCounted (brought : List Brought) (given : List ℕ) (read : List Frame) (gave : List ℕ) : Type 0 where
+  pub given_counted : map count_brought brought ≡ given
   pub read_counted : length read ≡ sum gave
 
 abbrev pub RepliesCountFrames : Type 0
 RepliesCountFrames = (pool : ℕ) (history : List Entry) → IsLegal pool history → (port : ℕ)
-    → AreCounted (grants_to pool history port) (given_counts history port) (read_frames pool history port) (read_counts history port)
+    → AreCounted (brought_to pool history port) (given_counts pool history port) (read_frames pool history port) (read_counts history port)
+
+-- The buffers that are out at a port are those of the frames that it read, less those brought back.
+abbrev pub OutIsCounted : Type 0
+OutIsCounted = (pool : ℕ) (history : List Entry) → IsLegal pool history → (id : ℕ) (port : Port) → port_at (world_of pool history).ports id ≡ Some port
+    → port.out + sum (returned_counts history id) ≡ size_of_frames (read_frames pool history id)
 
 -- Once no session is left, no frame is pending.
 abbrev pub NothingIsPendingAtTheEnd : Type 0
 NothingIsPendingAtTheEnd = (pool : ℕ) (history : List Entry) → IsLegal pool history → (world_of pool history).sessions ≡ [] → (number to : ℕ)
     → AllByRecursion (λ fate. fate ≢ Pending) (fates_at pool history number to)
 
--- The entries that a port sent rise by number, and so do those of which something is granted to a port.
--- The frames granted are what was given of each entry, one entry after the other: a sender's frames
+-- The entries that a port sent rise by number, and so do those of which something is brought to a port.
+-- The frames brought are what was given of each entry, one entry after the other: a sender's frames
 -- keep their order.
-pub record AreInSenderOrder (count : ℕ) (numbers : List ℕ) (grants : List Granted) (given : ℕ → List Frame) : Type 0 where
+pub record AreInSenderOrder (count : ℕ) (numbers : List ℕ) (brought : List Brought) (given : ℕ → List Frame) : Type 0 where
   pub numbers_rise : Rise 0 numbers count
-  pub grants_rise : Rise 0 (map origin_of grants) count
-  pub one_after_another : flat_map frames_of_granted grants ≡ flat_map given numbers
+  pub brought_rises : Rise 0 (map origin_of brought) count
+  pub one_after_another : flat_map frames_brought brought ≡ flat_map given numbers
 
 abbrev pub SenderOrderIsKept : Type 0
 SenderOrderIsKept = (pool : ℕ) (history : List Entry) → IsLegal pool history → (from to : ℕ)
-    → AreInSenderOrder (length history) (entries_of pool history from) (grants_between pool history from to) (λ number. given_prefix pool history number to)
+    → AreInSenderOrder (length history) (entries_of pool history from) (brought_between pool history from to) (λ number. given_of pool history number to)

@@ -1,18 +1,19 @@
 -- What becomes of an entry's frames: the frames wanted at a port are pending until they are granted
 -- there; each is then given, or dropped and counted because the ring was full or the port gone.
-use Rattle.std.specs.Prelude.{ℕ, Bool, false, ◌&&◌, ◌==◌, ◌+◌, nat_lt, if◌then◌else◌, List, [], ◌∷◌, length, take, map, filter, flat_map, Option, Some, None}
+use Rattle.std.specs.Prelude.{ℕ, Bool, true, false, ◌&&◌, ◌==◌, ◌+◌, nat_lt, if◌then◌else◌, List, [], ◌∷◌, ◌++◌, length, take, map, filter, flat_map, Option, Some, None}
 use Rattle.std.specs.List.{range_with_len, list_any}
 use Rattle.nm_types.specs.Frames.{Frame}
 use Rattle.vale_entry.specs.declared.entry.Ask.{Ask}
-use Rattle.vale_entry.specs.declared.entry.Ask.TheVariants.{Send, Grant, Sync}
+use Rattle.vale_entry.specs.declared.entry.Ask.TheVariants.{Enter, Open, Send, Grant, Done, Sync, Reset, Shut, Finish, Leave, Put, PutKept, Get, Watch, Stat}
 use Rattle.vale_entry.specs.declared.entry.Reply.{Reply}
-use Rattle.vale_entry.specs.declared.entry.Reply.TheVariants.{Shared}
+use Rattle.vale_entry.specs.declared.entry.Reply.TheVariants.{Shared, Took}
 use Rattle.vale_entry.specs.declared.entry.Entry.{Entry}
 use Rattle.vale_entry.specs.World.{World, Port, Offer, open_port, transmit_monitor, receive_monitor}
 use Rattle.vale_entry.specs.Offers.{wanted_frames, monitored_frames}
 use Rattle.vale_entry.specs.Delivery.{delivered_frames}
-use Rattle.vale_entry.specs.Legal.{named_of}
-use Rattle.vale_entry.specs.Delivered.{told, port_at, frames_at, Granted, grants_to}
+use Rattle.vale_entry.specs.Pipe.{frames_of_items}
+use Rattle.vale_entry.specs.Legal.{named_of, kept_items}
+use Rattle.vale_entry.specs.Delivered.{told, port_at, frames_at, Brought, frames_brought, grants_to, puts_to, brought_to}
 
 -- the frames of a Send that are wanted at a port
 abbrev pub wanted_of_send : World → List Frame → ℕ → Option Port → List Frame
@@ -20,20 +21,37 @@ wanted_of_send w frames to None = []
 wanted_of_send w frames to (Some sender) =
     frames_at (wanted_frames sender (transmit_monitor w sender.id) (named_of w sender frames)) (port_at w.ports to)
 
--- the frames that a Sync gave, wanted at the monitor of the port's receive side
+-- the frames that a Sync or a Get gave, wanted at the monitor of the port's receive side
 abbrev pub wanted_of_sync : World → ℕ → Option Port → List Frame
 wanted_of_sync w to None = []
 wanted_of_sync w to (Some reader) = frames_at (monitored_frames (receive_monitor w reader.id) (delivered_frames reader)) (port_at w.ports to)
 
--- the frames of an ask that are wanted at a port, by the world before it
-abbrev pub wanted_by : World → Ask → ℕ → List Frame
-wanted_by w (Send from frames) to = wanted_of_send w frames to (open_port w.ports from.0)
-wanted_by w (Sync at back) to = wanted_of_sync w to (open_port w.ports at.0)
-wanted_by w _ to = []
+-- the frames that a Put's other end took, wanted at the monitor of the port's transmit side
+abbrev pub wanted_of_put : World → List Frame → ℕ → Option Port → List Frame
+wanted_of_put w frames to None = []
+wanted_of_put w frames to (Some sender) = frames_at (monitored_frames (transmit_monitor w sender.id) frames) (port_at w.ports to)
+
+-- the frames of an entry that are wanted at a port, by the world before it
+abbrev pub wanted_by : World → Ask → Reply → ℕ → List Frame
+wanted_by w (Enter user) reply to = []
+wanted_by w (Open session name tx rx extra) reply to = []
+wanted_by w (Send from frames) reply to = wanted_of_send w frames to (open_port w.ports from.0)
+wanted_by w (Grant origin at) reply to = []
+wanted_by w (Done lease) reply to = []
+wanted_by w (Sync at back) reply to = wanted_of_sync w to (open_port w.ports at.0)
+wanted_by w (Reset at side fault) reply to = []
+wanted_by w (Shut at) reply to = []
+wanted_by w (Finish at bufs chain) reply to = []
+wanted_by w (Leave session) reply to = []
+wanted_by w (Put at offered) reply to = []
+wanted_by w (PutKept from offered) reply to = wanted_of_put w (frames_of_items (kept_items reply)) to (open_port w.ports from.0)
+wanted_by w (Get at back) reply to = wanted_of_sync w to (open_port w.ports at.0)
+wanted_by w (Watch monitor target sides) reply to = []
+wanted_by w (Stat at) reply to = []
 
 -- the same where the entry bears this number
 abbrev pub wanted_in : ℕ → ℕ → World → Entry → List Frame
-wanted_in number to w entry = if w.entry_count + 1 == number then wanted_by w entry.ask to else []
+wanted_in number to w entry = if w.entry_count + 1 == number then wanted_by w entry.ask entry.reply to else []
 
 -- the frames of the entry of this number that are wanted at a port
 abbrev pub wanted_at : ℕ → List Entry → ℕ → ℕ → List Frame
@@ -68,12 +86,15 @@ share_in number to entry = share_by number to entry.ask entry.reply
 abbrev pub shares_at : List Entry → ℕ → ℕ → List Share
 shares_at history number to = flat_map (share_in number to) history
 
--- what was granted to this port of this entry
-abbrev pub is_granted_of : ℕ → Granted → Bool
-is_granted_of number granted = granted.origin == number
+-- what was granted to this port of this entry, and what its Put brought there
+abbrev pub is_brought_of : ℕ → Brought → Bool
+is_brought_of number brought = brought.origin == number
 
-abbrev pub granted_at : ℕ → List Entry → ℕ → ℕ → List Granted
-granted_at pool history number to = filter (is_granted_of number) (grants_to pool history to)
+abbrev pub granted_at : ℕ → List Entry → ℕ → ℕ → List Brought
+granted_at pool history number to = filter (is_brought_of number) (grants_to pool history to)
+
+abbrev pub puts_at : ℕ → List Entry → ℕ → ℕ → List Brought
+puts_at pool history number to = filter (is_brought_of number) (puts_to pool history to)
 
 -- what became of a frame
 pub data Fate : Type 0 where
@@ -104,27 +125,49 @@ given_count (share ∷ shares) = share.given
 abbrev pub given_prefix : ℕ → List Entry → ℕ → ℕ → List Frame
 given_prefix pool history number to = take (given_count (shares_at history number to)) (wanted_at pool history number to)
 
--- whether an ask's frames come from this port
-abbrev pub is_sent_by : ℕ → Ask → Bool
-is_sent_by port (Send from frames) = from.0 == port
-is_sent_by port (Sync at back) = at.0 == port
-is_sent_by port _ = false
+-- the frames of an entry that a port was given: those that it took where they were put to it, and else
+-- the first of those wanted there
+abbrev pub given_of : ℕ → List Entry → ℕ → ℕ → List Frame
+given_of pool history number to = flat_map frames_brought (puts_at pool history number to) ++ given_prefix pool history number to
+
+-- whether a Put found its other end open, so that it sent what was taken
+abbrev pub was_taken : Reply → Bool
+was_taken (Took items to) = true
+was_taken _ = false
+
+-- whether an entry's frames come from this port
+abbrev pub is_sent_by : ℕ → Ask → Reply → Bool
+is_sent_by port (Enter user) reply = false
+is_sent_by port (Open session name tx rx extra) reply = false
+is_sent_by port (Send from frames) reply = from.0 == port
+is_sent_by port (Grant origin to) reply = false
+is_sent_by port (Done lease) reply = false
+is_sent_by port (Sync at back) reply = at.0 == port
+is_sent_by port (Reset at side fault) reply = false
+is_sent_by port (Shut at) reply = false
+is_sent_by port (Finish at bufs chain) reply = false
+is_sent_by port (Leave session) reply = false
+is_sent_by port (Put at offered) reply = false
+is_sent_by port (PutKept at offered) reply = (at.0 == port) && was_taken reply
+is_sent_by port (Get at back) reply = at.0 == port
+is_sent_by port (Watch monitor target sides) reply = false
+is_sent_by port (Stat at) reply = false
 
 -- the number of an entry whose frames come from a port
 abbrev pub numbers_in : ℕ → World → Entry → List ℕ
-numbers_in port w entry = if is_sent_by port entry.ask then (w.entry_count + 1) ∷ [] else []
+numbers_in port w entry = if is_sent_by port entry.ask entry.reply then (w.entry_count + 1) ∷ [] else []
 
 -- the entries whose frames come from a port, by rising number
 abbrev pub entries_of : ℕ → List Entry → ℕ → List ℕ
 entries_of pool history port = told (numbers_in port) pool history
 
--- granted of one of these entries
-abbrev pub is_among : List ℕ → Granted → Bool
-is_among numbers granted = list_any (λ number. number == granted.origin) numbers
+-- brought of one of these entries
+abbrev pub is_among : List ℕ → Brought → Bool
+is_among numbers brought = list_any (λ number. number == brought.origin) numbers
 
-abbrev pub origin_of : Granted → ℕ
-origin_of granted = granted.origin
+abbrev pub origin_of : Brought → ℕ
+origin_of brought = brought.origin
 
--- the grants to a port of what came from another
-abbrev pub grants_between : ℕ → List Entry → ℕ → ℕ → List Granted
-grants_between pool history from to = filter (is_among (entries_of pool history from)) (grants_to pool history to)
+-- what was brought to a port of what came from another
+abbrev pub brought_between : ℕ → List Entry → ℕ → ℕ → List Brought
+brought_between pool history from to = filter (is_among (entries_of pool history from)) (brought_to pool history to)

@@ -1,5 +1,5 @@
 -- A grant: an offer's frames, as many from the front as there is room for, become a lot of the port.
-use Rattle.std.specs.Prelude.{ℕ, false, ◌+◌, ◌-◌, nat_le, if◌then◌else◌, List, [], ◌∷◌, ◌++◌, length, find, Option, Some, None}
+use Rattle.std.specs.Prelude.{ℕ, Bool, false, ◌+◌, ◌-◌, nat_le, if◌then◌else◌, List, [], ◌∷◌, ◌++◌, length, find, Option, Some, None}
 use Rattle.nm_types.specs.Frames.{Frame, slots_of}
 use Rattle.vale_entry.specs.declared.entry.Reply.{Reply}
 use Rattle.vale_entry.specs.declared.entry.Reply.TheVariants.{Shared}
@@ -27,12 +27,12 @@ abbrev pub grant_reply : World → Offer → Reply
 grant_reply w offer = grant_reply_at (open_port w.ports offer.to) offer.frames
 
 -- the line of a port with one more lot, if that has frames
-abbrev pub with_lot : ℕ → ℕ → List Frame → List Lot → List Lot
-with_lot number session [] line = line
-with_lot number session (frame ∷ frames) line = line ++ (record { number = number; session = session; frames = frame ∷ frames; is_done = false }) ∷ []
+abbrev pub with_lot : ℕ → ℕ → Bool → List Frame → List Lot → List Lot
+with_lot number session done [] line = line
+with_lot number session done (frame ∷ frames) line = line ++ (record { number = number; session = session; frames = frame ∷ frames; is_done = done }) ∷ []
 
 abbrev pub port_after_grant : ℕ → ℕ → List Frame → Port → Port
-port_after_grant number session frames port = record port { line = with_lot number session frames port.line }
+port_after_grant number session frames port = record port { line = with_lot number session false frames port.line }
 
 abbrev pub first_offer : World → ℕ → Option Offer
 first_offer w origin = find (is_offer_of origin) w.offers

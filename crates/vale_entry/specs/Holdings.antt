@@ -73,7 +73,7 @@ with_lot_buffers size held = if size == 0 then held else record held { idle = dr
 abbrev pub holdings_after_grant : ℕ → ℕ → Holdings → Holdings
 holdings_after_grant port size x = record x { ports = changed_buffers port (with_lot_buffers size) x.ports }
 
--- Sync: the buffers of the lots given to the session, and those that it brings to the end of idle
+-- Sync and Get: the buffers of the lots given to the session, and those that it brings to the end of idle
 abbrev pub delivered_buffers : ℕ → ℕ → List PortBuffers → List ℕ
 delivered_buffers port lots [] = []
 delivered_buffers port lots (held ∷ others) = if held.port == port then concat_of (take lots held.lots) else delivered_buffers port lots others
@@ -88,6 +88,21 @@ abbrev pub holdings_after_sync : ℕ → ℕ → ℕ → List ℕ → Holdings �
 holdings_after_sync port session lots back x = record x {
   ports = changed_buffers port (with_returned lots back) x.ports;
   sessions = sessions_given session (delivered_buffers port lots x.ports) (sessions_less session back x.sessions);
+}
+
+-- Put: the buffers of the frames taken to the other end's new lot, and as many of its first idle ones
+-- to the session in their place
+abbrev pub with_put_buffers : List ℕ → PortBuffers → PortBuffers
+with_put_buffers taken held = if length taken == 0 then held else record held { idle = drop (length taken) held.idle; lots = held.lots ++ taken ∷ [] }
+
+abbrev pub first_idle : ℕ → ℕ → List PortBuffers → List ℕ
+first_idle port count [] = []
+first_idle port count (held ∷ others) = if held.port == port then take count held.idle else first_idle port count others
+
+abbrev pub holdings_after_put : ℕ → ℕ → List ℕ → Holdings → Holdings
+holdings_after_put port session taken x = record x {
+  ports = changed_buffers port (with_put_buffers taken) x.ports;
+  sessions = sessions_given session (first_idle port (length taken) x.ports) (sessions_less session taken x.sessions);
 }
 
 -- Finish: the port's buffers and those that its session brings back are free again, each at its place

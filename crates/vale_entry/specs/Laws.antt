@@ -1,16 +1,21 @@
 -- Laws of histories, as statements: what holds after every history, or after every legal one.
 use Rattle.vale_entry.specs.declared.entry.Entry.{Entry}
-use Rattle.vale_entry.specs.Legal.{world_of, holdings_of, standing_of, IsLegal, Follows}
-use Rattle.vale_entry.specs.Room.{promised_of, room_wanted, room_used}
+use Rattle.vale_entry.specs.Legal.{Standing, Outcome, step, reply_to, kept_ask, is_enabled, world_of, holdings_of, standing_of, recorded_step, IsLegal, Follows}
+use Rattle.nm_types.specs.declared.id.PortId.{PortId}
+use Rattle.nm_types.specs.declared.id.Chain.{Chain}
+use Rattle.vale_entry.specs.Closing.{leases_out, shutting_port}
+use Rattle.vale_entry.specs.Room.{promised_of, room_used}
 use Rattle.vale_entry.specs.declared.entry.Reply.TheVariants.{Made, Opened, Refused, Offered, Shared, Gave, Took, PeerGone, Unread, LeasesOut, Watching, NoTarget, Watched, Counted}
 use Rattle.vale_entry.specs.declared.entry.Reply.{Reply}
 use Rattle.vale_entry.specs.declared.entry.Ask.{Ask}
-use Rattle.nm_types.specs.Names.{IsName}
-use Rattle.vale_entry.specs.declared.entry.Ask.TheVariants.{Open}
+use Rattle.vale_entry.specs.declared.entry.Ask.TheVariants.{Finish, Put}
+use Rattle.vale_entry.specs.declared.entry.Item.{Item}
 use Rattle.vale_entry.specs.Transcript.{IsPrintable}
-use Rattle.std.specs.Prelude.{ℕ, true, ◌==◌, ◌≡◌, ◌+◌, ◌<◌, ◌≤◌, List, [], ◌∷◌, map, length, sum_by, count_by, Bool, if◌then◌else◌, All, ◌++◌, take, drop}
+use Rattle.std.specs.Prelude.{ℕ, true, false, ◌&&◌, ◌==◌, ◌≡◌, ◌+◌, ◌<◌, ◌≤◌, List, [], ◌∷◌, Some, map, length, sum_by, count_by, Bool, if◌then◌else◌, All, ◌++◌, take, drop, is_some, Option, bytes_eq}
 use Rattle.std.specs.List.{list_any, AllByRecursion}
-use Rattle.vale_entry.specs.World.{Port, Lot, Offer, World, size_of_line, buffers_of, due_of, space_of, free_count}
+use Rattle.nm_types.specs.Names.{is_monitor_name}
+use Rattle.vale_entry.specs.Monitors.{is_watch_at}
+use Rattle.vale_entry.specs.World.{Port, Lot, Offer, Watch as Watcher, World, is_open_at, size_of_line, buffers_of, due_of, space_of, free_count}
 use Rattle.vale_entry.specs.Holdings.{PortBuffers, SessionBuffers, Holdings, IsParted, Agrees}
 
 -- the numbers rise strictly; all are above the first bound, and none is above the second
@@ -88,6 +93,40 @@ bears_number number lot = lot.number == number
 abbrev pub AreSingle : List Port → Type 0
 AreSingle ports = (number : ℕ) → sum_by (λ (port : Port). count_by (bears_number number) port.line) ports ≤ 1
 
+-- an open port of this id, and one with a monitor's name
+abbrev pub is_monitor_open : ℕ → Port → Bool
+is_monitor_open id port = is_open_at id port && is_monitor_name port.name
+
+-- both ends of a watch are open, and the one that watches is a monitor's port
+pub record IsWatch (ports : List Port) (watch : Watcher) : Type 0 where
+  pub monitor : list_any (is_monitor_open watch.monitor) ports ≡ true
+  pub target : list_any (is_open_at watch.target) ports ≡ true
+
+-- and a port has one monitor at most
+pub record AreWatches (ports : List Port) (watches : List Watcher) : Type 0 where
+  pub each : AllByRecursion (IsWatch ports) watches
+  pub once : (target : ℕ) → count_by (is_watch_at target) watches ≤ 1
+
+-- no two ports bear one name
+abbrev pub IsNamedApart : Port → Port → Type 0
+IsNamedApart port other = bytes_eq port.name other.name ≡ false
+
+abbrev pub AreNamedApart : List Port → Type 0
+AreNamedApart [] = Unit {0}
+AreNamedApart (port ∷ ports) = AllByRecursion (IsNamedApart port) ports × AreNamedApart ports
+
+-- offers stand in the order of the entries that made them
+abbrev pub Climb : ℕ → List Offer → Type 0
+Climb low [] = Unit {0}
+Climb low (offer ∷ offers) = (low ≤ offer.origin) × Climb offer.origin offers
+
+-- a port that waits is there and shutting, and has leases out, so many as are told
+pub record IsWaiting (found : Option Port) (n : ℕ) : Type 0 where
+  pub port : Port
+  pub found_is : found ≡ Some port
+  pub some : 0 < n
+  pub counted : n ≡ leases_out port
+
 -- all offers of a session that are not granted are of one entry
 abbrev pub OffersAreOfOneEntry : List Offer → Type 0
 OffersAreOfOneEntry offers = (session : ℕ) → (origin : ℕ) × AllByRecursion (λ (offer : Offer). offer.session ≡ session → offer.origin ≡ origin) offers
@@ -109,9 +148,9 @@ room_back NoTarget = 0
 room_back (Watched by) = 0
 room_back (Counted counts) = 0
 
--- an entry takes one of those promised before or wanted by its ask, and leaves the others promised
-abbrev pub IsPromised : World → World → Ask → Reply → Type 0
-IsPromised before left ask reply = promised_of left + 1 + room_back reply ≡ promised_of before + room_wanted ask reply
+-- an entry takes one of those promised before or wanted by its step, and leaves the others promised
+abbrev pub IsPromised : World → World → Outcome → Type 0
+IsPromised before left made = promised_of left + 1 + room_back made.reply ≡ promised_of before + made.want
 
 -- Each port is within its sizes: no lot is empty, one slot beside what is out and queued stays with the
 -- kernel side, and its session's dues, its idle buffers and its lots' are all the buffers that it has.
@@ -135,15 +174,16 @@ abbrev pub ArePrintable : ℕ → List Entry → Type 0
 ArePrintable number [] = Unit {0}
 ArePrintable number (entry ∷ entries) = IsPrintable number entry × ArePrintable (number + 1) entries
 
--- a port is opened under a name
-abbrev pub IsNamedAsk : Ask → Type 0
-IsNamedAsk (Open asked name tx rx extra) = IsName name
-IsNamedAsk _ = Unit {0}
-
-abbrev pub IsNamedEntry : Entry → Type 0
-IsNamedEntry entry = IsNamedAsk entry.ask
-
 -- The laws.
+
+-- the table of enabled asks says which asks are answered
+abbrev pub AsksAreAnswered : Type 0
+AsksAreAnswered = (s : Standing) (ask : Ask) → is_enabled s ask ≡ is_some (reply_to s ask)
+
+-- what a Put makes is what its entry records
+abbrev pub PutsAreKept : Type 0
+PutsAreKept = (s : Standing) (port : PortId) (offered : List Item) (made : Outcome) → step s (Put port offered) ≡ Some made
+    → recorded_step s (kept_ask (Put port offered)) made.reply ≡ Some made
 
 abbrev pub NumbersRise : Type 0
 NumbersRise =
@@ -164,16 +204,35 @@ HoldingsAgree = (pool : ℕ) (history : List Entry) → IsLegal pool history →
 abbrev pub SessionsHaveOneUnsettled : Type 0
 SessionsHaveOneUnsettled = (pool : ℕ) (history : List Entry) → IsLegal pool history → OffersAreOfOneEntry (world_of pool history).offers
 
--- an entry's own place and those that it leaves promised are those promised before and those that it wants
-abbrev pub RoomIsPromised : Type 0
-RoomIsPromised = (pool : ℕ) (history : List Entry) (entry : Entry) → IsLegal pool history → Follows (standing_of pool history) entry
-    → IsPromised (world_of pool history) (world_of pool (history ++ entry ∷ [])) entry.ask entry.reply
+abbrev pub FinishWaitsForLeases : Type 0
+FinishWaitsForLeases = (s : Standing) (port : PortId) (bufs : List ℕ) (chain : Chain) (n : ℕ) → reply_to s (Finish port bufs chain) ≡ Some (LeasesOut n)
+    → IsWaiting (shutting_port s.world.ports port.0) n
 
--- so a history uses, entries stored and promised, what its entries have wanted less what came back
+abbrev pub NamesDiffer : Type 0
+NamesDiffer = (pool : ℕ) (history : List Entry) → IsLegal pool history → AreNamedApart (world_of pool history).ports
+
+abbrev pub OffersClimb : Type 0
+OffersClimb = (pool : ℕ) (history : List Entry) → IsLegal pool history → Climb 0 (world_of pool history).offers
+
+abbrev pub WatchesAreOpen : Type 0
+WatchesAreOpen = (pool : ℕ) (history : List Entry) → IsLegal pool history → AreWatches (world_of pool history).ports (world_of pool history).watches
+
+abbrev pub LotsAreSingle : Type 0
+LotsAreSingle = (pool : ℕ) (history : List Entry) → IsLegal pool history → AreSingle (world_of pool history).ports
+
+-- an entry's own place and those that it leaves promised are those promised before and those that its
+-- step wants
+abbrev pub RoomIsPromised : Type 0
+RoomIsPromised = (pool : ℕ) (history : List Entry) (entry : Entry) (made : Outcome) → IsLegal pool history → Follows (standing_of pool history) entry
+    → recorded_step (standing_of pool history) entry.ask entry.reply ≡ Some made
+    → IsPromised (world_of pool history) (world_of pool (history ++ entry ∷ [])) made
+
+-- so a history uses, entries stored and promised, what its steps have wanted less what came back
 abbrev pub RoomIsUsed : Type 0
-RoomIsUsed = (pool : ℕ) (history : List Entry) (entry : Entry) → IsLegal pool history → Follows (standing_of pool history) entry
-    → room_used pool (history ++ entry ∷ []) + room_back entry.reply ≡ room_used pool history + room_wanted entry.ask entry.reply
+RoomIsUsed = (pool : ℕ) (history : List Entry) (entry : Entry) (made : Outcome) → IsLegal pool history → Follows (standing_of pool history) entry
+    → recorded_step (standing_of pool history) entry.ask entry.reply ≡ Some made
+    → room_used pool (history ++ entry ∷ []) + room_back made.reply ≡ room_used pool history + made.want
 
 -- each entry of a legal history is printable at its number
 abbrev pub LegalHistoriesArePrintable : Type 0
-LegalHistoriesArePrintable = (pool : ℕ) (history : List Entry) → IsLegal pool history → AllByRecursion IsNamedEntry history → ArePrintable 1 history
+LegalHistoriesArePrintable = (pool : ℕ) (history : List Entry) → IsLegal pool history → ArePrintable 1 history

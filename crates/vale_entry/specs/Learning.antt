@@ -2,6 +2,7 @@
 -- pair is never removed. A newer pair hides all older ones of its bucket, also where its port is no
 -- longer open, so nothing older comes back.
 use Rattle.std.specs.Prelude.{ℕ, Bool, not, ◌&&◌, ◌==◌, ◌+◌, ◌*◌, ◌%◌, nat_lt, if◌then◌else◌, List, ◌∷◌, length, take, drop, find, fold, Option, Some, None, slice_index, bit_xor, bytes_eq}
+pub use Rattle.nm_types.specs.Addresses.{bucket_of}
 use Rattle.nm_types.specs.Frames.{Frame}
 use Rattle.nm_types.specs.Names.{switch_of}
 use Rattle.vale_entry.specs.World.{Port, Pair, is_open}
@@ -19,13 +20,6 @@ source_address frame = take 6 (drop 6 frame.bytes)
 -- the lowest bit of the first byte tells a group address
 abbrev pub is_group : List ℕ → Bool
 is_group address = slice_index address 0 % 2 == 1
-
-abbrev pub half_at : List ℕ → ℕ → ℕ
-half_at address i = 256 * slice_index address i + slice_index address (i + 1)
-
--- the xor of the three halves of 16 bits, in 1024 buckets
-abbrev pub bucket_of : List ℕ → ℕ
-bucket_of address = bit_xor (bit_xor (half_at address 0) (half_at address 2)) (half_at address 4) % 1024
 
 abbrev pub is_learnable : Frame → Bool
 is_learnable frame = not (is_short frame) && (not (is_group (source_address frame)) && not frame.no_learn)

@@ -6,6 +6,9 @@ pub mod Grant
 pub mod Delivery
 pub mod Opening
 pub mod Closing
+pub mod Monitors
+pub mod Pipe
+pub mod Counters
 pub mod Holdings
 pub mod Legal
 pub mod Room

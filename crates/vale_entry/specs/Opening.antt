@@ -1,17 +1,12 @@
 -- Opening a port, and why it is refused: the first of these that holds.
 use Rattle.std.specs.Prelude.{ℕ, Bool, false, not, ◌&&◌, ◌||◌, ◌==◌, ◌+◌, nat_le, nat_lt, if◌then◌else◌, List, [], ◌∷◌, ◌++◌, length, count_by, Option, Some, None, bytes_eq}
 use Rattle.std.specs.List.{list_any}
+pub use Rattle.nm_types.specs.Openings.{is_ring_size, are_sizes}
+use Rattle.nm_types.specs.Limits.{most_switches, most_switch_ports, most_pipe_ends, most_monitors}
 use Rattle.nm_types.specs.Names.{switch_of, is_switch_port_name, is_pipe_name, is_monitor_name}
 use Rattle.nm_types.specs.declared.fault.OpenFault.{OpenFault}
 use Rattle.nm_types.specs.declared.fault.OpenFault.TheVariants.{BadSize, SwitchesFull, PortsFull, NameTaken, NoBuffers}
 use Rattle.vale_entry.specs.World.{Port, World, free_count}
-
-abbrev pub is_ring_size : ℕ → Bool
-is_ring_size n = nat_le 2 n && nat_le n 1024
-
--- a monitor has no transmit ring
-abbrev pub are_sizes : List ℕ → ℕ → ℕ → ℕ → Bool
-are_sizes name tx rx extra = (if is_monitor_name name then tx == 0 else is_ring_size tx) && (is_ring_size rx && nat_le extra 1024)
 
 -- a port of the same switch; open ports and shutting ones count
 abbrev pub is_on_switch : List ℕ → Port → Bool
@@ -24,7 +19,7 @@ switches_of (port ∷ ports) = if is_switch_port_name port.name && not (list_any
 
 -- the name is on a switch that has no port, while four switches have one
 abbrev pub finds_switches_full : List Port → List ℕ → Bool
-finds_switches_full ports name = is_switch_port_name name && (not (list_any (is_on_switch (switch_of name)) ports) && nat_le 4 (length (switches_of ports)))
+finds_switches_full ports name = is_switch_port_name name && (not (list_any (is_on_switch (switch_of name)) ports) && nat_le most_switches (length (switches_of ports)))
 
 abbrev pub has_pipe_name : Port → Bool
 has_pipe_name port = is_pipe_name port.name
@@ -34,9 +29,9 @@ has_monitor_name port = is_monitor_name port.name
 
 abbrev pub finds_ports_full : List Port → List ℕ → Bool
 finds_ports_full ports name =
-    (is_switch_port_name name && nat_le 16 (count_by (is_on_switch (switch_of name)) ports))
-    || ((is_pipe_name name && nat_le 32 (count_by has_pipe_name ports))
-    || (is_monitor_name name && nat_le 32 (count_by has_monitor_name ports)))
+    (is_switch_port_name name && nat_le most_switch_ports (count_by (is_on_switch (switch_of name)) ports))
+    || ((is_pipe_name name && nat_le most_pipe_ends (count_by has_pipe_name ports))
+    || (is_monitor_name name && nat_le most_monitors (count_by has_monitor_name ports)))
 
 abbrev pub has_name : List ℕ → Port → Bool
 has_name name port = bytes_eq port.name name

@@ -8,7 +8,8 @@ use Rattle.vale_entry.specs.declared.entry.Reply.TheVariants.{Made, Opened, Refu
 use Rattle.vale_entry.specs.declared.entry.Entry.{Entry}
 use Rattle.vale_entry.specs.declared.entry.Ask.TheVariants.{Enter, Open, Grant, Done, Sync, Reset, Shut, Finish, Leave, Put, PutKept, Get, Watch, Stat}
 use Rattle.vale_entry.specs.World.{World, Port, is_undone}
-use Rattle.vale_entry.specs.Legal.{world_of}
+use Rattle.vale_entry.specs.Pipe.{frames_of_items}
+use Rattle.vale_entry.specs.Legal.{world_of, kept_items}
 
 -- a port owes its Shut, where it is open, and its Finish
 abbrev pub owed_by_port : Port → ℕ
@@ -26,7 +27,8 @@ undone_of port = count_by is_undone port.line
 abbrev pub promised_of : World → ℕ
 promised_of w = length w.sessions + sum_by owed_by_port w.ports + 2 * length w.offers + sum_by undone_of w.ports
 
--- the bytes of frames that an entry keeps: those of the frames sent
+-- the bytes of frames that an entry keeps: those of the frames sent, and of those that a Put's other end
+-- took
 abbrev pub bytes_of : Ask → Reply → ℕ
 bytes_of (Enter user) reply = 0
 bytes_of (Open session name tx rx extra) reply = 0
@@ -38,8 +40,8 @@ bytes_of (Reset port side fault) reply = 0
 bytes_of (Shut port) reply = 0
 bytes_of (Finish port bufs chain) reply = 0
 bytes_of (Leave session) reply = 0
-bytes_of (Put port offered) reply = 0
-bytes_of (PutKept port offered) reply = 0
+bytes_of (Put port offered) reply = bytes_of_frames (frames_of_items (kept_items reply))
+bytes_of (PutKept port offered) reply = bytes_of_frames (frames_of_items (kept_items reply))
 bytes_of (Get port back) reply = 0
 bytes_of (Watch monitor target sides) reply = 0
 bytes_of (Stat port) reply = 0
@@ -53,7 +55,8 @@ frame_bytes entries = sum_by bytes_of_entry entries
 abbrev pub room_used : ℕ → List Entry → ℕ
 room_used pool history = length history + promised_of (world_of pool history)
 
--- what a reply's destinations want: each a Grant and a Done
+-- what an entry with this reply wants that was not promised: its own place, and a Grant and a Done for
+-- each destination
 abbrev pub room_of_reply : Reply → ℕ
 room_of_reply Made = 1
 room_of_reply Opened = 3
@@ -69,22 +72,3 @@ room_of_reply (Watching target) = 1
 room_of_reply NoTarget = 1
 room_of_reply (Watched by) = 1
 room_of_reply (Counted counts) = 1
-
--- the entries that a step takes or promises beyond those that were promised before: a Grant, a Done, a
--- Shut, a Finish and a Leave were
-abbrev pub room_wanted : Ask → Reply → ℕ
-room_wanted (Enter user) reply = 2
-room_wanted (Open session name tx rx extra) reply = room_of_reply reply
-room_wanted (Send port frames) reply = room_of_reply reply
-room_wanted (Grant origin to) reply = 0
-room_wanted (Done lease) reply = 0
-room_wanted (Sync port back) reply = room_of_reply reply
-room_wanted (Reset port side fault) reply = 1
-room_wanted (Shut port) reply = 0
-room_wanted (Finish port bufs chain) reply = 0
-room_wanted (Leave session) reply = 0
-room_wanted (Put port offered) reply = room_of_reply reply
-room_wanted (PutKept port offered) reply = room_of_reply reply
-room_wanted (Get port back) reply = room_of_reply reply
-room_wanted (Watch monitor target sides) reply = 1
-room_wanted (Stat port) reply = 1

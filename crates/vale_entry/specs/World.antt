@@ -1,12 +1,15 @@
 -- The world of a history: the sessions that are there, the ports with what is queued at each, what
--- the switches have learned, who watches whom, and the offers not yet granted. It has no buffers.
+-- the switches have learned, who watches whom, the offers not yet granted, and what ports have counted.
+-- It has no buffers.
 use Rattle.std.specs.Prelude.{ℕ, Bool, true, false, not, ◌&&◌, ◌==◌, ◌+◌, ◌-◌, List, [], map, find, Option, Some, None, is_some, sum_by}
 use Rattle.std.specs.List.{list_any}
+use Rattle.nm_types.specs.declared.id.Counts.{Counts}
 use Rattle.nm_types.specs.declared.id.Sides.{Sides}
-use Rattle.nm_types.specs.declared.id.Sides.TheVariants.{T as Transmit, R as Receive, TR as Both}
+use Rattle.nm_types.specs.declared.id.Side.TheVariants.{Tx, Rx}
+use Rattle.nm_types.specs.Sides.{watches_side}
 use Rattle.nm_types.specs.Frames.{Frame, size_of_frames}
 
--- frames granted to a port, under the number of the entry that granted them, with the session that did
+-- frames brought to a port, under the number of the entry that did, a Grant or a Put, with its session
 pub record Lot : Type 0 where
   pub number : ℕ
   pub session : ℕ
@@ -32,6 +35,7 @@ pub record Pair : Type 0 where
   pub address : List ℕ
   pub port : ℕ
 
+-- a monitor's port, and the port that it watches
 pub record Watch : Type 0 where
   pub monitor : ℕ
   pub target : ℕ
@@ -44,6 +48,11 @@ pub record Offer : Type 0 where
   pub to : ℕ
   pub frames : List Frame
 
+-- what a port has counted, in frames
+pub record PortCounts : Type 0 where
+  pub port : ℕ
+  pub counts : Counts
+
 -- pairs stand newest first, ports by rising id, and the offers of an entry by rising port
 pub record World : Type 0 where
   pub pool : ℕ
@@ -53,9 +62,10 @@ pub record World : Type 0 where
   pub pairs : List Pair
   pub watches : List Watch
   pub offers : List Offer
+  pub counts : List PortCounts
 
 abbrev pub empty_world : ℕ → World
-empty_world pool = record { pool = pool; entry_count = 0; sessions = []; ports = []; pairs = []; watches = []; offers = [] }
+empty_world pool = record { pool = pool; entry_count = 0; sessions = []; ports = []; pairs = []; watches = []; offers = []; counts = [] }
 
 abbrev pub is_session : World → ℕ → Bool
 is_session w session = list_any (λ s. s == session) w.sessions
@@ -107,27 +117,17 @@ is_owed_by session lot = (lot.session == session) && not lot.is_done
 abbrev pub has_lot_owed_by : ℕ → Port → Bool
 has_lot_owed_by session port = list_any (is_owed_by session) port.line
 
--- no entry of the session has an offer that is not granted, and each lot that it was granted is done
+-- no entry of the session has an offer that is not granted, and each lot granted by it is done
 abbrev pub is_settled : World → ℕ → Bool
 is_settled w session = not (list_any (λ offer. offer.session == session) w.offers) && not (list_any (has_lot_owed_by session) w.ports)
 
--- whether a monitor watches this side of a port
-abbrev pub watches_transmit : Sides → Bool
-watches_transmit Transmit = true
-watches_transmit Receive = false
-watches_transmit Both = true
-
-abbrev pub watches_receive : Sides → Bool
-watches_receive Transmit = false
-watches_receive Receive = true
-watches_receive Both = true
-
+-- the monitor that a watch names
 abbrev pub monitor_id : Option Watch → Option ℕ
 monitor_id None = None
 monitor_id (Some watch) = Some watch.monitor
 
 abbrev pub transmit_monitor : World → ℕ → Option ℕ
-transmit_monitor w port = monitor_id (find (λ watch. (watch.target == port) && watches_transmit watch.sides) w.watches)
+transmit_monitor w port = monitor_id (find (λ watch. (watch.target == port) && watches_side watch.sides Tx) w.watches)
 
 abbrev pub receive_monitor : World → ℕ → Option ℕ
-receive_monitor w port = monitor_id (find (λ watch. (watch.target == port) && watches_receive watch.sides) w.watches)
+receive_monitor w port = monitor_id (find (λ watch. (watch.target == port) && watches_side watch.sides Rx) w.watches)

@@ -1,8 +1,11 @@
 ghost use Rattle.std.specs.Prelude.{◌≡◌, ◌+◌, ◌-◌, ◌<◌, ◌≤◌, ◌^◌, ◌∷◌, ◌++◌, [], length, slice_get, IfOk, IfErr, OnOk, OnErr, option_copied, None};
+ghost use Rattle.nm_types.specs.Frames.{bytes_of_frames};
+ghost use Rattle.vale_entry.specs.Legal.{kept_items};
+ghost use Rattle.vale_entry.specs.Pipe.{frames_of_items};
 ghost use Rattle.vale_entry.specs.Room.{bytes_of_entry, frame_bytes};
 ghost use Rattle.vale_entry.specs.Stored.{Fits, IsFull};
 
-use crate::entry::{Ask, Entry};
+use crate::entry::{Ask, Entry, Reply};
 use nm_types::{Limits, Part, StepFault};
 use std::alloc::Global;
 use std::marker::Model;
@@ -30,12 +33,24 @@ impl Model for History {
     ghost invariant = { IsKept };
 }
 
+fn kept_bytes(reply: &Reply) -> u64
+    requires { bytes_of_frames (frames_of_items (kept_items reply.now)) < 2 ^ 64 }
+    ensures { result ≡ bytes_of_frames (frames_of_items (kept_items reply.now)) }
+{
+    match reply {
+        Reply::Took { items, .. } => items.size(),
+        _ => 0,
+    }
+}
+
 fn bytes_of_entry(entry: &Entry) -> u64
     requires { bytes_of_entry entry.now < 2 ^ 64 }
     ensures { result ≡ bytes_of_entry entry.now }
 {
     match &entry.ask {
         Ask::Send { frames, .. } => frames.size(),
+        Ask::Put { .. } => kept_bytes(&entry.reply),
+        Ask::PutKept { .. } => kept_bytes(&entry.reply),
         _ => 0,
     }
 }

@@ -2,8 +2,34 @@
 //! the check proves.
 #![tactic(auto, using(crate::proofs::HistoryLaws::history_laws))]
 
-ghost use Rattle.vale_entry.specs.DeliveryLaws.{ReadIsPrefixOfGiven, GivenOnlyByWanted, ShortAndLoneAreForNobody, WantedIsSharedOnce, DroppedFramesAreCounted, NothingIsPendingAtTheEnd, SenderOrderIsKept, FramesAreDroppedForCause, RepliesCountFrames};
-ghost use Rattle.vale_entry.specs.Laws.{NumbersRise, PortsAreWithinSizes, FreeBuffersRise, BuffersAreParted, HoldingsAgree, SessionsHaveOneUnsettled, RoomIsPromised, RoomIsUsed, LegalHistoriesArePrintable};
+ghost use Rattle.vale_entry.specs.DeliveryLaws.{ReadIsPrefixOfGiven, GivenOnlyByWanted, ShortAndLoneAreForNobody, WantedIsSharedOnce, DroppedFramesAreCounted, NothingIsPendingAtTheEnd, SenderOrderIsKept, FramesAreDroppedForCause, RepliesCountFrames, PutsBringOnce, OutIsCounted};
+ghost use Rattle.vale_entry.specs.Laws.{AsksAreAnswered, PutsAreKept, FinishWaitsForLeases, NamesDiffer, OffersClimb, NumbersRise, PortsAreWithinSizes, FreeBuffersRise, BuffersAreParted, HoldingsAgree, SessionsHaveOneUnsettled, WatchesAreOpen, LotsAreSingle, RoomIsPromised, RoomIsUsed, LegalHistoriesArePrintable};
+
+/// The table of the asks that are enabled says which asks are answered.
+pub fn asks_are_answered()
+    ensures { AsksAreAnswered }
+{}
+
+/// What a Put makes is what its entry records, which keeps of what was offered the number alone.
+pub fn puts_are_kept()
+    ensures { PutsAreKept }
+{}
+
+/// A Finish that is answered with leases out finds a shutting port that has as many out, and some.
+pub fn finish_waits_for_leases()
+    ensures { FinishWaitsForLeases }
+{}
+
+/// After every legal history no two ports that are there, open or shutting, bear one name.
+pub fn names_differ()
+    ensures { NamesDiffer }
+{}
+
+/// After every legal history the offers that are not granted stand in the order of the entries that
+/// made them: the first of all is of the oldest.
+pub fn offers_climb()
+    ensures { OffersClimb }
+{}
 
 /// After every history sessions and ports rise by number, none is numbered beyond the last entry, and
 /// each port and each offer is of a session that is there.
@@ -38,6 +64,17 @@ pub fn sessions_have_one_unsettled()
     ensures { SessionsHaveOneUnsettled }
 {}
 
+/// After every legal history each watch is of two open ports, the one that watches has a monitor's
+/// name, and a port has one monitor at most.
+pub fn watches_are_open()
+    ensures { WatchesAreOpen }
+{}
+
+/// After every legal history no two lots that stand bear one number.
+pub fn lots_are_single()
+    ensures { LotsAreSingle }
+{}
+
 /// What an entry takes and leaves promised is what was promised before and what it wants.
 pub fn room_is_promised()
     ensures { RoomIsPromised }
@@ -48,7 +85,7 @@ pub fn room_is_used()
     ensures { RoomIsUsed }
 {}
 
-/// Each entry of a legal history is printable at its number, if ports are opened under names.
+/// Each entry of a legal history is printable at its number.
 pub fn legal_histories_are_printable()
     ensures { LegalHistoriesArePrintable }
 {}
@@ -96,6 +133,18 @@ pub fn frames_are_dropped_for_cause()
 /// of a port all that it read.
 pub fn replies_count_frames()
     ensures { RepliesCountFrames }
+{}
+
+/// In every legal history a Put brings frames to the port at the other end alone, once, and they are
+/// the frames of its reply.
+pub fn puts_bring_once()
+    ensures { PutsBringOnce }
+{}
+
+/// In every legal history what is out at a port that is there is what it read less what it brought
+/// back.
+pub fn out_is_counted()
+    ensures { OutIsCounted }
 {}
 
 /// Once no session is left, no frame is pending.

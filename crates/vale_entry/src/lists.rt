@@ -96,11 +96,25 @@ impl From<Vec<Item>> for Items {
 }
 
 impl Items {
-    ghost use Rattle.std.specs.Prelude.{◌≡◌};
+    ghost use Rattle.std.specs.Prelude.{◌≡◌, ◌<◌, ◌^◌};
+    ghost use Rattle.nm_types.specs.Frames.{bytes_of_frames};
+    ghost use Rattle.vale_entry.specs.Pipe.{frames_of_items};
 
     pub fn as_slice(&self) -> &[Item]
         ensures { result.now ≡ self.now }
     {
         &self.items
+    }
+
+    /// How many bytes the frames have together.
+    pub fn size(&self) -> u64
+        requires { bytes_of_frames (frames_of_items self.now) < 2 ^ 64 }
+        ensures { result ≡ bytes_of_frames (frames_of_items self.now) }
+    {
+        let mut total = 0;
+        for i in 0..self.items.len() {
+            total += self.items[i].bytes.bytes().len() as u64;
+        }
+        total
     }
 }

@@ -83,6 +83,11 @@ fn lists_keep_their_items(rt: HostRuntime) -> Result<(), Fail> {
 
 #[test]
 fn laws_are_called(_rt: HostRuntime) {
+    laws::asks_are_answered();
+    laws::puts_are_kept();
+    laws::finish_waits_for_leases();
+    laws::names_differ();
+    laws::offers_climb();
     laws::numbers_rise();
     laws::ports_are_within_sizes();
     laws::free_buffers_rise();
@@ -91,4 +96,8 @@ fn laws_are_called(_rt: HostRuntime) {
     laws::sessions_have_one_unsettled();
     laws::room_is_promised();
     laws::room_is_used();
+    laws::watches_are_open();
+    laws::lots_are_single();
+    laws::puts_bring_once();
+    laws::out_is_counted();
 }

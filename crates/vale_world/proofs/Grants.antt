@@ -22,7 +22,7 @@ longest_fitting-length room frames = ap length (longest_fitting-take room frames
 
 -- nothing given changes nothing
 pub with_lot-some : (number session : ℕ) (frames : List Frame) (line : List Lot) → 0 < length frames
-    → with_lot number session frames line ≡ line ++ (record { number = number; session = session; frames = frames; is_done = false }) ∷ []
+    → with_lot number session false frames line ≡ line ++ (record { number = number; session = session; frames = frames; is_done = false }) ∷ []
 with_lot-some number session [] line h = absurd (omega arith)
 with_lot-some number session (f ∷ fs) line h = refl
 

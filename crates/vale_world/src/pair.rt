@@ -1,6 +1,7 @@
 ghost use Rattle.std.specs.Prelude.{◌≡◌, ◌+◌, ◌<◌, ◌≤◌, false, length, take, reverse, nat_lt, find, OnOk, OnErr, bytes_eq, map, option_copied};
 ghost use Rattle.nm_types.specs.Names.{switch_of};
-ghost use Rattle.vale_entry.specs.Learning.{is_short, is_group, bucket_of, is_learnable, learned, is_in_bucket, port_of_address, half_at};
+ghost use Rattle.vale_entry.specs.Learning.{is_short, is_group, bucket_of, is_learnable, learned, is_in_bucket, port_of_address};
+ghost use Rattle.nm_types.specs.Addresses.{word_at};
 ghost use Rattle.vale_entry.specs.World.{is_open, is_open_at};
 ghost use Rattle.std.specs.List.{list_any};
 ghost use Rattle.vale_entry.specs.Lookup.{destination_of, destination_found};
@@ -47,7 +48,7 @@ fn is_group(address: &[u8]) -> bool
 
 fn half_at(address: &[u8], i: usize) -> u32
     requires { i + 1 < length address.now }
-    ensures { result ≡ half_at address.now i }
+    ensures { result ≡ word_at address.now i }
 {
     256 * address[i] as u32 + address[i + 1] as u32
 }

@@ -5,7 +5,7 @@ ghost use Rattle.vale_entry.specs.declared.entry.Reply.TheVariants as replies;
 ghost use Rattle.vale_entry.specs.World.{free_count};
 ghost use Rattle.vale_entry.specs.Closing.{shutting_port};
 ghost use Rattle.vale_entry.specs.Holdings.{holds_all};
-ghost use Rattle.vale_entry.specs.Legal.{IsEnabled, IsLegal, reply_to};
+ghost use Rattle.vale_entry.specs.Legal.{IsEnabled, IsLegal, fits_chain, reply_to};
 ghost use Rattle.vale_entry.specs.Room.{promised_of};
 ghost use Rattle.vale_book.specs.Recorded.{standing, after_ask, HasRoom};
 ghost use Rattle.vale_book.specs.Syncing.{session_of_port};
@@ -45,7 +45,7 @@ impl Book {
     pub fn may_finish(&self, port: PortId, count: usize) -> Option<SessionId>
         ensures none { IfNone result ((bufs : List ℕ) (chain : Found) → length bufs ≡ count → IsEnabled (standing self.now) (asks.Finish port bufs chain) → ⊥) }
         ensures session { IfSome result (λ session. option_map session_of_port (shutting_port (standing self.now).world.ports port.0) ≡ Some session.0) }
-        ensures some { IfSome result (λ session. (bufs : List ℕ) (chain : Found) → length bufs ≡ count → IsEnabled (standing self.now) (asks.Finish port bufs chain) ↔ IsTrue (holds_all (standing self.now).holdings session.0 bufs)) }
+        ensures some { IfSome result (λ session. (bufs : List ℕ) (chain : Found) → length bufs ≡ count → IsTrue (fits_chain chain) → IsEnabled (standing self.now) (asks.Finish port bufs chain) ↔ IsTrue (holds_all (standing self.now).holdings session.0 bufs)) }
         ensures legal { IsLegal self.now.pool self.now.entries }
     {
         enabled::may_finish(&self.ports, port.0, count).map(SessionId)

@@ -1,4 +1,4 @@
-ghost use Rattle.std.specs.Prelude.{◌≡◌, ◌+◌, ◌↔◌, ℕ, List, Some, None, length, take, drop, IsTrue, OnOk, OnErr, IfOk, IfErr};
+ghost use Rattle.std.specs.Prelude.{◌≡◌, ◌+◌, ◌↔◌, Some, None, length, take, drop, IsTrue, OnOk, OnErr, IfOk, IfErr};
 ghost use Rattle.vale_entry.specs.declared.entry.Ask.TheVariants as asks;
 ghost use Rattle.vale_entry.specs.declared.entry.Reply.TheVariants as replies;
 ghost use Rattle.vale_entry.specs.World.{is_session};
@@ -20,11 +20,22 @@ impl Book {
     /// Whether the session has come and not left, so that it may open ports.
     #[tactic(auto, using(crate::proofs::OpenSteps::open_steps))]
     pub fn is_in(&self, session: SessionId) -> bool
-        ensures session { IsTrue result ↔ IsTrue (is_session (standing self.now).world session.0) }
-        ensures enabled { (name : List ℕ) (tx rx extra : ℕ) → IsTrue result ↔ IsEnabled (standing self.now) (asks.Open session name tx rx extra) }
+        ensures session { result ≡ is_session (standing self.now).world session.0 }
         ensures legal { IsLegal self.now.pool self.now.entries }
     {
         opens::is_among(&self.sessions, session.0)
+    }
+
+    /// Whether such an opening may be asked: whether the session has come and not left.
+    #[tactic(auto, using(crate::proofs::OpenSteps::open_steps))]
+    pub fn can_open(&self, session: SessionId, name: Name, sizes: Sizes) -> bool
+        ensures session { IsTrue result ↔ IsTrue (is_session (standing self.now).world session.0) }
+        ensures enabled { IsTrue result ↔ IsEnabled (standing self.now) (asks.Open session name sizes.tx sizes.rx sizes.extra) }
+        ensures legal { IsLegal self.now.pool self.now.entries }
+    {
+        // A `Name` holds a name.
+        name.as_bytes();
+        self.is_in(session)
     }
 
     #[tactic(auto, using(crate::proofs::OpenSteps::open_steps))]

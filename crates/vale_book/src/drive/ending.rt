@@ -1,12 +1,18 @@
-ghost use Rattle.std.specs.Prelude.{◌≡◌};
+ghost use Rattle.std.specs.Prelude.{◌≡◌, true};
 ghost use Rattle.vale_entry.specs.declared.entry.Ask.TheVariants as asks;
-ghost use Rattle.vale_entry.specs.Legal.{reply_to};
+ghost use Rattle.vale_entry.specs.Legal.{fits_chain, reply_to};
 ghost use Rattle.vale_book.specs.Recorded.{standing, after_ask, HasRoom};
 
 use crate::drive::Drive;
 use nm_types::{Chain, PortId, SessionId};
 use vale_entry::{Numbers, Reply};
 use vale_world::session::{self, place_of, take_at};
+
+/// What a caller found in a ring is counted in numbers of 32 bits.
+#[tactic(auto, using(crate::proofs::DriveEnds::chain_counts))]
+fn count_chain(chain: Chain)
+    ensures { fits_chain chain ≡ true }
+{}
 
 impl Drive {
     #[tactic(auto, using(crate::proofs::DriveEnds::drive_ends))]
@@ -29,6 +35,7 @@ impl Drive {
         ensures made { self.new ≡ after_ask self.old (asks.Finish port bufs.now chain) }
         ensures room { HasRoom self.old (asks.Finish port bufs.now chain) }
     {
+        count_chain(chain);
         let session = self.book.may_finish(port, bufs.as_slice().len())?;
         let Some(place) = place_of(&self.sessions, session.0) else {
             unreachable!()

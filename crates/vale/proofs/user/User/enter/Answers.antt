@@ -13,4 +13,4 @@ returns-in-Ok-clause-does c =
     let owns : Owns (standing b) user = subst (Owns (standing b)) (sym c.self.view_is) c.requires.owns in
     let made : c.enter.new.self ≡ after_ask b (Enter user.number) = c.in-Ok.ensures.made in
     let id : c.in-Ok.session.0 ≡ length c.enter.new.self.entries = c.in-Ok.ensures.id in
-    rw (← c.self.view_is) (enter-on b c.enter.new.self user c.in-Ok.session c.requires.settled owns refl c.in-None.is made id)
+    rw (← c.self.view_is) (enter-on b c.enter.new.self user c.in-Ok.session c.enter.ensures.fits c.requires.settled owns refl c.in-None.is made id)

@@ -25,4 +25,4 @@ invariant_of-self c =
 
 pub returns-clause-room : goal.returns-clause-room
 returns-clause-room c =
-    rw (← c.self.view_is) (room-owed (recorded c.self.inside) (Done c.args.lease) c.self.invariant.stands.legal c.self.invariant.rooms (λ reply. (refl, refl)))
+    rw (← c.self.view_is) (room-owed (recorded c.self.inside) (Done c.args.lease) c.self.invariant.stands.legal c.self.invariant.rooms refl)

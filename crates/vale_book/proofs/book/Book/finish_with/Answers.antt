@@ -26,7 +26,7 @@ finish-requires-clause-due c =
     let kept = c.self.invariant in
     let enabled = subst (λ (r : Recorded). IsEnabled (standing r) (Finish c.args.port c.args.bufs.now c.args.chain)) (sym c.self.view_is) c.requires in
     let k = finish-at b c.args.port c.args.bufs.now c.args.chain c.in-Some.place kept.stands enabled (rw c.deref.ensures.value at c.in-Some.ensures.some) in
-    finish-due b c.args.port c.args.bufs.now c.in-Some.place k
+    finish-due b c.args.port c.args.bufs.now c.args.chain c.in-Some.place k
 
 pub finish-requires-clause-room : goal.finish-requires-clause-room
 finish-requires-clause-room c = finish-room c.self.inside c.in-Some.place c.self.invariant.stands c.self.invariant.memory
@@ -39,7 +39,7 @@ invariant_of-self c =
     let k = finish-at b c.args.port c.args.bufs.now c.args.chain c.in-Some.place kept.stands enabled (rw c.deref.ensures.value at c.in-Some.ensures.some) in
     let done = c.finish.ensures.finished k.seat k.at.seated in
     let made = on_ok_weaker c.finish.result (after-finished b c.args.port c.args.bufs.now c.args.chain c.in-Some.place c.finish.new.history c.finish.new.free.items k c.finish.ensures.limits) done in
-    let room = on_ok-always c.finish.result (room-owed (recorded b) (Finish c.args.port c.args.bufs.now c.args.chain) kept.stands.legal kept.rooms (λ reply. (refl, refl))) in
+    let room = on_ok-always c.finish.result (room-owed (recorded b) (Finish c.args.port c.args.bufs.now c.args.chain) kept.stands.legal kept.rooms refl) in
     let same : OnErr c.finish.result (recorded_in b.pool c.finish.new.history ≡ recorded b) = on_err_weaker c.finish.result (λ err. rw err.0 refl) c.finish.ensures.err in
     let most = kept.memory in
     let grown = c.finish.ensures.capacity in
@@ -70,7 +70,7 @@ returns-clause-said c =
 pub returns-clause-room : goal.returns-clause-room
 returns-clause-room c =
     rw (← c.self.view_is)
-    (on_ok-always c.finish.result (room-owed (recorded c.self.inside) (Finish c.args.port c.args.bufs.now c.args.chain) c.self.invariant.stands.legal c.self.invariant.rooms (λ reply. (refl, refl))))
+    (on_ok-always c.finish.result (room-owed (recorded c.self.inside) (Finish c.args.port c.args.bufs.now c.args.chain) c.self.invariant.stands.legal c.self.invariant.rooms refl))
 
 pub returns-clause-waits : goal.returns-clause-waits
 returns-clause-waits c =

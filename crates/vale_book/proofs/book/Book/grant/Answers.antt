@@ -88,8 +88,8 @@ returns-in-Some-open_port-clause-said c =
 
 pub returns-in-Some-open_port-clause-room : goal.returns-in-Some-open_port-clause-room
 returns-in-Some-open_port-clause-room c =
-    rw (← c.self.view_is) (room-owed (recorded c.self.inside) (Grant c.args.origin c.args.to) c.self.invariant.stands.legal c.self.invariant.rooms (λ reply. (refl, refl)))
+    rw (← c.self.view_is) (room-owed (recorded c.self.inside) (Grant c.args.origin c.args.to) c.self.invariant.stands.legal c.self.invariant.rooms refl)
 
 pub returns-clause-room : goal.returns-clause-room
 returns-clause-room c =
-    rw (← c.self.view_is) (room-owed (recorded c.self.inside) (Grant c.args.origin c.args.to) c.self.invariant.stands.legal c.self.invariant.rooms (λ reply. (refl, refl)))
+    rw (← c.self.view_is) (room-owed (recorded c.self.inside) (Grant c.args.origin c.args.to) c.self.invariant.stands.legal c.self.invariant.rooms refl)

@@ -16,10 +16,10 @@ invariant_of-self c =
     record {
       stands = stands-leave b c.args.session c.leave.new.history c.leave.new.sessions.items kept.stands enabled c.leave.ensures.entries c.leave.ensures.promised c.leave.ensures.sessions;
       rooms = rooms-owed b.pool b.history c.leave.new.history (Leave c.args.session) (leave_step (standing_of b.pool b.history.entries) c.args.session.0) kept.stands.legal kept.rooms
-          (leave-made b c.args.session enabled) (λ reply. (refl, refl)) c.leave.ensures.limits c.leave.ensures.entries;
+          (leave-made b c.args.session enabled) refl c.leave.ensures.limits c.leave.ensures.entries;
       memory = kept.memory;
     }
 
 pub returns-clause-room : goal.returns-clause-room
 returns-clause-room c =
-    rw (← c.self.view_is) (room-owed (recorded c.self.inside) (Leave c.args.session) c.self.invariant.stands.legal c.self.invariant.rooms (λ reply. (refl, refl)))
+    rw (← c.self.view_is) (room-owed (recorded c.self.inside) (Leave c.args.session) c.self.invariant.stands.legal c.self.invariant.rooms refl)

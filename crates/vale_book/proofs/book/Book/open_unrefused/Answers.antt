@@ -1,10 +1,9 @@
 use Rattle.std.proofs.Common.{◌≡◌, true, None, sym, reverse}
-use Rattle.vale_entry.specs.World.{is_session}
 use Rattle.vale_entry.specs.Opening.{open_refusal}
 use Rattle.vale_entry.specs.declared.entry.Ask.TheVariants.{Open}
-use Rattle.vale_entry.specs.Legal.{standing_of, world_of, open_step_by}
+use Rattle.vale_entry.specs.Legal.{standing_of, world_of, open_step_by, can_open}
 use Rattle.vale_book.proofs.Answered.{rooms-fit}
-use Rattle.vale_book.proofs.OpenSteps.{enabled-here, open-made, stands-opened, unrefused-fits, recorded-opened}
+use Rattle.vale_book.proofs.OpenSteps.{open-made, stands-opened, unrefused-fits, recorded-opened}
 use Rattle.vale_book.proofs.book.Book.open_unrefused.Goals as goal
 use Rattle.vale_book.proofs.book.Book.open_unrefused.Goals.{in-Ok, in-Err}
 
@@ -17,8 +16,7 @@ open-requires-clause-buffers c =
 pub invariant_of-self : goal.invariant_of-self
 invariant_of-self c =
     let sizes = c.args.sizes in
-    let here : is_session (world_of c.self.inside.pool c.self.inside.history.entries) c.args.session.0 ≡ true =
-    enabled-here (standing_of c.self.inside.pool c.self.inside.history.entries) c.args.session.0 c.args.name sizes.tx sizes.rx sizes.extra (rw (← c.self.view_is) at c.requires.enabled) in
+    let here : can_open (world_of c.self.inside.pool c.self.inside.history.entries) c.args.session.0 c.args.name sizes.tx sizes.rx sizes.extra ≡ true = rw (← c.self.view_is) at c.requires.enabled in
     let is : open_refusal (world_of c.self.inside.pool c.self.inside.history.entries) c.args.name sizes.tx sizes.rx sizes.extra ≡ None = sym (rw (← c.self.view_is) at c.requires.unrefused) in
     elim c.match-open.branch [
       | in-Ok w ↦ record {
@@ -39,8 +37,7 @@ invariant_of-self c =
 pub returns-clause-made : goal.returns-clause-made
 returns-clause-made c =
     let sizes = c.args.sizes in
-    let here : is_session (world_of c.self.inside.pool c.self.inside.history.entries) c.args.session.0 ≡ true =
-    enabled-here (standing_of c.self.inside.pool c.self.inside.history.entries) c.args.session.0 c.args.name sizes.tx sizes.rx sizes.extra (rw (← c.self.view_is) at c.requires.enabled) in
+    let here : can_open (world_of c.self.inside.pool c.self.inside.history.entries) c.args.session.0 c.args.name sizes.tx sizes.rx sizes.extra ≡ true = rw (← c.self.view_is) at c.requires.enabled in
     let is : open_refusal (world_of c.self.inside.pool c.self.inside.history.entries) c.args.name sizes.tx sizes.rx sizes.extra ≡ None = sym (rw (← c.self.view_is) at c.requires.unrefused) in
     elim c.match-open.branch [
       | in-Ok w ↦ rw (w.result-is, ← c.self.view_is)

@@ -1,18 +1,16 @@
 use Rattle.std.proofs.Common.{◌≡◌, true, Some, sym, reverse}
-use Rattle.vale_entry.specs.World.{is_session}
 use Rattle.vale_entry.specs.Opening.{open_refusal}
 use Rattle.vale_entry.specs.declared.entry.Ask.TheVariants.{Open}
-use Rattle.vale_entry.specs.Legal.{standing_of, world_of, open_step_by}
+use Rattle.vale_entry.specs.Legal.{standing_of, world_of, open_step_by, can_open}
 use Rattle.vale_book.proofs.Answered.{rooms-fit}
-use Rattle.vale_book.proofs.OpenSteps.{enabled-here, stands-refused, open-made}
+use Rattle.vale_book.proofs.OpenSteps.{stands-refused, open-made}
 use Rattle.vale_book.proofs.book.Book.refuse_opening.Goals as goal
 use Rattle.vale_book.proofs.book.Book.refuse_opening.Goals.{in-Ok, in-Err}
 
 pub invariant_of-self : goal.invariant_of-self
 invariant_of-self c =
     let sizes = c.args.sizes in
-    let here : is_session (world_of c.self.inside.pool c.self.inside.history.entries) c.args.session.0 ≡ true =
-    enabled-here (standing_of c.self.inside.pool c.self.inside.history.entries) c.args.session.0 c.args.name sizes.tx sizes.rx sizes.extra (rw (← c.self.view_is) at c.requires.enabled) in
+    let here : can_open (world_of c.self.inside.pool c.self.inside.history.entries) c.args.session.0 c.args.name sizes.tx sizes.rx sizes.extra ≡ true = rw (← c.self.view_is) at c.requires.enabled in
     let is : open_refusal (world_of c.self.inside.pool c.self.inside.history.entries) c.args.name sizes.tx sizes.rx sizes.extra ≡ Some c.args.fault = sym (rw (← c.self.view_is) at c.requires.refused) in
     elim c.match-refuse.branch [
       | in-Ok w ↦ record {

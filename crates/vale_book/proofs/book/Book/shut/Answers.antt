@@ -23,7 +23,7 @@ invariant_of-self c =
     let entries = c.shut.ensures.entries k.seat k.at.seated in
     record {
       stands = stands-shut b c.args.port c.in-Some.place k.seat c.shut.new.history c.shut.new.ports.items k.at k.made entries c.shut.ensures.promised (c.shut.ensures.ports k.seat k.at.seated);
-      rooms = rooms-owed b.pool b.history c.shut.new.history (Shut c.args.port) (shut_step (standing_of b.pool b.history.entries) k.seat.port) kept.stands.legal kept.rooms k.made (λ reply. (refl, refl)) c.shut.ensures.limits entries;
+      rooms = rooms-owed b.pool b.history c.shut.new.history (Shut c.args.port) (shut_step (standing_of b.pool b.history.entries) k.seat.port) kept.stands.legal kept.rooms k.made refl c.shut.ensures.limits entries;
       memory = kept.memory;
     }
 
@@ -36,4 +36,4 @@ returns-clause-made c =
 
 pub returns-clause-room : goal.returns-clause-room
 returns-clause-room c =
-    rw (← c.self.view_is) (room-owed (recorded c.self.inside) (Shut c.args.port) c.self.invariant.stands.legal c.self.invariant.rooms (λ reply. (refl, refl)))
+    rw (← c.self.view_is) (room-owed (recorded c.self.inside) (Shut c.args.port) c.self.invariant.stands.legal c.self.invariant.rooms refl)

@@ -43,7 +43,7 @@ pub returns-then-not-holds_all-clause-replied : goal.returns-then-not-holds_all-
 returns-then-not-holds_all-clause-replied c =
     let b = c.self.inside.book in
     let place : IsPlaceOf c.self.inside.sessions.items c.in_ok-session.session.0 c.in-Some.place = rw c.deref.ensures.value at c.in-Some.ensures.some in
-    let whole = c.in_ok-session.ensures.some c.args.bufs.now c.args.chain (ap length (sym c.as_slice.ensures)) in
+    let whole = c.in_ok-session.ensures.some c.args.bufs.now c.args.chain (ap length (sym c.as_slice.ensures)) c.count_chain.ensures in
     let holds : c.holds_all.result ≡ holds_each c.args.bufs.now c.index.result.now.buffers.items = subst (λ (bs : List ℕ). c.holds_all.result ≡ holds_each bs c.index.result.now.buffers.items) c.as_slice-2.ensures c.holds_all.ensures in
     let on : IsEnabled (standing b) (asks.Finish c.args.port c.args.bufs.now c.args.chain) ↔ (c.holds_all.result ≡ true) =
     switched b c.self.inside.sessions.items c.in_ok-session.session.0 c.in-Some.place c.index.result.now c.args.bufs.now c.holds_all.result c.in_ok-session.ensures.legal c.self.invariant place c.index.ensures whole holds in
@@ -55,7 +55,7 @@ pub returns-then-not-holds_all-clause-made : goal.returns-then-not-holds_all-cla
 returns-then-not-holds_all-clause-made c =
     let b = c.self.inside.book in
     let place : IsPlaceOf c.self.inside.sessions.items c.in_ok-session.session.0 c.in-Some.place = rw c.deref.ensures.value at c.in-Some.ensures.some in
-    let whole = c.in_ok-session.ensures.some c.args.bufs.now c.args.chain (ap length (sym c.as_slice.ensures)) in
+    let whole = c.in_ok-session.ensures.some c.args.bufs.now c.args.chain (ap length (sym c.as_slice.ensures)) c.count_chain.ensures in
     let holds : c.holds_all.result ≡ holds_each c.args.bufs.now c.index.result.now.buffers.items = subst (λ (bs : List ℕ). c.holds_all.result ≡ holds_each bs c.index.result.now.buffers.items) c.as_slice-2.ensures c.holds_all.ensures in
     let on : IsEnabled (standing b) (asks.Finish c.args.port c.args.bufs.now c.args.chain) ↔ (c.holds_all.result ≡ true) =
     switched b c.self.inside.sessions.items c.in_ok-session.session.0 c.in-Some.place c.index.result.now c.args.bufs.now c.holds_all.result c.in_ok-session.ensures.legal c.self.invariant place c.index.ensures whole holds in
@@ -67,7 +67,7 @@ pub returns-then-not-holds_all-clause-room : goal.returns-then-not-holds_all-cla
 returns-then-not-holds_all-clause-room c =
     let b = c.self.inside.book in
     let place : IsPlaceOf c.self.inside.sessions.items c.in_ok-session.session.0 c.in-Some.place = rw c.deref.ensures.value at c.in-Some.ensures.some in
-    let whole = c.in_ok-session.ensures.some c.args.bufs.now c.args.chain (ap length (sym c.as_slice.ensures)) in
+    let whole = c.in_ok-session.ensures.some c.args.bufs.now c.args.chain (ap length (sym c.as_slice.ensures)) c.count_chain.ensures in
     let holds : c.holds_all.result ≡ holds_each c.args.bufs.now c.index.result.now.buffers.items = subst (λ (bs : List ℕ). c.holds_all.result ≡ holds_each bs c.index.result.now.buffers.items) c.as_slice-2.ensures c.holds_all.ensures in
     let on : IsEnabled (standing b) (asks.Finish c.args.port c.args.bufs.now c.args.chain) ↔ (c.holds_all.result ≡ true) =
     switched b c.self.inside.sessions.items c.in_ok-session.session.0 c.in-Some.place c.index.result.now c.args.bufs.now c.holds_all.result c.in_ok-session.ensures.legal c.self.invariant place c.index.ensures whole holds in
@@ -79,7 +79,7 @@ pub finish_with-requires : goal.finish_with-requires
 finish_with-requires c =
     let b = c.self.inside.book in
     let place : IsPlaceOf c.self.inside.sessions.items c.in_ok-session.session.0 c.in-Some.place = rw c.deref.ensures.value at c.in-Some.ensures.some in
-    let whole = c.in_ok-session.ensures.some c.args.bufs.now c.args.chain (ap length (sym c.as_slice.ensures)) in
+    let whole = c.in_ok-session.ensures.some c.args.bufs.now c.args.chain (ap length (sym c.as_slice.ensures)) c.count_chain.ensures in
     let holds : c.holds_all.result ≡ holds_each c.args.bufs.now c.index.result.now.buffers.items = subst (λ (bs : List ℕ). c.holds_all.result ≡ holds_each bs c.index.result.now.buffers.items) c.as_slice-2.ensures c.holds_all.ensures in
     let on : IsEnabled (standing b) (asks.Finish c.args.port c.args.bufs.now c.args.chain) ↔ (c.holds_all.result ≡ true) =
     switched b c.self.inside.sessions.items c.in_ok-session.session.0 c.in-Some.place c.index.result.now c.args.bufs.now c.holds_all.result c.in_ok-session.ensures.legal c.self.invariant place c.index.ensures whole holds in

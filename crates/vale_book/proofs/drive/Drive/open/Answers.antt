@@ -11,7 +11,7 @@ pub unreachable-requires : goal.unreachable-requires
 unreachable-requires c =
     let b = c.self.inside.book in
     let here : is_session (world_of b.pool b.entries) c.args.session.0 ≡ true = search rules in
-    session-found b.pool b.entries c.self.inside.sessions.items c.args.session.0 c.is_in.ensures.legal c.self.invariant here
+    session-found b.pool b.entries c.self.inside.sessions.items c.args.session.0 c.can_open.ensures.legal c.self.invariant here
     (rw c.deref.ensures.value at c.in_default.ensures.none)
 
 pub give_at-requires-clause-room : goal.give_at-requires-clause-room
@@ -41,7 +41,7 @@ invariant_of-self-in-Ok c =
     let changed = subst (λ (gs : List ℕ). AreHeldAt (map held_by c.self.inside.sessions.items) c.in-Some.place (λ held. held ++ gs) new) given
     (subst (λ (hs : List SessionBuffers). AreHeldAt hs c.in-Some.place (λ held. held ++ (c.deref-in-Ok.result.now ++ c.deref-in-Ok-2.result.now)) new) kept c.give_at.ensures) in
     ap (map held_by) (put-back-given c.self.inside.sessions c.reserve_at.new.sessions c.give_at.new.sessions c.in-Some.place c.args.session.0 (λ held. held ++ more) was place changed)
-    ∙ (given-held b.pool b.entries c.self.inside.sessions.items c.args.session.0 c.in-Some.place more new c.is_in.ensures.legal c.self.invariant place changed
+    ∙ (given-held b.pool b.entries c.self.inside.sessions.items c.args.session.0 c.in-Some.place more new c.can_open.ensures.legal c.self.invariant place changed
     ∙ sym (sessions-opened b c.open.new.self c.args.session.0 c.args.name c.args.tx c.args.rx c.args.extra c.in-Ok.ensures.made))
 
 pub invariant_of-self-in-Err : goal.invariant_of-self-in-Err
