@@ -1,3 +1,8 @@
+mod Cuts
 mod Digits
 mod Entries
 mod Flat
+mod Lines
+mod NameWords
+mod Numerals
+mod Transcripts

@@ -1,2 +1,4 @@
+pub mod Fits
+pub mod Laws
 pub mod Pieces
 pub mod Written

@@ -2,6 +2,7 @@
 #![tactic(auto)]
 
 mod hex;
+pub mod laws;
 mod pieces;
 mod rows;
 #[cfg(test)]

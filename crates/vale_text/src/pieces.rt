@@ -13,7 +13,7 @@ use nm_types::Batch;
 use vale_entry::{Dest, Item};
 
 /// Something that a line spells: a word, or an item of a list.
-pub(crate) trait Spelled {
+pub trait Spelled {
     // its bytes in the line
     ghost text: { Self → List ℕ };
 
@@ -28,9 +28,9 @@ pub(crate) trait Spelled {
 pub enum Part<'a> {
     /// A number in decimal digits.
     Number(u64),
-    /// The bytes themselves.
+    /// Bytes as they are.
     Text(&'a [u8]),
-    /// Two hexadecimal digits for each byte.
+    /// Bytes in hexadecimal digits, or a dot for none.
     Hex(&'a [u8]),
 }
 

@@ -1,0 +1,240 @@
+-- What numbers, frames and destinations are as text: of which bytes, and that each text is one value's.
+use Rattle.std.specs.List.{AllByRecursion as Each, list_all}
+use Rattle.std.specs.Fmt.{digits, digits_onto, digit_glyph}
+use Rattle.std.proofs.Common.{ℕ, zero, suc, ◌+◌, ◌*◌, ◌/◌, ◌%◌, ◌<◌, ◌≡◌, inl, inr, ◌==◌, nat_lt, Bool, true, false, cond, List, [], ◌∷◌, ◌++◌, length, map, flat_map, decimal, refl, sym, ◌∙◌, ap, arith, append_assoc, not}
+use Rattle.std.proofs.lemmas.Bool.{ltb-true, and_parts}
+use Rattle.std.proofs.lemmas.Fmt.{decimal_injective}
+use Rattle.nm_types.specs.Frames.{Frame}
+use Rattle.vale_entry.specs.declared.entry.Dest.{Dest}
+use Rattle.vale_entry.specs.declared.entry.Item.{Item}
+use Rattle.vale_entry.specs.Transcript.{is_unmarked, item_text, items_text}
+use Rattle.vale_entry.specs.Transcript.{hex_digit, hex_byte, hex_text, frame_text, frames_text, numbers_text, dest_text, dests_text}
+use Rattle.vale_text.specs.Fits.{FitsU64, FitsDest, FitsItem}
+use Rattle.vale_entry.proofs.Each.{each-weaker, each-append, each-map}
+use Rattle.vale_text.proofs.Cuts.{cut, IsWordByte, IsWord, IsItemByte, IsItem, list-same, list-word, map-apart}
+
+-- Decimal numbers.
+
+abbrev pub IsDigit : ℕ → Type 0
+IsDigit b = (47 < b) × (b < 58)
+
+glyph-digit : (d : ℕ) → d < 10 → (b : Bool) → nat_lt d 10 ≡ b → IsDigit (cond b (48 + d) (87 + d))
+glyph-digit d small true is = (omega arith, omega arith)
+glyph-digit d small false is = absurd (grind (arith))
+
+one-digit : (n : ℕ) → IsDigit (digit_glyph false (n % 10))
+one-digit n = glyph-digit (n % 10) (omega arith) (nat_lt (n % 10) 10) refl
+
+digits-by : (b : Bool) (x y : List ℕ) → Each IsDigit x → Each IsDigit y → Each IsDigit (cond b x y)
+digits-by true x y px py = px
+digits-by false x y px py = py
+
+onto-digits : (k n : ℕ) (acc : List ℕ) → Each IsDigit acc → Each IsDigit (digits_onto k 10 false n acc)
+onto-digits zero n acc all = all
+onto-digits (suc k) n acc all =
+    let more : Each IsDigit (digit_glyph false (n % 10) ∷ acc) = (one-digit n, all) in
+    digits-by (n / 10 == 0) (digit_glyph false (n % 10) ∷ acc) (digits_onto k 10 false (n / 10) (digit_glyph false (n % 10) ∷ acc)) more
+    (onto-digits k (n / 10) (digit_glyph false (n % 10) ∷ acc) more)
+
+pub decimal-digits : (n : ℕ) → Each IsDigit (decimal n)
+unfolding digits
+decimal-digits n = onto-digits 64 n [] tt
+
+digit-word : (b : ℕ) → IsDigit b → IsWordByte b
+digit-word b h = omega (arith, h.0)
+
+digit-item : (b : ℕ) → IsDigit b → IsItemByte b
+digit-item b h = inr (omega (arith, h.0))
+
+pub decimal-word : (n : ℕ) → IsWord (decimal n)
+decimal-word n = each-weaker IsDigit IsWordByte digit-word (decimal n) (decimal-digits n)
+
+decimal-item : (n : ℕ) → IsItem (decimal n)
+decimal-item n = each-weaker IsDigit IsItemByte digit-item (decimal n) (decimal-digits n)
+
+-- no number begins with this byte
+pub no-number : (ds : List ℕ) (s x : ℕ) (a b : List ℕ) → Each IsDigit ds → 58 < x → s < 58 → ds ++ s ∷ a ≡ x ∷ b → ⊥
+no-number [] s x a b all big small e = let same : s ≡ x = cc in absurd (omega arith)
+no-number (d ∷ ds) s x a b all big small e = let same : d ≡ x = cc in let here = all.0.1 in absurd (omega (arith, here, same))
+
+pub not-number : (ds : List ℕ) (x : ℕ) (b : List ℕ) → Each IsDigit ds → 58 < x → ds ≡ x ∷ b → ⊥
+not-number [] x b all big e = cc
+not-number (d ∷ ds) x b all big e = let same : d ≡ x = cc in let here = all.0.1 in absurd (omega (arith, here, same))
+
+pub decimal-same : (m n : ℕ) → FitsU64 m → FitsU64 n → decimal m ≡ decimal n → m ≡ n
+decimal-same m n = decimal_injective m n
+
+pub numbers-same : (xs ys : List ℕ) → Each FitsU64 xs → Each FitsU64 ys → numbers_text xs ≡ numbers_text ys → xs ≡ ys
+numbers-same xs ys px py e =
+    map-apart decimal FitsU64 decimal-same xs ys px py
+    (list-same (map decimal xs) (map decimal ys) (each-map FitsU64 IsItem decimal (λ n h. decimal-item n) xs px) (each-map FitsU64 IsItem decimal (λ n h. decimal-item n) ys py) e)
+
+pub numbers-word : (xs : List ℕ) → Each FitsU64 xs → IsWord (numbers_text xs)
+numbers-word xs px = list-word (map decimal xs) (each-map FitsU64 IsItem decimal (λ n h. decimal-item n) xs px)
+
+-- Destinations.
+
+star-not_digit : IsDigit 42 → ⊥
+star-not_digit h = absurd (omega (arith, h.0))
+
+dest-item : (d : Dest) → IsItem (dest_text d)
+dest-item d = each-append IsItemByte (decimal d.to.0 ++ 42 ∷ []) (decimal d.count) (each-append IsItemByte (decimal d.to.0) (42 ∷ []) (decimal-item d.to.0) (inl refl, tt)) (decimal-item d.count)
+
+dest-same : (d e : Dest) → FitsDest d → FitsDest e → dest_text d ≡ dest_text e → d ≡ e
+dest-same d e pd pe same =
+    let c = cut IsDigit (decimal d.to.0) (decimal e.to.0) 42 42 (decimal d.count) (decimal e.count) star-not_digit star-not_digit (decimal-digits d.to.0) (decimal-digits e.to.0)
+    (sym (append_assoc (decimal d.to.0) (42 ∷ []) (decimal d.count)) ∙ (same ∙ append_assoc (decimal e.to.0) (42 ∷ []) (decimal e.count))) in
+    let to = decimal-same d.to.0 e.to.0 pd.0 pe.0 c.0 in
+    let count = decimal-same d.count e.count pd.1 pe.1 c.1.1 in
+    ap (λ (n : ℕ). record d { to = record { 0 = n } }) to ∙ ap (λ (n : ℕ). record e { count = n }) count
+
+pub dests-same : (xs ys : List Dest) → Each FitsDest xs → Each FitsDest ys → dests_text xs ≡ dests_text ys → xs ≡ ys
+dests-same xs ys px py e =
+    map-apart dest_text FitsDest dest-same xs ys px py
+    (list-same (map dest_text xs) (map dest_text ys) (each-map FitsDest IsItem dest_text (λ d h. dest-item d) xs px) (each-map FitsDest IsItem dest_text (λ d h. dest-item d) ys py) e)
+
+pub dests-word : (xs : List Dest) → Each FitsDest xs → IsWord (dests_text xs)
+dests-word xs px = list-word (map dest_text xs) (each-map FitsDest IsItem dest_text (λ d h. dest-item d) xs px)
+
+-- Frames.
+
+hex-digit-by : (m n : ℕ) (p q : Bool) → nat_lt m 10 ≡ p → nat_lt n 10 ≡ q → cond p (48 + m) (87 + m) ≡ cond q (48 + n) (87 + n) → m ≡ n
+hex-digit-by m n true true mp nq e = omega arith
+hex-digit-by m n true false mp nq e = let small = ltb-true m 10 mp in absurd (omega (arith, small, e))
+hex-digit-by m n false true mp nq e = let small = ltb-true n 10 nq in absurd (omega (arith, small, e))
+hex-digit-by m n false false mp nq e = omega arith
+
+hex-digit-same : (m n : ℕ) → hex_digit m ≡ hex_digit n → m ≡ n
+hex-digit-same m n e = hex-digit-by m n (nat_lt m 10) (nat_lt n 10) refl refl e
+
+hex-digit-high : (n : ℕ) → 47 < hex_digit n
+hex-digit-high n = by_small (nat_lt n 10)
+  where
+    by_small : (b : Bool) → 47 < cond b (48 + n) (87 + n)
+    by_small true = omega arith
+    by_small false = omega arith
+
+hex-byte-same : (b c : ℕ) → b / 16 ≡ c / 16 → b % 16 ≡ c % 16 → b ≡ c
+hex-byte-same b c high low = omega arith
+
+hex-same : (bs cs : List ℕ) → flat_map hex_byte bs ≡ flat_map hex_byte cs → bs ≡ cs
+hex-same [] [] e = refl
+hex-same [] (c ∷ cs) e = absurd cc
+hex-same (b ∷ bs) [] e = absurd cc
+hex-same (b ∷ bs) (c ∷ cs) e =
+    let high : hex_digit (b / 16) ≡ hex_digit (c / 16) = cc in
+    let low : hex_digit (b % 16) ≡ hex_digit (c % 16) = cc in
+    let more : flat_map hex_byte bs ≡ flat_map hex_byte cs = cc in
+    let head : b ≡ c = hex-byte-same b c (hex-digit-same (b / 16) (c / 16) high) (hex-digit-same (b % 16) (c % 16) low) in
+    let tail : bs ≡ cs = hex-same bs cs more in
+    cc
+
+-- each byte is two digits
+hex-length : (bs : List ℕ) → length (flat_map hex_byte bs) ≡ 2 * length bs
+hex-length [] = refl
+hex-length (b ∷ bs) = let rest = hex-length bs in omega arith
+
+hex-text-same : (bs cs : List ℕ) → hex_text bs ≡ hex_text cs → bs ≡ cs
+hex-text-same [] [] e = refl
+hex-text-same [] (c ∷ cs) e = absurd cc
+hex-text-same (b ∷ bs) [] e = absurd cc
+hex-text-same (b ∷ bs) (c ∷ cs) e = hex-same (b ∷ bs) (c ∷ cs) e
+
+-- a tilde before it makes another text
+tilde-apart : (bs cs : List ℕ) → 126 ∷ hex_text bs ≡ hex_text cs → ⊥
+tilde-apart [] [] e = absurd (cc)
+tilde-apart [] (c ∷ cs) e =
+    let dot : hex_digit (c % 16) ≡ 46 = cc in
+    let high = hex-digit-high (c % 16) in
+    absurd (omega (arith, dot, high))
+tilde-apart (b ∷ bs) [] e = absurd cc
+tilde-apart (b ∷ bs) (c ∷ cs) e =
+    let one = hex-length (b ∷ bs) in
+    let other = hex-length (c ∷ cs) in
+    let same : 1 + length (flat_map hex_byte (b ∷ bs)) ≡ length (flat_map hex_byte (c ∷ cs)) = omega (arith, ap (length {A = ℕ}) e) in
+    absurd (omega (arith, one, other, same))
+
+frame-by : (bs cs : List ℕ) (m n : Bool) → cond m (126 ∷ []) [] ++ hex_text bs ≡ cond n (126 ∷ []) [] ++ hex_text cs → (m ≡ n) × (bs ≡ cs)
+frame-by bs cs true true e = let same : hex_text bs ≡ hex_text cs = cc in (refl, hex-text-same bs cs same)
+frame-by bs cs true false e = absurd (tilde-apart bs cs e)
+frame-by bs cs false true e = absurd (tilde-apart cs bs (sym e))
+frame-by bs cs false false e = (refl, hex-text-same bs cs e)
+
+frame-same : (f g : Frame) → frame_text f ≡ frame_text g → f ≡ g
+frame-same f g e =
+    let parts = frame-by f.bytes g.bytes f.no_learn g.no_learn e in
+    ap (λ (bs : List ℕ). record f { bytes = bs }) parts.1 ∙ ap (λ (b : Bool). record g { no_learn = b }) parts.0
+
+hex-items : (bs : List ℕ) → IsItem (flat_map hex_byte bs)
+hex-items [] = tt
+hex-items (b ∷ bs) =
+    let high = hex-digit-high (b / 16) in
+    let low = hex-digit-high (b % 16) in
+    (inr (omega (arith, high)), (inr (omega (arith, low)), hex-items bs))
+
+hex-item : (bs : List ℕ) → IsItem (hex_text bs)
+hex-item [] = (inr (omega arith), tt)
+hex-item (b ∷ bs) = hex-items (b ∷ bs)
+
+frame-item : (f : Frame) → IsItem (frame_text f)
+frame-item f = by_mark f.no_learn
+  where
+    by_mark : (b : Bool) → IsItem (cond b (126 ∷ []) [] ++ hex_text f.bytes)
+    by_mark true = (inr (omega arith), hex-item f.bytes)
+    by_mark false = hex-item f.bytes
+
+frames-items : (fs : List Frame) → Each IsItem (map frame_text fs)
+frames-items [] = tt
+frames-items (f ∷ fs) = (frame-item f, frames-items fs)
+
+any-each : {X : Type 0} (xs : List X) → Each (λ (x : X). Unit {0}) xs
+any-each [] = tt
+any-each (x ∷ xs) = (tt, any-each xs)
+
+pub frames-same : (fs gs : List Frame) → frames_text fs ≡ frames_text gs → fs ≡ gs
+frames-same fs gs e =
+    map-apart frame_text (λ (f : Frame). Unit {0}) (λ f g pf pg same. frame-same f g same) fs gs (any-each fs) (any-each gs)
+    (list-same (map frame_text fs) (map frame_text gs) (frames-items fs) (frames-items gs) e)
+
+pub frames-word : (fs : List Frame) → IsWord (frames_text fs)
+frames-word fs = list-word (map frame_text fs) (frames-items fs)
+
+-- Frames that a pipe took, with their buffers; none is marked.
+
+abbrev pub IsPlainItem : Item → Type 0
+IsPlainItem item = FitsItem item × (is_unmarked item ≡ true)
+
+colon-not_digit : IsDigit 58 → ⊥
+colon-not_digit h = absurd (omega (arith, h.1))
+
+item-item : (i : Item) → IsItem (item_text i)
+item-item i = each-append IsItemByte (decimal i.index ++ 58 ∷ []) (hex_text i.bytes.bytes) (each-append IsItemByte (decimal i.index) (58 ∷ []) (decimal-item i.index) (inr (omega arith), tt)) (hex-item i.bytes.bytes)
+
+no-mark : (b : Bool) → not b ≡ true → b ≡ false
+no-mark true e = cc
+no-mark false e = refl
+
+item-same : (i j : Item) → IsPlainItem i → IsPlainItem j → item_text i ≡ item_text j → i ≡ j
+item-same i j pi pj same =
+    let c = cut IsDigit (decimal i.index) (decimal j.index) 58 58 (hex_text i.bytes.bytes) (hex_text j.bytes.bytes) colon-not_digit colon-not_digit (decimal-digits i.index) (decimal-digits j.index)
+    (sym (append_assoc (decimal i.index) (58 ∷ []) (hex_text i.bytes.bytes)) ∙ (same ∙ append_assoc (decimal j.index) (58 ∷ []) (hex_text j.bytes.bytes))) in
+    let index = decimal-same i.index j.index pi.0 pj.0 c.0 in
+    let bytes = hex-text-same i.bytes.bytes j.bytes.bytes c.1.1 in
+    let mark = no-mark i.bytes.no_learn pi.1 ∙ sym (no-mark j.bytes.no_learn pj.1) in
+    ap (λ (n : ℕ). record i { index = n }) index
+    ∙ ap (λ (bs : List ℕ). record j { bytes = record { bytes = bs; no_learn = i.bytes.no_learn } }) bytes
+    ∙ ap (λ (b : Bool). record j { bytes = record { bytes = j.bytes.bytes; no_learn = b } }) mark
+
+pub plain-items : (xs : List Item) → Each FitsItem xs → list_all is_unmarked xs ≡ true → Each IsPlainItem xs
+plain-items [] fits plain = tt
+plain-items (x ∷ xs) fits plain =
+    let parts = and_parts (is_unmarked x) (list_all is_unmarked xs) plain in
+    ((fits.0, parts.0), plain-items xs fits.1 parts.1)
+
+pub items-same : (xs ys : List Item) → Each IsPlainItem xs → Each IsPlainItem ys → items_text xs ≡ items_text ys → xs ≡ ys
+items-same xs ys px py e =
+    map-apart item_text IsPlainItem item-same xs ys px py
+    (list-same (map item_text xs) (map item_text ys) (each-map IsPlainItem IsItem item_text (λ i h. item-item i) xs px) (each-map IsPlainItem IsItem item_text (λ i h. item-item i) ys py) e)
+
+pub items-word : (xs : List Item) → Each IsPlainItem xs → IsWord (items_text xs)
+items-word xs px = list-word (map item_text xs) (each-map IsPlainItem IsItem item_text (λ i h. item-item i) xs px)

@@ -1,0 +1,13 @@
+-- Laws of transcripts.
+use Rattle.std.specs.Prelude.{ℕ, ◌≡◌, List}
+use Rattle.std.specs.List.{AllByRecursion}
+use Rattle.vale_entry.specs.declared.entry.Entry.{Entry}
+use Rattle.vale_entry.specs.Laws.{ArePrintable}
+use Rattle.vale_text.specs.Fits.{FitsU64, FitsEntry}
+use Rattle.vale_text.specs.Written.{text_of}
+
+-- equal transcripts are of equal pools and equal histories, whatever free buffers they end with
+abbrev pub TranscriptsTellHistories : Type 0
+TranscriptsTellHistories =
+    (p q : ℕ) (h k : List Entry) (f g : ℕ) → FitsU64 p → FitsU64 q → ArePrintable 1 h → ArePrintable 1 k → AllByRecursion FitsEntry h → AllByRecursion FitsEntry k
+    → text_of p h f ≡ text_of q k g → (p ≡ q) × (h ≡ k)
