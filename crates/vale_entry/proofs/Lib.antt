@@ -43,6 +43,7 @@ pub mod HistoryLaws
 pub mod NamesApart
 pub mod OffersClimb
 pub mod Waiting
+pub mod CountersKept
 pub mod HistoryPlaces
 pub mod ItemBytes
 pub mod Printable

@@ -15,7 +15,7 @@ use Rattle.std.specs.Prelude.{ℕ, true, false, ◌&&◌, ◌==◌, ◌≡◌, �
 use Rattle.std.specs.List.{list_any, AllByRecursion}
 use Rattle.nm_types.specs.Names.{is_monitor_name}
 use Rattle.vale_entry.specs.Monitors.{is_watch_at}
-use Rattle.vale_entry.specs.World.{Port, Lot, Offer, Watch as Watcher, World, is_open_at, size_of_line, buffers_of, due_of, space_of, free_count}
+use Rattle.vale_entry.specs.World.{Port, Lot, Offer, Watch as Watcher, World, PortCounts, is_open_at, size_of_line, buffers_of, due_of, space_of, free_count}
 use Rattle.vale_entry.specs.Holdings.{PortBuffers, SessionBuffers, Holdings, IsParted, Agrees}
 
 -- the numbers rise strictly; all are above the first bound, and none is above the second
@@ -31,6 +31,13 @@ id_of_held held = held.port
 
 abbrev pub id_of_session : SessionBuffers → ℕ
 id_of_session held = held.session
+
+abbrev pub id_of_counted : PortCounts → ℕ
+id_of_counted counted = counted.port
+
+-- there are counters for each port that is there, and for no other
+abbrev pub AreCountedAt : World → Type 0
+AreCountedAt w = map id_of_counted w.counts ≡ map id_of_port w.ports
 
 abbrev pub IsThere : List ℕ → ℕ → Type 0
 IsThere sessions session = list_any (λ s. s == session) sessions ≡ true
@@ -213,6 +220,9 @@ NamesDiffer = (pool : ℕ) (history : List Entry) → IsLegal pool history → A
 
 abbrev pub OffersClimb : Type 0
 OffersClimb = (pool : ℕ) (history : List Entry) → IsLegal pool history → Climb 0 (world_of pool history).offers
+
+abbrev pub CountersAreKept : Type 0
+CountersAreKept = (pool : ℕ) (history : List Entry) → IsLegal pool history → AreCountedAt (world_of pool history)
 
 abbrev pub WatchesAreOpen : Type 0
 WatchesAreOpen = (pool : ℕ) (history : List Entry) → IsLegal pool history → AreWatches (world_of pool history).ports (world_of pool history).watches

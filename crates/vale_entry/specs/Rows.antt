@@ -16,11 +16,11 @@ use Rattle.vale_entry.specs.declared.entry.Ask.{Ask}
 use Rattle.vale_entry.specs.declared.entry.Reply.{Reply}
 use Rattle.vale_entry.specs.declared.entry.Dest.{Dest}
 use Rattle.vale_entry.specs.declared.entry.Item.{Item}
-use Rattle.vale_entry.specs.Opening.{opened_port, name_refusal}
+use Rattle.vale_entry.specs.Opening.{opened_port, name_refusal, open_refusal}
 use Rattle.vale_entry.specs.Closing.{shut}
 use Rattle.vale_entry.specs.declared.entry.Entry.{Entry}
 use Rattle.vale_entry.specs.Legal.{Standing, IsLegal, standing_of, world_of, holdings_of, reply_to}
-use Rattle.vale_entry.specs.World.{World, Port, Offer, free_count}
+use Rattle.vale_entry.specs.World.{World, Port, Offer, free_count, empty_world}
 use Rattle.vale_entry.specs.Grant.{grant_reply, after_grant}
 use Rattle.vale_entry.specs.Delivered.{given_frames, read_frames, unread_counts}
 use Rattle.vale_entry.specs.Fate.{Pending, Given, Full, Gone, fates_at, entries_of, brought_between}
@@ -574,6 +574,11 @@ pipe_run-put : reply_to (standing_of 64 (take 5 pipe_run)) (Put (port 3) (item 2
 unfolding is_name is_switch_port_name is_pipe_name is_monitor_name switch_of peer_name
 pipe_run-put = refl
 
+-- buffers that come back to a ring stand behind its idle ones
+pipe_run-lent_again : map (λ (a : Arrival). a.buffer) (arrivals_of (standing_of 64 (take 9 pipe_run)) (PutKept (port 3) 2) (Took (item 15 (7 ∷ []) ∷ item 5 [] ∷ []) [])) ≡ 17 ∷ 4 ∷ []
+unfolding is_name is_switch_port_name is_pipe_name is_monitor_name switch_of peer_name
+pipe_run-lent_again = refl
+
 -- nobody puts a buffer that is not its own, a marked frame, or into a switch
 pipe_run-not_mine : reply_to (standing_of 64 (take 5 pipe_run)) (Put (port 3) (item 10 [] ∷ [])) ≡ None
 unfolding is_name is_switch_port_name is_pipe_name is_monitor_name switch_of peer_name
@@ -812,6 +817,18 @@ sixteen_shut = refl
 full_before_taken : name_refusal (all_named 2 (codes "vale0:") letters) (codes "vale0:A") 2 2 0 ≡ Some PortsFull
 unfolding is_name is_switch_port_name is_pipe_name is_monitor_name switch_of peer_name
 full_before_taken = refl
+
+sizes_first : name_refusal (all_named 2 (codes "vale0:") letters) (codes "vale0:A") 1 2 0 ≡ Some BadSize
+unfolding is_name is_switch_port_name is_pipe_name is_monitor_name switch_of peer_name
+sizes_first = refl
+
+full_before_buffers : open_refusal (record (empty_world 64) { ports = all_named 2 (codes "vale0:") letters }) (codes "vale0:zz") 2 2 0 ≡ Some PortsFull
+unfolding is_name is_switch_port_name is_pipe_name is_monitor_name switch_of peer_name
+full_before_buffers = refl
+
+switches_of_shut_ports : name_refusal (map shut (named 2 (codes "vale0:a") ∷ named 3 (codes "vale1:a") ∷ named 4 (codes "vale2:a") ∷ named 5 (codes "vale3:a") ∷ [])) (codes "vale4:a") 2 2 0 ≡ Some SwitchesFull
+unfolding is_name is_switch_port_name is_pipe_name is_monitor_name switch_of peer_name
+switches_of_shut_ports = refl
 
 other_switch : name_refusal (all_named 2 (codes "vale0:") letters) (codes "vale1:zz") 2 2 0 ≡ None
 unfolding is_name is_switch_port_name is_pipe_name is_monitor_name switch_of peer_name

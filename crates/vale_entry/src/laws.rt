@@ -3,7 +3,7 @@
 #![tactic(auto, using(crate::proofs::HistoryLaws::history_laws))]
 
 ghost use Rattle.vale_entry.specs.DeliveryLaws.{ReadIsPrefixOfGiven, GivenOnlyByWanted, ShortAndLoneAreForNobody, WantedIsSharedOnce, DroppedFramesAreCounted, NothingIsPendingAtTheEnd, SenderOrderIsKept, FramesAreDroppedForCause, RepliesCountFrames, PutsBringOnce, OutIsCounted};
-ghost use Rattle.vale_entry.specs.Laws.{AsksAreAnswered, PutsAreKept, FinishWaitsForLeases, NamesDiffer, OffersClimb, NumbersRise, PortsAreWithinSizes, FreeBuffersRise, BuffersAreParted, HoldingsAgree, SessionsHaveOneUnsettled, WatchesAreOpen, LotsAreSingle, RoomIsPromised, RoomIsUsed, LegalHistoriesArePrintable};
+ghost use Rattle.vale_entry.specs.Laws.{AsksAreAnswered, PutsAreKept, FinishWaitsForLeases, NamesDiffer, OffersClimb, CountersAreKept, NumbersRise, PortsAreWithinSizes, FreeBuffersRise, BuffersAreParted, HoldingsAgree, SessionsHaveOneUnsettled, WatchesAreOpen, LotsAreSingle, RoomIsPromised, RoomIsUsed, LegalHistoriesArePrintable};
 
 /// The table of the asks that are enabled says which asks are answered.
 pub fn asks_are_answered()
@@ -29,6 +29,11 @@ pub fn names_differ()
 /// made them: the first of all is of the oldest.
 pub fn offers_climb()
     ensures { OffersClimb }
+{}
+
+/// After every legal history there are counters for each port that is there, and for no other.
+pub fn counters_are_kept()
+    ensures { CountersAreKept }
 {}
 
 /// After every history sessions and ports rise by number, none is numbered beyond the last entry, and

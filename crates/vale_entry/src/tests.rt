@@ -88,6 +88,7 @@ fn laws_are_called(_rt: HostRuntime) {
     laws::finish_waits_for_leases();
     laws::names_differ();
     laws::offers_climb();
+    laws::counters_are_kept();
     laws::numbers_rise();
     laws::ports_are_within_sizes();
     laws::free_buffers_rise();
