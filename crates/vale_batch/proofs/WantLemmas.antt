@@ -17,7 +17,7 @@ use Rattle.vale_batch.specs.Looking.{looked_up, looked_up_batch, learned_from, d
 use Rattle.vale_batch.specs.declared.looking.Destination.{Destination}
 use Rattle.vale_batch.specs.declared.looking.Destination.TheVariants.{Only}
 use Rattle.vale_batch.specs.declared.want.Want.{Want}
-use Rattle.vale_batch.specs.Wants.{wanted, Wanted, goes_to, places_from, sizes_for, want_at, with_frame, with_place, is_short_at, is_short_destination, wants_some, is_for, is_to, is_wanted_to, is_port, are_apart, are_different}
+use Rattle.vale_batch.specs.Wants.{wanted, Wanted, goes_to, places_from, sizes_for, want_at, with_frame, with_place, is_short_at, is_short_destination, wants_some, is_for, is_to, is_wanted_to, are_apart}
 
 set-more : (f : Wanted → Wanted) (old : List Wanted) (at : ℕ) (d : Wanted) → at < length old
     → slice_set (map f (take at old) ++ drop at old) at (f (get_or (map f (take at old) ++ drop at old) at d)) ≡ map f (take (at + 1) old) ++ drop (at + 1) old
@@ -166,17 +166,6 @@ one-changed from to looked place (w ∷ ws) (suc at) want new apart only within 
     let kept = not-for from to looked place (wanted w) only other in
     ap (λ (x : Wanted). x ∷ map wanted (slice_set ws at new)) (sym kept) ∙ ap (λ (xs : List Wanted). with_frame from looked place (wanted w) ∷ xs) rest
 
--- the wants of different ports are apart
-any-wanted : (number : ℕ) (from : PortId) (all : List Looked) (ports : List PortId) → list_any (is_wanted_to number) (map (want_at from all) ports) ≡ list_any (is_port number) ports
-any-wanted number from all [] = refl
-any-wanted number from all (port ∷ ports) = ap (λ (b : Bool). is_port number port || b) (any-wanted number from all ports)
-
-pub apart-different : (from : PortId) (all : List Looked) (ports : List PortId) → are_apart (map (want_at from all) ports) ≡ are_different ports
-apart-different from all [] = refl
-apart-different from all (port ∷ ports) =
-    ap (λ (b : Bool). not b && are_apart (map (want_at from all) ports)) (any-wanted port.0 from all ports)
-    ∙ ap (λ (b : Bool). not (list_any (is_port port.0) ports) && b) (apart-different from all ports)
-
 -- a frame that goes to no port changes no want
 pub nobody-changed : (from : PortId) (looked : Looked) (place : ℕ) (wants : List Wanted) → ((port : PortId) → is_for from looked.destination port ≡ false) → map (with_frame from looked place) wants ≡ wants
 nobody-changed from looked place [] none = refl
@@ -195,8 +184,6 @@ loop-more from all ports i d old new within before added =
     ∙ (ap (map (with_frame from (get_or all i d) i)) before
     ∙ (ap (λ (n : ℕ). map (with_frame from (get_or all i d) n) (map (want_at from (take i all)) ports)) (sym count)
     ∙ (more ∙ ap (λ (ls : List Looked). map (want_at from ls) ports) (sym (take_more all i d within)))))
-
-pub ruleset wants = (wants-more, apart-different)
 
 -- short destinations are those of short frames
 found-not-short : (from : PortId) (found : Option PortId) → is_short_at (destination_found from found) ≡ false

@@ -1,7 +1,8 @@
 -- What each port wants of a batch: the places of the frames that go to it, rising, and the slots of
 -- each.
-use Rattle.std.specs.Prelude.{ℕ, Bool, true, false, not, ◌&&◌, ◌==◌, ◌+◌, if◌then◌else◌, List, [], ◌∷◌, ◌++◌, length, map, filter, nat_lt}
+use Rattle.std.specs.Prelude.{ℕ, Bool, true, false, not, ◌&&◌, ◌==◌, ◌+◌, if◌then◌else◌, List, [], ◌∷◌, ◌++◌, length, map, filter, nat_lt, ◌<◌, slice_index_or, slice_get}
 use Rattle.std.specs.List.{list_any}
+use Rattle.std.specs.Option.{option_map_or}
 use Rattle.nm_types.specs.declared.id.PortId.{PortId}
 use Rattle.vale_batch.specs.declared.looking.Destination.{Destination}
 use Rattle.vale_batch.specs.declared.looking.Destination.TheVariants.{Short, Nobody, Only, Others}
@@ -81,16 +82,29 @@ is_lone from ports looked = is_lone_if (list_any (is_other from) ports) looked
 abbrev pub with_place : ℕ → ℕ → Wanted → Wanted
 with_place place size want = record want { places = want.places ++ place ∷ []; sizes = want.sizes ++ size ∷ [] }
 
-abbrev pub is_port : ℕ → PortId → Bool
-is_port number port = port.0 == number
+-- each number is below those after it
+abbrev pub IsRising : List ℕ → Type 0
+IsRising numbers = (i j d : ℕ) → i < j → j < length numbers → slice_index_or numbers i d < slice_index_or numbers j d
 
--- no port stands there twice
-abbrev pub are_different : List PortId → Bool
-are_different [] = true
-are_different (port ∷ ports) = not (list_any (is_port port.0) ports) && are_different ports
+abbrev pub port_number : PortId → ℕ
+port_number port = port.0
+
+abbrev pub number_of : Wanted → ℕ
+number_of want = want.to.0
+
+abbrev pub numbers_of : List Want → List ℕ
+numbers_of wants = map number_of (map wanted wants)
 
 abbrev pub is_to : ℕ → Want → Bool
 is_to port want = want.to.0 == port
+
+-- the want's port stands before a port
+abbrev pub is_before : ℕ → Want → Bool
+is_before port want = nat_lt want.to.0 port
+
+-- the want at a place is that of a port
+abbrev pub stands_at : ℕ → ℕ → List Want → Bool
+stands_at port at wants = option_map_or (is_to port) (slice_get wants at) false
 
 abbrev pub is_wanted_to : ℕ → Wanted → Bool
 is_wanted_to port want = want.to.0 == port

@@ -1,8 +1,8 @@
-ghost use Rattle.std.specs.Prelude.{◌≡◌, ◌<◌, ◌≤◌, ◌^◌, All, length, map, count_by, IsTrue, IfOk, OnOk, OnErr};
+ghost use Rattle.std.specs.Prelude.{◌≡◌, ◌<◌, ◌≤◌, ◌^◌, All, length, map, count_by, IfOk, OnOk, OnErr};
 ghost use Rattle.std.specs.List.{list_any};
 ghost use Rattle.vale_batch.specs.Addresses.{is_short};
 ghost use Rattle.vale_batch.specs.Looking.{IsFrame, looked_up_batch, learned_of_batch};
-ghost use Rattle.vale_batch.specs.Wants.{wanted, wants_of, is_other, is_lone, is_short_destination, is_lone_if, are_different};
+ghost use Rattle.vale_batch.specs.Wants.{wanted, wants_of, is_other, is_lone, is_short_destination, is_lone_if, port_number, IsRising};
 
 use crate::looking::{Destination, Looked, forget_taught, look_up};
 use crate::want::{Lists, wants_of};
@@ -54,7 +54,7 @@ fn lists_of(
     all: &[Looked],
 ) -> Result<Lists, AllocError>
     requires few { length all.now < 2 ^ 32 }
-    requires ports { IsTrue (are_different ports.now) }
+    requires ports { IsRising (map port_number ports.now) }
     ensures short { IfOk result (λ lists. lists.short ≡ count_by is_short_destination all.now) }
     ensures lone { IfOk result (λ lists.
         lists.lone ≡ count_by (is_lone from ports.now) all.now) }
@@ -70,9 +70,10 @@ fn lists_of(
 }
 
 /// Learns the sources of a batch that port `from` sends, frame by frame, and finds out which of the
-/// switch's open ports each frame goes to. `NoMemory` leaves the table as it was.
+/// switch's open ports each frame goes to. `ports` rise. `NoMemory` leaves the table as it was.
 ///
-/// Costs a search among the ports for each frame to one port, and nothing for ports that want none.
+/// A frame to one port costs a binary search among the ports, a frame to all one step for each port
+/// that it goes to, and ports that want nothing cost nothing more.
 #[tactic(auto, using(crate::proofs::WantLemmas::classes))]
 pub fn classify(
     alloc: Global,
@@ -83,7 +84,7 @@ pub fn classify(
 ) -> Result<Lists, NoMemory>
     requires few { length batch.now ≤ 1023 }
     requires frames { All IsFrame batch.now }
-    requires ports { IsTrue (are_different ports.now) }
+    requires ports { IsRising (map port_number ports.now) }
     ensures table { OnOk result (table.new ≡ learned_of_batch from table.old batch.now) }
     ensures err { OnErr result (table.new ≡ table.old) }
     ensures short { IfOk result (λ lists. lists.short ≡ count_by is_short batch.now) }

@@ -1,6 +1,7 @@
-ghost use Rattle.std.specs.Prelude.{◌≡◌, ◌<◌, ◌≤◌, ◌^◌, [], All, filter, length, map, slice_get, false, IsTrue, IfOk, IfSome, IfNone, OnOk};
+ghost use Rattle.std.specs.Prelude.{◌≡◌, ◌<◌, ◌≤◌, ◌^◌, [], All, filter, length, map, slice_get, true, false, IsTrue, IfOk, IfSome, IfNone, OnOk};
+ghost use Rattle.std.specs.List.Sorted.{IsPartitionPoint};
 ghost use Rattle.vale_batch.specs.declared.looking.Destination.TheVariants as destinations;
-ghost use Rattle.vale_batch.specs.Wants.{wanted, with_frame, with_place, is_to, are_apart, are_different, empty_want, wants_of, wants_some};
+ghost use Rattle.vale_batch.specs.Wants.{wanted, with_frame, with_place, is_to, is_before, stands_at, numbers_of, port_number, IsRising, empty_want, wants_of, wants_some};
 
 use crate::looking::{Destination, Looked};
 use nm_types::PortId;
@@ -66,14 +67,41 @@ fn add_to_others(
     Ok(())
 }
 
-/// The place of the want of a port.
+/// How many wants stand before the place of a port's.
+#[tactic(auto, using(crate::proofs::Places::places))]
+fn rank_of(wants: &Vec<Want>, to: PortId) -> usize
+    requires { IsRising (numbers_of wants.now.items) }
+    ensures bound { result ≤ length wants.now.items }
+    ensures point { IsPartitionPoint (λ want. is_before to.0 want ≡ true)
+        (λ want. is_before to.0 want ≡ false) wants.now.items result }
+{
+    wants.partition_point(|want| want.to.0 < to.0)
+}
+
+fn stands_at(wants: &Vec<Want>, at: usize, to: PortId) -> bool
+    ensures { result ≡ stands_at to.0 at wants.now.items }
+{
+    match wants.get(at) {
+        Some(want) => want.to == to,
+        None => false,
+    }
+}
+
+/// The place of the want of a port. The ports rise.
+#[tactic(auto, using(crate::proofs::Places::places))]
 fn place_of(wants: &Vec<Want>, to: PortId) -> Option<usize>
+    requires { IsRising (numbers_of wants.now.items) }
     ensures within { IfSome result (λ at. at < length wants.now.items) }
     ensures found { IfSome result (λ at.
         IfSome (slice_get wants.now.items at) (λ want. IsTrue (is_to to.0 want))) }
     ensures none { IfNone result (All (λ want. is_to to.0 want ≡ false) wants.now.items) }
 {
-    wants.iter().position(|want| want.to == to)
+    let at = rank_of(wants, to);
+    if stands_at(wants, at, to) {
+        Some(at)
+    } else {
+        None
+    }
 }
 
 /// Adds a frame that goes to one port to its want.
@@ -84,7 +112,7 @@ fn add_to_one(
     looked: Looked,
     place: u32,
 ) -> Result<(), AllocError>
-    requires apart { IsTrue (are_apart (map wanted wants.old.items)) }
+    requires rising { IsRising (numbers_of wants.old.items) }
     requires only { looked.destination ≡ destinations.Only to }
     ensures { OnOk result (map wanted wants.new.items
         ≡ map (with_frame from looked place) (map wanted wants.old.items)) }
@@ -97,7 +125,7 @@ fn add_to_one(
 
 /// Adds a frame to the wants of the ports that it goes to.
 fn add(wants: &mut Vec<Want>, from: PortId, looked: Looked, place: u32) -> Result<(), AllocError>
-    requires { IsTrue (are_apart (map wanted wants.old.items)) }
+    requires { IsRising (numbers_of wants.old.items) }
     ensures { OnOk result (map wanted wants.new.items
         ≡ map (with_frame from looked place) (map wanted wants.old.items)) }
 {
@@ -132,7 +160,6 @@ fn keep_wanting(wants: &mut Vec<Want>)
 }
 
 /// What each of the ports wants of a batch, without those that want nothing.
-#[tactic(auto, using(crate::proofs::WantLemmas::wants))]
 pub(crate) fn wants_of(
     alloc: Global,
     from: PortId,
@@ -140,7 +167,7 @@ pub(crate) fn wants_of(
     all: &[Looked],
 ) -> Result<Vec<Want>, AllocError>
     requires few { length all.now < 2 ^ 32 }
-    requires ports { IsTrue (are_different ports.now) }
+    requires ports { IsRising (map port_number ports.now) }
     ensures { IfOk result (λ wants. map wanted wants.items ≡ wants_of from all.now ports.now) }
 {
     let mut wants = empty_wants(alloc, ports)?;
