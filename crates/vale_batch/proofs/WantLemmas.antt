@@ -1,7 +1,7 @@
 -- What ports want of a batch, frame by frame.
 use Rattle.std.proofs.Common.{ℕ, zero, suc, Bool, true, false, ◌≡◌, ◌+◌, ◌<◌, List, [], ◌∷◌, ◌++◌, length, map, take, drop, get_or, slice_set, inl, inr, refl, sym, ◌∙◌, ap, arith}
 use Rattle.std.proofs.lemmas.List.{map-set, get_or-map, append-nil}
-use Rattle.std.specs.Prelude.{count_by, if◌then◌else◌, All, IfSome, Option, Some, None, slice_get, filter, not, ◌&&◌, ◌||◌, ◌==◌, cond}
+use Rattle.std.specs.Prelude.{count_by, if◌then◌else◌, All, IfSome, Option, Some, None, slice_get, filter, not, ◌==◌, cond}
 use Rattle.std.specs.List.{list_any}
 use Rattle.std.proofs.lemmas.List.{length-map, length-take-le, take_more}
 use Rattle.std.proofs.lemmas.List.Folds.{list_any_at}

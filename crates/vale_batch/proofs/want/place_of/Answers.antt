@@ -1,4 +1,4 @@
-use Rattle.std.proofs.Common.{◌≡◌, ◌∙◌, sym}
+use Rattle.std.proofs.Common.{◌∙◌, sym}
 use Rattle.vale_batch.proofs.Places.{stands-there, none-there}
 use Rattle.vale_batch.proofs.want.place_of.Goals as goal
 
