@@ -45,7 +45,10 @@ impl Model for Pool {
     ghost use Rattle.nm_pool.specs.Kept.{buffers_in};
     ghost use Rattle.nm_pool.specs.Stored.{IsStored};
 
-    ghost view = { λ p. record { buffers = length p.places.items; free = buffers_in p.places.items } };
+    ghost view = { λ p. record {
+      buffers = length p.places.items;
+      free = buffers_in p.places.items;
+    } };
 
     ghost invariant = { IsStored };
 }
@@ -53,8 +56,8 @@ impl Model for Pool {
 impl Pool {
     ghost use Rattle.nm_pool.specs.Taking.{IsShort};
 
-    /// A pool whose buffers are all free. `close` gives them back in the vector that is passed here,
-    /// and so does `NoMemory` at once.
+    /// A pool whose buffers are all free. `close` gives them back in the vector that is passed
+    /// here, and so does `NoMemory` at once.
     pub fn new(alloc: Global, mut bufs: Vec<Buf>) -> Result<Pool, (NoMemory, Vec<Buf>)>
         requires size { IsPoolSize (length bufs.items) }
         requires whole { AreWhole bufs.items }
