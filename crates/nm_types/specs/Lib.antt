@@ -5,6 +5,10 @@ pub mod Exchange
 pub mod Faults
 pub mod Frames
 pub mod Names
+pub mod OwnEdits
+pub mod OwnPorts
+pub mod OwnRows
+pub mod OwnSyncs
 pub mod Places
 pub mod Positions
 pub mod Reset

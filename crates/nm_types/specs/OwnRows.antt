@@ -1,0 +1,324 @@
+-- Worked examples of what a session has of its own, as theorems about the definitions. The pool has 64
+-- buffers; ports and buffers are numbered as a script that opens them would number them.
+use Rattle.std.specs.Prelude.{ℕ, Bool, ◌≡◌, true, false, List, [], ◌∷◌, map, codes, Option, Some, None, option_map, refl}
+use Rattle.nm_types.specs.declared.id.Side.{Side}
+use Rattle.nm_types.specs.declared.id.Side.TheVariants.{Tx, Rx}
+use Rattle.nm_types.specs.declared.id.Chain.{Chain}
+use Rattle.nm_types.specs.declared.fault.SyncFault.{SyncFault}
+use Rattle.nm_types.specs.declared.fault.SyncFault.TheVariants.{HeadOut, CurOut, Indirect, IndexOut, NotHeld, Doubled, Unannounced, LongLen, Fragment}
+use Rattle.nm_types.specs.Positions.{RingState}
+use Rattle.nm_types.specs.Frames.{Frame}
+use Rattle.nm_types.specs.Slots.{SlotState, pushed_frames}
+use Rattle.nm_types.specs.OwnPorts.{OwnRing, OwnPort, OwnState, Arrival, empty_own, bytes_at, port_with_id, ring_at, buffers_in, named_of, refusal_in, pushed_on}
+use Rattle.nm_types.specs.OwnSyncs.{own_after_open, own_after_send, own_after_put, own_after_receive, own_after_reset, own_after_finish, offered_slots, back_on, chain_in}
+use Rattle.nm_types.specs.OwnEdits.{SlotPlace, with_positions, with_all_back, user_slot_at, with_user_slot, with_slots_swapped, has_room, with_frame, with_forwarded, with_extra_link, with_head_of_chain}
+
+abbrev arrival : ℕ → Arrival
+arrival buffer = record { buffer = buffer; bytes = [] }
+
+-- a broadcast from 02:00:00:00:00:0a
+abbrev broadcast : List ℕ
+broadcast = 255 ∷ 255 ∷ 255 ∷ 255 ∷ 255 ∷ 255 ∷ 2 ∷ 0 ∷ 0 ∷ 0 ∷ 0 ∷ 10 ∷ 136 ∷ 181 ∷ []
+
+-- the first refusal of a sync of a port's ring; none where there is no such ring
+abbrev refusal_on : Side → ℕ → OwnState → Option SyncFault
+refusal_on side id s = refusal_by (ring_at side s id)
+  where
+    refusal_by : Option OwnRing → Option SyncFault
+    refusal_by None = None
+    refusal_by (Some r) = refusal_in side s r
+
+abbrev frames_on : ℕ → OwnState → List Frame
+frames_on id s = pushed_frames (bytes_at s) (pushed_on Tx id s)
+
+abbrev frame_of : List ℕ → Frame
+frame_of bytes = record { bytes = bytes; no_learn = false }
+
+abbrev held_on : Side → ℕ → OwnState → Option (List ℕ)
+held_on side id s = option_map (λ (r : OwnRing). r.held) (ring_at side s id)
+
+abbrev positions_on : Side → ℕ → OwnState → Option RingState
+positions_on side id s = option_map (λ (r : OwnRing). r.ring) (ring_at side s id)
+
+abbrev positions : ℕ → ℕ → ℕ → ℕ → RingState
+positions size head cur tail = record { size = size; head = head; cur = cur; tail = tail; accepted_head = head; last_tail = tail }
+
+abbrev detached : OwnState → ℕ → Option (List ℕ × Chain)
+detached s id = option_map (λ (p : OwnPort). (buffers_in p, chain_in s p)) (port_with_id s id)
+
+abbrev chain : ℕ → ℕ → Chain
+chain found astray = record { found = found; astray = astray }
+
+-- One port of 4 and 4 slots: transmit buffers 2 to 5.
+
+abbrev four_slots : OwnState
+four_slots = own_after_open 2 (codes "vale0:a") 4 4 (map arrival (2 ∷ 3 ∷ 4 ∷ 5 ∷ [])) (empty_own 64)
+
+opened_names_all_but_one : named_of four_slots ≡ 2 ∷ 3 ∷ 4 ∷ []
+opened_names_all_but_one = refl
+
+received_positions_out : refusal_on Rx 2 (with_positions Rx 2 1 1 four_slots) ≡ Some (HeadOut 1 0 0)
+received_positions_out = refl
+
+cur_behind_head : refusal_on Tx 2 (with_positions Tx 2 2 1 four_slots) ≡ Some (CurOut 1 2 3)
+cur_behind_head = refl
+
+head_no_slot : refusal_on Tx 2 (with_positions Tx 2 4 4 four_slots) ≡ Some (HeadOut 4 0 3)
+head_no_slot = refl
+
+-- a reset is as if nothing had been written, on either ring
+received_reset : own_after_reset 2 Rx (with_positions Rx 2 1 1 four_slots) ≡ four_slots
+received_reset = refl
+
+positions_reset : own_after_reset 2 Tx (with_positions Tx 2 2 1 four_slots) ≡ four_slots
+positions_reset = refl
+
+nothing_pushed : frames_on 2 (own_after_reset 2 Tx (with_positions Tx 2 4 4 four_slots)) ≡ []
+nothing_pushed = refl
+
+abbrev one_put : OwnState
+one_put = with_frame 2 broadcast four_slots
+
+one_frame : frames_on 2 one_put ≡ frame_of broadcast ∷ []
+one_frame = refl
+
+-- the slot 0 of the frame put, changed
+abbrev first_slot : ℕ → ℕ → ℕ → OwnState
+first_slot idx len flags = with_user_slot Tx 2 0 (record { buf_idx = idx; len = len; flags = flags; ptr = 0 }) one_put
+
+index_one : refusal_on Tx 2 (first_slot 1 14 0) ≡ Some (IndexOut 0 1)
+index_one = refl
+
+index_past_pool : refusal_on Tx 2 (first_slot 66 14 0) ≡ Some (IndexOut 0 66)
+index_past_pool = refl
+
+index_of_kernel_side : refusal_on Tx 2 (first_slot 6 14 0) ≡ Some (NotHeld 0 6)
+index_of_kernel_side = refl
+
+-- the buffer in the slot that the kernel side keeps is the session's, and no named one
+index_of_kept_slot : refusal_on Tx 2 (first_slot 5 14 0) ≡ Some (NotHeld 0 5)
+index_of_kept_slot = refl
+
+long_frame : refusal_on Tx 2 (first_slot 2 2049 0) ≡ Some (LongLen 0 2049)
+long_frame = refl
+
+indirect_slot : refusal_on Tx 2 (first_slot 2 14 16) ≡ Some (Indirect 0)
+indirect_slot = refl
+
+frame_goes_on : refusal_on Tx 2 (first_slot 2 14 32) ≡ Some (Fragment 0)
+frame_goes_on = refl
+
+-- within a slot the checks have an order, and the first slot refused is told
+indirect_before_index : refusal_on Tx 2 (first_slot 1 2049 16) ≡ Some (Indirect 0)
+indirect_before_index = refl
+
+abbrev twice_named : OwnState
+twice_named = with_user_slot Tx 2 1 (record { buf_idx = 2; len = 14; flags = 1; ptr = 0 }) (with_frame 2 broadcast one_put)
+
+doubled_slot : refusal_on Tx 2 twice_named ≡ Some (Doubled 1 2)
+doubled_slot = refl
+
+abbrev put_again : OwnState
+put_again = with_frame 2 broadcast (own_after_reset 2 Tx twice_named)
+
+put_after_reset : refusal_on Tx 2 put_again ≡ None
+put_after_reset = refl
+
+sent_after_reset : frames_on 2 put_again ≡ frame_of broadcast ∷ []
+sent_after_reset = refl
+
+send_moves_tail : positions_on Tx 2 (own_after_send 2 put_again) ≡ Some (positions 4 1 1 0)
+send_moves_tail = refl
+
+-- a reset moves no buffer, and sets the slots to the buffers in their places
+reset_moves_nothing : held_on Tx 2 (own_after_reset 2 Tx twice_named) ≡ Some (2 ∷ 3 ∷ 4 ∷ 5 ∷ [])
+reset_moves_nothing = refl
+
+reset_names_place : user_slot_at Tx (own_after_reset 2 Tx twice_named) 2 1 ≡ Some (record { buf_idx = 3; len = 0; flags = 0; ptr = 0 })
+reset_names_place = refl
+
+-- a full ring has no room, and a shorter frame leaves the old bytes behind it
+three_put : has_room (with_frame 2 broadcast (with_frame 2 broadcast one_put)) 2 ≡ false
+three_put = refl
+
+old_bytes_stay : frames_on 2 (with_user_slot Tx 2 0 (record { buf_idx = 2; len = 3; flags = 0; ptr = 0 }) (with_frame 2 (1 ∷ []) (with_positions Tx 2 0 0 one_put)))
+    ≡ frame_of (1 ∷ 255 ∷ 255 ∷ []) ∷ []
+old_bytes_stay = refl
+
+-- Two slots whose buffers change places must both be announced: the places are those before the sync.
+
+abbrev two_crossed : ℕ → OwnState
+two_crossed flags =
+    with_user_slot Tx 2 1 (record { buf_idx = 2; len = 1; flags = flags; ptr = 0 })
+    (with_user_slot Tx 2 0 (record { buf_idx = 3; len = 2; flags = 1; ptr = 0 }) (with_positions Tx 2 2 2 four_slots))
+
+crossed_announced_once : refusal_on Tx 2 (two_crossed 0) ≡ Some (Unannounced 1 2 3)
+crossed_announced_once = refl
+
+crossed_announced_twice : refusal_on Tx 2 (two_crossed 1) ≡ None
+crossed_announced_twice = refl
+
+-- each pushed place holds the buffer that its slot names, once, and is announced no longer
+crossed_places : held_on Tx 2 (own_after_send 2 (two_crossed 1)) ≡ Some (3 ∷ 2 ∷ 4 ∷ 5 ∷ [])
+crossed_places = refl
+
+crossed_slot : user_slot_at Tx (own_after_send 2 (two_crossed 1)) 2 0 ≡ Some (record { buf_idx = 3; len = 2; flags = 0; ptr = 0 })
+crossed_slot = refl
+
+-- the other end of an exchange keeps naming the buffer that left, and meets that at its own sync
+abbrev third_taken : ℕ → OwnState
+third_taken head = own_after_send 2 (with_user_slot Tx 2 0 (record { buf_idx = 4; len = 0; flags = 1; ptr = 0 }) (with_positions Tx 2 head head four_slots))
+
+third_place : held_on Tx 2 (third_taken 2) ≡ Some (4 ∷ 3 ∷ 2 ∷ 5 ∷ [])
+third_place = refl
+
+third_unannounced : refusal_on Tx 2 (with_positions Tx 2 3 3 (third_taken 2)) ≡ Some (Unannounced 2 4 2)
+third_unannounced = refl
+
+-- where the buffer stands in the slot that the kernel side keeps, it is no named one
+third_not_named : refusal_on Tx 2 (with_positions Tx 2 3 3 (third_taken 1)) ≡ Some (NotHeld 2 4)
+third_not_named = refl
+
+-- A port that got a frame swaps the buffer into its transmit ring and sends it without copying it.
+
+abbrev second_user : OwnState
+second_user = own_after_receive 4 (record { buffer = 14; bytes = broadcast } ∷ []) (own_after_open 4 (codes "vale0:b") 4 4 (map arrival (10 ∷ 11 ∷ 12 ∷ 13 ∷ [])) (empty_own 64))
+
+got_frame : user_slot_at Rx second_user 4 0 ≡ Some (record { buf_idx = 14; len = 14; flags = 0; ptr = 0 })
+got_frame = refl
+
+abbrev slot_place : Side → SlotPlace
+slot_place side = record { side = side; port = 4; at = 0 }
+
+abbrev with_len : ℕ → Option SlotState → OwnState → OwnState
+with_len len None s = s
+with_len len (Some slot) s = with_user_slot Tx 4 0 (record slot { len = len }) s
+
+abbrev swap_pushed : Bool → OwnState
+swap_pushed announce = pushed_after (with_slots_swapped announce (slot_place Rx) (slot_place Tx) second_user)
+  where
+    pushed_after : OwnState → OwnState
+    pushed_after s = with_positions Tx 4 1 1 (with_len 14 (user_slot_at Tx s 4 0) s)
+
+swap_accepted : refusal_on Tx 4 (swap_pushed true) ≡ None
+swap_accepted = refl
+
+swap_frames : frames_on 4 (swap_pushed true) ≡ frame_of broadcast ∷ []
+swap_frames = refl
+
+abbrev swap_sent : OwnState
+swap_sent = with_all_back 4 (own_after_send 4 (swap_pushed true))
+
+swap_places : held_on Tx 4 swap_sent ≡ Some (14 ∷ 11 ∷ 12 ∷ 13 ∷ [])
+swap_places = refl
+
+-- the other slot was announced too, so its own sync accepts the exchange
+swap_back : refusal_on Rx 4 swap_sent ≡ None
+swap_back = refl
+
+swap_gives_back : back_on 4 swap_sent ≡ 10 ∷ []
+swap_gives_back = refl
+
+swap_buffer_gone : bytes_at (own_after_receive 4 [] swap_sent) 10 ≡ []
+swap_buffer_gone = refl
+
+quiet_swap_refused : refusal_on Tx 4 (swap_pushed false) ≡ Some (Unannounced 0 14 10)
+quiet_swap_refused = refl
+
+quiet_swap_refused_there : refusal_on Rx 4 (with_all_back 4 (own_after_reset 4 Tx (swap_pushed false))) ≡ Some (Unannounced 0 10 14)
+quiet_swap_refused_there = refl
+
+-- forwarding does the same, with the length, and moves all four positions
+abbrev forwarded : OwnState
+forwarded = with_forwarded 9 4 4 second_user
+
+forward_accepted : refusal_on Tx 4 forwarded ≡ None
+forward_accepted = refl
+
+forward_frames : frames_on 4 forwarded ≡ frame_of broadcast ∷ []
+forward_frames = refl
+
+forward_back : back_on 4 (own_after_send 4 forwarded) ≡ 10 ∷ []
+forward_back = refl
+
+-- A ring of 2 slots and three extra buffers, 6, 7 and 8.
+
+abbrev with_extras : OwnState
+with_extras = own_after_open 2 (codes "vale0:a") 2 2 (map arrival (2 ∷ 3 ∷ 6 ∷ 7 ∷ 8 ∷ [])) (empty_own 64)
+
+cur_behind_head_of_two : refusal_on Tx 2 (with_positions Tx 2 1 0 with_extras) ≡ Some (CurOut 0 1 1)
+cur_behind_head_of_two = refl
+
+greatest_head : refusal_on Tx 2 (with_positions Tx 2 4294967295 0 with_extras) ≡ Some (HeadOut 4294967295 0 1)
+greatest_head = refl
+
+all_extras_found : detached with_extras 2 ≡ Some (2 ∷ 3 ∷ 6 ∷ 7 ∷ 8 ∷ [], chain 3 0)
+all_extras_found = refl
+
+second_links_back : detached (with_extra_link 2 2 1 with_extras) 2 ≡ Some (2 ∷ 3 ∷ 6 ∷ 7 ∷ 8 ∷ [], chain 2 1)
+second_links_back = refl
+
+second_links_to_itself : detached (with_extra_link 2 2 2 with_extras) 2 ≡ Some (2 ∷ 3 ∷ 6 ∷ 7 ∷ 8 ∷ [], chain 2 1)
+second_links_to_itself = refl
+
+no_head : detached (with_extra_link 2 0 0 with_extras) 2 ≡ Some (2 ∷ 3 ∷ 6 ∷ 7 ∷ 8 ∷ [], chain 0 3)
+no_head = refl
+
+head_at_a_slot : detached (with_head_of_chain 2 2 with_extras) 2 ≡ Some (2 ∷ 3 ∷ 6 ∷ 7 ∷ 8 ∷ [], chain 0 3)
+head_at_a_slot = refl
+
+no_such_extra : with_extra_link 2 1 4 with_extras ≡ with_extras
+no_such_extra = refl
+
+-- an extra buffer that was sent stands in a slot, and the one that stood there is no part of the chain
+abbrev extra_sent : OwnState
+extra_sent = own_after_send 2 (with_user_slot Tx 2 0 (record { buf_idx = 6; len = 0; flags = 1; ptr = 0 }) (with_positions Tx 2 1 1 with_extras))
+
+extra_exchanged : detached extra_sent 2 ≡ Some (6 ∷ 3 ∷ 2 ∷ 7 ∷ 8 ∷ [], chain 0 3)
+extra_exchanged = refl
+
+nothing_left : own_after_finish 2 (2 ∷ 3 ∷ 6 ∷ 7 ∷ 8 ∷ []) with_extras ≡ empty_own 64
+nothing_left = refl
+
+-- A pipe takes one of two frames, and then the other; the buffers 12 and 13 come for them.
+
+abbrev pipe_pushed : OwnState
+pipe_pushed = with_frame 3 broadcast (with_frame 3 broadcast (own_after_open 3 (codes "pipe0{") 4 4 (map arrival (2 ∷ 3 ∷ 4 ∷ 5 ∷ [])) (empty_own 64)))
+
+abbrev one_taken : OwnState
+one_taken = own_after_put 3 (arrival 12 ∷ []) pipe_pushed
+
+one_taken_places : held_on Tx 3 one_taken ≡ Some (12 ∷ 3 ∷ 4 ∷ 5 ∷ [])
+one_taken_places = refl
+
+one_taken_positions : positions_on Tx 3 one_taken ≡ Some (positions 4 2 2 0)
+one_taken_positions = refl
+
+-- the frame that was not taken is offered again, and its buffer is named by nobody meanwhile
+one_offered : option_map offered_slots (ring_at Tx one_taken 3) ≡ Some (1 ∷ [])
+one_offered = refl
+
+one_named : named_of one_taken ≡ 4 ∷ 5 ∷ []
+one_named = refl
+
+abbrev none_taken : OwnState
+none_taken = own_after_put 3 [] one_taken
+
+none_taken_offered : option_map offered_slots (ring_at Tx none_taken 3) ≡ Some (1 ∷ [])
+none_taken_offered = refl
+
+abbrev both_taken : OwnState
+both_taken = own_after_put 3 (arrival 13 ∷ []) none_taken
+
+both_taken_places : held_on Tx 3 both_taken ≡ Some (12 ∷ 13 ∷ 4 ∷ 5 ∷ [])
+both_taken_places = refl
+
+both_taken_positions : positions_on Tx 3 both_taken ≡ Some (positions 4 2 2 1)
+both_taken_positions = refl
+
+-- the slot of a frame that was taken keeps its length, and the buffer's bytes are zero
+taken_slot : user_slot_at Tx (with_positions Tx 3 1 1 both_taken) 3 0 ≡ Some (record { buf_idx = 12; len = 14; flags = 0; ptr = 0 })
+taken_slot = refl
+
+taken_buffer_gone : bytes_at both_taken 2 ≡ []
+taken_buffer_gone = refl
