@@ -17,3 +17,6 @@ pub mod Laws
 pub mod Delivered
 pub mod Fate
 pub mod DeliveryLaws
+pub mod Arrivals
+pub mod OwnCalls
+pub mod OwnCallRows

@@ -1,0 +1,67 @@
+-- The buffers that an entry brings to its session, each with the bytes of the frame in it; all its other
+-- bytes are zero.
+use Rattle.std.specs.Prelude.{ℕ, Bool, not, ◌&&◌, ◌==◌, ◌+◌, ◌-◌, if◌then◌else◌, List, [], ◌∷◌, ◌++◌, length, map, find, take, drop, slice_index, Option}
+use Rattle.std.specs.Option.{option_map_or}
+use Rattle.std.specs.List.{zip}
+use Rattle.std.specs.Str.{bytes_eq}
+use Rattle.nm_types.specs.Frames.{Frame}
+use Rattle.nm_types.specs.OwnPorts.{Arrival}
+use Rattle.vale_entry.specs.declared.entry.Ask.{Ask}
+use Rattle.vale_entry.specs.declared.entry.Ask.TheVariants.{Open, Sync, Get, PutKept}
+use Rattle.vale_entry.specs.declared.entry.Reply.{Reply}
+use Rattle.vale_entry.specs.declared.entry.Reply.TheVariants.{Opened, Gave, Took}
+use Rattle.vale_entry.specs.World.{Port, open_port}
+use Rattle.vale_entry.specs.Delivery.{ready_lots, delivered_frames}
+use Rattle.vale_entry.specs.Holdings.{PortBuffers, delivered_buffers}
+use Rattle.vale_entry.specs.Legal.{Standing}
+
+abbrev pub blank_arrival : ℕ → Arrival
+blank_arrival buffer = record { buffer = buffer; bytes = [] }
+
+abbrev pub frame_arrival : ℕ × Frame → Arrival
+frame_arrival (buffer, frame) = record { buffer = buffer; bytes = frame.bytes }
+
+-- an opening: the smallest free buffers for the transmit slots, and those behind the receive ring's
+-- for the extra positions
+abbrev pub opened_arrivals : ℕ → ℕ → ℕ → List ℕ → List Arrival
+opened_arrivals tx rx extra free = map blank_arrival (take tx free ++ take extra (drop (tx + rx) free))
+
+-- a sync: the frames that are ready at the port, each in its buffer
+abbrev pub given_arrivals : Standing → Port → List Arrival
+given_arrivals s port = map frame_arrival (zip (delivered_buffers port.id (length (ready_lots port)) s.holdings.ports) (delivered_frames port))
+
+-- a put: the first idle buffers of the other end, one for each frame taken
+abbrev pub other_brace : ℕ → ℕ
+other_brace brace = if brace == 123 then 125 else 123
+
+abbrev pub other_end_name : List ℕ → List ℕ
+other_end_name name = take (length name - 1) name ++ other_brace (slice_index name (length name - 1)) ∷ []
+
+abbrev pub idle_of : List PortBuffers → ℕ → List ℕ
+idle_of held id = option_map_or (λ (h : PortBuffers). h.idle) (find (λ (h : PortBuffers). h.port == id) held) []
+
+abbrev pub lent_arrivals : List PortBuffers → ℕ → ℕ → List Arrival
+lent_arrivals held id count = map blank_arrival (take count (idle_of held id))
+
+abbrev pub given_at : Standing → ℕ → List Arrival
+given_at s id = option_map_or (given_arrivals s) (open_port s.world.ports id) []
+
+abbrev pub is_open_named : List ℕ → Port → Bool
+is_open_named name port = bytes_eq name port.name && not port.shutting
+
+-- the open port that is the other end of this one
+abbrev pub other_end : Standing → Port → Option Port
+other_end s port = find (is_open_named (other_end_name port.name)) s.world.ports
+
+abbrev pub lent_to : Standing → ℕ → Port → List Arrival
+lent_to s count port = option_map_or (λ (peer : Port). lent_arrivals s.holdings.ports peer.id count) (other_end s port) []
+
+abbrev pub lent_at : Standing → ℕ → ℕ → List Arrival
+lent_at s id count = option_map_or (lent_to s count) (open_port s.world.ports id) []
+
+abbrev pub arrivals_of : Standing → Ask → Reply → List Arrival
+arrivals_of s (Open session name tx rx extra) Opened = opened_arrivals tx rx extra s.holdings.free
+arrivals_of s (Sync port back) (Gave count to) = given_at s port.0
+arrivals_of s (Get port back) (Gave count to) = given_at s port.0
+arrivals_of s (PutKept port offered) (Took items to) = lent_at s port.0 (length items)
+arrivals_of s _ _ = []
