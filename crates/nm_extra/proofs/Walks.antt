@@ -109,13 +109,6 @@ chain_is h port head extras found all e =
     ap (λ (n : ℕ). let c : Chain = record { found = n; astray = extras - n } in c) e ∙ ap (λ (n : ℕ). let c : Chain = record { found = found_in_chain (extras_of h port) (link_at h) head; astray = n - found_in_chain (extras_of h port) (link_at h) head } in c) all
 
 -- the walk ends where no buffer is left to meet, at one that is none of the port's, or at one that was met
-pub walk_is_over : (h : HoldState) (port : PortId) (head extras found at : ℕ) (met : List Bool) → Walked h port head extras found at met → extras ≡ length (extras_of h port) → extras ≤ found
-    → (record { found = found; astray = 0 }) ≡ chain_of (extras_of h port) (link_at h) head
-walk_is_over h port head extras found at met w all none =
-    let no_turns : extras - found ≡ 0 = omega arith in
-    let end : seen_in_chain (extras - found) (extras_of h port) (link_at h) w.seen at ≡ w.seen = ap (λ (n : ℕ). seen_in_chain n (extras_of h port) (link_at h) w.seen at) no_turns in
-    ap (λ (n : ℕ). let c : Chain = record { found = found; astray = n } in c) (sym no_turns) ∙ chain_is h port head extras found all (ended h port head extras found at met w all end)
-
 pub walk_leaves : (h : HoldState) (port : PortId) (head extras found at : ℕ) (met : List Bool) → IsHold h → Walked h port head extras found at met → extras ≡ length (extras_of h port) → position_at h port at ≡ None
     → (record { found = found; astray = extras - found }) ≡ chain_of (extras_of h port) (link_at h) head
 walk_leaves h port head extras found at met hold w all none =

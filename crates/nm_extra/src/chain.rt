@@ -1,4 +1,5 @@
-ghost use Rattle.std.specs.Prelude.{◌≡◌, ◌≤◌, ◌<◌, length, None, Some, IsSome, MatchOption, option_map, false};
+ghost use Rattle.std.specs.Prelude.{◌≡◌, ◌≤◌, ◌<◌, length, None, Some, IsSome, MatchOption};
+ghost use Rattle.std.specs.Prelude.{option_map, false};
 ghost use Rattle.nm_types.specs.Chain.{linked, link_of, chain_of};
 ghost use Rattle.nm_hold.specs.Holds.{IsHold};
 ghost use Rattle.nm_extra.specs.Extras.{extras_of, link_at, position_at};
@@ -8,7 +9,7 @@ use nm_hold::Hold;
 use nm_region::Buf;
 use nm_types::{Chain, MAX_EXTRA, Place, PortId};
 
-/// Links a buffer to the next one of its chain, by its first four bytes; 0 ends the chain.
+/// Links a buffer to the next one of its chain by its first four bytes. 0 ends the chain.
 pub fn link(buf: &mut Buf, next: u32)
     ensures { buf.new ≡ record buf.old { bytes = linked next buf.old.bytes } }
 {
@@ -29,7 +30,7 @@ fn link_in(bytes: &[u8]) -> u32
     LittleEndian::read_u32(bytes)
 }
 
-// The link in the buffer of an index.
+/// The link in the buffer of an index.
 fn next(hold: &Hold, idx: u32) -> u32
     ensures { result ≡ link_at hold.now idx }
 {
@@ -39,7 +40,7 @@ fn next(hold: &Hold, idx: u32) -> u32
     }
 }
 
-// The extra position of a port in which the buffer of an index stands.
+/// The extra position of a port in which the buffer of an index stands.
 fn position(hold: &Hold, port: PortId, idx: u32) -> Option<u32>
     ensures { result ≡ position_at hold.now port idx }
 {
@@ -49,13 +50,13 @@ fn position(hold: &Hold, port: PortId, idx: u32) -> Option<u32>
     }
 }
 
-// How many extra positions of a port hold a buffer.
+/// The number of extra positions of a port that hold a buffer.
 fn held(hold: &Hold, port: PortId) -> u32
     ensures count { result ≡ length (extras_of hold.now port) }
     ensures hold { IsHold hold.now }
 {
     let mut count = 0;
-    for at in 0..hold.extras(port) {
+    for at in 0..hold.extra_count(port) {
         if hold.index(Place::Extra { port, at }).is_some() {
             count += 1;
         }
@@ -63,9 +64,9 @@ fn held(hold: &Hold, port: PortId) -> u32
     count
 }
 
-/// Follows the chain of a port's extra buffers from `head`, until 0, an index that is in no extra
-/// position of the port, or one that it has met: how many buffers it met, and how many are left. The
-/// bytes of the buffers may be any.
+/// Follows the chain of a port's extra buffers from `head` to its end: 0, an index that is in no
+/// extra position of the port, or one that it has met. Counts the buffers that it met, and the other
+/// ones. The buffers may hold any bytes.
 pub fn walk(hold: &Hold, port: PortId, head: u32) -> Chain
     ensures { result ≡ chain_of (extras_of hold.now port) (link_at hold.now) head }
 {

@@ -16,7 +16,7 @@ fn extra(at: u32) -> Place {
     Place::Extra { port: PORT, at }
 }
 
-// The buffers 6, 7 and 8 in the extra positions, each linked to the next.
+/// The buffers 6, 7 and 8 in the extra positions, each linked to the next.
 fn fill(rt: &impl Abort, hold: &mut Hold, mut six: Buf, mut seven: Buf, mut eight: Buf)
     requires hold { hold.old ≡ record (empty_hold 64) {
       ports = record { port = record { 0 = 2 }; sizes = record { tx = 2; rx = 2; extra = 3 } } ∷ [];
@@ -48,7 +48,7 @@ fn name(rt: &impl Abort, hold: &mut Hold, place: Place)
     hold.set_named(place, true);
 }
 
-// Sets the lowest byte of a buffer's link.
+/// Sets the lowest byte of a buffer's link.
 fn relink(rt: &impl Abort, hold: &mut Hold, idx: u32, next: u8)
     ensures { (i : ℕ) → name_at hold.new i ≡ name_at hold.old i }
 {
@@ -66,7 +66,7 @@ fn is_found(hold: &Hold, head: u32, found: u32) -> bool {
         }
 }
 
-// The chain from 6, once 7 is linked to another buffer.
+/// The chain from 6, once 7 is linked to another buffer.
 fn walks_by(rt: &impl Abort, hold: &mut Hold, seventh: u8, found: u32)
     ensures { (i : ℕ) → name_at hold.new i ≡ name_at hold.old i }
 {
@@ -89,7 +89,7 @@ fn walk_all(rt: &impl Abort, hold: &mut Hold)
     walks_by(rt, hold, 8, 3);
 }
 
-// Takes the buffer out of an extra position, which holds the one of an index.
+/// Takes the buffer out of an extra position, which holds the one of an index.
 fn take(rt: &impl Abort, hold: &mut Hold, at: u32, idx: u32) -> Buf
     ensures index { result.index ≡ idx }
     ensures name { name_at hold.old idx ≡ Some (name_of result) }
@@ -102,7 +102,7 @@ fn take(rt: &impl Abort, hold: &mut Hold, at: u32, idx: u32) -> Buf
     buf
 }
 
-// The last three buffers come to the hold, are walked, and go back.
+/// The last three buffers come to the hold, are walked, and go back.
 fn play(rt: &impl Abort, hold: &mut Hold, all: &mut Vec<Buf>)
     requires hold { hold.old ≡ record (empty_hold 64) {
       ports = record { port = record { 0 = 2 }; sizes = record { tx = 2; rx = 2; extra = 3 } } ∷ [];
@@ -124,9 +124,8 @@ fn play(rt: &impl Abort, hold: &mut Hold, all: &mut Vec<Buf>)
     all.push_reserved(eight);
 }
 
-// Ends a hold, after a look that no buffer is in it.
+/// Ends a hold, after a look that no buffer is in it.
 fn close_empty(rt: &impl Abort, hold: Hold) {
-    assert!(rt; hold.extras(PORT) <= 3);
     for idx in 0..65538 {
         assert!(rt; hold.buffer(idx).is_none());
     }

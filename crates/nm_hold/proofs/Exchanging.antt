@@ -3,6 +3,7 @@ use Rattle.std.proofs.Common.{ℕ, zero, suc, ◌≡◌, ◌≢◌, ◌<◌, tru
 use Rattle.std.proofs.lemmas.Bool.{cases_Bool}
 use Rattle.std.proofs.lemmas.Bool.Decides.{nat_tests}
 use Rattle.std.proofs.lemmas.List.{get_or-set_same, get_or-set_other, length-set}
+use Rattle.std.proofs.Math.Seq.{map-set_same}
 use Rattle.nm_types.specs.declared.place.Place.{Place}
 use Rattle.nm_types.specs.Places.{Held, held_at, is_same_place}
 use Rattle.nm_types.specs.Exchange.{exchanged, swapped}
@@ -175,6 +176,11 @@ module _ (cells : List (Option Standing)) (tables new : List PortTable) (place :
       | inr not_was ↦ ap buf_in (cell_other i (apart_from i idx not_idx) (apart_from i was not_was))
     ]
   ]
+
+  pub all_moved : map buf_in moved ≡ map buf_in cells
+  all_moved =
+      let still : cell_at (slice_set cells was (Some moved_there)) idx ≡ Some t = get_or-set_other cells was idx (Some moved_there) None x.other ∙ x.there in
+      map-set_same buf_in (slice_set cells was (Some moved_there)) idx (Some moved_here) None (sym (ap buf_in still)) ∙ map-set_same buf_in cells was (Some moved_there) None (sym (ap buf_in x.here))
 
   pub named_moved : (i : ℕ) → is_named_in (cell_at moved i) ≡ is_named_in (cell_at cells (swapped was idx i))
   named_moved i = elim (cases_Bool (nat_eq i idx)) [

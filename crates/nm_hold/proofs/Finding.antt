@@ -12,7 +12,7 @@ use Rattle.nm_hold.specs.declared.table.PortTable.{PortTable}
 use Rattle.nm_hold.specs.Offsets.{offset_of, has_port, ArePortsOnce}
 use Rattle.nm_hold.specs.Holds.{port_of}
 use Rattle.nm_hold.specs.Tables.{IsTable, ports_of, number_in, number_at, put_in}
-use Rattle.nm_hold.specs.Indexed.{present, row_at, port_in, port_at, noted, IsIndexed, AreKeys}
+use Rattle.nm_hold.specs.Indexed.{tables_present, row_at, port_in, port_at, index_noted, IsIndexed, AreKeys}
 use Rattle.nm_hold.proofs.Spots.{nat_eq-is, offset-port}
 use Rattle.nm_hold.proofs.Numbers.{without}
 
@@ -38,11 +38,6 @@ or_true : (a b : Bool) → b ≡ true → (a || b) ≡ true
 or_true true b e = refl
 or_true false b e = e
 
--- the table in a row that has a port
-pub table_in : (row : Option PortTable) (port : ℕ) → port_in row ≡ Some port → (t : PortTable) × (row ≡ Some t) × (t.places.port.0 ≡ port)
-table_in None port e = none_some port e
-table_in (Some t) port e = (t, refl, some_is t.places.port.0 port e)
-
 -- what is read at a row
 pub row_read : (rows : List (Option PortTable)) (at : ℕ) (row : Option PortTable) → at < length rows → row ≡ get_or rows at row → row ≡ row_at rows at
 row_read rows at row h e = get_or_read rows at row h e None
@@ -63,14 +58,14 @@ tail_apart : (s : Option PortTable) (rows : List (Option PortTable)) → AreApar
 tail_apart s rows apart at other port e f = let next : suc at ≡ suc other = apart (suc at) (suc other) port e f in omega (arith, next)
 
 -- a row has the port exactly where it is among those present
-pub port-there : (rows : List (Option PortTable)) (at port : ℕ) → port_at rows at ≡ Some port → has_port (ports_of (present rows)) port ≡ true
+pub port-there : (rows : List (Option PortTable)) (at port : ℕ) → port_at rows at ≡ Some port → has_port (ports_of (tables_present rows)) port ≡ true
 port-there [] at port e = none_some port e
 port-there (None ∷ rows) zero port e = none_some port e
 port-there (None ∷ rows) (suc at) port e = port-there rows at port e
 port-there (Some t ∷ rows) zero port e = rw (nat_eq-same t.places.port.0 port (some_is t.places.port.0 port e)) refl
-port-there (Some t ∷ rows) (suc at) port e = or_true (nat_eq t.places.port.0 port) (has_port (ports_of (present rows)) port) (port-there rows at port e)
+port-there (Some t ∷ rows) (suc at) port e = or_true (nat_eq t.places.port.0 port) (has_port (ports_of (tables_present rows)) port) (port-there rows at port e)
 
-pub row-there : (rows : List (Option PortTable)) (port : ℕ) → has_port (ports_of (present rows)) port ≡ true → (at : ℕ) × (port_at rows at ≡ Some port)
+pub row-there : (rows : List (Option PortTable)) (port : ℕ) → has_port (ports_of (tables_present rows)) port ≡ true → (at : ℕ) × (port_at rows at ≡ Some port)
 row-there [] port has = cc
 row-there (None ∷ rows) port has = let rest = row-there rows port has in (suc rest.0, rest.1)
 row-there (Some t ∷ rows) port has = elim (cases_Bool (nat_eq t.places.port.0 port)) [
@@ -78,18 +73,18 @@ row-there (Some t ∷ rows) port has = elim (cases_Bool (nat_eq t.places.port.0 
   | inr differs ↦ (let rest = row-there rows port (rw differs at has) in (suc rest.0, rest.1))
 ]
 
-pub once-apart : (rows : List (Option PortTable)) → AreApart rows → ArePortsOnce (ports_of (present rows))
+pub once-apart : (rows : List (Option PortTable)) → AreApart rows → ArePortsOnce (ports_of (tables_present rows))
 once-apart [] apart = tt
 once-apart (None ∷ rows) apart = once-apart rows (tail_apart None rows apart)
 once-apart (Some t ∷ rows) apart = (
-  elim (cases_Bool (has_port (ports_of (present rows)) t.places.port.0)) [
+  elim (cases_Bool (has_port (ports_of (tables_present rows)) t.places.port.0)) [
     | inl has ↦ (let there = row-there rows t.places.port.0 has in let same : 0 ≡ suc there.0 = apart 0 (suc there.0) t.places.port.0 refl there.1 in absurd (omega (arith, same)))
     | inr none ↦ none
   ],
   once-apart rows (tail_apart (Some t) rows apart),
 )
 
-pub apart-once : (rows : List (Option PortTable)) → ArePortsOnce (ports_of (present rows)) → AreApart rows
+pub apart-once : (rows : List (Option PortTable)) → ArePortsOnce (ports_of (tables_present rows)) → AreApart rows
 apart-once [] once at other port e f = none_some port e
 apart-once (None ∷ rows) once zero other port e f = none_some port e
 apart-once (None ∷ rows) once (suc at) zero port e f = none_some port f
@@ -97,25 +92,25 @@ apart-once (None ∷ rows) once (suc at) (suc other) port e f = ap suc (apart-on
 apart-once (Some t ∷ rows) once zero zero port e f = refl
 apart-once (Some t ∷ rows) once zero (suc other) port e f =
     let same : t.places.port.0 ≡ port = some_is t.places.port.0 port e in
-    true_false (sym (port-there rows other port f) ∙ (ap (has_port (ports_of (present rows))) (sym same) ∙ once.0))
+    true_false (sym (port-there rows other port f) ∙ (ap (has_port (ports_of (tables_present rows))) (sym same) ∙ once.0))
 apart-once (Some t ∷ rows) once (suc at) zero port e f =
     let same : t.places.port.0 ≡ port = some_is t.places.port.0 port f in
-    true_false (sym (port-there rows at port e) ∙ (ap (has_port (ports_of (present rows))) (sym same) ∙ once.0))
+    true_false (sym (port-there rows at port e) ∙ (ap (has_port (ports_of (tables_present rows))) (sym same) ∙ once.0))
 apart-once (Some t ∷ rows) once (suc at) (suc other) port e f = ap suc (apart-once rows once.1 at other port e f)
 
 -- the numbers that are found are those of the ports
 pub keys-indexed : (rows : List (Option PortTable)) (index : ℕ → Option ℕ) → IsIndexed rows index → AreKeys rows index
 keys-indexed rows index is = record { once = once-apart rows (apart-indexed rows index is); known = λ port. by_index port (index port) refl }
   where
-    by_index : (port : ℕ) (o : Option ℕ) → index port ≡ o → is_some (index port) ≡ has_port (ports_of (present rows)) port
+    by_index : (port : ℕ) (o : Option ℕ) → index port ≡ o → is_some (index port) ≡ has_port (ports_of (tables_present rows)) port
     by_index port (Some at) e = rw e (sym (port-there rows at port (is.there at port e)))
-    by_index port None e = elim (cases_Bool (has_port (ports_of (present rows)) port)) [
+    by_index port None e = elim (cases_Bool (has_port (ports_of (tables_present rows)) port)) [
       | inl has ↦ (let there = row-there rows port has in none_some there.0 (sym e ∙ is.found there.0 port there.1))
       | inr none ↦ rw (e, none) refl
     ]
 
 -- the table of a port
-pub find-row : (rows : List (Option PortTable)) (at port : ℕ) → AreApart rows → port_at rows at ≡ Some port → find (λ (t : PortTable). nat_eq t.places.port.0 port) (present rows) ≡ row_at rows at
+pub find-row : (rows : List (Option PortTable)) (at port : ℕ) → AreApart rows → port_at rows at ≡ Some port → find (λ (t : PortTable). nat_eq t.places.port.0 port) (tables_present rows) ≡ row_at rows at
 find-row [] at port apart e = none_some port e
 find-row (None ∷ rows) zero port apart e = none_some port e
 find-row (None ∷ rows) (suc at) port apart e = find-row rows at port (tail_apart None rows apart) e
@@ -124,8 +119,8 @@ find-row (Some t ∷ rows) (suc at) port apart e =
     let differ : t.places.port.0 ≢ port = (λ (same : t.places.port.0 ≡ port). let first : 0 ≡ suc at = apart 0 (suc at) port (ap (λ (n : ℕ). Some n) same) e in absurd (omega (arith, first))) in
     rw (nat_eq-differs t.places.port.0 port differ) (find-row rows at port (tail_apart (Some t) rows apart) e)
 
-pub find-none : (rows : List (Option PortTable)) (port : ℕ) → has_port (ports_of (present rows)) port ≡ false → find (λ (t : PortTable). nat_eq t.places.port.0 port) (present rows) ≡ None
-find-none rows port none = over (present rows) none
+pub find-none : (rows : List (Option PortTable)) (port : ℕ) → has_port (ports_of (tables_present rows)) port ≡ false → find (λ (t : PortTable). nat_eq t.places.port.0 port) (tables_present rows) ≡ None
+find-none rows port none = over (tables_present rows) none
   where
     over : (tables : List PortTable) → has_port (ports_of tables) port ≡ false → find (λ (t : PortTable). nat_eq t.places.port.0 port) tables ≡ None
     over [] none = refl
@@ -134,7 +129,7 @@ find-none rows port none = over (present rows) none
       | inr differs ↦ rw differs (over tables (rw differs at none))
     ]
 
-pub no_index : (rows : List (Option PortTable)) (index : ℕ → Option ℕ) (port : ℕ) → IsIndexed rows index → index port ≡ None → has_port (ports_of (present rows)) port ≡ false
+pub no_index : (rows : List (Option PortTable)) (index : ℕ → Option ℕ) (port : ℕ) → IsIndexed rows index → index port ≡ None → has_port (ports_of (tables_present rows)) port ≡ false
 no_index rows index port is e = let keys = keys-indexed rows index is in sym (keys.known port) ∙ ap is_some e
 
 -- the number at a place is in the table of its port
@@ -183,8 +178,8 @@ put-port place number (Some t) = by_offset (offset_of t.places place) refl
     by_offset (Some at) e = rw e refl
     by_offset None e = rw e refl
 
-pub put-absent : (rows : List (Option PortTable)) (place : Place) (number : ℕ) → has_port (ports_of (present rows)) (port_of place) ≡ false → map (put_in place number) (present rows) ≡ present rows
-put-absent rows place number none = over (present rows) none
+pub put-absent : (rows : List (Option PortTable)) (place : Place) (number : ℕ) → has_port (ports_of (tables_present rows)) (port_of place) ≡ false → map (put_in place number) (tables_present rows) ≡ tables_present rows
+put-absent rows place number none = over (tables_present rows) none
   where
     over : (tables : List PortTable) → has_port (ports_of tables) (port_of place) ≡ false → map (put_in place number) tables ≡ tables
     over [] none = refl
@@ -195,14 +190,14 @@ put-absent rows place number none = over (present rows) none
     ]
 
 pub put-row : (rows : List (Option PortTable)) (at : ℕ) (place : Place) (number : ℕ) → AreApart rows → port_at rows at ≡ Some (port_of place)
-    → map (put_in place number) (present rows) ≡ present (slice_set rows at (option_map (put_in place number) (row_at rows at)))
+    → map (put_in place number) (tables_present rows) ≡ tables_present (slice_set rows at (option_map (put_in place number) (row_at rows at)))
 put-row [] at place number apart e = none_some (port_of place) e
 put-row (None ∷ rows) zero place number apart e = none_some (port_of place) e
 put-row (None ∷ rows) (suc at) place number apart e = put-row rows at place number (tail_apart None rows apart) e
 put-row (Some t ∷ rows) zero place number apart e =
     let once = once-apart (Some t ∷ rows) apart in
     let same : t.places.port.0 ≡ port_of place = some_is t.places.port.0 (port_of place) e in
-    let none : has_port (ports_of (present rows)) (port_of place) ≡ false = ap (has_port (ports_of (present rows))) (sym same) ∙ once.0 in
+    let none : has_port (ports_of (tables_present rows)) (port_of place) ≡ false = ap (has_port (ports_of (tables_present rows))) (sym same) ∙ once.0 in
     ap (λ (ts : List PortTable). put_in place number t ∷ ts) (put-absent rows place number none)
 put-row (Some t ∷ rows) (suc at) place number apart e =
     let differ : t.places.port.0 ≢ port_of place = (λ (same : t.places.port.0 ≡ port_of place).
@@ -230,12 +225,12 @@ indexed-put rows index at place number is = indexed-same rows (slice_set rows at
     same (s ∷ rows) (suc at) (suc other) = same rows at other
 
 -- one more table, behind the others
-pub present-push : (rows : List (Option PortTable)) (t : PortTable) → present (rows ++ Some t ∷ []) ≡ present rows ++ t ∷ []
+pub present-push : (rows : List (Option PortTable)) (t : PortTable) → tables_present (rows ++ Some t ∷ []) ≡ tables_present rows ++ t ∷ []
 present-push [] t = refl
 present-push (None ∷ rows) t = present-push rows t
 present-push (Some u ∷ rows) t = ap (λ (ts : List PortTable). u ∷ ts) (present-push rows t)
 
-pub indexed-push : (rows : List (Option PortTable)) (t : PortTable) (index new : ℕ → Option ℕ) → IsIndexed rows index → has_port (ports_of (present rows)) t.places.port.0 ≡ false
+pub indexed-push : (rows : List (Option PortTable)) (t : PortTable) (index new : ℕ → Option ℕ) → IsIndexed rows index → has_port (ports_of (tables_present rows)) t.places.port.0 ≡ false
     → ((port : ℕ) → new port ≡ (if nat_eq t.places.port.0 port then Some (length rows) else index port)) → IsIndexed (rows ++ Some t ∷ []) new
 indexed-push rows t index new is none put = record {
   found = λ at port e. elim (cases_Bool (nat_eq at (length rows))) [
@@ -244,7 +239,7 @@ indexed-push rows t index new is none put = record {
         let same = nat_eq-same t.places.port.0 port port_is in
         rw (put port, same, here) refl)
     | inr other ↦ (let before : port_at rows at ≡ Some port = sym (elsewhere rows at (apart_from at (length rows) other)) ∙ e in
-        let differ : t.places.port.0 ≢ port = (λ (same : t.places.port.0 ≡ port). true_false (sym (port-there rows at port before) ∙ (ap (has_port (ports_of (present rows))) (sym same) ∙ none))) in
+        let differ : t.places.port.0 ≢ port = (λ (same : t.places.port.0 ≡ port). true_false (sym (port-there rows at port before) ∙ (ap (has_port (ports_of (tables_present rows))) (sym same) ∙ none))) in
         rw (put port, nat_eq-differs t.places.port.0 port differ) (is.found at port before))
   ];
   there = λ at port e. elim (cases_Bool (nat_eq t.places.port.0 port)) [
@@ -267,8 +262,8 @@ indexed-push rows t index new is none put = record {
     elsewhere (s ∷ rows) (suc at) differ = elsewhere rows at (λ (e : at ≡ length rows). differ (ap suc e))
 
 -- a table is taken away
-pub without-absent : (rows : List (Option PortTable)) (port : ℕ) → has_port (ports_of (present rows)) port ≡ false → without port (present rows) ≡ present rows
-without-absent rows port none = over (present rows) none
+pub without-absent : (rows : List (Option PortTable)) (port : ℕ) → has_port (ports_of (tables_present rows)) port ≡ false → without port (tables_present rows) ≡ tables_present rows
+without-absent rows port none = over (tables_present rows) none
   where
     over : (tables : List PortTable) → has_port (ports_of tables) port ≡ false → without port tables ≡ tables
     over [] none = refl
@@ -277,14 +272,14 @@ without-absent rows port none = over (present rows) none
       | inr differs ↦ rw differs (ap (λ (ts : List PortTable). t ∷ ts) (over tables (rw differs at none)))
     ]
 
-pub without-row : (rows : List (Option PortTable)) (at port : ℕ) → AreApart rows → port_at rows at ≡ Some port → present (slice_set rows at None) ≡ without port (present rows)
+pub without-row : (rows : List (Option PortTable)) (at port : ℕ) → AreApart rows → port_at rows at ≡ Some port → tables_present (slice_set rows at None) ≡ without port (tables_present rows)
 without-row [] at port apart e = none_some port e
 without-row (None ∷ rows) zero port apart e = none_some port e
 without-row (None ∷ rows) (suc at) port apart e = without-row rows at port (tail_apart None rows apart) e
 without-row (Some t ∷ rows) zero port apart e =
     let once = once-apart (Some t ∷ rows) apart in
     let same : t.places.port.0 ≡ port = some_is t.places.port.0 port e in
-    let none : has_port (ports_of (present rows)) port ≡ false = ap (has_port (ports_of (present rows))) (sym same) ∙ once.0 in
+    let none : has_port (ports_of (tables_present rows)) port ≡ false = ap (has_port (ports_of (tables_present rows))) (sym same) ∙ once.0 in
     rw (nat_eq-same t.places.port.0 port same) (sym (without-absent rows port none))
 without-row (Some t ∷ rows) (suc at) port apart e =
     let differ : t.places.port.0 ≢ port = (λ (same : t.places.port.0 ≡ port). let first : 0 ≡ suc at = apart 0 (suc at) port (ap (λ (n : ℕ). Some n) same) e in absurd (omega (arith, first))) in
@@ -311,12 +306,12 @@ indexed-without rows at port index new is there gone = record {
 }
 
 -- rows without those that are empty
-pub present-closed : (rows : List (Option PortTable)) → present (filter (λ (s : Option PortTable). is_some s) rows) ≡ present rows
+pub present-closed : (rows : List (Option PortTable)) → tables_present (filter (λ (s : Option PortTable). is_some s) rows) ≡ tables_present rows
 present-closed [] = refl
 present-closed (None ∷ rows) = present-closed rows
 present-closed (Some t ∷ rows) = ap (λ (ts : List PortTable). t ∷ ts) (present-closed rows)
 
-pub keys-closed : (rows new : List (Option PortTable)) (index : ℕ → Option ℕ) → present new ≡ present rows → IsIndexed rows index → AreKeys new index
+pub keys-closed : (rows new : List (Option PortTable)) (index : ℕ → Option ℕ) → tables_present new ≡ tables_present rows → IsIndexed rows index → AreKeys new index
 keys-closed rows new index same is = let keys = keys-indexed rows index is in record {
   once = rw same keys.once;
   known = λ port. keys.known port ∙ ap (λ (ts : List PortTable). has_port (ports_of ts) port) (sym same);
@@ -329,7 +324,7 @@ IsNoted rows index next = (at port : ℕ) → at < next → port_at rows at ≡ 
 pub indexed-noted : (rows : List (Option PortTable)) (index : ℕ → Option ℕ) → AreKeys rows index → IsNoted rows index (length rows) → IsIndexed rows index
 indexed-noted rows index keys noted = record {
   found = all;
-  there = λ at port e. (let has : has_port (ports_of (present rows)) port ≡ true = sym (keys.known port) ∙ ap is_some e in
+  there = λ at port e. (let has : has_port (ports_of (tables_present rows)) port ≡ true = sym (keys.known port) ∙ ap is_some e in
       let there = row-there rows port has in
       let same : there.0 ≡ at = some_is there.0 at (sym (all there.0 port there.1) ∙ e) in
       ap (port_at rows) (sym same) ∙ there.1);
@@ -339,7 +334,7 @@ indexed-noted rows index keys noted = record {
     all at port e = noted at port (within_rows rows at port e) e
 
 pub noted-next : (rows : List (Option PortTable)) (index new : ℕ → Option ℕ) (next : ℕ) → AreKeys rows index → IsNoted rows index next
-    → ((port : ℕ) → new port ≡ noted (port_at rows next) next port (index port)) → IsNoted rows new (suc next)
+    → ((port : ℕ) → new port ≡ index_noted (port_at rows next) next port (index port)) → IsNoted rows new (suc next)
 noted-next rows index new next keys before put at other within e = by_port (port_at rows next) refl
   where
     by_port : (o : Option ℕ) → port_at rows next ≡ o → new other ≡ Some at
@@ -353,10 +348,10 @@ noted-next rows index new next keys before put at other within e = by_port (port
     ]
 
 pub keys-noted : (rows : List (Option PortTable)) (index new : ℕ → Option ℕ) (next : ℕ) → AreKeys rows index
-    → ((port : ℕ) → new port ≡ noted (port_at rows next) next port (index port)) → AreKeys rows new
+    → ((port : ℕ) → new port ≡ index_noted (port_at rows next) next port (index port)) → AreKeys rows new
 keys-noted rows index new next keys put = record { once = keys.once; known = λ other. by_port other (port_at rows next) refl }
   where
-    by_port : (other : ℕ) (o : Option ℕ) → port_at rows next ≡ o → is_some (new other) ≡ has_port (ports_of (present rows)) other
+    by_port : (other : ℕ) (o : Option ℕ) → port_at rows next ≡ o → is_some (new other) ≡ has_port (ports_of (tables_present rows)) other
     by_port other None none = rw (put other, none) (keys.known other)
     by_port other (Some port) there = elim (cases_Bool (nat_eq port other)) [
       | inl same ↦ (let has = port-there rows next other (there ∙ ap (λ (n : ℕ). Some n) (nat_eq-is port other same)) in rw (put other, there, same) (sym has))
@@ -375,10 +370,10 @@ known_at rows index next keys = by_port (port_at rows next) refl
     by_port (Some port) e = rw e (known (index port) (keys.known port ∙ port-there rows next port e))
 
 -- the table in a row is one of the tables
-pub row_is_table : (rows : List (Option PortTable)) (at : ℕ) → All IsTable (present rows) → IfSome (row_at rows at) IsTable
-row_is_table rows at all = over rows at (recursion_from_All IsTable (present rows) all)
+pub row_is_table : (rows : List (Option PortTable)) (at : ℕ) → All IsTable (tables_present rows) → IfSome (row_at rows at) IsTable
+row_is_table rows at all = over rows at (recursion_from_All IsTable (tables_present rows) all)
   where
-    over : (rows : List (Option PortTable)) (at : ℕ) → AllByRecursion IsTable (present rows) → IfSome (row_at rows at) IsTable
+    over : (rows : List (Option PortTable)) (at : ℕ) → AllByRecursion IsTable (tables_present rows) → IfSome (row_at rows at) IsTable
     over [] at all = tt
     over (None ∷ rows) zero all = tt
     over (None ∷ rows) (suc at) all = over rows at all

@@ -17,12 +17,6 @@ use Rattle.nm_hold.proofs.Spots.{nat_eq-is, same_place-is, offset-within, offset
 true_false : {X : Type 0} → true ≡ false → X
 true_false e = cc
 
-number_in-some : (t : PortTable) (tables : List PortTable) (place : Place) (at : ℕ) → offset_of t.places place ≡ Some at → number_at (t ∷ tables) place ≡ slice_index t.numbers.items at
-number_in-some t tables place at e = rw e refl
-
-number_in-none : (t : PortTable) (tables : List PortTable) (place : Place) → offset_of t.places place ≡ None → number_at (t ∷ tables) place ≡ number_at tables place
-number_in-none t tables place e = rw e refl
-
 places-put_in : (place : Place) (number : ℕ) (t : PortTable) (o : Option ℕ) → offset_of t.places place ≡ o → (put_in place number t).places ≡ t.places
 places-put_in place number t None e = rw e refl
 places-put_in place number t (Some at) e = rw e refl

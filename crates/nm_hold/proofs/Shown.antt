@@ -99,23 +99,11 @@ pub named_stands : (cell : Option Standing) → is_named_in cell ≡ true → (s
 named_stands None e = cc
 named_stands (Some s) e = (s, refl)
 
-pub named_bytes_are : (cell : Option Standing) (bytes : List ℕ) → is_named_in cell ≡ true → bytes_in cell ≡ Some bytes → named_bytes_in cell ≡ Some bytes
-named_bytes_are None bytes named e = cc
-named_bytes_are (Some s) bytes named e = rw named e
-
-pub not_named_bytes : (cell : Option Standing) → is_named_in cell ≡ false → named_bytes_in cell ≡ None
-not_named_bytes None e = refl
-not_named_bytes (Some s) e = rw e refl
-
 -- cells that hold nothing, without the last
 pub empty_front : (cells : List (Option Standing)) (last : Option Standing) → ((idx : ℕ) → cell_at (cells ++ last ∷ []) idx ≡ None) → (idx : ℕ) → cell_at cells idx ≡ None
 empty_front [] last all idx = refl
 empty_front (c ∷ cells) last all zero = all 0
 empty_front (c ∷ cells) last all (suc idx) = empty_front cells last (λ i. all (suc i)) idx
-
-pub empty_last : (cells : List (Option Standing)) (last : Option Standing) → ((idx : ℕ) → cell_at (cells ++ last ∷ []) idx ≡ None) → last ≡ None
-empty_last [] last all = all 0
-empty_last (c ∷ cells) last all = empty_last cells last (λ i. all (suc i))
 
 or_false : (a b : Bool) → (a || b) ≡ false → (a ≡ false) × (b ≡ false)
 or_false true b e = cc

@@ -91,20 +91,6 @@ put_here p number tables new put = rw (put p, same_place-refl p) refl
 put_other : (p q : Place) (number : ℕ) (tables new : List PortTable) → PutAt p number tables new → is_same_place p q ≡ false → number_at new q ≡ number_at tables q
 put_other p q number tables new put apart = rw (put q, apart) refl
 
-pub tied-empty : (n : ℕ) → IsTied (replicate n None) []
-tied-empty n = record {
-  standing = λ idx s e. absurd (none_some s (sym (none_in n idx) ∙ e));
-  numbered = λ p h. absurd (omega arith);
-}
-  where
-    none_in : (n idx : ℕ) → cell_at (replicate n None) idx ≡ None
-    none_in zero idx = refl
-    none_in (suc n) zero = refl
-    none_in (suc n) (suc idx) = none_in n idx
-
-    none_some : (s : Standing) → None ≡ Some s → ⊥
-    none_some s e = cc
-
 -- tables with the same numbers
 pub tied-same : (cells : List (Option Standing)) (tables new : List PortTable) → IsTied cells tables → ((p : Place) → number_at new p ≡ number_at tables p) → IsTied cells new
 tied-same cells tables new tied same = record {

@@ -1,6 +1,6 @@
 -- A session's places as contracts see them: at each index where the buffer of that index stands, the
 -- ports with their sizes, and the sizes for which room is kept.
-use Rattle.std.specs.Prelude.{ℕ, Bool, false, true, All, find, ◌==◌, ◌≡◌, ◌+◌, ◌-◌, ◌≤◌, List, [], ◌∷◌, length, replicate, slice_index_or, slice_set, Option, Some, None, option_map}
+use Rattle.std.specs.Prelude.{ℕ, Bool, false, true, All, find, ◌==◌, ◌≡◌, ◌+◌, ◌-◌, ◌≤◌, List, [], ◌∷◌, length, map, replicate, slice_index_or, slice_set, Option, Some, None, option_map}
 use Rattle.std.specs.Option.{option_map_or}
 use Rattle.nm_types.specs.declared.place.Place.{Place}
 use Rattle.nm_types.specs.declared.place.Place.TheVariants.{Tx, Rx, Extra}
@@ -11,7 +11,7 @@ use Rattle.nm_hold.specs.declared.table.Sizes.{Sizes}
 use Rattle.nm_hold.specs.declared.table.PortPlaces.{PortPlaces}
 use Rattle.nm_types.specs.Buffers.{IsPoolSize}
 use Rattle.nm_hold.specs.Offsets.{AreSizes, ArePortsOnce, has_place}
-use Rattle.nm_hold.specs.Standings.{buf_in, named_bytes_in, written}
+use Rattle.nm_hold.specs.Standings.{buf_in, named_bytes_in, cell_written}
 
 pub record HoldState : Type 0 where
   pub cells : List (Option Standing)
@@ -32,6 +32,13 @@ cell_at cells idx = slice_index_or cells idx None
 
 abbrev pub standing_at : HoldState → ℕ → Option Standing
 standing_at h idx = cell_at h.cells idx
+
+-- at each index the buffer of that index, if the hold has it
+abbrev pub bufs_in : List (Option Standing) → List (Option Buffer)
+bufs_in cells = map buf_in cells
+
+abbrev pub bufs_of : HoldState → List (Option Buffer)
+bufs_of h = bufs_in h.cells
 
 abbrev pub buffer_at : HoldState → ℕ → Option Buffer
 buffer_at h idx = buf_in (standing_at h idx)
@@ -66,7 +73,7 @@ abbrev pub with_cell : HoldState → ℕ → Option Standing → HoldState
 with_cell h idx cell = record h { cells = slice_set h.cells idx cell }
 
 abbrev pub with_written : HoldState → ℕ → List ℕ → HoldState
-with_written h idx bytes = with_cell h idx (written (standing_at h idx) bytes)
+with_written h idx bytes = with_cell h idx (cell_written (standing_at h idx) bytes)
 
 -- each place holds the same buffer
 abbrev pub SamePlaces : List Held → List Held → Type 0

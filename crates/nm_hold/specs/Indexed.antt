@@ -5,10 +5,10 @@ use Rattle.nm_hold.specs.Offsets.{has_port, ArePortsOnce}
 use Rattle.nm_hold.specs.Tables.{ports_of}
 
 -- the tables, without the rows of ports that have gone
-abbrev pub present : List (Option PortTable) → List PortTable
-present [] = []
-present (None ∷ rows) = present rows
-present (Some t ∷ rows) = t ∷ present rows
+abbrev pub tables_present : List (Option PortTable) → List PortTable
+tables_present [] = []
+tables_present (None ∷ rows) = tables_present rows
+tables_present (Some t ∷ rows) = t ∷ tables_present rows
 
 abbrev pub row_at : List (Option PortTable) → ℕ → Option PortTable
 row_at rows at = slice_index_or rows at None
@@ -21,9 +21,9 @@ abbrev pub port_at : List (Option PortTable) → ℕ → Option ℕ
 port_at rows at = port_in (row_at rows at)
 
 -- where a port is found once a row is noted for its port
-abbrev pub noted : Option ℕ → ℕ → ℕ → Option ℕ → Option ℕ
-noted None at other was = was
-noted (Some port) at other was = if port == other then Some at else was
+abbrev pub index_noted : Option ℕ → ℕ → ℕ → Option ℕ → Option ℕ
+index_noted None at other was = was
+index_noted (Some port) at other was = if port == other then Some at else was
 
 -- a port is found in the row that has its table, and no other number is found
 pub record IsIndexed (rows : List (Option PortTable)) (index : ℕ → Option ℕ) : Type 0 where
@@ -32,5 +32,5 @@ pub record IsIndexed (rows : List (Option PortTable)) (index : ℕ → Option �
 
 -- the numbers that are found are those of the ports, each of which is there once
 pub record AreKeys (rows : List (Option PortTable)) (index : ℕ → Option ℕ) : Type 0 where
-  pub once : ArePortsOnce (ports_of (present rows))
-  pub known : (port : ℕ) → is_some (index port) ≡ has_port (ports_of (present rows)) port
+  pub once : ArePortsOnce (ports_of (tables_present rows))
+  pub known : (port : ℕ) → is_some (index port) ≡ has_port (ports_of (tables_present rows)) port

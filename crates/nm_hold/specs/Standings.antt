@@ -10,12 +10,12 @@ use Rattle.nm_hold.specs.contracts.standing.Standing.{the_row}
 abbrev pub home_in : Option Standing → Option Home
 home_in cell = option_map (λ (s : Standing). s.home) cell
 
-abbrev pub moved_to : Home → Option Standing → Option Standing
-moved_to home cell = option_map (λ (s : Standing). record s { home = home }) cell
+abbrev pub cell_moved : Home → Option Standing → Option Standing
+cell_moved home cell = option_map (λ (s : Standing). record s { home = home }) cell
 
 -- the same home, named or not
-abbrev pub renamed : Bool → Option Standing → Option Standing
-renamed named cell = option_map (λ (s : Standing). record s { home = record { place = s.home.place; named = named } }) cell
+abbrev pub cell_named : Bool → Option Standing → Option Standing
+cell_named named cell = option_map (λ (s : Standing). record s { home = record { place = s.home.place; named = named } }) cell
 
 abbrev pub buf_in : Option Standing → Option Buffer
 buf_in cell = option_map (λ (s : Standing). s.buf) cell
@@ -29,8 +29,8 @@ abbrev pub named_bytes_in : Option Standing → Option (List ℕ)
 named_bytes_in None = None
 named_bytes_in (Some s) = bytes_if s.home.named s.buf.bytes
 
-abbrev pub written : Option Standing → List ℕ → Option Standing
-written cell bytes = option_map (λ (s : Standing). record s { buf = with_bytes s.buf bytes }) cell
+abbrev pub cell_written : Option Standing → List ℕ → Option Standing
+cell_written cell bytes = option_map (λ (s : Standing). record s { buf = with_bytes s.buf bytes }) cell
 
 abbrev pub bytes_in : Option Standing → Option (List ℕ)
 bytes_in cell = option_map (λ (s : Standing). s.buf.bytes) cell
@@ -43,4 +43,4 @@ abbrev pub LendsStanding : MutBor (Option Standing) → MutBor Standing → Fml
 LendsStanding cell r = Lends (option_row the_row) the_row cell r (λ s. Some s)
 
 abbrev pub LendsCell : MutBor (Option Standing) → MutBor (List ℕ) → Fml
-LendsCell cell r = Lends (option_row the_row) (Array u8 0) cell r (written cell.now)
+LendsCell cell r = Lends (option_row the_row) (Array u8 0) cell r (cell_written cell.now)

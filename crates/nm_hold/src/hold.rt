@@ -1,4 +1,6 @@
-ghost use Rattle.std.specs.Prelude.{◌≡◌, ◌≢◌, ◌≤◌, ◌++◌, ◌∷◌, [], true, false, None, Some, IsSome, IsTrue, IfOk, IfSome, OnOk, OnErr, ◌↔◌, ℕ, filter, not, ◌==◌, length, option_map, if◌then◌else◌};
+ghost use Rattle.std.specs.Prelude.{ℕ, ◌≡◌, ◌≢◌, ◌≤◌, ◌++◌, ◌∷◌, ◌==◌, ◌↔◌, [], true, false};
+ghost use Rattle.std.specs.Prelude.{None, Some, IsSome, IsTrue, IfOk, IfSome, OnOk, OnErr, filter, not};
+ghost use Rattle.std.specs.Prelude.{length, option_map, if◌then◌else◌};
 ghost use Rattle.std.specs.Borrow.{sem};
 ghost use Rattle.std.specs.Option.{option_copied, option_copied_mut};
 ghost use Rattle.nm_types.specs.Buffers.{IsPoolSize, IsBufferIndex};
@@ -8,8 +10,10 @@ ghost use Rattle.nm_types.specs.Exchange.{exchanged, swapped};
 ghost use Rattle.nm_region.specs.Buffers.{Buffer};
 ghost use Rattle.nm_hold.specs.declared.table.PortPlaces.{PortPlaces};
 ghost use Rattle.nm_hold.specs.Offsets.{AreSizes, has_place, has_port};
-ghost use Rattle.nm_hold.specs.Standings.{home_in, renamed};
-ghost use Rattle.nm_hold.specs.Holds.{empty_hold, buffers_of, extra_of, place_at, IsHold, standing_at, buffer_at, is_named_at, named_bytes_at, index_at, places_of, with_cell, SamePlaces, HoldsNothing};
+ghost use Rattle.nm_hold.specs.Standings.{home_in, cell_named};
+ghost use Rattle.nm_hold.specs.Holds.{empty_hold, buffers_of, extra_of, place_at, IsHold};
+ghost use Rattle.nm_hold.specs.Holds.{standing_at, buffer_at, is_named_at, named_bytes_at, index_at};
+ghost use Rattle.nm_hold.specs.Holds.{places_of, bufs_of, with_cell, SamePlaces, HoldsNothing};
 
 use crate::ports::Ports;
 use crate::standing::{Home, Standing, buf_of, bytes_mut, home_of, move_to, named_bytes, rename};
@@ -19,11 +23,12 @@ use nm_types::{NoMemory, Place, PortId};
 use std::alloc::Global;
 use std::marker::Model;
 
-/// A session's places, over all its ports, and the buffers that stand in them. It cannot be dropped:
-/// `close` ends it once it holds no buffer.
+/// The places of a session's ports and the buffers in them. It cannot be dropped: `close` ends it
+/// once it holds no buffer.
 ///
-/// A buffer's place is found at its index in a list, and the buffer of a place at its offset in the table
-/// of its port, which a hash map finds: in constant time, however many ports and buffers there are.
+/// Finds the place of a buffer at the buffer's index in a list, and the buffer in a place at its
+/// offset in the table of the place's port, which a hash map finds: in constant time for any number
+/// of ports and buffers.
 pub struct Hold {
     cells: Vec<Option<Standing>>,
     ports: Ports,
@@ -53,7 +58,7 @@ impl Model for Hold {
 impl Hold {
     ghost use Rattle.nm_hold.specs.Lending.{LendsBytesAt, LendsNamedAt};
 
-    /// A hold with no port, for the buffers of a pool of so many.
+    /// An empty hold without ports, for a pool of `buffers` buffers.
     pub fn new(alloc: Global, buffers: u32) -> Result<Hold, NoMemory>
         requires { IsPoolSize buffers }
         ensures { IfOk result (λ hold. hold ≡ empty_hold buffers) }
@@ -71,8 +76,8 @@ impl Hold {
         })
     }
 
-    /// Keeps room for one more port of these sizes, in place of room that was kept before. No size
-    /// is above that of the largest ring, or of a port's extra buffers.
+    /// Keeps room for one more port of these sizes, instead of room that was kept before. No size is
+    /// above that of the largest ring, or the most extra buffers of a port.
     pub fn reserve(&mut self, tx: u32, rx: u32, extra: u32) -> Result<(), NoMemory>
         requires { AreSizes (record { tx = tx; rx = rx; extra = extra }) }
         ensures ok { OnOk result (self.new ≡ record self.old {
@@ -86,12 +91,13 @@ impl Hold {
         Ok(())
     }
 
-    /// Uses the room that is kept for a port of these sizes. Its places hold nothing.
+    /// Adds a port of the sizes for which room is kept. Its places hold nothing.
     pub fn set_port(&mut self, port: PortId, tx: u32, rx: u32, extra: u32)
         requires room { self.old.room ≡ Some (record { tx = tx; rx = rx; extra = extra }) }
         requires new { has_port self.old.ports port.0 ≡ false }
         ensures { self.new ≡ record self.old {
-          ports = self.old.ports ++ record { port = port; sizes = record { tx = tx; rx = rx; extra = extra } } ∷ [];
+          ports = self.old.ports
+              ++ record { port = port; sizes = record { tx = tx; rx = rx; extra = extra } } ∷ [];
           room = None;
         } }
     {
@@ -101,7 +107,7 @@ impl Hold {
         }
     }
 
-    /// Takes a port's places away, which hold nothing.
+    /// Removes the places of a port, which hold nothing.
     pub fn drop_port(&mut self, port: PortId)
         requires { HoldsNothing self.old port.0 }
         ensures { self.new ≡ record self.old {
@@ -111,8 +117,8 @@ impl Hold {
         self.ports.remove(port);
     }
 
-    /// How many extra positions a port has; none where there is no such port.
-    pub fn extras(&self, port: PortId) -> u32
+    /// The number of extra positions of a port, 0 if there is no such port.
+    pub fn extra_count(&self, port: PortId) -> u32
         ensures extras { result ≡ extra_of self.now.ports port.0 }
         ensures hold { IsHold self.now }
     {
@@ -124,15 +130,17 @@ impl Hold {
 
     /// The index of the buffer in a place.
     pub fn index(&self, place: Place) -> Option<u32>
-        ensures { result ≡ index_at self.now place }
+        ensures index { result ≡ index_at self.now place }
+        ensures hold { IsHold self.now }
     {
         let idx = self.ports.number(place);
         if idx == 0 { None } else { Some(idx) }
     }
 
-    // Where the buffer of an index stands.
+    /// Where the buffer of an index stands.
     fn home_at(&self, idx: u32) -> Option<Home>
-        ensures { result ≡ home_in (standing_at self.now idx) }
+        ensures home { result ≡ home_in (standing_at self.now idx) }
+        ensures hold { IsHold self.now }
     {
         if (idx as usize) < self.cells.len() {
             home_of(&self.cells[idx as usize])
@@ -141,9 +149,10 @@ impl Hold {
         }
     }
 
-    /// The place in which the buffer of an index stands.
+    /// The place of the buffer of an index.
     pub fn place(&self, idx: u32) -> Option<Place>
-        ensures { result ≡ place_at self.now idx }
+        ensures place { result ≡ place_at self.now idx }
+        ensures hold { IsHold self.now }
     {
         match self.home_at(idx) {
             Some(home) => Some(home.place),
@@ -153,7 +162,8 @@ impl Hold {
 
     /// Whether the buffer of an index is one of the session's named ones.
     pub fn named(&self, idx: u32) -> bool
-        ensures { result ≡ is_named_at self.now idx }
+        ensures named { result ≡ is_named_at self.now idx }
+        ensures hold { IsHold self.now }
     {
         match self.home_at(idx) {
             Some(home) => home.named,
@@ -163,7 +173,8 @@ impl Hold {
 
     /// The buffer of an index, named or not.
     pub fn buffer(&self, idx: u32) -> Option<&Buf>
-        ensures { option_copied result ≡ buffer_at self.now idx }
+        ensures buffer { option_copied result ≡ buffer_at self.now idx }
+        ensures hold { IsHold self.now }
     {
         if (idx as usize) < self.cells.len() {
             buf_of(&self.cells[idx as usize])
@@ -174,7 +185,8 @@ impl Hold {
 
     /// The bytes of a named buffer.
     pub fn bytes(&self, idx: u32) -> Option<&[u8]>
-        ensures { option_copied result ≡ named_bytes_at self.now idx }
+        ensures bytes { option_copied result ≡ named_bytes_at self.now idx }
+        ensures hold { IsHold self.now }
     {
         if (idx as usize) < self.cells.len() {
             named_bytes(&self.cells[idx as usize])
@@ -183,8 +195,8 @@ impl Hold {
         }
     }
 
-    /// The bytes of a named buffer, to be written. Afterwards the hold is as it was, with what was
-    /// written over the bytes of that buffer.
+    /// The bytes of a named buffer, to be written. The hold then has what was written there, and is
+    /// otherwise unchanged.
     pub fn bytes_mut(&mut self, idx: u32) -> Option<&mut [u8]>
         ensures* writes_back { sem 𝓛 (LendsNamedAt self.entry idx result) }
         ensures bytes { option_copied_mut result ≡ named_bytes_at self.old idx }
@@ -196,7 +208,7 @@ impl Hold {
         }
     }
 
-    // `named`, asked through the reference that `bytes_mut` has.
+    /// `named`, asked through the reference that `bytes_mut` has.
     fn finds_named(&mut self, idx: u32) -> bool
         ensures named { result ≡ is_named_at self.old idx }
         ensures same { self.new ≡ self.old }
@@ -204,8 +216,8 @@ impl Hold {
         self.named(idx)
     }
 
-    /// The bytes of a buffer that `named` tells to be a named one, to be written. What is written is
-    /// known of the hold afterwards.
+    /// The bytes, to be written, of a buffer that is a named one. A caller's proof knows what is
+    /// written there.
     pub fn lend(&mut self, idx: u32) -> &mut [u8]
         requires { is_named_at self.old idx ≡ true }
         ensures* writes_back { sem 𝓛 (LendsBytesAt self.entry idx result) }
@@ -214,7 +226,7 @@ impl Hold {
         bytes_mut(&mut self.cells[idx as usize])
     }
 
-    /// Puts a buffer into a place of one of the hold's ports, which holds none. It is not a named one.
+    /// Puts a buffer into an empty place of one of the hold's ports. It is not a named buffer yet.
     pub fn add(&mut self, place: Place, buf: Buf)
         requires belongs { has_place self.old.ports place ≡ true }
         requires empty { index_at self.old place ≡ None }
@@ -255,24 +267,25 @@ impl Hold {
         }
     }
 
-    /// Makes the buffer in a place one of the session's named ones, or one that is not.
+    /// Makes the buffer in a place a named one, or one that is not named.
     pub fn set_named(&mut self, place: Place, named: bool)
         requires { IsSome (index_at self.old place) }
         ensures cell { (idx : ℕ) → index_at self.old place ≡ Some idx
-            → self.new ≡ with_cell self.old idx (renamed named (standing_at self.old idx)) }
+            → self.new ≡ with_cell self.old idx (cell_named named (standing_at self.old idx)) }
         ensures places { SamePlaces (places_of self.old) (places_of self.new) }
     {
         let idx = self.ports.number(place);
         rename(&mut self.cells[idx as usize], named);
     }
 
-    /// The buffer in a place and a named buffer change places. Each keeps its bytes, and the places
-    /// that were named stay so.
+    /// Exchanges the buffer in a place and a named buffer. Each keeps its bytes, and a place whose
+    /// buffer was a named one keeps a named one.
     pub fn exchange(&mut self, place: Place, idx: u32)
         requires held { IsSome (index_at self.old place) }
         requires named { is_named_at self.old idx ≡ true }
         ensures places { SamePlaces (exchanged (places_of self.old) place idx) (places_of self.new) }
         ensures buffers { (i : ℕ) → buffer_at self.new i ≡ buffer_at self.old i }
+        ensures all { bufs_of self.new ≡ bufs_of self.old }
         ensures named { (was i : ℕ) → index_at self.old place ≡ Some was
             → is_named_at self.new i ≡ is_named_at self.old (swapped was idx i) }
         ensures ports { self.new.ports ≡ self.old.ports }

@@ -1,11 +1,12 @@
-ghost use Rattle.std.specs.Prelude.{ℕ, ◌≡◌, ◌==◌, ◌≤◌, ◌<◌, ◌++◌, ◌∷◌, [], All, IfSome, IsSome, false, None, Some, OnOk, not, filter, find, map, nat_eq, option_map};
+ghost use Rattle.std.specs.Prelude.{ℕ, ◌≡◌, ◌==◌, ◌≤◌, ◌<◌, ◌++◌, ◌∷◌, [], All, IfSome, IsSome};
+ghost use Rattle.std.specs.Prelude.{false, None, Some, OnOk, not, filter, find, map, nat_eq, option_map};
 ghost use Rattle.std.specs.Option.{option_copied};
 ghost use Rattle.std.specs.HashMap.{get, spare};
 ghost use Rattle.nm_hold.specs.declared.table.PortTable.{PortTable};
 ghost use Rattle.nm_hold.specs.Offsets.{has_port, ArePortsOnce};
 ghost use Rattle.nm_hold.specs.Holds.{port_of};
 ghost use Rattle.nm_hold.specs.Tables.{number_at, ports_of, put_in, IsTable};
-ghost use Rattle.nm_hold.specs.Indexed.{port_in, noted, IsIndexed, AreKeys};
+ghost use Rattle.nm_hold.specs.Indexed.{port_in, index_noted, IsIndexed, AreKeys};
 
 use crate::table::PortTable;
 use nm_types::{Place, PortId};
@@ -13,11 +14,11 @@ use std::alloc::{AllocError, Global};
 use std::collections::HashMap;
 use std::marker::Model;
 
-/// The tables of a session's ports, in the order in which the ports came. A port's table is found by
-/// its number in a hash map, and not by a look at the others.
+/// The tables of a session's ports, in the order in which the ports were added. A hash map finds the
+/// table of a port by its number.
 #[derive(Drop)]
 pub(crate) struct Ports {
-    // A port that has gone leaves nothing in its row until `reserve` closes up.
+    // a removed port leaves its row empty until `reserve` closes up
     rows: Vec<Option<PortTable>>,
     indices: HashMap<u32, usize>,
 }
@@ -30,10 +31,10 @@ impl Model for Ports {
 
     ghost Value = { PortList };
 
-    ghost use Rattle.nm_hold.specs.Indexed.{present, IsIndexed};
+    ghost use Rattle.nm_hold.specs.Indexed.{tables_present, IsIndexed};
 
     ghost view = { λ p. record {
-      tables = present p.rows.items;
+      tables = tables_present p.rows.items;
       spare = min (vec_capacity p.rows - vec_len p.rows) (spare p.indices);
     } };
 
@@ -41,7 +42,7 @@ impl Model for Ports {
 }
 
 impl Ports {
-    /// No port. Takes no memory.
+    /// No ports. Takes no memory.
     pub(crate) fn new(alloc: Global) -> Ports
         ensures { result.tables ≡ [] }
     {
@@ -53,7 +54,8 @@ impl Ports {
 
     /// The table of a port.
     pub(crate) fn table(&self, port: PortId) -> Option<&PortTable>
-        ensures table { option_copied result ≡ find (λ (t : PortTable). t.places.port.0 == port.0) self.now.tables }
+        ensures table { option_copied result
+            ≡ find (λ (t : PortTable). t.places.port.0 == port.0) self.now.tables }
         ensures once { ArePortsOnce (ports_of self.now.tables) }
     {
         match self.indices.get(&port.0) {
@@ -62,7 +64,7 @@ impl Ports {
         }
     }
 
-    /// The index of the buffer in a place; 0 where it holds none.
+    /// The index of the buffer in a place, 0 if it holds none.
     pub(crate) fn number(&self, place: Place) -> u32
         requires { All IsTable self.now.tables }
         ensures { result ≡ number_at self.now.tables place }
@@ -99,9 +101,10 @@ impl Ports {
         }
     }
 
-    /// Takes the table of a port away.
+    /// Removes the table of a port.
     pub(crate) fn remove(&mut self, port: PortId)
-        ensures tables { self.new.tables ≡ filter (λ (t : PortTable). not (t.places.port.0 == port.0)) self.old.tables }
+        ensures tables { self.new.tables
+            ≡ filter (λ (t : PortTable). not (t.places.port.0 == port.0)) self.old.tables }
         ensures spare { self.old.spare ≤ self.new.spare }
     {
         if let Some(at) = self.indices.remove(&port.0) {
@@ -122,8 +125,8 @@ impl Ports {
         self.indices.reserve(1)
     }
 
-    // Leaves out the rows of ports that have gone. It costs as much as there are rows, and `reserve`
-    // calls it where more than half of them are empty: so for each port that has gone, a fixed amount.
+    /// Leaves out the rows of removed ports. It costs as much as there are rows, and `reserve` calls
+    /// it if more than half of them are empty: so it costs a fixed amount for each removed port.
     fn close_up(&mut self)
         ensures tables { self.new.tables ≡ self.old.tables }
         ensures spare { self.old.spare ≤ self.new.spare }
@@ -133,7 +136,7 @@ impl Ports {
     }
 }
 
-// The port of a place.
+/// The port of a place.
 fn port_of(place: Place) -> PortId
     ensures { result.0 ≡ port_of place }
 {
@@ -143,7 +146,7 @@ fn port_of(place: Place) -> PortId
     }
 }
 
-// Stores a number at a place of a row's port.
+/// Stores a number at a place of the port of a row.
 fn put_at(row: &mut Option<PortTable>, place: Place, number: u32)
     requires { IfSome row.old IsTable }
     ensures { row.new ≡ option_map (put_in place number) row.old }
@@ -153,7 +156,7 @@ fn put_at(row: &mut Option<PortTable>, place: Place, number: u32)
     }
 }
 
-// Notes for each port in which row its table is.
+/// Notes for each port the row of its table.
 fn renumber(rows: &[Option<PortTable>], indices: &mut HashMap<u32, usize>)
     requires { AreKeys rows.now (get nat_eq indices.old) }
     ensures indexed { IsIndexed rows.now (get nat_eq indices.new) }
@@ -164,10 +167,11 @@ fn renumber(rows: &[Option<PortTable>], indices: &mut HashMap<u32, usize>)
     }
 }
 
-// Notes a row for its port, which is known.
+/// Notes a row for its port, which has an entry.
 fn note(indices: &mut HashMap<u32, usize>, row: &Option<PortTable>, at: usize)
     requires { IfSome (port_in row.now) (λ port. IsSome (get nat_eq indices.old port)) }
-    ensures indices { (port : ℕ) → get nat_eq indices.new port ≡ noted (port_in row.now) at port (get nat_eq indices.old port) }
+    ensures indices { (port : ℕ) → get nat_eq indices.new port
+        ≡ index_noted (port_in row.now) at port (get nat_eq indices.old port) }
     ensures spare { spare indices.new ≡ spare indices.old }
 {
     if let Some(table) = row

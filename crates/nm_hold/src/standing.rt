@@ -1,7 +1,8 @@
 ghost use Rattle.std.specs.Prelude.{◌≡◌, Some, IsSome};
 ghost use Rattle.std.specs.Borrow.{sem};
 ghost use Rattle.std.specs.Option.{option_copied};
-ghost use Rattle.nm_hold.specs.Standings.{home_in, moved_to, renamed, buf_in, named_bytes_in, bytes_in, LendsStanding, LendsCell};
+ghost use Rattle.nm_hold.specs.Standings.{home_in, cell_moved, cell_named, buf_in, named_bytes_in};
+ghost use Rattle.nm_hold.specs.Standings.{bytes_in, LendsStanding, LendsCell};
 
 use nm_region::Buf;
 use nm_types::Place;
@@ -29,18 +30,18 @@ pub(crate) fn home_of(cell: &Option<Standing>) -> Option<Home>
     }
 }
 
-/// Gives the buffer of a cell another home.
+/// Moves the buffer of a cell to another home.
 pub(crate) fn move_to(cell: &mut Option<Standing>, home: Home)
-    ensures { cell.new ≡ moved_to home cell.old }
+    ensures { cell.new ≡ cell_moved home cell.old }
 {
     if let Some(s) = cell {
         s.home = home;
     }
 }
 
-/// Makes the buffer of a cell a named one, or one that is not.
+/// Makes the buffer of a cell a named one, or one that is not named.
 pub(crate) fn rename(cell: &mut Option<Standing>, named: bool)
-    ensures { cell.new ≡ renamed named cell.old }
+    ensures { cell.new ≡ cell_named named cell.old }
 {
     if let Some(s) = cell {
         s.home.named = named;
@@ -78,7 +79,7 @@ impl Standing {
     }
 }
 
-// The buffer in a cell, with its home.
+/// The buffer in a cell, with its home.
 fn standing_mut(cell: &mut Option<Standing>) -> &mut Standing
     requires { IsSome cell.old }
     ensures* writes_back { sem 𝓛 (LendsStanding cell.entry result) }

@@ -30,7 +30,7 @@ pub struct PortPlaces {
 }
 
 impl PortPlaces {
-    // Which of the port's places this is: transmit slots come first, then receive slots.
+    /// The offset of a place among those of the port: transmit slots, receive slots, extra positions.
     fn offset(self, place: Place) -> Option<usize>
         ensures { result ≡ offset_of self place }
     {
@@ -50,7 +50,7 @@ impl PortPlaces {
     }
 }
 
-/// The places of a port, each with the index of the buffer in it; 0 is none.
+/// The places of a port, each with the index of the buffer in it, 0 if it holds none.
 #[derive(Drop)]
 pub(crate) struct PortTable {
     pub(crate) places: PortPlaces,
@@ -60,7 +60,7 @@ pub(crate) struct PortTable {
 impl PortTable {
     ghost use Rattle.nm_hold.specs.Ties.{IsBlank};
 
-    /// A table in which no place holds a buffer. Its port is still to be set.
+    /// A table in which no place holds a buffer. The caller sets its port.
     pub(crate) fn blank(alloc: Global, sizes: Sizes) -> Result<PortTable, AllocError>
         requires { AreSizes sizes }
         ensures sizes { IfOk result (λ t. t.places.sizes ≡ sizes) }
@@ -75,7 +75,7 @@ impl PortTable {
         })
     }
 
-    /// The number at a place; 0 where it is not one of this port's.
+    /// The number at a place, 0 if it is not one of this port's.
     pub(crate) fn number(&self, place: Place) -> u32
         requires { IsTable self.now }
         ensures { result ≡ number_in self.now place }

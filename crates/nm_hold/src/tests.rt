@@ -22,7 +22,7 @@ const SECOND: Place = Place::Tx {
     slot: 1,
 };
 
-// Two named buffers, in the two transmit slots, change places.
+/// Two named buffers, in the two transmit slots, change places.
 fn exchange_two(rt: &impl Abort, hold: &mut Hold, two: Buf, three: Buf)
     requires hold { hold.old ≡ record (empty_hold 8) {
       ports = record { port = record { 0 = 3 }; sizes = record { tx = 2; rx = 2; extra = 0 } } ∷ [];
@@ -46,7 +46,7 @@ fn exchange_two(rt: &impl Abort, hold: &mut Hold, two: Buf, three: Buf)
     assert_eq!(rt; hold.place(3), Some(FIRST));
     assert!(rt; hold.bytes(4).is_none());
     assert_eq!(rt; hold.bytes(2).and_then(|bytes| bytes.first()), Some(&7));
-    assert_eq!(rt; hold.extras(PORT), 0);
+    assert_eq!(rt; hold.extra_count(PORT), 0);
 }
 
 fn name(rt: &impl Abort, hold: &mut Hold, place: Place)
@@ -65,7 +65,7 @@ fn set_first_byte(rt: &impl Abort, hold: &mut Hold, idx: u32)
     bytes[0] = 7;
 }
 
-// Takes the buffer out of a place, which holds one.
+/// Takes the buffer out of a place, which holds one.
 fn take(rt: &impl Abort, hold: &mut Hold, place: Place) -> Buf
     ensures buffer { buffer_at hold.old result.index ≡ Some result }
     ensures others { (idx : ℕ) → idx ≢ result.index → buffer_at hold.new idx ≡ buffer_at hold.old idx }
@@ -74,7 +74,7 @@ fn take(rt: &impl Abort, hold: &mut Hold, place: Place) -> Buf
     hold.remove(place)
 }
 
-// The two buffers come to the hold, change places, and go back.
+/// The two buffers come to the hold, change places, and go back.
 fn play(rt: &impl Abort, hold: &mut Hold, all: &mut Vec<Buf>)
     requires hold { hold.old ≡ record (empty_hold 8) {
       ports = record { port = record { 0 = 3 }; sizes = record { tx = 2; rx = 2; extra = 0 } } ∷ [];
@@ -95,9 +95,8 @@ fn play(rt: &impl Abort, hold: &mut Hold, all: &mut Vec<Buf>)
     all.push_reserved(first);
 }
 
-// Ends a hold, after a look that no buffer is in it.
+/// Ends a hold, after a look that no buffer is in it.
 fn close_empty(rt: &impl Abort, hold: Hold) {
-    assert!(rt; hold.extras(PORT) <= 3);
     for idx in 0..65538 {
         assert!(rt; hold.buffer(idx).is_none());
     }
@@ -123,7 +122,7 @@ fn exchange_of_two_slots(rt: HostRuntime) -> Result<(), Fail> {
     Ok(done?)
 }
 
-// The buffer stays in the hold: the test ends by the panic that it expects.
+/// The buffer stays in the hold: the test ends by the panic that it expects.
 #[test]
 #[should_panic(expected = "the buffer stays")]
 fn named_bytes_are_written(rt: HostRuntime) {
@@ -151,7 +150,7 @@ fn named_bytes_are_written(rt: HostRuntime) {
     panic!(rt; "the buffer stays in the hold");
 }
 
-// Opens a port with two slots in each ring and so many extra positions.
+/// Opens a port with two slots in each ring and so many extra positions.
 fn open(hold: &mut Hold, port: u32, extra: u32) -> Result<(), NoMemory>
     requires new { has_port hold.old.ports port ≡ false }
     requires few { extra ≤ 1024 }
@@ -164,7 +163,7 @@ fn open(hold: &mut Hold, port: u32, extra: u32) -> Result<(), NoMemory>
     Ok(())
 }
 
-// Of four ports the first three go; when one more comes, the rows that they left are closed up.
+/// Of four ports the first three go; when one more comes, the rows that they left are closed up.
 fn four_ports(rt: &impl Abort, hold: &mut Hold) -> Result<(), NoMemory>
     requires { hold.old ≡ empty_hold 8 }
     ensures { hold.new.cells ≡ hold.old.cells }
@@ -176,11 +175,14 @@ fn four_ports(rt: &impl Abort, hold: &mut Hold) -> Result<(), NoMemory>
     hold.drop_port(PortId(4));
     hold.drop_port(PortId(3));
     hold.drop_port(PortId(5));
-    assert_eq!(rt; hold.extras(PortId(6)), 6);
+    assert_eq!(rt; hold.extra_count(PortId(6)), 6);
     open(hold, 4, 7)?;
-    assert_eq!(rt; hold.extras(PortId(3)) + hold.extras(PortId(5)), 0);
-    assert_eq!(rt; hold.extras(PortId(6)), 6);
-    assert_eq!(rt; hold.extras(PortId(4)), 7);
+    assert_eq!(rt;
+        hold.extra_count(PortId(3)) + hold.extra_count(PortId(5)),
+        0
+    );
+    assert_eq!(rt; hold.extra_count(PortId(6)), 6);
+    assert_eq!(rt; hold.extra_count(PortId(4)), 7);
     Ok(())
 }
 

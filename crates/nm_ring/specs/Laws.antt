@@ -18,8 +18,8 @@ abbrev pub DistanceCountsSteps : Type 0
 DistanceCountsSteps = (size at k : ℕ) → at < size → k < size → dist size at (step_on size at k) ≡ k
 
 -- the ring after an accepted sync whose tail went on by so many slots
-abbrev pub synced : RingState → ℕ → ℕ → ℕ → RingState
-synced ring head cur moved = advanced ring head cur (step_on ring.size ring.last_tail moved)
+abbrev pub ring_synced : RingState → ℕ → ℕ → ℕ → RingState
+ring_synced ring head cur moved = advanced ring head cur (step_on ring.size ring.last_tail moved)
 
 pub record FitsAgain (ring : RingState) : Type 0 where
   pub is_ring : IsRing ring
@@ -29,7 +29,7 @@ pub record FitsAgain (ring : RingState) : Type 0 where
 -- on by all of them after a send, by the frames taken on a pipe, by the frames given on a receive ring
 abbrev pub PositionsFitAfterSync : Type 0
 PositionsFitAfterSync = (ring : RingState) (head cur moved : ℕ) → IsRing ring → FitsRing ring head cur
-    → moved ≤ kernel_count ring.size head ring.last_tail → FitsAgain (synced ring head cur moved)
+    → moved ≤ kernel_count ring.size head ring.last_tail → FitsAgain (ring_synced ring head cur moved)
 
 abbrev pub PositionsFitAfterReset : Type 0
 PositionsFitAfterReset = (ring : RingState) → IsRing ring → FitsAgain (reset_positions ring)
@@ -58,7 +58,7 @@ PushedBecomePending = (ring : RingState) (head cur : ℕ) → IsRing ring → Fi
 -- the frames taken are the first ones pending
 abbrev pub TakenLeavePending : Type 0
 TakenLeavePending = (ring : RingState) (head cur moved : ℕ) → IsRing ring → FitsRing ring head cur → moved ≤ kernel_count ring.size head ring.last_tail
-    → pending_slots (synced ring head cur moved) ≡ drop moved (pending_slots (advanced ring head cur ring.last_tail))
+    → pending_slots (ring_synced ring head cur moved) ≡ drop moved (pending_slots (advanced ring head cur ring.last_tail))
 
 abbrev pub FreshSlots : Type 0
 FreshSlots = (size : ℕ) → IsRingSize size → (user_slots (opened_tx size) ≡ range_with_len 0 (size - 1)) × (user_slots (opened_rx size) ≡ [])

@@ -2,9 +2,15 @@
 //! definitions, which the check proves.
 #![tactic(auto, using(crate::proofs::RingLaws::ring_laws))]
 
-ghost use Rattle.nm_ring.specs.Laws.{StepsGoRound, StepsAddUp, DistanceLeadsThere, DistanceCountsSteps, PositionsFitAfterSync, PositionsFitAfterReset, PositionsFitAtOpening, SendTakesAll, TailGivesBack, PendingAreCounted, PushedBecomePending, TakenLeavePending, FreshSlots, PushedAreUserSlots, UserSlotsAreListed, ListedAreUserSlots, UserSlotsAreDistinct, PushedSlotsAreDistinct};
+ghost use Rattle.nm_ring.specs.Laws.{StepsGoRound, StepsAddUp, DistanceLeadsThere};
+ghost use Rattle.nm_ring.specs.Laws.{DistanceCountsSteps, PositionsFitAfterSync};
+ghost use Rattle.nm_ring.specs.Laws.{PositionsFitAfterReset, PositionsFitAtOpening, SendTakesAll};
+ghost use Rattle.nm_ring.specs.Laws.{TailGivesBack, PendingAreCounted, PushedBecomePending};
+ghost use Rattle.nm_ring.specs.Laws.{TakenLeavePending, FreshSlots, PushedAreUserSlots};
+ghost use Rattle.nm_ring.specs.Laws.{UserSlotsAreListed, ListedAreUserSlots};
+ghost use Rattle.nm_ring.specs.Laws.{UserSlotsAreDistinct, PushedSlotsAreDistinct};
 
-/// As many steps as the ring has slots lead back, and steps add up.
+/// As many steps as the ring has slots lead back to the start, and steps add up.
 pub fn steps_go_round()
     ensures round { StepsGoRound }
     ensures sums { StepsAddUp }
@@ -16,7 +22,7 @@ pub fn distances_are_steps()
     ensures count { DistanceCountsSteps }
 {}
 
-/// Positions fit again after every accepted sync, also one whose frames were taken in part or not.
+/// Positions fit again after every accepted sync, even if no frame was taken, or only some.
 pub fn positions_fit_after_sync()
     ensures { PositionsFitAfterSync }
 {}
@@ -37,15 +43,15 @@ pub fn tails_give_back()
     ensures part { TailGivesBack }
 {}
 
-/// The frames that a pipe has not taken are fixed by the positions: how many there are, which come
-/// with a sync, and which go with those taken.
+/// The positions fix the frames that a pipe has not taken: their number, those that a sync adds, and
+/// those that leave as they are taken.
 pub fn pending_frames_follow_positions()
     ensures counted { PendingAreCounted }
     ensures pushed { PushedBecomePending }
     ensures taken { TakenLeavePending }
 {}
 
-/// A fresh transmit ring has all slots but its last one with the user, a fresh receive ring none.
+/// All slots but the last one of an opened transmit ring are the user's, and none of a receive ring.
 pub fn fresh_slots()
     ensures { FreshSlots }
 {}
@@ -58,7 +64,7 @@ pub fn user_slots_are_listed()
     ensures none_else { ListedAreUserSlots }
 {}
 
-/// No slot stands twice among the user's, nor among those that a sync pushes.
+/// No slot is twice among the user's, nor among those that a sync pushes.
 #[tactic(auto, using(crate::proofs::RingLaws::distinct_laws))]
 pub fn slots_are_distinct()
     ensures user { UserSlotsAreDistinct }

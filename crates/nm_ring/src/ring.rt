@@ -1,5 +1,6 @@
 ghost use Rattle.std.specs.Prelude.{◌≡◌, ◌≢◌, ◌↔◌, ◌<◌, ◌≤◌, MatchResult, IsOk, IsTrue, None, Some};
-ghost use Rattle.nm_types.specs.Positions.{IsRingSize, IsRing, FitsRing, dist, opened_tx, opened_rx, advanced};
+ghost use Rattle.nm_types.specs.Positions.{IsRingSize, IsRing, FitsRing, dist};
+ghost use Rattle.nm_types.specs.Positions.{opened_tx, opened_rx, advanced};
 ghost use Rattle.nm_types.specs.SyncChecks.{ring_refusal};
 ghost use Rattle.nm_types.specs.Reset.{reset_positions};
 
@@ -23,11 +24,32 @@ impl Model for Ring {
 
     ghost Value = { RingState };
 
-    ghost view = { λ r. record { size = r.size; head = r.head; cur = r.cur; tail = r.tail; accepted_head = r.accepted_head; last_tail = r.last_tail } };
+    ghost view = { λ r. record {
+      size = r.size;
+      head = r.head;
+      cur = r.cur;
+      tail = r.tail;
+      accepted_head = r.accepted_head;
+      last_tail = r.last_tail;
+    } };
 
-    ghost invariant = { λ r. IsRing (record { size = r.size; head = r.head; cur = r.cur; tail = r.tail; accepted_head = r.accepted_head; last_tail = r.last_tail }) };
+    ghost invariant = { λ r. IsRing (record {
+      size = r.size;
+      head = r.head;
+      cur = r.cur;
+      tail = r.tail;
+      accepted_head = r.accepted_head;
+      last_tail = r.last_tail;
+    }) };
 
-    ghost inverse = { λ r. record { size = r.size; head = r.head; cur = r.cur; tail = r.tail; accepted_head = r.accepted_head; last_tail = r.last_tail } };
+    ghost inverse = { λ r. record {
+      size = r.size;
+      head = r.head;
+      cur = r.cur;
+      tail = r.tail;
+      accepted_head = r.accepted_head;
+      last_tail = r.last_tail;
+    } };
 }
 
 fn dist(size: u32, from: u32, to: u32) -> u32
@@ -100,22 +122,23 @@ impl Ring {
         self.tail
     }
 
-    /// Stores a head, also one that no sync accepts.
+    /// Stores a head, even one that no sync accepts.
     pub fn put_head(&mut self, head: u32)
         ensures { self.new ≡ record self.old { head = head } }
     {
         self.head = head;
     }
 
-    /// Stores a cur, also one that no sync accepts.
+    /// Stores a cur, even one that no sync accepts.
     pub fn put_cur(&mut self, cur: u32)
         ensures { self.new ≡ record self.old { cur = cur } }
     {
         self.cur = cur;
     }
 
-    /// Whether a sync accepts a head and a cur: `HeadOut` where the head is no position or lies beyond
-    /// the tail, else `CurOut` where the cur is or does, seen from the head.
+    /// Checks the head and the cur of a sync: `HeadOut` if the head is not a slot of the ring or is past
+    /// the tail, else `CurOut` if the cur is not a slot of the ring or, seen from the head, is past the
+    /// tail.
     #[tactic(auto, using(nm_types::proofs::RingChecks::ring_checks))]
     pub fn check(&self, head: u32, cur: u32) -> Result<(), RingFault>
         ensures refusal { MatchResult result
@@ -137,7 +160,7 @@ impl Ring {
         Ok(())
     }
 
-    /// Takes over positions that `check` accepts, with the tail that the sync left.
+    /// Accepts positions that `check` accepts, with the tail that the sync leaves.
     pub fn advance(&mut self, head: u32, cur: u32, tail: u32)
         requires fits { FitsRing self.old head cur }
         requires tail { tail < self.old.size }
@@ -150,7 +173,7 @@ impl Ring {
         self.last_tail = tail;
     }
 
-    /// Takes the positions back to those last accepted.
+    /// Resets the positions to those last accepted.
     pub fn reset(&mut self)
         ensures { self.new ≡ reset_positions self.old }
     {
@@ -159,7 +182,7 @@ impl Ring {
         self.tail = self.last_tail;
     }
 
-    /// The first of the user's slots, and how many there are, going round.
+    /// The first of the user's slots, and the number of them, going round.
     pub fn user_range(&self) -> (u32, u32)
         ensures start { result.0 ≡ self.now.accepted_head }
         ensures count { result.1 ≡ dist self.now.size self.now.accepted_head self.now.last_tail }
@@ -169,7 +192,7 @@ impl Ring {
         (self.accepted_head, count)
     }
 
-    /// Whether a user who waits for the ring would be woken.
+    /// Whether a user who waits on the ring would be woken.
     pub fn would_wake(&self) -> bool
         ensures { IsTrue result ↔ (self.now.cur ≢ self.now.tail) }
     {

@@ -1,17 +1,20 @@
-//! Laws of the checks of a sync, and of the exchange that an accepted one makes. Each function does nothing; its contract is a law about the
-//! definitions, which the check proves.
+//! Laws of the checks of a sync, and of the exchange that an accepted one makes. Each function does
+//! nothing; its contract is a law about the definitions, which the check proves.
 #![tactic(auto, using(crate::proofs::CheckLaws::check_laws))]
 
-ghost use Rattle.nm_slot.specs.Laws.{PassedPositionsFit, PassedSlotsPass, FittingPasses, PassedNamesOnce, RefusalsAreChecks, ExchangeBringsNamed, ExchangeGivesBack, ExchangeLeavesOthers, ExchangeKeepsOnce, PushedHoldNames};
+ghost use Rattle.nm_slot.specs.Laws.{PassedPositionsFit, PassedSlotsPass, FittingPasses};
+ghost use Rattle.nm_slot.specs.Laws.{PassedNamesOnce, RefusalsAreChecks, ExchangeBringsNamed};
+ghost use Rattle.nm_slot.specs.Laws.{ExchangeGivesBack, ExchangeLeavesOthers, ExchangeKeepsOnce};
+ghost use Rattle.nm_slot.specs.Laws.{PushedHoldNames};
 
-/// No check refuses a sync exactly where its positions fit and each pushed slot passes.
+/// No check refuses a sync exactly if its positions fit and each pushed slot passes.
 pub fn checks_pass_what_fits()
     ensures fit { PassedPositionsFit }
     ensures slots { PassedSlotsPass }
     ensures converse { FittingPasses }
 {}
 
-/// The slots of an accepted push name buffers of the session, none of them twice.
+/// The slots of an accepted push name buffers of the session, and no buffer twice.
 pub fn names_stand_once()
     ensures { PassedNamesOnce }
 {}

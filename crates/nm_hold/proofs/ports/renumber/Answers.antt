@@ -1,7 +1,7 @@
 use Rattle.std.proofs.Common.{ℕ, ◌≡◌, ◌+◌, nat_eq, length, Option, suc, ◌∙◌, ap, arith}
 use Rattle.std.specs.HashMap.{get}
 use Rattle.nm_hold.specs.declared.table.PortTable.{PortTable}
-use Rattle.nm_hold.specs.Indexed.{port_in, port_at, noted}
+use Rattle.nm_hold.specs.Indexed.{port_in, port_at, index_noted}
 use Rattle.nm_hold.proofs.Finding.{IsNoted, row_read, known_at, keys-noted, noted-next, indexed-noted}
 use Rattle.nm_hold.proofs.ports.renumber.Goals as goal
 
@@ -16,8 +16,8 @@ loop-at-preserved c =
     let index = get nat_eq c.loop-at.indices in
     let new = get nat_eq c.note.new.indices in
     let read = row_read rows c.loop-at.at c.index-rows-at.result (omega arith) c.index-rows-at.is in
-    let put : (port : ℕ) → new port ≡ noted (port_at rows c.loop-at.at) c.loop-at.at port (index port) = (λ port.
-    c.note.ensures.indices port ∙ ap (λ (s : Option PortTable). noted (port_in s) c.loop-at.at port (index port)) read) in
+    let put : (port : ℕ) → new port ≡ index_noted (port_at rows c.loop-at.at) c.loop-at.at port (index port) = (λ port.
+    c.note.ensures.indices port ∙ ap (λ (s : Option PortTable). index_noted (port_in s) c.loop-at.at port (index port)) read) in
     let next : c.loop-at.at + 1 ≡ suc c.loop-at.at = omega arith in
     let before : IsNoted rows index c.loop-at.at = c.loop-at.invariant.noted in
     record {

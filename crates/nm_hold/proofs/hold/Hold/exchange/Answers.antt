@@ -3,14 +3,14 @@ use Rattle.std.proofs.lemmas.List.{length-set, get_or-set_other}
 use Rattle.nm_types.specs.Exchange.{swapped}
 use Rattle.nm_hold.specs.declared.standing.Home.{Home}
 use Rattle.nm_hold.specs.declared.standing.Standing.{Standing}
-use Rattle.nm_hold.specs.Standings.{home_in, moved_to}
+use Rattle.nm_hold.specs.Standings.{home_in, cell_moved}
 use Rattle.nm_hold.proofs.Steps.{put_are_tables}
 use Rattle.nm_hold.proofs.hold.Hold.exchange.Goals.{in_default-via-in-Some+in_default, in_default-via-in_default}
 use Rattle.nm_hold.specs.Tables.{number_at, put_in}
 use Rattle.nm_hold.specs.Holds.{cell_at, places_in, is_named_in}
 use Rattle.nm_hold.proofs.Tied.{number_if-some, held-number, standing_by_number, within_cells}
 use Rattle.nm_hold.proofs.Shown.{cell_read, held_has_number, named_stands, number_if-is}
-use Rattle.nm_hold.proofs.Exchanging.{swapped-same, places_stay, Exchange, put_both, ports_of-put_both, exchange_made, moved, count_moved, tied_moved, places_moved, bufs_moved, named_moved}
+use Rattle.nm_hold.proofs.Exchanging.{swapped-same, places_stay, Exchange, put_both, ports_of-put_both, exchange_made, moved, count_moved, tied_moved, places_moved, bufs_moved, all_moved, named_moved}
 use Rattle.nm_hold.proofs.hold.Hold.exchange.Goals as goal
 
 pub returns-then-was-idx-clause-places : goal.returns-then-was-idx-clause-places
@@ -55,8 +55,8 @@ unreachable-requires c =
     let some = held_has_number cells tables c.args.place tied (rw (← c.self.view_is) at c.requires.held) in
     let found = standing_by_number cells tables c.args.place tied some in
     let named = named_stands (cell_at cells c.args.idx) (rw (← c.self.view_is) at c.requires.named) in
-    let one = rw (← c.self.view_is) at c.home_at.ensures in
-    let two = rw (← c.self.view_is) at c.home_at-2.ensures in
+    let one = rw (← c.self.view_is) at c.home_at.ensures.home in
+    let two = rw (← c.self.view_is) at c.home_at-2.ensures.home in
     elim c.in_default.branch [
       | in_default-via-in-Some+in_default w ↦ none_home c.home_at-2.result named.0 (cell_at cells c.args.idx) w.in_default.is-1 two named.1
       | in_default-via-in_default w ↦ none_home c.home_at.result found.0 (cell_at cells c.number-was.result) w.in_default.is-0 one (ap (cell_at cells) number ∙ found.1)
@@ -96,17 +96,17 @@ step c =
     let t = named.0 in
     let s_there : cell_at cells was ≡ Some s = ap (cell_at cells) number ∙ found.1 in
     let t_there : cell_at cells idx ≡ Some t = named.1 in
-    let here : c.in-Some-Some.here ≡ s.home = home_some c.home_at.result c.in-Some-Some.here s (cell_at cells was) c.in-Some-Some.is-0 (rw (← c.self.view_is) at c.home_at.ensures) s_there in
-    let there : c.in-Some-Some.there ≡ t.home = home_some c.home_at-2.result c.in-Some-Some.there t (cell_at cells idx) c.in-Some-Some.is-1 (rw (← c.self.view_is) at c.home_at-2.ensures) t_there in
+    let here : c.in-Some-Some.here ≡ s.home = home_some c.home_at.result c.in-Some-Some.here s (cell_at cells was) c.in-Some-Some.is-0 (rw (← c.self.view_is) at c.home_at.ensures.home) s_there in
+    let there : c.in-Some-Some.there ≡ t.home = home_some c.home_at-2.result c.in-Some-Some.there t (cell_at cells idx) c.in-Some-Some.is-1 (rw (← c.self.view_is) at c.home_at-2.ensures.home) t_there in
     let was_within = within_cells cells was s s_there in
     let idx_within = within_cells cells idx t t_there in
     let read = cell_read cells was c.index_mut.result.now was_within c.index_mut.ensures.value in
-    let one : c.move_to.new.cell ≡ Some (record s { home = t.home }) = c.move_to.ensures ∙ (ap (moved_to c.in-Some-Some.there) (read ∙ s_there) ∙ ap (λ (h : Home). Some (record s { home = h })) there) in
+    let one : c.move_to.new.cell ≡ Some (record s { home = t.home }) = c.move_to.ensures ∙ (ap (cell_moved c.in-Some-Some.there) (read ∙ s_there) ∙ ap (λ (h : Home). Some (record s { home = h })) there) in
     let other : idx ≢ was = (λ e. c.if-was-idx.false (sym e)) in
     let count = length-set cells was c.move_to.new.cell in
     let read_two = cell_read (slice_set cells was c.move_to.new.cell) idx c.index_mut-2.result.now (omega (arith, count, idx_within)) c.index_mut-2.ensures.value in
     let still : cell_at (slice_set cells was c.move_to.new.cell) idx ≡ Some t = get_or-set_other cells was idx c.move_to.new.cell None other ∙ t_there in
-    let two : c.move_to-2.new.cell ≡ Some (record t { home = s.home }) = c.move_to-2.ensures ∙ (ap (moved_to c.in-Some-Some.here) (read_two ∙ still) ∙ ap (λ (h : Home). Some (record t { home = h })) here) in
+    let two : c.move_to-2.new.cell ≡ Some (record t { home = s.home }) = c.move_to-2.ensures ∙ (ap (cell_moved c.in-Some-Some.here) (read_two ∙ still) ∙ ap (λ (h : Home). Some (record t { home = h })) here) in
     let first = c.put.ensures.tables in
     let second = c.put-2.ensures.tables in
     record {
@@ -171,3 +171,11 @@ returns-clause-ports c =
     let f = step c in
     let tables = c.self.inside.ports.tables in
     rw (← c.self.view_is, f.same) (ports_of-put_both c.args.place c.args.idx f.t.home.place (number_at tables c.args.place) tables)
+
+pub returns-clause-all : goal.returns-clause-all
+returns-clause-all c =
+    let f = step c in
+    let cells = c.self.inside.cells.items in
+    let tables = c.self.inside.ports.tables in
+    let new = put_both c.args.place c.args.idx f.t.home.place (number_at tables c.args.place) tables in
+    rw (← c.self.view_is, f.cells) (all_moved cells tables new c.args.place c.args.idx f.s f.t f.made)

@@ -1,7 +1,7 @@
 use Rattle.std.proofs.Common.{◌≡◌, ◌∙◌, refl, Some}
 use Rattle.std.proofs.lemmas.List.{length-set}
 use Rattle.nm_region.specs.Buffers.{with_bytes}
-use Rattle.nm_hold.specs.Standings.{written}
+use Rattle.nm_hold.specs.Standings.{cell_written}
 use Rattle.nm_hold.specs.Holds.{cell_at}
 use Rattle.nm_hold.proofs.Tied.{tied-kept, within_cells}
 use Rattle.nm_hold.proofs.Shown.{cell_read, named_stands}
@@ -16,7 +16,7 @@ invariant_of-self-lent c w =
     let within = within_cells cells idx found.0 found.1 in
     let cell = cell_read cells idx c.index_mut.result.now within c.index_mut.ensures.value in
     let is : c.index_mut.result.now ≡ Some found.0 = cell ∙ found.1 in
-    let same = length-set cells idx (written c.index_mut.result.now w) in
+    let same = length-set cells idx (cell_written c.index_mut.result.now w) in
     record {
       low = rw same inv.low;
       high = rw same inv.high;

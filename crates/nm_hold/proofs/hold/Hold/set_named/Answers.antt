@@ -1,7 +1,7 @@
 use Rattle.std.proofs.Common.{◌≡◌, slice_set, sym, ◌∙◌, ap, refl, Some}
 use Rattle.std.proofs.lemmas.List.{length-set}
 use Rattle.nm_hold.specs.declared.standing.Standing.{Standing}
-use Rattle.nm_hold.specs.Standings.{renamed}
+use Rattle.nm_hold.specs.Standings.{cell_named}
 use Rattle.nm_hold.specs.Tables.{number_at}
 use Rattle.nm_hold.specs.Holds.{cell_at}
 use Rattle.nm_hold.specs.Ties.{IsTied}
@@ -13,7 +13,7 @@ use Rattle.nm_hold.proofs.hold.Hold.set_named.Goals as goal
 -- the facts of the step, over the fields
 record Step (c : goal.After-self-1) : Type 0 where
   number : c.number-idx.result ≡ number_at c.self.inside.ports.tables c.args.place
-  after : c.rename.new.cell ≡ renamed c.args.named (cell_at c.self.inside.cells.items c.number-idx.result)
+  after : c.rename.new.cell ≡ cell_named c.args.named (cell_at c.self.inside.cells.items c.number-idx.result)
   tied : IsTied (slice_set c.self.inside.cells.items c.number-idx.result c.rename.new.cell) c.self.inside.ports.tables
 
 step : (c : goal.After-self-1) → Step c
@@ -29,9 +29,9 @@ step c =
     let there : cell_at cells idx ≡ Some found.0 = ap (cell_at cells) number ∙ found.1 in
     let within = within_cells cells idx found.0 there in
     let read = cell_read cells idx c.index_mut.result.now within c.index_mut.ensures.value in
-    let after = c.rename.ensures ∙ ap (renamed c.args.named) read in
+    let after = c.rename.ensures ∙ ap (cell_named c.args.named) read in
     let new : Standing = record (found.0) { home = record { place = found.0.home.place; named = c.args.named } } in
-    let is : c.rename.new.cell ≡ Some new = after ∙ ap (renamed c.args.named) there in
+    let is : c.rename.new.cell ≡ Some new = after ∙ ap (cell_named c.args.named) there in
     record {
       number = number;
       after = after;

@@ -1,6 +1,6 @@
 use Rattle.std.proofs.Common.{Some, None}
 use Rattle.nm_hold.proofs.Shown.{IsHold-stored, extra_of-tables}
-use Rattle.nm_hold.proofs.hold.Hold.extras.Goals as goal
+use Rattle.nm_hold.proofs.hold.Hold.extra_count.Goals as goal
 
 pub returns-in-Some-clause-hold : goal.returns-in-Some-clause-hold
 returns-in-Some-clause-hold c =
