@@ -1,18 +1,18 @@
 -- What a session has after each entry of its own: after an opening, a send, a put, a receive sync, a
 -- reset and a detach.
-use Rattle.std.specs.Prelude.{ℕ, ◌==◌, not, if◌then◌else◌, List, [], ◌∷◌, ◌++◌, length, map, filter, fold, take, drop, slice_set, Option, Some, None, option_map}
+use Rattle.std.specs.Prelude.{ℕ, ◌==◌, not, if◌then◌else◌, List, [], ◌∷◌, ◌++◌, length, map, filter, fold, take, drop, slice_set, slice_index_or, Option, Some, None, option_map}
 use Rattle.std.specs.Option.{option_map_or}
 use Rattle.std.specs.List.{zip}
 use Rattle.nm_types.specs.declared.id.Side.{Side}
 use Rattle.nm_types.specs.declared.id.Side.TheVariants.{Tx, Rx}
-use Rattle.nm_types.specs.Positions.{step_on, opened_tx, opened_rx, advanced, user_slots, pushed_slots, pending_slots}
+use Rattle.nm_types.specs.Positions.{RingState, step_on, opened_tx, opened_rx, advanced, user_slots, pushed_slots, pending_slots}
 use Rattle.nm_types.specs.Slots.{SlotState, Pushed, slot_after_push, pushed_names, published_slot}
 use Rattle.nm_types.specs.Reset.{reset_positions, reset_slot}
 use Rattle.nm_types.specs.Exchange.{swapped}
 use Rattle.nm_types.specs.Buffers.{cleared_but}
 use Rattle.nm_types.specs.declared.id.Chain.{Chain}
 use Rattle.nm_types.specs.Chain.{linked, chain_head, opened_links, link_of, chain_of}
-use Rattle.nm_types.specs.OwnPorts.{OwnRing, OwnPort, OwnState, Arrival, bytes_at, ring_on, with_ring, slot_in, buffer_in, with_slot, pushed_count, pushed_on}
+use Rattle.nm_types.specs.OwnPorts.{OwnRing, OwnPort, OwnState, Arrival, bytes_at, ring_on, with_ring, index_of, blank_slot, buffer_in, pushed_count, pushed_on}
 
 -- all places of a port once two buffers have changed places
 abbrev pub ring_swapped : ℕ → ℕ → OwnRing → OwnRing
@@ -36,39 +36,45 @@ after_slot side id ports pushed = map (port_swapped (buffer_on side id ports pus
 abbrev pub after_exchange : Side → ℕ → OwnState → OwnState
 after_exchange side id s = record s { ports = fold (after_slot side id) s.ports (pushed_on side id s) }
 
--- an accepted transmit push: its slots are announced no longer, and the head is accepted; the tail stays
--- until frames are taken
-abbrev pub with_push_cleared : OwnRing → ℕ → OwnRing
-with_push_cleared r at = with_slot Tx at (slot_after_push (slot_in Tx r at)) r
+-- the slots of a transmit ring once a push is accepted: the slots pushed announce nothing any longer
+abbrev pub with_push_cleared : List SlotState → ℕ → List SlotState
+with_push_cleared slots at = slice_set slots at (slot_after_push (slice_index_or slots at blank_slot))
 
-abbrev pub push_accepted : OwnRing → OwnRing
-push_accepted r = record (fold with_push_cleared r (pushed_slots r.ring r.ring.head)) { ring = advanced r.ring r.ring.head r.ring.cur r.ring.last_tail }
+abbrev pub slots_after_push : RingState → List SlotState → List SlotState
+slots_after_push ring slots = fold with_push_cleared slots (pushed_slots ring ring.head)
 
--- the tail once so many of the frames offered were taken
-abbrev pub tail_moved : ℕ → OwnRing → OwnRing
-tail_moved taken r = record r { ring = advanced r.ring r.ring.head r.ring.cur (step_on r.ring.size r.ring.last_tail taken) }
+-- the positions of a ring whose head is accepted, and so many of whose frames offered were taken
+abbrev pub accepted : ℕ → RingState → RingState
+accepted taken ring = advanced ring ring.head ring.cur (step_on ring.size ring.last_tail taken)
 
 -- a send takes all that is pushed
 abbrev pub ring_after_send : OwnRing → OwnRing
-ring_after_send r = tail_moved (pushed_count r) (push_accepted r)
+ring_after_send r = record r { ring = accepted (pushed_count r) r.ring; slots = slots_after_push r.ring r.slots }
 
 abbrev pub own_after_send : ℕ → OwnState → OwnState
 own_after_send id s = with_ring Tx id ring_after_send (after_exchange Tx id s)
 
--- a slot whose frame a pipe took names the buffer that came into its place
-abbrev pub with_refill : OwnRing → ℕ × ℕ → OwnRing
-with_refill r (at, buffer) = record (with_slot Tx at (record (slot_in Tx r at) { buf_idx = buffer }) r) { held = slice_set r.held at buffer }
-
--- a pipe takes the first of the frames that are still pushed and of those pushed now
-abbrev pub with_refills : List ℕ → OwnRing → OwnRing
-with_refills came r = fold with_refill r (zip (take (length came) (pending_slots r.ring)) came)
-
-abbrev pub ring_after_put : List ℕ → OwnRing → OwnRing
-ring_after_put came r = tail_moved (length came) (with_refills came (push_accepted r))
-
 -- the slots whose frames a put offers: those still pushed, and then those pushed now
 abbrev pub offered_slots : OwnRing → List ℕ
 offered_slots r = pending_slots r.ring ++ pushed_slots r.ring r.ring.head
+
+-- the slots of the first frames offered, each with the buffer that came for its own
+abbrev pub taken_slots : List ℕ → OwnRing → List (ℕ × ℕ)
+taken_slots came r = zip (take (length came) (offered_slots r)) came
+
+-- a slot whose frame a pipe took names the buffer that came into its place
+abbrev pub with_slot_refilled : List SlotState → ℕ × ℕ → List SlotState
+with_slot_refilled slots (at, buffer) = slice_set slots at (record (slice_index_or slots at blank_slot) { buf_idx = buffer })
+
+abbrev pub with_place_refilled : List ℕ → ℕ × ℕ → List ℕ
+with_place_refilled held (at, buffer) = slice_set held at buffer
+
+abbrev pub ring_after_put : List ℕ → OwnRing → OwnRing
+ring_after_put came r = record {
+  ring = accepted (length came) r.ring;
+  slots = fold with_slot_refilled (slots_after_push r.ring r.slots) (taken_slots came r);
+  held = fold with_place_refilled r.held (taken_slots came r);
+}
 
 -- the buffers of the first frames that a put offers
 abbrev pub taken_from : ℕ → OwnRing → List ℕ
@@ -105,7 +111,7 @@ published came = published_slot came.buffer (length came.bytes)
 
 abbrev pub ring_after_receive : List Arrival → OwnRing → OwnRing
 ring_after_receive came r = record {
-  ring = advanced r.ring r.ring.head r.ring.cur (step_on r.ring.size r.ring.last_tail (length came));
+  ring = accepted (length came) r.ring;
   slots = drop (pushed_count r) r.slots ++ map published came;
   held = drop (pushed_count r) r.held ++ buffers_of_arrivals came;
 }
@@ -118,11 +124,12 @@ abbrev pub own_after_receive : ℕ → List Arrival → OwnState → OwnState
 own_after_receive id came s = record (with_ring Rx id (ring_after_receive came) (after_exchange Rx id s)) { bytes = bytes_after (back_on id s) came s.bytes }
 
 -- a reset ring: its positions are those last accepted, and each user slot names the buffer in its place
-abbrev pub with_slot_reset : Side → OwnRing → ℕ → OwnRing
-with_slot_reset side r at = with_slot side at (reset_slot side (buffer_in side r at) (slot_in side r at)) r
+abbrev pub with_slot_reset : Side → OwnRing → List SlotState → ℕ → List SlotState
+with_slot_reset side r slots at =
+    slice_set slots (index_of side r.ring at) (reset_slot side (buffer_in side r at) (slice_index_or slots (index_of side r.ring at) blank_slot))
 
 abbrev pub ring_after_reset : Side → OwnRing → OwnRing
-ring_after_reset side r = record (fold (with_slot_reset side) r (user_slots r.ring)) { ring = reset_positions r.ring }
+ring_after_reset side r = record r { ring = reset_positions r.ring; slots = fold (with_slot_reset side r) r.slots (user_slots r.ring) }
 
 abbrev pub own_after_reset : ℕ → Side → OwnState → OwnState
 own_after_reset id side s = with_ring side id (ring_after_reset side) s
