@@ -1,0 +1,6 @@
+//! A user's own side of its ports, after netmap(4): rings, slots, the buffers in their places, bytes
+//! and extra buffers.
+#![tactic(auto)]
+
+mod slot_ring;
+mod slots;
