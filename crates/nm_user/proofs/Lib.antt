@@ -1,1 +1,3 @@
 pub mod SlotLists
+pub mod Judging
+pub mod Pushes

@@ -1,1 +1,2 @@
 pub mod RingSlots
+pub mod Sides

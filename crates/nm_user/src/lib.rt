@@ -2,5 +2,6 @@
 //! and extra buffers.
 #![tactic(auto)]
 
+mod checks;
 mod slot_ring;
 mod slots;

@@ -5,6 +5,7 @@ ghost use Rattle.nm_types.specs.Slots.{published_slot};
 ghost use Rattle.nm_types.specs.Reset.{reset_positions};
 ghost use Rattle.nm_types.specs.OwnPorts.{blank_slot};
 ghost use Rattle.nm_user.specs.RingSlots.{RingSlots, IsRingSlots, slot_of_user};
+ghost use Rattle.nm_user.specs.Sides.{slot_at};
 ghost use Rattle.nm_user.specs.RingSlots.{with_slot_of_user, with_slot_reset_at, at_positions};
 ghost use Rattle.nm_types.specs.OwnPorts.{index_of};
 ghost use Rattle.nm_types.specs.declared.id.Side.TheVariants.{Tx, Rx};
@@ -235,5 +236,20 @@ impl SlotRing {
             ring: Ring::rx(size),
             slots: VecDeque::with_capacity(alloc, size as usize)?,
         })
+    }
+
+    /// The side of the ring.
+    pub(crate) fn side(&self) -> Side
+        ensures { result ≡ self.now.side }
+    {
+        self.side
+    }
+
+    /// The slot at a position, which is one of the user's.
+    pub(crate) fn user_slot(&self, at: u32) -> Slot
+        requires { is_user_slot self.now.ring at ≡ true }
+        ensures { result ≡ slot_at self.now at }
+    {
+        self.slots[self.index_of(at)]
     }
 }

@@ -32,11 +32,13 @@ invariant_of-self c =
     let pushed = dist ring.size ring.accepted_head ring.head in
     let all : length c.self.inside.slots.items ≡ dist ring.size ring.accepted_head ring.last_tail = old.count ∙ ap (λ (side : Side). slot_count side ring) s.rx in
     let split = dist_split ring.size ring.accepted_head ring.head ring.last_tail old.ring.accepted fits.head_within last fits.head_reach in
-    let left : length (drop pushed c.self.inside.slots.items) ≡ dist ring.size ring.head ring.last_tail = omega (arith, length-drop pushed c.self.inside.slots.items, all, split) in
-    (record {
-      ring = rw s.ring (accepted_ring ring ring.tail old.ring fits.head_within tail);
-      count = rw (s.ring, s.slots, s.rx, old.ring.one_tail) left;
-    }, rw (s.ring, c.drop_front.ensures.room) c.self.invariant.1)
+    let left : length (drop pushed c.self.inside.slots.items) ≡ dist ring.size ring.head ring.last_tail = omega (arith, length-drop pushed c.self.inside.slots.items, all, split) in (
+      record {
+        ring = rw s.ring (accepted_ring ring ring.tail old.ring fits.head_within tail);
+        count = rw (s.ring, s.slots, s.rx, old.ring.one_tail) left;
+      },
+      rw (s.ring, c.drop_front.ensures.room) c.self.invariant.1,
+    )
 
 pub returns : goal.returns
 returns c =
