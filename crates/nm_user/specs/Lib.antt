@@ -1,2 +1,4 @@
 pub mod RingSlots
 pub mod Sides
+pub mod Kept
+pub mod Own

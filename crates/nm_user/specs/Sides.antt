@@ -15,7 +15,7 @@ use Rattle.nm_types.specs.declared.refusal.SlotFault.{SlotFault}
 use Rattle.nm_types.specs.declared.fault.SyncFault.{SyncFault}
 use Rattle.nm_types.specs.SyncFaults.{slot_sync_fault}
 use Rattle.nm_types.specs.OwnPorts.{index_of, blank_slot}
-use Rattle.nm_hold.specs.Holds.{HoldState, index_at, is_named_at}
+use Rattle.nm_hold.specs.Holds.{HoldState, index_at, is_named_at, IsHold}
 use Rattle.nm_user.specs.RingSlots.{RingSlots}
 
 abbrev pub place_on : Side → PortId → ℕ → Place
@@ -37,7 +37,7 @@ pushed_seen h port r = map (pushed_seen_at h port r) (pushed_slots r.ring r.ring
 
 -- the named buffers of a hold, for every index that a buffer can have
 abbrev pub AreNamed : HoldState → List ℕ → Type 0
-AreNamed h named = (idx : ℕ) → 2 ≤ idx → is_named_at h idx ≡ contains_index named idx
+AreNamed h named = IsHold h → (idx : ℕ) → 2 ≤ idx → is_named_at h idx ≡ contains_index named idx
 
 -- of each index whether a slot names it
 abbrev pub AreMarked : List Bool → List ℕ → Type 0

@@ -4,9 +4,10 @@ ghost use Rattle.nm_types.specs.Positions.{FitsRing, is_user_slot};
 ghost use Rattle.nm_types.specs.Slots.{pushed_names};
 ghost use Rattle.nm_types.specs.SyncFaults.{ring_sync_fault, slot_sync_fault};
 ghost use Rattle.nm_types.specs.SyncChecks.{slot_refusal, seen_of, slots_refusal, refusal_of};
-ghost use Rattle.nm_hold.specs.Holds.{buffers_of, is_named_at};
+ghost use Rattle.nm_hold.specs.Holds.{buffers_of, is_named_at, IsHold};
 ghost use Rattle.nm_user.specs.Sides.{place_on, number_at, slot_at, pushed_seen_at, pushed_seen};
 ghost use Rattle.nm_user.specs.Sides.{names_pushed, AreNamed, AreMarked, AreMarkedOf, AreCleared, JudgesSlot, JudgesAll, TellsRefusal, marks_after};
+ghost use Rattle.nm_user.specs.RingSlots.{IsRingSlots};
 
 use crate::slot_ring::SlotRing;
 use nm_hold::Hold;
@@ -62,6 +63,7 @@ fn seen_at(hold: &Hold, place: Place, idx: u32, marks: &[bool]) -> Seen
     ensures top { result.top ≡ buffers_of hold.now + 1 }
     ensures held { result.held ≡ is_named_at hold.now idx }
     ensures doubled { result.doubled ≡ slice_index_or marks.now idx false }
+    ensures hold { IsHold hold.now }
 {
     let held = hold.named(idx);
     let top = marks.len() as u32 - 1;
@@ -169,6 +171,7 @@ pub(crate) fn check_ring(
     ensures refusal { (named : List ℕ) → AreNamed hold.now named
         → TellsRefusal result (refusal_of ring.now.side (buffers_of hold.now) named ring.now.ring (pushed_seen hold.now port ring.now)) }
     ensures same { marks.new ≡ marks.old }
+    ensures slots { IsRingSlots ring.now }
 {
     let positions = ring.ring();
     if let Err(fault) = positions.check(positions.head(), positions.cur()) {

@@ -3,5 +3,9 @@
 #![tactic(auto)]
 
 mod checks;
+mod own;
+mod port;
 mod slot_ring;
 mod slots;
+
+pub use own::OwnSide;

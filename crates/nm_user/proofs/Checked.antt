@@ -1,0 +1,83 @@
+-- What a check of a port's ring answers, over what is seen; and an own side that was made.
+use Rattle.std.proofs.Common.{ℕ, zero, suc, ◌≡◌, ◌+◌, ◌-◌, List, [], ◌∷◌, length, map, replicate, nat_eq, Option, Some, None, option_map, inl, inr, refl, sym, ◌∙◌, ap, arith}
+use Rattle.std.specs.Prelude.{IsSome, option_and_then}
+use Rattle.std.proofs.lemmas.Bool.{cases_Bool}
+use Rattle.std.proofs.lemmas.List.{length-replicate}
+use Rattle.nm_types.specs.declared.id.PortId.{PortId}
+use Rattle.nm_types.specs.declared.id.Side.{Side}
+use Rattle.nm_types.specs.declared.refusal.RingFault.{RingFault}
+use Rattle.nm_types.specs.Positions.{IsRing, FitsRing}
+use Rattle.nm_types.specs.Slots.{Pushed}
+use Rattle.nm_types.specs.SyncFaults.{ring_sync_fault}
+use Rattle.nm_types.specs.SyncChecks.{ring_refusal, refusal_of, first_refusal, slots_refusal}
+use Rattle.nm_types.specs.OwnPorts.{OwnState, OwnRing, empty_own, ring_at, pushed_in, named_of, refusal_in}
+use Rattle.nm_slot.proofs.CheckLaws.{passed_positions_fit}
+use Rattle.nm_hold.specs.declared.standing.Standing.{Standing}
+use Rattle.nm_hold.specs.Holds.{HoldState, buffers_of, empty_hold}
+use Rattle.nm_hold.proofs.Spots.{nat_eq-is}
+use Rattle.nm_user.specs.declared.port.UserPort.{UserPort}
+use Rattle.nm_user.specs.RingSlots.{RingSlots}
+use Rattle.nm_user.specs.Sides.{pushed_seen}
+use Rattle.nm_user.specs.Own.{bytes_in_cell, ring_seen, own_seen, port_at, slots_on, slots_at, AreSided, refusal_at}
+use Rattle.nm_user.proofs.Seeing.{pushed_is_seen, side_of_found, ring_is_seen}
+
+-- a ring that is found, with the port that has it
+pub record Found (ports : List UserPort) (side : Side) (port : PortId) (r : RingSlots) : Type 0 where
+  pub p : UserPort
+  pub there : port_at ports port.0 ≡ Some p
+  pub on : slots_on side p ≡ Some r
+  pub id : p.id ≡ port
+
+id_of_found : (ports : List UserPort) (id : ℕ) (p : UserPort) → port_at ports id ≡ Some p → p.id.0 ≡ id
+id_of_found [] id p e = absurd cc
+id_of_found (q ∷ ports) id p e = elim (cases_Bool (nat_eq q.id.0 id)) [
+  | inl here ↦ (let is : q ≡ p = (let found : Some q ≡ Some p = rw here at e in cc) in rw (← is) (nat_eq-is q.id.0 id here))
+  | inr other ↦ id_of_found ports id p (rw other at e)
+]
+
+pub found : (ports : List UserPort) (side : Side) (port : PortId) (r : RingSlots) → slots_at side ports port.0 ≡ Some r → Found ports side port r
+found ports side port r e = by_port (port_at ports port.0) refl
+  where
+    by_port : (o : Option UserPort) → port_at ports port.0 ≡ o → Found ports side port r
+    by_port None none = absurd (let no : None ≡ Some r = rw none at e in cc)
+    by_port (Some p) there = record { p = p; there = there; on = rw there at e; id = ap (λ (n : ℕ). let i : PortId = record { 0 = n } in i) (id_of_found ports port.0 p there) }
+
+-- positions that are refused are refused whatever is pushed
+refusal_same : (side : Side) (pool : ℕ) (named : List ℕ) (r : RingSlots) (xs ys : List Pushed) → (FitsRing r.ring r.ring.head r.ring.cur → xs ≡ ys) → refusal_of side pool named r.ring xs ≡ refusal_of side pool named r.ring ys
+refusal_same side pool named r xs ys same = by_positions (ring_refusal r.ring r.ring.head r.ring.cur) refl
+  where
+    by_positions : (o : Option RingFault) → ring_refusal r.ring r.ring.head r.ring.cur ≡ o → refusal_of side pool named r.ring xs ≡ refusal_of side pool named r.ring ys
+    by_positions (Some fault) e = rw e refl
+    by_positions None e = ap (refusal_of side pool named r.ring) (same (passed_positions_fit side pool [] r.ring [] (rw e refl)))
+
+pub refusal_is_seen : (h : HoldState) (ports : List UserPort) (side : Side) (port : PortId) (r : RingSlots) → AreSided ports → IsRing r.ring → slots_at side ports port.0 ≡ Some r
+    → refusal_at side port.0 (own_seen h ports) ≡ refusal_of r.side (buffers_of h) (named_of (own_seen h ports)) r.ring (pushed_seen h port r)
+refusal_is_seen h ports side port r sided is e =
+    let f = found ports side port r e in
+    let own_side = side_of_found ports side port.0 f.p r sided f.there f.on in
+    let ring : ring_at side (own_seen h ports) port.0 ≡ Some (ring_seen h port r) = ring_is_seen h ports side port.0 ∙ rw (f.there, f.on, f.id) refl in
+    let named = named_of (own_seen h ports) in
+    ap (option_and_then (refusal_in side (own_seen h ports))) ring
+    ∙ (refusal_same side (buffers_of h) named r (pushed_in side (ring_seen h port r)) (pushed_seen h port r) (λ fits. pushed_is_seen h port side r own_side is fits)
+    ∙ ap (λ (s : Side). refusal_of s (buffers_of h) named r.ring (pushed_seen h port r)) (sym own_side))
+
+pub is_made : (n : ℕ) → own_seen (empty_hold n) [] ≡ empty_own n
+is_made n =
+    let none : Option Standing = None in
+    let count : length (replicate (n + 2) none) - 2 ≡ n = omega (arith, length-replicate (n + 2) none) in
+    rw (count, none_in (n + 2)) refl
+  where
+    none_in : (k : ℕ) → map bytes_in_cell (replicate k None) ≡ replicate k []
+    none_in zero = refl
+    none_in (suc k) = ap (λ (xs : List (List ℕ)). [] ∷ xs) (none_in k)
+
+-- where no ring is found there is none
+pub no_ring : (h : HoldState) (ports : List UserPort) (side : Side) (id : ℕ) → slots_at side ports id ≡ None → IsSome (ring_at side (own_seen h ports) id) → ⊥
+no_ring h ports side id e some = none_some (ring_is_seen h ports side id ∙ by_port (port_at ports id) e)
+  where
+    by_port : (o : Option UserPort) → option_and_then (slots_on side) o ≡ None → option_and_then (λ (p : UserPort). option_map (ring_seen h p.id) (slots_on side p)) o ≡ None
+    by_port None e = refl
+    by_port (Some p) e = rw e refl
+
+    none_some : ring_at side (own_seen h ports) id ≡ None → ⊥
+    none_some none = let ring : Option OwnRing = None in let no : IsSome ring = rw none at some in cc
