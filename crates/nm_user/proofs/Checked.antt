@@ -11,12 +11,13 @@ use Rattle.nm_types.specs.Slots.{Pushed}
 use Rattle.nm_types.specs.SyncFaults.{ring_sync_fault}
 use Rattle.nm_types.specs.SyncChecks.{ring_refusal, refusal_of, first_refusal, slots_refusal}
 use Rattle.nm_types.specs.OwnPorts.{OwnState, OwnRing, empty_own, ring_at, pushed_in, named_of, refusal_in}
+use Rattle.nm_types.specs.OwnEdits.{user_slot}
 use Rattle.nm_slot.proofs.CheckLaws.{passed_positions_fit}
 use Rattle.nm_hold.specs.declared.standing.Standing.{Standing}
 use Rattle.nm_hold.specs.Holds.{HoldState, buffers_of, empty_hold}
 use Rattle.nm_hold.proofs.Spots.{nat_eq-is}
 use Rattle.nm_user.specs.declared.port.UserPort.{UserPort}
-use Rattle.nm_user.specs.RingSlots.{RingSlots}
+use Rattle.nm_user.specs.RingSlots.{RingSlots, slot_of_user}
 use Rattle.nm_user.specs.Sides.{pushed_seen}
 use Rattle.nm_user.specs.Own.{bytes_in_cell, ring_seen, own_seen, port_at, slots_on, slots_at, AreSided, refusal_at}
 use Rattle.nm_user.proofs.Seeing.{pushed_is_seen, side_of_found, ring_is_seen}
@@ -81,3 +82,21 @@ no_ring h ports side id e some = none_some (ring_is_seen h ports side id ∙ by_
 
     none_some : ring_at side (own_seen h ports) id ≡ None → ⊥
     none_some none = let ring : Option OwnRing = None in let no : IsSome ring = rw none at some in cc
+
+-- the ring of a port as it is seen, and that there is none
+pub ring_found : (h : HoldState) (ports : List UserPort) (side : Side) (port : PortId) (r : RingSlots) → slots_at side ports port.0 ≡ Some r → ring_at side (own_seen h ports) port.0 ≡ Some (ring_seen h port r)
+ring_found h ports side port r e = let f = found ports side port r e in ring_is_seen h ports side port.0 ∙ rw (f.there, f.on, f.id) refl
+
+pub ring_not_found : (h : HoldState) (ports : List UserPort) (side : Side) (id : ℕ) → slots_at side ports id ≡ None → ring_at side (own_seen h ports) id ≡ None
+ring_not_found h ports side id e = ring_is_seen h ports side id ∙ by_port (port_at ports id) e
+  where
+    by_port : (o : Option UserPort) → option_and_then (slots_on side) o ≡ None → option_and_then (λ (p : UserPort). option_map (ring_seen h p.id) (slots_on side p)) o ≡ None
+    by_port None e = refl
+    by_port (Some p) e = rw e refl
+
+pub side_found : (ports : List UserPort) (side : Side) (port : PortId) (r : RingSlots) → AreSided ports → slots_at side ports port.0 ≡ Some r → r.side ≡ side
+side_found ports side port r sided e = let f = found ports side port r e in side_of_found ports side port.0 f.p r sided f.there f.on
+
+-- a slot of the user as it is seen
+pub slot_is_seen : (h : HoldState) (port : PortId) (side : Side) (r : RingSlots) (at : ℕ) → r.side ≡ side → slot_of_user r at ≡ user_slot side (ring_seen h port r) at
+slot_is_seen h port side r at e = rw e refl

@@ -4,3 +4,4 @@ pub mod Pushes
 pub mod Seeing
 pub mod Naming
 pub mod Checked
+pub mod Editing

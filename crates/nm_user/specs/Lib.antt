@@ -2,3 +2,4 @@ pub mod RingSlots
 pub mod Sides
 pub mod Kept
 pub mod Own
+pub mod Edits

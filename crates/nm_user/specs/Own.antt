@@ -100,3 +100,6 @@ IsRingIf (Some r) = IsRing r.ring
 abbrev pub AreRings : List UserPort → Type 0
 AreRings [] = Unit {0}
 AreRings (p ∷ ports) = IsRingIf p.tx × AreRings ports
+
+abbrev pub ring_of : OwnRing → RingState
+ring_of r = r.ring

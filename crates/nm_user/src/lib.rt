@@ -3,6 +3,7 @@
 #![tactic(auto)]
 
 mod checks;
+mod edit;
 mod own;
 mod port;
 mod slot_ring;

@@ -1,15 +1,19 @@
-ghost use Rattle.std.specs.Prelude.{◌≡◌, IfOk, IsSome, OnErr, None, Some};
+ghost use Rattle.std.specs.Prelude.{◌≡◌, IfOk, IsSome, OnErr, None, Some, option_map};
 ghost use Rattle.std.specs.Option.{option_copied};
 ghost use Rattle.nm_types.specs.Buffers.{IsPoolSize};
 ghost use Rattle.nm_types.specs.OwnPorts.{empty_own, ring_at};
-ghost use Rattle.nm_user.specs.Own.{refusal_at, port_at, slots_on, slots_at};
+ghost use Rattle.nm_user.specs.Own.{refusal_at, port_at, slots_on, slots_at, ring_of};
+ghost use Rattle.nm_types.specs.OwnEdits.{user_slot_at, with_user_slot, with_head, with_cur};
 ghost use Rattle.nm_user.specs.Sides.{TellsRefusal};
+ghost use Rattle.nm_user.specs.Edits.{own_edited};
 
 use crate::checks::check_ring;
+use crate::edit::{RingEdit, edit_rings};
 use crate::port::UserPort;
 use crate::slot_ring::SlotRing;
 use nm_hold::Hold;
-use nm_types::{NoMemory, PortId, Side, SyncFault};
+use nm_ring::Ring;
+use nm_types::{NoMemory, PortId, Side, Slot, SyncFault};
 use std::alloc::Global;
 use std::marker::Model;
 
@@ -86,5 +90,53 @@ impl OwnSide {
             Some(ring) => check_ring(&self.hold, port, ring, &mut self.marks),
             None => unreachable!(),
         }
+    }
+
+    /// The positions of a port's ring: none if the session has no such port, or the port no such ring.
+    pub fn ring(&self, port: PortId, side: Side) -> Option<&Ring>
+        ensures { option_copied result ≡ option_map ring_of (ring_at side self.now port.0) }
+    {
+        match ring_at(&self.ports, port, side) {
+            Some(ring) => Some(ring.ring()),
+            None => None,
+        }
+    }
+
+    /// One of the user's slots; none if it is not the user's.
+    pub fn slot(&self, port: PortId, side: Side, at: u32) -> Option<&Slot>
+        ensures { option_copied result ≡ user_slot_at side self.now port.0 at }
+    {
+        match ring_at(&self.ports, port, side) {
+            Some(ring) => ring.slot(at),
+            None => None,
+        }
+    }
+
+    /// Writes one of the user's slots; does nothing if it is not the user's.
+    pub fn put_slot(&mut self, port: PortId, side: Side, at: u32, slot: Slot)
+        ensures { self.new ≡ with_user_slot side port.0 at slot self.old }
+    {
+        self.edit(port, side, RingEdit::Slot(at, slot));
+    }
+
+    /// Stores a head, any number; does nothing if there is no such ring.
+    pub fn put_head(&mut self, port: PortId, side: Side, head: u32)
+        ensures { self.new ≡ with_head side port.0 head self.old }
+    {
+        self.edit(port, side, RingEdit::Head(head));
+    }
+
+    /// Stores a cur, any number; does nothing if there is no such ring.
+    pub fn put_cur(&mut self, port: PortId, side: Side, cur: u32)
+        ensures { self.new ≡ with_cur side port.0 cur self.old }
+    {
+        self.edit(port, side, RingEdit::Cur(cur));
+    }
+
+    /// Makes an edit of a port's ring.
+    fn edit(&mut self, port: PortId, side: Side, edit: RingEdit)
+        ensures { self.new ≡ own_edited port.0 side edit self.old }
+    {
+        edit_rings(&mut self.ports, port, side, edit);
     }
 }
