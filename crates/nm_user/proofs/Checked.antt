@@ -1,16 +1,18 @@
 -- What a check of a port's ring answers, over what is seen; and an own side that was made.
-use Rattle.std.proofs.Common.{ℕ, zero, suc, ◌≡◌, ◌+◌, ◌-◌, List, [], ◌∷◌, length, map, replicate, nat_eq, Option, Some, None, option_map, inl, inr, refl, sym, ◌∙◌, ap, arith}
+use Rattle.std.proofs.Common.{ℕ, zero, suc, ◌≡◌, ◌+◌, ◌-◌, List, [], ◌∷◌, length, map, get_or, replicate, nat_eq, Option, Some, None, option_map, inl, inr, refl, sym, ◌∙◌, ap, arith}
 use Rattle.std.specs.Prelude.{IsSome, option_and_then}
 use Rattle.std.proofs.lemmas.Bool.{cases_Bool}
 use Rattle.std.proofs.lemmas.List.{length-replicate}
 use Rattle.nm_types.specs.declared.id.PortId.{PortId}
 use Rattle.nm_types.specs.declared.id.Side.{Side}
+use Rattle.nm_types.specs.declared.id.Side.TheVariants.{Tx}
 use Rattle.nm_types.specs.declared.refusal.RingFault.{RingFault}
-use Rattle.nm_types.specs.Positions.{IsRing, FitsRing}
-use Rattle.nm_types.specs.Slots.{Pushed}
+use Rattle.nm_types.specs.Positions.{IsRing, FitsRing, pushed_slots}
+use Rattle.nm_types.specs.Slots.{Pushed, pushed_frames}
+use Rattle.nm_types.specs.Frames.{Frame}
 use Rattle.nm_types.specs.SyncFaults.{ring_sync_fault}
 use Rattle.nm_types.specs.SyncChecks.{ring_refusal, refusal_of, first_refusal, slots_refusal}
-use Rattle.nm_types.specs.OwnPorts.{OwnState, OwnRing, empty_own, ring_at, pushed_in, named_of, refusal_in}
+use Rattle.nm_types.specs.OwnPorts.{OwnState, OwnRing, empty_own, bytes_at, ring_at, pushed_in, pushed_on, named_of, refusal_in}
 use Rattle.nm_types.specs.OwnEdits.{user_slot}
 use Rattle.nm_slot.proofs.CheckLaws.{passed_positions_fit}
 use Rattle.nm_hold.specs.declared.standing.Standing.{Standing}
@@ -18,8 +20,8 @@ use Rattle.nm_hold.specs.Holds.{HoldState, buffers_of, empty_hold}
 use Rattle.nm_hold.proofs.Spots.{nat_eq-is}
 use Rattle.nm_user.specs.declared.port.UserPort.{UserPort}
 use Rattle.nm_user.specs.RingSlots.{RingSlots, slot_of_user}
-use Rattle.nm_user.specs.Sides.{pushed_seen}
-use Rattle.nm_user.specs.Own.{bytes_in_cell, ring_seen, own_seen, port_at, slots_on, slots_at, AreSided, refusal_at}
+use Rattle.nm_user.specs.Sides.{slot_at, pushed_seen, pushed_seen_at}
+use Rattle.nm_user.specs.Own.{frame_seen, frames_seen, bytes_in_hold, bytes_in_cell, ring_seen, own_seen, port_at, slots_on, slots_at, AreSided, AreRings, IsRingIf, refusal_at}
 use Rattle.nm_user.proofs.Seeing.{pushed_is_seen, side_of_found, ring_is_seen}
 
 -- a ring that is found, with the port that has it
@@ -100,3 +102,45 @@ side_found ports side port r sided e = let f = found ports side port r e in side
 -- a slot of the user as it is seen
 pub slot_is_seen : (h : HoldState) (port : PortId) (side : Side) (r : RingSlots) (at : ℕ) → r.side ≡ side → slot_of_user r at ≡ user_slot side (ring_seen h port r) at
 slot_is_seen h port side r at e = rw e refl
+
+-- the bytes of a buffer, and the frames of a push that passes, as they are seen
+bytes_are_seen : (h : HoldState) (ports : List UserPort) (idx : ℕ) → bytes_at (own_seen h ports) idx ≡ bytes_in_hold h idx
+bytes_are_seen h ports idx = get_mapped h.cells idx
+  where
+    get_mapped : (cells : List (Option Standing)) (idx : ℕ) → get_or (map bytes_in_cell cells) idx [] ≡ bytes_in_cell (get_or cells idx None)
+    get_mapped [] idx = refl
+    get_mapped (cell ∷ cells) zero = refl
+    get_mapped (cell ∷ cells) (suc idx) = get_mapped cells idx
+
+pub frames_are_seen : (h : HoldState) (ports : List UserPort) (port : PortId) (r : RingSlots) → AreSided ports → IsRing r.ring → slots_at Tx ports port.0 ≡ Some r → FitsRing r.ring r.ring.head r.ring.cur
+    → frames_seen h r ≡ pushed_frames (bytes_at (own_seen h ports)) (pushed_on Tx port.0 (own_seen h ports))
+frames_are_seen h ports port r sided is e fits =
+    let own_side = side_found ports Tx port r sided e in
+    let ring = ring_found h ports Tx port r e in
+    let pushed : pushed_on Tx port.0 (own_seen h ports) ≡ pushed_seen h port r = rw ring (pushed_is_seen h port Tx r own_side is fits) in
+    rw pushed (over (pushed_slots r.ring r.ring.head))
+  where
+    over : (ats : List ℕ) → map (frame_seen h r) ats ≡ pushed_frames (bytes_at (own_seen h ports)) (map (pushed_seen_at h port r) ats)
+    over [] = refl
+    over (at ∷ ats) = rw (bytes_are_seen h ports (slot_at r at).buf_idx) (ap (λ (frames : List Frame). frame_seen h r at ∷ frames) (over ats))
+
+-- a push that is not refused has positions that fit
+pub passed_fits : (h : HoldState) (ports : List UserPort) (side : Side) (port : PortId) (r : RingSlots) → AreSided ports → IsRing r.ring → slots_at side ports port.0 ≡ Some r
+    → refusal_at side port.0 (own_seen h ports) ≡ None → FitsRing r.ring r.ring.head r.ring.cur
+passed_fits h ports side port r sided is e passes =
+    passed_positions_fit r.side (buffers_of h) (named_of (own_seen h ports)) r.ring (pushed_seen h port r) (sym (refusal_is_seen h ports side port r sided is e) ∙ passes)
+
+-- the positions of a transmit ring that is found
+pub tx_ring_found : (ports : List UserPort) (port : PortId) (r : RingSlots) → AreRings ports → slots_at Tx ports port.0 ≡ Some r → IsRing r.ring
+tx_ring_found ports port r rings e = let f = found ports Tx port r e in over ports rings f.there f.on
+  where
+    over : (ports : List UserPort) → AreRings ports → {p : UserPort} → port_at ports port.0 ≡ Some p → p.tx ≡ Some r → IsRing r.ring
+    over [] rings there on = absurd cc
+    over (q ∷ qs) rings {p = p} there on = elim (cases_Bool (nat_eq q.id.0 port.0)) [
+      | inl here ↦ (let is : q ≡ p = (let e : Some q ≡ Some p = rw here at there in cc) in tx_ring q.tx (rw (← is) at on) rings.0)
+      | inr other ↦ over qs rings.1 {p = p} (rw other at there) on
+    ]
+      where
+        tx_ring : (o : Option RingSlots) → o ≡ Some r → IsRingIf o → IsRing r.ring
+        tx_ring None e is = absurd cc
+        tx_ring (Some t) e is = let same : t ≡ r = cc in rw (← same) is

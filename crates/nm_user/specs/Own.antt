@@ -9,14 +9,16 @@ use Rattle.nm_types.specs.declared.id.Side.TheVariants.{Tx, Rx}
 use Rattle.nm_types.specs.declared.place.Place.{Place}
 use Rattle.nm_types.specs.declared.place.Place.TheVariants as place
 use Rattle.nm_types.specs.declared.fault.SyncFault.{SyncFault}
-use Rattle.nm_types.specs.Positions.{RingState, IsRing, user_slots}
+use Rattle.nm_types.specs.Positions.{RingState, IsRing, user_slots, pushed_slots}
+use Rattle.nm_types.specs.Frames.{Frame}
+use Rattle.nm_types.specs.Slots.{frame_at}
 use Rattle.nm_types.specs.Places.{is_same_place}
 use Rattle.nm_types.specs.OwnPorts.{OwnRing, OwnPort, OwnState, ring_at, refusal_in}
 use Rattle.nm_hold.specs.declared.standing.Standing.{Standing}
 use Rattle.nm_hold.specs.Holds.{HoldState, buffers_of, standing_at}
 use Rattle.nm_user.specs.declared.port.UserPort.{UserPort}
 use Rattle.nm_user.specs.RingSlots.{RingSlots, with_held}
-use Rattle.nm_user.specs.Sides.{place_on, number_at}
+use Rattle.nm_user.specs.Sides.{place_on, number_at, slot_at}
 
 -- the positions whose places a ring has
 abbrev pub positions_of : Side → RingState → List ℕ
@@ -47,6 +49,9 @@ port_seen h p = record {
 
 abbrev pub bytes_in_cell : Option Standing → List ℕ
 bytes_in_cell cell = option_map_or (λ (s : Standing). s.buf.bytes) cell []
+
+abbrev pub bytes_in_hold : HoldState → ℕ → List ℕ
+bytes_in_hold h idx = bytes_in_cell (standing_at h idx)
 
 abbrev pub own_seen : HoldState → List UserPort → OwnState
 own_seen h ports = record { pool = buffers_of h; ports = map (port_seen h) ports; bytes = map bytes_in_cell h.cells }
@@ -103,3 +108,10 @@ AreRings (p ∷ ports) = IsRingIf p.tx × AreRings ports
 
 abbrev pub ring_of : OwnRing → RingState
 ring_of r = r.ring
+
+-- the frames of pushed slots
+abbrev pub frame_seen : HoldState → RingSlots → ℕ → Frame
+frame_seen h r at = frame_at (bytes_in_hold h) (slot_at r at)
+
+abbrev pub frames_seen : HoldState → RingSlots → List Frame
+frames_seen h r = map (frame_seen h r) (pushed_slots r.ring r.ring.head)

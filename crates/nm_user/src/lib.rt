@@ -4,6 +4,7 @@
 
 mod checks;
 mod edit;
+mod gather;
 mod own;
 mod port;
 mod slot_ring;

@@ -1,7 +1,9 @@
 ghost use Rattle.std.specs.Prelude.{◌≡◌, IfOk, IsSome, OnErr, None, Some, option_map};
 ghost use Rattle.std.specs.Option.{option_copied};
 ghost use Rattle.nm_types.specs.Buffers.{IsPoolSize};
-ghost use Rattle.nm_types.specs.OwnPorts.{empty_own, ring_at};
+ghost use Rattle.nm_types.specs.declared.id.Side.TheVariants.{Tx};
+ghost use Rattle.nm_types.specs.Slots.{pushed_frames};
+ghost use Rattle.nm_types.specs.OwnPorts.{empty_own, bytes_at, ring_at, pushed_on};
 ghost use Rattle.nm_user.specs.Own.{refusal_at, port_at, slots_on, slots_at, ring_of};
 ghost use Rattle.nm_types.specs.OwnEdits.{user_slot_at, with_user_slot, with_head, with_cur};
 ghost use Rattle.nm_user.specs.Sides.{TellsRefusal};
@@ -9,11 +11,12 @@ ghost use Rattle.nm_user.specs.Edits.{own_edited};
 
 use crate::checks::check_ring;
 use crate::edit::{RingEdit, edit_rings};
+use crate::gather::gather;
 use crate::port::UserPort;
 use crate::slot_ring::SlotRing;
 use nm_hold::Hold;
 use nm_ring::Ring;
-use nm_types::{NoMemory, PortId, Side, Slot, SyncFault};
+use nm_types::{Batch, NoMemory, PortId, Side, Slot, SyncFault};
 use std::alloc::Global;
 use std::marker::Model;
 
@@ -138,5 +141,18 @@ impl OwnSide {
         ensures { self.new ≡ own_edited port.0 side edit self.old }
     {
         edit_rings(&mut self.ports, port, side, edit);
+    }
+
+    /// The frames of the pushed slots of a transmit ring, for a push that no check refuses.
+    pub fn frames(&self, alloc: Global, port: PortId) -> Result<Batch, NoMemory>
+        requires ring { IsSome (ring_at Tx self.now port.0) }
+        requires passes { refusal_at Tx port.0 self.now ≡ None }
+        ensures { IfOk result (λ batch.
+            batch ≡ pushed_frames (bytes_at self.now) (pushed_on Tx port.0 self.now)) }
+    {
+        match ring_at(&self.ports, port, Side::Tx) {
+            Some(ring) => gather(alloc, &self.hold, ring),
+            None => unreachable!(),
+        }
     }
 }
