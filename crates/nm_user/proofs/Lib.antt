@@ -5,3 +5,5 @@ pub mod Seeing
 pub mod Naming
 pub mod Checked
 pub mod Editing
+pub mod Renaming
+pub mod Resetting

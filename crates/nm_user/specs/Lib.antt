@@ -3,3 +3,4 @@ pub mod Sides
 pub mod Kept
 pub mod Own
 pub mod Edits
+pub mod Resets

@@ -7,7 +7,10 @@ mod edit;
 mod gather;
 mod own;
 mod port;
+mod reset;
 mod slot_ring;
 mod slots;
+#[cfg(test)]
+mod tests;
 
 pub use own::OwnSide;
