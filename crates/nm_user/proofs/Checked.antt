@@ -137,7 +137,7 @@ tx_ring_found ports port r rings e = let f = found ports Tx port r e in over por
     over : (ports : List UserPort) → AreRings ports → {p : UserPort} → port_at ports port.0 ≡ Some p → p.tx ≡ Some r → IsRing r.ring
     over [] rings there on = absurd cc
     over (q ∷ qs) rings {p = p} there on = elim (cases_Bool (nat_eq q.id.0 port.0)) [
-      | inl here ↦ (let is : q ≡ p = (let e : Some q ≡ Some p = rw here at there in cc) in tx_ring q.tx (rw (← is) at on) rings.0)
+      | inl here ↦ (let is : q ≡ p = (let e : Some q ≡ Some p = rw here at there in cc) in tx_ring q.tx (rw (← is) at on) rings.0.0)
       | inr other ↦ over qs rings.1 {p = p} (rw other at there) on
     ]
       where

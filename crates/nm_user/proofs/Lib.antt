@@ -7,3 +7,4 @@ pub mod Checked
 pub mod Editing
 pub mod Renaming
 pub mod Resetting
+pub mod Changing

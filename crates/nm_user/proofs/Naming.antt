@@ -86,7 +86,7 @@ port_named h p tx rx is =
 pub named_is_seen : (h : HoldState) (ports : List UserPort) → AreSided ports → AreRings ports → named_of (own_seen h ports) ≡ map (number_at h) (named_places ports)
 named_is_seen h [] sided rings = refl
 named_is_seen h (p ∷ ports) sided rings =
-    rw (port_named h p sided.0.0 sided.0.1 rings.0, named_is_seen h ports sided.1 rings.1) (sym (map-append (number_at h) (named_places_of p) (named_places ports)))
+    rw (port_named h p sided.0.0 sided.0.1 rings.0.0, named_is_seen h ports sided.1 rings.1) (sym (map-append (number_at h) (named_places_of p) (named_places ports)))
 
 -- named are the buffers that a check finds among the named ones
 pub are_named : (h : HoldState) (ports : List UserPort) → AreSided ports → AreRings ports → AreFlagged h ports → AreNamed h (named_of (own_seen h ports))

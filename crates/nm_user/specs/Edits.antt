@@ -8,6 +8,8 @@ use Rattle.nm_types.specs.OwnEdits.{ring_at_positions, with_head, with_cur, with
 use Rattle.nm_user.specs.declared.edit.RingEdit.{RingEdit}
 use Rattle.nm_user.specs.declared.edit.RingEdit.TheVariants.{Head, Cur, Slot}
 use Rattle.nm_user.specs.declared.port.UserPort.{UserPort}
+use Rattle.nm_types.specs.declared.id.PortId.{PortId}
+use Rattle.nm_user.specs.Own.{port_changed, port_changed_if}
 use Rattle.nm_user.specs.RingSlots.{RingSlots, at_positions, with_slot_of_user}
 
 abbrev pub edited : RingEdit → RingSlots → RingSlots
@@ -16,11 +18,10 @@ edited (Cur cur) r = at_positions r.ring.head cur r
 edited (Slot at slot) r = with_slot_of_user at slot r
 
 abbrev pub port_edited : Side → RingEdit → UserPort → UserPort
-port_edited Tx edit p = record p { tx = option_map (edited edit) p.tx }
-port_edited Rx edit p = record p { rx = edited edit p.rx }
+port_edited side edit p = port_changed side (λ (id : PortId). edited edit) p
 
 abbrev pub port_edited_if : ℕ → Side → RingEdit → UserPort → UserPort
-port_edited_if id side edit p = if p.id.0 == id then port_edited side edit p else p
+port_edited_if id side edit p = port_changed_if id side (λ (id : PortId). edited edit) p
 
 -- the same of what a session has
 abbrev pub own_edited : ℕ → Side → RingEdit → OwnState → OwnState

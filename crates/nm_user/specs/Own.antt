@@ -1,6 +1,6 @@
 -- A session's own side as it is kept: its ports with their rings, and a hold of the buffers in their
 -- places; and how it is seen.
-use Rattle.std.specs.Prelude.{ℕ, Bool, true, false, ◌≡◌, ◌==◌, ◌+◌, List, [], ◌∷◌, ◌++◌, length, map, find, replicate, flat_map, Option, Some, None, option_map, option_and_then}
+use Rattle.std.specs.Prelude.{ℕ, Bool, true, false, ◌≡◌, ◌==◌, ◌+◌, if◌then◌else◌, List, [], ◌∷◌, ◌++◌, length, map, find, replicate, flat_map, Option, Some, None, option_map, option_and_then}
 use Rattle.std.specs.Option.{option_map_or}
 use Rattle.std.specs.List.{range_with_len, list_any}
 use Rattle.nm_types.specs.declared.id.PortId.{PortId}
@@ -101,10 +101,18 @@ abbrev pub IsRingIf : Option RingSlots → Type 0
 IsRingIf None = Unit {0}
 IsRingIf (Some r) = IsRing r.ring
 
--- the positions of each transmit ring are those of a ring
+-- the positions of each ring are those of a ring
 abbrev pub AreRings : List UserPort → Type 0
 AreRings [] = Unit {0}
-AreRings (p ∷ ports) = IsRingIf p.tx × AreRings ports
+AreRings (p ∷ ports) = (IsRingIf p.tx × IsRing p.rx.ring) × AreRings ports
+
+-- a port whose ring on a side is changed, if it is the port of this id
+abbrev pub port_changed : Side → (PortId → RingSlots → RingSlots) → UserPort → UserPort
+port_changed Tx change p = record p { tx = option_map (change p.id) p.tx }
+port_changed Rx change p = record p { rx = change p.id p.rx }
+
+abbrev pub port_changed_if : ℕ → Side → (PortId → RingSlots → RingSlots) → UserPort → UserPort
+port_changed_if id side change p = if p.id.0 == id then port_changed side change p else p
 
 abbrev pub ring_of : OwnRing → RingState
 ring_of r = r.ring

@@ -10,7 +10,7 @@ use Rattle.nm_types.specs.OwnPorts.{index_of, blank_slot}
 use Rattle.nm_hold.specs.Holds.{HoldState}
 use Rattle.nm_user.specs.declared.port.UserPort.{UserPort}
 use Rattle.nm_user.specs.RingSlots.{RingSlots}
-use Rattle.nm_user.specs.Own.{number_on}
+use Rattle.nm_user.specs.Own.{number_on, port_changed, port_changed_if}
 
 abbrev pub slots_reset_at : HoldState → PortId → RingSlots → List SlotState → ℕ → List SlotState
 slots_reset_at h id r slots at =
@@ -20,8 +20,7 @@ abbrev pub ring_reset : HoldState → PortId → RingSlots → RingSlots
 ring_reset h id r = record r { ring = reset_positions r.ring; slots = fold (slots_reset_at h id r) r.slots (user_slots r.ring) }
 
 abbrev pub port_reset : HoldState → Side → UserPort → UserPort
-port_reset h Tx p = record p { tx = option_map (ring_reset h p.id) p.tx }
-port_reset h Rx p = record p { rx = ring_reset h p.id p.rx }
+port_reset h side p = port_changed side (ring_reset h) p
 
 abbrev pub port_reset_if : HoldState → ℕ → Side → UserPort → UserPort
-port_reset_if h id side p = if p.id.0 == id then port_reset h side p else p
+port_reset_if h id side p = port_changed_if id side (ring_reset h) p

@@ -2,9 +2,11 @@ use Rattle.std.proofs.Common.{◌≡◌, ◌∙◌, List, length, map, sym, ap, 
 use Rattle.std.proofs.lemmas.List.{with_items_is, length-map}
 use Rattle.std.specs.Vec.{with_items}
 use Rattle.nm_user.specs.declared.port.UserPort.{UserPort}
-use Rattle.nm_user.specs.Edits.{port_edited_if, own_edited}
+use Rattle.nm_user.specs.Edits.{edited, ring_edit, port_edited_if, own_edited}
+use Rattle.nm_types.specs.declared.id.PortId.{PortId}
+use Rattle.nm_user.proofs.Changing.{sided_changed, rings_changed, flagged_changed}
 use Rattle.nm_user.specs.Own.{own_seen, AreSided, AreRings, AreFlagged}
-use Rattle.nm_user.proofs.Editing.{seen_edited, sided_edited, rings_edited, flagged_edited}
+use Rattle.nm_user.proofs.Editing.{edits_keep, seen_edited}
 use Rattle.nm_user.proofs.own.OwnSide.edit.Goals as goal
 
 -- the ports once the edit is made
@@ -21,16 +23,18 @@ invariant_of-self c =
     let kept = c.self.invariant in
     let id = c.args.port.0 in
     let are = sym (ports_are c) in
+    let h = c.self.inside.hold in
+    let keeps = edits_keep h c.args.side c.args.edit in
     let Flagged : List UserPort → Type 0 = AreFlagged c.self.inside.hold in
     record {
-      sided = subst AreSided are (sided_edited id c.args.side c.args.edit ports kept.sided);
-      rings = subst AreRings are (rings_edited id c.args.side c.args.edit ports kept.rings);
-      flagged = subst Flagged are (flagged_edited c.self.inside.hold id c.args.side c.args.edit ports kept.flagged);
+      sided = subst AreSided are (sided_changed h c.args.side (λ (id : PortId). edited c.args.edit) (ring_edit c.args.side c.args.edit) keeps id ports kept.sided);
+      rings = subst AreRings are (rings_changed h c.args.side (λ (id : PortId). edited c.args.edit) (ring_edit c.args.side c.args.edit) keeps id ports kept.rings);
+      flagged = subst Flagged are (flagged_changed h c.args.side (λ (id : PortId). edited c.args.edit) (ring_edit c.args.side c.args.edit) keeps id ports kept.flagged);
       blank = kept.blank;
     }
 
 pub returns : goal.returns
 returns c =
     ap (own_seen c.self.inside.hold) (ports_are c)
-    ∙ (seen_edited c.self.inside.hold c.args.port.0 c.args.side c.args.edit c.self.inside.ports.items c.self.invariant.sided
+    ∙ (seen_edited c.self.inside.hold c.args.port.0 c.args.side c.args.edit c.self.inside.ports.items c.self.invariant.sided c.self.invariant.rings
     ∙ ap (own_edited c.args.port.0 c.args.side c.args.edit) c.self.view_is)
