@@ -61,10 +61,13 @@ module _ (h : HoldState) (side : Side) (f : PortId → RingSlots → RingSlots) 
   -- what is kept of the fields
   pub sided_changed : (id : ℕ) (ports : List UserPort) → AreSided ports → AreSided (map (port_changed_if id side f) ports)
   sided_changed id [] sided = tt
-  sided_changed id (p ∷ ports) sided = (elim (cases_Bool (nat_eq p.id.0 id)) [
-    | inl here ↦ rw here (on side)
-    | inr other ↦ rw other sided.0
-  ], sided_changed id ports sided.1)
+  sided_changed id (p ∷ ports) sided = (
+    elim (cases_Bool (nat_eq p.id.0 id)) [
+      | inl here ↦ rw here (on side)
+      | inr other ↦ rw other sided.0
+    ],
+    sided_changed id ports sided.1,
+  )
     where
       on : (s : Side) → IsTxSide (port_changed s f p).tx × ((port_changed s f p).rx.side ≡ Rx)
       on Tx = (tx_side p.id p.tx sided.0.0, sided.0.1)
@@ -72,10 +75,13 @@ module _ (h : HoldState) (side : Side) (f : PortId → RingSlots → RingSlots) 
 
   pub rings_changed : (id : ℕ) (ports : List UserPort) → AreRings ports → AreRings (map (port_changed_if id side f) ports)
   rings_changed id [] rings = tt
-  rings_changed id (p ∷ ports) rings = (elim (cases_Bool (nat_eq p.id.0 id)) [
-    | inl here ↦ rw here (on side)
-    | inr other ↦ rw other rings.0
-  ], rings_changed id ports rings.1)
+  rings_changed id (p ∷ ports) rings = (
+    elim (cases_Bool (nat_eq p.id.0 id)) [
+      | inl here ↦ rw here (on side)
+      | inr other ↦ rw other rings.0
+    ],
+    rings_changed id ports rings.1,
+  )
     where
       on : (s : Side) → IsRingIf (port_changed s f p).tx × IsRing (port_changed s f p).rx.ring
       on Tx = (tx_ring p.id p.tx rings.0.0, rings.0.1)

@@ -13,6 +13,7 @@ use Rattle.nm_hold.specs.Holds.{HoldState}
 use Rattle.nm_user.specs.RingSlots.{RingSlots, with_held, with_slot_reset_at}
 use Rattle.nm_user.specs.Own.{number_on, held_on, ring_seen}
 use Rattle.nm_user.specs.Resets.{slots_reset_at, ring_reset}
+use Rattle.nm_user.proofs.Changing.{Keeps}
 use Rattle.nm_user.proofs.SlotLists.{fold-slots_from}
 use Rattle.nm_user.proofs.Seeing.{buffer_seen}
 
@@ -39,6 +40,15 @@ held_after h id Rx r = refl
 pub reset_is_seen : (h : HoldState) (id : PortId) (side : Side) (r : RingSlots) → r.side ≡ side → IsRing r.ring → ring_seen h id (ring_reset h id r) ≡ ring_after_reset side (ring_seen h id r)
 reset_is_seen h id side r e is =
     let slots : fold (slots_reset_at h id r) r.slots (user_slots r.ring) ≡ fold (with_slot_reset side (ring_seen h id r)) r.slots (user_slots r.ring) =
-        fold-slots (slots_reset_at h id r) (with_slot_reset side (ring_seen h id r)) r.slots r.ring.size r.ring.accepted_head 0 (dist r.ring.size r.ring.accepted_head r.ring.last_tail)
-        (λ slots k below. rw (buffer_seen h id side r k e is (omega arith), e) refl) in
+    fold-slots (slots_reset_at h id r) (with_slot_reset side (ring_seen h id r)) r.slots r.ring.size r.ring.accepted_head 0 (dist r.ring.size r.ring.accepted_head r.ring.last_tail)
+    (λ slots k below. rw (buffer_seen h id side r k e is (omega arith), e) refl) in
     rw (slots, held_after h id r.side r) refl
+
+-- a reset is a change of a ring that keeps its places
+pub resets_keep : (h : HoldState) (side : Side) → Keeps h side (ring_reset h) (ring_after_reset side)
+resets_keep h side = record {
+  sides = λ id r. refl;
+  rings = λ id r is. record { is_size = is.is_size; accepted = is.accepted; within = omega (arith, is.within, is.one_tail); one_tail = refl };
+  places = λ id r. refl;
+  seen = λ id r e is. reset_is_seen h id side r e is;
+}

@@ -7,12 +7,14 @@ ghost use Rattle.nm_types.specs.OwnPorts.{empty_own, bytes_at, ring_at, pushed_o
 ghost use Rattle.nm_user.specs.Own.{refusal_at, port_at, slots_on, slots_at, ring_of};
 ghost use Rattle.nm_types.specs.OwnEdits.{user_slot_at, with_user_slot, with_head, with_cur};
 ghost use Rattle.nm_user.specs.Sides.{TellsRefusal};
+ghost use Rattle.nm_types.specs.OwnSyncs.{own_after_reset};
 ghost use Rattle.nm_user.specs.Edits.{own_edited};
 
 use crate::checks::check_ring;
 use crate::edit::{RingEdit, edit_rings};
 use crate::gather::gather;
 use crate::port::UserPort;
+use crate::reset::reset_rings;
 use crate::slot_ring::SlotRing;
 use nm_hold::Hold;
 use nm_ring::Ring;
@@ -154,5 +156,13 @@ impl OwnSide {
             Some(ring) => gather(alloc, &self.hold, ring),
             None => unreachable!(),
         }
+    }
+
+    /// Resets a port's ring: its positions are those last accepted, and each of the user's slots
+    /// names the buffer in its place. Does nothing if there is no such ring.
+    pub fn reset(&mut self, port: PortId, side: Side)
+        ensures { self.new ≡ own_after_reset port.0 side self.old }
+    {
+        reset_rings(&self.hold, &mut self.ports, port, side);
     }
 }
