@@ -1,12 +1,15 @@
-ghost use Rattle.std.specs.Prelude.{ℕ, List, ◌≡◌, ◌<◌, ◌≤◌, ◌++◌, ◌∷◌, [], IfOk, IfErr, OnOk, OnErr, MatchResult};
-ghost use Rattle.std.specs.Prelude.{None, Some, true, false, length, replicate, slice_index_or, slice_set, ◌+◌};
+ghost use Rattle.std.specs.Prelude.{ℕ, List, ◌≡◌, ◌<◌, ◌≤◌, ◌++◌, ◌∷◌, [], IfOk, IfErr, OnOk};
+ghost use Rattle.std.specs.Prelude.{OnErr, MatchResult};
+ghost use Rattle.std.specs.Prelude.{None, Some, true, false, length, replicate, slice_index_or};
+ghost use Rattle.std.specs.Prelude.{slice_set, ◌+◌};
 ghost use Rattle.nm_types.specs.Positions.{FitsRing, is_user_slot};
 ghost use Rattle.nm_types.specs.Slots.{pushed_names};
 ghost use Rattle.nm_types.specs.SyncFaults.{ring_sync_fault, slot_sync_fault};
 ghost use Rattle.nm_types.specs.SyncChecks.{slot_refusal, seen_of, slots_refusal, refusal_of};
 ghost use Rattle.nm_hold.specs.Holds.{buffers_of, is_named_at, IsHold};
 ghost use Rattle.nm_user.specs.Sides.{place_on, number_at, slot_at, pushed_seen_at, pushed_seen};
-ghost use Rattle.nm_user.specs.Sides.{names_pushed, AreNamed, AreMarked, AreMarkedOf, AreCleared, JudgesSlot, JudgesAll, TellsRefusal, marks_after};
+ghost use Rattle.nm_user.specs.Sides.{names_pushed, AreNamed, AreMarked, AreMarkedOf, AreCleared};
+ghost use Rattle.nm_user.specs.Sides.{JudgesSlot, JudgesAll, TellsRefusal, marks_after};
 ghost use Rattle.nm_user.specs.RingSlots.{IsRingSlots};
 
 use crate::slot_ring::SlotRing;
@@ -56,7 +59,7 @@ fn slot_sync_fault(fault: SlotFault) -> SyncFault
     }
 }
 
-/// What a sync knows of a pushed slot: `marks` tells of each index whether an earlier slot names it.
+/// What a sync knows of a pushed slot. `marks` has each index that an earlier slot names.
 fn seen_at(hold: &Hold, place: Place, idx: u32, marks: &[bool]) -> Seen
     requires { length marks.now ≡ buffers_of hold.now + 2 }
     ensures was { result.was ≡ number_at hold.now place }
@@ -95,8 +98,10 @@ fn judge_slot(
 ) -> Result<(), SlotFault>
     requires user { is_user_slot ring.now.ring at ≡ true }
     requires marks { length marks.old ≡ buffers_of hold.now + 2 }
-    ensures refusal { (named earlier : List ℕ) → AreNamed hold.now named → AreMarked marks.old earlier
-        → JudgesSlot result ring.now.side (buffers_of hold.now) named earlier (pushed_seen_at hold.now port ring.now at) }
+    ensures refusal { (named earlier : List ℕ) → AreNamed hold.now named
+        → AreMarked marks.old earlier
+        → JudgesSlot result ring.now.side (buffers_of hold.now) named earlier
+        (pushed_seen_at hold.now port ring.now at) }
     ensures marks { marks.new ≡ marks_after result marks.old (slot_at ring.now at).buf_idx }
 {
     let slot = ring.user_slot(at);
@@ -126,7 +131,8 @@ fn judge_pushed(
     requires fits { FitsRing ring.now.ring ring.now.ring.head ring.now.ring.cur }
     requires blank { marks.old ≡ replicate (buffers_of hold.now + 2) false }
     ensures refusal { (named : List ℕ) → AreNamed hold.now named
-        → JudgesAll result (slots_refusal ring.now.side (buffers_of hold.now) named [] (pushed_seen hold.now port ring.now)) }
+        → JudgesAll result (slots_refusal ring.now.side (buffers_of hold.now) named []
+        (pushed_seen hold.now port ring.now)) }
     ensures count { length marks.new ≡ length marks.old }
     ensures marks { AreMarkedOf marks.new (pushed_names (pushed_seen hold.now port ring.now)) }
 {
@@ -169,7 +175,8 @@ pub(crate) fn check_ring(
 ) -> Result<(), SyncFault>
     requires { marks.old ≡ replicate (buffers_of hold.now + 2) false }
     ensures refusal { (named : List ℕ) → AreNamed hold.now named
-        → TellsRefusal result (refusal_of ring.now.side (buffers_of hold.now) named ring.now.ring (pushed_seen hold.now port ring.now)) }
+        → TellsRefusal result (refusal_of ring.now.side (buffers_of hold.now) named ring.now.ring
+        (pushed_seen hold.now port ring.now)) }
     ensures same { marks.new ≡ marks.old }
     ensures slots { IsRingSlots ring.now }
 {

@@ -1,5 +1,4 @@
-//! A user's own side of its ports, after netmap(4): rings, slots, the buffers in their places, bytes
-//! and extra buffers.
+//! A user's own side of its ports, after netmap(4): rings, slots, and the buffers in their places.
 #![tactic(auto)]
 
 mod checks;

@@ -26,7 +26,7 @@ use std::marker::Model;
 pub struct OwnSide {
     hold: Hold,
     ports: Vec<UserPort>,
-    // marks of indices, all of them clear between two calls
+    /// Marks of indices, all of them clear between two calls.
     marks: Vec<bool>,
 }
 
@@ -97,7 +97,7 @@ impl OwnSide {
         }
     }
 
-    /// The positions of a port's ring: none if the session has no such port, or the port no such ring.
+    /// The positions of a port's ring, if the session has that port and the port that ring.
     pub fn ring(&self, port: PortId, side: Side) -> Option<&Ring>
         ensures { option_copied result ≡ option_map ring_of (ring_at side self.now port.0) }
     {

@@ -1,6 +1,8 @@
-ghost use Rattle.std.specs.Prelude.{ℕ, ◌≡◌, ◌<◌, ◌≤◌, ◌++◌, ◌∷◌, [], None, Some, IfSome, IfOk, option_map, drop, replicate, true};
+ghost use Rattle.std.specs.Prelude.{ℕ, ◌≡◌, ◌<◌, ◌≤◌, ◌++◌, ◌∷◌, [], None, Some, IfSome, IfOk};
+ghost use Rattle.std.specs.Prelude.{option_map, drop, replicate, true};
 ghost use Rattle.std.specs.Option.{option_copied};
-ghost use Rattle.nm_types.specs.Positions.{IsRing, IsRingSize, is_user_slot, opened_tx, opened_rx};
+ghost use Rattle.nm_types.specs.Positions.{IsRing, IsRingSize, is_user_slot, opened_tx};
+ghost use Rattle.nm_types.specs.Positions.{opened_rx};
 ghost use Rattle.nm_types.specs.Slots.{published_slot};
 ghost use Rattle.nm_types.specs.Reset.{reset_positions};
 ghost use Rattle.nm_types.specs.OwnPorts.{blank_slot};
@@ -38,7 +40,9 @@ impl Model for SlotRing {
     ghost use Rattle.std.specs.Prelude.{◌≤◌};
     ghost use Rattle.std.specs.VecDeque.{deque_capacity};
 
-    ghost invariant = { λ r. (IsRingSlots (record { side = r.side; ring = r.ring; slots = r.slots.items })) × (r.ring.size ≤ deque_capacity r.slots) };
+    ghost invariant = { λ r.
+        (IsRingSlots (record { side = r.side; ring = r.ring; slots = r.slots.items }))
+        × (r.ring.size ≤ deque_capacity r.slots) };
 }
 
 impl SlotRing {
@@ -108,8 +112,8 @@ impl SlotRing {
         }
     }
 
-    /// Accepts the push of a transmit ring whose positions fit: its slots announce nothing any longer.
-    /// The tail stays.
+    /// Accepts the push of a transmit ring whose positions fit, and clears the announcements of its
+    /// slots. The tail stays.
     pub(crate) fn accept_push(&mut self)
         requires side { self.old.side ≡ Tx }
         requires fits { FitsRing self.old.ring self.old.ring.head self.old.ring.cur }
@@ -155,7 +159,8 @@ impl SlotRing {
         requires fits { FitsRing self.old.ring self.old.ring.head self.old.ring.cur }
         ensures { self.new ≡ record self.old {
           ring = accepted 0 self.old.ring;
-          slots = drop (dist self.old.ring.size self.old.ring.accepted_head self.old.ring.head) self.old.slots;
+          slots = drop (dist self.old.ring.size self.old.ring.accepted_head self.old.ring.head)
+              self.old.slots;
         } }
     {
         let (_, count) = self.pushed();
@@ -229,7 +234,8 @@ impl SlotRing {
     /// An opened receive ring, none of whose slots is the user's.
     pub(crate) fn rx(alloc: Global, size: u32) -> Result<SlotRing, AllocError>
         requires { IsRingSize size }
-        ensures { IfOk result (λ r. r ≡ record { side = Rx; ring = opened_rx size; slots = [] }) }
+        ensures { IfOk result (λ r.
+            r ≡ record { side = Rx; ring = opened_rx size; slots = [] }) }
     {
         Ok(SlotRing {
             side: Side::Rx,
