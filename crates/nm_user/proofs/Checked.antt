@@ -10,9 +10,8 @@ use Rattle.nm_types.specs.declared.refusal.RingFault.{RingFault}
 use Rattle.nm_types.specs.Positions.{IsRing, FitsRing, pushed_slots}
 use Rattle.nm_types.specs.Slots.{Pushed, pushed_frames}
 use Rattle.nm_types.specs.Frames.{Frame}
-use Rattle.nm_types.specs.SyncFaults.{ring_sync_fault}
-use Rattle.nm_types.specs.SyncChecks.{ring_refusal, refusal_of, first_refusal, slots_refusal}
-use Rattle.nm_types.specs.OwnPorts.{OwnState, OwnRing, empty_own, bytes_at, ring_at, pushed_in, pushed_on, named_of, refusal_in}
+use Rattle.nm_types.specs.SyncChecks.{ring_refusal, refusal_of}
+use Rattle.nm_types.specs.OwnPorts.{OwnRing, empty_own, bytes_at, ring_at, pushed_in, pushed_on, named_of, refusal_in}
 use Rattle.nm_types.specs.OwnEdits.{user_slot}
 use Rattle.nm_slot.proofs.CheckLaws.{passed_positions_fit}
 use Rattle.nm_hold.specs.declared.standing.Standing.{Standing}

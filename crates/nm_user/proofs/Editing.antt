@@ -1,25 +1,20 @@
 -- An edit of a ring, over what is seen.
-use Rattle.std.proofs.Common.{ℕ, zero, suc, ◌≡◌, Bool, true, false, nat_eq, nat_lt, List, [], ◌∷◌, ◌++◌, map, if◌then◌else◌, Option, Some, None, option_map, inl, inr, refl, sym, ◌∙◌, ap}
-use Rattle.std.specs.Prelude.{flat_map, ◌&&◌}
+use Rattle.std.proofs.Common.{ℕ, ◌≡◌, List, map, if◌then◌else◌, inl, inr, refl, sym, ◌∙◌, ap}
 use Rattle.std.proofs.lemmas.Bool.{cases_Bool}
 use Rattle.nm_types.specs.declared.id.PortId.{PortId}
 use Rattle.nm_types.specs.declared.id.Side.{Side}
 use Rattle.nm_types.specs.declared.id.Side.TheVariants.{Tx, Rx}
-use Rattle.std.specs.List.{range_with_len}
-use Rattle.nm_types.specs.declared.place.Place.{Place}
-use Rattle.nm_types.specs.declared.place.Place.TheVariants as place
 use Rattle.nm_types.specs.Positions.{RingState, IsRing, is_user_slot}
 use Rattle.nm_types.specs.Slots.{SlotState}
-use Rattle.nm_types.specs.OwnPorts.{OwnRing, OwnPort, OwnState, with_slot, port_if, with_port, with_ring_on}
-use Rattle.nm_types.specs.OwnEdits.{with_head, with_cur, with_user_slot}
-use Rattle.nm_hold.specs.Holds.{HoldState, buffers_of}
+use Rattle.nm_types.specs.OwnPorts.{OwnState, with_slot, with_port, with_ring_on}
+use Rattle.nm_hold.specs.Holds.{HoldState}
 use Rattle.nm_user.specs.declared.edit.RingEdit.{RingEdit}
 use Rattle.nm_user.specs.declared.edit.RingEdit.TheVariants.{Head, Cur, Slot}
 use Rattle.nm_user.specs.declared.port.UserPort.{UserPort}
 use Rattle.nm_user.specs.RingSlots.{RingSlots, with_held, at_positions, with_slot_of_user}
-use Rattle.nm_user.specs.Own.{named_ring_places, named_tx_places, held_on, bytes_in_cell, ring_seen, port_seen, own_seen, named_places, named_places_of, AreSided, AreRings, AreFlagged, IsTxSide, IsRingIf}
+use Rattle.nm_user.specs.Own.{named_ring_places, held_on, ring_seen, own_seen, AreSided, AreRings}
 use Rattle.nm_user.proofs.Changing.{Keeps, seen_changed}
-use Rattle.nm_user.specs.Edits.{edited, port_edited, port_edited_if, own_edited, ring_edit}
+use Rattle.nm_user.specs.Edits.{edited, port_edited_if, own_edited, ring_edit}
 
 -- a slot that is written is that of the ring as it is seen
 slot_written : (h : HoldState) (id : PortId) (side : Side) (r : RingSlots) (at : ℕ) (slot : SlotState) → r.side ≡ side

@@ -1,10 +1,8 @@
 -- The checks of pushed slots, one behind the other, and the marks of the buffers that they name.
-use Rattle.std.proofs.Common.{ℕ, zero, suc, ◌≡◌, ◌≢◌, ◌<◌, ◌≤◌, ◌+◌, ◌-◌, Bool, true, false, nat_eq, List, [], ◌∷◌, ◌++◌, length, map, take, get_or, set, replicate, if◌then◌else◌, Option, Some, None, option_map, inl, inr, refl, sym, ◌∙◌, ap, arith, append_assoc}
-use Rattle.std.specs.Prelude.{◌||◌, Result, Ok, Err, ⊤}
-use Rattle.std.specs.List.{list_any}
-use Rattle.std.proofs.lemmas.Bool.{cases_Bool, eqb-true}
+use Rattle.std.proofs.Common.{ℕ, zero, suc, ◌≡◌, ◌≢◌, ◌<◌, Bool, true, false, nat_eq, List, [], ◌∷◌, ◌++◌, length, take, get_or, set, replicate, if◌then◌else◌, Option, Some, None, option_map, refl, sym, ◌∙◌, ap, arith, append_assoc}
+use Rattle.std.specs.Prelude.{◌||◌}
 use Rattle.std.proofs.lemmas.Bool.Decides.{nat_tests}
-use Rattle.std.proofs.lemmas.List.{append-nil, map-append, length-replicate, length-set, get_or-set_same, get_or-set_other, get_or-replicate, set_past, same_lists, get_or_read}
+use Rattle.std.proofs.lemmas.List.{append-nil, length-replicate, length-set, get_or-set_same, get_or-set_other, get_or-replicate, same_lists, get_or_read}
 use Rattle.std.proofs.lemmas.List.Folds.{list_any-append}
 use Rattle.nm_hold.proofs.Spots.{nat_eq-is}
 use Rattle.nm_types.specs.declared.id.Side.{Side}

@@ -1,6 +1,6 @@
 -- The named buffers of a hold are those that its places of the user hold.
-use Rattle.std.proofs.Common.{ℕ, zero, suc, ◌≡◌, ◌<◌, ◌≤◌, ◌+◌, Bool, true, false, nat_eq, List, [], ◌∷◌, ◌++◌, map, Option, Some, None, option_map, refl, sym, ◌∙◌, ap, arith}
-use Rattle.std.specs.Prelude.{flat_map, ◌||◌, unwrap_or}
+use Rattle.std.proofs.Common.{ℕ, ◌≡◌, ◌≤◌, Bool, true, false, nat_eq, List, [], ◌∷◌, ◌++◌, map, Option, Some, None, option_map, refl, sym, ◌∙◌, ap, arith}
+use Rattle.std.specs.Prelude.{unwrap_or}
 use Rattle.std.specs.List.{list_any, range_with_len}
 use Rattle.std.proofs.lemmas.List.{map-append}
 use Rattle.nm_types.specs.declared.id.PortId.{PortId}
@@ -8,12 +8,12 @@ use Rattle.nm_types.specs.declared.id.Side.{Side}
 use Rattle.nm_types.specs.declared.id.Side.TheVariants.{Tx, Rx}
 use Rattle.nm_types.specs.declared.place.Place.{Place}
 use Rattle.nm_types.specs.declared.place.Place.TheVariants as place
-use Rattle.nm_types.specs.Positions.{IsRing, step_on, slots_from, user_slots, dist}
+use Rattle.nm_types.specs.Positions.{user_slots, dist}
 use Rattle.nm_types.specs.Places.{is_same_place}
 use Rattle.nm_types.specs.SyncChecks.{contains_index}
 use Rattle.nm_types.specs.OwnPorts.{buffer_in, named_in, named_of, user_buffers_if}
 use Rattle.nm_hold.specs.declared.standing.Standing.{Standing}
-use Rattle.nm_hold.specs.Holds.{HoldState, index_at, standing_at, stands_at, is_named_at, is_named_in, IsHold}
+use Rattle.nm_hold.specs.Holds.{HoldState, index_at, standing_at, stands_at, is_named_in, IsHold}
 use Rattle.nm_hold.proofs.Spots.{nat_eq-is, same_place-is}
 use Rattle.nm_user.specs.declared.port.UserPort.{UserPort}
 use Rattle.nm_user.specs.RingSlots.{RingSlots}

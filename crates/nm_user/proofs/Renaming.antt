@@ -1,5 +1,5 @@
 -- A buffer that becomes a named one, or one that is not, changes no port and adds no cell.
-use Rattle.std.proofs.Common.{ℕ, ◌≡◌, ◌-◌, ◌∙◌, Bool, Option, Some, None, length, refl, ap}
+use Rattle.std.proofs.Common.{ℕ, ◌≡◌, ◌-◌, ◌∙◌, Bool, Option, Some, None, refl, ap}
 use Rattle.std.specs.Prelude.{IsSome}
 use Rattle.std.proofs.lemmas.List.{length-set}
 use Rattle.nm_hold.specs.declared.standing.Standing.{Standing}

@@ -1,5 +1,5 @@
 -- The reset of a ring, slot by slot, and how it is seen.
-use Rattle.std.proofs.Common.{ℕ, zero, suc, ◌≡◌, ◌<◌, ◌+◌, List, [], ◌∷◌, map, fold, refl, sym, ◌∙◌, ap, arith}
+use Rattle.std.proofs.Common.{ℕ, zero, suc, ◌≡◌, ◌<◌, ◌+◌, List, map, fold, refl, sym, ◌∙◌, ap, arith}
 use Rattle.std.specs.List.{range_with_len}
 use Rattle.nm_types.specs.declared.id.PortId.{PortId}
 use Rattle.nm_types.specs.declared.id.Side.{Side}
@@ -7,10 +7,9 @@ use Rattle.nm_types.specs.declared.id.Side.TheVariants.{Tx, Rx}
 use Rattle.nm_types.specs.Positions.{IsRing, dist, step_on, slots_from, user_slots}
 use Rattle.nm_types.specs.Slots.{SlotState}
 use Rattle.nm_types.specs.Reset.{reset_positions}
-use Rattle.nm_types.specs.OwnPorts.{OwnRing}
 use Rattle.nm_types.specs.OwnSyncs.{with_slot_reset, ring_after_reset}
 use Rattle.nm_hold.specs.Holds.{HoldState}
-use Rattle.nm_user.specs.RingSlots.{RingSlots, with_held, with_slot_reset_at}
+use Rattle.nm_user.specs.RingSlots.{RingSlots, with_slot_reset_at}
 use Rattle.nm_user.specs.Own.{number_on, held_on, ring_seen}
 use Rattle.nm_user.specs.Resets.{slots_reset_at, ring_reset}
 use Rattle.nm_user.proofs.Changing.{Keeps}

@@ -1,5 +1,5 @@
 -- How a ring and its places are seen.
-use Rattle.std.proofs.Common.{ℕ, zero, suc, ◌≡◌, ◌<◌, ◌≤◌, ◌+◌, ◌-◌, Bool, true, false, nat_eq, List, [], ◌∷◌, ◌++◌, length, map, find, get_or, Option, Some, None, option_map, inl, inr, refl, sym, ◌∙◌, ap, arith}
+use Rattle.std.proofs.Common.{ℕ, zero, suc, ◌≡◌, ◌<◌, ◌+◌, nat_eq, List, [], ◌∷◌, map, get_or, Option, Some, None, option_map, inl, inr, refl, ◌∙◌, ap, arith}
 use Rattle.std.specs.Prelude.{option_and_then}
 use Rattle.std.specs.List.{range_with_len}
 use Rattle.std.proofs.lemmas.Bool.{cases_Bool}
@@ -7,16 +7,14 @@ use Rattle.std.proofs.lemmas.List.FromFn.{get_or-map-range_with_len}
 use Rattle.nm_types.specs.declared.id.PortId.{PortId}
 use Rattle.nm_types.specs.declared.id.Side.{Side}
 use Rattle.nm_types.specs.declared.id.Side.TheVariants.{Tx, Rx}
-use Rattle.nm_types.specs.Positions.{RingState, IsRing, FitsRing, dist, step_on, slots_from, user_slots, pushed_slots}
-use Rattle.nm_types.specs.Slots.{Pushed}
-use Rattle.nm_types.specs.OwnPorts.{OwnRing, index_of, buffer_in, pushed_at, pushed_in, ring_at, port_with_id, ring_on}
+use Rattle.nm_types.specs.Positions.{IsRing, FitsRing, dist, step_on}
+use Rattle.nm_types.specs.OwnPorts.{buffer_in, pushed_at, pushed_in, ring_at, ring_on}
 use Rattle.nm_types.proofs.RingSteps.{dist-below, dist-step_on, step_on-below}
 use Rattle.nm_hold.specs.Holds.{HoldState}
-use Rattle.nm_hold.proofs.Spots.{nat_eq-is}
 use Rattle.nm_user.specs.declared.port.UserPort.{UserPort}
 use Rattle.nm_user.specs.RingSlots.{RingSlots}
 use Rattle.nm_user.specs.Sides.{pushed_seen, pushed_seen_at}
-use Rattle.nm_user.specs.Own.{number_on, positions_of, ring_seen, port_seen, own_seen, port_at, slots_on, slots_at, IsTxSide, AreSided}
+use Rattle.nm_user.specs.Own.{number_on, ring_seen, port_seen, own_seen, port_at, slots_on, IsTxSide, AreSided}
 
 -- two functions that agree at the slots from one on give the same list
 pub map-slots : {X : Type 0} (f g : ℕ → X) (size first a n : ℕ) → ((k : ℕ) → k < a + n → f (step_on size first k) ≡ g (step_on size first k))

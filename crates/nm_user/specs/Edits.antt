@@ -1,7 +1,6 @@
 -- What a user writes on the rings of its ports.
-use Rattle.std.specs.Prelude.{ℕ, ◌==◌, if◌then◌else◌, Option, option_map}
+use Rattle.std.specs.Prelude.{ℕ, if◌then◌else◌}
 use Rattle.nm_types.specs.declared.id.Side.{Side}
-use Rattle.nm_types.specs.declared.id.Side.TheVariants.{Tx, Rx}
 use Rattle.nm_types.specs.Positions.{is_user_slot}
 use Rattle.nm_types.specs.OwnPorts.{OwnRing, OwnState, with_slot}
 use Rattle.nm_types.specs.OwnEdits.{ring_at_positions, with_head, with_cur, with_user_slot}

@@ -1,6 +1,6 @@
 -- A session's own side as it is kept: its ports with their rings, and a hold of the buffers in their
 -- places; and how it is seen.
-use Rattle.std.specs.Prelude.{ℕ, Bool, true, false, ◌≡◌, ◌==◌, ◌+◌, if◌then◌else◌, List, [], ◌∷◌, ◌++◌, length, map, find, replicate, flat_map, Option, Some, None, option_map, option_and_then}
+use Rattle.std.specs.Prelude.{ℕ, ◌≡◌, ◌==◌, if◌then◌else◌, List, [], ◌∷◌, ◌++◌, map, find, flat_map, Option, Some, None, option_map, option_and_then}
 use Rattle.std.specs.Option.{option_map_or}
 use Rattle.std.specs.List.{range_with_len, list_any}
 use Rattle.nm_types.specs.declared.id.PortId.{PortId}

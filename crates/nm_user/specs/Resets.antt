@@ -1,8 +1,7 @@
 -- What a reset makes of the rings of a session's ports.
-use Rattle.std.specs.Prelude.{ℕ, ◌==◌, if◌then◌else◌, List, fold, slice_set, slice_index_or, Option, option_map}
+use Rattle.std.specs.Prelude.{ℕ, List, fold, slice_set, slice_index_or}
 use Rattle.nm_types.specs.declared.id.PortId.{PortId}
 use Rattle.nm_types.specs.declared.id.Side.{Side}
-use Rattle.nm_types.specs.declared.id.Side.TheVariants.{Tx, Rx}
 use Rattle.nm_types.specs.Positions.{user_slots}
 use Rattle.nm_types.specs.Slots.{SlotState}
 use Rattle.nm_types.specs.Reset.{reset_positions, reset_slot}

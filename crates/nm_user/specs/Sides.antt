@@ -1,14 +1,12 @@
 -- How the rings, the hold and the list of ports of a session's own side are seen: each place has the
 -- number of the buffer in it, 0 if it holds none.
-use Rattle.std.specs.Prelude.{ℕ, Bool, true, false, ◌≡◌, ◌≤◌, ◌<◌, List, [], ◌++◌, length, map, take, find, ◌==◌, if◌then◌else◌, unwrap_or, slice_index_or, slice_set, flat_map, ⊤, Result, Ok, Err, Option, Some, None, option_map}
-use Rattle.std.specs.Option.{option_map_or}
-use Rattle.std.specs.List.{range_with_len, list_any}
+use Rattle.std.specs.Prelude.{ℕ, Bool, true, false, ◌≡◌, ◌≤◌, ◌<◌, List, length, map, take, if◌then◌else◌, unwrap_or, slice_index_or, slice_set, ⊤, Result, Ok, Err, Option, Some, None}
 use Rattle.nm_types.specs.declared.id.PortId.{PortId}
 use Rattle.nm_types.specs.declared.id.Side.{Side}
 use Rattle.nm_types.specs.declared.id.Side.TheVariants.{Tx, Rx}
 use Rattle.nm_types.specs.declared.place.Place.{Place}
 use Rattle.nm_types.specs.declared.place.Place.TheVariants as place
-use Rattle.nm_types.specs.Positions.{RingState, dist, slots_from, user_slots, pushed_slots}
+use Rattle.nm_types.specs.Positions.{pushed_slots}
 use Rattle.nm_types.specs.Slots.{SlotState, Pushed}
 use Rattle.nm_types.specs.SyncChecks.{contains_index, slot_refusal, seen_of}
 use Rattle.nm_types.specs.declared.refusal.SlotFault.{SlotFault}

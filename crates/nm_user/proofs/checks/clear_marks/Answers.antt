@@ -1,4 +1,4 @@
-use Rattle.std.proofs.Common.{ℕ, ◌≡◌, ◌<◌, ◌+◌, ◌∙◌, length, map, slice_set, false, sym, ap, refl, arith}
+use Rattle.std.proofs.Common.{◌≡◌, ◌<◌, ◌∙◌, map, slice_set, false, ap, refl, arith}
 use Rattle.std.proofs.lemmas.List.{length-set}
 use Rattle.nm_types.specs.Positions.{step_on, slots_from, dist}
 use Rattle.nm_types.specs.Slots.{SlotState}

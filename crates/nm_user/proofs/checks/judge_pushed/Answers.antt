@@ -1,9 +1,9 @@
-use Rattle.std.proofs.Common.{ℕ, List, [], ◌∷◌, ◌++◌, ◌≡◌, ◌<◌, ◌≤◌, ◌+◌, ◌-◌, ◌∙◌, length, map, true, None, sym, ap, refl, arith}
+use Rattle.std.proofs.Common.{[], ◌∷◌, ◌++◌, ◌≡◌, ◌<◌, ◌≤◌, ◌+◌, ◌-◌, ◌∙◌, map, true, ap, refl, arith}
 use Rattle.std.proofs.lemmas.List.{map-append, length-set}
 use Rattle.std.proofs.lemmas.Result.{err_from_is_err_and}
 use Rattle.nm_types.specs.Positions.{step_on, slots_from, dist}
 use Rattle.nm_types.specs.Slots.{Pushed, pushed_names}
-use Rattle.nm_types.specs.SyncChecks.{slots_refusal, contains_index}
+use Rattle.nm_types.specs.SyncChecks.{slots_refusal}
 use Rattle.nm_hold.specs.Holds.{buffers_of}
 use Rattle.nm_user.specs.Sides.{pushed_seen_at, pushed_seen}
 use Rattle.nm_user.proofs.Judging.{passed_more, refused_at, marked_more}

@@ -1,4 +1,4 @@
-use Rattle.std.proofs.Common.{ℕ, List, [], ◌∷◌, ◌++◌, ◌≡◌, ◌<◌, ◌+◌, ◌∙◌, map, refl, sym, ap, arith}
+use Rattle.std.proofs.Common.{List, [], ◌∷◌, ◌++◌, ◌≡◌, ◌<◌, ◌∙◌, map, refl, sym, ap, arith}
 use Rattle.nm_types.specs.Positions.{step_on, slots_from, dist}
 use Rattle.nm_types.specs.Frames.{Frame}
 use Rattle.nm_user.specs.Own.{frame_seen}

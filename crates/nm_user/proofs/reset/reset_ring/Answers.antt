@@ -1,7 +1,5 @@
-use Rattle.std.proofs.Common.{◌≡◌, ◌∙◌, refl, ap}
-use Rattle.nm_types.specs.declared.id.Side.{Side}
+use Rattle.std.proofs.Common.{◌≡◌, ◌∙◌, refl}
 use Rattle.nm_types.specs.Positions.{step_on}
-use Rattle.nm_user.specs.Sides.{number_at, place_on}
 use Rattle.nm_user.specs.Own.{number_on}
 use Rattle.nm_user.proofs.Resetting.{reset_next}
 use Rattle.nm_user.proofs.reset.reset_ring.Goals as goal

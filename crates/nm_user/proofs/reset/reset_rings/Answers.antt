@@ -1,4 +1,4 @@
-use Rattle.std.proofs.Common.{◌<◌, length, arith}
+use Rattle.std.proofs.Common.{◌<◌, length}
 use Rattle.std.proofs.lemmas.List.Edits.{map_over_more}
 use Rattle.nm_user.specs.Resets.{port_reset_if}
 use Rattle.nm_user.proofs.reset.reset_rings.Goals as goal

@@ -1,4 +1,4 @@
-use Rattle.std.proofs.Common.{◌≡◌, ◌+◌, false, replicate, rules}
+use Rattle.std.proofs.Common.{◌≡◌, false, replicate, rules}
 use Rattle.nm_user.proofs.tests.pushes_are_checked.Goals as goal
 
 pub check_all-requires : goal.check_all-requires

@@ -1,7 +1,5 @@
-use Rattle.std.proofs.Common.{◌≡◌, ◌∙◌, Option, Some, None, sym, ap}
-use Rattle.std.specs.Option.{option_copied}
+use Rattle.std.proofs.Common.{◌≡◌, Some, None, sym}
 use Rattle.nm_types.specs.OwnPorts.{named_of}
-use Rattle.nm_user.specs.RingSlots.{RingSlots}
 use Rattle.nm_user.specs.Own.{own_seen, slots_at}
 use Rattle.nm_user.proofs.Checked.{no_ring, refusal_is_seen}
 use Rattle.nm_user.proofs.Naming.{are_named}

@@ -1,4 +1,4 @@
-use Rattle.std.proofs.Common.{◌≡◌, ◌∙◌, Some, None, sym, ap}
+use Rattle.std.proofs.Common.{◌≡◌, Some, None, sym}
 use Rattle.nm_types.specs.declared.id.Side.TheVariants.{Tx}
 use Rattle.nm_user.specs.Own.{slots_at}
 use Rattle.nm_user.proofs.Checked.{no_ring, tx_ring_found, passed_fits, frames_are_seen}

@@ -1,5 +1,5 @@
-use Rattle.std.proofs.Common.{◌≡◌, ◌∙◌, Some, None, option_map, refl, sym, ap}
-use Rattle.nm_user.specs.Own.{slots_at, ring_of}
+use Rattle.std.proofs.Common.{◌≡◌, Some, None, refl, sym}
+use Rattle.nm_user.specs.Own.{slots_at}
 use Rattle.nm_user.proofs.Checked.{ring_found, ring_not_found}
 use Rattle.nm_user.proofs.own.OwnSide.ring.Goals as goal
 

@@ -1,4 +1,4 @@
-use Rattle.std.proofs.Common.{◌≡◌, ◌∙◌, Some, None, option_map, refl, sym, ap}
+use Rattle.std.proofs.Common.{◌≡◌, Some, None, refl, sym}
 use Rattle.nm_user.specs.Own.{slots_at}
 use Rattle.nm_user.proofs.Checked.{ring_found, ring_not_found, slot_is_seen, side_found}
 use Rattle.nm_user.proofs.own.OwnSide.slot.Goals as goal

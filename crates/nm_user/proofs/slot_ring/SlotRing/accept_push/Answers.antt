@@ -1,9 +1,8 @@
-use Rattle.std.proofs.Common.{◌≡◌, ◌<◌, ◌∙◌, List, length, refl, sym, ap, arith}
+use Rattle.std.proofs.Common.{◌≡◌, ◌<◌, ◌∙◌, refl, ap, arith}
 use Rattle.nm_types.specs.declared.id.Side.{Side}
 use Rattle.nm_types.specs.declared.id.Side.TheVariants.{Tx}
-use Rattle.nm_types.specs.Positions.{RingState, advanced, pushed_slots}
-use Rattle.nm_types.specs.Slots.{SlotState}
-use Rattle.nm_types.specs.OwnSyncs.{accepted, slots_after_push}
+use Rattle.nm_types.specs.Positions.{advanced, pushed_slots}
+use Rattle.nm_types.specs.OwnSyncs.{slots_after_push}
 use Rattle.nm_user.specs.RingSlots.{RingSlots, slot_count}
 use Rattle.nm_user.proofs.SlotLists.{accepted_none, accepted_ring, length-cleared}
 use Rattle.nm_user.proofs.slot_ring.SlotRing.accept_push.Goals as goal
