@@ -1,11 +1,11 @@
--- What a tally answers after a port has come, counted and gone.
+-- What a tally answers after an opening, an addition and a removal.
 use Rattle.std.proofs.Common.{ℕ, zero, suc, cond, ◌+◌, List, [], ◌∷◌, ◌≡◌, Option, Some, None, refl, sym, ◌∙◌, ap, arith, ◌==◌, inl, inr, true, false}
 use Rattle.std.specs.Prelude.{find, insert, option_map}
 use Rattle.nm_count.proofs.TallyLemmas.{before_not}
 use Rattle.nm_types.specs.declared.id.Counts.{Counts}
 use Rattle.nm_count.specs.declared.tally.Tallied.{Tallied}
 use Rattle.std.proofs.lemmas.Bool.{cases_Bool, eqb-true, eqb-false, eq-eqb, ne_eqb}
-use Rattle.nm_count.specs.Tallies.{is_port, counts_of, is_before, rank_of, opened, fresh, without}
+use Rattle.nm_count.specs.Tallies.{is_port, counts_of, is_before, rank_of, tally_with, zero_tallied, tally_without}
 use Rattle.nm_count.specs.Laws.{OpeningStartsAtZero, AddingSums, GoneIsOut}
 
 abbrev counts_in : Option Tallied → Option Counts
@@ -32,9 +32,9 @@ pub opening_starts_at_zero : OpeningStartsAtZero
 opening_starts_at_zero tally port other = elim (cases_Bool (port.0 == other)) [
   | inl same ↦
       let equal : port.0 ≡ other = eqb-true port.0 other same in
-      let found : find (is_port port.0) (opened port tally) ≡ Some (fresh port) = find_opened tally (fresh port) port.0 (eq-eqb port.0 port.0 refl) in
-      ap (counts_of (opened port tally)) (sym equal) ∙ (ap counts_in found ∙ rw same refl)
-  | inr apart ↦ ap counts_in (find_insert tally (rank_of port.0 tally) (fresh port) other apart) ∙ rw apart refl
+      let found : find (is_port port.0) (tally_with port tally) ≡ Some (zero_tallied port) = find_opened tally (zero_tallied port) port.0 (eq-eqb port.0 port.0 refl) in
+      ap (counts_of (tally_with port tally)) (sym equal) ∙ (ap counts_in found ∙ rw same refl)
+  | inr apart ↦ ap counts_in (find_insert tally (rank_of port.0 tally) (zero_tallied port) other apart) ∙ rw apart refl
 ]
 
 pub adding_sums : AddingSums
@@ -57,14 +57,14 @@ adding_sums (t ∷ tally) port more other =
       ]
     ]
 
-gone_same : (tally : List Tallied) (port : ℕ) → find (is_port port) (without port tally) ≡ None
+gone_same : (tally : List Tallied) (port : ℕ) → find (is_port port) (tally_without port tally) ≡ None
 gone_same [] port = refl
 gone_same (t ∷ tally) port = elim (cases_Bool (is_port port t)) [
   | inl here ↦ rw here (gone_same tally port)
   | inr other ↦ rw other (rw other (gone_same tally port))
 ]
 
-gone_other : (tally : List Tallied) (port other : ℕ) → (port == other) ≡ false → find (is_port other) (without port tally) ≡ find (is_port other) tally
+gone_other : (tally : List Tallied) (port other : ℕ) → (port == other) ≡ false → find (is_port other) (tally_without port tally) ≡ find (is_port other) tally
 gone_other [] port other apart = refl
 gone_other (t ∷ tally) port other apart =
     let rest = gone_other tally port other apart in
@@ -79,7 +79,7 @@ pub gone_is_out : GoneIsOut
 gone_is_out tally port other = elim (cases_Bool (port == other)) [
   | inl same ↦
       let equal : port ≡ other = eqb-true port other same in
-      ap (counts_of (without port tally)) (sym equal) ∙ (ap counts_in (gone_same tally port) ∙ rw same refl)
+      ap (counts_of (tally_without port tally)) (sym equal) ∙ (ap counts_in (gone_same tally port) ∙ rw same refl)
   | inr apart ↦ ap counts_in (gone_other tally port other apart) ∙ rw apart refl
 ]
 

@@ -10,7 +10,8 @@ use Rattle.std.proofs.lemmas.Option.{slice_get-get_or, slice_get_past}
 use Rattle.nm_types.specs.declared.id.PortId.{PortId}
 use Rattle.nm_types.specs.declared.id.Counts.{Counts}
 use Rattle.nm_count.specs.declared.tally.Tallied.{Tallied}
-use Rattle.nm_count.specs.Tallies.{zeros, summed, is_port, counts_of, is_before, rank_of, opened, fresh, added_at, added, without, are_after, IsRising}
+use Rattle.nm_types.specs.Counters.{zero_counts, sum_of_counts}
+use Rattle.nm_count.specs.Tallies.{is_port, counts_of, is_before, rank_of, tally_with, zero_tallied, tallied_after_add, tally_after_add, tally_without, are_after, IsRising}
 
 abbrev key : Tallied → ℕ
 key t = t.port.0
@@ -35,7 +36,7 @@ partitioned port tally rising i j d le within before =
     lt-ltb (key (get_or tally i d)) port (omega arith)
 
 abbrev pub blank : Tallied
-blank = record { port = record { 0 = 0 }; counts = zeros }
+blank = record { port = record { 0 = 0 }; counts = zero_counts }
 
 -- where the search ends
 pub rank_found : (port : ℕ) (tally : List Tallied) (i : ℕ) → i ≤ length tally
@@ -93,15 +94,15 @@ place_none port tally d rising other =
 
 -- a mark at the port's place is the sum at that port
 abbrev grown : Counts → Tallied → Tallied
-grown more t = record t { counts = summed t.counts more }
+grown more t = record t { counts = sum_of_counts t.counts more }
 
-grown_other : (port : ℕ) (more : Counts) (t : Tallied) → is_port port t ≡ false → added_at port more t ≡ t
+grown_other : (port : ℕ) (more : Counts) (t : Tallied) → is_port port t ≡ false → tallied_after_add port more t ≡ t
 grown_other port more t other = rw other refl
 
-grown_same : (port : ℕ) (more : Counts) (t : Tallied) → is_port port t ≡ true → added_at port more t ≡ grown more t
+grown_same : (port : ℕ) (more : Counts) (t : Tallied) → is_port port t ≡ true → tallied_after_add port more t ≡ grown more t
 grown_same port more t same = rw same refl
 
-grown_none : (port : ℕ) (more : Counts) (tally : List Tallied) → are_after port tally ≡ true → added port more tally ≡ tally
+grown_none : (port : ℕ) (more : Counts) (tally : List Tallied) → are_after port tally ≡ true → tally_after_add port more tally ≡ tally
 grown_none port more [] after = refl
 grown_none port more (t ∷ tally) after =
     let parts = and_parts (nat_lt port (key t)) (are_after port tally) after in
@@ -110,21 +111,21 @@ grown_none port more (t ∷ tally) after =
     let rest = grown_none port more tally parts.1 in
     cc
 
-pub set-added : (tally : List Tallied) (port at : ℕ) (more : Counts) (d : Tallied) → IsRising tally → at < length tally → is_port port (get_or tally at d) ≡ true
-    → set tally at (grown more (get_or tally at d)) ≡ added port more tally
-set-added [] port at more d rising within here = absurd (omega arith)
-set-added (t ∷ tally) port zero more d rising within here =
+pub set-tally_after_add : (tally : List Tallied) (port at : ℕ) (more : Counts) (d : Tallied) → IsRising tally → at < length tally → is_port port (get_or tally at d) ≡ true
+    → set tally at (grown more (get_or tally at d)) ≡ tally_after_add port more tally
+set-tally_after_add [] port at more d rising within here = absurd (omega arith)
+set-tally_after_add (t ∷ tally) port zero more d rising within here =
     let same : key t ≡ port = eqb-true (key t) port here in
     let after : are_after port tally ≡ true = rw same at (rising.0) in
     let first = grown_same port more t here in
     let rest = grown_none port more tally after in
     cc
-set-added (t ∷ tally) port (suc at) more d rising within here =
+set-tally_after_add (t ∷ tally) port (suc at) more d rising within here =
     let reach : at < length tally = omega arith in
     let higher = after_all (key t) tally at d rising.0 reach in
     let same = eqb-true (key (get_or tally at d)) port here in
     let first = grown_other port more t (ne_eqb (key t) port (λ equal. absurd (omega arith))) in
-    let rest = set-added tally port at more d rising.1 reach here in
+    let rest = set-tally_after_add tally port at more d rising.1 reach here in
     cc
 
 -- a port that comes has its place
@@ -149,16 +150,16 @@ not_first port t tally none = elim (cases_Bool (is_port port t)) [
   | inr other ↦ (other, rw other at none)
 ]
 
-pub rising-opened : (tally : List Tallied) (port : PortId) → IsRising tally → counts_of tally port.0 ≡ None → IsRising (opened port tally)
-rising-opened [] port rising none = (refl, tt)
-rising-opened (t ∷ tally) port rising none =
+pub rising-tally_with : (tally : List Tallied) (port : PortId) → IsRising tally → counts_of tally port.0 ≡ None → IsRising (tally_with port tally)
+rising-tally_with [] port rising none = (refl, tt)
+rising-tally_with (t ∷ tally) port rising none =
     let parts = not_first port.0 t tally none in
     elim (cases_Bool (is_before port.0 t)) [
       | inl before ↦
           let next : 1 + rank_of port.0 tally ≡ suc (rank_of port.0 tally) = omega arith in
           let lower = ltb-true (key t) port.0 before in
-          let rest = rising-opened tally port rising.1 parts.1 in
-          let after = after_insert (key t) tally (rank_of port.0 tally) (fresh port) rising.0 lower in
+          let rest = rising-tally_with tally port rising.1 parts.1 in
+          let after = after_insert (key t) tally (rank_of port.0 tally) (zero_tallied port) rising.0 lower in
           rw (before, next) (after, rest)
       | inr behind ↦
           let least = ltb-false (key t) port.0 behind in
@@ -172,53 +173,53 @@ rising-opened (t ∷ tally) port rising none =
           rw behind (after, rising)
     ]
 
-after_without : (q port : ℕ) (tally : List Tallied) → are_after q tally ≡ true → are_after q (without port tally) ≡ true
+after_without : (q port : ℕ) (tally : List Tallied) → are_after q tally ≡ true → are_after q (tally_without port tally) ≡ true
 after_without q port [] after = refl
 after_without q port (t ∷ tally) after =
     let parts = and_parts (nat_lt q (key t)) (are_after q tally) after in
     let rest = after_without q port tally parts.1 in
     elim (cases_Bool (is_port port t)) [
       | inl here ↦ rw here rest
-      | inr other ↦ rw other (and_from (nat_lt q (key t)) (are_after q (without port tally)) parts.0 rest)
+      | inr other ↦ rw other (and_from (nat_lt q (key t)) (are_after q (tally_without port tally)) parts.0 rest)
     ]
 
-pub rising-without : (port : ℕ) (tally : List Tallied) → IsRising tally → IsRising (without port tally)
-rising-without port [] rising = tt
-rising-without port (t ∷ tally) rising = elim (cases_Bool (is_port port t)) [
-  | inl here ↦ rw here (rising-without port tally rising.1)
-  | inr other ↦ rw other (after_without (key t) port tally rising.0, rising-without port tally rising.1)
+pub rising-tally_without : (port : ℕ) (tally : List Tallied) → IsRising tally → IsRising (tally_without port tally)
+rising-tally_without port [] rising = tt
+rising-tally_without port (t ∷ tally) rising = elim (cases_Bool (is_port port t)) [
+  | inl here ↦ rw here (rising-tally_without port tally rising.1)
+  | inr other ↦ rw other (after_without (key t) port tally rising.0, rising-tally_without port tally rising.1)
 ]
 
-pub length-without : (port : ℕ) (tally : List Tallied) → length (without port tally) ≤ length tally
-length-without port [] = omega arith
-length-without port (t ∷ tally) =
-    let rest = length-without port tally in
+pub length-tally_without : (port : ℕ) (tally : List Tallied) → length (tally_without port tally) ≤ length tally
+length-tally_without port [] = omega arith
+length-tally_without port (t ∷ tally) =
+    let rest = length-tally_without port tally in
     elim (cases_Bool (is_port port t)) [
       | inl here ↦ rw here (omega arith)
       | inr other ↦ rw other (omega arith)
     ]
 
 -- adding keeps the ports
-after_added : (q port : ℕ) (more : Counts) (tally : List Tallied) → are_after q tally ≡ true → are_after q (added port more tally) ≡ true
+after_added : (q port : ℕ) (more : Counts) (tally : List Tallied) → are_after q tally ≡ true → are_after q (tally_after_add port more tally) ≡ true
 after_added q port more [] after = refl
 after_added q port more (t ∷ tally) after =
     let parts = and_parts (nat_lt q (key t)) (are_after q tally) after in
     let rest = after_added q port more tally parts.1 in
     elim (cases_Bool (is_port port t)) [
-      | inl here ↦ rw here (and_from (nat_lt q (key t)) (are_after q (added port more tally)) parts.0 rest)
-      | inr other ↦ rw other (and_from (nat_lt q (key t)) (are_after q (added port more tally)) parts.0 rest)
+      | inl here ↦ rw here (and_from (nat_lt q (key t)) (are_after q (tally_after_add port more tally)) parts.0 rest)
+      | inr other ↦ rw other (and_from (nat_lt q (key t)) (are_after q (tally_after_add port more tally)) parts.0 rest)
     ]
 
-pub rising-added : (port : ℕ) (more : Counts) (tally : List Tallied) → IsRising tally → IsRising (added port more tally)
-rising-added port more [] rising = tt
-rising-added port more (t ∷ tally) rising = elim (cases_Bool (is_port port t)) [
-  | inl here ↦ rw here (after_added (key t) port more tally rising.0, rising-added port more tally rising.1)
-  | inr other ↦ rw other (after_added (key t) port more tally rising.0, rising-added port more tally rising.1)
+pub rising-tally_after_add : (port : ℕ) (more : Counts) (tally : List Tallied) → IsRising tally → IsRising (tally_after_add port more tally)
+rising-tally_after_add port more [] rising = tt
+rising-tally_after_add port more (t ∷ tally) rising = elim (cases_Bool (is_port port t)) [
+  | inl here ↦ rw here (after_added (key t) port more tally rising.0, rising-tally_after_add port more tally rising.1)
+  | inr other ↦ rw other (after_added (key t) port more tally rising.0, rising-tally_after_add port more tally rising.1)
 ]
 
-pub length-added : (port : ℕ) (more : Counts) (tally : List Tallied) → length (added port more tally) ≡ length tally
-length-added port more [] = refl
-length-added port more (t ∷ tally) = ap suc (length-added port more tally)
+pub length-tally_after_add : (port : ℕ) (more : Counts) (tally : List Tallied) → length (tally_after_add port more tally) ≡ length tally
+length-tally_after_add port more [] = refl
+length-tally_after_add port more (t ∷ tally) = ap suc (length-tally_after_add port more tally)
 
 -- what a place tells of the look-up
 pub find_placed : (p : Tallied → Bool) (tally : List Tallied) (at : ℕ) (d : Tallied) → position p tally ≡ Some at → find p tally ≡ Some (get_or tally at d)
@@ -236,4 +237,4 @@ find_unplaced p tally none = elim (cases_lt (position_or_len p tally) (length ta
   | inr past ↦ find_at p tally ∙ slice_get_past tally (position_or_len p tally) past
 ]
 
-pub ruleset tallies = (partitioned, rank_found, place_found, place_none, set-added, rising-opened, rising-without, length-without, rising-added, find_placed, find_unplaced)
+pub ruleset tallies = (partitioned, rank_found, place_found, place_none, set-tally_after_add, rising-tally_with, rising-tally_without, length-tally_without, rising-tally_after_add, find_placed, find_unplaced)

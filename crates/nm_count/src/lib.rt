@@ -1,4 +1,5 @@
-//! The counters of the ports: frames sent, short, lone, given, dropped for want of room, and read.
+//! The counters of the ports: frames sent, short, lone, given, dropped because a ring was full, and
+//! read.
 #![tactic(auto)]
 
 pub mod laws;
@@ -6,4 +7,4 @@ mod tally;
 #[cfg(test)]
 mod tests;
 
-pub use tally::{MAX_PORTS, Tallied, Tally};
+pub use tally::{Tallied, Tally};

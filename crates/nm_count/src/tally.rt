@@ -1,25 +1,26 @@
-ghost use Rattle.std.specs.Prelude.{◌≡◌, ◌<◌, ◌≤◌, [], length, position, IfOk, IsSome, None, vec_capacity};
+ghost use Rattle.std.specs.Prelude.{◌≡◌, ◌<◌, ◌≤◌, [], length, position, IfOk, IsSome, None};
+ghost use Rattle.std.specs.Prelude.{vec_capacity};
 ghost use Rattle.std.specs.Option.{ForSome};
-ghost use Rattle.nm_count.specs.Tallies.{summed, SumFits, is_port, counts_of, rank_of, opened, added, added_at, without, IsRising, IsTally};
+ghost use Rattle.nm_types.specs.Counters.{sum_of_counts, SumFits};
+ghost use Rattle.nm_types.specs.Limits.{most_ports};
+ghost use Rattle.nm_count.specs.Tallies.{is_port, counts_of, rank_of, IsRising, IsTally};
+ghost use Rattle.nm_count.specs.Tallies.{tally_with, tally_after_add, tally_without};
 
-use nm_types::{
-    Counts, MAX_MONITORS, MAX_PIPE_ENDS, MAX_SWITCH_PORTS, MAX_SWITCHES, NoMemory, PortId,
-};
+use nm_types::{Counts, MAX_PORTS, NoMemory, PortId};
 use std::alloc::Global;
 use std::marker::Model;
 
-/// The most ports that are there at once: those of the switches, the pipe ends and the monitors.
-pub const MAX_PORTS: usize = MAX_SWITCHES * MAX_SWITCH_PORTS + MAX_PIPE_ENDS + MAX_MONITORS;
-
-/// A port with what it has counted.
+/// A port and what it has counted.
 #[derive(Clone, Copy, Debug, PartialEq, Eq)]
 pub struct Tallied {
+    /// The port.
     pub port: PortId,
+    /// Its counters, in frames.
     pub counts: Counts,
 }
 
-/// The counters of the ports that are there, in frames. They stand by rising port, so a port's
-/// counters are found by halving.
+/// The counters of the ports, in frames. They are kept by rising port, so that a port is found
+/// by binary search.
 #[derive(Drop)]
 pub struct Tally {
     ports: Vec<Tallied>,
@@ -31,16 +32,18 @@ impl Model for Tally {
 
     ghost Value = { List Tallied };
 
+    ghost use Rattle.nm_types.specs.Limits.{most_ports};
     ghost use Rattle.nm_count.specs.Tallies.{IsTally};
 
     ghost view = { λ t. t.ports.items };
 
-    ghost invariant = { λ t. IsTally t.ports.items × (128 ≤ vec_capacity t.ports) };
+    ghost invariant = { λ t. IsTally t.ports.items × (most_ports ≤ vec_capacity t.ports) };
 }
 
+/// Adds `more` to `counts`, field by field.
 fn add_counts(counts: &mut Counts, more: &Counts)
     requires { SumFits counts.old more.now }
-    ensures { counts.new ≡ summed counts.old more.now }
+    ensures { counts.new ≡ sum_of_counts counts.old more.now }
 {
     counts.sent += more.sent;
     counts.short += more.short;
@@ -50,7 +53,7 @@ fn add_counts(counts: &mut Counts, more: &Counts)
     counts.read += more.read;
 }
 
-/// How many ports stand before the place of this one.
+/// Counts the ports lower than `port`.
 #[tactic(auto, using(crate::proofs::TallyLemmas::tallies))]
 fn rank_of(ports: &[Tallied], port: PortId) -> usize
     requires { IsRising ports.now }
@@ -60,6 +63,7 @@ fn rank_of(ports: &[Tallied], port: PortId) -> usize
     ports.partition_point(|tallied| tallied.port.0 < port.0)
 }
 
+/// Finds the place of `port`.
 #[tactic(auto, using(crate::proofs::TallyLemmas::tallies))]
 fn place_of(ports: &[Tallied], port: PortId) -> Option<usize>
     requires { IsRising ports.now }
@@ -73,6 +77,7 @@ fn place_of(ports: &[Tallied], port: PortId) -> Option<usize>
     }
 }
 
+/// Finds the counters of `port`.
 fn counts_at(ports: &[Tallied], port: PortId) -> Option<Counts>
     requires { IsRising ports.now }
     ensures { result ≡ counts_of ports.now port.0 }
@@ -83,12 +88,13 @@ fn counts_at(ports: &[Tallied], port: PortId) -> Option<Counts>
     }
 }
 
+/// Adds `more` to the counters of `port`.
 #[tactic(auto, using(crate::proofs::TallyLemmas::tallies))]
 fn add_at(ports: &mut Vec<Tallied>, port: PortId, more: &Counts)
     requires rising { IsRising ports.old.items }
     requires there { IsSome (counts_of ports.old.items port.0) }
     requires fits { ForSome (counts_of ports.old.items port.0) (λ counts. SumFits counts more.now) }
-    ensures sums { ports.new.items ≡ added port.0 more.now ports.old.items }
+    ensures sums { ports.new.items ≡ tally_after_add port.0 more.now ports.old.items }
     ensures capacity { vec_capacity ports.new ≡ vec_capacity ports.old }
 {
     match place_of(ports, port) {
@@ -98,7 +104,7 @@ fn add_at(ports: &mut Vec<Tallied>, port: PortId, more: &Counts)
 }
 
 impl Tally {
-    /// No ports. Takes the room for all ports, so that the other calls take no memory.
+    /// An empty tally. It takes the room for all ports, so that the other calls take no memory.
     pub fn new(alloc: Global) -> Result<Tally, NoMemory>
         ensures { IfOk result (λ tally. tally ≡ []) }
     {
@@ -107,22 +113,15 @@ impl Tally {
         })
     }
 
-    /// A port comes, with zeros.
+    /// Adds a port with zero counters.
     #[tactic(auto, using(crate::proofs::TallyLemmas::tallies))]
     pub fn open(&mut self, port: PortId)
         requires new { counts_of self.old port.0 ≡ None }
-        requires room { length self.old < 128 }
-        ensures { self.new ≡ opened port self.old }
+        requires room { length self.old < most_ports }
+        ensures { self.new ≡ tally_with port self.old }
     {
         let at = rank_of(&self.ports, port);
-        let counts = Counts {
-            sent: 0,
-            short: 0,
-            lone: 0,
-            given: 0,
-            full: 0,
-            read: 0,
-        };
+        let counts = Counts::ZERO;
         if self.ports.insert(at, Tallied { port, counts }).is_err() {
             unreachable!();
         }
@@ -133,12 +132,12 @@ impl Tally {
     pub fn add(&mut self, port: PortId, more: &Counts)
         requires there { IsSome (counts_of self.old port.0) }
         requires fits { ForSome (counts_of self.old port.0) (λ counts. SumFits counts more.now) }
-        ensures { self.new ≡ added port.0 more.now self.old }
+        ensures { self.new ≡ tally_after_add port.0 more.now self.old }
     {
         add_at(&mut self.ports, port, more);
     }
 
-    /// The port's counters; none where it is not there.
+    /// The port's counters, or none if it has not been added.
     pub fn of(&self, port: PortId) -> Option<Counts>
         ensures counts { result ≡ counts_of self.now port.0 }
         ensures tally { IsTally self.now }
@@ -146,11 +145,11 @@ impl Tally {
         counts_at(&self.ports, port)
     }
 
-    /// A port goes, with its counters.
+    /// Removes a port and its counters.
     #[tactic(auto, using(crate::proofs::TallyLemmas::tallies))]
     pub fn gone(&mut self, port: PortId)
         requires { IsSome (counts_of self.old port.0) }
-        ensures { self.new ≡ without port.0 self.old }
+        ensures { self.new ≡ tally_without port.0 self.old }
     {
         self.ports.retain(|tallied| tallied.port != port);
     }

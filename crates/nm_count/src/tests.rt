@@ -2,29 +2,30 @@ use crate::Tally;
 use nm_types::{Counts, NoMemory, PortId};
 use std::process::Abort;
 
-const ZEROS: Counts = Counts {
-    sent: 0,
-    short: 0,
-    lone: 0,
-    given: 0,
-    full: 0,
-    read: 0,
-};
-
+/// Two additions to a port add up.
 #[test]
 fn two_adds(rt: HostRuntime) -> Result<(), NoMemory> {
-    let one = Counts { sent: 1, ..ZEROS };
+    let one = Counts {
+        sent: 1,
+        ..Counts::ZERO
+    };
     let mut tally = Tally::new(rt.alloc())?;
     tally.open(PortId(4));
-    assert!(rt; tally.of(PortId(4)) == Some(ZEROS));
+    assert!(rt; tally.of(PortId(4)) == Some(Counts::ZERO));
     tally.add(PortId(4), &one);
     tally.add(PortId(4), &one);
-    assert!(rt; tally.of(PortId(4)) == Some(Counts { sent: 2, ..ZEROS }));
+    assert!(rt;
+        tally.of(PortId(4))
+            == Some(Counts {
+                sent: 2,
+                ..Counts::ZERO
+            })
+    );
     assert!(rt; tally.of(PortId(5)).is_none());
     Ok(())
 }
 
-/// Ports come in any order, one goes, and each of the others keeps its own counters.
+/// Ports are added in any order and one is removed; each of the others keeps its own counters.
 #[test]
 fn ports_keep_their_own_counters(rt: HostRuntime) -> Result<(), NoMemory> {
     let some = Counts {
@@ -43,6 +44,6 @@ fn ports_keep_their_own_counters(rt: HostRuntime) -> Result<(), NoMemory> {
     tally.gone(PortId(4));
     assert!(rt; tally.of(PortId(4)).is_none());
     assert!(rt; tally.of(PortId(6)) == Some(some));
-    assert!(rt; tally.of(PortId(9)) == Some(ZEROS));
+    assert!(rt; tally.of(PortId(9)) == Some(Counts::ZERO));
     Ok(())
 }

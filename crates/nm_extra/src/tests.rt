@@ -103,12 +103,13 @@ fn take(rt: &impl Abort, hold: &mut Hold, at: u32, idx: u32) -> Buf
 }
 
 /// The last three buffers come to the hold, are walked, and go back.
-fn play(rt: &impl Abort, hold: &mut Hold, all: &mut Vec<Buf>)
+fn play(rt: &impl Abort, region: &Region, hold: &mut Hold, all: &mut Vec<Buf>)
+    requires count { region.now.buffers ≡ 7 }
     requires hold { hold.old ≡ record (empty_hold 64) {
       ports = record { port = record { 0 = 2 }; sizes = record { tx = 2; rx = 2; extra = 3 } } ∷ [];
     } }
-    requires all { all.old.items ≡ opened_buffers (record { region = 7; buffers = 7 }) }
-    ensures { names_of all.new.items ≡ region_names (record { region = 7; buffers = 7 }) }
+    requires all { all.old.items ≡ opened_buffers region.now }
+    ensures { names_of all.new.items ≡ region_names region.now }
 {
     let six = all.remove(4);
     let seven = all.remove(4);
@@ -140,7 +141,7 @@ fn chain_with_loop(rt: HostRuntime) -> Result<(), Fail> {
             let made = hold.reserve(2, 2, 3);
             if made.is_ok() {
                 hold.set_port(PORT, 2, 2, 3);
-                play(&rt, &mut hold, &mut all);
+                play(&rt, &region, &mut hold, &mut all);
             }
             close_empty(&rt, hold);
             made

@@ -75,12 +75,13 @@ fn take(rt: &impl Abort, hold: &mut Hold, place: Place) -> Buf
 }
 
 /// The two buffers come to the hold, change places, and go back.
-fn play(rt: &impl Abort, hold: &mut Hold, all: &mut Vec<Buf>)
+fn play(rt: &impl Abort, region: &Region, hold: &mut Hold, all: &mut Vec<Buf>)
+    requires count { region.now.buffers ≡ 2 }
     requires hold { hold.old ≡ record (empty_hold 8) {
       ports = record { port = record { 0 = 3 }; sizes = record { tx = 2; rx = 2; extra = 0 } } ∷ [];
     } }
-    requires all { all.old.items ≡ opened_buffers (record { region = 2; buffers = 2 }) }
-    ensures { names_of all.new.items ≡ region_names (record { region = 2; buffers = 2 }) }
+    requires all { all.old.items ≡ opened_buffers region.now }
+    ensures { names_of all.new.items ≡ region_names region.now }
 {
     let two = all.remove(0);
     let three = all.remove(0);
@@ -111,7 +112,7 @@ fn exchange_of_two_slots(rt: HostRuntime) -> Result<(), Fail> {
             let made = hold.reserve(2, 2, 0);
             if made.is_ok() {
                 hold.set_port(PORT, 2, 2, 0);
-                play(&rt, &mut hold, &mut all);
+                play(&rt, &region, &mut hold, &mut all);
             }
             close_empty(&rt, hold);
             made

@@ -1,8 +1,8 @@
 use Rattle.std.specs.Prelude.{ℕ, List, Contains}
 use Rattle.nm_io.specs.Counts.{raised}
 
--- the calls that a shelf or a sink in memory had: the numbers of those that are to fail, from 1 on, how
--- many there were, how many failed, and how often memory could not grow
+-- the calls that an in-memory shelf or sink had: the numbers of those that are to fail, from 1 on,
+-- how many there were, how many failed, and how often memory ran out
 pub record CallState : Type 0 where
   pub fail : List ℕ
   pub made : ℕ
@@ -21,14 +21,14 @@ IsListed c = Contains c.fail (raised c.made)
 abbrev pub after_call : CallState → CallState
 after_call c = record c { made = raised c.made }
 
--- a call failed, but not for want of memory
+-- a call failed, but not because memory ran out
 abbrev pub after_fault : CallState → CallState
 after_fault c = record c { made = raised c.made; faults = raised c.faults }
 
--- memory could not grow
+-- memory ran out
 abbrev pub after_want : CallState → CallState
 after_want c = record c { wants = raised c.wants }
 
--- a call failed for want of memory
+-- a call failed because memory ran out
 abbrev pub after_refused : CallState → CallState
 after_refused c = after_fault (after_want c)

@@ -19,7 +19,8 @@ appended_told (Some files) name bytes = Some (appended files name bytes)
 abbrev pub replaced : Files → List ℕ → List ℕ → Files
 replaced files name bytes = λ other. if bytes_eq name other then Some bytes else files other
 
--- the first `n` bytes of the room are the next ones of the file, of which there are none past its end
+-- the first `n` bytes of the room are the next ones of the file, of which there are none past its
+-- end
 pub record ReadsPart (file : Option (List ℕ)) (at n : ℕ) (room : List ℕ) : Type 0 where
   pub contents : List ℕ
   pub there : file ≡ Some contents
@@ -27,13 +28,16 @@ pub record ReadsPart (file : Option (List ℕ)) (at n : ℕ) (room : List ℕ) :
   pub within : n ≤ length (drop at contents)
   pub moves : 0 < length room → at < length contents → 0 < n
 
--- a prefix of the bytes was added at the end of a file; a file of which no call succeeded is as it was
+-- a prefix of the bytes was added at the end of a file; a file of which no call succeeded is as it
+-- was
 pub record AppendsPrefix (old new : Option Files) (name bytes : List ℕ) : Type 0 where
   pub count : ℕ
   pub within : count ≤ length bytes
   pub files : (new ≡ old) ⊎ (new ≡ appended_told old name (take count bytes))
 
 -- a call that adds these bytes at the end of a file: all of them, or by its failure a prefix
-abbrev pub Appends : {T E : Type 0} → Option Files → Option Files → List ℕ → Result T E → List ℕ → Type 0
+abbrev pub Appends : {T E : Type 0}
+    → Option Files → Option Files → List ℕ → Result T E → List ℕ → Type 0
 Appends old new name result bytes =
-    MatchResult result (λ _. new ≡ appended_told old name bytes) (λ _. AppendsPrefix old new name bytes)
+    MatchResult result (λ _. new ≡ appended_told old name bytes)
+    (λ _. AppendsPrefix old new name bytes)

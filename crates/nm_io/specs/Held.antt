@@ -12,6 +12,7 @@ pub record GrowsByPrefix (old new : Option (List ℕ)) (bytes : List ℕ) : Type
   pub held : new ≡ grown old (take count bytes)
 
 -- a call that writes these bytes: all of them, or by its failure a prefix
-abbrev pub Writes : {T E : Type 0} → Option (List ℕ) → Option (List ℕ) → Result T E → List ℕ → Type 0
+abbrev pub Writes : {T E : Type 0}
+    → Option (List ℕ) → Option (List ℕ) → Result T E → List ℕ → Type 0
 Writes old new result bytes =
     MatchResult result (λ _. new ≡ grown old bytes) (λ _. GrowsByPrefix old new bytes)

@@ -1,5 +1,5 @@
-//! Where bytes are read from and written to: named files, one output, and what stands for them in
-//! tests.
+//! Where bytes are read from and written to: named files and one output, of the system or, for
+//! tests, in memory with failures where they are asked for.
 #![tactic(auto)]
 
 mod calls;
@@ -9,6 +9,8 @@ mod gate;
 mod memory_shelf;
 mod memory_sink;
 mod page;
+mod raw;
+mod raw_sink;
 mod read_error;
 mod shelf;
 mod sink;
@@ -25,9 +27,11 @@ pub use gate::{Gate, NoGate, Stage};
 pub use memory_shelf::MemoryShelf;
 pub use memory_sink::MemorySink;
 pub use page::{Page, put_page};
+pub use raw::{RawRead, RawWrite};
+pub use raw_sink::RawSink;
 pub use read_error::ReadError;
 pub use shelf::Shelf;
 pub use sink::Sink;
-pub use std_sink::StdSink;
+pub use std_sink::{Printed, StdSink};
 pub use text::{Text, put_text};
 pub use whole::{append_all, put_all, read_all};

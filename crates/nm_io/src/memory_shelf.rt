@@ -1,8 +1,10 @@
-ghost use Rattle.std.specs.Prelude.{◌≡◌, ◌<◌, ◌≤◌, ◌⊎◌, ℕ, List, [], length, take, map, string_bytes, Option, Some, None, IfOk, OnOk, OnErr, IfSome};
+ghost use Rattle.std.specs.Prelude.{◌≡◌, ◌<◌, ◌≤◌, ◌⊎◌, ℕ, List, [], length, take, map};
+ghost use Rattle.std.specs.Prelude.{string_bytes, Option, Some, None, IfOk, OnOk, OnErr, IfSome};
 ghost use Rattle.std.specs.Option.{option_map};
 ghost use Rattle.nm_io.specs.Counts.{Rose};
 ghost use Rattle.nm_io.specs.Files.{Files, appended_told, replaced, ReadsPart};
-ghost use Rattle.nm_io.specs.Calls.{IsListed, no_calls, after_call, after_fault, after_refused, after_want};
+ghost use Rattle.nm_io.specs.Calls.{IsListed, no_calls, after_call, after_fault};
+ghost use Rattle.nm_io.specs.Calls.{after_refused, after_want};
 ghost use Rattle.nm_io.specs.ShelfState.{ShelfState, files_of, seen_entries};
 
 use crate::calls::Calls;
@@ -13,8 +15,7 @@ use std::alloc::Global;
 use std::collections::BTreeMap;
 use std::marker::Model;
 
-/// Holds files in memory, and fails where it is told to. Its reads and appends are numbered
-/// together, from 1.
+/// An in-memory shelf with injected failures. Its reads and appends are numbered together, from 1.
 #[derive(Drop)]
 pub struct MemoryShelf {
     alloc: Global,
@@ -29,7 +30,7 @@ impl Model for MemoryShelf {
 }
 
 impl MemoryShelf {
-    /// A shelf with no file. `fail` lists the numbers of the calls that fail.
+    /// A shelf without files. `fail` lists the numbers of the calls that fail.
     pub fn new(alloc: Global, fail: Vec<u64>) -> MemoryShelf
         ensures { result ≡ record { entries = []; calls = no_calls fail.items } }
     {
@@ -40,10 +41,11 @@ impl MemoryShelf {
         }
     }
 
-    /// Sets a file, in place of what it had. This is no numbered call.
+    /// Sets the contents of a file. This is not a numbered call.
     #[tactic(auto, using(crate::proofs::Stores::stores))]
     pub fn add(&mut self, name: &str, bytes: &[u8]) -> Result<(), NoMemory>
-        ensures ok { OnOk result (files_of self.new.entries ≡ replaced (files_of self.old.entries) name.now bytes.now) }
+        ensures ok { OnOk result
+            (files_of self.new.entries ≡ replaced (files_of self.old.entries) name.now bytes.now) }
         ensures err { OnErr result (files_of self.new.entries ≡ files_of self.old.entries) }
         ensures answered { OnOk result (self.new.calls ≡ self.old.calls) }
         ensures wanting { OnErr result (self.new.calls ≡ after_want self.old.calls) }
@@ -57,7 +59,7 @@ impl MemoryShelf {
         }
     }
 
-    /// The contents of a file; `None`: there is none of this name.
+    /// Returns the contents of a file, or none if there is no such file.
     #[tactic(auto, using(crate::proofs::Stores::stores))]
     pub fn file(&self, name: &str) -> Option<&[u8]>
         ensures { option_map (λ f. f.now) result ≡ files_of self.now.entries name.now }
@@ -65,7 +67,7 @@ impl MemoryShelf {
         stored::contents(&self.stored, name)
     }
 
-    /// How often its memory could not grow. The call then failed, or answered `NoMemory`.
+    /// Counts the calls that failed because memory ran out.
     pub fn wants(&self) -> u64
         ensures { result ≡ self.now.calls.wants }
     {
@@ -83,15 +85,18 @@ impl Shelf for MemoryShelf {
     #[tactic(auto, using(crate::proofs::Stores::stores))]
     fn read(&mut self, name: &str, at: u64, room: &mut [u8]) -> Result<usize, Failed>
         ensures within { IfOk result (λ n. n ≤ length room.old) }
-        ensures reads { IfOk result (λ n. IfSome (Some (files_of self.old.entries)) (λ all. ReadsPart (all name.now) at n room.new)) }
+        ensures reads { IfOk result (λ n. IfSome (Some (files_of self.old.entries))
+            (λ all. ReadsPart (all name.now) at n room.new)) }
         ensures files { Some (files_of self.new.entries) ≡ Some (files_of self.old.entries) }
         ensures reads_later { (other : List ℕ) → self.old.calls.faults ≤ self.new.calls.faults }
         ensures appends_later { (other : List ℕ) → self.old.calls.faults ≤ self.new.calls.faults }
         ensures cause { OnErr result (Rose self.old.calls.faults self.new.calls.faults) }
 
-        // It fails exactly where it is told to or the file is not there.
-        ensures answered { OnOk result (¬ IsListed self.old.calls × (self.new.calls ≡ after_call self.old.calls)) }
-        ensures failed { OnErr result ((IsListed self.old.calls ⊎ (files_of self.old.entries name.now ≡ None))
+        // It fails only if it is listed or there is no such file.
+        ensures answered { OnOk result
+            (¬ IsListed self.old.calls × (self.new.calls ≡ after_call self.old.calls)) }
+        ensures failed { OnErr result
+            ((IsListed self.old.calls ⊎ (files_of self.old.entries name.now ≡ None))
             × (self.new.calls ≡ after_fault self.old.calls)) }
     {
         if self.calls.is_listed() {
@@ -113,15 +118,18 @@ impl Shelf for MemoryShelf {
         ensures moves { IfOk result (λ n. 0 < length bytes.now → 0 < n) }
         ensures grown { IfOk result (λ n. Some (files_of self.new.entries)
             ≡ appended_told (Some (files_of self.old.entries)) name.now (take n bytes.now)) }
-        ensures err { OnErr result (Some (files_of self.new.entries) ≡ Some (files_of self.old.entries)) }
+        ensures err { OnErr result
+            (Some (files_of self.new.entries) ≡ Some (files_of self.old.entries)) }
         ensures reads_later { (other : List ℕ) → self.old.calls.faults ≤ self.new.calls.faults }
         ensures appends_later { (other : List ℕ) → self.old.calls.faults ≤ self.new.calls.faults }
         ensures cause { OnErr result (Rose self.old.calls.faults self.new.calls.faults) }
 
-        // It fails exactly where it is told to or memory is wanting, and else takes every byte.
+        // It fails only if it is listed or out of memory, and otherwise takes every byte.
         ensures taken { IfOk result (λ n. n ≡ length bytes.now) }
-        ensures answered { OnOk result (¬ IsListed self.old.calls × (self.new.calls ≡ after_call self.old.calls)) }
-        ensures failed { OnErr result ((IsListed self.old.calls × (self.new.calls ≡ after_fault self.old.calls))
+        ensures answered { OnOk result
+            (¬ IsListed self.old.calls × (self.new.calls ≡ after_call self.old.calls)) }
+        ensures failed { OnErr result
+            ((IsListed self.old.calls × (self.new.calls ≡ after_fault self.old.calls))
             ⊎ (self.new.calls ≡ after_refused self.old.calls)) }
     {
         if self.calls.is_listed() {
@@ -135,8 +143,8 @@ impl Shelf for MemoryShelf {
     }
 }
 
-/// Copies the contents from their byte `at` on to the front of the room, as many as there are and
-/// fit.
+/// Copies the contents, from their byte `at` on, to the front of `room`, as many as fit, and
+/// returns how many.
 fn copy_part(contents: &[u8], at: u64, room: &mut [u8]) -> usize
     ensures within { result ≤ length room.old }
     ensures reads { ReadsPart (Some contents.now) at result room.new }

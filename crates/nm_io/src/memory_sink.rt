@@ -1,4 +1,5 @@
-ghost use Rattle.std.specs.Prelude.{◌≡◌, ◌<◌, ◌≤◌, ◌++◌, ◌⊎◌, ℕ, List, [], length, take, Option, Some, IfOk, OnOk, OnErr};
+ghost use Rattle.std.specs.Prelude.{◌≡◌, ◌<◌, ◌≤◌, ◌++◌, ◌⊎◌, ℕ, List, [], length, take};
+ghost use Rattle.std.specs.Prelude.{Option, Some, IfOk, OnOk, OnErr};
 ghost use Rattle.nm_io.specs.Counts.{Rose};
 ghost use Rattle.nm_io.specs.Held.{grown};
 ghost use Rattle.nm_io.specs.Calls.{IsListed, no_calls, after_call, after_fault, after_refused};
@@ -9,7 +10,7 @@ use crate::{Failed, Sink};
 use std::alloc::Global;
 use std::marker::Model;
 
-/// Holds what is put in memory, and fails where it is told to. Its calls are numbered from 1.
+/// An in-memory sink with injected failures. Its calls are numbered from 1.
 #[derive(Drop)]
 pub struct MemorySink {
     bytes: Vec<u8>,
@@ -33,14 +34,14 @@ impl MemorySink {
         }
     }
 
-    /// What it has taken.
+    /// Returns what was put.
     pub fn bytes(&self) -> &[u8]
         ensures { result.now ≡ self.now.bytes }
     {
         self.bytes.as_slice()
     }
 
-    /// How often its memory could not grow. The call then failed.
+    /// Counts the calls that failed because memory ran out.
     pub fn wants(&self) -> u64
         ensures { result ≡ self.now.calls.wants }
     {
@@ -56,15 +57,18 @@ impl Sink for MemorySink {
     fn put(&mut self, bytes: &[u8]) -> Result<usize, Failed>
         ensures within { IfOk result (λ n. n ≤ length bytes.now) }
         ensures moves { IfOk result (λ n. 0 < length bytes.now → 0 < n) }
-        ensures grown { IfOk result (λ n. Some self.new.bytes ≡ grown (Some self.old.bytes) (take n bytes.now)) }
+        ensures grown { IfOk result (λ n.
+            Some self.new.bytes ≡ grown (Some self.old.bytes) (take n bytes.now)) }
         ensures err { OnErr result (Some self.new.bytes ≡ Some self.old.bytes) }
         ensures later { self.old.calls.faults ≤ self.new.calls.faults }
         ensures cause { OnErr result (Rose self.old.calls.faults self.new.calls.faults) }
 
-        // It fails exactly where it is told to or memory is wanting, and else takes every byte.
+        // It fails only if it is listed or out of memory, and otherwise takes every byte.
         ensures taken { IfOk result (λ n. n ≡ length bytes.now) }
-        ensures answered { OnOk result (¬ IsListed self.old.calls × (self.new.calls ≡ after_call self.old.calls)) }
-        ensures failed { OnErr result ((IsListed self.old.calls × (self.new.calls ≡ after_fault self.old.calls))
+        ensures answered { OnOk result
+            (¬ IsListed self.old.calls × (self.new.calls ≡ after_call self.old.calls)) }
+        ensures failed { OnErr result
+            ((IsListed self.old.calls × (self.new.calls ≡ after_fault self.old.calls))
             ⊎ (self.new.calls ≡ after_refused self.old.calls)) }
     {
         if self.calls.is_listed() {

@@ -1,4 +1,5 @@
-ghost use Rattle.std.specs.Prelude.{◌≡◌, ◌+◌, ◌<◌, ◌≤◌, ◌++◌, ◌↔◌, ℕ, List, [], length, take, vec_capacity, Option, Some, IsErr, IfOk, OnOk, OnErr};
+ghost use Rattle.std.specs.Prelude.{◌≡◌, ◌+◌, ◌<◌, ◌≤◌, ◌++◌, ◌↔◌, ℕ, List, [], length, take};
+ghost use Rattle.std.specs.Prelude.{vec_capacity, Option, Some, IsErr, IfOk, OnOk, OnErr};
 ghost use Rattle.nm_io.specs.Counts.{Rose, raised};
 ghost use Rattle.nm_io.specs.Gathered.{Gathers};
 ghost use Rattle.nm_io.specs.Held.{grown, Writes};
@@ -9,7 +10,7 @@ use nm_types::NoMemory;
 use std::alloc::Global;
 use std::marker::Model;
 
-/// A sink of a fixed size in memory. It gathers what is then written in one call, and takes no
+/// An in-memory sink of a fixed size. It gathers what is then written in one call, and takes no
 /// memory once it is made.
 #[derive(Drop)]
 pub struct Page {
@@ -38,7 +39,7 @@ impl Page {
         })
     }
 
-    /// What it holds.
+    /// Returns what it holds.
     pub fn bytes(&self) -> &[u8]
         ensures { result.now ≡ self.now.bytes }
     {
@@ -61,12 +62,13 @@ impl Sink for Page {
     fn put(&mut self, bytes: &[u8]) -> Result<usize, Failed>
         ensures within { IfOk result (λ n. n ≤ length bytes.now) }
         ensures moves { IfOk result (λ n. 0 < length bytes.now → 0 < n) }
-        ensures grown { IfOk result (λ n. Some self.new.bytes ≡ grown (Some self.old.bytes) (take n bytes.now)) }
+        ensures grown { IfOk result (λ n.
+            Some self.new.bytes ≡ grown (Some self.old.bytes) (take n bytes.now)) }
         ensures err { OnErr result (Some self.new.bytes ≡ Some self.old.bytes) }
         ensures later { self.old.faults ≤ self.new.faults }
         ensures cause { OnErr result (Rose self.old.faults self.new.faults) }
 
-        // It fails exactly where there is no room for all of the bytes, and else takes every one.
+        // It fails only if there is no room for all of the bytes, and otherwise takes every one.
         ensures full { IsErr result ↔ (self.old.size < length self.old.bytes + length bytes.now) }
         ensures taken { IfOk result (λ n. n ≡ length bytes.now) }
         ensures size { self.new.size ≡ self.old.size }
@@ -80,7 +82,7 @@ impl Sink for Page {
     }
 }
 
-/// Writes what the page holds, and empties it.
+/// Writes what the page holds, and empties it. If it fails, the page stays as it was.
 pub fn put_page<K: Sink>(out: &mut K, page: &mut Page) -> Result<(), Failed>
     ensures writes { Writes (K.holds out.old) (K.holds out.new) result page.old.bytes }
     ensures later { K.faults out.old ≤ K.faults out.new }

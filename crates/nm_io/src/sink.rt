@@ -4,20 +4,21 @@ ghost use Rattle.nm_io.specs.Held.{grown};
 
 use crate::Failed;
 
-/// Takes bytes, one behind the other.
+/// A stream that bytes are appended to.
 pub trait Sink {
-    // what it has taken so far, where it tells
+    /// What it has taken so far, if it tells.
     ghost holds: { Self → Option (List ℕ) };
 
-    // how many calls failed; once at its greatest value it stays there
+    /// How many calls failed, up to 2^64 - 1.
     ghost faults: { Self → ℕ };
 
-    /// Takes some of the bytes from the first on, and says how many: at least one, where there is
+    /// Appends some of `bytes`, from the first on, and returns how many: at least one, if there is
     /// any.
     fn put(&mut self, bytes: &[u8]) -> Result<usize, Failed>
         ensures within { IfOk result (λ n. n ≤ length bytes.now) }
         ensures moves { IfOk result (λ n. 0 < length bytes.now → 0 < n) }
-        ensures grown { IfOk result (λ n. holds self.new ≡ grown (holds self.old) (take n bytes.now)) }
+        ensures grown { IfOk result (λ n.
+            holds self.new ≡ grown (holds self.old) (take n bytes.now)) }
         ensures err { OnErr result (holds self.new ≡ holds self.old) }
         ensures later { faults self.old ≤ faults self.new }
         ensures cause { OnErr result (Rose (faults self.old) (faults self.new)) };

@@ -1,36 +1,28 @@
-ghost use Rattle.std.specs.Prelude.{◌≡◌, ℕ, None};
+ghost use Rattle.std.specs.Prelude.{None};
 
-use crate::{Failed, Sink};
-use std::io::ErrorKind;
+use crate::{RawSink, RawWrite};
+use std::io;
 
-/// Standard output. It does not tell what it holds.
+/// Standard output, written by a runtime. It does not tell what was written.
 #[derive(Drop)]
-pub struct StdSink<R: Print + Drop> {
+pub struct Printed<R: Print + Drop> {
     rt: R,
-    faults: u64,
 }
 
-impl<R: Print + Drop> StdSink<R> {
-    /// Writes by this runtime, as by `&rt` of `main`.
-    pub fn new(rt: R) -> Self {
-        StdSink { rt, faults: 0 }
+impl<R: Print + Drop> RawWrite for Printed<R> {
+    ghost written = { λ _. None };
+
+    fn write_once(&mut self, bytes: &[u8]) -> io::Result<usize> {
+        self.rt.write_some(bytes)
     }
 }
 
-impl<R: Print + Drop> Sink for StdSink<R> {
-    ghost holds = { λ _. None };
+/// A sink that is standard output.
+pub type StdSink<R> = RawSink<Printed<R>>;
 
-    ghost faults = { λ s. s.faults };
-
-    fn put(&mut self, bytes: &[u8]) -> Result<usize, Failed> {
-        for _ in 0..u64::MAX {
-            match self.rt.write_some(bytes) {
-                Ok(count) if count > 0 || bytes.is_empty() => return Ok(count),
-                Err(error) if error.kind() == ErrorKind::Interrupted => {}
-                _ => break,
-            }
-        }
-        self.faults = self.faults.saturating_add(1);
-        Err(Failed)
+impl<R: Print + Drop> RawSink<Printed<R>> {
+    /// Standard output by the runtime `rt`, as `&rt` of `main`.
+    pub fn new(rt: R) -> Self {
+        RawSink::over(Printed { rt })
     }
 }

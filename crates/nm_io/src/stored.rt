@@ -1,4 +1,4 @@
-//! Files in a map.
+//! Files in a map, by their names.
 ghost use Rattle.std.specs.Prelude.{◌≡◌, OnOk, OnErr};
 ghost use Rattle.std.specs.Option.{option_map};
 ghost use Rattle.nm_io.specs.Files.{appended, replaced};
@@ -8,9 +8,10 @@ use nm_types::NoMemory;
 use std::alloc::Global;
 use std::collections::BTreeMap;
 
+/// The contents of files by their names.
 pub(crate) type Stored = BTreeMap<String, Vec<u8>>;
 
-/// The contents of one file.
+/// Returns the contents of one file.
 #[tactic(auto, using(std::proofs::lemmas::Map::Text::text_keys))]
 pub(crate) fn contents<'a>(stored: &'a Stored, name: &str) -> Option<&'a [u8]>
     ensures { option_map (λ f. f.now) result ≡ files_in stored.now name.now }
@@ -29,7 +30,8 @@ pub(crate) fn replace(
     name: &str,
     bytes: &[u8],
 ) -> Result<(), NoMemory>
-    ensures ok { OnOk result (files_in stored.new ≡ replaced (files_in stored.old) name.now bytes.now) }
+    ensures ok { OnOk result
+        (files_in stored.new ≡ replaced (files_in stored.old) name.now bytes.now) }
     ensures err { OnErr result (files_in stored.new ≡ files_in stored.old) }
 {
     let key = String::from_str(alloc, name)?;
@@ -38,7 +40,7 @@ pub(crate) fn replace(
     Ok(())
 }
 
-/// Adds bytes at the end of one file.
+/// Appends bytes to one file.
 #[tactic(auto, using(std::proofs::lemmas::Map::Text::text_keys))]
 pub(crate) fn extend(
     alloc: Global,
@@ -46,7 +48,8 @@ pub(crate) fn extend(
     name: &str,
     bytes: &[u8],
 ) -> Result<(), NoMemory>
-    ensures ok { OnOk result (files_in stored.new ≡ appended (files_in stored.old) name.now bytes.now) }
+    ensures ok { OnOk result
+        (files_in stored.new ≡ appended (files_in stored.old) name.now bytes.now) }
     ensures err { OnErr result (files_in stored.new ≡ files_in stored.old) }
 {
     match stored.get_mut(name) {

@@ -1,9 +1,11 @@
-ghost use Rattle.std.specs.Prelude.{[], ◌∷◌};
+ghost use Rattle.std.specs.Prelude.{[], ◌∷◌, Some};
 
 use super::*;
-use std::fs;
+use std::io::ErrorKind;
 use std::test::Fail;
+use std::{fs, io};
 
+/// A script of two lines.
 const SCRIPT: &[u8; 14] = b"user a\nuser b\n";
 
 #[test]
@@ -69,6 +71,7 @@ fn reads_whole_files_within_the_limit(rt: HostRuntime) -> Result<(), Fail> {
     Ok(())
 }
 
+/// A text of one byte three times.
 #[derive(Clone, Copy)]
 struct Word(u8);
 
@@ -94,6 +97,45 @@ fn texts_go_out_by_pages(rt: HostRuntime) -> Result<(), Fail> {
         assert_eq!(rt; page.bytes().len(), 0);
         assert_eq!(rt; sink.put(b"d"), Err(Failed), "pages of {size} bytes");
     }
+    Ok(())
+}
+
+/// A writer that is interrupted at every other call, and else takes at most two bytes.
+#[derive(Drop)]
+struct ShortWriter {
+    bytes: Vec<u8>,
+    interrupted: bool,
+}
+
+impl RawWrite for ShortWriter {
+    ghost written = { λ w. Some w.bytes.items };
+
+    fn write_once(&mut self, bytes: &[u8]) -> io::Result<usize> {
+        self.interrupted = !self.interrupted;
+        if self.interrupted {
+            return Err(io::Error::from(ErrorKind::Interrupted));
+        }
+        let count = bytes.len().min(2);
+        match self.bytes.extend_from_slice(&bytes[..count]) {
+            Ok(()) => Ok(count),
+            Err(_) => Err(io::Error::from(ErrorKind::OutOfMemory)),
+        }
+    }
+}
+
+#[test]
+fn short_writes_are_continued(rt: HostRuntime) -> Result<(), Fail> {
+    let bytes = Vec::new(rt.alloc());
+    let mut sink = RawSink::over(ShortWriter {
+        bytes,
+        interrupted: false,
+    });
+    assert_eq!(rt; sink.put(b"abc"), Ok(2));
+    assert_eq!(rt; put_all(&mut sink, SCRIPT), Ok(()));
+    assert_eq!(rt;
+        sink.raw().bytes.as_slice(),
+        b"abuser a\nuser b\n".as_slice()
+    );
     Ok(())
 }
 

@@ -5,20 +5,22 @@ ghost use Rattle.nm_io.specs.Held.{Writes};
 
 use crate::{Failed, Page, Sink, put_page};
 
-/// Something that writes itself as bytes.
+/// A value that writes itself as bytes.
 pub trait Text {
-    // the bytes that it writes
+    /// The bytes that it writes.
     ghost text: { Self → List ℕ };
 
+    /// Writes the bytes. If it fails, a prefix was written.
     fn write<K: Sink>(&self, out: &mut K) -> Result<(), Failed>
         ensures writes { Writes (K.holds out.old) (K.holds out.new) result (text self.now) }
         ensures later { K.faults out.old ≤ K.faults out.new }
         ensures cause { OnErr result (Rose (K.faults out.old) (K.faults out.new)) };
 }
 
-/// Writes a text on a page, if it fits there.
+/// Writes a text on a page, if it fits there, and tells whether it did.
 fn gather<T: Text>(page: &mut Page, text: &T) -> bool
-    ensures { page.new.bytes ≡ (if result then page.old.bytes ++ T.text text.now else page.old.bytes) }
+    ensures { page.new.bytes
+        ≡ (if result then page.old.bytes ++ T.text text.now else page.old.bytes) }
 {
     let before = page.bytes().len();
     let fits = text.write(page).is_ok();
@@ -28,11 +30,13 @@ fn gather<T: Text>(page: &mut Page, text: &T) -> bool
     fits
 }
 
-/// Writes a text by way of a page, whose bytes go out once the text does not fit behind them. A text
-/// that does not fit on an empty page goes out by itself. At the end write the page.
+/// Writes a text by way of a page, which is written and emptied if the text does not fit on it. A
+/// text that does not fit on an empty page is written by itself. `put_page` writes what is left at
+/// the end.
 #[tactic(auto, using(crate::proofs::Gathering::by_page))]
 pub fn put_text<K: Sink, T: Text>(out: &mut K, page: &mut Page, text: &T) -> Result<(), Failed>
-    ensures gathers { Gathers (K.holds out.old) (K.holds out.new) page.old.bytes page.new.bytes result (T.text text.now) }
+    ensures gathers { Gathers (K.holds out.old) (K.holds out.new)
+        page.old.bytes page.new.bytes result (T.text text.now) }
     ensures later { K.faults out.old ≤ K.faults out.new }
     ensures cause { OnErr result (Rose (K.faults out.old) (K.faults out.new)) }
 {

@@ -7,10 +7,10 @@ ghost use Rattle.nm_io.specs.Whole.{Blames};
 use crate::{Failed, ReadError, Shelf, Sink};
 use std::alloc::Global;
 
-/// How many bytes one call reads.
-const PART: usize = 8192;
+/// The most bytes that one call reads.
+const PART: usize = 65_536;
 
-/// Writes all the bytes, in as many calls as the sink needs.
+/// Writes all of `bytes`, in as many calls as the sink needs. If it fails, a prefix was written.
 #[tactic(auto, using(crate::proofs::Growth::growth))]
 pub fn put_all<K: Sink>(out: &mut K, bytes: &[u8]) -> Result<(), Failed>
     ensures writes { Writes (K.holds out.old) (K.holds out.new) result bytes.now }
@@ -24,14 +24,17 @@ pub fn put_all<K: Sink>(out: &mut K, bytes: &[u8]) -> Result<(), Failed>
     Ok(())
 }
 
-/// Adds all the bytes at the end of a file, in as many calls as the shelf needs, and makes the file
-/// where it was not there.
+/// Appends all of `bytes` to a file, in as many calls as the shelf needs, and makes the file if
+/// there is none. If it fails, a prefix was appended.
 #[tactic(auto, using(crate::proofs::Appending::appending))]
 pub fn append_all<S: Shelf>(shelf: &mut S, name: &str, bytes: &[u8]) -> Result<(), Failed>
     ensures appends { Appends (S.files shelf.old) (S.files shelf.new) name.now result bytes.now }
-    ensures reads_later { (other : List ℕ) → S.read_faults shelf.old other ≤ S.read_faults shelf.new other }
-    ensures appends_later { (other : List ℕ) → S.append_faults shelf.old other ≤ S.append_faults shelf.new other }
-    ensures cause { OnErr result (Rose (S.append_faults shelf.old name.now) (S.append_faults shelf.new name.now)) }
+    ensures reads_later { (other : List ℕ) →
+        S.read_faults shelf.old other ≤ S.read_faults shelf.new other }
+    ensures appends_later { (other : List ℕ) →
+        S.append_faults shelf.old other ≤ S.append_faults shelf.new other }
+    ensures cause { OnErr result
+        (Rose (S.append_faults shelf.old name.now) (S.append_faults shelf.new name.now)) }
 {
     let mut done = shelf.append(name, bytes)?;
     while done < bytes.len() {
@@ -40,7 +43,7 @@ pub fn append_all<S: Shelf>(shelf: &mut S, name: &str, bytes: &[u8]) -> Result<(
     Ok(())
 }
 
-/// Reads a file whole, if it has at most `limit` bytes.
+/// Reads a whole file of at most `limit` bytes.
 #[tactic(auto, using(crate::proofs::Parts::parts))]
 pub fn read_all<S: Shelf>(
     alloc: Global,
@@ -48,13 +51,16 @@ pub fn read_all<S: Shelf>(
     name: &str,
     limit: u64,
 ) -> Result<Vec<u8>, ReadError>
-    ensures ok { IfOk result (λ v. IfSome (S.files shelf.old) (λ all. all name.now ≡ Some v.items)) }
+    ensures ok { IfOk result (λ v.
+        IfSome (S.files shelf.old) (λ all. all name.now ≡ Some v.items)) }
     ensures short { IfOk result (λ v. length v.items ≤ limit) }
     ensures err { IfErr result (Blames (S.files shelf.old) name.now limit
         (S.read_faults shelf.old name.now) (S.read_faults shelf.new name.now)) }
     ensures files { S.files shelf.new ≡ S.files shelf.old }
-    ensures reads_later { (other : List ℕ) → S.read_faults shelf.old other ≤ S.read_faults shelf.new other }
-    ensures appends_later { (other : List ℕ) → S.append_faults shelf.old other ≤ S.append_faults shelf.new other }
+    ensures reads_later { (other : List ℕ) →
+        S.read_faults shelf.old other ≤ S.read_faults shelf.new other }
+    ensures appends_later { (other : List ℕ) →
+        S.append_faults shelf.old other ≤ S.append_faults shelf.new other }
 {
     let mut contents = Vec::new(alloc);
     let mut room = [0; PART];

@@ -3,20 +3,20 @@ use Rattle.std.proofs.Common.{ℕ, ◌≡◌, ◌+◌, ◌<◌, List, [], ◌∷
 use Rattle.std.specs.Option.{option_to_list}
 use Rattle.std.proofs.lemmas.List.{take_more_set, drop-set-lt, drop_more, take-append-drop}
 use Rattle.nm_region.specs.Buffers.{Buffer}
-use Rattle.nm_pool.specs.Kept.{kept}
-use Rattle.nm_pool.proofs.Keeping.{kept-append}
+use Rattle.nm_pool.specs.Kept.{buffers_in}
+use Rattle.nm_pool.proofs.Keeping.{buffers_in-append}
 
 -- the places before one that has been emptied, and those behind it
-pub kept_before : (places : List (Option Buffer)) (i : ℕ) → i < length places → kept (take i places) ≡ [] → kept (take (i + 1) (slice_set places i None)) ≡ []
-kept_before places i h e = rw (take_more_set places i None h, kept-append (take i places) (None ∷ []), e) refl
+pub kept_before : (places : List (Option Buffer)) (i : ℕ) → i < length places → buffers_in (take i places) ≡ [] → buffers_in (take (i + 1) (slice_set places i None)) ≡ []
+kept_before places i h e = rw (take_more_set places i None h, buffers_in-append (take i places) (None ∷ []), e) refl
 
 pub kept_behind : (places : List (Option Buffer)) (i : ℕ) (x : Option Buffer) → i < length places → x ≡ get_or places i x
-    → kept (drop i places) ≡ option_to_list x ++ kept (drop (i + 1) (slice_set places i None))
+    → buffers_in (drop i places) ≡ option_to_list x ++ buffers_in (drop (i + 1) (slice_set places i None))
 kept_behind places i x h e = rw (drop_more places i x h, ← e, drop-set-lt (i + 1) places i None (omega arith)) (of_first x (drop (i + 1) places))
   where
-    of_first : (o : Option Buffer) (others : List (Option Buffer)) → kept (o ∷ others) ≡ option_to_list o ++ kept others
+    of_first : (o : Option Buffer) (others : List (Option Buffer)) → buffers_in (o ∷ others) ≡ option_to_list o ++ buffers_in others
     of_first None others = refl
     of_first (Some b) others = refl
 
-pub kept_left : (places : List (Option Buffer)) (i : ℕ) → kept (take i places) ≡ [] → kept places ≡ kept (drop i places)
-kept_left places i e = ap kept (sym (take-append-drop i places)) ∙ (kept-append (take i places) (drop i places) ∙ ap (λ (front : List Buffer). front ++ kept (drop i places)) e)
+pub kept_left : (places : List (Option Buffer)) (i : ℕ) → buffers_in (take i places) ≡ [] → buffers_in places ≡ buffers_in (drop i places)
+kept_left places i e = ap buffers_in (sym (take-append-drop i places)) ∙ (buffers_in-append (take i places) (drop i places) ∙ ap (λ (front : List Buffer). front ++ buffers_in (drop i places)) e)

@@ -3,10 +3,10 @@ use Rattle.std.specs.Prelude.{ℕ, ◌≡◌, suc, List, [], ◌∷◌, Option, 
 use Rattle.nm_region.specs.Buffers.{Buffer}
 
 -- the buffers that stand in the places, in order
-abbrev pub kept : List (Option Buffer) → List Buffer
-kept [] = []
-kept (None ∷ places) = kept places
-kept (Some b ∷ places) = b ∷ kept places
+abbrev pub buffers_in : List (Option Buffer) → List Buffer
+buffers_in [] = []
+buffers_in (None ∷ places) = buffers_in places
+buffers_in (Some b ∷ places) = b ∷ buffers_in places
 
 -- no place has another buffer than that of its index, which is `index` for the first place
 abbrev pub ArePlaced : ℕ → List (Option Buffer) → Type 0

@@ -4,8 +4,8 @@
 
 ghost use Rattle.nm_pool.specs.Laws.{TakingLosesNone, AnyOutCanBeGiven, GivingLosesNone, NoneOutIsWhole};
 
-/// The buffers that are out and the free ones stay all buffers of the pool, each once, when some are
-/// taken and when one is given back.
+/// The buffers that are out and the free ones stay all buffers of the pool, each once, when some
+/// are taken and when one is given back.
 pub fn no_buffer_is_lost()
     ensures taking { TakingLosesNone }
     ensures giving { GivingLosesNone }

@@ -3,7 +3,7 @@ ghost use Rattle.nm_types.specs.Buffers.{IsPoolSize, IsBufferIndex};
 ghost use Rattle.nm_region.specs.Buffers.{indices_of};
 ghost use Rattle.std.specs.Vec.{vec_capacity};
 ghost use Rattle.nm_pool.specs.Free.{with_buffer, AreWhole, IsPool};
-ghost use Rattle.nm_pool.specs.Kept.{kept, ArePlaced};
+ghost use Rattle.nm_pool.specs.Kept.{buffers_in, ArePlaced};
 
 use nm_region::Buf;
 use nm_types::NoMemory;
@@ -15,7 +15,7 @@ use std::marker::Model;
 pub enum TakeFault {
     /// Fewer buffers are free than are wanted.
     NoBuffers { want: u32, have: u32 },
-    /// Memory was wanting.
+    /// Out of memory.
     NoMemory,
 }
 
@@ -42,10 +42,10 @@ impl Model for Pool {
 
     ghost Value = { PoolState };
 
-    ghost use Rattle.nm_pool.specs.Kept.{kept};
+    ghost use Rattle.nm_pool.specs.Kept.{buffers_in};
     ghost use Rattle.nm_pool.specs.Stored.{IsStored};
 
-    ghost view = { λ p. record { buffers = length p.places.items; free = kept p.places.items } };
+    ghost view = { λ p. record { buffers = length p.places.items; free = buffers_in p.places.items } };
 
     ghost invariant = { IsStored };
 }
@@ -53,8 +53,8 @@ impl Model for Pool {
 impl Pool {
     ghost use Rattle.nm_pool.specs.Taking.{IsShort};
 
-    /// A pool whose buffers are all free. Its buffers come back from `close` in the vector that is
-    /// given here, and `NoMemory` gives that vector back at once.
+    /// A pool whose buffers are all free. `close` gives them back in the vector that is passed here,
+    /// and so does `NoMemory` at once.
     pub fn new(alloc: Global, mut bufs: Vec<Buf>) -> Result<Pool, (NoMemory, Vec<Buf>)>
         requires size { IsPoolSize (length bufs.items) }
         requires whole { AreWhole bufs.items }
@@ -85,8 +85,8 @@ impl Pool {
         self.free
     }
 
-    /// The `n` free buffers of the smallest indices, rising. `NoBuffers` says how many are free where
-    /// these are fewer.
+    /// Takes the `n` free buffers of the smallest indices, rising. `NoBuffers` says how many are
+    /// free if these are fewer.
     pub fn take(&mut self, alloc: Global, n: u32) -> Result<Vec<Buf>, TakeFault>
         ensures taken { IfOk result (λ bufs.
             (n ≤ length self.old.free) × (bufs.items ≡ take n self.old.free)) }
@@ -120,7 +120,7 @@ impl Pool {
         }
     }
 
-    /// The buffers, rising, in the vector that the pool was made of.
+    /// Gives back all buffers, rising, in the vector that the pool was made of.
     pub fn close(self) -> Vec<Buf>
         requires { length self.free ≡ self.buffers }
         ensures buffers { result.items ≡ self.free }
@@ -142,14 +142,15 @@ impl Pool {
     }
 }
 
-// Moves the first `n` buffers out of their places.
+/// Moves the first `n` buffers out of their places.
 fn take_first(places: &mut Vec<Option<Buf>>, taken: &mut Vec<Buf>, n: usize)
-    requires enough { n ≤ length (kept places.old.items) }
+    requires enough { n ≤ length (buffers_in places.old.items) }
     requires room { n ≤ vec_capacity taken.old }
     requires none { taken.old.items ≡ [] }
-    ensures taken { taken.new.items ≡ take n (kept places.old.items) }
-    ensures left { kept places.new.items ≡ drop n (kept places.old.items) }
-    ensures placed { (index : ℕ) → ArePlaced index places.old.items → ArePlaced index places.new.items }
+    ensures taken { taken.new.items ≡ take n (buffers_in places.old.items) }
+    ensures left { buffers_in places.new.items ≡ drop n (buffers_in places.old.items) }
+    ensures placed { (index : ℕ)
+        → ArePlaced index places.old.items → ArePlaced index places.new.items }
     ensures count { length places.new.items ≡ length places.old.items }
 {
     let mut at = 0;

@@ -8,7 +8,7 @@ use std::alloc::Global;
 use std::process::Abort;
 use std::test::Fail;
 
-// Takes buffers out, behind those that are out.
+/// Takes `n` buffers out, behind those that are out.
 #[tactic(auto, using(crate::proofs::Out::pool_laws))]
 fn take_out(region: &Region, pool: &mut Pool, out: &mut Vec<Buf>, n: u32) -> Result<(), TakeFault>
     requires { AreOut region.now out.old.items pool.old }
@@ -23,7 +23,7 @@ fn take_out(region: &Region, pool: &mut Pool, out: &mut Vec<Buf>, n: u32) -> Res
     Ok(())
 }
 
-// Gives one of the buffers that are out back.
+/// Gives one of the buffers that are out back.
 fn give_at(region: &Region, pool: &mut Pool, out: &mut Vec<Buf>, at: usize)
     requires there { at < length out.old.items }
     requires out { AreOut region.now out.old.items pool.old }

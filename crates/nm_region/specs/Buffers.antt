@@ -2,11 +2,16 @@
 use Rattle.std.specs.Prelude.{ℕ, List, ◌++◌, length, take, drop, map, IsPermutation}
 use Rattle.std.specs.List.{range_with_len}
 use Rattle.nm_types.specs.Buffers.{cleared}
+use denote.RawPtr.{Ptr, block_of}
 
 pub record Buffer : Type 0 where
   pub region : ℕ
   pub index : ℕ
   pub bytes : List ℕ
+
+-- the number of a region: that of the block of memory that it owns, which no other region has
+abbrev pub region_of : Ptr → ℕ
+region_of block = block_of block
 
 -- the bytes `old` once `bytes`, which are as many, have been written over them
 abbrev pub written_over : List ℕ → List ℕ → List ℕ
@@ -15,7 +20,7 @@ written_over old bytes = take (length old) (bytes ++ drop (length bytes) old)
 abbrev pub with_bytes : Buffer → List ℕ → Buffer
 with_bytes buffer bytes = record buffer { bytes = written_over buffer.bytes bytes }
 
--- a region as contracts see it: what its buffers know it by, and how many they are
+-- a region as contracts see it: its number, which its buffers know, and how many they are
 pub record RegionState : Type 0 where
   pub region : ℕ
   pub buffers : ℕ

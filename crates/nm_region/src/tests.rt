@@ -4,7 +4,7 @@ ghost use Rattle.nm_region.specs.Buffers.{names_of};
 use crate::{Buf, Region};
 use std::test::Fail;
 
-// Sets the first byte of a buffer.
+/// Sets the first byte of a buffer.
 #[tactic(auto, using(crate::proofs::Named::named))]
 fn mark(bufs: &mut Vec<Buf>, at: usize, byte: u8)
     requires { at < length bufs.old.items }

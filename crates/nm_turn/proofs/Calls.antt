@@ -1,12 +1,13 @@
 -- What the steps of a call tell together.
-use Rattle.std.proofs.Common.{◌≡◌, ℕ, ◌+◌, ◌-◌, ◌≤◌, Bool, true, false, List, [], ◌∷◌, ◌++◌, length, slice_get, Some, refl, sym, ap, ◌∙◌, subst, ⊎_elim, arith, append-nil}
+use Rattle.std.proofs.Common.{◌≡◌, ℕ, ◌+◌, ◌-◌, ◌≤◌, Bool, true, false, List, [], ◌∷◌, ◌++◌, length, slice_get, Some, refl, sym, ap, ◌∙◌, subst, inl, inr, ⊎_elim, arith, append-nil}
 use mathlib.Core.List.{IsPrefix}
 use Rattle.std.proofs.lemmas.Option.{slice_get_within}
 use Rattle.nm_turn.specs.declared.view.PassView.{PassView}
-use Rattle.nm_turn.specs.Numbered.{numbered, Stands}
+use Rattle.nm_turn.specs.Numbered.{numbered, Stands, IsPicked}
 use Rattle.nm_turn.specs.Passes.{Knows, Told, longer, new_since}
 use Rattle.nm_turn.specs.Turns.{AddsOne}
-use Rattle.nm_turn.proofs.Prefixes.{prefix_trans, prefix_length, prefix_get, longer-begins, no_root-begins, get_joined, get_right, numbered-get, numbered-Stands, new_since-more}
+use Rattle.nm_turn.proofs.Prefixes.{prefix_trans, prefix_length, prefix_get, longer-begins, no_root-begins, get_joined, get_right, numbered-get, numbered-Stands, numbered-append, new_since-more}
+use Rattle.nm_turn.proofs.Joining.{picked_more}
 
 -- what two passes know of one history, they know of the longer of what they saw
 pub known_both : {E : Type 0} (root : E → ℕ → ℕ) (history xs ys : List E) (m n : List (ℕ × E)) → Knows root history xs m → Knows root history ys n → Knows root (longer xs ys) xs m × Knows root (longer xs ys) ys n
@@ -20,6 +21,32 @@ known_both root history xs ys m n k l =
 pub new_since-same : {E : Type 0} (before after : List E) → after ≡ before → new_since before after ≡ []
 new_since-same before after e = ap (new_since before) (e ∙ sym (append-nil before)) ∙ new_since-more before []
 
+picked_self : {X : Type 0} (xs : List X) → IsPicked xs xs
+picked_self [] = tt
+picked_self (x ∷ xs) = inl (refl, picked_self xs)
+
+picked_behind : {X : Type 0} (ys zs : List X) → IsPicked zs (ys ++ zs)
+picked_behind [] zs = picked_self zs
+picked_behind (y ∷ ys) [] = tt
+picked_behind (y ∷ ys) (z ∷ zs) = inr (picked_behind ys (z ∷ zs))
+
+-- what is picked of a list is picked of what goes on, with all that is new
+picked_both : {X : Type 0} (xs ys zs : List X) → IsPicked xs ys → IsPicked (xs ++ zs) (ys ++ zs)
+picked_both [] ys zs p = picked_behind ys zs
+picked_both (x ∷ xs) [] zs p = absurd p
+picked_both (x ∷ xs) (y ∷ ys) zs p = ⊎_elim (λ (t : (x ≡ y) × IsPicked xs ys). inl (t.0, picked_both xs ys zs t.1)) (λ (t : IsPicked (x ∷ xs) ys). inr (picked_both (x ∷ xs) ys zs t)) p
+
+-- a pass's own entries are among those that it has seen
+picked_left : {E F : Type 0} (root : E → ℕ → ℕ) (v w : PassView E F) (before more : List E) → Knows root before v.seen v.mine → w.seen ≡ before ++ more → w.mine ≡ v.mine ++ new_since before (before ++ more)
+    → IsPicked w.mine (numbered 1 w.seen)
+picked_left {E} root v w before more k seen mine =
+    let news : List (ℕ × E) = numbered (1 + length before) more in
+    let own : w.mine ≡ v.mine ++ news = mine ∙ ap (λ (l : List (ℕ × E)). v.mine ++ l) (new_since-more before more) in
+    let all : numbered 1 w.seen ≡ numbered 1 before ++ news = ap (numbered 1) seen ∙ numbered-append 1 before more in
+    let longer_seen : numbered 1 v.seen ++ numbered (1 + length v.seen) k.begins.0 ≡ numbered 1 before = sym (numbered-append 1 v.seen k.begins.0) ∙ ap (numbered 1) k.begins.1 in
+    let in_before : IsPicked v.mine (numbered 1 before) = subst (IsPicked v.mine) longer_seen (picked_more v.mine (numbered 1 v.seen) (numbered (1 + length v.seen) k.begins.0) k.stands) in
+    subst (λ (t : List (ℕ × E) × List (ℕ × E)). IsPicked t.0 t.1) (λ i. (sym own i, sym all i)) (picked_both v.mine (numbered 1 before) news in_before)
+
 -- what a call tells that ends with the history `before` and more
 pub told_more : {E F : Type 0} (root : E → ℕ → ℕ) (v w : PassView E F) (before more : List E) → Knows root before v.seen v.mine → w.seen ≡ before ++ more → w.part ≡ v.part → w.mine ≡ v.mine ++ new_since before (before ++ more)
     → Told root v w (before ++ more) (new_since before (before ++ more))
@@ -31,6 +58,7 @@ told_more {E} root v w before more k seen part mine =
       seen = seen;
       part = part;
       mine = mine;
+      picked = picked_left root v w before more k seen mine;
       stand = λ i number e h.
           let t = numbered-get (1 + length before) more i number e (ap (λ (l : List (ℕ × E)). slice_get l i) (sym is) ∙ h) in
           let n = t.0 in

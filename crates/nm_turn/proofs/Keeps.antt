@@ -13,8 +13,8 @@ use Rattle.atomic_table.proofs.Lists.{at_set, set_here, set_else, set_again, at_
 use Rattle.std.proofs.lemmas.Option.{slice_get_within}
 use Rattle.nm_turn.specs.declared.view.Share.{Share}
 use Rattle.nm_turn.specs.declared.view.Known.{Known}
-use Rattle.nm_turn.specs.declared.view.Stage.{Stage}
-use Rattle.nm_turn.specs.declared.view.Stage.TheVariants.{Outside, Inside, Out, Joining}
+use Rattle.nm_turn.specs.declared.view.TurnStage.{TurnStage}
+use Rattle.nm_turn.specs.declared.view.TurnStage.TheVariants.{Outside, Inside, Out, Joining}
 use Rattle.nm_turn.specs.declared.view.PassView.{PassView}
 use Rattle.nm_turn.specs.Numbered.{numbered, owned, merged, Stands, IsPicked}
 use Rattle.nm_turn.specs.Shares.{IsWhole, AddUp, nothing, half, both_parts}
@@ -75,23 +75,23 @@ module _ {V : Type 0} where
 
 module _ {E : Type 0} where
   -- what one view knows of the turn
-  abbrev pub At : Option ℕ → Bool → List E → ℕ → Stage E → Type 0
+  abbrev pub At : Option ℕ → Bool → List E → ℕ → TurnStage E → Type 0
   At holder out history j stage = IsHolderAt holder j stage × HoldsAt out history stage
 
   -- the others, where the turn is taken, kept or given up
-  others_take : (holder : Option ℕ) (out : Bool) (history : List E) (id j : ℕ) (stage : Stage E) → holder ≡ None → j ≢ id → At holder out history j stage → At (Some id) out history j stage
+  others_take : (holder : Option ℕ) (out : Bool) (history : List E) (id j : ℕ) (stage : TurnStage E) → holder ≡ None → j ≢ id → At holder out history j stage → At (Some id) out history j stage
   others_take holder out history id j Outside e ne a = ((λ h. let i : id ≡ j = cc h in ne (sym i)), tt)
   others_take holder out history id j (Inside h) e ne a = not_none holder j e a.0
   others_take holder out history id j (Out h) e ne a = not_none holder j e a.0
   others_take holder out history id j (Joining k l) e ne a = ((λ h. let i : id ≡ j = cc h in ne (sym i)), tt)
 
-  others_keep : (holder : Option ℕ) (out out' : Bool) (history history' : List E) (id j : ℕ) (stage : Stage E) → holder ≡ Some id → j ≢ id → At holder out history j stage → At holder out' history' j stage
+  others_keep : (holder : Option ℕ) (out out' : Bool) (history history' : List E) (id j : ℕ) (stage : TurnStage E) → holder ≡ Some id → j ≢ id → At holder out history j stage → At holder out' history' j stage
   others_keep holder out out' history history' id j Outside e ne a = (a.0, tt)
   others_keep holder out out' history history' id j (Inside h) e ne a = not_two holder id j ne e a.0
   others_keep holder out out' history history' id j (Out h) e ne a = not_two holder id j ne e a.0
   others_keep holder out out' history history' id j (Joining k l) e ne a = (a.0, tt)
 
-  others_release : (holder : Option ℕ) (out out' : Bool) (history : List E) (id j : ℕ) (stage : Stage E) → holder ≡ Some id → j ≢ id → At holder out history j stage → At None out' history j stage
+  others_release : (holder : Option ℕ) (out out' : Bool) (history : List E) (id j : ℕ) (stage : TurnStage E) → holder ≡ Some id → j ≢ id → At holder out history j stage → At None out' history j stage
   others_release holder out out' history id j Outside e ne a = ((λ h. cc h), tt)
   others_release holder out out' history id j (Inside h) e ne a = not_two holder id j ne e a.0
   others_release holder out out' history id j (Out h) e ne a = not_two holder id j ne e a.0
@@ -115,12 +115,12 @@ module _ {B E F : Type 0} (entries : B → List E) (fixed_of : B → F) (root : 
   Live v = (v.fixed ≡ Some same) × (0 < v.part.share)
 
   -- a step of one view that leaves the history, its part and its entries
-  moved : (s : S) (r : Rule s) (id : ℕ) (v : V) (seen' : List E) (stage' : Stage E) (words' : List ℕ) (homes' : List (maybe.Option (Option B))) (holder' : Option ℕ) (out' : Bool)
+  moved : (s : S) (r : Rule s) (id : ℕ) (v : V) (seen' : List E) (stage' : TurnStage E) (words' : List ℕ) (homes' : List (maybe.Option (Option B))) (holder' : Option ℕ) (out' : Bool)
       → get_elem? s.views id ≡ some v → Live v → length words' ≡ 2
       → MatchOption holder' (get_or words' 0 0 ≡ 0) (λ j. (get_or words' 0 0 ≡ 1) × (j < length s.views)) → get_or words' 1 0 ≡ get_or s.words 1 0
       → ((b : B) → get_elem? homes' 0 ≡ some (some (Some b)) → (entries b ≡ r.history) × (fixed_of b ≡ same))
       → (holder' ≡ None → out' ≡ false) → (out' ≡ false → (b : B) × (get_elem? homes' 0 ≡ some (some (Some b)))) → (out' ≡ true → get_elem? homes' 0 ≡ some none)
-      → At holder' out' r.history id stage' → ((j : ℕ) (u : Stage E) → j ≢ id → At r.holder r.out r.history j u → At holder' out' r.history j u)
+      → At holder' out' r.history id stage' → ((j : ℕ) (u : TurnStage E) → j ≢ id → At r.holder r.out r.history j u → At holder' out' r.history j u)
       → IsPrefix seen' r.history → length v.seen ≤ length seen' → Learns root r.history seen' v.mine stage'
       → Rule record { words = words'; homes = homes'; views = set s.views id (record v { seen = seen'; stage = stage' }) }
   moved s r id v seen' stage' words' homes' holder' out' at live wide held count home free there gone turn others pre le learn =
@@ -161,8 +161,8 @@ module _ {B E F : Type 0} (entries : B → List E) (fixed_of : B → F) (root : 
       }
 
   -- the holder of the turn
-  holds_turn : (s : S) (r : Rule s) (id : ℕ) (v : V) (stage : Stage E) → get_elem? s.views id ≡ some v → v.stage ≡ stage → At r.holder r.out r.history id stage
-  holds_turn s r id v stage at is = subst (λ (st : Stage E). At r.holder r.out r.history id st) is (r.one_holder.1 id v at, r.holder_only.3 id v at)
+  holds_turn : (s : S) (r : Rule s) (id : ℕ) (v : V) (stage : TurnStage E) → get_elem? s.views id ≡ some v → v.stage ≡ stage → At r.holder r.out r.history id stage
+  holds_turn s r id v stage at is = subst (λ (st : TurnStage E). At r.holder r.out r.history id st) is (r.one_holder.1 id v at, r.holder_only.3 id v at)
 
   -- the word of a turn that is held
   held_word : (s : S) (r : Rule s) (id : ℕ) → r.holder ≡ Some id → (get_or s.words 0 0 ≡ 1) × (id < length s.views)
@@ -338,7 +338,7 @@ module _ {B E F : Type 0} (entries : B → List E) (fixed_of : B → F) (root : 
   knows_push : (history : List E) (seen : List E) (mine : List (ℕ × E)) (e : E) → ¬ Stands (root e (length history + 1)) mine → Knows root history seen mine → Knows root (history ++ e ∷ []) seen mine
   knows_push history seen mine e not k = record { begins = prefix_push seen history e k.begins; no_root = no_root-push root seen history mine e not k.no_root; together = together_push history mine e not k.together; stands = k.stands }
 
-  learns_push : (history seen : List E) (mine : List (ℕ × E)) (stage : Stage E) (e : E) → ¬ Stands (root e (length history + 1)) mine → Learns root history seen mine stage → Learns root (history ++ e ∷ []) seen mine stage
+  learns_push : (history seen : List E) (mine : List (ℕ × E)) (stage : TurnStage E) (e : E) → ¬ Stands (root e (length history + 1)) mine → Learns root history seen mine stage → Learns root (history ++ e ∷ []) seen mine stage
   learns_push history seen mine Outside e not k = tt
   learns_push history seen mine (Inside h) e not k = tt
   learns_push history seen mine (Out h) e not k = tt
@@ -497,8 +497,8 @@ module _ {B E F : Type 0} (entries : B → List E) (fixed_of : B → F) (root : 
       let begins = longer-begins v.seen w.seen r.history (r.seen_prefix id v at) (r.seen_prefix other w at') in
       let le = prefix_length v.seen x.seen begins.0 in
       let le' = prefix_length w.seen x.seen begins.1 in
-      let not = subst (λ (st : Stage E). IsHolderAt r.holder id st) outside (r.one_holder.1 id v at) in
-      let not' = subst (λ (st : Stage E). IsHolderAt r.holder other st) outside' (r.one_holder.1 other w at') in
+      let not = subst (λ (st : TurnStage E). IsHolderAt r.holder id st) outside (r.one_holder.1 id v at) in
+      let not' = subst (λ (st : TurnStage E). IsHolderAt r.holder other st) outside' (r.one_holder.1 other w at') in
       let same_word = λ (P : ℕ → Type 0) (p : P n). subst P (sym longs) p in
       let both : (P : ℕ → V → Type 0) → Each P s.views → P id x → P other spent_view → Each P vs = λ P all a b. each_set_two P P s.views id other x spent_view all a b (λ j u ni no old. old) in record {
         history = r.history;
@@ -546,14 +546,14 @@ module _ {B E F : Type 0} (entries : B → List E) (fixed_of : B → F) (root : 
       → Allows Rule slots id me 0 (λ n. n) (learns root (step slots 0 0 0 none) me)
   learns_keeps slots id me k l is live s r sized at small =
       let turn = holds_turn s r id me.0 (Joining k l) at is in
-      let told = subst (λ (st : Stage E). Learns root r.history me.0.seen me.0.mine st) is (r.mine_seen id me.0 at).2 in (
+      let told = subst (λ (st : TurnStage E). Learns root r.history me.0.seen me.0.mine st) is (r.mine_seen id me.0 at).2 in (
         at_stage Outside me.0,
         keeps,
         tt,
         loaded s 0 s.homes (set s.views id (at_stage Outside me.0))
             (moved s r id me.0 me.0.seen Outside s.words s.homes r.holder r.out at live r.two_words r.one_holder.0 refl (value_there s r) r.holder_only.0 r.holder_only.1 r.holder_only.2 (turn.0, tt) (λ j u ne a. a)
             (r.seen_prefix id me.0 at) (omega arith) tt),
-        (refl, (r.history, subst (λ (st : Stage E). AreKnown root r.history st) (sym is) (told.0, told.1), whole_has_all s r id me.0 at)),
+        (refl, (r.history, subst (λ (st : TurnStage E). AreKnown root r.history st) (sym is) (told.0, told.1), whole_has_all s r id me.0 at)),
       )
 
   pub opens_keeps : (b : B) → entries b ≡ [] → fixed_of b ≡ same → Rule (opening (0 ∷ 0 ∷ []) (Some b ∷ []) (first_view same))

@@ -4,4 +4,5 @@ pub mod Prefixes
 pub mod Keeps
 pub mod Calls
 pub mod Telling
+pub mod Joining
 pub mod Samples

@@ -1,8 +1,8 @@
 -- The arithmetic of shares: a fork halves, a join adds, and who has the whole is alone.
-use Rattle.std.proofs.Common.{◌≡◌, ◌≢◌, ℕ, zero, suc, ◌+◌, ◌-◌, ◌*◌, ◌^◌, ◌<◌, ◌≤◌, max, List, [], ◌∷◌, ◌++◌, set, refl, sym, ap, ◌∙◌, subst, ⊎_elim, arith, pow-add, pow_pos}
+use Rattle.std.proofs.Common.{◌≡◌, ℕ, zero, suc, ◌+◌, ◌-◌, ◌*◌, ◌^◌, ◌<◌, ◌≤◌, max, List, [], ◌∷◌, ◌++◌, set, sym, ap, ◌∙◌, subst, arith, pow-add, pow_pos}
 use mathlib.Core.Option.{some, some-injective, some-ne-none}
 use lib.ListN.{get_elem?}
-use Rattle.atomic_table.proofs.Lists.{at_set, set_else, set_again}
+use Rattle.atomic_table.proofs.Lists.{set_else, set_again}
 use Rattle.nm_turn.specs.declared.view.Share.{Share}
 use Rattle.nm_turn.specs.Shares.{nothing, IsWhole, half, weight, both_parts, deepest, total, AddUp}
 
@@ -116,26 +116,6 @@ IsWhole-alone ps i j p q a at there apart w =
     let rest = total-set d ps i p nothing at in
     let other = weight-total d (set ps i nothing) j q (set_else ps i j nothing apart ∙ there) in
     zero_of_weight d q (omega (arith, a, mine, rest, other))
-
-total-nothing : (d : ℕ) (ps : List Share) → ((j : ℕ) (q : Share) → get_elem? ps j ≡ some q → q.share ≡ 0) → total d ps ≡ 0
-total-nothing d [] none = refl
-total-nothing d (x ∷ ps) none =
-    let here = none 0 x refl in
-    let there = total-nothing d ps (λ j q at. none (suc j) q at) in
-    grind (arith, here, there)
-
--- and who is alone has the whole
-pub alone-IsWhole : (ps : List Share) (i : ℕ) (p : Share) → AddUp ps → get_elem? ps i ≡ some p → ((j : ℕ) (q : Share) → get_elem? ps j ≡ some q → ¬ (j ≡ i) → q.share ≡ 0) → IsWhole p
-alone-IsWhole ps i p a at none =
-    let d : ℕ = deepest ps in
-    let le = depth-deepest ps i p at in
-    let others = total-nothing d (set ps i nothing) (λ j q at'. ⊎_elim (λ (t : (j ≡ i) × (nothing ≡ q)). ap (λ (s : Share). s.share) (sym t.1)) (λ (t : (j ≢ i) × (get_elem? ps j ≡ some q)). none j q t.1 t.0) (at_set ps i j nothing q at')) in
-    let rest = total-set d ps i p nothing at in
-    let e : p.depth + (d - p.depth) ≡ d = omega arith in
-    let split = pow-add 2 p.depth (d - p.depth) in
-    let was : weight d p ≡ 2 ^ d = omega (arith, a, others, rest) in
-    let x : ℕ = 2 ^ (d - p.depth) in
-    times_cancel p.share (2 ^ p.depth) x (pow_pos (d - p.depth)) (let f : 2 ^ p.depth * x ≡ 2 ^ d = sym split ∙ ap (λ (n : ℕ). 2 ^ n) e in grind (arith, was, f))
 
 mul_le : (a b c d : ℕ) → a ≤ b → c ≤ d → a * c ≤ b * d
 mul_le a b c d h k = grind arith

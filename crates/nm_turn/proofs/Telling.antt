@@ -3,8 +3,8 @@ use Rattle.std.proofs.Common.{◌≡◌, ℕ, ◌+◌, ◌-◌, ◌<◌, ◌≤�
 use mathlib.Core.List.{IsPrefix}
 use mathlib.Core.Logic.{dite}
 use native.Mathlib.Decide.{dec_le}
-use Rattle.nm_turn.specs.declared.view.Stage.{Stage}
-use Rattle.nm_turn.specs.declared.view.Stage.TheVariants.{Out}
+use Rattle.nm_turn.specs.declared.view.TurnStage.{TurnStage}
+use Rattle.nm_turn.specs.declared.view.TurnStage.TheVariants.{Out}
 use Rattle.nm_turn.specs.declared.view.PassView.{PassView}
 use Rattle.nm_turn.specs.Numbered.{Stands}
 use Rattle.nm_turn.specs.Passes.{Told, listed, at_stage, new_since}
@@ -14,8 +14,8 @@ use Rattle.nm_turn.proofs.Calls.{new_since-same}
 
 module _ {E F : Type 0} (root : E → ℕ → ℕ) where
   -- what is told of a pass that has entered is told of the pass before it did
-  pub told_outside : (stage : Stage E) (v w : PassView E F) (history : List E) (added : List (ℕ × E)) → Told root (at_stage stage v) w history added → Told root v w history added
-  told_outside stage v w history added t = record { begins = t.begins; seen = t.seen; part = t.part; mine = t.mine; stand = t.stand; others = t.others }
+  pub told_outside : (stage : TurnStage E) (v w : PassView E F) (history : List E) (added : List (ℕ × E)) → Told root (at_stage stage v) w history added → Told root v w history added
+  told_outside stage v w history added t = record { begins = t.begins; seen = t.seen; part = t.part; mine = t.mine; picked = t.picked; stand = t.stand; others = t.others }
 
   -- a call that entered, and left with one entry more
   pub told_made : (v entered w : PassView E F) (before after : List E) (e : E) → entered ≡ at_stage (Out before) v → after ≡ before ++ e ∷ [] → Told root entered w after (new_since (listed entered.stage) after) → Told root v w after ((length after, e) ∷ [])
@@ -41,6 +41,7 @@ module _ {E F : Type 0} (root : E → ℕ → ℕ) where
         seen = u.seen;
         part = u.part ∙ t.part;
         mine = u.mine ∙ (ap (λ (l : List (ℕ × E)). l ++ second) t.mine ∙ append_assoc v.mine first second);
+        picked = u.picked;
         stand = λ k number e h. ⊎_elim
             (λ (a : slice_get first k ≡ Some (number, e)). let s = t.stand k number e a in (s.0, prefix_get before after (number - 1) e goes_on s.1))
             (λ (b : (length first ≤ k) × (slice_get second (k - length first) ≡ Some (number, e))). let s = u.stand (k - length first) number e b.1 in let lt = s.0 in (omega arith, s.1))

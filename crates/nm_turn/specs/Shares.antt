@@ -23,7 +23,9 @@ abbrev pub weight : ℕ → Share → ℕ
 weight depth p = p.share * 2 ^ (depth - p.depth)
 
 abbrev pub both_parts : Share → Share → Share
-both_parts p q = let depth : ℕ = max p.depth q.depth in share_of (weight depth p + weight depth q) depth
+both_parts p q =
+    let depth : ℕ = max p.depth q.depth in
+    share_of (weight depth p + weight depth q) depth
 
 abbrev pub deepest : List Share → ℕ
 deepest [] = 0

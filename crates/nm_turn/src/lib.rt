@@ -12,4 +12,4 @@ mod view;
 pub use kept::Kept;
 pub use pass::Pass;
 pub use turn::Turn;
-pub use view::{Known, PassView, Share, Stage};
+pub use view::{Known, PassView, Share, TurnStage};

@@ -1,7 +1,8 @@
-//! The rule of the table, and the names of its steps. There are eight kinds of step, and no other touches the table:
-//! the turn is taken or missed (`TakeTurn`), the value goes out (`TakeValue`), an entry is counted (`Commit`),
-//! the value comes in (`PutValue`), the turn is given up (`Release`), a pass is cut in two (`Halve`), and two passes
-//! are made one (`Add`, and `Learn`, which tells what the rule knows of both).
+//! The rule of the table, and the names of its steps. There are eight kinds of step, and no other
+//! touches the table: the turn is taken or missed (`TakeTurn`), the value is taken out
+//! (`TakeValue`), an entry is counted (`Commit`), the value is put back (`PutValue`), the turn is
+//! given up (`Release`), a pass is cut in two (`Halve`), and two passes are made one (`Add`, and
+//! `Learn`, which tells what the rule knows of both).
 use crate::kept::Kept;
 use crate::view::PassView;
 use atomic_table::{Join, Play, Split, TableRule};
@@ -25,7 +26,7 @@ impl<B: Kept> TableRule<Option<B>, View<B>, Snapshot<B>> for Law<B> {
     ghost first = { λ key. first_view (B.fixed key.value) };
 }
 
-// Word 0 goes from 0 to 1, or is found 1 and stays.
+/// Changes word 0 from 0 to 1, or leaves it 1.
 pub(crate) struct TakeTurn;
 
 impl<B: Kept> Play<Option<B>, View<B>> for TakeTurn {
@@ -34,7 +35,7 @@ impl<B: Kept> Play<Option<B>, View<B>> for TakeTurn {
     ghost then = { takes_turn };
 }
 
-// The value leaves its place. It is the one that stands for the history.
+/// Takes the value out of its place. It is the one that stands for the history.
 pub(crate) struct TakeValue<B> {
     kept: PhantomData<B>,
 }
@@ -45,7 +46,7 @@ impl<B: Kept> Play<Option<B>, View<B>> for TakeValue<B> {
     ghost then = { takes_value B.entries B.fixed B.root };
 }
 
-// Word 1 goes up by 1, and the new entry is the pass's own.
+/// Adds 1 to word 1, and makes the new entry the pass's own.
 pub(crate) struct Commit<B> {
     kept: PhantomData<B>,
 }
@@ -56,7 +57,7 @@ impl<B: Kept> Play<Option<B>, View<B>> for Commit<B> {
     ghost then = { commits B.entries B.root };
 }
 
-// The value is in its place again.
+/// Tells that the value is in its place again.
 pub(crate) struct PutValue<B> {
     kept: PhantomData<B>,
 }
@@ -67,7 +68,7 @@ impl<B: Kept> Play<Option<B>, View<B>> for PutValue<B> {
     ghost then = { puts_value B.root };
 }
 
-// Word 0 goes back to 0.
+/// Changes word 0 back to 0.
 pub(crate) struct Release;
 
 impl<B: Kept> Play<Option<B>, View<B>> for Release {
@@ -76,7 +77,7 @@ impl<B: Kept> Play<Option<B>, View<B>> for Release {
     ghost then = { releases };
 }
 
-// What two passes knew that were just made one was known of one history.
+/// Tells that what two passes knew before they were made one was known of one history.
 pub(crate) struct Learn<B> {
     kept: PhantomData<B>,
 }
@@ -87,7 +88,7 @@ impl<B: Kept> Play<Option<B>, View<B>> for Learn<B> {
     ghost then = { learns B.root };
 }
 
-// The share is halved, and the new pass has made nothing.
+/// Halves the share; the new pass has made nothing.
 pub(crate) struct Halve;
 
 impl<E, F> Split<PassView<E, F>> for Halve {
@@ -98,7 +99,7 @@ impl<E, F> Split<PassView<E, F>> for Halve {
     ghost right = { forked_view };
 }
 
-// The shares are added, and what both made is the pass's own.
+/// Adds the shares; what both passes made is the pass's own.
 pub(crate) struct Add;
 
 impl<E, F> Join<PassView<E, F>> for Add {

@@ -1,10 +1,11 @@
 //! The calls over a vector of numbers, each of which is its own root.
-ghost use Rattle.std.specs.Prelude.{◌≡◌, ℕ, List, ◌*◌, ◌<◌, ◌≤◌, ◌^◌, ◌++◌, ◌∷◌, [], length, MatchBool, MatchResult, IfOk, OnOk};
+ghost use Rattle.std.specs.Prelude.{◌≡◌, ℕ, List, ◌*◌, ◌<◌, ◌≤◌, ◌^◌, ◌++◌, ◌∷◌, [], length};
+ghost use Rattle.std.specs.Prelude.{MatchBool, MatchResult, IfOk, OnOk};
 ghost use Rattle.std.proofs.Common.{le_refl};
 ghost use Rattle.nm_turn.specs.Numbered.{IsPicked};
-ghost use Rattle.nm_turn.specs.Passes.{Told, first_view};
-ghost use Rattle.nm_turn.specs.Samples.{values, spread};
-ghost use Rattle.nm_turn.specs.Turns.{IsPassOf, IsOutside, view_of};
+ghost use Rattle.nm_turn.specs.Passes.{first_view};
+ghost use Rattle.nm_turn.specs.Samples.{spread, IsPassIn, Adds, AddsSpread, KeepsPart};
+ghost use Rattle.nm_turn.specs.Turns.{view_of};
 
 use super::{Kept, Pass, Turn};
 use nm_types::NoMemory;
@@ -14,7 +15,7 @@ use std::sync::Wait;
 use std::test::Fail;
 use std::thread::{Threads, join};
 
-// Contracts see it as its numbers. It has to be taken apart, so that none is lost.
+/// Numbers, as which contracts see it. It must be taken apart, so that none is lost.
 struct Numbers {
     items: Vec<u32>,
 }
@@ -42,6 +43,7 @@ impl Kept for Numbers {
 }
 
 impl Numbers {
+    /// No numbers.
     fn new(alloc: Global) -> Numbers
         ensures { result ≡ [] }
     {
@@ -50,14 +52,16 @@ impl Numbers {
         }
     }
 
-    // Whether there was room for the number.
+    /// Appends a number, and tells whether there was room for it.
     fn push(&mut self, number: u32) -> bool
-        ensures pushed { MatchBool result (self.new ≡ self.old ++ number ∷ []) (self.new ≡ self.old) }
+        ensures pushed { MatchBool result
+            (self.new ≡ self.old ++ number ∷ []) (self.new ≡ self.old) }
         ensures few { length self.new < 2 ^ 32 }
     {
         self.items.len() < u32::MAX as usize && self.items.push(number).is_ok()
     }
 
+    /// Takes it apart.
     fn into_items(self) -> Vec<u32>
         ensures { result.items ≡ self }
     {
@@ -66,9 +70,9 @@ impl Numbers {
     }
 }
 
-// A turn over no numbers.
+/// Makes a turn over no numbers.
 fn open(alloc: Global) -> Result<(Turn<Numbers>, Pass<Numbers>), NoMemory>
-    ensures { IfOk result (λ r. IsPassOf (λ n. tt) r.0 r.1 × IsOutside r.1 × (view_of r.1 ≡ first_view tt)) }
+    ensures { IfOk result (λ r. IsPassIn r.0 r.1 × (view_of r.1 ≡ first_view tt)) }
 {
     match Turn::open(alloc, Numbers::new(alloc)) {
         Ok(opened) => Ok(opened),
@@ -79,16 +83,18 @@ fn open(alloc: Global) -> Result<(Turn<Numbers>, Pass<Numbers>), NoMemory>
     }
 }
 
-// Adds the number through the pass.
+/// Adds a number through the pass.
 fn add<R: Wait>(
     rt: &R,
     turn: &Turn<Numbers>,
     pass: &mut Pass<Numbers>,
     number: u32,
 ) -> Result<(), NoMemory>
-    requires { IsPassOf (λ n. tt) turn.now pass.old × IsOutside pass.old }
-    ensures pass { IsPassOf (λ n. tt) turn.now pass.new × IsOutside pass.new }
-    ensures told { MatchResult result (λ _. Told (λ entry at. at) (view_of pass.old) (view_of pass.new) (view_of pass.new).seen ((length (view_of pass.new).seen, number) ∷ [])) (λ _. Told (λ entry at. at) (view_of pass.old) (view_of pass.new) (view_of pass.new).seen []) }
+    requires { IsPassIn turn.now pass.old }
+    ensures pass { IsPassIn turn.now pass.new }
+    ensures told { MatchResult result
+        (λ _. Adds pass.old pass.new ((length (view_of pass.new).seen, number) ∷ []))
+        (λ _. Adds pass.old pass.new []) }
 {
     let mut numbers = turn.enter(rt, pass);
     let made = numbers.push(number);
@@ -96,7 +102,8 @@ fn add<R: Wait>(
     if made { Ok(()) } else { Err(NoMemory) }
 }
 
-// Adds these many numbers, each 2 more than the one before. The pass comes back, with whether there was memory.
+/// Adds `count` numbers from `first` on, each 2 more than the one before. Returns the pass, and
+/// whether there was memory.
 fn add_all<R: Wait>(
     rt: &R,
     turn: &Turn<Numbers>,
@@ -104,10 +111,10 @@ fn add_all<R: Wait>(
     first: u32,
     count: u32,
 ) -> (Pass<Numbers>, Result<(), NoMemory>)
-    requires { IsPassOf (λ n. tt) turn.now pass × IsOutside pass × (first < 2) × (count ≤ 1000000) }
-    ensures pass { IsPassOf (λ n. tt) turn.now result.0 × IsOutside result.0 }
-    ensures part { (view_of result.0).part ≡ (view_of pass).part }
-    ensures added { OnOk result.1 (values (view_of result.0).mine ≡ values (view_of pass).mine ++ spread first count) }
+    requires { IsPassIn turn.now pass × (first < 2) × (count ≤ 1000000) }
+    ensures pass { IsPassIn turn.now result.0 }
+    ensures part { KeepsPart pass result.0 }
+    ensures added { OnOk result.1 (AddsSpread pass result.0 first count) }
 {
     for k in 0..count {
         if let Err(NoMemory) = add(rt, turn, &mut pass, first + k * 2) {
@@ -117,9 +124,10 @@ fn add_all<R: Wait>(
     (pass, Ok(()))
 }
 
+/// A pass with whether its numbers were added.
 type Added = (Pass<Numbers>, Result<(), NoMemory>);
 
-// Two threads, each of which adds so many numbers.
+/// Adds `count` numbers in each of two threads.
 fn add_in_threads<R: Threads + Wait + Sync>(
     rt: &R,
     turn: &Turn<Numbers>,
@@ -127,30 +135,31 @@ fn add_in_threads<R: Threads + Wait + Sync>(
     two: Pass<Numbers>,
     count: u32,
 ) -> (Added, Added)
-    requires one { IsPassOf (λ n. tt) turn.now one × IsOutside one }
-    requires two { IsPassOf (λ n. tt) turn.now two × IsOutside two }
+    requires one { IsPassIn turn.now one }
+    requires two { IsPassIn turn.now two }
     requires few { count ≤ 1000000 }
-    ensures first { IsPassOf (λ n. tt) turn.now result.0.0 × IsOutside result.0.0 × ((view_of result.0.0).part ≡ (view_of one).part) }
-    ensures second { IsPassOf (λ n. tt) turn.now result.1.0 × IsOutside result.1.0 × ((view_of result.1.0).part ≡ (view_of two).part) }
-    ensures first_added { OnOk result.0.1 (values (view_of result.0.0).mine ≡ values (view_of one).mine ++ spread 0 count) }
-    ensures second_added { OnOk result.1.1 (values (view_of result.1.0).mine ≡ values (view_of two).mine ++ spread 1 count) }
+    ensures first { IsPassIn turn.now result.0.0 × KeepsPart one result.0.0 }
+    ensures second { IsPassIn turn.now result.1.0 × KeepsPart two result.1.0 }
+    ensures first_added { OnOk result.0.1 (AddsSpread one result.0.0 0 count) }
+    ensures second_added { OnOk result.1.1 (AddsSpread two result.1.0 1 count) }
 {
     join(
         rt,
         || -> Added
-            requires { IsPassOf (λ n. tt) turn.now one × IsOutside one × (count ≤ 1000000) }
-            ensures pass { IsPassOf (λ n. tt) turn.entry.now result.0 × IsOutside result.0 × ((view_of result.0).part ≡ (view_of one).part) }
-            ensures added { OnOk result.1 (values (view_of result.0).mine ≡ values (view_of one).mine ++ spread 0 count) }
+            requires { IsPassIn turn.now one × (count ≤ 1000000) }
+            ensures pass { IsPassIn turn.entry.now result.0 × KeepsPart one result.0 }
+            ensures added { OnOk result.1 (AddsSpread one result.0 0 count) }
         { add_all(rt, turn, one, 0, count) },
         || -> Added
-            requires { IsPassOf (λ n. tt) turn.now two × IsOutside two × (count ≤ 1000000) }
-            ensures pass { IsPassOf (λ n. tt) turn.entry.now result.0 × IsOutside result.0 × ((view_of result.0).part ≡ (view_of two).part) }
-            ensures added { OnOk result.1 (values (view_of result.0).mine ≡ values (view_of two).mine ++ spread 1 count) }
+            requires { IsPassIn turn.now two × (count ≤ 1000000) }
+            ensures pass { IsPassIn turn.entry.now result.0 × KeepsPart two result.0 }
+            ensures added { OnOk result.1 (AddsSpread two result.0 1 count) }
         { add_all(rt, turn, two, 1, count) },
     )
 }
 
-// The history after two threads have added so many numbers each: it has as many as both, and those of each in its order.
+/// Returns the history after each of two threads has added `count` numbers: its length is the sum,
+/// and each thread's numbers keep their order.
 fn add_by_two<R: Threads + Wait + Sync>(
     rt: &R,
     alloc: Global,
@@ -171,7 +180,7 @@ fn add_by_two<R: Threads + Wait + Sync>(
     Ok(items)
 }
 
-// Whether the numbers with this remainder by 2 stand in the order in which they were added.
+/// Tells whether the numbers with this remainder by 2 are in the order in which they were added.
 fn stand_in_order(items: &[u32], remainder: u32, count: u32) -> bool {
     let mut next = remainder;
     for number in items {
@@ -185,7 +194,7 @@ fn stand_in_order(items: &[u32], remainder: u32, count: u32) -> bool {
     next == remainder.wrapping_add(count.wrapping_mul(2))
 }
 
-// Two passes, of which each adds a number after the other was cut off.
+/// Adds a number through a pass, and then one through a pass that was forked off it.
 fn add_forked<R: Wait>(rt: &R, alloc: Global) -> Result<Vec<u32>, NoMemory>
     ensures { IfOk result (λ items. items.items ≡ 5 ∷ 6 ∷ []) }
 {

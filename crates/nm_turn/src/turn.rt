@@ -1,5 +1,6 @@
 //! The turn itself: the table with its one value, and the calls on it.
-ghost use Rattle.std.specs.Prelude.{◌≡◌, ◌<◌, ◌^◌, [], ◌∷◌, length, true, false, IfOk, IfErr, Some};
+ghost use Rattle.std.specs.Prelude.{◌≡◌, ◌<◌, ◌^◌, [], ◌∷◌, length, true, false};
+ghost use Rattle.std.specs.Prelude.{IfOk, IfErr, Some};
 
 use crate::kept::Kept;
 use crate::pass::Pass;
@@ -10,21 +11,23 @@ use std::alloc::Global;
 use std::snapshot::Snapshot;
 use std::sync::Wait;
 
-// The word that is 1 while a pass has the turn.
+/// The word that is 1 while a pass has the turn.
 const TURN: usize = 0;
 
-// The word that counts the history.
+/// The word that counts the history.
 const COUNT: usize = 1;
 
-// The place of the value.
+/// The place of the value.
 const VALUE: usize = 0;
 
-/// A lock over one value, which stands for one history of all callers. It has to be closed, so that the value cannot be lost.
+/// A lock over one value, which stands for one history of all callers. It must be closed, so that
+/// the value is not lost.
 pub struct Turn<B: Kept> {
     table: Table<Option<B>, View<B>, Snapshot<B>, Law<B>, Global>,
     ghost sized: { (table.shared.table_id.words ≡ 2) × (table.shared.table_id.slots ≡ 1) },
 }
 
+/// Returns the one value of a table that was not made.
 fn only<T>(mut slots: Vec<Option<T>>) -> T
     requires { (value : T) × (slots.items ≡ Some value ∷ []) }
     ensures { slots.items ≡ Some result ∷ [] }
@@ -37,15 +40,19 @@ fn only<T>(mut slots: Vec<Option<T>>) -> T
 }
 
 impl<B: Kept> Turn<B> {
-    ghost use Rattle.nm_turn.specs.declared.view.Stage.TheVariants.{Out};
+    ghost use Rattle.nm_turn.specs.declared.view.TurnStage.TheVariants.{Out};
     ghost use Rattle.nm_turn.specs.Shares.{IsWhole};
-    ghost use Rattle.nm_turn.specs.Passes.{Knows, HasAll, Told, new_since, at_stage, first_view, kept_view, forked_view, joined_view};
-    ghost use Rattle.nm_turn.specs.Turns.{AddsOne, view_of, hand_of, entered, opened, IsPassOf, IsOutside, HasEntered, HasTurn, HasWritten};
+    ghost use Rattle.nm_turn.specs.Passes.{Knows, HasAll, Told, new_since, at_stage};
+    ghost use Rattle.nm_turn.specs.Passes.{first_view, kept_view, forked_view, joined_view};
+    ghost use Rattle.nm_turn.specs.Turns.{AddsOne, view_of, hand_of, entered, opened};
+    ghost use Rattle.nm_turn.specs.Turns.{IsPassOf, IsOutside, HasEntered, HasTurn, HasWritten};
 
-    /// Keeps the value from now on. The pass has the whole.
+    /// Makes a turn over `value`, which stands for no entries yet. The pass has the whole. Gives
+    /// the value back if out of memory.
     pub fn open(alloc: Global, value: B) -> Result<(Turn<B>, Pass<B>), (NoMemory, B)>
         requires { B.entries value ≡ [] }
-        ensures ok { IfOk result (λ r. IsPassOf B.fixed r.0 r.1 × IsOutside r.1 × (view_of r.1 ≡ first_view (B.fixed value)) × (opened r.0 ≡ value)) }
+        ensures ok { IfOk result (λ r. IsPassOf B.fixed r.0 r.1 × IsOutside r.1
+            × (view_of r.1 ≡ first_view (B.fixed value)) × (opened r.0 ≡ value)) }
         ensures err { IfErr result (λ r. r.1 ≡ value) }
     {
         let about = Snapshot::of(&value);
@@ -59,7 +66,7 @@ impl<B: Kept> Turn<B> {
         }
     }
 
-    // Waits until the turn is free, and takes it.
+    /// Waits until the turn is free, and takes it.
     fn take<R: Wait>(&self, rt: &R, pass: &mut Pass<B>)
         requires pass { IsPassOf B.fixed self.now pass.old }
         requires outside { IsOutside pass.old }
@@ -75,15 +82,18 @@ impl<B: Kept> Turn<B> {
         unreachable!()
     }
 
-    /// Waits until no other pass has the turn, takes it, and gives the value.
+    /// Waits until no other pass has the turn, takes it, and returns the value.
     pub fn enter<R: Wait>(&self, rt: &R, pass: &mut Pass<B>) -> B
         requires pass { IsPassOf B.fixed self.now pass.old }
         requires outside { IsOutside pass.old }
         ensures pass { IsPassOf B.fixed self.now pass.new }
-        ensures entered { HasEntered pass.new × (view_of pass.new ≡ at_stage (Out (B.entries result)) (view_of pass.old)) }
+        ensures entered { HasEntered pass.new
+            × (view_of pass.new ≡ at_stage (Out (B.entries result)) (view_of pass.old)) }
         ensures fixed { B.fixed result ≡ B.fixed (opened self.now) }
-        ensures knows { Knows B.root (B.entries result) (view_of pass.old).seen (view_of pass.old).mine }
-        ensures whole { IsWhole (view_of pass.old).part → HasAll (B.entries result) (view_of pass.old).seen (view_of pass.old).mine }
+        ensures knows { Knows B.root (B.entries result)
+            (view_of pass.old).seen (view_of pass.old).mine }
+        ensures whole { IsWhole (view_of pass.old).part
+            → HasAll (B.entries result) (view_of pass.old).seen (view_of pass.old).mine }
     {
         self.take(rt, pass);
         let shared = &self.table.shared;
@@ -91,12 +101,13 @@ impl<B: Kept> Turn<B> {
         shared.exchange(&mut pass.seat, VALUE, None).unwrap()
     }
 
-    // Takes the value into hand again, and counts the entry that it has more.
+    /// Puts the value in its place, and counts its new entry if there is one.
     fn write(&self, pass: &mut Pass<B>, value: B, made: bool)
         requires pass { IsPassOf B.fixed self.now pass.old }
         requires entered { HasEntered pass.old }
         requires same { made ≡ false → B.entries value ≡ entered pass.old }
-        requires one_more { made ≡ true → AddsOne B.root (entered pass.old) (view_of pass.old).mine (B.entries value) }
+        requires one_more { made ≡ true
+            → AddsOne B.root (entered pass.old) (view_of pass.old).mine (B.entries value) }
         requires few { length (B.entries value) < 2 ^ 32 }
         ensures { HasWritten B.entries B.root pass.old pass.new value }
     {
@@ -108,18 +119,20 @@ impl<B: Kept> Turn<B> {
         }
     }
 
-    /// Gives the value back, gives the turn up, and wakes one thread that waits for it. `made` says that the value
-    /// has one entry more than `enter` gave it with.
+    /// Gives the value back, gives the turn up, and wakes one thread that waits for it. `made` says
+    /// whether the value has one entry more than when `enter` returned it.
     pub fn leave(&self, pass: &mut Pass<B>, value: B, made: bool)
         requires pass { IsPassOf B.fixed self.now pass.old }
         requires entered { HasEntered pass.old }
         requires fixed { B.fixed value ≡ B.fixed (opened self.now) }
         requires same { made ≡ false → B.entries value ≡ entered pass.old }
-        requires one_more { made ≡ true → AddsOne B.root (entered pass.old) (view_of pass.old).mine (B.entries value) }
+        requires one_more { made ≡ true
+            → AddsOne B.root (entered pass.old) (view_of pass.old).mine (B.entries value) }
         requires few { length (B.entries value) < 2 ^ 32 }
         ensures pass { IsPassOf B.fixed self.now pass.new }
         ensures outside { IsOutside pass.new }
-        ensures told { Told B.root (view_of pass.old) (view_of pass.new) (B.entries value) (new_since (entered pass.old) (B.entries value)) }
+        ensures told { Told B.root (view_of pass.old) (view_of pass.new)
+            (B.entries value) (new_since (entered pass.old) (B.entries value)) }
     {
         self.write(pass, value, made);
         let shared = &self.table.shared;
@@ -128,25 +141,32 @@ impl<B: Kept> Turn<B> {
         shared.wake_one(TURN);
     }
 
-    /// Cuts the pass's share in two. The new pass has seen as much, has made nothing and has not entered.
+    /// Halves the pass's share. The new pass has seen as much, has made nothing and has not
+    /// entered.
     pub fn fork(&self, pass: &mut Pass<B>) -> Pass<B>
         requires { IsPassOf B.fixed self.now pass.old }
-        ensures kept { IsPassOf B.fixed self.now pass.new × (view_of pass.new ≡ kept_view (view_of pass.old)) × (hand_of pass.new ≡ hand_of pass.old) }
-        ensures given { IsPassOf B.fixed self.now result × IsOutside result × (view_of result ≡ forked_view (view_of pass.old)) }
+        ensures kept { IsPassOf B.fixed self.now pass.new
+            × (view_of pass.new ≡ kept_view (view_of pass.old))
+            × (hand_of pass.new ≡ hand_of pass.old) }
+        ensures given { IsPassOf B.fixed self.now result × IsOutside result
+            × (view_of result ≡ forked_view (view_of pass.old)) }
     {
         Pass {
             seat: self.table.shared.split_seat::<Halve>(&mut pass.seat),
         }
     }
 
-    /// Takes in another pass, with its share and what it made.
+    /// Makes `other` part of the pass, with its share and what it made.
     pub fn join(&self, pass: &mut Pass<B>, other: Pass<B>)
         requires pass { IsPassOf B.fixed self.now pass.old × IsOutside pass.old }
         requires other { IsPassOf B.fixed self.now other × IsOutside other }
         ensures pass { IsPassOf B.fixed self.now pass.new × IsOutside pass.new }
         ensures joined { view_of pass.new ≡ joined_view (view_of pass.old) (view_of other) }
-        ensures known { Knows B.root (view_of pass.new).seen (view_of pass.old).seen (view_of pass.old).mine × Knows B.root (view_of pass.new).seen (view_of other).seen (view_of other).mine }
-        ensures whole { IsWhole (view_of pass.new).part → HasAll (view_of pass.new).seen (view_of pass.new).seen (view_of pass.new).mine }
+        ensures known { Knows B.root (view_of pass.new).seen
+            (view_of pass.old).seen (view_of pass.old).mine
+            × Knows B.root (view_of pass.new).seen (view_of other).seen (view_of other).mine }
+        ensures whole { IsWhole (view_of pass.new).part
+            → HasAll (view_of pass.new).seen (view_of pass.new).seen (view_of pass.new).mine }
     {
         let shared = &self.table.shared;
         let Pass { seat } = other;
@@ -154,13 +174,14 @@ impl<B: Kept> Turn<B> {
         shared.load::<Learn<B>>(&mut pass.seat, TURN);
     }
 
-    /// Waits as `enter` does, and ends the turn. Passes that are left are of no use then.
+    /// Waits as `enter` does, ends the turn and returns the value. Other passes are of no use then.
     pub fn close<R: Wait>(self, rt: &R, mut pass: Pass<B>) -> B
         requires pass { IsPassOf B.fixed self pass }
         requires outside { IsOutside pass }
         ensures fixed { B.fixed result ≡ B.fixed (opened self) }
         ensures knows { Knows B.root (B.entries result) (view_of pass).seen (view_of pass).mine }
-        ensures whole { IsWhole (view_of pass).part → HasAll (B.entries result) (view_of pass).seen (view_of pass).mine }
+        ensures whole { IsWhole (view_of pass).part
+            → HasAll (B.entries result) (view_of pass).seen (view_of pass).mine }
     {
         self.take(rt, &mut pass);
         let Turn { table } = self;

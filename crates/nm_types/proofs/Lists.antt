@@ -1,5 +1,5 @@
 -- Laws of lists that several crates use.
-use Rattle.std.proofs.Common.{ℕ, zero, suc, List, [], ◌∷◌, ◌≡◌, ◌+◌, ◌&&◌, Bool, drop, refl, arith, slice_get, Some, Option}
+use Rattle.std.proofs.Common.{ℕ, zero, suc, List, [], ◌∷◌, ◌≡◌, ◌+◌, ◌&&◌, Bool, drop, refl, arith, slice_get, Some}
 use Rattle.std.specs.List.{list_all}
 
 -- what is left from an element on

@@ -1,5 +1,5 @@
 -- What a text names, by how it begins.
-use Rattle.std.proofs.Common.{ℕ, List, ◌≡◌, ◌≤◌, ◌-◌, true, false, length, take, drop, nat_lt, nat_eq, codes, refl, arith}
+use Rattle.std.proofs.Common.{ℕ, List, ◌≡◌, ◌≤◌, ◌-◌, true, false, length, take, drop, nat_eq, codes}
 use Rattle.std.proofs.lemmas.Bool.{le-ltb}
 use Rattle.std.specs.List.{starts_with}
 use Rattle.std.proofs.lemmas.List.{take_rest}

@@ -1,9 +1,9 @@
 -- A batch's frames stay where they are while its bytes grow.
-use Rattle.std.proofs.Common.{ℕ, List, [], ◌∷◌, ◌++◌, ◌≡◌, ◌≤◌, ◌+◌, ◌-◌, Bool, length, take, drop, map, refl, sym, ◌∙◌, ap, arith, slice_range}
+use Rattle.std.proofs.Common.{ℕ, List, [], ◌∷◌, ◌++◌, ◌≡◌, ◌≤◌, ◌+◌, ◌-◌, Bool, length, take, drop, map, refl, ap, arith, slice_range}
 use Rattle.std.specs.List.{All, AllByRecursion}
 use Rattle.std.proofs.lemmas.List.{take-append-le, drop-append-le, length-drop, map-append, take-map, take_all}
 use Rattle.std.proofs.Math.Seq.{drop-append_seam}
-use Rattle.std.proofs.lemmas.List.Elements.{recursion_from_All, All-from_recursion}
+use Rattle.std.proofs.lemmas.List.Elements.{recursion_from_All}
 use Rattle.nm_types.specs.declared.frame.Cut.{Cut}
 use Rattle.nm_types.specs.Frames.{Frame}
 use Rattle.nm_types.specs.Cuts.{frame_at, IsWithin}

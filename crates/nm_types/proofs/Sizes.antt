@@ -1,6 +1,6 @@
 -- How large the frames of a batch are, counted frame by frame.
-use Rattle.std.proofs.Common.{ℕ, zero, suc, List, [], ◌∷◌, ◌≡◌, ◌≤◌, ◌+◌, Bool, true, false, drop, length, refl, arith, slice_get, Some, Option, nat_le, ap}
-use Rattle.std.specs.List.{list_all, sum_by}
+use Rattle.std.proofs.Common.{ℕ, List, [], ◌∷◌, ◌≡◌, ◌+◌, true, false, drop, length, refl, arith, slice_get, Some, nat_le}
+use Rattle.std.specs.List.{list_all}
 use Rattle.std.proofs.lemmas.List.Sums.{sum_by-cons}
 use Rattle.std.proofs.Math.Seq.{drop-length}
 use Rattle.nm_types.specs.Frames.{Frame, slots_of, size_of_frames, bytes_of_frames}

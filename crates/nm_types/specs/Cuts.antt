@@ -1,5 +1,5 @@
 -- how a batch keeps its frames: each is a part of one run of bytes
-use Rattle.std.specs.Prelude.{ℕ, List, ◌≤◌, ◌-◌, slice_range, length}
+use Rattle.std.specs.Prelude.{ℕ, List, ◌≤◌, slice_range}
 use Rattle.nm_types.specs.declared.frame.Cut.{Cut}
 use Rattle.nm_types.specs.Frames.{Frame}
 

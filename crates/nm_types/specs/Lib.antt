@@ -1,10 +1,14 @@
+pub mod Addresses
 pub mod Buffers
 pub mod Chain
+pub mod Counters
 pub mod Cuts
 pub mod Exchange
 pub mod Faults
 pub mod Frames
+pub mod Limits
 pub mod Names
+pub mod Openings
 pub mod OwnEdits
 pub mod OwnPorts
 pub mod OwnRows
@@ -14,6 +18,7 @@ pub mod Positions
 pub mod Reset
 pub mod Runs
 pub mod Sendable
+pub mod Sides
 pub mod Slots
 pub mod SyncChecks
 pub mod SyncFaults

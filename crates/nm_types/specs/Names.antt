@@ -1,8 +1,9 @@
 -- Names of ports. `valeS:P` is the port P of the switch S, `pipeS{` the master end and `pipeS}` the
 -- slave end of the pipe S, `monS` a monitor. S and P are of letters, digits, `_` and `-`; neither is
 -- empty but the S of a switch. A name has at most 16 bytes.
-use Rattle.std.specs.Prelude.{ℕ, Bool, true, false, ◌||◌, ◌&&◌, ◌==◌, ◌+◌, ◌-◌, ◌≡◌, nat_lt, nat_le, nat_eq, if◌then◌else◌, List, [], ◌∷◌, ◌++◌, length, take, drop, codes, slice_index, Option, Some, None, IsSome, is_some, position}
+use Rattle.std.specs.Prelude.{ℕ, Bool, true, false, ◌||◌, ◌&&◌, ◌==◌, ◌+◌, ◌-◌, ◌≡◌, nat_lt, nat_le, nat_eq, if◌then◌else◌, List, length, take, drop, codes, slice_index, slice_set, Option, Some, None, is_some, position}
 use Rattle.std.specs.List.{starts_with, list_all, before_first}
+use Rattle.nm_types.specs.Limits.{name_bytes}
 use Rattle.nm_types.specs.declared.name.Kind.{Kind}
 use Rattle.nm_types.specs.declared.name.Kind.TheVariants.{Vale, Master, Slave, Monitor}
 
@@ -37,7 +38,7 @@ pipe_kind rest = if is_word (take (length rest - 1) rest) then pipe_end (slice_i
 -- what the name names, or none where the text is no name
 abbrev pub kind_of : List ℕ → Option Kind
 kind_of text =
-    if nat_lt 16 (length text) then None
+    if nat_lt name_bytes (length text) then None
     else (if starts_with nat_eq text (codes "vale") then (if is_switch_port (drop 4 text) then Some Vale else None)
     else (if starts_with nat_eq text (codes "pipe") then pipe_kind (drop 4 text)
     else (if starts_with nat_eq text (codes "mon") then (if is_word (drop 3 text) then Some Monitor else None)
@@ -55,24 +56,16 @@ switch_of text = before_first (λ b. b == 58) (drop 4 text)
 
 abbrev pub is_switch_port_kind : Option Kind → Bool
 is_switch_port_kind (Some Vale) = true
-is_switch_port_kind (Some Master) = false
-is_switch_port_kind (Some Slave) = false
-is_switch_port_kind (Some Monitor) = false
-is_switch_port_kind None = false
+is_switch_port_kind _ = false
 
 abbrev pub is_pipe_kind : Option Kind → Bool
-is_pipe_kind (Some Vale) = false
 is_pipe_kind (Some Master) = true
 is_pipe_kind (Some Slave) = true
-is_pipe_kind (Some Monitor) = false
-is_pipe_kind None = false
+is_pipe_kind _ = false
 
 abbrev pub is_monitor_kind : Option Kind → Bool
-is_monitor_kind (Some Vale) = false
-is_monitor_kind (Some Master) = false
-is_monitor_kind (Some Slave) = false
 is_monitor_kind (Some Monitor) = true
-is_monitor_kind None = false
+is_monitor_kind _ = false
 
 -- a port of a VALE switch
 unfoldable pub is_switch_port_name : List ℕ → Bool
@@ -84,3 +77,10 @@ is_pipe_name text = is_pipe_kind (kind_of text)
 
 unfoldable pub is_monitor_name : List ℕ → Bool
 is_monitor_name text = is_monitor_kind (kind_of text)
+
+abbrev pub peer_byte : ℕ → ℕ
+peer_byte b = if b == 123 then 125 else 123
+
+-- the name of a pipe's other end: its last byte is exchanged
+unfoldable pub peer_name : List ℕ → List ℕ
+peer_name text = slice_set text (length text - 1) (peer_byte (slice_index text (length text - 1)))

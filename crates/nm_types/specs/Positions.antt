@@ -2,6 +2,7 @@
 -- head and cur, the kernel side the tail; it keeps the last accepted head and the last tail.
 use Rattle.std.specs.Prelude.{ℕ, ◌≡◌, ◌+◌, ◌-◌, ◌%◌, ◌<◌, ◌≤◌, Bool, ◌&&◌, nat_lt, List, map}
 use Rattle.std.specs.List.{range_with_len}
+use Rattle.nm_types.specs.Limits.{least_ring, most_ring}
 
 pub record RingState : Type 0 where
   pub size : ℕ
@@ -12,10 +13,7 @@ pub record RingState : Type 0 where
   pub last_tail : ℕ
 
 abbrev pub IsRingSize : ℕ → Type 0
-IsRingSize size = (2 ≤ size) × (size ≤ 1024)
-
-abbrev pub IsPosition : ℕ → ℕ → Type 0
-IsPosition size at = at < size
+IsRingSize size = (least_ring ≤ size) × (size ≤ most_ring)
 
 -- how many steps it is from one position to another, going round
 abbrev pub dist : ℕ → ℕ → ℕ → ℕ

@@ -11,6 +11,7 @@ use Rattle.nm_types.specs.declared.refusal.SlotFault.{SlotFault}
 use Rattle.nm_types.specs.declared.refusal.SlotFault.TheVariants.{Indirect, IndexOut, NotHeld, Doubled, Unannounced, LongLen, Fragment}
 use Rattle.nm_types.specs.declared.fault.SyncFault.{SyncFault}
 use Rattle.nm_types.specs.SyncFaults.{ring_sync_fault, slot_sync_fault}
+use Rattle.nm_types.specs.Limits.{buffer_bytes}
 use Rattle.nm_types.specs.Positions.{RingState, dist}
 use Rattle.nm_types.specs.Slots.{SlotState, Pushed, pushed_names, has_flag, HasFlag, buf_changed, indirect, more_fragments}
 
@@ -42,7 +43,7 @@ slot_refusal side seen at slot =
     else if not seen.held then Some (NotHeld at slot.buf_idx)
     else if seen.doubled then Some (Doubled at slot.buf_idx)
     else if is_unannounced seen.was slot then Some (Unannounced at slot.buf_idx seen.was)
-    else if is_tx side && nat_lt 2048 slot.len then Some (LongLen at slot.len)
+    else if is_tx side && nat_lt buffer_bytes slot.len then Some (LongLen at slot.len)
     else if is_tx side && has_flag more_fragments slot then Some (Fragment at)
     else None
 
@@ -54,7 +55,7 @@ pub record PassesSlot (side : Side) (seen : Seen) (slot : SlotState) : Type 0 wh
   pub held : seen.held ≡ true
   pub once : seen.doubled ≡ false
   pub announced : slot.buf_idx ≢ seen.was → HasFlag buf_changed slot
-  pub fits_buffer : is_tx side ≡ true → slot.len ≤ 2048
+  pub fits_buffer : is_tx side ≡ true → slot.len ≤ buffer_bytes
   pub whole : is_tx side ≡ true → has_flag more_fragments slot ≡ false
 
 abbrev pub contains_index : List ℕ → ℕ → Bool

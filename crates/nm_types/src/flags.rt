@@ -8,17 +8,17 @@ pub struct SlotFlags(pub u16);
 
 bitflag_items! {
     impl SlotFlags: u16 {
-        // The user put another buffer into the slot.
+        /// The user put another buffer into the slot.
         const BUF_CHANGED = 0x0001;
-        // Accepted, with no effect.
+        /// Accepted, with no effect.
         const REPORT = 0x0002;
-        // Accepted, with no effect.
+        /// Accepted, with no effect.
         const FORWARD = 0x0004;
-        // The switch is not to learn the frame's source.
+        /// The switch is not to learn the frame's source.
         const NO_LEARN = 0x0008;
-        // The frame is at an address of the user's.
+        /// The frame is at an address of the user's.
         const INDIRECT = 0x0010;
-        // The frame goes on in the next slot.
+        /// The frame goes on in the next slot.
         const MORE_FRAGMENTS = 0x0020;
     }
 }
@@ -28,7 +28,8 @@ impl Flags for SlotFlags {
 
     ghost exact = { ⊤ };
 
-    ghost table = { (codes "BUF_CHANGED", 1) ∷ (codes "REPORT", 2) ∷ (codes "FORWARD", 4) ∷ (codes "NO_LEARN", 8) ∷ (codes "INDIRECT", 16) ∷ (codes "MORE_FRAGMENTS", 32) ∷ [] };
+    ghost table = { (codes "BUF_CHANGED", 1) ∷ (codes "REPORT", 2) ∷ (codes "FORWARD", 4)
+        ∷ (codes "NO_LEARN", 8) ∷ (codes "INDIRECT", 16) ∷ (codes "MORE_FRAGMENTS", 32) ∷ [] };
 
     ghost set_of = { λ flags. flags.0 };
 

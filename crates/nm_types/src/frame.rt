@@ -25,6 +25,7 @@ impl Model for Frame {
 }
 
 impl Frame {
+    /// A frame of these bytes.
     pub fn new(alloc: Global, bytes: &[u8], no_learn: bool) -> Result<Frame, NoMemory>
         ensures { IfOk result (λ frame. frame ≡ record { bytes = bytes.now; no_learn = no_learn }) }
     {
@@ -34,12 +35,14 @@ impl Frame {
         })
     }
 
+    /// The frame's bytes.
     pub fn bytes(&self) -> &[u8]
         ensures { result.now ≡ self.now.bytes }
     {
         &self.bytes
     }
 
+    /// Tells whether the switch is not to learn the frame's source.
     pub fn no_learn(&self) -> bool
         ensures { result ≡ self.now.no_learn }
     {
@@ -125,7 +128,8 @@ impl Run {
     }
 }
 
-/// A list of frames. Their bytes lie in one run, behind one pointer, so that a stored batch is small.
+/// A list of frames. Their bytes lie in one buffer, behind one pointer, so that a stored batch is
+/// small.
 #[derive(Clone, Drop)]
 pub struct Batch {
     run: Option<Box<Run>>,
@@ -177,6 +181,7 @@ impl Batch {
         }
     }
 
+    /// Tells whether there are no frames.
     pub fn is_empty(&self) -> bool
         ensures { IsTrue result ↔ (length self.now ≡ 0) }
     {
@@ -202,7 +207,7 @@ impl Batch {
         self.get(i).0
     }
 
-    /// Whether a frame is marked no-learn.
+    /// Tells whether a frame is marked no-learn.
     pub fn no_learn(&self, i: usize) -> bool
         requires { i < length self.now }
         ensures { option_map (λ f. f.no_learn) (slice_get self.now i) ≡ Some result }
@@ -210,7 +215,7 @@ impl Batch {
         self.get(i).1
     }
 
-    /// How many bytes the frames have together.
+    /// The number of bytes of all frames.
     #[tactic(auto, using(crate::proofs::Sizes::sizes))]
     pub fn size(&self) -> u64
         requires { bytes_of_frames self.now < 2 ^ 64 }
@@ -235,7 +240,7 @@ impl Batch {
         true
     }
 
-    /// Whether one send may carry the frames.
+    /// Tells whether one send may carry the frames.
     #[tactic(auto, using(crate::proofs::Sizes::sizes))]
     pub fn is_sendable(&self) -> bool
         ensures { result ≡ is_sendable self.now }

@@ -6,6 +6,7 @@ mod fault;
 mod flags;
 mod frame;
 mod id;
+pub mod laws;
 mod limits;
 mod name;
 mod place;
@@ -17,10 +18,12 @@ mod tests;
 pub use fault::{BadName, LineCause, NoMemory, OpenFault, Part, StepFault, SyncFault, WatchFault};
 pub use flags::SlotFlags;
 pub use frame::{Batch, Frame};
-pub use id::{Chain, Counts, LeaseId, Mac, PortId, SessionId, Side, Sides};
+pub use id::{Chain, Counts, LeaseId, Mac, PortId, PortSizes, SessionId, Side, Sides};
 pub use limits::{
-    BUFFER_BYTES, DEFAULT_POOL, Limits, MAX_BATCH, MAX_EXTRA, MAX_MONITORS, MAX_PIPE_ENDS,
-    MAX_POOL, MAX_RING, MAX_SWITCH_PORTS, MAX_SWITCHES, MAX_USERS, MIN_RING,
+    BUCKETS, BUFFER_BYTES, DEFAULT_POOL, Limits, MAX_BATCH, MAX_CAPTURE_BYTES, MAX_COUNTS,
+    MAX_EXTRA, MAX_MONITORS, MAX_PIPE_ENDS, MAX_PLAYED, MAX_POOL, MAX_PORTS, MAX_RING,
+    MAX_SCRIPT_BYTES, MAX_SCRIPT_LINES, MAX_SWITCH_PORTS, MAX_SWITCHES, MAX_USERS, MIN_RING,
+    NAME_BYTES,
 };
 pub use name::{Kind, Name};
 pub use place::Place;

@@ -6,7 +6,7 @@ pub const MAX_RING: u32 = 1024;
 pub const MAX_EXTRA: u32 = 1024;
 /// The most buffers of a pool.
 pub const MAX_POOL: u32 = 65_536;
-/// The buffers of a pool whose script says nothing.
+/// The buffers of a pool whose script names no number.
 pub const DEFAULT_POOL: u32 = 8192;
 /// The bytes of a buffer.
 pub const BUFFER_BYTES: usize = 2048;
@@ -20,13 +20,31 @@ pub const MAX_SWITCH_PORTS: usize = 16;
 pub const MAX_PIPE_ENDS: usize = 32;
 /// The most monitors.
 pub const MAX_MONITORS: usize = 32;
+/// The most ports of all kinds at once.
+pub const MAX_PORTS: usize = MAX_SWITCHES * MAX_SWITCH_PORTS + MAX_PIPE_ENDS + MAX_MONITORS;
+/// The most bytes of a name.
+pub const NAME_BYTES: usize = 16;
+/// The buckets of a learning table.
+pub const BUCKETS: usize = 1024;
 /// The most users of a script.
 pub const MAX_USERS: usize = 64;
+/// The most bytes of a script.
+pub const MAX_SCRIPT_BYTES: u64 = 1_048_576;
+/// The most lines of a script.
+pub const MAX_SCRIPT_LINES: u64 = 10_000;
+/// The most frames that the counts of a script's lines may add up to.
+pub const MAX_COUNTS: u64 = 1_000_000;
+/// The most bytes of all captures that a script plays, each counted once.
+pub const MAX_CAPTURE_BYTES: u64 = 67_108_864;
+/// The most frames that a script plays from captures.
+pub const MAX_PLAYED: u64 = 1_000_000;
 
-/// How much a record holds: entries stored and promised, and bytes of frames stored.
+/// How much a record holds.
 #[derive(Clone, Copy, Debug, PartialEq, Eq)]
 pub struct Limits {
+    /// The most entries, stored and promised.
     pub entries: u64,
+    /// The most bytes of frames stored.
     pub bytes: u64,
 }
 

@@ -1,5 +1,8 @@
-ghost use Rattle.std.specs.Prelude.{◌≡◌, IfOk, OnErr, IsTrue, None, Some, false, length, ◌≤◌};
-ghost use Rattle.nm_types.specs.Names.{is_word_byte, are_word_bytes, is_word, colon_in, is_switch_port, pipe_end, pipe_kind, kind_of, is_name, is_switch_port_name, is_pipe_name, is_monitor_name, switch_of, IsName};
+ghost use Rattle.std.specs.Prelude.{◌≡◌, ◌≤◌, IfOk, OnErr, IsTrue, None, Some, true, false, length};
+ghost use Rattle.nm_types.specs.Names.{is_word_byte, are_word_bytes, is_word, colon_in};
+ghost use Rattle.nm_types.specs.Names.{is_switch_port, pipe_end, pipe_kind, kind_of, is_name, IsName};
+ghost use Rattle.nm_types.specs.Names.{is_switch_port_name, is_pipe_name, is_monitor_name};
+ghost use Rattle.nm_types.specs.Names.{switch_of, peer_byte, peer_name};
 
 use crate::fault::BadName;
 use std::marker::Model;
@@ -34,7 +37,9 @@ impl Model for Name {
     ghost view = { λ n. take n.len n.bytes };
 
     // The bytes behind the text are zero, so that names of one text are one value.
-    ghost invariant = { λ n. (length n.bytes ≡ 16) × (n.len ≤ 16) × (n.bytes ≡ take n.len n.bytes ++ replicate (16 - n.len) 0) × IsName (take n.len n.bytes) };
+    ghost invariant = { λ n. (length n.bytes ≡ 16) × (n.len ≤ 16)
+        × (n.bytes ≡ take n.len n.bytes ++ replicate (16 - n.len) 0)
+        × IsName (take n.len n.bytes) };
 
     ghost inverse = { λ text. record { bytes = text ++ replicate (16 - length text) 0; len = length text } };
 }
@@ -92,8 +97,8 @@ fn pipe_kind(rest: &[u8]) -> Option<Kind>
     }
 }
 
+/// What a name names, or none if the text is no name.
 #[tactic(auto, using(crate::proofs::PipeNames::pipe_names))]
-/// What a name names, or none where the text is no name.
 pub fn kind_of(text: &[u8]) -> Option<Kind>
     ensures { result ≡ kind_of text.now }
 {
@@ -126,8 +131,14 @@ fn is_name(text: &[u8]) -> bool
     kind_of(text).is_some()
 }
 
+fn peer_byte(b: u8) -> u8
+    ensures { result ≡ peer_byte b }
+{
+    if b == b'{' { b'}' } else { b'{' }
+}
+
 impl Name {
-    /// The name that a text is; `BadName` exactly where the text is none.
+    /// Reads a name; `BadName` exactly if `text` is none.
     pub fn parse(text: &str) -> Result<Name, BadName>
         ensures ok { IfOk result (λ name. (name ≡ text.now) × IsName text.now) }
         ensures bad { OnErr result (is_name text.now ≡ false) }
@@ -135,7 +146,7 @@ impl Name {
         Name::from_bytes(text.as_bytes())
     }
 
-    /// The name that these bytes are; `BadName` exactly where they are none.
+    /// Reads a name of bytes; `BadName` exactly if they are none.
     pub fn from_bytes(text: &[u8]) -> Result<Name, BadName>
         ensures ok { IfOk result (λ name. (name ≡ text.now) × IsName text.now) }
         ensures bad { OnErr result (is_name text.now ≡ false) }
@@ -170,36 +181,42 @@ impl Name {
         }
     }
 
-    /// Whether it names a port of a switch.
+    /// Tells whether it names a port of a switch.
     #[tactic(auto, unfolding(crate::specs::Names::is_switch_port_name))]
     pub fn is_switch_port(&self) -> bool
         ensures { result ≡ is_switch_port_name self.now }
     {
-        match self.kind() {
-            Kind::Vale => true,
-            Kind::Master | Kind::Slave | Kind::Monitor => false,
-        }
+        matches!(&self.kind(), Kind::Vale)
     }
 
-    /// Whether it names an end of a pipe.
+    /// Tells whether it names an end of a pipe.
     #[tactic(auto, unfolding(crate::specs::Names::is_pipe_name))]
     pub fn is_pipe(&self) -> bool
         ensures { result ≡ is_pipe_name self.now }
     {
-        match self.kind() {
-            Kind::Master | Kind::Slave => true,
-            Kind::Vale | Kind::Monitor => false,
-        }
+        matches!(&self.kind(), Kind::Master | Kind::Slave)
     }
 
-    /// Whether it names a monitor.
+    /// Tells whether it names a monitor.
     #[tactic(auto, unfolding(crate::specs::Names::is_monitor_name))]
     pub fn is_monitor(&self) -> bool
         ensures { result ≡ is_monitor_name self.now }
     {
-        match self.kind() {
-            Kind::Monitor => true,
-            Kind::Vale | Kind::Master | Kind::Slave => false,
+        matches!(&self.kind(), Kind::Monitor)
+    }
+
+    /// The name of the pipe's other end.
+    pub fn peer(&self) -> Name
+        requires { is_pipe_name self.now ≡ true }
+        ensures peer { result ≡ peer_name self.now }
+        ensures pipe { is_pipe_name result ≡ true }
+    {
+        let last = self.len as usize - 1;
+        let mut bytes = self.bytes;
+        bytes[last] = peer_byte(bytes[last]);
+        Name {
+            bytes,
+            len: self.len,
         }
     }
 

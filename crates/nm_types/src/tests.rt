@@ -1,4 +1,7 @@
-use crate::{Batch, Frame, Kind, Name};
+use crate::{
+    Batch, Frame, Kind, Name, NoMemory, OpenFault, Part, PortId, Side, Sides, StepFault, SyncFault,
+    WatchFault,
+};
 use std::test::Fail;
 
 /// A broadcast from 02:00:00:00:00:0a of 14 bytes.
@@ -50,6 +53,70 @@ fn names_tell_their_switch(rt: HostRuntime) {
             Err(_) => assert!(rt; false, "{text}"),
         }
     }
+}
+
+#[test]
+fn pipes_have_two_ends(rt: HostRuntime) {
+    for (text, peer) in [
+        ("pipe0{", "pipe0}"),
+        ("pipe0}", "pipe0{"),
+        ("pipe_-a}", "pipe_-a{"),
+    ] {
+        match Name::parse(text) {
+            Ok(name) if name.is_pipe() => {
+                assert!(rt; name.peer().as_bytes() == peer.as_bytes(), "{text}");
+            }
+            _ => assert!(rt; false, "{text}"),
+        }
+    }
+}
+
+#[test]
+fn sides_are_watched(rt: HostRuntime) {
+    for (sides, tx, rx) in [
+        (Sides::T, true, false),
+        (Sides::R, false, true),
+        (Sides::TR, true, true),
+    ] {
+        assert!(rt; sides.watches(Side::Tx) == tx);
+        assert!(rt; sides.watches(Side::Rx) == rx);
+    }
+}
+
+#[test]
+fn faults_say_what_to_do(rt: HostRuntime) -> Result<(), Fail> {
+    let alloc = rt.alloc();
+    let full = StepFault::RecordFull {
+        what: Part::Entries,
+        used: 7,
+        want: 3,
+    };
+    let long = "the record is full: 7 entries are used, and 3 more are wanted";
+    let head = SyncFault::HeadOut {
+        head: 9,
+        from: 1,
+        to: 3,
+    };
+    let watched = WatchFault::Watched { by: PortId(5) };
+    let buffers = OpenFault::NoBuffers { want: 8, have: 2 };
+    for (text, expected) in [
+        (format!(in alloc; "{NoMemory}")?, "out of memory"),
+        (format!(in alloc; "{full}")?, long),
+        (format!(in alloc; "{}", SyncFault::from(full))?, long),
+        (format!(in alloc; "{}", WatchFault::from(full))?, long),
+        (
+            format!(in alloc; "{head}")?,
+            "head 9 is not between 1 and the tail 3",
+        ),
+        (format!(in alloc; "{watched}")?, "port 5 is watching it"),
+        (
+            format!(in alloc; "{buffers}")?,
+            "8 buffers are wanted, and 2 are free",
+        ),
+    ] {
+        assert_eq!(rt; text.as_str(), expected);
+    }
+    Ok(())
 }
 
 #[test]

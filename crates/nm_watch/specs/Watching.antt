@@ -1,12 +1,11 @@
 -- Who monitors what, by the port that is watched: a port has at most one monitor, and a monitor may
 -- watch many ports.
-use Rattle.std.specs.Prelude.{ℕ, Bool, true, false, ◌==◌, ◌≡◌, if◌then◌else◌, List, Option, Some, None, nat_eq, option_map, option_and_then}
+use Rattle.std.specs.Prelude.{ℕ, ◌==◌, ◌≡◌, if◌then◌else◌, List, Option, Some, None, nat_eq, option_map, option_and_then}
 use Rattle.std.specs.Map.{lookup}
+use Rattle.nm_types.specs.Sides.{watches_side}
 use Rattle.nm_types.specs.declared.id.PortId.{PortId}
 use Rattle.nm_types.specs.declared.id.Side.{Side}
-use Rattle.nm_types.specs.declared.id.Side.TheVariants.{Tx, Rx}
 use Rattle.nm_types.specs.declared.id.Sides.{Sides}
-use Rattle.nm_types.specs.declared.id.Sides.TheVariants.{T as Transmit, R as Receive, TR as Both}
 use Rattle.nm_types.specs.declared.fault.WatchFault.{WatchFault}
 use Rattle.nm_types.specs.declared.fault.WatchFault.TheVariants as faults
 use Rattle.nm_watch.specs.declared.watches.Watch.{Watch}
@@ -18,14 +17,6 @@ Watching = List (ℕ × Watch)
 -- the watch of a port
 abbrev pub watch_of : Watching → ℕ → Option Watch
 watch_of watching target = lookup (nat_eq target) watching
-
-abbrev pub watches_side : Sides → Side → Bool
-watches_side Transmit Tx = true
-watches_side Transmit Rx = false
-watches_side Receive Tx = false
-watches_side Receive Rx = true
-watches_side Both Tx = true
-watches_side Both Rx = true
 
 abbrev pub monitor_on : Side → Watch → Option PortId
 monitor_on side watch = if watches_side watch.sides side then Some watch.monitor else None
@@ -47,7 +38,7 @@ unless_by monitor (Some watch) = if watch.monitor.0 == monitor.0 then None else 
 abbrev pub watch_after_forget : Watching → PortId → ℕ → Option Watch
 watch_after_forget watching gone port = if gone.0 == port then None else unless_by gone (watch_of watching port)
 
--- a watch is refused where the port has a monitor, which is named; where memory was wanting it has none
+-- a watch is refused if the port has a monitor, which is named; if memory runs out it has none
 abbrev pub IsWatchRefusal : Watching → ℕ → WatchFault → Type 0
 IsWatchRefusal watching target (faults.Watched by) = option_map (λ (w : Watch). w.monitor) (watch_of watching target) ≡ Some by
 IsWatchRefusal watching target faults.NoMemory = watch_of watching target ≡ None

@@ -2,7 +2,7 @@ use crate::Watches;
 use nm_types::{PortId, Side, Sides, WatchFault};
 use std::process::Abort;
 
-/// The port 4 is watched by the monitor 6; a second watch of it is refused, also by the same monitor.
+/// Port 4 is watched by monitor 6; a second watch of it is refused, even by the same monitor.
 #[test]
 fn second_watch_is_refused(rt: HostRuntime) -> Result<(), WatchFault> {
     let taken = Err(WatchFault::Watched { by: PortId(6) });
@@ -15,6 +15,7 @@ fn second_watch_is_refused(rt: HostRuntime) -> Result<(), WatchFault> {
     Ok(())
 }
 
+/// Each kind of watch sees its own sides.
 #[test]
 fn sides_of_a_watch(rt: HostRuntime) -> Result<(), WatchFault> {
     let seen = [
@@ -31,7 +32,7 @@ fn sides_of_a_watch(rt: HostRuntime) -> Result<(), WatchFault> {
     Ok(())
 }
 
-/// The monitor 6 watches the ports 4, 5 and 7, the monitor 8 the port 9: a watch ends with either port.
+/// Monitor 6 watches ports 4, 5 and 7, and monitor 8 watches port 9: a watch ends with either port.
 #[test]
 fn watches_end_with_either_port(rt: HostRuntime) -> Result<(), WatchFault> {
     let mut watches = Watches::new(rt.alloc());

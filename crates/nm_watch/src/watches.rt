@@ -1,15 +1,18 @@
 ghost use Rattle.std.specs.Prelude.{◌≡◌, ℕ, [], None, OnOk, OnErr, IfErr};
-ghost use Rattle.nm_watch.specs.Watching.{watch_of, watches_side, monitor_of, watch_after_add, watch_after_forget, IsWatchRefusal};
+ghost use Rattle.nm_watch.specs.Watching.{watch_of, monitor_of, IsWatchRefusal};
+ghost use Rattle.nm_watch.specs.Watching.{watch_after_add, watch_after_forget};
 
 use nm_types::{PortId, Side, Sides, WatchFault};
 use std::alloc::Global;
 use std::collections::HashMap;
 use std::marker::Model;
 
-/// The watch of a port: by which monitor, on which sides.
+/// The watch of a port.
 #[derive(Clone, Copy, Debug, PartialEq, Eq)]
 pub struct Watch {
+    /// The monitor that watches the port.
     pub monitor: PortId,
+    /// The sides of the port that it watches.
     pub sides: Sides,
 }
 
@@ -28,17 +31,8 @@ impl Model for Watches {
     ghost view = { λ w. w.watches.entries };
 }
 
-fn watches_side(sides: Sides, side: Side) -> bool
-    ensures { result ≡ watches_side sides side }
-{
-    match side {
-        Side::Tx => matches!(sides, Sides::T | Sides::TR),
-        Side::Rx => matches!(sides, Sides::R | Sides::TR),
-    }
-}
-
 impl Watches {
-    /// No watches. Takes no memory.
+    /// An empty table. It takes no memory.
     pub fn new(alloc: Global) -> Watches
         ensures { result ≡ [] }
     {
@@ -47,12 +41,13 @@ impl Watches {
         }
     }
 
-    /// A monitor watches a port, on these sides of it. `Watched` names the monitor that the port has
-    /// already, which may be the same; `NoMemory` comes where memory is wanting. The other faults
-    /// never come.
+    /// Makes `monitor` watch these sides of `target`. Refuses with `Watched` if the port has a
+    /// monitor, which is named and may be the same one, and with `NoMemory` if out of memory. No
+    /// other fault is answered.
     pub fn add(&mut self, target: PortId, monitor: PortId, sides: Sides) -> Result<(), WatchFault>
         ensures free { OnOk result (watch_of self.old target.0 ≡ None) }
-        ensures added { OnOk result ((port : ℕ) → watch_of self.new port ≡ watch_after_add self.old target monitor sides port) }
+        ensures added { OnOk result ((port : ℕ) →
+            watch_of self.new port ≡ watch_after_add self.old target monitor sides port) }
         ensures refused { IfErr result (IsWatchRefusal self.old target.0) }
         ensures err { OnErr result (self.new ≡ self.old) }
     {
@@ -65,17 +60,17 @@ impl Watches {
         }
     }
 
-    /// The monitor that watches this side of the port.
+    /// Finds the monitor that watches this side of `target`.
     pub fn of(&self, target: PortId, side: Side) -> Option<PortId>
         ensures { result ≡ monitor_of self.now target.0 side }
     {
         match self.watches.get(&target.0) {
-            Some(watch) if watches_side(watch.sides, side) => Some(watch.monitor),
+            Some(watch) if watch.sides.watches(side) => Some(watch.monitor),
             _ => None,
         }
     }
 
-    /// Ends the watch of this port, and every watch by this port.
+    /// Ends the watch of this port and every watch by it.
     pub fn forget(&mut self, port: PortId)
         ensures { (other : ℕ) → watch_of self.new other ≡ watch_after_forget self.old port other }
     {

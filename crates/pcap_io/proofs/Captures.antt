@@ -1,13 +1,12 @@
-use Rattle.std.proofs.Common.{◌≡◌, ℕ, ◌≤◌, false, List, length, drop, nat_lt, Option, None, Some, MatchOption, Result, Ok, Err, IfOk, IfErr, OnOk, MatchResult, Vec, refl, sym, ◌∙◌, subst, arith, le-ltb, inl, inr}
-use Rattle.std.specs.declared.alloc.Global.{Global}
+use Rattle.std.proofs.Common.{◌≡◌, ℕ, ◌≤◌, false, List, length, drop, nat_lt, Option, None, Some, MatchOption, refl, sym, ◌∙◌, subst, arith, le-ltb, inl, inr}
 use Rattle.std.proofs.lemmas.Bool.{cases_Bool, ltb-false}
 use Rattle.byteorder.specs.Endian.{big_number}
 use Rattle.pcap_io.specs.declared.order.Order.{Order}
 use Rattle.pcap_io.specs.declared.record.Record.{Record}
 use Rattle.pcap_io.specs.declared.fault.PcapFault.{PcapFault}
-use Rattle.pcap_io.specs.declared.fault.PcapFault.TheVariants.{BadMagic, BadVersion, BadLink, LongRecord, Truncated, NoMemory}
+use Rattle.pcap_io.specs.declared.fault.PcapFault.TheVariants.{Truncated}
 use Rattle.pcap_io.specs.Capture.{Reader, number_in, order_of, BeginsWithHeader, AreRecords, IsCapture}
-use Rattle.pcap_io.specs.Faults.{first_of_both, header_fault, fault_from, fault_past_magic, fault_in_order, first_fault, Blames, IsCaptureOrFaulty}
+use Rattle.pcap_io.specs.Faults.{first_of_both, header_fault, fault_from, fault_past_magic, fault_in_order, first_fault, IsCaptureOrFaulty}
 use Rattle.pcap_io.proofs.Headers.{good_header, no_header_fault}
 use Rattle.pcap_io.proofs.Records.{records_where_no_fault, no_fault_of_records, same_records}
 
@@ -72,24 +71,4 @@ capture_or_found bytes (Some fault) some = λ records capture. not_both bytes re
 pub capture_or_faulty : (bytes : List ℕ) → IsCaptureOrFaulty bytes
 capture_or_faulty bytes = capture_or_found bytes (first_fault bytes) refl
 
--- a capture is read as its records
-pub read_whole : (bytes : List ℕ) (result : Result (Vec Record Global) PcapFault) (records : List Record) → IfOk result (λ found. IsCapture bytes found.items) → IfErr result (Blames (first_fault bytes)) → IsCapture bytes records → MatchResult result (λ found. found.items ≡ records) (λ fault. fault ≡ NoMemory)
-read_whole bytes (Ok found) records ok bad capture = same_capture bytes found.items records ok capture
-read_whole bytes (Err NoMemory) records ok bad capture = refl
-read_whole bytes (Err (BadMagic magic)) records ok bad capture = absurd (not_both bytes records (BadMagic magic) capture bad)
-read_whole bytes (Err (BadVersion major minor)) records ok bad capture = absurd (not_both bytes records (BadVersion major minor) capture bad)
-read_whole bytes (Err (BadLink link)) records ok bad capture = absurd (not_both bytes records (BadLink link) capture bad)
-read_whole bytes (Err (LongRecord offset len)) records ok bad capture = absurd (not_both bytes records (LongRecord offset len) capture bad)
-read_whole bytes (Err (Truncated offset)) records ok bad capture = absurd (not_both bytes records (Truncated offset) capture bad)
-
--- a header and records are a capture, where the magic chose their order
-capture_read : (bytes : List ℕ) (order : Order) (result : Result (Vec Record Global) PcapFault) → order_of (big_number 4 bytes) ≡ Some order → OnOk result (BeginsWithHeader (number_in order) bytes) → IfOk result (λ found. AreRecords (number_in order) (drop 24 bytes) found.items) → IfOk result (λ found. IsCapture bytes found.items)
-capture_read bytes order (Ok found) magic header body = record { order = order; magic = magic; header = header; body = body }
-capture_read bytes order (Err fault) magic header body = tt
-
--- the same, by what was read in the order that the magic chose
-pub read_in_order : (bytes : List ℕ) (order : Order) (result : Result (Vec Record Global) PcapFault) (records : List Record) → 4 ≤ length bytes → order_of (big_number 4 bytes) ≡ Some order → OnOk result (BeginsWithHeader (number_in order) bytes) → IfOk result (λ found. AreRecords (number_in order) (drop 24 bytes) found.items) → IfErr result (Blames (fault_past_magic (number_in order) bytes)) → IsCapture bytes records → MatchResult result (λ found. found.items ≡ records) (λ fault. fault ≡ NoMemory)
-read_in_order bytes order result records there magic header body bad capture =
-    read_whole bytes result records (capture_read bytes order result magic header body) (rw (fault_where_ordered bytes order there magic) bad) capture
-
-pub ruleset captures = (fault_where_ordered, capture_or_faulty, read_whole)
+pub ruleset captures = (fault_where_ordered)

@@ -1,3 +1,4 @@
+pub mod CaptureLaws
 pub mod Captures
 mod Headers
 mod Records

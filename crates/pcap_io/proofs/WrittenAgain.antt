@@ -46,5 +46,3 @@ capture_again records fits = record {
   header = record { there = omega arith; major = refl; minor = refl; link = refl };
   body = records_again records fits;
 }
-
-pub ruleset written_again = (capture_again)

@@ -1,3 +1,5 @@
 pub mod Capture
 pub mod Faults
+pub mod Laws
+pub mod Limits
 pub mod Written

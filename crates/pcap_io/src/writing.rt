@@ -1,33 +1,29 @@
-ghost use Rattle.std.specs.Prelude.{◌≡◌, ◌≤◌, List, length, All, OnErr};
+ghost use Rattle.std.specs.Prelude.{◌≡◌, ◌≤◌, length, OnErr};
 ghost use Rattle.nm_io.specs.Counts.{Rose};
 ghost use Rattle.nm_io.specs.Held.{Writes};
-ghost use Rattle.pcap_io.specs.Capture.{IsCapture};
-ghost use Rattle.pcap_io.specs.Written.{head_text, header_text, record_text, capture_text, IsWritable};
-ghost use Rattle.pcap_io.specs.declared.record.Record.{Record};
+ghost use Rattle.pcap_io.specs.Limits.{most_captured};
+ghost use Rattle.pcap_io.specs.Written.{head_text, header_text, record_text};
 
-use crate::MAX_CAPTURED;
 use byteorder::{ByteOrder, LittleEndian};
 use nm_io::{Failed, Sink, put_all};
 
-/// Little-endian, microseconds, version 2.4, no zone, at most 262,144 bytes a record, Ethernet.
+/// Little-endian, microseconds, version 2.4, no time zone, at most 262,144 bytes a record,
+/// Ethernet.
 const HEADER: [u8; 24] = [
     0xd4, 0xc3, 0xb2, 0xa1, 2, 0, 4, 0, 0, 0, 0, 0, 0, 0, 0, 0, 0, 0, 4, 0, 1, 0, 0, 0,
 ];
 
-/// Writes the header with which a capture begins.
-#[tactic(auto, using(crate::proofs::WrittenAgain::written_again))]
+/// Writes the header of a capture. If it fails, a prefix of the header was written.
 pub fn write_header<K: Sink>(out: &mut K) -> Result<(), Failed>
     ensures writes { Writes (K.holds out.old) (K.holds out.new) result header_text }
     ensures later { K.faults out.old ≤ K.faults out.new }
     ensures cause { OnErr result (Rose (K.faults out.old) (K.faults out.new)) }
-
-    // What is written, the header and then records, is read again as these records.
-    ensures read_again { (records : List Record) → All IsWritable records → IsCapture (capture_text records) records }
 {
     put_all(out, &HEADER)
 }
 
-/// Writes a record of a capture, behind its header. All of the frame's bytes are captured.
+/// Writes a record of a capture. All of the frame's `bytes` are captured; `fraction` is in
+/// microseconds. If it fails, a prefix of the record was written.
 #[tactic(auto, using(nm_io::proofs::Growth::writing))]
 pub fn write_record<K: Sink>(
     out: &mut K,
@@ -35,8 +31,9 @@ pub fn write_record<K: Sink>(
     fraction: u32,
     bytes: &[u8],
 ) -> Result<(), Failed>
-    requires { length bytes.now ≤ MAX_CAPTURED }
-    ensures writes { Writes (K.holds out.old) (K.holds out.new) result (record_text seconds fraction bytes.now) }
+    requires { length bytes.now ≤ most_captured }
+    ensures writes { Writes (K.holds out.old) (K.holds out.new) result
+        (record_text seconds fraction bytes.now) }
     ensures later { K.faults out.old ≤ K.faults out.new }
     ensures cause { OnErr result (Rose (K.faults out.old) (K.faults out.new)) }
 {
@@ -44,6 +41,7 @@ pub fn write_record<K: Sink>(
     put_all(out, bytes)
 }
 
+/// The four numbers before a record's captured bytes.
 #[tactic(auto, unfolding(crate::specs::Written::head_text))]
 fn record_head(seconds: u32, fraction: u32, len: u32) -> [u8; 16]
     ensures { result ≡ head_text seconds fraction len }

@@ -8,6 +8,7 @@ use Rattle.vale_entry.specs.World.{Port}
 use Rattle.vale_entry.specs.Legal.{Standing}
 use Rattle.vale_entry.proofs.Each.{each-weaker}
 use Rattle.vale_entry.proofs.ListLaws.{each-at, each-set, map-set_same}
+use Rattle.vale_entry.specs.World.{open_port}
 use Rattle.vale_script.specs.declared.script.Fill.{Fill}
 use Rattle.vale_script.specs.Grammar.{frame_of_put}
 use Rattle.vale.specs.declared.port.OwnPort.{OwnPort}
@@ -45,6 +46,23 @@ owns-changed_by s (Some session) ports place own other here id_is buffers_are ha
   has = each-set (HasPort s.world.ports session.0) ports place other owns.has (has session.0 (each-at (HasPort s.world.ports session.0) ports place own owns.has here));
   only = each-weaker (IsAmong session.0 ports) (IsAmong session.0 (slice_set ports place other)) (λ port among. among-set session.0 ports place own other port here id_is among) s.world.ports owns.only;
   holds = λ b. rw (flat_map-set buffers_in ports place own other here buffers_are) (owns.holds b);
+}
+
+-- the open port of a user's own is the same one among other ports
+pub has-kept : (ports others : List Port) (session : ℕ) (own : OwnPort) (h : HasPort ports session own) → open_port others own.id.0 ≡ Some h.port → HasPort others session own
+has-kept ports others session own h there = record {
+  port = h.port;
+  there = there;
+  session_is = h.session_is;
+  name_is = h.name_is;
+  out_is = h.out_is;
+  tx_is = h.tx_is;
+  no_extra = h.no_extra;
+  on_switch = h.on_switch;
+  least = h.least;
+  most = h.most;
+  few = h.few;
+  short = h.short;
 }
 
 -- sending empties the transmit ring

@@ -32,6 +32,7 @@ use Rattle.vale.proofs.Sending.{settled-all}
 use Rattle.vale.proofs.Settlements.{standing-step, after-made, any-none}
 use Rattle.vale.proofs.Tasks.{task-runs, task-nothing, does-then, does-step, step-longer, theirs-same, no-port}
 use Rattle.vale.proofs.Turns.{runs-then, grown-longer}
+use Rattle.vale.proofs.Changing.{has-kept}
 
 -- What is left of the ports where one is closed.
 
@@ -59,20 +60,8 @@ open-elsewhere (port ∷ ports) id wanted apart = by_head (port.id == id) refl (
     by_head false t rest = rw t (ap (λ (o : Option Port). cond ((port.id == wanted) && not port.shutting) (Some port) o) rest)
 
 has-elsewhere : (ports : List Port) (id session : ℕ) (own : OwnPort) → (own.id.0 ≡ id → ⊥) → HasPort ports session own → HasPort (ports_closed id ports) session own
-has-elsewhere ports id session own apart h = record {
-  port = h.port;
-  there = open-elsewhere ports id own.id.0 apart ∙ h.there;
-  session_is = h.session_is;
-  name_is = h.name_is;
-  out_is = h.out_is;
-  tx_is = h.tx_is;
-  no_extra = h.no_extra;
-  on_switch = h.on_switch;
-  least = h.least;
-  most = h.most;
-  few = h.few;
-  short = h.short;
-}
+has-elsewhere ports id session own apart h =
+    has-kept ports (ports_closed id ports) session own h (open-elsewhere ports id own.id.0 apart ∙ h.there)
 
 only-shut : (id : ℕ) (ports : List Port) (session : ℕ) (owns : List OwnPort) → Each (IsAmong session owns) ports → Each (IsAmong session owns) (changed_at id shut ports)
 only-shut id ports session owns all = only-kept (λ (p : Port). changed_if (p.id == id) shut p) (λ p. shut-id (p.id == id) p) (λ p. shut-session (p.id == id) p) ports session owns all

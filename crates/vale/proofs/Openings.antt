@@ -38,6 +38,7 @@ use Rattle.vale.proofs.Buffers.{sessions-there}
 use Rattle.vale.proofs.Owning.{KeepsOwned, owns-kept}
 use Rattle.vale.proofs.Settlements.{standing-step, after-made}
 use Rattle.vale.proofs.Tasks.{Rests, does-step, step-longer, theirs-same, stops-task, task-nothing}
+use Rattle.vale.proofs.Changing.{has-kept}
 
 -- What an opening that is not refused says of its sizes and of the free buffers.
 
@@ -127,20 +128,8 @@ slice_get-last [] y = refl
 slice_get-last (x ∷ xs) y = slice_get-last xs y
 
 has-more : (ports : List Port) (port : Port) (session : ℕ) (own : OwnPort) → HasPort ports session own → HasPort (ports ++ port ∷ []) session own
-has-more ports port session own h = record {
-  port = h.port;
-  there = find-front (is_open_at own.id.0) ports (port ∷ []) h.port h.there;
-  session_is = h.session_is;
-  name_is = h.name_is;
-  out_is = h.out_is;
-  tx_is = h.tx_is;
-  no_extra = h.no_extra;
-  on_switch = h.on_switch;
-  least = h.least;
-  most = h.most;
-  few = h.few;
-  short = h.short;
-}
+has-more ports port session own h =
+    has-kept ports (ports ++ port ∷ []) session own h (find-front (is_open_at own.id.0) ports (port ∷ []) h.port h.there)
 
 -- what opening makes, where it is not refused
 open-made_by : (s : Standing) (session : ℕ) (name : List ℕ) (tx rx : ℕ) (found : Bool) (refusal : Option OpenFault) → option_map reply_of (cond found (Some (open_step_by refusal s session name tx rx 0)) None) ≡ Some Opened

@@ -28,7 +28,7 @@ use Rattle.vale.specs.Machine.{Machine, Task, TakeFrames, sync_call, got_at, aft
 use Rattle.vale.specs.Owned.{HasPort, OwnsAll, OwnsBy, Owns, IsAmong, AllSettled, HasDoneLots, IsDoneLot, id_of_own, times_in}
 use Rattle.vale.specs.Steps.{CanGive, GivesBack, DoesTasks, StopsTasks}
 use Rattle.vale.proofs.Buffers.{times-set, session-once, holds-some, received-within, moved-own, moved-other, sessions-there}
-use Rattle.vale.proofs.Changing.{among-set}
+use Rattle.vale.proofs.Changing.{among-set, has-kept}
 use Rattle.vale.proofs.Owning.{only-kept}
 use Rattle.vale.proofs.OwnPorts.{OwnAt, own-read}
 use Rattle.vale.proofs.Tasks.{Rests, does-step, step-longer, theirs-same, stops-task}
@@ -73,20 +73,7 @@ has-elsewhere : (ports : List Port) (id n session : ℕ) (own : OwnPort) → (ow
 has-elsewhere ports id n session own apart h =
     let id_is : h.port.id ≡ own.id.0 = found-id ports own.id.0 h.port h.there in
     let miss : (h.port.id == id) ≡ false = ne_eqb h.port.id id (λ e. apart (sym id_is ∙ e)) in
-    record {
-      port = h.port;
-      there = synced-found id n own.id.0 ports h.port h.there ∙ rw miss refl;
-      session_is = h.session_is;
-      name_is = h.name_is;
-      out_is = h.out_is;
-      tx_is = h.tx_is;
-      no_extra = h.no_extra;
-      on_switch = h.on_switch;
-      least = h.least;
-      most = h.most;
-      few = h.few;
-      short = h.short;
-    }
+    has-kept ports (changed_at id (port_after_sync n) ports) session own h (synced-found id n own.id.0 ports h.port h.there ∙ rw miss refl)
 
 only-synced : (id n : ℕ) (ports : List Port) (session : ℕ) (owns : List OwnPort) → Each (IsAmong session owns) ports → Each (IsAmong session owns) (changed_at id (port_after_sync n) ports)
 only-synced id n ports session owns all =

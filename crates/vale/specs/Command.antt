@@ -9,7 +9,7 @@ use Rattle.vale.specs.declared.status.Status.TheVariants.{Done, WriteFault}
 use Rattle.vale.specs.Run.{Runs}
 
 unfoldable pub help_text : List ℕ
-help_text = codes "usage: vale run SCRIPT\n\nRuns a script of netmap rings and VALE ports, and writes the transcript of what the switch did.\n"
+help_text = codes "usage: vale run SCRIPT\n\nRuns a script of netmap rings and VALE ports, and writes the transcript of what the switch did.\n\nLines of a script:\n  pool N                          the pool has N buffers (the first line)\n  user U                          a user enters\n  open U NAME TX RX               opens a port with rings of TX and RX slots\n  put U NAME N DST SRC LEN FILL   puts N frames of LEN bytes into the transmit ring\n  tx U NAME                       sends what lies in the transmit ring\n  rx U NAME                       reads what is ready in the receive ring\n  close U NAME                    closes the port\n  # ..                            a comment\n"
 
 unfoldable pub version_text : List ℕ
 version_text = codes "vale 0.1.0\n"

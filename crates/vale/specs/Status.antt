@@ -1,5 +1,7 @@
 -- How a run ends: the status of the process, and the line on standard error.
-use Rattle.std.specs.Prelude.{ℕ, List, [], ◌++◌, codes, decimal, string_bytes}
+use Rattle.std.specs.Prelude.{ℕ, ◌≡◌, List, [], ◌++◌, ◌⊎◌, Option, codes, decimal, string_bytes}
+use Rattle.nm_io.specs.Counts.{Rose}
+use Rattle.nm_io.specs.Held.{grown, GrowsByPrefix}
 use Rattle.nm_types.specs.declared.fault.LineCause.{LineCause}
 use Rattle.nm_types.specs.declared.fault.LineCause.TheVariants.{Word, Count, Number, Name, User, Port, Order, Twice}
 use Rattle.vale.specs.declared.status.What.{What}
@@ -60,3 +62,7 @@ status_text (ReadFault name) = read_fault_line (string_bytes name)
 status_text WriteFault = write_fault_line
 status_text (Over what count limit) = over_line (what_text what) count limit
 status_text NoMemory = no_memory_line
+
+-- the line was written, or by a failure a prefix of it; `faults` are the stream's before and after
+abbrev pub Reports : ℕ × ℕ → Option (List ℕ) → Option (List ℕ) → List ℕ → Type 0
+Reports faults old new line = (new ≡ grown old line) ⊎ (GrowsByPrefix old new line × Rose faults.0 faults.1)

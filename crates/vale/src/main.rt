@@ -12,11 +12,11 @@ mod tests;
 mod user;
 
 ghost use Rattle.std.specs.Prelude.{◌≡◌, ◌≤◌, ℕ, List, map, string_bytes, option_map};
-ghost use Rattle.vale.specs.Command.{answer_to, Answers};
+ghost use Rattle.vale.specs.Command.{help_text, version_text, answer_to, Answers};
 ghost use Rattle.vale.specs.Run.{script_name};
 
 use crate::run::{MAX_SCRIPT, run};
-use crate::status::{Status, status_line};
+use crate::status::{Status, report};
 use nm_io::{FileShelf, NoGate, Shelf, Sink, StdSink, put_all};
 use nm_types::Limits;
 use std::alloc::AllocError;
@@ -26,6 +26,16 @@ use std::{env, io};
 const HELP: &str = "usage: vale run SCRIPT
 
 Runs a script of netmap rings and VALE ports, and writes the transcript of what the switch did.
+
+Lines of a script:
+  pool N                          the pool has N buffers (the first line)
+  user U                          a user enters
+  open U NAME TX RX               opens a port with rings of TX and RX slots
+  put U NAME N DST SRC LEN FILL   puts N frames of LEN bytes into the transmit ring
+  tx U NAME                       sends what lies in the transmit ring
+  rx U NAME                       reads what is ready in the receive ring
+  close U NAME                    closes the port
+  # ..                            a comment
 ";
 
 const VERSION: &str = "vale 0.1.0\n";
@@ -40,14 +50,27 @@ fn words_of_command(rt: &HostRuntime) -> io::Result<Vec<String>> {
     Ok(words)
 }
 
+#[tactic(auto, unfolding(crate::specs::Command::help_text))]
+fn help() -> &'static str
+    ensures { result.now ≡ help_text }
+{
+    HELP
+}
+
+#[tactic(auto, unfolding(crate::specs::Command::version_text))]
+fn version() -> &'static str
+    ensures { result.now ≡ version_text }
+{
+    VERSION
+}
+
 /// What `--help` and `--version` answer.
-#[tactic(auto, unfolding(crate::specs::Command::help_text, crate::specs::Command::version_text))]
 fn answer(words: &[String]) -> Option<&'static str>
     ensures { option_map (λ text. text.now) result ≡ answer_to (map string_bytes words.now) }
 {
     match words {
-        [word] if word.as_str() == "--help" => Some(HELP),
-        [word] if word.as_str() == "--version" => Some(VERSION),
+        [word] if word.as_str() == "--help" => Some(help()),
+        [word] if word.as_str() == "--version" => Some(version()),
         _ => None,
     }
 }
@@ -86,6 +109,5 @@ fn main(rt: HostRuntime) -> ExitCode {
         Err(error) if error.kind() == io::ErrorKind::OutOfMemory => Status::NoMemory,
         Err(_) => Status::Usage,
     };
-    let _ = status_line(&mut StdSink::new(&rt.stderr()), &status);
-    ExitCode::from(status.code())
+    ExitCode::from(report(&mut StdSink::new(&rt.stderr()), &status))
 }

@@ -2,11 +2,11 @@
 ghost use Rattle.std.specs.Prelude.{◌≡◌, ◌≤◌, List, ℕ, OnErr};
 ghost use Rattle.nm_io.specs.Counts.{Rose};
 ghost use Rattle.nm_io.specs.Held.{Writes};
-ghost use Rattle.vale.specs.Status.{code_of, cause_text, what_text, usage_line, bad_script_line, read_fault_line, write_fault_line, over_line, no_memory_line, status_text};
+ghost use Rattle.vale.specs.Status.{code_of, cause_text, what_text, status_text, Reports};
 
 use nm_io::{Failed, Sink, put_all};
 use nm_types::LineCause;
-use vale_text::{Piece, put_pieces};
+use vale_text::{Part, put_parts};
 
 /// What passed its limit.
 #[derive(Clone, Copy, Debug, PartialEq, Eq)]
@@ -30,15 +30,15 @@ pub enum Status {
     Done,
     /// The words are no command.
     Usage,
-    /// The first line that is no line of a script, counted from 1, and why.
+    /// The first bad line of the script, counted from 1, and why it is bad.
     BadScript { line: u32, cause: LineCause },
     /// A file was not read.
     ReadFault { name: String },
     /// The transcript was not written whole.
     WriteFault,
-    /// The quantity passed its limit; the count is the one that would have been reached.
+    /// A quantity passed its limit; `count` is what it would have come to.
     Over { what: What, count: u64, limit: u64 },
-    /// Memory was wanting.
+    /// Out of memory.
     NoMemory,
 }
 
@@ -86,100 +86,57 @@ impl Status {
     }
 }
 
-#[tactic(auto, unfolding(crate::specs::Status::usage_line))]
-fn put_usage<K: Sink>(out: &mut K) -> Result<(), Failed>
-    ensures writes { Writes (K.holds out.old) (K.holds out.new) result usage_line }
-    ensures later { K.faults out.old ≤ K.faults out.new }
-    ensures cause { OnErr result (Rose (K.faults out.old) (K.faults out.new)) }
-{
-    put_all(out, b"usage: vale run SCRIPT\n")
-}
-
-#[tactic(auto, unfolding(crate::specs::Status::bad_script_line))]
-fn put_bad_script<K: Sink>(out: &mut K, line: u32, cause: &[u8]) -> Result<(), Failed>
-    ensures writes { Writes (K.holds out.old) (K.holds out.new) result (bad_script_line line cause.now) }
-    ensures later { K.faults out.old ≤ K.faults out.new }
-    ensures cause { OnErr result (Rose (K.faults out.old) (K.faults out.new)) }
-{
-    put_pieces(
-        out,
-        &[
-            Piece::Word(b"vale: script line "),
-            Piece::Number(line as u64),
-            Piece::Word(b": "),
-            Piece::Word(cause),
-            Piece::Word(b"\n"),
-        ],
-    )
-}
-
-#[tactic(auto, unfolding(crate::specs::Status::read_fault_line))]
-fn put_read_fault<K: Sink>(out: &mut K, name: &[u8]) -> Result<(), Failed>
-    ensures writes { Writes (K.holds out.old) (K.holds out.new) result (read_fault_line name.now) }
-    ensures later { K.faults out.old ≤ K.faults out.new }
-    ensures cause { OnErr result (Rose (K.faults out.old) (K.faults out.new)) }
-{
-    put_pieces(
-        out,
-        &[
-            Piece::Word(b"vale: cannot read "),
-            Piece::Word(name),
-            Piece::Word(b"\n"),
-        ],
-    )
-}
-
-#[tactic(auto, unfolding(crate::specs::Status::write_fault_line))]
-fn put_write_fault<K: Sink>(out: &mut K) -> Result<(), Failed>
-    ensures writes { Writes (K.holds out.old) (K.holds out.new) result write_fault_line }
-    ensures later { K.faults out.old ≤ K.faults out.new }
-    ensures cause { OnErr result (Rose (K.faults out.old) (K.faults out.new)) }
-{
-    put_all(out, b"vale: cannot write\n")
-}
-
-#[tactic(auto, unfolding(crate::specs::Status::over_line))]
-fn put_over<K: Sink>(out: &mut K, what: &[u8], count: u64, limit: u64) -> Result<(), Failed>
-    ensures writes { Writes (K.holds out.old) (K.holds out.new) result (over_line what.now count limit) }
-    ensures later { K.faults out.old ≤ K.faults out.new }
-    ensures cause { OnErr result (Rose (K.faults out.old) (K.faults out.new)) }
-{
-    put_pieces(
-        out,
-        &[
-            Piece::Word(b"vale: "),
-            Piece::Word(what),
-            Piece::Word(b" "),
-            Piece::Number(count),
-            Piece::Word(b" over "),
-            Piece::Number(limit),
-            Piece::Word(b"\n"),
-        ],
-    )
-}
-
-#[tactic(auto, unfolding(crate::specs::Status::no_memory_line))]
-fn put_no_memory<K: Sink>(out: &mut K) -> Result<(), Failed>
-    ensures writes { Writes (K.holds out.old) (K.holds out.new) result no_memory_line }
-    ensures later { K.faults out.old ≤ K.faults out.new }
-    ensures cause { OnErr result (Rose (K.faults out.old) (K.faults out.new)) }
-{
-    put_all(out, b"vale: no memory\n")
-}
-
-/// Writes the one line that says how a run ended, and nothing where the whole transcript was written.
-pub(crate) fn status_line<K: Sink>(out: &mut K, status: &Status) -> Result<(), Failed>
+/// Writes the one line that says how a run ended, or nothing if the whole transcript was written.
+#[tactic(auto, unfolding(crate::specs::Status::usage_line, crate::specs::Status::bad_script_line, crate::specs::Status::read_fault_line, crate::specs::Status::write_fault_line, crate::specs::Status::over_line, crate::specs::Status::no_memory_line))]
+fn put_status<K: Sink>(out: &mut K, status: &Status) -> Result<(), Failed>
     ensures writes { Writes (K.holds out.old) (K.holds out.new) result (status_text status.now) }
     ensures later { K.faults out.old ≤ K.faults out.new }
     ensures cause { OnErr result (Rose (K.faults out.old) (K.faults out.new)) }
 {
     match status {
         Status::Done => put_all(out, b""),
-        Status::Usage => put_usage(out),
-        Status::BadScript { line, cause } => put_bad_script(out, *line, cause_text(*cause)),
-        Status::ReadFault { name } => put_read_fault(out, name.as_bytes()),
-        Status::WriteFault => put_write_fault(out),
-        Status::Over { what, count, limit } => put_over(out, what_text(*what), *count, *limit),
-        Status::NoMemory => put_no_memory(out),
+        Status::Usage => put_all(out, b"usage: vale run SCRIPT\n"),
+        Status::BadScript { line, cause } => put_parts(
+            out,
+            &[
+                Part::Text(b"vale: script line "),
+                Part::Number(*line as u64),
+                Part::Text(b": "),
+                Part::Text(cause_text(*cause)),
+                Part::Text(b"\n"),
+            ],
+        ),
+        Status::ReadFault { name } => put_parts(
+            out,
+            &[
+                Part::Text(b"vale: cannot read "),
+                Part::Text(name.as_bytes()),
+                Part::Text(b"\n"),
+            ],
+        ),
+        Status::WriteFault => put_all(out, b"vale: cannot write\n"),
+        Status::Over { what, count, limit } => put_parts(
+            out,
+            &[
+                Part::Text(b"vale: "),
+                Part::Text(what_text(*what)),
+                Part::Text(b" "),
+                Part::Number(*count),
+                Part::Text(b" over "),
+                Part::Number(*limit),
+                Part::Text(b"\n"),
+            ],
+        ),
+        Status::NoMemory => put_all(out, b"vale: no memory\n"),
     }
+}
+
+/// Writes the line that says how a run ended, and answers the status of the process. A line that
+/// cannot be written changes no status.
+pub(crate) fn report<K: Sink>(err: &mut K, status: &Status) -> u8
+    ensures code { result ≡ code_of status.now }
+    ensures line { Reports (K.faults err.old, K.faults err.new) (K.holds err.old) (K.holds err.new) (status_text status.now) }
+{
+    let _ = put_status(err, status);
+    status.code()
 }

@@ -31,7 +31,7 @@ fn outcome(
     let mut out = MemorySink::new(alloc, vec![in alloc; fail_sink]?);
     let status = run(rt, &command(alloc, words)?, &mut shelf, &mut out, &NoGate);
     let mut line = MemorySink::new(alloc, Vec::new(alloc));
-    status_line(&mut line, &status)?;
+    report(&mut line, &status);
     Ok((out, line))
 }
 

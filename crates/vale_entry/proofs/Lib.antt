@@ -34,10 +34,5 @@ pub mod SingleLots
 pub mod Promised
 pub mod HistoryLaws
 pub mod HistoryPlaces
-pub mod Cuts
-pub mod Numerals
-pub mod NameWords
-pub mod Lines
-pub mod Transcripts
 pub mod Printable
 pub mod DeliveryLaws

@@ -6,12 +6,9 @@ use Rattle.vale_entry.specs.declared.entry.Reply.TheVariants.{Made, Opened, Refu
 use Rattle.vale_entry.specs.declared.entry.Reply.{Reply}
 use Rattle.vale_entry.specs.declared.entry.Ask.{Ask}
 use Rattle.nm_types.specs.Names.{IsName}
-use Rattle.nm_types.specs.declared.fault.OpenFault.{OpenFault}
-use Rattle.nm_types.specs.declared.fault.OpenFault.TheVariants.{NoBuffers}
-use Rattle.vale_entry.specs.declared.entry.Ask.TheVariants.{Enter, Open, Send, Grant, Done, Sync, Shut, Finish}
-use Rattle.vale_entry.specs.declared.entry.Dest.{Dest}
-use Rattle.vale_entry.specs.Transcript.{IsPrintable, transcript_text}
-use Rattle.std.specs.Prelude.{ℕ, true, ◌==◌, ◌≡◌, ◌+◌, ◌^◌, ◌<◌, ◌≤◌, List, [], ◌∷◌, map, length, sum_by, count_by, Bool, if◌then◌else◌, All, ◌++◌, take, drop}
+use Rattle.vale_entry.specs.declared.entry.Ask.TheVariants.{Open}
+use Rattle.vale_entry.specs.Transcript.{IsPrintable}
+use Rattle.std.specs.Prelude.{ℕ, true, ◌==◌, ◌≡◌, ◌+◌, ◌<◌, ◌≤◌, List, [], ◌∷◌, map, length, sum_by, count_by, Bool, if◌then◌else◌, All, ◌++◌, take, drop}
 use Rattle.std.specs.List.{list_any, AllByRecursion}
 use Rattle.vale_entry.specs.World.{Port, Lot, Offer, World, size_of_line, buffers_of, due_of, space_of, free_count}
 use Rattle.vale_entry.specs.Holdings.{PortBuffers, SessionBuffers, Holdings, IsParted, Agrees}
@@ -138,41 +135,6 @@ abbrev pub ArePrintable : ℕ → List Entry → Type 0
 ArePrintable number [] = Unit {0}
 ArePrintable number (entry ∷ entries) = IsPrintable number entry × ArePrintable (number + 1) entries
 
--- `decimal` writes the last 64 digits of a number, so it tells only smaller numbers apart; each number of
--- an entry is kept in 64 bits at most
-abbrev pub FitsU64 : ℕ → Type 0
-FitsU64 n = n < 2 ^ 64
-
-abbrev pub FitsDest : Dest → Type 0
-FitsDest dest = FitsU64 dest.to.0 × FitsU64 dest.count
-
-abbrev pub FitsRefusal : OpenFault → Type 0
-FitsRefusal (NoBuffers want have) = FitsU64 want × FitsU64 have
-FitsRefusal _ = Unit {0}
-
-abbrev pub FitsAsk : Ask → Type 0
-FitsAsk (Enter user) = FitsU64 user
-FitsAsk (Open asked name tx rx extra) = FitsU64 tx × FitsU64 rx × FitsU64 extra
-FitsAsk (Send port frames) = FitsU64 port.0
-FitsAsk (Grant origin to) = FitsU64 origin × FitsU64 to.0
-FitsAsk (Done lease) = FitsU64 lease.0
-FitsAsk (Sync port back) = FitsU64 port.0 × AllByRecursion FitsU64 back
-FitsAsk (Shut port) = FitsU64 port.0
-FitsAsk (Finish port bufs chain) = FitsU64 port.0 × AllByRecursion FitsU64 bufs × FitsU64 chain.found × FitsU64 chain.astray
-FitsAsk _ = Unit {0}
-
-abbrev pub FitsReply : Reply → Type 0
-FitsReply (Refused fault) = FitsRefusal fault
-FitsReply (Offered short lone to) = FitsU64 short × FitsU64 lone × AllByRecursion FitsDest to
-FitsReply (Shared given full gone) = FitsU64 given × FitsU64 full × FitsU64 gone
-FitsReply (Gave count to) = FitsU64 count × AllByRecursion FitsDest to
-FitsReply (Unread count) = FitsU64 count
-FitsReply _ = Unit {0}
-
--- the numbers of an entry's line fit
-abbrev pub FitsEntry : Entry → Type 0
-FitsEntry entry = FitsU64 entry.session.0 × FitsAsk entry.ask × FitsReply entry.reply
-
 -- a port is opened under a name
 abbrev pub IsNamedAsk : Ask → Type 0
 IsNamedAsk (Open asked name tx rx extra) = IsName name
@@ -211,12 +173,6 @@ RoomIsPromised = (pool : ℕ) (history : List Entry) (entry : Entry) → IsLegal
 abbrev pub RoomIsUsed : Type 0
 RoomIsUsed = (pool : ℕ) (history : List Entry) (entry : Entry) → IsLegal pool history → Follows (standing_of pool history) entry
     → room_used pool (history ++ entry ∷ []) + room_back entry.reply ≡ room_used pool history + room_wanted entry.ask entry.reply
-
--- equal transcripts are of equal pools and equal histories
-abbrev pub TranscriptsTellHistories : Type 0
-TranscriptsTellHistories =
-    (p q : ℕ) (h k : List Entry) → FitsU64 p → FitsU64 q → ArePrintable 1 h → ArePrintable 1 k → AllByRecursion FitsEntry h → AllByRecursion FitsEntry k
-    → transcript_text p h ≡ transcript_text q k → (p ≡ q) × (h ≡ k)
 
 -- each entry of a legal history is printable at its number
 abbrev pub LegalHistoriesArePrintable : Type 0

@@ -1,16 +1,25 @@
 -- The transcript's text: a first line with the pool, a line for each entry, a last line with the number
 -- of entries and the free buffers. A line ends with a line feed; one blank stands between two words.
-use Rattle.std.specs.Prelude.{ℕ, Bool, true, false, ◌&&◌, ◌==◌, ◌+◌, ◌/◌, ◌%◌, nat_lt, if◌then◌else◌, List, [], ◌∷◌, ◌++◌, length, map, flat_map, codes, decimal, IsTrue}
-use Rattle.std.specs.List.{join_with_byte}
+use Rattle.std.specs.Prelude.{ℕ, Bool, true, false, not, ◌&&◌, ◌==◌, ◌+◌, ◌/◌, ◌%◌, nat_lt, if◌then◌else◌, List, [], ◌∷◌, ◌++◌, length, map, flat_map, codes, decimal, IsTrue}
+use Rattle.std.specs.List.{join_with_byte, list_all}
 use Rattle.nm_types.specs.Frames.{Frame}
 use Rattle.nm_types.specs.Names.{is_name}
+use Rattle.nm_types.specs.SyncFaults.{is_check_fault}
 use Rattle.nm_types.specs.declared.fault.OpenFault.{OpenFault}
 use Rattle.nm_types.specs.declared.fault.OpenFault.TheVariants.{BadSize, SwitchesFull, PortsFull, NameTaken, NoBuffers, RecordFull, NoMemory}
+use Rattle.nm_types.specs.declared.fault.SyncFault.{SyncFault}
+use Rattle.nm_types.specs.declared.fault.SyncFault.TheVariants.{HeadOut, CurOut, Indirect, IndexOut, NotHeld, Doubled, Unannounced, LongLen, Fragment}
+use Rattle.nm_types.specs.declared.id.Side.{Side}
+use Rattle.nm_types.specs.declared.id.Side.TheVariants.{Tx, Rx}
+use Rattle.nm_types.specs.declared.id.Sides.{Sides}
+use Rattle.nm_types.specs.declared.id.Sides.TheVariants.{T, R, TR}
+use Rattle.nm_types.specs.declared.id.Counts.{Counts}
 use Rattle.vale_entry.specs.declared.entry.Dest.{Dest}
+use Rattle.vale_entry.specs.declared.entry.Item.{Item}
 use Rattle.vale_entry.specs.declared.entry.Ask.{Ask}
-use Rattle.vale_entry.specs.declared.entry.Ask.TheVariants.{Enter, Open, Send, Grant, Done, Sync, Shut, Finish, Leave}
+use Rattle.vale_entry.specs.declared.entry.Ask.TheVariants.{Enter, Open, Send, Grant, Done, Sync, Reset, Shut, Finish, Leave, Put, PutKept, Get, Watch, Stat}
 use Rattle.vale_entry.specs.declared.entry.Reply.{Reply}
-use Rattle.vale_entry.specs.declared.entry.Reply.TheVariants.{Made, Opened, Refused, Offered, Shared, Gave, Unread}
+use Rattle.vale_entry.specs.declared.entry.Reply.TheVariants.{Made, Opened, Refused, Offered, Shared, Gave, Took, PeerGone, Unread, LeasesOut, Watching, NoTarget, Watched, Counted}
 use Rattle.vale_entry.specs.declared.entry.Entry.{Entry}
 use Rattle.vale_entry.specs.Legal.{world_of}
 use Rattle.vale_entry.specs.World.{free_count}
@@ -42,45 +51,99 @@ abbrev pub numbers_text : List ℕ → List ℕ
 numbers_text numbers = list_text (map decimal numbers)
 
 abbrev pub dest_text : Dest → List ℕ
-dest_text dest = decimal dest.to.0 ++ (42 ∷ decimal dest.count)
+dest_text dest = decimal dest.to.0 ++ codes "*" ++ decimal dest.count
 
 abbrev pub dests_text : List Dest → List ℕ
 dests_text dests = list_text (map dest_text dests)
 
-abbrev pub refusal_text : OpenFault → List ℕ
-refusal_text BadSize = codes "badsize"
-refusal_text SwitchesFull = codes "switchesfull"
-refusal_text PortsFull = codes "portsfull"
-refusal_text NameTaken = codes "nametaken"
-refusal_text (NoBuffers want have) = codes "nobuffers " ++ decimal want ++ codes " " ++ decimal have
-refusal_text (RecordFull what used want) = []
-refusal_text NoMemory = []
+-- a frame that a pipe took, and its buffer
+abbrev pub item_text : Item → List ℕ
+item_text item = decimal item.index ++ codes ":" ++ hex_text item.bytes.bytes
 
--- what a reply says, behind the line's own words
-abbrev pub reply_text : Reply → List ℕ
-reply_text Made = []
-reply_text Opened = codes " = ok"
-reply_text (Refused fault) = codes " = " ++ refusal_text fault
-reply_text (Offered short lone to) = codes " = short " ++ decimal short ++ codes " lone " ++ decimal lone ++ codes " to " ++ dests_text to
-reply_text (Shared given full gone) = codes " = given " ++ decimal given ++ codes " full " ++ decimal full ++ codes " gone " ++ decimal gone
-reply_text (Gave count to) = codes " = gave " ++ decimal count ++ codes " to " ++ dests_text to
-reply_text (Unread count) = codes " = unread " ++ decimal count
-reply_text _ = []
+abbrev pub items_text : List Item → List ℕ
+items_text items = list_text (map item_text items)
 
-abbrev pub ask_text : ℕ → Ask → List ℕ
-ask_text session (Enter user) = codes " enter " ++ decimal user
-ask_text session (Open asked name tx rx extra) = codes " " ++ decimal session ++ codes " open " ++ name ++ codes " " ++ decimal tx ++ codes " " ++ decimal rx ++ codes " " ++ decimal extra
-ask_text session (Send port frames) = codes " " ++ decimal session ++ codes " send " ++ decimal port.0 ++ codes " " ++ frames_text frames
-ask_text session (Grant origin to) = codes " " ++ decimal session ++ codes " grant " ++ decimal origin ++ codes " " ++ decimal to.0
-ask_text session (Done lease) = codes " " ++ decimal session ++ codes " done " ++ decimal lease.0
-ask_text session (Sync port back) = codes " " ++ decimal session ++ codes " sync " ++ decimal port.0 ++ codes " " ++ numbers_text back
-ask_text session (Shut port) = codes " " ++ decimal session ++ codes " shut " ++ decimal port.0
-ask_text session (Finish port bufs chain) = codes " " ++ decimal session ++ codes " finish " ++ decimal port.0 ++ codes " " ++ numbers_text bufs ++ codes " found " ++ decimal chain.found ++ codes " astray " ++ decimal chain.astray
-ask_text session (Leave left) = codes " " ++ decimal session ++ codes " leave"
-ask_text session _ = []
+abbrev pub side_word : Side → List ℕ
+side_word Tx = codes "tx"
+side_word Rx = codes "rx"
 
+abbrev pub sides_word : Sides → List ℕ
+sides_word T = codes "t"
+sides_word R = codes "r"
+sides_word TR = codes "tr"
+
+-- why an opening was refused; the last two make no entry
+abbrev pub refusal_words : OpenFault → List (List ℕ)
+refusal_words BadSize = codes "badsize" ∷ []
+refusal_words SwitchesFull = codes "switchesfull" ∷ []
+refusal_words PortsFull = codes "portsfull" ∷ []
+refusal_words NameTaken = codes "nametaken" ∷ []
+refusal_words (NoBuffers want have) = codes "nobuffers" ∷ decimal want ∷ decimal have ∷ []
+refusal_words (RecordFull what used want) = []
+refusal_words NoMemory = []
+
+-- why a sync was refused; the others make no entry of a reset
+abbrev pub fault_words : SyncFault → List (List ℕ)
+fault_words (HeadOut head from to) = codes "headout" ∷ decimal head ∷ decimal from ∷ decimal to ∷ []
+fault_words (CurOut cur from to) = codes "curout" ∷ decimal cur ∷ decimal from ∷ decimal to ∷ []
+fault_words (Indirect slot) = codes "indirect" ∷ decimal slot ∷ []
+fault_words (IndexOut slot idx) = codes "indexout" ∷ decimal slot ∷ decimal idx ∷ []
+fault_words (NotHeld slot idx) = codes "notheld" ∷ decimal slot ∷ decimal idx ∷ []
+fault_words (Doubled slot idx) = codes "doubled" ∷ decimal slot ∷ decimal idx ∷ []
+fault_words (Unannounced slot idx was) = codes "unannounced" ∷ decimal slot ∷ decimal idx ∷ decimal was ∷ []
+fault_words (LongLen slot len) = codes "longlen" ∷ decimal slot ∷ decimal len ∷ []
+fault_words (Fragment slot) = codes "fragment" ∷ decimal slot ∷ []
+fault_words _ = []
+
+-- the words of what was asked; a `Put` is never stored
+abbrev pub ask_words : ℕ → Ask → List (List ℕ)
+ask_words session (Enter user) = codes "enter" ∷ decimal user ∷ []
+ask_words session (Open asked name tx rx extra) = decimal session ∷ codes "open" ∷ name ∷ decimal tx ∷ decimal rx ∷ decimal extra ∷ []
+ask_words session (Send port frames) = decimal session ∷ codes "send" ∷ decimal port.0 ∷ frames_text frames ∷ []
+ask_words session (Grant origin to) = decimal session ∷ codes "grant" ∷ decimal origin ∷ decimal to.0 ∷ []
+ask_words session (Done lease) = decimal session ∷ codes "done" ∷ decimal lease.0 ∷ []
+ask_words session (Sync port back) = decimal session ∷ codes "sync" ∷ decimal port.0 ∷ numbers_text back ∷ []
+ask_words session (Reset port side fault) = decimal session ∷ codes "reset" ∷ decimal port.0 ∷ side_word side ∷ fault_words fault
+ask_words session (Shut port) = decimal session ∷ codes "shut" ∷ decimal port.0 ∷ []
+ask_words session (Finish port bufs chain) = decimal session ∷ codes "finish" ∷ decimal port.0 ∷ numbers_text bufs ∷ codes "found" ∷ decimal chain.found ∷ codes "astray" ∷ decimal chain.astray ∷ []
+ask_words session (Leave left) = decimal session ∷ codes "leave" ∷ []
+ask_words session (Put port offered) = []
+ask_words session (PutKept port offered) = decimal session ∷ codes "put" ∷ decimal port.0 ∷ decimal offered ∷ []
+ask_words session (Get port back) = decimal session ∷ codes "get" ∷ decimal port.0 ∷ numbers_text back ∷ []
+ask_words session (Watch monitor target sides) = decimal session ∷ codes "watch" ∷ decimal monitor.0 ∷ target ∷ sides_word sides ∷ []
+ask_words session (Stat port) = decimal session ∷ codes "stat" ∷ decimal port.0 ∷ []
+
+abbrev pub counts_words : Counts → List (List ℕ)
+counts_words counts = codes "sent" ∷ decimal counts.sent ∷ codes "short" ∷ decimal counts.short ∷ codes "lone" ∷ decimal counts.lone
+    ∷ codes "given" ∷ decimal counts.given ∷ codes "full" ∷ decimal counts.full ∷ codes "read" ∷ decimal counts.read ∷ []
+
+-- the words of the answer; leases out make no entry
+abbrev pub reply_words : Reply → List (List ℕ)
+reply_words Made = []
+reply_words Opened = codes "=" ∷ codes "ok" ∷ []
+reply_words (Refused fault) = codes "=" ∷ refusal_words fault
+reply_words (Offered short lone to) = codes "=" ∷ codes "short" ∷ decimal short ∷ codes "lone" ∷ decimal lone ∷ codes "to" ∷ dests_text to ∷ []
+reply_words (Shared given full gone) = codes "=" ∷ codes "given" ∷ decimal given ∷ codes "full" ∷ decimal full ∷ codes "gone" ∷ decimal gone ∷ []
+reply_words (Gave count to) = codes "=" ∷ codes "gave" ∷ decimal count ∷ codes "to" ∷ dests_text to ∷ []
+reply_words (Took items to) = codes "=" ∷ codes "took" ∷ items_text items ∷ codes "to" ∷ dests_text to ∷ []
+reply_words PeerGone = codes "=" ∷ codes "peergone" ∷ []
+reply_words (Unread count) = codes "=" ∷ codes "unread" ∷ decimal count ∷ []
+reply_words (LeasesOut n) = []
+reply_words (Watching target) = codes "=" ∷ codes "ok" ∷ decimal target.0 ∷ []
+reply_words NoTarget = codes "=" ∷ codes "notarget" ∷ []
+reply_words (Watched by) = codes "=" ∷ codes "watched" ∷ decimal by.0 ∷ []
+reply_words (Counted counts) = codes "=" ∷ counts_words counts
+
+-- a word behind a blank
+abbrev pub after_blank : List ℕ → List ℕ
+after_blank word = 32 ∷ word
+
+abbrev pub words_text : List (List ℕ) → List ℕ
+words_text words = flat_map after_blank words
+
+-- an entry's number, the words of what was asked, and those of the answer
 abbrev pub entry_line : ℕ → Entry → List ℕ
-entry_line number entry = decimal number ++ ask_text entry.session.0 entry.ask ++ reply_text entry.reply ++ codes "\n"
+entry_line number entry = decimal number ++ words_text (ask_words entry.session.0 entry.ask ++ reply_words entry.reply) ++ codes "\n"
 
 abbrev pub entry_lines : ℕ → List Entry → List ℕ
 entry_lines number [] = []
@@ -110,8 +173,11 @@ is_refusal (NoBuffers want have) = true
 is_refusal (RecordFull what used want) = false
 is_refusal NoMemory = false
 
--- an entry's ask and reply stand together in one line; destinations rise, an Enter's session is the
--- entry's number, and that of an Open or a Leave is the one that it names
+abbrev pub is_unmarked : Item → Bool
+is_unmarked item = not item.bytes.no_learn
+
+-- an entry's ask and reply stand together in one line; destinations rise, a pipe's frames bear no mark,
+-- an Enter's session is the entry's number, and that of an Open or a Leave is the one that it names
 abbrev pub is_printable : ℕ → ℕ → Ask → Reply → Bool
 is_printable number session (Enter user) Made = session == number
 is_printable number session (Open asked name tx rx extra) Opened = (session == asked.0) && is_name name
@@ -123,6 +189,14 @@ is_printable number session (Sync port back) (Gave count to) = dests_rise to
 is_printable number session (Shut port) Made = true
 is_printable number session (Finish port bufs chain) (Unread count) = true
 is_printable number session (Leave left) Made = session == left.0
+is_printable number session (Reset port side fault) Made = is_check_fault fault
+is_printable number session (PutKept port offered) (Took items to) = list_all is_unmarked items && dests_rise to
+is_printable number session (PutKept port offered) PeerGone = true
+is_printable number session (Get port back) (Gave count to) = dests_rise to
+is_printable number session (Watch monitor target sides) (Watching watched) = is_name target
+is_printable number session (Watch monitor target sides) NoTarget = is_name target
+is_printable number session (Watch monitor target sides) (Watched by) = is_name target
+is_printable number session (Stat port) (Counted counts) = true
 is_printable number session _ _ = false
 
 abbrev pub IsPrintable : ℕ → Entry → Type 0

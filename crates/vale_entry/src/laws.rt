@@ -3,7 +3,7 @@
 #![tactic(auto, using(crate::proofs::HistoryLaws::history_laws))]
 
 ghost use Rattle.vale_entry.specs.DeliveryLaws.{ReadIsPrefixOfGiven, GivenOnlyByWanted, ShortAndLoneAreForNobody, WantedIsSharedOnce, DroppedFramesAreCounted, NothingIsPendingAtTheEnd, SenderOrderIsKept, FramesAreDroppedForCause, RepliesCountFrames};
-ghost use Rattle.vale_entry.specs.Laws.{NumbersRise, PortsAreWithinSizes, FreeBuffersRise, BuffersAreParted, HoldingsAgree, SessionsHaveOneUnsettled, RoomIsPromised, RoomIsUsed, TranscriptsTellHistories, LegalHistoriesArePrintable};
+ghost use Rattle.vale_entry.specs.Laws.{NumbersRise, PortsAreWithinSizes, FreeBuffersRise, BuffersAreParted, HoldingsAgree, SessionsHaveOneUnsettled, RoomIsPromised, RoomIsUsed, LegalHistoriesArePrintable};
 
 /// After every history sessions and ports rise by number, none is numbered beyond the last entry, and
 /// each port and each offer is of a session that is there.
@@ -46,12 +46,6 @@ pub fn room_is_promised()
 /// The entries stored and promised grow by what an entry wants.
 pub fn room_is_used()
     ensures { RoomIsUsed }
-{}
-
-/// Two histories of printable entries whose numbers fit have equal transcripts only where they are
-/// equal, and their pools too: the text tells the history.
-pub fn transcripts_tell_histories()
-    ensures { TranscriptsTellHistories }
 {}
 
 /// Each entry of a legal history is printable at its number, if ports are opened under names.

@@ -94,3 +94,13 @@ impl From<Vec<Item>> for Items {
         Items { items }
     }
 }
+
+impl Items {
+    ghost use Rattle.std.specs.Prelude.{◌≡◌};
+
+    pub fn as_slice(&self) -> &[Item]
+        ensures { result.now ≡ self.now }
+    {
+        &self.items
+    }
+}

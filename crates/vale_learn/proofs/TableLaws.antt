@@ -3,14 +3,14 @@ use Rattle.std.proofs.Common.{ℕ, zero, suc, true, List, ◌≡◌, ◌<◌, in
 use Rattle.std.specs.Prelude.{bytes_eq}
 use Rattle.std.proofs.lemmas.Bool.{cases_Bool, eqb-true, eqb-false}
 use Rattle.std.proofs.lemmas.Slice.Eq.{bytes_eq-Decides}
-use Rattle.std.proofs.lemmas.List.{get_or-set_other}
+use Rattle.std.proofs.lemmas.List.{get_or-set_other, set-get_or, set-set}
 use Rattle.std.proofs.lemmas.Grind.{get_or-set_at}
 use Rattle.std.proofs.Math.ListN.{get_or-map}
 use Rattle.nm_types.specs.declared.id.Mac.{Mac}
 use Rattle.nm_types.specs.declared.id.PortId.{PortId}
 use Rattle.vale_learn.specs.declared.table.Station.{Station}
 use Rattle.vale_learn.specs.AddressTable.{Entries, bucket_of, entry_of, port_if_address, without_port}
-use Rattle.vale_learn.specs.Laws.{FoundWhereHeld, NoneFoundAtFirst, LearningReplaces, ForgettingBringsNothingBack, unless_port}
+use Rattle.vale_learn.specs.Laws.{FoundWhereHeld, NoneFoundAtFirst, LearningReplaces, RestoringUndoesLearning, ForgettingBringsNothingBack, unless_port}
 
 abbrev station : Mac → PortId → Station
 station address port = record { address = address; port = port }
@@ -76,6 +76,11 @@ learning_replaces entries learned_address port address size =
       ]
     ]
 
+pub restoring_undoes_learning : RestoringUndoesLearning
+restoring_undoes_learning entries address port size =
+    let at = bucket_of address.0 in
+    set-set entries at (Some (station address port)) (entry_of entries address.0) ∙ set-get_or entries at None
+
 forgotten_entry : (entry : Option Station) (port : PortId) (address : List ℕ) → port_if_address address (without_port port entry) ≡ unless_port port (port_if_address address entry)
 forgotten_entry None port address = refl
 forgotten_entry (Some seen) port address = elim (cases_Bool (seen.port.0 == port.0)) [
@@ -94,4 +99,4 @@ forgetting_brings_nothing_back entries port address =
     ap (port_if_address address) (get_or-map (without_port port) entries (bucket_of address) None)
     ∙ forgotten_entry (entry_of entries address) port address
 
-pub ruleset table_laws = (found_where_held, none_found_at_first, learning_replaces, forgetting_brings_nothing_back)
+pub ruleset table_laws = (found_where_held, none_found_at_first, learning_replaces, restoring_undoes_learning, forgetting_brings_nothing_back)

@@ -8,7 +8,7 @@ use Rattle.vale_learn.specs.declared.table.Station.{Station}
 abbrev pub half_at : List ℕ → ℕ → ℕ
 half_at address i = 256 * slice_index address i + slice_index address (i + 1)
 
--- the entry of an address: the xor of its three halves of 16 bits, of 1024
+-- the entry of an address: the xor of its three 16-bit words, modulo 1024
 abbrev pub bucket_of : List ℕ → ℕ
 bucket_of address = bit_xor (bit_xor (half_at address 0) (half_at address 2)) (half_at address 4) % 1024
 
@@ -33,6 +33,10 @@ port_of_address entries address = port_if_address address (entry_of entries addr
 -- the table once a station was seen: its entry holds it, and no longer what it held
 abbrev pub learned : Entries → Mac → PortId → Entries
 learned entries address port = slice_set entries (bucket_of address.0) (Some (record { address = address; port = port }))
+
+-- the table once the entry of an address holds again what it held before
+abbrev pub restored : Entries → Mac → Option Station → Entries
+restored entries address station = slice_set entries (bucket_of address.0) station
 
 -- an entry, empty if it holds a station of this port
 abbrev pub without_port : PortId → Option Station → Option Station

@@ -2,7 +2,7 @@
 use Rattle.std.specs.Prelude.{ℕ, ◌≡◌, ◌==◌, ◌↔◌, if◌then◌else◌, List, length, Option, Some, None, bytes_eq}
 use Rattle.nm_types.specs.declared.id.Mac.{Mac}
 use Rattle.nm_types.specs.declared.id.PortId.{PortId}
-use Rattle.vale_learn.specs.AddressTable.{Entries, bucket_of, entry_of, port_of_address, learned, forgotten, no_stations}
+use Rattle.vale_learn.specs.AddressTable.{Entries, bucket_of, entry_of, port_of_address, learned, restored, forgotten, no_stations}
 
 -- an address is found exactly where its entry holds it
 abbrev pub FoundWhereHeld : Type 0
@@ -21,6 +21,11 @@ found_after_learning entries learned_address port address =
 abbrev pub LearningReplaces : Type 0
 LearningReplaces = (entries : Entries) (learned_address : Mac) (port : PortId) (address : List ℕ) → length entries ≡ 1024
     → port_of_address (learned entries learned_address port) address ≡ found_after_learning entries learned_address.0 port address
+
+-- what was learned can be undone, from what the entry held before
+abbrev pub RestoringUndoesLearning : Type 0
+RestoringUndoesLearning = (entries : Entries) (address : Mac) (port : PortId) → length entries ≡ 1024
+    → restored (learned entries address port) address (entry_of entries address.0) ≡ entries
 
 abbrev pub unless_port : PortId → Option PortId → Option PortId
 unless_port port None = None

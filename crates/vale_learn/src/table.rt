@@ -1,5 +1,5 @@
 ghost use Rattle.std.specs.Prelude.{◌≡◌, ◌+◌, ◌<◌, length, map, IfOk};
-ghost use Rattle.vale_learn.specs.AddressTable.{half_at, bucket_of, no_stations, entry_of, port_of_address, port_if_address, learned, without_port, forgotten};
+ghost use Rattle.vale_learn.specs.AddressTable.{half_at, bucket_of, no_stations, entry_of, port_of_address, port_if_address, learned, restored, without_port, forgotten};
 
 use nm_types::{Mac, NoMemory, PortId};
 use std::alloc::Global;
@@ -8,15 +8,15 @@ use std::marker::Model;
 /// The number of a table's entries.
 pub const BUCKETS: usize = 1024;
 
-/// An address, and the port behind which it was seen last.
+/// An address and the port behind which it was seen last.
 #[derive(Clone, Copy, Debug, PartialEq, Eq)]
 pub struct Station {
     pub address: Mac,
     pub port: PortId,
 }
 
-/// A switch's learning table. An entry holds one station; its number is the xor of the address's
-/// three big-endian halves of 16 bits, modulo 1024.
+/// A switch's learning table. An entry holds one station; the entry of an address is the xor of its
+/// three big-endian 16-bit words, modulo 1024.
 #[derive(Drop)]
 pub struct Table {
     entries: Box<[Option<Station>; BUCKETS]>,
@@ -58,7 +58,7 @@ fn port_if_address(entry: Option<Station>, address: Mac) -> Option<PortId>
     }
 }
 
-/// Empties an entry that holds a station of this port.
+/// Empties the entry if it holds a station of `port`.
 fn leave_port(entry: &mut Option<Station>, port: PortId)
     ensures { entry.new ≡ without_port port entry.old }
 {
@@ -78,7 +78,7 @@ fn leave_all(entries: &mut [Option<Station>], port: PortId)
 }
 
 impl Table {
-    /// A table that has learned nothing. Only this call takes memory.
+    /// An empty table. No other call takes memory.
     pub fn new(alloc: Global) -> Result<Table, NoMemory>
         ensures { IfOk result (λ table. table ≡ no_stations) }
     {
@@ -87,14 +87,14 @@ impl Table {
         })
     }
 
-    /// The address was seen behind this port. Its entry no longer holds what it held.
+    /// Learns that `address` was seen behind `port`. Its entry no longer holds what it held.
     pub fn learn(&mut self, address: Mac, port: PortId)
         ensures { self.new ≡ learned self.old address port }
     {
         self.entries[bucket_of(address)] = Some(Station { address, port });
     }
 
-    /// The port behind which the address was seen, where its entry holds the address.
+    /// The port behind which `address` was seen, if its entry still holds the address.
     pub fn find(&self, address: Mac) -> Option<PortId>
         ensures found { result ≡ port_of_address self.now address.0 }
         ensures entries { length self.now ≡ 1024 }
@@ -102,14 +102,29 @@ impl Table {
         port_if_address(self.entries[bucket_of(address)], address)
     }
 
-    /// Empties all entries that hold this port.
+    /// Empties all entries that hold `port`.
     pub fn forget(&mut self, port: PortId)
         ensures { self.new ≡ forgotten self.old port }
     {
         leave_all(self.entries.as_mut_slice(), port);
     }
 
-    /// Makes the table equal to the other.
+    /// What the entry of `address` holds, of whatever address that is.
+    pub fn station(&self, address: Mac) -> Option<Station>
+        ensures held { result ≡ entry_of self.now address.0 }
+        ensures entries { length self.now ≡ 1024 }
+    {
+        self.entries[bucket_of(address)]
+    }
+
+    /// Puts back what the entry of `address` held before, to undo a `learn`.
+    pub fn restore(&mut self, address: Mac, station: Option<Station>)
+        ensures { self.new ≡ restored self.old address station }
+    {
+        self.entries[bucket_of(address)] = station;
+    }
+
+    /// Makes the table equal to `other`.
     pub fn copy_from(&mut self, other: &Table)
         ensures { self.new ≡ other.now }
     {

@@ -3,59 +3,59 @@
 -- earlier one.
 use Rattle.std.specs.Prelude.{ℕ, Bool, false, not, ◌&&◌, ◌||◌, ◌==◌, ◌≡◌, ◌-◌, ◌^◌, ◌<◌, ◌≤◌, if◌then◌else◌, List, [], ◌∷◌, drop, Option, Some, None, count_by, sum_by, take_while}
 use Rattle.std.specs.List.{list_any, prefix_len}
-use Rattle.vale_lease.specs.declared.leases.Lease.{Lease}
+use Rattle.vale_lease.specs.declared.leases.LeaseSlots.{LeaseSlots}
 
 -- the leases of a ring of so many slots
 pub record LeaseRing : Type 0 where
   pub size : ℕ
-  pub leases : List Lease
+  pub leases : List LeaseSlots
 
-abbrev pub has_id : ℕ → Lease → Bool
+abbrev pub has_id : ℕ → LeaseSlots → Bool
 has_id id lease = lease.id.0 == id
 
-abbrev pub is_done : Lease → Bool
+abbrev pub is_done : LeaseSlots → Bool
 is_done lease = lease.is_done
 
-abbrev pub is_out : Lease → Bool
+abbrev pub is_out : LeaseSlots → Bool
 is_out lease = not lease.is_done
 
-abbrev pub is_out_as : ℕ → Lease → Bool
+abbrev pub is_out_as : ℕ → LeaseSlots → Bool
 is_out_as id lease = has_id id lease && is_out lease
 
 -- a lease of this id is there
-abbrev pub is_there : ℕ → List Lease → Bool
+abbrev pub is_there : ℕ → List LeaseSlots → Bool
 is_there id leases = list_any (has_id id) leases
 
 -- a lease of this id is there and not done
-abbrev pub is_lease_out : ℕ → List Lease → Bool
+abbrev pub is_lease_out : ℕ → List LeaseSlots → Bool
 is_lease_out id leases = list_any (is_out_as id) leases
 
-abbrev pub slots_of : List Lease → ℕ
-slots_of leases = sum_by (λ (l : Lease). l.slots) leases
+abbrev pub slots_of : List LeaseSlots → ℕ
+slots_of leases = sum_by (λ (l : LeaseSlots). l.slots) leases
 
 -- the longest prefix of done leases
-abbrev pub done_prefix : List Lease → List Lease
+abbrev pub done_prefix : List LeaseSlots → List LeaseSlots
 done_prefix leases = take_while is_done leases
 
 -- what stands behind that prefix
-abbrev pub behind_done : List Lease → List Lease
+abbrev pub behind_done : List LeaseSlots → List LeaseSlots
 behind_done leases = drop (prefix_len is_done leases) leases
 
 -- how many leases are not done
-abbrev pub out_count : List Lease → ℕ
+abbrev pub out_count : List LeaseSlots → ℕ
 out_count leases = count_by is_out leases
 
 -- the slots of the first lease, if that is done
-abbrev pub first_done : List Lease → Option ℕ
+abbrev pub first_done : List LeaseSlots → Option ℕ
 first_done [] = None
 first_done (lease ∷ leases) = if lease.is_done then Some lease.slots else None
 
 -- the lease, done if it has this id
-abbrev pub completed : ℕ → Lease → Lease
+abbrev pub completed : ℕ → LeaseSlots → LeaseSlots
 completed id lease = record lease { is_done = has_id id lease || lease.is_done }
 
 -- no lease is empty, and no two have one id
-abbrev pub AreLeases : List Lease → Type 0
+abbrev pub AreLeases : List LeaseSlots → Type 0
 AreLeases [] = Unit {0}
 AreLeases (lease ∷ leases) = (1 ≤ lease.slots) × ((is_there lease.id.0 leases ≡ false) × AreLeases leases)
 

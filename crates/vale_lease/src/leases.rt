@@ -1,4 +1,4 @@
-ghost use Rattle.std.specs.Prelude.{◌≡◌, ◌+◌, ◌-◌, ◌<◌, ◌≤◌, ◌^◌, [], ◌∷◌, ◌++◌, IfOk, IsTrue, false, map, position};
+ghost use Rattle.std.specs.Prelude.{All, ◌≡◌, ◌+◌, ◌-◌, ◌<◌, ◌≤◌, ◌^◌, [], ◌∷◌, ◌++◌, IfOk, IfSome, IfNone, IsTrue, false, length, map, slice_get};
 ghost use Rattle.std.specs.VecDeque.{deque_capacity};
 ghost use Rattle.vale_lease.specs.Leases.{has_id, is_there, is_lease_out, slots_of, done_prefix, behind_done, first_done, out_count, completed, AreLeases, IsLeaseRing};
 
@@ -7,9 +7,9 @@ use std::alloc::Global;
 use std::collections::VecDeque;
 use std::marker::Model;
 
-/// A lease of a receive ring: so many slots that its holder fills, and whether they are filled.
+/// A lease of `slots` slots of a receive ring, and whether its holder has filled them.
 #[derive(Clone, Copy, Debug, PartialEq, Eq)]
-pub struct Lease {
+pub struct LeaseSlots {
     pub id: LeaseId,
     pub slots: u32,
     pub is_done: bool,
@@ -20,7 +20,7 @@ pub struct Lease {
 #[derive(Drop)]
 pub struct Leases {
     size: u32,
-    leases: VecDeque<Lease>,
+    leases: VecDeque<LeaseSlots>,
 }
 
 impl Model for Leases {
@@ -34,10 +34,11 @@ impl Model for Leases {
 
     ghost view = { λ r. record { size = r.size; leases = r.leases.items } };
 
-    ghost invariant = { λ r. IsLeaseRing (record { size = r.size; leases = r.leases.items }) × (r.size - 1 ≤ deque_capacity r.leases) };
+    ghost invariant = { λ r. IsLeaseRing (record { size = r.size; leases = r.leases.items })
+        × (r.size - 1 ≤ deque_capacity r.leases) };
 }
 
-fn first_done(leases: &VecDeque<Lease>) -> Option<u32>
+fn first_done(leases: &VecDeque<LeaseSlots>) -> Option<u32>
     ensures { result ≡ first_done leases.now.items }
 {
     match leases.front() {
@@ -47,7 +48,7 @@ fn first_done(leases: &VecDeque<Lease>) -> Option<u32>
 }
 
 #[tactic(auto, using(crate::proofs::LeaseLemmas::leases))]
-fn take_done(leases: &mut VecDeque<Lease>) -> u32
+fn take_done(leases: &mut VecDeque<LeaseSlots>) -> u32
     requires { slots_of leases.old.items < 2 ^ 32 }
     ensures slots { result ≡ slots_of (done_prefix leases.old.items) }
     ensures rest { leases.new.items ≡ behind_done leases.old.items }
@@ -61,14 +62,19 @@ fn take_done(leases: &mut VecDeque<Lease>) -> u32
     taken
 }
 
-fn place_of(leases: &VecDeque<Lease>, id: LeaseId) -> Option<usize>
-    ensures { result ≡ position (has_id id.0) leases.now.items }
+/// The place of the lease of this id, found from the back, where the newest leases are.
+#[tactic(auto, using(crate::proofs::LeaseLemmas::leases))]
+fn place_of(leases: &VecDeque<LeaseSlots>, id: LeaseId) -> Option<usize>
+    ensures within { IfSome result (λ at. at < length leases.now.items) }
+    ensures found { IfSome result (λ at.
+        IfSome (slice_get leases.now.items at) (λ lease. IsTrue (has_id id.0 lease))) }
+    ensures none { IfNone result (All (λ lease. has_id id.0 lease ≡ false) leases.now.items) }
 {
-    leases.iter().position(|lease| lease.id == id)
+    leases.iter().rposition(|lease| lease.id == id)
 }
 
 #[tactic(auto, using(crate::proofs::LeaseLemmas::leases))]
-fn mark_done(leases: &mut VecDeque<Lease>, id: LeaseId)
+fn mark_done(leases: &mut VecDeque<LeaseSlots>, id: LeaseId)
     requires leases { AreLeases leases.old.items }
     requires out { IsTrue (is_lease_out id.0 leases.old.items) }
     ensures items { leases.new.items ≡ map (completed id.0) leases.old.items }
@@ -80,7 +86,7 @@ fn mark_done(leases: &mut VecDeque<Lease>, id: LeaseId)
     }
 }
 
-fn ready_slots(leases: &VecDeque<Lease>) -> u32
+fn ready_slots(leases: &VecDeque<LeaseSlots>) -> u32
     requires { slots_of leases.now.items < 2 ^ 32 }
     ensures { result ≡ slots_of (done_prefix leases.now.items) }
 {
@@ -92,8 +98,8 @@ fn ready_slots(leases: &VecDeque<Lease>) -> u32
 }
 
 impl Leases {
-    /// A ring of so many slots, at least 1, with no lease. Takes the room for all its leases, at most
-    /// one a slot, so that the other calls take no memory.
+    /// A ring of `size` slots, at least 1, with no lease. Takes the room for all its leases, at
+    /// most one a slot: the other calls take no memory.
     pub fn new(alloc: Global, size: u32) -> Result<Leases, NoMemory>
         requires { 1 ≤ size }
         ensures { IfOk result (λ ring. ring ≡ record { size = size; leases = [] }) }
@@ -104,22 +110,25 @@ impl Leases {
         })
     }
 
-    /// Leases so many slots, at least one, behind all others.
+    /// Opens a lease of `slots` slots at the end of the queue.
     #[tactic(auto, using(crate::proofs::LeaseLemmas::leases))]
     pub fn open(&mut self, id: LeaseId, slots: u32)
         requires some { 1 ≤ slots }
         requires room { slots_of self.old.leases + slots ≤ self.old.size - 1 }
         requires new { is_there id.0 self.old.leases ≡ false }
-        ensures { self.new ≡ record self.old { leases = self.old.leases ++ record { id = id; slots = slots; is_done = false } ∷ [] } }
+        ensures { self.new ≡ record self.old {
+          leases = self.old.leases
+              ++ record { id = id; slots = slots; is_done = false } ∷ [];
+        } }
     {
-        self.leases.push_back_reserved(Lease {
+        self.leases.push_back_reserved(LeaseSlots {
             id,
             slots,
             is_done: false,
         });
     }
 
-    /// The slots of a lease that is out are filled.
+    /// Completes a lease that is out: its slots are filled.
     #[tactic(auto, using(crate::proofs::LeaseLemmas::leases))]
     pub fn done(&mut self, id: LeaseId)
         requires { IsTrue (is_lease_out id.0 self.old.leases) }
@@ -128,7 +137,8 @@ impl Leases {
         mark_done(&mut self.leases, id);
     }
 
-    /// The number of slots that a reader could have now: those of the longest prefix of done leases.
+    /// The number of slots that a reader could take now: those of the longest prefix of done
+    /// leases.
     pub fn ready(&self) -> u32
         ensures slots { result ≡ slots_of (done_prefix self.now.leases) }
         ensures ring { IsLeaseRing self.now }
@@ -136,7 +146,7 @@ impl Leases {
         ready_slots(&self.leases)
     }
 
-    /// Hands these slots to the reader: the longest prefix of done leases goes.
+    /// Hands these slots to the reader: removes the longest prefix of done leases.
     #[tactic(auto, using(crate::proofs::LeaseLemmas::leases))]
     pub fn take(&mut self) -> u32
         ensures slots { result ≡ slots_of (done_prefix self.old.leases) }

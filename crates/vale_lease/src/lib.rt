@@ -7,4 +7,4 @@ mod leases;
 #[cfg(test)]
 mod tests;
 
-pub use leases::{Lease, Leases};
+pub use leases::{LeaseSlots, Leases};

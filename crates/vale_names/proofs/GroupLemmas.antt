@@ -104,14 +104,8 @@ retained step keeps change f told key (Some old ∷ slots) kept is =
     ]
 
 -- an answer of a walk is that of the list
-pub any_first : (test : NamedPort → Bool) (first : NamedPort) (rest : List NamedPort) → test first ≡ false → list_any test (first ∷ rest) ≡ list_any test rest
-any_first test first rest fails = rw fails refl
-
 pub any_here : (test : NamedPort → Bool) (first : NamedPort) (rest : List NamedPort) → test first ≡ true → list_any test (first ∷ rest) ≡ true
 any_here test first rest passes = rw passes refl
-
-pub find_first : (test : NamedPort → Bool) (first : NamedPort) (rest : List NamedPort) → test first ≡ false → find test (first ∷ rest) ≡ find test rest
-find_first test first rest fails = rw fails refl
 
 pub find_here : (test : NamedPort → Bool) (first : NamedPort) (rest : List NamedPort) → test first ≡ true → find test (first ∷ rest) ≡ Some first
 find_here test first rest passes = rw passes refl

@@ -1,5 +1,6 @@
 pub mod GroupLemmas
 pub mod NameLemmas
 pub mod OrderLemmas
+pub mod PortRules
 pub mod PortLemmas
 pub mod SwitchLemmas

@@ -1,24 +1,30 @@
 -- What a name is answered, from the ports beside it.
-use Rattle.std.proofs.Common.{ℕ, suc, Bool, true, false, cond, List, [], ◌∷◌, ◌++◌, ◌≡◌, Option, Some, None, Result, Ok, Err, OnOk, OnErr, MatchResult, length, map, get_or, refl, sym, ◌∙◌, ap, arith, not, inl, inr}
-use Rattle.std.specs.Prelude.{filter, find, count_by, option_map, nat_le}
+use Rattle.std.proofs.Common.{ℕ, Bool, true, false, cond, List, [], ◌∷◌, ◌++◌, ◌≡◌, ◌≤◌, ◌+◌, Option, Some, None, Result, Ok, Err, OnOk, OnErr, MatchResult, length, map, get_or, refl, sym, ◌∙◌, ap, arith, not, inl, inr}
+use Rattle.std.specs.Prelude.{filter, find, count_by, option_map, nat_le, bytes_eq}
 use Rattle.std.specs.List.{list_any, list_all}
 use Rattle.std.proofs.lemmas.Bool.{cases_Bool, and_parts, or_from, le-leb, lt-leb}
-use Rattle.std.proofs.lemmas.List.{map-append}
+use Rattle.std.proofs.lemmas.List.{map-append, length-append, length-map}
+use Rattle.std.proofs.lemmas.Slice.Eq.{bytes_eq-Decides}
 use Rattle.std.proofs.lemmas.List.Elements.{filter-append}
 use Rattle.std.proofs.lemmas.List.Folds.{list_any-append}
-use Rattle.std.proofs.lemmas.List.Sums.{length-filter}
+use Rattle.std.proofs.lemmas.List.Sums.{length-filter, sum_by-append, sum_by-cons, count_by-le-length}
 use Rattle.nm_types.specs.Names.{switch_of, is_switch_port_name, is_pipe_name, is_monitor_name}
+use Rattle.nm_types.specs.declared.id.PortId.{PortId}
+use Rattle.nm_types.specs.Limits.{most_pipe_ends, most_monitors}
 use Rattle.nm_types.specs.declared.fault.OpenFault.{OpenFault}
-use Rattle.nm_types.specs.declared.fault.OpenFault.TheVariants.{PortsFull, NameTaken}
+use Rattle.nm_types.specs.declared.fault.OpenFault.TheVariants.{SwitchesFull, PortsFull, NameTaken}
 use Rattle.vale_names.specs.declared.port.NamedPort.{NamedPort}
 use Rattle.vale_names.specs.declared.switch.Switch.{Switch}
-use Rattle.vale_names.specs.Ports.{has_name, has_switch_name, has_pipe_name, has_monitor_name, is_open_as, open_port_of, is_on_switch, is_beside, Joins, has_id, shut_at, shut_in, without}
-use Rattle.vale_names.specs.Opening.{switches_of, finds_switches_full, most_beside, name_refusal, are_sizes, open_refusal}
+use Rattle.vale_names.specs.Ports.{has_name, has_pipe_name, has_monitor_name, is_open_as, open_port_of, names_of, fresh_port, Joins, has_id, shut_at, shut_in, ports_without}
 use Rattle.vale_names.specs.Groups.{PortGroup, group_refusal}
-use Rattle.vale_names.specs.Switches.{is_for, is_vacant, ports_on, place_for, no_place, refusal_at, place_refusal, shut_place, place_without}
+use Rattle.vale_names.specs.Switches.{is_for, is_vacant, ports_on, ArePlaces, place_for, no_place, refusal_at, place_refusal, shut_place, place_without}
 use Rattle.vale_names.specs.Named.{all_ports, AreNamed}
-use Rattle.vale_names.proofs.PortLemmas.{any_in_filter, find_in_filter, filter_none_pass, all_exclude, all_joined, all_map, all_filter, pipe_no_switch_port, monitor_no_switch_port, beside_switch_port, beside_pipe, beside_monitor, beside_itself_switch_port, beside_itself_pipe, beside_itself_monitor}
-use Rattle.vale_names.proofs.SwitchLemmas.{FoundPlace, finds_beside, place_found, place_missed, places_none, places_switch_names, place_at, switch_count, switches_append, some_count, some_all, some_fewer, places_shut, places_without, ports_shut, ports_without, name_kept}
+use Rattle.vale_names.specs.PortNames.{HaveNamesOnce, IsNames}
+use Rattle.nm_types.specs.Openings as rules
+use Rattle.vale_names.proofs.PortLemmas.{any_in_filter, find_in_filter, filter_none_pass, all_exclude, all_joined, all_map, all_filter, pipe_no_switch_port, monitor_no_switch_port, monitor_no_pipe, beside_switch_port, beside_pipe, beside_monitor, beside_others, joins_behind, joins_before, group_fits, beside_itself_switch_port, beside_itself_pipe, beside_itself_monitor}
+use Rattle.vale_names.proofs.SwitchLemmas.{FoundPlace, finds_beside, place_found, place_missed, places_none, places_switch_names, place_at, switch_count, switches_append, some_count, some_all, some_fewer, places_shut, places_without, ports_on-shut, ports_on-without, name_kept, few_on, few_on_switch, some_at_most}
+use Rattle.nm_types.specs.Openings.{most_beside, are_sizes, open_refusal}
+use Rattle.vale_names.proofs.PortRules.{has_switch_name, is_on_switch, is_beside, switches_of, finds_switches_full, name_refusal, finds_ports_full, switches_counted, count_of_names, refusal_of_names}
 
 -- ---- filters and tests
 
@@ -95,13 +101,14 @@ pub names_refuse_pipe : (s : List Switch) (p m : PortGroup) (name : List ℕ) �
 names_refuse_pipe s p m name are kind =
     let beside = beside_pipe name (ports_on s) p.ports m.ports kind (places_switch_names s are.places) are.pipe_ends are.monitor_ports in
     let other = pipe_no_switch_port name kind in
-    group_told (all_ports s p m) name p beside (are.most_pipes ∙ rw other refl) (beside_itself_pipe name kind) (not_full (all_ports s p m) name other)
+    group_told (all_ports s p m) name p beside (are.pipes_most ∙ rw (other, kind) refl) (beside_itself_pipe name kind) (not_full (all_ports s p m) name other)
 
 pub names_refuse_monitor : (s : List Switch) (p m : PortGroup) (name : List ℕ) → AreNamed s p m → is_monitor_name name ≡ true → name_refusal (all_ports s p m) name ≡ group_refusal m name
 names_refuse_monitor s p m name are kind =
     let beside = beside_monitor name (ports_on s) p.ports m.ports kind (places_switch_names s are.places) are.pipe_ends are.monitor_ports in
     let other = monitor_no_switch_port name kind in
-    group_told (all_ports s p m) name m beside (are.most_monitors ∙ rw other refl) (beside_itself_monitor name kind) (not_full (all_ports s p m) name other)
+    let no_pipe = monitor_no_pipe name kind in
+    group_told (all_ports s p m) name m beside (are.monitors_most ∙ rw (other, no_pipe) refl) (beside_itself_monitor name kind) (not_full (all_ports s p m) name other)
 
 all_switches : (s : List Switch) (p m : PortGroup) → AreNamed s p m → length (switches_of (all_ports s p m)) ≡ some_count s
 all_switches s p m are =
@@ -149,8 +156,8 @@ told_at s p m name (Some i) are kind told =
 pub names_refuse_switch : (s : List Switch) (p m : PortGroup) (name : List ℕ) → AreNamed s p m → is_switch_port_name name ≡ true → name_refusal (all_ports s p m) name ≡ place_refusal s name
 names_refuse_switch s p m name are kind = told_at s p m name (place_for s (switch_of name)) are kind refl
 
-pub sized : (ports : List NamedPort) (name : List ℕ) (tx rx extra : ℕ) → are_sizes name tx rx extra ≡ true → open_refusal ports name tx rx extra ≡ name_refusal ports name
-sized ports name tx rx extra fits = rw fits refl
+pub sized : (ports : List NamedPort) (name : List ℕ) (tx rx extra : ℕ) → are_sizes name tx rx extra ≡ true → open_refusal (names_of ports) name tx rx extra ≡ name_refusal ports name
+sized ports name tx rx extra fits = rw fits (refusal_of_names ports name)
 
 pub told_as : (r : Result (Unit {0}) OpenFault) (a b : Option OpenFault) → a ≡ b → MatchResult r (λ _. b ≡ None) (λ fault. b ≡ Some fault) → MatchResult r (λ _. a ≡ None) (λ fault. a ≡ Some fault)
 told_as (Ok done) a b same told = same ∙ told
@@ -158,47 +165,213 @@ told_as (Err fault) a b same told = same ∙ told
 
 -- ---- what an opening, a shutting and a going leave
 
-pub kept_joined : (test : NamedPort → Bool) (old new : PortGroup) (port : NamedPort) (r : Result (Unit {0}) OpenFault) → OnOk r (Joins old.ports port new.ports) → OnErr r (new ≡ old)
-    → list_all test old.ports ≡ true → test port ≡ true → list_all test new.ports ≡ true
-kept_joined test old new port (Ok done) joined err all here = all_joined test old.ports port new.ports joined all here
-kept_joined test old new port (Err fault) joined err all here = rw err all
+pub all_shut : (id : ℕ) (s : List Switch) (p m : PortGroup) → all_ports (map (shut_place id) s) (record p { ports = shut_in id p.ports }) (record m { ports = shut_in id m.ports }) ≡ shut_in id (all_ports s p m)
+all_shut id s p m =
+    ap (λ (front : List NamedPort). front ++ (shut_in id p.ports ++ shut_in id m.ports)) (ports_on-shut id s)
+    ∙ (ap (λ (back : List NamedPort). shut_in id (ports_on s) ++ back) (sym (map-append (shut_at id) p.ports m.ports)) ∙ sym (map-append (shut_at id) (ports_on s) (p.ports ++ m.ports)))
+
+pub all_without : (id : ℕ) (s : List Switch) (p m : PortGroup) → all_ports (map (place_without id) s) (record p { ports = ports_without id p.ports }) (record m { ports = ports_without id m.ports }) ≡ ports_without id (all_ports s p m)
+all_without id s p m =
+    ap (λ (front : List NamedPort). front ++ (ports_without id p.ports ++ ports_without id m.ports)) (ports_on-without id s)
+    ∙ (ap (λ (back : List NamedPort). ports_without id (ports_on s) ++ back) (sym (filter-append (λ q. not (has_id id q)) p.ports m.ports)) ∙ sym (filter-append (λ q. not (has_id id q)) (ports_on s) (p.ports ++ m.ports)))
+
+-- ---- no two ports have one name
+
+count_joined : (test : NamedPort → Bool) (old : List NamedPort) (port : NamedPort) (new : List NamedPort) → Joins old port new → count_by test new ≡ cond (test port) 1 0 + count_by test old
+count_joined test old port new joins =
+    let value : NamedPort → ℕ = λ p. cond (test p) 1 0 in
+    let was : count_by test old ≡ count_by test (joins.before ++ joins.after) = ap (count_by test) joins.was in
+    let is : count_by test new ≡ count_by test (joins.before ++ port ∷ joins.after) = ap (count_by test) joins.is in
+    let cut_old = sum_by-append value joins.before joins.after in
+    let cut_new = sum_by-append value joins.before (port ∷ joins.after) in
+    let first = sum_by-cons value port joins.after in
+    omega arith
+
+none_counted : (test : NamedPort → Bool) (ports : List NamedPort) → list_any test ports ≡ false → count_by test ports ≡ 0
+none_counted test ports none = sym (length-filter test ports) ∙ ap (λ (ps : List NamedPort). length ps) (filter_none_pass test ports none)
+
+-- a name that is not refused is free
+free_name : (ports : List NamedPort) (name : List ℕ) → name_refusal ports name ≡ None → list_any (has_name name) ports ≡ false
+free_name ports name none = free (finds_switches_full ports name) (finds_ports_full ports name) (list_any (has_name name) ports) none
+  where
+    free : (switches full taken : Bool) → cond switches (Some SwitchesFull) (cond full (Some PortsFull) (cond taken (Some NameTaken) None)) ≡ None → taken ≡ false
+    free true full taken none = absurd (let wrong : Some SwitchesFull ≡ None = none in cc)
+    free false true taken none = absurd (let wrong : Some PortsFull ≡ None = none in cc)
+    free false false true none = absurd (let wrong : Some NameTaken ≡ None = none in cc)
+    free false false false none = refl
+
+once_joined : (old : List NamedPort) (name : List ℕ) (id : PortId) (new : List NamedPort) → HaveNamesOnce old → name_refusal old name ≡ None → Joins old (fresh_port name id) new → HaveNamesOnce new
+once_joined old name id new once none joins other =
+    let counted : Bool → ℕ = λ b. cond b 1 0 + count_by (has_name other) old in
+    let count = count_joined (has_name other) old (fresh_port name id) new joins in
+    elim (cases_Bool (bytes_eq name other)) [
+      | inl same ↦
+          let free = none_counted (has_name name) old (free_name old name none) in
+          let equal : name ≡ other = (bytes_eq-Decides name other).0 same in
+          let none_of : count_by (has_name other) old ≡ 0 = ap (λ (n : List ℕ). count_by (has_name n) old) (sym equal) ∙ free in
+          let one : count_by (has_name other) new ≡ 1 + count_by (has_name other) old = count ∙ ap counted same in
+          omega arith
+      | inr differ ↦
+          let few = once other in
+          let none_more : count_by (has_name other) new ≡ 0 + count_by (has_name other) old = count ∙ ap counted differ in
+          omega arith
+    ]
+
+once_shut : (id : ℕ) (ports : List NamedPort) → HaveNamesOnce ports → HaveNamesOnce (shut_in id ports)
+once_shut id ports once name = let few = once name in let same = alike ports in omega arith
+  where
+    alike : (all : List NamedPort) → count_by (has_name name) (shut_in id all) ≡ count_by (has_name name) all
+    alike [] = refl
+    alike (port ∷ all) =
+        let shut : count_by (has_name name) (shut_in id (port ∷ all)) ≡ cond (has_name name (shut_at id port)) 1 0 + count_by (has_name name) (shut_in id all) =
+        sum_by-cons (λ (p : NamedPort). cond (has_name name p) 1 0) (shut_at id port) (shut_in id all) in
+        let whole : count_by (has_name name) (port ∷ all) ≡ cond (has_name name port) 1 0 + count_by (has_name name) all = sum_by-cons (λ (p : NamedPort). cond (has_name name p) 1 0) port all in
+        shut ∙ (ap (λ (n : List ℕ). cond (bytes_eq n name) 1 0 + count_by (has_name name) (shut_in id all)) (name_kept id port)
+        ∙ (ap (λ (k : ℕ). cond (has_name name port) 1 0 + k) (alike all) ∙ sym whole))
+
+once_without : (id : ℕ) (ports : List NamedPort) → HaveNamesOnce ports → HaveNamesOnce (ports_without id ports)
+once_without id ports once name = let few = once name in let fewer = fewer_kept (has_name name) (λ p. not (has_id id p)) ports in omega arith
+  where
+    fewer_kept : (test kept : NamedPort → Bool) (all : List NamedPort) → count_by test (filter kept all) ≤ count_by test all
+    fewer_kept test kept [] = omega arith
+    fewer_kept test kept (port ∷ all) =
+        let rest = fewer_kept test kept all in
+        let whole = sum_by-cons (λ (p : NamedPort). cond (test p) 1 0) port all in
+        let first = sum_by-cons (λ (p : NamedPort). cond (test p) 1 0) port (filter kept all) in
+        elim (cases_Bool (kept port)) [
+          | inl here ↦ rw here (omega arith)
+          | inr away ↦ rw away (omega arith)
+        ]
+
+-- ---- what each call leaves
+
+pub named_switch : (s new : List Switch) (p m : PortGroup) (name : List ℕ) (id : PortId) (r : Result (Unit {0}) OpenFault) → AreNamed s p m → is_switch_port_name name ≡ true → ArePlaces new
+    → length new ≡ length s → MatchResult r (λ _. place_refusal s name ≡ None) (λ fault. place_refusal s name ≡ Some fault)
+    → OnOk r (Joins (ports_on s) (fresh_port name id) (ports_on new)) → OnErr r (new ≡ s) → AreNamed new p m
+named_switch s new p m name id (Ok done) are kind places same refusal joined err = record {
+  places = places;
+  four = same ∙ are.four;
+  pipe_ends = are.pipe_ends;
+  pipes_most = are.pipes_most;
+  few_pipes = are.few_pipes;
+  monitor_ports = are.monitor_ports;
+  monitors_most = are.monitors_most;
+  few_monitors = are.few_monitors;
+  once = once_joined (all_ports s p m) name id (all_ports new p m) are.once (names_refuse_switch s p m name are kind ∙ refusal)
+      (joins_before (ports_on s) (fresh_port name id) (ports_on new) (p.ports ++ m.ports) joined);
+}
+named_switch s new p m name id (Err fault) are kind places same refusal joined err = rw err are
+
+pub named_pipe : (s : List Switch) (p new m : PortGroup) (name : List ℕ) (id : PortId) (r : Result (Unit {0}) OpenFault) → AreNamed s p m → is_pipe_name name ≡ true → new.most ≡ p.most
+    → MatchResult r (λ _. group_refusal p name ≡ None) (λ fault. group_refusal p name ≡ Some fault)
+    → OnOk r (Joins p.ports (fresh_port name id) new.ports) → OnErr r (new ≡ p) → AreNamed s new m
+named_pipe s p new m name id (Ok done) are kind most refusal joined err =
+    let fits = group_fits p new name (fresh_port name id) refusal joined in
+    let was = are.pipes_most in
+    record {
+      places = are.places;
+      four = are.four;
+      pipe_ends = all_joined has_pipe_name p.ports (fresh_port name id) new.ports joined are.pipe_ends kind;
+      pipes_most = most ∙ are.pipes_most;
+      few_pipes = omega arith;
+      monitor_ports = are.monitor_ports;
+      monitors_most = are.monitors_most;
+      few_monitors = are.few_monitors;
+      once = once_joined (all_ports s p m) name id (all_ports s new m) are.once (names_refuse_pipe s p m name are kind ∙ refusal)
+          (joins_behind (ports_on s) _ (fresh_port name id) _ (joins_before p.ports (fresh_port name id) new.ports m.ports joined));
+    }
+named_pipe s p new m name id (Err fault) are kind most refusal joined err = rw err are
+
+pub named_monitor : (s : List Switch) (p m new : PortGroup) (name : List ℕ) (id : PortId) (r : Result (Unit {0}) OpenFault) → AreNamed s p m → is_monitor_name name ≡ true → new.most ≡ m.most
+    → MatchResult r (λ _. group_refusal m name ≡ None) (λ fault. group_refusal m name ≡ Some fault)
+    → OnOk r (Joins m.ports (fresh_port name id) new.ports) → OnErr r (new ≡ m) → AreNamed s p new
+named_monitor s p m new name id (Ok done) are kind most refusal joined err =
+    let fits = group_fits m new name (fresh_port name id) refusal joined in
+    let was = are.monitors_most in
+    record {
+      places = are.places;
+      four = are.four;
+      pipe_ends = are.pipe_ends;
+      pipes_most = are.pipes_most;
+      few_pipes = are.few_pipes;
+      monitor_ports = all_joined has_monitor_name m.ports (fresh_port name id) new.ports joined are.monitor_ports kind;
+      monitors_most = most ∙ are.monitors_most;
+      few_monitors = omega arith;
+      once = once_joined (all_ports s p m) name id (all_ports s p new) are.once (names_refuse_monitor s p m name are kind ∙ refusal)
+          (joins_behind (ports_on s) _ (fresh_port name id) _ (joins_behind p.ports m.ports (fresh_port name id) new.ports joined));
+    }
+named_monitor s p m new name id (Err fault) are kind most refusal joined err = rw err are
 
 pub named_shut : (id : ℕ) (s : List Switch) (p m : PortGroup) → AreNamed s p m → AreNamed (map (shut_place id) s) (record p { ports = shut_in id p.ports }) (record m { ports = shut_in id m.ports })
 named_shut id s p m are = record {
   places = places_shut id s are.places;
-  four = mapped s ∙ are.four;
+  four = length-map s (shut_place id) ∙ are.four;
   pipe_ends = all_map has_pipe_name (shut_at id) p.ports (λ port. ap is_pipe_name (name_kept id port)) are.pipe_ends;
-  most_pipes = are.most_pipes;
+  pipes_most = are.pipes_most;
+  few_pipes = rw (length-map p.ports (shut_at id)) are.few_pipes;
   monitor_ports = all_map has_monitor_name (shut_at id) m.ports (λ port. ap is_monitor_name (name_kept id port)) are.monitor_ports;
-  most_monitors = are.most_monitors;
+  monitors_most = are.monitors_most;
+  few_monitors = rw (length-map m.ports (shut_at id)) are.few_monitors;
+  once = rw (all_shut id s p m) (once_shut id (all_ports s p m) are.once);
 }
-  where
-    mapped : (places : List Switch) → length (map (shut_place id) places) ≡ length places
-    mapped [] = refl
-    mapped (place ∷ places) = ap suc (mapped places)
 
-pub named_without : (id : ℕ) (s : List Switch) (p m : PortGroup) → AreNamed s p m → AreNamed (map (place_without id) s) (record p { ports = without id p.ports }) (record m { ports = without id m.ports })
+fewer_without : (id : ℕ) (ports : List NamedPort) (most : ℕ) → length ports ≤ most → length (ports_without id ports) ≤ most
+fewer_without id ports most few =
+    let kept = length-filter (λ q. not (has_id id q)) ports in
+    let less = count_by-le-length (λ q. not (has_id id q)) ports in
+    omega arith
+
+pub named_without : (id : ℕ) (s : List Switch) (p m : PortGroup) → AreNamed s p m → AreNamed (map (place_without id) s) (record p { ports = ports_without id p.ports }) (record m { ports = ports_without id m.ports })
 named_without id s p m are = record {
   places = places_without id s are.places;
-  four = mapped s ∙ are.four;
+  four = length-map s (place_without id) ∙ are.four;
   pipe_ends = all_filter has_pipe_name (λ q. not (has_id id q)) p.ports are.pipe_ends;
-  most_pipes = are.most_pipes;
+  pipes_most = are.pipes_most;
+  few_pipes = fewer_without id p.ports most_pipe_ends are.few_pipes;
   monitor_ports = all_filter has_monitor_name (λ q. not (has_id id q)) m.ports are.monitor_ports;
-  most_monitors = are.most_monitors;
+  monitors_most = are.monitors_most;
+  few_monitors = fewer_without id m.ports most_monitors are.few_monitors;
+  once = rw (all_without id s p m) (once_without id (all_ports s p m) are.once);
 }
-  where
-    mapped : (places : List Switch) → length (map (place_without id) places) ≡ length places
-    mapped [] = refl
-    mapped (place ∷ places) = ap suc (mapped places)
 
-pub all_shut : (id : ℕ) (s : List Switch) (p m : PortGroup) → all_ports (map (shut_place id) s) (record p { ports = shut_in id p.ports }) (record m { ports = shut_in id m.ports }) ≡ shut_in id (all_ports s p m)
-all_shut id s p m =
-    ap (λ (front : List NamedPort). front ++ (shut_in id p.ports ++ shut_in id m.ports)) (ports_shut id s)
-    ∙ (ap (λ (back : List NamedPort). shut_in id (ports_on s) ++ back) (sym (map-append (shut_at id) p.ports m.ports)) ∙ sym (map-append (shut_at id) (ports_on s) (p.ports ++ m.ports)))
+-- ---- what holds of the ports together
 
-pub all_without : (id : ℕ) (s : List Switch) (p m : PortGroup) → all_ports (map (place_without id) s) (record p { ports = without id p.ports }) (record m { ports = without id m.ports }) ≡ without id (all_ports s p m)
-all_without id s p m =
-    ap (λ (front : List NamedPort). front ++ (without id p.ports ++ without id m.ports)) (ports_without id s)
-    ∙ (ap (λ (back : List NamedPort). without id (ports_on s) ++ back) (sym (filter-append (λ q. not (has_id id q)) p.ports m.ports)) ∙ sym (filter-append (λ q. not (has_id id q)) (ports_on s) (p.ports ++ m.ports)))
+few_beside : (s : List Switch) (p m : PortGroup) (name : List ℕ) → AreNamed s p m → length (filter (is_beside name) (all_ports s p m)) ≤ most_beside name
+few_beside s p m name are = elim (cases_Bool (is_switch_port_name name)) [
+  | inl is ↦
+      let beside = beside_switch_port name (ports_on s) p.ports m.ports is are.pipe_ends are.monitor_ports in
+      let few = few_on_switch (switch_of name) s are.places in
+      rw (beside, is) few
+  | inr other ↦ elim (cases_Bool (is_pipe_name name)) [
+    | inl is ↦
+        let beside = beside_pipe name (ports_on s) p.ports m.ports is (places_switch_names s are.places) are.pipe_ends are.monitor_ports in
+        let few = are.few_pipes in
+        rw (beside, other, is) few
+    | inr no_pipe ↦
+        let beside = beside_others name (ports_on s) p.ports m.ports other no_pipe (places_switch_names s are.places) are.pipe_ends are.monitor_ports in
+        let few = are.few_monitors in
+        rw (beside, other, no_pipe) few
+  ]
+]
+
+pub are_names : (s : List Switch) (p m : PortGroup) → AreNamed s p m → IsNames (all_ports s p m)
+are_names s p m are = record {
+  once = are.once;
+  beside = λ name. rw (count_of_names (rules.is_beside name) (all_ports s p m), ← (length-filter (is_beside name) (all_ports s p m))) (few_beside s p m name are);
+  switches =
+      let counted = switches_counted (all_ports s p m) in
+      let some = all_switches s p m are in
+      let most = some_at_most s in
+      let four = are.four in
+      omega arith;
+  few =
+      let on = few_on s are.places in
+      let four = are.four in
+      let pipes = are.few_pipes in
+      let monitors = are.few_monitors in
+      let front = length-append (ports_on s) (p.ports ++ m.ports) in
+      let back = length-append p.ports m.ports in
+      omega arith;
+}
 
 pub ruleset names = (group_told, group_finds)

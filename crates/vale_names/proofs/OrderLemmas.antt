@@ -11,10 +11,11 @@ use Rattle.nm_types.specs.declared.id.PortId.{PortId}
 use Rattle.nm_types.specs.declared.fault.OpenFault.{OpenFault}
 use Rattle.nm_types.specs.declared.fault.OpenFault.TheVariants.{BadSize, SwitchesFull, PortsFull, NameTaken}
 use Rattle.vale_names.specs.declared.port.NamedPort.{NamedPort}
-use Rattle.vale_names.specs.Ports.{has_name, is_open_as, has_switch_name, is_on_switch, is_beside}
-use Rattle.vale_names.specs.Opening.{switches_of, finds_switches_full, finds_ports_full, most_beside, are_sizes}
-use Rattle.vale_names.specs.Laws.{OrderSaysNothing, OrderFindsTheSame}
+use Rattle.vale_names.specs.Ports.{has_name, is_open_as}
+use Rattle.vale_names.specs.Laws.{OrderSaysNothing, OrderFindsTheSame, OneIsOpen}
 use Rattle.vale_names.proofs.PortLemmas.{any_in_filter, bytes_same}
+use Rattle.nm_types.specs.Openings.{most_beside, are_sizes}
+use Rattle.vale_names.proofs.PortRules.{has_switch_name, is_on_switch, is_beside, switches_of, finds_switches_full, finds_ports_full, name_refusal, refusal_of_names}
 
 bytes_are : (a b : List ℕ) → bytes_eq a b ≡ true → a ≡ b
 bytes_are a b same = (bytes_eq-Decides a b).0 same
@@ -99,7 +100,7 @@ any_same test a b same = elim (cases_Bool (list_any test a)) [
   ]
 ]
 
--- ---- the switches, without one of them
+-- ---- the switches, ports_without one of them
 
 count_off : (switch : List ℕ) (port : NamedPort) (a b : List NamedPort) → (has_switch_name port ≡ true → list_any (is_on_switch (switch_of port.name)) a ≡ list_any (is_on_switch (switch_of port.name)) b)
     → (d : ℕ) → switch_count a ≡ d + switch_count b → switch_count (port ∷ a) ≡ d + switch_count (port ∷ b)
@@ -218,18 +219,23 @@ same_full a b name permutes =
     ap (λ (t : Bool). is_switch_port_name name && (not t && nat_le 4 (switch_count a))) any
     ∙ ap (λ (k : ℕ). is_switch_port_name name && (not (list_any (is_beside name) b) && nat_le 4 k)) count
 
-abbrev refusal_of : Bool → Bool → Bool → Bool → Option OpenFault
-refusal_of fits switches ports taken = cond (not fits) (Some BadSize) (cond switches (Some SwitchesFull) (cond ports (Some PortsFull) (cond taken (Some NameTaken) None)))
+abbrev refusal_of : Bool → Bool → Bool → Option OpenFault
+refusal_of switches ports taken = cond switches (Some SwitchesFull) (cond ports (Some PortsFull) (cond taken (Some NameTaken) None))
 
-pub order_says_nothing : OrderSaysNothing
-order_says_nothing a b name tx rx extra permutes =
+same_refusal : (a b : List NamedPort) (name : List ℕ) → IsPermutation a b → name_refusal a name ≡ name_refusal b name
+same_refusal a b name permutes =
     let full = same_full a b name permutes in
     let count = permuted_alike a b permutes (is_beside name) in
     let ports : finds_ports_full a name ≡ finds_ports_full b name = ap (λ (k : ℕ). nat_le (most_beside name) k) count in
     let taken = list_any-IsPermutation (has_name name) a b permutes in
-    ap (λ (t : Bool). refusal_of (are_sizes name tx rx extra) t (finds_ports_full a name) (list_any (has_name name) a)) full
-    ∙ (ap (λ (t : Bool). refusal_of (are_sizes name tx rx extra) (finds_switches_full b name) t (list_any (has_name name) a)) ports
-    ∙ ap (λ (t : Bool). refusal_of (are_sizes name tx rx extra) (finds_switches_full b name) (finds_ports_full b name) t) taken)
+    ap (λ (t : Bool). refusal_of t (finds_ports_full a name) (list_any (has_name name) a)) full
+    ∙ (ap (λ (t : Bool). refusal_of (finds_switches_full b name) t (list_any (has_name name) a)) ports
+    ∙ ap (λ (t : Bool). refusal_of (finds_switches_full b name) (finds_ports_full b name) t) taken)
+
+pub order_says_nothing : OrderSaysNothing
+order_says_nothing a b name tx rx extra permutes =
+    let same = refusal_of_names a name ∙ (same_refusal a b name permutes ∙ sym (refusal_of_names b name)) in
+    ap (λ (r : Option OpenFault). cond (not (are_sizes name tx rx extra)) (Some BadSize) r) same
 
 -- ---- what a name finds
 
@@ -325,4 +331,11 @@ pub order_finds_the_same : OrderFindsTheSame
 order_finds_the_same a b name one permutes =
     same_found (is_open_as name) a b (find (is_open_as name) a) (find (is_open_as name) b) (permuted_alike a b permutes) one refl refl
 
-pub ruleset order_laws = (order_says_nothing, order_finds_the_same)
+-- a port that is open as the name has the name
+pub one_is_open : OneIsOpen
+one_is_open ports name names =
+    let once = names.once name in
+    let split = count_split (has_name name) (λ (p : NamedPort). not p.shutting) ports in
+    omega arith
+
+pub ruleset order_laws = (order_says_nothing, order_finds_the_same, one_is_open)

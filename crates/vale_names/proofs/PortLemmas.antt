@@ -1,16 +1,19 @@
 -- Lists of ports, and what a name's kind tells of the ports beside it.
-use Rattle.std.proofs.Common.{ℕ, zero, suc, Bool, true, false, cond, List, [], ◌∷◌, ◌++◌, ◌≡◌, ◌<◌, Option, Some, None, length, map, get_or, append_assoc, refl, sym, ◌∙◌, ap, arith, ◌||◌, inl, inr}
-use Rattle.std.specs.Prelude.{filter, find, bytes_eq}
+use Rattle.std.proofs.Common.{ℕ, zero, suc, Bool, true, false, cond, List, [], ◌∷◌, ◌++◌, ◌≡◌, ◌<◌, ◌≤◌, ◌+◌, Option, Some, None, length, map, get_or, append_assoc, refl, sym, ◌∙◌, ap, arith, ◌||◌, inl, inr}
+use Rattle.std.specs.Prelude.{filter, find, bytes_eq, nat_le}
 use Rattle.std.specs.List.{list_any, list_all}
-use Rattle.std.proofs.lemmas.Bool.{cases_Bool, and_parts, and_from, or_parts, or_from, both_ways, false≢true, false_from_ne_true}
+use Rattle.std.proofs.lemmas.Bool.{cases_Bool, and_parts, and_from, or_parts, or_from, both_ways, false≢true, false_from_ne_true, leb-false}
 use Rattle.std.proofs.lemmas.Slice.Eq.{bytes_eq-Decides}
-use Rattle.std.proofs.lemmas.List.{append-nil}
-use Rattle.std.proofs.lemmas.List.Elements.{filter-append}
+use Rattle.std.proofs.lemmas.List.{append-nil, length-append}
+use Rattle.std.proofs.lemmas.List.Elements.{filter-append, filter_agree}
 use Rattle.nm_types.specs.declared.name.Kind.{Kind}
 use Rattle.nm_types.specs.declared.name.Kind.TheVariants.{Vale, Master, Slave, Monitor}
 use Rattle.nm_types.specs.Names.{kind_of, switch_of, is_switch_port_name, is_pipe_name, is_monitor_name, is_switch_port_kind, is_pipe_kind, is_monitor_kind}
+use Rattle.nm_types.specs.declared.fault.OpenFault.TheVariants.{PortsFull}
+use Rattle.vale_names.specs.Groups.{PortGroup, group_refusal}
 use Rattle.vale_names.specs.declared.port.NamedPort.{NamedPort}
-use Rattle.vale_names.specs.Ports.{has_name, has_switch_name, has_pipe_name, has_monitor_name, is_on_switch, is_beside, Joins}
+use Rattle.vale_names.specs.Ports.{has_name, has_pipe_name, has_monitor_name, Joins}
+use Rattle.vale_names.proofs.PortRules.{has_switch_name, is_on_switch, is_beside}
 
 -- ---- lists
 
@@ -28,12 +31,6 @@ filter_all_pass test [] all = refl
 filter_all_pass test (x ∷ xs) all =
     let parts = and_parts (test x) (list_all test xs) all in
     rw (parts.0) (ap (λ rest. x ∷ rest) (filter_all_pass test xs parts.1))
-
-pub filter_congr : {X : Type 0} (test other : X → Bool) (xs : List X) → ((x : X) → test x ≡ other x) → filter test xs ≡ filter other xs
-filter_congr test other [] same = refl
-filter_congr test other (x ∷ xs) same =
-    let rest = filter_congr test other xs same in
-    ap (λ b. cond b (x ∷ filter test xs) (filter test xs)) (same x) ∙ ap (λ ys. cond (other x) (x ∷ ys) ys) rest
 
 pub filter_none_pass : {X : Type 0} (test : X → Bool) (xs : List X) → list_any test xs ≡ false → filter test xs ≡ []
 filter_none_pass test [] none = refl
@@ -133,6 +130,24 @@ joins_before old port new back joins = record {
   was = ap (λ (front : List NamedPort). front ++ back) joins.was ∙ append_assoc joins.before joins.after back;
   is = ap (λ (front : List NamedPort). front ++ back) joins.is ∙ append_assoc joins.before (port ∷ joins.after) back;
 }
+
+pub length_joined : (old : List NamedPort) (port : NamedPort) (new : List NamedPort) → Joins old port new → length new ≡ length old + 1
+length_joined old port new joins =
+    let was : length old ≡ length (joins.before ++ joins.after) = ap (λ (ps : List NamedPort). length ps) joins.was in
+    let is : length new ≡ length (joins.before ++ port ∷ joins.after) = ap (λ (ps : List NamedPort). length ps) joins.is in
+    let cut_old = length-append joins.before joins.after in
+    let cut_new = length-append joins.before (port ∷ joins.after) in
+    omega arith
+
+-- a group that does not refuse a name has room for it
+pub group_fits : (old new : PortGroup) (name : List ℕ) (port : NamedPort) → group_refusal old name ≡ None → Joins old.ports port new.ports → length new.ports ≤ old.most
+group_fits old new name port free joined = elim (cases_Bool (nat_le old.most (length old.ports))) [
+  | inl full ↦ absurd (let wrong : Some PortsFull ≡ None = rw full at free in cc)
+  | inr room ↦
+      let less = leb-false old.most (length old.ports) room in
+      let more = length_joined old.ports port new.ports joined in
+      omega arith
+]
 
 -- ---- kinds
 
@@ -239,7 +254,7 @@ pub beside_switch_port : (name : List ℕ) (a b c : List NamedPort) → is_switc
 beside_switch_port name a b c kind pipes monitors =
     let no_b = filter_none_pass (is_on_switch (switch_of name)) b (all_exclude (is_on_switch (switch_of name)) has_pipe_name b (λ p is. rw (pipe_no_switch_port p.name is) refl) pipes) in
     let no_c = filter_none_pass (is_on_switch (switch_of name)) c (all_exclude (is_on_switch (switch_of name)) has_monitor_name c (λ p is. rw (monitor_no_switch_port p.name is) refl) monitors) in
-    filter_congr (is_beside name) (is_on_switch (switch_of name)) (a ++ (b ++ c)) (λ p. rw kind refl)
+    filter_agree (is_beside name) (is_on_switch (switch_of name)) (λ p. rw kind refl) (a ++ (b ++ c))
     ∙ (filter-append (is_on_switch (switch_of name)) a (b ++ c)
     ∙ (ap (λ (rest : List NamedPort). filter (is_on_switch (switch_of name)) a ++ rest) (filter-append (is_on_switch (switch_of name)) b c ∙ rw (no_b, no_c) refl)
     ∙ append-nil (filter (is_on_switch (switch_of name)) a)))
@@ -251,21 +266,24 @@ beside_pipe name a b c kind switches pipes monitors =
     let all_b = filter_all_pass has_pipe_name b pipes in
     let no_c = filter_none_pass has_pipe_name c (all_exclude has_pipe_name has_monitor_name c (λ p is. monitor_no_pipe p.name is) monitors) in
     let no_switch = pipe_no_switch_port name kind in
-    filter_congr (is_beside name) has_pipe_name (a ++ (b ++ c)) (λ p. rw (no_switch, kind) refl)
+    filter_agree (is_beside name) has_pipe_name (λ p. rw (no_switch, kind) refl) (a ++ (b ++ c))
     ∙ (filter-append has_pipe_name a (b ++ c)
     ∙ rw no_a (filter-append has_pipe_name b c ∙ rw (all_b, no_c) (append-nil b)))
+
+pub beside_others : (name : List ℕ) (a b c : List NamedPort) → is_switch_port_name name ≡ false → is_pipe_name name ≡ false → list_all has_switch_name a ≡ true → list_all has_pipe_name b ≡ true → list_all has_monitor_name c ≡ true
+    → filter (is_beside name) (a ++ (b ++ c)) ≡ c
+beside_others name a b c no_switch no_pipe switches pipes monitors =
+    let no_a = filter_none_pass has_monitor_name a (all_exclude has_monitor_name has_switch_name a (λ p is. switch_port_no_monitor p.name is) switches) in
+    let no_b = filter_none_pass has_monitor_name b (all_exclude has_monitor_name has_pipe_name b (λ p is. pipe_no_monitor p.name is) pipes) in
+    let all_c = filter_all_pass has_monitor_name c monitors in
+    filter_agree (is_beside name) has_monitor_name (λ p. rw (no_switch, no_pipe) refl) (a ++ (b ++ c))
+    ∙ (filter-append has_monitor_name a (b ++ c)
+    ∙ rw no_a (filter-append has_monitor_name b c ∙ rw (no_b, all_c) refl))
 
 pub beside_monitor : (name : List ℕ) (a b c : List NamedPort) → is_monitor_name name ≡ true → list_all has_switch_name a ≡ true → list_all has_pipe_name b ≡ true → list_all has_monitor_name c ≡ true
     → filter (is_beside name) (a ++ (b ++ c)) ≡ c
 beside_monitor name a b c kind switches pipes monitors =
-    let no_a = filter_none_pass has_monitor_name a (all_exclude has_monitor_name has_switch_name a (λ p is. switch_port_no_monitor p.name is) switches) in
-    let no_b = filter_none_pass has_monitor_name b (all_exclude has_monitor_name has_pipe_name b (λ p is. pipe_no_monitor p.name is) pipes) in
-    let all_c = filter_all_pass has_monitor_name c monitors in
-    let no_switch = monitor_no_switch_port name kind in
-    let no_pipe = monitor_no_pipe name kind in
-    filter_congr (is_beside name) has_monitor_name (a ++ (b ++ c)) (λ p. rw (no_switch, no_pipe) refl)
-    ∙ (filter-append has_monitor_name a (b ++ c)
-    ∙ rw no_a (filter-append has_monitor_name b c ∙ rw (no_b, all_c) refl))
+    beside_others name a b c (monitor_no_switch_port name kind) (monitor_no_pipe name kind) switches pipes monitors
 
 -- a port of a name is among those beside the name
 pub beside_itself_switch_port : (name : List ℕ) → is_switch_port_name name ≡ true → (port : NamedPort) → has_name name port ≡ true → is_beside name port ≡ true

@@ -1,24 +1,27 @@
 -- The places of the switches: which one a switch has, and what a change of one leaves.
-use Rattle.std.proofs.Common.{ℕ, zero, suc, Bool, true, false, List, [], ◌∷◌, ◌++◌, ◌≡◌, ◌≢◌, ◌≤◌, ◌<◌, ◌+◌, Option, Some, None, Result, Ok, Err, OnOk, OnErr, length, map, set, get_or, refl, sym, ◌∙◌, ap, arith, not, ◌==◌, ◌&&◌, ◌||◌, inl, inr}
+use Rattle.std.proofs.Common.{ℕ, zero, suc, Bool, true, false, List, [], ◌∷◌, ◌++◌, ◌≡◌, ◌≢◌, ◌≤◌, ◌<◌, ◌+◌, ◌*◌, Option, Some, None, Result, Ok, Err, OnOk, OnErr, MatchResult, length, map, set, get_or, refl, sym, ◌∙◌, ap, arith, not, ◌==◌, ◌&&◌, ◌||◌, inl, inr}
 use Rattle.std.specs.Prelude.{filter, find, bytes_eq, option_map, position}
 use Rattle.std.specs.List.{list_any, list_all, position_or_len}
 use Rattle.std.specs.Option.{option_or}
 use Rattle.std.proofs.lemmas.Bool.{cases_Bool, and_parts, and_from, or_parts, or_from, both_ways, false≢true, false_from_ne_true, eqb-true, eqb-false, lt-ltb}
 use Rattle.std.proofs.lemmas.Result.{on_ok_weaker}
 use Rattle.std.proofs.lemmas.Slice.Eq.{bytes_eq-Decides}
-use Rattle.std.proofs.lemmas.List.{append-nil, map-append, set-get_or, get_or_default}
+use Rattle.std.proofs.lemmas.List.{append-nil, map-append, length-append, length-map, set-get_or, get_or_default}
 use Rattle.std.proofs.lemmas.List.Elements.{filter-append}
 use Rattle.std.proofs.lemmas.List.Folds.{list_any-append}
+use Rattle.std.proofs.lemmas.List.Sums.{length-filter, count_by-le-length}
 use Rattle.std.proofs.lemmas.List.Quantifiers.{position-Some}
+use Rattle.nm_types.specs.Limits.{most_switch_ports}
 use Rattle.nm_types.specs.Names.{switch_of, is_switch_port_name}
 use Rattle.nm_types.specs.declared.fault.OpenFault.{OpenFault}
 use Rattle.nm_types.specs.declared.id.PortId.{PortId}
 use Rattle.vale_names.specs.declared.port.NamedPort.{NamedPort}
 use Rattle.vale_names.specs.declared.switch.Switch.{Switch}
-use Rattle.vale_names.specs.Ports.{has_name, has_switch_name, is_open_as, open_port_of, is_on_switch, fresh_port, Joins, has_id, shut_at, shut_in, without}
-use Rattle.vale_names.specs.Opening.{switches_of}
+use Rattle.vale_names.specs.Ports.{has_name, is_open_as, open_port_of, fresh_port, Joins, has_id, shut_at, shut_in, ports_without}
+use Rattle.vale_names.specs.Groups.{group_refusal}
 use Rattle.vale_names.specs.Switches.{is_label_of, is_for, is_on_label, shares_label, is_vacant, ports_on, IsPlace, ArePlaces, place_for, no_place, shut_place, place_without}
-use Rattle.vale_names.proofs.PortLemmas.{any_at, any_none, all_filtered, find_in_filter, on_own_switch, filter_all_pass, filter_none_pass, all_exclude, all_imply, all_append, all_map, all_filter, all_joined, joins_behind, joins_before, bytes_same}
+use Rattle.vale_names.proofs.PortLemmas.{any_at, any_none, all_filtered, find_in_filter, on_own_switch, filter_all_pass, filter_none_pass, all_exclude, all_imply, all_append, all_map, all_filter, all_joined, joins_behind, joins_before, bytes_same, group_fits}
+use Rattle.vale_names.proofs.PortRules.{has_switch_name, is_on_switch, switches_of}
 
 bytes_are : (a b : List ℕ) → bytes_eq a b ≡ true → a ≡ b
 bytes_are a b same = (bytes_eq-Decides a b).0 same
@@ -246,7 +249,7 @@ one_at_most : (ports : List NamedPort) → one_if_some ports ≤ 1
 one_at_most [] = omega arith
 one_at_most (port ∷ ports) = omega arith
 
-some_at_most : (places : List Switch) → some_count places ≤ length places
+pub some_at_most : (places : List Switch) → some_count places ≤ length places
 some_at_most [] = omega arith
 some_at_most (place ∷ places) =
     let rest = some_at_most places in
@@ -338,26 +341,38 @@ label_kept id (Some label) port = ap (λ (name : List ℕ). is_switch_port_name 
 pub places_shut : (id : ℕ) (places : List Switch) → ArePlaces places → ArePlaces (map (shut_place id) places)
 places_shut id [] are = tt
 places_shut id (place ∷ places) are = (
-  record { named = all_map (is_on_label place.label) (shut_at id) place.group.ports (label_kept id place.label) are.0.named; most = are.0.most },
+  record {
+    named = all_map (is_on_label place.label) (shut_at id) place.group.ports (label_kept id place.label) are.0.named;
+    most = are.0.most;
+    few = rw (length-map place.group.ports (shut_at id)) are.0.few;
+  },
   (any_shut id place.label places ∙ are.1.0, places_shut id places are.1.1),
 )
 
 pub places_without : (id : ℕ) (places : List Switch) → ArePlaces places → ArePlaces (map (place_without id) places)
 places_without id [] are = tt
 places_without id (place ∷ places) are = (
-  record { named = all_filter (is_on_label place.label) (λ p. not (has_id id p)) place.group.ports are.0.named; most = are.0.most },
+  record {
+    named = all_filter (is_on_label place.label) (λ p. not (has_id id p)) place.group.ports are.0.named;
+    most = are.0.most;
+    few =
+        let kept = length-filter (λ p. not (has_id id p)) place.group.ports in
+        let less = count_by-le-length (λ p. not (has_id id p)) place.group.ports in
+        let few = are.0.few in
+        omega arith;
+  },
   (any_without id place.label places ∙ are.1.0, places_without id places are.1.1),
 )
 
-pub ports_shut : (id : ℕ) (places : List Switch) → ports_on (map (shut_place id) places) ≡ shut_in id (ports_on places)
-ports_shut id [] = refl
-ports_shut id (place ∷ places) =
-    ap (λ (rest : List NamedPort). shut_in id place.group.ports ++ rest) (ports_shut id places) ∙ sym (map-append (shut_at id) place.group.ports (ports_on places))
+pub ports_on-shut : (id : ℕ) (places : List Switch) → ports_on (map (shut_place id) places) ≡ shut_in id (ports_on places)
+ports_on-shut id [] = refl
+ports_on-shut id (place ∷ places) =
+    ap (λ (rest : List NamedPort). shut_in id place.group.ports ++ rest) (ports_on-shut id places) ∙ sym (map-append (shut_at id) place.group.ports (ports_on places))
 
-pub ports_without : (id : ℕ) (places : List Switch) → ports_on (map (place_without id) places) ≡ without id (ports_on places)
-ports_without id [] = refl
-ports_without id (place ∷ places) =
-    ap (λ (rest : List NamedPort). without id place.group.ports ++ rest) (ports_without id places) ∙ sym (filter-append (λ p. not (has_id id p)) place.group.ports (ports_on places))
+pub ports_on-without : (id : ℕ) (places : List Switch) → ports_on (map (place_without id) places) ≡ ports_without id (ports_on places)
+ports_on-without id [] = refl
+ports_on-without id (place ∷ places) =
+    ap (λ (rest : List NamedPort). ports_without id place.group.ports ++ rest) (ports_on-without id places) ∙ sym (filter-append (λ p. not (has_id id p)) place.group.ports (ports_on places))
 
 -- ---- an opening and a look-up at a place
 
@@ -375,14 +390,37 @@ opened_joins places name id i d new r are told joined =
 pub opened_places : (places : List Switch) (name : List ℕ) (id : PortId) (i : ℕ) (d new : Switch) (r : Result (Unit {0}) OpenFault) → ArePlaces places → is_switch_port_name name ≡ true
     → place_for places (switch_of name) ≡ Some i
     → OnOk r (Joins (get_or places i d).group.ports (fresh_port name id) new.group.ports) → OnOk r (new.label ≡ Some name) → new.group.most ≡ (get_or places i d).group.most
-    → OnErr r (new ≡ get_or places i d) → ArePlaces (set places i new)
-opened_places places name id i d new (Ok done) are kind told joined label most err =
+    → OnErr r (new ≡ get_or places i d) → MatchResult r (λ _. group_refusal (get_or places i d).group name ≡ None) (λ fault. group_refusal (get_or places i d).group name ≡ Some fault) → ArePlaces (set places i new)
+opened_places places name id i d new (Ok done) are kind told joined label most err refusal =
+    let fits = group_fits (get_or places i d).group new.group name (fresh_port name id) refusal joined in
     let found = place_found places (switch_of name) i are told in
     let port : is_on_switch (switch_of name) (fresh_port name id) ≡ true = and_from (is_switch_port_name name) (bytes_eq (switch_of name) (switch_of name)) kind (bytes_same (switch_of name)) in
     let all = all_joined (is_on_switch (switch_of name)) (get_or places i d).group.ports (fresh_port name id) new.group.ports joined (found_all places (switch_of name) i d found) port in
-    let is_place : IsPlace new = record { named = rw label all; most = most ∙ (place_at places i d are found.within).most } in
+    let was = place_at places i d are found.within in
+    let most_was = was.most in
+    let is_place : IsPlace new = record { named = rw label all; most = most ∙ was.most; few = omega arith } in
     places_set places i no_place new name are found.within is_place label found.only
-opened_places places name id i d new (Err fault) are kind told joined label most err = rw err (rw (set-get_or places i d) are)
+opened_places places name id i d new (Err fault) are kind told joined label most err refusal = rw err (rw (set-get_or places i d) are)
+
+-- how many ports the places have, and how many of one switch
+pub few_on : (places : List Switch) → ArePlaces places → length (ports_on places) ≤ most_switch_ports * length places
+few_on [] are = omega arith
+few_on (place ∷ places) are =
+    let rest = few_on places are.1.1 in
+    let few = are.0.few in
+    let cut = length-append place.group.ports (ports_on places) in
+    omega arith
+
+pub few_on_switch : (switch : List ℕ) (places : List Switch) → ArePlaces places → length (filter (is_on_switch switch) (ports_on places)) ≤ most_switch_ports
+few_on_switch switch [] are = omega arith
+few_on_switch switch (place ∷ places) are = elim (cases_Bool (is_for switch place)) [
+  | inl here ↦ rw (ports_at switch (place ∷ places) zero place are (omega arith) here) are.0.few
+  | inr other ↦
+      let none = filter_none_pass (is_on_switch switch) place.group.ports (place_none switch place are.0 other) in
+      let same : filter (is_on_switch switch) (ports_on (place ∷ places)) ≡ filter (is_on_switch switch) (ports_on places) =
+      filter-append (is_on_switch switch) place.group.ports (ports_on places) ∙ rw none refl in
+      rw same (few_on_switch switch places are.1.1)
+]
 
 -- a switch port is found among the ports of its switch
 pub finds_beside : (ports : List NamedPort) (name : List ℕ) (beside : List NamedPort) → is_switch_port_name name ≡ true → filter (is_on_switch (switch_of name)) ports ≡ beside
@@ -392,4 +430,4 @@ finds_beside ports name beside kind is =
     sym (find_in_filter (is_open_as name) (is_on_switch (switch_of name)) ports (λ p open_as. on_own_switch name p kind (and_parts (has_name name p) (not p.shutting) open_as).0)) ∙ ap (find (is_open_as name)) is in
     ap (λ (o : Option NamedPort). option_map (λ (p : NamedPort). p.id) o) found
 
-pub ruleset places = (places_shut, places_without, ports_shut, ports_without)
+pub ruleset places = (places_shut, places_without, ports_on-shut, ports_on-without)

@@ -1,6 +1,6 @@
 pub mod Groups
 pub mod Laws
 pub mod Named
-pub mod Opening
+pub mod PortNames
 pub mod Ports
 pub mod Switches

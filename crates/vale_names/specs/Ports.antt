@@ -1,18 +1,17 @@
 -- The ports that are there, with their names; their order says nothing.
 use Rattle.std.specs.Prelude.{ℕ, Bool, true, false, not, ◌&&◌, ◌==◌, ◌≡◌, if◌then◌else◌, List, ◌∷◌, ◌++◌, map, filter, find, Option, option_map, bytes_eq}
-use Rattle.std.specs.List.{list_any}
-use Rattle.nm_types.specs.Names.{switch_of, is_switch_port_name, is_pipe_name, is_monitor_name}
+use Rattle.nm_types.specs.Names.{is_pipe_name, is_monitor_name}
 use Rattle.nm_types.specs.declared.id.PortId.{PortId}
 use Rattle.vale_names.specs.declared.port.NamedPort.{NamedPort}
+
+abbrev pub names_of : List NamedPort → List (List ℕ)
+names_of ports = map (λ (port : NamedPort). port.name) ports
 
 abbrev pub has_name : List ℕ → NamedPort → Bool
 has_name name port = bytes_eq port.name name
 
 abbrev pub has_id : ℕ → NamedPort → Bool
 has_id id port = port.id.0 == id
-
-abbrev pub is_there : ℕ → List NamedPort → Bool
-is_there id ports = list_any (has_id id) ports
 
 abbrev pub is_open_as : List ℕ → NamedPort → Bool
 is_open_as name port = has_name name port && not port.shutting
@@ -21,24 +20,11 @@ is_open_as name port = has_name name port && not port.shutting
 abbrev pub open_port_of : List NamedPort → List ℕ → Option PortId
 open_port_of ports name = option_map (λ (p : NamedPort). p.id) (find (is_open_as name) ports)
 
--- a port of a switch
-abbrev pub is_on_switch : List ℕ → NamedPort → Bool
-is_on_switch switch port = is_switch_port_name port.name && bytes_eq (switch_of port.name) switch
-
-abbrev pub has_switch_name : NamedPort → Bool
-has_switch_name port = is_switch_port_name port.name
-
 abbrev pub has_pipe_name : NamedPort → Bool
 has_pipe_name port = is_pipe_name port.name
 
 abbrev pub has_monitor_name : NamedPort → Bool
 has_monitor_name port = is_monitor_name port.name
-
--- the ports that a name counts with: those of its switch, all pipe ends, or all monitors
-abbrev pub is_beside : List ℕ → NamedPort → Bool
-is_beside name port =
-    if is_switch_port_name name then is_on_switch (switch_of name) port
-    else (if is_pipe_name name then has_pipe_name port else has_monitor_name port)
 
 abbrev pub fresh_port : List ℕ → PortId → NamedPort
 fresh_port name id = record { name = name; id = id; shutting = false }
@@ -56,5 +42,5 @@ shut_at id port = if has_id id port then record port { shutting = true } else po
 abbrev pub shut_in : ℕ → List NamedPort → List NamedPort
 shut_in id ports = map (shut_at id) ports
 
-abbrev pub without : ℕ → List NamedPort → List NamedPort
-without id ports = filter (λ port. not (has_id id port)) ports
+abbrev pub ports_without : ℕ → List NamedPort → List NamedPort
+ports_without id ports = filter (λ port. not (has_id id port)) ports

@@ -1,7 +1,9 @@
-ghost use Rattle.std.specs.Prelude.{◌≡◌, ◌≤◌, [], None, Some, IfOk, OnOk, OnErr, MatchResult, length, nat_eq};
+ghost use Rattle.std.specs.Prelude.{◌≡◌, ◌≤◌, [], None, Some, length, nat_eq};
+ghost use Rattle.std.specs.Prelude.{IfOk, OnOk, OnErr, MatchResult};
 ghost use Rattle.std.specs.List.{list_any};
 ghost use Rattle.slab.specs.Slab.{values, slab_len};
-ghost use Rattle.vale_names.specs.Ports.{has_name, is_open_as, open_port_of, fresh_port, Joins, shut_at, shut_in, without};
+ghost use Rattle.vale_names.specs.Ports.{has_name, is_open_as, open_port_of, fresh_port};
+ghost use Rattle.vale_names.specs.Ports.{Joins, shut_at, shut_in, ports_without};
 ghost use Rattle.vale_names.specs.Groups.{group_refusal};
 
 use crate::port::NamedPort;
@@ -30,6 +32,7 @@ impl Model for Group {
     ghost invariant = { λ g. g.most ≤ g.ports.capacity };
 }
 
+/// Tells whether a port has this name.
 #[tactic(auto, using(crate::proofs::GroupLemmas::groups))]
 fn is_taken(ports: &Slab<NamedPort>, name: &Name) -> bool
     ensures { result ≡ list_any (has_name name.now) (values ports.now) }
@@ -42,6 +45,7 @@ fn is_taken(ports: &Slab<NamedPort>, name: &Name) -> bool
     false
 }
 
+/// Finds the open port of this name.
 #[tactic(auto, using(crate::proofs::GroupLemmas::groups))]
 fn open_port_of(ports: &Slab<NamedPort>, name: &Name) -> Option<PortId>
     ensures { result ≡ open_port_of (values ports.now) name.now }
@@ -54,6 +58,7 @@ fn open_port_of(ports: &Slab<NamedPort>, name: &Name) -> Option<PortId>
     None
 }
 
+/// Marks the port as shutting if it has this id.
 fn shut_at(port: &mut NamedPort, id: PortId)
     ensures { port.new ≡ shut_at id.0 port.old }
 {
@@ -63,7 +68,7 @@ fn shut_at(port: &mut NamedPort, id: PortId)
 }
 
 impl Group {
-    /// No ports, and room for so many.
+    /// An empty group with room for `most` ports.
     pub(crate) fn new(alloc: Global, most: usize) -> Result<Group, NoMemory>
         ensures { IfOk result (λ group. group ≡ record { ports = []; most = most }) }
     {
@@ -73,6 +78,7 @@ impl Group {
         })
     }
 
+    /// Tells whether there is no port.
     #[tactic(auto, using(crate::proofs::GroupLemmas::groups))]
     pub(crate) fn is_empty(&self) -> bool
         ensures { result ≡ nat_eq (length self.now.ports) 0 }
@@ -80,12 +86,15 @@ impl Group {
         self.ports.is_empty()
     }
 
+    /// Adds an open port. Refuses with `PortsFull` if the group has its most ports, else with
+    /// `NameTaken` if a port has this name.
     #[tactic(auto, using(crate::proofs::GroupLemmas::groups))]
     pub(crate) fn open(&mut self, name: &Name, id: PortId) -> Result<(), OpenFault>
         ensures refusal { MatchResult result
             (λ _. group_refusal self.old name.now ≡ None)
             (λ fault. group_refusal self.old name.now ≡ Some fault) }
-        ensures joined { OnOk result (Joins self.old.ports (fresh_port name.now id) self.new.ports) }
+        ensures joined { OnOk result
+            (Joins self.old.ports (fresh_port name.now id) self.new.ports) }
         ensures most { self.new.most ≡ self.old.most }
         ensures err { OnErr result (self.new ≡ self.old) }
     {
@@ -103,13 +112,14 @@ impl Group {
         Ok(())
     }
 
-    /// The open port of this name.
+    /// Finds the open port of this name.
     pub(crate) fn find(&self, name: &Name) -> Option<PortId>
         ensures { result ≡ open_port_of self.now.ports name.now }
     {
         open_port_of(&self.ports, name)
     }
 
+    /// Marks the port of this id as shutting.
     #[tactic(auto, using(crate::proofs::GroupLemmas::groups))]
     pub(crate) fn shut(&mut self, id: PortId)
         ensures { self.new ≡ record self.old { ports = shut_in id.0 self.old.ports } }
@@ -120,9 +130,10 @@ impl Group {
         });
     }
 
+    /// Removes the port of this id.
     #[tactic(auto, using(crate::proofs::GroupLemmas::groups))]
     pub(crate) fn gone(&mut self, id: PortId)
-        ensures { self.new ≡ record self.old { ports = without id.0 self.old.ports } }
+        ensures { self.new ≡ record self.old { ports = ports_without id.0 self.old.ports } }
     {
         self.ports.retain(|_, port| port.id != id);
     }

@@ -1,5 +1,5 @@
-//! The names of the ports that are there: the switches of vale(4) with their ports, and the pipe ends
-//! and monitors of netmap(4).
+//! The names of the ports that are open or shutting: the switches of vale(4) with their ports, and
+//! the pipe ends and monitors of netmap(4).
 #![tactic(auto)]
 
 mod group;

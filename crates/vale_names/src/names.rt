@@ -1,6 +1,8 @@
 ghost use Rattle.std.specs.Prelude.{◌≡◌, [], None, Some, IfOk, OnOk, OnErr, MatchResult};
-ghost use Rattle.vale_names.specs.Ports.{open_port_of, fresh_port, Joins, shut_in, without};
-ghost use Rattle.vale_names.specs.Opening.{are_sizes, is_ring_size, open_refusal};
+ghost use Rattle.nm_types.specs.Openings.{are_sizes, is_ring_size, open_refusal};
+ghost use Rattle.vale_names.specs.Ports.{names_of, open_port_of, fresh_port, Joins};
+ghost use Rattle.vale_names.specs.Ports.{shut_in, ports_without};
+ghost use Rattle.vale_names.specs.PortNames.{IsNames};
 
 use crate::group::Group;
 use crate::switch::{Switch, find_on_switch, leave_switches, open_on_switch, shut_on_switches};
@@ -11,8 +13,8 @@ use nm_types::{
 use std::alloc::Global;
 use std::marker::Model;
 
-/// The ports that are there, each with its name, its id and whether it is shutting. A name is looked
-/// up among the ports of its switch, the pipe ends or the monitors alone.
+/// The ports that are open or shutting, each with its name and its id. A name is looked up among
+/// the ports of its switch, the pipe ends or the monitors alone.
 #[derive(Drop)]
 pub struct Names {
     switches: [Switch; MAX_SWITCHES],
@@ -33,13 +35,14 @@ impl Model for Names {
     ghost invariant = { λ n. AreNamed n.switches n.pipes n.monitors };
 }
 
+/// Tells whether a ring may have `size` slots.
 fn is_ring_size(size: u32) -> bool
     ensures { result ≡ is_ring_size size }
 {
     (MIN_RING..=MAX_RING).contains(&size)
 }
 
-/// Whether a port of this name may have such rings and so many extra buffers.
+/// Tells whether a port of this name may have rings of `tx` and `rx` slots and `extra` buffers.
 fn are_sizes(name: &Name, tx: u32, rx: u32, extra: u32) -> bool
     ensures { result ≡ are_sizes name.now tx rx extra }
 {
@@ -52,7 +55,7 @@ fn are_sizes(name: &Name, tx: u32, rx: u32, extra: u32) -> bool
 }
 
 impl Names {
-    /// No ports. Takes the room for all ports, so that the other calls take no memory.
+    /// An empty table. It takes the room for all ports, so that the other calls take no memory.
     pub fn new(alloc: Global) -> Result<Names, NoMemory>
         ensures { IfOk result (λ names. names ≡ []) }
     {
@@ -67,13 +70,13 @@ impl Names {
         })
     }
 
-    /// A port of this name comes, open, under an id that no port has. The sizes are those of its
-    /// transmit ring and its receive ring, in slots, and the number of its extra buffers. The first
-    /// of these refuses: `BadSize` where a ring has not 2 to 1024 slots (the transmit ring of a
-    /// monitor: 0), or there are more than 1024 extra buffers; `SwitchesFull` where the name's switch
-    /// has no port and 4 switches have one; `PortsFull` where its switch has 16 ports, or, for a name
-    /// of that kind, 32 pipe ends or 32 monitors are there; `NameTaken` where a port of this name is
-    /// there, also a shutting one. The other faults never come.
+    /// Registers an open port of this name under a new id. `tx` and `rx` are the slots of its
+    /// rings, and `extra` is the number of its extra buffers. The first refusal that applies is
+    /// answered: `BadSize` if a ring does not have 2 to 1024 slots (0 for the transmit ring of a
+    /// monitor), or if there are more than 1024 extra buffers; `SwitchesFull` if the name's switch
+    /// has no port and 4 switches have one; `PortsFull` if its switch has 16 ports or, for a name
+    /// of that kind, there are 32 pipe ends or 32 monitors; `NameTaken` if an open or shutting port
+    /// has this name. No other fault is answered.
     #[tactic(auto, using(crate::proofs::NameLemmas::names))]
     pub fn open(
         &mut self,
@@ -84,8 +87,9 @@ impl Names {
         extra: u32,
     ) -> Result<(), OpenFault>
         ensures refusal { MatchResult result
-            (λ _. open_refusal self.old name.now tx rx extra ≡ None)
-            (λ fault. open_refusal self.old name.now tx rx extra ≡ Some fault) }
+            (λ _. open_refusal (names_of self.old) name.now tx rx extra ≡ None)
+            (λ fault. open_refusal (names_of self.old) name.now tx rx extra ≡ Some fault) }
+        ensures names { OnOk result (IsNames self.new) }
         ensures opened { OnOk result (Joins self.old (fresh_port name.now id) self.new) }
         ensures err { OnErr result (self.new ≡ self.old) }
     {
@@ -99,10 +103,11 @@ impl Names {
         }
     }
 
-    /// The open port of this name.
+    /// Finds the open port of this name.
     #[tactic(auto, using(crate::proofs::NameLemmas::names))]
     pub fn find(&self, name: &Name) -> Option<PortId>
-        ensures { result ≡ open_port_of self.now name.now }
+        ensures port { result ≡ open_port_of self.now name.now }
+        ensures names { IsNames self.now }
     {
         match name.kind() {
             Kind::Vale => find_on_switch(&self.switches, name),
@@ -111,8 +116,8 @@ impl Names {
         }
     }
 
-    /// The port is shutting from now on: its name is taken still, and finds nothing. An id that no
-    /// port has changes nothing.
+    /// Marks the port as shutting: its name stays taken, and finds nothing. Does nothing if no port
+    /// has this id.
     #[tactic(auto, using(crate::proofs::NameLemmas::names))]
     pub fn shut(&mut self, id: PortId)
         ensures { self.new ≡ shut_in id.0 self.old }
@@ -122,10 +127,10 @@ impl Names {
         self.monitors.shut(id);
     }
 
-    /// The port goes, and its name is free. An id that no port has changes nothing.
+    /// Removes the port and frees its name. Does nothing if no port has this id.
     #[tactic(auto, using(crate::proofs::NameLemmas::names))]
     pub fn gone(&mut self, id: PortId)
-        ensures { self.new ≡ without id.0 self.old }
+        ensures { self.new ≡ ports_without id.0 self.old }
     {
         leave_switches(&mut self.switches, id);
         self.pipes.gone(id);

@@ -1,8 +1,12 @@
-ghost use Rattle.std.specs.Prelude.{◌≡◌, [], None, Some, IfOk, OnOk, OnErr, MatchResult, position, map, true};
+ghost use Rattle.std.specs.Prelude.{◌≡◌, [], None, Some, true};
+ghost use Rattle.std.specs.Prelude.{IfOk, OnOk, OnErr, MatchResult};
+ghost use Rattle.std.specs.Prelude.{position, map};
+ghost use Rattle.nm_types.specs.Limits.{most_switch_ports};
 ghost use Rattle.nm_types.specs.Names.{switch_of, is_switch_port_name};
 ghost use Rattle.vale_names.specs.Ports.{open_port_of, fresh_port, Joins};
 ghost use Rattle.vale_names.specs.Groups.{group_refusal};
-ghost use Rattle.vale_names.specs.Switches.{is_for, is_vacant, ports_on, ArePlaces, place_for, place_refusal, shut_place, place_without};
+ghost use Rattle.vale_names.specs.Switches.{is_for, is_vacant, ports_on, ArePlaces};
+ghost use Rattle.vale_names.specs.Switches.{place_for, place_refusal, shut_place, place_without};
 
 use crate::group::Group;
 use nm_types::{MAX_SWITCH_PORTS, Name, NoMemory, OpenFault, PortId};
@@ -16,8 +20,10 @@ pub(crate) struct Switch {
 }
 
 impl Switch {
+    /// A place without ports, that no switch has had yet.
     pub(crate) fn new(alloc: Global) -> Result<Switch, NoMemory>
-        ensures { IfOk result (λ place. place ≡ record { label = None; group = record { ports = []; most = 16 } }) }
+        ensures { IfOk result (λ place. place
+            ≡ record { label = None; group = record { ports = []; most = most_switch_ports } }) }
     {
         Ok(Switch {
             label: None,
@@ -25,6 +31,7 @@ impl Switch {
         })
     }
 
+    /// Tells whether the place is that of the name's switch.
     fn is_for(&self, name: &Name) -> bool
         ensures { result ≡ is_for (switch_of name.now) self.now }
     {
@@ -34,17 +41,20 @@ impl Switch {
         }
     }
 
+    /// Tells whether the place has no port.
     fn is_vacant(&self) -> bool
         ensures { result ≡ is_vacant self.now }
     {
         self.group.is_empty()
     }
 
+    /// Adds an open port and makes its name the label. Refuses as its group does.
     fn open(&mut self, name: &Name, id: PortId) -> Result<(), OpenFault>
         ensures refusal { MatchResult result
             (λ _. group_refusal self.old.group name.now ≡ None)
             (λ fault. group_refusal self.old.group name.now ≡ Some fault) }
-        ensures joined { OnOk result (Joins self.old.group.ports (fresh_port name.now id) self.new.group.ports) }
+        ensures joined { OnOk result
+            (Joins self.old.group.ports (fresh_port name.now id) self.new.group.ports) }
         ensures label { OnOk result (self.new.label ≡ Some name.now) }
         ensures most { self.new.group.most ≡ self.old.group.most }
         ensures err { OnErr result (self.new ≡ self.old) }
@@ -57,19 +67,21 @@ impl Switch {
     }
 }
 
+/// The place of the name's switch.
 fn place_of(places: &[Switch], name: &Name) -> Option<usize>
     ensures { result ≡ position (is_for (switch_of name.now)) places.now }
 {
     places.iter().position(|place| place.is_for(name))
 }
 
+/// The first place that has no port.
 fn vacant_place(places: &[Switch]) -> Option<usize>
     ensures { result ≡ position is_vacant places.now }
 {
     places.iter().position(|place| place.is_vacant())
 }
 
-/// The place of the name's switch, else one that has no ports.
+/// The place of the name's switch, else the first that has no port.
 fn place_for(places: &[Switch], name: &Name) -> Option<usize>
     ensures { result ≡ place_for places.now (switch_of name.now) }
 {
@@ -79,7 +91,7 @@ fn place_for(places: &[Switch], name: &Name) -> Option<usize>
     }
 }
 
-/// Opens a port of this name on its switch, or on a place without ports where the switch has none.
+/// Opens a port of this name on its switch, or on a place without ports if the switch has none.
 #[tactic(auto, using(crate::proofs::SwitchLemmas::places))]
 pub(crate) fn open_on_switch(
     places: &mut [Switch],
@@ -91,7 +103,8 @@ pub(crate) fn open_on_switch(
     ensures refusal { MatchResult result
         (λ _. place_refusal places.old name.now ≡ None)
         (λ fault. place_refusal places.old name.now ≡ Some fault) }
-    ensures joined { OnOk result (Joins (ports_on places.old) (fresh_port name.now id) (ports_on places.new)) }
+    ensures joined { OnOk result
+        (Joins (ports_on places.old) (fresh_port name.now id) (ports_on places.new)) }
     ensures places { ArePlaces places.new }
     ensures err { OnErr result (places.new ≡ places.old) }
 {
@@ -101,7 +114,7 @@ pub(crate) fn open_on_switch(
     }
 }
 
-/// The open port of a switch port's name.
+/// Finds the open port of a switch port's name.
 #[tactic(auto, using(crate::proofs::SwitchLemmas::places))]
 pub(crate) fn find_on_switch(places: &[Switch], name: &Name) -> Option<PortId>
     requires places { ArePlaces places.now }
@@ -114,12 +127,14 @@ pub(crate) fn find_on_switch(places: &[Switch], name: &Name) -> Option<PortId>
     }
 }
 
+/// Marks the port of this id as shutting, if it is here.
 fn shut_place(place: &mut Switch, id: PortId)
     ensures { place.new ≡ shut_place id.0 place.old }
 {
     place.group.shut(id);
 }
 
+/// Marks the port of this id as shutting, if it is on a switch.
 pub(crate) fn shut_on_switches(places: &mut [Switch], id: PortId)
     ensures { places.new ≡ map (shut_place id.0) places.old }
 {
@@ -128,12 +143,14 @@ pub(crate) fn shut_on_switches(places: &mut [Switch], id: PortId)
     }
 }
 
+/// Removes the port of this id, if it is here.
 fn leave_place(place: &mut Switch, id: PortId)
     ensures { place.new ≡ place_without id.0 place.old }
 {
     place.group.gone(id);
 }
 
+/// Removes the port of this id, if it is on a switch.
 pub(crate) fn leave_switches(places: &mut [Switch], id: PortId)
     ensures { places.new ≡ map (place_without id.0) places.old }
 {

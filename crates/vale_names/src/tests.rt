@@ -4,7 +4,7 @@ use std::alloc::Global;
 use std::process::Abort;
 use std::test::Fail;
 
-/// Openings one after another, with the sizes of both rings, the extra buffers and the answer.
+/// Openings in order, each with the sizes of both rings, the extra buffers and the answer.
 const OPENINGS: [(&str, u32, u32, u32, Option<OpenFault>); 19] = [
     ("vale0:a", 4, 4, 0, None),
     ("vale0:b", 1024, 1024, 1024, None),
@@ -72,7 +72,7 @@ const SHUT_AND_GONE: [Step; 15] = [
     Step::Finds("vale9:a", None),
 ];
 
-/// What stands before and behind a letter in the names of each kind.
+/// What precedes and follows a letter in the names of each kind.
 const KINDS: [(&str, &str); 5] = [
     ("vale0:", ""),
     ("pipe", "{"),
@@ -81,18 +81,19 @@ const KINDS: [(&str, &str); 5] = [
     ("mon", "1"),
 ];
 
-/// The answer to an opening of rings of 2 slots, but for a monitor's transmit ring.
+/// Opens a port with rings of 2 slots (a monitor without a transmit ring), and returns the refusal.
 fn opened(names: &mut Names, text: &str, id: u32) -> Result<Option<OpenFault>, BadName> {
     let name = Name::parse(text)?;
     let tx = if name.is_monitor() { 0 } else { 2 };
     Ok(names.open(&name, PortId(id), tx, 2, 0).err())
 }
 
+/// Finds the open port of this name.
 fn found(names: &Names, text: &str) -> Result<Option<PortId>, BadName> {
     Ok(names.find(&Name::parse(text)?))
 }
 
-/// Whether a step is answered as it says.
+/// Tells whether a step is answered as it says.
 fn is_answered(names: &mut Names, step: &Step) -> Result<bool, BadName> {
     match step {
         Step::Opens(text, id, answer) => Ok(opened(names, text, *id)? == *answer),
@@ -119,7 +120,7 @@ fn first_astray(alloc: Global, steps: &[Step]) -> Result<Option<usize>, Fail> {
     Ok(None)
 }
 
-/// Whether each of the five names with this letter is answered so.
+/// Tells whether the opening of each of the five names with this letter has this answer.
 fn all_answered(
     alloc: Global,
     names: &mut Names,
@@ -153,8 +154,8 @@ fn switches_live_with_their_ports(rt: HostRuntime) -> Result<(), Fail> {
     Ok(())
 }
 
-/// 16 ports of one switch, 32 pipe ends and 32 monitors are there: one more of each is refused, also
-/// where its name is taken.
+/// With 16 ports of one switch, 32 pipe ends and 32 monitors, one more of each is refused with
+/// `PortsFull`, even if its name is taken.
 #[test]
 fn one_port_too_many(rt: HostRuntime) -> Result<(), Fail> {
     let mut names = Names::new(rt.alloc())?;

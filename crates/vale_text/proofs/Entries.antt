@@ -1,7 +1,9 @@
 -- Writing the lines of entries by way of a page.
-use Rattle.std.proofs.Common.{◌≡◌, ℕ, ◌+◌, ◌<◌, List, [], ◌∷◌, ◌++◌, length, take, drop, get_or, Option, Result, Ok, Err, sym, ap, subst, ◌∙◌, arith, append_assoc, length-take-le}
+use Rattle.std.proofs.Common.{◌≡◌, ℕ, ◌+◌, ◌<◌, List, [], ◌∷◌, ◌++◌, length, take, drop, get_or, Option, Result, Ok, Err, sym, ap, subst, ◌∙◌, arith, append_assoc, length-take-le, take_all}
 use Rattle.std.proofs.lemmas.List.{take_more, append-nil, take-append-drop}
-use Rattle.nm_io.specs.Held.{GrowsByPrefix}
+use Rattle.nm_io.specs.Held.{grown, GrowsByPrefix}
+use Rattle.nm_io.proofs.Growth.{grown-grown, grown_nothing, grows_longer, grows_more}
+use Rattle.std.proofs.Math.Seq.{drop-length}
 use Rattle.nm_io.specs.Gathered.{Gathered, Gathers}
 use Rattle.nm_io.proofs.Gathering.{gathered_more, gathered_fails, grows_past}
 use Rattle.vale_entry.specs.declared.entry.Entry.{Entry}
@@ -41,3 +43,25 @@ entries_fail old middle new p q es i e h same first second =
 pub gathers_after : {T E : Type 0} (old middle new : Option (List ℕ)) (p q r a b : List ℕ) (result : Result T E) → Gathered old middle p q a → Gathers middle new q r result b → Gathers old new p r result (a ++ b)
 gathers_after old middle new p q r a b (Ok x) first second = gathered_more old middle new p q r a b first second
 gathers_after old middle new p q r a b (Err e) first second = gathered_fails old middle new p q a b first second
+
+-- a line is gathered, and nothing goes out yet
+pub gathered_behind : (held : Option (List ℕ)) (p q a : List ℕ) → q ≡ p ++ a → Gathered held held p q a
+gathered_behind held p q a is = record { count = 0; within = omega arith; held = sym (grown_nothing held); rest = is }
+
+-- all that was gathered goes out
+pub gathered_over : (old new : Option (List ℕ)) (p q r a : List ℕ) → q ≡ p ++ a → new ≡ grown old q → r ≡ [] → Gathered old new p r a
+gathered_over old new p q r a is out empty = record {
+  count = length (p ++ a);
+  within = omega arith;
+  held = out ∙ ap (grown old) (is ∙ sym (take_all (length (p ++ a)) (p ++ a) (omega arith)));
+  rest = empty ∙ sym (drop-length (p ++ a));
+}
+
+-- nothing went out, or a prefix
+pub grows_none : (held : Option (List ℕ)) (a : List ℕ) → GrowsByPrefix held held a
+grows_none held a = record { count = 0; within = omega arith; held = sym (grown_nothing held) }
+
+pub grows_as : (old new : Option (List ℕ)) (p q a : List ℕ) → q ≡ p ++ a → GrowsByPrefix old new q → GrowsByPrefix old new (p ++ a)
+grows_as old new p q a is part = subst (GrowsByPrefix old new) is part
+
+pub ruleset gathering_lines = (gathered_behind, gathered_over, grows_none, grows_as, grows_longer, grows_more, grown-grown)

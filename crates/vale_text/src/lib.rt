@@ -1,8 +1,13 @@
-//! Writes the text of transcripts.
+//! The text of transcripts.
 #![tactic(auto)]
 
+mod hex;
+mod pieces;
+mod rows;
 #[cfg(test)]
 mod tests;
-mod text;
+mod transcript;
 
-pub use text::{EndLine, EntryLine, Piece, PutError, StartLine, put_pieces, write_transcript};
+pub use pieces::{Part, put_parts};
+pub use rows::{EndLine, EntryLine, StartLine, write_line};
+pub use transcript::{PutError, write_transcript};

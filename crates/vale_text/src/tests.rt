@@ -1,11 +1,14 @@
 ghost use Rattle.std.specs.Prelude.{[], ◌∷◌};
 
-use crate::text::{EntryLine, write_transcript};
-use nm_io::{MemorySink, Sink, Text};
-use nm_types::{Batch, Chain, LeaseId, Name, PortId, SessionId};
+use crate::{PutError, write_line, write_transcript};
+use nm_io::{MemorySink, Sink};
+use nm_types::{
+    Batch, Chain, Counts, Frame, LeaseId, Name, OpenFault, PortId, SessionId, Side, Sides,
+    SyncFault,
+};
 use std::alloc::Global;
 use std::test::Fail;
-use vale_entry::{Ask, Dest, Dests, Entry, Numbers, Reply};
+use vale_entry::{Ask, Dest, Dests, Entry, Item, Items, Numbers, Reply};
 
 fn entry(session: u32, ask: Ask, reply: Reply) -> Entry {
     Entry {
@@ -87,10 +90,7 @@ fn entries_are_written(rt: HostRuntime) -> Result<(), Fail> {
 }
 
 fn put_line<K: Sink>(out: &mut K, number: u32, entry: &Entry) -> Result<(), Fail> {
-    EntryLine { number, entry }
-        .write(out)
-        .ok()
-        .ok_or("written")?;
+    write_line(number, entry, out).ok().ok_or("written")?;
     Ok(())
 }
 
@@ -109,5 +109,187 @@ fn closing_and_leaving_are_written(rt: HostRuntime) -> Result<(), Fail> {
     put_line(&mut out, 10, &entry(1, finish, Reply::Unread { count: 0 }))?;
     put_line(&mut out, 11, &entry(1, Ask::Leave { session }, Reply::Made))?;
     assert_eq!(rt; out.bytes(), LAST_ENTRIES);
+    Ok(())
+}
+
+#[test]
+fn a_sink_that_fails_holds_a_prefix(rt: HostRuntime) -> Result<(), Fail> {
+    for (call, len) in [(1u64, 0), (2, 15)] {
+        let fail = vec![in rt.alloc(); call]?;
+        let mut out = MemorySink::new(rt.alloc(), fail);
+        let entries = first_entries(rt.alloc())?;
+        assert!(rt; entries.len() < 9);
+        let written = write_transcript(rt.alloc(), &mut out, 64, &entries, 56);
+        assert_eq!(rt; written, Err(PutError::Failed));
+        assert_eq!(rt; out.bytes(), &FIRST_ENTRIES[..len]);
+    }
+    Ok(())
+}
+
+const RESETS: &[u8] =
+    b"1 1 reset 2 rx headout 1 0 0\n2 1 reset 2 tx curout 1 2 3\n3 1 reset 2 tx indirect 0\n4 1 reset 2 tx indexout 0 66\n5 1 reset 2 tx notheld 0 6\n6 1 reset 2 tx doubled 1 2\n7 1 reset 4 rx unannounced 0 10 14\n8 1 reset 2 tx longlen 0 2049\n9 1 reset 2 tx fragment 0\n";
+
+#[test]
+fn resets_are_written(rt: HostRuntime) -> Result<(), Fail> {
+    let (slot, idx) = (0, 6);
+    let mut out = MemorySink::new(rt.alloc(), Vec::new(rt.alloc()));
+    let mut number = 0u32;
+    for (port, side, fault) in [
+        (
+            2,
+            Side::Rx,
+            SyncFault::HeadOut {
+                head: 1,
+                from: 0,
+                to: 0,
+            },
+        ),
+        (
+            2,
+            Side::Tx,
+            SyncFault::CurOut {
+                cur: 1,
+                from: 2,
+                to: 3,
+            },
+        ),
+        (2, Side::Tx, SyncFault::Indirect { slot }),
+        (2, Side::Tx, SyncFault::IndexOut { slot, idx: 66 }),
+        (2, Side::Tx, SyncFault::NotHeld { slot, idx }),
+        (2, Side::Tx, SyncFault::Doubled { slot: 1, idx: 2 }),
+        (
+            4,
+            Side::Rx,
+            SyncFault::Unannounced {
+                slot,
+                idx: 10,
+                was: 14,
+            },
+        ),
+        (2, Side::Tx, SyncFault::LongLen { slot, len: 2049 }),
+        (2, Side::Tx, SyncFault::Fragment { slot }),
+    ] {
+        number = number.saturating_add(1);
+        let port = PortId(port);
+        put_line(
+            &mut out,
+            number,
+            &entry(1, Ask::Reset { port, side, fault }, Reply::Made),
+        )?;
+    }
+    assert_eq!(rt; out.bytes(), RESETS);
+    Ok(())
+}
+
+const PIPES: &[u8] =
+    b"5 1 put 3 2 = took 2:ff0a,3:. to 6*1\n6 1 put 3 1 = took - to -\n7 1 put 2 1 = peergone\n8 2 get 4 2 = gave 0 to -\n9 3 watch 6 vale0:a t = ok 4\n10 3 watch 6 vale0:a r = notarget\n11 3 watch 6 vale0:a tr = watched 6\n12 2 stat 4 = sent 18446744073709551615 short 0 lone 0 given 1 full 2 read 1\n13 2 open vale0:a 4 2 3 = nobuffers 9 2\n";
+
+fn took(alloc: Global) -> Result<Reply, Fail> {
+    let first = Item {
+        index: 2,
+        bytes: Frame::new(alloc, &[0xff, 0x0a], false)?,
+    };
+    let second = Item {
+        index: 3,
+        bytes: Frame::new(alloc, &[], false)?,
+    };
+    let to = Dest {
+        to: PortId(6),
+        count: 1,
+    };
+    Ok(Reply::Took {
+        items: Items::from(vec![in alloc; first, second]?),
+        to: Dests::from(vec![in alloc; to]?),
+    })
+}
+
+fn watch(sides: Sides) -> Result<Ask, Fail> {
+    Ok(Ask::Watch {
+        monitor: PortId(6),
+        target: Name::parse("vale0:a").ok().ok_or("name")?,
+        sides,
+    })
+}
+
+fn counted() -> Reply {
+    Reply::Counted {
+        counts: Counts {
+            sent: u64::MAX,
+            short: 0,
+            lone: 0,
+            given: 1,
+            full: 2,
+            read: 1,
+        },
+    }
+}
+
+fn empty_took(alloc: Global) -> Reply {
+    Reply::Took {
+        items: Items::from(Vec::new(alloc)),
+        to: Dests::from(Vec::new(alloc)),
+    }
+}
+
+fn pipe_entries(alloc: Global) -> Result<Vec<Entry>, Fail> {
+    let port = PortId(3);
+    let back = Numbers::from(vec![in alloc; 2u32]?);
+    let (count, to) = (0, Dests::from(Vec::new(alloc)));
+    let gone = PortId(2);
+    let get = Ask::Get {
+        port: PortId(4),
+        back,
+    };
+    Ok(vec![in alloc;
+        entry(1, Ask::PutKept { port, offered: 2 }, took(alloc)?),
+        entry(1, Ask::PutKept { port, offered: 1 }, empty_took(alloc)),
+        entry(
+            1,
+            Ask::PutKept {
+                port: gone,
+                offered: 1
+            },
+            Reply::PeerGone
+        ),
+        entry(2, get, Reply::Gave { count, to }),
+    ]?)
+}
+
+fn other_entries(alloc: Global) -> Result<Vec<Entry>, Fail> {
+    let port = PortId(4);
+    let (want, have) = (9, 2);
+    let fault = OpenFault::NoBuffers { want, have };
+    Ok(vec![in alloc;
+        entry(3, watch(Sides::T)?, Reply::Watching { target: port }),
+        entry(3, watch(Sides::R)?, Reply::NoTarget),
+        entry(3, watch(Sides::TR)?, Reply::Watched { by: PortId(6) }),
+        entry(2, Ask::Stat { port }, counted()),
+        entry(2, small_open()?, Reply::Refused { fault }),
+    ]?)
+}
+
+fn small_open() -> Result<Ask, Fail> {
+    Ok(Ask::Open {
+        session: SessionId(2),
+        name: Name::parse("vale0:a").ok().ok_or("name")?,
+        tx: 4,
+        rx: 2,
+        extra: 3,
+    })
+}
+
+#[test]
+fn pipes_monitors_and_counters_are_written(rt: HostRuntime) -> Result<(), Fail> {
+    let mut out = MemorySink::new(rt.alloc(), Vec::new(rt.alloc()));
+    let mut number = 4u32;
+    for entry in &pipe_entries(rt.alloc())? {
+        number = number.saturating_add(1);
+        put_line(&mut out, number, entry)?;
+    }
+    for entry in &other_entries(rt.alloc())? {
+        number = number.saturating_add(1);
+        put_line(&mut out, number, entry)?;
+    }
+    assert_eq!(rt; out.bytes(), PIPES);
     Ok(())
 }

@@ -1,6 +1,7 @@
 use Rattle.std.proofs.Common.{◌+◌, ◌*◌, ◌∷◌, [], ◌++◌, List, ℕ, rules, refl, sym, ap, ◌∙◌, append-nil, append_assoc}
 use mathlib.Core.List.{map-append}
-use Rattle.nm_turn.specs.Samples.{values, spread}
+use Rattle.nm_turn.specs.Samples.{spread}
+use Rattle.nm_turn.specs.Numbered.{values}
 use Rattle.nm_turn.specs.Turns.{view_of}
 use Rattle.nm_turn.proofs.Samples.{spread-none, spread-more}
 use Rattle.nm_turn.proofs.tests.add_all.Goals as goal

@@ -1,5 +1,6 @@
 use Rattle.std.proofs.Common.{◌≡◌, ◌++◌}
-use Rattle.nm_turn.specs.Samples.{values, spread}
+use Rattle.nm_turn.specs.Samples.{spread}
+use Rattle.nm_turn.specs.Numbered.{values}
 use Rattle.nm_turn.specs.Turns.{IsPassOf, IsOutside, view_of}
 use Rattle.nm_turn.proofs.tests.add_all.Given as goal
 

@@ -1,9 +1,10 @@
 use Rattle.std.proofs.Common.{◌≡◌, ◌++◌, List, length, ℕ, arith, ap, ◌∙◌, subst, sym, OnOk}
-use Rattle.nm_turn.specs.Numbered.{IsPicked}
+use Rattle.nm_turn.specs.Numbered.{IsPicked, values}
 use Rattle.nm_turn.specs.Passes.{HasAll, kept_view}
-use Rattle.nm_turn.specs.Samples.{values, spread}
+use Rattle.nm_turn.specs.Samples.{spread}
 use Rattle.nm_turn.specs.Turns.{view_of}
-use Rattle.nm_turn.proofs.Samples.{joined_whole, joined_mine, length-both, length-spread, values-picked}
+use Rattle.nm_turn.proofs.Samples.{length-spread}
+use Rattle.nm_turn.proofs.Joining.{joined_whole, joined_mine, length-both, values-picked}
 use Rattle.nm_turn.proofs.tests.add_by_two.Given as given
 use Rattle.nm_turn.proofs.tests.add_by_two.Goals as goal
 
@@ -11,7 +12,7 @@ first_made : (g : given.Over) (c : goal.In_ok-second g) → values (view_of c.ad
 first_made g c =
     let was = c.in_ok-first.was in
     let old = view_of c.fork-two.new.pass in
-    let empty = ap (λ v. values v.mine) (c.fork-two.ensures.kept.1 ∙ ap kept_view c.in_ok-turn.ensures.2) in
+    let empty = ap (λ v. values v.mine) (c.fork-two.ensures.kept.1 ∙ ap kept_view c.in_ok-turn.ensures.1) in
     subst (λ r. OnOk r (values (view_of c.add_in_threads-one.result.0.0).mine ≡ values old.mine ++ spread 0 c.args.count)) was c.add_in_threads-one.ensures.first_added ∙ ap (λ (l : List ℕ). l ++ spread 0 c.args.count) empty
 
 second_made : (g : given.Over) (c : goal.In_ok-second g) → values (view_of c.add_in_threads-one.result.1.0).mine ≡ spread 1 c.args.count
@@ -24,9 +25,9 @@ second_made g c =
 has_all : (g : given.Over) (c : goal.In_ok-second g) → HasAll c.close.result (view_of c.join.new.pass).seen (view_of c.join.new.pass).mine
 has_all g c =
     let made = c.add_in_threads-one.ensures in
-    let whole_before = ap (λ v. v.part) c.in_ok-turn.ensures.2 in
+    let whole_before = ap (λ v. v.part) c.in_ok-turn.ensures.1 in
     c.close.ensures.whole (joined_whole (view_of c.add_in_threads-one.result.0.0) (view_of c.add_in_threads-one.result.1.0) (view_of c.join.new.pass)
-    (made.first.2 ∙ ap (λ v. v.part) (c.fork-two.ensures.kept.1 ∙ ap kept_view c.in_ok-turn.ensures.2)) (made.second.2 ∙ (ap (λ v. v.part) c.fork-two.ensures.given.2 ∙ ap (λ v. (kept_view v).part) c.in_ok-turn.ensures.2))
+    (made.first.1 ∙ ap (λ v. v.part) (c.fork-two.ensures.kept.1 ∙ ap kept_view c.in_ok-turn.ensures.1)) (made.second.1 ∙ (ap (λ v. v.part) c.fork-two.ensures.given.2 ∙ ap (λ v. (kept_view v).part) c.in_ok-turn.ensures.1))
     c.join.ensures.joined)
 
 pub returns-clause-all : goal.returns-clause-all

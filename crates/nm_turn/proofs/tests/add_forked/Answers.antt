@@ -2,12 +2,13 @@ use Rattle.std.proofs.Common.{◌≡◌, ◌<◌, ◌∷◌, [], ◌++◌, List,
 use Rattle.nm_turn.specs.Numbered.{numbered, merged}
 use Rattle.nm_turn.specs.Shares.{half}
 use Rattle.nm_turn.specs.Turns.{view_of}
-use Rattle.nm_turn.proofs.Samples.{joined_whole, joined_mine, two_entries}
+use Rattle.nm_turn.proofs.Samples.{two_entries}
+use Rattle.nm_turn.proofs.Joining.{joined_whole, joined_mine}
 use Rattle.nm_turn.proofs.tests.add_forked.Goals as goal
 
 pub returns : goal.returns
 returns g c =
-    let start = c.in_ok-turn.ensures.2 in
+    let start = c.in_ok-turn.ensures.1 in
     let made = view_of c.add-first.new.pass in
     let kept = view_of c.fork-other.new.pass in
     let other = view_of c.add-second.new.pass in

@@ -2,11 +2,11 @@ use Rattle.std.proofs.Common.{[], ◌≡◌, ◌∙◌, sym, Some, None}
 use Rattle.std.specs.Prelude.{position}
 use Rattle.std.proofs.lemmas.List.Quantifiers.{position-Some}
 use Rattle.nm_types.specs.Names.{switch_of}
-use Rattle.vale_names.specs.Ports.{is_on_switch}
 use Rattle.vale_names.specs.Switches.{is_for, ports_on}
 use Rattle.vale_names.proofs.PortLemmas.{filter_none_pass}
 use Rattle.vale_names.proofs.SwitchLemmas.{finds_beside, ports_at, places_none, position_none}
 use Rattle.vale_names.proofs.switch.find_on_switch.Goals as goal
+use Rattle.vale_names.proofs.PortRules.{is_on_switch}
 
 pub returns-in-Some : goal.returns-in-Some
 returns-in-Some c =

@@ -13,4 +13,4 @@ pub returns-in-Some-clause-places : goal.returns-in-Some-clause-places
 returns-in-Some-clause-places c =
     let told : place_for c.args.places.now (switch_of c.args.name.now) ≡ Some c.in-Some.at = sym c.place_for.ensures ∙ c.in-Some.is in
     opened_places c.args.places.now c.args.name.now c.args.id c.in-Some.at c.index-places-at.result c.open.new.self c.open.result c.requires.places c.requires.kind told
-    c.open.ensures.joined c.open.ensures.label c.open.ensures.most c.open.ensures.err
+    c.open.ensures.joined c.open.ensures.label c.open.ensures.most c.open.ensures.err c.open.ensures.refusal

@@ -1,11 +1,11 @@
 use Rattle.std.proofs.Common.{◌≡◌, ◌≤◌, ◌++◌, length, reverse}
 use Rattle.std.specs.Vec.{vec_len, vec_capacity}
-use Rattle.nm_pool.specs.Kept.{kept}
+use Rattle.nm_pool.specs.Kept.{buffers_in}
 use Rattle.nm_pool.proofs.pool.Pool.close.Given as goal
 
 abbrev pub invariant-loop-place : goal.invariant-loop-place
 invariant-loop-place l = record {
-  moved : l.room.items ++ kept (reverse l.places.items) ≡ l.fn.self.free;
+  moved : l.room.items ++ buffers_in (reverse l.places.items) ≡ l.fn.self.free;
   fits : length l.fn.self.free ≤ vec_capacity l.room;
 }
 

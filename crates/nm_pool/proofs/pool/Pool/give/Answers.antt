@@ -4,14 +4,14 @@ use Rattle.std.proofs.lemmas.List.{length-set}
 use Rattle.std.proofs.lemmas.List.Elements.{recursion_from_All}
 use Rattle.nm_region.specs.Buffers.{indices_of}
 use Rattle.nm_pool.specs.Free.{PoolState, with_buffer}
-use Rattle.nm_pool.specs.Kept.{kept}
-use Rattle.nm_pool.proofs.Keeping.{kept-set, length-kept, length-with_buffer, ArePlaced-set, placed_apart}
+use Rattle.nm_pool.specs.Kept.{buffers_in}
+use Rattle.nm_pool.proofs.Keeping.{buffers_in-set, length-buffers_in, length-with_buffer, ArePlaced-set, placed_apart}
 use Rattle.nm_pool.proofs.pool.Pool.give.Goals as goal
 
 pub overflow_add-self : goal.overflow_add-self
 overflow_add-self c =
     let places = c.self.inside.places.items in
-    omega (arith, length-kept places, c.self.invariant.size, c.self.invariant.counted)
+    omega (arith, length-buffers_in places, c.self.invariant.size, c.self.invariant.counted)
 
 pub invariant_of-self : goal.invariant_of-self
 invariant_of-self c =
@@ -23,13 +23,13 @@ invariant_of-self c =
     let empty : c.index_mut-place.result.now ≡ None = cc in
     let none : None ≡ get_or places at None = rw empty at c.index_mut-place.ensures.value in
     let here : buf.index ≡ 2 + at = omega (arith, c.requires.index, c.index.ensures) in
-    let put : kept (slice_set places at (Some buf)) ≡ with_buffer buf (kept places) = kept-set buf 2 places at within none here c.self.invariant.placed in
+    let put : buffers_in (slice_set places at (Some buf)) ≡ with_buffer buf (buffers_in places) = buffers_in-set buf 2 places at within none here c.self.invariant.placed in
     let count = length-set places at (Some buf) in
     let after = c.replace.ensures.after in
     record {
       size = rw (after, count) c.self.invariant.size;
       placed = rw after (ArePlaced-set buf 2 places at here c.self.invariant.placed);
-      counted = rw (after, put, length-with_buffer buf (kept places), c.self.invariant.counted) refl;
+      counted = rw (after, put, length-with_buffer buf (buffers_in places), c.self.invariant.counted) refl;
       emptied = c.self.invariant.emptied;
       room = rw (after, count) c.self.invariant.room;
     }
@@ -40,7 +40,7 @@ unreachable-requires c =
     let at = c.index.result - 2 in
     let other = c.in-Some._other in
     let buffers : length places ≡ c.args.self.now.buffers = ap (λ (p : PoolState). p.buffers) c.self.view_is in
-    let free : kept places ≡ c.args.self.now.free = ap (λ (p : PoolState). p.free) c.self.view_is in
+    let free : buffers_in places ≡ c.args.self.now.free = ap (λ (p : PoolState). p.free) c.self.view_is in
     let within : at < length places = omega (arith, c.requires.index, c.index.ensures) in
     let there : c.index_mut-place.result.now ≡ Some other = cc in
     let some : Some other ≡ get_or places at (Some other) = rw there at c.index_mut-place.ensures.value in
@@ -54,10 +54,10 @@ returns c =
     let at = c.index.result - 2 in
     let buf = c.args.buf in
     let buffers : length places ≡ c.args.self.now.buffers = ap (λ (p : PoolState). p.buffers) c.self.view_is in
-    let free : kept places ≡ c.args.self.now.free = ap (λ (p : PoolState). p.free) c.self.view_is in
+    let free : buffers_in places ≡ c.args.self.now.free = ap (λ (p : PoolState). p.free) c.self.view_is in
     let within : at < length places = omega (arith, c.requires.index, c.index.ensures) in
     let empty : c.index_mut-place.result.now ≡ None = cc in
     let none : None ≡ get_or places at None = rw empty at c.index_mut-place.ensures.value in
     let here : buf.index ≡ 2 + at = omega (arith, c.requires.index, c.index.ensures) in
-    let put : kept (slice_set places at (Some buf)) ≡ with_buffer buf (kept places) = kept-set buf 2 places at within none here c.self.invariant.placed in
+    let put : buffers_in (slice_set places at (Some buf)) ≡ with_buffer buf (buffers_in places) = buffers_in-set buf 2 places at within none here c.self.invariant.placed in
     rw (c.replace.ensures.after, put, length-set places at (Some buf), buffers, free) refl

@@ -1,6 +1,6 @@
 use Rattle.std.proofs.Common.{◌≡◌, ◌+◌, ◌⊎◌, ◌++◌, ◌∷◌, List, ℕ, Some, length, append-nil, rules, ap, sym, subst, ◌∙◌}
 use Rattle.atomic_table.specs.Table.{rest}
-use Rattle.nm_turn.specs.declared.view.Stage.TheVariants.{Out}
+use Rattle.nm_turn.specs.declared.view.TurnStage.TheVariants.{Out}
 use Rattle.nm_turn.specs.Numbered.{Stands}
 use Rattle.nm_turn.specs.Plays.{Hand}
 use Rattle.nm_turn.specs.Passes.{Knows}

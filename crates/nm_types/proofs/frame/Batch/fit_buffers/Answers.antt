@@ -1,4 +1,4 @@
-use Rattle.std.proofs.Common.{arith, sym, ◌∙◌}
+use Rattle.std.proofs.Common.{sym, ◌∙◌}
 use Rattle.std.proofs.lemmas.Bool.{le-leb, lt-leb}
 use Rattle.nm_types.proofs.Sizes.{fits_more, fits_not}
 use Rattle.nm_types.proofs.frame.Batch.fit_buffers.Goals as goal

@@ -1,0 +1,30 @@
+//! Measures parts of vale: `bench capture`, `bench pool`, `bench turn`. Without a word each part runs
+//! small and prints counts alone.
+#![tactic(auto)]
+
+mod capture;
+mod look;
+mod pool;
+mod turn;
+
+use anyhow::Result;
+use std::env;
+
+fn main(rt: HostRuntime) -> Result<()> {
+    let mut is_small = true;
+    for word in env::args(&rt)?.skip(1) {
+        is_small = false;
+        match word.as_str() {
+            "capture" => capture::run(&rt, rt.alloc(), true)?,
+            "pool" => pool::run(&rt, rt.alloc(), true)?,
+            "turn" => turn::run(&rt, rt.alloc(), true)?,
+            other => println!(&rt; "{other}: no such measurement")?,
+        }
+    }
+    if is_small {
+        capture::run(&rt, rt.alloc(), false)?;
+        pool::run(&rt, rt.alloc(), false)?;
+        turn::run(&rt, rt.alloc(), false)?;
+    }
+    Ok(())
+}

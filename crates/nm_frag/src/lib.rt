@@ -1,0 +1,10 @@
+//! Frames over several slots, as netmap(4) has them with NS_MOREFRAG: a frame is cut into parts of
+//! 2048 bytes, but for the last one.
+#![tactic(auto)]
+
+mod cuts;
+pub mod laws;
+#[cfg(test)]
+mod tests;
+
+pub use cuts::{MAX_FRAME_BYTES, part, slots};

@@ -1,0 +1,9 @@
+//! The exchange of a netmap(4) pipe: frames pass to the other end with their buffers, and buffers
+//! of the other end come back in their place.
+#![tactic(auto)]
+
+mod exchange;
+#[cfg(test)]
+mod tests;
+
+pub use exchange::give;

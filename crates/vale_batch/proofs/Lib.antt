@@ -1,0 +1,2 @@
+pub mod Teaching
+pub mod WantLemmas

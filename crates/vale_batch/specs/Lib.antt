@@ -1,0 +1,3 @@
+pub mod Addresses
+pub mod Looking
+pub mod Wants

@@ -1,0 +1,55 @@
+-- Where the frames of a batch go. Each frame is learned first and then looked up; the frames after it
+-- see what it taught.
+use Rattle.std.specs.Prelude.{ℕ, ◌==◌, ◌≤◌, if◌then◌else◌, List, [], ◌∷◌, length, fold, reverse, Option, Some, None}
+use Rattle.nm_types.specs.Frames.{Frame}
+use Rattle.nm_types.specs.declared.id.Mac.{Mac}
+use Rattle.nm_types.specs.declared.id.PortId.{PortId}
+use Rattle.nm_frag.specs.Parts.{slots_of_length}
+use Rattle.vale_learn.specs.AddressTable.{Entries, port_of_address, learned, restored}
+use Rattle.vale_batch.specs.Addresses.{is_short, is_group, is_learnable, destination_address, source_address}
+use Rattle.vale_batch.specs.declared.looking.Destination.{Destination}
+use Rattle.vale_batch.specs.declared.looking.Destination.TheVariants.{Short, Nobody, Only, Others}
+use Rattle.vale_batch.specs.declared.looking.Looked.{Looked}
+use Rattle.vale_batch.specs.declared.looking.Taught.{Taught}
+
+abbrev pub mac_of : List ℕ → Mac
+mac_of address = record { 0 = address }
+
+-- the table after a frame that port `from` sends
+abbrev pub learned_from : PortId → Entries → Frame → Entries
+learned_from from entries frame =
+    if is_learnable frame then learned entries (mac_of (source_address frame)) from else entries
+
+abbrev pub learned_of_batch : PortId → Entries → List Frame → Entries
+learned_of_batch from entries frames = fold (learned_from from) entries frames
+
+abbrev pub destination_found : PortId → Option PortId → Destination
+destination_found from None = Others
+destination_found from (Some port) = if port.0 == from.0 then Nobody else Only port
+
+-- a short frame goes to no port of the switch; one to a group or to an unknown address goes to all other ports
+abbrev pub destination_of : PortId → Entries → Frame → Destination
+destination_of from entries frame =
+    if is_short frame then Short
+    else (if is_group (destination_address frame) then Others
+    else destination_found from (port_of_address entries (destination_address frame)))
+
+-- a frame as it was looked up
+abbrev pub looked_up : PortId → Entries → Frame → Looked
+looked_up from entries frame = record { destination = destination_of from entries frame; size = slots_of_length (length frame.bytes) }
+
+abbrev pub looked_up_batch : PortId → Entries → List Frame → List Looked
+looked_up_batch from entries [] = []
+looked_up_batch from entries (frame ∷ frames) =
+    looked_up from (learned_from from entries frame) frame ∷ looked_up_batch from (learned_from from entries frame) frames
+
+-- the table before it was taught, from the last to the first
+abbrev pub untaught : Entries → Taught → Entries
+untaught entries taught = restored entries taught.address taught.before
+
+abbrev pub untaught_all : Entries → List Taught → Entries
+untaught_all entries taughts = fold untaught entries (reverse taughts)
+
+-- a frame of at most 131,072 bytes
+abbrev pub IsFrame : Frame → Type 0
+IsFrame frame = length frame.bytes ≤ 131072

@@ -1,0 +1,105 @@
+ghost use Rattle.std.specs.Prelude.{◌≡◌, ◌<◌, ◌≤◌, ◌^◌, All, length, map, count_by, IsTrue, IfOk, OnOk, OnErr};
+ghost use Rattle.std.specs.List.{list_any};
+ghost use Rattle.vale_batch.specs.Addresses.{is_short};
+ghost use Rattle.vale_batch.specs.Looking.{IsFrame, looked_up_batch, learned_of_batch};
+ghost use Rattle.vale_batch.specs.Wants.{wanted, wants_of, is_other, is_lone, is_short_destination, is_lone_if, are_different};
+
+use crate::looking::{Destination, Looked, forget_taught, look_up};
+use crate::want::{Lists, wants_of};
+use nm_types::{Batch, NoMemory, PortId};
+use std::alloc::{AllocError, Global};
+use vale_learn::Table;
+
+fn is_short(looked: &Looked) -> bool
+    ensures { result ≡ is_short_destination looked.now }
+{
+    looked.destination == Destination::Short
+}
+
+/// Whether a frame is long enough and goes to no port. `others` says whether the sender's switch
+/// has other ports.
+fn is_lone(others: bool, looked: &Looked) -> bool
+    ensures { result ≡ is_lone_if others looked.now }
+{
+    match looked.destination {
+        Destination::Nobody => true,
+        Destination::Others => !others,
+        _ => false,
+    }
+}
+
+fn has_others(ports: &[PortId], from: PortId) -> bool
+    ensures { result ≡ list_any (is_other from) ports.now }
+{
+    ports.iter().any(|port| *port != from)
+}
+
+fn short_count(all: &[Looked]) -> usize
+    ensures { result ≡ count_by is_short_destination all.now }
+{
+    all.iter().filter(|looked| is_short(looked)).count()
+}
+
+fn lone_count(all: &[Looked], others: bool) -> usize
+    ensures { result ≡ count_by (is_lone_if others) all.now }
+{
+    all.iter().filter(|looked| is_lone(others, looked)).count()
+}
+
+#[tactic(auto, using(crate::proofs::WantLemmas::counts))]
+fn lists_of(
+    alloc: Global,
+    from: PortId,
+    ports: &[PortId],
+    all: &[Looked],
+) -> Result<Lists, AllocError>
+    requires few { length all.now < 2 ^ 32 }
+    requires ports { IsTrue (are_different ports.now) }
+    ensures short { IfOk result (λ lists. lists.short ≡ count_by is_short_destination all.now) }
+    ensures lone { IfOk result (λ lists.
+        lists.lone ≡ count_by (is_lone from ports.now) all.now) }
+    ensures to { IfOk result (λ lists.
+        map wanted lists.to.items ≡ wants_of from all.now ports.now) }
+{
+    let to = wants_of(alloc, from, ports, all)?;
+    Ok(Lists {
+        short: short_count(all) as u32,
+        lone: lone_count(all, has_others(ports, from)) as u32,
+        to,
+    })
+}
+
+/// Learns the sources of a batch that port `from` sends, frame by frame, and finds out which of the
+/// switch's open ports each frame goes to. `NoMemory` leaves the table as it was.
+///
+/// Costs a search among the ports for each frame to one port, and nothing for ports that want none.
+#[tactic(auto, using(crate::proofs::WantLemmas::classes))]
+pub fn classify(
+    alloc: Global,
+    table: &mut Table,
+    ports: &[PortId],
+    from: PortId,
+    batch: &Batch,
+) -> Result<Lists, NoMemory>
+    requires few { length batch.now ≤ 1023 }
+    requires frames { All IsFrame batch.now }
+    requires ports { IsTrue (are_different ports.now) }
+    ensures table { OnOk result (table.new ≡ learned_of_batch from table.old batch.now) }
+    ensures err { OnErr result (table.new ≡ table.old) }
+    ensures short { IfOk result (λ lists. lists.short ≡ count_by is_short batch.now) }
+    ensures lone { IfOk result (λ lists. lists.lone
+        ≡ count_by (is_lone from ports.now) (looked_up_batch from table.old batch.now)) }
+    ensures to { IfOk result (λ lists. map wanted lists.to.items
+        ≡ wants_of from (looked_up_batch from table.old batch.now) ports.now) }
+{
+    let mut taughts = Vec::with_capacity(alloc, batch.len())?;
+    let mut all = Vec::with_capacity(alloc, batch.len())?;
+    look_up(table, &mut taughts, &mut all, from, batch);
+    match lists_of(alloc, from, ports, &all) {
+        Ok(lists) => Ok(lists),
+        Err(_) => {
+            forget_taught(table, &mut taughts);
+            Err(NoMemory)
+        }
+    }
+}

@@ -1,0 +1,123 @@
+ghost use Rattle.std.specs.Prelude.{◌≡◌, ◌+◌, ◌<◌, ◌≤◌, [], ◌++◌, All, length, vec_len, vec_capacity};
+ghost use Rattle.vale_learn.specs.AddressTable.{port_of_address};
+ghost use Rattle.vale_batch.specs.Addresses.{is_learnable, source_address};
+ghost use Rattle.vale_batch.specs.Looking.{destination_found, destination_of, learned_from, looked_up, looked_up_batch, learned_of_batch, untaught_all, IsFrame};
+
+use crate::addresses::{HEADER_BYTES, is_group, mac_at};
+use nm_frag::slots;
+use nm_types::{Batch, Mac, PortId};
+use vale_learn::{Station, Table};
+
+/// Where a frame goes.
+#[derive(Clone, Copy, Debug, PartialEq, Eq)]
+pub enum Destination {
+    /// The frame has no addresses.
+    Short,
+    /// To no port: it is for the port that sent it.
+    Nobody,
+    /// To one other port.
+    Only(PortId),
+    /// To all other ports.
+    Others,
+}
+
+/// A frame that was looked up: where it goes, and how many slots it takes.
+#[derive(Clone, Copy, Debug, PartialEq, Eq)]
+pub struct Looked {
+    pub destination: Destination,
+    pub size: u32,
+}
+
+/// What an address's entry held before it was learned.
+#[derive(Clone, Copy)]
+pub(crate) struct Taught {
+    address: Mac,
+    before: Option<Station>,
+}
+
+fn destination_found(from: PortId, found: Option<PortId>) -> Destination
+    ensures { result ≡ destination_found from found }
+{
+    match found {
+        Some(port) if port == from => Destination::Nobody,
+        Some(port) => Destination::Only(port),
+        None => Destination::Others,
+    }
+}
+
+/// Looks up where a frame that `from` sends goes.
+fn destination_of(table: &Table, from: PortId, bytes: &[u8], no_learn: bool) -> Destination
+    ensures { result ≡ destination_of from table.now
+        (record { bytes = bytes.now; no_learn = no_learn }) }
+{
+    if bytes.len() < HEADER_BYTES {
+        return Destination::Short;
+    }
+    let address = mac_at(bytes, 0);
+    if is_group(address) {
+        return Destination::Others;
+    }
+    destination_found(from, table.find(address))
+}
+
+fn is_learnable(bytes: &[u8], no_learn: bool) -> bool
+    ensures { result ≡ is_learnable (record { bytes = bytes.now; no_learn = no_learn }) }
+{
+    bytes.len() >= HEADER_BYTES && !is_group(mac_at(bytes, 6)) && !no_learn
+}
+
+/// Learns the source of a frame, if it may be learned, and notes what its entry held.
+#[tactic(auto, using(crate::proofs::Teaching::teaching))]
+fn learn(table: &mut Table, taughts: &mut Vec<Taught>, from: PortId, bytes: &[u8], no_learn: bool)
+    requires { vec_len taughts.old < vec_capacity taughts.old }
+    ensures table { table.new ≡ learned_from from table.old
+        (record { bytes = bytes.now; no_learn = no_learn }) }
+    ensures undo { untaught_all table.new taughts.new.items
+        ≡ untaught_all table.old taughts.old.items }
+    ensures len { vec_len taughts.new ≤ vec_len taughts.old + 1 }
+    ensures capacity { vec_capacity taughts.new ≡ vec_capacity taughts.old }
+{
+    if is_learnable(bytes, no_learn) {
+        let address = mac_at(bytes, 6);
+        let before = table.station(address);
+        taughts.push_reserved(Taught { address, before });
+        table.learn(address, from);
+    }
+}
+
+/// Takes back what was learned.
+#[tactic(auto, using(crate::proofs::Teaching::teaching))]
+pub(crate) fn forget_taught(table: &mut Table, taughts: &mut Vec<Taught>)
+    ensures { table.new ≡ untaught_all table.old taughts.old.items }
+{
+    while let Some(taught) = taughts.pop() {
+        table.restore(taught.address, taught.before);
+    }
+}
+
+/// Learns and looks up one frame after another.
+#[tactic(auto, using(crate::proofs::Teaching::teaching))]
+pub(crate) fn look_up(
+    table: &mut Table,
+    taughts: &mut Vec<Taught>,
+    all: &mut Vec<Looked>,
+    from: PortId,
+    batch: &Batch,
+)
+    requires frames { All IsFrame batch.now }
+    requires none { (all.old.items ≡ []) × (taughts.old.items ≡ []) }
+    requires all { length batch.now ≤ vec_capacity all.old }
+    requires taughts { length batch.now ≤ vec_capacity taughts.old }
+    ensures all { all.new.items ≡ looked_up_batch from table.old batch.now }
+    ensures table { table.new ≡ learned_of_batch from table.old batch.now }
+    ensures undo { untaught_all table.new taughts.new.items ≡ table.old }
+{
+    for i in 0..batch.len() {
+        let (bytes, no_learn) = batch.get(i);
+        learn(table, taughts, from, bytes, no_learn);
+        all.push_reserved(Looked {
+            destination: destination_of(table, from, bytes, no_learn),
+            size: slots(bytes.len()),
+        });
+    }
+}

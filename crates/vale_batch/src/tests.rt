@@ -1,0 +1,88 @@
+ghost use Rattle.std.specs.Prelude.{◌≡◌, ◌≤◌, All, length};
+ghost use Rattle.vale_batch.specs.Looking.{IsFrame};
+
+use crate::{Lists, Want, classify};
+use nm_types::{Batch, PortId};
+use std::alloc::Global;
+use std::process::Abort;
+use vale_learn::Table;
+
+/// From 02:00:00:00:00:0a to all.
+const TO_ALL: &[u8] = &[255, 255, 255, 255, 255, 255, 2, 0, 0, 0, 0, 10, 0x88, 0xb5];
+
+/// From 02:00:00:00:00:0b to 02:00:00:00:00:0a.
+const TO_A: &[u8] = &[2, 0, 0, 0, 0, 10, 2, 0, 0, 0, 0, 11, 0x88, 0xb5];
+
+/// From 02:00:00:00:00:0a to itself.
+const TO_SELF: &[u8] = &[2, 0, 0, 0, 0, 10, 2, 0, 0, 0, 0, 10, 0x88, 0xb5];
+
+/// A frame of three slots to all, whose source is not learned.
+const LONG: &[u8] = &[255; 5000];
+
+/// Asserts that the frames are few and not too long.
+fn batch_of(rt: &impl Abort, alloc: Global, frames: &[(&[u8], bool)]) -> Batch
+    requires { length frames.now ≤ 8 }
+    ensures frames { All IsFrame result }
+    ensures few { length result ≤ 8 }
+{
+    let mut batch = Batch::new(alloc);
+    for at in 0..frames.len() {
+        let (bytes, no_learn) = frames[at];
+        assert!(rt; bytes.len() <= 131_072);
+        if batch.push(bytes, no_learn).is_err() {
+            panic!(rt; "no memory");
+        }
+    }
+    batch
+}
+
+/// Sends frames from a port of a switch with the ports 4, 5 and 6.
+fn send(
+    rt: &impl Abort,
+    alloc: Global,
+    table: &mut Table,
+    from: u32,
+    frames: &[(&[u8], bool)],
+) -> Lists
+    requires { length frames.now ≤ 8 }
+{
+    let batch = batch_of(rt, alloc, frames);
+    let ports = [PortId(4), PortId(5), PortId(6)];
+    match classify(alloc, table, &ports, PortId(from), &batch) {
+        Ok(lists) => lists,
+        Err(_) => panic!(rt; "no memory"),
+    }
+}
+
+fn is_want(want: &Want, to: u32, places: &[u32], sizes: &[u32]) -> bool {
+    want.to == PortId(to) && want.places.as_slice() == places && want.sizes.as_slice() == sizes
+}
+
+#[test]
+fn learned_before_looked_up(rt: HostRuntime) {
+    let Ok(mut table) = Table::new(rt.alloc()) else {
+        panic!(rt; "no memory");
+    };
+    let all = send(&rt, rt.alloc(), &mut table, 4, &[(TO_ALL, true)]);
+    assert!(rt; all.to.len() == 2 && all.short == 0 && all.lone == 0);
+    let unlearned = send(&rt, rt.alloc(), &mut table, 5, &[(TO_A, false)]);
+    assert!(rt; unlearned.to.len() == 2 && is_want(&unlearned.to[1], 6, &[0], &[1]));
+    let own = send(
+        &rt,
+        rt.alloc(),
+        &mut table,
+        4,
+        &[(TO_SELF, false), (&TO_ALL[..13], false)],
+    );
+    assert!(rt; own.to.is_empty() && own.lone == 1 && own.short == 1);
+    let frames = [
+        (TO_A, false),
+        (LONG, false),
+        (&TO_A[..13], false),
+        (TO_A, false),
+    ];
+    let mixed = send(&rt, rt.alloc(), &mut table, 5, &frames);
+    assert!(rt; mixed.to.len() == 2 && mixed.short == 1 && mixed.lone == 0);
+    assert!(rt; is_want(&mixed.to[0], 4, &[0, 1, 3], &[1, 3, 1]));
+    assert!(rt; is_want(&mixed.to[1], 6, &[1], &[3]));
+}

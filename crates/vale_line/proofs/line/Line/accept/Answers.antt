@@ -1,0 +1,41 @@
+use Rattle.std.proofs.Common.{◌≡◌, ◌≤◌, List, [], ◌∷◌, ◌++◌, Vec, Global, ap, sym, ◌∙◌, subst, length, map, false, arith, rules}
+use Rattle.vale_lease.specs.declared.leases.LeaseSlots.{LeaseSlots}
+use Rattle.vale_lease.specs.Leases.{LeaseRing, is_there, completed as ring_completed}
+use Rattle.vale_line.specs.declared.got.Got.{Got}
+use Rattle.vale_line.specs.Lines.{HeldLot, LineState, IsLine, out_of, opened_lot, put_lot, leases_of, lease_of}
+use Rattle.vale_line.specs.Stored.{state_of}
+use Rattle.vale_line.proofs.FrameLemmas.{whole-singles}
+use Rattle.vale_line.proofs.LotLemmas.{IsLine-put, leases_of-push, leases-completed, opened-done}
+use Rattle.vale_line.proofs.line.Line.accept.Goals as goal
+
+pub invariant_of-self : goal.invariant_of-self
+invariant_of-self c =
+    let line = state_of c.self.inside in
+    let id = c.args.id in
+    let gots = c.args.frames.now.items in
+    let own : c.replace-gots.result.items ≡ gots = ap (λ (v : Vec Got Global). v.items) c.replace-gots.ensures.value in
+    let n = length gots in
+    let some : 1 ≤ n = search (rules, arith) in
+    let few : n ≤ out_of line = subst (λ (l : LineState). n ≤ out_of l) (sym c.self.view_is) c.requires.lent in
+    let fresh : is_there id.0 (leases_of line.lots) ≡ false = ap (λ (l : LineState). is_there id.0 (leases_of l.lots)) c.self.view_is ∙ c.requires.new in
+    let is = IsLine-put line id gots (whole-singles gots c.requires.single) c.self.invariant.line some few fresh in
+    let lot : c.put.result ≡ put_lot id gots = c.put.ensures ∙ ap (put_lot id) own in
+    let added : c.push_back_reserved.new.self.items ≡ line.lots ++ put_lot id gots ∷ [] = rw (← lot) c.push_back_reserved.ensures.items in
+    let count : c.len.result ≡ n = search rules in
+    let opened : c.open.new.self ≡ record { size = c.self.inside.size; leases = leases_of line.lots ++ lease_of (opened_lot id n) ∷ [] } =
+    rw (← count) (c.open.ensures ∙ ap (λ (r : LeaseRing). record r { leases = r.leases ++ lease_of (opened_lot id c.len.result) ∷ [] }) c.self.invariant.leases) in
+    let whole : map (ring_completed id.0) (leases_of line.lots ++ lease_of (opened_lot id n) ∷ []) ≡ leases_of c.push_back_reserved.new.self.items =
+    ap (map (ring_completed id.0)) (sym (leases_of-push line.lots (opened_lot id n)))
+    ∙ (sym (leases-completed id.0 gots (line.lots ++ opened_lot id n ∷ []))
+    ∙ ap leases_of (opened-done id gots line.lots fresh ∙ sym added)) in
+    record {
+      line = subst (λ (ls : List HeldLot). IsLine (record line { lots = ls })) (sym added) is;
+      leases =
+          c.done.ensures
+          ∙ (ap (λ (r : LeaseRing). record r { leases = map (ring_completed id.0) r.leases }) opened
+          ∙ ap (λ (ls : List LeaseSlots). record { size = c.self.inside.size; leases = ls }) whole);
+      idle_room = search rules;
+      lots_room = search rules;
+      none = search rules;
+      room = search rules;
+    }

@@ -1,0 +1,177 @@
+use Rattle.std.proofs.Common.{◌≡◌, ◌≤◌, List, [], ◌∷◌, ◌++◌, ap, sym, ◌∙◌, subst, length, take, ℕ, false, arith, rules, refl}
+use Rattle.std.specs.Prelude.{sum}
+use Rattle.nm_region.specs.Buffers.{Buffer}
+use Rattle.vale_line.specs.Fitting.{fitting_sizes}
+use Rattle.vale_line.proofs.FittingLemmas.{fitting-sum, fitting-total, fitting-count}
+use Rattle.std.proofs.lemmas.List.{length-map, length-take-le}
+use Rattle.vale_lease.specs.declared.leases.LeaseSlots.{LeaseSlots}
+use Rattle.vale_lease.specs.Leases.{LeaseRing, is_there, slots_of as ring_slots}
+use Rattle.vale_line.specs.Gots.{blank, buffers_of}
+use Rattle.vale_line.specs.Leased.{Leased, buffer_count}
+use Rattle.vale_line.specs.Lines.{LineState, with_lease, granted_sizes, space_of, IsLine, opened_lot, leases_of, lease_of}
+use Rattle.vale_line.specs.Stored.{state_of}
+use Rattle.vale_line.proofs.LotLemmas.{leased-slots, few-lots, IsLine-granted, leases_of-push}
+use Rattle.vale_line.proofs.Moving.{buffers-blank}
+use Rattle.vale_line.proofs.line.Line.grant.Goals as goal
+
+abbrev lease_of_buffers : ℕ → ℕ → List ℕ → List Buffer → Leased
+lease_of_buffers id to sizes bufs = record { id = id; to = to; filled = []; sizes = sizes; empty = bufs }
+
+sizes-some : (sizes : List ℕ) → 1 ≤ sum sizes → 1 ≤ length sizes
+sizes-some [] h = h
+sizes-some (size ∷ sizes) h = omega arith
+
+pub push_back_reserved-requires : goal.push_back_reserved-requires
+push_back_reserved-requires c =
+    let line = c.self.invariant.line in
+    let few = few-lots c.self.inside.lots.items line.are_leases in
+    let some = line.some in
+    let within = line.within in
+    let room = c.self.invariant.lots_room in
+    omega (arith, few, some, within, room)
+
+-- which frames are granted, and how many buffers they take
+pub record Granting (c : goal.After-new-2) : Type 0 where
+  pub sizes : c.take_fitting-count.new.sizes.items ≡ granted_sizes c.args.want.now (state_of c.self.inside)
+  pub count : c.take_fitting-count.result ≡ sum (granted_sizes c.args.want.now (state_of c.self.inside))
+  pub some : 1 ≤ c.take_fitting-count.result
+  pub fits : c.take_fitting-count.result ≤ space_of (state_of c.self.inside)
+  pub added : c.push_back_reserved.new.self.items ≡ c.self.inside.lots.items ++ opened_lot c.args.id c.take_fitting-count.result ∷ []
+  pub after : with_lease c.args.id c.take_fitting-count.result (state_of c.self.inside)
+      ≡ record { size = c.self.inside.size; idle = c.lease_front-gots.new.idle.items; lots = c.push_back_reserved.new.self.items }
+
+granting : (c : goal.After-new-2) → Granting c
+granting c =
+    let line = state_of c.self.inside in
+    let n = c.take_fitting-count.result in
+    let space : c.space.result ≡ space_of line = c.space.ensures.space ∙ ap space_of (sym c.self.view_is) in
+    let sizes : c.take_fitting-count.new.sizes.items ≡ granted_sizes c.args.want.now line = c.take_fitting-count.ensures.sizes ∙ ap (λ (k : ℕ). fitting_sizes k c.args.want.now) space in
+    let count : n ≡ sum (granted_sizes c.args.want.now line) = c.take_fitting-count.ensures.sum ∙ ap (λ (k : ℕ). sum (fitting_sizes k c.args.want.now)) space in
+    let most = fitting-sum (space_of line) c.args.want.now in
+    let some : 1 ≤ n = search (rules, arith) in
+    let added : c.push_back_reserved.new.self.items ≡ c.self.inside.lots.items ++ opened_lot c.args.id n ∷ [] = rw (← c.new.ensures) c.push_back_reserved.ensures.items in
+    let idle = c.lease_front-gots.ensures.idle in
+    let now : LineState = record { size = c.self.inside.size; idle = c.lease_front-gots.new.idle.items; lots = c.push_back_reserved.new.self.items } in
+    let same : with_lease c.args.id n line ≡ now = cc in
+    record { sizes = sizes; count = count; some = some; fits = omega (arith, count, most); added = added; after = same }
+
+pub invariant_of-self : goal.invariant_of-self
+invariant_of-self c =
+    let line = state_of c.self.inside in
+    let n = c.take_fitting-count.result in
+    let g = granting c in
+    let fresh : is_there c.args.id.0 (leases_of line.lots) ≡ false = ap (λ (l : LineState). is_there c.args.id.0 (leases_of l.lots)) c.self.view_is ∙ c.requires.new in
+    let is = IsLine-granted line c.args.id n c.self.invariant.line g.some g.fits fresh in
+    record {
+      line = subst IsLine g.after is;
+      leases =
+          c.open.ensures
+          ∙ (ap (λ (r : LeaseRing). record r { leases = r.leases ++ lease_of (opened_lot c.args.id n) ∷ [] }) c.self.invariant.leases
+          ∙ ap (λ (ls : List LeaseSlots). record { size = c.self.inside.size; leases = ls }) (sym (leases_of-push c.self.inside.lots.items (opened_lot c.args.id n)) ∙ ap leases_of (sym g.added)));
+      idle_room = search rules;
+      lots_room = search rules;
+      none = search rules;
+      room = search rules;
+    }
+
+pub returns-clause-some : goal.returns-clause-some
+returns-clause-some c =
+    let g = granting c in
+    let some = sizes-some (granted_sizes c.args.want.now (state_of c.self.inside)) in
+    let count = g.count in
+    let is = g.some in
+    rw (← c.self.view_is) (some (omega (arith, count, is)))
+
+pub returns-clause-lease : goal.returns-clause-lease
+returns-clause-lease c =
+    let line = state_of c.self.inside in
+    let n = c.take_fitting-count.result in
+    let g = granting c in
+    let lent : buffers_of c.lease_front-gots.result.items ≡ take n line.idle = ap buffers_of c.lease_front-gots.ensures.gots ∙ buffers-blank (take n line.idle) in
+    let start = lease_of_buffers c.args.id.0 c.args.to.0 in
+    rw (← c.self.view_is) (c.new-2.ensures
+    ∙ (ap (λ (bs : List Buffer). start c.take_fitting-count.new.sizes.items bs) lent
+    ∙ (ap (λ (k : ℕ). start c.take_fitting-count.new.sizes.items (take k line.idle)) g.count
+    ∙ ap (λ (ns : List ℕ). start ns (take (sum (granted_sizes c.args.want.now line)) line.idle)) g.sizes)))
+
+pub returns-clause-lot : goal.returns-clause-lot
+returns-clause-lot c =
+    let g = granting c in
+    rw (← c.self.view_is) (sym g.after ∙ ap (λ (k : ℕ). with_lease c.args.id k (state_of c.self.inside)) g.count)
+
+none-left : (sizes : List ℕ) → length sizes ≤ 0 → sizes ≡ []
+none-left [] h = refl
+none-left (size ∷ sizes) h = absurd (omega (arith, h))
+
+pub returns-then-count-eq0-clause-none : goal.returns-then-count-eq0-clause-none
+returns-then-count-eq0-clause-none c =
+    let want = c.args.want.now in
+    let few = fitting-count c.space.result want c.requires.sizes in
+    let none = c.if-count-eq0.true in
+    let count = c.take_fitting-count.ensures.sum in
+    let all = none-left (fitting_sizes c.space.result want) (omega (arith, few, none, count)) in
+    let space : c.space.result ≡ space_of c.args.self.now = c.space.ensures.space in
+    (ap (λ (k : ℕ). fitting_sizes k want) (sym space) ∙ all, refl)
+
+pub open-requires-clause-room : goal.open-requires-clause-room
+open-requires-clause-room c =
+    let line = state_of c.self.inside in
+    let most = fitting-sum c.space.result c.args.want.now in
+    let count = c.take_fitting-count.ensures.sum in
+    let space : c.space.result ≡ space_of line = c.space.ensures.space ∙ ap space_of (sym c.self.view_is) in
+    let slots = ap (λ (r : LeaseRing). ring_slots r.leases) c.self.invariant.leases ∙ leased-slots line.lots in
+    let size = ap (λ (r : LeaseRing). r.size) c.self.invariant.leases in
+    let within = c.self.invariant.line.within in
+    let some = c.self.invariant.line.some in
+    omega (arith, most, count, space, slots, size, within, some)
+
+pub lease_front-gots-requires-clause-room : goal.lease_front-gots-requires-clause-room
+lease_front-gots-requires-clause-room c =
+    let line = state_of c.self.inside in
+    let most = fitting-sum c.space.result c.args.want.now in
+    let total = fitting-total c.space.result c.args.want.now in
+    let count = c.take_fitting-count.ensures.sum in
+    let space : c.space.result ≡ space_of line = c.space.ensures.space ∙ ap space_of (sym c.self.view_is) in
+    let size : line.size ≡ c.args.self.now.size = ap (λ (l : LineState). l.size) c.self.view_is in
+    let within = c.self.invariant.line.within in
+    let room = c.requires.room in
+    let gots = c.into_vecs-gots.ensures.gots_room in
+    omega (arith, most, total, count, space, size, within, room, gots)
+
+pub lease_front-gots-requires-clause-enough : goal.lease_front-gots-requires-clause-enough
+lease_front-gots-requires-clause-enough c =
+    let most = fitting-sum c.space.result c.args.want.now in
+    let count = c.take_fitting-count.ensures.sum in
+    let space : c.space.result ≡ space_of (state_of c.self.inside) = c.space.ensures.space ∙ ap space_of (sym c.self.view_is) in
+    omega (arith, most, count, space)
+
+pub new-requires-2-clause-few_frames : goal.new-requires-2-clause-few_frames
+new-requires-2-clause-few_frames c =
+    let line = state_of c.self.inside in
+    let frames = fitting-count c.space.result c.args.want.now c.requires.sizes in
+    let most = fitting-sum c.space.result c.args.want.now in
+    let sizes = ap length c.take_fitting-count.ensures.sizes in
+    let space : c.space.result ≡ space_of line = c.space.ensures.space ∙ ap space_of (sym c.self.view_is) in
+    let few = c.self.invariant.line.few in
+    let within = c.self.invariant.line.within in
+    omega (arith, frames, most, sizes, space, few, within)
+
+pub new-requires-2-clause-room : goal.new-requires-2-clause-room
+new-requires-2-clause-room c =
+    let idle = c.self.inside.idle.items in
+    let n = c.take_fitting-count.result in
+    let most = fitting-sum c.space.result c.args.want.now in
+    let sum_is = ap sum c.take_fitting-count.ensures.sizes in
+    let count = c.take_fitting-count.ensures.sum in
+    let space : c.space.result ≡ space_of (state_of c.self.inside) = c.space.ensures.space ∙ ap space_of (sym c.self.view_is) in
+    let enough : n ≤ length idle = omega (arith, most, count, space) in
+    let blanks = ap length c.lease_front-gots.ensures.gots ∙ (length-map (take n idle) blank ∙ length-take-le n idle enough) in
+    omega (arith, sum_is, count, blanks)
+
+pub returns-clause-count : goal.returns-clause-count
+returns-clause-count c =
+    let line = c.args.self.now in
+    let sizes = granted_sizes c.args.want.now line in
+    let most = fitting-sum (space_of line) c.args.want.now in
+    let taken = length-take-le (sum sizes) line.idle (omega (arith, most)) in
+    ap buffer_count (returns-clause-lease c) ∙ omega (arith, taken)

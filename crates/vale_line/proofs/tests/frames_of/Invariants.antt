@@ -1,0 +1,15 @@
+use Rattle.std.proofs.Common.{◌≡◌, ◌+◌, ◌≤◌, ◌++◌, reverse}
+use Rattle.std.specs.Prelude.{All}
+use Rattle.std.specs.Vec.{vec_len, vec_capacity}
+use Rattle.vale_line.specs.Gots.{buffers_of, IsSingle}
+use Rattle.vale_line.proofs.tests.frames_of.Given as goal
+
+abbrev pub invariant-loop-buf : goal.invariant-loop-buf
+invariant-loop-buf l = record {
+  moved : buffers_of l.gots.items ++ reverse l.bufs.items ≡ l.fn.bufs.items;
+  single : All IsSingle l.gots.items;
+  room : vec_len l.gots + vec_len l.bufs ≤ vec_capacity l.gots;
+}
+
+abbrev pub decreases-loop-buf : goal.decreases-loop-buf
+decreases-loop-buf l = vec_len l.bufs

@@ -1,0 +1,5 @@
+pub mod Fitting
+pub mod Gots
+pub mod Leased
+pub mod Lines
+pub mod Stored

@@ -1,0 +1,38 @@
+-- How a line, a lease and the room for one are kept in memory.
+use Rattle.std.specs.Prelude.{◌≡◌, ◌≤◌, ◌-◌, [], length, take, drop, sum}
+use Rattle.std.specs.Vec.{vec_capacity}
+use Rattle.std.specs.VecDeque.{deque_capacity}
+use Rattle.vale_line.specs.declared.lease.Lease.TheInside.{Inside as LeaseInside}
+use Rattle.vale_line.specs.declared.line.Line.TheInside.{Inside}
+use Rattle.vale_line.specs.Gots.{buffers_of, frames_in, HoldWholeFrames}
+use Rattle.vale_line.specs.Leased.{Leased}
+use Rattle.vale_line.specs.Lines.{LineState, IsLine, leases_of}
+
+abbrev pub state_of : Inside → LineState
+state_of l = record { size = l.size; idle = l.idle.items; lots = l.lots.items }
+
+pub record IsStored (l : Inside) : Type 0 where
+  pub line : IsLine (state_of l)
+  pub leases : l.leases ≡ record { size = l.size; leases = leases_of l.lots.items }
+  pub idle_room : l.size ≤ deque_capacity l.idle
+  pub lots_room : l.size ≤ deque_capacity l.lots
+  pub none : l.room.items ≡ []
+  pub room : l.size ≤ vec_capacity l.room
+
+abbrev pub lease_state : LeaseInside → Leased
+lease_state l = record {
+  id = l.id.0;
+  to = l.to.0;
+  filled = take l.filled l.gots.items;
+  sizes = drop l.frames l.sizes.items;
+  empty = buffers_of (drop l.filled l.gots.items);
+}
+
+pub record IsStoredLease (l : LeaseInside) : Type 0 where
+  pub within : l.filled ≤ length l.gots.items
+  pub few : length l.gots.items ≤ 1024
+  pub few_frames : length l.sizes.items ≤ 1024
+  pub frames : length (frames_in (take l.filled l.gots.items)) ≡ l.frames
+  pub frames_within : l.frames ≤ length l.sizes.items
+  pub whole : HoldWholeFrames (take l.filled l.gots.items)
+  pub room : sum (drop l.frames l.sizes.items) ≡ length l.gots.items - l.filled

@@ -1,0 +1,32 @@
+ghost use Rattle.std.specs.Prelude.{◌≡◌, ◌≤◌, length};
+ghost use Rattle.vale_line.specs.Gots.{got_of, last_count};
+
+use nm_region::Buf;
+
+/// A buffer with a frame, or a part of one, in its first bytes.
+pub struct Got {
+    pub buf: Buf,
+    /// How many bytes of the buffer are the frame's.
+    pub len: u16,
+    /// How many parts of the same frame follow in the next buffers: 0 to 63.
+    pub rest: u8,
+}
+
+impl Got {
+    /// Copies a part of a frame into the buffer. `rest` more parts follow.
+    pub(crate) fn fill(&mut self, part: &[u8], rest: u8)
+        requires { length part.now ≤ 2048 }
+        ensures { self.new ≡ got_of part.now rest self.old.buf }
+    {
+        self.buf.write(part);
+        self.len = part.len() as u16;
+        self.rest = rest;
+    }
+
+    /// One, if a frame ends in the buffer.
+    pub(crate) fn last_count(&self) -> u32
+        ensures { result ≡ last_count self.now }
+    {
+        if self.rest == 0 { 1 } else { 0 }
+    }
+}

@@ -1,0 +1,16 @@
+//! The kernel side of the receive ring of a VALE port, over owned buffers: a grant leases the first
+//! idle ones, a sender fills them, and a sync hands out those of the longest run of done leases.
+#![tactic(auto)]
+
+mod got;
+mod lease;
+mod line;
+mod lot;
+mod rooms;
+#[cfg(test)]
+mod tests;
+
+pub use got::Got;
+pub use lease::{Lease, LeaseRoom};
+pub use line::Line;
+pub use rooms::rooms_for;
