@@ -13,7 +13,7 @@ use Rattle.nm_hold.proofs.Spots.{nat_eq-is, extra_stands}
 use Rattle.nm_types.specs.declared.place.Place.{Place}
 use Rattle.nm_types.specs.Places.{held_at}
 use Rattle.nm_hold.specs.declared.standing.Standing.{Standing}
-use Rattle.nm_hold.specs.declared.table.Sizes.{Sizes}
+use Rattle.nm_types.specs.declared.id.PortSizes.{PortSizes}
 use Rattle.nm_hold.specs.declared.table.PortPlaces.{PortPlaces}
 use Rattle.nm_hold.specs.declared.table.PortTable.{PortTable}
 use Rattle.nm_hold.specs.Offsets.{AreSizes, ArePortsOnce, has_port, has_place, offset_of}
@@ -44,7 +44,7 @@ sizes-tables : (tables : List PortTable) → AllByRecursion IsTable tables → A
 sizes-tables [] all = tt
 sizes-tables (t ∷ tables) all = (all.0.sizes, sizes-tables tables all.1)
 
-pub IsHold-stored : (cells : List (Option Standing)) (tables : List PortTable) (room : Option Sizes) → 3 ≤ length cells → length cells ≤ 65538 → All IsTable tables → ArePortsOnce (ports_of tables) → IsTied cells tables
+pub IsHold-stored : (cells : List (Option Standing)) (tables : List PortTable) (room : Option PortSizes) → 3 ≤ length cells → length cells ≤ 65538 → All IsTable tables → ArePortsOnce (ports_of tables) → IsTied cells tables
     → IsHold (record { cells = cells; ports = ports_of tables; room = room })
 IsHold-stored cells tables room low high all once tied = record {
   once = once;

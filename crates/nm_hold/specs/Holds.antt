@@ -7,7 +7,7 @@ use Rattle.nm_types.specs.declared.place.Place.TheVariants.{Tx, Rx, Extra}
 use Rattle.nm_types.specs.Places.{Held, held_at, is_same_place}
 use Rattle.nm_region.specs.Buffers.{Buffer}
 use Rattle.nm_hold.specs.declared.standing.Standing.{Standing}
-use Rattle.nm_hold.specs.declared.table.Sizes.{Sizes}
+use Rattle.nm_types.specs.declared.id.PortSizes.{PortSizes}
 use Rattle.nm_hold.specs.declared.table.PortPlaces.{PortPlaces}
 use Rattle.nm_types.specs.Buffers.{IsPoolSize}
 use Rattle.nm_hold.specs.Offsets.{AreSizes, ArePortsOnce, has_place}
@@ -16,7 +16,7 @@ use Rattle.nm_hold.specs.Standings.{buf_in, named_bytes_in, cell_written}
 pub record HoldState : Type 0 where
   pub cells : List (Option Standing)
   pub ports : List PortPlaces
-  pub room : Option Sizes
+  pub room : Option PortSizes
 
 -- nothing stands anywhere, and there is no port
 abbrev pub empty_hold : ℕ → HoldState

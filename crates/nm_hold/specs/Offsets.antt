@@ -3,14 +3,14 @@ use Rattle.std.specs.Prelude.{ℕ, ◌≡◌, Bool, ◌&&◌, ◌||◌, false, �
 use Rattle.std.specs.List.{list_any}
 use Rattle.nm_types.specs.declared.place.Place.{Place}
 use Rattle.nm_types.specs.declared.place.Place.TheVariants.{Tx, Rx, Extra}
-use Rattle.nm_hold.specs.declared.table.Sizes.{Sizes}
+use Rattle.nm_types.specs.declared.id.PortSizes.{PortSizes}
 use Rattle.nm_hold.specs.declared.table.PortPlaces.{PortPlaces}
 
-abbrev pub count_of : Sizes → ℕ
+abbrev pub count_of : PortSizes → ℕ
 count_of sizes = sizes.tx + sizes.rx + sizes.extra
 
 -- no size is above the greatest of a ring, or of a port's extra buffers
-pub record AreSizes (sizes : Sizes) : Type 0 where
+pub record AreSizes (sizes : PortSizes) : Type 0 where
   pub tx : sizes.tx ≤ 1024
   pub rx : sizes.rx ≤ 1024
   pub extra : sizes.extra ≤ 1024

@@ -17,9 +17,9 @@ ghost use Rattle.nm_hold.specs.Holds.{places_of, bufs_of, with_cell, SamePlaces,
 
 use crate::ports::Ports;
 use crate::standing::{Home, Standing, buf_of, bytes_mut, home_of, move_to, named_bytes, rename};
-use crate::table::{PortPlaces, PortTable, Sizes};
+use crate::table::{PortPlaces, PortTable};
 use nm_region::Buf;
-use nm_types::{NoMemory, Place, PortId};
+use nm_types::{NoMemory, Place, PortId, PortSizes};
 use std::alloc::Global;
 use std::marker::Model;
 
@@ -85,7 +85,7 @@ impl Hold {
         }) }
         ensures err { OnErr result (self.new ≡ self.old) }
     {
-        let sizes = Sizes { tx, rx, extra };
+        let sizes = PortSizes { tx, rx, extra };
         self.ports.reserve()?;
         self.room = Some(PortTable::blank(self.alloc, sizes)?);
         Ok(())

@@ -10,5 +10,6 @@ mod table;
 mod tests;
 
 pub use hold::Hold;
+pub use nm_types::PortSizes;
 pub use standing::{Home, Standing};
-pub use table::{PortPlaces, Sizes};
+pub use table::PortPlaces;

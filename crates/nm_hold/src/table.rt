@@ -2,31 +2,21 @@ ghost use Rattle.std.specs.Prelude.{◌≡◌, IfOk};
 ghost use Rattle.nm_hold.specs.Offsets.{count_of, offset_of, AreSizes};
 ghost use Rattle.nm_hold.specs.Tables.{number_in, put_in, IsTable};
 
-use nm_types::{Place, PortId};
+use nm_types::{Place, PortId, PortSizes};
 use std::alloc::{AllocError, Global};
 
-/// How many places a port has: transmit slots, receive slots, and extra positions.
-#[derive(Clone, Copy, Debug, PartialEq, Eq)]
-pub struct Sizes {
-    pub tx: u32,
-    pub rx: u32,
-    pub extra: u32,
-}
-
-impl Sizes {
-    /// All places together.
-    pub(crate) fn count(self) -> usize
-        ensures { result ≡ count_of self }
-    {
-        self.tx as usize + self.rx as usize + self.extra as usize
-    }
+/// The number of places of a port of these sizes: transmit slots, receive slots, extra positions.
+fn count_of(sizes: PortSizes) -> usize
+    ensures { result ≡ count_of sizes }
+{
+    sizes.tx as usize + sizes.rx as usize + sizes.extra as usize
 }
 
 /// The places of a port.
 #[derive(Clone, Copy, Debug, PartialEq, Eq)]
 pub struct PortPlaces {
     pub port: PortId,
-    pub sizes: Sizes,
+    pub sizes: PortSizes,
 }
 
 impl PortPlaces {
@@ -61,7 +51,7 @@ impl PortTable {
     ghost use Rattle.nm_hold.specs.Ties.{IsBlank};
 
     /// A table in which no place holds a buffer. The caller sets its port.
-    pub(crate) fn blank(alloc: Global, sizes: Sizes) -> Result<PortTable, AllocError>
+    pub(crate) fn blank(alloc: Global, sizes: PortSizes) -> Result<PortTable, AllocError>
         requires { AreSizes sizes }
         ensures sizes { IfOk result (λ t. t.places.sizes ≡ sizes) }
         ensures blank { IfOk result IsBlank }
@@ -71,7 +61,7 @@ impl PortTable {
                 port: PortId(0),
                 sizes,
             },
-            numbers: vec![in alloc; 0; sizes.count()]?,
+            numbers: vec![in alloc; 0; count_of(sizes)]?,
         })
     }
 

@@ -1,0 +1,10 @@
+pub mod SlotLists
+pub mod Judging
+pub mod Pushes
+pub mod Seeing
+pub mod Naming
+pub mod Checked
+pub mod Editing
+pub mod Renaming
+pub mod Resetting
+pub mod Changing

@@ -1,0 +1,37 @@
+-- The slots of a ring as a list, changed one after another.
+use Rattle.std.proofs.Common.{ℕ, ◌≡◌, ◌<◌, ◌+◌, ◌%◌, add-zero, List, [], ◌∷◌, length, get_or, set, fold, refl, sym, ◌∙◌, ap, arith}
+use Rattle.std.proofs.lemmas.List.{length-set, get_or_read}
+use Rattle.std.proofs.lemmas.List.FromFn.{map-range_with_len_more}
+use Rattle.std.proofs.lemmas.List.Sums.{fold-append}
+use Rattle.std.proofs.Math.Nat.{mod-eq_of_lt}
+use Rattle.nm_types.specs.Positions.{RingState, IsRing, advanced, step_on, slots_from}
+use Rattle.nm_types.specs.Slots.{SlotState, slot_after_push}
+use Rattle.nm_types.specs.OwnPorts.{blank_slot}
+use Rattle.nm_types.specs.OwnSyncs.{with_push_cleared, accepted}
+
+-- one slot more behind those changed so far
+pub fold-slots_from : {X : Type 0} (f : X → ℕ → X) (x : X) (size first k : ℕ) → fold f x (slots_from size first (k + 1)) ≡ f (fold f x (slots_from size first k)) (step_on size first k)
+fold-slots_from f x size first k = ap (fold f x) (map-range_with_len_more (step_on size first) 0 k k (omega arith)) ∙ fold-append f x (slots_from size first k) (step_on size first k ∷ [])
+
+pub length-cleared : (slots : List SlotState) (ats : List ℕ) → length (fold with_push_cleared slots ats) ≡ length slots
+length-cleared slots [] = refl
+length-cleared slots (at ∷ ats) = length-cleared (with_push_cleared slots at) ats ∙ length-set slots at (slot_after_push (get_or slots at blank_slot))
+
+-- the next slot cleared, as it is read and written
+pub cleared_next : (slots now : List SlotState) (size first k : ℕ) (slot new : SlotState) → now ≡ fold with_push_cleared slots (slots_from size first k)
+    → step_on size first k < length now → slot ≡ get_or now (step_on size first k) slot → new ≡ slot_after_push slot
+    → set now (step_on size first k) new ≡ fold with_push_cleared slots (slots_from size first (k + 1))
+cleared_next slots now size first k slot new e within read changed =
+    let at : slot ≡ get_or now (step_on size first k) blank_slot = get_or_read now (step_on size first k) slot within read blank_slot in
+    ap (set now (step_on size first k)) (changed ∙ ap slot_after_push at)
+    ∙ (ap (λ (s : List SlotState). with_push_cleared s (step_on size first k)) e ∙ sym (fold-slots_from with_push_cleared slots size first k))
+
+-- a head that is accepted while the tail stays
+pub accepted_none : (ring : RingState) → IsRing ring → advanced ring ring.head ring.cur ring.tail ≡ accepted 0 ring
+accepted_none ring is = ap (advanced ring ring.head ring.cur) (is.one_tail ∙ sym (step_on-none ring.size ring.last_tail (omega arith)))
+  where
+    step_on-none : (size at : ℕ) → at < size → step_on size at 0 ≡ at
+    step_on-none size at h = ap (λ (n : ℕ). n % size) (add-zero at) ∙ mod-eq_of_lt h
+
+pub accepted_ring : (ring : RingState) (tail : ℕ) → IsRing ring → ring.head < ring.size → tail < ring.size → IsRing (advanced ring ring.head ring.cur tail)
+accepted_ring ring tail is head below = record { is_size = is.is_size; accepted = head; within = below; one_tail = refl }

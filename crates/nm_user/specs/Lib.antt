@@ -1,0 +1,6 @@
+pub mod RingSlots
+pub mod Sides
+pub mod Kept
+pub mod Own
+pub mod Edits
+pub mod Resets

@@ -1,0 +1,15 @@
+//! A user's own side of its ports, after netmap(4): rings, slots, and the buffers in their places.
+#![tactic(auto)]
+
+mod checks;
+mod edit;
+mod gather;
+mod own;
+mod port;
+mod reset;
+mod slot_ring;
+mod slots;
+#[cfg(test)]
+mod tests;
+
+pub use own::OwnSide;

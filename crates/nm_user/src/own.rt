@@ -1,0 +1,168 @@
+ghost use Rattle.std.specs.Prelude.{◌≡◌, IfOk, IsSome, OnErr, None, Some, option_map};
+ghost use Rattle.std.specs.Option.{option_copied};
+ghost use Rattle.nm_types.specs.Buffers.{IsPoolSize};
+ghost use Rattle.nm_types.specs.declared.id.Side.TheVariants.{Tx};
+ghost use Rattle.nm_types.specs.Slots.{pushed_frames};
+ghost use Rattle.nm_types.specs.OwnPorts.{empty_own, bytes_at, ring_at, pushed_on};
+ghost use Rattle.nm_user.specs.Own.{refusal_at, port_at, slots_on, slots_at, ring_of};
+ghost use Rattle.nm_types.specs.OwnEdits.{user_slot_at, with_user_slot, with_head, with_cur};
+ghost use Rattle.nm_user.specs.Sides.{TellsRefusal};
+ghost use Rattle.nm_types.specs.OwnSyncs.{own_after_reset};
+ghost use Rattle.nm_user.specs.Edits.{own_edited};
+
+use crate::checks::check_ring;
+use crate::edit::{RingEdit, edit_rings};
+use crate::gather::gather;
+use crate::port::UserPort;
+use crate::reset::reset_rings;
+use crate::slot_ring::SlotRing;
+use nm_hold::Hold;
+use nm_ring::Ring;
+use nm_types::{Batch, NoMemory, PortId, Side, Slot, SyncFault};
+use std::alloc::Global;
+use std::marker::Model;
+
+/// A session's own side: its ports with their rings and slots, and the buffers in their places.
+pub struct OwnSide {
+    hold: Hold,
+    ports: Vec<UserPort>,
+    /// Marks of indices, all of them clear between two calls.
+    marks: Vec<bool>,
+}
+
+impl Model for OwnSide {
+    ghost use Rattle.nm_types.specs.OwnPorts.{OwnState};
+
+    ghost Value = { OwnState };
+
+    ghost use Rattle.nm_user.specs.Own.{own_seen};
+    ghost use Rattle.nm_user.specs.Kept.{IsKept};
+
+    ghost view = { λ o. own_seen o.hold o.ports.items };
+
+    ghost invariant = { IsKept };
+}
+
+/// The port of an id.
+fn port_at(ports: &[UserPort], id: PortId) -> Option<&UserPort>
+    ensures { option_copied result ≡ port_at ports.now id.0 }
+{
+    ports.iter().find(|port| port.id.0 == id.0)
+}
+
+/// The ring on a side of a port.
+fn ring_on(port: &UserPort, side: Side) -> Option<&SlotRing>
+    ensures { option_copied result ≡ slots_on side port.now }
+{
+    match side {
+        Side::Tx => port.tx.as_ref(),
+        Side::Rx => Some(&port.rx),
+    }
+}
+
+/// The ring on a side of the port of an id.
+fn ring_at(ports: &[UserPort], id: PortId, side: Side) -> Option<&SlotRing>
+    ensures { option_copied result ≡ slots_at side ports.now id.0 }
+{
+    match port_at(ports, id) {
+        Some(port) => ring_on(port, side),
+        None => None,
+    }
+}
+
+impl OwnSide {
+    /// An own side without ports, for a pool of `buffers` buffers.
+    pub fn new(alloc: Global, buffers: u32) -> Result<OwnSide, NoMemory>
+        requires { IsPoolSize buffers }
+        ensures { IfOk result (λ own. own ≡ empty_own buffers) }
+    {
+        let marks = vec![in alloc; false; buffers as usize + 2]?;
+        let hold = Hold::new(alloc, buffers)?;
+        Ok(OwnSide {
+            hold,
+            ports: Vec::new(alloc),
+            marks,
+        })
+    }
+
+    /// The first check that refuses a sync of a port's ring.
+    pub fn check(&mut self, port: PortId, side: Side) -> Result<(), SyncFault>
+        requires { IsSome (ring_at side self.old port.0) }
+        ensures refusal { TellsRefusal result (refusal_at side port.0 self.old) }
+        ensures same { self.new ≡ self.old }
+    {
+        match ring_at(&self.ports, port, side) {
+            Some(ring) => check_ring(&self.hold, port, ring, &mut self.marks),
+            None => unreachable!(),
+        }
+    }
+
+    /// The positions of a port's ring, if the session has that port and the port that ring.
+    pub fn ring(&self, port: PortId, side: Side) -> Option<&Ring>
+        ensures { option_copied result ≡ option_map ring_of (ring_at side self.now port.0) }
+    {
+        match ring_at(&self.ports, port, side) {
+            Some(ring) => Some(ring.ring()),
+            None => None,
+        }
+    }
+
+    /// One of the user's slots; none if it is not the user's.
+    pub fn slot(&self, port: PortId, side: Side, at: u32) -> Option<&Slot>
+        ensures { option_copied result ≡ user_slot_at side self.now port.0 at }
+    {
+        match ring_at(&self.ports, port, side) {
+            Some(ring) => ring.slot(at),
+            None => None,
+        }
+    }
+
+    /// Writes one of the user's slots; does nothing if it is not the user's.
+    pub fn put_slot(&mut self, port: PortId, side: Side, at: u32, slot: Slot)
+        ensures { self.new ≡ with_user_slot side port.0 at slot self.old }
+    {
+        self.edit(port, side, RingEdit::Slot(at, slot));
+    }
+
+    /// Stores a head, any number; does nothing if there is no such ring.
+    pub fn put_head(&mut self, port: PortId, side: Side, head: u32)
+        ensures { self.new ≡ with_head side port.0 head self.old }
+    {
+        self.edit(port, side, RingEdit::Head(head));
+    }
+
+    /// Stores a cur, any number; does nothing if there is no such ring.
+    pub fn put_cur(&mut self, port: PortId, side: Side, cur: u32)
+        ensures { self.new ≡ with_cur side port.0 cur self.old }
+    {
+        self.edit(port, side, RingEdit::Cur(cur));
+    }
+
+    /// Makes an edit of a port's ring.
+    fn edit(&mut self, port: PortId, side: Side, edit: RingEdit)
+        ensures { self.new ≡ own_edited port.0 side edit self.old }
+    {
+        edit_rings(&mut self.ports, port, side, edit);
+    }
+
+    /// The frames of the pushed slots of a transmit ring, for a push that no check refuses.
+    pub fn frames(&self, alloc: Global, port: PortId) -> Result<Batch, NoMemory>
+        requires ring { IsSome (ring_at Tx self.now port.0) }
+        requires passes { refusal_at Tx port.0 self.now ≡ None }
+        ensures { IfOk result (λ batch.
+            batch ≡ pushed_frames (bytes_at self.now) (pushed_on Tx port.0 self.now)) }
+    {
+        match ring_at(&self.ports, port, Side::Tx) {
+            Some(ring) => gather(alloc, &self.hold, ring),
+            None => unreachable!(),
+        }
+    }
+
+    /// Resets a port's ring: its positions are those last accepted, and each of the user's slots
+    /// names the buffer in its place. Does nothing if there is no such ring.
+    pub fn reset(&mut self, port: PortId, side: Side)
+        ensures { self.new ≡ own_after_reset port.0 side self.old }
+    {
+        reset_rings(&self.hold, &mut self.ports, port, side);
+    }
+}

@@ -1,0 +1,261 @@
+ghost use Rattle.std.specs.Prelude.{ℕ, ◌≡◌, ◌<◌, ◌≤◌, ◌++◌, ◌∷◌, [], None, Some, IfSome, IfOk};
+ghost use Rattle.std.specs.Prelude.{option_map, drop, replicate, true};
+ghost use Rattle.std.specs.Option.{option_copied};
+ghost use Rattle.nm_types.specs.Positions.{IsRing, IsRingSize, is_user_slot, opened_tx};
+ghost use Rattle.nm_types.specs.Positions.{opened_rx};
+ghost use Rattle.nm_types.specs.Slots.{published_slot};
+ghost use Rattle.nm_types.specs.Reset.{reset_positions};
+ghost use Rattle.nm_types.specs.OwnPorts.{blank_slot};
+ghost use Rattle.nm_user.specs.RingSlots.{RingSlots, IsRingSlots, slot_of_user};
+ghost use Rattle.nm_user.specs.Sides.{slot_at};
+ghost use Rattle.nm_user.specs.RingSlots.{with_slot_of_user, with_slot_reset_at, at_positions};
+ghost use Rattle.nm_types.specs.OwnPorts.{index_of};
+ghost use Rattle.nm_types.specs.declared.id.Side.TheVariants.{Tx, Rx};
+ghost use Rattle.nm_types.specs.Positions.{FitsRing, dist, kernel_count};
+ghost use Rattle.nm_types.specs.OwnSyncs.{accepted, slots_after_push};
+
+use crate::slots::{blank_slots, clear_announcements, drop_front};
+use nm_ring::Ring;
+use nm_types::{Side, Slot};
+use std::alloc::{AllocError, Global};
+use std::collections::VecDeque;
+use std::marker::Model;
+
+/// A ring of a session's port with its slots: of a transmit ring all slots, by position, and of a
+/// receive ring the user's slots, from the accepted head on.
+#[derive(Drop)]
+pub(crate) struct SlotRing {
+    side: Side,
+    ring: Ring,
+    slots: VecDeque<Slot>,
+}
+
+impl Model for SlotRing {
+    ghost use Rattle.nm_user.specs.RingSlots.{RingSlots, IsRingSlots};
+
+    ghost Value = { RingSlots };
+
+    ghost view = { λ r. record { side = r.side; ring = r.ring; slots = r.slots.items } };
+
+    ghost use Rattle.std.specs.Prelude.{◌≤◌};
+    ghost use Rattle.std.specs.VecDeque.{deque_capacity};
+
+    ghost invariant = { λ r.
+        (IsRingSlots (record { side = r.side; ring = r.ring; slots = r.slots.items }))
+        × (r.ring.size ≤ deque_capacity r.slots) };
+}
+
+impl SlotRing {
+    /// The positions of the ring.
+    pub(crate) fn ring(&self) -> &Ring
+        ensures ring { result.now ≡ self.now.ring }
+        ensures slots { IsRingSlots self.now }
+    {
+        &self.ring
+    }
+
+    /// Stores a head, even one that no sync accepts.
+    pub(crate) fn put_head(&mut self, head: u32)
+        ensures { self.new ≡ at_positions head self.old.ring.cur self.old }
+    {
+        self.ring.put_head(head);
+    }
+
+    /// Stores a cur, even one that no sync accepts.
+    pub(crate) fn put_cur(&mut self, cur: u32)
+        ensures { self.new ≡ at_positions self.old.ring.head cur self.old }
+    {
+        self.ring.put_cur(cur);
+    }
+
+    /// Whether a position is one of the user's slots.
+    fn is_user_slot(&self, at: u32) -> bool
+        ensures user { result ≡ is_user_slot self.now.ring at }
+        ensures slots { IsRingSlots self.now }
+    {
+        let (first, count) = self.ring.user_range();
+        at < self.ring.size() && (at + self.ring.size() - first) % self.ring.size() < count
+    }
+
+    /// Where the slot of a position is in the list of slots.
+    fn index_of(&self, at: u32) -> usize
+        requires { at < self.now.ring.size }
+        ensures { result ≡ index_of self.now.side self.now.ring at }
+    {
+        match self.side {
+            Side::Tx => at as usize,
+            Side::Rx => {
+                let (first, _) = self.ring.user_range();
+                ((at + self.ring.size() - first) % self.ring.size()) as usize
+            }
+        }
+    }
+
+    /// The slot at a position, if it is one of the user's.
+    pub(crate) fn slot(&self, at: u32) -> Option<&Slot>
+        ensures { option_copied result ≡ slot_of_user self.now at }
+    {
+        if self.is_user_slot(at) {
+            self.slots.get(self.index_of(at))
+        } else {
+            None
+        }
+    }
+
+    /// Writes the slot at a position, if it is one of the user's.
+    pub(crate) fn put_slot(&mut self, at: u32, slot: Slot)
+        ensures { self.new ≡ with_slot_of_user at slot self.old }
+    {
+        if self.is_user_slot(at) {
+            let index = self.index_of(at);
+            self.slots[index] = slot;
+        }
+    }
+
+    /// Accepts the push of a transmit ring whose positions fit, and clears the announcements of its
+    /// slots. The tail stays.
+    pub(crate) fn accept_push(&mut self)
+        requires side { self.old.side ≡ Tx }
+        requires fits { FitsRing self.old.ring self.old.ring.head self.old.ring.cur }
+        ensures { self.new ≡ record self.old {
+          ring = accepted 0 self.old.ring;
+          slots = slots_after_push self.old.ring self.old.slots;
+        } }
+    {
+        let (first, count) = self.pushed();
+        clear_announcements(&mut self.slots, self.ring.size(), first, count);
+        let (head, cur, tail) = (self.ring.head(), self.ring.cur(), self.ring.tail());
+        self.ring.advance(head, cur, tail);
+    }
+
+    /// The first of the slots that a sync at the ring's head pushes, and the number of them.
+    pub(crate) fn pushed(&self) -> (u32, u32)
+        requires { self.now.ring.head < self.now.ring.size }
+        ensures first { result.0 ≡ self.now.ring.accepted_head }
+        ensures count { result.1
+            ≡ dist self.now.ring.size self.now.ring.accepted_head self.now.ring.head }
+        ensures slots { IsRingSlots self.now }
+    {
+        let (first, _) = self.ring.user_range();
+        let size = self.ring.size();
+        (first, (self.ring.head() + size - first) % size)
+    }
+
+    /// Moves the tail of a transmit ring on, past slots of the kernel side.
+    pub(crate) fn move_tail(&mut self, taken: u32)
+        requires side { self.old.side ≡ Tx }
+        requires fits { FitsRing self.old.ring self.old.ring.head self.old.ring.cur }
+        requires taken { taken ≤ kernel_count self.old.ring.size self.old.ring.head self.old.ring.last_tail }
+        ensures { self.new ≡ record self.old { ring = accepted taken self.old.ring } }
+    {
+        let tail = (self.ring.tail() + taken) % self.ring.size();
+        self.ring.advance(self.ring.head(), self.ring.cur(), tail);
+    }
+
+    /// Accepts the push of a receive ring whose positions fit: the pushed slots are no longer the
+    /// user's. The tail stays.
+    pub(crate) fn accept_back(&mut self)
+        requires side { self.old.side ≡ Rx }
+        requires fits { FitsRing self.old.ring self.old.ring.head self.old.ring.cur }
+        ensures { self.new ≡ record self.old {
+          ring = accepted 0 self.old.ring;
+          slots = drop (dist self.old.ring.size self.old.ring.accepted_head self.old.ring.head)
+              self.old.slots;
+        } }
+    {
+        let (_, count) = self.pushed();
+        drop_front(&mut self.slots, count);
+        let (head, cur, tail) = (self.ring.head(), self.ring.cur(), self.ring.tail());
+        self.ring.advance(head, cur, tail);
+    }
+
+    /// Publishes a received frame in the slot at the tail of a receive ring whose head is accepted.
+    pub(crate) fn publish(&mut self, buffer: u32, len: u16)
+        requires side { self.old.side ≡ Rx }
+        requires fits { FitsRing self.old.ring self.old.ring.head self.old.ring.cur }
+        requires accepted { self.old.ring.accepted_head ≡ self.old.ring.head }
+        requires room { 0 < kernel_count self.old.ring.size self.old.ring.head self.old.ring.last_tail }
+        ensures { self.new ≡ record self.old {
+          ring = accepted 1 self.old.ring;
+          slots = self.old.slots ++ published_slot buffer len ∷ [];
+        } }
+    {
+        let tail = (self.ring.tail() + 1) % self.ring.size();
+        self.ring.advance(self.ring.head(), self.ring.cur(), tail);
+        self.slots.push_back_reserved(Slot {
+            buf_idx: buffer,
+            len,
+            flags: 0,
+            ptr: 0,
+        });
+    }
+
+    /// Resets one of the user's slots: it names the buffer in its place.
+    pub(crate) fn reset_slot(&mut self, at: u32, was: u32)
+        requires { is_user_slot self.old.ring at ≡ true }
+        ensures { self.new ≡ with_slot_reset_at at was self.old }
+    {
+        let index = self.index_of(at);
+        let len = match self.side {
+            Side::Tx => 0,
+            Side::Rx => self.slots[index].len,
+        };
+        self.slots[index] = Slot {
+            buf_idx: was,
+            len,
+            flags: 0,
+            ptr: 0,
+        };
+    }
+
+    /// Resets the positions to those last accepted.
+    pub(crate) fn reset_positions(&mut self)
+        ensures { self.new ≡ record self.old { ring = reset_positions self.old.ring } }
+    {
+        self.ring.reset();
+    }
+
+    /// An opened transmit ring, whose slots name no buffer yet.
+    pub(crate) fn tx(alloc: Global, size: u32) -> Result<SlotRing, AllocError>
+        requires { IsRingSize size }
+        ensures { IfOk result (λ r. r ≡ record {
+          side = Tx;
+          ring = opened_tx size;
+          slots = replicate size blank_slot;
+        }) }
+    {
+        Ok(SlotRing {
+            side: Side::Tx,
+            ring: Ring::tx(size),
+            slots: blank_slots(alloc, size)?,
+        })
+    }
+
+    /// An opened receive ring, none of whose slots is the user's.
+    pub(crate) fn rx(alloc: Global, size: u32) -> Result<SlotRing, AllocError>
+        requires { IsRingSize size }
+        ensures { IfOk result (λ r.
+            r ≡ record { side = Rx; ring = opened_rx size; slots = [] }) }
+    {
+        Ok(SlotRing {
+            side: Side::Rx,
+            ring: Ring::rx(size),
+            slots: VecDeque::with_capacity(alloc, size as usize)?,
+        })
+    }
+
+    /// The side of the ring.
+    pub(crate) fn side(&self) -> Side
+        ensures { result ≡ self.now.side }
+    {
+        self.side
+    }
+
+    /// The slot at a position, which is one of the user's.
+    pub(crate) fn user_slot(&self, at: u32) -> Slot
+        requires { is_user_slot self.now.ring at ≡ true }
+        ensures { result ≡ slot_at self.now at }
+    {
+        self.slots[self.index_of(at)]
+    }
+}

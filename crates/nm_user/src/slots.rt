@@ -1,0 +1,62 @@
+ghost use Rattle.std.specs.Prelude.{◌≡◌, ◌<◌, ◌≤◌, IfOk, drop, fold, length, replicate};
+ghost use Rattle.std.specs.VecDeque.{deque_capacity};
+ghost use Rattle.nm_types.specs.Positions.{slots_from};
+ghost use Rattle.nm_types.specs.Slots.{slot_after_push};
+ghost use Rattle.nm_types.specs.OwnPorts.{blank_slot};
+ghost use Rattle.nm_types.specs.OwnSyncs.{with_push_cleared};
+
+use bitflags::Flags;
+use nm_types::{Slot, SlotFlags};
+use std::alloc::{AllocError, Global};
+use std::collections::VecDeque;
+
+/// Clears the announcement of a pushed slot.
+fn clear_announcement(slot: &mut Slot)
+    ensures { slot.new ≡ slot_after_push slot.old }
+{
+    let flags = SlotFlags::from_bits_retain(slot.flags);
+    slot.flags = flags.difference(SlotFlags::BUF_CHANGED).bits();
+}
+
+/// Clears the announcements of `count` slots from a position on, going round.
+pub(crate) fn clear_announcements(slots: &mut VecDeque<Slot>, size: u32, first: u32, count: u32)
+    requires size { length slots.old.items ≡ size }
+    requires few { size ≤ 1024 }
+    requires first { first < size }
+    requires count { count < size }
+    ensures slots { slots.new.items
+        ≡ fold with_push_cleared slots.old.items (slots_from size first count) }
+    ensures room { deque_capacity slots.new ≡ deque_capacity slots.old }
+{
+    for k in 0..count {
+        let at = (first + k) % size;
+        clear_announcement(&mut slots[at as usize]);
+    }
+}
+
+/// Removes the first slots.
+pub(crate) fn drop_front(slots: &mut VecDeque<Slot>, count: u32)
+    ensures slots { slots.new.items ≡ drop count slots.old.items }
+    ensures room { deque_capacity slots.new ≡ deque_capacity slots.old }
+{
+    for _ in 0..count {
+        let _first = slots.pop_front();
+    }
+}
+
+/// As many slots as a transmit ring has, none of which names a buffer yet.
+pub(crate) fn blank_slots(alloc: Global, size: u32) -> Result<VecDeque<Slot>, AllocError>
+    ensures slots { IfOk result (λ slots. slots.items ≡ replicate size blank_slot) }
+    ensures room { IfOk result (λ slots. size ≤ deque_capacity slots) }
+{
+    let mut slots = VecDeque::with_capacity(alloc, size as usize)?;
+    for _ in 0..size {
+        slots.push_back_reserved(Slot {
+            buf_idx: 0,
+            len: 0,
+            flags: 0,
+            ptr: 0,
+        });
+    }
+    Ok(slots)
+}
