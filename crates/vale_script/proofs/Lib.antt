@@ -1,6 +1,5 @@
 mod Cuts
 mod Numerals
 mod Pairs
-mod PortNames
-mod Seen
 mod Soundness
+mod Texts

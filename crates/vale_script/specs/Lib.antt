@@ -1,4 +1,11 @@
-pub mod Blame
+pub mod Drafts
+pub mod Forms
 pub mod Grammar
+pub mod Keeps
+pub mod Places
+pub mod Rules
+pub mod Script
 pub mod Sound
+pub mod Statements
+pub mod Tables
 pub mod Words

@@ -1,28 +1,34 @@
--- What a run of the lines of an accepted script stands on.
-use Rattle.std.specs.Prelude.{ℕ, true, ◌≡◌, ◌≤◌}
+-- What the lines of an accepted script keep.
+use Rattle.std.specs.Prelude.{ℕ, ◌≤◌, ◌<◌, ◌^◌, List, length, Option, Some, None, IfSome}
 use Rattle.std.specs.List.{AllByRecursion as Each}
-use Rattle.nm_types.specs.Names.{is_switch_port_name}
+use Rattle.nm_types.specs.Frames.{Frame}
 use Rattle.vale_script.specs.declared.script.Act.{Act}
-use Rattle.vale_script.specs.declared.script.Act.TheVariants.{Enter, Open, Put, Tx, Rx, Close}
+use Rattle.vale_script.specs.declared.script.Act.TheVariants as acts
 use Rattle.vale_script.specs.declared.script.Line.{Line}
-use Rattle.vale_script.specs.Grammar.{Program}
+use Rattle.vale_script.specs.declared.script.Unit.{Unit as Part}
+use Rattle.vale_script.specs.declared.script.Unit.TheVariants as parts
+use Rattle.vale_script.specs.Script.{Program}
 
+-- numbers are within the ranges of their places
 abbrev pub IsSoundAct : Act → Type 0
-IsSoundAct Enter = Unit {0}
-IsSoundAct (Open name tx rx) = is_switch_port_name name ≡ true
-IsSoundAct (Put name count fill) = (count ≤ 1000000) × (fill.len ≤ 2048)
-IsSoundAct (Tx name) = Unit {0}
-IsSoundAct (Rx name) = Unit {0}
-IsSoundAct (Close name) = Unit {0}
+IsSoundAct (acts.Put name count to from len fill) = (count ≤ 1000000) × (len ≤ 2048)
+IsSoundAct (acts.Play name file batch) = (1 ≤ batch) × (batch ≤ 1023)
+IsSoundAct (acts.Fwd from to count) = count ≤ 1000000
+IsSoundAct _ = Unit {0}
 
 pub record IsSoundLine (users : ℕ) (line : Line) : Type 0 where
   pub least : 1 ≤ line.user
   pub most : line.user ≤ users
   pub act : IsSoundAct line.act
 
--- the pool has a size that a pool may have; each line is of a declared user, what it opens has a switch
--- port's name, and what it puts fits a buffer
+abbrev pub IsSoundUnit : ℕ → Part → Type 0
+IsSoundUnit users (parts.Single line) = IsSoundLine users line
+IsSoundUnit users (parts.Block lines) = Each (IsSoundLine users) lines
+
+-- the pool has a size that a pool may have, there are at most 64 users, and each line is one of theirs
+-- whose numbers are in range
 pub record IsSound (program : Program) : Type 0 where
   pub least : 1 ≤ program.pool
   pub most : program.pool ≤ 65536
-  pub lines_are : Each (IsSoundLine program.users) program.lines
+  pub few : length program.users ≤ 64
+  pub units_are : Each (IsSoundUnit (length program.users)) program.units

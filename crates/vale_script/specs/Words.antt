@@ -1,7 +1,7 @@
 -- The words of a script: lines cut at line feeds, words at blanks and tabs, and what a word can be.
-use Rattle.std.specs.Prelude.{ℕ, Bool, true, ◌&&◌, ◌||◌, ◌==◌, ◌+◌, ◌-◌, ◌*◌, nat_lt, nat_le, if◌then◌else◌, List, [], ◌∷◌, length, filter, slice_index, Option, Some, None}
-use Rattle.std.specs.List.{list_all, slice_split}
-use Rattle.nm_types.specs.Names.{are_word_bytes, is_switch_port_name}
+use Rattle.std.specs.Prelude.{ℕ, Bool, true, ◌&&◌, ◌||◌, ◌==◌, ◌+◌, ◌-◌, ◌*◌, ◌/◌, ◌%◌, nat_lt, nat_le, if◌then◌else◌, List, [], ◌∷◌, length, map, codes, bytes_eq, filter, slice_index, Option, Some, None}
+use Rattle.std.specs.List.{list_all, slice_split, range_with_len}
+use Rattle.nm_types.specs.Names.{are_word_bytes, is_name}
 use Rattle.nm_types.specs.declared.id.Mac.{Mac}
 
 abbrev pub is_blank : ℕ → Bool
@@ -36,11 +36,12 @@ has_up_to most word = nat_lt 0 (length word) && nat_le (length word) most
 abbrev pub is_user_name : List ℕ → Bool
 is_user_name word = has_up_to 16 word && are_word_bytes word
 
-unfoldable pub user_name : List ℕ → Option (List ℕ)
-user_name word = if is_user_name word then Some word else None
-
 unfoldable pub port_name : List ℕ → Option (List ℕ)
-port_name word = if is_switch_port_name word then Some word else None
+port_name word = if is_name word then Some word else None
+
+-- a word's text, where its bytes are in range
+unfoldable pub text_of : List ℕ → Option (List ℕ)
+text_of word = if are_line_bytes word then Some word else None
 
 abbrev pub is_digit : ℕ → Bool
 is_digit b = nat_le 48 b && nat_le b 57
@@ -80,9 +81,27 @@ byte_at word i = hex_value (slice_index word i) * 16 + hex_value (slice_index wo
 abbrev pub is_colon_at : List ℕ → ℕ → Bool
 is_colon_at word i = slice_index word i == 58
 
+abbrev pub are_hex : List ℕ → Bool
+are_hex word = list_all is_hex word
+
 -- two hexadecimal digits
-unfoldable pub hex_byte_of : List ℕ → Option ℕ
-hex_byte_of word = if (length word == 2) && is_pair_at word 0 then Some (byte_at word 0) else None
+unfoldable pub is_hex_byte : List ℕ → Bool
+is_hex_byte word = (length word == 2) && is_pair_at word 0
+
+abbrev pub hex_byte_of : List ℕ → Option ℕ
+hex_byte_of word = if is_hex_byte word then Some (byte_at word 0) else None
+
+-- the digits of 1 to 2048 bytes
+unfoldable pub is_digits : List ℕ → Bool
+is_digits word = (has_up_to 4096 word && (length word % 2 == 0)) && are_hex word
+
+-- each two digits are a byte
+abbrev pub bytes_of : List ℕ → List ℕ
+bytes_of word = map (λ (k : ℕ). byte_at word (2 * k)) (range_with_len 0 (length word / 2))
+
+-- a frame in digits, or a dot for the empty one
+unfoldable pub frame_bytes : List ℕ → Option (List ℕ)
+frame_bytes word = if bytes_eq word (codes ".") then Some [] else (if is_digits word then Some (bytes_of word) else None)
 
 -- six pairs of hexadecimal digits, joined by colons
 abbrev pub are_pairs : List ℕ → Bool

@@ -1,11 +1,17 @@
-//! Scripts of netmap rings and VALE ports: users, and the lines that they run one after another.
+//! Scripts of netmap rings and VALE ports: users, and the lines that they run.
 #![tactic(auto)]
 
+mod draft;
+mod forms;
+mod places;
 mod reader;
 mod script;
+mod statements;
+mod tables;
 #[cfg(test)]
 mod tests;
 mod words;
 
-pub use reader::{ScriptFault, line_count, parse};
-pub use script::{Act, Fill, Line, Opened, Script};
+pub use reader::{ScriptFault, first_line, line_count, parse};
+pub use script::{Act, Line, Lines, Script, ScriptWord, SlotField, Unit};
+pub use statements::{LineFault, Said, line_said};

@@ -1,198 +1,204 @@
 ghost use Rattle.std.specs.Prelude.{[], ◌∷◌};
 
-use crate::reader::{ScriptFault, line_count, parse};
-use crate::script::{Act, Fill, Script};
-use nm_types::Mac;
+use crate::{Act, Script, ScriptFault, Unit, line_count, parse};
+use nm_types::LineCause;
 use std::test::Fail;
 
-const FIRST_RUN: &[u8; 136] =
+const FIRST_RUN: &[u8] =
     b"user a\nuser b\nopen a vale0:a 4 4\nopen b vale0:b 4 4\nput a vale0:a 1 ff:ff:ff:ff:ff:ff 02:00:00:00:00:0a 60 11\ntx a vale0:a\nrx b vale0:b\n";
 
 #[test]
 fn first_run_is_read(rt: HostRuntime) -> Result<(), Fail> {
     let script = parse(rt.alloc(), FIRST_RUN).ok().ok_or("read")?;
-    assert_eq!(rt; script.users(), 2);
-    assert_eq!(rt; script.lines().len(), 7);
-    let line = &script.lines()[4];
-    assert_eq!(rt; line.at, 5);
-    assert_eq!(rt; line.user, 1);
-    match &line.act {
-        Act::Put { name, .. } => assert_eq!(rt; name.as_bytes(), b"vale0:a".as_slice()),
-        _ => assert!(rt; false, "no put line"),
-    }
-    Ok(())
-}
-
-#[test]
-fn frames_are_made(rt: HostRuntime) -> Result<(), Fail> {
-    let fill = Fill {
-        destination: Mac([255; 6]),
-        source: Mac([2, 0, 0, 0, 0, 10]),
-        len: 60,
-        byte: 0x11,
-    };
-    let frame = fill.frame(rt.alloc())?;
-    assert_eq!(rt; frame.len(), 60);
-    assert_eq!(rt;
-        &frame[..14],
-        [255, 255, 255, 255, 255, 255, 2, 0, 0, 0, 0, 10, 0x88, 0xb5].as_slice()
-    );
-    assert!(rt; frame[14..].iter().all(|b| *b == 0x11));
-    Ok(())
-}
-
-/// The line that is blamed, or 0 where the script was read.
-fn bad_line(read: Result<Script, ScriptFault>) -> u32 {
-    match read {
-        Ok(_) => 0,
-        Err(ScriptFault::BadLine { line, .. }) => line,
-        Err(ScriptFault::NoMemory) => 999,
-    }
-}
-
-#[test]
-fn user_lines_are_judged(rt: HostRuntime) -> Result<(), Fail> {
-    for (script, bad) in [
-        (b"# \x00\xff\n".as_slice(), 0),
-        (b"user a\ruser b\n".as_slice(), 1),
-        (b"user a\r".as_slice(), 1),
-        (b"user abcdefghijklmnop\n".as_slice(), 0),
-        (b"user abcdefghijklmnopq\n".as_slice(), 1),
-        (b"user a b\n".as_slice(), 1),
-        (b"user a\nuser a\n".as_slice(), 2),
-    ] {
-        assert_eq!(rt; bad_line(parse(rt.alloc(), script)), bad);
-    }
-    Ok(())
-}
-
-#[test]
-fn pool_lines_are_judged(rt: HostRuntime) -> Result<(), Fail> {
-    for (script, bad) in [
-        (b"# first\n\npool 64\nuser a\n".as_slice(), 0),
-        (b"pool 65536\n".as_slice(), 0),
-        (b"pool 65537\n".as_slice(), 1),
-        (b"pool 0\n".as_slice(), 1),
-        (b"pool 64 64\n".as_slice(), 1),
-        (b"pool\n".as_slice(), 1),
-        (b"pool 64\npool 64\n".as_slice(), 2),
-        (b"user a\npool 64\n".as_slice(), 2),
-    ] {
-        assert_eq!(rt; bad_line(parse(rt.alloc(), script)), bad);
-    }
-    let script = parse(rt.alloc(), b"pool 64\nuser a\n").ok().ok_or("read")?;
-    assert_eq!(rt; script.pool(), 64);
-    let script = parse(rt.alloc(), b"user a\n").ok().ok_or("read")?;
     assert_eq!(rt; script.pool(), 8192);
+    assert_eq!(rt; script.users().len(), 2);
+    assert_eq!(rt; script.users()[1].as_str(), "b");
+    assert_eq!(rt; script.units().len(), 7);
+    match &script.units()[4] {
+        Unit::Single { line } => {
+            assert_eq!(rt; line.at, 5);
+            assert_eq!(rt; line.user, 1);
+            assert!(rt;
+                matches!(
+                    &line.act,
+                    Act::Put {
+                        count: 1,
+                        len: 60,
+                        fill: 17,
+                        ..
+                    }
+                )
+            );
+        }
+        Unit::Block { .. } => assert!(rt; false, "a block"),
+    }
     Ok(())
 }
 
-/// Where a script with two users is bad whose next lines are these, counted from there.
-fn bad_after_users(rt: &HostRuntime, lines: &[u8]) -> Result<u32, Fail> {
-    let mut script = Vec::from_slice(rt.alloc(), b"user a\nuser b\n")?;
-    script.extend_from_slice(lines)?;
+/// Every kind of line once, behind two users.
+const ALL_LINES: &[u8] =
+    b"pool 64\nuser a\nuser b\nopen a vale0:a 4 4\nopen a vale0:b 4 4 3\nopen b mon0 0 2\npar\nput a vale0:a 0 Ff:ff:ff:ff:ff:ff 02:00:00:00:00:0A 2048 aB\nhex a vale0:a .\nplay a vale0:a f 1023\nend\ntx a vale0:a\nrx a vale0:a\nrx a vale0:a keep\nfwd a vale0:a vale0:b 1000000\npoke a vale0:a tx 4294967295 ptr 18446744073709551615\nmove a vale0:a rx 1 2\nswap a vale0:a rx 0 vale0:b tx 1\nswap a vale0:a rx 0 vale0:b tx 1 quiet\nextra a vale0:b 0 1\nwatch b mon0 vale0:a tr\nstat a vale0:a\nplay a vale0:b g 1\nplay a vale0:b f 1\nsave b mon0 h\nclose b mon0\n";
+
+#[test]
+fn every_line_is_read(rt: HostRuntime) -> Result<(), Fail> {
+    let script = parse(rt.alloc(), ALL_LINES).ok().ok_or("read")?;
+    assert_eq!(rt; script.pool(), 64);
+    assert_eq!(rt; script.files().len(), 2);
+    assert_eq!(rt; script.files()[0].as_str(), "f");
+    assert_eq!(rt; script.files()[1].as_str(), "g");
+    assert_eq!(rt; script.units().len(), 21);
+    match &script.units()[5] {
+        Unit::Block { lines } => {
+            assert_eq!(rt; lines.as_slice().len(), 3);
+            assert_eq!(rt; lines.as_slice()[1].at, 9);
+        }
+        Unit::Single { .. } => assert!(rt; false, "no block"),
+    }
+    Ok(())
+}
+
+/// The line that is blamed and why; line 0 if the script was read.
+fn blame(read: Result<Script, ScriptFault>) -> (u32, LineCause) {
+    match read {
+        Ok(_) => (0, LineCause::Word),
+        Err(ScriptFault::BadLine { line, cause }) => (line, cause),
+        Err(ScriptFault::NoMemory) => (999, LineCause::Word),
+    }
+}
+
+/// A script of two users, of whom the first has a port and a monitor open, and this line.
+fn blame_behind(rt: &HostRuntime, line: &[u8]) -> Result<(u32, LineCause), Fail> {
+    let mut script = Vec::from_slice(
+        rt.alloc(),
+        b"user a\nuser b\nopen a vale0:p 1 1\nopen a mon0 0 2\n",
+    )?;
+    script.extend_from_slice(line)?;
     if script.len() > 1_000 {
         return Err("a script is short".into());
     }
-    Ok(bad_line(parse(rt.alloc(), &script)).saturating_sub(2))
+    Ok(blame(parse(rt.alloc(), &script)))
 }
 
+use LineCause::{Count, Name, Number, Order, Port, Twice, User, Word};
+
+/// A bad fifth line, and why it is bad.
+const BAD_LINES: [(&[u8], LineCause); 40] = [
+    (b"tx a\x01 vale0:p", Word),
+    (b"tx a vale0:p\r", Word),
+    (b"\x0b#", Word),
+    (b"send a vale0:p", Word),
+    (b"rx a vale0:p x y", Word),
+    (b"poke a vale0:p up", Word),
+    (b"swap a vale0:p tx 0 vale0:p rx 0 loud", Word),
+    (b"watch a mon0 vale0:p q", Word),
+    (b"poke a vale0:p tx 0 id 1", Word),
+    (b"rx a vale0:p keep y", Count),
+    (b"tx no.body p q", Count),
+    (b"user", Count),
+    (b"par a", Count),
+    (b"pool 64 64", Count),
+    (b"open a vale0:q 4", Count),
+    (b"pool 0", Number),
+    (b"open a vale0:q 4 4294967296", Number),
+    (b"open a vale0:q 4 4 000000000000000000001", Number),
+    (b"put a vale0:p 1000001 x x 60 11", Number),
+    (b"put a vale0:p 1 x x 2049 11", Number),
+    (b"put a vale0:p 1 x x 60 1", Number),
+    (b"hex a vale0:p abc", Number),
+    (b"play a vale0:p f 1024", Number),
+    (b"poke a vale0:p tx 0 len 65536", Number),
+    (b"poke a vale0:p tx 0 ptr 18446744073709551616", Number),
+    (b"user abcdefghijklmnopq", Name),
+    (b"tx a.b vale0:p", Name),
+    (b"tx a vale0:abcdefghijk", Name),
+    (
+        b"put a vale0:p 1 ff:ff:ff:ff:ff-ff 02:00:00:00:00:0a 60 11",
+        Name,
+    ),
+    (b"tx c vale0:p", User),
+    (b"tx b vale0:p", Port),
+    (b"tx a mon0", Port),
+    (b"move a mon0 tx 0 0", Port),
+    (b"fwd a vale0:p mon0 1", Port),
+    (b"watch a vale0:p vale0:p t", Port),
+    (b"watch a mon0 mon1 t", Port),
+    (b"pool 64", Order),
+    (b"end", Order),
+    (b"user a", Twice),
+    (b"open a vale0:p 4 4", Twice),
+];
+
 #[test]
-fn open_lines_are_judged(rt: HostRuntime) -> Result<(), Fail> {
-    for (lines, bad) in [
-        (
-            b"open a vale0:a 00000000000000000002 4294967295\n".as_slice(),
-            0,
-        ),
-        (b"open a vale0:a 000000000000000000002 4\n".as_slice(), 1),
-        (b"open a vale0:a 4 4294967296\n".as_slice(), 1),
-        (b"open a vale0:a 1 0\n".as_slice(), 0),
-        (b"open a pipe0{ 4 4\n".as_slice(), 1),
-        (b"open c vale0:a 4 4\n".as_slice(), 1),
-        (b"open a vale0:a 4 4\nopen b vale0:a 4 4\n".as_slice(), 0),
-        (b"open a vale0:a 4 4\nopen a vale0:a 4 4\n".as_slice(), 2),
-        (b"open a vale0:a 4 4\ntx b vale0:a\n".as_slice(), 2),
-    ] {
-        assert_eq!(rt; bad_after_users(&rt, lines)?, bad);
+fn bad_lines_are_blamed(rt: HostRuntime) -> Result<(), Fail> {
+    for (line, cause) in BAD_LINES {
+        assert_eq!(rt; blame_behind(&rt, line)?, (5, cause));
+    }
+    Ok(())
+}
+
+/// Lines from the fifth on, the one that is blamed, and why; 0 if all are good.
+const LINES: [(&[u8], u32, LineCause); 17] = [
+    (b"par\npar\n", 6, Order),
+    (b"par\nuser c\nend\n", 6, Order),
+    (b"par\ntx a vale0:p\n", 5, Order),
+    (b"par\n\nsend\n", 7, Word),
+    (b"save a vale0:p f\nsave a mon0 f\n", 6, Twice),
+    (b"save a vale0:p f\nsave a vale0:p g\n", 6, Twice),
+    (b"play a vale0:p f 1\nsave a vale0:p f\n", 6, Twice),
+    (b"save a vale0:p f\nplay a vale0:p f 1\n", 6, Twice),
+    (b"play a vale0:p f 1\nplay a vale0:p f 2\n", 0, Word),
+    (
+        b"save a vale0:p f\nclose a vale0:p\nopen a vale0:p 2 2\nsave a vale0:p g\n",
+        0,
+        Word,
+    ),
+    (b"close a vale0:p\ntx a vale0:p\n", 6, Port),
+    (
+        b"open b vale0:p 4 4\nclose b vale0:p\ntx a vale0:p\n",
+        0,
+        Word,
+    ),
+    (b"watch a mon0 vale9:x tr\n", 0, Word),
+    (b"  # \x00\xff\n\t\n# last \xff", 0, Word),
+    (b"tx  a\tvale0:p \t\r\n", 0, Word),
+    (b"open a vale0:q 00000000000000000002 4294967295", 0, Word),
+    (b"hex a vale0:p aB0\nhex a vale0:p .", 5, Number),
+];
+
+#[test]
+fn lines_are_judged_by_those_before(rt: HostRuntime) -> Result<(), Fail> {
+    for (lines, line, cause) in LINES {
+        assert_eq!(rt; blame_behind(&rt, lines)?, (line, cause));
     }
     Ok(())
 }
 
 #[test]
-fn close_lines_are_judged(rt: HostRuntime) -> Result<(), Fail> {
-    for (lines, bad) in [
-        (
-            b"open a vale0:a 4 4\nclose a vale0:a\nopen a vale0:a 4 4\n".as_slice(),
-            0,
-        ),
-        (
-            b"open a vale0:a 4 4\nclose a vale0:a\nrx a vale0:a\n".as_slice(),
-            3,
-        ),
-        (b"open a vale0:a 4 4\nclose b vale0:a\n".as_slice(), 2),
-        (
-            b"open a vale0:a 4 4\nopen b vale0:a 4 4\nclose a vale0:a\ntx b vale0:a\n".as_slice(),
-            0,
-        ),
-        (b"close a vale0:a\n".as_slice(), 1),
-        (b"open a vale0:a 4 4\nclose a vale0:a 4\n".as_slice(), 2),
-    ] {
-        assert_eq!(rt; bad_after_users(&rt, lines)?, bad);
+fn users_are_at_most_64(rt: HostRuntime) -> Result<(), Fail> {
+    let mut script = Vec::new(rt.alloc());
+    for i in 0u8..65 {
+        script.extend_from_slice(b"user u")?;
+        script.push(b'0' + i / 10)?;
+        script.push(b'0' + i % 10)?;
+        script.push(b'\n')?;
     }
+    if script.len() > 1_000 {
+        return Err("a script is short".into());
+    }
+    assert_eq!(rt; blame(parse(rt.alloc(), &script)), (65, Twice));
+    assert_eq!(rt; blame(parse(rt.alloc(), b"")), (0, Word));
     Ok(())
 }
 
 #[test]
-fn put_lines_are_judged(rt: HostRuntime) -> Result<(), Fail> {
-    for (line, bad) in [
-        (
-            b"put a vale0:a 1 FF:ff:ff:ff:ff:Ff 02:00:00:00:00:0a 2048 aB\n".as_slice(),
-            0,
-        ),
-        (
-            b"put a vale0:a 0 ff:ff:ff:ff:ff:ff 02:00:00:00:00:0a 60 11\n".as_slice(),
-            0,
-        ),
-        (
-            b"put a vale0:a 1000000 ff:ff:ff:ff:ff:ff 02:00:00:00:00:0a 60 11\n".as_slice(),
-            0,
-        ),
-        (
-            b"put a vale0:a 1000001 ff:ff:ff:ff:ff:ff 02:00:00:00:00:0a 60 11\n".as_slice(),
-            2,
-        ),
-        (
-            b"put a vale0:a 1 ff:ff:ff:ff:ff-ff 02:00:00:00:00:0a 60 11\n".as_slice(),
-            2,
-        ),
-        (
-            b"put a vale0:a 1 ff:ff:ff:ff:ff:ff 02:00:00:00:00:0a 2049 11\n".as_slice(),
-            2,
-        ),
-    ] {
-        let mut lines = Vec::from_slice(rt.alloc(), b"open a vale0:a 4 4\n")?;
-        lines.extend_from_slice(line)?;
-        assert_eq!(rt; bad_after_users(&rt, &lines)?, bad);
-    }
-    Ok(())
-}
-
-#[test]
-fn lines_and_frames_are_counted(rt: HostRuntime) -> Result<(), Fail> {
+fn lines_are_counted(rt: HostRuntime) -> Result<(), Fail> {
     for (bytes, lines) in [
         (b"".as_slice(), 0),
         (b"\n".as_slice(), 1),
         (b"a\n\nb".as_slice(), 3),
-        (FIRST_RUN.as_slice(), 7),
+        (FIRST_RUN, 7),
     ] {
         assert_eq!(rt; line_count(bytes), lines);
     }
-    let script = parse(
-        rt.alloc(),
-        b"user a\nopen a vale0:a 4 4\nput a vale0:a 7 ff:ff:ff:ff:ff:ff 02:00:00:00:00:0a 60 11\nput a vale0:a 5 ff:ff:ff:ff:ff:ff 02:00:00:00:00:0a 60 11\n",
-    )
-    .ok()
-    .ok_or("read")?;
-    assert_eq!(rt; script.frames_put(), 12);
     Ok(())
 }

@@ -1,13 +1,13 @@
-//! The words of a script's lines.
-ghost use Rattle.std.specs.Prelude.{◌≡◌, ◌+◌, ◌<◌, ◌≤◌, ◌^◌, ℕ, length, map, option_map, min, true, IsTrue, IfOk, IfSome};
+//! The words of a script's lines, each by itself.
+ghost use Rattle.std.specs.Prelude.{◌≡◌, ◌+◌, ◌*◌, ◌<◌, ◌≤◌, ◌^◌, ℕ, length, map, option_map, min, is_some, true, IsTrue, IfOk, IfSome};
 ghost use Rattle.nm_types.specs.Names.{is_word_byte, are_word_bytes};
-ghost use Rattle.vale_script.specs.Words.{is_blank, has_bytes, words_of, is_line_byte, are_line_bytes, begins_with_hash, is_silent, has_up_to, is_user_name, user_name, port_name, is_digit, are_digits, is_number, number_of, number_in, is_hex, hex_value, is_pair_at, byte_at, is_colon_at, hex_byte_of, are_pairs, are_joined, is_mac, mac_value, mac_of};
+ghost use Rattle.vale_script.specs.Words.{is_blank, has_bytes, words_of, is_line_byte, are_line_bytes, begins_with_hash, is_silent, has_up_to, is_user_name, port_name, text_of, is_digit, are_digits, is_number, number_of, number_in, is_hex, are_hex, hex_value, is_pair_at, byte_at, is_colon_at, is_hex_byte, hex_byte_of, is_digits, bytes_of, frame_bytes, are_pairs, are_joined, is_mac, mac_value, mac_of};
 
-use nm_types::{Mac, Name};
+use nm_types::{Mac, Name, NoMemory};
 use std::alloc::{AllocError, Global};
 
 /// Above each number of a script.
-const CAP: u64 = 1 << 40;
+const CAP: u128 = 1 << 64;
 
 fn is_blank(b: u8) -> bool
     ensures { result ≡ is_blank b }
@@ -74,33 +74,30 @@ fn has_up_to(most: usize, word: &[u8]) -> bool
     !word.is_empty() && word.len() <= most
 }
 
-fn is_user_name(word: &[u8]) -> bool
+pub(crate) fn is_user_name(word: &[u8]) -> bool
     ensures { result ≡ is_user_name word.now }
 {
     has_up_to(16, word) && are_word_bytes(word)
 }
 
-/// A user's name, or none where the word is none.
-#[tactic(auto, unfolding(crate::specs::Words::user_name))]
-pub(crate) fn user_name(word: &[u8]) -> Option<&[u8]>
-    ensures { option_map (λ name. name.now) result ≡ user_name word.now }
+/// The text of a word, or none if a byte is out of range.
+#[tactic(auto, using(crate::proofs::Texts::texts), unfolding(crate::specs::Words::text_of))]
+pub(crate) fn text_of(word: &[u8]) -> Option<&str>
+    ensures { option_map (λ text. text.now) result ≡ text_of word.now }
 {
-    if is_user_name(word) { Some(word) } else { None }
+    if are_line_bytes(word) {
+        str::from_utf8(word).ok()
+    } else {
+        None
+    }
 }
 
-/// The name of a port of a switch, or none where the word is none.
-#[tactic(auto, using(crate::proofs::PortNames::port_names), unfolding(crate::specs::Words::port_name))]
+/// The name of a port, a pipe end or a monitor, or none if the word is none.
+#[tactic(auto, unfolding(crate::specs::Words::port_name))]
 pub(crate) fn port_name(word: &[u8]) -> Option<Name>
     ensures { result ≡ port_name word.now }
 {
-    match Name::from_bytes(word) {
-        Ok(name) => if name.is_switch_port() {
-            Some(name)
-        } else {
-            None
-        },
-        Err(_) => None,
-    }
+    Name::from_bytes(word).ok()
 }
 
 fn is_digit(b: u8) -> bool
@@ -121,30 +118,31 @@ fn is_number(word: &[u8]) -> bool
     has_up_to(20, word) && are_digits(word)
 }
 
-/// The number that digits write, or `CAP` where it is above that.
+/// The number that digits write, or `CAP` if it is above that.
 #[tactic(auto, using(crate::proofs::Numerals::numerals))]
-fn capped_number(word: &[u8]) -> u64
-    ensures { result ≡ min (number_of word.now) CAP }
+fn capped_number(word: &[u8]) -> u128
+    ensures { result ≡ min (number_of word.now) (2 ^ 64) }
 {
-    let mut number = 0;
+    let mut number = 0u128;
     for b in word {
-        number = (number * 10 + b.saturating_sub(b'0') as u64).min(CAP);
+        number = (number * 10 + b.saturating_sub(b'0') as u128).min(CAP);
     }
     number
 }
 
-/// A number within these bounds, or none where the word is none.
+/// A number within these bounds, or none if the word is none.
 #[tactic(auto, unfolding(crate::specs::Words::number_in))]
-pub(crate) fn number_in(low: u32, high: u32, word: &[u8]) -> Option<u32>
+pub(crate) fn number_in(low: u64, high: u64, word: &[u8]) -> Option<u64>
     ensures value { result ≡ number_in low high word.now }
     ensures within { IfSome result (λ n. n ≤ high) }
+    ensures least { IfSome result (λ n. low ≤ n) }
 {
     if !is_number(word) {
         return None;
     }
     let number = capped_number(word);
-    if low as u64 <= number && number <= high as u64 {
-        Some(number as u32)
+    if low as u128 <= number && number <= high as u128 {
+        Some(number as u64)
     } else {
         None
     }
@@ -185,15 +183,75 @@ fn byte_at(word: &[u8], i: usize) -> u8
     hex_value(word[i]) * 16 + hex_value(word[i + 1])
 }
 
-/// Two hexadecimal digits, or none where the word is none.
-#[tactic(auto, unfolding(crate::specs::Words::hex_byte_of))]
+/// Whether a word is two hexadecimal digits.
+#[tactic(auto, unfolding(crate::specs::Words::is_hex_byte))]
+pub(crate) fn is_hex_byte(word: &[u8]) -> bool
+    ensures value { result ≡ is_hex_byte word.now }
+    ensures two { IsTrue result → 1 < length word.now }
+    ensures pair { IsTrue result → is_pair_at word.now 0 ≡ true }
+{
+    word.len() == 2 && is_pair_at(word, 0)
+}
+
+/// The byte that two hexadecimal digits write, or none if the word is none.
 pub(crate) fn hex_byte_of(word: &[u8]) -> Option<u8>
     ensures { result ≡ hex_byte_of word.now }
 {
-    if word.len() == 2 && is_pair_at(word, 0) {
+    if is_hex_byte(word) {
         Some(byte_at(word, 0))
     } else {
         None
+    }
+}
+
+fn are_hex(word: &[u8]) -> bool
+    ensures { result ≡ are_hex word.now }
+{
+    word.iter().all(|b| is_hex(*b))
+}
+
+/// Whether a word is the digits of 1 to 2048 bytes.
+#[tactic(auto, unfolding(crate::specs::Words::is_digits))]
+fn is_digits(word: &[u8]) -> bool
+    ensures value { result ≡ is_digits word.now }
+    ensures hex { IsTrue result → are_hex word.now ≡ true }
+{
+    has_up_to(4096, word) && word.len() % 2 == 0 && are_hex(word)
+}
+
+/// The bytes that hexadecimal digits write.
+#[tactic(auto, using(crate::proofs::Numerals::pairs))]
+fn bytes_of(alloc: Global, word: &[u8]) -> Result<Vec<u8>, NoMemory>
+    requires { are_hex word.now ≡ true }
+    ensures { IfOk result (λ bytes. bytes.items ≡ bytes_of word.now) }
+{
+    let mut bytes = Vec::new(alloc);
+    for k in 0..word.len() / 2 {
+        bytes.push(byte_at(word, 2 * k))?;
+    }
+    Ok(bytes)
+}
+
+/// Whether a word is the digits of a frame, or a dot.
+#[tactic(auto, unfolding(crate::specs::Words::frame_bytes))]
+pub(crate) fn frame_bytes_fit(word: &[u8]) -> bool
+    ensures { result ≡ is_some (frame_bytes word.now) }
+{
+    word == b".".as_slice() || is_digits(word)
+}
+
+/// The bytes of a frame in digits, or none if the word is none. A dot is the empty frame.
+#[tactic(auto, unfolding(crate::specs::Words::frame_bytes))]
+pub(crate) fn frame_bytes(alloc: Global, word: &[u8]) -> Result<Option<Vec<u8>>, NoMemory>
+    ensures { IfOk result (λ bytes. option_map (λ b. b.items) bytes ≡ frame_bytes word.now) }
+{
+    if word == b".".as_slice() {
+        return Ok(Some(Vec::new(alloc)));
+    }
+    if is_digits(word) {
+        Ok(Some(bytes_of(alloc, word)?))
+    } else {
+        Ok(None)
     }
 }
 
@@ -217,7 +275,7 @@ fn are_joined(word: &[u8]) -> bool
 }
 
 #[tactic(auto, unfolding(crate::specs::Words::is_mac))]
-fn is_mac(word: &[u8]) -> bool
+pub(crate) fn is_mac(word: &[u8]) -> bool
     ensures value { result ≡ is_mac word.now }
     ensures length { IsTrue result → length word.now ≡ 17 }
     ensures pairs { IsTrue result → are_pairs word.now ≡ true }
@@ -240,7 +298,7 @@ fn mac_value(word: &[u8]) -> Mac
     ])
 }
 
-/// An Ethernet address: six pairs of hexadecimal digits joined by colons, or none where the word is
+/// An Ethernet address: six pairs of hexadecimal digits joined by colons, or none if the word is
 /// none.
 #[tactic(auto, unfolding(crate::specs::Words::mac_of))]
 pub(crate) fn mac_of(word: &[u8]) -> Option<Mac>

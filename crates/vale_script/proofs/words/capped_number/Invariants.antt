@@ -3,4 +3,4 @@ use Rattle.vale_script.specs.Words.{number_of}
 use Rattle.vale_script.proofs.words.capped_number.Given as goal
 
 abbrev pub invariant-loop-b : goal.invariant-loop-b
-invariant-loop-b l = l.number ≡ min (number_of (take l.b-index l.word)) (2 ^ 40)
+invariant-loop-b l = l.number ≡ min (number_of (take l.b-index l.word)) (2 ^ 64)

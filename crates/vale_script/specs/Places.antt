@@ -1,0 +1,73 @@
+-- What is wrong with a line's words, each at its place.
+use Rattle.std.specs.Prelude.{ℕ, Bool, false, not, ◌||◌, if◌then◌else◌, List, [], ◌∷◌, codes, bytes_eq, is_some}
+use Rattle.nm_types.specs.declared.fault.LineCause.{LineCause}
+use Rattle.nm_types.specs.declared.fault.LineCause.TheVariants.{Word, Name}
+use Rattle.nm_types.specs.declared.fault.LineCause.TheVariants as causes
+use Rattle.vale_script.specs.declared.forms.Place.{Place}
+use Rattle.vale_script.specs.declared.forms.Place.TheVariants.{UserName, PortName, Address, Number, Byte, Bytes, Side, Sides, Field, Value, Keep, Quiet}
+use Rattle.nm_types.specs.declared.id.Side as sides
+use Rattle.nm_types.specs.declared.id.Side.TheVariants as rings
+use Rattle.nm_types.specs.declared.id.Sides as watched
+use Rattle.nm_types.specs.declared.id.Sides.TheVariants as monitored
+use Rattle.vale_script.specs.declared.script.SlotField.{SlotField}
+use Rattle.vale_script.specs.declared.script.SlotField.TheVariants.{Idx, Len, Flags, Ptr}
+use Rattle.vale_script.specs.Words.{is_user_name, port_name, number_in, is_hex_byte, frame_bytes, is_mac}
+
+abbrev pub is_side : List ℕ → Bool
+is_side word = bytes_eq word (codes "tx") || bytes_eq word (codes "rx")
+
+abbrev pub is_sides : List ℕ → Bool
+is_sides word = (bytes_eq word (codes "t") || bytes_eq word (codes "r")) || bytes_eq word (codes "tr")
+
+abbrev pub is_field : List ℕ → Bool
+is_field word = ((bytes_eq word (codes "idx") || bytes_eq word (codes "len")) || bytes_eq word (codes "flags")) || bytes_eq word (codes "ptr")
+
+-- the greatest value of a slot's field
+abbrev pub greatest_of : List ℕ → ℕ
+greatest_of field = if bytes_eq field (codes "idx") then 4294967295 else (if bytes_eq field (codes "ptr") then 18446744073709551615 else 65535)
+
+-- none of the words that the place has
+abbrev pub misses_word : Place → List ℕ → Bool
+misses_word Side word = not (is_side word)
+misses_word Sides word = not (is_sides word)
+misses_word Field word = not (is_field word)
+misses_word Keep word = not (bytes_eq word (codes "keep"))
+misses_word Quiet word = not (bytes_eq word (codes "quiet"))
+misses_word _ word = false
+
+-- no number, one out of the place's range, or bad digits; a value's range hangs on the field before it
+abbrev pub misses_number : Place → List ℕ → List ℕ → Bool
+misses_number (Number low high) before word = not (is_some (number_in low high word))
+misses_number Value before word = not (is_some (number_in 0 (greatest_of before) word))
+misses_number Byte before word = not (is_hex_byte word)
+misses_number Bytes before word = not (is_some (frame_bytes word))
+misses_number _ before word = false
+
+-- no name of a user or a port, or no address
+abbrev pub misses_name : Place → List ℕ → Bool
+misses_name UserName word = not (is_user_name word)
+misses_name PortName word = not (is_some (port_name word))
+misses_name Address word = not (is_mac word)
+misses_name _ word = false
+
+abbrev pub is_out : LineCause → Place → List ℕ → List ℕ → Bool
+is_out Word place before word = misses_word place word
+is_out causes.Number place before word = misses_number place before word
+is_out Name place before word = misses_name place word
+is_out _ place before word = false
+
+-- a word is bad at its place for this cause, as far as places and words reach
+abbrev pub any_out : LineCause → List Place → List ℕ → List (List ℕ) → Bool
+any_out cause (place ∷ places) before (word ∷ words) = is_out cause place before word || any_out cause places word words
+any_out cause places before words = false
+
+-- what fixed words stand for
+
+abbrev pub side_of : List ℕ → sides.Side
+side_of word = if bytes_eq word (codes "tx") then rings.Tx else rings.Rx
+
+abbrev pub sides_of : List ℕ → watched.Sides
+sides_of word = if bytes_eq word (codes "t") then monitored.T else (if bytes_eq word (codes "r") then monitored.R else monitored.TR)
+
+abbrev pub field_of : List ℕ → SlotField
+field_of word = if bytes_eq word (codes "idx") then Idx else (if bytes_eq word (codes "len") then Len else (if bytes_eq word (codes "flags") then Flags else Ptr))

@@ -1,0 +1,146 @@
+//! What is wrong with a line's words, each at its place.
+ghost use Rattle.std.specs.Prelude.{◌≡◌, ◌≤◌, map, length};
+ghost use Rattle.vale_script.specs.Places.{is_side, is_sides, is_field, misses_word, misses_number, misses_name, is_out, any_out, greatest_of, side_of, sides_of, field_of};
+
+use crate::forms::Place;
+use crate::script::SlotField;
+use crate::words::{frame_bytes_fit, is_hex_byte, is_mac, is_user_name, number_in, port_name};
+use nm_types::{LineCause, Side, Sides};
+
+fn is_side(word: &[u8]) -> bool
+    ensures { result ≡ is_side word.now }
+{
+    word == b"tx".as_slice() || word == b"rx".as_slice()
+}
+
+fn is_sides(word: &[u8]) -> bool
+    ensures { result ≡ is_sides word.now }
+{
+    word == b"t".as_slice() || word == b"r".as_slice() || word == b"tr".as_slice()
+}
+
+fn is_field(word: &[u8]) -> bool
+    ensures { result ≡ is_field word.now }
+{
+    word == b"idx".as_slice()
+        || word == b"len".as_slice()
+        || word == b"flags".as_slice()
+        || word == b"ptr".as_slice()
+}
+
+/// The greatest value of a slot's field.
+pub(crate) fn greatest_of(field: &[u8]) -> u64
+    ensures { result ≡ greatest_of field.now }
+{
+    if field == b"idx".as_slice() {
+        4_294_967_295
+    } else if field == b"ptr".as_slice() {
+        u64::MAX
+    } else {
+        65_535
+    }
+}
+
+/// Whether a word is none of the words that its place has.
+fn misses_word(place: Place, word: &[u8]) -> bool
+    ensures { result ≡ misses_word place word.now }
+{
+    match place {
+        Place::Side => !is_side(word),
+        Place::Sides => !is_sides(word),
+        Place::Field => !is_field(word),
+        Place::Keep => word != b"keep".as_slice(),
+        Place::Quiet => word != b"quiet".as_slice(),
+        _ => false,
+    }
+}
+
+/// Whether a word is no number of its place's range, or has bad digits. The word before it tells the
+/// range of a slot's field.
+fn misses_number(place: Place, before: &[u8], word: &[u8]) -> bool
+    ensures { result ≡ misses_number place before.now word.now }
+{
+    match place {
+        Place::Number { low, high } => number_in(low as u64, high as u64, word).is_none(),
+        Place::Value => number_in(0, greatest_of(before), word).is_none(),
+        Place::Byte => !is_hex_byte(word),
+        Place::Bytes => !frame_bytes_fit(word),
+        _ => false,
+    }
+}
+
+/// Whether a word is no name of its place's kind.
+fn misses_name(place: Place, word: &[u8]) -> bool
+    ensures { result ≡ misses_name place word.now }
+{
+    match place {
+        Place::UserName => !is_user_name(word),
+        Place::PortName => port_name(word).is_none(),
+        Place::Address => !is_mac(word),
+        _ => false,
+    }
+}
+
+/// Whether a word is bad at its place for this cause.
+fn is_out(cause: LineCause, place: Place, before: &[u8], word: &[u8]) -> bool
+    ensures { result ≡ is_out cause place before.now word.now }
+{
+    match cause {
+        LineCause::Word => misses_word(place, word),
+        LineCause::Number => misses_number(place, before, word),
+        LineCause::Name => misses_name(place, word),
+        _ => false,
+    }
+}
+
+/// Whether any of the words is bad at its place for this cause, as far as places and words reach.
+pub(crate) fn any_out(cause: LineCause, places: &[Place], before: &[u8], words: &[&[u8]]) -> bool
+    ensures { result ≡ any_out cause places.now before.now (map (λ w. w.now) words.now) }
+{
+    let Some((place, places)) = places.split_first() else {
+        return false;
+    };
+    let Some((word, words)) = words.split_first() else {
+        return false;
+    };
+    is_out(cause, *place, before, word) || any_out(cause, places, word, words)
+}
+
+/// The side of a ring.
+pub(crate) fn side_of(word: &[u8]) -> Side
+    ensures { result ≡ side_of word.now }
+{
+    if word == b"tx".as_slice() {
+        Side::Tx
+    } else {
+        Side::Rx
+    }
+}
+
+/// The sides that a monitor watches.
+pub(crate) fn sides_of(word: &[u8]) -> Sides
+    ensures { result ≡ sides_of word.now }
+{
+    if word == b"t".as_slice() {
+        Sides::T
+    } else if word == b"r".as_slice() {
+        Sides::R
+    } else {
+        Sides::TR
+    }
+}
+
+/// The field of a slot.
+pub(crate) fn field_of(word: &[u8]) -> SlotField
+    ensures { result ≡ field_of word.now }
+{
+    if word == b"idx".as_slice() {
+        SlotField::Idx
+    } else if word == b"len".as_slice() {
+        SlotField::Len
+    } else if word == b"flags".as_slice() {
+        SlotField::Flags
+    } else {
+        SlotField::Ptr
+    }
+}

@@ -1,0 +1,445 @@
+//! What the words of a line say by themselves.
+ghost use Rattle.std.specs.Prelude.{◌≡◌, ◌≤◌, ◌^◌, ℕ, map, slice_index_or, length, IfOk, Ok};
+ghost use Rattle.vale_script.specs.Places.{side_of, sides_of, field_of};
+ghost use Rattle.vale_script.specs.Keeps.{IsSoundStatement};
+ghost use Rattle.vale_script.specs.Sound.{IsSoundAct};
+ghost use Rattle.vale_script.specs.Statements.{shown, word_at, user_at, port_at, text_at, number_at, address_at, byte_at_place, open_act, put_with, put_act, fwd_act, poke_act, move_act, swap_act, extra_act, watch_act, named_act, plain_act, hex_act, play_act, save_act, act_of, statement_of, cause_of_words, words_said, line_said, Tells, TellsSaid, shown_text};
+
+use crate::forms::{Verb, form_of, verb_of};
+use crate::places::{any_out, field_of, greatest_of, side_of, sides_of};
+use crate::script::{Act, ScriptWord};
+use crate::words::{
+    are_line_bytes, frame_bytes, hex_byte_of, is_silent, is_user_name, mac_of, number_in,
+    port_name, text_of, words_of,
+};
+use nm_types::{Frame, LineCause, MAX_POOL, Mac, Name, NoMemory, Side};
+use std::alloc::{AllocError, Global};
+
+/// Why a line says nothing that a script may say.
+#[derive(Clone, Copy, Debug, PartialEq, Eq)]
+pub enum LineFault {
+    /// The line is bad, for this cause.
+    Bad { cause: LineCause },
+    /// Out of memory.
+    NoMemory,
+}
+
+impl From<NoMemory> for LineFault {
+    ghost use Rattle.vale_script.specs.declared.statements.LineFault.TheVariants as faults;
+
+    ghost from_gives = { λ _ e. e ≡ faults.NoMemory };
+
+    fn from(_: NoMemory) -> Self {
+        LineFault::NoMemory
+    }
+}
+
+impl From<AllocError> for LineFault {
+    ghost use Rattle.vale_script.specs.declared.statements.LineFault.TheVariants as faults;
+
+    ghost from_gives = { λ _ e. e ≡ faults.NoMemory };
+
+    fn from(_: AllocError) -> Self {
+        LineFault::NoMemory
+    }
+}
+
+impl From<LineCause> for LineFault {
+    ghost use Rattle.vale_script.specs.declared.statements.LineFault.TheVariants as faults;
+
+    ghost from_gives = { λ cause e. e ≡ faults.Bad cause };
+
+    fn from(cause: LineCause) -> Self {
+        LineFault::Bad { cause }
+    }
+}
+
+/// What a line says.
+#[derive(Drop)]
+pub enum Said<'a> {
+    /// Nothing.
+    Nothing,
+    /// The size of the pool.
+    Pool { size: u32 },
+    /// A new user of this name.
+    NewUser { name: &'a str },
+    /// A block begins.
+    Begin,
+    /// A block ends.
+    End,
+    /// A user does this.
+    Does { user: &'a str, act: Act },
+}
+
+/// The word at a place, counted from 0; past the line's end it is empty.
+fn word_at<'a>(words: &[&'a [u8]], i: usize) -> &'a [u8]
+    ensures { result.now ≡ word_at i (map (λ w. w.now) words.now) }
+{
+    match words.get(i) {
+        Some(word) => word,
+        None => b"",
+    }
+}
+
+fn user_at<'a>(words: &[&'a [u8]]) -> Result<&'a str, LineCause>
+    ensures { shown_text result ≡ user_at (map (λ w. w.now) words.now) }
+{
+    let word = word_at(words, 1);
+    if !is_user_name(word) {
+        return Err(LineCause::Name);
+    }
+    text_of(word).ok_or(LineCause::Word)
+}
+
+fn text_at<'a>(words: &[&'a [u8]], i: usize) -> Result<&'a str, LineCause>
+    ensures { shown_text result ≡ text_at i (map (λ w. w.now) words.now) }
+{
+    text_of(word_at(words, i)).ok_or(LineCause::Word)
+}
+
+fn port_at(words: &[&[u8]], i: usize) -> Result<Name, LineCause>
+    ensures { result ≡ port_at i (map (λ w. w.now) words.now) }
+{
+    port_name(word_at(words, i)).ok_or(LineCause::Name)
+}
+
+fn address_at(words: &[&[u8]], i: usize) -> Result<Mac, LineCause>
+    ensures { result ≡ address_at i (map (λ w. w.now) words.now) }
+{
+    mac_of(word_at(words, i)).ok_or(LineCause::Name)
+}
+
+fn byte_at(words: &[&[u8]], i: usize) -> Result<u8, LineCause>
+    ensures { result ≡ byte_at_place i (map (λ w. w.now) words.now) }
+{
+    hex_byte_of(word_at(words, i)).ok_or(LineCause::Number)
+}
+
+fn value_at(words: &[&[u8]], i: usize, high: u64) -> Result<u64, LineCause>
+    ensures { result ≡ number_at 0 high i (map (λ w. w.now) words.now) }
+{
+    number_in(0, high, word_at(words, i)).ok_or(LineCause::Number)
+}
+
+fn number_at(words: &[&[u8]], i: usize, low: u32, high: u32) -> Result<u32, LineCause>
+    ensures least { IfOk result (λ n. low ≤ n) }
+    ensures within { IfOk result (λ n. n ≤ high) }
+    ensures value { result ≡ number_at low high i (map (λ w. w.now) words.now) }
+{
+    match number_in(low as u64, high as u64, word_at(words, i)) {
+        Some(number) => Ok(number as u32),
+        None => Err(LineCause::Number),
+    }
+}
+
+fn any_at(words: &[&[u8]], i: usize) -> Result<u32, LineCause>
+    ensures { result ≡ number_at 0 4294967295 i (map (λ w. w.now) words.now) }
+{
+    number_at(words, i, 0, u32::MAX)
+}
+
+fn side_at(words: &[&[u8]], i: usize) -> Side
+    ensures { result ≡ side_of (word_at i (map (λ w. w.now) words.now)) }
+{
+    side_of(word_at(words, i))
+}
+
+fn open_act(words: &[&[u8]]) -> Result<Act, LineCause>
+    ensures sound { IfOk result IsSoundAct }
+    ensures value { result ≡ open_act (map (λ w. w.now) words.now) }
+{
+    let name = port_at(words, 2)?;
+    let tx = any_at(words, 3)?;
+    let rx = any_at(words, 4)?;
+    let extra = if words.len() == 6 {
+        any_at(words, 5)?
+    } else {
+        0
+    };
+    Ok(Act::Open {
+        name,
+        tx,
+        rx,
+        extra,
+    })
+}
+
+fn put_with(words: &[&[u8]], name: Name, count: u32) -> Result<Act, LineCause>
+    requires { count ≤ 1000000 }
+    ensures sound { IfOk result IsSoundAct }
+    ensures value { result ≡ put_with name count (map (λ w. w.now) words.now) }
+{
+    let to = address_at(words, 4)?;
+    let from = address_at(words, 5)?;
+    let len = number_at(words, 6, 0, 2048)?;
+    let fill = byte_at(words, 7)?;
+    Ok(Act::Put {
+        name,
+        count,
+        to,
+        from,
+        len: len as u16,
+        fill,
+    })
+}
+
+fn put_act(words: &[&[u8]]) -> Result<Act, LineCause>
+    ensures sound { IfOk result IsSoundAct }
+    ensures value { result ≡ put_act (map (λ w. w.now) words.now) }
+{
+    let name = port_at(words, 2)?;
+    let count = number_at(words, 3, 0, 1_000_000)?;
+    put_with(words, name, count)
+}
+
+fn fwd_act(words: &[&[u8]]) -> Result<Act, LineCause>
+    ensures sound { IfOk result IsSoundAct }
+    ensures value { result ≡ fwd_act (map (λ w. w.now) words.now) }
+{
+    let from = port_at(words, 2)?;
+    let to = port_at(words, 3)?;
+    let count = number_at(words, 4, 0, 1_000_000)?;
+    Ok(Act::Fwd { from, to, count })
+}
+
+fn poke_act(words: &[&[u8]]) -> Result<Act, LineCause>
+    ensures sound { IfOk result IsSoundAct }
+    ensures value { result ≡ poke_act (map (λ w. w.now) words.now) }
+{
+    let name = port_at(words, 2)?;
+    let side = side_at(words, 3);
+    let slot = any_at(words, 4)?;
+    let field = word_at(words, 5);
+    let value = value_at(words, 6, greatest_of(field))?;
+    Ok(Act::Poke {
+        name,
+        side,
+        slot,
+        field: field_of(field),
+        value,
+    })
+}
+
+fn move_act(words: &[&[u8]]) -> Result<Act, LineCause>
+    ensures sound { IfOk result IsSoundAct }
+    ensures value { result ≡ move_act (map (λ w. w.now) words.now) }
+{
+    let name = port_at(words, 2)?;
+    let side = side_at(words, 3);
+    let head = any_at(words, 4)?;
+    let cur = any_at(words, 5)?;
+    Ok(Act::Move {
+        name,
+        side,
+        head,
+        cur,
+    })
+}
+
+fn swap_act(words: &[&[u8]]) -> Result<Act, LineCause>
+    ensures sound { IfOk result IsSoundAct }
+    ensures value { result ≡ swap_act (map (λ w. w.now) words.now) }
+{
+    let name = port_at(words, 2)?;
+    let slot = any_at(words, 4)?;
+    let other = port_at(words, 5)?;
+    let other_slot = any_at(words, 7)?;
+    Ok(Act::Swap {
+        name,
+        side: side_at(words, 3),
+        slot,
+        other,
+        other_side: side_at(words, 6),
+        other_slot,
+        quiet: words.len() == 9,
+    })
+}
+
+fn extra_act(words: &[&[u8]]) -> Result<Act, LineCause>
+    ensures sound { IfOk result IsSoundAct }
+    ensures value { result ≡ extra_act (map (λ w. w.now) words.now) }
+{
+    let name = port_at(words, 2)?;
+    let i = any_at(words, 3)?;
+    let j = any_at(words, 4)?;
+    Ok(Act::Extra { name, i, j })
+}
+
+fn watch_act(words: &[&[u8]]) -> Result<Act, LineCause>
+    ensures sound { IfOk result IsSoundAct }
+    ensures value { result ≡ watch_act (map (λ w. w.now) words.now) }
+{
+    let monitor = port_at(words, 2)?;
+    let target = port_at(words, 3)?;
+    Ok(Act::Watch {
+        monitor,
+        target,
+        sides: sides_of(word_at(words, 4)),
+    })
+}
+
+/// An act on one port, of which the line says no more than `keep`.
+fn named_act(verb: Verb, words: &[&[u8]]) -> Result<Act, LineCause>
+    ensures sound { IfOk result IsSoundAct }
+    ensures value { result ≡ named_act verb (map (λ w. w.now) words.now) }
+{
+    let name = port_at(words, 2)?;
+    match verb {
+        Verb::Tx => Ok(Act::Tx { name }),
+        Verb::Rx => Ok(Act::Rx {
+            name,
+            keep: words.len() == 4,
+        }),
+        Verb::Stat => Ok(Act::Stat { name }),
+        Verb::Close => Ok(Act::Close { name }),
+        _ => Err(LineCause::Word),
+    }
+}
+
+/// An act whose words take no memory.
+fn plain_act(verb: Verb, words: &[&[u8]]) -> Result<Act, LineCause>
+    ensures sound { IfOk result IsSoundAct }
+    ensures value { result ≡ plain_act verb (map (λ w. w.now) words.now) }
+{
+    match verb {
+        Verb::Open => open_act(words),
+        Verb::Put => put_act(words),
+        Verb::Fwd => fwd_act(words),
+        Verb::Poke => poke_act(words),
+        Verb::Move => move_act(words),
+        Verb::Swap => swap_act(words),
+        Verb::Extra => extra_act(words),
+        Verb::Watch => watch_act(words),
+        _ => named_act(verb, words),
+    }
+}
+
+fn hex_act(alloc: Global, words: &[&[u8]]) -> Result<Act, LineFault>
+    ensures sound { IfOk result IsSoundAct }
+    ensures value { Tells (hex_act (map (λ w. w.now) words.now)) result }
+{
+    let name = port_at(words, 2)?;
+    match frame_bytes(alloc, word_at(words, 3))? {
+        Some(bytes) => Ok(Act::Hex {
+            name,
+            bytes: Frame::new(alloc, &bytes, false)?,
+        }),
+        None => Err(LineFault::Bad {
+            cause: LineCause::Number,
+        }),
+    }
+}
+
+fn play_act(alloc: Global, words: &[&[u8]]) -> Result<Act, LineFault>
+    ensures sound { IfOk result IsSoundAct }
+    ensures value { Tells (play_act (map (λ w. w.now) words.now)) result }
+{
+    let name = port_at(words, 2)?;
+    let file = text_at(words, 3)?;
+    let batch = number_at(words, 4, 1, 1023)?;
+    let file = ScriptWord::new(alloc, file)?;
+    Ok(Act::Play { name, file, batch })
+}
+
+fn save_act(alloc: Global, words: &[&[u8]]) -> Result<Act, LineFault>
+    ensures sound { IfOk result IsSoundAct }
+    ensures value { Tells (save_act (map (λ w. w.now) words.now)) result }
+{
+    let name = port_at(words, 2)?;
+    let file = text_at(words, 3)?;
+    let file = ScriptWord::new(alloc, file)?;
+    Ok(Act::Save { name, file })
+}
+
+/// What a line of this form has its user do.
+fn act_of(alloc: Global, verb: Verb, words: &[&[u8]]) -> Result<Act, LineFault>
+    ensures sound { IfOk result IsSoundAct }
+    ensures value { Tells (act_of verb (map (λ w. w.now) words.now)) result }
+{
+    match verb {
+        Verb::Hex => hex_act(alloc, words),
+        Verb::Play => play_act(alloc, words),
+        Verb::Save => save_act(alloc, words),
+        _ => match plain_act(verb, words) {
+            Ok(act) => Ok(act),
+            Err(cause) => Err(LineFault::Bad { cause }),
+        },
+    }
+}
+
+/// What the words of a line say, each of which is good at its place.
+fn statement_of<'a>(alloc: Global, verb: Verb, words: &[&'a [u8]]) -> Result<Said<'a>, LineFault>
+    ensures sound { IfOk result (λ said. IsSoundStatement (shown said)) }
+    ensures value { TellsSaid (statement_of verb (map (λ w. w.now) words.now)) result }
+{
+    match verb {
+        Verb::Pool => {
+            let size = number_at(words, 1, 1, MAX_POOL)?;
+            Ok(Said::Pool { size })
+        }
+        Verb::User => {
+            let name = user_at(words)?;
+            Ok(Said::NewUser { name })
+        }
+        Verb::Par => Ok(Said::Begin),
+        Verb::End => Ok(Said::End),
+        _ => {
+            let user = user_at(words)?;
+            let act = act_of(alloc, verb, words)?;
+            Ok(Said::Does { user, act })
+        }
+    }
+}
+
+/// Why the words of a line are no such line, by the words alone.
+fn cause_of_words(verb: Verb, words: &[&[u8]]) -> Option<LineCause>
+    ensures { result ≡ cause_of_words verb (map (λ w. w.now) words.now) }
+{
+    let form = form_of(verb);
+    let Some((first, others)) = words.split_first() else {
+        return Some(LineCause::Word);
+    };
+    if any_out(LineCause::Word, form.places, first, others) {
+        Some(LineCause::Word)
+    } else if others.len() < form.least || others.len() > form.places.len() {
+        Some(LineCause::Count)
+    } else if any_out(LineCause::Number, form.places, first, others) {
+        Some(LineCause::Number)
+    } else if any_out(LineCause::Name, form.places, first, others) {
+        Some(LineCause::Name)
+    } else {
+        None
+    }
+}
+
+fn words_said<'a>(alloc: Global, words: &[&'a [u8]]) -> Result<Said<'a>, LineFault>
+    ensures sound { IfOk result (λ said. IsSoundStatement (shown said)) }
+    ensures value { TellsSaid (words_said (map (λ w. w.now) words.now)) result }
+{
+    let Some(verb) = verb_of(word_at(words, 0)) else {
+        return Err(LineFault::Bad {
+            cause: LineCause::Word,
+        });
+    };
+    match cause_of_words(verb, words) {
+        Some(cause) => Err(LineFault::Bad { cause }),
+        None => statement_of(alloc, verb, words),
+    }
+}
+
+/// What a line says.
+pub fn line_said(alloc: Global, line: &[u8]) -> Result<Said<'_>, LineFault>
+    ensures sound { IfOk result (λ said. IsSoundStatement (shown said)) }
+    ensures value { TellsSaid (line_said line.now) result }
+{
+    let words = words_of(alloc, line)?;
+    if is_silent(&words) {
+        return Ok(Said::Nothing);
+    }
+    if !are_line_bytes(line) {
+        return Err(LineFault::Bad {
+            cause: LineCause::Word,
+        });
+    }
+    words_said(alloc, &words)
+}

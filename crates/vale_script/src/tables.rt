@@ -1,0 +1,38 @@
+//! Tables by words.
+ghost use Rattle.std.specs.Prelude.{◌≡◌, Some, None, OnOk, option_map};
+ghost use Rattle.vale_script.specs.Tables.{seen, updated};
+
+use nm_types::NoMemory;
+use std::alloc::Global;
+use std::collections::BTreeMap;
+
+/// What a table has under a word.
+#[tactic(auto, using(std::proofs::lemmas::Map::Text::text_keys))]
+pub(crate) fn value_of<V: Copy>(table: &BTreeMap<String, V>, word: &str) -> Option<V>
+    ensures { result ≡ seen table.now word.now }
+{
+    table.get(word).copied()
+}
+
+/// Sets what a table has under a word.
+#[tactic(auto, using(std::proofs::lemmas::Map::Text::text_keys))]
+pub(crate) fn set<V: Copy + Drop>(
+    alloc: Global,
+    table: &mut BTreeMap<String, V>,
+    word: &str,
+    value: V,
+) -> Result<(), NoMemory>
+    ensures { OnOk result (seen table.new ≡ updated (seen table.old) word.now (Some value)) }
+{
+    let key = String::from_str(alloc, word)?;
+    table.insert(key, value)?;
+    Ok(())
+}
+
+/// Removes what a table has under a word.
+#[tactic(auto, using(std::proofs::lemmas::Map::Text::text_keys))]
+pub(crate) fn unset<V: Copy + Drop>(table: &mut BTreeMap<String, V>, word: &str)
+    ensures { seen table.new ≡ updated (seen table.old) word.now None }
+{
+    table.remove(word);
+}
