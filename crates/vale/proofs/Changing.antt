@@ -9,8 +9,8 @@ use Rattle.vale_entry.specs.Legal.{Standing}
 use Rattle.vale_entry.proofs.Each.{each-weaker}
 use Rattle.vale_entry.proofs.ListLaws.{each-at, each-set, map-set_same}
 use Rattle.vale_entry.specs.World.{open_port}
-use Rattle.vale_script.specs.declared.script.Fill.{Fill}
-use Rattle.vale_script.specs.Grammar.{frame_of_put}
+use Rattle.vale.specs.declared.plan.Fill.{Fill}
+use Rattle.vale.specs.Plan.{frame_of_put}
 use Rattle.vale.specs.declared.port.OwnPort.{OwnPort}
 use Rattle.vale.specs.Machine.{sent, with_frame, filled, is_full, buffers_in}
 use Rattle.vale.specs.Owned.{HasPort, OwnsBy, IsAmong, is_of_id, id_of_own}

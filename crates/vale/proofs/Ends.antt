@@ -16,7 +16,7 @@ use Rattle.vale_entry.proofs.HistoryLaws.{history-stands}
 use Rattle.vale_entry.proofs.ListLaws.{each-at}
 use Rattle.vale_entry.proofs.Numbered.{world-numbered}
 use Rattle.vale_book.specs.Recorded.{Recorded, standing, IsRefusal, IsWithinLimits, HadRoom}
-use Rattle.vale_script.specs.Grammar.{Program}
+use Rattle.vale.specs.Plan.{Program}
 use Rattle.vale.specs.Machine.{Machine, new_machine, next_call}
 use Rattle.vale.proofs.Programs.{units-then, units-longer, entries-between, slice_get-front}
 use Rattle.vale.specs.Replay.{ScriptUnit, ReplaysUser, ReplaysUnits, starting, numbers_between, unit_of_line, closing_unit, units_of, users_of}

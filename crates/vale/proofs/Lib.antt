@@ -11,6 +11,7 @@ mod OneHistory
 mod Openings
 mod OwnPorts
 mod Owning
+mod Planned
 mod Played
 mod Programs
 mod Receives

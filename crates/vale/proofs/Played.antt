@@ -9,7 +9,7 @@ use Rattle.vale_entry.specs.World.{free_count}
 use Rattle.vale_entry.specs.Legal.{world_of, IsLegal}
 use Rattle.vale_entry.specs.Transcript.{start_line, entry_lines, end_line, transcript_text}
 use Rattle.vale_book.specs.Recorded.{Recorded, IsWithinLimits, HadRoom}
-use Rattle.vale_script.specs.Grammar.{Program}
+use Rattle.vale.specs.Plan.{Program}
 use Rattle.vale.specs.declared.status.Status.{Status}
 use Rattle.vale.specs.declared.status.Status.TheVariants.{Done, Usage, BadScript, ReadFault, WriteFault, Over, NoMemory}
 use Rattle.vale.specs.Replay.{Plays}

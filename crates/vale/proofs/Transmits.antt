@@ -10,7 +10,7 @@ use Rattle.vale_entry.specs.declared.entry.Ask.{Ask}
 use Rattle.vale_entry.specs.Legal.{Standing, Outcome, send_step}
 use Rattle.vale_entry.proofs.ListLaws.{each-at}
 use Rattle.vale_book.specs.Recorded.{Recorded, standing, entry_of, with_step, IsRefusal}
-use Rattle.vale_script.specs.declared.script.Fill.{Fill}
+use Rattle.vale.specs.declared.plan.Fill.{Fill}
 use Rattle.vale.specs.declared.port.OwnPort.{OwnPort}
 use Rattle.vale.specs.Machine.{Machine, Task, PutFrame, SendFrames, call_of_task, resting, answered, own_port, with_port, is_named, is_full, put_call, put_again, send_call, sent, with_frame, buffers_in}
 use Rattle.vale.specs.Owned.{Owns, OwnsBy, AllSettled, HasPort}

@@ -2,7 +2,7 @@
 use Rattle.std.specs.Prelude.{◌≡◌, ◌⊎◌, List, ◌∷◌, ◌++◌}
 use Rattle.vale_entry.specs.declared.entry.Ask.{Ask}
 use Rattle.vale_entry.specs.declared.entry.Entry.{Entry}
-use Rattle.vale_script.specs.Grammar.{Program}
+use Rattle.vale.specs.Plan.{Program}
 use Rattle.vale.specs.Replay.{Replays, ComesTo}
 
 -- at most one history plays a program

@@ -3,7 +3,9 @@ pub mod Delivery
 pub mod Laws
 pub mod Machine
 pub mod Owned
+pub mod Plan
 pub mod Replay
 pub mod Run
+pub mod Sound
 pub mod Status
 pub mod Steps

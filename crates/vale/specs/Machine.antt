@@ -14,10 +14,10 @@ use Rattle.vale_entry.specs.World.{World, Lot, Offer, open_port, is_owed_by}
 use Rattle.vale_entry.specs.Delivery.{line_of}
 use Rattle.vale_entry.specs.Legal.{Standing}
 use Rattle.vale_book.specs.Syncing.{given_buffers}
-use Rattle.vale_script.specs.declared.script.Act.{Act}
-use Rattle.vale_script.specs.declared.script.Act.TheVariants as acts
-use Rattle.vale_script.specs.declared.script.Fill.{Fill}
-use Rattle.vale_script.specs.Grammar.{frame_of_put}
+use Rattle.vale.specs.declared.plan.Act.{Act}
+use Rattle.vale.specs.declared.plan.Act.TheVariants as acts
+use Rattle.vale.specs.declared.plan.Fill.{Fill}
+use Rattle.vale.specs.Plan.{frame_of_put}
 use Rattle.vale.specs.declared.port.OwnPort.{OwnPort}
 
 -- What a line has its user do, one step after another. A put line puts so many frames; a port is shut

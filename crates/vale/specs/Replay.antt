@@ -9,8 +9,8 @@ use Rattle.vale_entry.specs.declared.entry.Ask.TheVariants.{Enter}
 use Rattle.vale_entry.specs.declared.entry.Entry.{Entry}
 use Rattle.vale_entry.specs.Laws.{Rise}
 use Rattle.vale_entry.specs.Legal.{Standing, IsLegal, Follows, standing_of}
-use Rattle.vale_script.specs.declared.script.Line.{Line}
-use Rattle.vale_script.specs.Grammar.{Program}
+use Rattle.vale.specs.declared.plan.Line.{Line}
+use Rattle.vale.specs.Plan.{Program}
 use Rattle.vale.specs.Machine.{Machine, Task, new_machine, tasks_of, closing_tasks, resting, next_call, answered}
 
 -- what stands before the entry of this number

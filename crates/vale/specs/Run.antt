@@ -19,7 +19,7 @@ use Rattle.vale_entry.specs.declared.entry.Ask.{Ask}
 use Rattle.vale_entry.specs.World.{free_count}
 use Rattle.vale_entry.specs.Legal.{IsLegal, world_of}
 use Rattle.vale_book.specs.Recorded.{IsRefusal, HadRoom}
-use Rattle.vale_script.specs.Grammar.{Program, script_of, frames_put}
+use Rattle.vale.specs.Plan.{Program, script_of, frames_put}
 use Rattle.vale.specs.Replay.{Plays, ComesTo}
 use Rattle.vale.specs.Delivery.{Delivers}
 

@@ -15,8 +15,8 @@ use Rattle.vale_entry.specs.Holdings.{holds_all}
 use Rattle.vale_entry.specs.World.{World, is_session, free_count}
 use Rattle.vale_entry.specs.Legal.{Standing, Outcome, IsLegal, step}
 use Rattle.vale_book.specs.Recorded.{Recorded, standing, with_step, after_ask, reply_of, IsRefusal, IsWithinLimits, HadRoom}
-use Rattle.vale_script.specs.declared.script.Fill.{Fill}
-use Rattle.vale_script.specs.Grammar.{Program}
+use Rattle.vale.specs.declared.plan.Fill.{Fill}
+use Rattle.vale.specs.Plan.{Program}
 use Rattle.vale.specs.declared.port.OwnPort.{OwnPort}
 use Rattle.vale.specs.Machine.{Machine, Task, resting, next_call, is_full, sent, with_frame, send_call, sync_call, shut_call, finish_call}
 use Rattle.vale.specs.Replay.{ScriptUnit, TakesTurns, starting, ReplaysUnits, Replays, ComesTo}

@@ -2,6 +2,7 @@
 #![tactic(auto)]
 
 pub mod laws;
+mod plan;
 mod play;
 mod port;
 mod run;

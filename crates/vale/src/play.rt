@@ -5,14 +5,14 @@ ghost use Rattle.vale.specs.Machine.{new_machine};
 ghost use Rattle.vale.specs.Replay.{unit_of_line, closing_unit};
 ghost use Rattle.vale_entry.specs.World.{free_count};
 ghost use Rattle.vale_book.specs.Recorded.{standing};
-ghost use Rattle.vale_script.specs.Sound.{IsSound, IsSoundLine};
+ghost use Rattle.vale.specs.Sound.{IsSound, IsSoundLine};
 ghost use Rattle.vale.specs.Steps.{IsInOrder, DoesUnits, StopsUnits, HaveLeft, DoesProgram, StopsProgram};
 
+use crate::plan::{Line, Plan};
 use crate::user::User;
 use nm_types::{NoMemory, StepFault};
 use std::alloc::Global;
 use vale_book::Book;
-use vale_script::{Line, Script};
 
 /// Users that have not come.
 fn new_users(alloc: Global, count: u32) -> Result<Vec<User>, NoMemory>
@@ -97,7 +97,7 @@ fn leave_all(alloc: Global, book: &mut Book, users: &mut Vec<User>) -> Result<()
 /// Runs a script over a book without entries, up to the end or to a call for which the record is full;
 /// then all users leave.
 #[tactic(auto, using(crate::proofs::Programs::programs))]
-pub(crate) fn run_program(alloc: Global, book: &mut Book, script: &Script) -> Result<(), StepFault>
+pub(crate) fn run_program(alloc: Global, book: &mut Book, script: &Plan) -> Result<(), StepFault>
     requires fresh { book.old.entries ≡ [] }
     requires pool { book.old.pool ≡ script.now.pool }
     requires sound { IsSound script.now }

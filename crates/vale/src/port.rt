@@ -4,13 +4,13 @@ ghost use Rattle.vale_book.specs.Recorded.{standing, IsRefusal};
 ghost use Rattle.vale.specs.Machine.{is_full, with_frame, sent, after_sync, send_call, sync_call, buffers_in};
 ghost use Rattle.vale.specs.Steps.{CanCall, CanGive, Sends, PutsBy, StopsPut, GivesBack, Closes};
 
+use crate::plan::Fill;
 use crate::settling::settle;
 use nm_types::{Batch, Chain, Name, NoMemory, PortId, StepFault};
 use std::alloc::Global;
 use std::mem::replace;
 use vale_book::Book;
 use vale_entry::Numbers;
-use vale_script::Fill;
 
 /// A port that a user has opened: the buffers of its transmit slots, the frames that lie in its
 /// transmit ring and were not sent yet, and the buffers of the frames that its receive ring holds, each

@@ -1,17 +1,18 @@
 //! Runs a command.
 ghost use Rattle.std.specs.Prelude.{◌≡◌, ◌≤◌, ◌+◌, ◌<◌, ◌^◌, ℕ, List, length, map, string_bytes, option_map, IfOk};
-ghost use Rattle.vale_script.specs.Sound.{IsSound};
+ghost use Rattle.vale.specs.Sound.{IsSound};
 ghost use Rattle.vale.specs.Run.{script_name, IsCounted, stopped, Written, Played, RanFrames, Ran, IsReadFault, RunsFile, Runs};
 ghost use Rattle.vale_entry.specs.World.{free_count};
 ghost use Rattle.vale_book.specs.Recorded.{standing};
 
+use crate::plan::{Plan, plan_of};
 use crate::play::run_program;
 use crate::status::{Status, What};
 use nm_io::{Gate, ReadError, Shelf, Sink, read_all};
 use nm_types::{Limits, Part, StepFault};
 use std::alloc::Global;
 use vale_book::Book;
-use vale_script::{Script, ScriptFault, line_count, parse};
+use vale_script::{ScriptFault, line_count};
 use vale_text::{PutError, write_transcript};
 
 /// The most bytes of a script.
@@ -85,7 +86,7 @@ fn write<K: Sink>(alloc: Global, book: Book, out: &mut K) -> Status
 
 /// Runs a script that was read, and writes the transcript once the run has ended.
 #[tactic(auto, using(crate::proofs::Played::played, crate::proofs::Sums::sums))]
-fn play<K: Sink>(alloc: Global, script: &Script, out: &mut K) -> Status
+fn play<K: Sink>(alloc: Global, script: &Plan, out: &mut K) -> Status
     requires { IsSound script.now }
     ensures played { Played Limits.VERSION_1 script.now (K.faults out.old, K.faults out.new) (K.holds out.old) (K.holds out.new) result }
     ensures later { K.faults out.old ≤ K.faults out.new }
@@ -104,7 +105,7 @@ fn play<K: Sink>(alloc: Global, script: &Script, out: &mut K) -> Status
 }
 
 /// Runs a script whose lines are few, if they put few frames.
-fn run_lines<K: Sink>(alloc: Global, script: &Script, out: &mut K) -> Status
+fn run_lines<K: Sink>(alloc: Global, script: &Plan, out: &mut K) -> Status
     requires sound { IsSound script.now }
     requires few { length script.now.lines ≤ MAX_LINES }
     ensures over { RanFrames Limits.VERSION_1 script.now (K.faults out.old, K.faults out.new) (K.holds out.old) (K.holds out.new) result }
@@ -135,7 +136,7 @@ fn run_script<K: Sink>(alloc: Global, bytes: &[u8], out: &mut K) -> Status
             limit: MAX_LINES,
         };
     }
-    match parse(alloc, bytes) {
+    match plan_of(alloc, bytes) {
         Ok(script) => run_lines(alloc, &script, out),
         Err(ScriptFault::BadLine { line, cause }) => Status::BadScript { line, cause },
         Err(ScriptFault::NoMemory) => Status::NoMemory,

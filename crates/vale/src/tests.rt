@@ -86,15 +86,28 @@ fn faults_are_told(rt: HostRuntime) -> Result<(), Fail> {
     Ok(())
 }
 
+/// A sink whose second call fails holds the first line.
+#[test]
+fn a_second_call_fails(rt: HostRuntime) -> Result<(), Fail> {
+    let (out, line) = outcome(&rt, &["run", "s"], b"user a", 99, 2)?;
+    assert_eq!(rt; line.bytes(), "vale: cannot write\n".as_bytes());
+    assert_eq!(rt; out.bytes(), "vale 1 pool 8192\n".as_bytes());
+    Ok(())
+}
+
 /// A word twice; a port that is not open, is another's, is closed twice; frames too many, and bytes.
 #[test]
 fn bad_scripts_are_told(rt: HostRuntime) -> Result<(), Fail> {
     for (script, text) in [
-        (USER_TWICE, BAD_SECOND),
-        (LATE_POOL, BAD_SECOND),
-        (NOT_OPEN, BAD_SECOND),
-        (OTHERS_PORT, BAD_FOURTH),
-        (CLOSED_TWICE, BAD_FOURTH),
+        (USER_TWICE, SECOND_TWICE),
+        (LATE_POOL, SECOND_ORDER),
+        (NOT_OPEN, SECOND_PORT),
+        (OTHERS_PORT, FOURTH_PORT),
+        (CLOSED_TWICE, FOURTH_PORT),
+        (BLOCK, SECOND_WORD),
+        (BLOCK_LATER, SECOND_TWICE),
+        (PIPE, SECOND_WORD),
+        (KEEP, FOURTH_WORD),
         (MANY_FRAMES, MANY_FRAMES_LINE),
         (MANY_BYTES, MANY_BYTES_LINE),
     ] {

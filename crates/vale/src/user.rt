@@ -5,16 +5,16 @@ ghost use Rattle.vale_entry.specs.Legal.{IsLegal};
 ghost use Rattle.vale_book.specs.Recorded.{standing};
 ghost use Rattle.vale.specs.Machine.{is_named, tasks_of, closing_of, closing_tasks, Arrive, OpenPort, PutFrame, SendFrames, TakeFrames, ShutPort, FinishPort};
 ghost use Rattle.vale.specs.Owned.{Owns, AllSettled};
-ghost use Rattle.vale_script.specs.Sound.{IsSoundAct};
+ghost use Rattle.vale.specs.Sound.{IsSoundAct};
 ghost use Rattle.vale.specs.Steps.{DoesTasks, StopsTasks, stop_of};
 
+use crate::plan::{Act, Fill};
 use crate::port::OwnPort;
 use nm_types::{Batch, Name, NoMemory, OpenFault, SessionId, StepFault};
 use std::alloc::Global;
 use std::marker::Model;
 use vale_book::Book;
 use vale_entry::Numbers;
-use vale_script::{Act, Fill};
 
 /// The first port of this name that the user has open.
 fn place_of(ports: &[OwnPort], name: &Name) -> Option<usize>

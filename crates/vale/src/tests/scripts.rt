@@ -88,9 +88,26 @@ pub(super) const MANY_FRAMES: &[u8] =
 pub(super) const MANY_BYTES: &[u8] =
     b"user a\nopen a vale0:a 1024 4\nput a vale0:a 300000 ff:ff:ff:ff:ff:ff 02:00:00:00:00:0a 2048 00\n";
 
-pub(super) const BAD_SECOND: &[u8] = b"vale: script line 2: word\n";
+/// A block, which is not run yet, before a user twice.
+pub(super) const BLOCK: &[u8] = b"user a\npar\nuser a\nend\n";
+/// A user twice, before a block.
+pub(super) const BLOCK_LATER: &[u8] = b"user a\nuser a\npar\n";
+/// A pipe, which is not run yet.
+pub(super) const PIPE: &[u8] = b"user a\nopen a pipe0{ 4 4\n";
+/// A ring that keeps its positions, which is not run yet.
+pub(super) const KEEP: &[u8] = b"user a\nopen a vale0:a 4 4 0\nrx a vale0:a\nrx a vale0:a keep\n";
 
-pub(super) const BAD_FOURTH: &[u8] = b"vale: script line 4: word\n";
+pub(super) const SECOND_WORD: &[u8] = b"vale: script line 2: word\n";
+
+pub(super) const SECOND_TWICE: &[u8] = b"vale: script line 2: twice\n";
+
+pub(super) const SECOND_ORDER: &[u8] = b"vale: script line 2: order\n";
+
+pub(super) const SECOND_PORT: &[u8] = b"vale: script line 2: port\n";
+
+pub(super) const FOURTH_PORT: &[u8] = b"vale: script line 4: port\n";
+
+pub(super) const FOURTH_WORD: &[u8] = b"vale: script line 4: word\n";
 
 pub(super) const MANY_FRAMES_LINE: &[u8] = b"vale: counts 1000001 over 1000000\n";
 

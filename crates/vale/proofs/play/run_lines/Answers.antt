@@ -1,7 +1,7 @@
 use Rattle.std.proofs.Common.{◌≡◌, ◌+◌, ◌∷◌, ◌++◌, [], ◌∙◌, List, map, take, drop, get_or, ap, sym, subst, rules}
 use Rattle.std.proofs.lemmas.List.{take_more, map-append, take-append-drop}
 use Rattle.std.proofs.lemmas.Result.{err_from_is_err_and}
-use Rattle.vale_script.specs.declared.script.Line.{Line}
+use Rattle.vale.specs.declared.plan.Line.{Line}
 use Rattle.vale.specs.Replay.{ScriptUnit, unit_of_line}
 use Rattle.vale.specs.Steps.{StopsUnits}
 use Rattle.vale.proofs.Programs.{units-then, stops-then_units, stops-before_units}

@@ -1,6 +1,6 @@
 use Rattle.std.proofs.Common.{ℕ, ◌≡◌, ◌∙◌, List, map, ap, subst, length}
 use Rattle.std.specs.List.{range_with_len}
-use Rattle.vale_script.specs.declared.script.Line.{Line}
+use Rattle.vale.specs.declared.plan.Line.{Line}
 use Rattle.vale.specs.Machine.{new_machine}
 use Rattle.vale.specs.Replay.{unit_of_line}
 use Rattle.vale.specs.Steps.{DoesUnits, StopsUnits}

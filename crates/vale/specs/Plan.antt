@@ -1,0 +1,108 @@
+-- The lines of a script that this program runs: users, and opening, putting, sending, receiving and closing
+-- at ports of switches. The first other line is bad, for the cause `word`, if no line before it is bad.
+use Rattle.std.specs.Prelude.{ℕ, Bool, true, false, not, ◌&&◌, ◌==◌, ◌≡◌, ◌+◌, nat_le, if◌then◌else◌, List, [], ◌∷◌, ◌++◌, length, take, sum_by, replicate, Option, Some, None, is_some, option_map, Result, Ok, Err}
+use Rattle.std.specs.List.{filter_map}
+use Rattle.std.specs.Str.Lines.{lines}
+use Rattle.nm_types.specs.Names.{is_switch_port_name}
+use Rattle.nm_types.specs.declared.id.Mac.{Mac}
+use Rattle.nm_types.specs.declared.fault.LineCause.{LineCause}
+use Rattle.nm_types.specs.declared.fault.LineCause.TheVariants.{Word}
+use Rattle.vale_script.specs.Statements.{Statement, Nothing, Pool, NewUser, Begin, End, Does, line_said}
+use Rattle.vale_script.specs.declared.reader.ScriptFault.{ScriptFault}
+use Rattle.vale_script.specs.declared.reader.ScriptFault.TheVariants.{BadLine, NoMemory}
+use Rattle.vale_script.specs.declared.script.Act.{Act as ScriptAct}
+use Rattle.vale_script.specs.declared.script.Act.TheVariants as acts
+use Rattle.vale_script.specs.declared.script.Line.{Line as ScriptLine}
+use Rattle.vale_script.specs.declared.script.Unit.{Unit as Part}
+use Rattle.vale_script.specs.declared.script.Unit.TheVariants as parts
+use Rattle.vale_script.specs.Grammar.{Fault}
+use Rattle.vale_script.specs.Grammar as grammar
+use Rattle.vale_script.specs.Script as scripts
+use Rattle.vale.specs.declared.plan.Act.{Act}
+use Rattle.vale.specs.declared.plan.Act.TheVariants.{Enter, Open, Put, Tx, Rx, Close}
+use Rattle.vale.specs.declared.plan.Line.{Line}
+use Rattle.vale.specs.declared.plan.Fill.{Fill}
+
+-- the first `len` bytes of destination, source, 88 b5 and the fill byte repeated
+abbrev pub frame_of_put : Fill → List ℕ
+frame_of_put fill = take fill.len (fill.destination.0 ++ (fill.source.0 ++ (136 ∷ 181 ∷ replicate fill.len fill.byte)))
+
+-- the pool, how many users there are, and their lines
+pub record Program : Type 0 where
+  pub pool : ℕ
+  pub users : ℕ
+  pub lines : List Line
+
+-- how many frames the lines put
+abbrev pub count_of : Act → ℕ
+count_of Enter = 0
+count_of (Open name tx rx) = 0
+count_of (Put name count fill) = count
+count_of (Tx name) = 0
+count_of (Rx name) = 0
+count_of (Close name) = 0
+
+abbrev pub count_of_line : Line → ℕ
+count_of_line line = count_of line.act
+
+abbrev pub frames_put : Program → ℕ
+frames_put program = sum_by count_of_line program.lines
+
+abbrev pub planned_act : ScriptAct → Option Act
+planned_act acts.Enter = Some Enter
+planned_act (acts.Open name tx rx extra) = if is_switch_port_name name && (extra == 0) then Some (Open name tx rx) else None
+planned_act (acts.Put name count to from len fill) = Some (Put name count (record { destination = to; source = from; len = len; byte = fill }))
+planned_act (acts.Tx name) = Some (Tx name)
+planned_act (acts.Rx name keep) = if keep then None else Some (Rx name)
+planned_act (acts.Close name) = Some (Close name)
+planned_act _ = None
+
+abbrev pub with_act : ScriptLine → Act → Line
+with_act line act = record { at = line.at; user = line.user; act = act }
+
+abbrev pub planned_line : ScriptLine → Option Line
+planned_line line = option_map (with_act line) (planned_act line.act)
+
+abbrev pub planned_unit : Part → Option Line
+planned_unit (parts.Single line) = planned_line line
+planned_unit (parts.Block lines) = None
+
+abbrev pub program_of : scripts.Program → Program
+program_of script = record { pool = script.pool; users = length script.users; lines = filter_map planned_unit script.units }
+
+-- a line that this program does not run: the bounds of a block, and what it can have no user do
+abbrev pub is_other : Statement → Bool
+is_other Nothing = false
+is_other (Pool size) = false
+is_other (NewUser name) = false
+is_other Begin = true
+is_other End = true
+is_other (Does user act) = not (is_some (planned_act act))
+
+abbrev pub is_other_line : Result Statement LineCause → Bool
+is_other_line (Ok said) = is_other said
+is_other_line (Err cause) = false
+
+-- the number of the first such line
+abbrev pub first_other : ℕ → List (List ℕ) → Option ℕ
+first_other at [] = None
+first_other at (line ∷ lines) = if is_other_line (line_said line) then Some at else first_other (at + 1) lines
+
+-- the smaller line number is the one that is reported; on one line it is this cause
+abbrev pub judged : Option ℕ → Result scripts.Program Fault → Result Program Fault
+judged None (Ok script) = Ok (program_of script)
+judged None (Err fault) = Err fault
+judged (Some at) (Ok script) = Err (record { line = at; cause = Word })
+judged (Some at) (Err fault) = if nat_le at fault.line then Err (record { line = at; cause = Word }) else Err fault
+
+-- what a script has this program run, or the first line that is bad and why
+abbrev pub script_of : List ℕ → Result Program Fault
+script_of bytes = judged (first_other 1 (lines bytes)) (grammar.script_of bytes)
+
+-- the line and the cause are those that the definition gives; running out of memory needs no reason
+abbrev pub BlamesLine : Result Program Fault → ScriptFault → Type 0
+BlamesLine answer (BadLine line cause) = answer ≡ Err (record { line = line; cause = cause })
+BlamesLine answer NoMemory = Unit {0}
+
+abbrev pub bad_word : ℕ → ScriptFault
+bad_word line = BadLine line Word
