@@ -18,7 +18,7 @@ fn hex_digit(n: u8) -> u8
     requires { n < 16 }
     ensures { result ≡ hex_digit n }
 {
-    if n < 10 { b'0' + n } else { b'a' - 10 + n }
+    b'0' + n + if n > 9 { 39 } else { 0 }
 }
 
 /// Spells bytes, two digits for each.
