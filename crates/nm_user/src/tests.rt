@@ -101,20 +101,20 @@ fn check_all(rt: &impl Abort, hold: &Hold, ring: &mut SlotRing, marks: &mut [boo
 
 /// The buffers stay in the hold: the test ends by the panic that it expects.
 #[test]
-#[should_panic(expected = "the buffers stay")]
+#[should_panic(expected = "the buffers stay in the hold")]
 fn pushes_are_checked(rt: HostRuntime) {
     let Ok((_region, mut all)) = Region::new(rt.alloc(), 4) else {
-        panic!(rt; "the buffers stay out: out of memory");
+        panic!(rt; "out of memory");
     };
     let Ok(mut hold) = Hold::new(rt.alloc(), 64) else {
-        panic!(rt; "the buffers stay out: out of memory");
+        panic!(rt; "out of memory");
     };
     let (Ok(mut ring), Ok(mut marks), Ok(())) = (
         SlotRing::tx(rt.alloc(), 4),
         vec![in rt.alloc(); false; 66],
         hold.reserve(4, 4, 0),
     ) else {
-        panic!(rt; "the buffers stay out: out of memory");
+        panic!(rt; "out of memory");
     };
     hold.set_port(PORT, 4, 4, 0);
     for at in 0..4 {
