@@ -1,3 +1,4 @@
+pub mod Merging
 pub mod Places
 pub mod Teaching
 pub mod WantLemmas

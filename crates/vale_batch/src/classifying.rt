@@ -2,10 +2,11 @@ ghost use Rattle.std.specs.Prelude.{◌≡◌, ◌<◌, ◌≤◌, ◌^◌, All,
 ghost use Rattle.std.specs.List.{list_any};
 ghost use Rattle.vale_batch.specs.Addresses.{is_short};
 ghost use Rattle.vale_batch.specs.Looking.{IsFrame, looked_up_batch, learned_of_batch};
-ghost use Rattle.vale_batch.specs.Wants.{wanted, wants_of, is_other, is_lone, is_short_destination, is_lone_if, port_number, IsRising};
+ghost use Rattle.vale_batch.specs.Wants.{wants_of, is_other, is_lone, is_short_destination, is_lone_if, port_number, IsRising};
 
+use crate::alone::{flooded_of, owns_of};
+use crate::lists::{Lists, keep_wanting};
 use crate::looking::{Destination, Looked, forget_taught, look_up};
-use crate::want::{Lists, wants_of};
 use nm_types::{Batch, NoMemory, PortId};
 use std::alloc::{AllocError, Global};
 use vale_learn::Table;
@@ -58,22 +59,27 @@ fn lists_of(
     ensures short { IfOk result (λ lists. lists.short ≡ count_by is_short_destination all.now) }
     ensures lone { IfOk result (λ lists.
         lists.lone ≡ count_by (is_lone from ports.now) all.now) }
-    ensures to { IfOk result (λ lists.
-        map wanted lists.to.items ≡ wants_of from all.now ports.now) }
+    ensures wants { IfOk result (λ lists.
+        lists.wants ≡ wants_of from all.now ports.now) }
 {
-    let to = wants_of(alloc, from, ports, all)?;
+    let flooded = flooded_of(alloc, all)?;
+    let mut owns = owns_of(alloc, ports, all)?;
+    keep_wanting(from, &flooded, &mut owns);
     Ok(Lists {
         short: short_count(all) as u32,
         lone: lone_count(all, has_others(ports, from)) as u32,
-        to,
+        from,
+        flooded,
+        owns,
     })
 }
 
 /// Learns the sources of a batch that port `from` sends, frame by frame, and finds out which of the
 /// switch's open ports each frame goes to. `ports` rise. `NoMemory` leaves the table as it was.
 ///
-/// A frame to one port costs a binary search among the ports, a frame to all one step for each port
-/// that it goes to, and ports that want nothing cost nothing more.
+/// A frame to one port costs a binary search among the ports, a frame to all other ports one step,
+/// however many they are, and each port one step beside that. What a port wants of the flooded
+/// frames costs nothing before `Lists::want` makes it.
 #[tactic(auto, using(crate::proofs::WantLemmas::classes))]
 pub fn classify(
     alloc: Global,
@@ -90,7 +96,7 @@ pub fn classify(
     ensures short { IfOk result (λ lists. lists.short ≡ count_by is_short batch.now) }
     ensures lone { IfOk result (λ lists. lists.lone
         ≡ count_by (is_lone from ports.now) (looked_up_batch from table.old batch.now)) }
-    ensures to { IfOk result (λ lists. map wanted lists.to.items
+    ensures wants { IfOk result (λ lists. lists.wants
         ≡ wants_of from (looked_up_batch from table.old batch.now) ports.now) }
 {
     let mut taughts = Vec::with_capacity(alloc, batch.len())?;

@@ -3,12 +3,13 @@
 #![tactic(auto)]
 
 mod addresses;
+mod alone;
 mod classifying;
+mod lists;
 mod looking;
 #[cfg(test)]
 mod tests;
-mod want;
 
 pub use classifying::classify;
+pub use lists::{Dest, Lists, Want};
 pub use looking::{Destination, Looked};
-pub use want::{Lists, Want};

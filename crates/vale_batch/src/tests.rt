@@ -1,7 +1,7 @@
 ghost use Rattle.std.specs.Prelude.{◌≡◌, ◌≤◌, All, length};
 ghost use Rattle.vale_batch.specs.Looking.{IsFrame};
 
-use crate::{Lists, Want, classify};
+use crate::{Lists, classify};
 use nm_types::{Batch, PortId};
 use std::alloc::Global;
 use std::process::Abort;
@@ -54,8 +54,34 @@ fn send(
     }
 }
 
-fn is_want(want: &Want, to: u32, places: &[u32], sizes: &[u32]) -> bool {
-    want.to == PortId(to) && want.places.as_slice() == places && want.sizes.as_slice() == sizes
+/// Whether the i-th port that wants some is `to`, and wants these frames.
+fn wants(
+    rt: &impl Abort,
+    alloc: Global,
+    lists: &Lists,
+    i: usize,
+    to: u32,
+    places: &[u32],
+    sizes: &[u32],
+) -> bool {
+    assert!(rt; i < lists.len());
+    let Ok(want) = lists.want(alloc, i) else {
+        panic!(rt; "no memory");
+    };
+    let to = PortId(to);
+    let dest = lists.dest(i);
+    dest.to == to
+        && dest.count as usize == places.len()
+        && want.to == to
+        && want.places.as_slice() == places
+        && want.sizes.as_slice() == sizes
+}
+
+/// Asserts how many ports want some, and how many frames are short and lone.
+fn assert_counts(rt: &impl Abort, lists: &Lists, ports: usize, short: u32, lone: u32) {
+    assert!(rt; lists.len() == ports);
+    assert!(rt; lists.short() == short);
+    assert!(rt; lists.lone() == lone);
 }
 
 #[test]
@@ -64,9 +90,10 @@ fn learned_before_looked_up(rt: HostRuntime) {
         panic!(rt; "no memory");
     };
     let all = send(&rt, rt.alloc(), &mut table, 4, &[(TO_ALL, true)]);
-    assert!(rt; all.to.len() == 2 && all.short == 0 && all.lone == 0);
+    assert_counts(&rt, &all, 2, 0, 0);
     let unlearned = send(&rt, rt.alloc(), &mut table, 5, &[(TO_A, false)]);
-    assert!(rt; unlearned.to.len() == 2 && is_want(&unlearned.to[1], 6, &[0], &[1]));
+    assert_counts(&rt, &unlearned, 2, 0, 0);
+    assert!(rt; wants(&rt, rt.alloc(), &unlearned, 1, 6, &[0], &[1]));
     let own = send(
         &rt,
         rt.alloc(),
@@ -74,7 +101,7 @@ fn learned_before_looked_up(rt: HostRuntime) {
         4,
         &[(TO_SELF, false), (&TO_ALL[..13], false)],
     );
-    assert!(rt; own.to.is_empty() && own.lone == 1 && own.short == 1);
+    assert_counts(&rt, &own, 0, 1, 1);
     let frames = [
         (TO_A, false),
         (LONG, false),
@@ -82,7 +109,7 @@ fn learned_before_looked_up(rt: HostRuntime) {
         (TO_A, false),
     ];
     let mixed = send(&rt, rt.alloc(), &mut table, 5, &frames);
-    assert!(rt; mixed.to.len() == 2 && mixed.short == 1 && mixed.lone == 0);
-    assert!(rt; is_want(&mixed.to[0], 4, &[0, 1, 3], &[1, 3, 1]));
-    assert!(rt; is_want(&mixed.to[1], 6, &[1], &[3]));
+    assert_counts(&rt, &mixed, 2, 1, 0);
+    assert!(rt; wants(&rt, rt.alloc(), &mixed, 0, 4, &[0, 1, 3], &[1, 3, 1]));
+    assert!(rt; wants(&rt, rt.alloc(), &mixed, 1, 6, &[1], &[3]));
 }
