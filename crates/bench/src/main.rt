@@ -1,8 +1,10 @@
-//! Measures parts of vale: `bench capture`, `bench pool`, `bench turn`. Without a word each part runs
-//! small and prints counts alone.
+//! Measures parts of vale: `bench capture`, `bench pool`, `bench turn`, `bench line`, `bench batch`.
+//! Without a word each part runs small and prints counts alone.
 #![tactic(auto)]
 
+mod batch;
 mod capture;
+mod line;
 mod look;
 mod pool;
 mod turn;
@@ -18,6 +20,8 @@ fn main(rt: HostRuntime) -> Result<()> {
             "capture" => capture::run(&rt, rt.alloc(), true)?,
             "pool" => pool::run(&rt, rt.alloc(), true)?,
             "turn" => turn::run(&rt, rt.alloc(), true)?,
+            "line" => line::run(&rt, rt.alloc(), true)?,
+            "batch" => batch::run(&rt, rt.alloc(), true)?,
             other => println!(&rt; "{other}: no such measurement")?,
         }
     }
@@ -25,6 +29,8 @@ fn main(rt: HostRuntime) -> Result<()> {
         capture::run(&rt, rt.alloc(), false)?;
         pool::run(&rt, rt.alloc(), false)?;
         turn::run(&rt, rt.alloc(), false)?;
+        line::run(&rt, rt.alloc(), false)?;
+        batch::run(&rt, rt.alloc(), false)?;
     }
     Ok(())
 }
