@@ -95,7 +95,7 @@ fn classify_often(
     let mut short = 0;
     for _ in 0..times {
         let lists = classify(alloc, table, ports, PortId(0), batch)?;
-        short = lists.short;
+        short = lists.short();
     }
     Ok(short)
 }
