@@ -5,4 +5,8 @@ pub mod Changes
 pub mod OneAsker
 pub mod OwnSteps
 pub mod OwnKept
+pub mod Finds
+pub mod Again
+pub mod Asking
+pub mod Askers
 pub mod OwnLaws

@@ -1,5 +1,5 @@
 -- Whose an ask is.
-use Rattle.std.specs.Prelude.{ℕ, Option, Some, None, option_map}
+use Rattle.std.specs.Prelude.{ℕ, Bool, true, false, Option, Some, None, option_map}
 use Rattle.vale_entry.specs.declared.entry.Ask.{Ask}
 use Rattle.vale_entry.specs.declared.entry.Ask.TheVariants.{Enter, Open, Send, Grant, Done, Sync, Reset, Shut, Finish, Leave, Put, PutKept, Get, Watch, Stat}
 use Rattle.vale_entry.specs.World.{Port, Lot, Offer, open_port}
@@ -35,3 +35,7 @@ asker_of s (PutKept port offered) = option_map owner_of_port (open_port s.world.
 asker_of s (Get port back) = option_map owner_of_port (open_port s.world.ports port.0)
 asker_of s (Watch monitor target sides) = option_map owner_of_port (open_port s.world.ports monitor.0)
 asker_of s (Stat port) = option_map owner_of_port (open_port s.world.ports port.0)
+
+abbrev pub is_enter : Ask → Bool
+is_enter (Enter user) = true
+is_enter _ = false

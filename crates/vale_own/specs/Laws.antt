@@ -1,12 +1,12 @@
 -- Laws of what is a session's own, as statements.
-use Rattle.std.specs.Prelude.{ℕ, ◌≡◌, ◌≢◌, List, ◌++◌, Some}
+use Rattle.std.specs.Prelude.{ℕ, ◌≡◌, ◌≢◌, List, ◌++◌, Some, false}
 use Rattle.std.specs.List.{AllByRecursion}
 use Rattle.vale_entry.specs.declared.entry.Ask.{Ask}
 use Rattle.vale_entry.specs.declared.entry.Entry.{Entry}
 use Rattle.vale_entry.specs.World.{Offer}
-use Rattle.vale_entry.specs.Legal.{Standing, standing_of, world_of, IsLegal, IsEnabled}
+use Rattle.vale_entry.specs.Legal.{Standing, Outcome, standing_of, world_of, step, IsLegal, IsEnabled, Follows}
 use Rattle.vale_own.specs.Own.{own_of}
-use Rattle.vale_own.specs.Asker.{asker_of}
+use Rattle.vale_own.specs.Asker.{asker_of, is_enter}
 
 abbrev pub IsOfOther : ℕ → Entry → Type 0
 IsOfOther session entry = entry.session.0 ≢ session
@@ -24,10 +24,19 @@ abbrev pub EntriesHaveOneAsker : Type 0
 EntriesHaveOneAsker = (pool : ℕ) (history : List Entry) → OffersAreOfOneSession (world_of pool history).offers
 
 -- the ask is enabled, a Finish also where it waits, and is this session's
-abbrev pub Asks : Standing → ℕ → Ask → Type 0
-Asks s session ask = IsEnabled s ask × (asker_of s ask ≡ Some session)
+pub record Asks (s : Standing) (session : ℕ) (ask : Ask) : Type 0 where
+  pub enabled : IsEnabled s ask
+  pub asker : asker_of s ask ≡ Some session
 
 -- entries of others leave each ask of a session enabled, and that session's
 abbrev pub AsksStay : Type 0
 AsksStay = (pool : ℕ) (past more : List Entry) (session : ℕ) (ask : Ask) → IsLegal pool (past ++ more) → AllByRecursion (IsOfOther session) more
     → Asks (standing_of pool past) session ask → Asks (standing_of pool (past ++ more)) session ask
+
+-- what an ask makes is of its asker
+abbrev pub AskersMakeSteps : Type 0
+AskersMakeSteps = (s : Standing) (ask : Ask) (made : Outcome) → is_enter ask ≡ false → step s ask ≡ Some made → asker_of s ask ≡ Some made.session
+
+-- and so is an entry
+abbrev pub EntriesAreOfAskers : Type 0
+EntriesAreOfAskers = (s : Standing) (entry : Entry) → is_enter entry.ask ≡ false → Follows s entry → asker_of s entry.ask ≡ Some entry.session.0
