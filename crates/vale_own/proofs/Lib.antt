@@ -2,6 +2,7 @@ pub mod Lists
 pub mod Single
 pub mod Sides
 pub mod Changes
+pub mod Leases
 pub mod OneAsker
 pub mod OwnSteps
 pub mod OwnKept
@@ -9,4 +10,9 @@ pub mod Finds
 pub mod Again
 pub mod Asking
 pub mod Askers
+pub mod Newcomers
+pub mod Mine
+pub mod Ahead
+pub mod OwnGrants
+pub mod OwnEntry
 pub mod OwnLaws

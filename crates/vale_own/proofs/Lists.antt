@@ -1,11 +1,14 @@
 -- Lists of which some elements are another session's: what a filter, a search or a join of lists reads.
-use Rattle.std.proofs.Common.{ℕ, ◌≡◌, ◌≢◌, Bool, true, false, cond, not, ◌==◌, List, [], ◌∷◌, ◌++◌, map, filter, flat_map, find, Some, refl}
+use Rattle.std.proofs.Common.{ℕ, ◌≡◌, ◌≢◌, Bool, true, false, cond, not, ◌==◌, List, [], ◌∷◌, ◌++◌, map, filter, flat_map, append-nil, find, Some, refl, ◌∙◌}
 use Rattle.std.specs.List.{AllByRecursion as Each, list_any}
 use Rattle.std.proofs.lemmas.Bool.{eqb-true, ne_eqb}
-use Rattle.vale_entry.specs.World.{Offer}
-use Rattle.vale_entry.specs.Offers.{is_offer_of}
+use Rattle.std.proofs.lemmas.List.Elements.{filter-append}
+use Rattle.nm_types.specs.Frames.{Frame}
+use Rattle.vale_entry.specs.World.{Port, Offer}
+use Rattle.vale_entry.specs.Offers.{is_offer_of, offers_of}
 use Rattle.vale_entry.specs.Grant.{without_first}
 use Rattle.vale_entry.specs.Holdings.{SessionBuffers, buffers_of_session}
+use Rattle.vale_entry.proofs.Each.{each-offers_of}
 use Rattle.vale_own.specs.Own.{is_offer_by}
 
 pub filter-filtered : {X : Type 0} (p q : X → Bool) (xs : List X) → Each (λ x. p x ≡ true → q x ≡ true) xs → filter p (filter q xs) ≡ filter p xs
@@ -92,3 +95,10 @@ offers-other session origin (o ∷ os) offer e other = by (is_offer_of origin o)
     by false t rest =
         let found : find (is_offer_of origin) os ≡ Some offer = let f : cond (is_offer_of origin o) (Some o) (find (is_offer_of origin) os) ≡ Some offer = e in rw t at f in
         rw (t, rest found) refl
+
+pub more-offers : (session by n : ℕ) (wanted : Port → List Frame) (ports : List Port) (offers : List Offer) → by ≢ session
+    → filter (is_offer_by session) (offers ++ offers_of n by wanted ports) ≡ filter (is_offer_by session) offers
+more-offers session by n wanted ports offers other =
+    let none = filter-none (is_offer_by session) (offers_of n by wanted ports)
+    (each-offers_of (λ (o : Offer). is_offer_by session o ≡ false) n by wanted (λ at frames. ne_eqb by session other) ports) in
+    filter-append (is_offer_by session) offers (offers_of n by wanted ports) ∙ rw (none, append-nil) refl

@@ -10,7 +10,7 @@ use Rattle.vale_entry.proofs.ListLaws.{sum-flat_map}
 use Rattle.vale_entry.proofs.Each.{each-weaker, each-find}
 
 -- the ids rise, so the port found is the only one of its id
-above : (low : ℕ) (ports : List Port) (high : ℕ) → Rise low (map id_of_port ports) high → Each (λ (p : Port). low < p.id) ports
+pub above : (low : ℕ) (ports : List Port) (high : ℕ) → Rise low (map id_of_port ports) high → Each (λ (p : Port). low < p.id) ports
 above low [] high r = tt
 above low (p ∷ ps) high r = let here = r.0 in (here, each-weaker (λ (q : Port). p.id < q.id) (λ (q : Port). low < q.id) (λ q more. omega arith) ps (above p.id ps high r.1))
 

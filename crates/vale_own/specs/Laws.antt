@@ -1,5 +1,5 @@
 -- Laws of what is a session's own, as statements.
-use Rattle.std.specs.Prelude.{ℕ, ◌≡◌, ◌≢◌, List, ◌++◌, Some, false}
+use Rattle.std.specs.Prelude.{ℕ, ◌≡◌, ◌≢◌, List, [], ◌∷◌, ◌++◌, Some, false}
 use Rattle.std.specs.List.{AllByRecursion}
 use Rattle.vale_entry.specs.declared.entry.Ask.{Ask}
 use Rattle.vale_entry.specs.declared.entry.Entry.{Entry}
@@ -7,6 +7,7 @@ use Rattle.vale_entry.specs.World.{Offer}
 use Rattle.vale_entry.specs.Legal.{Standing, Outcome, standing_of, world_of, step, IsLegal, IsEnabled, Follows}
 use Rattle.vale_own.specs.Own.{own_of}
 use Rattle.vale_own.specs.Asker.{asker_of, is_enter}
+use Rattle.vale_own.specs.OwnEntries.{own_after_entry}
 
 abbrev pub IsOfOther : ℕ → Entry → Type 0
 IsOfOther session entry = entry.session.0 ≢ session
@@ -15,6 +16,12 @@ IsOfOther session entry = entry.session.0 ≢ session
 abbrev pub OwnIsKept : Type 0
 OwnIsKept = (pool : ℕ) (past more : List Entry) (session : ℕ) → IsLegal pool (past ++ more) → AllByRecursion (IsOfOther session) more
     → own_of session (standing_of pool (past ++ more)) ≡ own_of session (standing_of pool past)
+
+-- an entry of a session makes of what is its own what is defined
+abbrev pub OwnEntriesChangeOwn : Type 0
+OwnEntriesChangeOwn = (pool : ℕ) (past : List Entry) (entry : Entry) → IsLegal pool past → Follows (standing_of pool past) entry
+    → own_of entry.session.0 (standing_of pool (past ++ entry ∷ []))
+    ≡ own_after_entry (standing_of pool past) entry.ask entry.reply (own_of entry.session.0 (standing_of pool past))
 
 -- all offers of one entry are of one session
 abbrev pub OffersAreOfOneSession : List Offer → Type 0
