@@ -2,3 +2,4 @@ pub mod Own
 pub mod Asker
 pub mod OwnEntries
 pub mod Laws
+pub mod Rows

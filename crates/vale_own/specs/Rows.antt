@@ -1,0 +1,190 @@
+-- Worked examples of what is a session's own, as theorems about the definitions: a pool of 64 buffers, and
+-- two sessions with a port of 4 and 4 slots each.
+use Rattle.std.specs.Prelude.{ℕ, ◌≡◌, true, false, List, [], ◌∷◌, ◌++◌, take, codes, Option, Some, None, refl}
+use Rattle.nm_types.specs.Frames.{Frame}
+use Rattle.nm_types.specs.Names.{is_name, is_switch_port_name, is_pipe_name, is_monitor_name, switch_of, peer_name}
+use Rattle.nm_types.specs.declared.id.PortId.{PortId}
+use Rattle.nm_types.specs.declared.id.Chain.{Chain}
+use Rattle.vale_entry.specs.declared.entry.Ask.{Ask}
+use Rattle.vale_entry.specs.declared.entry.Ask.TheVariants.{Enter, Open, Send, Grant, Done, Sync, Shut, Finish, PutKept}
+use Rattle.vale_entry.specs.declared.entry.Entry.{Entry}
+use Rattle.vale_entry.specs.declared.entry.Item.{Item}
+use Rattle.vale_entry.specs.declared.entry.Reply.{Reply}
+use Rattle.vale_entry.specs.declared.entry.Reply.TheVariants.{Made, Opened, Offered, Shared, Gave, Took, LeasesOut}
+use Rattle.vale_entry.specs.World.{Port, Lot}
+use Rattle.vale_entry.specs.Legal.{Standing, IsLegal, standing_of, is_enabled, reply_to, session_of}
+use Rattle.vale_own.specs.Own.{Own, HeldLot, own_of}
+use Rattle.vale_own.specs.Asker.{asker_of}
+
+abbrev frame_f : Frame
+frame_f = record { bytes = 255 ∷ 255 ∷ 255 ∷ 255 ∷ 255 ∷ 255 ∷ 2 ∷ 0 ∷ 0 ∷ 0 ∷ 0 ∷ 10 ∷ 136 ∷ 181 ∷ []; no_learn = false }
+
+abbrev port : ℕ → PortId
+port id = record { 0 = id }
+
+abbrev by_session : ℕ → Ask → Reply → Entry
+by_session session ask reply = record { session = record { 0 = session }; ask = ask; reply = reply }
+
+abbrev opening : ℕ → List ℕ → Entry
+opening session name = by_session session (Open (record { 0 = session }) name 4 4 0) Opened
+
+-- a port as its session sees it
+abbrev port_seen : ℕ → ℕ → List ℕ → ℕ → Port
+port_seen id session name out = record { id = id; session = session; name = name; tx = 4; rx = 4; extra = 0; shutting = false; out = out; line = [] }
+
+-- The first session sends a frame that the second one's port wants, grants it and fills it; the second one
+-- shuts its port before that, or reads it after.
+abbrev start : List Entry
+start =
+    by_session 1 (Enter 1) Made
+    ∷ by_session 2 (Enter 2) Made
+    ∷ opening 1 (codes "vale0:a")
+    ∷ opening 2 (codes "vale0:b")
+    ∷ by_session 1 (Send (port 3) (frame_f ∷ [])) (Offered 0 0 (record { to = port 4; count = 1 } ∷ []))
+    ∷ by_session 1 (Grant 5 (port 4)) (Shared 1 0 0)
+    ∷ []
+
+abbrev run : List Entry
+run =
+    start
+    ++ by_session 1 (Done (record { 0 = 6 })) Made
+    ∷ by_session 2 (Sync (port 4) []) (Gave 1 [])
+    ∷ by_session 2 (Sync (port 4) (14 ∷ [])) (Gave 0 [])
+    ∷ []
+
+run-legal : IsLegal 64 run
+unfolding is_name is_switch_port_name is_pipe_name is_monitor_name switch_of peer_name
+run-legal = (refl, (refl, (refl, (refl, (refl, (refl, (refl, (refl, (refl, tt)))))))))
+
+abbrev own_at : ℕ → ℕ → Own
+own_at session count = own_of session (standing_of 64 (take count run))
+
+abbrev first_own : Own
+first_own = record { there = true; ports = port_seen 3 1 (codes "vale0:a") 0 ∷ []; offers = []; leases = []; buffers = 2 ∷ 3 ∷ 4 ∷ 5 ∷ [] }
+
+abbrev second_own : Own
+second_own = record { there = true; ports = port_seen 4 2 (codes "vale0:b") 0 ∷ []; offers = []; leases = []; buffers = 10 ∷ 11 ∷ 12 ∷ 13 ∷ [] }
+
+-- a session that has not come has nothing, one that came is there
+not_come : own_at 2 1 ≡ record { there = false; ports = []; offers = []; leases = []; buffers = [] }
+not_come = refl
+
+came : own_at 2 2 ≡ record { there = true; ports = []; offers = []; leases = []; buffers = [] }
+came = refl
+
+-- each has its port and the buffers of its transmit slots
+first_opened : own_at 1 4 ≡ first_own
+unfolding is_name is_switch_port_name is_pipe_name is_monitor_name switch_of peer_name
+first_opened = refl
+
+second_opened : own_at 2 4 ≡ second_own
+unfolding is_name is_switch_port_name is_pipe_name is_monitor_name switch_of peer_name
+second_opened = refl
+
+-- an offer is the sender's
+offered : own_at 1 5 ≡ record first_own { offers = record { origin = 5; session = 1; to = 4; frames = frame_f ∷ [] } ∷ [] }
+unfolding is_name is_switch_port_name is_pipe_name is_monitor_name switch_of peer_name
+offered = refl
+
+not_offered : own_at 2 5 ≡ second_own
+unfolding is_name is_switch_port_name is_pipe_name is_monitor_name switch_of peer_name
+not_offered = refl
+
+-- a lease is the sender's, with the first idle buffer of the other's port, at which it is queued
+abbrev lease_6 : HeldLot
+lease_6 = (record { number = 6; session = 1; frames = frame_f ∷ []; is_done = false }, 14 ∷ [])
+
+leased : own_at 1 6 ≡ record first_own { leases = lease_6 ∷ [] }
+unfolding is_name is_switch_port_name is_pipe_name is_monitor_name switch_of peer_name
+leased = refl
+
+queued_by_other : own_at 2 6 ≡ second_own
+unfolding is_name is_switch_port_name is_pipe_name is_monitor_name switch_of peer_name
+queued_by_other = refl
+
+-- once it is done nobody has it
+done : own_at 1 7 ≡ first_own
+unfolding is_name is_switch_port_name is_pipe_name is_monitor_name switch_of peer_name
+done = refl
+
+done_by_other : own_at 2 7 ≡ second_own
+unfolding is_name is_switch_port_name is_pipe_name is_monitor_name switch_of peer_name
+done_by_other = refl
+
+-- what is read is out, and its buffer is the reader's
+read : own_at 2 8 ≡ record second_own { ports = port_seen 4 2 (codes "vale0:b") 1 ∷ []; buffers = 10 ∷ 11 ∷ 12 ∷ 13 ∷ 14 ∷ [] }
+unfolding is_name is_switch_port_name is_pipe_name is_monitor_name switch_of peer_name
+read = refl
+
+read_by_other : own_at 1 8 ≡ first_own
+unfolding is_name is_switch_port_name is_pipe_name is_monitor_name switch_of peer_name
+read_by_other = refl
+
+brought_back : own_at 2 9 ≡ second_own
+unfolding is_name is_switch_port_name is_pipe_name is_monitor_name switch_of peer_name
+brought_back = refl
+
+-- A Finish that waits for a lease is its session's still, though it makes no entry.
+abbrev waiting : Standing
+waiting = standing_of 64 (start ++ by_session 2 (Shut (port 4)) Made ∷ [])
+
+abbrev finish_4 : Ask
+finish_4 = Finish (port 4) (10 ∷ 11 ∷ 12 ∷ 13 ∷ []) (record { found = 0; astray = 0 })
+
+waits : reply_to waiting finish_4 ≡ Some (LeasesOut 1)
+unfolding is_name is_switch_port_name is_pipe_name is_monitor_name switch_of peer_name
+waits = refl
+
+waits_enabled : is_enabled waiting finish_4 ≡ true
+unfolding is_name is_switch_port_name is_pipe_name is_monitor_name switch_of peer_name
+waits_enabled = refl
+
+waits_of_second : asker_of waiting finish_4 ≡ Some 2
+unfolding is_name is_switch_port_name is_pipe_name is_monitor_name switch_of peer_name
+waits_of_second = refl
+
+waits_without_entry : session_of waiting finish_4 ≡ None
+unfolding is_name is_switch_port_name is_pipe_name is_monitor_name switch_of peer_name
+waits_without_entry = refl
+
+-- an offer, a lease and a port tell whose an ask is; an Enter is nobody's
+grant_of_first : asker_of (standing_of 64 (take 5 run)) (Grant 5 (port 4)) ≡ Some 1
+unfolding is_name is_switch_port_name is_pipe_name is_monitor_name switch_of peer_name
+grant_of_first = refl
+
+done_of_first : asker_of (standing_of 64 (take 6 run)) (Done (record { 0 = 6 })) ≡ Some 1
+unfolding is_name is_switch_port_name is_pipe_name is_monitor_name switch_of peer_name
+done_of_first = refl
+
+sync_of_second : asker_of (standing_of 64 (take 6 run)) (Sync (port 4) []) ≡ Some 2
+unfolding is_name is_switch_port_name is_pipe_name is_monitor_name switch_of peer_name
+sync_of_second = refl
+
+enter_of_nobody : asker_of (standing_of 64 (take 6 run)) (Enter 3) ≡ None
+enter_of_nobody = refl
+
+-- A Put swaps buffers: the one with the frame goes to the other end, an idle one of that comes; nothing
+-- of the other's own changes until it reads.
+abbrev item : ℕ → Item
+item index = record { index = index; bytes = frame_f }
+
+abbrev pipe_run : List Entry
+pipe_run =
+    by_session 1 (Enter 1) Made
+    ∷ by_session 2 (Enter 2) Made
+    ∷ opening 1 (codes "pipe0{")
+    ∷ opening 2 (codes "pipe0}")
+    ∷ by_session 1 (PutKept (port 3) 1) (Took (item 2 ∷ []) [])
+    ∷ []
+
+pipe_run-legal : IsLegal 64 pipe_run
+unfolding is_name is_switch_port_name is_pipe_name is_monitor_name switch_of peer_name
+pipe_run-legal = (refl, (refl, (refl, (refl, (refl, tt)))))
+
+put : own_of 1 (standing_of 64 pipe_run) ≡ record { there = true; ports = port_seen 3 1 (codes "pipe0{") 0 ∷ []; offers = []; leases = []; buffers = 3 ∷ 4 ∷ 5 ∷ 14 ∷ [] }
+unfolding is_name is_switch_port_name is_pipe_name is_monitor_name switch_of peer_name
+put = refl
+
+put_by_other : own_of 2 (standing_of 64 pipe_run) ≡ record second_own { ports = port_seen 4 2 (codes "pipe0}") 0 ∷ [] }
+unfolding is_name is_switch_port_name is_pipe_name is_monitor_name switch_of peer_name
+put_by_other = refl
