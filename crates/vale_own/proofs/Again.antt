@@ -22,7 +22,7 @@ use Rattle.vale_entry.proofs.Each.{each-find, each-weaker, each-map}
 use Rattle.vale_entry.proofs.Removals.{each-filter}
 use Rattle.vale_entry.proofs.ListLaws.{place-of}
 use Rattle.vale_entry.proofs.PortAt.{find-map}
-use Rattle.vale_own.specs.Own.{Own, HeldLot, own_of, port_alone, is_offer_by, leases_at, is_lease_of}
+use Rattle.vale_own.specs.Own.{Own, own_of, port_alone, is_offer_by, leases_at, is_lease_of, lot_of_lease}
 use Rattle.vale_own.specs.Asker.{owner_of_port}
 use Rattle.vale_own.proofs.OneAsker.{OneAsker, entries-have-one-asker}
 use Rattle.vale_own.proofs.Single.{only-found, only-lots}
@@ -42,26 +42,23 @@ sound-of pool h legal =
     record { numbered = k.numbered; held = k.held; single = k.single; asker = entries-have-one-asker pool h }
 
 -- the lots of a session's leases
-abbrev pub lot_of : HeldLot → Lot
-lot_of lease = lease.0
-
-lots-of_line : (session : ℕ) (line : List Lot) (lots : List (List ℕ)) → length line ≡ length lots → map lot_of (filter (is_lease_of session) (zip line lots)) ≡ filter (is_owed_by session) line
+lots-of_line : (session : ℕ) (line : List Lot) (lots : List (List ℕ)) → length line ≡ length lots → map lot_of_lease (filter (is_lease_of session) (zip line lots)) ≡ filter (is_owed_by session) line
 lots-of_line session [] [] same = refl
 lots-of_line session [] (buffers ∷ lots) same = absurd cc
 lots-of_line session (lot ∷ line) [] same = absurd cc
 lots-of_line session (lot ∷ line) (buffers ∷ lots) same = by (is_owed_by session lot) refl (lots-of_line session line lots cc)
   where
-    by : (b : Bool) → is_owed_by session lot ≡ b → map lot_of (filter (is_lease_of session) (zip line lots)) ≡ filter (is_owed_by session) line
-        → map lot_of (filter (is_lease_of session) (zip (lot ∷ line) (buffers ∷ lots))) ≡ filter (is_owed_by session) (lot ∷ line)
+    by : (b : Bool) → is_owed_by session lot ≡ b → map lot_of_lease (filter (is_lease_of session) (zip line lots)) ≡ filter (is_owed_by session) line
+        → map lot_of_lease (filter (is_lease_of session) (zip (lot ∷ line) (buffers ∷ lots))) ≡ filter (is_owed_by session) (lot ∷ line)
     by true t rest = rw t (ap (λ (ls : List Lot). lot ∷ ls) rest)
     by false t rest = rw t rest
 
 pub lots-of_leases : (session : ℕ) (ports : List Port) (helds : List PortBuffers) → PortsAgree ports helds
-    → map lot_of (flat_map (leases_at session) (zip ports helds)) ≡ filter (is_owed_by session) (flat_map line_of ports)
+    → map lot_of_lease (flat_map (leases_at session) (zip ports helds)) ≡ filter (is_owed_by session) (flat_map line_of ports)
 lots-of_leases session [] helds a = refl
 lots-of_leases session (p ∷ ps) [] a = absurd a
 lots-of_leases session (p ∷ ps) (h ∷ hs) a =
-    map-append lot_of (leases_at session (p, h)) (flat_map (leases_at session) (zip ps hs))
+    map-append lot_of_lease (leases_at session (p, h)) (flat_map (leases_at session) (zip ps hs))
     ∙ (ap₂ (λ (xs ys : List Lot). xs ++ ys) (lots-of_line session p.line h.lots (agreed-lots p h a.0)) (lots-of_leases session ps hs a.1)
     ∙ sym (filter-append (is_owed_by session) p.line (flat_map line_of ps)))
 
@@ -70,7 +67,7 @@ pub same-owed : (session : ℕ) (s t : Standing) → own_of session s ≡ own_of
     → filter (is_owed_by session) (flat_map line_of s.world.ports) ≡ filter (is_owed_by session) (flat_map line_of t.world.ports)
 same-owed session s t own j k =
     sym (lots-of_leases session s.world.ports s.holdings.ports j.held.ports_agree)
-    ∙ (ap (λ (o : Own). map lot_of o.leases) own ∙ lots-of_leases session t.world.ports t.holdings.ports k.held.ports_agree)
+    ∙ (ap (λ (o : Own). map lot_of_lease o.leases) own ∙ lots-of_leases session t.world.ports t.holdings.ports k.held.ports_agree)
 
 -- Done
 pub again-done : (s t : Standing) (number : ℕ) (lot : Lot) → lease_at s.world.ports number ≡ Some lot → own_of lot.session s ≡ own_of lot.session t → Sound s → Sound t
@@ -156,7 +153,7 @@ again-shutting s t id session old new alone keeps own k f =
     again-at (is_shutting_at id) id (λ p. refl) (λ p is. eqb-true p.id id (and_parts (p.id == id) p.shutting is).0) s t session old new alone keeps own k.numbered f
 
 -- settled
-any-owed : (session : ℕ) (ports : List Port) → list_any (has_lot_owed_by session) ports ≡ is_filled (filter (is_owed_by session) (flat_map line_of ports))
+pub any-owed : (session : ℕ) (ports : List Port) → list_any (has_lot_owed_by session) ports ≡ is_filled (filter (is_owed_by session) (flat_map line_of ports))
 any-owed session [] = refl
 any-owed session (p ∷ ps) =
     let here : list_any (is_owed_by session) p.line ≡ is_filled (filter (is_owed_by session) p.line) = any-filled (is_owed_by session) p.line in

@@ -15,4 +15,6 @@ pub mod Mine
 pub mod Ahead
 pub mod OwnGrants
 pub mod OwnEntry
+pub mod Reading
+pub mod Coming
 pub mod OwnLaws

@@ -1,11 +1,15 @@
 -- Laws of what is a session's own, as statements.
-use Rattle.std.specs.Prelude.{ℕ, ◌≡◌, ◌≢◌, List, [], ◌∷◌, ◌++◌, Some, false}
+use Rattle.std.specs.Prelude.{ℕ, true, false, not, ◌&&◌, ◌≡◌, ◌≢◌, List, [], ◌∷◌, ◌++◌, length, find, filter, flat_map, sum_by, slice_get, Some, option_map}
 use Rattle.std.specs.List.{AllByRecursion}
 use Rattle.vale_entry.specs.declared.entry.Ask.{Ask}
 use Rattle.vale_entry.specs.declared.entry.Entry.{Entry}
-use Rattle.vale_entry.specs.World.{Offer}
+use Rattle.vale_entry.specs.World.{Offer, is_owed_by, is_settled, due_of}
+use Rattle.vale_entry.specs.Offers.{is_offer_of}
+use Rattle.vale_entry.specs.Grant.{first_offer}
+use Rattle.vale_entry.specs.Delivery.{line_of}
 use Rattle.vale_entry.specs.Legal.{Standing, Outcome, standing_of, world_of, step, IsLegal, IsEnabled, Follows}
-use Rattle.vale_own.specs.Own.{own_of}
+use Rattle.vale_own.specs.Own.{own_of, is_offer_by, lot_of_lease, is_settled_own}
+use Rattle.vale_own.specs.There.{has_come, has_left}
 use Rattle.vale_own.specs.Asker.{asker_of, is_enter}
 use Rattle.vale_own.specs.OwnEntries.{own_after_entry}
 
@@ -47,3 +51,34 @@ AskersMakeSteps = (s : Standing) (ask : Ask) (made : Outcome) → is_enter ask �
 -- and so is an entry
 abbrev pub EntriesAreOfAskers : Type 0
 EntriesAreOfAskers = (s : Standing) (entry : Entry) → is_enter entry.ask ≡ false → Follows s entry → asker_of s entry.ask ≡ Some entry.session.0
+
+-- a session is there that has come and has not left
+abbrev pub ThereIsCome : Type 0
+ThereIsCome = (pool : ℕ) (history : List Entry) (session : ℕ) → IsLegal pool history
+    → (own_of session (standing_of pool history)).there ≡ (has_come history session && not (has_left history session))
+
+-- What is read of all that stands for a session is read off what is its own.
+
+-- the session's first offer
+abbrev pub FirstOffersAreOwn : Type 0
+FirstOffersAreOwn = (s : Standing) (session : ℕ) → find (is_offer_by session) s.world.offers ≡ slice_get (own_of session s).offers 0
+
+-- its first lot that is not done
+abbrev pub FirstLeasesAreOwn : Type 0
+FirstLeasesAreOwn = (pool : ℕ) (history : List Entry) (session : ℕ) → IsLegal pool history
+    → find (is_owed_by session) (flat_map line_of (world_of pool history).ports) ≡ option_map lot_of_lease (slice_get (own_of session (standing_of pool history)).leases 0)
+
+-- the offers that are left of an entry are all of its session's
+abbrev pub OffersLeftAreOwn : Type 0
+OffersLeftAreOwn = (pool : ℕ) (history : List Entry) (origin : ℕ) (offer : Offer) → IsLegal pool history → first_offer (world_of pool history) origin ≡ Some offer
+    → filter (is_offer_of origin) (world_of pool history).offers ≡ (own_of offer.session (standing_of pool history)).offers
+
+-- a session without offers and leases is settled
+abbrev pub SettledIsOwn : Type 0
+SettledIsOwn = (pool : ℕ) (history : List Entry) (session : ℕ) → IsLegal pool history
+    → is_settled (world_of pool history) session ≡ is_settled_own (own_of session (standing_of pool history))
+
+-- a session that is there has as many buffers as its ports are due
+abbrev pub BuffersAreDue : Type 0
+BuffersAreDue = (pool : ℕ) (history : List Entry) (session : ℕ) → IsLegal pool history → (own_of session (standing_of pool history)).there ≡ true
+    → length (own_of session (standing_of pool history)).buffers ≡ sum_by due_of (own_of session (standing_of pool history)).ports

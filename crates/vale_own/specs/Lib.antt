@@ -1,5 +1,6 @@
 pub mod Own
 pub mod Asker
 pub mod OwnEntries
+pub mod There
 pub mod Laws
 pub mod Rows

@@ -1,5 +1,5 @@
 -- What of all that stands is one session's own. Its own entries change it, and those of others do not.
-use Rattle.std.specs.Prelude.{ℕ, Bool, ◌==◌, List, [], map, filter, flat_map}
+use Rattle.std.specs.Prelude.{ℕ, Bool, true, false, ◌&&◌, ◌==◌, List, [], ◌∷◌, map, filter, flat_map}
 use Rattle.std.specs.List.{zip}
 use Rattle.vale_entry.specs.World.{Port, Lot, Offer, is_session, is_owed_by}
 use Rattle.vale_entry.specs.Closing.{is_port_of}
@@ -16,6 +16,9 @@ is_offer_by session offer = offer.session == session
 -- a lot with the buffers that are held for it
 abbrev pub HeldLot : Type 0
 HeldLot = Lot × List ℕ
+
+abbrev pub lot_of_lease : HeldLot → Lot
+lot_of_lease lease = lease.0
 
 abbrev pub is_lease_of : ℕ → HeldLot → Bool
 is_lease_of session lease = is_owed_by session lease.0
@@ -41,3 +44,11 @@ own_of session s = record {
   leases = flat_map (leases_at session) (zip s.world.ports s.holdings.ports);
   buffers = buffers_of_session s.holdings.sessions session;
 }
+
+abbrev pub is_empty : {X : Type 0} → List X → Bool
+is_empty [] = true
+is_empty (x ∷ xs) = false
+
+-- it has no offer and no lease
+abbrev pub is_settled_own : Own → Bool
+is_settled_own own = is_empty own.offers && is_empty own.leases

@@ -1,17 +1,16 @@
 -- Worked examples of what is a session's own, as theorems about the definitions: a pool of 64 buffers, and
 -- two sessions with a port of 4 and 4 slots each.
-use Rattle.std.specs.Prelude.{ℕ, ◌≡◌, true, false, List, [], ◌∷◌, ◌++◌, take, codes, Option, Some, None, refl}
+use Rattle.std.specs.Prelude.{ℕ, ◌≡◌, true, false, List, [], ◌∷◌, ◌++◌, take, codes, Some, None, refl}
 use Rattle.nm_types.specs.Frames.{Frame}
 use Rattle.nm_types.specs.Names.{is_name, is_switch_port_name, is_pipe_name, is_monitor_name, switch_of, peer_name}
 use Rattle.nm_types.specs.declared.id.PortId.{PortId}
-use Rattle.nm_types.specs.declared.id.Chain.{Chain}
 use Rattle.vale_entry.specs.declared.entry.Ask.{Ask}
 use Rattle.vale_entry.specs.declared.entry.Ask.TheVariants.{Enter, Open, Send, Grant, Done, Sync, Shut, Finish, PutKept}
 use Rattle.vale_entry.specs.declared.entry.Entry.{Entry}
 use Rattle.vale_entry.specs.declared.entry.Item.{Item}
 use Rattle.vale_entry.specs.declared.entry.Reply.{Reply}
 use Rattle.vale_entry.specs.declared.entry.Reply.TheVariants.{Made, Opened, Offered, Shared, Gave, Took, LeasesOut}
-use Rattle.vale_entry.specs.World.{Port, Lot}
+use Rattle.vale_entry.specs.World.{Port}
 use Rattle.vale_entry.specs.Legal.{Standing, IsLegal, standing_of, is_enabled, reply_to, session_of}
 use Rattle.vale_own.specs.Own.{Own, HeldLot, own_of}
 use Rattle.vale_own.specs.Asker.{asker_of}

@@ -2,7 +2,7 @@
 //! definitions, which the check proves.
 #![tactic(auto, using(crate::proofs::OwnLaws::own_laws))]
 
-ghost use Rattle.vale_own.specs.Laws.{AskersMakeSteps, AsksStay, EntriesAreOfAskers, EntriesHaveOneAsker, OwnEntriesChangeOwn, OwnIsKept};
+ghost use Rattle.vale_own.specs.Laws.{AskersMakeSteps, AsksStay, BuffersAreDue, EntriesAreOfAskers, EntriesHaveOneAsker, FirstLeasesAreOwn, FirstOffersAreOwn, OffersLeftAreOwn, OwnEntriesChangeOwn, OwnIsKept, SettledIsOwn, ThereIsCome};
 
 /// Over a legal history, entries none of which is a session's leave what is its own as it was: whether
 /// it is there, its ports but for what is queued at them, its offers, its leases with their buffers, and
@@ -37,4 +37,42 @@ pub fn entries_are_of_askers()
 /// After every history the offers of one entry that are not granted are of one session.
 pub fn entries_have_one_asker()
     ensures { EntriesHaveOneAsker }
+{}
+
+/// In a legal history a session is there if the entry of its number is an Enter and no entry is its
+/// Leave, and only then.
+#[tactic(auto, using(crate::proofs::OwnLaws::reading_laws))]
+pub fn there_is_come()
+    ensures { ThereIsCome }
+{}
+
+/// The first offer that is a session's in the world is the first of its own.
+#[tactic(auto, using(crate::proofs::OwnLaws::reading_laws))]
+pub fn first_offers_are_own()
+    ensures { FirstOffersAreOwn }
+{}
+
+/// The first lot in the lines of a legal history's world that a session was granted and has not done is
+/// that of the first of its leases.
+#[tactic(auto, using(crate::proofs::OwnLaws::reading_laws))]
+pub fn first_leases_are_own()
+    ensures { FirstLeasesAreOwn }
+{}
+
+/// In a legal history the offers that are left of an entry are all offers of its session.
+#[tactic(auto, using(crate::proofs::OwnLaws::reading_laws))]
+pub fn offers_left_are_own()
+    ensures { OffersLeftAreOwn }
+{}
+
+/// In a legal history a session is settled if it has neither an offer nor a lease, and only then.
+#[tactic(auto, using(crate::proofs::OwnLaws::reading_laws))]
+pub fn settled_is_own()
+    ensures { SettledIsOwn }
+{}
+
+/// In a legal history a session that is there has as many buffers as its ports are due.
+#[tactic(auto, using(crate::proofs::OwnLaws::reading_laws))]
+pub fn buffers_are_due()
+    ensures { BuffersAreDue }
 {}
