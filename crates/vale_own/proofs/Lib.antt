@@ -7,7 +7,7 @@ pub mod OneAsker
 pub mod OwnSteps
 pub mod OwnKept
 pub mod Finds
-pub mod Again
+pub mod Sounds
 pub mod Asking
 pub mod Askers
 pub mod Newcomers

@@ -1,11 +1,12 @@
 -- The laws of what is a session's own.
 use Rattle.vale_own.proofs.Askers.{entries-are-of-askers}
+use Rattle.vale_own.proofs.Asking.{own-tells, asks-stay}
 use Rattle.vale_own.proofs.Coming.{there-come}
 use Rattle.vale_own.proofs.Reading.{first-offers, first-leases, offers-left, settled-own, buffers-due}
 use Rattle.vale_own.proofs.OneAsker.{entries-have-one-asker}
 use Rattle.vale_own.proofs.OwnEntry.{own-entries}
 use Rattle.vale_own.proofs.OwnKept.{own-kept}
 
-pub ruleset own_laws = (own-kept, own-entries, entries-have-one-asker, entries-are-of-askers)
+pub ruleset own_laws = (own-kept, own-entries, own-tells, asks-stay, entries-have-one-asker, entries-are-of-askers)
 
 pub ruleset reading_laws = (there-come, first-offers, first-leases, offers-left, settled-own, buffers-due)

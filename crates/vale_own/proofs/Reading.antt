@@ -1,9 +1,9 @@
 -- What is read of all that stands for a session is read off what is its own.
-use Rattle.std.proofs.Common.{ℕ, ◌≡◌, Bool, true, false, cond, not, ◌&&◌, ◌||◌, ◌==◌, List, [], ◌∷◌, map, filter, find, flat_map, length, sum_by, slice_get, Some, refl, sym, ◌∙◌, ap, ap₂}
+use Rattle.std.proofs.Common.{ℕ, ◌≡◌, Bool, true, false, cond, ◌||◌, ◌==◌, List, [], ◌∷◌, map, filter, find, flat_map, length, sum_by, slice_get, Some, refl, sym, ◌∙◌, ap, ap₂}
 use Rattle.std.specs.Prelude.{option_map}
 use Rattle.std.specs.List.{AllByRecursion as Each, list_any}
 use Rattle.std.proofs.lemmas.Bool.{eqb-true, eq-eqb}
-use Rattle.vale_entry.specs.World.{Port, Lot, Offer, is_owed_by, has_lot_owed_by, due_of}
+use Rattle.vale_entry.specs.World.{Port, Lot, Offer, is_owed_by, due_of}
 use Rattle.vale_entry.specs.Closing.{is_port_of}
 use Rattle.vale_entry.specs.Delivery.{line_of}
 use Rattle.vale_entry.specs.Offers.{is_offer_of}
@@ -15,11 +15,10 @@ use Rattle.vale_entry.proofs.Holding.{IsPaid}
 use Rattle.vale_entry.proofs.ListLaws.{sum-map_same, place-of}
 use Rattle.vale_entry.proofs.Removals.{map-filter}
 use Rattle.vale_entry.proofs.Each.{each-both, each-find}
-use Rattle.vale_own.specs.Own.{own_of, port_alone, is_offer_by, lot_of_lease, is_empty}
+use Rattle.vale_own.specs.Own.{own_of, port_alone, is_offer_by, lot_of_lease}
 use Rattle.vale_own.specs.Laws.{FirstOffersAreOwn, FirstLeasesAreOwn, OffersLeftAreOwn, SettledIsOwn, BuffersAreDue}
 use Rattle.vale_own.proofs.OneAsker.{entries-have-one-asker}
-use Rattle.vale_own.proofs.Again.{lots-of_leases, any-owed}
-use Rattle.vale_own.proofs.Finds.{is_filled, any-filled}
+use Rattle.vale_own.proofs.Sounds.{lots-of_leases, settled-at}
 
 -- the first that passes
 head-found : {X : Type 0} (p : X → Bool) (xs : List X) → find p xs ≡ slice_get (filter p xs) 0
@@ -72,23 +71,8 @@ offers-left pool h origin offer legal e =
     (each-both (λ (o : Offer). o.origin ≡ origin → o.session ≡ by_origin.0) (λ (o : Offer). o.session ≡ n → o.origin ≡ by_session.0) (λ (o : Offer). is_offer_of origin o ≡ is_offer_by n o)
     (λ o one two. same-test o.origin origin o.session n (λ s. one s ∙ sym asker) (λ s. two s ∙ (sym entry ∙ is))) os by_origin.1 by_session.1)
 
-empty-not : {X : Type 0} (xs : List X) → is_empty xs ≡ not (is_filled xs)
-empty-not [] = refl
-empty-not (x ∷ xs) = refl
-
-filled-mapped : {X Y : Type 0} (f : X → Y) (xs : List X) → is_filled (map f xs) ≡ is_filled xs
-filled-mapped f [] = refl
-filled-mapped f (x ∷ xs) = refl
-
 pub settled-own : SettledIsOwn
-settled-own pool h session legal =
-    let s = standing_of pool h in
-    let w = s.world in
-    let agree = (history-stands pool h legal).held.ports_agree in
-    let offers : list_any (is_offer_by session) w.offers ≡ is_filled (own_of session s).offers = any-filled (is_offer_by session) w.offers in
-    let leases : list_any (has_lot_owed_by session) w.ports ≡ is_filled (own_of session s).leases =
-    any-owed session w.ports ∙ (ap is_filled (sym (lots-of_leases session w.ports s.holdings.ports agree)) ∙ filled-mapped lot_of_lease (own_of session s).leases) in
-    ap₂ (λ (a b : Bool). not a && not b) offers leases ∙ sym (ap₂ (λ (a b : Bool). a && b) (empty-not (own_of session s).offers) (empty-not (own_of session s).leases))
+settled-own pool h session legal = settled-at session (standing_of pool h) (history-stands pool h legal).held
 
 -- the buffers of a session that is there
 paid-found : (ports : List Port) (session : ℕ) (helds : List SessionBuffers) → Each (IsPaid ports) helds → IsThere (map id_of_session helds) session

@@ -1,12 +1,12 @@
 -- Whose an ask is.
-use Rattle.std.specs.Prelude.{ℕ, Bool, true, false, Option, Some, None, option_map}
+use Rattle.std.specs.Prelude.{ℕ, Bool, true, false, ◌&&◌, ◌==◌, Option, Some, None, option_map}
 use Rattle.vale_entry.specs.declared.entry.Ask.{Ask}
 use Rattle.vale_entry.specs.declared.entry.Ask.TheVariants.{Enter, Open, Send, Grant, Done, Sync, Reset, Shut, Finish, Leave, Put, PutKept, Get, Watch, Stat}
 use Rattle.vale_entry.specs.World.{Port, Lot, Offer, open_port}
 use Rattle.vale_entry.specs.Grant.{first_offer}
 use Rattle.vale_entry.specs.Delivery.{lease_at}
 use Rattle.vale_entry.specs.Closing.{shutting_port}
-use Rattle.vale_entry.specs.Legal.{Standing}
+use Rattle.vale_entry.specs.Legal.{Standing, is_enabled}
 
 abbrev pub owner_of_port : Port → ℕ
 owner_of_port port = port.session
@@ -39,3 +39,11 @@ asker_of s (Stat port) = option_map owner_of_port (open_port s.world.ports port.
 abbrev pub is_enter : Ask → Bool
 is_enter (Enter user) = true
 is_enter _ = false
+
+abbrev pub is_asker : Option ℕ → ℕ → Bool
+is_asker None session = false
+is_asker (Some owner) session = owner == session
+
+-- the ask is enabled, a Finish also where it waits, and is this session's
+abbrev pub asks : Standing → ℕ → Ask → Bool
+asks s session ask = is_enabled s ask && is_asker (asker_of s ask) session

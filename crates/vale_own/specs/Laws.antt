@@ -7,10 +7,11 @@ use Rattle.vale_entry.specs.World.{Offer, is_owed_by, is_settled, due_of}
 use Rattle.vale_entry.specs.Offers.{is_offer_of}
 use Rattle.vale_entry.specs.Grant.{first_offer}
 use Rattle.vale_entry.specs.Delivery.{line_of}
-use Rattle.vale_entry.specs.Legal.{Standing, Outcome, standing_of, world_of, step, IsLegal, IsEnabled, Follows}
+use Rattle.vale_entry.specs.Legal.{Standing, Outcome, standing_of, world_of, step, IsLegal, Follows}
 use Rattle.vale_own.specs.Own.{own_of, is_offer_by, lot_of_lease, is_settled_own}
 use Rattle.vale_own.specs.There.{has_come, has_left}
-use Rattle.vale_own.specs.Asker.{asker_of, is_enter}
+use Rattle.vale_own.specs.Asker.{asker_of, asks, is_enter}
+use Rattle.vale_own.specs.OwnAsks.{may_ask}
 use Rattle.vale_own.specs.OwnEntries.{own_after_entry}
 
 abbrev pub IsOfOther : ℕ → Entry → Type 0
@@ -34,15 +35,15 @@ OffersAreOfOneSession offers = (origin : ℕ) → (session : ℕ) × AllByRecurs
 abbrev pub EntriesHaveOneAsker : Type 0
 EntriesHaveOneAsker = (pool : ℕ) (history : List Entry) → OffersAreOfOneSession (world_of pool history).offers
 
--- the ask is enabled, a Finish also where it waits, and is this session's
-pub record Asks (s : Standing) (session : ℕ) (ask : Ask) : Type 0 where
-  pub enabled : IsEnabled s ask
-  pub asker : asker_of s ask ≡ Some session
+-- what is a session's own tells what it asks
+abbrev pub OwnTellsAsks : Type 0
+OwnTellsAsks = (pool : ℕ) (history : List Entry) (session : ℕ) (ask : Ask) → IsLegal pool history
+    → asks (standing_of pool history) session ask ≡ may_ask session (own_of session (standing_of pool history)) ask
 
--- entries of others leave each ask of a session enabled, and that session's
+-- so entries of others enable and disable no ask of a session
 abbrev pub AsksStay : Type 0
 AsksStay = (pool : ℕ) (past more : List Entry) (session : ℕ) (ask : Ask) → IsLegal pool (past ++ more) → AllByRecursion (IsOfOther session) more
-    → Asks (standing_of pool past) session ask → Asks (standing_of pool (past ++ more)) session ask
+    → asks (standing_of pool (past ++ more)) session ask ≡ asks (standing_of pool past) session ask
 
 -- what an ask makes is of its asker
 abbrev pub AskersMakeSteps : Type 0

@@ -11,9 +11,10 @@ use Rattle.vale_entry.specs.declared.entry.Item.{Item}
 use Rattle.vale_entry.specs.declared.entry.Reply.{Reply}
 use Rattle.vale_entry.specs.declared.entry.Reply.TheVariants.{Made, Opened, Offered, Shared, Gave, Took, LeasesOut}
 use Rattle.vale_entry.specs.World.{Port}
-use Rattle.vale_entry.specs.Legal.{Standing, IsLegal, standing_of, is_enabled, reply_to, session_of}
+use Rattle.vale_entry.specs.Legal.{Standing, IsLegal, standing_of, reply_to, session_of}
 use Rattle.vale_own.specs.Own.{Own, HeldLot, own_of}
-use Rattle.vale_own.specs.Asker.{asker_of}
+use Rattle.vale_own.specs.Asker.{asker_of, asks}
+use Rattle.vale_own.specs.OwnAsks.{may_ask}
 
 abbrev frame_f : Frame
 frame_f = record { bytes = 255 ∷ 255 ∷ 255 ∷ 255 ∷ 255 ∷ 255 ∷ 2 ∷ 0 ∷ 0 ∷ 0 ∷ 0 ∷ 10 ∷ 136 ∷ 181 ∷ []; no_learn = false }
@@ -134,13 +135,36 @@ waits : reply_to waiting finish_4 ≡ Some (LeasesOut 1)
 unfolding is_name is_switch_port_name is_pipe_name is_monitor_name switch_of peer_name
 waits = refl
 
-waits_enabled : is_enabled waiting finish_4 ≡ true
-unfolding is_name is_switch_port_name is_pipe_name is_monitor_name switch_of peer_name
-waits_enabled = refl
-
-waits_of_second : asker_of waiting finish_4 ≡ Some 2
+waits_of_second : asks waiting 2 finish_4 ≡ true
 unfolding is_name is_switch_port_name is_pipe_name is_monitor_name switch_of peer_name
 waits_of_second = refl
+
+waits_not_of_first : asks waiting 1 finish_4 ≡ false
+unfolding is_name is_switch_port_name is_pipe_name is_monitor_name switch_of peer_name
+waits_not_of_first = refl
+
+told_by_own : may_ask 2 (own_of 2 waiting) finish_4 ≡ true
+unfolding is_name is_switch_port_name is_pipe_name is_monitor_name switch_of peer_name
+told_by_own = refl
+
+-- not with a buffer less
+too_few : may_ask 2 (own_of 2 waiting) (Finish (port 4) (10 ∷ 11 ∷ 12 ∷ []) (record { found = 0; astray = 0 })) ≡ false
+unfolding is_name is_switch_port_name is_pipe_name is_monitor_name switch_of peer_name
+too_few = refl
+
+-- a session with a lease may complete it, and not send
+may_complete : may_ask 1 (own_at 1 6) (Done (record { 0 = 6 })) ≡ true
+unfolding is_name is_switch_port_name is_pipe_name is_monitor_name switch_of peer_name
+may_complete = refl
+
+may_not_send : may_ask 1 (own_at 1 6) (Send (port 3) []) ≡ false
+unfolding is_name is_switch_port_name is_pipe_name is_monitor_name switch_of peer_name
+may_not_send = refl
+
+-- nor complete what is another's
+not_of_other : may_ask 2 (own_at 2 6) (Done (record { 0 = 6 })) ≡ false
+unfolding is_name is_switch_port_name is_pipe_name is_monitor_name switch_of peer_name
+not_of_other = refl
 
 waits_without_entry : session_of waiting finish_4 ≡ None
 unfolding is_name is_switch_port_name is_pipe_name is_monitor_name switch_of peer_name

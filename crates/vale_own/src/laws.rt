@@ -2,7 +2,7 @@
 //! definitions, which the check proves.
 #![tactic(auto, using(crate::proofs::OwnLaws::own_laws))]
 
-ghost use Rattle.vale_own.specs.Laws.{AskersMakeSteps, AsksStay, BuffersAreDue, EntriesAreOfAskers, EntriesHaveOneAsker, FirstLeasesAreOwn, FirstOffersAreOwn, OffersLeftAreOwn, OwnEntriesChangeOwn, OwnIsKept, SettledIsOwn, ThereIsCome};
+ghost use Rattle.vale_own.specs.Laws.{AskersMakeSteps, AsksStay, BuffersAreDue, EntriesAreOfAskers, EntriesHaveOneAsker, FirstLeasesAreOwn, FirstOffersAreOwn, OffersLeftAreOwn, OwnEntriesChangeOwn, OwnIsKept, OwnTellsAsks, SettledIsOwn, ThereIsCome};
 
 /// Over a legal history, entries none of which is a session's leave what is its own as it was: whether
 /// it is there, its ports but for what is queued at them, its offers, its leases with their buffers, and
@@ -17,9 +17,14 @@ pub fn own_entries_change_own()
     ensures { OwnEntriesChangeOwn }
 {}
 
-/// Over a legal history, an ask of a session that is enabled stays enabled, and that session's, through
-/// entries none of which is that session's; a Finish also where it waits for leases. What it is answered
-/// may differ.
+/// In a legal history what is a session's own tells what it asks: which asks are enabled and that
+/// session's, a Finish also where it waits for leases.
+pub fn own_tells_asks()
+    ensures { OwnTellsAsks }
+{}
+
+/// Over a legal history, entries none of which is a session's leave what it asks as it was: an ask of
+/// its own that is enabled stays so, and no other comes to it. What it is answered may differ.
 pub fn asks_stay()
     ensures { AsksStay }
 {}
