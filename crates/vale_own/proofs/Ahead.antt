@@ -24,22 +24,9 @@ use Rattle.vale_entry.proofs.Rising.{rise-wider}
 use Rattle.vale_entry.proofs.Removals.{each-filter}
 use Rattle.vale_entry.proofs.Each.{each-append, each-weaker, each-map, each-drop, each-find, each-none, each-changed_at}
 use Rattle.vale_own.specs.Own.{is_offer_by}
+use Rattle.vale_own.specs.Laws.{NoneOwed, port_of_offer, AheadOf, GrantsGoByPort}
 use Rattle.vale_own.proofs.Lists.{filter-none, offers-other, more-offers}
 use Rattle.vale_own.proofs.Mine.{mine-offers}
-
-abbrev pub port_of_offer : Offer → ℕ
-port_of_offer offer = offer.to
-
--- the session has no lease there
-abbrev pub NoneOwed : ℕ → Port → Type 0
-NoneOwed session port = Each (λ (lot : Lot). is_owed_by session lot ≡ false) port.line
-
--- up to a port there may be leases, behind it there are none, and offers are to ports behind it alone
-pub record AheadOf (session : ℕ) (ports : List Port) (offers : List Offer) : Type 0 where
-  pub low : ℕ
-  pub high : ℕ
-  pub behind : Each (λ (port : Port). low < port.id → NoneOwed session port) ports
-  pub rise : Rise low (map port_of_offer (filter (is_offer_by session) offers)) high
 
 abbrev pub Ahead : Standing → Type 0
 Ahead s = (session : ℕ) → AheadOf session s.world.ports s.world.offers
@@ -226,3 +213,6 @@ pub ahead-of : (pool : ℕ) (h : List Entry) → Ahead (standing_of pool h)
 ahead-of pool h =
     (standing-by (λ (s : Standing). (Numbered s × OneEntry s) × Ahead s) (λ s e k. ((numbered_entry s e k.0.0, one_entry s e k.0.1), ahead_entry s e k.0.0 k.0.1 k.1)) (fresh_standing pool) h
     ((world-numbered pool [], λ session. (0, tt)), λ session. record { low = 0; high = 0; behind = tt; rise = omega arith })).1
+
+pub grants-by-port : GrantsGoByPort
+grants-by-port pool h session = ahead-of pool h session

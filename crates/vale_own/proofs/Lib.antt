@@ -17,4 +17,5 @@ pub mod OwnGrants
 pub mod OwnEntry
 pub mod Reading
 pub mod Coming
+pub mod Buffers
 pub mod OwnLaws

@@ -130,13 +130,23 @@ none-found : (session : ℕ) (new : SessionBuffers) (helds : List SessionBuffers
 none-found session new [] is all = rw (eq-eqb new.session session is) refl
 none-found session new (h ∷ hs) is all = rw (all.0) (none-found session new hs is all.1)
 
+-- those who hold buffers are of lower numbers
+later-held : (count : ℕ) (sessions : List ℕ) (helds : List SessionBuffers) → Rise 0 sessions count → map id_of_session helds ≡ sessions → Each (λ (h : SessionBuffers). (h.session == count + 1) ≡ false) helds
+later-held count sessions helds r is =
+    each-unmap (λ (n : ℕ). (n == count + 1) ≡ false) id_of_session helds
+    (subst (λ (ns : List ℕ). Each (λ (n : ℕ). (n == count + 1) ≡ false) ns) (sym is)
+    (each-weaker (λ (n : ℕ). n ≤ count) (λ (n : ℕ). (n == count + 1) ≡ false) (λ n le. ne_eqb n (count + 1) (λ e. omega (arith, le, e))) sessions (rise-below 0 sessions count r)))
+
 pub no-buffers : (count : ℕ) (sessions : List ℕ) (helds : List SessionBuffers) → Rise 0 sessions count → map id_of_session helds ≡ sessions
     → buffers_of_session (helds ++ (record { session = count + 1; buffers = [] }) ∷ []) (count + 1) ≡ []
-no-buffers count sessions helds r is =
-    none-found (count + 1) (record { session = count + 1; buffers = [] }) helds refl
-    (each-unmap (λ (n : ℕ). (n == count + 1) ≡ false) id_of_session helds
-    (subst (λ (ns : List ℕ). Each (λ (n : ℕ). (n == count + 1) ≡ false) ns) (sym is)
-    (each-weaker (λ (n : ℕ). n ≤ count) (λ (n : ℕ). (n == count + 1) ≡ false) (λ n le. ne_eqb n (count + 1) (λ e. omega (arith, le, e))) sessions (rise-below 0 sessions count r))))
+no-buffers count sessions helds r is = none-found (count + 1) (record { session = count + 1; buffers = [] }) helds refl (later-held count sessions helds r is)
+
+none-held : (session : ℕ) (helds : List SessionBuffers) → Each (λ (h : SessionBuffers). (h.session == session) ≡ false) helds → buffers_of_session helds session ≡ []
+none-held session [] all = refl
+none-held session (h ∷ hs) all = rw (all.0) (none-held session hs all.1)
+
+pub no-buffers-yet : (count : ℕ) (sessions : List ℕ) (helds : List SessionBuffers) → Rise 0 sessions count → map id_of_session helds ≡ sessions → buffers_of_session helds (count + 1) ≡ []
+no-buffers-yet count sessions helds r is = none-held (count + 1) helds (later-held count sessions helds r is)
 
 pub any-last : (session : ℕ) (ns : List ℕ) → list_any (λ (k : ℕ). k == session) (ns ++ session ∷ []) ≡ true
 any-last session [] = rw (eq-eqb session session refl) refl

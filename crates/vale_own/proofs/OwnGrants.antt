@@ -17,12 +17,13 @@ use Rattle.vale_entry.proofs.Numbered.{Numbered}
 use Rattle.vale_entry.proofs.Holding.{Held}
 use Rattle.vale_entry.proofs.OneEntry.{OneEntry}
 use Rattle.vale_own.specs.Own.{HeldLot, own_of, port_alone, is_offer_by, is_lease_of, leases_at}
+use Rattle.vale_own.specs.Laws.{NoneOwed, port_of_offer}
 use Rattle.vale_own.specs.OwnEntries.{lease_of, own_granted}
 use Rattle.vale_own.proofs.Lists.{filter-none}
 use Rattle.vale_own.proofs.Single.{above}
 use Rattle.vale_own.proofs.Sides.{agreed, agreed-lots, zip-pushed, each-zip}
 use Rattle.vale_own.proofs.Leases.{leases-at_id, agreed-ids, leases_in}
-use Rattle.vale_own.proofs.Ahead.{Ahead, NoneOwed, first-of, port_of_offer}
+use Rattle.vale_own.proofs.Ahead.{Ahead, first-of}
 
 -- ports behind one have no lease
 none-behind : (session to low : ℕ) (ports : List Port) (helds : List PortBuffers) (high : ℕ) → to ≤ low → Rise low (map id_of_port ports) high

@@ -75,7 +75,7 @@ pub settled-own : SettledIsOwn
 settled-own pool h session legal = settled-at session (standing_of pool h) (history-stands pool h legal).held
 
 -- the buffers of a session that is there
-paid-found : (ports : List Port) (session : ℕ) (helds : List SessionBuffers) → Each (IsPaid ports) helds → IsThere (map id_of_session helds) session
+pub paid-found : (ports : List Port) (session : ℕ) (helds : List SessionBuffers) → Each (IsPaid ports) helds → IsThere (map id_of_session helds) session
     → length (buffers_of_session helds session) ≡ due_of_session ports session
 paid-found ports session [] all there = absurd cc
 paid-found ports session (h ∷ hs) all there = by (h.session == session) refl there (paid-found ports session hs all.1)

@@ -1,18 +1,23 @@
 -- Laws of what is a session's own, as statements.
-use Rattle.std.specs.Prelude.{ℕ, true, false, not, ◌&&◌, ◌≡◌, ◌≢◌, List, [], ◌∷◌, ◌++◌, length, find, filter, flat_map, sum_by, slice_get, Some, option_map}
+use Rattle.std.specs.Prelude.{ℕ, true, false, not, ◌&&◌, ◌≡◌, ◌≢◌, ◌<◌, List, [], ◌∷◌, ◌++◌, length, find, filter, map, flat_map, sum_by, slice_get, Some, option_map}
 use Rattle.std.specs.List.{AllByRecursion}
 use Rattle.vale_entry.specs.declared.entry.Ask.{Ask}
 use Rattle.vale_entry.specs.declared.entry.Entry.{Entry}
-use Rattle.vale_entry.specs.World.{Offer, is_owed_by, is_settled, due_of}
+use Rattle.vale_entry.specs.World.{Port, Lot, Offer, is_owed_by, is_settled, due_of}
 use Rattle.vale_entry.specs.Offers.{is_offer_of}
 use Rattle.vale_entry.specs.Grant.{first_offer}
 use Rattle.vale_entry.specs.Delivery.{line_of}
 use Rattle.vale_entry.specs.Legal.{Standing, Outcome, standing_of, world_of, step, IsLegal, Follows}
-use Rattle.vale_own.specs.Own.{own_of, is_offer_by, lot_of_lease, is_settled_own}
+use Rattle.nm_types.specs.Frames.{size_of_frames}
+use Rattle.nm_types.specs.OwnPorts.{Arrival}
+use Rattle.vale_entry.specs.Arrivals.{arrivals_of}
+use Rattle.vale_entry.specs.Holdings.{buffers_without}
+use Rattle.vale_entry.specs.Laws.{Rise}
+use Rattle.vale_own.specs.Own.{HeldLot, own_of, is_offer_by, lot_of_lease, is_settled_own}
 use Rattle.vale_own.specs.There.{has_come, has_left}
 use Rattle.vale_own.specs.Asker.{asker_of, asks, is_enter}
 use Rattle.vale_own.specs.OwnAsks.{may_ask}
-use Rattle.vale_own.specs.OwnEntries.{own_after_entry}
+use Rattle.vale_own.specs.OwnEntries.{own_after_entry, given_up}
 
 abbrev pub IsOfOther : ℕ → Entry → Type 0
 IsOfOther session entry = entry.session.0 ≢ session
@@ -83,3 +88,39 @@ SettledIsOwn = (pool : ℕ) (history : List Entry) (session : ℕ) → IsLegal p
 abbrev pub BuffersAreDue : Type 0
 BuffersAreDue = (pool : ℕ) (history : List Entry) (session : ℕ) → IsLegal pool history → (own_of session (standing_of pool history)).there ≡ true
     → length (own_of session (standing_of pool history)).buffers ≡ sum_by due_of (own_of session (standing_of pool history)).ports
+
+-- a lease has as many buffers as its frames take
+abbrev pub HoldsFrames : HeldLot → Type 0
+HoldsFrames lease = length lease.1 ≡ size_of_frames lease.0.frames
+
+abbrev pub LeasesHoldFrames : Type 0
+LeasesHoldFrames = (pool : ℕ) (history : List Entry) (session : ℕ) → IsLegal pool history → AllByRecursion HoldsFrames (own_of session (standing_of pool history)).leases
+
+-- What a session's entries bring and take.
+
+abbrev pub buffer_of_arrival : Arrival → ℕ
+buffer_of_arrival arrival = arrival.buffer
+
+-- the buffers that an entry gives up go, and those of its arrivals come
+abbrev pub BuffersGoAndCome : Type 0
+BuffersGoAndCome = (pool : ℕ) (past : List Entry) (entry : Entry) → IsLegal pool past → Follows (standing_of pool past) entry
+    → (own_of entry.session.0 (standing_of pool (past ++ entry ∷ []))).buffers
+    ≡ buffers_without (given_up entry.ask entry.reply) (own_of entry.session.0 (standing_of pool past)).buffers ++ map buffer_of_arrival (arrivals_of (standing_of pool past) entry.ask entry.reply)
+
+-- the session has no lease at the port
+abbrev pub NoneOwed : ℕ → Port → Type 0
+NoneOwed session port = AllByRecursion (λ (lot : Lot). is_owed_by session lot ≡ false) port.line
+
+abbrev pub port_of_offer : Offer → ℕ
+port_of_offer offer = offer.to
+
+-- a session's leases stand at ports up to one, and its offers are to ports behind that, each to a later one
+pub record AheadOf (session : ℕ) (ports : List Port) (offers : List Offer) : Type 0 where
+  pub low : ℕ
+  pub high : ℕ
+  pub behind : AllByRecursion (λ (port : Port). low < port.id → NoneOwed session port) ports
+  pub rise : Rise low (map port_of_offer (filter (is_offer_by session) offers)) high
+
+-- so grants go by rising port
+abbrev pub GrantsGoByPort : Type 0
+GrantsGoByPort = (pool : ℕ) (history : List Entry) (session : ℕ) → AheadOf session (world_of pool history).ports (world_of pool history).offers

@@ -81,3 +81,11 @@ own_after_entry s (Shut port) reply own = record own { ports = changed_at port.0
 own_after_entry s (Finish port bufs chain) reply own = record own { ports = ports_without port.0 own.ports; buffers = buffers_without bufs own.buffers }
 own_after_entry s (Leave session) reply own = record own { there = false; buffers = [] }
 own_after_entry s _ reply own = own
+
+-- the buffers that an entry gives up
+abbrev pub given_up : Ask → Reply → List ℕ
+given_up (Sync port back) reply = back
+given_up (Get port back) reply = back
+given_up (Finish port bufs chain) reply = bufs
+given_up (PutKept port offered) (Took items to) = indices_of items
+given_up _ reply = []

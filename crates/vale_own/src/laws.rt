@@ -2,7 +2,7 @@
 //! definitions, which the check proves.
 #![tactic(auto, using(crate::proofs::OwnLaws::own_laws))]
 
-ghost use Rattle.vale_own.specs.Laws.{AskersMakeSteps, AsksStay, BuffersAreDue, EntriesAreOfAskers, EntriesHaveOneAsker, FirstLeasesAreOwn, FirstOffersAreOwn, OffersLeftAreOwn, OwnEntriesChangeOwn, OwnIsKept, OwnTellsAsks, SettledIsOwn, ThereIsCome};
+ghost use Rattle.vale_own.specs.Laws.{AskersMakeSteps, AsksStay, BuffersAreDue, BuffersGoAndCome, EntriesAreOfAskers, EntriesHaveOneAsker, FirstLeasesAreOwn, FirstOffersAreOwn, GrantsGoByPort, LeasesHoldFrames, OffersLeftAreOwn, OwnEntriesChangeOwn, OwnIsKept, OwnTellsAsks, SettledIsOwn, ThereIsCome};
 
 /// Over a legal history, entries none of which is a session's leave what is its own as it was: whether
 /// it is there, its ports but for what is queued at them, its offers, its leases with their buffers, and
@@ -80,4 +80,24 @@ pub fn settled_is_own()
 #[tactic(auto, using(crate::proofs::OwnLaws::reading_laws))]
 pub fn buffers_are_due()
     ensures { BuffersAreDue }
+{}
+
+/// In a legal history a lease has as many buffers as its frames take.
+#[tactic(auto, using(crate::proofs::OwnLaws::reading_laws))]
+pub fn leases_hold_frames()
+    ensures { LeasesHoldFrames }
+{}
+
+/// After every history the offers of a session rise by port, and are to ports behind those at which it
+/// has leases: an entry's offers are granted by rising port.
+#[tactic(auto, using(crate::proofs::OwnLaws::reading_laws))]
+pub fn grants_go_by_port()
+    ensures { GrantsGoByPort }
+{}
+
+/// In a legal history an entry takes from its session's buffers those that it gives up, and adds behind
+/// them those of its arrivals.
+#[tactic(auto, using(crate::proofs::OwnLaws::reading_laws))]
+pub fn buffers_go_and_come()
+    ensures { BuffersGoAndCome }
 {}
