@@ -1,36 +1,40 @@
 -- The buffers of leases, and those that a session's entries give up and bring.
-use Rattle.std.proofs.Common.{ℕ, ◌+◌, ◌≡◌, true, not, List, [], ◌∷◌, ◌++◌, map, take, drop, flat_map, length, append-nil, Option, Some, None, refl, sym, ◌∙◌, ap, arith}
+use Rattle.std.proofs.Common.{ℕ, ◌+◌, ◌≡◌, true, not, List, [], ◌∷◌, ◌++◌, map, take, drop, flat_map, length, append-nil, sum_by, filter, cond, Bool, false, ◌==◌, ◌≤◌, Option, Some, None, refl, sym, ◌∙◌, ap, arith}
 use Rattle.std.specs.Option.{option_map_or}
 use Rattle.std.specs.List.{AllByRecursion as Each, zip}
+use Rattle.std.proofs.lemmas.List.Elements.{All-from_recursion}
 use Rattle.std.proofs.lemmas.List.Sums.{sum_by-cons}
 use Rattle.std.proofs.lemmas.List.{length-map}
 use Rattle.nm_types.specs.Frames.{Frame, slots_of, size_of_frames}
+use Rattle.nm_types.specs.OwnSyncs.{buffers_of_arrivals}
 use Rattle.nm_types.specs.declared.id.PortId.{PortId}
 use Rattle.vale_entry.specs.declared.entry.Ask.{Ask}
 use Rattle.vale_entry.specs.declared.entry.Ask.TheVariants.{PutKept}
 use Rattle.vale_entry.specs.declared.entry.Entry.{Entry}
 use Rattle.vale_entry.specs.declared.entry.Item.{Item}
 use Rattle.vale_entry.specs.declared.entry.Reply.{Reply}
-use Rattle.vale_entry.specs.World.{Port, Lot, open_port}
+use Rattle.vale_entry.specs.World.{Port, Lot, open_port, is_owed_by}
 use Rattle.vale_entry.specs.Grant.{first_offer}
 use Rattle.vale_entry.specs.Pipe.{peer_of, indices_of, index_of_item}
 use Rattle.vale_entry.specs.Arrivals.{blank_arrival, frame_arrival, lent_arrivals, given_at, arrivals_of}
 use Rattle.vale_entry.specs.Delivery.{ready_lots, delivered_frames}
-use Rattle.vale_entry.specs.Holdings.{PortBuffers, PortsAgree, buffers_without, buffers_of_session, contains, delivered_buffers, first_idle}
+use Rattle.vale_entry.specs.Holdings.{PortBuffers, SessionBuffers, PortsAgree, is_buffer_index, buffers_without, buffers_of_session, contains, delivered_buffers, first_idle}
 use Rattle.vale_entry.specs.Laws.{Rise, id_of_held}
 use Rattle.vale_entry.specs.Legal.{Standing, standing_of, sync_step, put_step}
 use Rattle.vale_entry.proofs.Follows.{EachKind, IsQuiet, refused_open, resets, finds_no_peer, finds_no_target, finds_watched, counts, Receives, by_sync, by_get, follows-by}
 use Rattle.vale_entry.proofs.Agreeing.{agree-at, agree-ids, due-without}
 use Rattle.vale_entry.proofs.Places.{open-place, delivered_buffers-place}
 use Rattle.vale_entry.proofs.Numbered.{Numbered}
-use Rattle.vale_entry.proofs.Holding.{Held}
+use Rattle.vale_entry.proofs.Holding.{Held, at_session, at_port, times_held}
+use Rattle.vale_entry.proofs.Counting.{count_of, count_of-append}
+use Rattle.std.proofs.lemmas.Grind.{flat_map-append}
 use Rattle.vale_entry.proofs.Held.{delivered-length}
 use Rattle.vale_entry.proofs.HistoryLaws.{history-stands}
 use Rattle.vale_entry.proofs.Each.{each-append, each-all}
 use Rattle.vale_entry.proofs.Removals.{each-filter}
-use Rattle.vale_own.specs.Own.{Own, own_of, leases_at, is_lease_of}
+use Rattle.vale_own.specs.Own.{Own, own_of, leases_at, is_lease_of, buffers_of_lease}
 use Rattle.vale_own.specs.OwnEntries.{own_sent, own_granted, own_received, own_after_entry, given_up}
-use Rattle.vale_own.specs.Laws.{HoldsFrames, LeasesHoldFrames, buffer_of_arrival, BuffersGoAndCome}
+use Rattle.vale_own.specs.Laws.{HoldsFrames, LeasesHoldFrames, OwnBuffersAreApart, BuffersGoAndCome}
 use Rattle.vale_own.proofs.Mine.{filter-every}
 use Rattle.vale_own.proofs.Newcomers.{no-buffers-yet}
 use Rattle.vale_own.proofs.Reading.{paid-found}
@@ -50,7 +54,63 @@ ports-hold session (p ∷ ps) (h ∷ hs) a =
     (ports-hold session ps hs a.1)
 
 pub leases-hold : LeasesHoldFrames
-leases-hold pool h session legal = ports-hold session (standing_of pool h).world.ports (standing_of pool h).holdings.ports (history-stands pool h legal).held.ports_agree
+leases-hold pool h session legal =
+    let s = standing_of pool h in
+    All-from_recursion HoldsFrames (own_of session s).leases (ports-hold session s.world.ports s.holdings.ports (history-stands pool h legal).held.ports_agree)
+
+-- each buffer of the pool is held once
+session-counted : (b session : ℕ) (helds : List SessionBuffers) → count_of b (buffers_of_session helds session) ≤ sum_by (at_session b) helds
+session-counted b session [] = omega arith
+session-counted b session (h ∷ hs) = by (h.session == session) refl (session-counted b session hs)
+  where
+    sum : sum_by (at_session b) (h ∷ hs) ≡ count_of b h.buffers + sum_by (at_session b) hs
+    sum = sum_by-cons (at_session b) h hs
+
+    by : (c : Bool) → (h.session == session) ≡ c → count_of b (buffers_of_session hs session) ≤ sum_by (at_session b) hs → count_of b (buffers_of_session (h ∷ hs) session) ≤ sum_by (at_session b) (h ∷ hs)
+    by true t rest = rw t (let all = sum in omega arith)
+    by false t rest = rw t (let all = sum in omega arith)
+
+line-counted : (b session : ℕ) (line : List Lot) (lots : List (List ℕ))
+    → count_of b (flat_map buffers_of_lease (filter (is_lease_of session) (zip line lots))) ≤ count_of b (flat_map (λ (list : List ℕ). list) lots)
+line-counted b session [] lots = omega arith
+line-counted b session (lot ∷ line) [] = omega arith
+line-counted b session (lot ∷ line) (buffers ∷ lots) = by (is_owed_by session lot) refl (line-counted b session line lots)
+  where
+    all : count_of b (flat_map (λ (list : List ℕ). list) (buffers ∷ lots)) ≡ count_of b buffers + count_of b (flat_map (λ (list : List ℕ). list) lots)
+    all = count_of-append b buffers (flat_map (λ (list : List ℕ). list) lots)
+
+    by : (c : Bool) → is_owed_by session lot ≡ c
+        → count_of b (flat_map buffers_of_lease (filter (is_lease_of session) (zip line lots))) ≤ count_of b (flat_map (λ (list : List ℕ). list) lots)
+        → count_of b (flat_map buffers_of_lease (filter (is_lease_of session) (zip (lot ∷ line) (buffers ∷ lots)))) ≤ count_of b (flat_map (λ (list : List ℕ). list) (buffers ∷ lots))
+    by true t rest =
+        let some = count_of-append b buffers (flat_map buffers_of_lease (filter (is_lease_of session) (zip line lots))) in
+        let whole = all in
+        rw t (omega arith)
+    by false t rest = rw t (let whole = all in omega arith)
+
+ports-counted : (b session : ℕ) (ports : List Port) (helds : List PortBuffers)
+    → count_of b (flat_map buffers_of_lease (flat_map (leases_at session) (zip ports helds))) ≤ sum_by (at_port b) helds
+ports-counted b session [] helds = omega arith
+ports-counted b session (p ∷ ps) [] = omega arith
+ports-counted b session (p ∷ ps) (h ∷ hs) =
+    let rest = ports-counted b session ps hs in
+    let here = line-counted b session p.line h.lots in
+    let held = count_of-append b h.idle (flat_map (λ (list : List ℕ). list) h.lots) in
+    let sum = sum_by-cons (at_port b) h hs in
+    let parts = ap (count_of b) (flat_map-append buffers_of_lease (leases_at session (p, h)) (flat_map (leases_at session) (zip ps hs))) in
+    let both = count_of-append b (flat_map buffers_of_lease (leases_at session (p, h))) (flat_map buffers_of_lease (flat_map (leases_at session) (zip ps hs))) in
+    omega arith
+
+pub buffers-apart : OwnBuffersAreApart
+buffers-apart pool h session b legal =
+    let s = standing_of pool h in
+    let k = history-stands pool h legal in
+    let own = own_of session s in
+    let all = count_of-append b own.buffers (flat_map buffers_of_lease own.leases) in
+    let one = session-counted b session s.holdings.sessions in
+    let two = ports-counted b session s.world.ports s.holdings.ports in
+    let parted : times_held b s.holdings ≡ cond (is_buffer_index pool b) 1 0 = k.held.parted b ∙ ap (λ (n : ℕ). cond (is_buffer_index n b) 1 0) k.pool_is in
+    omega (arith, all, one, two, parted)
 
 -- as many buffers are delivered as frames
 size-frames : (frames : List Frame) → size_of_frames frames ≡ length frames
@@ -70,11 +130,11 @@ came-length s id port e n h =
     ap length there ∙ (delivered-length port at.held at.agrees ∙ size-frames (delivered_frames port))
 
 -- the buffers of arrivals
-blank-buffers : (bs : List ℕ) → map buffer_of_arrival (map blank_arrival bs) ≡ bs
+blank-buffers : (bs : List ℕ) → buffers_of_arrivals (map blank_arrival bs) ≡ bs
 blank-buffers [] = refl
 blank-buffers (b ∷ bs) = ap (λ (cs : List ℕ). b ∷ cs) (blank-buffers bs)
 
-frame-buffers : (bs : List ℕ) (frames : List Frame) → length bs ≡ length frames → map buffer_of_arrival (map frame_arrival (zip bs frames)) ≡ bs
+frame-buffers : (bs : List ℕ) (frames : List Frame) → length bs ≡ length frames → buffers_of_arrivals (map frame_arrival (zip bs frames)) ≡ bs
 frame-buffers [] frames e = refl
 frame-buffers (b ∷ bs) [] e = absurd (omega (arith, e))
 frame-buffers (b ∷ bs) (f ∷ fs) e = ap (λ (cs : List ℕ). b ∷ cs) (frame-buffers bs fs (omega (arith, e)))
@@ -89,7 +149,7 @@ without-none bs more = ap (λ (cs : List ℕ). cs ++ more) (sym (filter-every (�
 -- what an entry gives up and what it brings
 abbrev Moves : Standing → Ask → ℕ → Reply → Type 0
 Moves s ask session reply =
-    (own_after_entry s ask reply (own_of session s)).buffers ≡ buffers_without (given_up ask reply) (own_of session s).buffers ++ map buffer_of_arrival (arrivals_of s ask reply)
+    (own_after_entry s ask reply (own_of session s)).buffers ≡ buffers_without (given_up ask reply) (own_of session s).buffers ++ buffers_of_arrivals (arrivals_of s ask reply)
 
 moves-quiet : (s : Standing) (ask : Ask) (by : ℕ) (reply : Reply) → IsQuiet s ask by reply → Moves s ask by reply
 moves-quiet s ask by reply (refused_open session name tx rx extra fault can e) = still (own_of by s).buffers
@@ -106,7 +166,7 @@ kept-found f own (Some x) keeps = keeps x
 
 moves-received : (s : Standing) (at : PortId) (back : List ℕ) (port : Port) → open_port s.world.ports at.0 ≡ Some port → Numbered s → Held s → (session : ℕ)
     → (option_map_or (own_received s back (own_of session s)) (open_port s.world.ports at.0) (own_of session s)).buffers
-    ≡ buffers_without back (own_of session s).buffers ++ map buffer_of_arrival (given_at s at.0)
+    ≡ buffers_without back (own_of session s).buffers ++ buffers_of_arrivals (given_at s at.0)
 moves-received s at back port e n h session =
     let come = frame-buffers (delivered_buffers port.id (length (ready_lots port)) s.holdings.ports) (delivered_frames port) (came-length s at.0 port e n h) in
     rw e (ap (λ (cs : List ℕ). buffers_without back (own_of session s).buffers ++ cs) (sym come))
@@ -120,7 +180,7 @@ moves-puts : (s : Standing) (at : PortId) (offered : ℕ) (items : List Item) (p
     → Moves s (PutKept at offered) port.session (put_step s items port peer).reply
 moves-puts s at offered items port peer e found =
     let count : length (indices_of items) ≡ length items = length-map items index_of_item in
-    let come : first_idle peer.id (length (indices_of items)) s.holdings.ports ≡ map buffer_of_arrival (lent_arrivals s.holdings.ports peer.id (length items)) =
+    let come : first_idle peer.id (length (indices_of items)) s.holdings.ports ≡ buffers_of_arrivals (lent_arrivals s.holdings.ports peer.id (length items)) =
     ap (λ (k : ℕ). first_idle peer.id k s.holdings.ports) count ∙ sym (blank-buffers (first_idle peer.id (length items) s.holdings.ports)) in
     rw (e, found) (ap (λ (cs : List ℕ). buffers_without (indices_of items) (own_of port.session s).buffers ++ cs) come)
 

@@ -1,5 +1,7 @@
 -- What is a session's own stays through the entries of others.
 use Rattle.std.proofs.Common.{ℕ, ◌≡◌, List, [], ◌∷◌, ◌++◌, sym, ◌∙◌, ap, subst, append-nil, append_assoc, fold}
+use Rattle.std.specs.List.{AllByRecursion as Each}
+use Rattle.std.proofs.lemmas.List.Elements.{recursion_from_All}
 use Rattle.vale_entry.specs.declared.entry.Entry.{Entry}
 use Rattle.vale_entry.specs.Legal.{Standing, after, fresh_standing, standing_of, Follows, IsLegal, IsLegalFrom}
 use Rattle.vale_entry.proofs.Worlds.{standing-push}
@@ -23,10 +25,14 @@ own-entry pool past e session legal follows other =
     let k = history-stands pool past legal in
     ap (own_of session) (standing-push pool past e) ∙ keeps-own session (standing_of pool past) e k.numbered k.held k.single follows other
 
-pub own-kept : OwnIsKept
-own-kept pool past [] session legal others = ap (λ (h : List Entry). own_of session (standing_of pool h)) (append-nil past)
-own-kept pool past (e ∷ es) session legal others =
+own-past : (pool : ℕ) (past more : List Entry) (session : ℕ) → IsLegal pool (past ++ more) → Each (IsOfOther session) more
+    → own_of session (standing_of pool (past ++ more)) ≡ own_of session (standing_of pool past)
+own-past pool past [] session legal others = ap (λ (h : List Entry). own_of session (standing_of pool h)) (append-nil past)
+own-past pool past (e ∷ es) session legal others =
     let whole : past ++ e ∷ es ≡ (past ++ e ∷ []) ++ es = sym (append_assoc past (e ∷ []) es) in
     let parts = legal-split pool past (e ∷ es) legal in
     ap (λ (h : List Entry). own_of session (standing_of pool h)) whole
-    ∙ (own-kept pool (past ++ e ∷ []) es session (subst (IsLegal pool) whole legal) others.1 ∙ own-entry pool past e session parts.0 parts.1.0 others.0)
+    ∙ (own-past pool (past ++ e ∷ []) es session (subst (IsLegal pool) whole legal) others.1 ∙ own-entry pool past e session parts.0 parts.1.0 others.0)
+
+pub own-kept : OwnIsKept
+own-kept pool past more session legal others = own-past pool past more session legal (recursion_from_All (IsOfOther session) more others)

@@ -1,6 +1,6 @@
 -- The laws of what is a session's own.
 use Rattle.vale_own.proofs.Ahead.{grants-by-port}
-use Rattle.vale_own.proofs.Buffers.{leases-hold, buffers-go-and-come}
+use Rattle.vale_own.proofs.Buffers.{leases-hold, buffers-apart, buffers-go-and-come}
 use Rattle.vale_own.proofs.Askers.{entries-are-of-askers}
 use Rattle.vale_own.proofs.Asking.{own-tells, asks-stay}
 use Rattle.vale_own.proofs.Coming.{there-come}
@@ -11,4 +11,4 @@ use Rattle.vale_own.proofs.OwnKept.{own-kept}
 
 pub ruleset own_laws = (own-kept, own-entries, own-tells, asks-stay, entries-have-one-asker, entries-are-of-askers)
 
-pub ruleset reading_laws = (there-come, first-offers, first-leases, offers-left, settled-own, buffers-due, leases-hold, grants-by-port, buffers-go-and-come)
+pub ruleset reading_laws = (there-come, first-offers, first-leases, offers-left, settled-own, buffers-due, leases-hold, grants-by-port, buffers-apart, buffers-go-and-come)

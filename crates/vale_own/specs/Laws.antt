@@ -1,5 +1,5 @@
 -- Laws of what is a session's own, as statements.
-use Rattle.std.specs.Prelude.{ℕ, true, false, not, ◌&&◌, ◌≡◌, ◌≢◌, ◌<◌, List, [], ◌∷◌, ◌++◌, length, find, filter, map, flat_map, sum_by, slice_get, Some, option_map}
+use Rattle.std.specs.Prelude.{ℕ, true, false, not, ◌&&◌, ◌≡◌, ◌≢◌, ◌<◌, List, [], ◌∷◌, ◌++◌, length, find, filter, map, flat_map, sum_by, slice_get, Some, option_map, All, count_by, ◌==◌, ◌≤◌, if◌then◌else◌}
 use Rattle.std.specs.List.{AllByRecursion}
 use Rattle.vale_entry.specs.declared.entry.Ask.{Ask}
 use Rattle.vale_entry.specs.declared.entry.Entry.{Entry}
@@ -9,11 +9,11 @@ use Rattle.vale_entry.specs.Grant.{first_offer}
 use Rattle.vale_entry.specs.Delivery.{line_of}
 use Rattle.vale_entry.specs.Legal.{Standing, Outcome, standing_of, world_of, step, IsLegal, Follows}
 use Rattle.nm_types.specs.Frames.{size_of_frames}
-use Rattle.nm_types.specs.OwnPorts.{Arrival}
+use Rattle.nm_types.specs.OwnSyncs.{buffers_of_arrivals}
 use Rattle.vale_entry.specs.Arrivals.{arrivals_of}
-use Rattle.vale_entry.specs.Holdings.{buffers_without}
+use Rattle.vale_entry.specs.Holdings.{buffers_without, is_buffer_index}
 use Rattle.vale_entry.specs.Laws.{Rise}
-use Rattle.vale_own.specs.Own.{HeldLot, own_of, is_offer_by, lot_of_lease, is_settled_own}
+use Rattle.vale_own.specs.Own.{HeldLot, own_of, is_offer_by, lot_of_lease, is_settled_own, all_buffers_of}
 use Rattle.vale_own.specs.There.{has_come, has_left}
 use Rattle.vale_own.specs.Asker.{asker_of, asks, is_enter}
 use Rattle.vale_own.specs.OwnAsks.{may_ask}
@@ -24,7 +24,7 @@ IsOfOther session entry = entry.session.0 ≢ session
 
 -- entries of others leave what is a session's own as it was
 abbrev pub OwnIsKept : Type 0
-OwnIsKept = (pool : ℕ) (past more : List Entry) (session : ℕ) → IsLegal pool (past ++ more) → AllByRecursion (IsOfOther session) more
+OwnIsKept = (pool : ℕ) (past more : List Entry) (session : ℕ) → IsLegal pool (past ++ more) → All (IsOfOther session) more
     → own_of session (standing_of pool (past ++ more)) ≡ own_of session (standing_of pool past)
 
 -- an entry of a session makes of what is its own what is defined
@@ -47,7 +47,7 @@ OwnTellsAsks = (pool : ℕ) (history : List Entry) (session : ℕ) (ask : Ask) �
 
 -- so entries of others enable and disable no ask of a session
 abbrev pub AsksStay : Type 0
-AsksStay = (pool : ℕ) (past more : List Entry) (session : ℕ) (ask : Ask) → IsLegal pool (past ++ more) → AllByRecursion (IsOfOther session) more
+AsksStay = (pool : ℕ) (past more : List Entry) (session : ℕ) (ask : Ask) → IsLegal pool (past ++ more) → All (IsOfOther session) more
     → asks (standing_of pool (past ++ more)) session ask ≡ asks (standing_of pool past) session ask
 
 -- what an ask makes is of its asker
@@ -94,18 +94,20 @@ abbrev pub HoldsFrames : HeldLot → Type 0
 HoldsFrames lease = length lease.1 ≡ size_of_frames lease.0.frames
 
 abbrev pub LeasesHoldFrames : Type 0
-LeasesHoldFrames = (pool : ℕ) (history : List Entry) (session : ℕ) → IsLegal pool history → AllByRecursion HoldsFrames (own_of session (standing_of pool history)).leases
+LeasesHoldFrames = (pool : ℕ) (history : List Entry) (session : ℕ) → IsLegal pool history → All HoldsFrames (own_of session (standing_of pool history)).leases
+
+-- all these buffers are of the pool, each once
+abbrev pub OwnBuffersAreApart : Type 0
+OwnBuffersAreApart = (pool : ℕ) (history : List Entry) (session : ℕ) (b : ℕ) → IsLegal pool history
+    → count_by (λ y. y == b) (all_buffers_of (own_of session (standing_of pool history))) ≤ (if is_buffer_index pool b then 1 else 0)
 
 -- What a session's entries bring and take.
-
-abbrev pub buffer_of_arrival : Arrival → ℕ
-buffer_of_arrival arrival = arrival.buffer
 
 -- the buffers that an entry gives up go, and those of its arrivals come
 abbrev pub BuffersGoAndCome : Type 0
 BuffersGoAndCome = (pool : ℕ) (past : List Entry) (entry : Entry) → IsLegal pool past → Follows (standing_of pool past) entry
     → (own_of entry.session.0 (standing_of pool (past ++ entry ∷ []))).buffers
-    ≡ buffers_without (given_up entry.ask entry.reply) (own_of entry.session.0 (standing_of pool past)).buffers ++ map buffer_of_arrival (arrivals_of (standing_of pool past) entry.ask entry.reply)
+    ≡ buffers_without (given_up entry.ask entry.reply) (own_of entry.session.0 (standing_of pool past)).buffers ++ buffers_of_arrivals (arrivals_of (standing_of pool past) entry.ask entry.reply)
 
 -- the session has no lease at the port
 abbrev pub NoneOwed : ℕ → Port → Type 0

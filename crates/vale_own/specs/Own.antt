@@ -1,5 +1,5 @@
 -- What of all that stands is one session's own. Its own entries change it, and those of others do not.
-use Rattle.std.specs.Prelude.{ℕ, Bool, true, false, ◌&&◌, ◌==◌, List, [], ◌∷◌, map, filter, flat_map}
+use Rattle.std.specs.Prelude.{ℕ, Bool, true, false, ◌&&◌, ◌==◌, List, [], ◌∷◌, ◌++◌, map, filter, flat_map}
 use Rattle.std.specs.List.{zip}
 use Rattle.vale_entry.specs.World.{Port, Lot, Offer, is_session, is_owed_by}
 use Rattle.vale_entry.specs.Closing.{is_port_of}
@@ -52,3 +52,10 @@ is_empty (x ∷ xs) = false
 -- it has no offer and no lease
 abbrev pub is_settled_own : Own → Bool
 is_settled_own own = is_empty own.offers && is_empty own.leases
+
+abbrev pub buffers_of_lease : HeldLot → List ℕ
+buffers_of_lease lease = lease.1
+
+-- the buffers that it holds, and those of its leases
+abbrev pub all_buffers_of : Own → List ℕ
+all_buffers_of own = own.buffers ++ flat_map buffers_of_lease own.leases

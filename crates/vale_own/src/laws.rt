@@ -2,7 +2,7 @@
 //! definitions, which the check proves.
 #![tactic(auto, using(crate::proofs::OwnLaws::own_laws))]
 
-ghost use Rattle.vale_own.specs.Laws.{AskersMakeSteps, AsksStay, BuffersAreDue, BuffersGoAndCome, EntriesAreOfAskers, EntriesHaveOneAsker, FirstLeasesAreOwn, FirstOffersAreOwn, GrantsGoByPort, LeasesHoldFrames, OffersLeftAreOwn, OwnEntriesChangeOwn, OwnIsKept, OwnTellsAsks, SettledIsOwn, ThereIsCome};
+ghost use Rattle.vale_own.specs.Laws.{AskersMakeSteps, AsksStay, BuffersAreDue, BuffersGoAndCome, EntriesAreOfAskers, EntriesHaveOneAsker, FirstLeasesAreOwn, FirstOffersAreOwn, GrantsGoByPort, LeasesHoldFrames, OffersLeftAreOwn, OwnBuffersAreApart, OwnEntriesChangeOwn, OwnIsKept, OwnTellsAsks, SettledIsOwn, ThereIsCome};
 
 /// Over a legal history, entries none of which is a session's leave what is its own as it was: whether
 /// it is there, its ports but for what is queued at them, its offers, its leases with their buffers, and
@@ -86,6 +86,13 @@ pub fn buffers_are_due()
 #[tactic(auto, using(crate::proofs::OwnLaws::reading_laws))]
 pub fn leases_hold_frames()
     ensures { LeasesHoldFrames }
+{}
+
+/// In a legal history the buffers of a session and of its leases are of the pool, and each stands once
+/// among them.
+#[tactic(auto, using(crate::proofs::OwnLaws::reading_laws))]
+pub fn own_buffers_are_apart()
+    ensures { OwnBuffersAreApart }
 {}
 
 /// After every history the offers of a session rise by port, and are to ports behind those at which it
