@@ -1,6 +1,7 @@
 -- What a session may ask is told by what is its own.
 use Rattle.std.proofs.Common.{ℕ, ◌≡◌, Bool, true, false, cond, not, ◌&&◌, ◌||◌, ◌==◌, nat_le, List, ◌++◌, map, find, flat_map, length, Option, Some, None, is_some, refl, sym, ◌∙◌, ap, ap₂}
 use Rattle.std.specs.Prelude.{option_map}
+use Rattle.std.proofs.lemmas.Map.Entries.{option_filter}
 use Rattle.std.specs.List.{AllByRecursion as Each, list_all}
 use Rattle.std.proofs.lemmas.Bool.{and_parts, eqb-true}
 use Rattle.std.proofs.Math.Bool.{and-false, and-true}
@@ -30,17 +31,17 @@ use Rattle.vale_own.specs.Asker.{asks, is_asker, owner_of_port, owner_of_offer, 
 use Rattle.vale_own.specs.OwnAsks.{holds_own, may_send, may_receive, may_sync, may_get, may_put, may_shut, may_finish, may_open, may_leave, may_ask}
 use Rattle.vale_own.specs.Laws.{OwnTellsAsks, AsksStay}
 use Rattle.vale_own.proofs.Single.{only-found, only-lots}
-use Rattle.vale_own.proofs.Finds.{kept, find-kept, kept-met}
+use Rattle.vale_own.proofs.Finds.{find-kept, kept-met}
 use Rattle.vale_own.proofs.Sounds.{Sound, sound-of, lots-of_leases, settled-at, no-port}
 use Rattle.vale_own.proofs.OwnKept.{own-kept, legal-split}
 
 -- a port that is found, and the session's that is found
 port-found : (at : Port → Bool) (id session : ℕ) → ((p : Port) → at (port_alone p) ≡ at p) → ((p : Port) → at p ≡ true → p.id ≡ id) → (s : Standing) → Sound s
-    → find at (own_of session s).ports ≡ kept (is_port_of session) (option_map port_alone (find at s.world.ports))
+    → find at (own_of session s).ports ≡ option_filter (is_port_of session) (option_map port_alone (find at s.world.ports))
 port-found at id session same of_id s k =
     let ports = s.world.ports in
     let alone = find-map port_alone at same ports in
-    find-kept (is_port_of session) at (map port_alone ports) (λ y e. alike y (find at ports) refl (sym alone ∙ e)) ∙ ap (kept (is_port_of session)) alone
+    find-kept (is_port_of session) at (map port_alone ports) (λ y e. alike y (find at ports) refl (sym alone ∙ e)) ∙ ap (option_filter (is_port_of session)) alone
   where
     alike : (y : Port) (found : Option Port) → find at s.world.ports ≡ found → option_map port_alone found ≡ Some y → Each (λ (z : Port). at z ≡ true → is_port_of session z ≡ is_port_of session y) (map port_alone s.world.ports)
     alike y None e is = absurd cc
@@ -52,7 +53,7 @@ port-found at id session same of_id s k =
 
 -- a test of a port that reads what is the session's own
 port-met : (session : ℕ) (old new : Port → Bool) → ((p : Port) → new (port_alone p) ≡ new p) → ((p : Port) → p.session ≡ session → old p ≡ new p) → (found : Option Port)
-    → (is_met old found && is_asker (option_map owner_of_port found) session) ≡ is_met new (kept (is_port_of session) (option_map port_alone found))
+    → (is_met old found && is_asker (option_map owner_of_port found) session) ≡ is_met new (option_filter (is_port_of session) (option_map port_alone found))
 port-met session old new alone same None = refl
 port-met session old new alone same (Some p) = by (p.session == session) refl
   where
@@ -88,7 +89,7 @@ told-grant session origin to s k =
 
 -- a Done
 lease-met : (session number : ℕ) (found : Option Lot) → ((lot : Lot) → found ≡ Some lot → is_lease number lot ≡ true)
-    → (is_some found && is_asker (option_map owner_of_lot found) session) ≡ is_some (kept (is_owed_by session) found)
+    → (is_some found && is_asker (option_map owner_of_lot found) session) ≡ is_some (option_filter (is_owed_by session) found)
 lease-met session number None lease = refl
 lease-met session number (Some lot) lease = by (lot.session == session) refl (and_parts (lot.number == number) (not lot.is_done) (lease lot refl)).1
   where

@@ -35,7 +35,7 @@ use Rattle.vale_entry.proofs.Removals.{each-filter}
 use Rattle.vale_own.specs.Own.{Own, own_of, leases_at, is_lease_of, buffers_of_lease}
 use Rattle.vale_own.specs.OwnEntries.{own_sent, own_granted, own_received, own_after_entry, given_up}
 use Rattle.vale_own.specs.Laws.{HoldsFrames, LeasesHoldFrames, OwnBuffersAreApart, BuffersGoAndCome}
-use Rattle.vale_own.proofs.Mine.{filter-every}
+use Rattle.vale_own.proofs.Lists.{filter-every}
 use Rattle.vale_own.proofs.Newcomers.{no-buffers-yet}
 use Rattle.vale_own.proofs.Reading.{paid-found}
 use Rattle.vale_own.proofs.OwnEntry.{own-entries}

@@ -1,17 +1,13 @@
 -- A search among the elements that pass a test.
 use Rattle.std.proofs.Common.{◌≡◌, Bool, true, false, cond, not, ◌&&◌, ◌||◌, ◌==◌, ℕ, List, [], ◌∷◌, ◌++◌, filter, find, Option, Some, None, refl, sym, ◌∙◌}
 use Rattle.std.specs.Prelude.{option_map}
+use Rattle.std.proofs.lemmas.Map.Entries.{option_filter}
 use Rattle.std.specs.List.{AllByRecursion as Each, list_any}
 use Rattle.std.proofs.Math.Bool.{and-false, and-true}
 use Rattle.vale_entry.proofs.Each.{each-weaker}
 use Rattle.vale_entry.specs.Legal.{is_met}
 use Rattle.vale_own.specs.Own.{is_empty}
 use Rattle.vale_own.specs.Asker.{is_asker}
-
--- what was found, if it passes
-abbrev pub kept : {X : Type 0} → (X → Bool) → Option X → Option X
-kept p None = None
-kept p (Some x) = cond (p x) (Some x) None
 
 find-none : {X : Type 0} (p q : X → Bool) (xs : List X) → Each (λ x. q x ≡ true → p x ≡ false) xs → find q (filter p xs) ≡ None
 find-none p q [] all = refl
@@ -23,12 +19,12 @@ find-none {X} p q (x ∷ xs) all = by (p x) (q x) refl refl (find-none p q xs al
     by false c h t rest = rw h rest
 
 -- where all that are looked for pass, or none, as the first does
-pub find-kept : {X : Type 0} (p q : X → Bool) (xs : List X) → ((y : X) → find q xs ≡ Some y → Each (λ z. q z ≡ true → p z ≡ p y) xs) → find q (filter p xs) ≡ kept p (find q xs)
+pub find-kept : {X : Type 0} (p q : X → Bool) (xs : List X) → ((y : X) → find q xs ≡ Some y → Each (λ z. q z ≡ true → p z ≡ p y) xs) → find q (filter p xs) ≡ option_filter p (find q xs)
 find-kept p q [] alike = refl
 find-kept {X} p q (x ∷ xs) alike = by (p x) (q x) refl refl (find-kept p q xs)
   where
-    by : (b c : Bool) → p x ≡ b → q x ≡ c → (((y : X) → find q xs ≡ Some y → Each (λ z. q z ≡ true → p z ≡ p y) xs) → find q (filter p xs) ≡ kept p (find q xs))
-        → find q (cond (p x) (x ∷ filter p xs) (filter p xs)) ≡ kept p (cond (q x) (Some x) (find q xs))
+    by : (b c : Bool) → p x ≡ b → q x ≡ c → (((y : X) → find q xs ≡ Some y → Each (λ z. q z ≡ true → p z ≡ p y) xs) → find q (filter p xs) ≡ option_filter p (find q xs))
+        → find q (cond (p x) (x ∷ filter p xs) (filter p xs)) ≡ option_filter p (cond (q x) (Some x) (find q xs))
     by true true h t rest = rw (h, t, h) refl
     by false true h t rest =
         let found : cond (q x) (Some x) (find q xs) ≡ Some x = rw t refl in
@@ -39,7 +35,7 @@ find-kept {X} p q (x ∷ xs) alike = by (p x) (q x) refl refl (find-kept p q xs)
 
 -- what was found and is of a session
 pub kept-met : {X : Type 0} (owner : X → ℕ) (session : ℕ) (test : X → Bool) (found : Option X)
-    → is_met test (kept (λ x. owner x == session) found) ≡ (is_met test found && is_asker (option_map owner found) session)
+    → is_met test (option_filter (λ x. owner x == session) found) ≡ (is_met test found && is_asker (option_map owner found) session)
 kept-met owner session test None = refl
 kept-met {X} owner session test (Some x) = by (owner x == session) refl
   where

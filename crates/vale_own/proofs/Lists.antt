@@ -1,5 +1,5 @@
 -- Lists of which some elements are another session's: what a filter, a search or a join of lists reads.
-use Rattle.std.proofs.Common.{ℕ, ◌≡◌, ◌≢◌, Bool, true, false, cond, not, ◌==◌, List, [], ◌∷◌, ◌++◌, map, filter, flat_map, append-nil, find, Some, refl, ◌∙◌}
+use Rattle.std.proofs.Common.{ℕ, ◌≡◌, ◌≢◌, Bool, true, false, cond, not, ◌==◌, List, [], ◌∷◌, ◌++◌, map, filter, flat_map, append-nil, find, Some, refl, ◌∙◌, ap}
 use Rattle.std.specs.List.{AllByRecursion as Each, list_any}
 use Rattle.std.proofs.lemmas.Bool.{eqb-true, ne_eqb}
 use Rattle.std.proofs.lemmas.List.Elements.{filter-append}
@@ -11,19 +11,17 @@ use Rattle.vale_entry.specs.Holdings.{SessionBuffers, buffers_of_session}
 use Rattle.vale_entry.proofs.Each.{each-offers_of}
 use Rattle.vale_own.specs.Own.{is_offer_by}
 
-pub filter-filtered : {X : Type 0} (p q : X → Bool) (xs : List X) → Each (λ x. p x ≡ true → q x ≡ true) xs → filter p (filter q xs) ≡ filter p xs
-filter-filtered p q [] all = refl
-filter-filtered {X} p q (x ∷ xs) all = by (p x) (q x) refl refl (filter-filtered p q xs all.1)
-  where
-    by : (b c : Bool) → p x ≡ b → q x ≡ c → filter p (filter q xs) ≡ filter p xs → filter p (cond (q x) (x ∷ filter q xs) (filter q xs)) ≡ cond (p x) (x ∷ filter p xs) (filter p xs)
-    by true true e h rest = rw (h, e, rest) refl
-    by true false e h rest = absurd (let t = all.0 e in cc)
-    by false true e h rest = rw (h, e, rest) refl
-    by false false e h rest = rw (h, e, rest) refl
-
 pub filter-none : {X : Type 0} (p : X → Bool) (xs : List X) → Each (λ x. p x ≡ false) xs → filter p xs ≡ []
 filter-none p [] all = refl
 filter-none p (x ∷ xs) all = rw (all.0) (filter-none p xs all.1)
+
+pub filter-every : {X : Type 0} (p : X → Bool) (xs : List X) → Each (λ x. p x ≡ true) xs → filter p xs ≡ xs
+filter-every p [] all = refl
+filter-every p (x ∷ xs) all = rw (all.0) (ap (λ ys. x ∷ ys) (filter-every p xs all.1))
+
+pub flat_map-none : {X Y : Type 0} (f : X → List Y) (xs : List X) → Each (λ x. f x ≡ []) xs → flat_map f xs ≡ []
+flat_map-none f [] all = refl
+flat_map-none f (x ∷ xs) all = rw (all.0, flat_map-none f xs all.1) refl
 
 pub flat_map-changed : {X Y : Type 0} (f : X → List Y) (change : X → X) (xs : List X) → Each (λ x. f (change x) ≡ f x) xs → flat_map f (map change xs) ≡ flat_map f xs
 flat_map-changed f change [] all = refl

@@ -12,11 +12,8 @@ use Rattle.vale_entry.specs.Closing.{is_port_of, ports_without}
 use Rattle.vale_entry.specs.Holdings.{PortBuffers, SessionBuffers, buffers_of_session, sessions_given, sessions_less, buffers_without}
 use Rattle.vale_entry.specs.Laws.{IsThere, id_of_session}
 use Rattle.vale_entry.proofs.Each.{each-offers_of}
+use Rattle.vale_own.proofs.Lists.{filter-every}
 use Rattle.vale_own.specs.Own.{HeldLot, port_alone, is_offer_by, is_lease_of, leases_at}
-
-pub filter-every : {X : Type 0} (p : X → Bool) (xs : List X) → Each (λ x. p x ≡ true) xs → filter p xs ≡ xs
-filter-every p [] all = refl
-filter-every p (x ∷ xs) all = rw (all.0) (ap (λ ys. x ∷ ys) (filter-every p xs all.1))
 
 -- the session's offers are one entry's more
 pub mine-offers : (session n : ℕ) (wanted : Port → List Frame) (ports : List Port) (offers : List Offer)

@@ -22,7 +22,7 @@ use Rattle.vale_entry.proofs.Each.{each-append, each-weaker, each-map, each-unma
 use Rattle.vale_entry.proofs.Removals.{each-filter}
 use Rattle.vale_entry.proofs.Rising.{rise-bounds}
 use Rattle.vale_own.specs.Own.{port_alone, is_offer_by, leases_at, is_lease_of}
-use Rattle.vale_own.proofs.Lists.{filter-none}
+use Rattle.vale_own.proofs.Lists.{filter-none, flat_map-none}
 use Rattle.vale_own.proofs.Sides.{each-zip}
 
 -- each lot is of a session of such a number
@@ -108,10 +108,6 @@ no-offers count sessions offers r all =
     filter-none (is_offer_by (count + 1)) offers
     (each-weaker (IsOfferOf sessions) (λ (o : Offer). is_offer_by (count + 1) o ≡ false)
     (λ o here. let le = among-bound 0 sessions count o.session r here in ne_eqb o.session (count + 1) (λ e. omega (arith, le, e))) offers all)
-
-flat_map-none : {X Y : Type 0} (f : X → List Y) (xs : List X) → Each (λ x. f x ≡ []) xs → flat_map f xs ≡ []
-flat_map-none f [] all = refl
-flat_map-none f (x ∷ xs) all = rw (all.0, flat_map-none f xs all.1) refl
 
 pub no-leases : (count : ℕ) (ports : List Port) (helds : List PortBuffers) → Each (HasLotsFrom count) ports → flat_map (leases_at (count + 1)) (zip ports helds) ≡ []
 no-leases count ports helds all =

@@ -7,12 +7,12 @@ use Rattle.vale_entry.specs.World.{Port, Lot}
 use Rattle.vale_entry.specs.Delivery.{is_lease, lease_at, line_of}
 use Rattle.vale_entry.specs.Laws.{Rise, id_of_port, AreSingle, bears_number}
 use Rattle.vale_entry.proofs.ListLaws.{sum-flat_map}
-use Rattle.vale_entry.proofs.Each.{each-weaker, each-find}
+use Rattle.vale_entry.proofs.Each.{each-weaker, each-find, each-unmap}
+use Rattle.vale_entry.proofs.Rising.{rise-above}
 
 -- the ids rise, so the port found is the only one of its id
 pub above : (low : ℕ) (ports : List Port) (high : ℕ) → Rise low (map id_of_port ports) high → Each (λ (p : Port). low < p.id) ports
-above low [] high r = tt
-above low (p ∷ ps) high r = let here = r.0 in (here, each-weaker (λ (q : Port). p.id < q.id) (λ (q : Port). low < q.id) (λ q more. omega arith) ps (above p.id ps high r.1))
+above low ports high r = each-unmap (λ (n : ℕ). low < n) id_of_port ports (rise-above low (map id_of_port ports) high r)
 
 pub only-found : (test : Port → Bool) (low : ℕ) (ports : List Port) (high : ℕ) (port : Port) → Rise low (map id_of_port ports) high → find test ports ≡ Some port
     → Each (λ (p : Port). p.id ≡ port.id → p ≡ port) ports
