@@ -18,4 +18,5 @@ pub mod OwnEntry
 pub mod Reading
 pub mod Coming
 pub mod Buffers
+pub mod Moved
 pub mod OwnLaws

@@ -1,5 +1,5 @@
 -- Laws of what is a session's own, as statements.
-use Rattle.std.specs.Prelude.{ℕ, true, false, not, ◌&&◌, ◌≡◌, ◌≢◌, ◌<◌, List, [], ◌∷◌, ◌++◌, length, find, filter, map, flat_map, sum_by, slice_get, Some, option_map, All, count_by, ◌==◌, ◌≤◌, if◌then◌else◌}
+use Rattle.std.specs.Prelude.{ℕ, true, false, not, ◌&&◌, ◌≡◌, ◌≢◌, ◌<◌, List, [], ◌∷◌, ◌++◌, length, find, filter, map, flat_map, sum_by, slice_get, Some, option_map, All, count_by, ◌==◌, ◌+◌, ◌≤◌, if◌then◌else◌}
 use Rattle.std.specs.List.{AllByRecursion}
 use Rattle.vale_entry.specs.declared.entry.Ask.{Ask}
 use Rattle.vale_entry.specs.declared.entry.Entry.{Entry}
@@ -108,6 +108,13 @@ abbrev pub BuffersGoAndCome : Type 0
 BuffersGoAndCome = (pool : ℕ) (past : List Entry) (entry : Entry) → IsLegal pool past → Follows (standing_of pool past) entry
     → (own_of entry.session.0 (standing_of pool (past ++ entry ∷ []))).buffers
     ≡ buffers_without (given_up entry.ask entry.reply) (own_of entry.session.0 (standing_of pool past)).buffers ++ buffers_of_arrivals (arrivals_of (standing_of pool past) entry.ask entry.reply)
+
+-- so, by counts and in whatever order, what a session has after an entry and what it gave up is what it
+-- had before and what came
+abbrev pub BuffersAreMoved : Type 0
+BuffersAreMoved = (pool : ℕ) (past : List Entry) (entry : Entry) (b : ℕ) → IsLegal pool past → Follows (standing_of pool past) entry
+    → count_by (λ y. y == b) (own_of entry.session.0 (standing_of pool (past ++ entry ∷ []))).buffers + count_by (λ y. y == b) (given_up entry.ask entry.reply)
+    ≡ count_by (λ y. y == b) (own_of entry.session.0 (standing_of pool past)).buffers + count_by (λ y. y == b) (buffers_of_arrivals (arrivals_of (standing_of pool past) entry.ask entry.reply))
 
 -- the session has no lease at the port
 abbrev pub NoneOwed : ℕ → Port → Type 0

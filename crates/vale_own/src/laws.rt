@@ -2,7 +2,7 @@
 //! definitions, which the check proves.
 #![tactic(auto, using(crate::proofs::OwnLaws::own_laws))]
 
-ghost use Rattle.vale_own.specs.Laws.{AskersMakeSteps, AsksStay, BuffersAreDue, BuffersGoAndCome, EntriesAreOfAskers, EntriesHaveOneAsker, FirstLeasesAreOwn, FirstOffersAreOwn, GrantsGoByPort, LeasesHoldFrames, OffersLeftAreOwn, OwnBuffersAreApart, OwnEntriesChangeOwn, OwnIsKept, OwnTellsAsks, SettledIsOwn, ThereIsCome};
+ghost use Rattle.vale_own.specs.Laws.{AskersMakeSteps, AsksStay, BuffersAreDue, BuffersAreMoved, BuffersGoAndCome, EntriesAreOfAskers, EntriesHaveOneAsker, FirstLeasesAreOwn, FirstOffersAreOwn, GrantsGoByPort, LeasesHoldFrames, OffersLeftAreOwn, OwnBuffersAreApart, OwnEntriesChangeOwn, OwnIsKept, OwnTellsAsks, SettledIsOwn, ThereIsCome};
 
 /// Over a legal history, entries none of which is a session's leave what is its own as it was: whether
 /// it is there, its ports but for what is queued at them, its offers, its leases with their buffers, and
@@ -107,4 +107,11 @@ pub fn grants_go_by_port()
 #[tactic(auto, using(crate::proofs::OwnLaws::reading_laws))]
 pub fn buffers_go_and_come()
     ensures { BuffersGoAndCome }
+{}
+
+/// In a legal history what a session has after an entry of its own and what it gave up is, by counts,
+/// what it had before and what came.
+#[tactic(auto, using(crate::proofs::OwnLaws::reading_laws))]
+pub fn buffers_are_moved()
+    ensures { BuffersAreMoved }
 {}
