@@ -17,8 +17,8 @@ owner_of_offer offer = offer.session
 abbrev pub owner_of_lot : Lot → ℕ
 owner_of_lot lot = lot.session
 
--- the session that the ask names, or that of the port, of the entry's next offer or of the lease that it
--- names; a Finish names a shutting port, every other ask an open one; an Enter is nobody's
+-- the session that the ask names, or that of the port, of the entry's next offer or of the lease that
+-- it names; a Finish names a shutting port, every other ask an open one; an Enter is nobody's
 abbrev pub asker_of : Standing → Ask → Option ℕ
 asker_of s (Enter user) = None
 asker_of s (Open session name tx rx extra) = Some session.0

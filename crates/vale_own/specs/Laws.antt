@@ -109,8 +109,7 @@ BuffersGoAndCome = (pool : ℕ) (past : List Entry) (entry : Entry) → IsLegal 
     → (own_of entry.session.0 (standing_of pool (past ++ entry ∷ []))).buffers
     ≡ buffers_without (given_up entry.ask entry.reply) (own_of entry.session.0 (standing_of pool past)).buffers ++ buffers_of_arrivals (arrivals_of (standing_of pool past) entry.ask entry.reply)
 
--- so, by counts and in whatever order, what a session has after an entry and what it gave up is what it
--- had before and what came
+-- so, by counts, what a session has after an entry and what it gave up is what it had and what came
 abbrev pub BuffersAreMoved : Type 0
 BuffersAreMoved = (pool : ℕ) (past : List Entry) (entry : Entry) (b : ℕ) → IsLegal pool past → Follows (standing_of pool past) entry
     → count_by (λ y. y == b) (own_of entry.session.0 (standing_of pool (past ++ entry ∷ []))).buffers + count_by (λ y. y == b) (given_up entry.ask entry.reply)
@@ -123,7 +122,7 @@ NoneOwed session port = AllByRecursion (λ (lot : Lot). is_owed_by session lot �
 abbrev pub port_of_offer : Offer → ℕ
 port_of_offer offer = offer.to
 
--- a session's leases stand at ports up to one, and its offers are to ports behind that, each to a later one
+-- a session's leases stand at ports up to one, and its offers are to ports behind that, by rising port
 pub record AheadOf (session : ℕ) (ports : List Port) (offers : List Offer) : Type 0 where
   pub low : ℕ
   pub high : ℕ

@@ -1,5 +1,5 @@
--- Worked examples of what is a session's own, as theorems about the definitions: a pool of 64 buffers, and
--- two sessions with a port of 4 and 4 slots each.
+-- Worked examples of what is a session's own, as theorems about the definitions: a pool of 64 buffers,
+-- and two sessions with a port of 4 and 4 slots each.
 use Rattle.std.specs.Prelude.{ℕ, ◌≡◌, true, false, List, [], ◌∷◌, ◌++◌, take, codes, Some, None, refl}
 use Rattle.nm_types.specs.Frames.{Frame}
 use Rattle.nm_types.specs.Names.{is_name, is_switch_port_name, is_pipe_name, is_monitor_name, switch_of, peer_name}
@@ -32,8 +32,8 @@ opening session name = by_session session (Open (record { 0 = session }) name 4 
 abbrev port_seen : ℕ → ℕ → List ℕ → ℕ → Port
 port_seen id session name out = record { id = id; session = session; name = name; tx = 4; rx = 4; extra = 0; shutting = false; out = out; line = [] }
 
--- The first session sends a frame that the second one's port wants, grants it and fills it; the second one
--- shuts its port before that, or reads it after.
+-- The first session sends a frame that the second one's port wants, grants it and fills it; the second
+-- one reads it after that, or shuts its port before.
 abbrev start : List Entry
 start =
     by_session 1 (Enter 1) Made
