@@ -14,6 +14,14 @@ settled-none w session e =
     and_parts (not (list_any (λ (offer : Offer). offer.session == session) w.offers)) (not (list_any (has_lot_owed_by session) w.ports)) e in
     each-none (λ (offer : Offer). offer.session == session) w.offers (not-true (list_any (λ (offer : Offer). offer.session == session) w.offers) parts.0)
 
+-- and no port has a lease of it
+pub settled-no_lease : (w : World) (session : ℕ) → is_settled w session ≡ true
+    → Each (λ (port : Port). has_lot_owed_by session port ≡ false) w.ports
+settled-no_lease w session e =
+    let parts =
+    and_parts (not (list_any (λ (offer : Offer). offer.session == session) w.offers)) (not (list_any (has_lot_owed_by session) w.ports)) e in
+    each-none (has_lot_owed_by session) w.ports (not-true (list_any (has_lot_owed_by session) w.ports) parts.1)
+
 pub made-if : (P : Option Outcome → Type 0) (made : Outcome) (can : Bool) → P None → (can ≡ true → P (Some made)) → P (cond can (Some made) None)
 made-if P made true none some = some refl
 made-if P made false none some = none
@@ -35,11 +43,12 @@ finish-by P s bufs (Some port) none some =
     let parts = and_parts (can_finish s bufs port) (leases_out port == 0) can in
     some port refl parts.0 (eqb-true (leases_out port) 0 parts.1))
 
--- a session without a port and without an offer
+-- a session without a port, an offer or a lease
 pub record CanLeave (w : World) (session : ℕ) : Type 0 where
   pub found : is_session w session ≡ true
   pub no_port : Each (λ (port : Port). (port.session == session) ≡ false) w.ports
   pub no_offer : Each (λ (offer : Offer). (offer.session == session) ≡ false) w.offers
+  pub no_lease : Each (λ (port : Port). has_lot_owed_by session port ≡ false) w.ports
 
 pub leave-by : (P : Option Outcome → Type 0) (s : Standing) (session : ℕ) → P None → (CanLeave s.world session → P (Some (leave_step s session)))
     → P (cond (can_leave s.world session) (Some (leave_step s session)) None)
@@ -54,4 +63,5 @@ leave-by P s session none some = made-if P (leave_step s session) (can_leave s.w
           found = parts.0;
           no_port = each-none (is_port_of session) w.ports (not-true (list_any (is_port_of session) w.ports) rest.0);
           no_offer = settled-none w session rest.1;
+          no_lease = settled-no_lease w session rest.1;
         }

@@ -45,6 +45,19 @@ ids-without key gone [] = refl
 ids-without key gone (x ∷ xs) =
     kept_if key x (filter (λ y. not (key y == gone)) xs) (filter (stays gone) (map key xs)) (not (key x == gone)) (ids-without key gone xs)
 
+-- entries that open no port and end none
+pub moved-quiet : (s : Standing) (number : ℕ) (ask : Ask) (session : ℕ) (reply : Reply) (cs : List PortCounts) → IsQuiet s ask session reply → counts_moved number ask reply cs ≡ cs
+moved-quiet s number _ _ _ cs (refused_open session name tx rx extra fault can e) = refl
+moved-quiet s number _ _ _ cs (resets at side fault port e can) = refl
+moved-quiet s number _ _ _ cs (finds_no_peer at offered port e few gone) = refl
+moved-quiet s number _ _ _ cs (finds_no_target at target sides port e can none) = refl
+moved-quiet s number _ _ _ cs (finds_watched at target sides port found watch e can there some) = refl
+moved-quiet s number _ _ _ cs (counts at port e) = refl
+
+pub moved-read : (number : ℕ) (ask : Ask) (at : PortId) (back : List ℕ) (reply : Reply) (cs : List PortCounts) → Receives ask at back → counts_moved number ask reply cs ≡ cs
+moved-read number _ _ _ reply cs (by_sync at back) = refl
+moved-read number _ _ _ reply cs (by_get at back) = refl
+
 abbrev Kept : Entry → Standing → Type 0
 Kept e left = AreCountedAt left.world
 
@@ -73,24 +86,12 @@ module _ (s : Standing) (n : Numbered s) (k : AreCountedAt s.world) where
       ∙ (ap (filter (stays at)) (still e)
       ∙ (sym (ids-without id_of_port at w.ports) ∙ ap (λ (id : ℕ). map id_of_port (ports_without id w.ports)) (sym same)))
 
-  moved-quiet : (number : ℕ) (ask : Ask) (session : ℕ) (reply : Reply) (cs : List PortCounts) → IsQuiet s ask session reply → counts_moved number ask reply cs ≡ cs
-  moved-quiet number _ _ _ cs (refused_open session name tx rx extra fault can e) = refl
-  moved-quiet number _ _ _ cs (resets at side fault port e can) = refl
-  moved-quiet number _ _ _ cs (finds_no_peer at offered port e few gone) = refl
-  moved-quiet number _ _ _ cs (finds_no_target at target sides port e can none) = refl
-  moved-quiet number _ _ _ cs (finds_watched at target sides port found watch e can there some) = refl
-  moved-quiet number _ _ _ cs (counts at port e) = refl
-
-  moved-read : (number : ℕ) (ask : Ask) (at : PortId) (back : List ℕ) (reply : Reply) (cs : List PortCounts) → Receives ask at back → counts_moved number ask reply cs ≡ cs
-  moved-read number _ _ _ reply cs (by_sync at back) = refl
-  moved-read number _ _ _ reply cs (by_get at back) = refl
-
   kinds : EachKind s (Left s Kept)
   kinds = record {
     enters = λ user fits. still (entry_made (Enter user) (enter_step s));
     quiet = λ ask session reply quiet.
         let e : Entry = entry_made ask (unchanged s session reply) in
-        ap (map id_of_counted) (moved-quiet (w.entry_count + 1) ask session reply (map (with_counted w e) w.counts) quiet) ∙ still e;
+        ap (map id_of_counted) (moved-quiet s (w.entry_count + 1) ask session reply (map (with_counted w e) w.counts) quiet) ∙ still e;
     opens = λ session name tx rx extra can refusal. opened (entry_made (Open session name tx rx extra) (open_step_by None s session.0 name tx rx extra)) (record { port = w.entry_count + 1; counts = zero_counts }) (opened_port (w.entry_count + 1) session.0 name tx rx extra) refl;
     sends = λ from frames port e can settled. still (entry_made (Send from frames) (send_step s frames port));
     grants = λ origin to offer first same. changed (entry_made (Grant origin to) (grant_step s offer)) offer.to (port_after_grant (w.entry_count + 1) offer.session (granted_frames w offer)) (λ p. refl);

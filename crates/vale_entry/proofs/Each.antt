@@ -110,6 +110,18 @@ each-cons_offer : (P : Offer → Type 0) (origin session to : ℕ) (frames : Lis
 each-cons_offer P origin session to [] rest holds all = all
 each-cons_offer P origin session to (frame ∷ frames) rest holds all = (holds to (frame ∷ frames), all)
 
+-- each is of a port
+pub each-offered : (P : Offer → Type 0) (origin session : ℕ) (wanted : Port → List Frame) (ports : List Port)
+    → Each (λ (p : Port). P (record { origin = origin; session = session; to = p.id; frames = wanted p })) ports
+    → Each P (offers_of origin session wanted ports)
+each-offered P origin session wanted [] all = tt
+each-offered P origin session wanted (p ∷ ps) all = one (wanted p) all.0 (each-offered P origin session wanted ps all.1)
+  where
+    one : (frames : List Frame) → P (record { origin = origin; session = session; to = p.id; frames = frames })
+        → Each P (offers_of origin session wanted ps) → Each P (cons_option (offer_to origin session p.id frames) (offers_of origin session wanted ps))
+    one [] here rest = rest
+    one (frame ∷ frames) here rest = (here, rest)
+
 pub each-offers_of : (P : Offer → Type 0) (origin session : ℕ) (wanted : Port → List Frame)
     → ((at : ℕ) (frames : List Frame) → P (record { origin = origin; session = session; to = at; frames = frames }))
     → (ports : List Port) → Each P (offers_of origin session wanted ports)

@@ -1,8 +1,11 @@
 -- Buffers that become free again: each is put at its place among the free ones, so these still rise.
-use Rattle.std.proofs.Common.{ℕ, suc, ◌+◌, ◌<◌, ◌≤◌, ◌≡◌, Bool, true, false, cond, nat_lt, nat_le, ◌==◌, List, [], ◌∷◌, length, refl, arith}
-use Rattle.std.proofs.lemmas.Bool.{and_parts, eqb-false, eq-eqb, ltb-true, ltb-false, leb-true}
+use Rattle.std.proofs.Common.{ℕ, suc, ◌+◌, ◌<◌, ◌≤◌, ◌≡◌, Bool, true, false, cond, nat_lt, nat_le, ◌==◌, List, [], ◌∷◌, ◌++◌, length, take, drop, refl, sym, ◌∙◌, ap, subst, arith, append_assoc}
+use Rattle.std.specs.List.{AllByRecursion as Each}
+use Rattle.std.proofs.lemmas.List.{take-append-drop}
+use Rattle.std.proofs.lemmas.Bool.{and_parts, eqb-false, eq-eqb, ltb-true, ltb-false, leb-true, lt-ltb, le-ltb}
 use Rattle.vale_entry.specs.Holdings.{with_free, all_with_free, is_buffer_index}
-use Rattle.vale_entry.specs.Laws.{Rise}
+use Rattle.vale_entry.specs.Laws.{Rise, FreeBuffersReturn}
+use Rattle.vale_entry.proofs.Rising.{rise-above}
 use Rattle.vale_entry.proofs.Counting.{count_of, count_of-cons}
 
 with_by : (b c first : ℕ) (free more : List ℕ) (below : Bool) → count_of b more ≡ count_of b (c ∷ free)
@@ -99,3 +102,43 @@ held-bounds pool b n parted some = by_test (is_buffer_index pool b) refl parted
     by_test true t e =
         let parts = and_parts (nat_le 2 b) (nat_le b (pool + 1)) t in
         (leb-true 2 b parts.0, leb-true b (pool + 1) parts.1)
+
+-- What was taken from the front of the free buffers goes back to its place.
+
+each-back : {X : Type 0} (P : X → Type 0) (xs ys : List X) → Each P (xs ++ ys) → Each P ys
+each-back P [] ys all = all
+each-back P (x ∷ xs) ys all = each-back P xs ys all.1
+
+rise-around : (low : ℕ) (front : List ℕ) (b : ℕ) (more : List ℕ) (high : ℕ) → Rise low (front ++ b ∷ more) high
+    → Each (λ (a : ℕ). a < b) front × Each (λ (c : ℕ). b < c) more
+rise-around low [] b more high r = (tt, rise-above b more high r.1)
+rise-around low (a ∷ front) b more high r =
+    let later = each-back (λ (n : ℕ). a < n) front (b ∷ more) (rise-above a (front ++ b ∷ more) high r.1) in
+    let rest = rise-around a front b more high r.1 in
+    ((later.0, rest.0), rest.1)
+
+with_free-between : (b : ℕ) (front rest : List ℕ) → Each (λ (a : ℕ). a < b) front → Each (λ (c : ℕ). b < c) rest
+    → with_free b (front ++ rest) ≡ front ++ b ∷ rest
+with_free-between b [] [] below above = refl
+with_free-between b [] (c ∷ rest) below above = rw (lt-ltb b c above.0) refl
+with_free-between b (a ∷ front) rest below above =
+    let less : a < b = below.0 in
+    let past : nat_lt b a ≡ false = le-ltb b a (omega (arith, less)) in
+    rw past (ap (λ (xs : List ℕ). a ∷ xs) (with_free-between b front rest below.1 above))
+
+back-between : (low : ℕ) (front bs rest : List ℕ) (high : ℕ) → Rise low (front ++ (bs ++ rest)) high
+    → all_with_free bs (front ++ rest) ≡ front ++ (bs ++ rest)
+back-between low front [] rest high r = refl
+back-between low front (b ∷ bs) rest high r =
+    let around = rise-around low front b (bs ++ rest) high r in
+    let here : with_free b (front ++ rest) ≡ (front ++ b ∷ []) ++ rest =
+    with_free-between b front rest around.0 (each-back (λ (c : ℕ). b < c) bs rest around.1) ∙ sym (append_assoc front (b ∷ []) rest) in
+    let rises : Rise low ((front ++ b ∷ []) ++ (bs ++ rest)) high =
+    subst (λ (xs : List ℕ). Rise low xs high) (sym (append_assoc front (b ∷ []) (bs ++ rest))) r in
+    ap (all_with_free bs) here
+    ∙ (back-between low (front ++ b ∷ []) bs rest high rises ∙ append_assoc front (b ∷ []) (bs ++ rest))
+
+pub free-returns : FreeBuffersReturn
+free-returns low high n free r =
+    let whole : take n free ++ drop n free ≡ free = take-append-drop n free in
+    back-between low [] (take n free) (drop n free) high (subst (λ (xs : List ℕ). Rise low xs high) (sym whole) r) ∙ whole

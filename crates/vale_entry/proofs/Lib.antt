@@ -19,6 +19,7 @@ pub mod ReadInOrder
 pub mod Shares
 pub mod Watched
 pub mod Puts
+pub mod PutsOfReply
 pub mod OutCounted
 pub mod Offered
 pub mod SharedOnce
@@ -44,6 +45,11 @@ pub mod NamesApart
 pub mod OffersClimb
 pub mod Waiting
 pub mod CountersKept
+pub mod Within
+pub mod Fitting
+pub mod PairsOfSwitch
+pub mod CountersSummed
+pub mod LotsOfEntries
 pub mod HistoryPlaces
 pub mod ItemBytes
 pub mod Printable

@@ -13,6 +13,11 @@ rise-bounds low (n ∷ ns) high r =
     let rest : n ≤ high = rise-bounds n ns high r.1 in
     omega arith
 
+pub rise-within : {X : Type 0} (key : X → ℕ) (low : ℕ) (xs : List X) (high : ℕ) → Rise low (map key xs) high
+    → Each (λ x. key x ≤ high) xs
+rise-within key low [] high r = tt
+rise-within key low (x ∷ xs) high r = (rise-bounds (key x) (map key xs) high r.1, rise-within key (key x) xs high r.1)
+
 -- from a lower bound, and up to a higher one
 pub rise-wider : (lower low : ℕ) (ns : List ℕ) (high higher : ℕ) → lower ≤ low → high ≤ higher → Rise low ns high → Rise lower ns higher
 rise-wider lower low [] high higher below above r = let all : low ≤ high = r in omega arith

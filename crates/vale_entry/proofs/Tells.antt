@@ -175,7 +175,7 @@ pub record TellsPut (w : World) (at : ℕ) (items : List Item) (peer : Port) (e 
   pub shares : (number to : ℕ) → share_in number to e ≡ []
   pub sent : (port : ℕ) → numbers_in port w e ≡ cond (at == port) ((w.entry_count + 1) ∷ []) []
 
-goes-to : (ports : List Port) (at to : ℕ) (port peer : Port) → open_port ports at ≡ Some port → peer_of ports port ≡ Some peer → puts_to_port ports at to ≡ (peer.id == to)
+pub goes-to : (ports : List Port) (at to : ℕ) (port peer : Port) → open_port ports at ≡ Some port → peer_of ports port ≡ Some peer → puts_to_port ports at to ≡ (peer.id == to)
 goes-to ports at to port peer e found = ap (λ (o : Option Port). is_port_at to (peer_of_found ports o)) e ∙ ap (is_port_at to) found
 
 pub tells-put : (s : Standing) (at : PortId) (offered : ℕ) (items : List Item) (port peer : Port) → open_port s.world.ports at.0 ≡ Some port → peer_of s.world.ports port ≡ Some peer

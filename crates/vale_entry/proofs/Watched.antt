@@ -6,6 +6,7 @@ use Rattle.std.specs.List.{AllByRecursion as Each, list_any}
 use Rattle.std.proofs.lemmas.Bool.{and_parts, or_parts, eqb-true, eqb-false, eq-eqb, ne_eqb, not-true}
 use Rattle.std.proofs.lemmas.List.Sums.{sum_by-cons, sum_by_push}
 use Rattle.nm_types.specs.Names.{is_name, is_monitor_name}
+use Rattle.std.proofs.lemmas.Slice.Eq.{bytes_eq-Decides}
 use Rattle.vale_entry.specs.World.{World, Port, Watch as Watcher, is_open_at, open_port, changed_if, changed_at}
 use Rattle.vale_entry.specs.Opening.{opened_port}
 use Rattle.vale_entry.specs.Grant.{port_after_grant, granted_frames}
@@ -15,7 +16,7 @@ use Rattle.vale_entry.specs.Monitors.{is_open_as, open_port_as, is_watch_at, wat
 use Rattle.vale_entry.specs.Pipe.{frames_of_items, port_after_put}
 use Rattle.vale_entry.specs.Legal.{Standing, Outcome, after}
 use Rattle.vale_entry.specs.declared.entry.Entry.{Entry}
-use Rattle.vale_entry.specs.Laws.{Rise, id_of_port, is_monitor_open, IsWatch, AreWatches}
+use Rattle.vale_entry.specs.Laws.{Rise, id_of_port, is_monitor_open, is_target_open, IsWatch, AreWatches}
 use Rattle.vale_entry.proofs.ListLaws.{place-of}
 use Rattle.vale_entry.proofs.Rising.{rise-slice_get, rise-above}
 use Rattle.vale_entry.proofs.Each.{each-weaker, each-append, any-append_left, each-unmap}
@@ -106,8 +107,9 @@ watched-map change opens names ports watches k = record {
       (λ watch here. record {
         monitor = any-map (is_monitor_open watch.monitor) change ports
             (each_every (λ (p : Port). is_monitor_open watch.monitor p ≡ true → is_monitor_open watch.monitor (change p) ≡ true) (λ p e. rw (opens p watch.monitor, names p) e) ports) here.monitor;
-        target = any-map (is_open_at watch.target) change ports
-            (each_every (λ (p : Port). is_open_at watch.target p ≡ true → is_open_at watch.target (change p) ≡ true) (λ p e. rw (opens p watch.target) e) ports) here.target;
+        target = any-map (is_target_open watch.target) change ports
+            (each_every (λ (p : Port). is_target_open watch.target p ≡ true → is_target_open watch.target (change p) ≡ true)
+            (λ p e. rw (opens p watch.target, names p) e) ports) here.target;
       }) watches k.each;
   once = k.once;
 }
@@ -130,15 +132,17 @@ watched-open ports port watches k = record {
   each = each-weaker (IsWatch ports) (IsWatch (ports ++ port ∷ []))
       (λ watch here. record {
         monitor = any-append_left (is_monitor_open watch.monitor) ports (port ∷ []) here.monitor;
-        target = any-append_left (is_open_at watch.target) ports (port ∷ []) here.target;
+        target = any-append_left (is_target_open watch.target) ports (port ∷ []) here.target;
       }) watches k.each;
   once = k.once;
 }
 
 -- Shut: a watch that is left has neither end there
-open_other : (at id : ℕ) (p : Port) → (id == at) ≡ false → is_open_at id p ≡ true → is_open_at id (changed_if (p.id == at) shut p) ≡ true
-open_other at id p other e =
-    let tests = and_parts (p.id == id) (not p.shutting) e in
+target_other : (at id : ℕ) (p : Port) → (id == at) ≡ false → is_target_open id p ≡ true
+    → is_target_open id (changed_if (p.id == at) shut p) ≡ true
+target_other at id p other e =
+    let parts = and_parts (is_open_at id p) (not (is_monitor_name p.name)) e in
+    let tests = and_parts (p.id == id) (not p.shutting) parts.0 in
     let miss : (p.id == at) ≡ false = ne_eqb p.id at (λ same. eqb-false id at other (sym (eqb-true p.id id tests.0) ∙ same)) in
     rw miss e
 
@@ -158,8 +162,9 @@ watched-shut ports watches at k = record {
         monitor = any-map (is_monitor_open watch.monitor) (λ (p : Port). changed_if (p.id == at) shut p) ports
             (each_every (λ (p : Port). is_monitor_open watch.monitor p ≡ true → is_monitor_open watch.monitor (changed_if (p.id == at) shut p) ≡ true) (λ p e. monitor_other at watch.monitor p apart.0 e) ports)
             here.monitor;
-        target = any-map (is_open_at watch.target) (λ (p : Port). changed_if (p.id == at) shut p) ports
-            (each_every (λ (p : Port). is_open_at watch.target p ≡ true → is_open_at watch.target (changed_if (p.id == at) shut p) ≡ true) (λ p e. open_other at watch.target p apart.1 e) ports) here.target;
+        target = any-map (is_target_open watch.target) (λ (p : Port). changed_if (p.id == at) shut p) ports
+            (each_every (λ (p : Port). is_target_open watch.target p ≡ true → is_target_open watch.target (changed_if (p.id == at) shut p) ≡ true)
+            (λ p e. target_other at watch.target p apart.1 e) ports) here.target;
       }) watches k.each;
   once = λ target.
       let less = sum-filter_less (λ (watch : Watcher). cond (is_watch_at target watch) 1 0) (λ (watch : Watcher). not (is_watch_of at watch)) watches in
@@ -176,9 +181,9 @@ watched-finish ports high id port watches r e k = record {
         monitor = any-filter (is_monitor_open watch.monitor) (λ (p : Port). not (p.id == port.id)) ports
             (each-weaker (λ (p : Port). p.id ≡ port.id → p ≡ port) (λ (p : Port). is_monitor_open watch.monitor p ≡ true → not (p.id == port.id) ≡ true)
             (λ p only t. stays watch.monitor p only (and_parts (is_open_at watch.monitor p) (is_monitor_name p.name) t).0) ports only) here.monitor;
-        target = any-filter (is_open_at watch.target) (λ (p : Port). not (p.id == port.id)) ports
-            (each-weaker (λ (p : Port). p.id ≡ port.id → p ≡ port) (λ (p : Port). is_open_at watch.target p ≡ true → not (p.id == port.id) ≡ true)
-            (λ p only t. stays watch.target p only t) ports only) here.target;
+        target = any-filter (is_target_open watch.target) (λ (p : Port). not (p.id == port.id)) ports
+            (each-weaker (λ (p : Port). p.id ≡ port.id → p ≡ port) (λ (p : Port). is_target_open watch.target p ≡ true → not (p.id == port.id) ≡ true)
+            (λ p only t. stays watch.target p only (and_parts (is_open_at watch.target p) (not (is_monitor_name p.name)) t).0) ports only) here.target;
       }) watches k.each;
   once = k.once;
 }
@@ -223,10 +228,13 @@ watched-watch ports high id name port found watches watch r e can there none mon
     let opens = and_parts (not found.shutting) (bytes_eq found.name name) t.passes in
     let named = and_parts (is_monitor_name port.name) (is_name name && not (is_monitor_name name)) can in
     let at_monitor : is_monitor_open port.id port ≡ true = rw (eq-eqb port.id port.id refl, p.stands_open) named.0 in
-    let at_target : is_open_at found.id found ≡ true = rw (eq-eqb found.id found.id refl) opens.0 in
+    let plain = and_parts (is_name name) (not (is_monitor_name name)) named.1 in
+    let same : found.name ≡ name = (bytes_eq-Decides found.name name).0 opens.1 in
+    let unwatching : not (is_monitor_name found.name) ≡ true = rw same plain.1 in
+    let at_target : is_target_open found.id found ≡ true = rw (eq-eqb found.id found.id refl, opens.0) unwatching in
     let new : IsWatch ports watch = record {
       monitor = subst (λ (n : ℕ). list_any (is_monitor_open n) ports ≡ true) (sym monitor) (any-at (is_monitor_open port.id) ports p.place port p.here at_monitor);
-      target = subst (λ (n : ℕ). list_any (is_open_at n) ports ≡ true) (sym target) (any-at (is_open_at found.id) ports t.place found t.here at_target);
+      target = subst (λ (n : ℕ). list_any (is_target_open n) ports ≡ true) (sym target) (any-at (is_target_open found.id) ports t.place found t.here at_target);
     } in
     record {
       each = each-append (IsWatch ports) watches (watch ∷ []) k.each (new, tt);

@@ -8,7 +8,9 @@ use Rattle.vale_entry.specs.Learning.{is_short}
 use Rattle.vale_entry.specs.Lookup.{Named, named_frames, is_named, is_lone}
 use Rattle.vale_entry.specs.Legal.{world_of, standing_of, IsLegal, Follows}
 use Rattle.vale_entry.specs.Laws.{Rise}
-use Rattle.vale_entry.specs.Delivered.{port_at, frames_of_line, Brought, frames_brought, count_brought, grants_to, brought_to, given_frames, given_counts, read_frames, read_counts, returned_counts, unread_counts}
+use Rattle.vale_entry.specs.Delivered.{port_at, frames_of_line, Brought, frames_brought, count_brought, put_in, grants_to, brought_to, given_frames, given_counts, read_frames, read_counts, returned_counts, unread_counts}
+use Rattle.vale_entry.specs.Counters.{counts_of}
+use Rattle.vale_entry.specs.Counted.{counts_told}
 use Rattle.vale_entry.specs.Fate.{wanted_at, offers_at, Share, share_in, shares_at, granted_at, puts_at, Fate, Pending, Given, Full, Gone, fates_at, given_of, entries_of, origin_of, brought_between}
 
 -- What was given to a port is what it read, and behind that a rest: the frames in its line while the
@@ -48,6 +50,12 @@ pub record IsPutOnce (puts : List Brought) (wanted : List Frame) : Type 0 where
 abbrev pub PutsBringOnce : Type 0
 PutsBringOnce = (pool : ℕ) (history : List Entry) → IsLegal pool history → (number to : ℕ)
     → IsPutOnce (puts_at pool history number to) (wanted_at pool history number to)
+
+-- It is what the Put's reply says was taken, if the port is the other end as the Put is made, and else
+-- nothing.
+abbrev pub PutsAreOfReply : Type 0
+PutsAreOfReply = (pool : ℕ) (past : List Entry) (entry : Entry) (rest : List Entry) (to : ℕ)
+    → puts_at pool (past ++ entry ∷ rest) (length past + 1) to ≡ put_in to (world_of pool past) entry
 
 -- A short frame, and a lone one, is named for no port of the switch.
 abbrev pub IsForNobody : List Port → Port → Named → Type 0
@@ -105,6 +113,13 @@ RepliesCountFrames = (pool : ℕ) (history : List Entry) → IsLegal pool histor
 abbrev pub OutIsCounted : Type 0
 OutIsCounted = (pool : ℕ) (history : List Entry) → IsLegal pool history → (id : ℕ) (port : Port) → port_at (world_of pool history).ports id ≡ Some port
     → port.out + sum (returned_counts history id) ≡ size_of_frames (read_frames pool history id)
+
+-- The counters of a port that is there are what the history tells of it: the frames that it sent and which
+-- of them were short and lone, those that were given to it, were full there, and were read.
+abbrev pub CountersAreSums : Type 0
+CountersAreSums = (pool : ℕ) (history : List Entry) → IsLegal pool history → (id : ℕ) (port : Port)
+    → port_at (world_of pool history).ports id ≡ Some port
+    → counts_of (world_of pool history).counts id ≡ counts_told pool history id
 
 -- Once no session is left, no frame is pending.
 abbrev pub NothingIsPendingAtTheEnd : Type 0

@@ -8,15 +8,17 @@ use Rattle.vale_entry.specs.Room.{promised_of, room_used}
 use Rattle.vale_entry.specs.declared.entry.Reply.TheVariants.{Made, Opened, Refused, Offered, Shared, Gave, Took, PeerGone, Unread, LeasesOut, Watching, NoTarget, Watched, Counted}
 use Rattle.vale_entry.specs.declared.entry.Reply.{Reply}
 use Rattle.vale_entry.specs.declared.entry.Ask.{Ask}
-use Rattle.vale_entry.specs.declared.entry.Ask.TheVariants.{Finish, Put}
+use Rattle.vale_entry.specs.declared.entry.Ask.TheVariants.{Grant, Finish, Put, PutKept}
 use Rattle.vale_entry.specs.declared.entry.Item.{Item}
 use Rattle.vale_entry.specs.Transcript.{IsPrintable}
-use Rattle.std.specs.Prelude.{ℕ, true, false, ◌&&◌, ◌==◌, ◌≡◌, ◌+◌, ◌<◌, ◌≤◌, List, [], ◌∷◌, Some, map, length, sum_by, count_by, Bool, if◌then◌else◌, All, ◌++◌, take, drop, is_some, Option, bytes_eq}
+use Rattle.vale_entry.specs.Fits.{FitsEntry}
+use Rattle.std.specs.Prelude.{ℕ, true, false, not, ◌&&◌, ◌==◌, ◌≡◌, ◌+◌, ◌-◌, ◌<◌, ◌≤◌, ◌^◌, List, [], ◌∷◌, Some, map, length, sum_by, count_by, Bool, if◌then◌else◌, All, ◌++◌, take, drop, is_some, slice_get, Option, bytes_eq}
 use Rattle.std.specs.List.{list_any, AllByRecursion}
 use Rattle.nm_types.specs.Names.{is_monitor_name}
 use Rattle.vale_entry.specs.Monitors.{is_watch_at}
-use Rattle.vale_entry.specs.World.{Port, Lot, Offer, Watch as Watcher, World, PortCounts, is_open_at, size_of_line, buffers_of, due_of, space_of, free_count}
-use Rattle.vale_entry.specs.Holdings.{PortBuffers, SessionBuffers, Holdings, IsParted, Agrees}
+use Rattle.vale_entry.specs.Opening.{is_on_switch}
+use Rattle.vale_entry.specs.World.{Port, Lot, Pair, Offer, Watch as Watcher, World, PortCounts, is_open_at, size_of_line, buffers_of, due_of, space_of, free_count}
+use Rattle.vale_entry.specs.Holdings.{PortBuffers, SessionBuffers, Holdings, IsParted, Agrees, all_with_free}
 
 -- the numbers rise strictly; all are above the first bound, and none is above the second
 abbrev pub Rise : ℕ → List ℕ → ℕ → Type 0
@@ -53,21 +55,34 @@ IsOfferOf sessions offer = IsThere sessions offer.session
 abbrev pub IsFrom : ℕ → Offer → Type 0
 IsFrom count offer = offer.origin ≤ count
 
+-- to a port that one of them opened
+abbrev pub IsTo : ℕ → Offer → Type 0
+IsTo count offer = offer.to ≤ count
+
 abbrev pub IsGrantedBy : ℕ → Lot → Type 0
 IsGrantedBy count lot = lot.number ≤ count
 
 abbrev pub HasLotsUpTo : ℕ → Port → Type 0
 HasLotsUpTo count port = AllByRecursion (IsGrantedBy count) port.line
 
--- sessions, ports, lots and offers bear the numbers of the entries that made them, and each port and
--- each offer is of a session that is there
+-- a lease, a lot that is not done, of a session that is there
+abbrev pub IsLotOf : List ℕ → Lot → Type 0
+IsLotOf sessions lot = lot.is_done ≡ false → IsThere sessions lot.session
+
+abbrev pub HasLeasesOf : List ℕ → Port → Type 0
+HasLeasesOf sessions port = AllByRecursion (IsLotOf sessions) port.line
+
+-- sessions, ports, lots and offers bear the numbers of the entries that made them, and each port, each
+-- lease and each offer is of a session that is there
 pub record AreNumbered (count : ℕ) (sessions : List ℕ) (ports : List Port) (offers : List Offer) : Type 0 where
   pub sessions_rise : Rise 0 sessions count
   pub ports_rise : Rise 0 (map id_of_port ports) count
   pub ports_owned : AllByRecursion (IsPortOf sessions) ports
   pub lots_within : AllByRecursion (HasLotsUpTo count) ports
   pub offers_within : AllByRecursion (IsFrom count) offers
+  pub offers_to : AllByRecursion (IsTo count) offers
   pub offers_owned : AllByRecursion (IsOfferOf sessions) offers
+  pub leases_owned : AllByRecursion (HasLeasesOf sessions) ports
 
 abbrev pub IsNumbered : World → Type 0
 IsNumbered w = AreNumbered w.entry_count w.sessions w.ports w.offers
@@ -93,6 +108,26 @@ pub record AreFree (pool : ℕ) (ports : List Port) (free : List ℕ) : Type 0 w
   pub rise : Rise 1 free (pool + 1)
   pub count : length free + sum_by buffers_of ports ≡ pool
 
+-- the asks that bring a lot
+abbrev pub is_grant : Ask → Bool
+is_grant (Grant origin to) = true
+is_grant _ = false
+
+abbrev pub brings_lot : Ask → Bool
+brings_lot (Grant origin to) = true
+brings_lot (PutKept port offered) = true
+brings_lot _ = false
+
+-- a lot bears the number of the entry of its session that brought it, which is a Grant where the lot is
+-- not done
+pub record IsOfEntry (history : List Entry) (lot : Lot) : Type 0 where
+  pub entry : Entry
+  pub counted : 0 < lot.number
+  pub here : slice_get history (lot.number - 1) ≡ Some entry
+  pub session : entry.session.0 ≡ lot.session
+  pub brings : brings_lot entry.ask ≡ true
+  pub leased : lot.is_done ≡ false → is_grant entry.ask ≡ true
+
 -- no two lots bear one number
 abbrev pub bears_number : ℕ → Lot → Bool
 bears_number number lot = lot.number == number
@@ -104,15 +139,26 @@ AreSingle ports = (number : ℕ) → sum_by (λ (port : Port). count_by (bears_n
 abbrev pub is_monitor_open : ℕ → Port → Bool
 is_monitor_open id port = is_open_at id port && is_monitor_name port.name
 
--- both ends of a watch are open, and the one that watches is a monitor's port
+-- an open port of this id, and one with another name
+abbrev pub is_target_open : ℕ → Port → Bool
+is_target_open id port = is_open_at id port && not (is_monitor_name port.name)
+
+-- both ends of a watch are open; the one that watches is a monitor's port, and the other is not
 pub record IsWatch (ports : List Port) (watch : Watcher) : Type 0 where
   pub monitor : list_any (is_monitor_open watch.monitor) ports ≡ true
-  pub target : list_any (is_open_at watch.target) ports ≡ true
+  pub target : list_any (is_target_open watch.target) ports ≡ true
 
 -- and a port has one monitor at most
 pub record AreWatches (ports : List Port) (watches : List Watcher) : Type 0 where
   pub each : AllByRecursion (IsWatch ports) watches
   pub once : (target : ℕ) → count_by (is_watch_at target) watches ≤ 1
+
+-- a port that a pair names is of the pair's switch
+abbrev pub IsPortOfPair : Pair → Port → Type 0
+IsPortOfPair pair port = port.id ≡ pair.port → is_on_switch pair.switch port ≡ true
+
+abbrev pub IsPairOf : List Port → Pair → Type 0
+IsPairOf ports pair = AllByRecursion (IsPortOfPair pair) ports
 
 -- no two ports bear one name
 abbrev pub IsNamedApart : Port → Port → Type 0
@@ -202,6 +248,11 @@ PortsAreWithinSizes = (pool : ℕ) (history : List Entry) → IsLegal pool histo
 abbrev pub FreeBuffersRise : Type 0
 FreeBuffersRise = (pool : ℕ) (history : List Entry) → IsLegal pool history → AreSmallestFirst pool (world_of pool history) (holdings_of pool history)
 
+-- what was taken from the front of the free buffers and is given back leaves them as they were
+abbrev pub FreeBuffersReturn : Type 0
+FreeBuffersReturn =
+    (low high n : ℕ) (free : List ℕ) → Rise low free high → all_with_free (take n free) (drop n free) ≡ free
+
 abbrev pub BuffersAreParted : Type 0
 BuffersAreParted = (pool : ℕ) (history : List Entry) → IsLegal pool history → IsParted pool (holdings_of pool history)
 
@@ -224,8 +275,17 @@ OffersClimb = (pool : ℕ) (history : List Entry) → IsLegal pool history → C
 abbrev pub CountersAreKept : Type 0
 CountersAreKept = (pool : ℕ) (history : List Entry) → IsLegal pool history → AreCountedAt (world_of pool history)
 
+abbrev pub PairsAreOfSwitch : Type 0
+PairsAreOfSwitch =
+    (pool : ℕ) (history : List Entry) → AllByRecursion (IsPairOf (world_of pool history).ports) (world_of pool history).pairs
+
 abbrev pub WatchesAreOpen : Type 0
 WatchesAreOpen = (pool : ℕ) (history : List Entry) → IsLegal pool history → AreWatches (world_of pool history).ports (world_of pool history).watches
+
+abbrev pub LotsAreOfEntries : Type 0
+LotsAreOfEntries =
+    (pool : ℕ) (history : List Entry) → IsLegal pool history
+    → AllByRecursion (λ (port : Port). AllByRecursion (IsOfEntry history) port.line) (world_of pool history).ports
 
 abbrev pub LotsAreSingle : Type 0
 LotsAreSingle = (pool : ℕ) (history : List Entry) → IsLegal pool history → AreSingle (world_of pool history).ports
@@ -242,6 +302,12 @@ abbrev pub RoomIsUsed : Type 0
 RoomIsUsed = (pool : ℕ) (history : List Entry) (entry : Entry) (made : Outcome) → IsLegal pool history → Follows (standing_of pool history) entry
     → recorded_step (standing_of pool history) entry.ask entry.reply ≡ Some made
     → room_used pool (history ++ entry ∷ []) + room_back made.reply ≡ room_used pool history + made.want
+
+-- each number of a legal history of fewer than 2^32 entries, whose pool has fewer buffers, fits its field
+abbrev pub LegalHistoriesFit : Type 0
+LegalHistoriesFit =
+    (pool : ℕ) (history : List Entry) → IsLegal pool history → pool < 2 ^ 32 → length history < 2 ^ 32
+    → AllByRecursion FitsEntry history
 
 -- each entry of a legal history is printable at its number
 abbrev pub LegalHistoriesArePrintable : Type 0

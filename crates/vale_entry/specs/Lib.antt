@@ -15,10 +15,12 @@ pub mod Room
 pub mod Stored
 pub mod Kept
 pub mod Transcript
+pub mod Fits
 pub mod Rows
 pub mod Laws
 pub mod Delivered
 pub mod Fate
+pub mod Counted
 pub mod DeliveryLaws
 pub mod Arrivals
 pub mod OwnCalls

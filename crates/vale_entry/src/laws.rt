@@ -2,8 +2,8 @@
 //! the check proves.
 #![tactic(auto, using(crate::proofs::HistoryLaws::history_laws))]
 
-ghost use Rattle.vale_entry.specs.DeliveryLaws.{ReadIsPrefixOfGiven, GivenOnlyByWanted, ShortAndLoneAreForNobody, WantedIsSharedOnce, DroppedFramesAreCounted, NothingIsPendingAtTheEnd, SenderOrderIsKept, FramesAreDroppedForCause, RepliesCountFrames, PutsBringOnce, OutIsCounted};
-ghost use Rattle.vale_entry.specs.Laws.{AsksAreAnswered, PutsAreKept, FinishWaitsForLeases, NamesDiffer, OffersClimb, CountersAreKept, NumbersRise, PortsAreWithinSizes, FreeBuffersRise, BuffersAreParted, HoldingsAgree, SessionsHaveOneUnsettled, WatchesAreOpen, LotsAreSingle, RoomIsPromised, RoomIsUsed, LegalHistoriesArePrintable};
+ghost use Rattle.vale_entry.specs.DeliveryLaws.{ReadIsPrefixOfGiven, GivenOnlyByWanted, ShortAndLoneAreForNobody, WantedIsSharedOnce, DroppedFramesAreCounted, NothingIsPendingAtTheEnd, SenderOrderIsKept, FramesAreDroppedForCause, RepliesCountFrames, PutsBringOnce, PutsAreOfReply, OutIsCounted, CountersAreSums};
+ghost use Rattle.vale_entry.specs.Laws.{AsksAreAnswered, PutsAreKept, FinishWaitsForLeases, NamesDiffer, OffersClimb, CountersAreKept, NumbersRise, PortsAreWithinSizes, FreeBuffersRise, FreeBuffersReturn, BuffersAreParted, HoldingsAgree, SessionsHaveOneUnsettled, PairsAreOfSwitch, WatchesAreOpen, LotsAreSingle, LotsAreOfEntries, RoomIsPromised, RoomIsUsed, LegalHistoriesFit, LegalHistoriesArePrintable};
 
 /// The table of the asks that are enabled says which asks are answered.
 pub fn asks_are_answered()
@@ -37,7 +37,7 @@ pub fn counters_are_kept()
 {}
 
 /// After every history sessions and ports rise by number, none is numbered beyond the last entry, and
-/// each port and each offer is of a session that is there.
+/// each port, each offer and each lease is of a session that is there.
 pub fn numbers_rise()
     ensures { NumbersRise }
 {}
@@ -52,6 +52,12 @@ pub fn ports_are_within_sizes()
 /// are as many as the world says.
 pub fn free_buffers_rise()
     ensures { FreeBuffersRise }
+{}
+
+/// Buffers that were taken from the front of the free ones, which rise, leave them as they were once they
+/// are given back.
+pub fn free_buffers_return()
+    ensures { FreeBuffersReturn }
 {}
 
 /// After every legal history each buffer of the pool is held exactly once, and nothing else is held.
@@ -69,8 +75,13 @@ pub fn sessions_have_one_unsettled()
     ensures { SessionsHaveOneUnsettled }
 {}
 
-/// After every legal history each watch is of two open ports, the one that watches has a monitor's
-/// name, and a port has one monitor at most.
+/// After every history a pair that was learned names a port of its switch, or one that is gone.
+pub fn pairs_are_of_switch()
+    ensures { PairsAreOfSwitch }
+{}
+
+/// After every legal history each watch is of two open ports, of which the one that watches alone has a
+/// monitor's name, and a port has one monitor at most.
 pub fn watches_are_open()
     ensures { WatchesAreOpen }
 {}
@@ -78,6 +89,12 @@ pub fn watches_are_open()
 /// After every legal history no two lots that stand bear one number.
 pub fn lots_are_single()
     ensures { LotsAreSingle }
+{}
+
+/// After every legal history each lot bears the number of the entry of its session that brought it: of a
+/// Grant, or of a Put if it was done when it was made.
+pub fn lots_are_of_entries()
+    ensures { LotsAreOfEntries }
 {}
 
 /// What an entry takes and leaves promised is what was promised before and what it wants.
@@ -88,6 +105,12 @@ pub fn room_is_promised()
 /// The entries stored and promised grow by what an entry wants.
 pub fn room_is_used()
     ensures { RoomIsUsed }
+{}
+
+/// The numbers of each entry of a legal history fit their fields, if the pool has fewer than 2^32 buffers
+/// and the history fewer than 2^32 entries.
+pub fn legal_histories_fit()
+    ensures { LegalHistoriesFit }
 {}
 
 /// Each entry of a legal history is printable at its number.
@@ -140,16 +163,29 @@ pub fn replies_count_frames()
     ensures { RepliesCountFrames }
 {}
 
-/// In every legal history a Put brings frames to the port at the other end alone, once, and they are
-/// the frames of its reply.
+/// In every legal history a Put brings frames to a port at most once, and none of its frames is wanted
+/// beside at a port to which it brings some.
 pub fn puts_bring_once()
     ensures { PutsBringOnce }
+{}
+
+/// What a Put brings to a port is what its reply says was taken, if the port is the other end when the Put
+/// is made; to any other port it brings nothing.
+pub fn puts_are_of_reply()
+    ensures { PutsAreOfReply }
 {}
 
 /// In every legal history what is out at a port that is there is what it read less what it brought
 /// back.
 pub fn out_is_counted()
     ensures { OutIsCounted }
+{}
+
+/// In every legal history the counters of a port that is there are what its entries tell: the frames of its
+/// Sends and those that its Puts took, which of its Sends' frames were short and which lone, the frames
+/// given to it and those that found it full, and the frames that its Syncs and Gets gave.
+pub fn counters_are_sums()
+    ensures { CountersAreSums }
 {}
 
 /// Once no session is left, no frame is pending.

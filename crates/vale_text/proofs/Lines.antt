@@ -24,7 +24,7 @@ use Rattle.nm_types.specs.declared.id.Sides.{Sides}
 use Rattle.nm_types.specs.declared.id.Sides.TheVariants as watched_sides
 use Rattle.nm_types.specs.declared.id.Counts.{Counts}
 use Rattle.vale_entry.specs.declared.entry.Item.{Item}
-use Rattle.vale_text.specs.Fits.{FitsU64, FitsDest, FitsItem, FitsRefusal, FitsFault, FitsCounts, FitsAsk, FitsReply, FitsEntry}
+use Rattle.vale_entry.specs.Fits.{FitsU64, FitsDest, FitsItem, FitsRefusal, FitsFault, FitsCounts, FitsAsk, FitsReply, FitsEntry}
 use Rattle.vale_text.proofs.Cuts.{IsWord, spell}
 use Rattle.vale_text.proofs.Numerals.{decimal-word, decimal-same, decimal-digits, not-number, numbers-same, numbers-word, dests-same, dests-word, frames-same, frames-word, IsPlainItem, plain-items, items-same, items-word}
 use Rattle.vale_text.proofs.NameWords.{literal, name-word}

@@ -9,7 +9,7 @@ use Rattle.vale_entry.specs.declared.entry.Dest.{Dest}
 use Rattle.vale_entry.specs.declared.entry.Item.{Item}
 use Rattle.vale_entry.specs.Transcript.{is_unmarked, item_text, items_text}
 use Rattle.vale_entry.specs.Transcript.{hex_digit, hex_byte, hex_text, frame_text, frames_text, numbers_text, dest_text, dests_text}
-use Rattle.vale_text.specs.Fits.{FitsU64, FitsDest, FitsItem}
+use Rattle.vale_entry.specs.Fits.{FitsU64, FitsDest, FitsItem}
 use Rattle.vale_entry.proofs.Each.{each-weaker, each-append, each-map}
 use Rattle.vale_text.proofs.Cuts.{cut, IsWordByte, IsWord, IsItemByte, IsItem, list-same, list-word, map-apart}
 

@@ -4,7 +4,7 @@ use Rattle.std.proofs.Common.{ℕ, ◌+◌, ◌<◌, ◌≡◌, List, [], ◌∷
 use Rattle.vale_entry.specs.declared.entry.Entry.{Entry}
 use Rattle.vale_entry.specs.Transcript.{entry_line, entry_lines, start_line, end_line}
 use Rattle.vale_entry.specs.Laws.{ArePrintable}
-use Rattle.vale_text.specs.Fits.{FitsU64, FitsEntry}
+use Rattle.vale_entry.specs.Fits.{FitsU64, FitsEntry}
 use Rattle.vale_text.specs.Laws.{TranscriptsTellHistories}
 use Rattle.vale_text.specs.Written.{text_of}
 use Rattle.vale_text.proofs.Cuts.{cut, spell, spell-same}

@@ -3,7 +3,7 @@ use Rattle.std.specs.Prelude.{ℕ, ◌≡◌, List}
 use Rattle.std.specs.List.{AllByRecursion}
 use Rattle.vale_entry.specs.declared.entry.Entry.{Entry}
 use Rattle.vale_entry.specs.Laws.{ArePrintable}
-use Rattle.vale_text.specs.Fits.{FitsU64, FitsEntry}
+use Rattle.vale_entry.specs.Fits.{FitsU64, FitsEntry}
 use Rattle.vale_text.specs.Written.{text_of}
 
 -- equal transcripts are of equal pools and equal histories, whatever free buffers they end with
