@@ -16,7 +16,10 @@ pub mod Stored
 pub mod Kept
 pub mod Transcript
 pub mod Fits
+pub mod RowWords
 pub mod Rows
+pub mod PortRows
+pub mod TextRows
 pub mod Laws
 pub mod Delivered
 pub mod Fate

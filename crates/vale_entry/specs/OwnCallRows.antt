@@ -1,6 +1,6 @@
--- Worked examples of the calls of a session, as theorems about the definitions: a pool of 64 buffers, two
--- users, and a port of 4 and 4 slots each, a port `vale0:a` or `pipe0{` of the first and `vale0:b` of the
--- second.
+-- Worked examples of the calls of a session, as theorems about the definitions: a pool of 64
+-- buffers, two users, and a port of 4 and 4 slots each, a port `vale0:a` or `pipe0{` of the first
+-- and `vale0:b` of the second.
 use Rattle.std.specs.Prelude.{ℕ, ◌≡◌, ◌-◌, false, List, [], ◌∷◌, map, take, slice_get, codes, Option, Some, None, option_map, option_and_then, refl}
 use Rattle.nm_types.specs.declared.id.PortId.{PortId}
 use Rattle.nm_types.specs.declared.id.Side.{Side}
@@ -71,7 +71,8 @@ own_at number s = own_from number (slice_get history (number - 1)) s
 abbrev buffers : List Arrival → List ℕ
 buffers came = map (λ (a : Arrival). a.buffer) came
 
--- the openings bring the transmit buffers, and the sync the frame in the first of the receive ring's
+-- the openings bring the transmit buffers, and the sync the frame in the first of the receive
+-- ring's
 openings_bring : buffers (arrivals_of (standing_of 64 (take 3 history)) (opening 2 (codes "vale0:b")) Opened) ≡ 10 ∷ 11 ∷ 12 ∷ 13 ∷ []
 unfolding is_name is_switch_port_name is_pipe_name is_monitor_name switch_of
 openings_bring = refl
@@ -129,7 +130,8 @@ chain_turns_back : finish_call_at 2 (with_extra_link 2 2 1 with_extras) ≡ Some
 unfolding is_name is_switch_port_name is_pipe_name is_monitor_name switch_of
 chain_turns_back = refl
 
--- a pipe is offered the frames that it did not take again; where the other end is gone they stay pushed
+-- a pipe is offered the frames that it did not take again; where the other end is gone they stay
+-- pushed
 abbrev pipe_user : OwnState
 pipe_user = with_frame 3 frame_f.bytes (with_frame 3 frame_f.bytes
     (own_after 3 (by_user 1 (opening 1 (codes "pipe0{")) Opened) (arrivals_of (standing_of 64 (take 2 history)) (opening 1 (codes "pipe0{")) Opened) (empty_own 64)))
