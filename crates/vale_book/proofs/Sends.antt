@@ -15,8 +15,7 @@ use Rattle.vale_entry.specs.World.{World, Port, Pair, Offer, open_port}
 use Rattle.vale_entry.specs.Learning.{is_short}
 use Rattle.vale_entry.specs.Lookup.{is_lone}
 use Rattle.vale_entry.specs.Offers.{dest_of, dests_of, offer_to, offers_of}
-use Rattle.vale_entry.specs.Legal.{Standing, Outcome, standing_of, world_of, step, is_enabled, is_met, IsEnabled, can_send, send_step, send_step_at, named_of, offers_of_send}
-use Rattle.vale_entry.specs.Room.{room_of_reply}
+use Rattle.vale_entry.specs.Legal.{Standing, Outcome, standing_of, world_of, step, is_enabled, is_met, IsEnabled, can_send, send_step, send_step_at, named_of, offers_of_send, room_of_dests}
 use Rattle.vale_entry.specs.Stored.{Stored, Fits, IsFull}
 use Rattle.vale_book.specs.Recorded.{after_ask, reply_of, IsRefusal, HasRoom}
 use Rattle.vale_world.specs.Seat.{Seat, port_of}
@@ -25,7 +24,7 @@ use Rattle.vale_book.specs.declared.book.Book.TheInside.{Inside}
 use Rattle.vale_book.specs.BookView.{recorded, StandsIn}
 use Rattle.vale_world.specs.Enabled.{may_send, can_send_over}
 use Rattle.vale_world.proofs.PortPlaces.{place-is}
-use Rattle.vale_book.specs.Sending.{reply_over, IsSent}
+use Rattle.vale_book.specs.Sending.{reply_over, room_over, IsSent}
 use Rattle.vale_book.proofs.Stands.{stands-next}
 use Rattle.vale_book.proofs.Answered.{after-step, refusal-step, room-step}
 
@@ -112,6 +111,9 @@ sent_by b frames sender = send_step (standing_of b.pool b.history.entries) frame
 abbrev replied : Inside → List Frame → Port → Reply
 replied b frames sender = reply_over (length b.history.entries + 1) (map port_of b.ports.items) sender (reverse b.pairs.items) frames
 
+abbrev wanted : Inside → List Frame → Port → ℕ
+wanted b frames sender = room_over (length b.history.entries + 1) (map port_of b.ports.items) sender (reverse b.pairs.items) frames
+
 send-made : (b : Inside) (port : PortId) (frames : List Frame) (sender : Port) → IsSending b port frames sender
     → step (standing_of b.pool b.history.entries) (Send port frames) ≡ Some (sent_by b frames sender)
 send-made b port frames sender k =
@@ -122,13 +124,17 @@ send-replied : (b : Inside) (port : PortId) (frames : List Frame) (sender : Port
 send-replied b port frames sender k =
     ap (λ (w : World). Offered (count_by is_short frames) (count_by (is_lone w.ports sender) (named_of w sender frames)) (dests_of (offers_of_send w sender frames))) (sym k.stands.world_is)
 
+send-wanted : (b : Inside) (port : PortId) (frames : List Frame) (sender : Port) → IsSending b port frames sender → (sent_by b frames sender).want ≡ wanted b frames sender
+send-wanted b port frames sender k =
+    ap (λ (w : World). room_of_dests (dests_of (offers_of_send w sender frames))) (sym k.stands.world_is)
+
 stands-send : (b : Inside) (port : PortId) (frames : List Frame) (sender : Port) (new : Stored) (pairs : List Pair) (offers : List Offer) → IsSending b port frames sender
     → IsSent (map port_of b.ports.items) sender port frames b.history new (reverse b.pairs.items) pairs b.offers.items offers
     → Stands b.pool new.entries new.promised b.sessions.items b.ports.items pairs offers b.free.items
 stands-send b port frames sender new pairs offers k sent =
     let reply = send-replied b port frames sender k in
     let room = sent.promised in
-    let same : (sent_by b frames sender).want ≡ room_of_reply (replied b frames sender) = ap room_of_reply reply in
+    let same = send-wanted b port frames sender k in
     rw (sent.entries, ← reply)
     (stands-next b.pool b.history.entries (Send port frames) (sent_by b frames sender) b.history.promised new.promised b.sessions.items b.ports.items pairs offers b.free.items
     k.stands.legal k.stands.promised_is (send-made b port frames sender k) (omega (arith, room, same)) (record {
@@ -160,10 +166,10 @@ pub room-send : (b : Inside) (port : PortId) (frames : List Frame) (sender : Por
     → HasRoom (recorded b) (Send port frames)
 room-send b port frames sender new pairs offers k sent =
     room-step b.pool b.history (Send port frames) (sent_by b frames sender) k.stands.promised_is (send-made b port frames sender k)
-    (subst (λ (r : Reply). Fits b.history (room_of_reply r) (bytes_of_frames frames)) (sym (send-replied b port frames sender k)) sent.fits)
+    (subst (λ (n : ℕ). Fits b.history n (bytes_of_frames frames)) (sym (send-wanted b port frames sender k)) sent.fits)
 
 pub refusal-send : (b : Inside) (port : PortId) (frames : List Frame) (sender : Port) (fault : StepFault) → IsSending b port frames sender
-    → IsFull b.history (room_of_reply (replied b frames sender)) (bytes_of_frames frames) fault → IsRefusal (recorded b) (Send port frames) fault
+    → IsFull b.history (wanted b frames sender) (bytes_of_frames frames) fault → IsRefusal (recorded b) (Send port frames) fault
 refusal-send b port frames sender fault k full =
     refusal-step b.pool b.history (Send port frames) (sent_by b frames sender) fault k.stands.promised_is (send-made b port frames sender k)
-    (subst (λ (r : Reply). IsFull b.history (room_of_reply r) (bytes_of_frames frames) fault) (sym (send-replied b port frames sender k)) full)
+    (subst (λ (n : ℕ). IsFull b.history n (bytes_of_frames frames) fault) (sym (send-wanted b port frames sender k)) full)

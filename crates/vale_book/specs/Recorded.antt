@@ -1,5 +1,5 @@
 -- What a book and a drive stand for: the entries that were made over a pool of buffers, within limits.
-use Rattle.std.specs.Prelude.{ℕ, ◌≡◌, ◌+◌, ◌<◌, ◌≤◌, List, [], ◌∷◌, ◌++◌, fold, take, slice_get, Option, Some, None}
+use Rattle.std.specs.Prelude.{ℕ, Bool, true, false, ◌≡◌, ◌+◌, ◌<◌, ◌≤◌, if◌then◌else◌, List, [], ◌∷◌, ◌++◌, fold, take, slice_get, Option, Some, None}
 use Rattle.nm_types.specs.declared.limits.Limits.{Limits}
 use Rattle.nm_types.specs.declared.fault.Part.TheVariants.{Entries, Bytes}
 use Rattle.nm_types.specs.declared.fault.StepFault.{StepFault}
@@ -20,41 +20,31 @@ pub record Recorded : Type 0 where
 abbrev pub standing : Recorded → Standing
 standing b = standing_of b.pool b.entries
 
--- the step of an ask that a book serves
+-- the asks that a book serves
+abbrev pub is_served : Ask → Bool
+is_served (Enter user) = true
+is_served (Open session name tx rx extra) = true
+is_served (Send port frames) = true
+is_served (Grant origin to) = true
+is_served (Done lease) = true
+is_served (Sync port back) = true
+is_served (Reset port side fault) = false
+is_served (Shut port) = true
+is_served (Finish port bufs chain) = true
+is_served (Leave session) = true
+is_served (Put port offered) = false
+is_served (PutKept port offered) = false
+is_served (Get port back) = false
+is_served (Watch monitor target sides) = false
+is_served (Stat port) = false
+
+-- the step of an ask that is served
 abbrev pub served_step : Standing → Ask → Option Outcome
-served_step s (Enter user) = step s (Enter user)
-served_step s (Open session name tx rx extra) = step s (Open session name tx rx extra)
-served_step s (Send port frames) = step s (Send port frames)
-served_step s (Grant origin to) = step s (Grant origin to)
-served_step s (Done lease) = step s (Done lease)
-served_step s (Sync port back) = step s (Sync port back)
-served_step s (Reset port side fault) = None
-served_step s (Shut port) = step s (Shut port)
-served_step s (Finish port bufs chain) = step s (Finish port bufs chain)
-served_step s (Leave session) = step s (Leave session)
-served_step s (Put port offered) = None
-served_step s (PutKept port offered) = None
-served_step s (Get port back) = None
-served_step s (Watch monitor target sides) = None
-served_step s (Stat port) = None
+served_step s ask = if is_served ask then step s ask else None
 
 -- what an ask is answered: one that is not served is not enabled here
 abbrev pub served_reply : Standing → Ask → Option Reply
-served_reply s (Enter user) = reply_to s (Enter user)
-served_reply s (Open session name tx rx extra) = reply_to s (Open session name tx rx extra)
-served_reply s (Send port frames) = reply_to s (Send port frames)
-served_reply s (Grant origin to) = reply_to s (Grant origin to)
-served_reply s (Done lease) = reply_to s (Done lease)
-served_reply s (Sync port back) = reply_to s (Sync port back)
-served_reply s (Reset port side fault) = None
-served_reply s (Shut port) = reply_to s (Shut port)
-served_reply s (Finish port bufs chain) = reply_to s (Finish port bufs chain)
-served_reply s (Leave session) = reply_to s (Leave session)
-served_reply s (Put port offered) = None
-served_reply s (PutKept port offered) = None
-served_reply s (Get port back) = None
-served_reply s (Watch monitor target sides) = None
-served_reply s (Stat port) = None
+served_reply s ask = if is_served ask then reply_to s ask else None
 
 -- the entry of a step
 abbrev pub entry_of : Ask → Outcome → Entry

@@ -4,10 +4,9 @@ ghost use Rattle.nm_types.specs.Sendable.{IsSendable};
 ghost use Rattle.vale_entry.specs.declared.entry.Ask.TheVariants as asks;
 ghost use Rattle.vale_entry.specs.declared.entry.Reply.TheVariants as replies;
 ghost use Rattle.vale_entry.specs.Offers.{dests_of};
-ghost use Rattle.vale_entry.specs.Room.{room_of_reply};
 ghost use Rattle.vale_entry.specs.Stored.{Fits, IsFull};
 ghost use Rattle.vale_world.specs.Seat.{port_of};
-ghost use Rattle.vale_book.specs.Sending.{reply_over, IsSent};
+ghost use Rattle.vale_book.specs.Sending.{reply_over, room_over, IsSent};
 
 use crate::book::Offered;
 use nm_types::{Batch, NoMemory, PortId, SessionId, StepFault};
@@ -91,7 +90,7 @@ fn record(
     ensures kept { take (length pairs.old.items) pairs.new.items ≡ pairs.old.items }
     ensures answer { IfOk result (λ sent. (sent.entry ≡ length history.new.entries) × (replies.Offered sent.short sent.lone sent.to ≡ reply_over (length history.old.entries + 1) (map port_of ports.now) sender.now.port (reverse pairs.old.items) batch.now)) }
     ensures limits { history.new.limits ≡ history.old.limits }
-    ensures full { IfErr result (IsFull history.old (room_of_reply (reply_over (length history.old.entries + 1) (map port_of ports.now) sender.now.port (reverse pairs.old.items) batch.now)) (bytes_of_frames batch.now)) }
+    ensures full { IfErr result (IsFull history.old (room_over (length history.old.entries + 1) (map port_of ports.now) sender.now.port (reverse pairs.old.items) batch.now) (bytes_of_frames batch.now)) }
     ensures err { OnErr result ((history.new.entries ≡ history.old.entries) × (history.new.promised ≡ history.old.promised) × (offers.new.items ≡ offers.old.items)) }
 {
     let made = Made {
@@ -118,7 +117,7 @@ pub(crate) fn send(
     ensures sent { OnOk result (IsSent (map port_of ports.now) sender.now.port port batch.now history.old history.new (reverse pairs.old.items) (reverse pairs.new.items) offers.old.items offers.new.items) }
     ensures answer { IfOk result (λ sent. (sent.entry ≡ length history.new.entries) × (replies.Offered sent.short sent.lone sent.to ≡ reply_over (length history.old.entries + 1) (map port_of ports.now) sender.now.port (reverse pairs.old.items) batch.now)) }
     ensures limits { history.new.limits ≡ history.old.limits }
-    ensures full { IfErr result (IsFull history.old (room_of_reply (reply_over (length history.old.entries + 1) (map port_of ports.now) sender.now.port (reverse pairs.old.items) batch.now)) (bytes_of_frames batch.now)) }
+    ensures full { IfErr result (IsFull history.old (room_over (length history.old.entries + 1) (map port_of ports.now) sender.now.port (reverse pairs.old.items) batch.now) (bytes_of_frames batch.now)) }
     ensures err { OnErr result ((history.new.entries ≡ history.old.entries) × (history.new.promised ≡ history.old.promised) × (pairs.new.items ≡ pairs.old.items) × (offers.new.items ≡ offers.old.items)) }
 {
     let known = pairs.len();

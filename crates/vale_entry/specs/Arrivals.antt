@@ -1,5 +1,5 @@
--- The buffers that an entry brings to its session, each with the bytes of the frame in it; all its other
--- bytes are zero.
+-- The buffers that an entry brings to its session, each with the bytes of the frame in it; all its
+-- other bytes are zero.
 use Rattle.std.specs.Prelude.{ℕ, ◌+◌, List, [], ◌++◌, length, map, take, drop}
 use Rattle.std.specs.Option.{option_map_or}
 use Rattle.std.specs.List.{zip}
@@ -24,11 +24,14 @@ frame_arrival (buffer, frame) = record { buffer = buffer; bytes = frame.bytes }
 -- an opening: the smallest free buffers for the transmit slots, and those behind the receive ring's
 -- for the extra positions
 abbrev pub opened_arrivals : ℕ → ℕ → ℕ → List ℕ → List Arrival
-opened_arrivals tx rx extra free = map blank_arrival (take tx free ++ take extra (drop (tx + rx) free))
+opened_arrivals tx rx extra free =
+    map blank_arrival (take tx free ++ take extra (drop (tx + rx) free))
 
 -- a sync: the frames that are ready at the port, each in its buffer
 abbrev pub given_arrivals : Standing → Port → List Arrival
-given_arrivals s port = map frame_arrival (zip (delivered_buffers port.id (length (ready_lots port)) s.holdings.ports) (delivered_frames port))
+given_arrivals s port =
+    map frame_arrival
+    (zip (delivered_buffers port.id (length (ready_lots port)) s.holdings.ports) (delivered_frames port))
 
 -- a put: the first idle buffers of the other end, one for each frame taken
 abbrev pub lent_arrivals : List PortBuffers → ℕ → ℕ → List Arrival
@@ -38,7 +41,9 @@ abbrev pub given_at : Standing → ℕ → List Arrival
 given_at s id = option_map_or (given_arrivals s) (open_port s.world.ports id) []
 
 abbrev pub lent_to : Standing → ℕ → Port → List Arrival
-lent_to s count port = option_map_or (λ (peer : Port). lent_arrivals s.holdings.ports peer.id count) (peer_of s.world.ports port) []
+lent_to s count port =
+    option_map_or (λ (peer : Port). lent_arrivals s.holdings.ports peer.id count)
+    (peer_of s.world.ports port) []
 
 abbrev pub lent_at : Standing → ℕ → ℕ → List Arrival
 lent_at s id count = option_map_or (lent_to s count) (open_port s.world.ports id) []

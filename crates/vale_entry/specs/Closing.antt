@@ -38,7 +38,8 @@ abbrev pub is_port_of : ℕ → Port → Bool
 is_port_of session port = port.session == session
 
 abbrev pub can_leave : World → ℕ → Bool
-can_leave w session = is_session w session && (not (list_any (is_port_of session) w.ports) && is_settled w session)
+can_leave w session =
+    is_session w session && (not (list_any (is_port_of session) w.ports) && is_settled w session)
 
 abbrev pub sessions_without : ℕ → List ℕ → List ℕ
 sessions_without session sessions = filter (λ (s : ℕ). not (s == session)) sessions

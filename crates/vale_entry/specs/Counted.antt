@@ -1,5 +1,6 @@
--- What a port has counted, as the history tells it: the frames that it sent, which of them were short and
--- which lone, the frames that were given to it, those that were full there, and those that it read.
+-- What a port has counted, as the history tells it: the frames that it sent, which of them were
+-- short and which lone, the frames that were given to it, those that were full there, and those
+-- that it read.
 use Rattle.std.specs.Prelude.{ℕ, ◌==◌, ◌+◌, if◌then◌else◌, List, [], ◌∷◌, length, flat_map, count_by, sum}
 use Rattle.nm_types.specs.Frames.{Frame}
 use Rattle.nm_types.specs.declared.id.Counts.{Counts}
@@ -26,7 +27,8 @@ switched_frames history port = flat_map (switched_in port) history
 
 -- and those that its Puts took
 abbrev pub piped_by : ℕ → Ask → Reply → List Frame
-piped_by port (PutKept at offered) reply = if at.0 == port then frames_of_items (kept_items reply) else []
+piped_by port (PutKept at offered) reply =
+    if at.0 == port then frames_of_items (kept_items reply) else []
 piped_by port _ reply = []
 
 abbrev pub piped_in : ℕ → Entry → List Frame

@@ -18,7 +18,8 @@ counts_if false counts = zero_counts
 
 -- a Send counts its frames at its port, and which of them were short, and which lone
 abbrev pub count_sent : List Frame → Reply → Counts
-count_sent frames (Offered short lone to) = record zero_counts { sent = length frames; short = short; lone = lone }
+count_sent frames (Offered short lone to) =
+    record zero_counts { sent = length frames; short = short; lone = lone }
 count_sent frames _ = zero_counts
 
 -- a Grant counts at the port that it names; what is gone is counted nowhere
@@ -53,7 +54,9 @@ counted_by port w (Shut at) reply = zero_counts
 counted_by port w (Finish at bufs chain) reply = zero_counts
 counted_by port w (Leave session) reply = zero_counts
 counted_by port w (Put at offered) reply = zero_counts
-counted_by port w (PutKept at offered) reply = sum_of_counts (counts_if (at.0 == port) (count_put reply)) (counts_if (puts_to_port w.ports at.0 port) (count_taken_at reply))
+counted_by port w (PutKept at offered) reply =
+    sum_of_counts (counts_if (at.0 == port) (count_put reply))
+    (counts_if (puts_to_port w.ports at.0 port) (count_taken_at reply))
 counted_by port w (Get at back) reply = counts_if (at.0 == port) (count_gave_at reply)
 counted_by port w (Watch monitor target sides) reply = zero_counts
 counted_by port w (Stat at) reply = zero_counts
@@ -62,7 +65,8 @@ abbrev pub counted_in : ℕ → World → Entry → Counts
 counted_in port w entry = counted_by port w entry.ask entry.reply
 
 abbrev pub with_counted : World → Entry → PortCounts → PortCounts
-with_counted w entry counted = record counted { counts = sum_of_counts counted.counts (counted_in counted.port w entry) }
+with_counted w entry counted =
+    record counted { counts = sum_of_counts counted.counts (counted_in counted.port w entry) }
 
 -- a port that is opened has counters, and one that is gone has none
 abbrev pub opened_counts : ℕ → Reply → List PortCounts → List PortCounts
@@ -70,7 +74,8 @@ opened_counts number Opened counts = counts ++ (record { port = number; counts =
 opened_counts number _ counts = counts
 
 abbrev pub finished_counts : ℕ → Reply → List PortCounts → List PortCounts
-finished_counts port (Unread count) counts = filter (λ (counted : PortCounts). not (counted.port == port)) counts
+finished_counts port (Unread count) counts =
+    filter (λ (counted : PortCounts). not (counted.port == port)) counts
 finished_counts port _ counts = counts
 
 abbrev pub counts_moved : ℕ → Ask → Reply → List PortCounts → List PortCounts
@@ -80,9 +85,11 @@ counts_moved number _ reply counts = counts
 
 -- the counters after an entry
 abbrev pub counts_after : World → Entry → List PortCounts
-counts_after w entry = counts_moved (w.entry_count + 1) entry.ask entry.reply (map (with_counted w entry) w.counts)
+counts_after w entry =
+    counts_moved (w.entry_count + 1) entry.ask entry.reply (map (with_counted w entry) w.counts)
 
 -- the counters of a port
 abbrev pub counts_of : List PortCounts → ℕ → Counts
 counts_of [] port = zero_counts
-counts_of (counted ∷ counts) port = if counted.port == port then counted.counts else counts_of counts port
+counts_of (counted ∷ counts) port =
+    if counted.port == port then counted.counts else counts_of counts port

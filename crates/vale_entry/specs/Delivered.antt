@@ -52,14 +52,16 @@ count_brought brought = length brought.frames
 -- what the Grant of an offer gives
 abbrev pub granted_of_offer : World → Option Offer → List Brought
 granted_of_offer w None = []
-granted_of_offer w (Some offer) = (record { origin = offer.origin; frames = granted_frames w offer }) ∷ []
+granted_of_offer w (Some offer) =
+    (record { origin = offer.origin; frames = granted_frames w offer }) ∷ []
 
 -- what an ask grants to a port
 abbrev pub granted_by : ℕ → World → Ask → List Brought
 granted_by port w (Enter user) = []
 granted_by port w (Open session name tx rx extra) = []
 granted_by port w (Send from frames) = []
-granted_by port w (Grant origin to) = if to.0 == port then granted_of_offer w (first_offer w origin) else []
+granted_by port w (Grant origin to) =
+    if to.0 == port then granted_of_offer w (first_offer w origin) else []
 granted_by port w (Done lease) = []
 granted_by port w (Sync at back) = []
 granted_by port w (Reset at side fault) = []
@@ -97,7 +99,8 @@ put_by port w (Shut at) reply = []
 put_by port w (Finish at bufs chain) reply = []
 put_by port w (Leave session) reply = []
 put_by port w (Put at offered) reply = []
-put_by port w (PutKept at offered) reply = if puts_to_port w.ports at.0 port then taken_of (w.entry_count + 1) reply else []
+put_by port w (PutKept at offered) reply =
+    if puts_to_port w.ports at.0 port then taken_of (w.entry_count + 1) reply else []
 put_by port w (Get at back) reply = []
 put_by port w (Watch monitor target sides) reply = []
 put_by port w (Stat at) reply = []
@@ -127,14 +130,16 @@ read_by port w (Open session name tx rx extra) = []
 read_by port w (Send from frames) = []
 read_by port w (Grant origin to) = []
 read_by port w (Done lease) = []
-read_by port w (Sync at back) = if at.0 == port then frames_at delivered_frames (open_port w.ports at.0) else []
+read_by port w (Sync at back) =
+    if at.0 == port then frames_at delivered_frames (open_port w.ports at.0) else []
 read_by port w (Reset at side fault) = []
 read_by port w (Shut at) = []
 read_by port w (Finish at bufs chain) = []
 read_by port w (Leave session) = []
 read_by port w (Put at offered) = []
 read_by port w (PutKept at offered) = []
-read_by port w (Get at back) = if at.0 == port then frames_at delivered_frames (open_port w.ports at.0) else []
+read_by port w (Get at back) =
+    if at.0 == port then frames_at delivered_frames (open_port w.ports at.0) else []
 read_by port w (Watch monitor target sides) = []
 read_by port w (Stat at) = []
 
@@ -184,7 +189,8 @@ count_taken _ = []
 
 abbrev pub given_by : ℕ → World → Ask → Reply → List ℕ
 given_by port w (Grant origin to) reply = if to.0 == port then count_given reply else []
-given_by port w (PutKept at offered) reply = if puts_to_port w.ports at.0 port then count_taken reply else []
+given_by port w (PutKept at offered) reply =
+    if puts_to_port w.ports at.0 port then count_taken reply else []
 given_by port w _ reply = []
 
 abbrev pub given_in : ℕ → World → Entry → List ℕ

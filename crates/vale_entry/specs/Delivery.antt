@@ -41,4 +41,8 @@ abbrev pub delivered_frames : Port → List Frame
 delivered_frames port = flat_map frames_of_lot (ready_lots port)
 
 abbrev pub port_after_sync : ℕ → Port → Port
-port_after_sync returned port = record port { out = port.out + size_of_frames (delivered_frames port) - returned; line = drop (length (ready_lots port)) port.line }
+port_after_sync returned port =
+    record port {
+      out = port.out + size_of_frames (delivered_frames port) - returned;
+      line = drop (length (ready_lots port)) port.line;
+    }

@@ -13,9 +13,10 @@ use Rattle.vale_entry.specs.Counters.{counts_of}
 use Rattle.vale_entry.specs.Counted.{counts_told}
 use Rattle.vale_entry.specs.Fate.{wanted_at, offers_at, Share, share_in, shares_at, granted_at, puts_at, Fate, Pending, Given, Full, Gone, fates_at, given_of, entries_of, origin_of, brought_between}
 
--- What was given to a port is what it read, and behind that a rest: the frames in its line while the
--- port is there, and once it is gone as many as its one Finish counted.
-pub record IsReadInOrder (given read : List Frame) (found : Option Port) (unread : List ℕ) : Type 0 where
+-- What was given to a port is what it read, and behind that a rest: the frames in its line while
+-- the port is there, and once it is gone as many as its one Finish counted.
+pub record IsReadInOrder (given read : List Frame) (found : Option Port) (unread : List ℕ)
+    : Type 0 where
   pub rest : List Frame
   pub in_order : given ≡ read ++ rest
   pub queued : (port : Port) → found ≡ Some port → rest ≡ frames_of_line port.line
@@ -25,18 +26,21 @@ pub record IsReadInOrder (given read : List Frame) (found : Option Port) (unread
 
 abbrev pub ReadIsPrefixOfGiven : Type 0
 ReadIsPrefixOfGiven = (pool : ℕ) (history : List Entry) → IsLegal pool history → (port : ℕ)
-    → IsReadInOrder (given_frames pool history port) (read_frames pool history port) (port_at (world_of pool history).ports port) (unread_counts history port)
+    → IsReadInOrder (given_frames pool history port) (read_frames pool history port)
+    (port_at (world_of pool history).ports port) (unread_counts history port)
 
--- What is brought to a port is, each time, a prefix of the frames of an entry that are wanted there, or
--- the frames that a Put's other end took.
+-- What is brought to a port is, each time, a prefix of the frames of an entry that are wanted
+-- there, or the frames that a Put's other end took.
 abbrev pub IsPrefixOfWanted : ℕ → List Entry → ℕ → Brought → Type 0
-IsPrefixOfWanted pool history port brought = (rest : List Frame) × (wanted_at pool history brought.origin port ≡ brought.frames ++ rest)
+IsPrefixOfWanted pool history port brought =
+    (rest : List Frame) × (wanted_at pool history brought.origin port ≡ brought.frames ++ rest)
 
 abbrev pub IsTaken : ℕ → List Entry → ℕ → Brought → Type 0
 IsTaken pool history port brought = puts_at pool history brought.origin port ≡ brought ∷ []
 
 abbrev pub IsBroughtFor : ℕ → List Entry → ℕ → Brought → Type 0
-IsBroughtFor pool history port brought = IsPrefixOfWanted pool history port brought ⊎ IsTaken pool history port brought
+IsBroughtFor pool history port brought =
+    IsPrefixOfWanted pool history port brought ⊎ IsTaken pool history port brought
 
 abbrev pub GivenOnlyByWanted : Type 0
 GivenOnlyByWanted = (pool : ℕ) (history : List Entry) → IsLegal pool history → (port : ℕ)
@@ -51,71 +55,97 @@ abbrev pub PutsBringOnce : Type 0
 PutsBringOnce = (pool : ℕ) (history : List Entry) → IsLegal pool history → (number to : ℕ)
     → IsPutOnce (puts_at pool history number to) (wanted_at pool history number to)
 
--- It is what the Put's reply says was taken, if the port is the other end as the Put is made, and else
--- nothing.
+-- It is what the Put's reply says was taken, if the port is the other end as the Put is made, and
+-- else nothing.
 abbrev pub PutsAreOfReply : Type 0
 PutsAreOfReply = (pool : ℕ) (past : List Entry) (entry : Entry) (rest : List Entry) (to : ℕ)
-    → puts_at pool (past ++ entry ∷ rest) (length past + 1) to ≡ put_in to (world_of pool past) entry
+    → puts_at pool (past ++ entry ∷ rest) (length past + 1) to
+    ≡ put_in to (world_of pool past) entry
 
 -- A short frame, and a lone one, is named for no port of the switch.
 abbrev pub IsForNobody : List Port → Port → Named → Type 0
-IsForNobody ports sender named = AllByRecursion (λ port. is_named sender named.destination port ≡ false) ports
+IsForNobody ports sender named =
+    AllByRecursion (λ port. is_named sender named.destination port ≡ false) ports
 
 abbrev pub ShortAndLoneAreForNobody : Type 0
-ShortAndLoneAreForNobody = (ports : List Port) (sender : Port) (pairs : List Pair) (frames : List Frame)
-    → AllByRecursion (λ named. (is_short named.frame || is_lone ports sender named) ≡ true → IsForNobody ports sender named) (named_frames ports sender pairs frames)
+ShortAndLoneAreForNobody =
+    (ports : List Port) (sender : Port) (pairs : List Pair) (frames : List Frame)
+    → AllByRecursion
+    (λ named.
+    (is_short named.frame || is_lone ports sender named) ≡ true → IsForNobody ports sender named)
+    (named_frames ports sender pairs frames)
 
--- The frames of an entry that are wanted at a port stand in one offer until one Grant shares them out:
--- its reply counts each of them, for one cause at most, and those given are the first ones.
-pub record AreSharedOnce (wanted : List Frame) (offers : List Offer) (shares : List Share) (granted : List Brought) : Type 0 where
+-- The frames of an entry that are wanted at a port stand in one offer until one Grant shares them
+-- out: its reply counts each of them, for one cause at most, and those given are the first ones.
+pub record AreSharedOnce (wanted : List Frame) (offers : List Offer) (shares : List Share)
+    (granted : List Brought) : Type 0 where
   pub once : length offers + length shares ≡ min 1 (length wanted)
   pub offered : AllByRecursion (λ offer. offer.frames ≡ wanted) offers
-  pub counted : AllByRecursion (λ share. share.given + share.full + share.gone ≡ length wanted) shares
+  pub counted :
+      AllByRecursion (λ share. share.given + share.full + share.gone ≡ length wanted) shares
   pub one_cause : AllByRecursion (λ share. (share.full ≡ 0) ⊎ (share.gone ≡ 0)) shares
   pub first_given : map frames_brought granted ≡ map (λ share. take share.given wanted) shares
 
 abbrev pub WantedIsSharedOnce : Type 0
 WantedIsSharedOnce = (pool : ℕ) (history : List Entry) → IsLegal pool history → (number to : ℕ)
-    → AreSharedOnce (wanted_at pool history number to) (offers_at (world_of pool history) number to) (shares_at history number to) (granted_at pool history number to)
+    → AreSharedOnce (wanted_at pool history number to) (offers_at (world_of pool history) number to)
+    (shares_at history number to) (granted_at pool history number to)
 
--- Each wanted frame has one fate: all are pending before the Grant; after it the first ones are given,
--- and the others full, or gone, as many as its reply says.
+-- Each wanted frame has one fate: all are pending before the Grant; after it the first ones are
+-- given, and the others full, or gone, as many as its reply says.
 pub record HaveFates (fates : List Fate) (wanted : List Frame) (shares : List Share) : Type 0 where
   pub pending : shares ≡ [] → fates ≡ replicate (length wanted) Pending
-  pub counted : AllByRecursion (λ share. fates ≡ replicate share.given Given ++ (replicate share.full Full ++ replicate share.gone Gone)) shares
+  pub counted :
+      AllByRecursion
+      (λ share. fates ≡ replicate share.given Given ++ (replicate share.full Full ++ replicate share.gone Gone))
+      shares
 
 abbrev pub DroppedFramesAreCounted : Type 0
 DroppedFramesAreCounted = (pool : ℕ) (history : List Entry) → IsLegal pool history → (number to : ℕ)
-    → HaveFates (fates_at pool history number to) (wanted_at pool history number to) (shares_at history number to)
+    → HaveFates (fates_at pool history number to) (wanted_at pool history number to)
+    (shares_at history number to)
 
--- A Grant drops frames for a cause: they are gone where the port is not open; they are full where it is
--- open, those given fit its space, and one more does not.
+-- A Grant drops frames for a cause: they are gone where the port is not open; they are full where
+-- it is open, those given fit its space, and one more does not.
 pub record HasCause (found : Option Port) (wanted : List Frame) (share : Share) : Type 0 where
   pub gone_closed : 0 < share.gone → found ≡ None
-  pub full_open : 0 < share.full → (port : Port) × ((found ≡ Some port) × (space_of port < size_of_frames (take (share.given + 1) wanted)))
-  pub given_fits : (port : Port) → found ≡ Some port → size_of_frames (take share.given wanted) ≤ space_of port
+  pub full_open :
+      0 < share.full
+      → (port : Port)
+      × ((found ≡ Some port) × (space_of port < size_of_frames (take (share.given + 1) wanted)))
+  pub given_fits :
+      (port : Port) → found ≡ Some port → size_of_frames (take share.given wanted) ≤ space_of port
 
 abbrev pub FramesAreDroppedForCause : Type 0
-FramesAreDroppedForCause = (pool : ℕ) (history : List Entry) (entry : Entry) → IsLegal pool history → Follows (standing_of pool history) entry → (number to : ℕ)
-    → AllByRecursion (HasCause (open_port (world_of pool history).ports to) (wanted_at pool history number to)) (share_in number to entry)
+FramesAreDroppedForCause =
+    (pool : ℕ) (history : List Entry) (entry : Entry) → IsLegal pool history
+    → Follows (standing_of pool history) entry → (number to : ℕ)
+    → AllByRecursion
+    (HasCause (open_port (world_of pool history).ports to) (wanted_at pool history number to))
+    (share_in number to entry)
 
--- The replies count what is given and read: each Grant its frames, each Put those that were taken, and
--- the Syncs and Gets of a port all that it read.
-pub record AreCounted (brought : List Brought) (given : List ℕ) (read : List Frame) (gave : List ℕ) : Type 0 where
+-- The replies count what is given and read: each Grant its frames, each Put those that were taken,
+-- and the Syncs and Gets of a port all that it read.
+pub record AreCounted (brought : List Brought) (given : List ℕ) (read : List Frame) (gave : List ℕ)
+    : Type 0 where
   pub given_counted : map count_brought brought ≡ given
   pub read_counted : length read ≡ sum gave
 
 abbrev pub RepliesCountFrames : Type 0
 RepliesCountFrames = (pool : ℕ) (history : List Entry) → IsLegal pool history → (port : ℕ)
-    → AreCounted (brought_to pool history port) (given_counts pool history port) (read_frames pool history port) (read_counts history port)
+    → AreCounted (brought_to pool history port) (given_counts pool history port)
+    (read_frames pool history port) (read_counts history port)
 
 -- The buffers that are out at a port are those of the frames that it read, less those brought back.
 abbrev pub OutIsCounted : Type 0
-OutIsCounted = (pool : ℕ) (history : List Entry) → IsLegal pool history → (id : ℕ) (port : Port) → port_at (world_of pool history).ports id ≡ Some port
+OutIsCounted =
+    (pool : ℕ) (history : List Entry) → IsLegal pool history → (id : ℕ) (port : Port)
+    → port_at (world_of pool history).ports id ≡ Some port
     → port.out + sum (returned_counts history id) ≡ size_of_frames (read_frames pool history id)
 
--- The counters of a port that is there are what the history tells of it: the frames that it sent and which
--- of them were short and lone, those that were given to it, were full there, and were read.
+-- The counters of a port that is there are what the history tells of it: the frames that it sent
+-- and which of them were short and lone, those that were given to it, were full there, and were
+-- read.
 abbrev pub CountersAreSums : Type 0
 CountersAreSums = (pool : ℕ) (history : List Entry) → IsLegal pool history → (id : ℕ) (port : Port)
     → port_at (world_of pool history).ports id ≡ Some port
@@ -123,17 +153,21 @@ CountersAreSums = (pool : ℕ) (history : List Entry) → IsLegal pool history �
 
 -- Once no session is left, no frame is pending.
 abbrev pub NothingIsPendingAtTheEnd : Type 0
-NothingIsPendingAtTheEnd = (pool : ℕ) (history : List Entry) → IsLegal pool history → (world_of pool history).sessions ≡ [] → (number to : ℕ)
+NothingIsPendingAtTheEnd =
+    (pool : ℕ) (history : List Entry) → IsLegal pool history → (world_of pool history).sessions ≡ []
+    → (number to : ℕ)
     → AllByRecursion (λ fate. fate ≢ Pending) (fates_at pool history number to)
 
--- The entries that a port sent rise by number, and so do those of which something is brought to a port.
--- The frames brought are what was given of each entry, one entry after the other: a sender's frames
--- keep their order.
-pub record AreInSenderOrder (count : ℕ) (numbers : List ℕ) (brought : List Brought) (given : ℕ → List Frame) : Type 0 where
+-- The entries that a port sent rise by number, and so do those of which something is brought to a
+-- port. The frames brought are what was given of each entry, one entry after the other: a sender's
+-- frames keep their order.
+pub record AreInSenderOrder (count : ℕ) (numbers : List ℕ) (brought : List Brought)
+    (given : ℕ → List Frame) : Type 0 where
   pub numbers_rise : Rise 0 numbers count
   pub brought_rises : Rise 0 (map origin_of brought) count
   pub one_after_another : flat_map frames_brought brought ≡ flat_map given numbers
 
 abbrev pub SenderOrderIsKept : Type 0
 SenderOrderIsKept = (pool : ℕ) (history : List Entry) → IsLegal pool history → (from to : ℕ)
-    → AreInSenderOrder (length history) (entries_of pool history from) (brought_between pool history from to) (λ number. given_of pool history number to)
+    → AreInSenderOrder (length history) (entries_of pool history from)
+    (brought_between pool history from to) (λ number. given_of pool history number to)

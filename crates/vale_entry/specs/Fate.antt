@@ -19,17 +19,21 @@ use Rattle.vale_entry.specs.Delivered.{told, port_at, frames_at, Brought, frames
 abbrev pub wanted_of_send : World → List Frame → ℕ → Option Port → List Frame
 wanted_of_send w frames to None = []
 wanted_of_send w frames to (Some sender) =
-    frames_at (wanted_frames sender (transmit_monitor w sender.id) (named_of w sender frames)) (port_at w.ports to)
+    frames_at (wanted_frames sender (transmit_monitor w sender.id) (named_of w sender frames))
+    (port_at w.ports to)
 
 -- the frames that a Sync or a Get gave, wanted at the monitor of the port's receive side
 abbrev pub wanted_of_sync : World → ℕ → Option Port → List Frame
 wanted_of_sync w to None = []
-wanted_of_sync w to (Some reader) = frames_at (monitored_frames (receive_monitor w reader.id) (delivered_frames reader)) (port_at w.ports to)
+wanted_of_sync w to (Some reader) =
+    frames_at (monitored_frames (receive_monitor w reader.id) (delivered_frames reader))
+    (port_at w.ports to)
 
 -- the frames that a Put's other end took, wanted at the monitor of the port's transmit side
 abbrev pub wanted_of_put : World → List Frame → ℕ → Option Port → List Frame
 wanted_of_put w frames to None = []
-wanted_of_put w frames to (Some sender) = frames_at (monitored_frames (transmit_monitor w sender.id) frames) (port_at w.ports to)
+wanted_of_put w frames to (Some sender) =
+    frames_at (monitored_frames (transmit_monitor w sender.id) frames) (port_at w.ports to)
 
 -- the frames of an entry that are wanted at a port, by the world before it
 abbrev pub wanted_by : World → Ask → Reply → ℕ → List Frame
@@ -44,14 +48,16 @@ wanted_by w (Shut at) reply to = []
 wanted_by w (Finish at bufs chain) reply to = []
 wanted_by w (Leave session) reply to = []
 wanted_by w (Put at offered) reply to = []
-wanted_by w (PutKept from offered) reply to = wanted_of_put w (frames_of_items (kept_items reply)) to (open_port w.ports from.0)
+wanted_by w (PutKept from offered) reply to =
+    wanted_of_put w (frames_of_items (kept_items reply)) to (open_port w.ports from.0)
 wanted_by w (Get at back) reply to = wanted_of_sync w to (open_port w.ports at.0)
 wanted_by w (Watch monitor target sides) reply to = []
 wanted_by w (Stat at) reply to = []
 
 -- the same where the entry bears this number
 abbrev pub wanted_in : ℕ → ℕ → World → Entry → List Frame
-wanted_in number to w entry = if w.entry_count + 1 == number then wanted_by w entry.ask entry.reply to else []
+wanted_in number to w entry =
+    if w.entry_count + 1 == number then wanted_by w entry.ask entry.reply to else []
 
 -- the frames of the entry of this number that are wanted at a port
 abbrev pub wanted_at : ℕ → List Entry → ℕ → ℕ → List Frame
@@ -76,7 +82,8 @@ share_of (Shared given full gone) = (record { given = given; full = full; gone =
 share_of _ = []
 
 abbrev pub share_by : ℕ → ℕ → Ask → Reply → List Share
-share_by number to (Grant origin at) reply = if (origin == number) && (at.0 == to) then share_of reply else []
+share_by number to (Grant origin at) reply =
+    if (origin == number) && (at.0 == to) then share_of reply else []
 share_by number to _ reply = []
 
 abbrev pub share_in : ℕ → ℕ → Entry → List Share
@@ -106,7 +113,8 @@ pub data Fate : Type 0 where
 -- by the share that counts the frame, if there is one: the first frames are given
 abbrev pub fate_by : List Share → ℕ → Fate
 fate_by [] j = Pending
-fate_by (share ∷ shares) j = if nat_lt j share.given then Given else (if nat_lt 0 share.gone then Gone else Full)
+fate_by (share ∷ shares) j =
+    if nat_lt j share.given then Given else (if nat_lt 0 share.gone then Gone else Full)
 
 -- the fate of the j-th of the frames, counted from 0, that are wanted of this entry at this port
 abbrev pub fate_of : List Entry → ℕ → ℕ → ℕ → Fate
@@ -114,7 +122,9 @@ fate_of history number j to = fate_by (shares_at history number to) j
 
 -- the fates of all of them
 abbrev pub fates_at : ℕ → List Entry → ℕ → ℕ → List Fate
-fates_at pool history number to = map (λ j. fate_of history number j to) (range_with_len 0 (length (wanted_at pool history number to)))
+fates_at pool history number to =
+    map (λ j. fate_of history number j to)
+    (range_with_len 0 (length (wanted_at pool history number to)))
 
 -- how many of them were given
 abbrev pub given_count : List Share → ℕ
@@ -123,12 +133,14 @@ given_count (share ∷ shares) = share.given
 
 -- the frames that were given: the first of those wanted
 abbrev pub given_prefix : ℕ → List Entry → ℕ → ℕ → List Frame
-given_prefix pool history number to = take (given_count (shares_at history number to)) (wanted_at pool history number to)
+given_prefix pool history number to =
+    take (given_count (shares_at history number to)) (wanted_at pool history number to)
 
--- the frames of an entry that a port was given: those that it took where they were put to it, and else
--- the first of those wanted there
+-- the frames of an entry that a port was given: those that it took where they were put to it, and
+-- else the first of those wanted there
 abbrev pub given_of : ℕ → List Entry → ℕ → ℕ → List Frame
-given_of pool history number to = flat_map frames_brought (puts_at pool history number to) ++ given_prefix pool history number to
+given_of pool history number to =
+    flat_map frames_brought (puts_at pool history number to) ++ given_prefix pool history number to
 
 -- whether a Put found its other end open, so that it sent what was taken
 abbrev pub was_taken : Reply → Bool
@@ -155,7 +167,8 @@ is_sent_by port (Stat at) reply = false
 
 -- the number of an entry whose frames come from a port
 abbrev pub numbers_in : ℕ → World → Entry → List ℕ
-numbers_in port w entry = if is_sent_by port entry.ask entry.reply then (w.entry_count + 1) ∷ [] else []
+numbers_in port w entry =
+    if is_sent_by port entry.ask entry.reply then (w.entry_count + 1) ∷ [] else []
 
 -- the entries whose frames come from a port, by rising number
 abbrev pub entries_of : ℕ → List Entry → ℕ → List ℕ
@@ -170,4 +183,5 @@ origin_of brought = brought.origin
 
 -- what was brought to a port of what came from another
 abbrev pub brought_between : ℕ → List Entry → ℕ → ℕ → List Brought
-brought_between pool history from to = filter (is_among (entries_of pool history from)) (brought_to pool history to)
+brought_between pool history from to =
+    filter (is_among (entries_of pool history from)) (brought_to pool history to)

@@ -1,5 +1,5 @@
--- `decimal` writes the last 64 digits of a number, so it tells only smaller numbers apart. Each number of
--- an entry of a legal history is kept in 64 bits at most.
+-- `decimal` writes the last 64 digits of a number, so it tells only smaller numbers apart. Each
+-- number of an entry of a legal history is kept in 64 bits at most.
 use Rattle.std.specs.Prelude.{ℕ, ◌<◌, ◌^◌, List}
 use Rattle.std.specs.List.{AllByRecursion}
 use Rattle.nm_types.specs.declared.fault.OpenFault.{OpenFault}
@@ -49,7 +49,8 @@ FitsAsk (Done lease) = FitsU64 lease.0
 FitsAsk (Sync port back) = FitsU64 port.0 × AllByRecursion FitsU64 back
 FitsAsk (Reset port side fault) = FitsU64 port.0 × FitsFault fault
 FitsAsk (Shut port) = FitsU64 port.0
-FitsAsk (Finish port bufs chain) = FitsU64 port.0 × AllByRecursion FitsU64 bufs × FitsU64 chain.found × FitsU64 chain.astray
+FitsAsk (Finish port bufs chain) =
+    FitsU64 port.0 × AllByRecursion FitsU64 bufs × FitsU64 chain.found × FitsU64 chain.astray
 FitsAsk (PutKept port offered) = FitsU64 port.0 × FitsU64 offered
 FitsAsk (Get port back) = FitsU64 port.0 × AllByRecursion FitsU64 back
 FitsAsk (Watch monitor target sides) = FitsU64 monitor.0
@@ -57,7 +58,9 @@ FitsAsk (Stat port) = FitsU64 port.0
 FitsAsk _ = Unit {0}
 
 abbrev pub FitsCounts : Counts → Type 0
-FitsCounts counts = FitsU64 counts.sent × FitsU64 counts.short × FitsU64 counts.lone × FitsU64 counts.given × FitsU64 counts.full × FitsU64 counts.read
+FitsCounts counts =
+    FitsU64 counts.sent × FitsU64 counts.short × FitsU64 counts.lone × FitsU64 counts.given
+    × FitsU64 counts.full × FitsU64 counts.read
 
 abbrev pub FitsReply : Reply → Type 0
 FitsReply (Refused fault) = FitsRefusal fault

@@ -72,9 +72,10 @@ IsLotOf sessions lot = lot.is_done ≡ false → IsThere sessions lot.session
 abbrev pub HasLeasesOf : List ℕ → Port → Type 0
 HasLeasesOf sessions port = AllByRecursion (IsLotOf sessions) port.line
 
--- sessions, ports, lots and offers bear the numbers of the entries that made them, and each port, each
--- lease and each offer is of a session that is there
-pub record AreNumbered (count : ℕ) (sessions : List ℕ) (ports : List Port) (offers : List Offer) : Type 0 where
+-- sessions, ports, lots and offers bear the numbers of the entries that made them, and each port,
+-- each lease and each offer is of a session that is there
+pub record AreNumbered (count : ℕ) (sessions : List ℕ) (ports : List Port) (offers : List Offer)
+    : Type 0 where
   pub sessions_rise : Rise 0 sessions count
   pub ports_rise : Rise 0 (map id_of_port ports) count
   pub ports_owned : AllByRecursion (IsPortOf sessions) ports
@@ -103,7 +104,8 @@ pub record AreRoomy (pool : ℕ) (ports : List Port) : Type 0 where
 abbrev pub IsRoomy : World → Type 0
 IsRoomy w = AreRoomy w.pool w.ports
 
--- the free buffers rise, so that the first are the smallest, and are what the ports leave of the pool
+-- the free buffers rise, so that the first are the smallest, and are what the ports leave of the
+-- pool
 pub record AreFree (pool : ℕ) (ports : List Port) (free : List ℕ) : Type 0 where
   pub rise : Rise 1 free (pool + 1)
   pub count : length free + sum_by buffers_of ports ≡ pool
@@ -118,8 +120,8 @@ brings_lot (Grant origin to) = true
 brings_lot (PutKept port offered) = true
 brings_lot _ = false
 
--- a lot bears the number of the entry of its session that brought it, which is a Grant where the lot is
--- not done
+-- a lot bears the number of the entry of its session that brought it, which is a Grant where the
+-- lot is not done
 pub record IsOfEntry (history : List Entry) (lot : Lot) : Type 0 where
   pub entry : Entry
   pub counted : 0 < lot.number
@@ -133,7 +135,8 @@ abbrev pub bears_number : ℕ → Lot → Bool
 bears_number number lot = lot.number == number
 
 abbrev pub AreSingle : List Port → Type 0
-AreSingle ports = (number : ℕ) → sum_by (λ (port : Port). count_by (bears_number number) port.line) ports ≤ 1
+AreSingle ports =
+    (number : ℕ) → sum_by (λ (port : Port). count_by (bears_number number) port.line) ports ≤ 1
 
 -- an open port of this id, and one with a monitor's name
 abbrev pub is_monitor_open : ℕ → Port → Bool
@@ -182,7 +185,10 @@ pub record IsWaiting (found : Option Port) (n : ℕ) : Type 0 where
 
 -- all offers of a session that are not granted are of one entry
 abbrev pub OffersAreOfOneEntry : List Offer → Type 0
-OffersAreOfOneEntry offers = (session : ℕ) → (origin : ℕ) × AllByRecursion (λ (offer : Offer). offer.session ≡ session → offer.origin ≡ origin) offers
+OffersAreOfOneEntry offers =
+    (session : ℕ)
+    → (origin : ℕ)
+    × AllByRecursion (λ (offer : Offer). offer.session ≡ session → offer.origin ≡ origin) offers
 
 -- a grant that gives nothing needs no Done: that one's room comes back
 abbrev pub room_back : Reply → ℕ
@@ -203,23 +209,27 @@ room_back (Counted counts) = 0
 
 -- an entry takes one of those promised before or wanted by its step, and leaves the others promised
 abbrev pub IsPromised : World → World → Outcome → Type 0
-IsPromised before left made = promised_of left + 1 + room_back made.reply ≡ promised_of before + made.want
+IsPromised before left made =
+    promised_of left + 1 + room_back made.reply ≡ promised_of before + made.want
 
--- Each port is within its sizes: no lot is empty, one slot beside what is out and queued stays with the
--- kernel side, and its session's dues, its idle buffers and its lots' are all the buffers that it has.
--- All ports together have no more than the pool.
+-- Each port is within its sizes: no lot is empty, one slot beside what is out and queued stays with
+-- the kernel side, and its session's dues, its idle buffers and its lots' are all the buffers that
+-- it has. All ports together have no more than the pool.
 pub record IsWithinSizes (pool : ℕ) (w : World) : Type 0 where
   pub pool_is : w.pool ≡ pool
   pub lots_filled : All (λ (port : Port). All IsFilled port.line) w.ports
   pub room_kept : All (λ (port : Port). port.out + size_of_line port.line + 1 ≤ port.rx) w.ports
-  pub parts_are_all : All (λ (port : Port). due_of port + (space_of port + 1) + size_of_line port.line ≡ buffers_of port) w.ports
+  pub parts_are_all :
+      All (λ (port : Port). due_of port + (space_of port + 1) + size_of_line port.line ≡ buffers_of port)
+      w.ports
   pub fits_pool : sum_by buffers_of w.ports ≤ pool
 
--- the free buffers rise, so that the ones taken from the front are the smallest, and they are as many
--- as the world says
+-- the free buffers rise, so that the ones taken from the front are the smallest, and they are as
+-- many as the world says
 pub record AreSmallestFirst (pool : ℕ) (w : World) (x : Holdings) : Type 0 where
   pub rise : Rise 1 x.free (pool + 1)
-  pub smallest : (n : ℕ) → All (λ (taken : ℕ). All (λ (left : ℕ). taken < left) (drop n x.free)) (take n x.free)
+  pub smallest :
+      (n : ℕ) → All (λ (taken : ℕ). All (λ (left : ℕ). taken < left) (drop n x.free)) (take n x.free)
   pub count : length x.free ≡ free_count w
 
 -- each entry is printable at its number
@@ -235,80 +245,116 @@ AsksAreAnswered = (s : Standing) (ask : Ask) → is_enabled s ask ≡ is_some (r
 
 -- what a Put makes is what its entry records
 abbrev pub PutsAreKept : Type 0
-PutsAreKept = (s : Standing) (port : PortId) (offered : List Item) (made : Outcome) → step s (Put port offered) ≡ Some made
+PutsAreKept =
+    (s : Standing) (port : PortId) (offered : List Item) (made : Outcome)
+    → step s (Put port offered) ≡ Some made
     → recorded_step s (kept_ask (Put port offered)) made.reply ≡ Some made
 
 abbrev pub NumbersRise : Type 0
 NumbersRise =
-    (pool : ℕ) (history : List Entry) → AreNumbered (length history) (world_of pool history).sessions (world_of pool history).ports (world_of pool history).offers
+    (pool : ℕ) (history : List Entry)
+    → AreNumbered (length history) (world_of pool history).sessions (world_of pool history).ports
+    (world_of pool history).offers
 
 abbrev pub PortsAreWithinSizes : Type 0
-PortsAreWithinSizes = (pool : ℕ) (history : List Entry) → IsLegal pool history → IsWithinSizes pool (world_of pool history)
+PortsAreWithinSizes =
+    (pool : ℕ) (history : List Entry) → IsLegal pool history
+    → IsWithinSizes pool (world_of pool history)
 
 abbrev pub FreeBuffersRise : Type 0
-FreeBuffersRise = (pool : ℕ) (history : List Entry) → IsLegal pool history → AreSmallestFirst pool (world_of pool history) (holdings_of pool history)
+FreeBuffersRise =
+    (pool : ℕ) (history : List Entry) → IsLegal pool history
+    → AreSmallestFirst pool (world_of pool history) (holdings_of pool history)
 
 -- what was taken from the front of the free buffers and is given back leaves them as they were
 abbrev pub FreeBuffersReturn : Type 0
 FreeBuffersReturn =
-    (low high n : ℕ) (free : List ℕ) → Rise low free high → all_with_free (take n free) (drop n free) ≡ free
+    (low high n : ℕ) (free : List ℕ) → Rise low free high
+    → all_with_free (take n free) (drop n free) ≡ free
 
 abbrev pub BuffersAreParted : Type 0
-BuffersAreParted = (pool : ℕ) (history : List Entry) → IsLegal pool history → IsParted pool (holdings_of pool history)
+BuffersAreParted =
+    (pool : ℕ) (history : List Entry) → IsLegal pool history
+    → IsParted pool (holdings_of pool history)
 
 abbrev pub HoldingsAgree : Type 0
-HoldingsAgree = (pool : ℕ) (history : List Entry) → IsLegal pool history → Agrees (world_of pool history) (holdings_of pool history)
+HoldingsAgree =
+    (pool : ℕ) (history : List Entry) → IsLegal pool history
+    → Agrees (world_of pool history) (holdings_of pool history)
 
 abbrev pub SessionsHaveOneUnsettled : Type 0
-SessionsHaveOneUnsettled = (pool : ℕ) (history : List Entry) → IsLegal pool history → OffersAreOfOneEntry (world_of pool history).offers
+SessionsHaveOneUnsettled =
+    (pool : ℕ) (history : List Entry) → IsLegal pool history
+    → OffersAreOfOneEntry (world_of pool history).offers
 
 abbrev pub FinishWaitsForLeases : Type 0
-FinishWaitsForLeases = (s : Standing) (port : PortId) (bufs : List ℕ) (chain : Chain) (n : ℕ) → reply_to s (Finish port bufs chain) ≡ Some (LeasesOut n)
+FinishWaitsForLeases =
+    (s : Standing) (port : PortId) (bufs : List ℕ) (chain : Chain) (n : ℕ)
+    → reply_to s (Finish port bufs chain) ≡ Some (LeasesOut n)
     → IsWaiting (shutting_port s.world.ports port.0) n
 
 abbrev pub NamesDiffer : Type 0
-NamesDiffer = (pool : ℕ) (history : List Entry) → IsLegal pool history → AreNamedApart (world_of pool history).ports
+NamesDiffer =
+    (pool : ℕ) (history : List Entry) → IsLegal pool history
+    → AreNamedApart (world_of pool history).ports
 
 abbrev pub OffersClimb : Type 0
-OffersClimb = (pool : ℕ) (history : List Entry) → IsLegal pool history → Climb 0 (world_of pool history).offers
+OffersClimb =
+    (pool : ℕ) (history : List Entry) → IsLegal pool history
+    → Climb 0 (world_of pool history).offers
 
 abbrev pub CountersAreKept : Type 0
-CountersAreKept = (pool : ℕ) (history : List Entry) → IsLegal pool history → AreCountedAt (world_of pool history)
+CountersAreKept =
+    (pool : ℕ) (history : List Entry) → IsLegal pool history → AreCountedAt (world_of pool history)
 
 abbrev pub PairsAreOfSwitch : Type 0
 PairsAreOfSwitch =
-    (pool : ℕ) (history : List Entry) → AllByRecursion (IsPairOf (world_of pool history).ports) (world_of pool history).pairs
+    (pool : ℕ) (history : List Entry)
+    → AllByRecursion (IsPairOf (world_of pool history).ports) (world_of pool history).pairs
 
 abbrev pub WatchesAreOpen : Type 0
-WatchesAreOpen = (pool : ℕ) (history : List Entry) → IsLegal pool history → AreWatches (world_of pool history).ports (world_of pool history).watches
+WatchesAreOpen =
+    (pool : ℕ) (history : List Entry) → IsLegal pool history
+    → AreWatches (world_of pool history).ports (world_of pool history).watches
 
 abbrev pub LotsAreOfEntries : Type 0
 LotsAreOfEntries =
     (pool : ℕ) (history : List Entry) → IsLegal pool history
-    → AllByRecursion (λ (port : Port). AllByRecursion (IsOfEntry history) port.line) (world_of pool history).ports
+    → AllByRecursion (λ (port : Port). AllByRecursion (IsOfEntry history) port.line)
+    (world_of pool history).ports
 
 abbrev pub LotsAreSingle : Type 0
-LotsAreSingle = (pool : ℕ) (history : List Entry) → IsLegal pool history → AreSingle (world_of pool history).ports
+LotsAreSingle =
+    (pool : ℕ) (history : List Entry) → IsLegal pool history
+    → AreSingle (world_of pool history).ports
 
--- an entry's own place and those that it leaves promised are those promised before and those that its
--- step wants
+-- an entry's own place and those that it leaves promised are those promised before and those that
+-- its step wants
 abbrev pub RoomIsPromised : Type 0
-RoomIsPromised = (pool : ℕ) (history : List Entry) (entry : Entry) (made : Outcome) → IsLegal pool history → Follows (standing_of pool history) entry
+RoomIsPromised =
+    (pool : ℕ) (history : List Entry) (entry : Entry) (made : Outcome) → IsLegal pool history
+    → Follows (standing_of pool history) entry
     → recorded_step (standing_of pool history) entry.ask entry.reply ≡ Some made
     → IsPromised (world_of pool history) (world_of pool (history ++ entry ∷ [])) made
 
 -- so a history uses, entries stored and promised, what its steps have wanted less what came back
 abbrev pub RoomIsUsed : Type 0
-RoomIsUsed = (pool : ℕ) (history : List Entry) (entry : Entry) (made : Outcome) → IsLegal pool history → Follows (standing_of pool history) entry
+RoomIsUsed =
+    (pool : ℕ) (history : List Entry) (entry : Entry) (made : Outcome) → IsLegal pool history
+    → Follows (standing_of pool history) entry
     → recorded_step (standing_of pool history) entry.ask entry.reply ≡ Some made
-    → room_used pool (history ++ entry ∷ []) + room_back made.reply ≡ room_used pool history + made.want
+    → room_used pool (history ++ entry ∷ []) + room_back made.reply
+    ≡ room_used pool history + made.want
 
--- each number of a legal history of fewer than 2^32 entries, whose pool has fewer buffers, fits its field
+-- each number of a legal history of fewer than 2^32 entries, whose pool has fewer buffers, fits its
+-- field
 abbrev pub LegalHistoriesFit : Type 0
 LegalHistoriesFit =
-    (pool : ℕ) (history : List Entry) → IsLegal pool history → pool < 2 ^ 32 → length history < 2 ^ 32
+    (pool : ℕ) (history : List Entry) → IsLegal pool history → pool < 2 ^ 32
+    → length history < 2 ^ 32
     → AllByRecursion FitsEntry history
 
 -- each entry of a legal history is printable at its number
 abbrev pub LegalHistoriesArePrintable : Type 0
-LegalHistoriesArePrintable = (pool : ℕ) (history : List Entry) → IsLegal pool history → ArePrintable 1 history
+LegalHistoriesArePrintable =
+    (pool : ℕ) (history : List Entry) → IsLegal pool history → ArePrintable 1 history

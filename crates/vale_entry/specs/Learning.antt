@@ -22,12 +22,14 @@ abbrev pub is_group : List ℕ → Bool
 is_group address = slice_index address 0 % 2 == 1
 
 abbrev pub is_learnable : Frame → Bool
-is_learnable frame = not (is_short frame) && (not (is_group (source_address frame)) && not frame.no_learn)
+is_learnable frame =
+    not (is_short frame) && (not (is_group (source_address frame)) && not frame.no_learn)
 
 -- the pairs after a frame that the port sends
 abbrev pub learned : Port → List Pair → Frame → List Pair
 learned sender pairs frame =
-    if is_learnable frame then record { switch = switch_of sender.name; address = source_address frame; port = sender.id } ∷ pairs
+    if is_learnable frame then
+    record { switch = switch_of sender.name; address = source_address frame; port = sender.id } ∷ pairs
     else pairs
 
 abbrev pub learned_of_batch : Port → List Pair → List Frame → List Pair
@@ -39,7 +41,9 @@ is_in_bucket switch bucket pair = (bucket_of pair.address == bucket) && bytes_eq
 -- the port of the newest pair of the bucket, if the address is that pair's and the port is open
 abbrev pub port_of_pair : List Port → List ℕ → Option Pair → Option ℕ
 port_of_pair ports address None = None
-port_of_pair ports address (Some pair) = if bytes_eq pair.address address && is_open ports pair.port then Some pair.port else None
+port_of_pair ports address (Some pair) =
+    if bytes_eq pair.address address && is_open ports pair.port then Some pair.port else None
 
 abbrev pub port_of_address : List Port → List Pair → List ℕ → List ℕ → Option ℕ
-port_of_address ports pairs switch address = port_of_pair ports address (find (is_in_bucket switch (bucket_of address)) pairs)
+port_of_address ports pairs switch address =
+    port_of_pair ports address (find (is_in_bucket switch (bucket_of address)) pairs)

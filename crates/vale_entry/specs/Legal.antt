@@ -85,18 +85,24 @@ open_step_by None s session name tx rx extra = record {
 }
 
 abbrev pub open_step : Standing → ℕ → List ℕ → ℕ → ℕ → ℕ → Outcome
-open_step s session name tx rx extra = open_step_by (open_refusal s.world name tx rx extra) s session name tx rx extra
+open_step s session name tx rx extra =
+    open_step_by (open_refusal s.world name tx rx extra) s session name tx rx extra
 
 abbrev pub named_of : World → Port → List Frame → List Named
 named_of w port frames = named_frames w.ports port w.pairs frames
 
 abbrev pub offers_of_send : World → Port → List Frame → List Offer
-offers_of_send w port frames = offers_of (w.entry_count + 1) port.session (wanted_frames port (transmit_monitor w port.id) (named_of w port frames)) w.ports
+offers_of_send w port frames =
+    offers_of (w.entry_count + 1) port.session
+    (wanted_frames port (transmit_monitor w port.id) (named_of w port frames)) w.ports
 
 abbrev pub send_step : Standing → List Frame → Port → Outcome
 send_step s frames port = record {
   session = port.session;
-  reply = Offered (count_by is_short frames) (count_by (is_lone s.world.ports port) (named_of s.world port frames)) (dests_of (offers_of_send s.world port frames));
+  reply =
+      Offered (count_by is_short frames)
+      (count_by (is_lone s.world.ports port) (named_of s.world port frames))
+      (dests_of (offers_of_send s.world port frames));
   want = room_of_dests (dests_of (offers_of_send s.world port frames));
   next = record s {
     world = record s.world {
@@ -113,7 +119,8 @@ grant_step s offer = record {
   want = 0;
   next = record s {
     world = after_grant s.world offer;
-    holdings = holdings_after_grant offer.to (size_of_frames (granted_frames s.world offer)) s.holdings;
+    holdings =
+        holdings_after_grant offer.to (size_of_frames (granted_frames s.world offer)) s.holdings;
   };
 }
 
@@ -126,7 +133,9 @@ done_step s number lot = record {
 }
 
 abbrev pub offers_of_sync : World → Port → List Offer
-offers_of_sync w port = offers_of (w.entry_count + 1) port.session (monitored_frames (receive_monitor w port.id) (delivered_frames port)) w.ports
+offers_of_sync w port =
+    offers_of (w.entry_count + 1) port.session
+    (monitored_frames (receive_monitor w port.id) (delivered_frames port)) w.ports
 
 -- of a Sync, and of a Get
 abbrev pub sync_step : Standing → List ℕ → Port → Outcome
@@ -148,7 +157,13 @@ shut_step s port = record {
   session = port.session;
   reply = Made;
   want = 0;
-  next = record s { world = record s.world { ports = changed_at port.id shut s.world.ports; watches = watches_without port.id s.world.watches } };
+  next =
+      record s {
+        world = record s.world {
+          ports = changed_at port.id shut s.world.ports;
+          watches = watches_without port.id s.world.watches;
+        };
+      };
 }
 
 abbrev pub finish_step : Standing → List ℕ → Port → Outcome
@@ -174,7 +189,9 @@ leave_step s session = record {
 }
 
 abbrev pub offers_of_put : World → Port → List Frame → List Offer
-offers_of_put w port frames = offers_of (w.entry_count + 1) port.session (monitored_frames (transmit_monitor w port.id) frames) w.ports
+offers_of_put w port frames =
+    offers_of (w.entry_count + 1) port.session
+    (monitored_frames (transmit_monitor w port.id) frames) w.ports
 
 -- the other end takes these items
 abbrev pub put_step : Standing → List Item → Port → Port → Outcome
@@ -184,7 +201,9 @@ put_step s items port peer = record {
   want = room_of_dests (dests_of (offers_of_put s.world port (frames_of_items items)));
   next = record s {
     world = record s.world {
-      ports = changed_at peer.id (port_after_put (s.world.entry_count + 1) port.session (frames_of_items items)) s.world.ports;
+      ports =
+          changed_at peer.id
+          (port_after_put (s.world.entry_count + 1) port.session (frames_of_items items)) s.world.ports;
       offers = s.world.offers ++ offers_of_put s.world port (frames_of_items items);
     };
     holdings = holdings_after_put peer.id port.session (indices_of items) s.holdings;
@@ -200,17 +219,25 @@ watch_step s sides monitor target = record {
   session = monitor.session;
   reply = Watching (record { 0 = target.id });
   want = 1;
-  next = record s { world = record s.world { watches = s.world.watches ++ (record { monitor = monitor.id; target = target.id; sides = sides }) ∷ [] } };
+  next =
+      record s {
+        world = record s.world {
+          watches =
+              s.world.watches ++ (record { monitor = monitor.id; target = target.id; sides = sides }) ∷ [];
+        };
+      };
 }
 
 -- a port that is watched has its monitor already
 abbrev pub watch_step_by : Standing → Sides → Port → Port → Option Watcher → Outcome
 watch_step_by s sides monitor target None = watch_step s sides monitor target
-watch_step_by s sides monitor target (Some watch) = unchanged s monitor.session (Watched (record { 0 = watch.monitor }))
+watch_step_by s sides monitor target (Some watch) =
+    unchanged s monitor.session (Watched (record { 0 = watch.monitor }))
 
 abbrev pub watch_step_of : Standing → Sides → Port → Option Port → Outcome
 watch_step_of s sides monitor None = unchanged s monitor.session NoTarget
-watch_step_of s sides monitor (Some target) = watch_step_by s sides monitor target (watch_of s.world.watches target.id)
+watch_step_of s sides monitor (Some target) =
+    watch_step_by s sides monitor target (watch_of s.world.watches target.id)
 
 abbrev pub reset_step : Standing → Port → Outcome
 reset_step s port = unchanged s port.session Made
@@ -231,10 +258,12 @@ abbrev pub fits_u64 : ℕ → Bool
 fits_u64 n = nat_lt n (2 ^ 64)
 
 abbrev pub can_open : World → ℕ → List ℕ → ℕ → ℕ → ℕ → Bool
-can_open w session name tx rx extra = is_session w session && (is_name name && (fits_u32 tx && (fits_u32 rx && fits_u32 extra)))
+can_open w session name tx rx extra =
+    is_session w session && (is_name name && (fits_u32 tx && (fits_u32 rx && fits_u32 extra)))
 
 abbrev pub can_send : World → List Frame → Port → Bool
-can_send w frames port = is_switch_port_name port.name && (is_settled w port.session && is_sendable frames)
+can_send w frames port =
+    is_switch_port_name port.name && (is_settled w port.session && is_sendable frames)
 
 -- the first offer of the entry that is not granted is the one to this port
 abbrev pub is_offer_next : ℕ → Offer → Bool
@@ -242,10 +271,13 @@ is_offer_next to offer = offer.to == to
 
 -- the session is settled, and brings back buffers of its own, no more of them than are out
 abbrev pub can_receive : Standing → List ℕ → Port → Bool
-can_receive s back port = is_settled s.world port.session && (nat_le (length back) port.out && holds_all s.holdings port.session back)
+can_receive s back port =
+    is_settled s.world port.session
+    && (nat_le (length back) port.out && holds_all s.holdings port.session back)
 
 abbrev pub can_sync : Standing → List ℕ → Port → Bool
-can_sync s back port = (is_switch_port_name port.name || is_monitor_name port.name) && can_receive s back port
+can_sync s back port =
+    (is_switch_port_name port.name || is_monitor_name port.name) && can_receive s back port
 
 abbrev pub can_get : Standing → List ℕ → Port → Bool
 can_get s back port = is_pipe_name port.name && can_receive s back port
@@ -286,7 +318,10 @@ fits_chain chain = fits_u32 chain.found && fits_u32 chain.astray
 
 -- the session is settled, and these are frames in buffers of its own
 abbrev pub can_offer : Standing → List Item → Port → Bool
-can_offer s items port = is_pipe_name port.name && (is_settled s.world port.session && (list_all is_pipe_item items && holds_all s.holdings port.session (indices_of items)))
+can_offer s items port =
+    is_pipe_name port.name
+    && (is_settled s.world port.session
+    && (list_all is_pipe_item items && holds_all s.holdings port.session (indices_of items)))
 
 abbrev pub can_put : Standing → List Item → Port → Bool
 can_put s offered port = can_offer s offered port && nat_le (length offered) most_batch
@@ -304,14 +339,17 @@ is_enabled s (Send port frames) = is_met (can_send s.world frames) (open_port s.
 is_enabled s (Grant origin to) = is_met (is_offer_next to.0) (first_offer s.world origin)
 is_enabled s (Done lease) = is_some (lease_at s.world.ports lease.0)
 is_enabled s (Sync port back) = is_met (can_sync s back) (open_port s.world.ports port.0)
-is_enabled s (Reset port side fault) = is_met (can_reset side fault) (open_port s.world.ports port.0)
+is_enabled s (Reset port side fault) =
+    is_met (can_reset side fault) (open_port s.world.ports port.0)
 is_enabled s (Shut port) = is_met (can_shut s.world) (open_port s.world.ports port.0)
-is_enabled s (Finish port bufs chain) = fits_chain chain && is_met (can_finish s bufs) (shutting_port s.world.ports port.0)
+is_enabled s (Finish port bufs chain) =
+    fits_chain chain && is_met (can_finish s bufs) (shutting_port s.world.ports port.0)
 is_enabled s (Leave session) = can_leave s.world session.0
 is_enabled s (Put port offered) = is_met (can_put s offered) (open_port s.world.ports port.0)
 is_enabled s (PutKept port offered) = false
 is_enabled s (Get port back) = is_met (can_get s back) (open_port s.world.ports port.0)
-is_enabled s (Watch monitor target sides) = is_met (can_watch target) (open_port s.world.ports monitor.0)
+is_enabled s (Watch monitor target sides) =
+    is_met (can_watch target) (open_port s.world.ports monitor.0)
 is_enabled s (Stat port) = is_some (open_port s.world.ports port.0)
 
 -- a Finish is enabled also where it waits for leases
@@ -349,24 +387,36 @@ finish_step_at s bufs found = made_at (can_go s bufs) (finish_step s bufs) found
 
 -- of what is offered, as many items are taken as there is room for
 abbrev pub put_step_at : Standing → List Item → Port → Outcome
-put_step_at s offered port = put_step_by s (take (taken_count (peer_of s.world.ports port) (length offered)) offered) port (peer_of s.world.ports port)
+put_step_at s offered port =
+    put_step_by s (take (taken_count (peer_of s.world.ports port) (length offered)) offered) port
+    (peer_of s.world.ports port)
 
--- the step of an ask, or none where it makes no entry: where it is not enabled, and where a Finish waits
+-- the step of an ask, or none where it makes no entry: where it is not enabled, and where a Finish
+-- waits
 abbrev pub step : Standing → Ask → Option Outcome
 step s (Enter user) = if fits_u64 user then Some (enter_step s) else None
-step s (Open session name tx rx extra) = if can_open s.world session.0 name tx rx extra then Some (open_step s session.0 name tx rx extra) else None
+step s (Open session name tx rx extra) =
+    if can_open s.world session.0 name tx rx extra
+    then Some (open_step s session.0 name tx rx extra)
+    else None
 step s (Send port frames) = send_step_at s frames (open_port s.world.ports port.0)
 step s (Grant origin to) = grant_step_at s to.0 (first_offer s.world origin)
 step s (Done lease) = done_step_at s lease.0 (lease_at s.world.ports lease.0)
 step s (Sync port back) = sync_step_at s back (open_port s.world.ports port.0)
-step s (Reset port side fault) = made_at (can_reset side fault) (reset_step s) (open_port s.world.ports port.0)
+step s (Reset port side fault) =
+    made_at (can_reset side fault) (reset_step s) (open_port s.world.ports port.0)
 step s (Shut port) = shut_step_at s (open_port s.world.ports port.0)
-step s (Finish port bufs chain) = if fits_chain chain then finish_step_at s bufs (shutting_port s.world.ports port.0) else None
+step s (Finish port bufs chain) =
+    if fits_chain chain then finish_step_at s bufs (shutting_port s.world.ports port.0) else None
 step s (Leave session) = if can_leave s.world session.0 then Some (leave_step s session.0) else None
-step s (Put port offered) = made_at (can_put s offered) (put_step_at s offered) (open_port s.world.ports port.0)
+step s (Put port offered) =
+    made_at (can_put s offered) (put_step_at s offered) (open_port s.world.ports port.0)
 step s (PutKept port offered) = None
-step s (Get port back) = made_at (can_get s back) (sync_step s back) (open_port s.world.ports port.0)
-step s (Watch monitor target sides) = made_at (can_watch target) (λ port. watch_step_of s sides port (open_port_as s.world.ports target)) (open_port s.world.ports monitor.0)
+step s (Get port back) =
+    made_at (can_get s back) (sync_step s back) (open_port s.world.ports port.0)
+step s (Watch monitor target sides) =
+    made_at (can_watch target) (λ port. watch_step_of s sides port (open_port_as s.world.ports target))
+    (open_port s.world.ports monitor.0)
 step s (Stat port) = option_map (stat_step s) (open_port s.world.ports port.0)
 
 abbrev pub reply_of : Outcome → Reply
@@ -374,21 +424,24 @@ reply_of made = made.reply
 
 -- a Finish that waits for leases is answered how many, and makes no entry
 abbrev pub finish_reply : Port → Reply
-finish_reply port = if leases_out port == 0 then Unread (unread_count port) else LeasesOut (leases_out port)
+finish_reply port =
+    if leases_out port == 0 then Unread (unread_count port) else LeasesOut (leases_out port)
 
 abbrev pub finish_reply_at : Standing → List ℕ → Option Port → Option Reply
 finish_reply_at s bufs None = None
-finish_reply_at s bufs (Some port) = if can_finish s bufs port then Some (finish_reply port) else None
+finish_reply_at s bufs (Some port) =
+    if can_finish s bufs port then Some (finish_reply port) else None
 
 -- the reply to an ask, or none where it is not enabled
 abbrev pub reply_to : Standing → Ask → Option Reply
-reply_to s (Finish port bufs chain) = if fits_chain chain then finish_reply_at s bufs (shutting_port s.world.ports port.0) else None
+reply_to s (Finish port bufs chain) =
+    if fits_chain chain then finish_reply_at s bufs (shutting_port s.world.ports port.0) else None
 reply_to s ask = option_map reply_of (step s ask)
 
 -- What an entry records.
 
--- a Put is stored as a PutKept, which keeps how many frames were offered; those that were taken stand in
--- its reply
+-- a Put is stored as a PutKept, which keeps how many frames were offered; those that were taken
+-- stand in its reply
 abbrev pub kept_ask : Ask → Ask
 kept_ask (Put port offered) = PutKept port (length offered)
 kept_ask ask = ask
@@ -397,23 +450,34 @@ abbrev pub kept_items : Reply → List Item
 kept_items (Took items to) = items
 kept_items _ = []
 
--- so many frames were offered, of which the other end took these, which are as many as it has room for
+-- so many frames were offered, of which the other end took these, which are as many as it has room
+-- for
 abbrev pub can_keep : Standing → ℕ → List Item → Port → Bool
-can_keep s offered items port = can_offer s items port && (nat_le offered most_batch && (length items == taken_count (peer_of s.world.ports port) offered))
+can_keep s offered items port =
+    can_offer s items port
+    && (nat_le offered most_batch
+    && (length items == taken_count (peer_of s.world.ports port) offered))
 
 abbrev pub kept_step_at : Standing → ℕ → List Item → Option Port → Option Outcome
-kept_step_at s offered items found = made_at (can_keep s offered items) (λ port. put_step_by s items port (peer_of s.world.ports port)) found
+kept_step_at s offered items found =
+    made_at (can_keep s offered items)
+    (λ port. put_step_by s items port (peer_of s.world.ports port)) found
 
 abbrev pub recorded_step : Standing → Ask → Reply → Option Outcome
 recorded_step s (Put port offered) reply = None
-recorded_step s (PutKept port offered) reply = kept_step_at s offered (kept_items reply) (open_port s.world.ports port.0)
+recorded_step s (PutKept port offered) reply =
+    kept_step_at s offered (kept_items reply) (open_port s.world.ports port.0)
 recorded_step s ask reply = step s ask
 
 -- with one entry more, which is counted in any case, and counts at its ports
 abbrev pub standing_with : Standing → Entry → Standing → Standing
 standing_with s entry next = record next {
   past = s.past ++ entry ∷ [];
-  world = record next.world { entry_count = s.world.entry_count + 1; counts = counts_after s.world entry };
+  world =
+      record next.world {
+        entry_count = s.world.entry_count + 1;
+        counts = counts_after s.world entry;
+      };
 }
 
 abbrev pub standing_after : Standing → Entry → Option Outcome → Standing
@@ -438,7 +502,9 @@ session_and_reply made = (made.session, made.reply)
 
 -- the entry is the one that its ask makes
 abbrev pub Follows : Standing → Entry → Type 0
-Follows s entry = option_map session_and_reply (recorded_step s entry.ask entry.reply) ≡ Some (entry.session.0, entry.reply)
+Follows s entry =
+    option_map session_and_reply (recorded_step s entry.ask entry.reply)
+    ≡ Some (entry.session.0, entry.reply)
 
 abbrev pub IsLegalFrom : Standing → List Entry → Type 0
 IsLegalFrom s [] = Unit {0}

@@ -1,5 +1,5 @@
--- Where the frames of a batch go. Each frame is learned first and then looked up; the frames after it
--- see what it taught.
+-- Where the frames of a batch go. Each frame is learned first and then looked up; the frames after
+-- it see what it taught.
 use Rattle.std.specs.Prelude.{ℕ, Bool, true, false, not, ◌&&◌, ◌==◌, if◌then◌else◌, List, [], ◌∷◌, Option, Some, None, bytes_eq}
 use Rattle.std.specs.List.{list_any}
 use Rattle.nm_types.specs.Frames.{Frame}
@@ -11,18 +11,24 @@ use Rattle.vale_entry.specs.Learning.{is_short, is_group, destination_address, l
 
 -- another open port of the sender's switch
 abbrev pub is_other_port : Port → Port → Bool
-is_other_port sender port = not (port.id == sender.id) && (not port.shutting && (is_switch_port_name port.name && bytes_eq (switch_of port.name) (switch_of sender.name)))
+is_other_port sender port =
+    not (port.id == sender.id)
+    && (not port.shutting
+    && (is_switch_port_name port.name && bytes_eq (switch_of port.name) (switch_of sender.name)))
 
 abbrev pub destination_found : Port → Option ℕ → Destination
 destination_found sender None = Others
-destination_found sender (Some port) = if port == sender.id then Nobody else Only (record { 0 = port })
+destination_found sender (Some port) =
+    if port == sender.id then Nobody else Only (record { 0 = port })
 
--- a short frame goes to no port of the switch; one to a group or to an unknown address goes to all other ports
+-- a short frame goes to no port of the switch; one to a group or to an unknown address goes to all
+-- other ports
 abbrev pub destination_of : List Port → Port → List Pair → Frame → Destination
 destination_of ports sender pairs frame =
     if is_short frame then Nobody
     else (if is_group (destination_address frame) then Others
-    else destination_found sender (port_of_address ports pairs (switch_of sender.name) (destination_address frame)))
+    else destination_found sender
+    (port_of_address ports pairs (switch_of sender.name) (destination_address frame)))
 
 pub record Named : Type 0 where
   pub frame : Frame
@@ -31,7 +37,10 @@ pub record Named : Type 0 where
 abbrev pub named_frames : List Port → Port → List Pair → List Frame → List Named
 named_frames ports sender pairs [] = []
 named_frames ports sender pairs (frame ∷ frames) =
-    record { frame = frame; destination = destination_of ports sender (learned sender pairs frame) frame }
+    record {
+      frame = frame;
+      destination = destination_of ports sender (learned sender pairs frame) frame;
+    }
     ∷ named_frames ports sender (learned sender pairs frame) frames
 
 -- whether a destination names a port
@@ -47,4 +56,5 @@ names_some_port ports sender Others = list_any (is_other_port sender) ports
 
 -- long enough, and named for no port of the switch
 abbrev pub is_lone : List Port → Port → Named → Bool
-is_lone ports sender named = not (is_short named.frame) && not (names_some_port ports sender named.destination)
+is_lone ports sender named =
+    not (is_short named.frame) && not (names_some_port ports sender named.destination)

@@ -1,4 +1,5 @@
--- Monitors: who may watch whom. A port has at most one monitor; a watch ends where either port is shut.
+-- Monitors: who may watch whom. A port has at most one monitor; a watch ends where either port is
+-- shut.
 use Rattle.std.specs.Prelude.{ℕ, Bool, not, ◌&&◌, ◌==◌, List, find, Option, bytes_eq}
 use Rattle.nm_types.specs.Names.{is_name, is_monitor_name}
 use Rattle.vale_entry.specs.World.{Port, Watch}
@@ -19,4 +20,5 @@ watch_of watches target = find (is_watch_at target) watches
 
 -- a monitor may ask to watch under any name but a monitor's
 abbrev pub can_watch : List ℕ → Port → Bool
-can_watch target monitor = is_monitor_name monitor.name && (is_name target && not (is_monitor_name target))
+can_watch target monitor =
+    is_monitor_name monitor.name && (is_name target && not (is_monitor_name target))

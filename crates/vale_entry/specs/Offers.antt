@@ -12,13 +12,15 @@ is_monitor (Some monitor) port = port.id == monitor
 
 -- the frames of a batch that are named for a port; its monitor's port gets all of them
 abbrev pub is_wanted_at : Port → Option ℕ → Port → Named → Bool
-is_wanted_at sender monitor port named = is_named sender named.destination port || is_monitor monitor port
+is_wanted_at sender monitor port named =
+    is_named sender named.destination port || is_monitor monitor port
 
 abbrev pub frame_of : Named → Frame
 frame_of named = named.frame
 
 abbrev pub wanted_frames : Port → Option ℕ → List Named → Port → List Frame
-wanted_frames sender monitor named port = map frame_of (filter (is_wanted_at sender monitor port) named)
+wanted_frames sender monitor named port =
+    map frame_of (filter (is_wanted_at sender monitor port) named)
 
 -- the frames that a sync gave, wanted at the monitor of the receive side
 abbrev pub wanted_if : Bool → List Frame → List Frame
@@ -30,10 +32,12 @@ monitored_frames monitor frames port = wanted_if (is_monitor monitor port) frame
 
 abbrev pub offer_to : ℕ → ℕ → ℕ → List Frame → Option Offer
 offer_to origin session to [] = None
-offer_to origin session to (frame ∷ frames) = Some (record { origin = origin; session = session; to = to; frames = frame ∷ frames })
+offer_to origin session to (frame ∷ frames) =
+    Some (record { origin = origin; session = session; to = to; frames = frame ∷ frames })
 
 abbrev pub offers_of : ℕ → ℕ → (Port → List Frame) → List Port → List Offer
-offers_of origin session wanted ports = filter_map (λ port. offer_to origin session port.id (wanted port)) ports
+offers_of origin session wanted ports =
+    filter_map (λ port. offer_to origin session port.id (wanted port)) ports
 
 abbrev pub dest_of : Offer → Dest
 dest_of offer = record { to = record { 0 = offer.to }; count = length offer.frames }

@@ -15,11 +15,17 @@ is_on_switch switch port = is_switch_port_name port.name && bytes_eq (switch_of 
 -- one port of each switch
 abbrev pub switches_of : List Port → List Port
 switches_of [] = []
-switches_of (port ∷ ports) = if is_switch_port_name port.name && not (list_any (is_on_switch (switch_of port.name)) ports) then port ∷ switches_of ports else switches_of ports
+switches_of (port ∷ ports) =
+    if is_switch_port_name port.name && not (list_any (is_on_switch (switch_of port.name)) ports)
+    then port ∷ switches_of ports
+    else switches_of ports
 
 -- the name is on a switch that has no port, while four switches have one
 abbrev pub finds_switches_full : List Port → List ℕ → Bool
-finds_switches_full ports name = is_switch_port_name name && (not (list_any (is_on_switch (switch_of name)) ports) && nat_le most_switches (length (switches_of ports)))
+finds_switches_full ports name =
+    is_switch_port_name name
+    && (not (list_any (is_on_switch (switch_of name)) ports)
+    && nat_le most_switches (length (switches_of ports)))
 
 abbrev pub has_pipe_name : Port → Bool
 has_pipe_name port = is_pipe_name port.name
@@ -29,7 +35,8 @@ has_monitor_name port = is_monitor_name port.name
 
 abbrev pub finds_ports_full : List Port → List ℕ → Bool
 finds_ports_full ports name =
-    (is_switch_port_name name && nat_le most_switch_ports (count_by (is_on_switch (switch_of name)) ports))
+    (is_switch_port_name name
+    && nat_le most_switch_ports (count_by (is_on_switch (switch_of name)) ports))
     || ((is_pipe_name name && nat_le most_pipe_ends (count_by has_pipe_name ports))
     || (is_monitor_name name && nat_le most_monitors (count_by has_monitor_name ports)))
 
@@ -49,10 +56,23 @@ refusal_or_room (Some fault) want have = Some fault
 refusal_or_room None want have = if nat_lt have want then Some (NoBuffers want have) else None
 
 abbrev pub open_refusal : World → List ℕ → ℕ → ℕ → ℕ → Option OpenFault
-open_refusal w name tx rx extra = refusal_or_room (name_refusal w.ports name tx rx extra) (tx + rx + extra) (free_count w)
+open_refusal w name tx rx extra =
+    refusal_or_room (name_refusal w.ports name tx rx extra) (tx + rx + extra) (free_count w)
 
 abbrev pub opened_port : ℕ → ℕ → List ℕ → ℕ → ℕ → ℕ → Port
-opened_port id session name tx rx extra = record { id = id; session = session; name = name; tx = tx; rx = rx; extra = extra; shutting = false; out = 0; line = [] }
+opened_port id session name tx rx extra =
+    record {
+      id = id;
+      session = session;
+      name = name;
+      tx = tx;
+      rx = rx;
+      extra = extra;
+      shutting = false;
+      out = 0;
+      line = [];
+    }
 
 abbrev pub after_open : World → ℕ → List ℕ → ℕ → ℕ → ℕ → World
-after_open w session name tx rx extra = record w { ports = w.ports ++ opened_port (w.entry_count + 1) session name tx rx extra ∷ [] }
+after_open w session name tx rx extra =
+    record w { ports = w.ports ++ opened_port (w.entry_count + 1) session name tx rx extra ∷ [] }

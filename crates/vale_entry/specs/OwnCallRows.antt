@@ -24,7 +24,8 @@ abbrev port : ℕ → PortId
 port id = record { 0 = id }
 
 abbrev frame_f : Frame
-frame_f = record { bytes = 255 ∷ 255 ∷ 255 ∷ 255 ∷ 255 ∷ 255 ∷ 2 ∷ 0 ∷ 0 ∷ 0 ∷ 0 ∷ 10 ∷ 136 ∷ 181 ∷ []; no_learn = false }
+frame_f =
+    record { bytes = 255 ∷ 255 ∷ 255 ∷ 255 ∷ 255 ∷ 255 ∷ 2 ∷ 0 ∷ 0 ∷ 0 ∷ 0 ∷ 10 ∷ 136 ∷ 181 ∷ []; no_learn = false }
 
 abbrev item : ℕ → Item
 item index = record { index = index; bytes = frame_f }
@@ -54,7 +55,8 @@ history =
     ∷ by_user 2 (Enter 2) Made
     ∷ by_user 1 (opening 1 (codes "vale0:a")) Opened
     ∷ by_user 2 (opening 2 (codes "vale0:b")) Opened
-    ∷ by_user 1 (Send (port 3) (frame_f ∷ [])) (Offered 0 0 (record { to = port 4; count = 1 } ∷ []))
+    ∷ by_user 1 (Send (port 3) (frame_f ∷ []))
+    (Offered 0 0 (record { to = port 4; count = 1 } ∷ []))
     ∷ by_user 1 (Grant 5 (port 4)) (Shared 1 0 0)
     ∷ by_user 1 (Done (record { 0 = 6 })) Made
     ∷ by_user 2 (Sync (port 4) []) (Gave 1 [])
@@ -63,7 +65,9 @@ history =
 -- what a session has after the entry of this number, which is one of its own
 abbrev own_from : ℕ → Option Entry → OwnState → OwnState
 own_from number None s = s
-own_from number (Some entry) s = own_after number entry (arrivals_of (standing_of 64 (take (number - 1) history)) entry.ask entry.reply) s
+own_from number (Some entry) s =
+    own_after number entry
+    (arrivals_of (standing_of 64 (take (number - 1) history)) entry.ask entry.reply) s
 
 abbrev own_at : ℕ → OwnState → OwnState
 own_at number s = own_from number (slice_get history (number - 1)) s
@@ -73,11 +77,15 @@ buffers came = map (λ (a : Arrival). a.buffer) came
 
 -- the openings bring the transmit buffers, and the sync the frame in the first of the receive
 -- ring's
-openings_bring : buffers (arrivals_of (standing_of 64 (take 3 history)) (opening 2 (codes "vale0:b")) Opened) ≡ 10 ∷ 11 ∷ 12 ∷ 13 ∷ []
+openings_bring :
+    buffers (arrivals_of (standing_of 64 (take 3 history)) (opening 2 (codes "vale0:b")) Opened)
+    ≡ 10 ∷ 11 ∷ 12 ∷ 13 ∷ []
 unfolding is_name is_switch_port_name is_pipe_name is_monitor_name switch_of
 openings_bring = refl
 
-sync_brings : arrivals_of (standing_of 64 (take 7 history)) (Sync (port 4) []) (Gave 1 []) ≡ record { buffer = 14; bytes = frame_f.bytes } ∷ []
+sync_brings :
+    arrivals_of (standing_of 64 (take 7 history)) (Sync (port 4) []) (Gave 1 [])
+    ≡ record { buffer = 14; bytes = frame_f.bytes } ∷ []
 unfolding is_name is_switch_port_name is_pipe_name is_monitor_name switch_of
 sync_brings = refl
 
@@ -85,19 +93,23 @@ sync_brings = refl
 abbrev first_user : OwnState
 first_user = own_at 3 (empty_own 64)
 
-sends_what_was_put : tx_call_at 3 (with_frame 3 frame_f.bytes first_user) ≡ Some (Send (port 3) (frame_f ∷ []))
+sends_what_was_put :
+    tx_call_at 3 (with_frame 3 frame_f.bytes first_user) ≡ Some (Send (port 3) (frame_f ∷ []))
 unfolding is_name is_switch_port_name is_pipe_name is_monitor_name switch_of
 sends_what_was_put = refl
 
-sends_nothing_more : tx_call_at 3 (own_at 5 (with_frame 3 frame_f.bytes first_user)) ≡ Some (Send (port 3) [])
+sends_nothing_more :
+    tx_call_at 3 (own_at 5 (with_frame 3 frame_f.bytes first_user)) ≡ Some (Send (port 3) [])
 unfolding is_name is_switch_port_name is_pipe_name is_monitor_name switch_of
 sends_nothing_more = refl
 
-bad_positions_reset : tx_call_at 3 (with_positions Tx 3 2 1 first_user) ≡ Some (Reset (port 3) Tx (CurOut 1 2 3))
+bad_positions_reset :
+    tx_call_at 3 (with_positions Tx 3 2 1 first_user) ≡ Some (Reset (port 3) Tx (CurOut 1 2 3))
 unfolding is_name is_switch_port_name is_pipe_name is_monitor_name switch_of
 bad_positions_reset = refl
 
-bad_positions_reset_there : rx_call_at 3 (with_positions Rx 3 1 1 first_user) ≡ Some (Reset (port 3) Rx (HeadOut 1 0 0))
+bad_positions_reset_there :
+    rx_call_at 3 (with_positions Rx 3 1 1 first_user) ≡ Some (Reset (port 3) Rx (HeadOut 1 0 0))
 unfolding is_name is_switch_port_name is_pipe_name is_monitor_name switch_of
 bad_positions_reset_there = refl
 
@@ -113,12 +125,17 @@ gives_back = refl
 abbrev slot_place : Side → SlotPlace
 slot_place side = record { side = side; port = 4; at = 0 }
 
-quiet_swap : tx_call_at 4 (with_positions Tx 4 1 1 (with_slots_swapped false (slot_place Rx) (slot_place Tx) second_user)) ≡ Some (Reset (port 4) Tx (Unannounced 0 14 10))
+quiet_swap :
+    tx_call_at 4
+    (with_positions Tx 4 1 1 (with_slots_swapped false (slot_place Rx) (slot_place Tx) second_user))
+    ≡ Some (Reset (port 4) Tx (Unannounced 0 14 10))
 unfolding is_name is_switch_port_name is_pipe_name is_monitor_name switch_of
 quiet_swap = refl
 
 -- a detach names transmit slots, received buffers and extras, and what the chain of these found
-names_all : finish_call_at 4 second_user ≡ Some (Finish (port 4) (10 ∷ 11 ∷ 12 ∷ 13 ∷ 14 ∷ []) (record { found = 0; astray = 0 }))
+names_all :
+    finish_call_at 4 second_user
+    ≡ Some (Finish (port 4) (10 ∷ 11 ∷ 12 ∷ 13 ∷ 14 ∷ []) (record { found = 0; astray = 0 }))
 unfolding is_name is_switch_port_name is_pipe_name is_monitor_name switch_of
 names_all = refl
 
@@ -126,7 +143,9 @@ abbrev with_extras : OwnState
 with_extras = own_after 2 (by_user 1 (Open (record { 0 = 1 }) (codes "vale0:a") 2 2 3) Opened)
     (arrivals_of (standing_of 64 (take 1 history)) (Open (record { 0 = 1 }) (codes "vale0:a") 2 2 3) Opened) (empty_own 64)
 
-chain_turns_back : finish_call_at 2 (with_extra_link 2 2 1 with_extras) ≡ Some (Finish (port 2) (2 ∷ 3 ∷ 6 ∷ 7 ∷ 8 ∷ []) (record { found = 2; astray = 1 }))
+chain_turns_back :
+    finish_call_at 2 (with_extra_link 2 2 1 with_extras)
+    ≡ Some (Finish (port 2) (2 ∷ 3 ∷ 6 ∷ 7 ∷ 8 ∷ []) (record { found = 2; astray = 1 }))
 unfolding is_name is_switch_port_name is_pipe_name is_monitor_name switch_of
 chain_turns_back = refl
 
@@ -140,12 +159,15 @@ offers_both : tx_call_at 3 pipe_user ≡ Some (Put (port 3) (item 2 ∷ item 3 �
 unfolding is_name is_switch_port_name is_pipe_name is_monitor_name switch_of
 offers_both = refl
 
-offers_the_other : tx_call_at 3 (own_after 5 (by_user 1 (PutKept (port 3) 2) (Took (item 2 ∷ []) [])) (record { buffer = 12; bytes = [] } ∷ []) pipe_user)
+offers_the_other :
+    tx_call_at 3 (own_after 5 (by_user 1 (PutKept (port 3) 2) (Took (item 2 ∷ []) [])) (record { buffer = 12; bytes = [] } ∷ []) pipe_user)
     ≡ Some (Put (port 3) (item 3 ∷ []))
 unfolding is_name is_switch_port_name is_pipe_name is_monitor_name switch_of
 offers_the_other = refl
 
-offers_again : tx_call_at 3 (own_after 5 (by_user 1 (PutKept (port 3) 2) PeerGone) [] pipe_user) ≡ Some (Put (port 3) (item 2 ∷ item 3 ∷ []))
+offers_again :
+    tx_call_at 3 (own_after 5 (by_user 1 (PutKept (port 3) 2) PeerGone) [] pipe_user)
+    ≡ Some (Put (port 3) (item 2 ∷ item 3 ∷ []))
 unfolding is_name is_switch_port_name is_pipe_name is_monitor_name switch_of
 offers_again = refl
 

@@ -1,4 +1,5 @@
--- The calls that a session makes of what it has of its own, and what an entry of its own makes of that.
+-- The calls that a session makes of what it has of its own, and what an entry of its own makes of
+-- that.
 use Rattle.std.specs.Prelude.{ℕ, false, if◌then◌else◌, List, map, take, Option, Some, None}
 use Rattle.nm_types.specs.declared.id.Side.{Side}
 use Rattle.nm_types.specs.declared.id.Side.TheVariants.{Tx, Rx}
@@ -24,13 +25,15 @@ or_reset (Some fault) id side ask = Reset id side fault
 abbrev pub item_at : OwnState → OwnRing → ℕ → Item
 item_at s r at = record {
   index = (slot_in Tx r at).buf_idx;
-  bytes = record { bytes = take (slot_in Tx r at).len (bytes_at s (slot_in Tx r at).buf_idx); no_learn = false };
+  bytes =
+      record { bytes = take (slot_in Tx r at).len (bytes_at s (slot_in Tx r at).buf_idx); no_learn = false };
 }
 
 abbrev pub offered_items : OwnState → OwnRing → List Item
 offered_items s r = map (item_at s r) (offered_slots r)
 
--- a transmit sync sends the frames pushed, or on a pipe offers those still pushed and then those pushed now
+-- a transmit sync sends the frames pushed, or on a pipe offers those still pushed and then those
+-- pushed now
 abbrev pub tx_call : OwnState → OwnPort → OwnRing → Ask
 tx_call s p r = or_reset (refusal_in Tx s r) p.id Tx
     (if is_pipe_name p.name then Put p.id (offered_items s r) else Send p.id (pushed_frames (bytes_at s) (pushed_in Tx r)))
@@ -40,7 +43,9 @@ abbrev pub back_in : OwnPort → List ℕ
 back_in p = pushed_names (pushed_in Rx p.rx)
 
 abbrev pub rx_call : OwnState → OwnPort → Ask
-rx_call s p = or_reset (refusal_in Rx s p.rx) p.id Rx (if is_pipe_name p.name then Get p.id (back_in p) else Sync p.id (back_in p))
+rx_call s p =
+    or_reset (refusal_in Rx s p.rx) p.id Rx
+    (if is_pipe_name p.name then Get p.id (back_in p) else Sync p.id (back_in p))
 
 -- a detach names the buffers in the port's places, and says what its chain of extra buffers found
 abbrev pub finish_call : OwnState → OwnPort → Ask
@@ -48,7 +53,8 @@ finish_call s p = Finish p.id (buffers_in p) (chain_in s p)
 
 -- what a session has after an entry of its own; `number` is the entry's, and `came` what it brought
 abbrev pub own_by : ℕ → Ask → Reply → List Arrival → OwnState → OwnState
-own_by number (Open session name tx rx extra) Opened came s = own_after_open number name tx rx came s
+own_by number (Open session name tx rx extra) Opened came s =
+    own_after_open number name tx rx came s
 own_by number (Reset port side fault) reply came s = own_after_reset port.0 side s
 own_by number (Send port frames) reply came s = own_after_send port.0 s
 own_by number (PutKept port offered) reply came s = own_after_put port.0 came s

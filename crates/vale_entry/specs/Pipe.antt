@@ -56,4 +56,5 @@ is_pipe_item item = fits_buffer item.bytes && not item.bytes.no_learn
 
 -- the taken frames are a lot that is done when it is made
 abbrev pub port_after_put : ℕ → ℕ → List Frame → Port → Port
-port_after_put number session frames port = record port { line = with_lot number session true frames port.line }
+port_after_put number session frames port =
+    record port { line = with_lot number session true frames port.line }

@@ -2,11 +2,9 @@
 use Rattle.std.specs.Prelude.{ℕ, Bool, true, false, ◌+◌, ◌*◌, List, length, sum_by, count_by}
 use Rattle.nm_types.specs.Frames.{bytes_of_frames}
 use Rattle.vale_entry.specs.declared.entry.Ask.{Ask}
-use Rattle.vale_entry.specs.declared.entry.Ask.TheVariants.{Send}
 use Rattle.vale_entry.specs.declared.entry.Reply.{Reply}
-use Rattle.vale_entry.specs.declared.entry.Reply.TheVariants.{Made, Opened, Refused, Offered, Shared, Gave, Took, PeerGone, Unread, LeasesOut, Watching, NoTarget, Watched, Counted}
 use Rattle.vale_entry.specs.declared.entry.Entry.{Entry}
-use Rattle.vale_entry.specs.declared.entry.Ask.TheVariants.{Enter, Open, Grant, Done, Sync, Reset, Shut, Finish, Leave, Put, PutKept, Get, Watch, Stat}
+use Rattle.vale_entry.specs.declared.entry.Ask.TheVariants.{Enter, Open, Send, Grant, Done, Sync, Reset, Shut, Finish, Leave, Put, PutKept, Get, Watch, Stat}
 use Rattle.vale_entry.specs.World.{World, Port, is_undone}
 use Rattle.vale_entry.specs.Pipe.{frames_of_items}
 use Rattle.vale_entry.specs.Legal.{world_of, kept_items}
@@ -22,13 +20,15 @@ owed_by_port port = owed port.shutting
 abbrev pub undone_of : Port → ℕ
 undone_of port = count_by is_undone port.line
 
--- the entries that are still to come: a Leave for each session, a Shut and a Finish for each open port
--- and a Finish for each shutting one, a Grant and a Done for each offer, a Done for each open lease
+-- the entries that are still to come: a Leave for each session, a Shut and a Finish for each open
+-- port and a Finish for each shutting one, a Grant and a Done for each offer, a Done for each open
+-- lease
 abbrev pub promised_of : World → ℕ
-promised_of w = length w.sessions + sum_by owed_by_port w.ports + 2 * length w.offers + sum_by undone_of w.ports
+promised_of w =
+    length w.sessions + sum_by owed_by_port w.ports + 2 * length w.offers + sum_by undone_of w.ports
 
--- the bytes of frames that an entry keeps: those of the frames sent, and of those that a Put's other end
--- took
+-- the bytes of frames that an entry keeps: those of the frames sent, and of those that a Put's
+-- other end took
 abbrev pub bytes_of : Ask → Reply → ℕ
 bytes_of (Enter user) reply = 0
 bytes_of (Open session name tx rx extra) reply = 0
@@ -54,21 +54,3 @@ frame_bytes entries = sum_by bytes_of_entry entries
 
 abbrev pub room_used : ℕ → List Entry → ℕ
 room_used pool history = length history + promised_of (world_of pool history)
-
--- what an entry with this reply wants that was not promised: its own place, and a Grant and a Done for
--- each destination
-abbrev pub room_of_reply : Reply → ℕ
-room_of_reply Made = 1
-room_of_reply Opened = 3
-room_of_reply (Refused fault) = 1
-room_of_reply (Offered short lone to) = 1 + 2 * length to
-room_of_reply (Shared given full gone) = 1
-room_of_reply (Gave count to) = 1 + 2 * length to
-room_of_reply (Took items to) = 1 + 2 * length to
-room_of_reply PeerGone = 1
-room_of_reply (Unread count) = 1
-room_of_reply (LeasesOut n) = 0
-room_of_reply (Watching target) = 1
-room_of_reply NoTarget = 1
-room_of_reply (Watched by) = 1
-room_of_reply (Counted counts) = 1

@@ -1,5 +1,6 @@
--- The transcript's text: a first line with the pool, a line for each entry, a last line with the number
--- of entries and the free buffers. A line ends with a line feed; one blank stands between two words.
+-- The transcript's text: a first line with the pool, a line for each entry, a last line with the
+-- number of entries and the free buffers. A line ends with a line feed; one blank stands between
+-- two words.
 use Rattle.std.specs.Prelude.{ℕ, Bool, true, false, not, ◌&&◌, ◌==◌, ◌+◌, ◌/◌, ◌%◌, nat_lt, if◌then◌else◌, List, [], ◌∷◌, ◌++◌, length, map, flat_map, codes, decimal, IsTrue}
 use Rattle.std.specs.List.{join_with_byte, list_all}
 use Rattle.nm_types.specs.Frames.{Frame}
@@ -90,7 +91,8 @@ fault_words (Indirect slot) = codes "indirect" ∷ decimal slot ∷ []
 fault_words (IndexOut slot idx) = codes "indexout" ∷ decimal slot ∷ decimal idx ∷ []
 fault_words (NotHeld slot idx) = codes "notheld" ∷ decimal slot ∷ decimal idx ∷ []
 fault_words (Doubled slot idx) = codes "doubled" ∷ decimal slot ∷ decimal idx ∷ []
-fault_words (Unannounced slot idx was) = codes "unannounced" ∷ decimal slot ∷ decimal idx ∷ decimal was ∷ []
+fault_words (Unannounced slot idx was) =
+    codes "unannounced" ∷ decimal slot ∷ decimal idx ∷ decimal was ∷ []
 fault_words (LongLen slot len) = codes "longlen" ∷ decimal slot ∷ decimal len ∷ []
 fault_words (Fragment slot) = codes "fragment" ∷ decimal slot ∷ []
 fault_words _ = []
@@ -98,34 +100,53 @@ fault_words _ = []
 -- the words of what was asked; a `Put` is never stored
 abbrev pub ask_words : ℕ → Ask → List (List ℕ)
 ask_words session (Enter user) = codes "enter" ∷ decimal user ∷ []
-ask_words session (Open asked name tx rx extra) = decimal session ∷ codes "open" ∷ name ∷ decimal tx ∷ decimal rx ∷ decimal extra ∷ []
-ask_words session (Send port frames) = decimal session ∷ codes "send" ∷ decimal port.0 ∷ frames_text frames ∷ []
-ask_words session (Grant origin to) = decimal session ∷ codes "grant" ∷ decimal origin ∷ decimal to.0 ∷ []
+ask_words session (Open asked name tx rx extra) =
+    decimal session ∷ codes "open" ∷ name ∷ decimal tx ∷ decimal rx ∷ decimal extra ∷ []
+ask_words session (Send port frames) =
+    decimal session ∷ codes "send" ∷ decimal port.0 ∷ frames_text frames ∷ []
+ask_words session (Grant origin to) =
+    decimal session ∷ codes "grant" ∷ decimal origin ∷ decimal to.0 ∷ []
 ask_words session (Done lease) = decimal session ∷ codes "done" ∷ decimal lease.0 ∷ []
-ask_words session (Sync port back) = decimal session ∷ codes "sync" ∷ decimal port.0 ∷ numbers_text back ∷ []
-ask_words session (Reset port side fault) = decimal session ∷ codes "reset" ∷ decimal port.0 ∷ side_word side ∷ fault_words fault
+ask_words session (Sync port back) =
+    decimal session ∷ codes "sync" ∷ decimal port.0 ∷ numbers_text back ∷ []
+ask_words session (Reset port side fault) =
+    decimal session ∷ codes "reset" ∷ decimal port.0 ∷ side_word side ∷ fault_words fault
 ask_words session (Shut port) = decimal session ∷ codes "shut" ∷ decimal port.0 ∷ []
-ask_words session (Finish port bufs chain) = decimal session ∷ codes "finish" ∷ decimal port.0 ∷ numbers_text bufs ∷ codes "found" ∷ decimal chain.found ∷ codes "astray" ∷ decimal chain.astray ∷ []
+ask_words session (Finish port bufs chain) =
+    decimal session ∷ codes "finish" ∷ decimal port.0 ∷ numbers_text bufs ∷ codes "found" ∷ decimal
+    chain.found ∷ codes "astray" ∷ decimal chain.astray ∷ []
 ask_words session (Leave left) = decimal session ∷ codes "leave" ∷ []
 ask_words session (Put port offered) = []
-ask_words session (PutKept port offered) = decimal session ∷ codes "put" ∷ decimal port.0 ∷ decimal offered ∷ []
-ask_words session (Get port back) = decimal session ∷ codes "get" ∷ decimal port.0 ∷ numbers_text back ∷ []
-ask_words session (Watch monitor target sides) = decimal session ∷ codes "watch" ∷ decimal monitor.0 ∷ target ∷ sides_word sides ∷ []
+ask_words session (PutKept port offered) =
+    decimal session ∷ codes "put" ∷ decimal port.0 ∷ decimal offered ∷ []
+ask_words session (Get port back) =
+    decimal session ∷ codes "get" ∷ decimal port.0 ∷ numbers_text back ∷ []
+ask_words session (Watch monitor target sides) =
+    decimal session ∷ codes "watch" ∷ decimal monitor.0 ∷ target ∷ sides_word sides ∷ []
 ask_words session (Stat port) = decimal session ∷ codes "stat" ∷ decimal port.0 ∷ []
 
 abbrev pub counts_words : Counts → List (List ℕ)
-counts_words counts = codes "sent" ∷ decimal counts.sent ∷ codes "short" ∷ decimal counts.short ∷ codes "lone" ∷ decimal counts.lone
-    ∷ codes "given" ∷ decimal counts.given ∷ codes "full" ∷ decimal counts.full ∷ codes "read" ∷ decimal counts.read ∷ []
+counts_words counts =
+    codes "sent" ∷ decimal counts.sent ∷ codes "short" ∷ decimal counts.short ∷ codes "lone" ∷
+    decimal counts.lone
+    ∷ codes "given" ∷ decimal counts.given ∷ codes "full" ∷ decimal counts.full ∷ codes "read" ∷
+    decimal counts.read ∷ []
 
 -- the words of the answer; leases out make no entry
 abbrev pub reply_words : Reply → List (List ℕ)
 reply_words Made = []
 reply_words Opened = codes "=" ∷ codes "ok" ∷ []
 reply_words (Refused fault) = codes "=" ∷ refusal_words fault
-reply_words (Offered short lone to) = codes "=" ∷ codes "short" ∷ decimal short ∷ codes "lone" ∷ decimal lone ∷ codes "to" ∷ dests_text to ∷ []
-reply_words (Shared given full gone) = codes "=" ∷ codes "given" ∷ decimal given ∷ codes "full" ∷ decimal full ∷ codes "gone" ∷ decimal gone ∷ []
-reply_words (Gave count to) = codes "=" ∷ codes "gave" ∷ decimal count ∷ codes "to" ∷ dests_text to ∷ []
-reply_words (Took items to) = codes "=" ∷ codes "took" ∷ items_text items ∷ codes "to" ∷ dests_text to ∷ []
+reply_words (Offered short lone to) =
+    codes "=" ∷ codes "short" ∷ decimal short ∷ codes "lone" ∷ decimal lone ∷ codes "to" ∷
+    dests_text to ∷ []
+reply_words (Shared given full gone) =
+    codes "=" ∷ codes "given" ∷ decimal given ∷ codes "full" ∷ decimal full ∷ codes "gone" ∷ decimal
+    gone ∷ []
+reply_words (Gave count to) =
+    codes "=" ∷ codes "gave" ∷ decimal count ∷ codes "to" ∷ dests_text to ∷ []
+reply_words (Took items to) =
+    codes "=" ∷ codes "took" ∷ items_text items ∷ codes "to" ∷ dests_text to ∷ []
 reply_words PeerGone = codes "=" ∷ codes "peergone" ∷ []
 reply_words (Unread count) = codes "=" ∷ codes "unread" ∷ decimal count ∷ []
 reply_words (LeasesOut n) = []
@@ -143,7 +164,9 @@ words_text words = flat_map after_blank words
 
 -- an entry's number, the words of what was asked, and those of the answer
 abbrev pub entry_line : ℕ → Entry → List ℕ
-entry_line number entry = decimal number ++ words_text (ask_words entry.session.0 entry.ask ++ reply_words entry.reply) ++ codes "\n"
+entry_line number entry =
+    decimal number ++ words_text (ask_words entry.session.0 entry.ask ++ reply_words entry.reply)
+    ++ codes "\n"
 
 abbrev pub entry_lines : ℕ → List Entry → List ℕ
 entry_lines number [] = []
@@ -156,7 +179,9 @@ unfoldable pub end_line : ℕ → ℕ → List ℕ
 end_line count free = codes "end " ++ decimal count ++ codes " free " ++ decimal free ++ codes "\n"
 
 abbrev pub transcript_text : ℕ → List Entry → List ℕ
-transcript_text pool history = start_line pool ++ entry_lines 1 history ++ end_line (length history) (free_count (world_of pool history))
+transcript_text pool history =
+    start_line pool ++ entry_lines 1 history
+    ++ end_line (length history) (free_count (world_of pool history))
 
 -- destinations rise
 abbrev pub dests_rise : List Dest → Bool
@@ -176,12 +201,15 @@ is_refusal NoMemory = false
 abbrev pub is_unmarked : Item → Bool
 is_unmarked item = not item.bytes.no_learn
 
--- an entry's ask and reply stand together in one line; destinations rise, a pipe's frames bear no mark,
--- an Enter's session is the entry's number, and that of an Open or a Leave is the one that it names
+-- an entry's ask and reply stand together in one line; destinations rise, a pipe's frames bear no
+-- mark, an Enter's session is the entry's number, and that of an Open or a Leave is the one that it
+-- names
 abbrev pub is_printable : ℕ → ℕ → Ask → Reply → Bool
 is_printable number session (Enter user) Made = session == number
-is_printable number session (Open asked name tx rx extra) Opened = (session == asked.0) && is_name name
-is_printable number session (Open asked name tx rx extra) (Refused fault) = (session == asked.0) && (is_name name && is_refusal fault)
+is_printable number session (Open asked name tx rx extra) Opened =
+    (session == asked.0) && is_name name
+is_printable number session (Open asked name tx rx extra) (Refused fault) =
+    (session == asked.0) && (is_name name && is_refusal fault)
 is_printable number session (Send port frames) (Offered short lone to) = dests_rise to
 is_printable number session (Grant origin to) (Shared given full gone) = true
 is_printable number session (Done lease) Made = true
@@ -190,7 +218,8 @@ is_printable number session (Shut port) Made = true
 is_printable number session (Finish port bufs chain) (Unread count) = true
 is_printable number session (Leave left) Made = session == left.0
 is_printable number session (Reset port side fault) Made = is_check_fault fault
-is_printable number session (PutKept port offered) (Took items to) = list_all is_unmarked items && dests_rise to
+is_printable number session (PutKept port offered) (Took items to) =
+    list_all is_unmarked items && dests_rise to
 is_printable number session (PutKept port offered) PeerGone = true
 is_printable number session (Get port back) (Gave count to) = dests_rise to
 is_printable number session (Watch monitor target sides) (Watching watched) = is_name target

@@ -1,6 +1,6 @@
 -- The world of a history: the sessions that are there, the ports with what is queued at each, what
--- the switches have learned, who watches whom, the offers not yet granted, and what ports have counted.
--- It has no buffers.
+-- the switches have learned, who watches whom, the offers not yet granted, and what ports have
+-- counted. It has no buffers.
 use Rattle.std.specs.Prelude.{ℕ, Bool, true, false, not, ◌&&◌, ◌==◌, ◌+◌, ◌-◌, List, [], map, find, Option, Some, None, is_some, sum_by}
 use Rattle.std.specs.List.{list_any}
 use Rattle.nm_types.specs.declared.id.Counts.{Counts}
@@ -9,7 +9,8 @@ use Rattle.nm_types.specs.declared.id.Side.TheVariants.{Tx, Rx}
 use Rattle.nm_types.specs.Sides.{watches_side}
 use Rattle.nm_types.specs.Frames.{Frame, size_of_frames}
 
--- frames brought to a port, under the number of the entry that did, a Grant or a Put, with its session
+-- frames brought to a port, under the number of the entry that did, a Grant or a Put, with its
+-- session
 pub record Lot : Type 0 where
   pub number : ℕ
   pub session : ℕ
@@ -65,7 +66,17 @@ pub record World : Type 0 where
   pub counts : List PortCounts
 
 abbrev pub empty_world : ℕ → World
-empty_world pool = record { pool = pool; entry_count = 0; sessions = []; ports = []; pairs = []; watches = []; offers = []; counts = [] }
+empty_world pool =
+    record {
+      pool = pool;
+      entry_count = 0;
+      sessions = [];
+      ports = [];
+      pairs = [];
+      watches = [];
+      offers = [];
+      counts = [];
+    }
 
 abbrev pub is_session : World → ℕ → Bool
 is_session w session = list_any (λ s. s == session) w.sessions
@@ -119,7 +130,9 @@ has_lot_owed_by session port = list_any (is_owed_by session) port.line
 
 -- no entry of the session has an offer that is not granted, and each lot granted by it is done
 abbrev pub is_settled : World → ℕ → Bool
-is_settled w session = not (list_any (λ offer. offer.session == session) w.offers) && not (list_any (has_lot_owed_by session) w.ports)
+is_settled w session =
+    not (list_any (λ offer. offer.session == session) w.offers)
+    && not (list_any (has_lot_owed_by session) w.ports)
 
 -- the monitor that a watch names
 abbrev pub monitor_id : Option Watch → Option ℕ
@@ -127,7 +140,9 @@ monitor_id None = None
 monitor_id (Some watch) = Some watch.monitor
 
 abbrev pub transmit_monitor : World → ℕ → Option ℕ
-transmit_monitor w port = monitor_id (find (λ watch. (watch.target == port) && watches_side watch.sides Tx) w.watches)
+transmit_monitor w port =
+    monitor_id (find (λ watch. (watch.target == port) && watches_side watch.sides Tx) w.watches)
 
 abbrev pub receive_monitor : World → ℕ → Option ℕ
-receive_monitor w port = monitor_id (find (λ watch. (watch.target == port) && watches_side watch.sides Rx) w.watches)
+receive_monitor w port =
+    monitor_id (find (λ watch. (watch.target == port) && watches_side watch.sides Rx) w.watches)
