@@ -1,16 +1,10 @@
 -- The learning table of a switch: 1024 entries, each of which holds the station that was learned last
 -- among the addresses of that entry, or nothing.
-use Rattle.std.specs.Prelude.{ℕ, ◌+◌, ◌*◌, ◌%◌, ◌==◌, if◌then◌else◌, List, map, replicate, Option, Some, None, slice_index, slice_index_or, slice_set, bit_xor, bytes_eq}
+use Rattle.std.specs.Prelude.{ℕ, ◌==◌, if◌then◌else◌, List, map, replicate, Option, Some, None, slice_index_or, slice_set, bytes_eq}
+pub use Rattle.nm_types.specs.Addresses.{bucket_of}
 use Rattle.nm_types.specs.declared.id.Mac.{Mac}
 use Rattle.nm_types.specs.declared.id.PortId.{PortId}
 use Rattle.vale_learn.specs.declared.table.Station.{Station}
-
-abbrev pub half_at : List ℕ → ℕ → ℕ
-half_at address i = 256 * slice_index address i + slice_index address (i + 1)
-
--- the entry of an address: the xor of its three 16-bit words, modulo 1024
-abbrev pub bucket_of : List ℕ → ℕ
-bucket_of address = bit_xor (bit_xor (half_at address 0) (half_at address 2)) (half_at address 4) % 1024
 
 abbrev pub Entries : Type 0
 Entries = List (Option Station)

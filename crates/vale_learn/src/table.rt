@@ -1,5 +1,6 @@
 ghost use Rattle.std.specs.Prelude.{◌≡◌, ◌+◌, ◌<◌, length, map, IfOk};
-ghost use Rattle.vale_learn.specs.AddressTable.{half_at, bucket_of, no_stations, entry_of, port_of_address, port_if_address, learned, restored, without_port, forgotten};
+ghost use Rattle.nm_types.specs.Addresses.{word_at};
+ghost use Rattle.vale_learn.specs.AddressTable.{bucket_of, no_stations, entry_of, port_of_address, port_if_address, learned, restored, without_port, forgotten};
 
 use nm_types::{Mac, NoMemory, PortId};
 use std::alloc::Global;
@@ -36,7 +37,7 @@ impl Model for Table {
 
 fn half_at(address: Mac, i: usize) -> u32
     requires { i + 1 < 6 }
-    ensures { result ≡ half_at address.0 i }
+    ensures { result ≡ word_at address.0 i }
 {
     256 * u32::from(address.0[i]) + u32::from(address.0[i + 1])
 }
