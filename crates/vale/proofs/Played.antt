@@ -13,11 +13,14 @@ use Rattle.vale.specs.Plan.{Program}
 use Rattle.vale.specs.declared.status.Status.{Status}
 use Rattle.vale.specs.declared.status.Status.TheVariants.{Done, Usage, BadScript, ReadFault, WriteFault, Over, NoMemory}
 use Rattle.vale.specs.Replay.{Plays}
-use Rattle.vale.specs.Run.{Written, Played, IsCounted}
+use Rattle.vale.specs.Run.{TellsHistory, Written, Played, IsCounted}
 use Rattle.vale.specs.Steps.{DoesProgram, StopsProgram}
 use Rattle.vale.proofs.Deliveries.{delivers}
 use Rattle.vale.proofs.Sums.{refusal-sum}
 use Rattle.vale_text.specs.Written.{text_of}
+use Rattle.vale_text.proofs.Transcripts.{transcripts-tell}
+use Rattle.vale_entry.proofs.Printable.{legal-printable}
+use Rattle.vale_entry.proofs.Fitting.{legal-fits}
 
 -- the text with the buffers that are free
 pub text-is : (pool : ℕ) (entries : List Entry) (free : ℕ) → free ≡ free_count (world_of pool entries) → text_of pool entries free ≡ transcript_text pool entries
@@ -33,24 +36,36 @@ few-entries b limits are few within =
 abbrev pub fresh_book : ℕ → Limits → Recorded
 fresh_book pool limits = record { pool = pool; limits = limits; entries = [] }
 
+-- the text tells the history
+text-tells : (pool : ℕ) (history : List Entry) → pool < 2 ^ 32 → length history < 2 ^ 32 → IsLegal pool history
+    → TellsHistory pool history
+unfolding text_of
+text-tells pool history small few legal =
+    λ buffers other less fewer lawful same.
+    transcripts-tell buffers pool other history (free_count (world_of buffers other)) (free_count (world_of pool history))
+    (omega (arith, less)) (omega (arith, small)) (legal-printable buffers other lawful) (legal-printable pool history legal)
+    (legal-fits buffers other lawful less fewer) (legal-fits pool history legal small few) same
+
 -- a run that ended, and whose transcript was written
 
-played-by : (limits : Limits) (program : Program) (history : List Entry) (write_faults : ℕ × ℕ) (old new : Option (List ℕ)) (status : Status) → Plays program history → (world_of program.pool history).sessions ≡ [] → free_count (world_of program.pool history) ≡ program.pool
+played-by : (limits : Limits) (program : Program) (history : List Entry) (write_faults : ℕ × ℕ) (old new : Option (List ℕ)) (status : Status)
+    → TellsHistory program.pool history → Plays program history → (world_of program.pool history).sessions ≡ [] → free_count (world_of program.pool history) ≡ program.pool
     → HadRoom (record { pool = program.pool; limits = limits; entries = history }) → Written program.pool history write_faults old new status → Played limits program write_faults old new status
-played-by limits program history write_faults old new Done plays left whole roomy written = record { history = history; plays = plays; roomy = roomy; delivers = delivers program.pool history plays.legal left; left = left; whole = whole; held = written }
-played-by limits program history write_faults old new WriteFault plays left whole roomy written = (record { history = history; plays = plays; roomy = roomy; delivers = delivers program.pool history plays.legal left; left = left; whole = whole; part = written.0 }, written.1)
-played-by limits program history write_faults old new NoMemory plays left whole roomy written = inr (record { history = history; plays = plays; roomy = roomy; delivers = delivers program.pool history plays.legal left; left = left; whole = whole; part = written })
-played-by limits program history write_faults old new (BadScript line cause) plays left whole roomy written = absurd written
-played-by limits program history write_faults old new Usage plays left whole roomy written = absurd written
-played-by limits program history write_faults old new (ReadFault name) plays left whole roomy written = absurd written
-played-by limits program history write_faults old new (Over what count limit) plays left whole roomy written = absurd written
+played-by limits program history write_faults old new Done tells plays left whole roomy written = record { history = history; plays = plays; roomy = roomy; delivers = delivers program.pool history plays.legal left; left = left; whole = whole; held = written; told = tells }
+played-by limits program history write_faults old new WriteFault tells plays left whole roomy written = (record { history = history; plays = plays; roomy = roomy; delivers = delivers program.pool history plays.legal left; left = left; whole = whole; part = written.0 }, written.1)
+played-by limits program history write_faults old new NoMemory tells plays left whole roomy written = inr (record { history = history; plays = plays; roomy = roomy; delivers = delivers program.pool history plays.legal left; left = left; whole = whole; part = written })
+played-by limits program history write_faults old new (BadScript line cause) tells plays left whole roomy written = absurd written
+played-by limits program history write_faults old new Usage tells plays left whole roomy written = absurd written
+played-by limits program history write_faults old new (ReadFault name) tells plays left whole roomy written = absurd written
+played-by limits program history write_faults old new (Over what count limit) tells plays left whole roomy written = absurd written
 
 pub played-written : (limits : Limits) (start b : Recorded) (program : Program) (write_faults : ℕ × ℕ) (old new : Option (List ℕ)) (status : Status) → start ≡ fresh_book program.pool limits → DoesProgram start b program → IsLegal b.pool b.entries → HadRoom b
-    → Written b.pool b.entries write_faults old new status → Played limits program write_faults old new status
-played-written limits start b program write_faults old new status is does legal roomy written =
+    → b.pool < 2 ^ 32 → length b.entries < 2 ^ 32 → Written b.pool b.entries write_faults old new status → Played limits program write_faults old new status
+played-written limits start b program write_faults old new status is does legal roomy small few written =
     let pool_is : b.pool ≡ program.pool = does.pool_is ∙ ap (λ (r : Recorded). r.pool) is in
     let limits_are : b.limits ≡ limits = does.limits_are ∙ ap (λ (r : Recorded). r.limits) is in
     played-by limits program b.entries write_faults old new status
+    (subst (λ (p : ℕ). TellsHistory p b.entries) pool_is (text-tells b.pool b.entries small few legal))
     (record { legal = subst (λ (p : ℕ). IsLegal p b.entries) pool_is legal; replayed = does.replayed })
     (subst (λ (p : ℕ). (world_of p b.entries).sessions ≡ []) pool_is does.left)
     (subst (λ (p : ℕ). free_count (world_of p b.entries) ≡ p) pool_is does.whole)

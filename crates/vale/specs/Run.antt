@@ -28,8 +28,15 @@ abbrev pub script_name : List (List ℕ) → Option (List ℕ)
 script_name (verb ∷ name ∷ []) = if bytes_eq verb (codes "run") then Some name else None
 script_name _ = None
 
--- the transcript of a history that plays the program was written whole; the record had room for each of
--- its entries, it delivers, and at its end no session is left, and all buffers are free
+-- a transcript tells its history: no other legal history of fewer than 2^32 entries, of a pool with fewer
+-- buffers, has this text
+abbrev pub TellsHistory : ℕ → List Entry → Type 0
+TellsHistory pool history =
+    (buffers : ℕ) (other : List Entry) → buffers < 2 ^ 32 → length other < 2 ^ 32 → IsLegal buffers other
+    → transcript_text buffers other ≡ transcript_text pool history → (buffers ≡ pool) × (other ≡ history)
+
+-- the transcript of a history that plays the program was written whole; it tells that history; the record
+-- had room for each of its entries, it delivers, and at its end no session is left, and all buffers are free
 pub record WritesText (limits : Limits) (program : Program) (old new : Option (List ℕ)) : Type 0 where
   pub history : List Entry
   pub plays : Plays program history
@@ -38,6 +45,7 @@ pub record WritesText (limits : Limits) (program : Program) (old new : Option (L
   pub left : (world_of program.pool history).sessions ≡ []
   pub whole : free_count (world_of program.pool history) ≡ program.pool
   pub held : new ≡ grown old (transcript_text program.pool history)
+  pub told : TellsHistory program.pool history
 
 -- a prefix of it was
 pub record WritesPart (limits : Limits) (program : Program) (old new : Option (List ℕ)) : Type 0 where

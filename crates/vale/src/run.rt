@@ -70,6 +70,8 @@ fn stopped(fault: StepFault) -> Status
 fn write<K: Sink>(alloc: Global, book: Book, out: &mut K) -> Status
     requires limits { book.limits ≡ Limits.VERSION_1 }
     requires whole { free_count (standing book).world ≡ book.pool }
+    ensures small { book.pool < 2 ^ 32 }
+    ensures few { length book.entries < 2 ^ 32 }
     ensures written { Written book.pool book.entries (K.faults out.old, K.faults out.new) (K.holds out.old) (K.holds out.new) result }
     ensures later { K.faults out.old ≤ K.faults out.new }
 {

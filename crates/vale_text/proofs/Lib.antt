@@ -5,4 +5,4 @@ mod Flat
 mod Lines
 mod NameWords
 mod Numerals
-mod Transcripts
+pub mod Transcripts

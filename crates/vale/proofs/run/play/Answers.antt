@@ -12,4 +12,4 @@ pub returns-in-Ok-run_program-clause-played : goal.returns-in-Ok-run_program-cla
 returns-in-Ok-run_program-clause-played g c =
     let fresh : c.in-Ok.book ≡ fresh_book c.args.script.now.pool VERSION_1 = c.in-Ok.ensures ∙ ap (λ (p : ℕ). fresh_book p VERSION_1) c.pool.ensures in
     played-written VERSION_1 c.in-Ok.book c.run_program.new.book c.args.script.now (g.K.Sink.faults c.args.out.now, g.K.Sink.faults c.write.new.out) (g.K.Sink.holds c.args.out.now) (g.K.Sink.holds c.write.new.out) c.write.result
-    fresh c.in-Ok-run_program.ensures.does c.history.ensures.legal c.history.ensures.roomy c.write.ensures.written
+    fresh c.in-Ok-run_program.ensures.does c.history.ensures.legal c.history.ensures.roomy c.write.ensures.small c.write.ensures.few c.write.ensures.written
