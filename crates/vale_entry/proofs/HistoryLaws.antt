@@ -53,7 +53,8 @@ pub record Stands (pool : ℕ) (s : Standing) : Type 0 where
   pub single : Single s
   pub watched : Watched s
 
-stands_entry : (pool : ℕ) (s : Standing) (e : Entry) → Stands pool s → Follows s e → Stands pool (after s e)
+stands_entry :
+    (pool : ℕ) (s : Standing) (e : Entry) → Stands pool s → Follows s e → Stands pool (after s e)
 stands_entry pool s e k follows = record {
   pool_is = pool_entry s e ∙ k.pool_is;
   numbered = numbered_entry s e k.numbered;
@@ -78,15 +79,19 @@ stands_fresh pool = record {
 }
 
 pub history-stands : (pool : ℕ) (h : List Entry) → IsLegal pool h → Stands pool (standing_of pool h)
-history-stands pool h legal = legal-by (Stands pool) (stands_entry pool) pool h legal (stands_fresh pool)
+history-stands pool h legal =
+    legal-by (Stands pool) (stands_entry pool) pool h legal (stands_fresh pool)
 
 -- The laws, in the words of their statements.
 pub numbers-rise : NumbersRise
 numbers-rise pool h =
     let w = world_of pool h in
-    subst (λ (count : ℕ). AreNumbered count w.sessions w.ports w.offers) (count-world_of pool h) (world-numbered pool h)
+    subst (λ (count : ℕ). AreNumbered count w.sessions w.ports w.offers) (count-world_of pool h)
+    (world-numbered pool h)
 
-port-parts : (port : Port) → HasRoom port → due_of port + (space_of port + 1) + size_of_line port.line ≡ buffers_of port
+port-parts :
+    (port : Port) → HasRoom port
+    → due_of port + (space_of port + 1) + size_of_line port.line ≡ buffers_of port
 port-parts port room = let fits = room.fits in omega arith
 
 pub ports-within : PortsAreWithinSizes
@@ -97,11 +102,21 @@ ports-within pool h legal =
     record {
       pool_is = k.pool_is;
       lots_filled = All-from_recursion (λ (port : Port). All IsFilled port.line) w.ports
-          (each-weaker HasRoom (λ (port : Port). All IsFilled port.line) (λ port room. All-from_recursion IsFilled port.line room.lots_filled) w.ports all);
-      room_kept = All-from_recursion (λ (port : Port). port.out + size_of_line port.line + 1 ≤ port.rx) w.ports
-          (each-weaker HasRoom (λ (port : Port). port.out + size_of_line port.line + 1 ≤ port.rx) (λ port room. room.fits) w.ports all);
-      parts_are_all = All-from_recursion (λ (port : Port). due_of port + (space_of port + 1) + size_of_line port.line ≡ buffers_of port) w.ports
-          (each-weaker HasRoom (λ (port : Port). due_of port + (space_of port + 1) + size_of_line port.line ≡ buffers_of port) port-parts w.ports all);
+          (each-weaker HasRoom (λ (port : Port). All IsFilled port.line)
+          (λ port room. All-from_recursion IsFilled port.line room.lots_filled) w.ports all);
+      room_kept =
+          All-from_recursion (λ (port : Port). port.out + size_of_line port.line + 1 ≤ port.rx)
+          w.ports
+          (each-weaker HasRoom (λ (port : Port). port.out + size_of_line port.line + 1 ≤ port.rx)
+          (λ port room. room.fits) w.ports all);
+      parts_are_all =
+          All-from_recursion
+          (λ (port : Port).
+          due_of port + (space_of port + 1) + size_of_line port.line ≡ buffers_of port) w.ports
+          (each-weaker HasRoom
+          (λ (port : Port).
+          due_of port + (space_of port + 1) + size_of_line port.line ≡ buffers_of port) port-parts
+          w.ports all);
       fits_pool = subst (λ (n : ℕ). sum_by buffers_of w.ports ≤ n) k.pool_is k.roomy.within;
     }
 
@@ -113,9 +128,13 @@ free-rises pool h legal =
     let count = k.free.count in
     record {
       rise = subst (λ (n : ℕ). Rise 1 (holdings_of pool h).free (n + 1)) k.pool_is k.free.rise;
-      smallest = λ n. All-from_recursion (λ (taken : ℕ). All (λ (left : ℕ). taken < left) (drop n free)) (take n free)
-          (each-weaker (λ (taken : ℕ). Each (λ (left : ℕ). taken < left) (drop n free)) (λ (taken : ℕ). All (λ (left : ℕ). taken < left) (drop n free))
-          (λ taken all. All-from_recursion (λ (left : ℕ). taken < left) (drop n free) all) (take n free) (rise-cut n 1 free (w.pool + 1) k.free.rise));
+      smallest =
+          λ n. All-from_recursion (λ (taken : ℕ). All (λ (left : ℕ). taken < left) (drop n free))
+          (take n free)
+          (each-weaker (λ (taken : ℕ). Each (λ (left : ℕ). taken < left) (drop n free))
+          (λ (taken : ℕ). All (λ (left : ℕ). taken < left) (drop n free))
+          (λ taken all. All-from_recursion (λ (left : ℕ). taken < left) (drop n free) all)
+          (take n free) (rise-cut n 1 free (w.pool + 1) k.free.rise));
       count = omega arith;
     }
 
@@ -123,10 +142,12 @@ pub buffers-parted : BuffersAreParted
 buffers-parted pool h legal =
     let k = history-stands pool h legal in
     let w = world_of pool h in
-    subst (λ (n : ℕ). IsParted n (holdings_of pool h)) k.pool_is (held-parted w.pool w.sessions w.ports (holdings_of pool h) k.held)
+    subst (λ (n : ℕ). IsParted n (holdings_of pool h)) k.pool_is
+    (held-parted w.pool w.sessions w.ports (holdings_of pool h) k.held)
 
 pub holdings-agree : HoldingsAgree
-holdings-agree pool h legal = held-agrees (world_of pool h) (holdings_of pool h) (history-stands pool h legal).held
+holdings-agree pool h legal =
+    held-agrees (world_of pool h) (holdings_of pool h) (history-stands pool h legal).held
 
 pub sessions-one_unsettled : SessionsHaveOneUnsettled
 sessions-one_unsettled pool h legal = (history-stands pool h legal).one
@@ -140,7 +161,9 @@ lots-single pool h legal = (history-stands pool h legal).single
 pub room-promised : RoomIsPromised
 room-promised pool h e made legal follows is =
     let k = history-stands pool h legal in
-    subst (λ (s : Standing). IsPromised (world_of pool h) s.world made) (sym (standing-push pool h e)) (promised_entry (standing_of pool h) e made k.numbered k.single is)
+    subst (λ (s : Standing). IsPromised (world_of pool h) s.world made)
+    (sym (standing-push pool h e))
+    (promised_entry (standing_of pool h) e made k.numbered k.single is)
 
 pub room-used : RoomIsUsed
 room-used pool h e made legal follows is =
@@ -148,4 +171,15 @@ room-used pool h e made legal follows is =
     let size = length-append h (e ∷ []) in
     omega (arith, step, size)
 
-pub ruleset history_laws = (numbers-rise, ports-within, free-rises, buffers-parted, holdings-agree, sessions-one_unsettled, watches-open, lots-single, room-promised, room-used)
+pub ruleset history_laws = (
+  numbers-rise,
+  ports-within,
+  free-rises,
+  buffers-parted,
+  holdings-agree,
+  sessions-one_unsettled,
+  watches-open,
+  lots-single,
+  room-promised,
+  room-used,
+)

@@ -35,6 +35,8 @@ pub mod Counting
 pub mod Freeing
 pub mod Agreeing
 pub mod Holding
+pub mod HeldGrants
+pub mod HeldExchanges
 pub mod Held
 pub mod FreeBuffers
 pub mod OneEntry

@@ -1,4 +1,5 @@
--- Laws of lists: the place of an element, sums after a change at a place, a list cut into two parts.
+-- Laws of lists: the place of an element, sums after a change at a place, a list cut into two
+-- parts.
 use Rattle.std.proofs.Common.{ℕ, zero, suc, ◌+◌, ◌≤◌, ◌≡◌, Bool, true, false, cond, List, [], ◌∷◌, ◌++◌, map, length, take, drop, find, sum_by, flat_map, Some, refl, ap, subst, arith, slice_get, slice_set}
 use Rattle.std.specs.List.{AllByRecursion as Each}
 use Rattle.std.proofs.lemmas.List.Sums.{sum_by-cons, sum_by-append}
@@ -10,7 +11,8 @@ pub record IsPlace {X : Type 0} (xs : List X) (test : X → Bool) (x : X) : Type
   pub passes : test x ≡ true
 
 place_by : {X : Type 0} (test : X → Bool) (y : X) (ys : List X) (x : X) (b : Bool) → test y ≡ b
-    → (find test ys ≡ Some x → IsPlace ys test x) → cond b (Some y) (find test ys) ≡ Some x → IsPlace (y ∷ ys) test x
+    → (find test ys ≡ Some x → IsPlace ys test x) → cond b (Some y) (find test ys) ≡ Some x
+    → IsPlace (y ∷ ys) test x
 place_by test y ys x true t later e =
     let same : y ≡ x = cc in
     record { place = 0; here = e; passes = subst (λ z. test z ≡ true) same t }
@@ -18,16 +20,21 @@ place_by test y ys x false t later e =
     let rest = later e in
     record { place = suc rest.place; here = rest.here; passes = rest.passes }
 
-pub place-of : {X : Type 0} (test : X → Bool) (xs : List X) (x : X) → find test xs ≡ Some x → IsPlace xs test x
+pub place-of :
+    {X : Type 0} (test : X → Bool) (xs : List X) (x : X) → find test xs ≡ Some x → IsPlace xs test x
 place-of test [] x e = absurd cc
 place-of test (y ∷ ys) x e = place_by test y ys x (test y) refl (place-of test ys x) e
 
-pub each-at : {X : Type 0} (P : X → Type 0) (xs : List X) (i : ℕ) (x : X) → Each P xs → slice_get xs i ≡ Some x → P x
+pub each-at :
+    {X : Type 0} (P : X → Type 0) (xs : List X) (i : ℕ) (x : X) → Each P xs
+    → slice_get xs i ≡ Some x → P x
 each-at P [] i x all e = absurd cc
 each-at P (y ∷ ys) zero x all e = let same : y ≡ x = cc in subst P same all.0
 each-at P (y ∷ ys) (suc i) x all e = each-at P ys i x all.1 e
 
-pub each-set : {X : Type 0} (P : X → Type 0) (xs : List X) (i : ℕ) (x : X) → Each P xs → P x → Each P (slice_set xs i x)
+pub each-set :
+    {X : Type 0} (P : X → Type 0) (xs : List X) (i : ℕ) (x : X) → Each P xs → P x
+    → Each P (slice_set xs i x)
 each-set P [] i x all here = tt
 each-set P (y ∷ ys) zero x all here = (here, all.1)
 each-set P (y ∷ ys) (suc i) x all here = (all.0, each-set P ys i x all.1 here)
@@ -48,7 +55,9 @@ sum-set f (z ∷ zs) (suc i) x y e =
     omega arith
 
 -- a sum that a map keeps
-pub sum-map_same : {X Y : Type 0} (f : Y → ℕ) (g : X → ℕ) (change : X → Y) → ((x : X) → f (change x) ≡ g x) → (xs : List X)
+pub sum-map_same :
+    {X Y : Type 0} (f : Y → ℕ) (g : X → ℕ) (change : X → Y) → ((x : X) → f (change x) ≡ g x)
+    → (xs : List X)
     → sum_by f (map change xs) ≡ sum_by g xs
 sum-map_same f g change keeps [] = refl
 sum-map_same f g change keeps (x ∷ xs) =
@@ -58,7 +67,9 @@ sum-map_same f g change keeps (x ∷ xs) =
     let new = sum_by-cons f (change x) (map change xs) in
     omega arith
 
-pub sum-flat_map : {X Y : Type 0} (f : Y → ℕ) (parts : X → List Y) (xs : List X) → sum_by f (flat_map parts xs) ≡ sum_by (λ x. sum_by f (parts x)) xs
+pub sum-flat_map :
+    {X Y : Type 0} (f : Y → ℕ) (parts : X → List Y) (xs : List X)
+    → sum_by f (flat_map parts xs) ≡ sum_by (λ x. sum_by f (parts x)) xs
 sum-flat_map f parts [] = refl
 sum-flat_map f parts (x ∷ xs) =
     let rest = sum-flat_map f parts xs in
@@ -77,7 +88,8 @@ drop-length_take zero xs = refl
 drop-length_take (suc n) [] = refl
 drop-length_take (suc n) (x ∷ xs) = drop-length_take n xs
 
-pub map-set_same : {X Y : Type 0} (f : X → Y) (xs : List X) (i : ℕ) (x y : X) → slice_get xs i ≡ Some x → f y ≡ f x
+pub map-set_same :
+    {X Y : Type 0} (f : X → Y) (xs : List X) (i : ℕ) (x y : X) → slice_get xs i ≡ Some x → f y ≡ f x
     → map f (slice_set xs i y) ≡ map f xs
 map-set_same f [] i x y e same = refl
 map-set_same f (z ∷ zs) zero x y e same =
@@ -86,7 +98,9 @@ map-set_same f (z ∷ zs) zero x y e same =
     cc
 map-set_same f (z ∷ zs) (suc i) x y e same = let rest = map-set_same f zs i x y e same in cc
 
-pub sum-at : {X : Type 0} (f : X → ℕ) (xs : List X) (i : ℕ) (x : X) → slice_get xs i ≡ Some x → f x ≤ sum_by f xs
+pub sum-at :
+    {X : Type 0} (f : X → ℕ) (xs : List X) (i : ℕ) (x : X) → slice_get xs i ≡ Some x
+    → f x ≤ sum_by f xs
 sum-at f [] i x e = absurd cc
 sum-at f (y ∷ ys) zero x e =
     let same : y ≡ x = cc in

@@ -1,5 +1,5 @@
--- A port's id is found at one place, so a change at the id is a change at the place; and likewise for
--- the buffers of ports and of sessions.
+-- A port's id is found at one place, so a change at the id is a change at the place; and likewise
+-- for the buffers of ports and of sessions.
 use Rattle.std.proofs.Common.{ℕ, zero, suc, ◌≡◌, true, false, cond, ◌==◌, List, [], ◌∷◌, map, take, flat_map, Some, refl, ◌∙◌, ap, subst, arith, not, slice_get, slice_set}
 use Rattle.std.specs.List.{remove}
 use Rattle.std.proofs.lemmas.Bool.{eq-eqb, ne_eqb, eqb-true, and_parts, not-true}
@@ -19,10 +19,13 @@ use Rattle.vale_entry.proofs.Removals.{filter-at_key, filter-at_number}
 use Rattle.vale_entry.proofs.Numbered.{world-numbered}
 
 pub changed_at-place : (change : Port → Port) (ports : List Port) (high i : ℕ) (port : Port)
-    → Rise 0 (map id_of_port ports) high → slice_get ports i ≡ Some port → changed_at port.id change ports ≡ slice_set ports i (change port)
+    → Rise 0 (map id_of_port ports) high → slice_get ports i ≡ Some port
+    → changed_at port.id change ports ≡ slice_set ports i (change port)
 changed_at-place change ports high i port r e =
-    let hit : changed_if (port.id == port.id) change port ≡ change port = rw (eq-eqb port.id port.id refl) refl in
-    let all = map-at_key id_of_port (λ (p : Port). changed_if (p.id == port.id) change p) 0 ports high i port r e
+    let hit : changed_if (port.id == port.id) change port ≡ change port =
+    rw (eq-eqb port.id port.id refl) refl in
+    let all = map-at_key id_of_port (λ (p : Port). changed_if (p.id == port.id) change p) 0 ports
+    high i port r e
     (λ p other. rw other refl) in
     all ∙ ap (slice_set ports i) hit
 
@@ -32,9 +35,12 @@ pub record OpenPlace (ports : List Port) (id : ℕ) (port : Port) : Type 0 where
   pub here : slice_get ports place ≡ Some port
   pub id_is : port.id ≡ id
   pub stands_open : port.shutting ≡ false
-  pub changes : (change : Port → Port) → changed_at id change ports ≡ slice_set ports place (change port)
+  pub changes :
+      (change : Port → Port) → changed_at id change ports ≡ slice_set ports place (change port)
 
-pub open-place : (ports : List Port) (high id : ℕ) (port : Port) → Rise 0 (map id_of_port ports) high → open_port ports id ≡ Some port
+pub open-place :
+    (ports : List Port) (high id : ℕ) (port : Port) → Rise 0 (map id_of_port ports) high
+    → open_port ports id ≡ Some port
     → OpenPlace ports id port
 open-place ports high id port r e =
     let found = place-of (is_open_at id) ports port e in
@@ -45,7 +51,10 @@ open-place ports high id port r e =
       here = found.here;
       id_is = same;
       stands_open = not-true port.shutting tests.1;
-      changes = λ change. subst (λ (k : ℕ). changed_at k change ports ≡ slice_set ports found.place (change port)) same (changed_at-place change ports high found.place port r found.here);
+      changes =
+          λ change.
+          subst (λ (k : ℕ). changed_at k change ports ≡ slice_set ports found.place (change port))
+          same (changed_at-place change ports high found.place port r found.here);
     }
 
 -- a shutting port that a search finds: where it stands, and what is left without it
@@ -56,7 +65,9 @@ pub record ShuttingPlace (ports : List Port) (id : ℕ) (port : Port) : Type 0 w
   pub shuts : port.shutting ≡ true
   pub goes : ports_without port.id ports ≡ remove ports place
 
-pub shutting-place : (ports : List Port) (high id : ℕ) (port : Port) → Rise 0 (map id_of_port ports) high → shutting_port ports id ≡ Some port
+pub shutting-place :
+    (ports : List Port) (high id : ℕ) (port : Port) → Rise 0 (map id_of_port ports) high
+    → shutting_port ports id ≡ Some port
     → ShuttingPlace ports id port
 shutting-place ports high id port r e =
     let found = place-of (is_shutting_at id) ports port e in
@@ -75,12 +86,16 @@ pub record PeerPlace (ports : List Port) (peer : Port) : Type 0 where
   pub here : slice_get ports place ≡ Some peer
   pub is_pipe : is_pipe_name peer.name ≡ true
   pub stands_open : peer.shutting ≡ false
-  pub changes : (change : Port → Port) → changed_at peer.id change ports ≡ slice_set ports place (change peer)
+  pub changes :
+      (change : Port → Port) → changed_at peer.id change ports ≡ slice_set ports place (change peer)
 
-pub peer-place : (ports : List Port) (high : ℕ) (port peer : Port) → Rise 0 (map id_of_port ports) high → peer_of ports port ≡ Some peer → PeerPlace ports peer
+pub peer-place :
+    (ports : List Port) (high : ℕ) (port peer : Port) → Rise 0 (map id_of_port ports) high
+    → peer_of ports port ≡ Some peer → PeerPlace ports peer
 peer-place ports high port peer r e =
     let found = place-of (is_peer port.name) ports peer e in
-    let tests = and_parts (is_pipe_name peer.name) (is_open_as (peer_name port.name) peer) found.passes in
+    let tests =
+    and_parts (is_pipe_name peer.name) (is_open_as (peer_name port.name) peer) found.passes in
     let opens = and_parts (not peer.shutting) (bytes_eq peer.name (peer_name port.name)) tests.1 in
     record {
       place = found.place;
@@ -91,82 +106,117 @@ peer-place ports high port peer r e =
     }
 
 pub shutting_port-place : (ports : List Port) (high i : ℕ) (port : Port)
-    → Rise 0 (map id_of_port ports) high → slice_get ports i ≡ Some port → port.shutting ≡ true → shutting_port ports port.id ≡ Some port
+    → Rise 0 (map id_of_port ports) high → slice_get ports i ≡ Some port → port.shutting ≡ true
+    → shutting_port ports port.id ≡ Some port
 shutting_port-place ports high i port r e shuts =
     find-at_key id_of_port (is_shutting_at port.id) 0 ports high i port r e
     (rw (eq-eqb port.id port.id refl, shuts) refl) (λ p other. rw other refl)
 
 -- the forms for a caller that has the history
-pub changed_at-world : (pool : ℕ) (h : List Entry) (change : Port → Port) (i : ℕ) (port : Port) → slice_get (world_of pool h).ports i ≡ Some port
-    → changed_at port.id change (world_of pool h).ports ≡ slice_set (world_of pool h).ports i (change port)
+pub changed_at-world :
+    (pool : ℕ) (h : List Entry) (change : Port → Port) (i : ℕ) (port : Port)
+    → slice_get (world_of pool h).ports i ≡ Some port
+    → changed_at port.id change (world_of pool h).ports
+    ≡ slice_set (world_of pool h).ports i (change port)
 changed_at-world pool h change i port e =
-    changed_at-place change (world_of pool h).ports (world_of pool h).entry_count i port (world-numbered pool h).ports_rise e
+    changed_at-place change (world_of pool h).ports (world_of pool h).entry_count i port
+    (world-numbered pool h).ports_rise e
 
 pub open_port-place : (ports : List Port) (high i : ℕ) (port : Port)
-    → Rise 0 (map id_of_port ports) high → slice_get ports i ≡ Some port → port.shutting ≡ false → open_port ports port.id ≡ Some port
+    → Rise 0 (map id_of_port ports) high → slice_get ports i ≡ Some port → port.shutting ≡ false
+    → open_port ports port.id ≡ Some port
 open_port-place ports high i port r e open' =
     find-at_key id_of_port (is_open_at port.id) 0 ports high i port r e
     (rw (eq-eqb port.id port.id refl, open') refl) (λ p other. rw other refl)
 
-pub open_port-world : (pool : ℕ) (h : List Entry) (i : ℕ) (port : Port) → slice_get (world_of pool h).ports i ≡ Some port → port.shutting ≡ false
+pub open_port-world :
+    (pool : ℕ) (h : List Entry) (i : ℕ) (port : Port)
+    → slice_get (world_of pool h).ports i ≡ Some port → port.shutting ≡ false
     → open_port (world_of pool h).ports port.id ≡ Some port
 open_port-world pool h i port e open' =
-    open_port-place (world_of pool h).ports (world_of pool h).entry_count i port (world-numbered pool h).ports_rise e open'
+    open_port-place (world_of pool h).ports (world_of pool h).entry_count i port
+    (world-numbered pool h).ports_rise e open'
 
-pub shutting_port-world : (pool : ℕ) (h : List Entry) (i : ℕ) (port : Port) → slice_get (world_of pool h).ports i ≡ Some port → port.shutting ≡ true
+pub shutting_port-world :
+    (pool : ℕ) (h : List Entry) (i : ℕ) (port : Port)
+    → slice_get (world_of pool h).ports i ≡ Some port → port.shutting ≡ true
     → shutting_port (world_of pool h).ports port.id ≡ Some port
 shutting_port-world pool h i port e shuts =
-    shutting_port-place (world_of pool h).ports (world_of pool h).entry_count i port (world-numbered pool h).ports_rise e shuts
+    shutting_port-place (world_of pool h).ports (world_of pool h).entry_count i port
+    (world-numbered pool h).ports_rise e shuts
 
 -- the ports left without one, and the sessions
-pub ports_without-world : (pool : ℕ) (h : List Entry) (i : ℕ) (port : Port) → slice_get (world_of pool h).ports i ≡ Some port
+pub ports_without-world :
+    (pool : ℕ) (h : List Entry) (i : ℕ) (port : Port)
+    → slice_get (world_of pool h).ports i ≡ Some port
     → ports_without port.id (world_of pool h).ports ≡ remove (world_of pool h).ports i
 ports_without-world pool h i port e =
-    filter-at_key id_of_port 0 (world_of pool h).ports (world_of pool h).entry_count i port (world-numbered pool h).ports_rise e
+    filter-at_key id_of_port 0 (world_of pool h).ports (world_of pool h).entry_count i port
+    (world-numbered pool h).ports_rise e
 
-pub sessions_without-world : (pool : ℕ) (h : List Entry) (i session : ℕ) → slice_get (world_of pool h).sessions i ≡ Some session
+pub sessions_without-world :
+    (pool : ℕ) (h : List Entry) (i session : ℕ)
+    → slice_get (world_of pool h).sessions i ≡ Some session
     → sessions_without session (world_of pool h).sessions ≡ remove (world_of pool h).sessions i
 sessions_without-world pool h i session e =
-    filter-at_number (world_of pool h).sessions (world_of pool h).entry_count i session (world-numbered pool h).sessions_rise e
+    filter-at_number (world_of pool h).sessions (world_of pool h).entry_count i session
+    (world-numbered pool h).sessions_rise e
 
-pub changed_buffers-place : (change : PortBuffers → PortBuffers) (helds : List PortBuffers) (high i : ℕ) (held : PortBuffers)
-    → Rise 0 (map id_of_held helds) high → slice_get helds i ≡ Some held → changed_buffers held.port change helds ≡ slice_set helds i (change held)
+pub changed_buffers-place :
+    (change : PortBuffers → PortBuffers) (helds : List PortBuffers) (high i : ℕ)
+    (held : PortBuffers)
+    → Rise 0 (map id_of_held helds) high → slice_get helds i ≡ Some held
+    → changed_buffers held.port change helds ≡ slice_set helds i (change held)
 changed_buffers-place change helds high i held r e =
-    let hit : cond (held.port == held.port) (change held) held ≡ change held = rw (eq-eqb held.port held.port refl) refl in
-    let all = map-at_key id_of_held (λ (x : PortBuffers). cond (x.port == held.port) (change x) x) 0 helds high i held r e
+    let hit : cond (held.port == held.port) (change held) held ≡ change held =
+    rw (eq-eqb held.port held.port refl) refl in
+    let all = map-at_key id_of_held (λ (x : PortBuffers). cond (x.port == held.port) (change x) x) 0
+    helds high i held r e
     (λ x other. rw other refl) in
     all ∙ ap (slice_set helds i) hit
 
-pub sessions_given-place : (more : List ℕ) (helds : List SessionBuffers) (high i : ℕ) (held : SessionBuffers)
+pub sessions_given-place :
+    (more : List ℕ) (helds : List SessionBuffers) (high i : ℕ) (held : SessionBuffers)
     → Rise 0 (map id_of_session helds) high → slice_get helds i ≡ Some held
-    → sessions_given held.session more helds ≡ slice_set helds i (session_given held.session more held)
+    → sessions_given held.session more helds
+    ≡ slice_set helds i (session_given held.session more held)
 sessions_given-place more helds high i held r e =
-    map-at_key id_of_session (session_given held.session more) 0 helds high i held r e (λ x other. rw other refl)
+    map-at_key id_of_session (session_given held.session more) 0 helds high i held r e
+    (λ x other. rw other refl)
 
-pub sessions_less-place : (gone : List ℕ) (helds : List SessionBuffers) (high i : ℕ) (held : SessionBuffers)
+pub sessions_less-place :
+    (gone : List ℕ) (helds : List SessionBuffers) (high i : ℕ) (held : SessionBuffers)
     → Rise 0 (map id_of_session helds) high → slice_get helds i ≡ Some held
-    → sessions_less held.session gone helds ≡ slice_set helds i (session_less held.session gone held)
+    → sessions_less held.session gone helds
+    ≡ slice_set helds i (session_less held.session gone held)
 sessions_less-place gone helds high i held r e =
-    map-at_key id_of_session (session_less held.session gone) 0 helds high i held r e (λ x other. rw other refl)
+    map-at_key id_of_session (session_less held.session gone) 0 helds high i held r e
+    (λ x other. rw other refl)
 
-buffers_of_session-from : (low : ℕ) (helds : List SessionBuffers) (high i : ℕ) (held : SessionBuffers)
-    → Rise low (map id_of_session helds) high → slice_get helds i ≡ Some held → buffers_of_session helds held.session ≡ held.buffers
+buffers_of_session-from :
+    (low : ℕ) (helds : List SessionBuffers) (high i : ℕ) (held : SessionBuffers)
+    → Rise low (map id_of_session helds) high → slice_get helds i ≡ Some held
+    → buffers_of_session helds held.session ≡ held.buffers
 buffers_of_session-from low [] high i held r e = absurd cc
 buffers_of_session-from low (x ∷ xs) high zero held r e =
     let same : x ≡ held = cc in
-    let hit : (x.session == held.session) ≡ true = eq-eqb x.session held.session (ap id_of_session same) in
+    let hit : (x.session == held.session) ≡ true =
+    eq-eqb x.session held.session (ap id_of_session same) in
     rw hit (ap (λ (y : SessionBuffers). y.buffers) same)
 buffers_of_session-from low (x ∷ xs) high (suc i) held r e =
     let above = rise-slice_get id_of_session x.session xs high i held r.1 e in
-    let miss : (x.session == held.session) ≡ false = ne_eqb x.session held.session (λ k. omega arith) in
+    let miss : (x.session == held.session) ≡ false =
+    ne_eqb x.session held.session (λ k. omega arith) in
     rw miss (buffers_of_session-from x.session xs high i held r.1 e)
 
 pub buffers_of_session-place : (helds : List SessionBuffers) (high i : ℕ) (held : SessionBuffers)
-    → Rise 0 (map id_of_session helds) high → slice_get helds i ≡ Some held → buffers_of_session helds held.session ≡ held.buffers
+    → Rise 0 (map id_of_session helds) high → slice_get helds i ≡ Some held
+    → buffers_of_session helds held.session ≡ held.buffers
 buffers_of_session-place helds high i held r e = buffers_of_session-from 0 helds high i held r e
 
 buffers_of_port-from : (low : ℕ) (helds : List PortBuffers) (high i : ℕ) (held : PortBuffers)
-    → Rise low (map id_of_held helds) high → slice_get helds i ≡ Some held → buffers_of_port held.port helds ≡ buffers_at_port held
+    → Rise low (map id_of_held helds) high → slice_get helds i ≡ Some held
+    → buffers_of_port held.port helds ≡ buffers_at_port held
 buffers_of_port-from low [] high i held r e = absurd cc
 buffers_of_port-from low (x ∷ xs) high zero held r e =
     let same : x ≡ held = cc in
@@ -178,11 +228,13 @@ buffers_of_port-from low (x ∷ xs) high (suc i) held r e =
     rw miss (buffers_of_port-from x.port xs high i held r.1 e)
 
 pub buffers_of_port-place : (helds : List PortBuffers) (high i : ℕ) (held : PortBuffers)
-    → Rise 0 (map id_of_held helds) high → slice_get helds i ≡ Some held → buffers_of_port held.port helds ≡ buffers_at_port held
+    → Rise 0 (map id_of_held helds) high → slice_get helds i ≡ Some held
+    → buffers_of_port held.port helds ≡ buffers_at_port held
 buffers_of_port-place helds high i held r e = buffers_of_port-from 0 helds high i held r e
 
 first_idle-from : (count low : ℕ) (helds : List PortBuffers) (high i : ℕ) (held : PortBuffers)
-    → Rise low (map id_of_held helds) high → slice_get helds i ≡ Some held → first_idle held.port count helds ≡ take count held.idle
+    → Rise low (map id_of_held helds) high → slice_get helds i ≡ Some held
+    → first_idle held.port count helds ≡ take count held.idle
 first_idle-from count low [] high i held r e = absurd cc
 first_idle-from count low (x ∷ xs) high zero held r e =
     let same : x ≡ held = cc in
@@ -194,7 +246,8 @@ first_idle-from count low (x ∷ xs) high (suc i) held r e =
     rw miss (first_idle-from count x.port xs high i held r.1 e)
 
 pub first_idle-place : (count : ℕ) (helds : List PortBuffers) (high i : ℕ) (held : PortBuffers)
-    → Rise 0 (map id_of_held helds) high → slice_get helds i ≡ Some held → first_idle held.port count helds ≡ take count held.idle
+    → Rise 0 (map id_of_held helds) high → slice_get helds i ≡ Some held
+    → first_idle held.port count helds ≡ take count held.idle
 first_idle-place count helds high i held r e = first_idle-from count 0 helds high i held r e
 
 delivered_buffers-from : (lots low : ℕ) (helds : List PortBuffers) (high i : ℕ) (held : PortBuffers)
@@ -210,7 +263,9 @@ delivered_buffers-from lots low (x ∷ xs) high (suc i) held r e =
     let miss : (x.port == held.port) ≡ false = ne_eqb x.port held.port (λ k. omega arith) in
     rw miss (delivered_buffers-from lots x.port xs high i held r.1 e)
 
-pub delivered_buffers-place : (lots : ℕ) (helds : List PortBuffers) (high i : ℕ) (held : PortBuffers)
+pub delivered_buffers-place :
+    (lots : ℕ) (helds : List PortBuffers) (high i : ℕ) (held : PortBuffers)
     → Rise 0 (map id_of_held helds) high → slice_get helds i ≡ Some held
     → delivered_buffers held.port lots helds ≡ flat_map (λ list. list) (take lots held.lots)
-delivered_buffers-place lots helds high i held r e = delivered_buffers-from lots 0 helds high i held r e
+delivered_buffers-place lots helds high i held r e =
+    delivered_buffers-from lots 0 helds high i held r e

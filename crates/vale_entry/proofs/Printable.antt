@@ -1,5 +1,5 @@
 -- Each entry of a legal history is printable at its number.
-use Rattle.std.specs.List.{AllByRecursion as Each, cons_option, list_all}
+use Rattle.std.specs.List.{cons_option, list_all}
 use Rattle.std.proofs.Common.{ℕ, ◌+◌, ◌<◌, ◌≡◌, ◌==◌, ◌&&◌, not, Bool, true, false, cond, nat_lt, List, [], ◌∷◌, map, length, IsTrue, Option, Some, None, refl, subst, arith}
 use Rattle.std.specs.List.{list_any}
 use Rattle.std.proofs.lemmas.Bool.{eq-eqb, lt-ltb, and_parts}
@@ -45,22 +45,30 @@ both false b left right = no-truth left
 abbrev to_of : Dest → ℕ
 to_of dest = dest.to.0
 
-rise-dests : (low : ℕ) (to : List Dest) (high : ℕ) → Rise low (map to_of to) high → dests_rise to ≡ true
+rise-dests :
+    (low : ℕ) (to : List Dest) (high : ℕ) → Rise low (map to_of to) high → dests_rise to ≡ true
 rise-dests low [] high r = refl
 rise-dests low (d ∷ []) high r = refl
-rise-dests low (d ∷ next ∷ to) high r = both (nat_lt d.to.0 next.to.0) (dests_rise (next ∷ to)) (lt-ltb d.to.0 next.to.0 r.1.0) (rise-dests d.to.0 (next ∷ to) high r.1)
+rise-dests low (d ∷ next ∷ to) high r =
+    both (nat_lt d.to.0 next.to.0) (dests_rise (next ∷ to)) (lt-ltb d.to.0 next.to.0 r.1.0)
+    (rise-dests d.to.0 (next ∷ to) high r.1)
 
-rise-offered : (low origin session at : ℕ) (frames : List Frame) (rest : List Offer) (high : ℕ) → low < at → Rise at (map to_of (dests_of rest)) high
+rise-offered :
+    (low origin session at : ℕ) (frames : List Frame) (rest : List Offer) (high : ℕ) → low < at
+    → Rise at (map to_of (dests_of rest)) high
     → Rise low (map to_of (dests_of (cons_option (offer_to origin session at frames) rest))) high
 rise-offered low origin session at [] rest high above r =
     rise-wider low at (map to_of (dests_of rest)) high high (omega arith) (omega arith) r
 rise-offered low origin session at (frame ∷ frames) rest high above r = (above, r)
 
-rise-offers : (low origin session : ℕ) (wanted : Port → List Frame) (ports : List Port) (high : ℕ) → Rise low (map id_of_port ports) high
+rise-offers :
+    (low origin session : ℕ) (wanted : Port → List Frame) (ports : List Port) (high : ℕ)
+    → Rise low (map id_of_port ports) high
     → Rise low (map to_of (dests_of (offers_of origin session wanted ports))) high
 rise-offers low origin session wanted [] high r = r
 rise-offers low origin session wanted (port ∷ ports) high r =
-    rise-offered low origin session port.id (wanted port) (offers_of origin session wanted ports) high r.0 (rise-offers port.id origin session wanted ports high r.1)
+    rise-offered low origin session port.id (wanted port) (offers_of origin session wanted ports)
+    high r.0 (rise-offers port.id origin session wanted ports high r.1)
 
 -- A refusal is one that is printed.
 
@@ -69,14 +77,19 @@ IsRefusedWell None = Unit {0}
 IsRefusedWell (Some fault) = IsTrue (is_refusal fault)
 
 name-refusal-well : (sizes switches ports name : Bool)
-    → IsRefusedWell (cond (not sizes) (Some BadSize) (cond switches (Some SwitchesFull) (cond ports (Some PortsFull) (cond name (Some NameTaken) None))))
+    → IsRefusedWell
+    (cond (not sizes) (Some BadSize)
+    (cond switches (Some SwitchesFull)
+    (cond ports (Some PortsFull) (cond name (Some NameTaken) None))))
 name-refusal-well false switches ports name = refl
 name-refusal-well true true ports name = refl
 name-refusal-well true false true name = refl
 name-refusal-well true false false true = refl
 name-refusal-well true false false false = tt
 
-room-well : (refusal : Option OpenFault) (want have : ℕ) → IsRefusedWell refusal → IsRefusedWell (refusal_or_room refusal want have)
+room-well :
+    (refusal : Option OpenFault) (want have : ℕ) → IsRefusedWell refusal
+    → IsRefusedWell (refusal_or_room refusal want have)
 room-well (Some fault) want have well = well
 room-well None want have well = by_room (nat_lt have want)
   where
@@ -86,48 +99,71 @@ room-well None want have well = by_room (nat_lt have want)
 
 -- What each ask makes.
 
-printed-open : (asked : SessionId) (name : List ℕ) → IsName name → ((asked.0 == asked.0) && is_name name) ≡ true
-printed-open asked name named = both (asked.0 == asked.0) (is_name name) (eq-eqb asked.0 asked.0 refl) named
+printed-open :
+    (asked : SessionId) (name : List ℕ) → IsName name
+    → ((asked.0 == asked.0) && is_name name) ≡ true
+printed-open asked name named =
+    both (asked.0 == asked.0) (is_name name) (eq-eqb asked.0 asked.0 refl) named
 
-printed-grant : (found : Option Port) (frames : List Frame) (n session origin : ℕ) (to : PortId) → IsTrue (is_printable n session (Grant origin to) (grant_reply_at found frames))
+printed-grant :
+    (found : Option Port) (frames : List Frame) (n session origin : ℕ) (to : PortId)
+    → IsTrue (is_printable n session (Grant origin to) (grant_reply_at found frames))
 printed-grant None frames n session origin to = refl
 printed-grant (Some port) frames n session origin to = refl
 
 -- the offers of an entry rise
-offered-rise : (w : World) (session : ℕ) (wanted : Port → List Frame) → IsNumbered w → dests_rise (dests_of (offers_of (w.entry_count + 1) session wanted w.ports)) ≡ true
+offered-rise :
+    (w : World) (session : ℕ) (wanted : Port → List Frame) → IsNumbered w
+    → dests_rise (dests_of (offers_of (w.entry_count + 1) session wanted w.ports)) ≡ true
 offered-rise w session wanted numbered =
-    rise-dests 0 (dests_of (offers_of (w.entry_count + 1) session wanted w.ports)) w.entry_count (rise-offers 0 (w.entry_count + 1) session wanted w.ports w.entry_count numbered.ports_rise)
+    rise-dests 0 (dests_of (offers_of (w.entry_count + 1) session wanted w.ports)) w.entry_count
+    (rise-offers 0 (w.entry_count + 1) session wanted w.ports w.entry_count numbered.ports_rise)
 
-printed-refused : (w : World) (asked : SessionId) (name : List ℕ) (tx rx extra : ℕ) (fault : OpenFault) → open_refusal w name tx rx extra ≡ Some fault → IsName name
+printed-refused :
+    (w : World) (asked : SessionId) (name : List ℕ) (tx rx extra : ℕ) (fault : OpenFault)
+    → open_refusal w name tx rx extra ≡ Some fault → IsName name
     → ((asked.0 == asked.0) && (is_name name && is_refusal fault)) ≡ true
 printed-refused w asked name tx rx extra fault e named =
-    let well : IsRefusedWell (open_refusal w name tx rx extra) = room-well (name_refusal w.ports name tx rx extra) (tx + rx + extra) (free_count w)
-    (name-refusal-well (are_sizes name tx rx extra) (finds_switches_full w.ports name) (finds_ports_full w.ports name) (list_any (has_name name) w.ports)) in
-    both (asked.0 == asked.0) (is_name name && is_refusal fault) (eq-eqb asked.0 asked.0 refl) (both (is_name name) (is_refusal fault) named (subst IsRefusedWell e well))
+    let well : IsRefusedWell (open_refusal w name tx rx extra) = room-well
+    (name_refusal w.ports name tx rx extra) (tx + rx + extra) (free_count w)
+    (name-refusal-well (are_sizes name tx rx extra) (finds_switches_full w.ports name)
+    (finds_ports_full w.ports name) (list_any (has_name name) w.ports)) in
+    both (asked.0 == asked.0) (is_name name && is_refusal fault) (eq-eqb asked.0 asked.0 refl)
+    (both (is_name name) (is_refusal fault) named (subst IsRefusedWell e well))
 
 watch-named : (target : List ℕ) (port : Port) → can_watch target port ≡ true → is_name target ≡ true
 watch-named target port can =
-    let parts = and_parts (is_monitor_name port.name) (is_name target && not (is_monitor_name target)) can in
+    let parts =
+    and_parts (is_monitor_name port.name) (is_name target && not (is_monitor_name target)) can in
     (and_parts (is_name target) (not (is_monitor_name target)) parts.1).0
 
-printed-quiet : (s : Standing) (n : ℕ) (ask : Ask) (session : ℕ) (reply : Reply) → IsQuiet s ask session reply → IsTrue (is_printable n session ask reply)
-printed-quiet s n _ _ _ (refused_open session name tx rx extra fault can e) = printed-refused s.world session name tx rx extra fault e can.named
+printed-quiet :
+    (s : Standing) (n : ℕ) (ask : Ask) (session : ℕ) (reply : Reply) → IsQuiet s ask session reply
+    → IsTrue (is_printable n session ask reply)
+printed-quiet s n _ _ _ (refused_open session name tx rx extra fault can e) =
+    printed-refused s.world session name tx rx extra fault e can.named
 printed-quiet s n _ _ _ (resets at side fault port e can) =
-    (and_parts (is_check_fault fault) (fits_fault fault) (and_parts (has_ring side port) (is_check_fault fault && fits_fault fault) can).1).0
+    (and_parts (is_check_fault fault) (fits_fault fault)
+    (and_parts (has_ring side port) (is_check_fault fault && fits_fault fault) can).1).0
 printed-quiet s n _ _ _ (finds_no_peer at offered port e few gone) = refl
-printed-quiet s n _ _ _ (finds_no_target at target sides port e can none) = watch-named target port can
-printed-quiet s n _ _ _ (finds_watched at target sides port found watch e can there some) = watch-named target port can
+printed-quiet s n _ _ _ (finds_no_target at target sides port e can none) =
+    watch-named target port can
+printed-quiet s n _ _ _ (finds_watched at target sides port found watch e can there some) =
+    watch-named target port can
 printed-quiet s n _ _ _ (counts at port e) = refl
 
 -- frames that were taken bear no mark
-unmarked : (items : List Item) → list_all is_pipe_item items ≡ true → list_all is_unmarked items ≡ true
+unmarked :
+    (items : List Item) → list_all is_pipe_item items ≡ true → list_all is_unmarked items ≡ true
 unmarked [] e = refl
 unmarked (item ∷ items) e =
     let parts = and_parts (is_pipe_item item) (list_all is_pipe_item items) e in
     let here = and_parts (fits_buffer item.bytes) (not item.bytes.no_learn) parts.0 in
     both (is_unmarked item) (list_all is_unmarked items) here.1 (unmarked items parts.1)
 
-printed-received : (n session : ℕ) (ask : Ask) (at : PortId) (back : List ℕ) (count : ℕ) (to : List Dest) → Receives ask at back → dests_rise to ≡ true
+printed-received :
+    (n session : ℕ) (ask : Ask) (at : PortId) (back : List ℕ) (count : ℕ) (to : List Dest)
+    → Receives ask at back → dests_rise to ≡ true
     → IsTrue (is_printable n session ask (Gave count to))
 printed-received n session _ _ _ count to (by_sync at back) rise = rise
 printed-received n session _ _ _ count to (by_get at back) rise = rise
@@ -138,17 +174,29 @@ Printed s ask made = IsTrue (is_printable (s.world.entry_count + 1) made.session
 printed-kinds : (s : Standing) → Numbered s → EachKind s (Printed s)
 printed-kinds s numbered = record {
   enters = λ user fits. eq-eqb (s.world.entry_count + 1) (s.world.entry_count + 1) refl;
-  quiet = λ ask session reply quiet. printed-quiet s (s.world.entry_count + 1) ask session reply quiet;
+  quiet =
+      λ ask session reply quiet. printed-quiet s (s.world.entry_count + 1) ask session reply quiet;
   opens = λ session name tx rx extra can refusal. printed-open session name can.named;
-  sends = λ from frames port e can settled. offered-rise s.world port.session (wanted_frames port (transmit_monitor s.world port.id) (named_of s.world port frames)) numbered;
-  grants = λ origin to offer first same. printed-grant (open_port s.world.ports offer.to) offer.frames (s.world.entry_count + 1) offer.session origin to;
+  sends =
+      λ from frames port e can settled.
+      offered-rise s.world port.session
+      (wanted_frames port (transmit_monitor s.world port.id) (named_of s.world port frames))
+      numbered;
+  grants =
+      λ origin to offer first same. printed-grant (open_port s.world.ports offer.to) offer.frames
+      (s.world.entry_count + 1) offer.session origin to;
   completes = λ lease lot e. refl;
   receives = λ ask at back port receives e can.
-      printed-received (s.world.entry_count + 1) port.session ask at back (length (delivered_frames port)) (dests_of (offers_of_sync s.world port)) receives
-      (offered-rise s.world port.session (monitored_frames (receive_monitor s.world port.id) (delivered_frames port)) numbered);
+      printed-received (s.world.entry_count + 1) port.session ask at back
+      (length (delivered_frames port)) (dests_of (offers_of_sync s.world port)) receives
+      (offered-rise s.world port.session
+      (monitored_frames (receive_monitor s.world port.id) (delivered_frames port)) numbered);
   puts = λ at offered items port peer e can found.
-      both (list_all is_unmarked items) (dests_rise (dests_of (offers_of_put s.world port (frames_of_items items)))) (unmarked items can.sound)
-      (offered-rise s.world port.session (monitored_frames (transmit_monitor s.world port.id) (frames_of_items items)) numbered);
+      both (list_all is_unmarked items)
+      (dests_rise (dests_of (offers_of_put s.world port (frames_of_items items))))
+      (unmarked items can.sound)
+      (offered-rise s.world port.session
+      (monitored_frames (transmit_monitor s.world port.id) (frames_of_items items)) numbered);
   watches = λ at target sides port found e can there none. watch-named target port can;
   shuts = λ at port e settled. refl;
   finishes = λ at bufs chain port fits e can out. refl;
@@ -158,16 +206,25 @@ printed-kinds s numbered = record {
 abbrev IsPrinted : ℕ → Entry → Standing → Type 0
 IsPrinted n e left = IsPrintable n e
 
-printed-entry : (s : Standing) (n : ℕ) (e : Entry) → s.world.entry_count + 1 ≡ n → Numbered s → Follows s e → IsPrintable n e
+printed-entry :
+    (s : Standing) (n : ℕ) (e : Entry) → s.world.entry_count + 1 ≡ n → Numbered s → Follows s e
+    → IsPrintable n e
 printed-entry s n e is numbered follows =
-    subst (λ (k : ℕ). IsPrintable k e) is (follows-by s (IsPrinted (s.world.entry_count + 1)) e follows (printed-kinds s numbered))
+    subst (λ (k : ℕ). IsPrintable k e) is
+    (follows-by s (IsPrinted (s.world.entry_count + 1)) e follows (printed-kinds s numbered))
 
-printed-from : (s : Standing) (n : ℕ) (h : List Entry) → s.world.entry_count + 1 ≡ n → Numbered s → IsLegalFrom s h → ArePrintable n h
+printed-from :
+    (s : Standing) (n : ℕ) (h : List Entry) → s.world.entry_count + 1 ≡ n → Numbered s
+    → IsLegalFrom s h → ArePrintable n h
 printed-from s n [] is numbered legal = tt
 printed-from s n (e ∷ es) is numbered legal =
     let count = count-standing_after s e (recorded_step s e.ask e.reply) in
-    let next : (after s e).world.entry_count + 1 ≡ n + 1 = omega (arith, count, is) in
-    (printed-entry s n e is numbered legal.0, printed-from (after s e) (n + 1) es next (numbered_entry s e numbered) legal.1)
+    let next : (after s e).world.entry_count + 1 ≡ n + 1 = omega (arith, count, is) in (
+      printed-entry s n e is numbered legal.0,
+      printed-from (after s e) (n + 1) es next
+          (numbered_entry s e numbered) legal.1,
+    )
 
 pub legal-printable : LegalHistoriesArePrintable
-legal-printable pool h legal = printed-from (fresh_standing pool) 1 h refl (world-numbered pool []) legal
+legal-printable pool h legal =
+    printed-from (fresh_standing pool) 1 h refl (world-numbered pool []) legal

@@ -1,5 +1,5 @@
--- Numbers that rise strictly, and lists of records whose keys do: a change at one key is a change at
--- one place.
+-- Numbers that rise strictly, and lists of records whose keys do: a change at one key is a change
+-- at one place.
 use Rattle.std.proofs.Common.{ℕ, zero, suc, ◌<◌, ◌≤◌, ◌≡◌, Bool, true, false, ◌==◌, List, [], ◌∷◌, ◌++◌, map, drop, slice_get, slice_set, Some, find, refl, ◌∙◌, ap, arith, ◌+◌, take}
 use Rattle.std.specs.List.{AllByRecursion as Each, range_with_len}
 use Rattle.std.proofs.lemmas.Bool.{ne_eqb}
@@ -13,20 +13,25 @@ rise-bounds low (n ∷ ns) high r =
     let rest : n ≤ high = rise-bounds n ns high r.1 in
     omega arith
 
-pub rise-within : {X : Type 0} (key : X → ℕ) (low : ℕ) (xs : List X) (high : ℕ) → Rise low (map key xs) high
+pub rise-within :
+    {X : Type 0} (key : X → ℕ) (low : ℕ) (xs : List X) (high : ℕ) → Rise low (map key xs) high
     → Each (λ x. key x ≤ high) xs
 rise-within key low [] high r = tt
-rise-within key low (x ∷ xs) high r = (rise-bounds (key x) (map key xs) high r.1, rise-within key (key x) xs high r.1)
+rise-within key low (x ∷ xs) high r =
+    (rise-bounds (key x) (map key xs) high r.1, rise-within key (key x) xs high r.1)
 
 -- from a lower bound, and up to a higher one
-pub rise-wider : (lower low : ℕ) (ns : List ℕ) (high higher : ℕ) → lower ≤ low → high ≤ higher → Rise low ns high → Rise lower ns higher
+pub rise-wider :
+    (lower low : ℕ) (ns : List ℕ) (high higher : ℕ) → lower ≤ low → high ≤ higher → Rise low ns high
+    → Rise lower ns higher
 rise-wider lower low [] high higher below above r = let all : low ≤ high = r in omega arith
 rise-wider lower low (n ∷ ns) high higher below above r =
     let first : low < n = r.0 in
     let same : n ≤ n = omega arith in
     (omega arith, rise-wider n n ns high higher same above r.1)
 
-pub rise-push : (low : ℕ) (ns : List ℕ) (high n : ℕ) → high < n → Rise low ns high → Rise low (ns ++ n ∷ []) n
+pub rise-push :
+    (low : ℕ) (ns : List ℕ) (high n : ℕ) → high < n → Rise low ns high → Rise low (ns ++ n ∷ []) n
 rise-push low [] high n above r = let all : low ≤ high = r in (omega arith, omega arith)
 rise-push low (m ∷ ms) high n above r = (r.0, rise-push m ms high n above r.1)
 
@@ -47,7 +52,8 @@ rise-slice_get key low (y ∷ ys) high (suc i) x r e =
 
 -- what changes one key only leaves elements of higher keys as they are
 map-above_key : {X : Type 0} (key : X → ℕ) (change : X → X) (k low : ℕ) (xs : List X) (high : ℕ)
-    → k ≤ low → Rise low (map key xs) high → ((y : X) → (key y == k) ≡ false → change y ≡ y) → map change xs ≡ xs
+    → k ≤ low → Rise low (map key xs) high → ((y : X) → (key y == k) ≡ false → change y ≡ y)
+    → map change xs ≡ xs
 map-above_key key change k low [] high below r keeps = refl
 map-above_key key change k low (y ∷ ys) high below r keeps =
     let first : low < key y = r.0 in
@@ -57,14 +63,17 @@ map-above_key key change k low (y ∷ ys) high below r keeps =
     cc
 
 -- a change at one element's key is a change at its place
-pub map-at_key : {X : Type 0} (key : X → ℕ) (change : X → X) (low : ℕ) (xs : List X) (high i : ℕ) (x : X)
-    → Rise low (map key xs) high → slice_get xs i ≡ Some x → ((y : X) → (key y == key x) ≡ false → change y ≡ y)
+pub map-at_key :
+    {X : Type 0} (key : X → ℕ) (change : X → X) (low : ℕ) (xs : List X) (high i : ℕ) (x : X)
+    → Rise low (map key xs) high → slice_get xs i ≡ Some x
+    → ((y : X) → (key y == key x) ≡ false → change y ≡ y)
     → map change xs ≡ slice_set xs i (change x)
 map-at_key key change low [] high i x r e keeps = refl
 map-at_key key change low (y ∷ ys) high zero x r e keeps =
     let same : y ≡ x = cc in
     let below : key x ≤ key y = rw same (omega arith) in
-    let rest : map change ys ≡ ys = map-above_key key change (key x) (key y) ys high below r.1 keeps in
+    let rest : map change ys ≡ ys =
+    map-above_key key change (key x) (key y) ys high below r.1 keeps in
     let here : change y ≡ change x = ap change same in
     cc
 map-at_key key change low (y ∷ ys) high (suc i) x r e keeps =
@@ -75,8 +84,10 @@ map-at_key key change low (y ∷ ys) high (suc i) x r e keeps =
     cc
 
 -- a test that only the element's key passes finds the element
-pub find-at_key : {X : Type 0} (key : X → ℕ) (test : X → Bool) (low : ℕ) (xs : List X) (high i : ℕ) (x : X)
-    → Rise low (map key xs) high → slice_get xs i ≡ Some x → test x ≡ true → ((y : X) → (key y == key x) ≡ false → test y ≡ false)
+pub find-at_key :
+    {X : Type 0} (key : X → ℕ) (test : X → Bool) (low : ℕ) (xs : List X) (high i : ℕ) (x : X)
+    → Rise low (map key xs) high → slice_get xs i ≡ Some x → test x ≡ true
+    → ((y : X) → (key y == key x) ≡ false → test y ≡ false)
     → find test xs ≡ Some x
 find-at_key key test low [] high i x r e hit others = cc
 find-at_key key test low (y ∷ ys) high zero x r e hit others =
@@ -103,14 +114,20 @@ rise-range low (suc count) =
     let next : suc count + low ≡ count + (low + 1) = omega arith in
     (omega arith, rw next (rise-range (low + 1) count))
 
-pub rise-above : (low : ℕ) (ns : List ℕ) (high : ℕ) → Rise low ns high → Each (λ (n : ℕ). low < n) ns
+pub rise-above :
+    (low : ℕ) (ns : List ℕ) (high : ℕ) → Rise low ns high → Each (λ (n : ℕ). low < n) ns
 rise-above low [] high r = tt
 rise-above low (n ∷ ns) high r =
-    let first : low < n = r.0 in
-    (first, each-weaker (λ (m : ℕ). n < m) (λ (m : ℕ). low < m) (λ m above. omega arith) ns (rise-above n ns high r.1))
+    let first : low < n = r.0 in (
+      first,
+      each-weaker (λ (m : ℕ). n < m) (λ (m : ℕ). low < m) (λ m above. omega arith) ns
+          (rise-above n ns high r.1),
+    )
 
 -- what is taken from the front is smaller than what is left
-pub rise-cut : (count low : ℕ) (ns : List ℕ) (high : ℕ) → Rise low ns high → Each (λ (n : ℕ). Each (λ (m : ℕ). n < m) (drop count ns)) (take count ns)
+pub rise-cut :
+    (count low : ℕ) (ns : List ℕ) (high : ℕ) → Rise low ns high
+    → Each (λ (n : ℕ). Each (λ (m : ℕ). n < m) (drop count ns)) (take count ns)
 rise-cut zero low ns high r = tt
 rise-cut (suc count) low [] high r = tt
 rise-cut (suc count) low (n ∷ ns) high r =

@@ -1,6 +1,6 @@
--- What an entry tells of frames brought, wanted and read, where its step is of a kind that several asks
--- have in common, and what a Put tells.
-use Rattle.std.proofs.Common.{ℕ, ◌≡◌, ◌∙◌, ap, ◌+◌, ◌==◌, ◌&&◌, Bool, true, false, cond, List, [], ◌∷◌, Option, None, Some, refl, length}
+-- What an entry tells of frames brought, wanted and read, where its step is of a kind that several
+-- asks have in common, and what a Put tells.
+use Rattle.std.proofs.Common.{ℕ, ◌≡◌, ◌∙◌, ap, ◌+◌, ◌==◌, Bool, true, false, cond, List, [], ◌∷◌, Option, None, Some, refl, length}
 use Rattle.std.proofs.Math.Bool.{and-false, and-true}
 use Rattle.nm_types.specs.Frames.{Frame}
 use Rattle.nm_types.specs.declared.id.PortId.{PortId}
@@ -27,7 +27,9 @@ pub record TellsNothing (w : World) (e : Entry) : Type 0 where
   pub unread : (port : ℕ) → unread_in port e ≡ []
   pub given : (port : ℕ) → given_in port w e ≡ []
   pub gave : (port : ℕ) → gave_in port e ≡ []
-  pub wanted : (number to : ℕ) → wanted_in number to w e ≡ cond {A = List Frame} (w.entry_count + 1 == number) [] []
+  pub wanted :
+      (number to : ℕ)
+      → wanted_in number to w e ≡ cond {A = List Frame} (w.entry_count + 1 == number) [] []
   pub shares : (number to : ℕ) → share_in number to e ≡ []
   pub sent : (port : ℕ) → numbers_in port w e ≡ []
 
@@ -44,11 +46,13 @@ none_wanted : (w : World) (to : ℕ) (found : Option Port) → wanted_of_put w [
 none_wanted w to None = refl
 none_wanted w to (Some port) = at_port (port_at w.ports to)
   where
-    at_port : (at : Option Port) → frames_at (monitored_frames (transmit_monitor w port.id) []) at ≡ []
+    at_port :
+        (at : Option Port) → frames_at (monitored_frames (transmit_monitor w port.id) []) at ≡ []
     at_port None = refl
     at_port (Some p) = none_if (is_monitor (transmit_monitor w port.id) p)
 
-pub tells-nothing : (s : Standing) (ask : Ask) (session : ℕ) (reply : Reply) → IsQuiet s ask session reply
+pub tells-nothing :
+    (s : Standing) (ask : Ask) (session : ℕ) (reply : Reply) → IsQuiet s ask session reply
     → TellsNothing s.world (entry_made ask (unchanged s session reply))
 tells-nothing s _ _ _ (refused_open session name tx rx extra fault can e) = record {
   granted = λ port. refl;
@@ -82,9 +86,13 @@ tells-nothing s _ _ _ (finds_no_peer at offered sender e few gone) = record {
   unread = λ port. refl;
   given = λ port. same_if (puts_to_port s.world.ports at.0 port) [];
   gave = λ port. refl;
-  wanted = λ number to. ap (λ (xs : List Frame). cond (s.world.entry_count + 1 == number) xs []) (none_wanted s.world to (open_port s.world.ports at.0));
+  wanted =
+      λ number to. ap (λ (xs : List Frame). cond (s.world.entry_count + 1 == number) xs [])
+      (none_wanted s.world to (open_port s.world.ports at.0));
   shares = λ number to. refl;
-  sent = λ port. ap (λ (b : Bool). cond b ((s.world.entry_count + 1) ∷ []) []) (and-false (at.0 == port));
+  sent =
+      λ port. ap (λ (b : Bool). cond b ((s.world.entry_count + 1) ∷ []) [])
+      (and-false (at.0 == port));
 }
 tells-nothing s _ _ _ (finds_no_target at target sides port e can none) = record {
   granted = λ port. refl;
@@ -127,16 +135,23 @@ tells-nothing s _ _ _ (counts at port e) = record {
 pub record TellsReceived (w : World) (at : ℕ) (back : List ℕ) (e : Entry) : Type 0 where
   pub granted : (port : ℕ) → granted_in port w e ≡ []
   pub put : (port : ℕ) → put_in port w e ≡ []
-  pub read : (port : ℕ) → read_in port w e ≡ cond (at == port) (frames_at delivered_frames (open_port w.ports at)) []
+  pub read :
+      (port : ℕ)
+      → read_in port w e ≡ cond (at == port) (frames_at delivered_frames (open_port w.ports at)) []
   pub returned : (port : ℕ) → returned_in port e ≡ cond (at == port) (length back ∷ []) []
   pub unread : (port : ℕ) → unread_in port e ≡ []
   pub given : (port : ℕ) → given_in port w e ≡ []
   pub gave : (port : ℕ) → gave_in port e ≡ cond (at == port) (count_gave e.reply) []
-  pub wanted : (number to : ℕ) → wanted_in number to w e ≡ cond (w.entry_count + 1 == number) (wanted_of_sync w to (open_port w.ports at)) []
+  pub wanted :
+      (number to : ℕ)
+      → wanted_in number to w e ≡ cond (w.entry_count + 1 == number)
+      (wanted_of_sync w to (open_port w.ports at)) []
   pub shares : (number to : ℕ) → share_in number to e ≡ []
   pub sent : (port : ℕ) → numbers_in port w e ≡ cond (at == port) ((w.entry_count + 1) ∷ []) []
 
-pub tells-received : (s : Standing) (ask : Ask) (at : PortId) (back : List ℕ) (made : Outcome) → Receives ask at back → TellsReceived s.world at.0 back (entry_made ask made)
+pub tells-received :
+    (s : Standing) (ask : Ask) (at : PortId) (back : List ℕ) (made : Outcome) → Receives ask at back
+    → TellsReceived s.world at.0 back (entry_made ask made)
 tells-received s _ _ _ made (by_sync at back) = record {
   granted = λ port. refl;
   put = λ port. refl;
@@ -163,32 +178,53 @@ tells-received s _ _ _ made (by_get at back) = record {
 }
 
 -- a Put whose other end took these items
-pub record TellsPut (w : World) (at : ℕ) (items : List Item) (peer : Port) (e : Entry) : Type 0 where
-  pub granted : (port : ℕ) → granted_in port w e ≡ []
-  pub put : (port : ℕ) → put_in port w e ≡ cond (peer.id == port) (record { origin = w.entry_count + 1; frames = frames_of_items items } ∷ []) []
-  pub read : (port : ℕ) → read_in port w e ≡ []
-  pub returned : (port : ℕ) → returned_in port e ≡ []
-  pub unread : (port : ℕ) → unread_in port e ≡ []
-  pub given : (port : ℕ) → given_in port w e ≡ cond (peer.id == port) (length items ∷ []) []
-  pub gave : (port : ℕ) → gave_in port e ≡ []
-  pub wanted : (number to : ℕ) → wanted_in number to w e ≡ cond (w.entry_count + 1 == number) (wanted_of_put w (frames_of_items items) to (open_port w.ports at)) []
-  pub shares : (number to : ℕ) → share_in number to e ≡ []
-  pub sent : (port : ℕ) → numbers_in port w e ≡ cond (at == port) ((w.entry_count + 1) ∷ []) []
+pub record TellsPut (w : World) (at : ℕ) (items : List Item) (peer : Port) (e : Entry) : Type 0
+  where
+    pub granted : (port : ℕ) → granted_in port w e ≡ []
+    pub put :
+        (port : ℕ)
+        → put_in port w e ≡ cond (peer.id == port)
+        (record { origin = w.entry_count + 1; frames = frames_of_items items } ∷ []) []
+    pub read : (port : ℕ) → read_in port w e ≡ []
+    pub returned : (port : ℕ) → returned_in port e ≡ []
+    pub unread : (port : ℕ) → unread_in port e ≡ []
+    pub given : (port : ℕ) → given_in port w e ≡ cond (peer.id == port) (length items ∷ []) []
+    pub gave : (port : ℕ) → gave_in port e ≡ []
+    pub wanted :
+        (number to : ℕ)
+        → wanted_in number to w e ≡ cond (w.entry_count + 1 == number)
+        (wanted_of_put w (frames_of_items items) to (open_port w.ports at)) []
+    pub shares : (number to : ℕ) → share_in number to e ≡ []
+    pub sent : (port : ℕ) → numbers_in port w e ≡ cond (at == port) ((w.entry_count + 1) ∷ []) []
 
-pub goes-to : (ports : List Port) (at to : ℕ) (port peer : Port) → open_port ports at ≡ Some port → peer_of ports port ≡ Some peer → puts_to_port ports at to ≡ (peer.id == to)
-goes-to ports at to port peer e found = ap (λ (o : Option Port). is_port_at to (peer_of_found ports o)) e ∙ ap (is_port_at to) found
+pub goes-to :
+    (ports : List Port) (at to : ℕ) (port peer : Port) → open_port ports at ≡ Some port
+    → peer_of ports port ≡ Some peer → puts_to_port ports at to ≡ (peer.id == to)
+goes-to ports at to port peer e found =
+    ap (λ (o : Option Port). is_port_at to (peer_of_found ports o)) e ∙ ap (is_port_at to) found
 
-pub tells-put : (s : Standing) (at : PortId) (offered : ℕ) (items : List Item) (port peer : Port) → open_port s.world.ports at.0 ≡ Some port → peer_of s.world.ports port ≡ Some peer
-    → TellsPut s.world at.0 items peer (entry_made (PutKept at offered) (put_step s items port peer))
+pub tells-put :
+    (s : Standing) (at : PortId) (offered : ℕ) (items : List Item) (port peer : Port)
+    → open_port s.world.ports at.0 ≡ Some port → peer_of s.world.ports port ≡ Some peer
+    → TellsPut s.world at.0 items peer
+    (entry_made (PutKept at offered) (put_step s items port peer))
 tells-put s at offered items port peer e found = record {
   granted = λ port. refl;
-  put = λ to. ap (λ (b : Bool). cond b (record { origin = s.world.entry_count + 1; frames = frames_of_items items } ∷ []) []) (goes-to s.world.ports at.0 to port peer e found);
+  put =
+      λ to.
+      ap
+      (λ (b : Bool).
+      cond b (record { origin = s.world.entry_count + 1; frames = frames_of_items items } ∷ []) [])
+      (goes-to s.world.ports at.0 to port peer e found);
   read = λ port. refl;
   returned = λ port. refl;
   unread = λ port. refl;
-  given = λ to. ap (λ (b : Bool). cond b (length items ∷ []) []) (goes-to s.world.ports at.0 to port peer e found);
+  given =
+      λ to. ap (λ (b : Bool). cond b (length items ∷ []) [])
+      (goes-to s.world.ports at.0 to port peer e found);
   gave = λ port. refl;
   wanted = λ number to. refl;
   shares = λ number to. refl;
-  sent = λ to. ap (λ (b : Bool). cond b ((s.world.entry_count + 1) ∷ []) []) (and-true (at.0 == to));
+  sent =
+      λ to. ap (λ (b : Bool). cond b ((s.world.entry_count + 1) ∷ []) []) (and-true (at.0 == to));
 }

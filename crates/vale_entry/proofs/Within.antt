@@ -23,11 +23,11 @@ use Rattle.vale_entry.specs.World.{World, Port, Pair, Offer, transmit_monitor, r
 use Rattle.vale_entry.specs.Learning.{is_short, learned}
 use Rattle.vale_entry.specs.Lookup.{Named, named_frames, is_lone}
 use Rattle.vale_entry.specs.Offers.{offers_of, dests_of, is_wanted_at, frame_of, wanted_frames, wanted_if, monitored_frames, is_monitor, is_offer_of}
-use Rattle.vale_entry.specs.Grant.{first_offer, longest_fitting, grant_reply_at, without_first}
-use Rattle.vale_entry.specs.Delivery.{ready_lots, delivered_frames}
+use Rattle.vale_entry.specs.Grant.{grant_reply_at}
+use Rattle.vale_entry.specs.Delivery.{delivered_frames}
 use Rattle.vale_entry.specs.Pipe.{peer_of, taken_count, frame_of_item, frames_of_items, puts_to_port}
-use Rattle.vale_entry.specs.Counters.{counts_if, count_sent, count_shared, count_gave_at, count_put, count_taken_at, counted_in, with_counted, opened_counts, finished_counts, counts_moved, counts_after}
-use Rattle.vale_entry.specs.Legal.{Standing, Outcome, standing_of, world_of, fresh_standing, named_of, can_send, offers_of_send, offers_of_sync, unchanged, enter_step, open_step_by, send_step, grant_step, done_step, sync_step, put_step, watch_step, shut_step, finish_step, leave_step, IsLegal, Follows}
+use Rattle.vale_entry.specs.Counters.{counts_if, count_sent, count_shared, count_gave_at, counted_in, with_counted}
+use Rattle.vale_entry.specs.Legal.{Standing, Outcome, standing_of, world_of, named_of, can_send, offers_of_send, offers_of_sync, unchanged, enter_step, open_step_by, send_step, grant_step, done_step, sync_step, put_step, watch_step, shut_step, finish_step, leave_step, IsLegal, Follows}
 use Rattle.vale_entry.specs.Laws.{id_of_port, IsThere, IsPortOf, HasRoom}
 use Rattle.vale_entry.proofs.Each.{each-append, each-map, each-all, each-find, each-offered, each-without_first}
 use Rattle.vale_entry.proofs.ListLaws.{place-of, each-at, sum-at}
@@ -52,14 +52,18 @@ pub record IsPortWithin (count pool : ℕ) (port : Port) : Type 0 where
   pub ring : port.rx ≤ pool
   pub line : size_of_line port.line ≤ pool
 
-pub ports-within : (s : Standing) → Numbered s → Each (λ (p : Port). p.id ≤ s.world.entry_count) s.world.ports
+pub ports-within :
+    (s : Standing) → Numbered s → Each (λ (p : Port). p.id ≤ s.world.entry_count) s.world.ports
 ports-within s n = rise-within id_of_port 0 s.world.ports s.world.entry_count n.ports_rise
 
-pub port-within : (s : Standing) (i : ℕ) (port : Port) → Numbered s → Roomy s → slice_get s.world.ports i ≡ Some port
+pub port-within :
+    (s : Standing) (i : ℕ) (port : Port) → Numbered s → Roomy s
+    → slice_get s.world.ports i ≡ Some port
     → IsPortWithin s.world.entry_count s.world.pool port
 port-within s i port n roomy e =
     let w = s.world in
-    let owned : IsThere w.sessions port.session = each-at (IsPortOf w.sessions) w.ports i port n.ports_owned e in
+    let owned : IsThere w.sessions port.session =
+    each-at (IsPortOf w.sessions) w.ports i port n.ports_owned e in
     let room : HasRoom port = each-at HasRoom w.ports i port roomy.roomy e in
     let fits = room.fits in
     let whole : buffers_of port ≤ sum_by buffers_of w.ports = sum-at buffers_of w.ports i port e in
@@ -71,7 +75,9 @@ port-within s i port n roomy e =
       line = omega (arith, fits, whole, all);
     }
 
-pub found-within : (s : Standing) (test : Port → Bool) (port : Port) → Numbered s → Roomy s → find test s.world.ports ≡ Some port
+pub found-within :
+    (s : Standing) (test : Port → Bool) (port : Port) → Numbered s → Roomy s
+    → find test s.world.ports ≡ Some port
     → IsPortWithin s.world.entry_count s.world.pool port
 found-within s test port n roomy e =
     let p = place-of test s.world.ports port e in
@@ -83,7 +89,9 @@ length-filter : {X : Type 0} (test : X → Bool) (xs : List X) → length (filte
 length-filter test [] = omega arith
 length-filter test (x ∷ xs) = by_test (test x) (length-filter test xs)
   where
-    by_test : (b : Bool) → length (filter test xs) ≤ length xs → length (cond b (x ∷ filter test xs) (filter test xs)) ≤ length (x ∷ xs)
+    by_test :
+        (b : Bool) → length (filter test xs) ≤ length xs
+        → length (cond b (x ∷ filter test xs) (filter test xs)) ≤ length (x ∷ xs)
     by_test true rest = omega (arith, rest)
     by_test false rest = omega (arith, rest)
 
@@ -93,13 +101,17 @@ length-named ports sender pairs [] = refl
 length-named ports sender pairs (frame ∷ frames) =
     let rest = length-named ports sender (learned sender pairs frame) frames in omega (arith, rest)
 
-pub wanted-few : (sender : Port) (monitor : Option ℕ) (named : List Named) (port : Port) → length (wanted_frames sender monitor named port) ≤ length named
+pub wanted-few :
+    (sender : Port) (monitor : Option ℕ) (named : List Named) (port : Port)
+    → length (wanted_frames sender monitor named port) ≤ length named
 wanted-few sender monitor named port =
     let size = length-map (filter (is_wanted_at sender monitor port) named) frame_of in
     let few = length-filter (is_wanted_at sender monitor port) named in
     omega (arith, size, few)
 
-pub monitored-few : (monitor : Option ℕ) (frames : List Frame) (port : Port) → length (monitored_frames monitor frames port) ≤ length frames
+pub monitored-few :
+    (monitor : Option ℕ) (frames : List Frame) (port : Port)
+    → length (monitored_frames monitor frames port) ≤ length frames
 monitored-few monitor frames port = by_test (is_monitor monitor port)
   where
     by_test : (b : Bool) → length (wanted_if b frames) ≤ length frames
@@ -112,16 +124,25 @@ delivered-few port =
     let each = size_of_frames-length (delivered_frames port) in
     omega (arith, sizes, each)
 
-pub sent-few : (w : World) (frames : List Frame) (port : Port) → can_send w frames port ≡ true → length frames ≤ 1023
+pub sent-few :
+    (w : World) (frames : List Frame) (port : Port) → can_send w frames port ≡ true
+    → length frames ≤ 1023
 sent-few w frames port can =
-    let named = and_parts (is_switch_port_name port.name) (is_settled w port.session && is_sendable frames) can in
+    let named =
+    and_parts (is_switch_port_name port.name) (is_settled w port.session && is_sendable frames) can
+    in
     let settled = and_parts (is_settled w port.session) (is_sendable frames) named.1 in
-    leb-true (length frames) 1023 (and_parts (nat_le (length frames) 1023) (nat_le (size_of_frames frames) 1023 && list_all fits_buffer frames) settled.1).0
+    leb-true (length frames) 1023
+    (and_parts (nat_le (length frames) 1023)
+    (nat_le (size_of_frames frames) 1023 && list_all fits_buffer frames) settled.1).0
 
-pub kept-few : (s : Standing) (offered : ℕ) (items : List Item) (port peer : Port) → CanKeep s offered items port
+pub kept-few :
+    (s : Standing) (offered : ℕ) (items : List Item) (port peer : Port)
+    → CanKeep s offered items port
     → peer_of s.world.ports port ≡ Some peer → length items ≤ 1023
 kept-few s offered items port peer can found =
-    let taken : length items ≡ min offered (space_of peer) = can.taken ∙ ap (λ (o : Option Port). taken_count o offered) found in
+    let taken : length items ≡ min offered (space_of peer) =
+    can.taken ∙ ap (λ (o : Option Port). taken_count o offered) found in
     let few = leb-true offered 1023 can.few in
     omega (arith, taken, few)
 
@@ -130,9 +151,12 @@ kept-few s offered items port peer can found =
 abbrev pub IsShortOffer : Offer → Type 0
 IsShortOffer offer = length offer.frames < 4294967296
 
-pub offers-short : (origin session : ℕ) (wanted : Port → List Frame) (ports : List Port) → ((p : Port) → length (wanted p) < 4294967296)
+pub offers-short :
+    (origin session : ℕ) (wanted : Port → List Frame) (ports : List Port)
+    → ((p : Port) → length (wanted p) < 4294967296)
     → Each IsShortOffer (offers_of origin session wanted ports)
-offers-short origin session wanted ports few = each-offered IsShortOffer origin session wanted ports (each-all _ few ports)
+offers-short origin session wanted ports few =
+    each-offered IsShortOffer origin session wanted ports (each-all _ few ports)
 
 -- Counters.
 
@@ -145,12 +169,26 @@ pub record IsUnder (bound : ℕ) (c : Counts) : Type 0 where
   pub read : c.read ≤ bound
 
 under-zero : (bound : ℕ) → IsUnder bound zero_counts
-under-zero bound = record { sent = omega arith; short = omega arith; lone = omega arith; given = omega arith; full = omega arith; read = omega arith }
+under-zero bound =
+    record {
+      sent = omega arith;
+      short = omega arith;
+      lone = omega arith;
+      given = omega arith;
+      full = omega arith;
+      read = omega arith;
+    }
 
-under-sum : (one two : ℕ) (c more : Counts) → IsUnder one c → IsUnder two more → IsUnder (one + two) (sum_of_counts c more)
+under-sum :
+    (one two : ℕ) (c more : Counts) → IsUnder one c → IsUnder two more
+    → IsUnder (one + two) (sum_of_counts c more)
 under-sum one two c more a b =
-    let a1 = a.sent in let a2 = a.short in let a3 = a.lone in let a4 = a.given in let a5 = a.full in let a6 = a.read in
-    let b1 = b.sent in let b2 = b.short in let b3 = b.lone in let b4 = b.given in let b5 = b.full in let b6 = b.read in
+    let a1 =
+    a.sent in let a2 = a.short in let a3 = a.lone in let a4 = a.given in let a5 = a.full in let a6 =
+    a.read in
+    let b1 =
+    b.sent in let b2 = b.short in let b3 = b.lone in let b4 = b.given in let b5 = b.full in let b6 =
+    b.read in
     record {
       sent = omega (arith, a1, b1);
       short = omega (arith, a2, b2);
@@ -168,8 +206,18 @@ under-if bound false c k = under-zero bound
 abbrev IsCountedWithin : World → Entry → Type 0
 IsCountedWithin w e = (port : ℕ) → IsUnder 4294967295 (counted_in port w e)
 
-shared-under : (found : Option Port) (frames : List Frame) → length frames < 4294967296 → IsUnder 4294967295 (count_shared (grant_reply_at found frames))
-shared-under None frames few = record { sent = omega arith; short = omega arith; lone = omega arith; given = omega arith; full = omega arith; read = omega arith }
+shared-under :
+    (found : Option Port) (frames : List Frame) → length frames < 4294967296
+    → IsUnder 4294967295 (count_shared (grant_reply_at found frames))
+shared-under None frames few =
+    record {
+      sent = omega arith;
+      short = omega arith;
+      lone = omega arith;
+      given = omega arith;
+      full = omega arith;
+      read = omega arith;
+    }
 shared-under (Some port) frames few =
     let fits = fitting-few (space_of port) frames in
     record {
@@ -182,11 +230,45 @@ shared-under (Some port) frames few =
     }
 
 put-under : (n : ℕ) (one two : Bool) → n ≤ 1023
-    → IsUnder 4294967295 (sum_of_counts (counts_if one (record zero_counts { sent = n })) (counts_if two (record zero_counts { given = n })))
-put-under n true true few = record { sent = omega (arith, few); short = omega arith; lone = omega arith; given = omega (arith, few); full = omega arith; read = omega arith }
-put-under n true false few = record { sent = omega (arith, few); short = omega arith; lone = omega arith; given = omega arith; full = omega arith; read = omega arith }
-put-under n false true few = record { sent = omega arith; short = omega arith; lone = omega arith; given = omega (arith, few); full = omega arith; read = omega arith }
-put-under n false false few = record { sent = omega arith; short = omega arith; lone = omega arith; given = omega arith; full = omega arith; read = omega arith }
+    → IsUnder 4294967295
+    (sum_of_counts (counts_if one (record zero_counts { sent = n }))
+    (counts_if two (record zero_counts { given = n })))
+put-under n true true few =
+    record {
+      sent = omega (arith, few);
+      short = omega arith;
+      lone = omega arith;
+      given = omega (arith, few);
+      full = omega arith;
+      read = omega arith;
+    }
+put-under n true false few =
+    record {
+      sent = omega (arith, few);
+      short = omega arith;
+      lone = omega arith;
+      given = omega arith;
+      full = omega arith;
+      read = omega arith;
+    }
+put-under n false true few =
+    record {
+      sent = omega arith;
+      short = omega arith;
+      lone = omega arith;
+      given = omega (arith, few);
+      full = omega arith;
+      read = omega arith;
+    }
+put-under n false false few =
+    record {
+      sent = omega arith;
+      short = omega arith;
+      lone = omega arith;
+      given = omega arith;
+      full = omega arith;
+      read = omega arith;
+    }
 
 sent-under : (frames : List Frame) (lone : ℕ) (to : List Dest) → length frames ≤ 1023 → lone ≤ 1023
     → IsUnder 4294967295 (count_sent frames (Offered (count_by is_short frames) lone to))
@@ -201,37 +283,73 @@ sent-under frames lone to few alone =
       read = omega arith;
     }
 
-gave-under : (n pool : ℕ) (to : List Dest) → n ≤ pool → pool < 4294967296 → IsUnder 4294967295 (count_gave_at (Gave n to))
-gave-under n pool to few small = record { sent = omega arith; short = omega arith; lone = omega arith; given = omega arith; full = omega arith; read = omega (arith, few, small) }
+gave-under :
+    (n pool : ℕ) (to : List Dest) → n ≤ pool → pool < 4294967296
+    → IsUnder 4294967295 (count_gave_at (Gave n to))
+gave-under n pool to few small =
+    record {
+      sent = omega arith;
+      short = omega arith;
+      lone = omega arith;
+      given = omega arith;
+      full = omega arith;
+      read = omega (arith, few, small);
+    }
 
-nothing-under : (w : World) (ask : Ask) (session : ℕ) (reply : Reply) (s : Standing) → IsQuiet s ask session reply → IsCountedWithin w (entry_made ask (unchanged s session reply))
-nothing-under w _ _ _ s (refused_open session name tx rx extra fault can e) port = under-zero 4294967295
+nothing-under :
+    (w : World) (ask : Ask) (session : ℕ) (reply : Reply) (s : Standing)
+    → IsQuiet s ask session reply → IsCountedWithin w (entry_made ask (unchanged s session reply))
+nothing-under w _ _ _ s (refused_open session name tx rx extra fault can e) port =
+    under-zero 4294967295
 nothing-under w _ _ _ s (resets at side fault found can e) port = under-zero 4294967295
 nothing-under w _ _ _ s (finds_no_peer at offered found e few gone) port =
-    under-sum 0 4294967295 _ _ (under-if 0 (at.0 == port) zero_counts (under-zero 0)) (under-if 4294967295 (puts_to_port w.ports at.0 port) zero_counts (under-zero 4294967295))
-nothing-under w _ _ _ s (finds_no_target at target sides found can e none) port = under-zero 4294967295
-nothing-under w _ _ _ s (finds_watched at target sides found target_port watch e can there some) port = under-zero 4294967295
+    under-sum 0 4294967295 _ _ (under-if 0 (at.0 == port) zero_counts (under-zero 0))
+    (under-if 4294967295 (puts_to_port w.ports at.0 port) zero_counts (under-zero 4294967295))
+nothing-under w _ _ _ s (finds_no_target at target sides found can e none) port =
+    under-zero 4294967295
+nothing-under w _ _ _ s (finds_watched at target sides found target_port watch e can there some)
+    port =
+    under-zero 4294967295
 nothing-under w _ _ _ s (counts at found e) port = under-zero 4294967295
 
-read-under : (w : World) (ask : Ask) (at : PortId) (back : List ℕ) (made : Outcome) → Receives ask at back → IsUnder 4294967295 (count_gave_at made.reply)
+read-under :
+    (w : World) (ask : Ask) (at : PortId) (back : List ℕ) (made : Outcome) → Receives ask at back
+    → IsUnder 4294967295 (count_gave_at made.reply)
     → IsCountedWithin w (entry_made ask made)
-read-under w _ _ _ made (by_sync at back) k port = under-if 4294967295 (at.0 == port) (count_gave_at made.reply) k
-read-under w _ _ _ made (by_get at back) k port = under-if 4294967295 (at.0 == port) (count_gave_at made.reply) k
+read-under w _ _ _ made (by_sync at back) k port =
+    under-if 4294967295 (at.0 == port) (count_gave_at made.reply) k
+read-under w _ _ _ made (by_get at back) k port =
+    under-if 4294967295 (at.0 == port) (count_gave_at made.reply) k
 
 abbrev pub IsPortUnder : ℕ → PortCounts → Type 0
 IsPortUnder bound counted = IsUnder bound counted.counts
 
-counts-under : (w : World) (e : Entry) (cs : List PortCounts) → IsCountedWithin w e → Each (IsPortUnder (w.entry_count * 4294967296)) cs
+counts-under :
+    (w : World) (e : Entry) (cs : List PortCounts) → IsCountedWithin w e
+    → Each (IsPortUnder (w.entry_count * 4294967296)) cs
     → Each (IsPortUnder ((w.entry_count + 1) * 4294967296)) (map (with_counted w e) cs)
 counts-under w e cs k all =
-    each-map (IsPortUnder (w.entry_count * 4294967296)) (IsPortUnder ((w.entry_count + 1) * 4294967296)) (with_counted w e)
-    (λ c here. wider (w.entry_count * 4294967296 + 4294967295) ((w.entry_count + 1) * 4294967296) _ (omega arith)
-    (under-sum (w.entry_count * 4294967296) 4294967295 c.counts (counted_in c.port w e) here (k c.port))) cs all
+    each-map (IsPortUnder (w.entry_count * 4294967296))
+    (IsPortUnder ((w.entry_count + 1) * 4294967296)) (with_counted w e)
+    (λ c here.
+    wider (w.entry_count * 4294967296 + 4294967295) ((w.entry_count + 1) * 4294967296) _
+    (omega arith)
+    (under-sum (w.entry_count * 4294967296) 4294967295 c.counts (counted_in c.port w e) here
+    (k c.port))) cs all
   where
     wider : (low high : ℕ) (c : Counts) → low ≤ high → IsUnder low c → IsUnder high c
     wider low high c more a =
-        let a1 = a.sent in let a2 = a.short in let a3 = a.lone in let a4 = a.given in let a5 = a.full in let a6 = a.read in
-        record { sent = omega (arith, more, a1); short = omega (arith, more, a2); lone = omega (arith, more, a3); given = omega (arith, more, a4); full = omega (arith, more, a5); read = omega (arith, more, a6) }
+        let a1 =
+        a.sent in let a2 = a.short in let a3 = a.lone in let a4 = a.given in let a5 = a.full in let
+        a6 = a.read in
+        record {
+          sent = omega (arith, more, a1);
+          short = omega (arith, more, a2);
+          lone = omega (arith, more, a3);
+          given = omega (arith, more, a4);
+          full = omega (arith, more, a5);
+          read = omega (arith, more, a6);
+        }
 
 -- What every legal history keeps.
 
@@ -242,19 +360,24 @@ pub record AreWithin (w : World) : Type 0 where
 abbrev Keeps : Entry → Standing → Type 0
 Keeps e left = AreWithin left.world
 
-module _ (s : Standing) (stands : Stands s.world.pool s) (small : s.world.pool < 4294967296) (k : AreWithin s.world) where
+module _ (s : Standing) (stands : Stands s.world.pool s) (small : s.world.pool < 4294967296)
+    (k : AreWithin s.world) where
   abbrev w : World
   w = s.world
 
   abbrev more : ℕ
   more = (s.world.entry_count + 1) * 4294967296
 
-  still : (e : Entry) → IsCountedWithin w e → Each (IsPortUnder more) (map (with_counted w e) w.counts)
+  still :
+      (e : Entry) → IsCountedWithin w e → Each (IsPortUnder more) (map (with_counted w e) w.counts)
   still e few = counts-under w e w.counts few k.counted
 
   -- an entry that only counts, and that leaves the offers
-  only : (e : Entry) (cs : List PortCounts) → cs ≡ map (with_counted w e) w.counts → IsCountedWithin w e → (left : World)
-      → left.entry_count ≡ w.entry_count + 1 → left.offers ≡ w.offers → left.counts ≡ cs → AreWithin left
+  only :
+      (e : Entry) (cs : List PortCounts) → cs ≡ map (with_counted w e) w.counts
+      → IsCountedWithin w e → (left : World)
+      → left.entry_count ≡ w.entry_count + 1 → left.offers ≡ w.offers → left.counts ≡ cs
+      → AreWithin left
   only e cs is few left count offers counted = record {
     offers = rw offers k.offers;
     counted = rw (count, counted, is) (still e few);
@@ -264,77 +387,130 @@ module _ (s : Standing) (stands : Stands s.world.pool s) (small : s.world.pool <
   none e is port = rw (is port) (under-zero 4294967295)
 
   -- an entry that makes offers
-  offering : (e : Entry) (cs : List PortCounts) → cs ≡ map (with_counted w e) w.counts → IsCountedWithin w e → (session : ℕ) (wanted : Port → List Frame)
-      → ((p : Port) → length (wanted p) < 4294967296) → (left : World) → left.entry_count ≡ w.entry_count + 1
-      → left.offers ≡ w.offers ++ offers_of (w.entry_count + 1) session wanted w.ports → left.counts ≡ cs → AreWithin left
+  offering :
+      (e : Entry) (cs : List PortCounts) → cs ≡ map (with_counted w e) w.counts
+      → IsCountedWithin w e → (session : ℕ) (wanted : Port → List Frame)
+      → ((p : Port) → length (wanted p) < 4294967296) → (left : World)
+      → left.entry_count ≡ w.entry_count + 1
+      → left.offers ≡ w.offers ++ offers_of (w.entry_count + 1) session wanted w.ports
+      → left.counts ≡ cs → AreWithin left
   offering e cs is counted session wanted few left count offers sums = record {
-    offers = rw offers (each-append IsShortOffer w.offers (offers_of (w.entry_count + 1) session wanted w.ports) k.offers
+    offers =
+        rw offers
+        (each-append IsShortOffer w.offers (offers_of (w.entry_count + 1) session wanted w.ports)
+        k.offers
         (offers-short (w.entry_count + 1) session wanted w.ports few));
     counted = rw (count, sums, is) (still e counted);
   }
 
   kinds : EachKind s (Left s Keeps)
   kinds = record {
-    enters = λ user fits. only (entry_made (Enter user) (enter_step s)) _ refl (λ port. under-zero 4294967295) _ refl refl refl;
+    enters =
+        λ user fits. only (entry_made (Enter user) (enter_step s)) _ refl
+        (λ port. under-zero 4294967295) _ refl refl refl;
     quiet = λ ask session reply quiet.
         let e : Entry = entry_made ask (unchanged s session reply) in
-        only e _ (moved-quiet s (w.entry_count + 1) ask session reply (map (with_counted w e) w.counts) quiet) (nothing-under w ask session reply s quiet) _ refl refl refl;
+        only e _
+        (moved-quiet s (w.entry_count + 1) ask session reply (map (with_counted w e) w.counts) quiet)
+        (nothing-under w ask session reply s quiet) _ refl refl refl;
     opens = λ session name tx rx extra can refusal.
-        let e : Entry = entry_made (Open session name tx rx extra) (open_step_by None s session.0 name tx rx extra) in
+        let e : Entry =
+        entry_made (Open session name tx rx extra) (open_step_by None s session.0 name tx rx extra)
+        in
         record {
           offers = k.offers;
-          counted = each-append (IsPortUnder more) (map (with_counted w e) w.counts) _ (still e (λ port. under-zero 4294967295)) (under-zero more, tt);
+          counted =
+              each-append (IsPortUnder more) (map (with_counted w e) w.counts) _
+              (still e (λ port. under-zero 4294967295)) (under-zero more, tt);
         };
     sends = λ from frames port e can settled.
         let few = sent-few w frames port can in
         let named = named_of w port frames in
         let count = length-named w.ports port w.pairs frames in
         let alone = count_by-le-length (is_lone w.ports port) named in
-        let counted = sent-under frames (count_by (is_lone w.ports port) named) (dests_of (offers_of_send w port frames)) few (omega (arith, few, count, alone)) in
+        let counted =
+        sent-under frames (count_by (is_lone w.ports port) named)
+        (dests_of (offers_of_send w port frames)) few (omega (arith, few, count, alone)) in
         offering (entry_made (Send from frames) (send_step s frames port)) _ refl
-        (λ at. under-if 4294967295 (from.0 == at) _ counted) port.session (wanted_frames port (transmit_monitor w port.id) named)
-        (λ p. let fewer = wanted-few port (transmit_monitor w port.id) named p in omega (arith, few, count, fewer)) _ refl refl refl;
+        (λ at. under-if 4294967295 (from.0 == at) _ counted) port.session
+        (wanted_frames port (transmit_monitor w port.id) named)
+        (λ p.
+        let fewer = wanted-few port (transmit_monitor w port.id) named p in omega
+        (arith, few, count, fewer)) _ refl refl refl;
     grants = λ origin to offer first same.
         let mine = each-find IsShortOffer (is_offer_of origin) w.offers offer k.offers first in
         let e : Entry = entry_made (Grant origin to) (grant_step s offer) in
         record {
           offers = each-without_first IsShortOffer offer.origin w.offers k.offers;
-          counted = still e (λ port. under-if 4294967295 (to.0 == port) _ (shared-under (open_port w.ports offer.to) offer.frames mine));
+          counted =
+              still e
+              (λ port.
+              under-if 4294967295 (to.0 == port) _
+              (shared-under (open_port w.ports offer.to) offer.frames mine));
         };
-    completes = λ lease lot e. only (entry_made (Done lease) (done_step s lease.0 lot)) _ refl (λ port. under-zero 4294967295) _ refl refl refl;
+    completes =
+        λ lease lot e. only (entry_made (Done lease) (done_step s lease.0 lot)) _ refl
+        (λ port. under-zero 4294967295) _ refl refl refl;
     receives = λ ask at back port receives e can.
         let made : Outcome = sync_step s back port in
         let x : Entry = entry_made ask made in
         let within = found-within s (is_open_at at.0) port stands.numbered stands.roomy e in
         let line = within.line in
         let few = delivered-few port in
-        offering x _ (moved-read (w.entry_count + 1) ask at back made.reply (map (with_counted w x) w.counts) receives)
-        (read-under w ask at back made receives (gave-under (length (delivered_frames port)) w.pool (dests_of (offers_of_sync w port)) (omega (arith, line, few)) small)) port.session (monitored_frames (receive_monitor w port.id) (delivered_frames port))
-        (λ p. let fewer = monitored-few (receive_monitor w port.id) (delivered_frames port) p in omega (arith, line, few, fewer, small)) _ refl refl refl;
+        offering x _
+        (moved-read (w.entry_count + 1) ask at back made.reply (map (with_counted w x) w.counts)
+        receives)
+        (read-under w ask at back made receives
+        (gave-under (length (delivered_frames port)) w.pool (dests_of (offers_of_sync w port))
+        (omega (arith, line, few)) small)) port.session
+        (monitored_frames (receive_monitor w port.id) (delivered_frames port))
+        (λ p.
+        let fewer = monitored-few (receive_monitor w port.id) (delivered_frames port) p in omega
+        (arith, line, few, fewer, small)) _ refl refl refl;
     puts = λ at offered items port peer e can found.
         let few = kept-few s offered items port peer can found in
         let size = length-map items frame_of_item in
         offering (entry_made (PutKept at offered) (put_step s items port peer)) _ refl
-        (λ p. put-under (length items) (at.0 == p) (puts_to_port w.ports at.0 p) few) port.session (monitored_frames (transmit_monitor w port.id) (frames_of_items items))
-        (λ p. let fewer = monitored-few (transmit_monitor w port.id) (frames_of_items items) p in omega (arith, few, size, fewer)) _ refl refl refl;
-    watches = λ at target sides port found e can there missing. only (entry_made (Watch at target sides) (watch_step s sides port found)) _ refl (λ p. under-zero 4294967295) _ refl refl refl;
-    shuts = λ at port e settled. only (entry_made (Shut at) (shut_step s port)) _ refl (λ p. under-zero 4294967295) _ refl refl refl;
+        (λ p. put-under (length items) (at.0 == p) (puts_to_port w.ports at.0 p) few) port.session
+        (monitored_frames (transmit_monitor w port.id) (frames_of_items items))
+        (λ p.
+        let fewer = monitored-few (transmit_monitor w port.id) (frames_of_items items) p in omega
+        (arith, few, size, fewer)) _ refl refl refl;
+    watches =
+        λ at target sides port found e can there missing.
+        only (entry_made (Watch at target sides) (watch_step s sides port found)) _ refl
+        (λ p. under-zero 4294967295) _ refl refl refl;
+    shuts =
+        λ at port e settled. only (entry_made (Shut at) (shut_step s port)) _ refl
+        (λ p. under-zero 4294967295) _ refl refl refl;
     finishes = λ at bufs chain port fits e can out.
         let x : Entry = entry_made (Finish at bufs chain) (finish_step s bufs port) in
         record {
           offers = k.offers;
-          counted = each-filter (IsPortUnder more) (λ (c : PortCounts). not (c.port == at.0)) (map (with_counted w x) w.counts) (still x (λ p. under-zero 4294967295));
+          counted =
+              each-filter (IsPortUnder more) (λ (c : PortCounts). not (c.port == at.0))
+              (map (with_counted w x) w.counts) (still x (λ p. under-zero 4294967295));
         };
-    leaves = λ session can. only (entry_made (Leave session) (leave_step s session.0)) _ refl (λ p. under-zero 4294967295) _ refl refl refl;
+    leaves =
+        λ session can. only (entry_made (Leave session) (leave_step s session.0)) _ refl
+        (λ p. under-zero 4294967295) _ refl refl refl;
   }
 
-pub history-within : (pool : ℕ) (h : List Entry) → IsLegal pool h → pool < 4294967296 → AreWithin (world_of pool h)
-history-within pool h legal small = history-by pool (λ (h : List Entry). AreWithin (world_of pool h)) keeps (record { offers = tt; counted = tt }) h legal
+pub history-within :
+    (pool : ℕ) (h : List Entry) → IsLegal pool h → pool < 4294967296 → AreWithin (world_of pool h)
+history-within pool h legal small =
+    history-by pool (λ (h : List Entry). AreWithin (world_of pool h)) keeps
+    (record { offers = tt; counted = tt }) h legal
   where
-    keeps : (h : List Entry) (e : Entry) → IsLegal pool h → Follows (standing_of pool h) e → AreWithin (world_of pool h) → AreWithin (world_of pool (h ++ e ∷ []))
+    keeps :
+        (h : List Entry) (e : Entry) → IsLegal pool h → Follows (standing_of pool h) e
+        → AreWithin (world_of pool h) → AreWithin (world_of pool (h ++ e ∷ []))
     keeps h e legal follows k =
         let s = standing_of pool h in
         let stands = history-stands pool h legal in
-        let size : s.world.pool < 4294967296 = subst (λ (n : ℕ). n < 4294967296) (sym stands.pool_is) small in
-        let here : Stands s.world.pool s = subst (λ (n : ℕ). Stands n s) (sym stands.pool_is) stands in
-        subst (λ (t : Standing). AreWithin t.world) (sym (standing-push pool h e)) (follows-by s Keeps e follows (kinds s here size k))
+        let size : s.world.pool < 4294967296 =
+        subst (λ (n : ℕ). n < 4294967296) (sym stands.pool_is) small in
+        let here : Stands s.world.pool s =
+        subst (λ (n : ℕ). Stands n s) (sym stands.pool_is) stands in
+        subst (λ (t : Standing). AreWithin t.world) (sym (standing-push pool h e))
+        (follows-by s Keeps e follows (kinds s here size k))

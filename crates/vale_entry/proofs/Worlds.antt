@@ -1,19 +1,26 @@
--- What one more entry does to a history: to what stands after it, to its length and to its legality.
+-- What one more entry does to a history: to what stands after it, to its length and to its
+-- legality.
 use Rattle.std.proofs.Common.{ℕ, List, [], ◌∷◌, ◌++◌, ◌≡◌, ◌+◌, length, refl, sym, ◌∙◌, arith, Option, Some, None, add-zero, zero-add}
 use Rattle.std.specs.List.{fold}
 use Rattle.std.proofs.lemmas.List.Sums.{fold-append}
 use Rattle.vale_entry.specs.declared.entry.Entry.{Entry}
 use Rattle.vale_entry.specs.Legal.{Standing, Outcome, recorded_step, after, standing_after, standing_of, world_of, fresh_standing, IsLegalFrom, IsLegal, Follows}
 
-pub standing-push : (pool : ℕ) (h : List Entry) (e : Entry) → standing_of pool (h ++ e ∷ []) ≡ after (standing_of pool h) e
+pub standing-push :
+    (pool : ℕ) (h : List Entry) (e : Entry)
+    → standing_of pool (h ++ e ∷ []) ≡ after (standing_of pool h) e
 standing-push pool h e = fold-append after (fresh_standing pool) h (e ∷ [])
 
 -- each entry is with_entry_count, also one that is not enabled
-pub count-standing_after : (s : Standing) (e : Entry) (made : Option Outcome) → (standing_after s e made).world.entry_count ≡ s.world.entry_count + 1
+pub count-standing_after :
+    (s : Standing) (e : Entry) (made : Option Outcome)
+    → (standing_after s e made).world.entry_count ≡ s.world.entry_count + 1
 count-standing_after s e None = refl
 count-standing_after s e (Some made) = refl
 
-count-fold : (s : Standing) (h : List Entry) → (fold after s h).world.entry_count ≡ s.world.entry_count + length h
+count-fold :
+    (s : Standing) (h : List Entry)
+    → (fold after s h).world.entry_count ≡ s.world.entry_count + length h
 count-fold s [] = sym (add-zero s.world.entry_count)
 count-fold s (e ∷ es) =
     let rest = count-fold (after s e) es in
@@ -23,9 +30,14 @@ count-fold s (e ∷ es) =
 pub count-world_of : (pool : ℕ) (h : List Entry) → (world_of pool h).entry_count ≡ length h
 count-world_of pool h = count-fold (fresh_standing pool) h ∙ zero-add (length h)
 
-legal_from-push : (s : Standing) (h : List Entry) (e : Entry) → IsLegalFrom s h → Follows (fold after s h) e → IsLegalFrom s (h ++ e ∷ [])
+legal_from-push :
+    (s : Standing) (h : List Entry) (e : Entry) → IsLegalFrom s h → Follows (fold after s h) e
+    → IsLegalFrom s (h ++ e ∷ [])
 legal_from-push s [] e legal follows = (follows, tt)
-legal_from-push s (d ∷ ds) e legal follows = (legal.0, legal_from-push (after s d) ds e legal.1 follows)
+legal_from-push s (d ∷ ds) e legal follows =
+    (legal.0, legal_from-push (after s d) ds e legal.1 follows)
 
-pub legal-push : (pool : ℕ) (h : List Entry) (e : Entry) → IsLegal pool h → Follows (standing_of pool h) e → IsLegal pool (h ++ e ∷ [])
+pub legal-push :
+    (pool : ℕ) (h : List Entry) (e : Entry) → IsLegal pool h → Follows (standing_of pool h) e
+    → IsLegal pool (h ++ e ∷ [])
 legal-push pool h e legal follows = legal_from-push (fresh_standing pool) h e legal follows

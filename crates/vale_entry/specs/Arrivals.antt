@@ -31,7 +31,8 @@ opened_arrivals tx rx extra free =
 abbrev pub given_arrivals : Standing → Port → List Arrival
 given_arrivals s port =
     map frame_arrival
-    (zip (delivered_buffers port.id (length (ready_lots port)) s.holdings.ports) (delivered_frames port))
+    (zip (delivered_buffers port.id (length (ready_lots port)) s.holdings.ports)
+    (delivered_frames port))
 
 -- a put: the first idle buffers of the other end, one for each frame taken
 abbrev pub lent_arrivals : List PortBuffers → ℕ → ℕ → List Arrival

@@ -3,12 +3,12 @@ use Rattle.std.specs.Prelude.{ℕ, true, false, ◌≡◌, ◌≢◌, ◌||◌, 
 use Rattle.std.specs.List.{AllByRecursion}
 use Rattle.nm_types.specs.Frames.{Frame, size_of_frames}
 use Rattle.vale_entry.specs.declared.entry.Entry.{Entry}
-use Rattle.vale_entry.specs.World.{World, Port, Pair, Offer, open_port, space_of}
+use Rattle.vale_entry.specs.World.{Port, Pair, Offer, open_port, space_of}
 use Rattle.vale_entry.specs.Learning.{is_short}
 use Rattle.vale_entry.specs.Lookup.{Named, named_frames, is_named, is_lone}
 use Rattle.vale_entry.specs.Legal.{world_of, standing_of, IsLegal, Follows}
 use Rattle.vale_entry.specs.Laws.{Rise}
-use Rattle.vale_entry.specs.Delivered.{port_at, frames_of_line, Brought, frames_brought, count_brought, put_in, grants_to, brought_to, given_frames, given_counts, read_frames, read_counts, returned_counts, unread_counts}
+use Rattle.vale_entry.specs.Delivered.{port_at, frames_of_line, Brought, frames_brought, count_brought, put_in, brought_to, given_frames, given_counts, read_frames, read_counts, returned_counts, unread_counts}
 use Rattle.vale_entry.specs.Counters.{counts_of}
 use Rattle.vale_entry.specs.Counted.{counts_told}
 use Rattle.vale_entry.specs.Fate.{wanted_at, offers_at, Share, share_in, shares_at, granted_at, puts_at, Fate, Pending, Given, Full, Gone, fates_at, given_of, entries_of, origin_of, brought_between}
@@ -97,7 +97,9 @@ pub record HaveFates (fates : List Fate) (wanted : List Frame) (shares : List Sh
   pub pending : shares ≡ [] → fates ≡ replicate (length wanted) Pending
   pub counted :
       AllByRecursion
-      (λ share. fates ≡ replicate share.given Given ++ (replicate share.full Full ++ replicate share.gone Gone))
+      (λ share.
+      fates
+      ≡ replicate share.given Given ++ (replicate share.full Full ++ replicate share.gone Gone))
       shares
 
 abbrev pub DroppedFramesAreCounted : Type 0

@@ -1,6 +1,6 @@
 -- `decimal` writes the last 64 digits of a number, so it tells only smaller numbers apart. Each
 -- number of an entry of a legal history is kept in 64 bits at most.
-use Rattle.std.specs.Prelude.{ℕ, ◌<◌, ◌^◌, List}
+use Rattle.std.specs.Prelude.{ℕ, ◌<◌, ◌^◌}
 use Rattle.std.specs.List.{AllByRecursion}
 use Rattle.nm_types.specs.declared.fault.OpenFault.{OpenFault}
 use Rattle.nm_types.specs.declared.fault.OpenFault.TheVariants.{NoBuffers}

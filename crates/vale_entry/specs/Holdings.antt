@@ -201,4 +201,5 @@ pub record Agrees (w : World) (x : Holdings) : Type 0 where
   pub ports_agree : PortsAgree w.ports x.ports
   pub session_ids : map (λ (held : SessionBuffers). held.session) x.sessions ≡ w.sessions
   pub dues :
-      All (λ (held : SessionBuffers). length held.buffers ≡ due_of_session w.ports held.session) x.sessions
+      All (λ (held : SessionBuffers). length held.buffers ≡ due_of_session w.ports held.session)
+      x.sessions

@@ -220,7 +220,9 @@ pub record IsWithinSizes (pool : ℕ) (w : World) : Type 0 where
   pub lots_filled : All (λ (port : Port). All IsFilled port.line) w.ports
   pub room_kept : All (λ (port : Port). port.out + size_of_line port.line + 1 ≤ port.rx) w.ports
   pub parts_are_all :
-      All (λ (port : Port). due_of port + (space_of port + 1) + size_of_line port.line ≡ buffers_of port)
+      All
+      (λ (port : Port).
+      due_of port + (space_of port + 1) + size_of_line port.line ≡ buffers_of port)
       w.ports
   pub fits_pool : sum_by buffers_of w.ports ≤ pool
 
@@ -229,7 +231,8 @@ pub record IsWithinSizes (pool : ℕ) (w : World) : Type 0 where
 pub record AreSmallestFirst (pool : ℕ) (w : World) (x : Holdings) : Type 0 where
   pub rise : Rise 1 x.free (pool + 1)
   pub smallest :
-      (n : ℕ) → All (λ (taken : ℕ). All (λ (left : ℕ). taken < left) (drop n x.free)) (take n x.free)
+      (n : ℕ)
+      → All (λ (taken : ℕ). All (λ (left : ℕ). taken < left) (drop n x.free)) (take n x.free)
   pub count : length x.free ≡ free_count w
 
 -- each entry is printable at its number

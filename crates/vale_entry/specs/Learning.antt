@@ -1,7 +1,7 @@
 -- What a switch learns: pairs of an address and the port behind which it was seen, newest first. A
 -- pair is never removed. A newer pair hides all older ones of its bucket, also where its port is no
 -- longer open, so nothing older comes back.
-use Rattle.std.specs.Prelude.{ℕ, Bool, not, ◌&&◌, ◌==◌, ◌+◌, ◌*◌, ◌%◌, nat_lt, if◌then◌else◌, List, ◌∷◌, length, take, drop, find, fold, Option, Some, None, slice_index, bit_xor, bytes_eq}
+use Rattle.std.specs.Prelude.{ℕ, Bool, not, ◌&&◌, ◌==◌, ◌%◌, nat_lt, if◌then◌else◌, List, ◌∷◌, length, take, drop, find, fold, Option, Some, None, slice_index, bytes_eq}
 pub use Rattle.nm_types.specs.Addresses.{bucket_of}
 use Rattle.nm_types.specs.Frames.{Frame}
 use Rattle.nm_types.specs.Names.{switch_of}
@@ -29,7 +29,8 @@ is_learnable frame =
 abbrev pub learned : Port → List Pair → Frame → List Pair
 learned sender pairs frame =
     if is_learnable frame then
-    record { switch = switch_of sender.name; address = source_address frame; port = sender.id } ∷ pairs
+    record { switch = switch_of sender.name; address = source_address frame; port = sender.id }
+    ∷ pairs
     else pairs
 
 abbrev pub learned_of_batch : Port → List Pair → List Frame → List Pair

@@ -203,7 +203,8 @@ put_step s items port peer = record {
     world = record s.world {
       ports =
           changed_at peer.id
-          (port_after_put (s.world.entry_count + 1) port.session (frames_of_items items)) s.world.ports;
+          (port_after_put (s.world.entry_count + 1) port.session (frames_of_items items))
+          s.world.ports;
       offers = s.world.offers ++ offers_of_put s.world port (frames_of_items items);
     };
     holdings = holdings_after_put peer.id port.session (indices_of items) s.holdings;
@@ -223,7 +224,8 @@ watch_step s sides monitor target = record {
       record s {
         world = record s.world {
           watches =
-              s.world.watches ++ (record { monitor = monitor.id; target = target.id; sides = sides }) ∷ [];
+              s.world.watches
+              ++ (record { monitor = monitor.id; target = target.id; sides = sides }) ∷ [];
         };
       };
 }
@@ -415,7 +417,8 @@ step s (PutKept port offered) = None
 step s (Get port back) =
     made_at (can_get s back) (sync_step s back) (open_port s.world.ports port.0)
 step s (Watch monitor target sides) =
-    made_at (can_watch target) (λ port. watch_step_of s sides port (open_port_as s.world.ports target))
+    made_at (can_watch target)
+    (λ port. watch_step_of s sides port (open_port_as s.world.ports target))
     (open_port s.world.ports monitor.0)
 step s (Stat port) = option_map (stat_step s) (open_port s.world.ports port.0)
 

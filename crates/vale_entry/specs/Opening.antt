@@ -1,5 +1,5 @@
 -- Opening a port, and why it is refused: the first of these that holds.
-use Rattle.std.specs.Prelude.{ℕ, Bool, false, not, ◌&&◌, ◌||◌, ◌==◌, ◌+◌, nat_le, nat_lt, if◌then◌else◌, List, [], ◌∷◌, ◌++◌, length, count_by, Option, Some, None, bytes_eq}
+use Rattle.std.specs.Prelude.{ℕ, Bool, false, not, ◌&&◌, ◌||◌, ◌+◌, nat_le, nat_lt, if◌then◌else◌, List, [], ◌∷◌, ◌++◌, length, count_by, Option, Some, None, bytes_eq}
 use Rattle.std.specs.List.{list_any}
 pub use Rattle.nm_types.specs.Openings.{is_ring_size, are_sizes}
 use Rattle.nm_types.specs.Limits.{most_switches, most_switch_ports, most_pipe_ends, most_monitors}

@@ -2,30 +2,21 @@
 -- buffers, two users, and a port of 4 and 4 slots each, a port `vale0:a` or `pipe0{` of the first
 -- and `vale0:b` of the second.
 use Rattle.std.specs.Prelude.{ℕ, ◌≡◌, ◌-◌, false, List, [], ◌∷◌, map, take, slice_get, codes, Option, Some, None, option_map, option_and_then, refl}
-use Rattle.nm_types.specs.declared.id.PortId.{PortId}
 use Rattle.nm_types.specs.declared.id.Side.{Side}
 use Rattle.nm_types.specs.declared.id.Side.TheVariants.{Tx, Rx}
 use Rattle.nm_types.specs.declared.fault.SyncFault.TheVariants.{HeadOut, CurOut, Unannounced}
-use Rattle.nm_types.specs.Frames.{Frame}
 use Rattle.nm_types.specs.Names.{is_name, is_switch_port_name, is_pipe_name, is_monitor_name, switch_of}
 use Rattle.nm_types.specs.OwnPorts.{OwnPort, OwnState, Arrival, empty_own, port_with_id}
 use Rattle.nm_types.specs.OwnEdits.{SlotPlace, with_positions, with_all_back, with_slots_swapped, with_frame, with_extra_link}
 use Rattle.vale_entry.specs.declared.entry.Ask.{Ask}
 use Rattle.vale_entry.specs.declared.entry.Ask.TheVariants.{Enter, Open, Send, Grant, Done, Sync, Reset, Finish, Put, PutKept}
-use Rattle.vale_entry.specs.declared.entry.Reply.{Reply}
 use Rattle.vale_entry.specs.declared.entry.Reply.TheVariants.{Made, Opened, Offered, Shared, Gave, Took, PeerGone}
 use Rattle.vale_entry.specs.declared.entry.Item.{Item}
 use Rattle.vale_entry.specs.declared.entry.Entry.{Entry}
 use Rattle.vale_entry.specs.Legal.{standing_of}
 use Rattle.vale_entry.specs.Arrivals.{arrivals_of}
+use Rattle.vale_entry.specs.RowWords.{entry, port, dest, frame_f}
 use Rattle.vale_entry.specs.OwnCalls.{tx_call, rx_call, finish_call, own_after}
-
-abbrev port : ℕ → PortId
-port id = record { 0 = id }
-
-abbrev frame_f : Frame
-frame_f =
-    record { bytes = 255 ∷ 255 ∷ 255 ∷ 255 ∷ 255 ∷ 255 ∷ 2 ∷ 0 ∷ 0 ∷ 0 ∷ 0 ∷ 10 ∷ 136 ∷ 181 ∷ []; no_learn = false }
 
 abbrev item : ℕ → Item
 item index = record { index = index; bytes = frame_f }
@@ -46,28 +37,24 @@ finish_call_at id s = option_map (finish_call s) (port_with_id s id)
 abbrev opening : ℕ → List ℕ → Ask
 opening session name = Open (record { 0 = session }) name 4 4 0
 
-abbrev by_user : ℕ → Ask → Reply → Entry
-by_user user ask reply = record { session = record { 0 = user }; ask = ask; reply = reply }
-
 abbrev history : List Entry
 history =
-    by_user 1 (Enter 1) Made
-    ∷ by_user 2 (Enter 2) Made
-    ∷ by_user 1 (opening 1 (codes "vale0:a")) Opened
-    ∷ by_user 2 (opening 2 (codes "vale0:b")) Opened
-    ∷ by_user 1 (Send (port 3) (frame_f ∷ []))
-    (Offered 0 0 (record { to = port 4; count = 1 } ∷ []))
-    ∷ by_user 1 (Grant 5 (port 4)) (Shared 1 0 0)
-    ∷ by_user 1 (Done (record { 0 = 6 })) Made
-    ∷ by_user 2 (Sync (port 4) []) (Gave 1 [])
+    entry 1 (Enter 1) Made
+    ∷ entry 2 (Enter 2) Made
+    ∷ entry 1 (opening 1 (codes "vale0:a")) Opened
+    ∷ entry 2 (opening 2 (codes "vale0:b")) Opened
+    ∷ entry 1 (Send (port 3) (frame_f ∷ [])) (Offered 0 0 (dest 4 1 ∷ []))
+    ∷ entry 1 (Grant 5 (port 4)) (Shared 1 0 0)
+    ∷ entry 1 (Done (record { 0 = 6 })) Made
+    ∷ entry 2 (Sync (port 4) []) (Gave 1 [])
     ∷ []
 
 -- what a session has after the entry of this number, which is one of its own
 abbrev own_from : ℕ → Option Entry → OwnState → OwnState
 own_from number None s = s
-own_from number (Some entry) s =
-    own_after number entry
-    (arrivals_of (standing_of 64 (take (number - 1) history)) entry.ask entry.reply) s
+own_from number (Some e) s =
+    own_after number e
+    (arrivals_of (standing_of 64 (take (number - 1) history)) e.ask e.reply) s
 
 abbrev own_at : ℕ → OwnState → OwnState
 own_at number s = own_from number (slice_get history (number - 1)) s
@@ -140,8 +127,10 @@ unfolding is_name is_switch_port_name is_pipe_name is_monitor_name switch_of
 names_all = refl
 
 abbrev with_extras : OwnState
-with_extras = own_after 2 (by_user 1 (Open (record { 0 = 1 }) (codes "vale0:a") 2 2 3) Opened)
-    (arrivals_of (standing_of 64 (take 1 history)) (Open (record { 0 = 1 }) (codes "vale0:a") 2 2 3) Opened) (empty_own 64)
+with_extras = own_after 2 (entry 1 (Open (record { 0 = 1 }) (codes "vale0:a") 2 2 3) Opened)
+    (arrivals_of (standing_of 64 (take 1 history))
+    (Open (record { 0 = 1 }) (codes "vale0:a") 2 2 3) Opened)
+    (empty_own 64)
 
 chain_turns_back :
     finish_call_at 2 (with_extra_link 2 2 1 with_extras)
@@ -153,20 +142,24 @@ chain_turns_back = refl
 -- pushed
 abbrev pipe_user : OwnState
 pipe_user = with_frame 3 frame_f.bytes (with_frame 3 frame_f.bytes
-    (own_after 3 (by_user 1 (opening 1 (codes "pipe0{")) Opened) (arrivals_of (standing_of 64 (take 2 history)) (opening 1 (codes "pipe0{")) Opened) (empty_own 64)))
+    (own_after 3 (entry 1 (opening 1 (codes "pipe0{")) Opened)
+    (arrivals_of (standing_of 64 (take 2 history))
+    (opening 1 (codes "pipe0{")) Opened) (empty_own 64)))
 
 offers_both : tx_call_at 3 pipe_user ≡ Some (Put (port 3) (item 2 ∷ item 3 ∷ []))
 unfolding is_name is_switch_port_name is_pipe_name is_monitor_name switch_of
 offers_both = refl
 
 offers_the_other :
-    tx_call_at 3 (own_after 5 (by_user 1 (PutKept (port 3) 2) (Took (item 2 ∷ []) [])) (record { buffer = 12; bytes = [] } ∷ []) pipe_user)
+    tx_call_at 3
+    (own_after 5 (entry 1 (PutKept (port 3) 2) (Took (item 2 ∷ []) []))
+    (record { buffer = 12; bytes = [] } ∷ []) pipe_user)
     ≡ Some (Put (port 3) (item 3 ∷ []))
 unfolding is_name is_switch_port_name is_pipe_name is_monitor_name switch_of
 offers_the_other = refl
 
 offers_again :
-    tx_call_at 3 (own_after 5 (by_user 1 (PutKept (port 3) 2) PeerGone) [] pipe_user)
+    tx_call_at 3 (own_after 5 (entry 1 (PutKept (port 3) 2) PeerGone) [] pipe_user)
     ≡ Some (Put (port 3) (item 2 ∷ item 3 ∷ []))
 unfolding is_name is_switch_port_name is_pipe_name is_monitor_name switch_of
 offers_again = refl

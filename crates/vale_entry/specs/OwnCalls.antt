@@ -26,7 +26,10 @@ abbrev pub item_at : OwnState → OwnRing → ℕ → Item
 item_at s r at = record {
   index = (slot_in Tx r at).buf_idx;
   bytes =
-      record { bytes = take (slot_in Tx r at).len (bytes_at s (slot_in Tx r at).buf_idx); no_learn = false };
+      record {
+        bytes = take (slot_in Tx r at).len (bytes_at s (slot_in Tx r at).buf_idx);
+        no_learn = false;
+      };
 }
 
 abbrev pub offered_items : OwnState → OwnRing → List Item
@@ -36,7 +39,8 @@ offered_items s r = map (item_at s r) (offered_slots r)
 -- pushed now
 abbrev pub tx_call : OwnState → OwnPort → OwnRing → Ask
 tx_call s p r = or_reset (refusal_in Tx s r) p.id Tx
-    (if is_pipe_name p.name then Put p.id (offered_items s r) else Send p.id (pushed_frames (bytes_at s) (pushed_in Tx r)))
+    (if is_pipe_name p.name then Put p.id (offered_items s r)
+    else Send p.id (pushed_frames (bytes_at s) (pushed_in Tx r)))
 
 -- a receive sync gives back the buffers that the pushed slots name
 abbrev pub back_in : OwnPort → List ℕ

@@ -1,6 +1,6 @@
 -- Pipes. What a Put offers goes to the open port at the other end, as far as there is room: the
 -- frames stay in their buffers, which change hands.
-use Rattle.std.specs.Prelude.{ℕ, Bool, true, false, not, min, ◌&&◌, ◌==◌, ◌+◌, ◌-◌, if◌then◌else◌, List, [], ◌∷◌, ◌++◌, length, map, take, find, Option, Some, None, slice_index}
+use Rattle.std.specs.Prelude.{ℕ, Bool, true, false, not, min, ◌&&◌, ◌==◌, List, map, find, Option, Some, None}
 use Rattle.nm_types.specs.Frames.{Frame}
 use Rattle.nm_types.specs.Names.{is_pipe_name, peer_name}
 use Rattle.nm_types.specs.Sendable.{fits_buffer}

@@ -8,7 +8,7 @@ use Rattle.nm_types.specs.declared.fault.OpenFault.TheVariants.{BadSize, Switche
 use Rattle.nm_types.specs.declared.fault.SyncFault.TheVariants as faults
 use Rattle.nm_types.specs.declared.id.Side.TheVariants.{Tx, Rx}
 use Rattle.nm_types.specs.declared.id.Sides.TheVariants.{T, R, TR}
-use Rattle.vale_entry.specs.declared.entry.Ask.TheVariants.{Enter, Open, Send, Grant, Done, Sync, Reset, Shut, Finish, Leave, Put, PutKept, Get, Watch, Stat}
+use Rattle.vale_entry.specs.declared.entry.Ask.TheVariants.{Enter, Open, Send, Grant, Sync, Reset, Shut, Finish, Put, PutKept, Get, Watch, Stat}
 use Rattle.vale_entry.specs.declared.entry.Entry.{Entry}
 use Rattle.vale_entry.specs.declared.entry.Reply.TheVariants.{Made, Opened, Refused, Offered, Shared, Gave, Took, PeerGone, Unread, Watching, NoTarget, Watched, Counted}
 use Rattle.vale_entry.specs.World.{Port, empty_world}
@@ -18,7 +18,7 @@ use Rattle.vale_entry.specs.Arrivals.{arrivals_of}
 use Rattle.vale_entry.specs.Legal.{Standing, IsLegal, standing_of, world_of, holdings_of, reply_of, reply_to, recorded_step}
 use Rattle.vale_entry.specs.Delivered.{given_frames, read_frames, unread_counts}
 use Rattle.vale_entry.specs.Room.{frame_bytes, promised_of}
-use Rattle.vale_entry.specs.RowWords.{entry, port, session, opening, completes, left, no_chain, dest, counters, bytes, marked, item, mac, everyone, packet, frame_f}
+use Rattle.vale_entry.specs.RowWords.{ok, entry, port, session, opening, completes, left, no_chain, dest, counters, bytes, marked, item, mac, everyone, packet, frame_f}
 use Rattle.vale_entry.specs.Rows.{first_run, learned_unicast, short_frame, frame_to_itself, ring_full, offer_to_reopened_port, lease_to_shut_port}
 
 -- A pipe whose other end comes later: a Put finds nobody, then as many frames are taken as there is
@@ -46,46 +46,7 @@ pipe_run =
 
 pipe_run-legal : IsLegal 64 pipe_run
 unfolding is_name is_switch_port_name is_pipe_name is_monitor_name switch_of peer_name
-pipe_run-legal = (
-  refl,
-  (
-    refl,
-    (
-      refl,
-      (
-        refl,
-        (
-          refl,
-          (
-            refl,
-            (
-              refl,
-              (
-                refl,
-                (
-                  refl,
-                  (
-                    refl,
-                    (
-                      refl,
-                      (
-                        refl,
-                        (
-                          refl,
-                          (refl, (refl, tt)),
-                        ),
-                      ),
-                    ),
-                  ),
-                ),
-              ),
-            ),
-          ),
-        ),
-      ),
-    ),
-  ),
-)
+pipe_run-legal = ok (ok (ok (ok (ok (ok (ok (ok (ok (ok (ok (ok (ok (ok (ok tt))))))))))))))
 
 pipe_run-given : given_frames 64 pipe_run 5
     ≡ bytes (170 ∷ 187 ∷ []) ∷ bytes [] ∷ bytes (1 ∷ []) ∷ bytes (7 ∷ []) ∷ bytes [] ∷ []
@@ -130,7 +91,8 @@ pipe_run-free = refl
 -- what is recorded of a Put is all that the other end had room for
 pipe_run-took_fewer :
     option_map reply_of
-    (recorded_step (standing_of 64 (take 5 pipe_run)) (PutKept (port 3) 4) (Took (item 2 [] ∷ []) []))
+    (recorded_step (standing_of 64 (take 5 pipe_run)) (PutKept (port 3) 4)
+    (Took (item 2 [] ∷ []) []))
     ≡ None
 unfolding is_name is_switch_port_name is_pipe_name is_monitor_name switch_of peer_name
 pipe_run-took_fewer = refl
@@ -229,85 +191,9 @@ monitor_run =
 
 monitor_run-legal : IsLegal 64 monitor_run
 unfolding is_name is_switch_port_name is_pipe_name is_monitor_name switch_of peer_name
-monitor_run-legal = (
-  refl,
-  (
-    refl,
-    (
-      refl,
-      (
-        refl,
-        (
-          refl,
-          (
-            refl,
-            (
-              refl,
-              (
-                refl,
-                (
-                  refl,
-                  (
-                    refl,
-                    (
-                      refl,
-                      (
-                        refl,
-                        (
-                          refl,
-                          (
-                            refl,
-                            (
-                              refl,
-                              (
-                                refl,
-                                (
-                                  refl,
-                                  (
-                                    refl,
-                                    (
-                                      refl,
-                                      (
-                                        refl,
-                                        (
-                                          refl,
-                                          (
-                                            refl,
-                                            (
-                                              refl,
-                                              (
-                                                refl,
-                                                (
-                                                  refl,
-                                                  (
-                                                    refl,
-                                                    (refl, (refl, tt)),
-                                                  ),
-                                                ),
-                                              ),
-                                            ),
-                                          ),
-                                        ),
-                                      ),
-                                    ),
-                                  ),
-                                ),
-                              ),
-                            ),
-                          ),
-                        ),
-                      ),
-                    ),
-                  ),
-                ),
-              ),
-            ),
-          ),
-        ),
-      ),
-    ),
-  ),
-)
+monitor_run-legal =
+    ok (ok (ok (ok (ok (ok (ok (ok (ok (ok (ok (ok (ok (ok (ok (ok (ok (ok (ok (ok (ok (ok (ok (
+    ok (ok (ok (ok (ok tt)))))))))))))))))))))))))))
 
 monitor_run-unwatched : (world_of 64 monitor_run).watches ≡ []
 unfolding is_name is_switch_port_name is_pipe_name is_monitor_name switch_of peer_name
@@ -373,46 +259,8 @@ sent_alone =
 
 sent_alone-legal : IsLegal 64 sent_alone
 unfolding is_name is_switch_port_name is_pipe_name is_monitor_name switch_of peer_name
-sent_alone-legal = (
-  refl,
-  (
-    refl,
-    (
-      refl,
-      (
-        refl,
-        (
-          refl,
-          (
-            refl,
-            (
-              refl,
-              (
-                refl,
-                (
-                  refl,
-                  (
-                    refl,
-                    (
-                      refl,
-                      (
-                        refl,
-                        (
-                          refl,
-                          (refl, (refl, (refl, (refl, tt)))),
-                        ),
-                      ),
-                    ),
-                  ),
-                ),
-              ),
-            ),
-          ),
-        ),
-      ),
-    ),
-  ),
-)
+sent_alone-legal =
+    ok (ok (ok (ok (ok (ok (ok (ok (ok (ok (ok (ok (ok (ok (ok (ok (ok tt))))))))))))))))
 
 -- the monitor of two ports reads the copies of both with one sync, in the order of their grants
 abbrev pub two_watched : List Entry
@@ -434,46 +282,7 @@ two_watched =
 
 two_watched-legal : IsLegal 64 two_watched
 unfolding is_name is_switch_port_name is_pipe_name is_monitor_name switch_of peer_name
-two_watched-legal = (
-  refl,
-  (
-    refl,
-    (
-      refl,
-      (
-        refl,
-        (
-          refl,
-          (
-            refl,
-            (
-              refl,
-              (
-                refl,
-                (
-                  refl,
-                  (
-                    refl,
-                    (
-                      refl,
-                      (
-                        refl,
-                        (
-                          refl,
-                          tt,
-                        ),
-                      ),
-                    ),
-                  ),
-                ),
-              ),
-            ),
-          ),
-        ),
-      ),
-    ),
-  ),
-)
+two_watched-legal = ok (ok (ok (ok (ok (ok (ok (ok (ok (ok (ok (ok (ok tt))))))))))))
 
 two_watched-read : read_frames 64 two_watched 4 ≡ packet everyone (mac 11) ∷ frame_f ∷ []
 unfolding is_name is_switch_port_name is_pipe_name is_monitor_name switch_of peer_name
@@ -497,8 +306,7 @@ pipe_watched =
 
 pipe_watched-legal : IsLegal 64 pipe_watched
 unfolding is_name is_switch_port_name is_pipe_name is_monitor_name switch_of peer_name
-pipe_watched-legal =
-    (refl, (refl, (refl, (refl, (refl, (refl, (refl, (refl, (refl, (refl, (refl, tt)))))))))))
+pipe_watched-legal = ok (ok (ok (ok (ok (ok (ok (ok (ok (ok (ok tt))))))))))
 
 -- What ports have counted: what is gone is counted nowhere, and what was taken at both ends of a
 -- pipe.
@@ -546,7 +354,7 @@ reset_run =
 
 reset_run-legal : IsLegal 64 reset_run
 unfolding is_name is_switch_port_name is_pipe_name is_monitor_name switch_of peer_name
-reset_run-legal = (refl, (refl, (refl, (refl, (refl, (refl, tt))))))
+reset_run-legal = ok (ok (ok (ok (ok (ok tt)))))
 
 reset_run-monitor : reply_to (standing_of 64 reset_run) (Reset (port 5) Tx (faults.Indirect 1))
     ≡ None

@@ -1,5 +1,5 @@
 -- Shorter ways to write the worked examples.
-use Rattle.std.specs.Prelude.{ℕ, true, false, List, [], ◌∷◌, ◌++◌, replicate}
+use Rattle.std.specs.Prelude.{ℕ, ◌≡◌, true, false, List, [], ◌∷◌, ◌++◌, replicate, refl}
 use Rattle.nm_types.specs.Frames.{Frame}
 use Rattle.nm_types.specs.declared.id.Counts.{Counts}
 use Rattle.nm_types.specs.declared.id.Chain.{Chain}
@@ -68,3 +68,7 @@ frame_f = packet everyone (mac 10)
 -- one of 60 bytes
 abbrev pub frame_h : Frame
 frame_h = bytes (frame_f.bytes ++ replicate 46 17)
+
+-- an entry that follows, by computation, and those after it
+pub ok : {X B : Type 0} {x : X} → B → (x ≡ x) × B
+ok rest = (refl, rest)

@@ -1,5 +1,5 @@
 -- Worked examples of a switch, as theorems that hold by computation.
-use Rattle.std.specs.Prelude.{ℕ, ◌≡◌, ◌∷◌, ◌++◌, List, [], Some, take, codes, refl}
+use Rattle.std.specs.Prelude.{◌≡◌, ◌∷◌, ◌++◌, List, [], Some, take, codes, refl}
 use Rattle.std.specs.List.{range_with_len}
 use Rattle.std.specs.Fmt.{digits}
 use Rattle.nm_types.specs.Addresses.{bucket_of}
@@ -15,7 +15,7 @@ use Rattle.vale_entry.specs.Legal.{IsLegal, standing_of, world_of, holdings_of, 
 use Rattle.vale_entry.specs.Delivered.{given_frames, read_frames, unread_counts}
 use Rattle.vale_entry.specs.Fate.{Pending, Given, Full, Gone, fates_at, entries_of, brought_between}
 use Rattle.vale_entry.specs.Transcript.{transcript_text, start_line, end_line}
-use Rattle.vale_entry.specs.RowWords.{entry, port, session, opening, completes, left, no_chain, dest, bytes, marked, mac, everyone, packet, frame_f, frame_h}
+use Rattle.vale_entry.specs.RowWords.{ok, entry, port, session, opening, completes, left, no_chain, dest, bytes, marked, mac, everyone, packet, frame_f, frame_h}
 
 -- The first run: one broadcast frame of 60 bytes reaches the other port.
 abbrev pub first_run : List Entry
@@ -32,7 +32,7 @@ first_run =
 
 first_run-legal : IsLegal 8192 first_run
 unfolding is_name is_switch_port_name is_pipe_name is_monitor_name switch_of peer_name
-first_run-legal = (refl, (refl, (refl, (refl, (refl, (refl, (refl, (refl, tt))))))))
+first_run-legal = ok (ok (ok (ok (ok (ok (ok (ok tt)))))))
 
 first_run-text : transcript_text 8192 first_run
     ≡ codes "vale 1 pool 8192\n1 enter 1\n2 enter 2\n3 1 open vale0:a 4 4 0 = ok\n"
@@ -68,46 +68,8 @@ learned_unicast =
 
 learned_unicast-legal : IsLegal 64 learned_unicast
 unfolding is_name is_switch_port_name is_pipe_name is_monitor_name switch_of peer_name
-learned_unicast-legal = (
-  refl,
-  (
-    refl,
-    (
-      refl,
-      (
-        refl,
-        (
-          refl,
-          (
-            refl,
-            (
-              refl,
-              (
-                refl,
-                (
-                  refl,
-                  (
-                    refl,
-                    (
-                      refl,
-                      (
-                        refl,
-                        (
-                          refl,
-                          (refl, (refl, (refl, tt))),
-                        ),
-                      ),
-                    ),
-                  ),
-                ),
-              ),
-            ),
-          ),
-        ),
-      ),
-    ),
-  ),
-)
+learned_unicast-legal =
+    ok (ok (ok (ok (ok (ok (ok (ok (ok (ok (ok (ok (ok (ok (ok (ok tt)))))))))))))))
 
 -- A frame of 13 bytes goes nowhere and is counted short.
 abbrev pub short_frame : List Entry
@@ -122,7 +84,7 @@ short_frame =
 
 short_frame-legal : IsLegal 64 short_frame
 unfolding is_name is_switch_port_name is_pipe_name is_monitor_name switch_of peer_name
-short_frame-legal = (refl, (refl, (refl, (refl, (refl, tt)))))
+short_frame-legal = ok (ok (ok (ok (ok tt))))
 
 -- A frame to the sender's own address is named for nobody and counted lone.
 abbrev pub frame_to_itself : List Entry
@@ -139,7 +101,7 @@ frame_to_itself =
 
 frame_to_itself-legal : IsLegal 64 frame_to_itself
 unfolding is_name is_switch_port_name is_pipe_name is_monitor_name switch_of peer_name
-frame_to_itself-legal = (refl, (refl, (refl, (refl, (refl, (refl, (refl, (refl, tt))))))))
+frame_to_itself-legal = ok (ok (ok (ok (ok (ok (ok (ok tt)))))))
 
 -- Two addresses of one bucket: the newer hides the older.
 abbrev pub bucket_shared_by_two_addresses : List Entry
@@ -174,46 +136,9 @@ bucket_shared_by_two_addresses =
 
 bucket_shared_by_two_addresses-legal : IsLegal 64 bucket_shared_by_two_addresses
 unfolding is_name is_switch_port_name is_pipe_name is_monitor_name switch_of peer_name
-bucket_shared_by_two_addresses-legal = (
-  refl,
-  (
-    refl,
-    (
-      refl,
-      (
-        refl,
-        (
-          refl,
-          (
-            refl,
-            (
-              refl,
-              (
-                refl,
-                (
-                  refl,
-                  (
-                    refl,
-                    (
-                      refl,
-                      (
-                        refl,
-                        (
-                          refl,
-                          (refl, (refl, (refl, (refl, (refl, (refl, (refl, (refl, (refl, tt))))))))),
-                        ),
-                      ),
-                    ),
-                  ),
-                ),
-              ),
-            ),
-          ),
-        ),
-      ),
-    ),
-  ),
-)
+bucket_shared_by_two_addresses-legal =
+    ok (ok (ok (ok (ok (ok (ok (ok (ok (ok (ok (ok (ok (ok (ok (ok (ok (ok (ok (ok (ok (
+    ok tt)))))))))))))))))))))
 
 -- A lot that is done waits for one granted before it.
 abbrev pub published_in_lease_order : List Entry
@@ -241,46 +166,8 @@ published_in_lease_order =
 
 published_in_lease_order-legal : IsLegal 64 published_in_lease_order
 unfolding is_name is_switch_port_name is_pipe_name is_monitor_name switch_of peer_name
-published_in_lease_order-legal = (
-  refl,
-  (
-    refl,
-    (
-      refl,
-      (
-        refl,
-        (
-          refl,
-          (
-            refl,
-            (
-              refl,
-              (
-                refl,
-                (
-                  refl,
-                  (
-                    refl,
-                    (
-                      refl,
-                      (
-                        refl,
-                        (
-                          refl,
-                          (refl, (refl, (refl, (refl, (refl, tt))))),
-                        ),
-                      ),
-                    ),
-                  ),
-                ),
-              ),
-            ),
-          ),
-        ),
-      ),
-    ),
-  ),
-)
+published_in_lease_order-legal =
+    ok (ok (ok (ok (ok (ok (ok (ok (ok (ok (ok (ok (ok (ok (ok (ok (ok (ok tt)))))))))))))))))
 
 -- A ring of two slots takes one frame; the others are counted full.
 abbrev pub ring_full : List Entry
@@ -298,7 +185,7 @@ ring_full =
 
 ring_full-legal : IsLegal 64 ring_full
 unfolding is_name is_switch_port_name is_pipe_name is_monitor_name switch_of peer_name
-ring_full-legal = (refl, (refl, (refl, (refl, (refl, (refl, (refl, (refl, (refl, tt)))))))))
+ring_full-legal = ok (ok (ok (ok (ok (ok (ok (ok (ok tt))))))))
 
 -- Openings that the pool or the sizes refuse: each is an entry.
 abbrev pub refused_openings : List Entry
@@ -313,7 +200,7 @@ refused_openings =
 
 refused_openings-legal : IsLegal 10 refused_openings
 unfolding is_name is_switch_port_name is_pipe_name is_monitor_name switch_of peer_name
-refused_openings-legal = (refl, (refl, (refl, (refl, (refl, (refl, tt))))))
+refused_openings-legal = ok (ok (ok (ok (ok (ok tt)))))
 
 -- A fifth switch is refused, and a name that is there.
 abbrev pub full_switches : List Entry
@@ -331,7 +218,7 @@ full_switches =
 
 full_switches-legal : IsLegal 64 full_switches
 unfolding is_name is_switch_port_name is_pipe_name is_monitor_name switch_of peer_name
-full_switches-legal = (refl, (refl, (refl, (refl, (refl, (refl, (refl, (refl, (refl, tt)))))))))
+full_switches-legal = ok (ok (ok (ok (ok (ok (ok (ok (ok tt))))))))
 
 -- A frame whose destination is the source that it teaches itself is named for nobody: it is learned
 -- first.
@@ -346,7 +233,7 @@ own_address_first =
 
 own_address_first-legal : IsLegal 64 own_address_first
 unfolding is_name is_switch_port_name is_pipe_name is_monitor_name switch_of peer_name
-own_address_first-legal = (refl, (refl, (refl, (refl, (refl, tt)))))
+own_address_first-legal = ok (ok (ok (ok (ok tt))))
 
 -- What one switch has learned, and its ports, are nothing to another.
 abbrev pub two_switches : List Entry
@@ -362,7 +249,7 @@ two_switches =
 
 two_switches-legal : IsLegal 64 two_switches
 unfolding is_name is_switch_port_name is_pipe_name is_monitor_name switch_of peer_name
-two_switches-legal = (refl, (refl, (refl, (refl, (refl, (refl, (refl, tt)))))))
+two_switches-legal = ok (ok (ok (ok (ok (ok (ok tt))))))
 
 -- A port that is shut is named for nothing: neither by a flood nor by its address.
 abbrev pub shut_port_is_not_named : List Entry
@@ -381,8 +268,7 @@ shut_port_is_not_named =
 
 shut_port_is_not_named-legal : IsLegal 64 shut_port_is_not_named
 unfolding is_name is_switch_port_name is_pipe_name is_monitor_name switch_of peer_name
-shut_port_is_not_named-legal =
-    (refl, (refl, (refl, (refl, (refl, (refl, (refl, (refl, (refl, tt)))))))))
+shut_port_is_not_named-legal = ok (ok (ok (ok (ok (ok (ok (ok (ok tt))))))))
 
 -- The newest pair of a bucket hides the older one also once its port is shut: nothing older comes
 -- back.
@@ -404,8 +290,7 @@ nothing_older_comes_back =
 
 nothing_older_comes_back-legal : IsLegal 64 nothing_older_comes_back
 unfolding is_name is_switch_port_name is_pipe_name is_monitor_name switch_of peer_name
-nothing_older_comes_back-legal =
-    (refl, (refl, (refl, (refl, (refl, (refl, (refl, (refl, (refl, tt)))))))))
+nothing_older_comes_back-legal = ok (ok (ok (ok (ok (ok (ok (ok (ok tt))))))))
 
 -- A bucket is the xor of the address's three halves, modulo 1024: two addresses whose buckets
 -- differ by 512 do not hide one another.
@@ -430,7 +315,7 @@ buckets_are_1024 =
 
 buckets_are_1024-legal : IsLegal 64 buckets_are_1024
 unfolding is_name is_switch_port_name is_pipe_name is_monitor_name switch_of peer_name
-buckets_are_1024-legal = (refl, (refl, (refl, (refl, (refl, (refl, (refl, tt)))))))
+buckets_are_1024-legal = ok (ok (ok (ok (ok (ok (ok tt))))))
 
 -- A taken name is refused as such also where the pool has too few buffers.
 abbrev pub name_before_buffers : List Entry
@@ -442,7 +327,7 @@ name_before_buffers =
 
 name_before_buffers-legal : IsLegal 10 name_before_buffers
 unfolding is_name is_switch_port_name is_pipe_name is_monitor_name switch_of peer_name
-name_before_buffers-legal = (refl, (refl, (refl, tt)))
+name_before_buffers-legal = ok (ok (ok tt))
 
 -- Transmit slots take the smallest buffers, then receive slots, then extras.
 abbrev pub extras_come_last : List Entry
@@ -455,7 +340,7 @@ extras_come_last =
 
 extras_come_last-legal : IsLegal 10 extras_come_last
 unfolding is_name is_switch_port_name is_pipe_name is_monitor_name switch_of peer_name
-extras_come_last-legal = (refl, (refl, (refl, (refl, tt))))
+extras_come_last-legal = ok (ok (ok (ok tt)))
 
 -- A group source is not learned: it hides no address of its bucket.
 abbrev pub group_source : List Entry
@@ -483,46 +368,8 @@ group_source =
 
 group_source-legal : IsLegal 64 group_source
 unfolding is_name is_switch_port_name is_pipe_name is_monitor_name switch_of peer_name
-group_source-legal = (
-  refl,
-  (
-    refl,
-    (
-      refl,
-      (
-        refl,
-        (
-          refl,
-          (
-            refl,
-            (
-              refl,
-              (
-                refl,
-                (
-                  refl,
-                  (
-                    refl,
-                    (
-                      refl,
-                      (
-                        refl,
-                        (
-                          refl,
-                          (refl, (refl, (refl, (refl, tt)))),
-                        ),
-                      ),
-                    ),
-                  ),
-                ),
-              ),
-            ),
-          ),
-        ),
-      ),
-    ),
-  ),
-)
+group_source-legal =
+    ok (ok (ok (ok (ok (ok (ok (ok (ok (ok (ok (ok (ok (ok (ok (ok (ok tt))))))))))))))))
 
 -- A frame marked no-learn teaches nothing.
 abbrev pub no_learn_mark : List Entry
@@ -545,43 +392,7 @@ no_learn_mark =
 
 no_learn_mark-legal : IsLegal 64 no_learn_mark
 unfolding is_name is_switch_port_name is_pipe_name is_monitor_name switch_of peer_name
-no_learn_mark-legal = (
-  refl,
-  (
-    refl,
-    (
-      refl,
-      (
-        refl,
-        (
-          refl,
-          (
-            refl,
-            (
-              refl,
-              (
-                refl,
-                (
-                  refl,
-                  (
-                    refl,
-                    (
-                      refl,
-                      (
-                        refl,
-                        tt,
-                      ),
-                    ),
-                  ),
-                ),
-              ),
-            ),
-          ),
-        ),
-      ),
-    ),
-  ),
-)
+no_learn_mark-legal = ok (ok (ok (ok (ok (ok (ok (ok (ok (ok (ok (ok tt)))))))))))
 
 -- The first run with its closing: all buffers are free at the end.
 abbrev pub first_run_whole : List Entry
@@ -596,46 +407,7 @@ first_run_whole = first_run ++ (
 
 first_run_whole-legal : IsLegal 8192 first_run_whole
 unfolding is_name is_switch_port_name is_pipe_name is_monitor_name switch_of peer_name
-first_run_whole-legal = (
-  refl,
-  (
-    refl,
-    (
-      refl,
-      (
-        refl,
-        (
-          refl,
-          (
-            refl,
-            (
-              refl,
-              (
-                refl,
-                (
-                  refl,
-                  (
-                    refl,
-                    (
-                      refl,
-                      (
-                        refl,
-                        (
-                          refl,
-                          (refl, tt),
-                        ),
-                      ),
-                    ),
-                  ),
-                ),
-              ),
-            ),
-          ),
-        ),
-      ),
-    ),
-  ),
-)
+first_run_whole-legal = ok (ok (ok (ok (ok (ok (ok (ok (ok (ok (ok (ok (ok (ok tt)))))))))))))
 
 first_run_whole-text : transcript_text 8192 first_run_whole
     ≡ codes "vale 1 pool 8192\n1 enter 1\n2 enter 2\n3 1 open vale0:a 4 4 0 = ok\n"
@@ -667,46 +439,7 @@ offer_to_reopened_port = take 7 learned_unicast ++ (
 
 offer_to_reopened_port-legal : IsLegal 64 offer_to_reopened_port
 unfolding is_name is_switch_port_name is_pipe_name is_monitor_name switch_of peer_name
-offer_to_reopened_port-legal = (
-  refl,
-  (
-    refl,
-    (
-      refl,
-      (
-        refl,
-        (
-          refl,
-          (
-            refl,
-            (
-              refl,
-              (
-                refl,
-                (
-                  refl,
-                  (
-                    refl,
-                    (
-                      refl,
-                      (
-                        refl,
-                        (
-                          refl,
-                          tt,
-                        ),
-                      ),
-                    ),
-                  ),
-                ),
-              ),
-            ),
-          ),
-        ),
-      ),
-    ),
-  ),
-)
+offer_to_reopened_port-legal = ok (ok (ok (ok (ok (ok (ok (ok (ok (ok (ok (ok (ok tt))))))))))))
 
 -- A port that is shut waits for the lease of another session; then its frame is counted unread.
 abbrev pub lease_to_shut_port : List Entry
@@ -729,46 +462,7 @@ finish_waits = refl
 
 finish_waits_for_leases-legal : IsLegal 64 finish_waits_for_leases
 unfolding is_name is_switch_port_name is_pipe_name is_monitor_name switch_of peer_name
-finish_waits_for_leases-legal = (
-  refl,
-  (
-    refl,
-    (
-      refl,
-      (
-        refl,
-        (
-          refl,
-          (
-            refl,
-            (
-              refl,
-              (
-                refl,
-                (
-                  refl,
-                  (
-                    refl,
-                    (
-                      refl,
-                      (
-                        refl,
-                        (
-                          refl,
-                          tt,
-                        ),
-                      ),
-                    ),
-                  ),
-                ),
-              ),
-            ),
-          ),
-        ),
-      ),
-    ),
-  ),
-)
+finish_waits_for_leases-legal = ok (ok (ok (ok (ok (ok (ok (ok (ok (ok (ok (ok (ok tt))))))))))))
 
 finish_waits_for_leases-free : free_count (world_of 64 finish_waits_for_leases) ≡ 48
 unfolding is_name is_switch_port_name is_pipe_name is_monitor_name switch_of peer_name

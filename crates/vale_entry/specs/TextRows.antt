@@ -1,5 +1,5 @@
 -- Worked examples of the lines of a transcript.
-use Rattle.std.specs.Prelude.{ℕ, ◌≡◌, ◌∷◌, ◌++◌, [], take, codes, refl}
+use Rattle.std.specs.Prelude.{◌≡◌, ◌∷◌, ◌++◌, [], take, codes, refl}
 use Rattle.std.specs.Fmt.{digits}
 use Rattle.nm_types.specs.declared.fault.OpenFault.TheVariants.{BadSize, SwitchesFull, PortsFull, NameTaken, NoBuffers}
 use Rattle.nm_types.specs.declared.fault.SyncFault.TheVariants as faults

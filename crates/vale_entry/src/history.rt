@@ -56,7 +56,7 @@ fn bytes_of_entry(entry: &Entry) -> u64
 }
 
 impl History {
-    /// No entries. The limit on entries is below 2^32.
+    /// Creates a history without entries, within these limits.
     pub fn new(alloc: Global, limits: Limits) -> History
         requires { limits.entries < 2 ^ 32 }
         ensures entries { result.entries ≡ [] }
@@ -71,7 +71,9 @@ impl History {
         }
     }
 
-    /// Promises room for so many entries more, with so many bytes of frames in the next one.
+    /// Promises room for so many entries more, with so many bytes of frames in the next one. Fails
+    /// with `RecordFull` if the entries, or else the bytes, would pass their limit, and with
+    /// `NoMemory` if there is no memory for the entries.
     pub fn reserve(&mut self, entries: u64, bytes: u64) -> Result<(), StepFault>
         ensures promised { OnOk result (self.new.promised ≡ self.old.promised + entries) }
         ensures entries { self.new.entries ≡ self.old.entries }
@@ -120,7 +122,7 @@ impl History {
         self.promised -= entries;
     }
 
-    /// The number of entries.
+    /// Returns the number of entries.
     pub fn len(&self) -> u32
         ensures len { result ≡ length self.now.entries }
         ensures room { length self.now.entries + self.now.promised ≤ self.now.limits.entries }
@@ -129,7 +131,7 @@ impl History {
         self.entries.len() as u32
     }
 
-    /// The bytes of the frames stored.
+    /// Returns how many bytes the frames stored have together.
     pub fn frame_bytes(&self) -> u64
         ensures bytes { result ≡ frame_bytes self.now.entries }
         ensures room { frame_bytes self.now.entries ≤ self.now.limits.bytes }
@@ -137,14 +139,14 @@ impl History {
         self.bytes
     }
 
-    /// The entries, the first of which has the number 1.
+    /// Returns the entries, of which the first has the number 1.
     pub fn entries(&self) -> &[Entry]
         ensures { result.now ≡ self.now.entries }
     {
         &self.entries
     }
 
-    /// The entry of this number, which there is none of where it is 0 or past the last.
+    /// Returns the entry of this number, or None if `number` is 0 or past the last.
     pub fn get(&self, number: u32) -> Option<&Entry>
         ensures none { number ≡ 0 → option_copied result ≡ None }
         ensures some { 0 < number → option_copied result ≡ slice_get self.now.entries (number - 1) }

@@ -1,5 +1,5 @@
-//! Laws of histories. Each function does nothing; its contract is a law about the definitions, which
-//! the check proves.
+//! Laws of histories. Each function does nothing; its contract is a law about the definitions,
+//! which the check proves.
 #![tactic(auto, using(crate::proofs::HistoryLaws::history_laws))]
 
 ghost use Rattle.vale_entry.specs.DeliveryLaws.{ReadIsPrefixOfGiven, GivenOnlyByWanted, ShortAndLoneAreForNobody, WantedIsSharedOnce, DroppedFramesAreCounted, NothingIsPendingAtTheEnd, SenderOrderIsKept, FramesAreDroppedForCause, RepliesCountFrames, PutsBringOnce, PutsAreOfReply, OutIsCounted, CountersAreSums};
@@ -36,31 +36,32 @@ pub fn counters_are_kept()
     ensures { CountersAreKept }
 {}
 
-/// After every history sessions and ports rise by number, none is numbered beyond the last entry, and
-/// each port, each offer and each lease is of a session that is there.
+/// After every history sessions and ports rise by number, none is numbered beyond the last entry,
+/// and each port, each offer and each lease is of a session that is there.
 pub fn numbers_rise()
     ensures { NumbersRise }
 {}
 
-/// After every legal history no lot is empty, each port keeps a slot to spare, its dues, idle buffers
-/// and lots are all its buffers, and all ports together have no more than the pool.
+/// After every legal history no lot is empty, each port keeps a slot to spare, its dues, idle
+/// buffers and lots are all its buffers, and all ports together have no more than the pool.
 pub fn ports_are_within_sizes()
     ensures { PortsAreWithinSizes }
 {}
 
-/// After every legal history the free buffers rise, so that the first ones are the smallest, and they
-/// are as many as the world says.
+/// After every legal history the free buffers rise, so that the first ones are the smallest, and
+/// they are as many as the world says.
 pub fn free_buffers_rise()
     ensures { FreeBuffersRise }
 {}
 
-/// Buffers that were taken from the front of the free ones, which rise, leave them as they were once they
-/// are given back.
+/// Buffers that were taken from the front of the free ones, which rise, leave them as they were
+/// once they are given back.
 pub fn free_buffers_return()
     ensures { FreeBuffersReturn }
 {}
 
-/// After every legal history each buffer of the pool is held exactly once, and nothing else is held.
+/// After every legal history each buffer of the pool is held exactly once, and nothing else is
+/// held.
 pub fn buffers_are_parted()
     ensures { BuffersAreParted }
 {}
@@ -80,8 +81,8 @@ pub fn pairs_are_of_switch()
     ensures { PairsAreOfSwitch }
 {}
 
-/// After every legal history each watch is of two open ports, of which the one that watches alone has a
-/// monitor's name, and a port has one monitor at most.
+/// After every legal history each watch is of two open ports, of which the one that watches alone
+/// has a monitor's name, and a port has one monitor at most.
 pub fn watches_are_open()
     ensures { WatchesAreOpen }
 {}
@@ -91,8 +92,8 @@ pub fn lots_are_single()
     ensures { LotsAreSingle }
 {}
 
-/// After every legal history each lot bears the number of the entry of its session that brought it: of a
-/// Grant, or of a Put if it was done when it was made.
+/// After every legal history each lot bears the number of the entry of its session that brought it:
+/// of a Grant, or of a Put if it was done when it was made.
 pub fn lots_are_of_entries()
     ensures { LotsAreOfEntries }
 {}
@@ -107,8 +108,8 @@ pub fn room_is_used()
     ensures { RoomIsUsed }
 {}
 
-/// The numbers of each entry of a legal history fit their fields, if the pool has fewer than 2^32 buffers
-/// and the history fewer than 2^32 entries.
+/// The numbers of each entry of a legal history fit their fields, if the pool has fewer than 2^32
+/// buffers and the history fewer than 2^32 entries.
 pub fn legal_histories_fit()
     ensures { LegalHistoriesFit }
 {}
@@ -125,8 +126,8 @@ pub fn read_is_prefix_of_given()
     ensures { ReadIsPrefixOfGiven }
 {}
 
-/// In every legal history what is granted to a port is, each time, a prefix of the frames of an entry
-/// that are wanted there.
+/// In every legal history what is granted to a port is, each time, a prefix of the frames of an
+/// entry that are wanted there.
 #[tactic(auto, using(crate::proofs::DeliveryLaws::delivery_laws))]
 pub fn given_only_by_wanted()
     ensures { GivenOnlyByWanted }
@@ -138,39 +139,39 @@ pub fn short_and_lone_are_for_nobody()
     ensures { ShortAndLoneAreForNobody }
 {}
 
-/// In every legal history the frames of an entry that are wanted at a port stand in one offer until one
-/// Grant shares them out, which counts each of them and gives the first ones.
+/// In every legal history the frames of an entry that are wanted at a port stand in one offer until
+/// one Grant shares them out, which counts each of them and gives the first ones.
 pub fn wanted_is_shared_once()
     ensures { WantedIsSharedOnce }
 {}
 
-/// In every legal history each wanted frame has one fate; those given, full and gone are as many as the
-/// Grant's reply says.
+/// In every legal history each wanted frame has one fate; those given, full and gone are as many as
+/// the Grant's reply says.
 #[tactic(auto, using(crate::proofs::DeliveryLaws::delivery_laws))]
 pub fn dropped_frames_are_counted()
     ensures { DroppedFramesAreCounted }
 {}
 
-/// A Grant of a legal history drops frames for a cause: they are gone where the port is not open, and
-/// full where it is open, those given fit its space, and one more does not.
+/// A Grant of a legal history drops frames for a cause: they are gone where the port is not open,
+/// and full where it is open, those given fit its space, and one more does not.
 pub fn frames_are_dropped_for_cause()
     ensures { FramesAreDroppedForCause }
 {}
 
-/// In every legal history the replies count what is given and read: each Grant its frames, and the Syncs
-/// of a port all that it read.
+/// In every legal history the replies count what is given and read: each Grant its frames, and the
+/// Syncs of a port all that it read.
 pub fn replies_count_frames()
     ensures { RepliesCountFrames }
 {}
 
-/// In every legal history a Put brings frames to a port at most once, and none of its frames is wanted
-/// beside at a port to which it brings some.
+/// In every legal history a Put brings frames to a port at most once, and none of its frames is
+/// wanted beside at a port to which it brings some.
 pub fn puts_bring_once()
     ensures { PutsBringOnce }
 {}
 
-/// What a Put brings to a port is what its reply says was taken, if the port is the other end when the Put
-/// is made; to any other port it brings nothing.
+/// What a Put brings to a port is what its reply says was taken, if the port is the other end when
+/// the Put is made; to any other port it brings nothing.
 pub fn puts_are_of_reply()
     ensures { PutsAreOfReply }
 {}
@@ -181,9 +182,10 @@ pub fn out_is_counted()
     ensures { OutIsCounted }
 {}
 
-/// In every legal history the counters of a port that is there are what its entries tell: the frames of its
-/// Sends and those that its Puts took, which of its Sends' frames were short and which lone, the frames
-/// given to it and those that found it full, and the frames that its Syncs and Gets gave.
+/// In every legal history the counters of a port that is there are what its entries tell: the
+/// frames of its Sends and those that its Puts took, which of its Sends' frames were short and
+/// which lone, the frames given to it and those that found it full, and the frames that its Syncs
+/// and Gets gave.
 pub fn counters_are_sums()
     ensures { CountersAreSums }
 {}

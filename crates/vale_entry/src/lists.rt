@@ -28,6 +28,7 @@ impl From<Vec<u32>> for Numbers {
 impl Numbers {
     ghost use Rattle.std.specs.Prelude.{◌≡◌};
 
+    /// Returns the numbers in their order.
     pub fn as_slice(&self) -> &[u32]
         ensures { result.now ≡ self.now }
     {
@@ -63,6 +64,7 @@ impl From<Vec<Dest>> for Dests {
 impl Dests {
     ghost use Rattle.std.specs.Prelude.{◌≡◌};
 
+    /// Returns the ports in their order.
     pub fn as_slice(&self) -> &[Dest]
         ensures { result.now ≡ self.now }
     {
@@ -100,13 +102,14 @@ impl Items {
     ghost use Rattle.nm_types.specs.Frames.{bytes_of_frames};
     ghost use Rattle.vale_entry.specs.Pipe.{frames_of_items};
 
+    /// Returns the frames in their order.
     pub fn as_slice(&self) -> &[Item]
         ensures { result.now ≡ self.now }
     {
         &self.items
     }
 
-    /// How many bytes the frames have together.
+    /// Returns how many bytes the frames have together.
     pub fn size(&self) -> u64
         requires { bytes_of_frames (frames_of_items self.now) < 2 ^ 64 }
         ensures { result ≡ bytes_of_frames (frames_of_items self.now) }
