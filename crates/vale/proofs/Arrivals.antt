@@ -91,7 +91,7 @@ enter-does b new user small settled idle nobody none is =
       only = none-among s.world.ports s.world.entry_count (s.world.entry_count + 1) (omega arith) (ports-old b);
       holds = λ k. omega arith;
     }) in
-    does-step b new user after Arrive ask made settled called entering (ap (λ (k : ℕ). Some (record { 0 = k + 1 })) (sym count)) new_is after_is (record {
+    does-step b new user after Arrive ask made settled called entering (ap (λ (k : ℕ). Some (record { 0 = k + 1 })) (sym count)) refl new_is after_is (record {
       owns = subst (λ (t : Standing). OwnsAll t n user.ports) (sym now) (subst (λ (k : ℕ). OwnsAll (entered s ask) (k + 1) user.ports) count owned);
       settled = subst (λ (t : Standing). AllSettled t.world) (sym now) (record { offers = settled.offers; leases = settled.leases });
       others = λ other apart later kept. subst (λ (t : Standing). Owns t other) (sym now)

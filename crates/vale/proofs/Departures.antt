@@ -217,11 +217,11 @@ close-does b new user name place own session is legal settled all idle at can sa
     let caller : user.session ≡ Some (record { 0 = can.has.port.session }) = is ∙ ap (λ (k : ℕ). Some (record { 0 = k })) (sym (can.has.session_is ∙ same)) in
     let settled_then : AllSettled (standing middle).world = subst (λ (x : Standing). AllSettled x.world) (sym between) (shut-settled s own can.has.port settled) in
     let first : (rest : List Task) → GoesOn b middle (resting (record user { tasks = ShutPort name ∷ FinishPort name ∷ rest })) (resting (record user { tasks = FinishPort name ∷ rest })) =
-    λ rest. task-runs b user (ShutPort name) (FinishPort name ∷ rest) shuts made settled (ap (option_map shut_call) at.found) made_is caller in
+    λ rest. task-runs b user (ShutPort name) (FinishPort name ∷ rest) shuts made settled (ap (option_map shut_call) at.found) made_is caller refl in
     let second : (rest : List Task) → GoesOn middle new (resting (record user { tasks = FinishPort name ∷ rest })) (resting (record after { tasks = rest })) =
     λ rest. subst (λ (n : Recorded). GoesOn middle n (resting (record user { tasks = FinishPort name ∷ rest })) (resting (record after { tasks = rest }))) (sym new_is)
     (subst (λ (m : Machine). GoesOn middle (with_step middle goes done) (resting (record user { tasks = FinishPort name ∷ rest })) m) (ap (λ (ports : List OwnPort). resting (record user { ports = ports; tasks = rest })) at.removes)
-    (task-runs middle user (FinishPort name) rest goes done settled_then (ap (option_map finish_call) at.found) done_is caller)) in
+    (task-runs middle user (FinishPort name) rest goes done settled_then (ap (option_map finish_call) at.found) done_is caller refl)) in
     let runs : (rest : List Task) → GoesOn b new (resting (record user { tasks = ShutPort name ∷ FinishPort name ∷ rest })) (resting (record after { tasks = rest })) =
     λ rest. runs-then b middle new (resting (record user { tasks = ShutPort name ∷ FinishPort name ∷ rest })) (resting (record user { tasks = FinishPort name ∷ rest })) (resting (record after { tasks = rest })) (first rest) (second rest) in
     let owned : OwnsAll (closed_standing s own can.has.port) session.0 (remove user.ports place) =
@@ -384,7 +384,7 @@ leave-does b new user session settled owns idle is none made =
     let after : Machine = record user { session = None } in
     let new_is : new ≡ with_step b ask outcome = made ∙ after-made b ask outcome made_is in
     let now : standing new ≡ left_standing s session = ap standing new_is ∙ standing-step b ask outcome made_is in
-    does-step b new user after Depart ask outcome settled (ap (option_map Leave) is) made_is is new_is (λ rest. refl) (record {
+    does-step b new user after Depart ask outcome settled (ap (option_map Leave) is) made_is is refl new_is (λ rest. refl) (record {
       owns = none;
       settled = subst (λ (x : Standing). AllSettled x.world) (sym now) (record { offers = settled.offers; leases = settled.leases });
       others = λ other apart later kept. subst (λ (x : Standing). Owns x other) (sym now)

@@ -258,7 +258,7 @@ open-does b new user session name tx rx settled owns idle is on_switch legal rec
     let numbered : Rise 0 (map id_of_port (standing new).world.ports) (standing new).world.entry_count = (world-numbered new.pool new.entries).ports_rise in
     let owned : OwnsAll (opened_standing s ask session.0 name tx rx) session.0 (user.ports ++ opened_own (s.world.entry_count + 1) name given ∷ []) =
     opened-owns b ask session.0 name tx rx user.ports on_switch legal free (subst (λ (t : Standing). Rise 0 (map id_of_port t.world.ports) t.world.entry_count) now numbered) (subst (λ (o : Option SessionId). OwnsBy s o user.ports) is owns) in
-    does-step b new user after task ask made settled (ap (option_map (λ (n : SessionId). Open n name tx rx 0)) is) made_is is new_is after_is (record {
+    does-step b new user after task ask made settled (ap (option_map (λ (n : SessionId). Open n name tx rx 0)) is) made_is is refl new_is after_is (record {
       owns = subst (λ (t : Standing). Owns t after) (sym now)
           (subst (λ (o : Option SessionId). OwnsBy (opened_standing s ask session.0 name tx rx) o after.ports) (sym is)
           (subst (λ (n : ℕ). OwnsAll (opened_standing s ask session.0 name tx rx) session.0 (user.ports ++ opened_own (n + 1) name given ∷ [])) count owned));
@@ -302,7 +302,7 @@ open-refused b new user session name tx rx fault settled owns idle is recorded =
     let new_is : new ≡ with_step b ask made = recorded.entry ∙ after-made b ask made made_is in
     let now : standing new ≡ standing_with s (entry_of ask made) made.next = ap standing new_is ∙ standing-step b ask made made_is in
     let keeps = nothing-keeps s ask session.0 name tx rx fault in
-    does-step b new user user task ask made settled (ap (option_map (λ (n : SessionId). Open n name tx rx 0)) is) made_is is new_is (λ rest. refl) (record {
+    does-step b new user user task ask made settled (ap (option_map (λ (n : SessionId). Open n name tx rx 0)) is) made_is is refl new_is (λ rest. refl) (record {
       owns = subst (λ (t : Standing). Owns t user) (sym now) (owns-kept s (standing_with s (entry_of ask made) made.next) user keeps owns);
       settled = subst (λ (t : Standing). AllSettled t.world) (sym now) (record { offers = settled.offers; leases = settled.leases });
       others = λ other apart later kept. subst (λ (t : Standing). Owns t other) (sym now) (owns-kept s (standing_with s (entry_of ask made) made.next) other keeps kept);

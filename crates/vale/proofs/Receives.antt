@@ -256,7 +256,7 @@ rx-by b new user name place own session is all legal settled idle at g can same 
     let after_is : Rests b user after task ask made = λ rest. ap (λ (ports : List OwnPort). resting (record user { ports = ports; tasks = rest })) (at.changes (after_sync s)) in
     let owns : Owns (synced_standing s ask own.received m.has.port) after =
     subst (λ (o : Option SessionId). OwnsBy (synced_standing s ask own.received m.has.port) o (slice_set user.ports place (after_sync s own))) (sym is) (synced-owns b ask session.0 user.ports place own m legal all at.here) in
-    does-step b new user after task ask made settled (ap (option_map sync_call) at.found) m.made caller new_is after_is (record {
+    does-step b new user after task ask made settled (ap (option_map sync_call) at.found) m.made caller refl new_is after_is (record {
       owns = subst (λ (t : Standing). Owns t after) (sym now) owns;
       settled = subst (λ (t : Standing). AllSettled t.world) (sym now) (synced-settled s ask own.received m.has.port settled m.offers);
       others = λ other apart later kept. subst (λ (t : Standing). Owns t other) (sym now)

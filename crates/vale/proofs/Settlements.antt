@@ -12,7 +12,7 @@ use Rattle.vale_entry.specs.declared.entry.Reply.TheVariants.{Made, Shared}
 use Rattle.vale_entry.specs.World.{World, Port, Lot, Offer, open_port, changed_if, changed_at, is_owed_by}
 use Rattle.vale_entry.specs.Delivery.{line_of, is_lease, done_if, lot_after_done, port_after_done, ports_after_done}
 use Rattle.vale_entry.specs.Grant.{given_at, granted_frames, grant_reply_at, with_lot, port_after_grant, without_first}
-use Rattle.vale_entry.specs.Legal.{Standing, Outcome, step, recorded_step, standing_with, standing_after, grant_step, IsEnabled}
+use Rattle.vale_entry.specs.Legal.{Standing, Outcome, step, recorded_step, standing_with, standing_after, grant_step, IsEnabled, kept_ask}
 use Rattle.vale_entry.specs.Offers.{dest_of, dests_of, is_offer_of}
 use Rattle.vale_entry.proofs.Each.{each-weaker, each-append, each-map, each-changed_at, each-find}
 use Rattle.vale_entry.proofs.ListLaws.{place-of}
@@ -27,7 +27,7 @@ use Rattle.vale.proofs.Turns.{runs-none, runs-step, runs-then}
 use Rattle.vale.proofs.Owning.{LooksAs, has-changed_at, has-mapped, only-changed_at, only-mapped, KeepsOwned, owns-kept}
 
 -- what stands after a step
-pub standing-step : (b : Recorded) (ask : Ask) (made : Outcome) → recorded_step (standing b) ask made.reply ≡ Some made
+pub standing-step : (b : Recorded) (ask : Ask) (made : Outcome) → recorded_step (standing b) (kept_ask ask) made.reply ≡ Some made
     → standing (with_step b ask made) ≡ standing_with (standing b) (entry_of ask made) made.next
 standing-step b ask made is = standing-push b.pool b.entries (entry_of ask made) ∙ ap (standing_after (standing b) (entry_of ask made)) is
 
@@ -318,9 +318,9 @@ call-done t session origin number rest user l is =
 
 -- one entry that settles
 settle-runs : (b : Recorded) (ask : Ask) (made : Outcome) (user : Machine) → answered (standing b) (entry_of ask made) user ≡ user → resting user ≡ user → next_call (standing b) user ≡ Some ask
-    → recorded_step (standing b) ask made.reply ≡ Some made → caller_of (length b.entries + 1) user ask ≡ Some (record { 0 = made.session }) → GoesOn b (with_step b ask made) user user
-settle-runs b ask made user same idle called recorded caller =
-    subst (λ (m : Machine). GoesOn b (with_step b ask made) user m) (ap resting same ∙ idle) (runs-step b user ask made called recorded caller)
+    → recorded_step (standing b) (kept_ask ask) made.reply ≡ Some made → caller_of (length b.entries + 1) user ask ≡ Some (record { 0 = made.session }) → kept_ask ask ≡ ask → GoesOn b (with_step b ask made) user user
+settle-runs b ask made user same idle called recorded caller kept =
+    subst (λ (m : Machine). GoesOn b (with_step b ask made) user m) (ap resting same ∙ idle) (runs-step b user ask made called recorded caller kept)
 
 some-same : {X : Type 0} (x y : X) → Some x ≡ Some y → x ≡ y
 some-same x y e = cc
@@ -346,7 +346,7 @@ settles-empty b origin to given full gone said none session first rest first_to 
     let left : Owes (standing_with s (entry_of ask made) made.next).world session origin rest = record { offers = kept.offers; of_entry = kept.of_entry; leases = kept.leases } in
     subst (λ (n : Recorded). Settles b n session × Owes (standing n).world session origin rest) (sym new) (
       record {
-        runs = λ user is idle. settle-runs b ask made user refl idle (call-grant s session origin to rest user g owes.leases is) g.made (is ∙ ap (λ n. Some (record { 0 = n })) (sym g.session_is));
+        runs = λ user is idle. settle-runs b ask made user refl idle (call-grant s session origin to rest user g owes.leases is) g.made (is ∙ ap (λ n. Some (record { 0 = n })) (sym g.session_is)) refl;
         sessions = ap (λ (t : Standing). t.world.sessions) now;
         keeps = λ user owns. subst (λ (t : Standing). Owns t user) (sym now) (owns-kept s (standing_with s (entry_of ask made) made.next) user (grant-keeps s g.offer (entry_of ask made)) owns);
       },
@@ -391,8 +391,8 @@ settles-leased b origin to given full gone said some session first rest first_to
     subst (λ (n : Recorded). Settles b n session × Owes (standing n).world session origin rest) (sym is_new) (
       record {
         runs = λ user is idle. runs-then b middle (with_step middle end finished) user user user
-            (subst (λ (m : Recorded). GoesOn b m user user) (sym is_middle) (settle-runs b ask made user refl idle (call-grant s session origin to rest user g owes.leases is) g.made (is ∙ ap (λ n. Some (record { 0 = n })) (sym g.session_is))))
-            (settle-runs middle end finished user refl idle (call-done t session origin number rest user l is) d.made (is ∙ ap (λ n. Some (record { 0 = n })) (sym d.session_is)));
+            (subst (λ (m : Recorded). GoesOn b m user user) (sym is_middle) (settle-runs b ask made user refl idle (call-grant s session origin to rest user g owes.leases is) g.made (is ∙ ap (λ n. Some (record { 0 = n })) (sym g.session_is)) refl))
+            (settle-runs middle end finished user refl idle (call-done t session origin number rest user l is) d.made (is ∙ ap (λ n. Some (record { 0 = n })) (sym d.session_is)) refl);
         sessions = ap (λ (x : Standing). x.world.sessions) (then' ∙ refl) ∙ ap (λ (x : Standing). x.world.sessions) now;
         keeps = λ user owns.
             let between : Owns t user = subst (λ (x : Standing). Owns x user) (sym now) (owns-kept s (standing_with s (entry_of ask made) made.next) user (grant-keeps s g.offer (entry_of ask made)) owns) in

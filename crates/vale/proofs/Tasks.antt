@@ -8,7 +8,7 @@ use Rattle.nm_types.specs.declared.fault.StepFault.{StepFault}
 use Rattle.nm_types.specs.declared.fault.StepFault.TheVariants.{RecordFull, NoMemory}
 use Rattle.vale_entry.specs.declared.entry.Ask.{Ask}
 use Rattle.vale_entry.specs.World.{World, is_session}
-use Rattle.vale_entry.specs.Legal.{Standing, Outcome, recorded_step}
+use Rattle.vale_entry.specs.Legal.{Standing, Outcome, recorded_step, kept_ask}
 use Rattle.vale_book.specs.Recorded.{Recorded, standing, entry_of, with_step, IsRefusal}
 use Rattle.vale.specs.declared.port.OwnPort.{OwnPort}
 use Rattle.vale.specs.Machine.{Machine, Task, next_call, settling_call, call_of_task, call_of_tasks, resting, answered, own_port, is_named, ports_after_task}
@@ -40,22 +40,22 @@ task-call s user task rest ask settled called =
 
 -- its entry
 pub task-runs : (b : Recorded) (user : Machine) (task : Task) (rest : List Task) (ask : Ask) (made : Outcome) → AllSettled (standing b).world → call_of_task user task ≡ Some ask
-    → recorded_step (standing b) ask made.reply ≡ Some made → caller_of (length b.entries + 1) user ask ≡ Some (record { 0 = made.session })
-    → GoesOn b (with_step b ask made) (resting (record user { tasks = task ∷ rest })) (resting (answered (standing b) (entry_of ask made) (record user { tasks = task ∷ rest })))
-task-runs b user task rest ask made settled called recorded caller =
+    → recorded_step (standing b) (kept_ask ask) made.reply ≡ Some made → caller_of (length b.entries + 1) user ask ≡ Some (record { 0 = made.session })
+    → kept_ask ask ≡ ask → GoesOn b (with_step b ask made) (resting (record user { tasks = task ∷ rest })) (resting (answered (standing b) (entry_of ask made) (record user { tasks = task ∷ rest })))
+task-runs b user task rest ask made settled called recorded caller kept =
     subst (λ (m : Machine). GoesOn b (with_step b ask made) m (resting (answered (standing b) (entry_of ask made) (record user { tasks = task ∷ rest })))) (sym (rest-calls user task rest ask called))
-    (runs-step b (record user { tasks = task ∷ rest }) ask made (next-settled (standing b) (record user { tasks = task ∷ rest }) settled ∙ called) recorded caller)
+    (runs-step b (record user { tasks = task ∷ rest }) ask made (next-settled (standing b) (record user { tasks = task ∷ rest }) settled ∙ called) recorded caller kept)
 
 -- the user does a task whose call this is, and rests as this one
 abbrev pub Rests : Recorded → Machine → Machine → Task → Ask → Outcome → Type 0
 Rests b user after task ask made = (rest : List Task) → resting (answered (standing b) (entry_of ask made) (record user { tasks = task ∷ rest })) ≡ resting (record after { tasks = rest })
 
 pub does-step : (b new : Recorded) (user after : Machine) (task : Task) (ask : Ask) (made : Outcome) → AllSettled (standing b).world → call_of_task user task ≡ Some ask
-    → recorded_step (standing b) ask made.reply ≡ Some made → caller_of (length b.entries + 1) user ask ≡ Some (record { 0 = made.session }) → new ≡ with_step b ask made → Rests b user after task ask made → KeepsOrder b new user after
+    → recorded_step (standing b) (kept_ask ask) made.reply ≡ Some made → caller_of (length b.entries + 1) user ask ≡ Some (record { 0 = made.session }) → kept_ask ask ≡ ask → new ≡ with_step b ask made → Rests b user after task ask made → KeepsOrder b new user after
     → DoesTasks b new (task ∷ []) user after
-does-step b new user after task ask made settled called recorded caller is rests order = record {
+does-step b new user after task ask made settled called recorded caller kept is rests order = record {
   runs = λ rest. subst (λ (n : Recorded). GoesOn b n (resting (record user { tasks = task ∷ rest })) (resting (record after { tasks = rest }))) (sym is)
-      (subst (λ (m : Machine). GoesOn b (with_step b ask made) (resting (record user { tasks = task ∷ rest })) m) (rests rest) (task-runs b user task rest ask made settled called recorded caller));
+      (subst (λ (m : Machine). GoesOn b (with_step b ask made) (resting (record user { tasks = task ∷ rest })) m) (rests rest) (task-runs b user task rest ask made settled called recorded caller kept));
   order = order;
 }
 

@@ -61,7 +61,7 @@ sends-go b new user after task rest own settled h called sends same rests is =
     let ask : Ask = send_call own in
     let caller = sends-session b new user own settled h sends in
     let first : GoesOn b (with_step b ask sends.made) (resting (record user { tasks = task ∷ rest })) after =
-    subst (λ (m : Machine). GoesOn b (with_step b ask sends.made) (resting (record user { tasks = task ∷ rest })) m) is (task-runs b user task rest ask sends.made settled called sends.made_is caller) in
+    subst (λ (m : Machine). GoesOn b (with_step b ask sends.made) (resting (record user { tasks = task ∷ rest })) m) is (task-runs b user task rest ask sends.made settled called sends.made_is caller refl) in
     runs-then b (with_step b ask sends.made) new (resting (record user { tasks = task ∷ rest })) after after first (sends.settles.runs after (same ∙ caller) rests)
 
 -- all others stay as they are

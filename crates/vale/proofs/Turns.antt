@@ -6,7 +6,7 @@ use Rattle.std.proofs.lemmas.Option.{slice_get_within}
 use Rattle.std.proofs.Math.Seq.{take-append_seam}
 use Rattle.vale_entry.specs.declared.entry.Ask.{Ask}
 use Rattle.vale_entry.specs.declared.entry.Entry.{Entry}
-use Rattle.vale_entry.specs.Legal.{Standing, Outcome, Follows, recorded_step, session_and_reply, standing_of}
+use Rattle.vale_entry.specs.Legal.{Standing, Outcome, Follows, recorded_step, session_and_reply, standing_of, kept_ask}
 use Rattle.vale_book.specs.Recorded.{Recorded, standing, entry_of, with_step}
 use Rattle.vale.specs.Machine.{Machine, next_call, answered, resting}
 use Rattle.vale.specs.Replay.{TakesTurn, TakesTurns, standing_before, caller_of}
@@ -64,17 +64,18 @@ range-append from (suc count) more =
 
 -- the entry behind a history, which is the user's next call
 pub turn-next : (pool : ℕ) (history : List Entry) (before : Machine) (ask : Ask) (made : Outcome) → next_call (standing_of pool history) before ≡ Some ask
-    → recorded_step (standing_of pool history) ask made.reply ≡ Some made → caller_of (length history + 1) before ask ≡ Some (record { 0 = made.session })
+    → recorded_step (standing_of pool history) (kept_ask ask) made.reply ≡ Some made → caller_of (length history + 1) before ask ≡ Some (record { 0 = made.session })
+    → kept_ask ask ≡ ask
     → TakesTurn pool (history ++ entry_of ask made ∷ []) before (length history + 1) (resting (answered (standing_of pool history) (entry_of ask made) before))
-turn-next pool history before ask made called recorded caller =
+turn-next pool history before ask made called recorded caller kept =
     let at : length history + 1 - 1 ≡ length history = omega arith in
     let same : standing_before pool (history ++ entry_of ask made ∷ []) (length history + 1) ≡ standing_of pool history =
     ap (λ n. standing_of pool (take n (history ++ entry_of ask made ∷ []))) at ∙ ap (standing_of pool) (take-append_seam history (entry_of ask made ∷ [])) in
     record {
       entry = entry_of ask made;
       there = ap (slice_get (history ++ entry_of ask made ∷ [])) at ∙ slice_get-seam history (entry_of ask made) [];
-      asked = ap (λ (s : Standing). next_call s before) same ∙ called;
-      caller = caller;
+      asked = ap (λ (s : Standing). next_call s before) same ∙ (called ∙ ap Some (sym kept));
+      caller = subst (λ (a : Ask). caller_of (length history + 1) before a ≡ Some (record { 0 = made.session })) (sym kept) caller;
       follows = subst (λ (s : Standing). Follows s (entry_of ask made)) (sym same) (ap (option_map session_and_reply) recorded);
       goes_on = ap (λ (s : Standing). resting (answered s (entry_of ask made) before)) (sym same);
     }
@@ -84,13 +85,13 @@ pub runs-none : (book : Recorded) (user : Machine) → GoesOn book book user use
 runs-none book user = record { more = []; grown = ap (λ (es : List Entry). record book { entries = es }) (sym (append-nil book.entries)); turns = refl }
 
 -- one entry
-pub runs-step : (book : Recorded) (user : Machine) (ask : Ask) (made : Outcome) → next_call (standing book) user ≡ Some ask → recorded_step (standing book) ask made.reply ≡ Some made
-    → caller_of (length book.entries + 1) user ask ≡ Some (record { 0 = made.session })
+pub runs-step : (book : Recorded) (user : Machine) (ask : Ask) (made : Outcome) → next_call (standing book) user ≡ Some ask → recorded_step (standing book) (kept_ask ask) made.reply ≡ Some made
+    → caller_of (length book.entries + 1) user ask ≡ Some (record { 0 = made.session }) → kept_ask ask ≡ ask
     → GoesOn book (with_step book ask made) user (resting (answered (standing book) (entry_of ask made) user))
-runs-step book user ask made called recorded caller = record {
+runs-step book user ask made called recorded caller kept = record {
   more = entry_of ask made ∷ [];
   grown = refl;
-  turns = (resting (answered (standing book) (entry_of ask made) user), (turn-next book.pool book.entries user ask made called recorded caller, refl));
+  turns = (resting (answered (standing book) (entry_of ask made) user), (turn-next book.pool book.entries user ask made called recorded caller kept, refl));
 }
 
 -- one after the other

@@ -2,13 +2,13 @@
 use Rattle.std.proofs.Common.{ℕ, [], ◌∷◌, ◌++◌, ◌≡◌, ◌+◌, ◌<◌, ◌^◌, length, refl, ◌∙◌, ap, Some, Option}
 use Rattle.vale_entry.specs.declared.entry.Ask.{Ask}
 use Rattle.vale_entry.specs.declared.entry.Ask.TheVariants.{Enter}
-use Rattle.vale_entry.specs.Legal.{Standing, Outcome, recorded_step, step, holdings_of, standing_after, enter_step}
+use Rattle.vale_entry.specs.Legal.{Standing, Outcome, recorded_step, step, holdings_of, standing_after, enter_step, kept_ask}
 use Rattle.vale_entry.proofs.Worlds.{standing-push, count-world_of}
 use Rattle.vale_book.proofs.Enters.{enter-made}
 use Rattle.vale_book.specs.Recorded.{Recorded, standing, served_step, after_ask, after_outcome, entry_of}
 
 -- what sessions hold after a step is what the step says
-pub sessions-step : (b : Recorded) (ask : Ask) (made : Outcome) → served_step (standing b) ask ≡ Some made → recorded_step (standing b) ask made.reply ≡ Some made
+pub sessions-step : (b : Recorded) (ask : Ask) (made : Outcome) → served_step (standing b) ask ≡ Some made → recorded_step (standing b) (kept_ask ask) made.reply ≡ Some made
     → (holdings_of b.pool (after_ask b ask).entries).sessions ≡ made.next.holdings.sessions
 sessions-step b ask made is stored =
     let next : (after_ask b ask).entries ≡ b.entries ++ entry_of ask made ∷ [] = ap (λ (o : Option Outcome). (after_outcome b ask o).entries) is in

@@ -1,18 +1,20 @@
 -- Each entry of a record had room in what stood before it: one entry more, and what follows for the
 -- limits.
-use Rattle.std.proofs.Common.{ℕ, List, [], ◌∷◌, ◌++◌, ◌≡◌, ◌≤◌, ◌+◌, Option, Some, None, option_map, Result, Ok, Err, OnOk, OnErr, refl, true, sym, ◌∙◌, ap, subst, arith}
+use Rattle.std.proofs.Common.{ℕ, List, [], ◌∷◌, ◌++◌, ◌≡◌, ◌≤◌, ◌+◌, Option, Some, None, option_map, Result, Ok, Err, OnOk, OnErr, refl, true, sym, ◌∙◌, ap, subst, arith, length}
 use Rattle.std.proofs.lemmas.List.{append-nil, append_assoc}
 use Rattle.std.proofs.lemmas.List.Sums.{sum_by_push}
 use Rattle.vale_entry.specs.declared.entry.Ask.{Ask}
 use Rattle.vale_entry.specs.declared.entry.Ask.TheVariants.{Enter, Open, Send, Grant, Done, Sync, Reset, Shut, Finish, Leave, Put, PutKept, Get, Watch, Stat}
 use Rattle.vale_entry.specs.declared.entry.Reply.{Reply}
 use Rattle.vale_entry.specs.declared.entry.Entry.{Entry}
-use Rattle.vale_entry.specs.Legal.{Standing, Outcome, step, recorded_step, session_and_reply, Follows, IsLegal, IsLegalFrom}
+use Rattle.vale_entry.specs.Legal.{Standing, Outcome, step, recorded_step, session_and_reply, Follows, IsLegal, IsLegalFrom, kept_ask}
 use Rattle.vale_entry.specs.Room.{room_used, bytes_of, bytes_of_entry, frame_bytes}
 use Rattle.vale_entry.proofs.HistoryLaws.{room-used}
 use Rattle.vale_entry.proofs.Worlds.{standing-push, legal-push}
 use Rattle.vale_entry.proofs.Wants.{is_owed, want-owed}
-use Rattle.vale_book.specs.Recorded.{Recorded, standing, served_step, entry_of, after_outcome, after_ask, room_by, HasRoom, HadRoomFrom, HadRoom, IsWithinLimits}
+use Rattle.vale_book.specs.Recorded.{Recorded, standing, served_step, entry_of, after_outcome, after_ask, room_by, HasRoom, HadRoomFrom, HadRoom, IsWithinLimits, HasRoomFor}
+use Rattle.vale_entry.specs.declared.entry.Item.{Item}
+use Rattle.nm_types.specs.declared.id.PortId.{PortId}
 
 abbrev HadRoomFor : Recorded → Entry → List Entry → Type 0
 HadRoomFor b entry h = room_by (record b { entries = h }) entry.ask (recorded_step (standing (record b { entries = h })) entry.ask entry.reply)
@@ -24,8 +26,39 @@ had-push b [] entry had room = (subst (HadRoomFor b entry) (append-nil b.entries
 had-push b (e ∷ es) entry had room =
     (had.0, had-push (record b { entries = b.entries ++ e ∷ [] }) es entry had.1 (subst (HadRoomFor b entry) (sym (append_assoc b.entries (e ∷ []) es)) room))
 
+-- an ask and how it is stored differ where it is a Put alone
+kept-by : (P : Ask → Ask → Type 0) → ((port : PortId) (offered : List Item) → P (Put port offered) (PutKept port (length offered)))
+    → ((ask : Ask) → P ask ask) → (ask : Ask) → P ask (kept_ask ask)
+kept-by P put same (Put port offered) = put port offered
+kept-by P put same (Enter user) = same (Enter user)
+kept-by P put same (Open session name tx rx extra) = same (Open session name tx rx extra)
+kept-by P put same (Send port frames) = same (Send port frames)
+kept-by P put same (Grant origin to) = same (Grant origin to)
+kept-by P put same (Done lease) = same (Done lease)
+kept-by P put same (Sync port back) = same (Sync port back)
+kept-by P put same (Reset port side fault) = same (Reset port side fault)
+kept-by P put same (Shut port) = same (Shut port)
+kept-by P put same (Finish port bufs chain) = same (Finish port bufs chain)
+kept-by P put same (Leave session) = same (Leave session)
+kept-by P put same (PutKept port offered) = same (PutKept port offered)
+kept-by P put same (Get port back) = same (Get port back)
+kept-by P put same (Watch monitor target sides) = same (Watch monitor target sides)
+kept-by P put same (Stat port) = same (Stat port)
+
+bytes-kept : (ask : Ask) (reply : Reply) → bytes_of (kept_ask ask) reply ≡ bytes_of ask reply
+bytes-kept ask reply = kept-by (λ a k. bytes_of k reply ≡ bytes_of a reply) (λ port offered. refl) (λ a. refl) ask
+
+owed-kept : (ask : Ask) → is_owed (kept_ask ask) ≡ is_owed ask
+owed-kept ask = kept-by (λ a k. is_owed k ≡ is_owed a) (λ port offered. refl) (λ a. refl) ask
+
+pub served-kept : (s : Standing) (ask : Ask) (made : Outcome) → served_step s ask ≡ Some made → kept_ask ask ≡ ask
+served-kept s ask made is = kept-by (λ a k. served_step s a ≡ Some made → k ≡ a) (λ port offered e. absurd cc) (λ a e. refl) ask is
+
+room-kept : (b : Recorded) (ask : Ask) (made : Outcome) → HasRoomFor b ask made → HasRoomFor b (kept_ask ask) made
+room-kept b ask made room = (room.0, rw (bytes-kept ask made.reply) room.1)
+
 -- what is served is what its entry records
-pub served-recorded : (s : Standing) (ask : Ask) (made : Outcome) → served_step s ask ≡ Some made → recorded_step s ask made.reply ≡ Some made
+pub served-recorded : (s : Standing) (ask : Ask) (made : Outcome) → served_step s ask ≡ Some made → recorded_step s (kept_ask ask) made.reply ≡ Some made
 served-recorded s (Enter user) made e = e
 served-recorded s (Open session name tx rx extra) made e = e
 served-recorded s (Send port frames) made e = e
@@ -49,7 +82,7 @@ had-after old new ask had made room = subst HadRoom (sym made) (by_outcome (serv
     by_outcome : (made : Option Outcome) → served_step (standing old) ask ≡ made → room_by old ask made → HadRoom (after_outcome old ask made)
     by_outcome None is room = had
     by_outcome (Some made) is room =
-        had-push (record old { entries = [] }) old.entries (entry_of ask made) had (subst (room_by old ask) (sym (served-recorded (standing old) ask made is)) room)
+        had-push (record old { entries = [] }) old.entries (entry_of ask made) had (subst (room_by old (kept_ask ask)) (sym (served-recorded (standing old) ask made is)) (room-kept old ask made room))
 
 -- whether it was made or not
 pub had-made : {A E : Type 0} (r : Result A E) (old new : Recorded) (ask : Ask) → HadRoom old → OnOk r (new ≡ after_ask old ask) → OnOk r (HasRoom old ask) → OnErr r (new ≡ old)
@@ -102,5 +135,6 @@ room-owed b ask legal had owed = by_outcome (served_step (standing b) ask) refl
     by_outcome None is = tt
     by_outcome (Some made) is =
         let within = within-had b legal had in
-        let free = want-owed (standing b) ask made owed (served-recorded (standing b) ask made is) in
-        (omega (arith, within.0, free.0), omega (arith, within.1, free.1))
+        let free = want-owed (standing b) (kept_ask ask) made (owed-kept ask ∙ owed) (served-recorded (standing b) ask made is) in
+        let none : bytes_of ask made.reply ≡ 0 = sym (bytes-kept ask made.reply) ∙ free.1 in
+        (omega (arith, within.0, free.0), omega (arith, within.1, none))

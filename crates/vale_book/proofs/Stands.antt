@@ -5,7 +5,7 @@ use Rattle.std.proofs.lemmas.List.{length-append}
 use Rattle.vale_entry.specs.declared.entry.Ask.{Ask}
 use Rattle.vale_entry.specs.declared.entry.Entry.{Entry}
 use Rattle.vale_entry.specs.World.{World, Pair, Offer}
-use Rattle.vale_entry.specs.Legal.{Standing, Outcome, standing_of, world_of, IsLegal, standing_after, recorded_step, Follows}
+use Rattle.vale_entry.specs.Legal.{Standing, Outcome, standing_of, world_of, IsLegal, standing_after, recorded_step, Follows, kept_ask}
 use Rattle.vale_entry.specs.Room.{promised_of}
 use Rattle.vale_entry.specs.Counters.{counts_after}
 use Rattle.vale_entry.specs.Laws.{room_back}
@@ -23,7 +23,7 @@ pub record AreParts (pool count : ℕ) (made : Outcome) (sessions : List ℕ) (s
 
 -- the room promised goes by what the step takes, wants and gives back
 pub stands-next : (pool : ℕ) (h : List Entry) (ask : Ask) (made : Outcome) (before promised : ℕ) (sessions : List ℕ) (seats : List Seat) (pairs : List Pair) (offers : List Offer) (free : List ℕ)
-    → IsLegal pool h → before ≡ promised_of (world_of pool h) → recorded_step (standing_of pool h) ask made.reply ≡ Some made
+    → IsLegal pool h → before ≡ promised_of (world_of pool h) → recorded_step (standing_of pool h) (kept_ask ask) made.reply ≡ Some made
     → promised + 1 + room_back made.reply ≡ before + made.want
     → AreParts pool (length h + 1) made sessions seats pairs offers free
     → Stands pool (h ++ entry_of ask made ∷ []) promised sessions seats pairs offers free
@@ -48,7 +48,7 @@ stands-next pool h ask made before promised sessions seats pairs offers free leg
 
 -- a step that wants no room was promised it
 pub owed-next : (pool : ℕ) (h : List Entry) (ask : Ask) (made : Outcome) (before : ℕ)
-    → IsLegal pool h → before ≡ promised_of (world_of pool h) → recorded_step (standing_of pool h) ask made.reply ≡ Some made
+    → IsLegal pool h → before ≡ promised_of (world_of pool h) → recorded_step (standing_of pool h) (kept_ask ask) made.reply ≡ Some made
     → made.want ≡ 0 → 1 + room_back made.reply ≤ before
 owed-next pool h ask made before legal owed is none =
     let follows : Follows (standing_of pool h) (entry_of ask made) = rw is refl in

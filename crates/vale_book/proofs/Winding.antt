@@ -12,7 +12,7 @@ use Rattle.vale_entry.specs.World.{World, Lot, Offer}
 use Rattle.vale_entry.specs.Delivery.{lease_at, ports_after_done}
 use Rattle.vale_entry.specs.Holdings.{Holdings}
 use Rattle.vale_entry.specs.Grant.{first_offer}
-use Rattle.vale_entry.specs.Legal.{Standing, Outcome, step, recorded_step, standing_of, standing_with, standing_after, Follows, IsLegal, IsEnabled, grant_step, grant_step_at, done_step, done_step_at}
+use Rattle.vale_entry.specs.Legal.{Standing, Outcome, step, recorded_step, standing_of, standing_with, standing_after, Follows, IsLegal, IsEnabled, grant_step, grant_step_at, done_step, done_step_at, kept_ask}
 use Rattle.vale_entry.specs.Room.{promised_of}
 use Rattle.vale_entry.proofs.Enabled.{enabled-has, has-enabled}
 use Rattle.vale_entry.proofs.HistoryLaws.{room-promised}
@@ -24,6 +24,7 @@ use Rattle.vale_book.specs.declared.book.Book.TheInside.{Inside}
 use Rattle.vale_book.specs.BookView.{recorded, StandsIn}
 use Rattle.vale_book.specs.Recorded.{Recorded, standing, served_step, after_outcome, after_ask, with_step, entry_of}
 use Rattle.vale_book.specs.Winding.{IsContinued, GoesToEnd, next_ending}
+use Rattle.vale_book.proofs.Rooms.{served-kept}
 
 pub continued-same : (b : Recorded) → IsContinued b b
 continued-same b = record { pool = refl; limits = refl; more = []; is = sym (append-nil b.entries); goes = tt }
@@ -43,9 +44,10 @@ goes-on pool h (first ∷ one) two goes later =
     let along : GoesToEnd pool ((h ++ first ∷ []) ++ one) two = subst (λ (old : List Entry). GoesToEnd pool old two) (sym (append_assoc h (first ∷ []) one)) later in
     (goes.0, goes-on pool (h ++ first ∷ []) one two goes.1 along)
 
-continued-step : (old b : Recorded) (ask : Ask) (made : Outcome) → IsContinued old b → next_ending (standing b) ≡ Some ask → IsContinued old (with_step b ask made)
-continued-step old b ask made on next =
-    let here : next_ending (standing_of old.pool (old.entries ++ on.more)) ≡ Some ask = rw (← on.pool, ← on.is) next in
+continued-step : (old b : Recorded) (ask : Ask) (made : Outcome) → IsContinued old b → next_ending (standing b) ≡ Some ask → kept_ask ask ≡ ask → IsContinued old (with_step b ask made)
+continued-step old b ask made on next kept =
+    let stored : next_ending (standing b) ≡ Some (kept_ask ask) = next ∙ ap Some (sym kept) in
+    let here : next_ending (standing_of old.pool (old.entries ++ on.more)) ≡ Some (kept_ask ask) = rw (← on.pool, ← on.is) stored in
     record {
       pool = on.pool;
       limits = on.limits;
@@ -56,11 +58,11 @@ continued-step old b ask made on next =
 
 -- the ask that comes next adds to the entries, or leaves them
 pub continued-after : (old b : Recorded) (ask : Ask) → IsContinued old b → next_ending (standing b) ≡ Some ask → IsContinued old (after_ask b ask)
-continued-after old b ask on next = by_outcome (served_step (standing b) ask)
+continued-after old b ask on next = by_outcome (served_step (standing b) ask) refl
   where
-    by_outcome : (made : Option Outcome) → IsContinued old (after_outcome b ask made)
-    by_outcome None = on
-    by_outcome (Some made) = continued-step old b ask made on next
+    by_outcome : (made : Option Outcome) → served_step (standing b) ask ≡ made → IsContinued old (after_outcome b ask made)
+    by_outcome None is = on
+    by_outcome (Some made) is = continued-step old b ask made on next (served-kept (standing b) ask made is)
 
 pub continued-on : (old mid new : Recorded) → IsContinued old mid → IsContinued mid new → IsContinued old new
 continued-on old mid new one two =
@@ -79,7 +81,7 @@ pub record IsStepped (b new : Recorded) (ask : Ask) (made : Outcome) : Type 0 wh
   pub legal : IsLegal new.pool new.entries
   pub less : promised_of (standing new).world < promised_of (standing b).world
 
-pub stepped : (b new : Recorded) (ask : Ask) (made : Outcome) → new ≡ after_ask b ask → IsLegal b.pool b.entries → served_step (standing b) ask ≡ Some made → recorded_step (standing b) ask made.reply ≡ Some made
+pub stepped : (b new : Recorded) (ask : Ask) (made : Outcome) → new ≡ after_ask b ask → IsLegal b.pool b.entries → served_step (standing b) ask ≡ Some made → recorded_step (standing b) (kept_ask ask) made.reply ≡ Some made
     → made.want ≡ 0 → IsStepped b new ask made
 stepped b new ask made new_is legal is stored none =
     let entry = entry_of ask made in

@@ -8,7 +8,7 @@ use Rattle.vale_entry.specs.declared.entry.Ask.{Ask}
 use Rattle.vale_entry.specs.declared.entry.Ask.TheVariants.{Enter, Open, Send, Grant, Done, Sync, Reset, Shut, Finish, Leave, Put, PutKept, Get, Watch, Stat}
 use Rattle.vale_entry.specs.declared.entry.Reply.{Reply}
 use Rattle.vale_entry.specs.declared.entry.Entry.{Entry}
-use Rattle.vale_entry.specs.Legal.{Standing, Outcome, step, recorded_step, reply_to, standing_of}
+use Rattle.vale_entry.specs.Legal.{Standing, Outcome, step, recorded_step, reply_to, standing_of, kept_ask}
 pub use Rattle.vale_entry.specs.Legal.{reply_of}
 use Rattle.vale_entry.specs.Room.{room_used, bytes_of, frame_bytes}
 
@@ -46,9 +46,9 @@ served_step s ask = if is_served ask then step s ask else None
 abbrev pub served_reply : Standing → Ask → Option Reply
 served_reply s ask = if is_served ask then reply_to s ask else None
 
--- the entry of a step
+-- the entry of a step, as it is stored
 abbrev pub entry_of : Ask → Outcome → Entry
-entry_of ask made = record { session = record { 0 = made.session }; ask = ask; reply = made.reply }
+entry_of ask made = record { session = record { 0 = made.session }; ask = kept_ask ask; reply = made.reply }
 
 -- the record with the entry of a step more
 abbrev pub with_step : Recorded → Ask → Outcome → Recorded
