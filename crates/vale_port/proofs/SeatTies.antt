@@ -1,0 +1,311 @@
+-- Ports of owned buffers and the seats of the world that they stand for: each step keeps the tie.
+use Rattle.std.proofs.Common.{ℕ, zero, suc, Bool, true, false, not, ◌≡◌, ◌+◌, ◌-◌, ◌<◌, ◌≤◌, List, [], ◌∷◌, ◌++◌, length, take, drop, map, Option, Some, None, inl, inr, if◌then◌else◌, refl, sym, ◌∙◌, ap, subst, arith}
+use Rattle.std.specs.Prelude.{flat_map, All, sum, sum_by, nat_le, ◌==◌}
+use Rattle.std.specs.List.{take_while}
+use Rattle.std.proofs.lemmas.Bool.{cases_Bool, ne_eqb, eq-eqb, eqb-true, leb-true}
+use Rattle.std.proofs.lemmas.List.{length-append, length-map, length-drop}
+use Rattle.std.proofs.lemmas.List.Elements.{All-head, All-tail}
+use Rattle.std.proofs.lemmas.List.Sums.{sum_by-cons}
+use Rattle.nm_types.specs.declared.id.LeaseId.{LeaseId}
+use Rattle.nm_types.specs.Frames.{Frame, slots_of, size_of_frames}
+use Rattle.nm_types.proofs.Sizes.{size_of_frames-length}
+use Rattle.nm_region.specs.Buffers.{Buffer, indices_of}
+use Rattle.vale_lease.specs.Leases.{out_count}
+use Rattle.vale_line.specs.declared.got.Got.{Got}
+use Rattle.vale_line.specs.Fitting.{fitting_sizes}
+use Rattle.vale_line.specs.Gots.{buffers_of, buffer_of, frames_in, last_count, is_last, IsSingle}
+use Rattle.vale_line.specs.Leased.{Leased}
+use Rattle.vale_line.specs.Lines.{HeldLot, LineState, IsLine, with_lease, given_by_sync, out_of, opened_lot, put_lot, ready_gots, ready_frames, held_gots, leases_of, completed, granted_sizes, with_put, gots_of}
+use Rattle.vale_line.specs.Lines.{space_of as line_space, slots_of as line_slots}
+use Rattle.vale_line.proofs.FittingLemmas.{sum-cons}
+use Rattle.vale_line.proofs.FrameLemmas.{count-frames}
+use Rattle.vale_line.proofs.LotLemmas.{slots_of-push, slots-parts, ready-frames, all-done}
+use Rattle.vale_entry.specs.World.{Port, Lot, Offer, space_of}
+use Rattle.vale_entry.specs.Grant.{longest_fitting, port_after_grant}
+use Rattle.vale_entry.specs.Closing.{unread_count}
+use Rattle.vale_entry.specs.Delivery.{delivered_frames, ready_lots, frames_of_lot, port_after_sync, port_after_done, lot_after_done}
+use Rattle.vale_entry.specs.Holdings.{PortBuffers, with_lot_buffers, with_returned, with_put_buffers, buffers_at_port}
+use Rattle.vale_entry.specs.Pipe.{port_after_put}
+use Rattle.vale_port.specs.Kept.{KeptLot, KeptLine, kept_lot, kept_gots, world_lot, world_lots, bytes_of, IsLineOf}
+use Rattle.vale_port.specs.Ports.{PortState, IsSeatOf, Gives, sizes_of}
+use Rattle.vale_port.specs.Seat.{Seat, given_frames, seat_given, seat_synced, seat_put}
+use Rattle.vale_port.specs.Laws.{SpaceIsSpace, SizesAreSizes, GrantIsGrant, NoGrantIsNone, DoneIsDone, SyncIsSync, PutIsPut, ClearGivesAll, LotsAreLots, exchanged}
+use Rattle.vale_port.proofs.LineTies.{Ties, ties-line, line-same, length-indices, indices-append, slots-lots, out-lots, there-lots, sizes-lots, kept-push, kept-done, given-lots, all-lots}
+
+-- the lots of a port's line, with what they stand for
+ties-seat : (seat : Seat) (p : PortState) → IsSeatOf seat p → Ties p.line.lots seat.port.line seat.held.lots
+ties-seat seat p is = ties-line seat.port seat.held p.line is.line
+
+size-seat : (seat : Seat) (p : PortState) → IsSeatOf seat p → p.line.size ≡ seat.port.rx
+size-seat seat p is = ap (λ (k : KeptLine). k.size) is.line.same
+
+pub idle-seat : (seat : Seat) (p : PortState) → IsSeatOf seat p → indices_of p.line.idle ≡ seat.held.idle
+idle-seat seat p is = ap (λ (k : KeptLine). k.idle) is.line.same
+
+pub lots_are_lots : LotsAreLots
+lots_are_lots seat p number is =
+    let t = ties-seat seat p is in (
+      out-lots p.line.lots seat.port.line seat.held.lots t,
+      (there-lots number p.line.lots seat.port.line seat.held.lots t, sizes-lots number p.line.lots seat.port.line seat.held.lots t),
+    )
+
+pub space_is_space : SpaceIsSpace
+space_is_space seat p is line =
+    let slots = slots-lots p.line.lots seat.port.line seat.held.lots (ties-seat seat p is) in
+    let size = size-seat seat p is in
+    let out = is.out in
+    let within = line.within in
+    let some = line.some in
+    omega (arith, slots, size, out, within, some)
+
+-- The frames that fit, by their slots.
+
+fitting-sizes : (room : ℕ) (frames : List Frame) → fitting_sizes room (sizes_of frames) ≡ sizes_of (longest_fitting room frames)
+fitting-sizes room [] = refl
+fitting-sizes room (f ∷ fs) = elim (cases_Bool (nat_le (slots_of f) room)) [
+  | inl here ↦ rw here (ap (λ (ns : List ℕ). slots_of f ∷ ns) (fitting-sizes (room - slots_of f) fs))
+  | inr other ↦ rw other refl
+]
+
+pub sizes_are_sizes : SizesAreSizes
+sizes_are_sizes seat p offer is line =
+    ap (λ (n : ℕ). fitting_sizes n (sizes_of offer.frames)) (space_is_space seat p is line) ∙ fitting-sizes (space_of seat.port) offer.frames
+
+pub sum-sizes : (frames : List Frame) → sum (sizes_of frames) ≡ size_of_frames frames
+sum-sizes [] = refl
+sum-sizes (f ∷ fs) =
+    let rest = sum-sizes fs in
+    let one = sum-cons (slots_of f) (sizes_of fs) in
+    let two = sum_by-cons slots_of f fs in
+    omega (arith, rest, one, two)
+
+fitting-within : (room : ℕ) (frames : List Frame) → size_of_frames (longest_fitting room frames) ≤ room
+fitting-within room [] = omega arith
+fitting-within room (f ∷ fs) = elim (cases_Bool (nat_le (slots_of f) room)) [
+  | inl here ↦
+      let fits = leb-true (slots_of f) room here in
+      let rest = fitting-within (room - slots_of f) fs in
+      let all = sum_by-cons slots_of f (longest_fitting (room - slots_of f) fs) in
+      rw here (omega (arith, fits, rest, all))
+  | inr other ↦ rw other (omega arith)
+]
+
+-- A grant.
+
+abbrev lot_of : ℕ → ℕ → Bool → List Frame → Lot
+lot_of number session done frames = record { number = number; session = session; frames = frames; is_done = done }
+
+with_lot_buffers-some : (n : ℕ) (held : PortBuffers) → 0 < n → with_lot_buffers n held ≡ record held { idle = drop n held.idle; lots = held.lots ++ take n held.idle ∷ [] }
+with_lot_buffers-some n held some = let other : (n == 0) ≡ false = ne_eqb n 0 (λ e. absurd (omega (arith, some, e))) in rw other refl
+
+grant-line : (port : Port) (held : PortBuffers) (line : LineState) (id : LeaseId) (session : ℕ) (frames : List Frame) → IsLineOf port held line → 1 ≤ length frames
+    → IsLineOf (port_after_grant id.0 session frames port) (with_lot_buffers (size_of_frames frames) held) (with_lease id (size_of_frames frames) line)
+grant-line port held line id session [] is some = absurd (omega (arith, some))
+grant-line port held line id session (f ∷ fs) is some =
+    let n = size_of_frames (f ∷ fs) in
+    let lot = lot_of id.0 session false (f ∷ fs) in
+    let one : kept_lot (opened_lot id n) ≡ world_lot lot (take n held.idle) = refl in
+    let made = kept-push port held line n (opened_lot id n) lot (take n held.idle) is one in
+    let count : n ≡ length (f ∷ fs) = size_of_frames-length (f ∷ fs) in
+    subst (λ (h : PortBuffers). IsLineOf (port_after_grant id.0 session (f ∷ fs) port) h (with_lease id n line)) (sym (with_lot_buffers-some n held (omega (arith, count)))) made
+
+-- the same port with another line
+with_seat : (seat : Seat) (p : PortState) (port : Port) (held : PortBuffers) (line : LineState) → IsSeatOf seat p
+    → port.id ≡ seat.port.id → port.session ≡ seat.port.session → port.name ≡ seat.port.name → port.tx ≡ seat.port.tx → port.extra ≡ seat.port.extra → port.shutting ≡ seat.port.shutting
+    → IsLineOf port held line → out_of line ≡ port.out → IsSeatOf (record { port = port; held = held }) (record p { line = line })
+with_seat seat p port held line is id session name tx extra shutting same out = record {
+  id = is.id ∙ sym id;
+  session = is.session ∙ sym session;
+  name = is.name ∙ sym name;
+  tx = is.tx ∙ sym tx;
+  extra = is.extra ∙ sym extra;
+  shutting = is.shutting ∙ sym shutting;
+  line = same;
+  out = out;
+}
+
+pub grant_is_grant : GrantIsGrant
+grant_is_grant seat p id offer is line some =
+    let given = given_frames offer seat in
+    let n = size_of_frames given in
+    let space = space_is_space seat p is line in
+    let most = fitting-within (space_of seat.port) offer.frames in
+    let made = grant-line seat.port seat.held p.line id offer.session given is.line some in
+    let left : length (drop n p.line.idle) ≡ length p.line.idle - n = length-drop n p.line.idle in
+    let slots : line_slots (p.line.lots ++ opened_lot id n ∷ []) ≡ line_slots p.line.lots + n = slots_of-push p.line.lots (opened_lot id n) in
+    let out = is.out in
+    let idle = line.some in
+    let within = line.within in
+    with_seat seat p (port_after_grant id.0 offer.session given seat.port) (with_lot_buffers n seat.held) (with_lease id n p.line) is refl refl refl refl refl refl made
+    (omega (arith, left, slots, out, idle, within, space, most))
+
+no-grant : (seat : Seat) (number session : ℕ) (frames : List Frame) → frames ≡ []
+    → (let s : Seat = record { port = port_after_grant number session frames seat.port; held = with_lot_buffers (size_of_frames frames) seat.held } in s) ≡ seat
+no-grant seat number session [] e = refl
+no-grant seat number session (f ∷ fs) e = absurd cc
+
+pub no_grant_is_none : NoGrantIsNone
+no_grant_is_none seat number offer none = no-grant seat number offer.session (given_frames offer seat) none
+
+-- A lease that is done.
+
+length-done : (id : ℕ) (lots : List Lot) → length (map (lot_after_done id) lots) ≡ length lots
+length-done id lots = length-map lots (lot_after_done id)
+
+slots-completed : (id : ℕ) (gots : List Got) (hs : List HeldLot) → line_slots (map (completed id gots) hs) ≡ line_slots hs
+slots-completed id gots [] = refl
+slots-completed id gots (h ∷ hs) =
+    let first : (completed id gots h).slots ≡ h.slots = elim (cases_Bool (h.id.0 == id)) [ inl here ↦ rw here refl | inr other ↦ rw other refl ] in
+    let rest = slots-completed id gots hs in
+    let one = sum_by-cons (λ (l : HeldLot). l.slots) (completed id gots h) (map (completed id gots) hs) in
+    let two = sum_by-cons (λ (l : HeldLot). l.slots) h hs in
+    omega (arith, first, rest, one, two)
+
+pub done_is_done : DoneIsDone
+done_is_done seat p lease is line filled =
+    let lots = kept-done lease.id lease.filled p.line.lots seat.port.line seat.held.lots (ties-seat seat p is) line.are_leases filled in
+    let made : IsLineOf (port_after_done lease.id seat.port) seat.held (record p.line { lots = map (completed lease.id lease.filled) p.line.lots }) = record {
+      same = line-same (size-seat seat p is) (idle-seat seat p is) lots;
+      as_many = is.line.as_many ∙ sym (length-done lease.id seat.port.line);
+    } in
+    let out = is.out in
+    let slots = slots-completed lease.id lease.filled p.line.lots in
+    with_seat seat p (port_after_done lease.id seat.port) seat.held (record p.line { lots = map (completed lease.id lease.filled) p.line.lots }) is refl refl refl refl refl refl made
+    (omega (arith, out, slots))
+
+-- A sync.
+
+pub sync_is_sync : SyncIsSync
+sync_is_sync seat p back is line few =
+    let n = length (ready_lots seat.port) in
+    let given = given-lots p.line.lots seat.port.line seat.held.lots (ties-seat seat p is) in
+    let returned : length (indices_of back) ≡ length back = length-indices back in
+    let idle : indices_of (p.line.idle ++ back) ≡ seat.held.idle ++ indices_of back =
+    indices-append p.line.idle back ∙ ap (λ (is : List ℕ). is ++ indices_of back) (idle-seat seat p is) in
+    let made : IsLineOf (port_after_sync (length (indices_of back)) seat.port) (with_returned n (indices_of back) seat.held) (given_by_sync back p.line) = record {
+      same = line-same (size-seat seat p is) idle given.left;
+      as_many = given.as_many;
+    } in
+    let gives : Gives seat (ready_gots p.line.lots) = record {
+      buffers = given.buffers;
+      bytes = ready-frames p.line.lots line.lots ∙ given.bytes;
+    } in
+    let all : length (p.line.idle ++ back) ≡ length p.line.idle + length back = length-append p.line.idle back in
+    let parts = slots-parts p.line.lots in
+    let size = given.slots in
+    let out = is.out in
+    let within = line.within in (
+      gives,
+      with_seat seat p (port_after_sync (length (indices_of back)) seat.port) (with_returned n (indices_of back) seat.held) (given_by_sync back p.line) is refl refl refl refl refl refl made
+          (omega (arith, all, parts, size, returned, out, within, few)),
+    )
+
+-- A put.
+
+singles-count : (gots : List Got) → All IsSingle gots → sum_by last_count gots ≡ length gots
+singles-count [] all = refl
+singles-count (got ∷ gots) all =
+    let here : is_last got ≡ true = eq-eqb got.rest 0 (All-head IsSingle got gots all) in
+    let one : last_count got ≡ 1 = rw here refl in
+    let rest = singles-count gots (All-tail IsSingle got gots all) in
+    let sum = sum_by-cons last_count got gots in
+    omega (arith, one, rest, sum)
+
+pub length-taken : (gots : List Got) → length (indices_of (buffers_of gots)) ≡ length gots
+length-taken gots = length-indices (buffers_of gots) ∙ length-map gots buffer_of
+
+-- as many slots as buffers
+size-put : (frames : List Frame) (gots : List Got) → All IsSingle gots → bytes_of frames ≡ frames_in gots → size_of_frames frames ≡ length gots
+size-put frames gots single bytes =
+    size_of_frames-length frames
+    ∙ (sym (length-map frames (λ (f : Frame). f.bytes)) ∙ (ap length bytes ∙ (count-frames [] gots ∙ singles-count gots single)))
+
+with_put_buffers-some : (taken : List ℕ) (held : PortBuffers) → 0 < length taken
+    → with_put_buffers taken held ≡ record held { idle = drop (length taken) held.idle; lots = held.lots ++ taken ∷ [] }
+with_put_buffers-some taken held some = let other : (length taken == 0) ≡ false = ne_eqb (length taken) 0 (λ e. absurd (omega (arith, some, e))) in rw other refl
+
+exchanged-some : (id : LeaseId) (gots : List Got) (line : LineState) → 0 < length gots
+    → exchanged id gots line ≡ record line { idle = drop (length gots) line.idle; lots = line.lots ++ put_lot id gots ∷ [] }
+exchanged-some id gots line some = let other : (length gots == 0) ≡ false = ne_eqb (length gots) 0 (λ e. absurd (omega (arith, some, e))) in rw other refl
+
+abbrev put_seat : Seat → ℕ → ℕ → List Frame → List ℕ → Seat
+put_seat seat number session frames taken = record {
+  port = record seat.port { line = seat.port.line ++ lot_of number session true frames ∷ [] };
+  held = record seat.held { idle = drop (length taken) seat.held.idle; lots = seat.held.lots ++ taken ∷ [] };
+}
+
+put-some : (seat : Seat) (number session : ℕ) (frames : List Frame) (taken : List ℕ) → 0 < length frames → 0 < length taken
+    → seat_put number session frames taken seat ≡ put_seat seat number session frames taken
+put-some seat number session [] taken some more = absurd (omega (arith, some))
+put-some seat number session (f ∷ fs) taken some more =
+    ap (λ (h : PortBuffers). let s : Seat = record { port = port_after_put number session (f ∷ fs) seat.port; held = h } in s) (with_put_buffers-some taken seat.held more)
+
+put-none : (seat : Seat) (number session : ℕ) (frames : List Frame) (taken : List ℕ) → length frames ≡ 0 → length taken ≡ 0 → seat_put number session frames taken seat ≡ seat
+put-none seat number session [] [] none fewer = refl
+put-none seat number session [] (b ∷ bs) none fewer = absurd (omega (arith, fewer))
+put-none seat number session (f ∷ fs) taken none fewer = absurd (omega (arith, none))
+
+exchanged-none : (id : LeaseId) (gots : List Got) (line : LineState) → length gots ≡ 0 → exchanged id gots line ≡ line
+exchanged-none id [] line none = refl
+exchanged-none id (got ∷ gots) line none = absurd (omega (arith, none))
+
+put-more : (seat : Seat) (p : PortState) (id : LeaseId) (session : ℕ) (frames : List Frame) (gots : List Got) → IsSeatOf seat p → IsLine p.line
+    → size_of_frames frames ≡ length gots → bytes_of frames ≡ frames_in gots → length gots ≤ line_space p.line → 0 < length gots
+    → IsSeatOf (seat_put id.0 session frames (indices_of (buffers_of gots)) seat) (record p { line = exchanged id gots p.line })
+put-more seat p id session frames gots is line slots bytes fits some =
+    let n = length gots in
+    let taken = indices_of (buffers_of gots) in
+    let count : length taken ≡ n = length-taken gots in
+    let frames_some : 0 < length frames = (let same = size_of_frames-length frames in omega (arith, same, slots, some)) in
+    let lot = lot_of id.0 session true frames in
+    let bytes' = sym bytes in
+    let slots' = sym slots in
+    let one : kept_lot (put_lot id gots) ≡ world_lot lot taken = cc in
+    let pushed = kept-push seat.port seat.held p.line n (put_lot id gots) lot taken is.line one in
+    let after = put_seat seat id.0 session frames taken in
+    let made : IsLineOf after.port after.held (record p.line { idle = drop n p.line.idle; lots = p.line.lots ++ put_lot id gots ∷ [] }) =
+    subst (λ (k : ℕ). IsLineOf after.port (record seat.held { idle = drop k seat.held.idle; lots = seat.held.lots ++ taken ∷ [] }) (record p.line { idle = drop n p.line.idle; lots = p.line.lots ++ put_lot id gots ∷ [] })) (sym count) pushed in
+    let left : length (drop n p.line.idle) ≡ length p.line.idle - n = length-drop n p.line.idle in
+    let sum : line_slots (p.line.lots ++ put_lot id gots ∷ []) ≡ line_slots p.line.lots + n = slots_of-push p.line.lots (put_lot id gots) in
+    let out = is.out in
+    let idle = line.some in
+    let within = line.within in
+    let whole = with_seat seat p after.port after.held (record p.line { idle = drop n p.line.idle; lots = p.line.lots ++ put_lot id gots ∷ [] }) is refl refl refl refl refl refl made
+    (omega (arith, left, sum, out, idle, within, fits)) in
+    subst (λ (s : Seat). IsSeatOf s (record p { line = exchanged id gots p.line })) (sym (put-some seat id.0 session frames taken frames_some (omega (arith, count, some))))
+    (subst (λ (l : LineState). IsSeatOf after (record p { line = l })) (sym (exchanged-some id gots p.line some)) whole)
+
+pub put_is_put : PutIsPut
+put_is_put seat p id session frames gots is line single bytes fits = elim (cases_Bool (length gots == 0)) [
+  | inl none ↦
+      let few : length gots ≡ 0 = eqb-true (length gots) 0 none in
+      let slots = size-put frames gots single bytes in
+      let same = size_of_frames-length frames in
+      let count = length-taken gots in
+      subst (λ (s : Seat). IsSeatOf s (record p { line = exchanged id gots p.line })) (sym (put-none seat id.0 session frames (indices_of (buffers_of gots)) (omega (arith, few, slots, same)) (omega (arith, few, count))))
+      (subst (λ (l : LineState). IsSeatOf seat (record p { line = l })) (sym (exchanged-none id gots p.line few)) is)
+  | inr some ↦
+      put-more seat p id session frames gots is line (size-put frames gots single bytes) bytes fits (nonzero (length gots) some)
+]
+  where
+    nonzero : (n : ℕ) → (n == 0) ≡ false → 0 < n
+    nonzero zero e = absurd (let wrong : true ≡ false = e in cc)
+    nonzero (suc n) e = omega arith
+
+-- The end of a port.
+
+pub clear_gives_all : ClearGivesAll
+clear_gives_all seat p is line none =
+    let lots = p.line.lots in
+    let t = ties-seat seat p is in
+    let all = all-lots lots seat.port.line seat.held.lots t (sym (out-lots lots seat.port.line seat.held.lots t) ∙ none) in
+    let done = all-done lots none in
+    let frames : frames_in (held_gots lots) ≡ bytes_of (flat_map frames_of_lot seat.port.line) =
+    ap (λ (hs : List HeldLot). frames_in (held_gots hs)) (sym done.1)
+    ∙ (ready-frames lots line.lots ∙ (ap (λ (hs : List HeldLot). flat_map (λ (h : HeldLot). frames_in (gots_of h)) hs) done.1 ∙ all.bytes)) in (
+      indices-append p.line.idle (buffers_of (held_gots lots))
+          ∙ (ap (λ (is : List ℕ). is ++ indices_of (buffers_of (held_gots lots))) (idle-seat seat p is) ∙ ap (λ (is : List ℕ). seat.held.idle ++ is) all.buffers),
+      ap length frames ∙ length-map (flat_map frames_of_lot seat.port.line) (λ (f : Frame). f.bytes),
+    )
+
+pub ruleset seats = (lots_are_lots, space_is_space, sizes_are_sizes, grant_is_grant, no_grant_is_none, done_is_done, sync_is_sync, put_is_put, clear_gives_all)

@@ -1,0 +1,4 @@
+pub mod Seat
+pub mod Kept
+pub mod Ports
+pub mod Laws

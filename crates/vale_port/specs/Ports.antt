@@ -1,0 +1,78 @@
+-- A port that owns the buffers of its kernel side, and the seat of the world that it stands for.
+use Rattle.std.specs.Prelude.{ℕ, Bool, false, ◌≡◌, ◌+◌, ◌&&◌, ◌==◌, not, List, [], ◌∷◌, take, map, Option, Some, option_map}
+use Rattle.nm_types.specs.Frames.{Frame, slots_of, size_of_frames}
+use Rattle.nm_region.specs.Buffers.{Buffer, indices_of}
+use Rattle.vale_line.specs.declared.got.Got.{Got}
+use Rattle.vale_line.specs.Gots.{buffers_of, frames_in}
+use Rattle.vale_line.specs.Leased.{Leased}
+use Rattle.vale_line.specs.Lines.{LineState, out_of, new_line}
+use Rattle.vale_entry.specs.World.{Offer}
+use Rattle.vale_entry.specs.Delivery.{delivered_frames}
+use Rattle.vale_port.specs.Kept.{KeptFrames, IsLineOf, bytes_of, kept_gots, world_frames}
+use Rattle.vale_port.specs.Seat.{Seat, LotSeat, given_frames, ready_buffers, lease_seat}
+
+-- the session holds the buffers of the transmit ring and the extra ones, as many as are named here
+pub record PortState : Type 0 where
+  pub id : ℕ
+  pub session : ℕ
+  pub name : List ℕ
+  pub tx : ℕ
+  pub extra : ℕ
+  pub shutting : Bool
+  pub line : LineState
+
+-- a port that was just opened, with these idle buffers
+abbrev pub opened_state : ℕ → ℕ → List ℕ → ℕ → ℕ → List Buffer → PortState
+opened_state id session name tx extra bufs = record { id = id; session = session; name = name; tx = tx; extra = extra; shutting = false; line = new_line bufs }
+
+-- the port is that of the seat
+pub record IsSeatOf (seat : Seat) (p : PortState) : Type 0 where
+  pub id : p.id ≡ seat.port.id
+  pub session : p.session ≡ seat.port.session
+  pub name : p.name ≡ seat.port.name
+  pub tx : p.tx ≡ seat.port.tx
+  pub extra : p.extra ≡ seat.port.extra
+  pub shutting : p.shutting ≡ seat.port.shutting
+  pub line : IsLineOf seat.port seat.held p.line
+  pub out : out_of p.line ≡ seat.port.out
+
+-- the ports are those of the seats, one by one
+abbrev pub AreSeatsOf : List Seat → List PortState → Type 0
+AreSeatsOf [] [] = Unit {0}
+AreSeatsOf [] (p ∷ ps) = ⊥
+AreSeatsOf (seat ∷ seats) [] = ⊥
+AreSeatsOf (seat ∷ seats) (p ∷ ps) = IsSeatOf seat p × AreSeatsOf seats ps
+
+-- the buffers that the session holds for the port
+abbrev pub due_of_state : PortState → ℕ
+due_of_state p = p.tx + p.extra + out_of p.line
+
+abbrev pub is_open_state : ℕ → PortState → Bool
+is_open_state id p = (p.id == id) && not p.shutting
+
+abbrev pub is_shutting_state : ℕ → PortState → Bool
+is_shutting_state id p = (p.id == id) && p.shutting
+
+-- the slots of the frames that an offer wants
+abbrev pub sizes_of : List Frame → List ℕ
+sizes_of frames = map slots_of frames
+
+-- the lease of a grant: it has the first idle buffers for the frames given
+pub record IsLeaseFor (number : ℕ) (offer : Offer) (seat : Seat) (lease : Leased) : Type 0 where
+  pub id : lease.id ≡ number
+  pub to : lease.to ≡ seat.port.id
+  pub filled : lease.filled ≡ []
+  pub sizes : lease.sizes ≡ sizes_of (given_frames offer seat)
+  pub buffers : indices_of lease.empty ≡ take (size_of_frames (given_frames offer seat)) seat.held.idle
+
+abbrev pub frames_of_seat : LotSeat → KeptFrames
+frames_of_seat lot = world_frames lot.lot lot.buffers
+
+-- the lease is filled with the frames of its lot, in the lot's buffers
+abbrev pub IsFilledFor : Seat → Leased → Type 0
+IsFilledFor seat lease = option_map frames_of_seat (lease_seat lease.id seat) ≡ Some (kept_gots lease.filled)
+
+-- what a sync gives: the buffers of the world's ready lots, with the bytes of their frames
+pub record Gives (seat : Seat) (gots : List Got) : Type 0 where
+  pub buffers : indices_of (buffers_of gots) ≡ ready_buffers seat
+  pub bytes : frames_in gots ≡ bytes_of (delivered_frames seat.port)

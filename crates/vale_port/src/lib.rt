@@ -1,0 +1,7 @@
+//! A port of a switch, an end of a pipe or a monitor, which owns the buffers of the kernel side of
+//! its receive ring, and the ports of a switch in a list by rising id.
+#![tactic(auto)]
+
+mod laws;
+
+pub use laws::{lines_are_ports, lines_find_lots, ports_open_and_close};
