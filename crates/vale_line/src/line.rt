@@ -344,9 +344,10 @@ impl Line {
     pub fn done(&mut self, lease: Lease)
         requires lot { slots_out lease.id self.old.lots ≡ Some (buffer_count lease) }
         requires full { lease.sizes ≡ [] }
-        ensures { self.new ≡ record self.old {
+        ensures line { self.new ≡ record self.old {
           lots = map (completed lease.id lease.filled) self.old.lots;
         } }
+        ensures was { IsLine self.old }
     {
         let id = lease.id();
         self.leases.done(id);
@@ -381,6 +382,7 @@ impl Line {
         requires room { k ≤ vec_capacity room }
         ensures lent { result.items ≡ take k self.old.idle }
         ensures line { self.new ≡ record self.old { idle = drop k self.old.idle } }
+        ensures was { IsLine self.old }
     {
         lend_front(&mut self.idle, room, k)
     }
@@ -411,6 +413,7 @@ impl Line {
         requires { out_count (leases_of self.lots) ≡ 0 }
         ensures buffers { result.0.items ≡ self.idle ++ buffers_of (held_gots self.lots) }
         ensures unread { result.1 ≡ length (frames_in (held_gots self.lots)) }
+        ensures was { IsLine self }
     {
         let Line {
             size: _,
