@@ -2,3 +2,5 @@ pub mod Seat
 pub mod Kept
 pub mod Ports
 pub mod Laws
+pub mod Stored
+pub mod Rooms

@@ -1,11 +1,12 @@
 -- A port that owns the buffers of its kernel side, and the seat of the world that it stands for.
-use Rattle.std.specs.Prelude.{ℕ, Bool, false, ◌≡◌, ◌+◌, ◌&&◌, ◌==◌, not, List, [], ◌∷◌, take, map, Option, Some, option_map}
+use Rattle.std.specs.Prelude.{ℕ, Bool, false, ◌≡◌, ◌≤◌, ◌+◌, ◌&&◌, ◌==◌, not, List, [], ◌∷◌, length, take, map, Option, Some, option_map}
 use Rattle.nm_types.specs.Frames.{Frame, slots_of, size_of_frames}
 use Rattle.nm_region.specs.Buffers.{Buffer, indices_of}
 use Rattle.vale_line.specs.declared.got.Got.{Got}
 use Rattle.vale_line.specs.Gots.{buffers_of, frames_in}
-use Rattle.vale_line.specs.Leased.{Leased}
+use Rattle.vale_line.specs.Leased.{Leased, buffer_count}
 use Rattle.vale_line.specs.Lines.{LineState, out_of, new_line}
+use Rattle.vale_line.specs.Lines.{space_of as line_space}
 use Rattle.vale_entry.specs.World.{Offer}
 use Rattle.vale_entry.specs.Delivery.{delivered_frames}
 use Rattle.vale_port.specs.Kept.{KeptFrames, IsLineOf, bytes_of, kept_gots, world_frames}
@@ -64,6 +65,8 @@ pub record IsLeaseFor (number : ℕ) (offer : Offer) (seat : Seat) (lease : Leas
   pub filled : lease.filled ≡ []
   pub sizes : lease.sizes ≡ sizes_of (given_frames offer seat)
   pub buffers : indices_of lease.empty ≡ take (size_of_frames (given_frames offer seat)) seat.held.idle
+  pub slots : buffer_count lease ≡ size_of_frames (given_frames offer seat)
+  pub some : 1 ≤ length (given_frames offer seat)
 
 abbrev pub frames_of_seat : LotSeat → KeptFrames
 frames_of_seat lot = world_frames lot.lot lot.buffers
@@ -76,3 +79,7 @@ IsFilledFor seat lease = option_map frames_of_seat (lease_seat lease.id seat) �
 pub record Gives (seat : Seat) (gots : List Got) : Type 0 where
   pub buffers : indices_of (buffers_of gots) ≡ ready_buffers seat
   pub bytes : frames_in gots ≡ bytes_of (delivered_frames seat.port)
+
+-- what a port takes of the frames that its other end offers: as many as it has space for
+abbrev pub taken_by : PortState → List Got → List Got
+taken_by p pending = take (line_space p.line) pending

@@ -3,5 +3,9 @@
 #![tactic(auto)]
 
 mod laws;
+mod port;
+mod room;
 
 pub use laws::{lines_are_ports, lines_find_lots, ports_open_and_close};
+pub use port::{Opening, Port};
+pub use room::PutRoom;

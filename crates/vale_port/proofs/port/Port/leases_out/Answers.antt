@@ -1,0 +1,10 @@
+use Rattle.std.proofs.Common.{◌≡◌, ap, sym, ◌∙◌, subst}
+use Rattle.vale_port.specs.Ports.{PortState, IsSeatOf}
+use Rattle.vale_port.specs.Stored.{state_of}
+use Rattle.vale_port.proofs.SeatTies.{lots_are_lots}
+use Rattle.vale_port.proofs.port.Port.leases_out.Goals as goal
+
+pub returns-clause-seat : goal.returns-clause-seat
+returns-clause-seat c = λ seat is.
+    let was : IsSeatOf seat (state_of c.self.inside) = subst (IsSeatOf seat) (sym c.self.view_is) is in
+    c.out.ensures ∙ (lots_are_lots seat (state_of c.self.inside) 0 was).0

@@ -1,0 +1,10 @@
+use Rattle.std.proofs.Common.{◌≡◌, sym, ◌∙◌, subst}
+use Rattle.vale_port.specs.Ports.{PortState, IsSeatOf}
+use Rattle.vale_port.specs.Stored.{state_of}
+use Rattle.vale_port.proofs.Calls.{ready-seat}
+use Rattle.vale_port.proofs.port.Port.ready.Goals as goal
+
+pub returns-clause-seat : goal.returns-clause-seat
+returns-clause-seat c = λ seat is.
+    let was : IsSeatOf seat (state_of c.self.inside) = subst (IsSeatOf seat) (sym c.self.view_is) is in
+    c.ready.ensures.gots ∙ ready-seat seat (state_of c.self.inside) was c.ready.ensures.line

@@ -1,0 +1,291 @@
+ghost use Rattle.std.specs.Prelude.{List, ℕ, true, ◌≡◌, ◌≤◌, ◌+◌, ◌-◌, not, [], ◌++◌, All, length, take, drop, map, min, sum, false, Some, vec_capacity, IfOk, IfErr, IfSome, IfNone};
+ghost use Rattle.nm_types.specs.Frames.{Frame, size_of_frames};
+ghost use Rattle.nm_region.specs.Buffers.{indices_of};
+ghost use Rattle.vale_lease.specs.Leases.{is_there, out_count};
+ghost use Rattle.vale_line.specs.Fitting.{IsFrameSize};
+ghost use Rattle.vale_line.specs.Gots.{buffers_of, frames_in, IsSingle};
+ghost use Rattle.vale_line.specs.Leased.{buffer_count};
+ghost use Rattle.vale_line.specs.Lines.{out_of, leases_of, ready_gots, held_gots, slots_out, granted_sizes, completed, with_lease, given_by_sync, space_of as line_space};
+ghost use Rattle.vale_entry.specs.World.{Offer, space_of, due_of};
+ghost use Rattle.vale_entry.specs.Delivery.{delivered_frames};
+ghost use Rattle.vale_entry.specs.Closing.{leases_out, unread_count};
+ghost use Rattle.vale_entry.specs.Pipe.{taken_count};
+ghost use Rattle.vale_entry.specs.Holdings.{buffers_at_port};
+ghost use Rattle.vale_port.specs.Kept.{bytes_of};
+ghost use Rattle.vale_port.specs.Laws.{with_line, exchanged};
+ghost use Rattle.vale_port.specs.Ports.{opened_state, due_of_state, is_open_state, is_shutting_state, IsSeatOf, IsLeaseFor, IsFilledFor, Gives, sizes_of, taken_by};
+ghost use Rattle.vale_port.specs.Seat.{Seat, opened_seat, given_frames, seat_given, seat_done, seat_synced, seat_put, seat_shut};
+
+use crate::room::PutRoom;
+use nm_pipe::give;
+use nm_region::Buf;
+use nm_types::{LeaseId, Name, NoMemory, PortId, SessionId};
+use std::alloc::Global;
+use std::marker::Model;
+use vale_line::{Got, Lease, LeaseRoom, Line};
+
+/// A port that is to be opened: all but its receive ring.
+#[derive(Clone, Copy)]
+pub struct Opening {
+    /// The number of the entry that opens it.
+    pub id: PortId,
+    /// The session that opens it.
+    pub session: SessionId,
+    pub name: Name,
+    /// The slots of the transmit ring.
+    pub tx: u32,
+    /// The extra buffers.
+    pub extra: u32,
+}
+
+/// A port of a switch, an end of a pipe or a monitor, with the kernel side of its receive ring.
+/// It cannot be dropped: `close` gives its buffers back.
+///
+/// `out` counts the buffers that syncs handed out and that have not come back.
+pub struct Port {
+    id: PortId,
+    session: SessionId,
+    name: Name,
+    tx: u32,
+    extra: u32,
+    shutting: bool,
+    out: u32,
+    line: Line,
+}
+
+impl Model for Port {
+    ghost use Rattle.vale_port.specs.Ports.{PortState};
+
+    ghost Value = { PortState };
+
+    ghost use Rattle.vale_port.specs.Stored.{state_of, IsCounted};
+
+    ghost view = { state_of };
+
+    ghost invariant = { IsCounted };
+}
+
+impl Port {
+    /// Opens a port whose receive ring has these buffers, which are idle. `close` gives them back in
+    /// the vector that is passed here, and so does `NoMemory` at once. No other call takes memory.
+    pub fn new(
+        alloc: Global,
+        opening: Opening,
+        bufs: Vec<Buf>,
+    ) -> Result<Port, (NoMemory, Vec<Buf>)>
+        requires size { (1 ≤ length bufs.items) × (length bufs.items ≤ 1024) }
+        ensures ok { IfOk result (λ port. port ≡ opened_state opening.id.0 opening.session.0
+            opening.name opening.tx opening.extra bufs.items) }
+        ensures seat { IfOk result (λ port. IsSeatOf (opened_seat opening.id.0 opening.session.0
+            opening.name opening.tx opening.extra (indices_of bufs.items)) port) }
+        ensures err { IfErr result (λ fault. fault.1.items ≡ bufs.items) }
+    {
+        match Line::new(alloc, bufs) {
+            Ok(line) => Ok(Port {
+                id: opening.id,
+                session: opening.session,
+                name: opening.name,
+                tx: opening.tx,
+                extra: opening.extra,
+                shutting: false,
+                out: 0,
+                line,
+            }),
+            Err(fault) => Err(fault),
+        }
+    }
+
+    /// The number of the entry that opened it.
+    pub fn id(&self) -> PortId
+        ensures { result.0 ≡ self.now.id }
+    {
+        self.id
+    }
+
+    /// The session that opened it.
+    pub fn session(&self) -> SessionId
+        ensures { result.0 ≡ self.now.session }
+    {
+        self.session
+    }
+
+    /// Its name.
+    pub fn name(&self) -> Name
+        ensures { result ≡ self.now.name }
+    {
+        self.name
+    }
+
+    /// Tells whether it is open, and not being shut.
+    pub fn is_open(&self) -> bool
+        ensures { result ≡ not self.now.shutting }
+    {
+        !self.shutting
+    }
+
+    pub(crate) fn is_open_at(&self, id: PortId) -> bool
+        ensures { result ≡ is_open_state id.0 self.now }
+    {
+        self.id == id && !self.shutting
+    }
+
+    pub(crate) fn is_shutting_at(&self, id: PortId) -> bool
+        ensures { result ≡ is_shutting_state id.0 self.now }
+    {
+        self.id == id && self.shutting
+    }
+
+    /// The number of buffers that syncs handed out and that have not come back.
+    pub fn out(&self) -> u32
+        ensures { result ≡ out_of self.now.line }
+    {
+        self.out
+    }
+
+    /// The number of buffers that its session holds for it.
+    pub fn due(&self) -> u64
+        ensures state { result ≡ due_of_state self.now }
+        ensures seat { (seat : Seat) → IsSeatOf seat self.now → result ≡ due_of seat.port }
+    {
+        self.tx as u64 + self.extra as u64 + self.out as u64
+    }
+
+    /// The number of slots that a grant or a put can still fill.
+    #[tactic(auto, using(crate::proofs::SeatTies::seats))]
+    pub fn space(&self) -> u32
+        ensures state { result ≡ line_space self.now.line }
+        ensures seat { (seat : Seat) → IsSeatOf seat self.now → result ≡ space_of seat.port }
+    {
+        self.line.space()
+    }
+
+    /// The number of buffers that a sync would hand out.
+    pub fn ready(&self) -> u32
+        ensures state { result ≡ length (ready_gots self.now.line.lots) }
+        ensures seat { (seat : Seat) → IsSeatOf seat self.now
+            → result ≡ size_of_frames (delivered_frames seat.port) }
+    {
+        self.line.ready()
+    }
+
+    /// The number of leases that are not done.
+    #[tactic(auto, using(crate::proofs::SeatTies::seats))]
+    pub fn leases_out(&self) -> u32
+        ensures state { result ≡ out_count (leases_of self.now.line.lots) }
+        ensures seat { (seat : Seat) → IsSeatOf seat self.now → result ≡ leases_out seat.port }
+    {
+        self.line.out()
+    }
+
+    /// Leases the first idle buffers for the longest prefix of an offer's frames that fits: `want`
+    /// is the number of slots of each frame. Returns None if no frame fits.
+    pub fn grant(&mut self, id: LeaseId, room: LeaseRoom, want: &[u32]) -> Option<Lease>
+        requires new { is_there id.0 (leases_of self.old.line.lots) ≡ false }
+        requires sizes { All IsFrameSize want.now }
+        requires room { min (sum want.now) (self.old.line.size - 1) ≤ room }
+        ensures seat { (seat : Seat) (offer : Offer) → IsSeatOf seat self.old
+            → want.now ≡ sizes_of offer.frames → IsSeatOf (seat_given id.0 offer seat) self.new }
+        ensures some { IfSome result (λ lease. (seat : Seat) (offer : Offer) → IsSeatOf seat self.old
+            → want.now ≡ sizes_of offer.frames → IsLeaseFor id.0 offer seat lease) }
+        ensures none { IfNone result ((seat : Seat) (offer : Offer) → IsSeatOf seat self.old
+            → want.now ≡ sizes_of offer.frames → given_frames offer seat ≡ []) }
+        ensures lot { IfSome result (λ lease.
+            self.new ≡ with_line (with_lease id (buffer_count lease) self.old.line) self.old) }
+        ensures kept { IfNone result (self.new ≡ self.old) }
+    {
+        self.line.grant(id, self.id, room, want)
+    }
+
+    /// Completes the lot of a lease, which is full.
+    pub fn done(&mut self, lease: Lease)
+        requires lot { slots_out lease.id self.old.line.lots ≡ Some (buffer_count lease) }
+        requires full { lease.sizes ≡ [] }
+        ensures lots { self.new ≡ with_line (record self.old.line {
+          lots = map (completed lease.id lease.filled) self.old.line.lots;
+        }) self.old }
+        ensures seat { (seat : Seat) → IsSeatOf seat self.old → IsFilledFor seat lease
+            → IsSeatOf (seat_done lease.id seat) self.new }
+    {
+        self.line.done(lease)
+    }
+
+    /// Takes buffers back, and hands out those of the lots that are ready, in `room`.
+    pub fn sync(&mut self, back: Vec<Buf>, room: Vec<Got>) -> Vec<Got>
+        requires returned { length back.items ≤ out_of self.old.line }
+        requires none { room.items ≡ [] }
+        requires room { length (ready_gots self.old.line.lots) ≤ vec_capacity room }
+        ensures seat { (seat : Seat) → IsSeatOf seat self.old
+            → IsSeatOf (seat_synced (indices_of back.items) seat) self.new }
+        ensures gives { (seat : Seat) → IsSeatOf seat self.old → Gives seat result.items }
+        ensures line { self.new ≡ with_line (given_by_sync back.items self.old.line) self.old }
+        ensures got { result.items ≡ ready_gots self.old.line.lots }
+        ensures capacity { vec_capacity room ≤ vec_capacity result }
+    {
+        let ready = self.line.ready();
+        self.out = self.out + ready - back.len() as u32;
+        self.line.sync(back, room)
+    }
+
+    /// Takes the first frames that the other end of a pipe offers, as many as there is space for,
+    /// with their buffers, and hands out as many of the first idle buffers in their place. What is
+    /// not taken stays in `pending`.
+    pub fn put(&mut self, id: LeaseId, pending: &mut Vec<Got>, room: PutRoom) -> Vec<Buf>
+        requires new { is_there id.0 (leases_of self.old.line.lots) ≡ false }
+        requires single { All IsSingle pending.old.items }
+        requires room { length (taken_by self.old pending.old.items) ≤ room }
+        ensures seat { (seat : Seat) (session : ℕ) (frames : List Frame) → IsSeatOf seat self.old
+            → bytes_of frames ≡ frames_in (taken_by self.old pending.old.items)
+            → IsSeatOf (seat_put id.0 session frames
+            (indices_of (buffers_of (taken_by self.old pending.old.items))) seat) self.new }
+        ensures taken { (seat : Seat) → IsSeatOf seat self.old
+            → length (taken_by self.old pending.old.items)
+            ≡ taken_count (Some seat.port) (length pending.old.items) }
+        ensures pending { pending.new.items
+            ≡ drop (length (taken_by self.old pending.old.items)) pending.old.items }
+        ensures back { (seat : Seat) → IsSeatOf seat self.old → indices_of result.items
+            ≡ take (length (taken_by self.old pending.old.items)) seat.held.idle }
+        ensures line { self.new ≡ with_line (exchanged id (taken_by self.old pending.old.items)
+            self.old.line) self.old }
+        ensures buffers { result.items
+            ≡ take (length (taken_by self.old pending.old.items)) self.old.line.idle }
+    {
+        let (mut taken, lent, mut back) = room.into_vecs();
+        let count = pending.len().min(self.line.space() as usize);
+        let mut lent = self.line.lend(count as u32, lent);
+        give(pending, &mut taken, &mut lent, &mut back);
+        lent.destroy_empty();
+        self.line.accept(id, &mut taken);
+        taken.destroy_empty();
+        back
+    }
+
+    /// Closes it for new frames.
+    pub fn shut(&mut self)
+        ensures state { self.new ≡ record self.old { shutting = true } }
+        ensures seat { (seat : Seat) → IsSeatOf seat self.old → IsSeatOf (seat_shut seat) self.new }
+    {
+        self.shutting = true;
+    }
+
+    /// Gives back the buffers of the kernel side of its receive ring, in the vector that the port was
+    /// opened with, and the number of frames that no sync handed out.
+    pub fn close(self) -> (Vec<Buf>, u32)
+        requires { out_count (leases_of self.line.lots) ≡ 0 }
+        ensures buffers { result.0.items ≡ self.line.idle ++ buffers_of (held_gots self.line.lots) }
+        ensures held { (seat : Seat) → IsSeatOf seat self
+            → indices_of result.0.items ≡ buffers_at_port seat.held }
+        ensures unread { (seat : Seat) → IsSeatOf seat self → result.1 ≡ unread_count seat.port }
+    {
+        let Port {
+            id: _,
+            session: _,
+            name: _,
+            tx: _,
+            extra: _,
+            shutting: _,
+            out: _,
+            line,
+        } = self;
+        line.clear()
+    }
+}
