@@ -1,8 +1,8 @@
 -- Ports of owned buffers and the seats of the world that they stand for: each step keeps the tie.
-use Rattle.std.proofs.Common.{ℕ, zero, suc, Bool, true, false, not, ◌≡◌, ◌+◌, ◌-◌, ◌<◌, ◌≤◌, List, [], ◌∷◌, ◌++◌, length, take, drop, map, Option, Some, None, inl, inr, if◌then◌else◌, refl, sym, ◌∙◌, ap, subst, arith}
-use Rattle.std.specs.Prelude.{flat_map, All, sum, sum_by, nat_le, ◌==◌}
-use Rattle.std.specs.List.{take_while}
-use Rattle.std.proofs.lemmas.Bool.{cases_Bool, ne_eqb, eq-eqb, eqb-true, leb-true}
+use Rattle.std.proofs.Common.{ℕ, zero, suc, Bool, true, false, not, ◌≡◌, ◌+◌, ◌-◌, ◌<◌, ◌≤◌, ◌||◌, List, [], ◌∷◌, ◌++◌, length, take, drop, map, Option, Some, None, inl, inr, if◌then◌else◌, refl, sym, ◌∙◌, ap, subst, arith}
+use Rattle.std.specs.Prelude.{flat_map, All, sum, sum_by, nat_le, find, option_map, ◌==◌}
+use Rattle.std.specs.List.{take_while, list_any}
+use Rattle.std.proofs.lemmas.Bool.{cases_Bool, ne_eqb, eq-eqb, eqb-true, leb-true, and_parts}
 use Rattle.std.proofs.lemmas.List.{length-append, length-map, length-drop}
 use Rattle.std.proofs.lemmas.List.Elements.{All-head, All-tail}
 use Rattle.std.proofs.lemmas.List.Sums.{sum_by-cons}
@@ -14,8 +14,8 @@ use Rattle.vale_lease.specs.Leases.{out_count}
 use Rattle.vale_line.specs.declared.got.Got.{Got}
 use Rattle.vale_line.specs.Fitting.{fitting_sizes}
 use Rattle.vale_line.specs.Gots.{buffers_of, buffer_of, frames_in, last_count, is_last, IsSingle}
-use Rattle.vale_line.specs.Leased.{Leased}
-use Rattle.vale_line.specs.Lines.{HeldLot, LineState, IsLine, with_lease, given_by_sync, out_of, opened_lot, put_lot, ready_gots, ready_frames, held_gots, leases_of, completed, granted_sizes, with_put, gots_of}
+use Rattle.vale_line.specs.Leased.{Leased, buffer_count}
+use Rattle.vale_line.specs.Lines.{HeldLot, LineState, IsLine, with_lease, given_by_sync, out_of, opened_lot, put_lot, ready_gots, ready_frames, held_gots, leases_of, completed, granted_sizes, with_put, gots_of, slots_out}
 use Rattle.vale_line.specs.Lines.{space_of as line_space, slots_of as line_slots}
 use Rattle.vale_line.proofs.FittingLemmas.{sum-cons}
 use Rattle.vale_line.proofs.FrameLemmas.{count-frames}
@@ -23,14 +23,14 @@ use Rattle.vale_line.proofs.LotLemmas.{slots_of-push, slots-parts, ready-frames,
 use Rattle.vale_entry.specs.World.{Port, Lot, Offer, space_of}
 use Rattle.vale_entry.specs.Grant.{longest_fitting, port_after_grant}
 use Rattle.vale_entry.specs.Closing.{unread_count}
-use Rattle.vale_entry.specs.Delivery.{delivered_frames, ready_lots, frames_of_lot, port_after_sync, port_after_done, lot_after_done}
-use Rattle.vale_entry.specs.Holdings.{PortBuffers, with_lot_buffers, with_returned, with_put_buffers, buffers_at_port}
+use Rattle.vale_entry.specs.Delivery.{delivered_frames, ready_lots, frames_of_lot, port_after_sync, port_after_done, lot_after_done, is_lease}
+use Rattle.vale_entry.specs.Holdings.{PortBuffers, PortAgrees, with_lot_buffers, with_returned, with_put_buffers, buffers_at_port}
 use Rattle.vale_entry.specs.Pipe.{port_after_put}
-use Rattle.vale_port.specs.Kept.{KeptLot, KeptLine, kept_lot, kept_gots, world_lot, world_lots, bytes_of, IsLineOf}
-use Rattle.vale_port.specs.Ports.{PortState, IsSeatOf, Gives, sizes_of}
-use Rattle.vale_port.specs.Seat.{Seat, given_frames, seat_given, seat_synced, seat_put}
-use Rattle.vale_port.specs.Laws.{SpaceIsSpace, SizesAreSizes, GrantIsGrant, NoGrantIsNone, DoneIsDone, SyncIsSync, PutIsPut, ClearGivesAll, LotsAreLots, exchanged}
-use Rattle.vale_port.proofs.LineTies.{Ties, ties-line, line-same, length-indices, indices-append, slots-lots, out-lots, there-lots, sizes-lots, kept-push, kept-done, given-lots, all-lots}
+use Rattle.vale_port.specs.Kept.{KeptLot, KeptLine, kept_lot, KeptFrames, kept_gots, world_lot, world_lots, bytes_of, IsLineOf}
+use Rattle.vale_port.specs.Ports.{PortState, IsSeatOf, Gives, sizes_of, frames_of_seat}
+use Rattle.vale_port.specs.Seat.{Seat, LotSeat, given_frames, seat_given, seat_synced, seat_put, lease_among, lease_seat}
+use Rattle.vale_port.specs.Laws.{SpaceIsSpace, SizesAreSizes, GrantIsGrant, NoGrantIsNone, DoneIsDone, SyncIsSync, PutIsPut, ClearGivesAll, LotsAreLots, FilledIsOut, exchanged, is_numbered, size_of_lot}
+use Rattle.vale_port.proofs.LineTies.{Ties, some-same, cons-head, cons-tail, ties-line, line-same, length-indices, indices-append, slots-lots, out-lots, there-lots, sizes-lots, kept-push, kept-done, given-lots, all-lots}
 
 -- the lots of a port's line, with what they stand for
 ties-seat : (seat : Seat) (p : PortState) → IsSeatOf seat p → Ties p.line.lots seat.port.line seat.held.lots
@@ -308,4 +308,55 @@ clear_gives_all seat p is line none =
       ap length frames ∙ length-map (flat_map frames_of_lot seat.port.line) (λ (f : Frame). f.bytes),
     )
 
-pub ruleset seats = (lots_are_lots, space_is_space, sizes_are_sizes, grant_is_grant, no_grant_is_none, done_is_done, sync_is_sync, put_is_put, clear_gives_all)
+-- A lease that is filled.
+
+-- the lot that a search finds, with as many buffers as slots
+record Leasing (number : ℕ) (lots : List Lot) (x : LotSeat) : Type 0 where
+  found : find (is_lease number) lots ≡ Some x.lot
+  size : length x.buffers ≡ size_of_frames x.lot.frames
+  there : list_any (is_numbered number) lots ≡ true
+
+leasing : (number : ℕ) (lots : List Lot) (lists : List (List ℕ)) (x : LotSeat) → map (λ (list : List ℕ). length list) lists ≡ map (λ (lot : Lot). size_of_frames lot.frames) lots
+    → lease_among number lots lists ≡ Some x → Leasing number lots x
+leasing number [] lists x sizes e = absurd cc
+leasing number (lot ∷ lots) [] x sizes e = absurd cc
+leasing number (lot ∷ lots) (list ∷ lists) x sizes e = elim (cases_Bool (is_lease number lot)) [
+  | inl here ↦
+      let told : Some (lot_seat lot list) ≡ Some x = rw here at e in
+      let same : lot_seat lot list ≡ x = some-same told in
+      let found : find (is_lease number) (lot ∷ lots) ≡ Some lot = rw here refl in
+      let numbered : is_numbered number lot ≡ true = (and_parts (lot.number == number) (not lot.is_done) here).0 in
+      let size : length list ≡ size_of_frames lot.frames = cons-head sizes in
+      subst (λ (y : LotSeat). Leasing number (lot ∷ lots) y) same (record { found = found; size = size; there = rw numbered refl })
+  | inr other ↦
+      let rest : lease_among number lots lists ≡ Some x = rw other at e in
+      let later = leasing number lots lists x (cons-tail sizes) rest in
+      let found : find (is_lease number) (lot ∷ lots) ≡ Some x.lot = rw other later.found in
+      record { found = found; size = later.size; there = or-right (is_numbered number lot) (list_any (is_numbered number) lots) later.there }
+]
+  where
+    lot_seat : Lot → List ℕ → LotSeat
+    lot_seat lot list = record { lot = lot; buffers = list }
+
+    or-right : (a b : Bool) → b ≡ true → (a || b) ≡ true
+    or-right true b e = refl
+    or-right false b e = e
+
+filled-by : (seat : Seat) (p : PortState) (lease : Leased) (found : Option LotSeat) → IsSeatOf seat p → PortAgrees seat.port seat.held → lease.empty ≡ []
+    → lease_seat lease.id seat ≡ found → option_map frames_of_seat found ≡ Some (kept_gots lease.filled)
+    → (slots_out lease.id p.line.lots ≡ Some (buffer_count lease)) × (list_any (is_numbered lease.id) seat.port.line ≡ true)
+filled-by seat p lease None is agrees full e filled = absurd cc
+filled-by seat p lease (Some x) is agrees full e filled =
+    let told = leasing lease.id seat.port.line seat.held.lots x agrees.lots e in
+    let frames : frames_of_seat x ≡ kept_gots lease.filled = some-same filled in
+    let buffers : length x.buffers ≡ length lease.filled = ap (λ (k : KeptFrames). length k.buffers) frames ∙ length-taken lease.filled in
+    let none : length lease.empty ≡ 0 = ap length full in
+    let size = told.size in
+    let count : size_of_frames x.lot.frames ≡ buffer_count lease = omega (arith, buffers, none, size) in
+    let slots = (lots_are_lots seat p lease.id is).1.1 in
+    (slots ∙ (ap (option_map size_of_lot) told.found ∙ ap (λ (n : ℕ). Some n) count), told.there)
+
+pub filled_is_out : FilledIsOut
+filled_is_out seat p lease is agrees filled full = filled-by seat p lease (lease_seat lease.id seat) is agrees full refl filled
+
+pub ruleset seats = (lots_are_lots, space_is_space, sizes_are_sizes, grant_is_grant, no_grant_is_none, done_is_done, sync_is_sync, put_is_put, clear_gives_all, filled_is_out)

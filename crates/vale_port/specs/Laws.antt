@@ -1,5 +1,5 @@
 -- What a line does is what the world's port does.
-use Rattle.std.specs.Prelude.{ℕ, Bool, true, ◌==◌, ◌≡◌, ◌≤◌, List, [], ◌++◌, drop, length, map, sum, find, option_map, All}
+use Rattle.std.specs.Prelude.{ℕ, Bool, true, ◌==◌, ◌≡◌, ◌≤◌, List, [], ◌++◌, drop, length, map, sum, find, Some, option_map, All}
 use Rattle.std.specs.List.{list_any}
 use Rattle.nm_types.specs.declared.id.LeaseId.{LeaseId}
 use Rattle.nm_types.specs.Frames.{Frame, size_of_frames}
@@ -7,13 +7,13 @@ use Rattle.nm_region.specs.Buffers.{Buffer, indices_of}
 use Rattle.vale_lease.specs.Leases.{is_there, out_count}
 use Rattle.vale_line.specs.declared.got.Got.{Got}
 use Rattle.vale_line.specs.Gots.{buffers_of, frames_in, IsSingle}
-use Rattle.vale_line.specs.Leased.{Leased}
+use Rattle.vale_line.specs.Leased.{Leased, buffer_count}
 use Rattle.vale_line.specs.Lines.{LineState, IsLine, leases_of, granted_sizes, with_lease, given_by_sync, with_put, completed, ready_gots, held_gots, slots_out, out_of}
 use Rattle.vale_line.specs.Lines.{space_of as line_space}
 use Rattle.vale_entry.specs.World.{Lot, Offer, space_of}
 use Rattle.vale_entry.specs.Delivery.{is_lease}
 use Rattle.vale_entry.specs.Closing.{leases_out, unread_count}
-use Rattle.vale_entry.specs.Holdings.{buffers_at_port}
+use Rattle.vale_entry.specs.Holdings.{PortAgrees, buffers_at_port}
 use Rattle.vale_port.specs.Kept.{bytes_of}
 use Rattle.vale_port.specs.Ports.{PortState, IsSeatOf, IsFilledFor, Gives, opened_state, sizes_of}
 use Rattle.vale_port.specs.Seat.{Seat, opened_seat, given_frames, seat_given, seat_done, seat_synced, seat_put, seat_shut}
@@ -79,3 +79,8 @@ LotsAreLots = (seat : Seat) (p : PortState) (number : ℕ) → IsSeatOf seat p
     → (out_count (leases_of p.line.lots) ≡ leases_out seat.port)
     × ((is_there number (leases_of p.line.lots) ≡ list_any (is_numbered number) seat.port.line)
     × (slots_out number p.line.lots ≡ option_map size_of_lot (find (is_lease number) seat.port.line)))
+
+-- a lease that is filled for a port is out there, with as many buffers as its lot has slots
+abbrev pub FilledIsOut : Type 0
+FilledIsOut = (seat : Seat) (p : PortState) (lease : Leased) → IsSeatOf seat p → PortAgrees seat.port seat.held → IsFilledFor seat lease → lease.empty ≡ []
+    → (slots_out lease.id p.line.lots ≡ Some (buffer_count lease)) × (list_any (is_numbered lease.id) seat.port.line ≡ true)

@@ -4,3 +4,4 @@ pub mod Ports
 pub mod Laws
 pub mod Stored
 pub mod Rooms
+pub mod Lists

@@ -48,6 +48,9 @@ AreSeatsOf (seat ∷ seats) (p ∷ ps) = IsSeatOf seat p × AreSeatsOf seats ps
 abbrev pub due_of_state : PortState → ℕ
 due_of_state p = p.tx + p.extra + out_of p.line
 
+abbrev pub is_state_of : ℕ → PortState → Bool
+is_state_of id p = p.id == id
+
 abbrev pub is_open_state : ℕ → PortState → Bool
 is_open_state id p = (p.id == id) && not p.shutting
 

@@ -1,4 +1,5 @@
-ghost use Rattle.vale_port.specs.Laws.{OpenIsOpen, SpaceIsSpace, SizesAreSizes, GrantIsGrant, NoGrantIsNone, DoneIsDone, SyncIsSync, PutIsPut, ShutIsShut, ClearGivesAll, LotsAreLots};
+ghost use Rattle.vale_port.specs.Lists.{EachPortStands, FoundIsFound, NotFoundIsNone, ChangeIsChange, DoneIsDoneAmong, OpenIsOpenAmong, GoneIsGone, NewIsNew, ShutIsShutAmong};
+ghost use Rattle.vale_port.specs.Laws.{OpenIsOpen, SpaceIsSpace, SizesAreSizes, GrantIsGrant, NoGrantIsNone, DoneIsDone, SyncIsSync, PutIsPut, ShutIsShut, ClearGivesAll, LotsAreLots, FilledIsOut};
 
 /// What a line does is what the world's port does: for each seat that a port stands for, it stands
 /// for the seat after the step.
@@ -21,5 +22,20 @@ pub fn ports_open_and_close()
 
 /// Leases, lots and their sizes are found in a line where the world has them.
 pub fn lines_find_lots()
-    ensures { LotsAreLots }
+    ensures lots { LotsAreLots }
+    ensures filled { FilledIsOut }
+{}
+
+/// A list of ports, by rising ids, stays that of the world's ports as these change: at one place, by
+/// one that is opened, and by one that is gone.
+pub fn ports_are_kept()
+    ensures each { EachPortStands }
+    ensures found { FoundIsFound }
+    ensures not_found { NotFoundIsNone }
+    ensures change { ChangeIsChange }
+    ensures shut { ShutIsShutAmong }
+    ensures done { DoneIsDoneAmong }
+    ensures open { OpenIsOpenAmong }
+    ensures gone { GoneIsGone }
+    ensures new { NewIsNew }
 {}

@@ -4,8 +4,10 @@
 
 mod laws;
 mod port;
+mod ports;
 mod room;
 
-pub use laws::{lines_are_ports, lines_find_lots, ports_open_and_close};
+pub use laws::{lines_are_ports, lines_find_lots, ports_are_kept, ports_open_and_close};
 pub use port::{Opening, Port};
+pub use ports::{leased_port, open_port, shutting_port};
 pub use room::PutRoom;

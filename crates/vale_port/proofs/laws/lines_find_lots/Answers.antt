@@ -1,5 +1,8 @@
-use Rattle.vale_port.proofs.SeatTies.{lots_are_lots}
+use Rattle.vale_port.proofs.SeatTies.{lots_are_lots, filled_is_out}
 use Rattle.vale_port.proofs.laws.lines_find_lots.Goals as goal
 
-pub returns : goal.returns
-returns c = lots_are_lots
+pub returns-clause-lots : goal.returns-clause-lots
+returns-clause-lots c = lots_are_lots
+
+pub returns-clause-filled : goal.returns-clause-filled
+returns-clause-filled c = filled_is_out

@@ -1,0 +1,74 @@
+-- A search among ports of owned buffers finds what a search among the world's ports finds.
+use Rattle.std.proofs.Common.{ℕ, zero, suc, Bool, true, false, not, ◌≡◌, ◌<◌, ◌≤◌, ◌+◌, ◌&&◌, ◌==◌, nat_lt, List, [], ◌∷◌, length, map, find, slice_get, get_or, Option, Some, None, cond, refl, sym, ◌∙◌, ap, arith}
+use Rattle.std.specs.Prelude.{position, IfSome, IfNone}
+use Rattle.std.specs.List.{position_or_len}
+use Rattle.std.proofs.lemmas.Bool.{ltb-false}
+use Rattle.std.proofs.lemmas.List.Quantifiers.{position-Some}
+use Rattle.vale_entry.specs.World.{Port, is_open_at, open_port}
+use Rattle.vale_entry.specs.Closing.{is_shutting_at, shutting_port}
+use Rattle.vale_entry.specs.Delivered.{has_id, port_at}
+use Rattle.vale_port.specs.Lists.{IsFoundAt, IsNotFound}
+use Rattle.vale_port.specs.Ports.{PortState, IsSeatOf, AreSeatsOf, is_open_state, is_shutting_state, is_state_of}
+use Rattle.vale_port.specs.Seat.{Seat, port_of}
+
+found-at : (test : PortState → Bool) (of : Port → Bool) → ((seat : Seat) (p : PortState) → IsSeatOf seat p → of seat.port ≡ test p)
+    → (seats : List Seat) (ps : List PortState) (i : ℕ) (d : PortState) → AreSeatsOf seats ps → i < length ps → test (get_or ps i d) ≡ true
+    → ((k : ℕ) → k < i → test (get_or ps k d) ≡ false) → find of (map port_of seats) ≡ slice_get (map port_of seats) i
+found-at test of same [] [] i d are within hit miss = absurd (omega (arith, within))
+found-at test of same [] (p ∷ ps) i d are within hit miss = absurd are
+found-at test of same (s ∷ ss) [] i d are within hit miss = absurd are
+found-at test of same (s ∷ ss) (p ∷ ps) zero d are within hit miss =
+    let here : of s.port ≡ true = same s p are.0 ∙ hit in
+    rw here refl
+found-at test of same (s ∷ ss) (p ∷ ps) (suc i) d are within hit miss =
+    let inside : i < length ps = omega (arith, within) in
+    let first : of s.port ≡ false = same s p are.0 ∙ miss 0 (omega arith) in
+    rw first (found-at test of same ss ps i d are.1 inside hit (λ k b. miss (suc k) (omega (arith, b))))
+
+past_parts : (b : Bool) (n m : ℕ) → suc n ≤ cond (not b) (1 + m) 0 → (b ≡ false) × (n ≤ m)
+past_parts true n m h = absurd (omega (arith, h))
+past_parts false n m h = (refl, omega (arith, h))
+
+none_is : {X : Type 0} (b : Bool) (x : X) → cond b (Some x) None ≡ None → b ≡ false
+none_is true x e = cc
+none_is false x e = refl
+
+past-all : (test : PortState → Bool) (of : Port → Bool) → ((seat : Seat) (p : PortState) → IsSeatOf seat p → of seat.port ≡ test p)
+    → (seats : List Seat) (ps : List PortState) → AreSeatsOf seats ps → length ps ≤ position_or_len test ps → find of (map port_of seats) ≡ None
+past-all test of same [] [] are h = refl
+past-all test of same [] (p ∷ ps) are h = absurd are
+past-all test of same (s ∷ ss) [] are h = absurd are
+past-all test of same (s ∷ ss) (p ∷ ps) are h =
+    let parts = past_parts (test p) (length ps) (position_or_len test ps) h in
+    let first : of s.port ≡ false = same s p are.0 ∙ parts.0 in
+    rw first (past-all test of same ss ps are.1 parts.1)
+
+abbrev search_by : (Port → Bool) → List Port → Option Port
+search_by of ports = find of ports
+
+pub place-some : (test : PortState → Bool) (of : Port → Bool) → ((seat : Seat) (p : PortState) → IsSeatOf seat p → of seat.port ≡ test p)
+    → (ps : List PortState) (r : Option ℕ) → r ≡ position test ps → IfSome r (IsFoundAt (search_by of) ps)
+place-some test of same ps None e = tt
+place-some test of same [] (Some i) e = absurd (let wrong : Some i ≡ None = e in cc)
+place-some test of same (p ∷ ps) (Some i) e =
+    let at = position-Some test (p ∷ ps) i p (sym e) in
+    record {
+      within = at.0;
+      found = λ seats are. found-at test of same seats (p ∷ ps) i p are at.0 at.1 at.2;
+    }
+
+pub place-none : (test : PortState → Bool) (of : Port → Bool) → ((seat : Seat) (p : PortState) → IsSeatOf seat p → of seat.port ≡ test p)
+    → (ps : List PortState) (r : Option ℕ) → r ≡ position test ps → IfNone r (IsNotFound (search_by of) ps)
+place-none test of same ps (Some i) e = tt
+place-none test of same ps None e = λ seats are.
+    past-all test of same seats ps are
+    (ltb-false (position_or_len test ps) (length ps) (none_is (nat_lt (position_or_len test ps) (length ps)) (position_or_len test ps) (sym e)))
+
+pub same-open : (id : ℕ) (seat : Seat) (p : PortState) → IsSeatOf seat p → is_open_at id seat.port ≡ is_open_state id p
+same-open id seat p is = let one = is.id in let two = is.shutting in cc
+
+pub same-shutting : (id : ℕ) (seat : Seat) (p : PortState) → IsSeatOf seat p → is_shutting_at id seat.port ≡ is_shutting_state id p
+same-shutting id seat p is = let one = is.id in let two = is.shutting in cc
+
+pub same-id : (id : ℕ) (seat : Seat) (p : PortState) → IsSeatOf seat p → has_id id seat.port ≡ is_state_of id p
+same-id id seat p is = let one = is.id in cc
