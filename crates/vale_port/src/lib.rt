@@ -6,6 +6,8 @@ mod laws;
 mod port;
 mod ports;
 mod room;
+#[cfg(test)]
+mod tests;
 
 pub use laws::{lines_are_ports, lines_find_lots, ports_are_kept, ports_open_and_close};
 pub use port::{Opening, Port};

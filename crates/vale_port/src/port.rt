@@ -5,7 +5,7 @@ ghost use Rattle.vale_lease.specs.Leases.{is_there, out_count};
 ghost use Rattle.vale_line.specs.Fitting.{IsFrameSize};
 ghost use Rattle.vale_line.specs.Gots.{buffers_of, frames_in, IsSingle};
 ghost use Rattle.vale_line.specs.Leased.{buffer_count};
-ghost use Rattle.vale_line.specs.Lines.{out_of, leases_of, ready_gots, held_gots, slots_out, granted_sizes, completed, with_lease, given_by_sync, space_of as line_space};
+ghost use Rattle.vale_line.specs.Lines.{out_of, leases_of, ready_gots, held_gots, slots_out, granted_sizes, completed, with_lease, leased, given_by_sync, space_of as line_space};
 ghost use Rattle.vale_entry.specs.World.{Offer, space_of, due_of};
 ghost use Rattle.vale_entry.specs.Delivery.{delivered_frames};
 ghost use Rattle.vale_entry.specs.Closing.{leases_out, unread_count};
@@ -189,6 +189,8 @@ impl Port {
             → want.now ≡ sizes_of offer.frames → IsLeaseFor id.0 offer seat lease) }
         ensures none { IfNone result ((seat : Seat) (offer : Offer) → IsSeatOf seat self.old
             → want.now ≡ sizes_of offer.frames → given_frames offer seat ≡ []) }
+        ensures lease { IfSome result (λ lease. lease
+            ≡ leased id self.old.id (granted_sizes want.now self.old.line) self.old.line) }
         ensures lot { IfSome result (λ lease.
             self.new ≡ with_line (with_lease id (buffer_count lease) self.old.line) self.old) }
         ensures kept { IfNone result (self.new ≡ self.old) }
