@@ -164,16 +164,22 @@ held-id ports helds place port held agree e f =
 helds-rise : (ports : List Port) (helds : List PortBuffers) (high : ℕ) → PortsAgree ports helds → Rise 0 (map id_of_port ports) high → Rise 0 (map id_of_held helds) high
 helds-rise ports helds high agree r = subst (λ (ids : List ℕ). Rise 0 ids high) (sym (agree-ids ports helds agree)) r
 
-pub change_is_change : ChangeIsChange
-change_is_change ports helds ps place port held p change changed are e f is =
+-- a change at a port's id is a change at its place
+pub change-set : (ports : List Port) (helds : List PortBuffers) {ps : List PortState} (place : ℕ) (port : Port) (held : PortBuffers) (change : Port → Port) (changed : PortBuffers → PortBuffers)
+    → AreRising ports helds ps → slice_get ports place ≡ Some port → slice_get helds place ≡ Some held
+    → seats_of (changed_at port.id change ports) (changed_buffers port.id changed helds) ≡ slice_set (seats_of ports helds) place (seat_with (change port) (changed held))
+change-set ports helds place port held change changed are e f =
     let id = held-id ports helds place port held are.agree e f in
     let own : changed_buffers port.id changed helds ≡ slice_set helds place (changed held) =
     subst (λ (k : ℕ). changed_buffers k changed helds ≡ slice_set helds place (changed held)) id
     (changed_buffers-place changed helds are.high place held (helds-rise ports helds are.high are.agree are.rise) f) in
     let all : changed_at port.id change ports ≡ slice_set ports place (change port) = changed_at-place change ports are.high place port are.rise e in
-    let seats : seats_of (changed_at port.id change ports) (changed_buffers port.id changed helds) ≡ slice_set (seats_of ports helds) place (seat_with (change port) (changed held)) =
-    rw (all, own) (seats-set ports helds place (change port) (changed held)) in
-    subst (λ (ss : List Seat). AreSeatsOf ss (slice_set ps place p)) (sym seats) (are-set (seats_of ports helds) ps place (seat_with (change port) (changed held)) p are.stand is)
+    rw (all, own) (seats-set ports helds place (change port) (changed held))
+
+pub change_is_change : ChangeIsChange
+change_is_change ports helds ps place port held p change changed are e f is =
+    subst (λ (ss : List Seat). AreSeatsOf ss (slice_set ps place p)) (sym (change-set ports helds place port held change changed are e f))
+    (are-set (seats_of ports helds) ps place (seat_with (change port) (changed held)) p are.stand is)
 
 pub shut_is_shut : ShutIsShutAmong
 shut_is_shut ports helds ps place port held p are e f is =

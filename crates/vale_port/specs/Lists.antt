@@ -91,3 +91,24 @@ GoneIsGone = (ports : List Port) (helds : List PortBuffers) (ps : List PortState
 abbrev pub NewIsNew : Type 0
 NewIsNew = (seat : Seat) (p : PortState) (count number : ℕ) → IsSeatOf seat p → HasLotsUpTo count seat.port → count < number
     → is_there number (leases_of p.line.lots) ≡ false
+
+-- One port changes, and the seat that it stands for with it.
+abbrev pub ChangesSeat : (Seat → Seat) → List PortState → ℕ → List PortState → Type 0
+ChangesSeat change old place new = (seats : List Seat) (seat : Seat) → AreSeatsOf seats old → slice_get seats place ≡ Some seat
+    → AreSeatsOf (slice_set seats place (change seat)) new
+
+-- what holds of the seat at a place
+abbrev pub OfSeat : (Seat → Type 0) → List PortState → ℕ → Type 0
+OfSeat P ps place = (seats : List Seat) (seat : Seat) → AreSeatsOf seats ps → slice_get seats place ≡ Some seat → P seat
+
+-- what holds of the port at a place
+abbrev pub OfState : (PortState → Type 0) → List PortState → ℕ → Type 0
+OfState P ps place = (p : PortState) → slice_get ps place ≡ Some p → P p
+
+-- then the world's ports and their buffers change by the change of the seat
+abbrev pub SeatChangeIsChange : Type 0
+SeatChangeIsChange = (ports : List Port) (helds : List PortBuffers) (old new : List PortState) (place : ℕ) (port : Port) (held : PortBuffers)
+    (step : Seat → Seat) (change : Port → Port) (changed : PortBuffers → PortBuffers) → AreRising ports helds old
+    → slice_get ports place ≡ Some port → slice_get helds place ≡ Some held → ChangesSeat step old place new
+    → step (record { port = port; held = held }) ≡ record { port = change port; held = changed held }
+    → ArePortsOf (changed_at port.id change ports) (changed_buffers port.id changed helds) new

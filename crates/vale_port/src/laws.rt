@@ -1,4 +1,4 @@
-ghost use Rattle.vale_port.specs.Lists.{EachPortStands, FoundIsFound, NotFoundIsNone, ChangeIsChange, DoneIsDoneAmong, OpenIsOpenAmong, GoneIsGone, NewIsNew, ShutIsShutAmong};
+ghost use Rattle.vale_port.specs.Lists.{EachPortStands, FoundIsFound, NotFoundIsNone, ChangeIsChange, DoneIsDoneAmong, OpenIsOpenAmong, GoneIsGone, NewIsNew, SeatChangeIsChange, ShutIsShutAmong};
 ghost use Rattle.vale_port.specs.Laws.{OpenIsOpen, SpaceIsSpace, SizesAreSizes, GrantIsGrant, NoGrantIsNone, DoneIsDone, SyncIsSync, PutIsPut, ShutIsShut, ClearGivesAll, LotsAreLots, FilledIsOut};
 
 /// What a line does is what the world's port does: for each seat that a port stands for, it stands
@@ -33,6 +33,7 @@ pub fn ports_are_kept()
     ensures found { FoundIsFound }
     ensures not_found { NotFoundIsNone }
     ensures change { ChangeIsChange }
+    ensures seat_change { SeatChangeIsChange }
     ensures shut { ShutIsShutAmong }
     ensures done { DoneIsDoneAmong }
     ensures open { OpenIsOpenAmong }

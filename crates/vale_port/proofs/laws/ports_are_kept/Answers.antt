@@ -1,4 +1,5 @@
 use Rattle.vale_port.proofs.Lists.{each_port_stands, found_is_found, not_found_is_none, change_is_change, shut_is_shut, done_is_done_among, open_is_open_among, gone_is_gone, new_is_new}
+use Rattle.vale_port.proofs.Places.{seat_change_is_change}
 use Rattle.vale_port.proofs.laws.ports_are_kept.Goals as goal
 
 pub returns-clause-each : goal.returns-clause-each
@@ -27,3 +28,6 @@ returns-clause-gone c = gone_is_gone
 
 pub returns-clause-new : goal.returns-clause-new
 returns-clause-new c = new_is_new
+
+pub returns-clause-seat_change : goal.returns-clause-seat_change
+returns-clause-seat_change c = seat_change_is_change

@@ -1,0 +1,63 @@
+-- A change of the port at one place, with the seat that it stands for.
+use Rattle.std.proofs.Common.{ℕ, zero, suc, ◌≡◌, ◌<◌, List, [], ◌∷◌, length, slice_get, slice_set, get_or, Option, Some, None, refl, sym, ◌∙◌, ap, subst, arith}
+use Rattle.std.specs.Prelude.{IfSome, IfNone}
+use Rattle.vale_line.specs.Leased.{Leased}
+use Rattle.vale_entry.specs.World.{Port, Offer}
+use Rattle.vale_entry.specs.Holdings.{PortBuffers}
+use Rattle.vale_port.specs.Lists.{ChangesSeat, OfSeat, OfState, AreRising, SeatChangeIsChange}
+use Rattle.vale_port.specs.Ports.{PortState, IsSeatOf, AreSeatsOf, IsLeaseFor, sizes_of}
+use Rattle.vale_port.specs.Seat.{Seat, seats_of, given_frames}
+use Rattle.vale_port.proofs.Lists.{are-set, are-at, seats-at, seats-set, change-set}
+
+-- the seat at a place is that of the port there
+pub seat-there : (seats : List Seat) (ps : List PortState) (place : ℕ) (seat : Seat) (d : PortState) → AreSeatsOf seats ps → slice_get seats place ≡ Some seat
+    → IsSeatOf seat (get_or ps place d)
+seat-there [] ps place seat d are e = absurd cc
+seat-there (s ∷ ss) [] place seat d are e = absurd are
+seat-there (s ∷ ss) (p ∷ ps) zero seat d are e = let same : s ≡ seat = cc in subst (λ (t : Seat). IsSeatOf t p) same are.0
+seat-there (s ∷ ss) (p ∷ ps) (suc place) seat d are e = seat-there ss ps place seat d are.1 e
+
+pub state-there : (ps : List PortState) (place : ℕ) (d : PortState) → place < length ps → slice_get ps place ≡ Some (get_or ps place d)
+state-there [] place d within = absurd (omega (arith, within))
+state-there (p ∷ ps) zero d within = refl
+state-there (p ∷ ps) (suc place) d within = state-there ps place d (omega (arith, within))
+
+pub changes-at : (change : Seat → Seat) (old : List PortState) (place : ℕ) (was now : PortState) → was ≡ get_or old place was
+    → ((seat : Seat) → IsSeatOf seat was → IsSeatOf (change seat) now) → ChangesSeat change old place (slice_set old place now)
+changes-at change old place was now here keeps = λ seats seat are e.
+    are-set seats old place (change seat) now are (keeps seat (subst (IsSeatOf seat) (sym here) (seat-there seats old place seat was are e)))
+
+pub of-seat : (P : Seat → Type 0) (ps : List PortState) (place : ℕ) (was : PortState) → was ≡ get_or ps place was → ((seat : Seat) → IsSeatOf seat was → P seat)
+    → OfSeat P ps place
+of-seat P ps place was here holds = λ seats seat are e. holds seat (subst (IsSeatOf seat) (sym here) (seat-there seats ps place seat was are e))
+
+pub of-state : (P : PortState → Type 0) (ps : List PortState) (place : ℕ) (d : PortState) → place < length ps → OfState P ps place → P (get_or ps place d)
+of-state P ps place d within of = of (get_or ps place d) (state-there ps place d within)
+
+pub seat_change_is_change : SeatChangeIsChange
+seat_change_is_change ports helds old new place port held step change changed are e f changes same =
+    let made = changes (seats_of ports helds) (record { port = port; held = held }) are.stand (seats-at ports helds place port held e f) in
+    let next = subst (λ (s : Seat). AreSeatsOf (slice_set (seats_of ports helds) place s) new) same made in
+    subst (λ (ss : List Seat). AreSeatsOf ss new) (sym (change-set ports helds place port held change changed are e f)) next
+
+-- A change that wants something of the seat.
+pub changes-filled : (P : Seat → Type 0) (change : Seat → Seat) (old : List PortState) (place : ℕ) (was now : PortState) → was ≡ get_or old place was → OfSeat P old place
+    → ((seat : Seat) → IsSeatOf seat was → P seat → IsSeatOf (change seat) now) → ChangesSeat change old place (slice_set old place now)
+changes-filled P change old place was now here holds keeps = λ seats seat are e.
+    are-set seats old place (change seat) now are (keeps seat (subst (IsSeatOf seat) (sym here) (seat-there seats old place seat was are e)) (holds seats seat are e))
+
+-- What a grant gives to the seat at a place.
+
+pub lease-of_seat : (number : ℕ) (want : List ℕ) (ps : List PortState) (place : ℕ) (was : PortState) (r : Option Leased) → was ≡ get_or ps place was
+    → IfSome r (λ (lease : Leased). (seat : Seat) (offer : Offer) → IsSeatOf seat was → want ≡ sizes_of offer.frames → IsLeaseFor number offer seat lease)
+    → IfSome r (λ (lease : Leased). (offer : Offer) → want ≡ sizes_of offer.frames → OfSeat (λ (seat : Seat). IsLeaseFor number offer seat lease) ps place)
+lease-of_seat number want ps place was None here gives = tt
+lease-of_seat number want ps place was (Some lease) here gives = λ offer same.
+    of-seat (λ (seat : Seat). IsLeaseFor number offer seat lease) ps place was here (λ seat is. gives seat offer is same)
+
+pub none-of_seat : (want : List ℕ) (ps : List PortState) (place : ℕ) (was : PortState) (r : Option Leased) → was ≡ get_or ps place was
+    → IfNone r ((seat : Seat) (offer : Offer) → IsSeatOf seat was → want ≡ sizes_of offer.frames → given_frames offer seat ≡ [])
+    → IfNone r ((offer : Offer) → want ≡ sizes_of offer.frames → OfSeat (λ (seat : Seat). given_frames offer seat ≡ []) ps place)
+none-of_seat want ps place was (Some lease) here gives = tt
+none-of_seat want ps place was None here gives = λ offer same.
+    of-seat (λ (seat : Seat). given_frames offer seat ≡ []) ps place was here (λ seat is. gives seat offer is same)

@@ -1,0 +1,17 @@
+use Rattle.std.proofs.Common.{◌≡◌, get_or, rules}
+use Rattle.nm_region.specs.Buffers.{indices_of}
+use Rattle.vale_entry.specs.Closing.{unread_count}
+use Rattle.vale_entry.specs.Holdings.{buffers_at_port}
+use Rattle.vale_port.specs.Seat.{Seat}
+use Rattle.vale_port.proofs.Places.{of-seat}
+use Rattle.vale_port.proofs.steps.close_at.Goals as goal
+
+pub returns-clause-held : goal.returns-clause-held
+returns-clause-held c =
+    let here : c.remove.result ≡ get_or c.args.ports.now.items c.args.place c.remove.result = search rules in
+    of-seat (λ (seat : Seat). indices_of c.close.result.0.items ≡ buffers_at_port seat.held) c.args.ports.now.items c.args.place c.remove.result here c.close.ensures.held
+
+pub returns-clause-unread : goal.returns-clause-unread
+returns-clause-unread c =
+    let here : c.remove.result ≡ get_or c.args.ports.now.items c.args.place c.remove.result = search rules in
+    of-seat (λ (seat : Seat). c.close.result.1 ≡ unread_count seat.port) c.args.ports.now.items c.args.place c.remove.result here c.close.ensures.unread

@@ -1,0 +1,98 @@
+ghost use Rattle.std.specs.Prelude.{List, ℕ, ◌≡◌, ◌≤◌, ◌<◌, ◌-◌, [], All, length, drop, take, min, sum, false, Some, vec_capacity, IfSome, IfNone};
+ghost use Rattle.std.specs.List.{remove};
+ghost use Rattle.nm_types.specs.Frames.{Frame};
+ghost use Rattle.nm_region.specs.Buffers.{indices_of};
+ghost use Rattle.vale_lease.specs.Leases.{is_there, out_count};
+ghost use Rattle.vale_line.specs.Fitting.{IsFrameSize};
+ghost use Rattle.vale_line.specs.Gots.{buffers_of, frames_in, IsSingle};
+ghost use Rattle.vale_line.specs.Leased.{buffer_count};
+ghost use Rattle.vale_line.specs.Lines.{out_of, leases_of, ready_gots, slots_out};
+ghost use Rattle.vale_entry.specs.World.{Offer};
+ghost use Rattle.vale_entry.specs.Closing.{unread_count};
+ghost use Rattle.vale_entry.specs.Holdings.{buffers_at_port};
+ghost use Rattle.vale_port.specs.Kept.{bytes_of};
+ghost use Rattle.vale_port.specs.Lists.{ChangesSeat, OfSeat, OfState};
+ghost use Rattle.vale_port.specs.Ports.{IsLeaseFor, IsFilledFor, Gives, sizes_of};
+ghost use Rattle.vale_port.specs.Seat.{given_frames, seat_given, seat_done, seat_synced, seat_shut};
+
+use crate::port::Port;
+use nm_region::Buf;
+use nm_types::LeaseId;
+use vale_line::{Got, Lease, LeaseRoom};
+
+/// Leases idle buffers of the port at a place, as `Port::grant` does.
+pub fn grant_at(
+    ports: &mut Vec<Port>,
+    place: usize,
+    id: LeaseId,
+    room: LeaseRoom,
+    want: &[u32],
+) -> Option<Lease>
+    requires place { place < length ports.old.items }
+    requires new { OfState (λ p. is_there id.0 (leases_of p.line.lots) ≡ false)
+        ports.old.items place }
+    requires sizes { All IsFrameSize want.now }
+    requires room { OfState (λ p. min (sum want.now) (p.line.size - 1) ≤ room)
+        ports.old.items place }
+    ensures seats { (offer : Offer) → want.now ≡ sizes_of offer.frames
+        → ChangesSeat (seat_given id.0 offer) ports.old.items place ports.new.items }
+    ensures some { IfSome result (λ lease. (offer : Offer) → want.now ≡ sizes_of offer.frames
+        → OfSeat (λ seat. IsLeaseFor id.0 offer seat lease) ports.old.items place) }
+    ensures none { IfNone result ((offer : Offer) → want.now ≡ sizes_of offer.frames
+        → OfSeat (λ seat. given_frames offer seat ≡ []) ports.old.items place) }
+    ensures capacity { vec_capacity ports.new ≡ vec_capacity ports.old }
+{
+    ports[place].grant(id, room, want)
+}
+
+/// Completes the lot of a full lease at the port of a place.
+pub fn done_at(ports: &mut Vec<Port>, place: usize, lease: Lease)
+    requires place { place < length ports.old.items }
+    requires lot { OfState (λ p. slots_out lease.id p.line.lots ≡ Some (buffer_count lease))
+        ports.old.items place }
+    requires full { lease.sizes ≡ [] }
+    ensures seats { OfSeat (λ seat. IsFilledFor seat lease) ports.old.items place
+        → ChangesSeat (seat_done lease.id) ports.old.items place ports.new.items }
+    ensures capacity { vec_capacity ports.new ≡ vec_capacity ports.old }
+{
+    ports[place].done(lease);
+}
+
+/// Takes buffers back to the port at a place, and hands out those of its lots that are ready, in
+/// `room`.
+pub fn sync_at(ports: &mut Vec<Port>, place: usize, back: Vec<Buf>, room: Vec<Got>) -> Vec<Got>
+    requires place { place < length ports.old.items }
+    requires returned { OfState (λ p. length back.items ≤ out_of p.line) ports.old.items place }
+    requires none { room.items ≡ [] }
+    requires room { OfState (λ p. length (ready_gots p.line.lots) ≤ vec_capacity room)
+        ports.old.items place }
+    ensures seats { ChangesSeat (seat_synced (indices_of back.items)) ports.old.items place
+        ports.new.items }
+    ensures gives { OfSeat (λ seat. Gives seat result.items) ports.old.items place }
+    ensures capacity { vec_capacity ports.new ≡ vec_capacity ports.old }
+{
+    ports[place].sync(back, room)
+}
+
+/// Closes the port at a place for new frames.
+pub fn shut_at(ports: &mut Vec<Port>, place: usize)
+    requires { place < length ports.old.items }
+    ensures seats { ChangesSeat seat_shut ports.old.items place ports.new.items }
+    ensures capacity { vec_capacity ports.new ≡ vec_capacity ports.old }
+{
+    ports[place].shut();
+}
+
+/// Takes the port at a place out of the list, and gives back the buffers of its kernel side and the
+/// number of frames that no sync handed out.
+pub fn close_at(ports: &mut Vec<Port>, place: usize) -> (Vec<Buf>, u32)
+    requires place { place < length ports.old.items }
+    requires done { OfState (λ p. out_count (leases_of p.line.lots) ≡ 0) ports.old.items place }
+    ensures ports { ports.new.items ≡ remove ports.old.items place }
+    ensures held { OfSeat (λ seat. indices_of result.0.items ≡ buffers_at_port seat.held)
+        ports.old.items place }
+    ensures unread { OfSeat (λ seat. result.1 ≡ unread_count seat.port) ports.old.items place }
+    ensures capacity { vec_capacity ports.new ≡ vec_capacity ports.old }
+{
+    ports.remove(place).close()
+}
