@@ -1,7 +1,6 @@
 -- The calls of a port, over plain values.
 use Rattle.std.proofs.Common.{ℕ, zero, suc, ◌≡◌, ◌+◌, ◌-◌, ◌<◌, ◌≤◌, List, [], ◌∷◌, ◌++◌, length, take, drop, map, min, Option, Some, None, refl, sym, ◌∙◌, ap, subst, arith}
 use Rattle.std.specs.Prelude.{All, sum, IfSome, IfNone}
-use Rattle.std.proofs.Math.Nat.{min_comm}
 use Rattle.std.proofs.lemmas.List.Elements.{All-take}
 use Rattle.std.proofs.lemmas.List.{length-append, length-map, length-take, length-take-le, length-drop}
 use Rattle.nm_types.specs.declared.id.LeaseId.{LeaseId}
@@ -17,7 +16,7 @@ use Rattle.vale_entry.specs.World.{Offer, space_of}
 use Rattle.vale_entry.specs.Delivery.{delivered_frames}
 use Rattle.vale_port.specs.Kept.{bytes_of}
 use Rattle.vale_port.specs.Laws.{exchanged}
-use Rattle.vale_port.specs.Ports.{PortState, IsSeatOf, IsLeaseFor, sizes_of, taken_by}
+use Rattle.vale_port.specs.Ports.{PortState, IsSeatOf, IsLeaseFor, sizes_of}
 use Rattle.vale_port.specs.Seat.{Seat, given_frames, seat_given, seat_put}
 use Rattle.vale_port.proofs.LineTies.{given-lots, ties-line, indices-take}
 use Rattle.vale_port.proofs.SeatTies.{sizes_are_sizes, grant_is_grant, no_grant_is_none, put_is_put, space_is_space, idle-seat, sum-sizes}
@@ -103,51 +102,47 @@ out-synced line back is few =
     let within = is.within in
     omega (arith, all, parts, ready, within, few)
 
--- A put: how many frames are taken.
-pub length-taken_by : (p : PortState) (pending : List Got) → length (taken_by p pending) ≡ min (length pending) (line_space p.line)
-length-taken_by p pending = length-take (line_space p.line) pending ∙ min_comm (line_space p.line) (length pending)
+-- A put: so many buffers were handed out, and as many frames taken
+pub record Taking (p : PortState) (pending : List Got) (count n : ℕ) (back : List Buffer) (taken : List Got) : Type 0 where
+  pub count_is : count ≡ n
+  pub least : n ≡ min (length pending) (line_space p.line)
+  pub back_is : back ≡ take n p.line.idle
+  pub taken_is : taken ≡ take n pending
+  pub as_many : length (take n pending) ≡ n
 
-take-min : {A : Type 0} (n : ℕ) (xs : List A) → take (min (length xs) n) xs ≡ take n xs
-take-min zero [] = refl
-take-min zero (x ∷ xs) = let none : min (length (x ∷ xs)) 0 ≡ 0 = omega arith in rw none refl
-take-min {A = A} (suc n) [] = let none : min (length {A = A} []) (suc n) ≡ 0 = omega arith in rw none refl
-take-min (suc n) (x ∷ xs) =
-    let less : min (length (x ∷ xs)) (suc n) ≡ suc (min (length xs) n) = omega arith in
-    let rest = take-min n xs in
-    rw less cc
-
--- what was lent, and what was taken for it
-pub record Taking (p : PortState) (pending : List Got) (count : ℕ) (taken : List Got) : Type 0 where
-  pub taken_is : taken ≡ taken_by p pending
-  pub count_is : count ≡ length (taken_by p pending)
-  pub fits : length (taken_by p pending) ≤ line_space p.line
-
-pub taking : (p : PortState) (pending : List Got) (count : ℕ) (lent : List Buffer) (taken : List Got) → IsLine p.line → count ≡ min (length pending) (line_space p.line)
-    → lent ≡ take count p.line.idle → taken ≡ take (length lent) pending → Taking p pending count taken
-taking p pending count lent taken line least lend took =
+pub taking : (p : PortState) (pending : List Got) (count : ℕ) (back : List Buffer) (taken : List Got) → IsLine p.line → count ≡ min (length pending) (line_space p.line)
+    → back ≡ take count p.line.idle → taken ≡ take (length back) pending → Taking p pending count (length back) back taken
+taking p pending count back taken line least lent took =
     let some = line.some in
     let within : count ≤ length p.line.idle = omega (arith, least, some) in
-    let as_many : length lent ≡ count = ap length lend ∙ length-take-le count p.line.idle within in
-    let number = length-taken_by p pending in
+    let number : length back ≡ count = ap length lent ∙ length-take-le count p.line.idle within in
     record {
-      taken_is = took ∙ (ap (λ (n : ℕ). take n pending) (as_many ∙ least) ∙ take-min (line_space p.line) pending);
-      count_is = least ∙ sym number;
-      fits = omega (arith, number);
+      count_is = sym number;
+      least = number ∙ least;
+      back_is = lent ∙ ap (λ (n : ℕ). take n p.line.idle) (sym number);
+      taken_is = took;
+      as_many = length-take-le (length back) pending (omega (arith, number, least));
     }
 
-pub seat-taken : (seat : Seat) (p : PortState) (id : LeaseId) (session : ℕ) (frames : List Frame) (pending : List Got) (count : ℕ) (taken : List Got) (line : LineState)
-    → IsSeatOf seat p → IsLine p.line → All IsSingle pending → Taking p pending count taken → line ≡ with_put id taken (record p.line { idle = drop count p.line.idle })
-    → bytes_of frames ≡ frames_in (taken_by p pending)
-    → IsSeatOf (seat_put id.0 session frames (indices_of (buffers_of (taken_by p pending))) seat) (record p { line = line })
-seat-taken seat p id session frames pending count taken line is kept single takes made bytes =
-    let next = put_is_put seat p id session frames (taken_by p pending) is kept (All-take IsSingle (line_space p.line) pending single) bytes takes.fits in
-    let same : exchanged id (taken_by p pending) p.line ≡ line =
-    ap (λ (n : ℕ). with_put id (taken_by p pending) (record p.line { idle = drop n p.line.idle })) (sym takes.count_is)
-    ∙ (ap (λ (gots : List Got). with_put id gots (record p.line { idle = drop count p.line.idle })) (sym takes.taken_is) ∙ sym made) in
-    subst (λ (l : LineState). IsSeatOf (seat_put id.0 session frames (indices_of (buffers_of (taken_by p pending))) seat) (record p { line = l })) same next
+pub line-taken : (p : PortState) (id : LeaseId) (pending : List Got) (count n : ℕ) (back : List Buffer) (taken : List Got) (line : LineState)
+    → Taking p pending count n back taken → line ≡ with_put id taken (record p.line { idle = drop count p.line.idle }) → line ≡ exchanged id (take n pending) p.line
+line-taken p id pending count n back taken line takes made =
+    made
+    ∙ (ap (λ (gots : List Got). with_put id gots (record p.line { idle = drop count p.line.idle })) takes.taken_is
+    ∙ ap (λ (k : ℕ). with_put id (take n pending) (record p.line { idle = drop k p.line.idle })) (takes.count_is ∙ sym takes.as_many))
 
-pub count-taken : (seat : Seat) (p : PortState) (pending : List Got) → IsSeatOf seat p → IsLine p.line → length (taken_by p pending) ≡ min (length pending) (space_of seat.port)
-count-taken seat p pending is line = length-taken_by p pending ∙ ap (λ (n : ℕ). min (length pending) n) (space_is_space seat p is line)
+pub seat-taken : (seat : Seat) (p : PortState) (id : LeaseId) (session : ℕ) (frames : List Frame) (pending : List Got) (count n : ℕ) (back : List Buffer) (taken : List Got) (line : LineState)
+    → IsSeatOf seat p → IsLine p.line → All IsSingle pending → Taking p pending count n back taken → line ≡ exchanged id (take n pending) p.line
+    → bytes_of frames ≡ frames_in (take n pending)
+    → IsSeatOf (seat_put id.0 session frames (indices_of (buffers_of (take n pending))) seat) (record p { line = line })
+seat-taken seat p id session frames pending count n back taken line is kept single takes made bytes =
+    let many = takes.as_many in
+    let least = takes.least in
+    let next = put_is_put seat p id session frames (take n pending) is kept (All-take IsSingle n pending single) bytes (omega (arith, many, least)) in
+    subst (λ (l : LineState). IsSeatOf (seat_put id.0 session frames (indices_of (buffers_of (take n pending))) seat) (record p { line = l })) (sym made) next
+
+pub count-taken : (seat : Seat) (p : PortState) (offered n : ℕ) → IsSeatOf seat p → IsLine p.line → n ≡ min offered (line_space p.line) → n ≡ min offered (space_of seat.port)
+count-taken seat p offered n is line least = least ∙ ap (λ (k : ℕ). min offered k) (space_is_space seat p is line)
 
 pub lent-seat : (seat : Seat) (p : PortState) (n : ℕ) (back : List Buffer) → IsSeatOf seat p → back ≡ take n p.line.idle → indices_of back ≡ take n seat.held.idle
 lent-seat seat p n back is lent = ap indices_of lent ∙ (indices-take n p.line.idle ∙ ap (λ (is : List ℕ). take n is) (idle-seat seat p is))

@@ -6,7 +6,6 @@ use Rattle.vale_line.specs.declared.got.Got.{Got}
 use Rattle.vale_line.specs.Gots.{buffers_of, frames_in}
 use Rattle.vale_line.specs.Leased.{Leased, buffer_count}
 use Rattle.vale_line.specs.Lines.{LineState, out_of, new_line}
-use Rattle.vale_line.specs.Lines.{space_of as line_space}
 use Rattle.vale_entry.specs.World.{Offer}
 use Rattle.vale_entry.specs.Delivery.{delivered_frames}
 use Rattle.vale_port.specs.Kept.{KeptFrames, IsLineOf, bytes_of, kept_gots, world_frames}
@@ -82,7 +81,3 @@ IsFilledFor seat lease = option_map frames_of_seat (lease_seat lease.id seat) �
 pub record Gives (seat : Seat) (gots : List Got) : Type 0 where
   pub buffers : indices_of (buffers_of gots) ≡ ready_buffers seat
   pub bytes : frames_in gots ≡ bytes_of (delivered_frames seat.port)
-
--- what a port takes of the frames that its other end offers: as many as it has space for
-abbrev pub taken_by : PortState → List Got → List Got
-taken_by p pending = take (line_space p.line) pending

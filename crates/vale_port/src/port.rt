@@ -13,7 +13,7 @@ ghost use Rattle.vale_entry.specs.Pipe.{taken_count};
 ghost use Rattle.vale_entry.specs.Holdings.{buffers_at_port};
 ghost use Rattle.vale_port.specs.Kept.{bytes_of};
 ghost use Rattle.vale_port.specs.Laws.{with_line, exchanged};
-ghost use Rattle.vale_port.specs.Ports.{opened_state, due_of_state, is_open_state, is_shutting_state, IsSeatOf, IsLeaseFor, IsFilledFor, Gives, sizes_of, taken_by};
+ghost use Rattle.vale_port.specs.Ports.{opened_state, due_of_state, is_open_state, is_shutting_state, IsSeatOf, IsLeaseFor, IsFilledFor, Gives, sizes_of};
 ghost use Rattle.vale_port.specs.Seat.{Seat, opened_seat, given_frames, seat_given, seat_done, seat_synced, seat_put, seat_shut};
 
 use crate::room::PutRoom;
@@ -234,22 +234,22 @@ impl Port {
     pub fn put(&mut self, id: LeaseId, pending: &mut Vec<Got>, room: PutRoom) -> Vec<Buf>
         requires new { is_there id.0 (leases_of self.old.line.lots) ≡ false }
         requires single { All IsSingle pending.old.items }
-        requires room { length (taken_by self.old pending.old.items) ≤ room }
+        requires room { min (length pending.old.items) (line_space self.old.line) ≤ room }
+        ensures count { length result.items
+            ≡ min (length pending.old.items) (line_space self.old.line) }
+        ensures took { (seat : Seat) → IsSeatOf seat self.old
+            → length result.items ≡ taken_count (Some seat.port) (length pending.old.items) }
         ensures seat { (seat : Seat) (session : ℕ) (frames : List Frame) → IsSeatOf seat self.old
-            → bytes_of frames ≡ frames_in (taken_by self.old pending.old.items)
+            → bytes_of frames ≡ frames_in (take (length result.items) pending.old.items)
             → IsSeatOf (seat_put id.0 session frames
-            (indices_of (buffers_of (taken_by self.old pending.old.items))) seat) self.new }
-        ensures taken { (seat : Seat) → IsSeatOf seat self.old
-            → length (taken_by self.old pending.old.items)
-            ≡ taken_count (Some seat.port) (length pending.old.items) }
-        ensures pending { pending.new.items
-            ≡ drop (length (taken_by self.old pending.old.items)) pending.old.items }
-        ensures back { (seat : Seat) → IsSeatOf seat self.old → indices_of result.items
-            ≡ take (length (taken_by self.old pending.old.items)) seat.held.idle }
-        ensures line { self.new ≡ with_line (exchanged id (taken_by self.old pending.old.items)
-            self.old.line) self.old }
-        ensures buffers { result.items
-            ≡ take (length (taken_by self.old pending.old.items)) self.old.line.idle }
+            (indices_of (buffers_of (take (length result.items) pending.old.items))) seat)
+            self.new }
+        ensures line { self.new ≡ with_line
+            (exchanged id (take (length result.items) pending.old.items) self.old.line) self.old }
+        ensures pending { pending.new.items ≡ drop (length result.items) pending.old.items }
+        ensures back { result.items ≡ take (length result.items) self.old.line.idle }
+        ensures idle { (seat : Seat) → IsSeatOf seat self.old
+            → indices_of result.items ≡ take (length result.items) seat.held.idle }
     {
         let (mut taken, lent, mut back) = room.into_vecs();
         let count = pending.len().min(self.line.space() as usize);

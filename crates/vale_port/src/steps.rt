@@ -6,16 +6,18 @@ ghost use Rattle.vale_lease.specs.Leases.{is_there, out_count};
 ghost use Rattle.vale_line.specs.Fitting.{IsFrameSize};
 ghost use Rattle.vale_line.specs.Gots.{buffers_of, frames_in, IsSingle};
 ghost use Rattle.vale_line.specs.Leased.{buffer_count};
-ghost use Rattle.vale_line.specs.Lines.{out_of, leases_of, ready_gots, slots_out};
+ghost use Rattle.vale_line.specs.Lines.{out_of, leases_of, ready_gots, slots_out, space_of as line_space};
 ghost use Rattle.vale_entry.specs.World.{Offer};
+ghost use Rattle.vale_entry.specs.Pipe.{taken_count};
 ghost use Rattle.vale_entry.specs.Closing.{unread_count};
 ghost use Rattle.vale_entry.specs.Holdings.{buffers_at_port};
 ghost use Rattle.vale_port.specs.Kept.{bytes_of};
 ghost use Rattle.vale_port.specs.Lists.{ChangesSeat, OfSeat, OfState};
 ghost use Rattle.vale_port.specs.Ports.{IsLeaseFor, IsFilledFor, Gives, sizes_of};
-ghost use Rattle.vale_port.specs.Seat.{given_frames, seat_given, seat_done, seat_synced, seat_shut};
+ghost use Rattle.vale_port.specs.Seat.{given_frames, seat_given, seat_done, seat_synced, seat_put, seat_shut};
 
 use crate::port::Port;
+use crate::room::PutRoom;
 use nm_region::Buf;
 use nm_types::LeaseId;
 use vale_line::{Got, Lease, LeaseRoom};
@@ -72,6 +74,36 @@ pub fn sync_at(ports: &mut Vec<Port>, place: usize, back: Vec<Buf>, room: Vec<Go
     ensures capacity { vec_capacity ports.new ≡ vec_capacity ports.old }
 {
     ports[place].sync(back, room)
+}
+
+/// Lets the port at a place take the first frames that the other end of a pipe offers, and hands out
+/// as many of its idle buffers in their place, as `Port::put` does.
+pub fn put_at(
+    ports: &mut Vec<Port>,
+    place: usize,
+    id: LeaseId,
+    pending: &mut Vec<Got>,
+    room: PutRoom,
+) -> Vec<Buf>
+    requires place { place < length ports.old.items }
+    requires new { OfState (λ p. is_there id.0 (leases_of p.line.lots) ≡ false)
+        ports.old.items place }
+    requires single { All IsSingle pending.old.items }
+    requires room { OfState (λ p. min (length pending.old.items) (line_space p.line) ≤ room)
+        ports.old.items place }
+    ensures took { OfSeat (λ seat. length result.items
+        ≡ taken_count (Some seat.port) (length pending.old.items)) ports.old.items place }
+    ensures seats { (session : ℕ) (frames : List Frame)
+        → bytes_of frames ≡ frames_in (take (length result.items) pending.old.items)
+        → ChangesSeat (seat_put id.0 session frames
+        (indices_of (buffers_of (take (length result.items) pending.old.items))))
+        ports.old.items place ports.new.items }
+    ensures pending { pending.new.items ≡ drop (length result.items) pending.old.items }
+    ensures idle { OfSeat (λ seat. indices_of result.items
+        ≡ take (length result.items) seat.held.idle) ports.old.items place }
+    ensures capacity { vec_capacity ports.new ≡ vec_capacity ports.old }
+{
+    ports[place].put(id, pending, room)
 }
 
 /// Closes the port at a place for new frames.
