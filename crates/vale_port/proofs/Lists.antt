@@ -182,11 +182,13 @@ change_is_change ports helds ps place port held p change changed are e f is =
     (are-set (seats_of ports helds) ps place (seat_with (change port) (changed held)) p are.stand is)
 
 pub shut_is_shut : ShutIsShutAmong
-shut_is_shut ports helds ps place port held p are e f is =
+shut_is_shut ports helds old new place port held are e f changes =
     let all : changed_at port.id shut ports ≡ slice_set ports place (shut port) = changed_at-place shut ports are.high place port are.rise e in
     let seats : seats_of (changed_at port.id shut ports) helds ≡ slice_set (seats_of ports helds) place (seat_with (shut port) held) =
     rw all (seats-set_port ports helds place (shut port) held f) in
-    subst (λ (ss : List Seat). AreSeatsOf ss (slice_set ps place p)) (sym seats) (are-set (seats_of ports helds) ps place (seat_with (shut port) held) p are.stand is)
+    let made : AreSeatsOf (slice_set (seats_of ports helds) place (seat_with (shut port) held)) new =
+    changes (seats_of ports helds) (seat_with port held) are.stand (seats-at ports helds place port held e f) in
+    subst (λ (ss : List Seat). AreSeatsOf ss new) (sym seats) made
 
 pub open_is_open_among : OpenIsOpenAmong
 open_is_open_among ports helds ps port held p are is =
@@ -270,11 +272,13 @@ done-place number (p ∷ ps) (suc place) port single e some =
     sum-least number ports place port e = sum-at (lots_of number) ports place port e
 
 pub done_is_done_among : DoneIsDoneAmong
-done_is_done_among ports helds ps place number port held p are single e f there is =
+done_is_done_among ports helds old new place number port held are single e f there changes =
     let all : ports_after_done number ports ≡ slice_set ports place (port_after_done number port) = done-place number ports place port (single number) e (some-numbered number port.line there) in
     let seats : seats_of (ports_after_done number ports) helds ≡ slice_set (seats_of ports helds) place (seat_with (port_after_done number port) held) =
     rw all (seats-set_port ports helds place (port_after_done number port) held f) in
-    subst (λ (ss : List Seat). AreSeatsOf ss (slice_set ps place p)) (sym seats) (are-set (seats_of ports helds) ps place (seat_with (port_after_done number port) held) p are.stand is)
+    let made : AreSeatsOf (slice_set (seats_of ports helds) place (seat_with (port_after_done number port) held)) new =
+    changes (seats_of ports helds) (seat_with port held) are.stand (seats-at ports helds place port held e f) in
+    subst (λ (ss : List Seat). AreSeatsOf ss new) (sym seats) made
 
 -- The number of a later entry is that of no lot.
 

@@ -34,6 +34,14 @@ of-seat P ps place was here holds = λ seats seat are e. holds seat (subst (IsSe
 pub of-state : (P : PortState → Type 0) (ps : List PortState) (place : ℕ) (d : PortState) → place < length ps → OfState P ps place → P (get_or ps place d)
 of-state P ps place d within of = of (get_or ps place d) (state-there ps place d within)
 
+here-is : (ps : List PortState) (place : ℕ) (p d : PortState) → slice_get ps place ≡ Some p → get_or ps place d ≡ p
+here-is [] place p d e = absurd cc
+here-is (q ∷ ps) zero p d e = cc
+here-is (q ∷ ps) (suc place) p d e = here-is ps place p d e
+
+pub state-of : (P : PortState → Type 0) (ps : List PortState) (place : ℕ) (was : PortState) → was ≡ get_or ps place was → P was → OfState P ps place
+state-of P ps place was here holds = λ p e. subst P (here ∙ here-is ps place p was e) holds
+
 pub seat_change_is_change : SeatChangeIsChange
 seat_change_is_change ports helds old new place port held step change changed are e f changes same =
     let made = changes (seats_of ports helds) (record { port = port; held = held }) are.stand (seats-at ports helds place port held e f) in
@@ -61,3 +69,30 @@ pub none-of_seat : (want : List ℕ) (ps : List PortState) (place : ℕ) (was : 
 none-of_seat want ps place was (Some lease) here gives = tt
 none-of_seat want ps place was None here gives = λ offer same.
     of-seat (λ (seat : Seat). given_frames offer seat ≡ []) ps place was here (λ seat is. gives seat offer is same)
+
+pub some-of_state : (P : PortState → Leased → Type 0) (ps : List PortState) (place : ℕ) (was : PortState) (r : Option Leased) → was ≡ get_or ps place was
+    → IfSome r (P was) → IfSome r (λ (lease : Leased). OfState (λ (p : PortState). P p lease) ps place)
+some-of_state P ps place was None here holds = tt
+some-of_state P ps place was (Some lease) here holds = state-of (λ (p : PortState). P p lease) ps place was here holds
+
+-- a list in which the port at a place is another one
+pub set-of_state : (change : PortState → PortState) (ps : List PortState) (place : ℕ) (was now : PortState) → was ≡ get_or ps place was → now ≡ change was
+    → OfState (λ (p : PortState). slice_set ps place now ≡ slice_set ps place (change p)) ps place
+set-of_state change ps place was now here made =
+    state-of (λ (p : PortState). slice_set ps place now ≡ slice_set ps place (change p)) ps place was here (ap (λ (p : PortState). slice_set ps place p) made)
+
+pub some-set : (change : Leased → PortState → PortState) (ps : List PortState) (place : ℕ) (was now : PortState) (r : Option Leased) → was ≡ get_or ps place was
+    → IfSome r (λ (lease : Leased). now ≡ change lease was)
+    → IfSome r (λ (lease : Leased). OfState (λ (p : PortState). slice_set ps place now ≡ slice_set ps place (change lease p)) ps place)
+some-set change ps place was now None here made = tt
+some-set change ps place was now (Some lease) here made = set-of_state (change lease) ps place was now here made
+
+set-same : (ps : List PortState) (place : ℕ) (d : PortState) → slice_set ps place (get_or ps place d) ≡ ps
+set-same [] place d = refl
+set-same (p ∷ ps) zero d = refl
+set-same (p ∷ ps) (suc place) d = ap (λ (qs : List PortState). p ∷ qs) (set-same ps place d)
+
+pub none-set : (ps : List PortState) (place : ℕ) (was now : PortState) (r : Option Leased) → was ≡ get_or ps place was → IfNone r (now ≡ was)
+    → IfNone r (slice_set ps place now ≡ ps)
+none-set ps place was now (Some lease) here kept = tt
+none-set ps place was now None here kept = ap (λ (p : PortState). slice_set ps place p) (kept ∙ here) ∙ set-same ps place was

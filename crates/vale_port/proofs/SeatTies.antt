@@ -4,7 +4,7 @@ use Rattle.std.specs.Prelude.{flat_map, All, sum, sum_by, nat_le, find, option_m
 use Rattle.std.specs.List.{take_while, list_any}
 use Rattle.std.proofs.lemmas.Bool.{cases_Bool, ne_eqb, eq-eqb, eqb-true, leb-true, and_parts}
 use Rattle.std.proofs.lemmas.List.{length-append, length-map, length-drop}
-use Rattle.std.proofs.lemmas.List.Elements.{All-head, All-tail}
+use Rattle.std.proofs.lemmas.List.Elements.{All-cons, All-head, All-tail}
 use Rattle.std.proofs.lemmas.List.Sums.{sum_by-cons}
 use Rattle.nm_types.specs.declared.id.LeaseId.{LeaseId}
 use Rattle.nm_types.specs.Frames.{Frame, slots_of, size_of_frames}
@@ -12,7 +12,7 @@ use Rattle.nm_types.proofs.Sizes.{size_of_frames-length}
 use Rattle.nm_region.specs.Buffers.{Buffer, indices_of}
 use Rattle.vale_lease.specs.Leases.{out_count}
 use Rattle.vale_line.specs.declared.got.Got.{Got}
-use Rattle.vale_line.specs.Fitting.{fitting_sizes}
+use Rattle.vale_line.specs.Fitting.{fitting_sizes, IsFrameSize}
 use Rattle.vale_line.specs.Gots.{buffers_of, buffer_of, frames_in, last_count, is_last, IsSingle}
 use Rattle.vale_line.specs.Leased.{Leased, buffer_count}
 use Rattle.vale_line.specs.Lines.{HeldLot, LineState, IsLine, with_lease, given_by_sync, out_of, opened_lot, put_lot, ready_gots, ready_frames, held_gots, leases_of, completed, granted_sizes, with_put, gots_of, slots_out}
@@ -29,14 +29,14 @@ use Rattle.vale_entry.specs.Pipe.{port_after_put}
 use Rattle.vale_port.specs.Kept.{KeptLot, KeptLine, kept_lot, KeptFrames, kept_gots, world_lot, world_lots, bytes_of, IsLineOf}
 use Rattle.vale_port.specs.Ports.{PortState, IsSeatOf, Gives, sizes_of, frames_of_seat}
 use Rattle.vale_port.specs.Seat.{Seat, LotSeat, given_frames, seat_given, seat_synced, seat_put, lease_among, lease_seat}
-use Rattle.vale_port.specs.Laws.{SpaceIsSpace, SizesAreSizes, GrantIsGrant, NoGrantIsNone, DoneIsDone, SyncIsSync, PutIsPut, ClearGivesAll, LotsAreLots, FilledIsOut, exchanged, is_numbered, size_of_lot}
+use Rattle.vale_port.specs.Laws.{SpaceIsSpace, SizesAreSizes, GrantIsGrant, NoGrantIsNone, DoneIsDone, SyncIsSync, PutIsPut, ClearGivesAll, LotsAreLots, FilledIsOut, RingIsRing, SizesAreFrameSizes, exchanged, is_numbered, size_of_lot}
 use Rattle.vale_port.proofs.LineTies.{Ties, some-same, cons-head, cons-tail, ties-line, line-same, length-indices, indices-append, slots-lots, out-lots, there-lots, sizes-lots, kept-push, kept-done, given-lots, all-lots}
 
 -- the lots of a port's line, with what they stand for
 ties-seat : (seat : Seat) (p : PortState) → IsSeatOf seat p → Ties p.line.lots seat.port.line seat.held.lots
 ties-seat seat p is = ties-line seat.port seat.held p.line is.line
 
-size-seat : (seat : Seat) (p : PortState) → IsSeatOf seat p → p.line.size ≡ seat.port.rx
+pub size-seat : RingIsRing
 size-seat seat p is = ap (λ (k : KeptLine). k.size) is.line.same
 
 pub idle-seat : (seat : Seat) (p : PortState) → IsSeatOf seat p → indices_of p.line.idle ≡ seat.held.idle
@@ -78,6 +78,10 @@ sum-sizes (f ∷ fs) =
     let one = sum-cons (slots_of f) (sizes_of fs) in
     let two = sum_by-cons slots_of f fs in
     omega (arith, rest, one, two)
+
+pub sizes_are_frame_sizes : SizesAreFrameSizes
+sizes_are_frame_sizes [] = λ k d within. absurd (omega (arith, within))
+sizes_are_frame_sizes (f ∷ fs) = All-cons IsFrameSize (slots_of f) (sizes_of fs) (omega arith, omega arith) (sizes_are_frame_sizes fs)
 
 fitting-within : (room : ℕ) (frames : List Frame) → size_of_frames (longest_fitting room frames) ≤ room
 fitting-within room [] = omega arith

@@ -7,6 +7,7 @@ use Rattle.nm_region.specs.Buffers.{Buffer, indices_of}
 use Rattle.vale_lease.specs.Leases.{is_there, out_count}
 use Rattle.vale_line.specs.declared.got.Got.{Got}
 use Rattle.vale_line.specs.Gots.{buffers_of, frames_in, IsSingle}
+use Rattle.vale_line.specs.Fitting.{IsFrameSize}
 use Rattle.vale_line.specs.Leased.{Leased, buffer_count}
 use Rattle.vale_line.specs.Lines.{LineState, IsLine, leases_of, granted_sizes, with_lease, given_by_sync, with_put, completed, ready_gots, held_gots, slots_out, out_of}
 use Rattle.vale_line.specs.Lines.{space_of as line_space}
@@ -84,3 +85,11 @@ LotsAreLots = (seat : Seat) (p : PortState) (number : ℕ) → IsSeatOf seat p
 abbrev pub FilledIsOut : Type 0
 FilledIsOut = (seat : Seat) (p : PortState) (lease : Leased) → IsSeatOf seat p → PortAgrees seat.port seat.held → IsFilledFor seat lease → lease.empty ≡ []
     → (slots_out lease.id p.line.lots ≡ Some (buffer_count lease)) × (list_any (is_numbered lease.id) seat.port.line ≡ true)
+
+-- what a grant asks for: each frame takes 1 to 64 slots
+abbrev pub SizesAreFrameSizes : Type 0
+SizesAreFrameSizes = (frames : List Frame) → All IsFrameSize (sizes_of frames)
+
+-- a line has as many buffers as the ring of its port
+abbrev pub RingIsRing : Type 0
+RingIsRing = (seat : Seat) (p : PortState) → IsSeatOf seat p → p.line.size ≡ seat.port.rx

@@ -41,6 +41,19 @@ pub record StandsAt (ports : List Port) (helds : List PortBuffers) (ps : List Po
   pub agrees : PortAgrees port held
   pub is_seat : IsSeatOf (record { port = port; held = held }) state
 
+-- One port changes, and the seat that it stands for with it.
+abbrev pub ChangesSeat : (Seat → Seat) → List PortState → ℕ → List PortState → Type 0
+ChangesSeat change old place new = (seats : List Seat) (seat : Seat) → AreSeatsOf seats old → slice_get seats place ≡ Some seat
+    → AreSeatsOf (slice_set seats place (change seat)) new
+
+-- what holds of the seat at a place
+abbrev pub OfSeat : (Seat → Type 0) → List PortState → ℕ → Type 0
+OfSeat P ps place = (seats : List Seat) (seat : Seat) → AreSeatsOf seats ps → slice_get seats place ≡ Some seat → P seat
+
+-- what holds of the port at a place
+abbrev pub OfState : (PortState → Type 0) → List PortState → ℕ → Type 0
+OfState P ps place = (p : PortState) → slice_get ps place ≡ Some p → P p
+
 -- What a list of ports keeps.
 
 abbrev pub EachPortStands : Type 0
@@ -56,26 +69,31 @@ abbrev pub NotFoundIsNone : Type 0
 NotFoundIsNone = (ports : List Port) (helds : List PortBuffers) (ps : List PortState) (search : List Port → Option Port) → AreRising ports helds ps
     → IsNotFound search ps → search ports ≡ None
 
--- a change of one port and of its buffers
+-- another port at a place
 abbrev pub ChangeIsChange : Type 0
 ChangeIsChange = (ports : List Port) (helds : List PortBuffers) (ps : List PortState) (place : ℕ) (port : Port) (held : PortBuffers) (p : PortState)
     (change : Port → Port) (changed : PortBuffers → PortBuffers) → AreRising ports helds ps
     → slice_get ports place ≡ Some port → slice_get helds place ≡ Some held → IsSeatOf (record { port = change port; held = changed held }) p
     → ArePortsOf (changed_at port.id change ports) (changed_buffers port.id changed helds) (slice_set ps place p)
 
--- a change of one port that leaves its buffers as they are
+-- where the seat at a place changes, so do the world's port and its buffers
+abbrev pub SeatChangeIsChange : Type 0
+SeatChangeIsChange = (ports : List Port) (helds : List PortBuffers) (old new : List PortState) (place : ℕ) (port : Port) (held : PortBuffers)
+    (step : Seat → Seat) (change : Port → Port) (changed : PortBuffers → PortBuffers) → AreRising ports helds old
+    → slice_get ports place ≡ Some port → slice_get helds place ≡ Some held → ChangesSeat step old place new
+    → step (record { port = port; held = held }) ≡ record { port = change port; held = changed held }
+    → ArePortsOf (changed_at port.id change ports) (changed_buffers port.id changed helds) new
+
 abbrev pub ShutIsShutAmong : Type 0
-ShutIsShutAmong = (ports : List Port) (helds : List PortBuffers) (ps : List PortState) (place : ℕ) (port : Port) (held : PortBuffers) (p : PortState)
-    → AreRising ports helds ps
-    → slice_get ports place ≡ Some port → slice_get helds place ≡ Some held → IsSeatOf (seat_shut (record { port = port; held = held })) p
-    → ArePortsOf (changed_at port.id shut ports) helds (slice_set ps place p)
+ShutIsShutAmong = (ports : List Port) (helds : List PortBuffers) (old new : List PortState) (place : ℕ) (port : Port) (held : PortBuffers) → AreRising ports helds old
+    → slice_get ports place ≡ Some port → slice_get helds place ≡ Some held → ChangesSeat seat_shut old place new
+    → ArePortsOf (changed_at port.id shut ports) helds new
 
 -- a lot of that number is done: no other port has one
 abbrev pub DoneIsDoneAmong : Type 0
-DoneIsDoneAmong = (ports : List Port) (helds : List PortBuffers) (ps : List PortState) (place number : ℕ) (port : Port) (held : PortBuffers) (p : PortState)
-    → AreRising ports helds ps → AreSingle ports → slice_get ports place ≡ Some port → slice_get helds place ≡ Some held
-    → list_any (is_numbered number) port.line ≡ true → IsSeatOf (seat_done number (record { port = port; held = held })) p
-    → ArePortsOf (ports_after_done number ports) helds (slice_set ps place p)
+DoneIsDoneAmong = (ports : List Port) (helds : List PortBuffers) (old new : List PortState) (place number : ℕ) (port : Port) (held : PortBuffers) → AreRising ports helds old
+    → AreSingle ports → slice_get ports place ≡ Some port → slice_get helds place ≡ Some held → list_any (is_numbered number) port.line ≡ true
+    → ChangesSeat (seat_done number) old place new → ArePortsOf (ports_after_done number ports) helds new
 
 abbrev pub OpenIsOpenAmong : Type 0
 OpenIsOpenAmong = (ports : List Port) (helds : List PortBuffers) (ps : List PortState) (port : Port) (held : PortBuffers) (p : PortState)
@@ -91,24 +109,3 @@ GoneIsGone = (ports : List Port) (helds : List PortBuffers) (ps : List PortState
 abbrev pub NewIsNew : Type 0
 NewIsNew = (seat : Seat) (p : PortState) (count number : ℕ) → IsSeatOf seat p → HasLotsUpTo count seat.port → count < number
     → is_there number (leases_of p.line.lots) ≡ false
-
--- One port changes, and the seat that it stands for with it.
-abbrev pub ChangesSeat : (Seat → Seat) → List PortState → ℕ → List PortState → Type 0
-ChangesSeat change old place new = (seats : List Seat) (seat : Seat) → AreSeatsOf seats old → slice_get seats place ≡ Some seat
-    → AreSeatsOf (slice_set seats place (change seat)) new
-
--- what holds of the seat at a place
-abbrev pub OfSeat : (Seat → Type 0) → List PortState → ℕ → Type 0
-OfSeat P ps place = (seats : List Seat) (seat : Seat) → AreSeatsOf seats ps → slice_get seats place ≡ Some seat → P seat
-
--- what holds of the port at a place
-abbrev pub OfState : (PortState → Type 0) → List PortState → ℕ → Type 0
-OfState P ps place = (p : PortState) → slice_get ps place ≡ Some p → P p
-
--- then the world's ports and their buffers change by the change of the seat
-abbrev pub SeatChangeIsChange : Type 0
-SeatChangeIsChange = (ports : List Port) (helds : List PortBuffers) (old new : List PortState) (place : ℕ) (port : Port) (held : PortBuffers)
-    (step : Seat → Seat) (change : Port → Port) (changed : PortBuffers → PortBuffers) → AreRising ports helds old
-    → slice_get ports place ≡ Some port → slice_get helds place ≡ Some held → ChangesSeat step old place new
-    → step (record { port = port; held = held }) ≡ record { port = change port; held = changed held }
-    → ArePortsOf (changed_at port.id change ports) (changed_buffers port.id changed helds) new

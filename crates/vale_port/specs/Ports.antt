@@ -50,6 +50,9 @@ due_of_state p = p.tx + p.extra + out_of p.line
 abbrev pub is_state_of : ℕ → PortState → Bool
 is_state_of id p = p.id == id
 
+abbrev pub is_state_of_session : ℕ → PortState → Bool
+is_state_of_session session p = p.session == session
+
 abbrev pub is_open_state : ℕ → PortState → Bool
 is_open_state id p = (p.id == id) && not p.shutting
 

@@ -1,5 +1,5 @@
 ghost use Rattle.vale_port.specs.Lists.{EachPortStands, FoundIsFound, NotFoundIsNone, ChangeIsChange, DoneIsDoneAmong, OpenIsOpenAmong, GoneIsGone, NewIsNew, SeatChangeIsChange, ShutIsShutAmong};
-ghost use Rattle.vale_port.specs.Laws.{OpenIsOpen, SpaceIsSpace, SizesAreSizes, GrantIsGrant, NoGrantIsNone, DoneIsDone, SyncIsSync, PutIsPut, ShutIsShut, ClearGivesAll, LotsAreLots, FilledIsOut};
+ghost use Rattle.vale_port.specs.Laws.{OpenIsOpen, SpaceIsSpace, SizesAreSizes, GrantIsGrant, NoGrantIsNone, DoneIsDone, SyncIsSync, PutIsPut, ShutIsShut, ClearGivesAll, LotsAreLots, FilledIsOut, RingIsRing, SizesAreFrameSizes};
 
 /// What a line does is what the world's port does: for each seat that a port stands for, it stands
 /// for the seat after the step.
@@ -24,10 +24,12 @@ pub fn ports_open_and_close()
 pub fn lines_find_lots()
     ensures lots { LotsAreLots }
     ensures filled { FilledIsOut }
+    ensures ring { RingIsRing }
+    ensures sizes { SizesAreFrameSizes }
 {}
 
-/// A list of ports, by rising ids, stays that of the world's ports as these change: at one place, by
-/// one that is opened, and by one that is gone.
+/// A list of ports, by rising ids, stays that of the world's ports as these change: at one place,
+/// by one that is opened, and by one that is gone.
 pub fn ports_are_kept()
     ensures each { EachPortStands }
     ensures found { FoundIsFound }

@@ -66,8 +66,9 @@ impl Model for Port {
 }
 
 impl Port {
-    /// Opens a port whose receive ring has these buffers, which are idle. `close` gives them back in
-    /// the vector that is passed here, and so does `NoMemory` at once. No other call takes memory.
+    /// Opens a port whose receive ring has these buffers, which are idle. `close` gives them back
+    /// in the vector that is passed here, and so does `NoMemory` at once. No other call takes
+    /// memory.
     pub fn new(
         alloc: Global,
         opening: Opening,
@@ -95,28 +96,28 @@ impl Port {
         }
     }
 
-    /// The number of the entry that opened it.
+    /// Returns the number of the entry that opened the port.
     pub fn id(&self) -> PortId
         ensures { result.0 ≡ self.now.id }
     {
         self.id
     }
 
-    /// The session that opened it.
+    /// Returns the session that opened the port.
     pub fn session(&self) -> SessionId
         ensures { result.0 ≡ self.now.session }
     {
         self.session
     }
 
-    /// Its name.
+    /// Returns the port's name.
     pub fn name(&self) -> Name
         ensures { result ≡ self.now.name }
     {
         self.name
     }
 
-    /// Tells whether it is open, and not being shut.
+    /// Tells whether the port is open, and not being shut.
     pub fn is_open(&self) -> bool
         ensures { result ≡ not self.now.shutting }
     {
@@ -135,14 +136,14 @@ impl Port {
         self.id == id && self.shutting
     }
 
-    /// The number of buffers that syncs handed out and that have not come back.
+    /// Returns the number of buffers that syncs handed out and that have not come back.
     pub fn out(&self) -> u32
         ensures { result ≡ out_of self.now.line }
     {
         self.out
     }
 
-    /// The number of buffers that its session holds for it.
+    /// Returns the number of buffers that the session holds for the port.
     pub fn due(&self) -> u64
         ensures state { result ≡ due_of_state self.now }
         ensures seat { (seat : Seat) → IsSeatOf seat self.now → result ≡ due_of seat.port }
@@ -150,7 +151,7 @@ impl Port {
         self.tx as u64 + self.extra as u64 + self.out as u64
     }
 
-    /// The number of slots that a grant or a put can still fill.
+    /// Returns the number of slots that a grant or a put can still fill.
     #[tactic(auto, using(crate::proofs::SeatTies::seats))]
     pub fn space(&self) -> u32
         ensures state { result ≡ line_space self.now.line }
@@ -159,7 +160,7 @@ impl Port {
         self.line.space()
     }
 
-    /// The number of buffers that a sync would hand out.
+    /// Returns the number of buffers that a sync would hand out.
     pub fn ready(&self) -> u32
         ensures state { result ≡ length (ready_gots self.now.line.lots) }
         ensures seat { (seat : Seat) → IsSeatOf seat self.now
@@ -168,7 +169,7 @@ impl Port {
         self.line.ready()
     }
 
-    /// The number of leases that are not done.
+    /// Returns the number of leases that are not done.
     #[tactic(auto, using(crate::proofs::SeatTies::seats))]
     pub fn leases_out(&self) -> u32
         ensures state { result ≡ out_count (leases_of self.now.line.lots) }
@@ -185,8 +186,9 @@ impl Port {
         requires room { min (sum want.now) (self.old.line.size - 1) ≤ room }
         ensures seat { (seat : Seat) (offer : Offer) → IsSeatOf seat self.old
             → want.now ≡ sizes_of offer.frames → IsSeatOf (seat_given id.0 offer seat) self.new }
-        ensures some { IfSome result (λ lease. (seat : Seat) (offer : Offer) → IsSeatOf seat self.old
-            → want.now ≡ sizes_of offer.frames → IsLeaseFor id.0 offer seat lease) }
+        ensures some { IfSome result (λ lease. (seat : Seat) (offer : Offer)
+            → IsSeatOf seat self.old → want.now ≡ sizes_of offer.frames
+            → IsLeaseFor id.0 offer seat lease) }
         ensures none { IfNone result ((seat : Seat) (offer : Offer) → IsSeatOf seat self.old
             → want.now ≡ sizes_of offer.frames → given_frames offer seat ≡ []) }
         ensures lease { IfSome result (λ lease. lease
@@ -261,7 +263,7 @@ impl Port {
         back
     }
 
-    /// Closes it for new frames.
+    /// Closes the port for new frames.
     pub fn shut(&mut self)
         ensures state { self.new ≡ record self.old { shutting = true } }
         ensures seat { (seat : Seat) → IsSeatOf seat self.old → IsSeatOf (seat_shut seat) self.new }
@@ -269,8 +271,8 @@ impl Port {
         self.shutting = true;
     }
 
-    /// Gives back the buffers of the kernel side of its receive ring, in the vector that the port was
-    /// opened with, and the number of frames that no sync handed out.
+    /// Gives back the buffers of the kernel side of its receive ring, in the vector that the port
+    /// was opened with, and the number of frames that no sync handed out.
     pub fn close(self) -> (Vec<Buf>, u32)
         requires { out_count (leases_of self.line.lots) ≡ 0 }
         ensures buffers { result.0.items ≡ self.line.idle ++ buffers_of (held_gots self.line.lots) }

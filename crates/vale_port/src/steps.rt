@@ -1,4 +1,4 @@
-ghost use Rattle.std.specs.Prelude.{List, ℕ, ◌≡◌, ◌≤◌, ◌<◌, ◌-◌, [], All, length, drop, take, min, sum, false, Some, vec_capacity, IfSome, IfNone};
+ghost use Rattle.std.specs.Prelude.{List, ℕ, ◌≡◌, ◌≤◌, ◌<◌, ◌-◌, true, [], ◌++◌, All, map, slice_set, length, drop, take, min, sum, false, Some, vec_len, vec_capacity, IfSome, IfNone};
 ghost use Rattle.std.specs.List.{remove};
 ghost use Rattle.nm_types.specs.Frames.{Frame};
 ghost use Rattle.nm_region.specs.Buffers.{indices_of};
@@ -6,12 +6,13 @@ ghost use Rattle.vale_lease.specs.Leases.{is_there, out_count};
 ghost use Rattle.vale_line.specs.Fitting.{IsFrameSize};
 ghost use Rattle.vale_line.specs.Gots.{buffers_of, frames_in, IsSingle};
 ghost use Rattle.vale_line.specs.Leased.{buffer_count};
-ghost use Rattle.vale_line.specs.Lines.{out_of, leases_of, ready_gots, slots_out, space_of as line_space};
+ghost use Rattle.vale_line.specs.Lines.{out_of, leases_of, ready_gots, held_gots, slots_out, granted_sizes, completed, with_lease, leased, given_by_sync, space_of as line_space};
 ghost use Rattle.vale_entry.specs.World.{Offer};
 ghost use Rattle.vale_entry.specs.Pipe.{taken_count};
 ghost use Rattle.vale_entry.specs.Closing.{unread_count};
 ghost use Rattle.vale_entry.specs.Holdings.{buffers_at_port};
 ghost use Rattle.vale_port.specs.Kept.{bytes_of};
+ghost use Rattle.vale_port.specs.Laws.{with_line, exchanged};
 ghost use Rattle.vale_port.specs.Lists.{ChangesSeat, OfSeat, OfState};
 ghost use Rattle.vale_port.specs.Ports.{IsLeaseFor, IsFilledFor, Gives, sizes_of};
 ghost use Rattle.vale_port.specs.Seat.{given_frames, seat_given, seat_done, seat_synced, seat_put, seat_shut};
@@ -42,6 +43,13 @@ pub fn grant_at(
         → OfSeat (λ seat. IsLeaseFor id.0 offer seat lease) ports.old.items place) }
     ensures none { IfNone result ((offer : Offer) → want.now ≡ sizes_of offer.frames
         → OfSeat (λ seat. given_frames offer seat ≡ []) ports.old.items place) }
+    ensures lease { IfSome result (λ lease. OfState (λ p. lease
+        ≡ leased id p.id (granted_sizes want.now p.line) p.line) ports.old.items place) }
+    ensures lot { IfSome result (λ lease. OfState (λ p. ports.new.items
+        ≡ slice_set ports.old.items place
+        (with_line (with_lease id (buffer_count lease) p.line) p)) ports.old.items place) }
+    ensures kept { IfNone result (ports.new.items ≡ ports.old.items) }
+    ensures count { vec_len ports.new ≡ vec_len ports.old }
     ensures capacity { vec_capacity ports.new ≡ vec_capacity ports.old }
 {
     ports[place].grant(id, room, want)
@@ -55,6 +63,10 @@ pub fn done_at(ports: &mut Vec<Port>, place: usize, lease: Lease)
     requires full { lease.sizes ≡ [] }
     ensures seats { OfSeat (λ seat. IsFilledFor seat lease) ports.old.items place
         → ChangesSeat (seat_done lease.id) ports.old.items place ports.new.items }
+    ensures lots { OfState (λ p. ports.new.items ≡ slice_set ports.old.items place
+        (with_line (record p.line { lots = map (completed lease.id lease.filled) p.line.lots }) p))
+        ports.old.items place }
+    ensures count { vec_len ports.new ≡ vec_len ports.old }
     ensures capacity { vec_capacity ports.new ≡ vec_capacity ports.old }
 {
     ports[place].done(lease);
@@ -71,13 +83,17 @@ pub fn sync_at(ports: &mut Vec<Port>, place: usize, back: Vec<Buf>, room: Vec<Go
     ensures seats { ChangesSeat (seat_synced (indices_of back.items)) ports.old.items place
         ports.new.items }
     ensures gives { OfSeat (λ seat. Gives seat result.items) ports.old.items place }
+    ensures got { OfState (λ p. result.items ≡ ready_gots p.line.lots) ports.old.items place }
+    ensures line { OfState (λ p. ports.new.items ≡ slice_set ports.old.items place
+        (with_line (given_by_sync back.items p.line) p)) ports.old.items place }
+    ensures count { vec_len ports.new ≡ vec_len ports.old }
     ensures capacity { vec_capacity ports.new ≡ vec_capacity ports.old }
 {
     ports[place].sync(back, room)
 }
 
-/// Lets the port at a place take the first frames that the other end of a pipe offers, and hands out
-/// as many of its idle buffers in their place, as `Port::put` does.
+/// Lets the port at a place take the first frames that the other end of a pipe offers, and hands
+/// out as many of its idle buffers in their place, as `Port::put` does.
 pub fn put_at(
     ports: &mut Vec<Port>,
     place: usize,
@@ -101,6 +117,12 @@ pub fn put_at(
     ensures pending { pending.new.items ≡ drop (length result.items) pending.old.items }
     ensures idle { OfSeat (λ seat. indices_of result.items
         ≡ take (length result.items) seat.held.idle) ports.old.items place }
+    ensures back { OfState (λ p. result.items ≡ take (length result.items) p.line.idle)
+        ports.old.items place }
+    ensures line { OfState (λ p. ports.new.items ≡ slice_set ports.old.items place (with_line
+        (exchanged id (take (length result.items) pending.old.items) p.line) p))
+        ports.old.items place }
+    ensures count { vec_len ports.new ≡ vec_len ports.old }
     ensures capacity { vec_capacity ports.new ≡ vec_capacity ports.old }
 {
     ports[place].put(id, pending, room)
@@ -110,6 +132,9 @@ pub fn put_at(
 pub fn shut_at(ports: &mut Vec<Port>, place: usize)
     requires { place < length ports.old.items }
     ensures seats { ChangesSeat seat_shut ports.old.items place ports.new.items }
+    ensures port { OfState (λ p. ports.new.items
+        ≡ slice_set ports.old.items place (record p { shutting = true })) ports.old.items place }
+    ensures count { vec_len ports.new ≡ vec_len ports.old }
     ensures capacity { vec_capacity ports.new ≡ vec_capacity ports.old }
 {
     ports[place].shut();
@@ -121,6 +146,8 @@ pub fn close_at(ports: &mut Vec<Port>, place: usize) -> (Vec<Buf>, u32)
     requires place { place < length ports.old.items }
     requires done { OfState (λ p. out_count (leases_of p.line.lots) ≡ 0) ports.old.items place }
     ensures ports { ports.new.items ≡ remove ports.old.items place }
+    ensures buffers { OfState (λ p. result.0.items
+        ≡ p.line.idle ++ buffers_of (held_gots p.line.lots)) ports.old.items place }
     ensures held { OfSeat (λ seat. indices_of result.0.items ≡ buffers_at_port seat.held)
         ports.old.items place }
     ensures unread { OfSeat (λ seat. result.1 ≡ unread_count seat.port) ports.old.items place }

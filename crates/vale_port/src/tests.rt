@@ -5,7 +5,9 @@ ghost use Rattle.vale_line.specs.Gots.{buffers_of, IsSingle};
 ghost use Rattle.vale_line.specs.Leased.{buffer_count};
 ghost use Rattle.vale_line.specs.Lines.{slots_out, behind_done, completed, leases_of, opened_lot};
 
-use crate::{Opening, Port, PutRoom, leased_port, open_port, shutting_port};
+use crate::{
+    Opening, Port, PutRoom, first_of_session, leased_port, open_port, shut_at, shutting_port,
+};
 use nm_region::{Buf, Region};
 use nm_types::{LeaseId, Name, PortId, SessionId};
 use std::alloc::Global;
@@ -108,8 +110,9 @@ fn is_frame(got: &Got, index: u32, len: u16, byte: u8) -> bool {
 }
 
 /// A ring of 8 leases two buffers and then one; a third grant wants six frames and gets four. The
-/// second lease is completed first, and nothing is ready before the first one is done; then one sync
-/// hands out the frames of both. The buffers stay out: the test ends by the panic that it expects.
+/// second lease is completed first, and nothing is ready before the first one is done; then one
+/// sync hands out the frames of both. The buffers stay out: the test ends by the panic that it
+/// expects.
 #[test]
 #[should_panic(expected = "the buffers stay out")]
 fn frames_in_lease_order(rt: HostRuntime) {
@@ -211,10 +214,10 @@ fn ports_are_found(rt: HostRuntime) {
     let (_second, bufs) = region_of(&rt, rt.alloc(), 4);
     let mut port = port_of(&rt, rt.alloc(), 7, bufs);
     let lease = grant(&rt, rt.alloc(), &mut port, 9, &[1]);
-    port.shut();
     ports.push_reserved(port);
     let (_third, bufs) = region_of(&rt, rt.alloc(), 4);
     ports.push_reserved(port_of(&rt, rt.alloc(), 12, bufs));
+    shut_at(&mut ports, 1);
     for (id, open, shutting) in [
         (3, Some(0), None),
         (7, None, Some(1)),
@@ -225,5 +228,7 @@ fn ports_are_found(rt: HostRuntime) {
         assert!(rt; shutting_port(&ports, PortId(id)) == shutting, "port {id}");
     }
     assert!(rt; leased_port(&ports, &lease) == Some(1));
+    assert!(rt; first_of_session(&ports, SessionId(1)) == Some(0));
+    assert!(rt; first_of_session(&ports, SessionId(2)) == None);
     panic!(rt; "the ports stay");
 }

@@ -1,9 +1,12 @@
-use Rattle.std.proofs.Common.{◌≡◌, get_or, rules}
+use Rattle.std.proofs.Common.{◌++◌, ◌≡◌, get_or, rules}
+use Rattle.vale_line.specs.Gots.{buffers_of}
+use Rattle.vale_line.specs.Lines.{held_gots}
+use Rattle.vale_port.specs.Ports.{PortState}
 use Rattle.nm_region.specs.Buffers.{indices_of}
 use Rattle.vale_entry.specs.Closing.{unread_count}
 use Rattle.vale_entry.specs.Holdings.{buffers_at_port}
 use Rattle.vale_port.specs.Seat.{Seat}
-use Rattle.vale_port.proofs.Places.{of-seat}
+use Rattle.vale_port.proofs.Places.{of-seat, state-of}
 use Rattle.vale_port.proofs.steps.close_at.Goals as goal
 
 pub returns-clause-held : goal.returns-clause-held
@@ -15,3 +18,8 @@ pub returns-clause-unread : goal.returns-clause-unread
 returns-clause-unread c =
     let here : c.remove.result ≡ get_or c.args.ports.now.items c.args.place c.remove.result = search rules in
     of-seat (λ (seat : Seat). c.close.result.1 ≡ unread_count seat.port) c.args.ports.now.items c.args.place c.remove.result here c.close.ensures.unread
+
+pub returns-clause-buffers : goal.returns-clause-buffers
+returns-clause-buffers c =
+    let here : c.remove.result ≡ get_or c.args.ports.now.items c.args.place c.remove.result = search rules in
+    state-of (λ (p : PortState). c.close.result.0.items ≡ p.line.idle ++ buffers_of (held_gots p.line.lots)) c.args.ports.now.items c.args.place c.remove.result here c.close.ensures.buffers

@@ -1,6 +1,10 @@
-use Rattle.vale_port.specs.Ports.{IsLeaseFor}
+use Rattle.std.proofs.Common.{◌≡◌}
+use Rattle.vale_line.specs.Leased.{Leased, buffer_count}
+use Rattle.vale_line.specs.Lines.{granted_sizes, leased, with_lease}
+use Rattle.vale_port.specs.Laws.{with_line}
+use Rattle.vale_port.specs.Ports.{PortState, IsLeaseFor}
 use Rattle.vale_port.specs.Seat.{Seat, given_frames, seat_given}
-use Rattle.vale_port.proofs.Places.{changes-at, lease-of_seat, none-of_seat}
+use Rattle.vale_port.proofs.Places.{changes-at, lease-of_seat, none-of_seat, some-of_state, some-set, none-set}
 use Rattle.vale_port.proofs.steps.grant_at.Goals as goal
 
 pub returns-clause-seats : goal.returns-clause-seats
@@ -15,3 +19,17 @@ returns-clause-some c =
 pub returns-clause-none : goal.returns-clause-none
 returns-clause-none c =
     none-of_seat c.args.want.now c.args.ports.now.items c.args.place c.index_mut.result.now c.grant.result c.index_mut.ensures.value c.grant.ensures.none
+
+pub returns-clause-lease : goal.returns-clause-lease
+returns-clause-lease c =
+    some-of_state (λ (p : PortState) (lease : Leased). lease ≡ leased c.args.id p.id (granted_sizes c.args.want.now p.line) p.line) c.args.ports.now.items c.args.place
+    c.index_mut.result.now c.grant.result c.index_mut.ensures.value c.grant.ensures.lease
+
+pub returns-clause-lot : goal.returns-clause-lot
+returns-clause-lot c =
+    some-set (λ (lease : Leased) (p : PortState). with_line (with_lease c.args.id (buffer_count lease) p.line) p) c.args.ports.now.items c.args.place
+    c.index_mut.result.now c.grant.new.self c.grant.result c.index_mut.ensures.value c.grant.ensures.lot
+
+pub returns-clause-kept : goal.returns-clause-kept
+returns-clause-kept c =
+    none-set c.args.ports.now.items c.args.place c.index_mut.result.now c.grant.new.self c.grant.result c.index_mut.ensures.value c.grant.ensures.kept
