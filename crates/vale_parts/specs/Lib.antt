@@ -6,3 +6,4 @@ pub mod Batches
 pub mod WorldWatches
 pub mod WorldCounts
 pub mod FreeBuffers
+pub mod TableLaws

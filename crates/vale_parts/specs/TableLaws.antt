@@ -1,0 +1,27 @@
+-- Laws of the learning tables of the switches.
+use Rattle.std.specs.Prelude.{ℕ, ◌≡◌, false, List, [], ◌∷◌, ◌++◌, length}
+use Rattle.std.specs.List.{list_any}
+use Rattle.vale_learn.specs.AddressTable.{Entries}
+use Rattle.vale_entry.specs.declared.entry.Entry.{Entry}
+use Rattle.vale_entry.specs.Legal.{standing_of, world_of, Follows}
+use Rattle.vale_parts.specs.SwitchPorts.{ArePairsOf, is_open_on}
+use Rattle.vale_parts.specs.Tables.{Finds, FindsNothing, table_after}
+
+-- each pair is of a port of the pair's switch, as long as that port is there
+abbrev pub PairsAreOfSwitch : Type 0
+PairsAreOfSwitch = (pool : ℕ) (history : List Entry) → ArePairsOf (world_of pool history)
+
+-- what an entry makes of a switch's table finds what is learned once the entry is made
+abbrev pub TablesFollow : Type 0
+TablesFollow = (pool : ℕ) (history : List Entry) (entry : Entry) (switch : List ℕ) (entries : Entries) → Follows (standing_of pool history) entry → length entries ≡ 1024
+    → Finds (world_of pool history) switch entries → Finds (world_of pool (history ++ entry ∷ [])) switch (table_after (world_of pool history) switch entry.ask entries)
+
+-- a table that finds nothing is one for each switch that has no open port
+abbrev pub EmptyTablesServe : Type 0
+EmptyTablesServe = (pool : ℕ) (history : List Entry) (switch : List ℕ) (entries : Entries) → list_any (is_open_on switch) (world_of pool history).ports ≡ false
+    → FindsNothing entries → Finds (world_of pool history) switch entries
+
+-- and the table of a switch that has lost its last open port is such a table
+abbrev pub LastPortsEmptyTables : Type 0
+LastPortsEmptyTables = (pool : ℕ) (history : List Entry) (switch : List ℕ) (entries : Entries) → list_any (is_open_on switch) (world_of pool history).ports ≡ false
+    → Finds (world_of pool history) switch entries → FindsNothing entries
