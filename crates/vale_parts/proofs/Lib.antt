@@ -3,3 +3,7 @@ pub mod SwitchPairs
 pub mod TableFinds
 pub mod PairsKept
 pub mod TablesKept
+pub mod Lookups
+pub mod WantedFrames
+pub mod WantOffers
+pub mod BatchWants

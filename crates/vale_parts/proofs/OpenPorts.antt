@@ -101,7 +101,7 @@ open-without ports high at port r e id = by_id (port.id == id) refl
     by_id false t = ap (λ (found : Option Port). is_some found) (open_other ports port.id id (eqb-false port.id id t))
 
 -- once a port is shut
-some_is_any : {X : Type 0} (test : X → Bool) (xs : List X) → is_some (find test xs) ≡ list_any test xs
+pub some_is_any : {X : Type 0} (test : X → Bool) (xs : List X) → is_some (find test xs) ≡ list_any test xs
 some_is_any test [] = refl
 some_is_any test (x ∷ xs) = some_by x (find test xs) (list_any test xs) (test x) (some_is_any test xs)
   where

@@ -72,21 +72,30 @@ learned_each P sender holds (frame ∷ frames) pairs all =
     by_test true = (holds (source_address frame), all)
     by_test false = all
 
+-- what a port of a switch teaches
+pub sender_pair : (ports : List Port) (count from : ℕ) (port : Port) → Rise 0 (map id_of_port ports) count → open_port ports from ≡ Some port → is_switch_port_name port.name ≡ true
+    → (address : List ℕ) → IsPairOf count ports (record { switch = switch_of port.name; address = address; port = port.id })
+sender_pair ports count from port r e named address =
+    let place = open-place ports count from port r e in
+    let low = port_at-below ports count from port r (found-open ports count from port r e) in
+    let on : is_on_switch (switch_of port.name) port ≡ true = and_from (is_switch_port_name port.name) (bytes_eq (switch_of port.name) (switch_of port.name)) named ((bytes_eq-Decides (switch_of port.name) (switch_of port.name)).1 refl) in
+    let only = only-place ports count place.place port r place.here in
+    record {
+      within = low;
+      on_switch = each-weaker (λ (p : Port). p.id ≡ port.id → p ≡ port) (λ (p : Port). p.id ≡ port.id → is_on_switch (switch_of port.name) p ≡ true)
+          (λ p same id. ap (is_on_switch (switch_of port.name)) (same id) ∙ on) ports only;
+    }
+
+pub learned-paired : (ports : List Port) (count from : ℕ) (port : Port) → Rise 0 (map id_of_port ports) count → open_port ports from ≡ Some port → is_switch_port_name port.name ≡ true
+    → (frames : List Frame) (pairs : List Pair) → Each (IsPairOf count ports) pairs → Each (IsPairOf count ports) (learned_of_batch port pairs frames)
+learned-paired ports count from port r e named frames pairs all = learned_each (IsPairOf count ports) port (sender_pair ports count from port r e named) frames pairs all
+
 sent : (s : Standing) (from : ℕ) (frames : List Frame) (port : Port) → Numbered s → open_port s.world.ports from ≡ Some port → can_send s.world frames port ≡ true → Paired s
     → Each (IsPairOf (s.world.entry_count + 1) s.world.ports) (learned_of_batch port s.world.pairs frames)
 sent s from frames port n e can k =
     let w = s.world in
-    let place = open-place w.ports w.entry_count from port n.ports_rise e in
-    let low = port_at-below w.ports w.entry_count from port n.ports_rise (found-open w.ports w.entry_count from port n.ports_rise e) in
     let named = (and_parts (is_switch_port_name port.name) (is_settled w port.session && is_sendable frames) can).0 in
-    let on : is_on_switch (switch_of port.name) port ≡ true = and_from (is_switch_port_name port.name) (bytes_eq (switch_of port.name) (switch_of port.name)) named ((bytes_eq-Decides (switch_of port.name) (switch_of port.name)).1 refl) in
-    let only = only-place w.ports w.entry_count place.place port n.ports_rise place.here in
-    learned_each (IsPairOf (w.entry_count + 1) w.ports) port
-    (λ address. record {
-      within = omega (arith, low);
-      on_switch = each-weaker (λ (p : Port). p.id ≡ port.id → p ≡ port) (λ (p : Port). p.id ≡ port.id → is_on_switch (switch_of port.name) p ≡ true)
-          (λ p same id. ap (is_on_switch (switch_of port.name)) (same id) ∙ on) w.ports only;
-    }) frames w.pairs (later w.entry_count w.ports w.pairs k)
+    later w.entry_count w.ports (learned_of_batch port w.pairs frames) (learned-paired w.ports w.entry_count from port n.ports_rise e named frames w.pairs k)
 
 paired_kinds : (s : Standing) → Numbered s → Paired s → EachKind s (λ ask made. PairedNext s made)
 paired_kinds s n k =

@@ -8,6 +8,7 @@ use Rattle.vale_batch.specs.declared.looking.Looked.{Looked}
 use Rattle.vale_batch.specs.Wants.{Wanted, is_short_destination}
 use Rattle.vale_entry.specs.declared.entry.Destination.{Destination}
 use Rattle.vale_entry.specs.declared.entry.Destination.TheVariants.{Nobody, Only, Others}
+use Rattle.vale_entry.specs.declared.entry.Dest.{Dest}
 use Rattle.vale_entry.specs.World.{Offer}
 use Rattle.vale_entry.specs.Learning.{is_short}
 use Rattle.vale_entry.specs.Lookup.{Named}
@@ -44,6 +45,13 @@ AreOffersOf frames [] [] = Unit {0}
 AreOffersOf frames [] (offer ∷ offers) = ⊥
 AreOffersOf frames (want ∷ wants) [] = ⊥
 AreOffersOf frames (want ∷ wants) (offer ∷ offers) = IsOfferOf frames want offer × AreOffersOf frames wants offers
+
+-- how many frames each port wants
+abbrev pub dest_wanted : Wanted → Dest
+dest_wanted want = record { to = want.to; count = length want.places }
+
+abbrev pub dests_wanted : List Wanted → List Dest
+dests_wanted wants = map dest_wanted wants
 
 -- the want of a port that gets all frames
 abbrev pub want_of_all : ℕ → List Frame → Wanted

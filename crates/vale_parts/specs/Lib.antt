@@ -7,3 +7,4 @@ pub mod WorldWatches
 pub mod WorldCounts
 pub mod FreeBuffers
 pub mod TableLaws
+pub mod BatchLaws

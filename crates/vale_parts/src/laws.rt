@@ -2,6 +2,10 @@
 //! definitions, which the check proves.
 #![tactic(auto)]
 
+ghost use Rattle.vale_parts.specs.BatchLaws.{BatchesAreNamed, ShortFramesAreCounted};
+ghost use Rattle.vale_parts.specs.BatchLaws.{LoneFramesAreCounted, SlotsAreOne, OpenPortsRise};
+ghost use Rattle.vale_parts.specs.BatchLaws.{SentWantsAreOffers, GivenWantsAreOffers};
+ghost use Rattle.vale_parts.specs.BatchLaws.{PutWantsAreOffers, DestsAreWanted};
 ghost use Rattle.vale_parts.specs.TableLaws.{PairsAreOfSwitch, TablesFollow, EmptyTablesServe};
 ghost use Rattle.vale_parts.specs.TableLaws.{LastPortsEmptyTables};
 
@@ -21,4 +25,28 @@ pub fn tables_follow()
 pub fn empty_tables_serve()
     ensures serve { EmptyTablesServe }
     ensures last { LastPortsEmptyTables }
+{}
+
+/// A batch that is looked up in the table of its sender's switch is named as the world names it, in
+/// slots of one for each frame, with as many short frames and as many for no port.
+pub fn batches_are_named()
+    ensures named { BatchesAreNamed }
+    ensures short { ShortFramesAreCounted }
+    ensures lone { LoneFramesAreCounted }
+    ensures slots { SlotsAreOne }
+{}
+
+/// The open ports of a switch rise, as they must where a batch is looked up.
+pub fn open_ports_rise()
+    ensures { OpenPortsRise }
+{}
+
+/// What the open ports of a switch want of a batch, and what its monitor wants, is what a Send
+/// offers: to the same ports in the same order, the same frames. What a Sync gives and what a Put's
+/// other end takes is offered to the monitor alone. Destinations are told by the wants.
+pub fn wants_are_offers()
+    ensures sent { SentWantsAreOffers }
+    ensures given { GivenWantsAreOffers }
+    ensures put { PutWantsAreOffers }
+    ensures dests { DestsAreWanted }
 {}
