@@ -7,3 +7,5 @@ pub mod Lookups
 pub mod WantedFrames
 pub mod WantOffers
 pub mod BatchWants
+pub mod WatchSides
+pub mod WatchesKept

@@ -117,7 +117,7 @@ ports-find ports other pairs switch entries all finds =
 
 -- ---- a port that is shut
 
-abbrev unless : ℕ → Option ℕ → Option ℕ
+abbrev pub unless : ℕ → Option ℕ → Option ℕ
 unless gone None = None
 unless gone (Some id) = cond (id == gone) None (Some id)
 

@@ -8,3 +8,4 @@ pub mod WorldCounts
 pub mod FreeBuffers
 pub mod TableLaws
 pub mod BatchLaws
+pub mod WatchLaws

@@ -8,6 +8,7 @@ ghost use Rattle.vale_parts.specs.BatchLaws.{SentWantsAreOffers, GivenWantsAreOf
 ghost use Rattle.vale_parts.specs.BatchLaws.{PutWantsAreOffers, DestsAreWanted};
 ghost use Rattle.vale_parts.specs.TableLaws.{PairsAreOfSwitch, TablesFollow, EmptyTablesServe};
 ghost use Rattle.vale_parts.specs.TableLaws.{LastPortsEmptyTables};
+ghost use Rattle.vale_parts.specs.WatchLaws.{WatchesFollow, WatchedAreWatched};
 
 /// A pair's port, as long as it is there, is of the pair's switch.
 pub fn pairs_are_of_their_switch()
@@ -49,4 +50,12 @@ pub fn wants_are_offers()
     ensures given { GivenWantsAreOffers }
     ensures put { PutWantsAreOffers }
     ensures dests { DestsAreWanted }
+{}
+
+/// Watches, with one more for each Watch and without those of a port and by it for each Shut, name
+/// the monitor of each side of each port, after every entry. A port is watched exactly where the
+/// world says so, and by the same monitor.
+pub fn watches_follow()
+    ensures follow { WatchesFollow }
+    ensures watched { WatchedAreWatched }
 {}
