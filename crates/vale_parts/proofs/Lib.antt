@@ -9,3 +9,4 @@ pub mod WantOffers
 pub mod BatchWants
 pub mod WatchSides
 pub mod WatchesKept
+pub mod FreeKept

@@ -9,3 +9,4 @@ pub mod FreeBuffers
 pub mod TableLaws
 pub mod BatchLaws
 pub mod WatchLaws
+pub mod FreeLaws

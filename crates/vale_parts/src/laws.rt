@@ -6,6 +6,8 @@ ghost use Rattle.vale_parts.specs.BatchLaws.{BatchesAreNamed, ShortFramesAreCoun
 ghost use Rattle.vale_parts.specs.BatchLaws.{LoneFramesAreCounted, SlotsAreOne, OpenPortsRise};
 ghost use Rattle.vale_parts.specs.BatchLaws.{SentWantsAreOffers, GivenWantsAreOffers};
 ghost use Rattle.vale_parts.specs.BatchLaws.{PutWantsAreOffers, DestsAreWanted};
+ghost use Rattle.vale_parts.specs.FreeLaws.{FreeFollow, FreeAreCounted, OpeningsAreCut};
+ghost use Rattle.vale_parts.specs.FreeLaws.{FinishesCanGive};
 ghost use Rattle.vale_parts.specs.TableLaws.{PairsAreOfSwitch, TablesFollow, EmptyTablesServe};
 ghost use Rattle.vale_parts.specs.TableLaws.{LastPortsEmptyTables};
 ghost use Rattle.vale_parts.specs.WatchLaws.{WatchesFollow, WatchedAreWatched};
@@ -58,4 +60,14 @@ pub fn wants_are_offers()
 pub fn watches_follow()
     ensures follow { WatchesFollow }
     ensures watched { WatchedAreWatched }
+{}
+
+/// The free buffers, with those of an opening taken at once and cut, and those of a Finish given back
+/// one by one, are the free ones of the holdings, after every entry. They are as many as the world
+/// says, and what a Finish makes free can be given back.
+pub fn free_buffers_follow()
+    ensures follow { FreeFollow }
+    ensures count { FreeAreCounted }
+    ensures cut { OpeningsAreCut }
+    ensures give { FinishesCanGive }
 {}
