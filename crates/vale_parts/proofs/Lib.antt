@@ -10,3 +10,6 @@ pub mod BatchWants
 pub mod WatchSides
 pub mod WatchesKept
 pub mod FreeKept
+pub mod Permutations
+pub mod NamesKept
+pub mod NameAnswers

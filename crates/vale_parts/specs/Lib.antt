@@ -10,3 +10,4 @@ pub mod TableLaws
 pub mod BatchLaws
 pub mod WatchLaws
 pub mod FreeLaws
+pub mod NameLaws

@@ -8,6 +8,8 @@ ghost use Rattle.vale_parts.specs.BatchLaws.{SentWantsAreOffers, GivenWantsAreOf
 ghost use Rattle.vale_parts.specs.BatchLaws.{PutWantsAreOffers, DestsAreWanted};
 ghost use Rattle.vale_parts.specs.FreeLaws.{FreeFollow, FreeAreCounted, OpeningsAreCut};
 ghost use Rattle.vale_parts.specs.FreeLaws.{FinishesCanGive};
+ghost use Rattle.vale_parts.specs.NameLaws.{NamesFollow, OpeningsAreAnswered, NamesFindPorts};
+ghost use Rattle.vale_parts.specs.NameLaws.{NamesFindPeers};
 ghost use Rattle.vale_parts.specs.TableLaws.{PairsAreOfSwitch, TablesFollow, EmptyTablesServe};
 ghost use Rattle.vale_parts.specs.TableLaws.{LastPortsEmptyTables};
 ghost use Rattle.vale_parts.specs.WatchLaws.{WatchesFollow, WatchedAreWatched};
@@ -70,4 +72,18 @@ pub fn free_buffers_follow()
     ensures count { FreeAreCounted }
     ensures cut { OpeningsAreCut }
     ensures give { FinishesCanGive }
+{}
+
+/// Names, with one more for each opening, marked by each Shut and without that of each Finish, are
+/// those of the ports, after every entry.
+pub fn names_follow()
+    ensures { NamesFollow }
+{}
+
+/// An opening is refused for its name as the names say, or else for want of buffers; a name finds the
+/// open port that has it, and the name of a pipe's other end the open port there.
+pub fn names_answer_as_ports()
+    ensures openings { OpeningsAreAnswered }
+    ensures ports { NamesFindPorts }
+    ensures peers { NamesFindPeers }
 {}
