@@ -13,3 +13,5 @@ pub mod FreeKept
 pub mod Permutations
 pub mod NamesKept
 pub mod NameAnswers
+pub mod Sums
+pub mod CountsKept

@@ -11,3 +11,4 @@ pub mod BatchLaws
 pub mod WatchLaws
 pub mod FreeLaws
 pub mod NameLaws
+pub mod CountLaws

@@ -1,32 +1,35 @@
--- Every port that is there has its counters in the tally, and no other has.
-use Rattle.std.specs.Prelude.{ℕ, Bool, ◌==◌, ◌≡◌, ◌+◌, List, find, Option, option_map}
+-- The tally is the counters of the world, port by port.
+use Rattle.std.specs.Prelude.{ℕ, ◌≡◌, ◌+◌, List, map, Option, Some, None}
 use Rattle.nm_types.specs.declared.id.Counts.{Counts}
-use Rattle.nm_types.specs.Counters.{sum_of_counts}
 use Rattle.nm_count.specs.declared.tally.Tallied.{Tallied}
-use Rattle.nm_count.specs.Tallies.{counts_of, tally_with, tally_without}
+use Rattle.nm_count.specs.Tallies.{tally_with, tally_after_add, tally_without}
 use Rattle.vale_entry.specs.declared.entry.Ask.{Ask}
-use Rattle.vale_entry.specs.declared.entry.Ask.TheVariants.{Open, Finish}
+use Rattle.vale_entry.specs.declared.entry.Ask.TheVariants.{Open, Send, Grant, Sync, Get, PutKept, Finish}
 use Rattle.vale_entry.specs.declared.entry.Reply.{Reply}
 use Rattle.vale_entry.specs.declared.entry.Reply.TheVariants.{Opened}
-use Rattle.vale_entry.specs.World.{World, PortCounts}
-use Rattle.vale_entry.specs.Counters.{counted_by}
+use Rattle.vale_entry.specs.World.{World, Port, PortCounts}
+use Rattle.vale_entry.specs.Pipe.{peer_at}
+use Rattle.vale_entry.specs.Counters.{count_sent, count_shared, count_gave_at, count_put, count_taken_at}
 use Rattle.vale_parts.specs.Ids.{port_id}
 
-abbrev pub is_counted_at : ℕ → PortCounts → Bool
-is_counted_at port counted = counted.port == port
-
-abbrev pub counts_at : List PortCounts → ℕ → Option Counts
-counts_at counts port = option_map (λ (counted : PortCounts). counted.counts) (find (is_counted_at port) counts)
+abbrev pub counted_as : Tallied → PortCounts
+counted_as tallied = record { port = tallied.port.0; counts = tallied.counts }
 
 abbrev pub CountsAre : World → List Tallied → Type 0
-CountsAre w tally = (port : ℕ) → counts_of tally port ≡ counts_at w.counts port
+CountsAre w tally = map counted_as tally ≡ w.counts
 
--- each port has counted what the ask and its reply count there
-abbrev pub HasCounted : World → Ask → Reply → List Tallied → List Tallied → Type 0
-HasCounted w ask reply tally next = (port : ℕ) → counts_of next port ≡ option_map (λ (counts : Counts). sum_of_counts counts (counted_by port w ask reply)) (counts_of tally port)
+abbrev pub added_at : Option Port → Counts → List Tallied → List Tallied
+added_at None more tally = tally
+added_at (Some port) more tally = tally_after_add port.id more tally
 
--- what an entry makes of the tally
-abbrev pub IsTallyAfter : World → Ask → Reply → List Tallied → List Tallied → Type 0
-IsTallyAfter w (Open session name tx rx extra) Opened tally next = next ≡ tally_with (port_id (w.entry_count + 1)) tally
-IsTallyAfter w (Finish port bufs chain) reply tally next = next ≡ tally_without port.0 tally
-IsTallyAfter w ask reply tally next = HasCounted w ask reply tally next
+-- what an entry makes of the tally: an opening adds a port and a Finish removes it; a Send counts what it
+-- sent, a Grant what it shared, a Sync and a Get what they gave, and a Put what was taken, at both ends
+abbrev pub tally_after : World → Ask → Reply → List Tallied → List Tallied
+tally_after w (Open session name tx rx extra) Opened tally = tally_with (port_id (w.entry_count + 1)) tally
+tally_after w (Send from frames) reply tally = tally_after_add from.0 (count_sent frames reply) tally
+tally_after w (Grant origin to) reply tally = tally_after_add to.0 (count_shared reply) tally
+tally_after w (Sync at back) reply tally = tally_after_add at.0 (count_gave_at reply) tally
+tally_after w (Get at back) reply tally = tally_after_add at.0 (count_gave_at reply) tally
+tally_after w (PutKept at offered) reply tally = added_at (peer_at w.ports at.0) (count_taken_at reply) (tally_after_add at.0 (count_put reply) tally)
+tally_after w (Finish at bufs chain) reply tally = tally_without at.0 tally
+tally_after w _ _ tally = tally

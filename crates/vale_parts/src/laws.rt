@@ -6,6 +6,9 @@ ghost use Rattle.vale_parts.specs.BatchLaws.{BatchesAreNamed, ShortFramesAreCoun
 ghost use Rattle.vale_parts.specs.BatchLaws.{LoneFramesAreCounted, SlotsAreOne, OpenPortsRise};
 ghost use Rattle.vale_parts.specs.BatchLaws.{SentWantsAreOffers, GivenWantsAreOffers};
 ghost use Rattle.vale_parts.specs.BatchLaws.{PutWantsAreOffers, DestsAreWanted};
+ghost use Rattle.vale_parts.specs.CountLaws.{CountsFollow, OpenPortsAreCounted};
+ghost use Rattle.vale_parts.specs.CountLaws.{ShuttingPortsAreCounted, NextPortsAreNot};
+ghost use Rattle.vale_parts.specs.CountLaws.{AsManyAreCounted, NothingIsAdded, NowhereIsAdded};
 ghost use Rattle.vale_parts.specs.FreeLaws.{FreeFollow, FreeAreCounted, OpeningsAreCut};
 ghost use Rattle.vale_parts.specs.FreeLaws.{FinishesCanGive};
 ghost use Rattle.vale_parts.specs.NameLaws.{NamesFollow, OpeningsAreAnswered, NamesFindPorts};
@@ -86,4 +89,20 @@ pub fn names_answer_as_ports()
     ensures openings { OpeningsAreAnswered }
     ensures ports { NamesFindPorts }
     ensures peers { NamesFindPeers }
+{}
+
+/// The tally, with what each entry counts, is the counters of the world after every entry. Each port
+/// that is there has counters in it, which are those that a Stat tells, and no other has.
+pub fn counts_follow()
+    ensures follow { CountsFollow }
+    ensures told { OpenPortsAreCounted }
+    ensures shutting { ShuttingPortsAreCounted }
+    ensures next { NextPortsAreNot }
+    ensures count { AsManyAreCounted }
+{}
+
+/// What counts nothing changes no counters, nor does what counts at a port that has none.
+pub fn nothing_need_be_added()
+    ensures nothing { NothingIsAdded }
+    ensures nowhere { NowhereIsAdded }
 {}
