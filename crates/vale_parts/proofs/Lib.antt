@@ -15,3 +15,4 @@ pub mod NamesKept
 pub mod NameAnswers
 pub mod Sums
 pub mod CountsKept
+pub mod SumsFit

@@ -9,6 +9,7 @@ ghost use Rattle.vale_parts.specs.BatchLaws.{PutWantsAreOffers, DestsAreWanted};
 ghost use Rattle.vale_parts.specs.CountLaws.{CountsFollow, OpenPortsAreCounted};
 ghost use Rattle.vale_parts.specs.CountLaws.{ShuttingPortsAreCounted, NextPortsAreNot};
 ghost use Rattle.vale_parts.specs.CountLaws.{AsManyAreCounted, NothingIsAdded, NowhereIsAdded};
+ghost use Rattle.vale_parts.specs.CountLaws.{SumsFit};
 ghost use Rattle.vale_parts.specs.FreeLaws.{FreeFollow, FreeAreCounted, OpeningsAreCut};
 ghost use Rattle.vale_parts.specs.FreeLaws.{FinishesCanGive};
 ghost use Rattle.vale_parts.specs.NameLaws.{NamesFollow, OpeningsAreAnswered, NamesFindPorts};
@@ -105,4 +106,9 @@ pub fn counts_follow()
 pub fn nothing_need_be_added()
     ensures nothing { NothingIsAdded }
     ensures nowhere { NowhereIsAdded }
+{}
+
+/// With fewer than 2^32 entries no sum of a port's counters passes 2^64 - 1.
+pub fn sums_fit()
+    ensures { SumsFit }
 {}
