@@ -16,3 +16,4 @@ pub mod NameAnswers
 pub mod Sums
 pub mod CountsKept
 pub mod SumsFit
+pub mod OffersKept

@@ -12,3 +12,6 @@ pub mod WatchLaws
 pub mod FreeLaws
 pub mod NameLaws
 pub mod CountLaws
+pub mod Rows
+pub mod Offering
+pub mod OfferLaws

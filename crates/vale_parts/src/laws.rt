@@ -14,6 +14,8 @@ ghost use Rattle.vale_parts.specs.FreeLaws.{FreeFollow, FreeAreCounted, Openings
 ghost use Rattle.vale_parts.specs.FreeLaws.{FinishesCanGive};
 ghost use Rattle.vale_parts.specs.NameLaws.{NamesFollow, OpeningsAreAnswered, NamesFindPorts};
 ghost use Rattle.vale_parts.specs.NameLaws.{NamesFindPeers};
+ghost use Rattle.vale_parts.specs.OfferLaws.{OffersFollow, FirstWantsAreNext, NoWantIsLeft};
+ghost use Rattle.vale_parts.specs.OfferLaws.{OffersStart, SendsStart, ReadsStart, PutsStart};
 ghost use Rattle.vale_parts.specs.TableLaws.{PairsAreOfSwitch, TablesFollow, EmptyTablesServe};
 ghost use Rattle.vale_parts.specs.TableLaws.{LastPortsEmptyTables};
 ghost use Rattle.vale_parts.specs.WatchLaws.{WatchesFollow, WatchedAreWatched};
@@ -111,4 +113,21 @@ pub fn nothing_need_be_added()
 /// With fewer than 2^32 entries no sum of a port's counters passes 2^64 - 1.
 pub fn sums_fit()
     ensures { SumsFit }
+{}
+
+/// What an entry's offers want is what is left of its wants, after every later entry: a Grant takes the
+/// first, and the first is the one that it finds.
+pub fn offers_follow()
+    ensures follow { OffersFollow }
+    ensures first { FirstWantsAreNext }
+    ensures none { NoWantIsLeft }
+{}
+
+/// The offers that an entry starts with, and what is wanted of its frames then: by a Send, by a Sync or
+/// a Get, and by a Put.
+pub fn offers_start()
+    ensures start { OffersStart }
+    ensures sends { SendsStart }
+    ensures reads { ReadsStart }
+    ensures puts { PutsStart }
 {}
