@@ -2,7 +2,8 @@
 use Rattle.std.proofs.Common.{ℕ, zero, suc, Bool, true, false, cond, not, ◌≡◌, ◌+◌, ◌<◌, List, [], ◌∷◌, length, map, filter, find, drop, get_or, slice_get, Option, Some, None, is_some, refl, sym, ◌∙◌, ap, subst, arith, ◌==◌, ◌&&◌, ◌||◌, bytes_eq, count_by, nat_le}
 use Rattle.std.proofs.lemmas.List.{length-map}
 use Rattle.std.specs.List.{AllByRecursion as Each, list_any, list_all}
-use Rattle.std.proofs.lemmas.Bool.{and_parts, and_left, and_right, eqb-true, eq-eqb}
+use Rattle.std.proofs.lemmas.List.Elements.{All-from_recursion}
+use Rattle.std.proofs.lemmas.Bool.{leb-true, and_parts, and_left, and_right, eqb-true, eq-eqb}
 use Rattle.nm_types.specs.Frames.{Frame, slots_of, size_of_frames}
 use Rattle.nm_types.specs.Sides.{watches_side}
 use Rattle.nm_types.specs.declared.id.Side.TheVariants.{Tx, Rx}
@@ -13,7 +14,7 @@ use Rattle.nm_types.specs.declared.name.Kind.TheVariants.{Vale, Master, Slave, M
 use Rattle.nm_types.specs.declared.id.PortId.{PortId}
 use Rattle.vale_learn.specs.AddressTable.{Entries}
 use Rattle.vale_batch.specs.declared.looking.Looked.{Looked}
-use Rattle.vale_batch.specs.Looking.{looked_up_batch}
+use Rattle.vale_batch.specs.Looking.{looked_up_batch, IsFrame}
 use Rattle.vale_batch.specs.Wants.{Wanted, wants_of, IsRising, port_number, is_lone as is_lone_looked}
 use Rattle.vale_entry.specs.declared.entry.Entry.{Entry}
 use Rattle.vale_entry.specs.World.{World, Port, Pair, Watch as Watcher, Offer, open_port, is_open, is_settled, monitor_id, transmit_monitor, receive_monitor}
@@ -35,7 +36,7 @@ use Rattle.vale_entry.proofs.HistoryLaws.{history-stands}
 use Rattle.vale_parts.specs.Ids.{port_id, id_of_port}
 use Rattle.vale_parts.specs.SwitchPorts.{is_open_on, open_ports_on}
 use Rattle.vale_parts.specs.Batches.{IsOfferOf, AreOffersOf, AreLookedAs, want_of_all, with_want, wants_monitored, dest_wanted, dests_wanted}
-use Rattle.vale_parts.specs.BatchLaws.{IsSender, BatchesAreNamed, LoneFramesAreCounted, SentWantsAreOffers, GivenWantsAreOffers, PutWantsAreOffers, DestsAreWanted, OpenPortsRise}
+use Rattle.vale_parts.specs.BatchLaws.{IsSender, BatchesAreNamed, LoneFramesAreCounted, SentWantsAreOffers, GivenWantsAreOffers, PutWantsAreOffers, DestsAreWanted, OpenPortsRise, SendableCanBeLookedUp}
 use Rattle.vale_parts.proofs.OpenPorts.{some_is_any}
 use Rattle.vale_parts.proofs.PairsKept.{world-paired}
 use Rattle.vale_parts.proofs.Lookups.{batch_named, frames_named, lone_counted, NamesOpen, NamesOpenAt, named_open}
@@ -305,3 +306,18 @@ open_ports_rise pool h switch =
     let w = world_of pool h in
     let numbers = numbers_are (filter (is_open_on switch) w.ports) in
     subst IsRising (sym numbers) (rising_from 0 (map number_of (filter (is_open_on switch) w.ports)) w.entry_count (rise-filter number_of (is_open_on switch) 0 w.ports w.entry_count (world-numbered pool h).ports_rise))
+
+-- ---- what may be sent can be looked up
+
+each_frame : (frames : List Frame) → list_all fits_buffer frames ≡ true → Each IsFrame frames
+each_frame [] fits = tt
+each_frame (f ∷ fs) fits =
+    let parts = and_parts (fits_buffer f) (list_all fits_buffer fs) fits in
+    let few = leb-true (length f.bytes) 2048 parts.0 in
+    (omega (arith, few), each_frame fs parts.1)
+
+pub looked_up_sendable : SendableCanBeLookedUp
+looked_up_sendable frames sendable =
+    let most = and_parts (nat_le (length frames) 1023) (nat_le (size_of_frames frames) 1023 && list_all fits_buffer frames) sendable in
+    let fits = (and_parts (nat_le (size_of_frames frames) 1023) (list_all fits_buffer frames) most.1).1 in
+    record { few = leb-true (length frames) 1023 most.0; each = All-from_recursion IsFrame frames (each_frame frames fits) }

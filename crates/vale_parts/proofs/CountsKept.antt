@@ -104,7 +104,7 @@ module _ (w : World) (tally : List Tallied) (are : CountsAre w tally) where
 
 -- ---- places
 
-each_under : (low : ℕ) (ns : List ℕ) (high : ℕ) → Rise low ns high → Each (λ (n : ℕ). n ≤ high) ns
+pub each_under : (low : ℕ) (ns : List ℕ) (high : ℕ) → Rise low ns high → Each (λ (n : ℕ). n ≤ high) ns
 each_under low [] high r = tt
 each_under low (n ∷ ns) high r = (rise-bounds n ns high r.1, each_under n ns high r.1)
 

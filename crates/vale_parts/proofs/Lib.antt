@@ -17,3 +17,4 @@ pub mod Sums
 pub mod CountsKept
 pub mod SumsFit
 pub mod OffersKept
+pub mod NameRoom

@@ -7,13 +7,19 @@ use Rattle.nm_types.specs.Frames.{Frame}
 use Rattle.nm_types.specs.Names.{switch_of, is_switch_port_name}
 use Rattle.nm_types.specs.Sendable.{is_sendable}
 use Rattle.nm_types.specs.declared.id.PortId.{PortId}
-use Rattle.vale_learn.specs.AddressTable.{Entries, forgotten}
+use Rattle.vale_learn.specs.AddressTable.{Entries, forgotten, without_port}
+use Rattle.vale_learn.specs.AddressTable.{port_of_address as table_port}
+use Rattle.vale_learn.specs.declared.table.Station.{Station}
+use Rattle.vale_learn.proofs.TableLaws.{none_found_at_first}
+use Rattle.vale_batch.specs.Looking.{learned_from}
+use Rattle.std.proofs.lemmas.List.{length-map, length-replicate}
 use Rattle.vale_batch.specs.Looking.{learned_of_batch as table_learned_batch}
 use Rattle.vale_entry.specs.declared.entry.Ask.{Ask}
+use Rattle.vale_entry.specs.declared.entry.Ask.TheVariants.{Enter, Open, Send, Grant, Done, Sync, Reset, Shut, Finish, Leave, Put, PutKept, Get, Watch, Stat}
 use Rattle.vale_entry.specs.declared.entry.Reply.{Reply}
 use Rattle.vale_entry.specs.declared.entry.Entry.{Entry}
 use Rattle.vale_entry.specs.World.{World, Port, Pair, open_port, is_open, is_settled, changed_at}
-use Rattle.vale_entry.specs.Learning.{learned_of_batch}
+use Rattle.vale_entry.specs.Learning.{learned_of_batch, port_of_address}
 use Rattle.vale_entry.specs.Opening.{opened_port, is_on_switch}
 use Rattle.vale_entry.specs.Grant.{port_after_grant, granted_frames}
 use Rattle.vale_entry.specs.Delivery.{port_after_done, port_after_sync}
@@ -25,12 +31,13 @@ use Rattle.vale_entry.proofs.Places.{open-place}
 use Rattle.vale_entry.proofs.Worlds.{standing-push}
 use Rattle.vale_entry.proofs.Numbered.{Numbered, world-numbered}
 use Rattle.vale_entry.proofs.Follows.{EachKind, Left, IsQuiet, refused_open, resets, finds_no_peer, finds_no_target, finds_watched, counts, Receives, by_sync, by_get, follows-by}
-use Rattle.vale_parts.specs.Ids.{port_id}
+use Rattle.vale_parts.specs.Ids.{id_of, port_id}
 use Rattle.vale_parts.specs.SwitchPorts.{IsPairOf, ArePairsOf}
 use Rattle.vale_parts.specs.Tables.{FindsPairs, Finds, table_after}
-use Rattle.vale_parts.specs.TableLaws.{TablesFollow, EmptyTablesServe, LastPortsEmptyTables}
+use Rattle.vale_parts.specs.TableLaws.{TablesFollow, EmptyTablesServe, LastPortsEmptyTables, FoundPortsAreOpen, FreshTablesFindNothing, FreshTablesAreTables, TablesKeepTheirSize}
 use Rattle.vale_parts.proofs.OpenPorts.{open-map, open-changed, open-pushed, open-without}
-use Rattle.vale_parts.proofs.TableFinds.{IsTable, batch-finds, other-finds, ports-find, forgotten-finds, elsewhere-finds, vacant-finds, vacant-nothing}
+use Rattle.vale_parts.proofs.TableFinds.{IsTable, frame-size, batch-finds, other-finds, ports-find, forgotten-finds, elsewhere-finds, vacant-finds, vacant-nothing}
+use Rattle.vale_parts.proofs.SwitchPairs.{found-port}
 use Rattle.vale_parts.proofs.PairsKept.{world-paired}
 
 quiet_table : (s : Standing) (switch : List ℕ) (entries : Entries) (ask : Ask) (session : ℕ) (reply : Reply) → IsQuiet s ask session reply → table_after s.world switch ask entries ≡ entries
@@ -150,3 +157,50 @@ empty_serve pool h switch entries none nothing =
 pub last_empty : LastPortsEmptyTables
 last_empty pool h switch entries none finds =
     let w = world_of pool h in vacant-nothing w.entry_count w.ports w.pairs switch entries (world-paired pool h) none finds
+
+-- ---- what tables have
+
+found_id : (found : Option PortId) (id : PortId) (other : Option ℕ) → found ≡ Some id → id_of found ≡ other → other ≡ Some id.0
+found_id found id other is same = sym same ∙ ap id_of is
+
+pub found_open : FoundPortsAreOpen
+found_open pool h switch entries a id finds is =
+    let w = world_of pool h in
+    let found = found-port w.entry_count w.ports w.pairs switch a id.0 (world-paired pool h) (found_id (table_port entries a) id (port_of_address w.ports w.pairs switch a) is (finds a)) in
+    record { port = found.port; here = found.here; on = found.on }
+
+pub fresh_nothing : FreshTablesFindNothing
+fresh_nothing = none_found_at_first
+
+pub fresh_size : FreshTablesAreTables
+fresh_size = length-replicate 1024 nothing
+  where
+    nothing : Option Station
+    nothing = None
+
+batch_size : (from : PortId) (entries : Entries) (frames : List Frame) → IsTable entries → IsTable (table_learned_batch from entries frames)
+batch_size from entries [] size = size
+batch_size from entries (f ∷ fs) size = batch_size from (learned_from from entries f) fs (frame-size from entries f size)
+
+size_if : (b : Bool) (next entries : Entries) → IsTable next → IsTable entries → IsTable (cond b next entries)
+size_if true next entries one two = one
+size_if false next entries one two = two
+
+pub sizes_kept : TablesKeepTheirSize
+sizes_kept w switch (Enter user) entries size = size
+sizes_kept w switch (Open session name tx rx extra) entries size = size
+sizes_kept w switch (Send from frames) entries size =
+    size_if (is_met (is_on_switch switch) (open_port w.ports from.0)) (table_learned_batch from entries frames) entries (batch_size from entries frames size) size
+sizes_kept w switch (Grant origin to) entries size = size
+sizes_kept w switch (Done lease) entries size = size
+sizes_kept w switch (Sync at back) entries size = size
+sizes_kept w switch (Reset at side fault) entries size = size
+sizes_kept w switch (Shut at) entries size =
+    size_if (is_met (is_on_switch switch) (open_port w.ports at.0)) (forgotten entries at) entries (length-map entries (without_port at) ∙ size) size
+sizes_kept w switch (Finish at bufs chain) entries size = size
+sizes_kept w switch (Leave session) entries size = size
+sizes_kept w switch (Put at offered) entries size = size
+sizes_kept w switch (PutKept at offered) entries size = size
+sizes_kept w switch (Get at back) entries size = size
+sizes_kept w switch (Watch monitor target sides) entries size = size
+sizes_kept w switch (Stat at) entries size = size

@@ -1,13 +1,13 @@
 -- Laws of the look-up of a batch: it names what the world names, and what it wants is what is offered.
-use Rattle.std.specs.Prelude.{ℕ, ◌≡◌, true, List, [], map, count_by, length, Some}
+use Rattle.std.specs.Prelude.{ℕ, ◌≡◌, true, List, [], map, count_by, length, Some, ◌≤◌, All}
 use Rattle.nm_types.specs.Frames.{Frame, slots_of}
 use Rattle.nm_types.specs.Names.{switch_of}
-use Rattle.nm_types.specs.Sendable.{fits_buffer}
+use Rattle.nm_types.specs.Sendable.{fits_buffer, is_sendable}
 use Rattle.nm_types.specs.declared.id.PortId.{PortId}
 use Rattle.nm_frag.specs.Parts.{slots_of_length}
 use Rattle.vale_learn.specs.AddressTable.{Entries}
 use Rattle.vale_batch.specs.Addresses.{is_short as is_short_frame}
-use Rattle.vale_batch.specs.Looking.{looked_up_batch}
+use Rattle.vale_batch.specs.Looking.{looked_up_batch, IsFrame}
 use Rattle.vale_batch.specs.Wants.{Wanted, wants_of, is_lone as is_lone_looked, IsRising, port_number}
 use Rattle.vale_entry.specs.declared.entry.Entry.{Entry}
 use Rattle.vale_entry.specs.World.{World, Port, Offer, open_port, transmit_monitor, receive_monitor}
@@ -68,3 +68,11 @@ PutWantsAreOffers = (pool : ℕ) (history : List Entry) (port : Port) (frames : 
 -- the destinations that a reply tells are those of the wants
 abbrev pub DestsAreWanted : Type 0
 DestsAreWanted = (frames : List Frame) (wants : List Wanted) (offers : List Offer) → AreOffersOf frames wants offers → dests_wanted wants ≡ dests_of offers
+
+-- frames that may be sent are few enough, and short enough, to be looked up
+pub record CanBeLookedUp (frames : List Frame) : Type 0 where
+  pub few : length frames ≤ 1023
+  pub each : All IsFrame frames
+
+abbrev pub SendableCanBeLookedUp : Type 0
+SendableCanBeLookedUp = (frames : List Frame) → is_sendable frames ≡ true → CanBeLookedUp frames

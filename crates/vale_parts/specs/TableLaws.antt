@@ -1,7 +1,11 @@
 -- Laws of the learning tables of the switches.
-use Rattle.std.specs.Prelude.{ℕ, ◌≡◌, false, List, [], ◌∷◌, ◌++◌, length}
+use Rattle.std.specs.Prelude.{ℕ, ◌≡◌, true, false, List, [], ◌∷◌, ◌++◌, length, Some}
 use Rattle.std.specs.List.{list_any}
-use Rattle.vale_learn.specs.AddressTable.{Entries}
+use Rattle.nm_types.specs.declared.id.PortId.{PortId}
+use Rattle.vale_learn.specs.AddressTable.{Entries, no_stations}
+use Rattle.vale_learn.specs.AddressTable.{port_of_address as table_port}
+use Rattle.vale_entry.specs.declared.entry.Ask.{Ask}
+use Rattle.vale_entry.specs.World.{World, Port, open_port}
 use Rattle.vale_entry.specs.declared.entry.Entry.{Entry}
 use Rattle.vale_entry.specs.Legal.{standing_of, world_of, Follows}
 use Rattle.vale_parts.specs.SwitchPorts.{ArePairsOf, is_open_on}
@@ -25,3 +29,23 @@ EmptyTablesServe = (pool : ℕ) (history : List Entry) (switch : List ℕ) (entr
 abbrev pub LastPortsEmptyTables : Type 0
 LastPortsEmptyTables = (pool : ℕ) (history : List Entry) (switch : List ℕ) (entries : Entries) → list_any (is_open_on switch) (world_of pool history).ports ≡ false
     → Finds (world_of pool history) switch entries → FindsNothing entries
+
+-- what a table finds is an open port of its switch
+pub record IsOpenOn (w : World) (switch : List ℕ) (id : PortId) : Type 0 where
+  pub port : Port
+  pub here : open_port w.ports id.0 ≡ Some port
+  pub on : is_open_on switch port ≡ true
+
+abbrev pub FoundPortsAreOpen : Type 0
+FoundPortsAreOpen = (pool : ℕ) (history : List Entry) (switch : List ℕ) (entries : Entries) (address : List ℕ) (id : PortId) → Finds (world_of pool history) switch entries
+    → table_port entries address ≡ Some id → IsOpenOn (world_of pool history) switch id
+
+-- a fresh table finds nothing, and a table keeps its size
+abbrev pub FreshTablesFindNothing : Type 0
+FreshTablesFindNothing = FindsNothing no_stations
+
+abbrev pub FreshTablesAreTables : Type 0
+FreshTablesAreTables = length no_stations ≡ 1024
+
+abbrev pub TablesKeepTheirSize : Type 0
+TablesKeepTheirSize = (w : World) (switch : List ℕ) (ask : Ask) (entries : Entries) → length entries ≡ 1024 → length (table_after w switch ask entries) ≡ 1024

@@ -3,7 +3,8 @@
 #![tactic(auto)]
 
 ghost use Rattle.vale_parts.specs.BatchLaws.{BatchesAreNamed, ShortFramesAreCounted};
-ghost use Rattle.vale_parts.specs.BatchLaws.{LoneFramesAreCounted, SlotsAreOne, OpenPortsRise};
+ghost use Rattle.vale_parts.specs.BatchLaws.{LoneFramesAreCounted, SlotsAreOne};
+ghost use Rattle.vale_parts.specs.BatchLaws.{SendableCanBeLookedUp, OpenPortsRise};
 ghost use Rattle.vale_parts.specs.BatchLaws.{SentWantsAreOffers, GivenWantsAreOffers};
 ghost use Rattle.vale_parts.specs.BatchLaws.{PutWantsAreOffers, DestsAreWanted};
 ghost use Rattle.vale_parts.specs.CountLaws.{CountsFollow, OpenPortsAreCounted};
@@ -13,11 +14,13 @@ ghost use Rattle.vale_parts.specs.CountLaws.{SumsFit};
 ghost use Rattle.vale_parts.specs.FreeLaws.{FreeFollow, FreeAreCounted, OpeningsAreCut};
 ghost use Rattle.vale_parts.specs.FreeLaws.{FinishesCanGive};
 ghost use Rattle.vale_parts.specs.NameLaws.{NamesFollow, OpeningsAreAnswered, NamesFindPorts};
-ghost use Rattle.vale_parts.specs.NameLaws.{NamesFindPeers};
+ghost use Rattle.vale_parts.specs.NameLaws.{NamesFindPeers, OpeningsAreUndone, OpeningsHaveRoom};
 ghost use Rattle.vale_parts.specs.OfferLaws.{OffersFollow, FirstWantsAreNext, NoWantIsLeft};
 ghost use Rattle.vale_parts.specs.OfferLaws.{OffersStart, SendsStart, ReadsStart, PutsStart};
 ghost use Rattle.vale_parts.specs.TableLaws.{PairsAreOfSwitch, TablesFollow, EmptyTablesServe};
-ghost use Rattle.vale_parts.specs.TableLaws.{LastPortsEmptyTables};
+ghost use Rattle.vale_parts.specs.TableLaws.{LastPortsEmptyTables, FoundPortsAreOpen};
+ghost use Rattle.vale_parts.specs.TableLaws.{FreshTablesFindNothing, FreshTablesAreTables};
+ghost use Rattle.vale_parts.specs.TableLaws.{TablesKeepTheirSize};
 ghost use Rattle.vale_parts.specs.WatchLaws.{WatchesFollow, WatchedAreWatched};
 
 /// A pair's port, as long as it is there, is of the pair's switch.
@@ -45,6 +48,7 @@ pub fn batches_are_named()
     ensures short { ShortFramesAreCounted }
     ensures lone { LoneFramesAreCounted }
     ensures slots { SlotsAreOne }
+    ensures sendable { SendableCanBeLookedUp }
 {}
 
 /// The open ports of a switch rise, as they must where a batch is looked up.
@@ -92,6 +96,8 @@ pub fn names_answer_as_ports()
     ensures openings { OpeningsAreAnswered }
     ensures ports { NamesFindPorts }
     ensures peers { NamesFindPeers }
+    ensures undone { OpeningsAreUndone }
+    ensures room { OpeningsHaveRoom }
 {}
 
 /// The tally, with what each entry counts, is the counters of the world after every entry. Each port
@@ -130,4 +136,13 @@ pub fn offers_start()
     ensures sends { SendsStart }
     ensures reads { ReadsStart }
     ensures puts { PutsStart }
+{}
+
+/// What a table finds is an open port of its switch. A fresh table finds nothing, and each table keeps
+/// its size.
+pub fn tables_are_sound()
+    ensures found { FoundPortsAreOpen }
+    ensures fresh { FreshTablesFindNothing }
+    ensures size { FreshTablesAreTables }
+    ensures kept { TablesKeepTheirSize }
 {}
