@@ -18,3 +18,4 @@ pub mod CountsKept
 pub mod SumsFit
 pub mod OffersKept
 pub mod NameRoom
+pub mod AllTables

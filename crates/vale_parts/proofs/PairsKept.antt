@@ -33,7 +33,7 @@ Paired s = ArePairsOf s.world
 abbrev PairedNext : Standing → Outcome → Type 0
 PairedNext s made = Each (IsPairOf (s.world.entry_count + 1) made.next.world.ports) made.next.world.pairs
 
-abbrev name_of : Port → List ℕ
+abbrev pub name_of : Port → List ℕ
 name_of port = port.name
 
 pairs_at : (count : ℕ) (ports other : List Port) → ((pair : Pair) → pair.port ≤ count → Each (IsOfSwitchAt pair) ports → Each (IsOfSwitchAt pair) other)

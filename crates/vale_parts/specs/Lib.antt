@@ -15,3 +15,5 @@ pub mod CountLaws
 pub mod Rows
 pub mod Offering
 pub mod OfferLaws
+pub mod SwitchTables
+pub mod SwitchTableLaws

@@ -17,6 +17,8 @@ ghost use Rattle.vale_parts.specs.NameLaws.{NamesFollow, OpeningsAreAnswered, Na
 ghost use Rattle.vale_parts.specs.NameLaws.{NamesFindPeers, OpeningsAreUndone, OpeningsHaveRoom};
 ghost use Rattle.vale_parts.specs.OfferLaws.{OffersFollow, FirstWantsAreNext, NoWantIsLeft};
 ghost use Rattle.vale_parts.specs.OfferLaws.{OffersStart, SendsStart, ReadsStart, PutsStart};
+ghost use Rattle.vale_parts.specs.SwitchTableLaws.{AllTablesFollow, TablesAreGivenOver};
+ghost use Rattle.vale_parts.specs.SwitchTableLaws.{FreshTablesAreAdded};
 ghost use Rattle.vale_parts.specs.TableLaws.{PairsAreOfSwitch, TablesFollow, EmptyTablesServe};
 ghost use Rattle.vale_parts.specs.TableLaws.{LastPortsEmptyTables, FoundPortsAreOpen};
 ghost use Rattle.vale_parts.specs.TableLaws.{FreshTablesFindNothing, FreshTablesAreTables};
@@ -145,4 +147,12 @@ pub fn tables_are_sound()
     ensures fresh { FreshTablesFindNothing }
     ensures size { FreshTablesAreTables }
     ensures kept { TablesKeepTheirSize }
+{}
+
+/// The tables of all switches that have a port follow each entry. The table of a switch that has lost
+/// its last port may be given to a switch that has none, or a fresh one may be added.
+pub fn all_tables_follow()
+    ensures follow { AllTablesFollow }
+    ensures over { TablesAreGivenOver }
+    ensures added { FreshTablesAreAdded }
 {}
