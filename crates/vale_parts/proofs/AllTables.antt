@@ -1,30 +1,26 @@
 -- The tables of all switches, as entries are made and switches come and go.
-use Rattle.std.proofs.Common.{ℕ, zero, suc, Bool, true, false, cond, not, ◌≡◌, ◌≤◌, ◌+◌, ◌&&◌, ◌||◌, ◌==◌, List, [], ◌∷◌, ◌++◌, length, map, filter, count_by, slice_get, slice_set, Option, Some, None, refl, sym, ◌∙◌, ap, subst, arith, bytes_eq}
+use Rattle.std.proofs.Common.{ℕ, zero, suc, Bool, true, false, cond, not, ◌≡◌, ◌≤◌, ◌+◌, ◌||◌, ◌==◌, List, [], ◌∷◌, ◌++◌, length, map, count_by, slice_get, slice_set, Some, refl, sym, ◌∙◌, ap, subst, arith, bytes_eq}
 use Rattle.std.specs.List.{AllByRecursion as Each, list_any}
 use Rattle.std.proofs.lemmas.Bool.{and_from, and_parts, or_parts, or_from, or_right, false_from_ne_true, and_right}
 use Rattle.std.proofs.lemmas.Slice.Eq.{bytes_eq-Decides}
 use Rattle.std.proofs.lemmas.List.Sums.{sum_by-cons, sum_by_push}
 use Rattle.nm_types.specs.Names.{switch_of, is_switch_port_name}
-use Rattle.nm_types.specs.declared.id.PortId.{PortId}
-use Rattle.vale_learn.specs.AddressTable.{Entries, no_stations}
-use Rattle.vale_entry.specs.declared.entry.Ask.{Ask}
+use Rattle.vale_learn.specs.AddressTable.{no_stations}
 use Rattle.vale_entry.specs.declared.entry.Entry.{Entry}
 use Rattle.vale_entry.specs.World.{World, Port, changed_if, changed_at}
 use Rattle.vale_entry.specs.Opening.{opened_port, is_on_switch}
 use Rattle.vale_entry.specs.Grant.{port_after_grant, granted_frames}
 use Rattle.vale_entry.specs.Delivery.{port_after_done, port_after_sync}
-use Rattle.vale_entry.specs.Closing.{shut, ports_without}
+use Rattle.vale_entry.specs.Closing.{shut}
 use Rattle.vale_entry.specs.Pipe.{frames_of_items, port_after_put}
 use Rattle.vale_entry.specs.Legal.{Standing, after, standing_of, world_of, Follows}
 use Rattle.vale_entry.proofs.ListLaws.{each-at, each-set, sum-set}
 use Rattle.vale_entry.proofs.Each.{each-weaker, each-both, each-none, each-map, each-append, any-append_left}
 use Rattle.vale_entry.proofs.Removals.{each-filter}
-use Rattle.vale_entry.proofs.Watched.{any-at}
 use Rattle.vale_entry.proofs.Worlds.{standing-push}
 use Rattle.vale_entry.proofs.Follows.{EachKind, Left, follows-by}
 use Rattle.vale_parts.specs.SwitchPorts.{is_open_on}
-use Rattle.vale_parts.specs.Tables.{Finds, FindsNothing, table_after}
-use Rattle.vale_parts.specs.SwitchTables.{SwitchTable, is_table_of, has_table, IsTableIn, HasTable, TablesAre, table_with, tables_after, WantsTable}
+use Rattle.vale_parts.specs.SwitchTables.{SwitchTable, is_table_of, has_table, IsTableIn, HasTable, table_with, tables_after, WantsTable}
 use Rattle.vale_parts.specs.SwitchTableLaws.{AllTablesFollow, TablesAreGivenOver, FreshTablesAreAdded}
 use Rattle.vale_parts.proofs.OpenPorts.{Keeps, kept-if}
 use Rattle.vale_parts.proofs.PairsKept.{name_of}

@@ -1,9 +1,9 @@
 -- The wants of a batch are its offers, after every legal history.
-use Rattle.std.proofs.Common.{ℕ, zero, suc, Bool, true, false, cond, not, ◌≡◌, ◌+◌, ◌<◌, List, [], ◌∷◌, length, map, filter, find, drop, get_or, slice_get, Option, Some, None, is_some, refl, sym, ◌∙◌, ap, subst, arith, ◌==◌, ◌&&◌, ◌||◌, bytes_eq, count_by, nat_le}
+use Rattle.std.proofs.Common.{ℕ, zero, suc, Bool, true, false, not, ◌≡◌, ◌+◌, ◌<◌, List, [], ◌∷◌, length, map, filter, find, get_or, slice_get, Option, Some, None, is_some, refl, sym, ◌∙◌, ap, subst, arith, ◌==◌, ◌&&◌, bytes_eq, count_by, nat_le}
 use Rattle.std.proofs.lemmas.List.{length-map}
 use Rattle.std.specs.List.{AllByRecursion as Each, list_any, list_all}
 use Rattle.std.proofs.lemmas.List.Elements.{All-from_recursion}
-use Rattle.std.proofs.lemmas.Bool.{leb-true, and_parts, and_left, and_right, eqb-true, eq-eqb}
+use Rattle.std.proofs.lemmas.Bool.{leb-true, and_parts, and_left, and_right, eqb-true}
 use Rattle.nm_types.specs.Frames.{Frame, slots_of, size_of_frames}
 use Rattle.nm_types.specs.Sides.{watches_side}
 use Rattle.nm_types.specs.declared.id.Side.TheVariants.{Tx, Rx}
@@ -17,18 +17,17 @@ use Rattle.vale_batch.specs.declared.looking.Looked.{Looked}
 use Rattle.vale_batch.specs.Looking.{looked_up_batch, IsFrame}
 use Rattle.vale_batch.specs.Wants.{Wanted, wants_of, IsRising, port_number, is_lone as is_lone_looked}
 use Rattle.vale_entry.specs.declared.entry.Entry.{Entry}
-use Rattle.vale_entry.specs.World.{World, Port, Pair, Watch as Watcher, Offer, open_port, is_open, is_settled, monitor_id, transmit_monitor, receive_monitor}
-use Rattle.vale_entry.specs.Lookup.{Named, named_frames, is_lone}
-use Rattle.vale_entry.specs.Offers.{offers_of, is_monitor, wanted_frames, wanted_if, monitored_frames, frame_of, dest_of, dests_of}
+use Rattle.vale_entry.specs.World.{Port, Watch as Watcher, Offer, is_open, is_settled, monitor_id, transmit_monitor, receive_monitor}
+use Rattle.vale_entry.specs.Lookup.{Named, is_lone}
+use Rattle.vale_entry.specs.Offers.{offers_of, is_monitor, wanted_frames, wanted_if, monitored_frames, frame_of, dest_of}
 use Rattle.vale_entry.specs.Opening.{is_on_switch}
 use Rattle.vale_entry.specs.Delivery.{delivered_frames}
-use Rattle.vale_entry.specs.Legal.{world_of, can_send, named_of, offers_of_send, IsLegal}
+use Rattle.vale_entry.specs.Legal.{world_of, named_of, offers_of_send, IsLegal}
 use Rattle.vale_entry.specs.Laws.{Rise, id_of_port as number_of, is_monitor_open, IsWatch}
 use Rattle.vale_entry.specs.declared.entry.Dest.{Dest}
 use Rattle.vale_entry.proofs.ListLaws.{place-of}
 use Rattle.vale_entry.proofs.Each.{each-all, each-weaker, each-find, each-both}
 use Rattle.vale_entry.proofs.Removals.{rise-filter}
-use Rattle.vale_entry.proofs.Rising.{rise-above}
 use Rattle.vale_entry.proofs.Places.{open-place}
 use Rattle.vale_entry.proofs.Watched.{only-place, any-at}
 use Rattle.vale_entry.proofs.Numbered.{world-numbered}
@@ -40,8 +39,8 @@ use Rattle.vale_parts.specs.BatchLaws.{IsSender, BatchesAreNamed, LoneFramesAreC
 use Rattle.vale_parts.proofs.OpenPorts.{some_is_any}
 use Rattle.vale_parts.proofs.PairsKept.{world-paired}
 use Rattle.vale_parts.proofs.Lookups.{batch_named, frames_named, lone_counted, NamesOpen, NamesOpenAt, named_open}
-use Rattle.vale_parts.proofs.WantedFrames.{AreWanted, wants_are, none-wanted, all-wanted}
-use Rattle.vale_parts.proofs.WantOffers.{IsPlain, IsMonitor, IsOther, IsItself, plain, monitored}
+use Rattle.vale_parts.proofs.WantedFrames.{wants_are, none-wanted, all-wanted}
+use Rattle.vale_parts.proofs.WantOffers.{IsPlain, IsOther, IsItself, plain, monitored}
 
 -- ---- the monitor's port
 

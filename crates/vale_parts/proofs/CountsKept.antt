@@ -1,28 +1,26 @@
 -- What each entry makes of the tally keeps it the counters of the world.
 use Rattle.std.proofs.Common.{ℕ, suc, Bool, true, false, cond, not, ◌≡◌, ◌≤◌, ◌<◌, ◌+◌, List, [], ◌∷◌, ◌++◌, length, map, filter, find, insert, Option, Some, None, is_some, refl, sym, ◌∙◌, ap, subst, arith, ◌==◌, ◌||◌, nat_lt}
 use Rattle.std.specs.Prelude.{option_map}
-use Rattle.std.specs.List.{AllByRecursion as Each, list_any, prefix_len}
+use Rattle.std.specs.List.{AllByRecursion as Each, list_any}
 use Rattle.std.proofs.lemmas.Bool.{eq-eqb, ne_eqb, lt-ltb}
 use Rattle.std.proofs.lemmas.List.{length-map, map-append}
 use Rattle.nm_types.specs.declared.id.PortId.{PortId}
 use Rattle.nm_types.specs.declared.id.Counts.{Counts}
 use Rattle.nm_types.specs.Counters.{zero_counts, sum_of_counts}
-use Rattle.nm_types.specs.Frames.{Frame}
 use Rattle.nm_count.specs.declared.tally.Tallied.{Tallied}
-use Rattle.nm_count.specs.Tallies.{is_port, is_before, rank_of, counts_of, zero_tallied, tally_with, tally_after_add, tallied_after_add, tally_without}
+use Rattle.nm_count.specs.Tallies.{is_port, rank_of, counts_of, zero_tallied, tally_with, tally_after_add, tally_without}
 use Rattle.vale_entry.specs.declared.entry.Ask.{Ask}
 use Rattle.vale_entry.specs.declared.entry.Ask.TheVariants.{Enter, Open, Send, Grant, Done, Sync, Get, Reset, Shut, Finish, Leave, PutKept, Watch, Stat}
 use Rattle.vale_entry.specs.declared.entry.Reply.{Reply}
 use Rattle.vale_entry.specs.declared.entry.Reply.TheVariants.{Made, Refused, PeerGone, NoTarget, Watched, Counted}
 use Rattle.vale_entry.specs.declared.entry.Entry.{Entry}
-use Rattle.vale_entry.specs.World.{World, Port, PortCounts, open_port}
-use Rattle.vale_entry.specs.Closing.{shutting_port}
-use Rattle.vale_entry.specs.Pipe.{peer_at, puts_to_port, is_port_at}
-use Rattle.vale_entry.specs.Counters.{counts_if, with_counted, counted_in, count_sent, count_shared, count_gave_at, count_put, count_taken_at, counts_after}
+use Rattle.vale_entry.specs.World.{World, Port, PortCounts}
+use Rattle.vale_entry.specs.Pipe.{peer_at, is_port_at}
+use Rattle.vale_entry.specs.Counters.{counts_if, with_counted, counted_in, count_sent, count_shared, count_gave_at, count_put, count_taken_at}
 use Rattle.vale_entry.specs.Counters.{counts_of as world_counts}
 use Rattle.vale_entry.specs.Legal.{Standing, after, standing_of, world_of, Follows, unchanged, enter_step, open_step_by, send_step, grant_step, done_step, sync_step, put_step, watch_step, shut_step, finish_step, leave_step}
 use Rattle.vale_entry.specs.Laws.{Rise, id_of_port, id_of_counted, AreCountedAt}
-use Rattle.vale_entry.proofs.Each.{each-unmap, each-image, each-weaker}
+use Rattle.vale_entry.proofs.Each.{each-unmap}
 use Rattle.vale_entry.proofs.Removals.{map-filter}
 use Rattle.vale_entry.proofs.Rising.{rise-bounds}
 use Rattle.vale_entry.proofs.Places.{open-place, shutting-place}

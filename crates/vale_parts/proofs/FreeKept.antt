@@ -1,5 +1,5 @@
 -- The free buffers, as some are taken and given back.
-use Rattle.std.proofs.Common.{ℕ, zero, suc, Bool, true, false, cond, not, ◌≡◌, ◌≢◌, ◌≤◌, ◌<◌, ◌+◌, ◌-◌, List, [], ◌∷◌, ◌++◌, length, map, take, drop, All, Some, refl, sym, ◌∙◌, ap, subst, arith, ◌==◌, ◌&&◌, nat_lt, nat_le, flat_map}
+use Rattle.std.proofs.Common.{ℕ, zero, suc, Bool, true, false, cond, ◌≡◌, ◌≢◌, ◌≤◌, ◌+◌, List, [], ◌∷◌, ◌++◌, length, take, drop, Some, refl, sym, ◌∙◌, ap, subst, arith, ◌==◌, nat_lt, nat_le, flat_map}
 use Rattle.std.specs.List.{AllByRecursion as Each}
 use Rattle.std.proofs.lemmas.Bool.{and_parts, eq-eqb, eqb-false, leb-true}
 use Rattle.std.proofs.lemmas.List.{length-map}
@@ -8,15 +8,15 @@ use Rattle.nm_types.specs.declared.id.PortId.{PortId}
 use Rattle.nm_types.specs.declared.id.Chain.{Chain}
 use Rattle.nm_types.specs.Buffers.{IsBufferIndex}
 use Rattle.nm_region.specs.Buffers.{Buffer, indices_of}
-use Rattle.nm_pool.specs.Free.{PoolState, with_buffer, CanBeGiven}
+use Rattle.nm_pool.specs.Free.{PoolState, with_buffer}
 use Rattle.vale_entry.specs.declared.entry.Ask.{Ask}
 use Rattle.vale_entry.specs.declared.entry.Ask.TheVariants.{Finish}
 use Rattle.vale_entry.specs.declared.entry.Reply.{Reply}
 use Rattle.vale_entry.specs.declared.entry.Entry.{Entry}
-use Rattle.vale_entry.specs.World.{Port, free_count}
-use Rattle.vale_entry.specs.Holdings.{Holdings, with_free, all_with_free, buffers_of_port, all_buffers, buffers_at_port, buffers_held, is_buffer_index}
+use Rattle.vale_entry.specs.World.{Port}
+use Rattle.vale_entry.specs.Holdings.{Holdings, with_free, all_with_free, buffers_of_port, buffers_at_port, buffers_held, is_buffer_index}
 use Rattle.vale_entry.specs.Closing.{shutting_port}
-use Rattle.vale_entry.specs.Legal.{Standing, after, standing_of, world_of, holdings_of, Follows, sync_step}
+use Rattle.vale_entry.specs.Legal.{Standing, after, standing_of, holdings_of, Follows, sync_step}
 use Rattle.vale_entry.proofs.Counting.{count_of, count_of-cons, count_of-append}
 use Rattle.vale_entry.proofs.Freeing.{count-with_free, count-all_with_free}
 use Rattle.vale_entry.proofs.Places.{shutting-place}
@@ -24,7 +24,7 @@ use Rattle.vale_entry.proofs.Worlds.{standing-push, legal-push}
 use Rattle.vale_entry.proofs.Numbered.{Numbered, world-numbered}
 use Rattle.vale_entry.proofs.HistoryLaws.{free-rises, buffers-parted}
 use Rattle.vale_entry.proofs.Follows.{EachKind, Left, IsQuiet, refused_open, resets, finds_no_peer, finds_no_target, finds_watched, counts, Receives, by_sync, by_get, follows-by}
-use Rattle.vale_parts.specs.FreeBuffers.{FreeAre, pool_less, pool_with, pool_with_all, CanAllBeGiven, AreGivenBack, IsPoolAfter, AreCut}
+use Rattle.vale_parts.specs.FreeBuffers.{FreeAre, pool_less, pool_with, pool_with_all, CanAllBeGiven, AreGivenBack, IsPoolAfter}
 use Rattle.vale_parts.specs.FreeLaws.{FreeFollow, FreeAreCounted, OpeningsAreCut, FinishesCanGive}
 
 -- ---- indices

@@ -19,3 +19,4 @@ pub mod SumsFit
 pub mod OffersKept
 pub mod NameRoom
 pub mod AllTables
+pub mod AllParts

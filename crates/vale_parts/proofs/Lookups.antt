@@ -1,21 +1,20 @@
 -- A batch looked up in a table of its switch is named as the pairs name it.
-use Rattle.std.proofs.Common.{ℕ, Bool, true, false, cond, not, ◌≡◌, ◌+◌, List, [], ◌∷◌, length, map, Option, Some, None, refl, sym, ◌∙◌, ap, subst, ◌==◌, ◌&&◌, ◌||◌, count_by, filter, nat_le}
+use Rattle.std.proofs.Common.{ℕ, Bool, true, false, cond, not, ◌≡◌, ◌+◌, List, [], ◌∷◌, length, map, Option, Some, None, refl, sym, ◌∙◌, ap, subst, ◌==◌, ◌&&◌, ◌||◌, count_by, filter}
 use Rattle.std.specs.List.{AllByRecursion as Each, list_any, list_all}
 use Rattle.std.specs.Int.{div_ceil}
 use Rattle.std.proofs.lemmas.Bool.{and_parts, eqb-true}
 use Rattle.std.proofs.lemmas.List.Sums.{sum_by-cons}
-use Rattle.nm_types.specs.Frames.{Frame, slots_of}
+use Rattle.nm_types.specs.Frames.{Frame}
 use Rattle.nm_types.specs.Names.{switch_of, is_switch_port_name}
 use Rattle.nm_types.specs.Sendable.{fits_buffer}
 use Rattle.nm_types.specs.declared.id.PortId.{PortId}
-use Rattle.nm_frag.specs.Parts.{slots_of_length}
 use Rattle.vale_learn.specs.AddressTable.{Entries}
 use Rattle.vale_learn.specs.AddressTable.{port_of_address as table_port}
 use Rattle.vale_batch.specs.declared.looking.Destination.{Destination as Lookup}
 use Rattle.vale_batch.specs.declared.looking.Destination.TheVariants as lookups
 use Rattle.vale_batch.specs.declared.looking.Looked.{Looked}
 use Rattle.vale_batch.specs.Looking.{looked_up, looked_up_batch, learned_from}
-use Rattle.vale_batch.specs.Looking.{destination_found as lookup_found, destination_of as lookup_of}
+use Rattle.vale_batch.specs.Looking.{destination_found as lookup_found}
 use Rattle.vale_batch.specs.Wants.{is_short_at, is_lone_destination, is_other}
 use Rattle.vale_batch.specs.Wants.{is_lone as is_lone_looked}
 use Rattle.vale_entry.specs.declared.entry.Destination.{Destination}

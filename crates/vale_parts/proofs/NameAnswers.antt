@@ -1,8 +1,8 @@
 -- What names answer is what the ports do.
-use Rattle.std.proofs.Common.{ℕ, Bool, true, false, cond, not, ◌≡◌, ◌≤◌, ◌+◌, List, [], ◌∷◌, length, map, find, Option, Some, None, refl, sym, ◌∙◌, ap, subst, arith, ◌&&◌, ◌||◌, bytes_eq, count_by, nat_le, is_some, IsPermutation}
+use Rattle.std.proofs.Common.{ℕ, Bool, true, false, cond, not, ◌≡◌, ◌≤◌, ◌+◌, List, [], ◌∷◌, length, map, find, Option, Some, None, refl, sym, ◌∙◌, ap, arith, ◌&&◌, ◌||◌, bytes_eq, count_by, nat_le, is_some}
 use Rattle.std.specs.Prelude.{option_map}
 use Rattle.std.specs.List.{list_any}
-use Rattle.std.proofs.lemmas.Bool.{cases_Bool, and_parts}
+use Rattle.std.proofs.lemmas.Bool.{and_parts}
 use Rattle.std.proofs.lemmas.Slice.Eq.{bytes_eq-Decides}
 use Rattle.std.proofs.lemmas.List.Sums.{sum_by-cons}
 use Rattle.std.proofs.lemmas.List.Sorted.{sum_by-IsPermutation}
@@ -15,16 +15,14 @@ use Rattle.nm_types.specs.Openings as rules
 use Rattle.nm_types.specs.Openings.{are_sizes, is_beside, most_beside}
 use Rattle.nm_types.proofs.PeerNames.{peer-is_pipe}
 use Rattle.vale_names.specs.declared.port.NamedPort.{NamedPort}
-use Rattle.vale_names.specs.Ports.{names_of, open_port_of}
+use Rattle.vale_names.specs.Ports.{names_of}
 use Rattle.vale_names.specs.Ports.{is_open_as as is_named_open}
-use Rattle.vale_names.specs.PortNames.{IsNames}
 use Rattle.vale_names.proofs.OrderLemmas.{order_says_nothing, order_finds_the_same, one_is_open}
-use Rattle.vale_entry.specs.World.{World, Port, free_count}
-use Rattle.vale_entry.specs.Opening.{is_on_switch, switches_of, finds_switches_full, finds_ports_full, has_name, has_pipe_name, has_monitor_name, name_refusal, refusal_or_room}
+use Rattle.vale_entry.specs.World.{Port, free_count}
+use Rattle.vale_entry.specs.Opening.{is_on_switch, switches_of, finds_switches_full, finds_ports_full, has_pipe_name, has_monitor_name, name_refusal, refusal_or_room}
 use Rattle.vale_entry.specs.Monitors.{is_open_as, open_port_as}
-use Rattle.vale_entry.specs.Pipe.{is_peer, peer_of}
-use Rattle.vale_parts.specs.Ids.{id_of, port_id}
-use Rattle.vale_parts.specs.WorldNames.{named_port, NamesAre}
+use Rattle.vale_parts.specs.Ids.{id_of}
+use Rattle.vale_parts.specs.WorldNames.{named_port}
 use Rattle.vale_parts.specs.NameLaws.{number_of, OpeningsAreAnswered, NamesFindPorts, NamesFindPeers}
 
 -- ---- the names of the ports

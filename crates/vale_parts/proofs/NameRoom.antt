@@ -1,11 +1,11 @@
 -- A name that is taken out again, and the room for one more.
-use Rattle.std.proofs.Common.{ℕ, Bool, true, false, cond, not, ◌≡◌, ◌≤◌, ◌<◌, ◌+◌, ◌||◌, List, [], ◌∷◌, ◌++◌, length, map, filter, refl, sym, ◌∙◌, ap, arith, ◌==◌, length-append}
+use Rattle.std.proofs.Common.{ℕ, Bool, true, false, cond, not, ◌≡◌, ◌≤◌, ◌<◌, ◌+◌, List, [], ◌∷◌, ◌++◌, length, map, refl, sym, ◌∙◌, ap, arith, ◌==◌, length-append}
 use Rattle.std.specs.List.{list_any, AllByRecursion as Each}
 use Rattle.std.proofs.lemmas.Bool.{eq-eqb, ne_eqb, or_from, or_parts}
 use Rattle.std.proofs.lemmas.List.{length-map}
 use Rattle.std.proofs.lemmas.List.Sorted.{list_any-IsPermutation, length_permutation}
 use Rattle.vale_names.specs.declared.port.NamedPort.{NamedPort}
-use Rattle.vale_names.specs.Ports.{fresh_port, Joins, has_id}
+use Rattle.vale_names.specs.Ports.{fresh_port, has_id}
 use Rattle.vale_names.specs.Ports.{ports_without as names_without}
 use Rattle.vale_entry.specs.World.{Port}
 use Rattle.vale_entry.specs.Legal.{world_of}

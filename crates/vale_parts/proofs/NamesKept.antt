@@ -1,12 +1,12 @@
 -- What each entry makes of the names keeps them those of the ports.
-use Rattle.std.proofs.Common.{ℕ, Bool, true, false, cond, not, ◌≡◌, ◌+◌, List, [], ◌∷◌, ◌++◌, map, filter, length, Some, None, refl, sym, ◌∙◌, ap, subst, ◌==◌, ◌&&◌, bytes_eq, IsPermutation}
+use Rattle.std.proofs.Common.{ℕ, Bool, true, false, cond, not, ◌≡◌, ◌+◌, List, [], ◌∷◌, ◌++◌, map, length, Some, refl, sym, ◌∙◌, ap, subst, ◌==◌, ◌&&◌, bytes_eq, IsPermutation}
 use Rattle.std.proofs.lemmas.Bool.{and_parts, and_from, eqb-true, eq-eqb}
 use Rattle.std.proofs.lemmas.List.{map-append}
 use Rattle.std.proofs.lemmas.Slice.Eq.{bytes_eq-Decides}
 use Rattle.std.proofs.lemmas.List.Sorted.{IsPermutation-cons, IsPermutation-middle, IsPermutation-to_front, IsPermutation-sym, IsPermutation-trans, IsPermutation-map}
 use Rattle.nm_types.specs.declared.id.PortId.{PortId}
 use Rattle.vale_names.specs.declared.port.NamedPort.{NamedPort}
-use Rattle.vale_names.specs.Ports.{fresh_port, Joins, has_id, shut_at, shut_in}
+use Rattle.vale_names.specs.Ports.{Joins, has_id, shut_at, shut_in}
 use Rattle.vale_names.specs.Ports.{ports_without as names_without}
 use Rattle.vale_entry.specs.declared.entry.Ask.{Ask}
 use Rattle.vale_entry.specs.declared.entry.Reply.{Reply}
@@ -17,7 +17,7 @@ use Rattle.vale_entry.specs.Grant.{port_after_grant, granted_frames}
 use Rattle.vale_entry.specs.Delivery.{port_after_done, port_after_sync}
 use Rattle.vale_entry.specs.Closing.{shut, shutting_port, ports_without}
 use Rattle.vale_entry.specs.Pipe.{frames_of_items, port_after_put}
-use Rattle.vale_entry.specs.Legal.{Standing, after, standing_of, world_of, Follows, sync_step}
+use Rattle.vale_entry.specs.Legal.{Standing, after, standing_of, Follows, sync_step}
 use Rattle.vale_entry.proofs.Each.{map-changed_at}
 use Rattle.vale_entry.proofs.Places.{open-place, shutting-place}
 use Rattle.vale_entry.proofs.Worlds.{standing-push}

@@ -1,5 +1,5 @@
 -- The offers of one entry, as they are made and granted.
-use Rattle.std.proofs.Common.{ℕ, Bool, true, false, cond, not, ◌≡◌, ◌≤◌, ◌<◌, ◌+◌, List, [], ◌∷◌, ◌++◌, length, map, filter, find, drop, Option, Some, None, refl, sym, ◌∙◌, ap, subst, arith, ◌==◌}
+use Rattle.std.proofs.Common.{ℕ, Bool, true, false, cond, ◌≡◌, ◌≤◌, ◌<◌, ◌+◌, List, [], ◌∷◌, ◌++◌, filter, find, drop, Option, Some, None, refl, sym, ◌∙◌, ap, subst, arith, ◌==◌}
 use Rattle.std.specs.List.{AllByRecursion as Each, cons_option}
 use Rattle.std.specs.Option.{option_map_or}
 use Rattle.std.proofs.lemmas.Bool.{eqb-true, eqb-false, eq-eqb, ne_eqb}
@@ -8,16 +8,15 @@ use Rattle.nm_types.specs.Frames.{Frame}
 use Rattle.nm_types.specs.declared.id.PortId.{PortId}
 use Rattle.vale_batch.specs.Wants.{Wanted}
 use Rattle.vale_entry.specs.declared.entry.Ask.{Ask}
-use Rattle.vale_entry.specs.declared.entry.Ask.TheVariants.{Send, Sync, Get, PutKept}
+use Rattle.vale_entry.specs.declared.entry.Ask.TheVariants.{PutKept}
 use Rattle.vale_entry.specs.declared.entry.Reply.{Reply}
-use Rattle.vale_entry.specs.declared.entry.Reply.TheVariants.{Took}
 use Rattle.vale_entry.specs.declared.entry.Entry.{Entry}
 use Rattle.vale_entry.specs.World.{World, Port, Offer, open_port, transmit_monitor, receive_monitor}
 use Rattle.vale_entry.specs.Offers.{is_offer_of, offers_of, offer_to, wanted_frames, monitored_frames}
 use Rattle.vale_entry.specs.Grant.{first_offer, without_first}
 use Rattle.vale_entry.specs.Delivery.{delivered_frames}
 use Rattle.vale_entry.specs.Pipe.{frames_of_items}
-use Rattle.vale_entry.specs.Legal.{Standing, after, standing_of, world_of, Follows, IsLegal, named_of, offers_of_send, offers_of_sync, offers_of_put, sync_step}
+use Rattle.vale_entry.specs.Legal.{Standing, after, standing_of, world_of, Follows, named_of, offers_of_send, offers_of_sync, offers_of_put, sync_step}
 use Rattle.vale_entry.specs.Laws.{IsFrom}
 use Rattle.vale_entry.proofs.ListLaws.{place-of}
 use Rattle.vale_entry.proofs.Each.{each-without_first}

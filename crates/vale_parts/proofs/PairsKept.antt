@@ -1,5 +1,5 @@
 -- After every history each pair is of an entry's port, and while that is there it is of the pair's switch.
-use Rattle.std.proofs.Common.{ℕ, ◌+◌, ◌≤◌, ◌≡◌, Bool, true, false, cond, ◌&&◌, List, [], ◌∷◌, ◌++◌, map, length, not, ◌==◌, Some, refl, sym, ◌∙◌, ap, subst, arith, bytes_eq}
+use Rattle.std.proofs.Common.{ℕ, ◌+◌, ◌≤◌, ◌≡◌, Bool, true, false, cond, ◌&&◌, List, [], ◌∷◌, ◌++◌, map, length, not, ◌==◌, Some, refl, sym, ◌∙◌, ap, arith, bytes_eq}
 use Rattle.std.specs.List.{AllByRecursion as Each}
 use Rattle.std.proofs.lemmas.Bool.{and_parts, and_from}
 use Rattle.std.proofs.lemmas.Slice.Eq.{bytes_eq-Decides}
@@ -7,14 +7,14 @@ use Rattle.nm_types.specs.Frames.{Frame}
 use Rattle.nm_types.specs.Names.{switch_of, is_switch_port_name}
 use Rattle.nm_types.specs.Sendable.{is_sendable}
 use Rattle.vale_entry.specs.declared.entry.Entry.{Entry}
-use Rattle.vale_entry.specs.World.{World, Port, Pair, changed_if, changed_at, open_port, is_settled}
+use Rattle.vale_entry.specs.World.{Port, Pair, changed_if, changed_at, open_port, is_settled}
 use Rattle.vale_entry.specs.Learning.{learned, learned_of_batch, is_learnable, source_address}
 use Rattle.vale_entry.specs.Opening.{opened_port, is_on_switch}
 use Rattle.vale_entry.specs.Grant.{port_after_grant, granted_frames}
 use Rattle.vale_entry.specs.Delivery.{port_after_done, port_after_sync}
 use Rattle.vale_entry.specs.Closing.{shut, ports_without}
 use Rattle.vale_entry.specs.Pipe.{frames_of_items, port_after_put}
-use Rattle.vale_entry.specs.Legal.{Standing, Outcome, after, standing_of, world_of, fresh_standing, can_send}
+use Rattle.vale_entry.specs.Legal.{Standing, Outcome, after, world_of, fresh_standing, can_send}
 use Rattle.vale_entry.specs.Laws.{Rise, id_of_port}
 use Rattle.vale_entry.proofs.Each.{each-weaker, each-map, each-append}
 use Rattle.vale_entry.proofs.Removals.{each-filter}

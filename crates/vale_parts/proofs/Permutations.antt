@@ -1,6 +1,6 @@
 -- Lists in which each element stands as often are permutations of each other, and so are what a test
 -- keeps of them.
-use Rattle.std.proofs.Common.{ℕ, zero, suc, Bool, true, false, cond, not, ◌≡◌, ◌≤◌, ◌+◌, List, [], ◌∷◌, ◌++◌, map, filter, count_by, refl, sym, ◌∙◌, ap, subst, arith, ◌&&◌, IsPermutation}
+use Rattle.std.proofs.Common.{ℕ, Bool, true, false, cond, ◌≡◌, ◌≤◌, ◌+◌, List, [], ◌∷◌, ◌++◌, filter, count_by, refl, sym, ◌∙◌, ap, subst, arith, ◌&&◌, IsPermutation}
 use Rattle.std.proofs.lemmas.List.Sums.{sum_by-cons, sum_by-append}
 use Rattle.std.proofs.lemmas.List.Sorted.{IsPermutation-refl, IsPermutation-cons, IsPermutation-middle, IsPermutation-sym, IsPermutation-trans, sum_by-IsPermutation}
 

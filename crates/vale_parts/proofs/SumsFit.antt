@@ -1,5 +1,5 @@
 -- No sum of counters passes 2^64 - 1: an entry counts at most 65536 frames of a kind at a port.
-use Rattle.std.proofs.Common.{ℕ, zero, suc, Bool, true, false, cond, not, min, ◌≡◌, ◌≤◌, ◌<◌, ◌+◌, ◌-◌, ◌*◌, ◌^◌, List, [], ◌∷◌, ◌++◌, length, map, filter, count_by, Option, Some, None, refl, sym, ◌∙◌, ap, subst, arith, ◌==◌, ◌&&◌, ◌||◌, nat_le, length-append}
+use Rattle.std.proofs.Common.{ℕ, Bool, true, false, cond, not, min, ◌≡◌, ◌≤◌, ◌<◌, ◌+◌, ◌-◌, ◌*◌, List, [], ◌∷◌, ◌++◌, length, map, filter, count_by, Option, Some, None, refl, sym, ◌∙◌, ap, subst, arith, ◌==◌, ◌&&◌, nat_le}
 use Rattle.std.specs.List.{AllByRecursion as Each, list_all, cons_option}
 use Rattle.std.proofs.lemmas.Bool.{and_parts, leb-true}
 use Rattle.std.proofs.lemmas.List.{length-map}
@@ -16,14 +16,14 @@ use Rattle.vale_entry.specs.declared.entry.Reply.{Reply}
 use Rattle.vale_entry.specs.declared.entry.Reply.TheVariants.{Made, Refused, PeerGone, NoTarget, Watched, Counted}
 use Rattle.vale_entry.specs.declared.entry.Item.{Item}
 use Rattle.vale_entry.specs.declared.entry.Entry.{Entry}
-use Rattle.vale_entry.specs.World.{World, Port, Pair, PortCounts, Offer, open_port, transmit_monitor, receive_monitor, is_settled, buffers_of, size_of_line, space_of}
+use Rattle.vale_entry.specs.World.{World, Port, Pair, PortCounts, Offer, open_port, transmit_monitor, receive_monitor, is_settled, buffers_of, space_of}
 use Rattle.vale_entry.specs.Learning.{is_short, learned}
-use Rattle.vale_entry.specs.Lookup.{Named, named_frames, is_lone}
+use Rattle.vale_entry.specs.Lookup.{named_frames, is_lone}
 use Rattle.vale_entry.specs.Offers.{offers_of, offer_to, is_monitor, is_wanted_at, wanted_frames, wanted_if, monitored_frames, frame_of}
-use Rattle.vale_entry.specs.Grant.{longest_fitting, grant_reply, grant_reply_at, first_offer, without_first}
-use Rattle.vale_entry.specs.Delivery.{delivered_frames, ready_lots}
+use Rattle.vale_entry.specs.Grant.{longest_fitting, grant_reply_at, first_offer}
+use Rattle.vale_entry.specs.Delivery.{delivered_frames}
 use Rattle.vale_entry.specs.Pipe.{frames_of_items, taken_count, peer_of, puts_to_port}
-use Rattle.vale_entry.specs.Counters.{counts_if, with_counted, counted_in, count_sent, count_shared, count_gave_at, count_put, count_taken_at, counts_after}
+use Rattle.vale_entry.specs.Counters.{counts_if, with_counted, counted_in, count_sent, count_shared, count_gave_at}
 use Rattle.vale_entry.specs.Counters.{counts_of as world_counts}
 use Rattle.vale_entry.specs.Legal.{Standing, after, standing_of, world_of, Follows, IsLegal, unchanged, enter_step, open_step_by, send_step, grant_step, done_step, sync_step, put_step, watch_step, shut_step, finish_step, leave_step, can_send, named_of, recorded_step}
 use Rattle.vale_entry.specs.Laws.{HasRoom}

@@ -1,5 +1,5 @@
 -- How a table's answers follow the pairs, as frames are learned, ports are shut and ports change.
-use Rattle.std.proofs.Common.{ℕ, Bool, true, false, cond, not, ◌≡◌, ◌≤◌, List, [], ◌∷◌, length, fold, find, Option, Some, None, inl, inr, refl, sym, ◌∙◌, ap, subst, ◌==◌, ◌&&◌, ◌||◌, bytes_eq}
+use Rattle.std.proofs.Common.{ℕ, Bool, true, false, cond, not, ◌≡◌, List, [], ◌∷◌, length, find, Option, Some, None, inl, inr, refl, sym, ◌∙◌, ap, subst, ◌==◌, ◌&&◌, bytes_eq}
 use Rattle.std.specs.List.{AllByRecursion as Each, list_any}
 use Rattle.std.proofs.lemmas.Bool.{cases_Bool, eq-eqb, eqb-true, and_right, and_parts}
 use Rattle.std.proofs.lemmas.Slice.Eq.{bytes_eq-Decides}
@@ -23,7 +23,7 @@ use Rattle.vale_parts.specs.Ids.{id_of, port_id}
 use Rattle.vale_parts.specs.SwitchPorts.{IsPairOf, is_open_on}
 use Rattle.vale_parts.specs.Tables.{FindsPairs, FindsNothing}
 use Rattle.vale_parts.proofs.OpenPorts.{open-shut}
-use Rattle.vale_parts.proofs.SwitchPairs.{PortFound, found-port}
+use Rattle.vale_parts.proofs.SwitchPairs.{found-port}
 
 abbrev pub IsTable : Entries → Type 0
 IsTable entries = length entries ≡ 1024

@@ -1,16 +1,16 @@
 -- Port by port, what the ports of a switch want, and what is offered to all ports.
-use Rattle.std.proofs.Common.{ℕ, zero, suc, Bool, true, false, cond, not, ◌≡◌, ◌+◌, ◌<◌, ◌≤◌, List, [], ◌∷◌, length, map, filter, filter_map, slice_get, Option, Some, None, refl, sym, ◌∙◌, ap, subst, arith, ◌==◌, ◌&&◌, ◌||◌, nat_lt}
+use Rattle.std.proofs.Common.{ℕ, zero, suc, Bool, true, false, cond, ◌≡◌, ◌+◌, ◌<◌, ◌≤◌, List, [], ◌∷◌, length, map, filter, slice_get, Option, Some, refl, sym, ◌∙◌, ap, subst, arith, ◌==◌, ◌||◌, nat_lt}
 use Rattle.std.specs.List.{AllByRecursion as Each, list_any, range_with_len, cons_option}
-use Rattle.std.proofs.lemmas.Bool.{ltb-true, lt-ltb, eqb-true, eqb-false, ne_eqb, false_from_ne_true}
+use Rattle.std.proofs.lemmas.Bool.{ltb-true, lt-ltb, eqb-true, ne_eqb, false_from_ne_true}
 use Rattle.std.proofs.lemmas.List.{length-map}
-use Rattle.nm_types.specs.Frames.{Frame, slots_of}
+use Rattle.nm_types.specs.Frames.{Frame}
 use Rattle.nm_types.specs.declared.id.PortId.{PortId}
 use Rattle.vale_batch.specs.declared.looking.Looked.{Looked}
 use Rattle.vale_batch.specs.Wants.{Wanted, want_at, wants_of, wants_some}
 use Rattle.vale_entry.specs.World.{Port, Offer}
 use Rattle.vale_entry.specs.Offers.{offers_of, offer_to}
 use Rattle.vale_entry.specs.Laws.{Rise, id_of_port as number_of}
-use Rattle.vale_entry.proofs.Each.{each-map, each-unmap, each-weaker, each-both}
+use Rattle.vale_entry.proofs.Each.{each-map, each-unmap, each-both}
 use Rattle.vale_entry.proofs.Removals.{each-filter}
 use Rattle.vale_entry.proofs.Rising.{rise-above}
 use Rattle.vale_entry.proofs.Watched.{any-each}

@@ -1,5 +1,5 @@
 -- The frames that a port wants of a batch stand at its places, and its sizes are their slots.
-use Rattle.std.proofs.Common.{ℕ, zero, suc, Bool, true, false, cond, not, ◌≡◌, ◌+◌, List, [], ◌∷◌, length, map, filter, drop, slice_get, Option, Some, None, refl, sym, ◌∙◌, ap, subst, arith, ◌==◌, ◌&&◌, ◌||◌}
+use Rattle.std.proofs.Common.{ℕ, zero, suc, Bool, true, false, cond, not, ◌≡◌, ◌+◌, List, [], ◌∷◌, length, map, filter, drop, slice_get, Option, Some, refl, sym, ◌∙◌, ap, arith, ◌==◌, ◌&&◌, ◌||◌}
 use Rattle.std.specs.List.{AllByRecursion as Each, range_with_len}
 use Rattle.std.proofs.lemmas.Bool.{or_from, or_right, false_from_ne_true}
 use Rattle.nm_types.specs.Frames.{Frame, slots_of}

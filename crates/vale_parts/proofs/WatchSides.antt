@@ -16,7 +16,7 @@ use Rattle.vale_entry.specs.Closing.{watches_without, is_watch_of}
 use Rattle.vale_entry.specs.Monitors.{is_watch_at, watch_of as watcher_of}
 use Rattle.vale_entry.proofs.ListLaws.{place-of}
 use Rattle.vale_entry.proofs.PortAt.{find-append, first_of}
-use Rattle.vale_parts.specs.Ids.{id_of, port_id}
+use Rattle.vale_parts.specs.Ids.{id_of}
 use Rattle.vale_parts.proofs.TableFinds.{unless}
 
 abbrev pub is_watch_on : ℕ → Side → Watcher → Bool

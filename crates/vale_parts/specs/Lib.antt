@@ -17,3 +17,5 @@ pub mod Offering
 pub mod OfferLaws
 pub mod SwitchTables
 pub mod SwitchTableLaws
+pub mod Parts
+pub mod PartLaws

@@ -1,31 +1,26 @@
 -- Worked examples, as theorems that hold by computation.
-use Rattle.std.specs.Prelude.{ℕ, true, false, ◌≡◌, List, [], ◌∷◌, map, Some, None, codes, refl, replicate}
+use Rattle.std.specs.Prelude.{ℕ, false, ◌≡◌, List, [], ◌∷◌, Some, None, codes, refl}
 use Rattle.nm_types.specs.Frames.{Frame}
 use Rattle.nm_types.specs.Names.{is_name, is_switch_port_name, is_pipe_name, is_monitor_name, switch_of, peer_name}
-use Rattle.nm_types.specs.declared.id.PortId.{PortId}
-use Rattle.nm_types.specs.declared.id.Counts.{Counts}
 use Rattle.nm_types.specs.declared.id.Sides.TheVariants.{T}
 use Rattle.nm_region.specs.Buffers.{Buffer, indices_of}
-use Rattle.nm_pool.specs.Free.{PoolState}
 use Rattle.nm_count.specs.declared.tally.Tallied.{Tallied}
 use Rattle.vale_learn.specs.AddressTable.{Entries, no_stations}
 use Rattle.vale_learn.specs.AddressTable.{port_of_address as table_port}
 use Rattle.vale_batch.specs.Looking.{looked_up_batch}
-use Rattle.vale_batch.specs.Wants.{Wanted, wants_of}
+use Rattle.vale_batch.specs.Wants.{wants_of}
 use Rattle.vale_entry.specs.declared.entry.Ask.TheVariants.{Open, Send, Shut, Finish, PutKept}
-use Rattle.vale_entry.specs.declared.entry.Reply.TheVariants.{Opened, Refused, Offered, Made, Took, Unread}
+use Rattle.vale_entry.specs.declared.entry.Reply.TheVariants.{Opened, Refused, Took, Unread}
 use Rattle.nm_types.specs.declared.fault.OpenFault.TheVariants.{NameTaken}
-use Rattle.nm_types.specs.declared.id.Chain.{Chain}
 use Rattle.vale_entry.specs.declared.entry.Item.{Item}
-use Rattle.vale_entry.specs.World.{World, Port, Offer, empty_world, transmit_monitor}
+use Rattle.vale_entry.specs.World.{World, Port, empty_world, transmit_monitor}
 use Rattle.vale_entry.specs.Opening.{opened_port}
 use Rattle.vale_entry.specs.Closing.{shut}
 use Rattle.vale_entry.specs.Legal.{offers_of_send}
 use Rattle.vale_parts.specs.Ids.{port_id}
 use Rattle.vale_parts.specs.SwitchPorts.{open_ports_on}
-use Rattle.vale_parts.specs.WorldNames.{named_port}
 use Rattle.vale_parts.specs.Tables.{table_after}
-use Rattle.vale_parts.specs.Batches.{wants_monitored, dests_wanted}
+use Rattle.vale_parts.specs.Batches.{wants_monitored}
 use Rattle.vale_parts.specs.WorldCounts.{tally_after}
 use Rattle.vale_parts.specs.FreeBuffers.{pool_with_all}
 

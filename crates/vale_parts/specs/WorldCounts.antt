@@ -1,5 +1,5 @@
 -- The tally is the counters of the world, port by port.
-use Rattle.std.specs.Prelude.{ℕ, ◌≡◌, ◌+◌, List, map, Option, Some, None}
+use Rattle.std.specs.Prelude.{◌≡◌, ◌+◌, List, map, Option, Some, None}
 use Rattle.nm_types.specs.declared.id.Counts.{Counts}
 use Rattle.nm_count.specs.declared.tally.Tallied.{Tallied}
 use Rattle.nm_count.specs.Tallies.{tally_with, tally_after_add, tally_without}

@@ -17,6 +17,8 @@ ghost use Rattle.vale_parts.specs.NameLaws.{NamesFollow, OpeningsAreAnswered, Na
 ghost use Rattle.vale_parts.specs.NameLaws.{NamesFindPeers, OpeningsAreUndone, OpeningsHaveRoom};
 ghost use Rattle.vale_parts.specs.OfferLaws.{OffersFollow, FirstWantsAreNext, NoWantIsLeft};
 ghost use Rattle.vale_parts.specs.OfferLaws.{OffersStart, SendsStart, ReadsStart, PutsStart};
+ghost use Rattle.vale_parts.specs.PartLaws.{PartsFollow, EmptyPartsAreFirst, TablesStay};
+ghost use Rattle.vale_parts.specs.PartLaws.{SendsTeachOne, ShutsEmptyOne, OtherShutsEmptyNone};
 ghost use Rattle.vale_parts.specs.SwitchTableLaws.{AllTablesFollow, TablesAreGivenOver};
 ghost use Rattle.vale_parts.specs.SwitchTableLaws.{FreshTablesAreAdded};
 ghost use Rattle.vale_parts.specs.TableLaws.{PairsAreOfSwitch, TablesFollow, EmptyTablesServe};
@@ -76,9 +78,9 @@ pub fn watches_follow()
     ensures watched { WatchedAreWatched }
 {}
 
-/// The free buffers, with those of an opening taken at once and cut, and those of a Finish given back
-/// one by one, are the free ones of the holdings, after every entry. They are as many as the world
-/// says, and what a Finish makes free can be given back.
+/// The free buffers, with those of an opening taken at once and cut, and those of a Finish given
+/// back one by one, are the free ones of the holdings, after every entry. They are as many as the
+/// world says, and what a Finish makes free can be given back.
 pub fn free_buffers_follow()
     ensures follow { FreeFollow }
     ensures count { FreeAreCounted }
@@ -92,8 +94,8 @@ pub fn names_follow()
     ensures { NamesFollow }
 {}
 
-/// An opening is refused for its name as the names say, or else for want of buffers; a name finds the
-/// open port that has it, and the name of a pipe's other end the open port there.
+/// An opening is refused for its name as the names say, or else for want of buffers; a name finds
+/// the open port that has it, and the name of a pipe's other end the open port there.
 pub fn names_answer_as_ports()
     ensures openings { OpeningsAreAnswered }
     ensures ports { NamesFindPorts }
@@ -102,8 +104,8 @@ pub fn names_answer_as_ports()
     ensures room { OpeningsHaveRoom }
 {}
 
-/// The tally, with what each entry counts, is the counters of the world after every entry. Each port
-/// that is there has counters in it, which are those that a Stat tells, and no other has.
+/// The tally, with what each entry counts, is the counters of the world after every entry. Each
+/// port that is there has counters in it, which are those that a Stat tells, and no other has.
 pub fn counts_follow()
     ensures follow { CountsFollow }
     ensures told { OpenPortsAreCounted }
@@ -123,16 +125,16 @@ pub fn sums_fit()
     ensures { SumsFit }
 {}
 
-/// What an entry's offers want is what is left of its wants, after every later entry: a Grant takes the
-/// first, and the first is the one that it finds.
+/// What an entry's offers want is what is left of its wants, after every later entry: a Grant takes
+/// the first, and the first is the one that it finds.
 pub fn offers_follow()
     ensures follow { OffersFollow }
     ensures first { FirstWantsAreNext }
     ensures none { NoWantIsLeft }
 {}
 
-/// The offers that an entry starts with, and what is wanted of its frames then: by a Send, by a Sync or
-/// a Get, and by a Put.
+/// The offers that an entry starts with, and what is wanted of its frames then: by a Send, by a
+/// Sync or a Get, and by a Put.
 pub fn offers_start()
     ensures start { OffersStart }
     ensures sends { SendsStart }
@@ -140,8 +142,8 @@ pub fn offers_start()
     ensures puts { PutsStart }
 {}
 
-/// What a table finds is an open port of its switch. A fresh table finds nothing, and each table keeps
-/// its size.
+/// What a table finds is an open port of its switch. A fresh table finds nothing, and each table
+/// keeps its size.
 pub fn tables_are_sound()
     ensures found { FoundPortsAreOpen }
     ensures fresh { FreshTablesFindNothing }
@@ -149,10 +151,26 @@ pub fn tables_are_sound()
     ensures kept { TablesKeepTheirSize }
 {}
 
-/// The tables of all switches that have a port follow each entry. The table of a switch that has lost
-/// its last port may be given to a switch that has none, or a fresh one may be added.
+/// The tables of all switches that have a port follow each entry. The table of a switch that has
+/// lost its last port may be given to a switch that has none, or a fresh one may be added.
 pub fn all_tables_follow()
     ensures follow { AllTablesFollow }
     ensures over { TablesAreGivenOver }
     ensures added { FreshTablesAreAdded }
+{}
+
+/// Parts that change as an entry says are what stands once it is made; at first they are empty, and
+/// all buffers are free.
+pub fn parts_follow()
+    ensures follow { PartsFollow }
+    ensures first { EmptyPartsAreFirst }
+{}
+
+/// A Send teaches the table of its port's switch alone, and a Shut empties that of its port's
+/// alone, if it is of one; all other asks leave the tables as they are.
+pub fn one_table_changes()
+    ensures stay { TablesStay }
+    ensures sends { SendsTeachOne }
+    ensures shuts { ShutsEmptyOne }
+    ensures others { OtherShutsEmptyNone }
 {}
