@@ -20,3 +20,4 @@ pub mod OffersKept
 pub mod NameRoom
 pub mod AllTables
 pub mod AllParts
+pub mod Additions

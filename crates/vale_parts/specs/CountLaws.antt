@@ -13,6 +13,7 @@ use Rattle.vale_entry.specs.Counters.{counted_in}
 use Rattle.vale_entry.specs.Counters.{counts_of as world_counts}
 use Rattle.vale_entry.specs.Legal.{standing_of, world_of, IsLegal, Follows}
 use Rattle.vale_parts.specs.WorldCounts.{CountsAre, tally_after}
+use Rattle.vale_parts.specs.Adding.{AddsFit}
 
 abbrev pub CountsFollow : Type 0
 CountsFollow = (pool : ℕ) (history : List Entry) (entry : Entry) (tally : List Tallied) → IsLegal pool history → Follows (standing_of pool history) entry
@@ -51,3 +52,8 @@ FitsAt w entry counted = SumFits counted.counts (counted_in counted.port w entry
 abbrev pub SumsFit : Type 0
 SumsFit = (pool : ℕ) (history : List Entry) (entry : Entry) → pool ≤ most_pool → IsLegal pool history → Follows (standing_of pool history) entry → length history < 2 ^ 32
     → AllByRecursion (FitsAt (world_of pool history) entry) (world_of pool history).counts
+
+-- so each addition to the tally may be made
+abbrev pub AdditionsFit : Type 0
+AdditionsFit = (pool : ℕ) (history : List Entry) (entry : Entry) (tally : List Tallied) → pool ≤ most_pool → IsLegal pool history → Follows (standing_of pool history) entry
+    → length history < 2 ^ 32 → CountsAre (world_of pool history) tally → AddsFit (world_of pool history) entry.ask entry.reply tally

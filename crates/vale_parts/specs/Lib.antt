@@ -19,3 +19,4 @@ pub mod SwitchTables
 pub mod SwitchTableLaws
 pub mod Parts
 pub mod PartLaws
+pub mod Adding

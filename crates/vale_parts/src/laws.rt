@@ -10,7 +10,7 @@ ghost use Rattle.vale_parts.specs.BatchLaws.{PutWantsAreOffers, DestsAreWanted};
 ghost use Rattle.vale_parts.specs.CountLaws.{CountsFollow, OpenPortsAreCounted};
 ghost use Rattle.vale_parts.specs.CountLaws.{ShuttingPortsAreCounted, NextPortsAreNot};
 ghost use Rattle.vale_parts.specs.CountLaws.{AsManyAreCounted, NothingIsAdded, NowhereIsAdded};
-ghost use Rattle.vale_parts.specs.CountLaws.{SumsFit};
+ghost use Rattle.vale_parts.specs.CountLaws.{SumsFit, AdditionsFit};
 ghost use Rattle.vale_parts.specs.FreeLaws.{FreeFollow, FreeAreCounted, OpeningsAreCut};
 ghost use Rattle.vale_parts.specs.FreeLaws.{FinishesCanGive};
 ghost use Rattle.vale_parts.specs.NameLaws.{NamesFollow, OpeningsAreAnswered, NamesFindPorts};
@@ -122,7 +122,8 @@ pub fn nothing_need_be_added()
 
 /// With fewer than 2^32 entries no sum of a port's counters passes 2^64 - 1.
 pub fn sums_fit()
-    ensures { SumsFit }
+    ensures sums { SumsFit }
+    ensures additions { AdditionsFit }
 {}
 
 /// What an entry's offers want is what is left of its wants, after every later entry: a Grant takes
