@@ -19,12 +19,14 @@ use Rattle.vale_batch.specs.Wants.{Wanted, wants_of, IsRising, port_number, is_l
 use Rattle.vale_entry.specs.declared.entry.Entry.{Entry}
 use Rattle.vale_entry.specs.World.{Port, Watch as Watcher, Offer, is_open, is_settled, monitor_id, transmit_monitor, receive_monitor}
 use Rattle.vale_entry.specs.Lookup.{Named, is_lone}
-use Rattle.vale_entry.specs.Offers.{offers_of, is_monitor, wanted_frames, wanted_if, monitored_frames, frame_of, dest_of}
+use Rattle.vale_entry.specs.Offers.{offers_of, is_monitor, wanted_frames, wanted_if, monitored_frames, frame_of, dest_of, dests_of}
 use Rattle.vale_entry.specs.Opening.{is_on_switch}
 use Rattle.vale_entry.specs.Delivery.{delivered_frames}
-use Rattle.vale_entry.specs.Legal.{world_of, named_of, offers_of_send, IsLegal}
+use Rattle.vale_entry.specs.Legal.{world_of, named_of, offers_of_send, offers_of_sync, offers_of_put, IsLegal}
 use Rattle.vale_entry.specs.Laws.{Rise, id_of_port as number_of, is_monitor_open, IsWatch}
 use Rattle.vale_entry.specs.declared.entry.Dest.{Dest}
+use Rattle.vale_entry.specs.declared.entry.Reply.TheVariants.{Offered}
+use Rattle.vale_entry.specs.Learning.{is_short}
 use Rattle.vale_entry.proofs.ListLaws.{place-of}
 use Rattle.vale_entry.proofs.Each.{each-all, each-weaker, each-find, each-both}
 use Rattle.vale_entry.proofs.Removals.{rise-filter}
@@ -35,7 +37,7 @@ use Rattle.vale_entry.proofs.HistoryLaws.{history-stands}
 use Rattle.vale_parts.specs.Ids.{port_id, id_of_port}
 use Rattle.vale_parts.specs.SwitchPorts.{is_open_on, open_ports_on}
 use Rattle.vale_parts.specs.Batches.{IsOfferOf, AreOffersOf, AreLookedAs, want_of_all, with_want, wants_monitored, dest_wanted, dests_wanted}
-use Rattle.vale_parts.specs.BatchLaws.{IsSender, BatchesAreNamed, LoneFramesAreCounted, SentWantsAreOffers, GivenWantsAreOffers, PutWantsAreOffers, DestsAreWanted, OpenPortsRise, SendableCanBeLookedUp}
+use Rattle.vale_parts.specs.BatchLaws.{IsSender, BatchesAreNamed, LoneFramesAreCounted, SentWantsAreOffers, GivenWantsAreOffers, PutWantsAreOffers, DestsAreWanted, OpenPortsRise, SendableCanBeLookedUp, SendsAreReplied, ReadsAreReplied, PutsAreReplied, wants_at}
 use Rattle.vale_parts.proofs.OpenPorts.{some_is_any}
 use Rattle.vale_parts.proofs.PairsKept.{world-paired}
 use Rattle.vale_parts.proofs.Lookups.{batch_named, frames_named, lone_counted, NamesOpen, NamesOpenAt, named_open}
@@ -320,3 +322,24 @@ looked_up_sendable frames sendable =
     let most = and_parts (nat_le (length frames) 1023) (nat_le (size_of_frames frames) 1023 && list_all fits_buffer frames) sendable in
     let fits = (and_parts (nat_le (size_of_frames frames) 1023) (list_all fits_buffer frames) most.1).1 in
     record { few = leb-true (length frames) 1023 most.0; each = All-from_recursion IsFrame frames (each_frame frames fits) }
+
+-- ---- replies
+
+pub sends_replied : SendsAreReplied
+sends_replied pool h from frames port entries legal is =
+    let w = world_of pool h in
+    let wants = wants_monitored (transmit_monitor w port.id) frames (wants_at w from frames port entries) in
+    let lone = lone_frames pool h from frames port entries is in
+    let dests = dests_are_wanted frames wants (offers_of_send w port frames) (sent_offers pool h from frames port entries legal is) in
+    ap (λ (n : ℕ). Offered (count_by is_short frames) n (dests_of (offers_of_send w port frames))) (sym lone)
+    ∙ ap (λ (to : List Dest). Offered (count_by is_short frames) (count_by (is_lone_looked from (open_ports_on (switch_of port.name) w.ports)) (looked_up_batch from entries frames)) to) (sym dests)
+
+pub reads_replied : ReadsAreReplied
+reads_replied pool h port legal =
+    let w = world_of pool h in
+    sym (dests_are_wanted (delivered_frames port) (wants_monitored (receive_monitor w port.id) (delivered_frames port) []) (offers_of_sync w port) (given_offers pool h port legal))
+
+pub puts_replied : PutsAreReplied
+puts_replied pool h port frames legal =
+    let w = world_of pool h in
+    sym (dests_are_wanted frames (wants_monitored (transmit_monitor w port.id) frames []) (offers_of_put w port frames) (put_offers pool h port frames legal))

@@ -10,12 +10,13 @@ use Rattle.vale_batch.specs.Addresses.{is_short as is_short_frame}
 use Rattle.vale_batch.specs.Looking.{looked_up_batch, IsFrame}
 use Rattle.vale_batch.specs.Wants.{Wanted, wants_of, is_lone as is_lone_looked, IsRising, port_number}
 use Rattle.vale_entry.specs.declared.entry.Entry.{Entry}
+use Rattle.vale_entry.specs.declared.entry.Reply.TheVariants.{Offered}
 use Rattle.vale_entry.specs.World.{World, Port, Offer, open_port, transmit_monitor, receive_monitor}
 use Rattle.vale_entry.specs.Learning.{is_short}
 use Rattle.vale_entry.specs.Lookup.{is_lone}
 use Rattle.vale_entry.specs.Offers.{dests_of}
 use Rattle.vale_entry.specs.Delivery.{delivered_frames}
-use Rattle.vale_entry.specs.Legal.{world_of, can_send, named_of, offers_of_send, offers_of_sync, offers_of_put, IsLegal}
+use Rattle.vale_entry.specs.Legal.{standing_of, send_step, world_of, can_send, named_of, offers_of_send, offers_of_sync, offers_of_put, IsLegal}
 use Rattle.vale_parts.specs.SwitchPorts.{open_ports_on}
 use Rattle.vale_parts.specs.Tables.{Finds}
 use Rattle.vale_parts.specs.Batches.{AreLookedAs, AreOffersOf, wants_monitored, dests_wanted}
@@ -76,3 +77,21 @@ pub record CanBeLookedUp (frames : List Frame) : Type 0 where
 
 abbrev pub SendableCanBeLookedUp : Type 0
 SendableCanBeLookedUp = (frames : List Frame) → is_sendable frames ≡ true → CanBeLookedUp frames
+
+-- so the reply of a Send is told by the look-up of its batch
+abbrev pub SendsAreReplied : Type 0
+SendsAreReplied = (pool : ℕ) (history : List Entry) (from : PortId) (frames : List Frame) (port : Port) (entries : Entries) → IsLegal pool history
+    → IsSender (world_of pool history) from frames port entries
+    → (send_step (standing_of pool history) frames port).reply
+    ≡ Offered (count_by is_short_frame frames)
+    (count_by (is_lone_looked from (open_ports_on (switch_of port.name) (world_of pool history).ports)) (looked_up_batch from entries frames))
+    (dests_wanted (wants_monitored (transmit_monitor (world_of pool history) port.id) frames (wants_at (world_of pool history) from frames port entries)))
+
+-- and so are the destinations of what is given, and taken
+abbrev pub ReadsAreReplied : Type 0
+ReadsAreReplied = (pool : ℕ) (history : List Entry) (port : Port) → IsLegal pool history
+    → dests_of (offers_of_sync (world_of pool history) port) ≡ dests_wanted (wants_monitored (receive_monitor (world_of pool history) port.id) (delivered_frames port) [])
+
+abbrev pub PutsAreReplied : Type 0
+PutsAreReplied = (pool : ℕ) (history : List Entry) (port : Port) (frames : List Frame) → IsLegal pool history
+    → dests_of (offers_of_put (world_of pool history) port frames) ≡ dests_wanted (wants_monitored (transmit_monitor (world_of pool history) port.id) frames [])

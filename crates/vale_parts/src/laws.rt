@@ -6,7 +6,8 @@ ghost use Rattle.vale_parts.specs.BatchLaws.{BatchesAreNamed, ShortFramesAreCoun
 ghost use Rattle.vale_parts.specs.BatchLaws.{LoneFramesAreCounted, SlotsAreOne};
 ghost use Rattle.vale_parts.specs.BatchLaws.{SendableCanBeLookedUp, OpenPortsRise};
 ghost use Rattle.vale_parts.specs.BatchLaws.{SentWantsAreOffers, GivenWantsAreOffers};
-ghost use Rattle.vale_parts.specs.BatchLaws.{PutWantsAreOffers, DestsAreWanted};
+ghost use Rattle.vale_parts.specs.BatchLaws.{PutWantsAreOffers, DestsAreWanted, SendsAreReplied};
+ghost use Rattle.vale_parts.specs.BatchLaws.{ReadsAreReplied, PutsAreReplied};
 ghost use Rattle.vale_parts.specs.CountLaws.{CountsFollow, OpenPortsAreCounted};
 ghost use Rattle.vale_parts.specs.CountLaws.{ShuttingPortsAreCounted, NextPortsAreNot};
 ghost use Rattle.vale_parts.specs.CountLaws.{AsManyAreCounted, NothingIsAdded, NowhereIsAdded};
@@ -174,4 +175,12 @@ pub fn one_table_changes()
     ensures sends { SendsTeachOne }
     ensures shuts { ShutsEmptyOne }
     ensures others { OtherShutsEmptyNone }
+{}
+
+/// The reply of a Send is told by the look-up of its batch, and the destinations of what a Sync
+/// gives and of what a Put's other end takes by the monitor's want.
+pub fn replies_are_told()
+    ensures sends { SendsAreReplied }
+    ensures reads { ReadsAreReplied }
+    ensures puts { PutsAreReplied }
 {}
