@@ -1,5 +1,5 @@
 -- Each addition to the tally fits, as the counters of the world do.
-use Rattle.std.proofs.Common.{ℕ, Bool, true, false, cond, ◌≡◌, ◌≤◌, ◌<◌, ◌+◌, ◌^◌, List, [], ◌∷◌, map, find, Option, Some, None, refl, sym, ◌∙◌, ap, subst, arith, ◌==◌}
+use Rattle.std.proofs.Common.{ℕ, Bool, true, false, cond, ◌≡◌, List, [], ◌∷◌, map, find, Option, Some, None, refl, sym, ◌∙◌, ap, subst, arith, ◌==◌}
 use Rattle.std.specs.Prelude.{option_map}
 use Rattle.std.specs.List.{AllByRecursion as Each}
 use Rattle.std.proofs.lemmas.Bool.{eqb-true, eq-eqb}
@@ -12,12 +12,11 @@ use Rattle.nm_count.proofs.TallyLaws.{adding_sums}
 use Rattle.vale_entry.specs.declared.entry.Ask.{Ask}
 use Rattle.vale_entry.specs.declared.entry.Ask.TheVariants.{Enter, Open, Send, Grant, Done, Sync, Reset, Shut, Finish, Leave, Put, PutKept, Get, Watch, Stat}
 use Rattle.vale_entry.specs.declared.entry.Reply.{Reply}
-use Rattle.vale_entry.specs.declared.entry.Entry.{Entry}
 use Rattle.vale_entry.specs.World.{World, Port, PortCounts}
 use Rattle.vale_entry.specs.Pipe.{peer_at, is_port_at}
 use Rattle.vale_entry.specs.Counters.{counts_if, counted_by, count_sent, count_shared, count_gave_at, count_put, count_taken_at}
 use Rattle.vale_entry.specs.Legal.{world_of}
-use Rattle.vale_parts.specs.WorldCounts.{counted_as, CountsAre}
+use Rattle.vale_parts.specs.WorldCounts.{counted_as}
 use Rattle.vale_parts.specs.Adding.{FitsIn, FitsAtPeer, AddsFit}
 use Rattle.vale_parts.specs.CountLaws.{AdditionsFit}
 use Rattle.vale_parts.proofs.SumsFit.{sums_fit}

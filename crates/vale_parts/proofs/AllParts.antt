@@ -20,7 +20,9 @@ use Rattle.vale_parts.proofs.NamesKept.{names_follow}
 use Rattle.vale_parts.proofs.AllTables.{all_follow}
 use Rattle.vale_parts.proofs.WatchesKept.{watches_follow}
 use Rattle.vale_parts.proofs.CountsKept.{counts_follow}
-use Rattle.vale_parts.proofs.FreeKept.{free_follow}
+use Rattle.vale_parts.proofs.FreeKept.{free_follow, size_kept}
+use Rattle.vale_entry.proofs.HistoryLaws.{history-stands}
+use Rattle.vale_entry.proofs.Worlds.{legal-push}
 
 pub parts_follow : PartsFollow
 parts_follow pool h e parts next legal follows are made =
@@ -31,15 +33,17 @@ parts_follow pool h e parts next legal follows are made =
       watches_are = watches_follow pool h e parts.watches next.watches legal follows are.watches_are made.watches_next;
       counts_are = subst (CountsAre w) (sym made.tally_next) (counts_follow pool h e parts.tally legal follows are.counts_are);
       free_are = free_follow pool h e parts.free next.free follows are.free_are made.free_next;
+      pool_is = size_kept pool h e parts.free next.free follows made.free_next ∙ (are.pool_is ∙ ((history-stands pool h legal).pool_is ∙ sym (history-stands pool (h ++ e ∷ []) (legal-push pool h e legal follows)).pool_is));
     }
 
 pub empty_first : EmptyPartsAreFirst
-empty_first pool free are = record {
+empty_first pool free are size = record {
   names_are = IsPermutation-refl [];
   tables_are = record { each = tt; there = tt; once = λ switch. omega arith };
   watches_are = record { transmit = λ port. refl; receive = λ port. refl };
   counts_are = refl;
   free_are = are;
+  pool_is = size;
 }
 
 -- ---- tables that stay

@@ -25,7 +25,7 @@ use Rattle.vale_entry.proofs.Numbered.{Numbered, world-numbered}
 use Rattle.vale_entry.proofs.HistoryLaws.{free-rises, buffers-parted}
 use Rattle.vale_entry.proofs.Follows.{EachKind, Left, IsQuiet, refused_open, resets, finds_no_peer, finds_no_target, finds_watched, counts, Receives, by_sync, by_get, follows-by}
 use Rattle.vale_parts.specs.FreeBuffers.{FreeAre, pool_less, pool_with, pool_with_all, CanAllBeGiven, AreGivenBack, IsPoolAfter}
-use Rattle.vale_parts.specs.FreeLaws.{FreeFollow, FreeAreCounted, OpeningsAreCut, FinishesCanGive}
+use Rattle.vale_parts.specs.FreeLaws.{PoolsKeepTheirSize, FreeFollow, FreeAreCounted, OpeningsAreCut, FinishesCanGive}
 
 -- ---- indices
 
@@ -256,3 +256,41 @@ finishes_give pool h e at bufs chain state given legal follows asks size are is 
     let five = ap (count_of b) is in
     let six = ap (count_of b) are in
     omega (arith, parted, one, two, three, four, five, six))
+
+-- ---- how many there are
+
+with_all_size : (bufs : List Buffer) (state : PoolState) → (pool_with_all bufs state).buffers ≡ state.buffers
+with_all_size [] state = refl
+with_all_size (b ∷ bs) state = with_all_size bs (pool_with b state)
+
+module _ (s : Standing) (state next : PoolState) where
+  abbrev Sized : Entry → Standing → Type 0
+  Sized e left = IsPoolAfter s.holdings e.ask e.reply state next → next.buffers ≡ state.buffers
+
+  same_size : next ≡ state → next.buffers ≡ state.buffers
+  same_size same = ap (λ (p : PoolState). p.buffers) same
+
+  back_size : (indices : List ℕ) → AreGivenBack indices state next → next.buffers ≡ state.buffers
+  back_size indices back = ap (λ (p : PoolState). p.buffers) back.is ∙ with_all_size back.given state
+
+  sized_kinds : EachKind s (Left s Sized)
+  sized_kinds = record {
+    enters = λ user fits is. same_size is;
+    quiet = λ ask session reply quiet is. same_size (quiet_pool s state next ask session reply quiet is);
+    opens = λ session name tx rx extra can refusal is. ap (λ (p : PoolState). p.buffers) is;
+    sends = λ from frames port e can settled is. same_size is;
+    grants = λ origin to offer first same is. same_size is;
+    completes = λ lease lot e is. same_size is;
+    receives = λ ask at back port receives e can is. same_size (read_pool s.holdings state next ask at back (sync_step s back port).reply receives is);
+    puts = λ at offered items port peer e can found is. same_size is;
+    watches = λ at target sides port found e can there none is. same_size is;
+    shuts = λ at port e settled is. same_size is;
+    finishes = λ at bufs chain port fits e can out is. back_size (buffers_of_port at.0 s.holdings.ports ++ bufs) is;
+    leaves = λ session can is. same_size is;
+  }
+
+  pub sized : (e : Entry) → Follows s e → Sized e (after s e)
+  sized e follows = follows-by s Sized e follows sized_kinds
+
+pub size_kept : PoolsKeepTheirSize
+size_kept pool h e state next follows made = sized (standing_of pool h) state next e follows made

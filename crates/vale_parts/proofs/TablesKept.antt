@@ -10,7 +10,7 @@ use Rattle.nm_types.specs.declared.id.PortId.{PortId}
 use Rattle.vale_learn.specs.AddressTable.{Entries, forgotten, without_port}
 use Rattle.vale_learn.specs.AddressTable.{port_of_address as table_port}
 use Rattle.vale_learn.specs.declared.table.Station.{Station}
-use Rattle.vale_learn.proofs.TableLaws.{none_found_at_first}
+use Rattle.vale_learn.proofs.TableLaws.{none_found_at_first, restoring_undoes_learning}
 use Rattle.vale_batch.specs.Looking.{learned_from}
 use Rattle.std.proofs.lemmas.List.{length-map, length-replicate}
 use Rattle.vale_batch.specs.Looking.{learned_of_batch as table_learned_batch}
@@ -34,9 +34,9 @@ use Rattle.vale_entry.proofs.Follows.{EachKind, Left, IsQuiet, refused_open, res
 use Rattle.vale_parts.specs.Ids.{id_of, port_id}
 use Rattle.vale_parts.specs.SwitchPorts.{IsPairOf, ArePairsOf}
 use Rattle.vale_parts.specs.Tables.{FindsPairs, Finds, table_after}
-use Rattle.vale_parts.specs.TableLaws.{TablesFollow, EmptyTablesServe, LastPortsEmptyTables, FoundPortsAreOpen, FreshTablesFindNothing, FreshTablesAreTables, TablesKeepTheirSize}
+use Rattle.vale_parts.specs.TableLaws.{TablesFollow, EmptyTablesServe, LastPortsEmptyTables, FoundPortsAreOpen, FreshTablesFindNothing, FreshTablesAreTables, TablesKeepTheirSize, FramesAreLearned, LearningIsTakenBack}
 use Rattle.vale_parts.proofs.OpenPorts.{open-map, open-changed, open-pushed, open-without}
-use Rattle.vale_parts.proofs.TableFinds.{IsTable, frame-size, batch-finds, other-finds, ports-find, forgotten-finds, elsewhere-finds, vacant-finds, vacant-nothing}
+use Rattle.vale_parts.proofs.TableFinds.{IsTable, frame-size, frame-finds, batch-finds, other-finds, ports-find, forgotten-finds, elsewhere-finds, vacant-finds, vacant-nothing}
 use Rattle.vale_parts.proofs.SwitchPairs.{found-port}
 use Rattle.vale_parts.proofs.PairsKept.{world-paired}
 
@@ -204,3 +204,9 @@ sizes_kept w switch (PutKept at offered) entries size = size
 sizes_kept w switch (Get at back) entries size = size
 sizes_kept w switch (Watch monitor target sides) entries size = size
 sizes_kept w switch (Stat at) entries size = size
+
+pub frames_learned : FramesAreLearned
+frames_learned ports sender pairs entries frame size up finds = frame-finds ports sender pairs entries frame size up finds
+
+pub taken_back : LearningIsTakenBack
+taken_back ports pairs switch entries address port size finds = subst (FindsPairs ports pairs switch) (sym (restoring_undoes_learning entries address port size)) finds

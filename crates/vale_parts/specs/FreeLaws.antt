@@ -29,3 +29,8 @@ abbrev pub FinishesCanGive : Type 0
 FinishesCanGive = (pool : ℕ) (history : List Entry) (entry : Entry) (port : PortId) (bufs : List ℕ) (chain : Chain) (state : PoolState) (given : List Buffer) → IsLegal pool history
     → Follows (standing_of pool history) entry → entry.ask ≡ Finish port bufs chain → state.buffers ≡ pool → FreeAre (holdings_of pool history) state
     → indices_of given ≡ buffers_of_port port.0 (holdings_of pool history).ports ++ bufs → CanAllBeGiven state given
+
+-- no entry changes how many buffers the pool was made of
+abbrev pub PoolsKeepTheirSize : Type 0
+PoolsKeepTheirSize = (pool : ℕ) (history : List Entry) (entry : Entry) (state next : PoolState) → Follows (standing_of pool history) entry
+    → IsPoolAfter (holdings_of pool history) entry.ask entry.reply state next → next.buffers ≡ state.buffers

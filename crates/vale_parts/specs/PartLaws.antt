@@ -23,7 +23,7 @@ PartsFollow = (pool : ℕ) (history : List Entry) (entry : Entry) (parts next : 
 
 -- and at first, where all buffers are free, they are empty
 abbrev pub EmptyPartsAreFirst : Type 0
-EmptyPartsAreFirst = (pool : ℕ) (free : PoolState) → FreeAre (holdings_of pool []) free
+EmptyPartsAreFirst = (pool : ℕ) (free : PoolState) → FreeAre (holdings_of pool []) free → free.buffers ≡ pool
     → PartsAre (world_of pool []) (holdings_of pool []) (record { names = []; tables = []; watches = []; tally = []; free = free })
 
 -- tables stay but for a Send and a Shut, which change that of their port's switch alone

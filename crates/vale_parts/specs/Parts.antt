@@ -29,6 +29,7 @@ pub record PartsAre (w : World) (x : Holdings) (parts : Parts) : Type 0 where
   pub watches_are : WatchesAre w parts.watches
   pub counts_are : CountsAre w parts.tally
   pub free_are : FreeAre x parts.free
+  pub pool_is : parts.free.buffers ≡ w.pool
 
 -- what an entry makes of each
 pub record ArePartsAfter (w : World) (x : Holdings) (ask : Ask) (reply : Reply) (parts next : Parts) : Type 0 where

@@ -2,14 +2,21 @@
 use Rattle.std.specs.Prelude.{ℕ, ◌≡◌, true, false, List, [], ◌∷◌, ◌++◌, length, Some}
 use Rattle.std.specs.List.{list_any}
 use Rattle.nm_types.specs.declared.id.PortId.{PortId}
-use Rattle.vale_learn.specs.AddressTable.{Entries, no_stations}
+use Rattle.vale_learn.specs.AddressTable.{Entries, no_stations, restored, entry_of}
+use Rattle.vale_learn.specs.AddressTable.{learned as table_learned}
+use Rattle.nm_types.specs.Frames.{Frame}
+use Rattle.nm_types.specs.Names.{switch_of}
+use Rattle.nm_types.specs.declared.id.Mac.{Mac}
+use Rattle.vale_batch.specs.Looking.{learned_from}
 use Rattle.vale_learn.specs.AddressTable.{port_of_address as table_port}
 use Rattle.vale_entry.specs.declared.entry.Ask.{Ask}
-use Rattle.vale_entry.specs.World.{World, Port, open_port}
+use Rattle.vale_entry.specs.World.{World, Port, Pair, open_port, is_open}
+use Rattle.vale_entry.specs.Learning.{learned}
+use Rattle.vale_parts.specs.Ids.{port_id}
 use Rattle.vale_entry.specs.declared.entry.Entry.{Entry}
 use Rattle.vale_entry.specs.Legal.{standing_of, world_of, Follows}
 use Rattle.vale_parts.specs.SwitchPorts.{ArePairsOf, is_open_on}
-use Rattle.vale_parts.specs.Tables.{Finds, FindsNothing, table_after}
+use Rattle.vale_parts.specs.Tables.{FindsPairs, Finds, FindsNothing, table_after}
 
 -- each pair is of a port of the pair's switch, as long as that port is there
 abbrev pub PairsAreOfSwitch : Type 0
@@ -49,3 +56,13 @@ FreshTablesAreTables = length no_stations ≡ 1024
 
 abbrev pub TablesKeepTheirSize : Type 0
 TablesKeepTheirSize = (w : World) (switch : List ℕ) (ask : Ask) (entries : Entries) → length entries ≡ 1024 → length (table_after w switch ask entries) ≡ 1024
+
+-- one frame that a port of the switch sends
+abbrev pub FramesAreLearned : Type 0
+FramesAreLearned = (ports : List Port) (sender : Port) (pairs : List Pair) (entries : Entries) (frame : Frame) → length entries ≡ 1024 → is_open ports sender.id ≡ true
+    → FindsPairs ports pairs (switch_of sender.name) entries → FindsPairs ports (learned sender pairs frame) (switch_of sender.name) (learned_from (port_id sender.id) entries frame)
+
+-- what was learned may be taken back, from what the entry held before
+abbrev pub LearningIsTakenBack : Type 0
+LearningIsTakenBack = (ports : List Port) (pairs : List Pair) (switch : List ℕ) (entries : Entries) (address : Mac) (port : PortId) → length entries ≡ 1024
+    → FindsPairs ports pairs switch entries → FindsPairs ports pairs switch (restored (table_learned entries address port) address (entry_of entries address.0))

@@ -13,7 +13,7 @@ ghost use Rattle.vale_parts.specs.CountLaws.{ShuttingPortsAreCounted, NextPortsA
 ghost use Rattle.vale_parts.specs.CountLaws.{AsManyAreCounted, NothingIsAdded, NowhereIsAdded};
 ghost use Rattle.vale_parts.specs.CountLaws.{SumsFit, AdditionsFit};
 ghost use Rattle.vale_parts.specs.FreeLaws.{FreeFollow, FreeAreCounted, OpeningsAreCut};
-ghost use Rattle.vale_parts.specs.FreeLaws.{FinishesCanGive};
+ghost use Rattle.vale_parts.specs.FreeLaws.{FinishesCanGive, PoolsKeepTheirSize};
 ghost use Rattle.vale_parts.specs.NameLaws.{NamesFollow, OpeningsAreAnswered, NamesFindPorts};
 ghost use Rattle.vale_parts.specs.NameLaws.{NamesFindPeers, OpeningsAreUndone, OpeningsHaveRoom};
 ghost use Rattle.vale_parts.specs.OfferLaws.{OffersFollow, FirstWantsAreNext, NoWantIsLeft};
@@ -25,7 +25,8 @@ ghost use Rattle.vale_parts.specs.SwitchTableLaws.{FreshTablesAreAdded};
 ghost use Rattle.vale_parts.specs.TableLaws.{PairsAreOfSwitch, TablesFollow, EmptyTablesServe};
 ghost use Rattle.vale_parts.specs.TableLaws.{LastPortsEmptyTables, FoundPortsAreOpen};
 ghost use Rattle.vale_parts.specs.TableLaws.{FreshTablesFindNothing, FreshTablesAreTables};
-ghost use Rattle.vale_parts.specs.TableLaws.{TablesKeepTheirSize};
+ghost use Rattle.vale_parts.specs.TableLaws.{TablesKeepTheirSize, FramesAreLearned};
+ghost use Rattle.vale_parts.specs.TableLaws.{LearningIsTakenBack};
 ghost use Rattle.vale_parts.specs.WatchLaws.{WatchesFollow, WatchedAreWatched};
 
 /// A pair's port, as long as it is there, is of the pair's switch.
@@ -87,6 +88,7 @@ pub fn free_buffers_follow()
     ensures count { FreeAreCounted }
     ensures cut { OpeningsAreCut }
     ensures give { FinishesCanGive }
+    ensures size { PoolsKeepTheirSize }
 {}
 
 /// Names, with one more for each opening, marked by each Shut and without that of each Finish, are
@@ -145,12 +147,14 @@ pub fn offers_start()
 {}
 
 /// What a table finds is an open port of its switch. A fresh table finds nothing, and each table
-/// keeps its size.
+/// keeps its size. It learns one frame as the pairs do, and what it learned is taken back.
 pub fn tables_are_sound()
     ensures found { FoundPortsAreOpen }
     ensures fresh { FreshTablesFindNothing }
     ensures size { FreshTablesAreTables }
     ensures kept { TablesKeepTheirSize }
+    ensures frame { FramesAreLearned }
+    ensures back { LearningIsTakenBack }
 {}
 
 /// The tables of all switches that have a port follow each entry. The table of a switch that has

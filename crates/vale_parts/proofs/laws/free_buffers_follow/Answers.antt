@@ -1,4 +1,4 @@
-use Rattle.vale_parts.proofs.FreeKept.{free_follow, free_counted, openings_cut, finishes_give}
+use Rattle.vale_parts.proofs.FreeKept.{free_follow, free_counted, openings_cut, finishes_give, size_kept}
 use Rattle.vale_parts.proofs.laws.free_buffers_follow.Goals as goal
 
 pub returns-clause-follow : goal.returns-clause-follow
@@ -12,3 +12,6 @@ returns-clause-cut c = openings_cut
 
 pub returns-clause-give : goal.returns-clause-give
 returns-clause-give c = finishes_give
+
+pub returns-clause-size : goal.returns-clause-size
+returns-clause-size c = size_kept
