@@ -162,14 +162,14 @@ index_by size b true e some =
 index_by size b false e some = absurd (omega (arith, some))
 
 -- each is of the pool, and is neither free nor given twice
-abbrev AreApart : List ℕ → List ℕ → ℕ → Type 0
+abbrev pub AreApart : List ℕ → List ℕ → ℕ → Type 0
 AreApart given free size = (b : ℕ) → count_of b given + count_of b free ≤ cond (is_buffer_index size b) 1 0
 
 at_most_one : (t : Bool) → cond {A = ℕ} t 1 0 ≤ 1
 at_most_one true = omega arith
 at_most_one false = omega arith
 
-can_give : (size : ℕ) (given : List Buffer) (state : PoolState) → state.buffers ≡ size → AreApart (indices_of given) (indices_of state.free) size → CanAllBeGiven state given
+pub can_give : (size : ℕ) (given : List Buffer) (state : PoolState) → state.buffers ≡ size → AreApart (indices_of given) (indices_of state.free) size → CanAllBeGiven state given
 can_give size [] state is apart = tt
 can_give size (buf ∷ bufs) state is apart =
     let own : (buf.index == buf.index) ≡ true = eq-eqb buf.index buf.index refl in
@@ -259,7 +259,7 @@ finishes_give pool h e at bufs chain state given legal follows asks size are is 
 
 -- ---- how many there are
 
-with_all_size : (bufs : List Buffer) (state : PoolState) → (pool_with_all bufs state).buffers ≡ state.buffers
+pub with_all_size : (bufs : List Buffer) (state : PoolState) → (pool_with_all bufs state).buffers ≡ state.buffers
 with_all_size [] state = refl
 with_all_size (b ∷ bs) state = with_all_size bs (pool_with b state)
 

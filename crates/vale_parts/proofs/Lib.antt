@@ -21,3 +21,4 @@ pub mod NameRoom
 pub mod AllTables
 pub mod AllParts
 pub mod Additions
+pub mod TakenBack

@@ -9,7 +9,7 @@ use Rattle.vale_entry.specs.declared.entry.Entry.{Entry}
 use Rattle.vale_entry.specs.World.{free_count}
 use Rattle.vale_entry.specs.Holdings.{Holdings, buffers_of_port}
 use Rattle.vale_entry.specs.Legal.{standing_of, world_of, holdings_of, IsLegal, Follows}
-use Rattle.vale_parts.specs.FreeBuffers.{FreeAre, IsPoolAfter, AreCut, CanAllBeGiven}
+use Rattle.vale_parts.specs.FreeBuffers.{FreeAre, IsPoolAfter, AreCut, CanAllBeGiven, pool_less, pool_with_all}
 
 abbrev pub FreeFollow : Type 0
 FreeFollow = (pool : ℕ) (history : List Entry) (entry : Entry) (state next : PoolState) → Follows (standing_of pool history) entry → FreeAre (holdings_of pool history) state
@@ -34,3 +34,12 @@ FinishesCanGive = (pool : ℕ) (history : List Entry) (entry : Entry) (port : Po
 abbrev pub PoolsKeepTheirSize : Type 0
 PoolsKeepTheirSize = (pool : ℕ) (history : List Entry) (entry : Entry) (state next : PoolState) → Follows (standing_of pool history) entry
     → IsPoolAfter (holdings_of pool history) entry.ask entry.reply state next → next.buffers ≡ state.buffers
+
+-- what was taken can be given back, one by one, and then nothing has changed
+pub record IsTakenBack (state : PoolState) (count : ℕ) : Type 0 where
+  pub can : CanAllBeGiven (pool_less count state) (take count state.free)
+  pub same : pool_with_all (take count state.free) (pool_less count state) ≡ state
+
+abbrev pub TakenIsGivenBack : Type 0
+TakenIsGivenBack = (pool : ℕ) (history : List Entry) (state : PoolState) (count : ℕ) → IsLegal pool history → state.buffers ≡ pool → FreeAre (holdings_of pool history) state
+    → IsTakenBack state count

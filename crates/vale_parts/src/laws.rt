@@ -13,7 +13,7 @@ ghost use Rattle.vale_parts.specs.CountLaws.{ShuttingPortsAreCounted, NextPortsA
 ghost use Rattle.vale_parts.specs.CountLaws.{AsManyAreCounted, NothingIsAdded, NowhereIsAdded};
 ghost use Rattle.vale_parts.specs.CountLaws.{SumsFit, AdditionsFit};
 ghost use Rattle.vale_parts.specs.FreeLaws.{FreeFollow, FreeAreCounted, OpeningsAreCut};
-ghost use Rattle.vale_parts.specs.FreeLaws.{FinishesCanGive, PoolsKeepTheirSize};
+ghost use Rattle.vale_parts.specs.FreeLaws.{FinishesCanGive, PoolsKeepTheirSize, TakenIsGivenBack};
 ghost use Rattle.vale_parts.specs.NameLaws.{NamesFollow, OpeningsAreAnswered, NamesFindPorts};
 ghost use Rattle.vale_parts.specs.NameLaws.{NamesFindPeers, OpeningsAreUndone, OpeningsHaveRoom};
 ghost use Rattle.vale_parts.specs.OfferLaws.{OffersFollow, FirstWantsAreNext, NoWantIsLeft};
@@ -187,4 +187,9 @@ pub fn replies_are_told()
     ensures sends { SendsAreReplied }
     ensures reads { ReadsAreReplied }
     ensures puts { PutsAreReplied }
+{}
+
+/// Buffers that were taken can be given back, one by one, and then nothing has changed.
+pub fn what_is_taken_is_given_back()
+    ensures { TakenIsGivenBack }
 {}
