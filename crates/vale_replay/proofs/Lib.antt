@@ -1,0 +1,5 @@
+pub mod Numbers
+pub mod Turns
+pub mod Units
+pub mod Legal
+pub mod OneHistory

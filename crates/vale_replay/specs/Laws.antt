@@ -1,0 +1,67 @@
+-- Laws of the histories that play a script, as statements.
+use Rattle.std.specs.Prelude.{ℕ, ◌≡◌, ◌≤◌, ◌↔◌, ◌⊎◌, List, ◌∷◌, ◌++◌, take, Some}
+use Rattle.std.specs.List.{AllByRecursion}
+use Rattle.vale_entry.specs.declared.entry.Ask.{Ask}
+use Rattle.vale_entry.specs.declared.entry.Entry.{Entry}
+use Rattle.vale_entry.specs.Legal.{IsLegal, standing_of}
+use Rattle.vale_script.specs.declared.script.Unit.{Unit as Part}
+use Rattle.vale_script.specs.declared.script.Unit.TheVariants as parts
+use Rattle.vale_script.specs.Script.{Program}
+use Rattle.vale_replay.specs.Machine.{Machine}
+use Rattle.vale_replay.specs.Replay.{Replays, ReplaysUser, ComesTo, entry_made, last_of}
+
+-- a script without blocks
+abbrev pub IsLine : Part → Type 0
+IsLine (parts.Single line) = Unit {0}
+IsLine (parts.Block lines) = ⊥
+
+abbrev pub HasNoBlock : Program → Type 0
+HasNoBlock program = AllByRecursion IsLine program.units
+
+-- at most one history plays a script without blocks
+abbrev pub PlaysOneHistory : Type 0
+PlaysOneHistory = (program : Program) (captures : List (List (List ℕ))) (history other : List Entry) → HasNoBlock program
+    → Replays program captures history → Replays program captures other → history ≡ other
+
+-- the history begins with these entries, and the next one is the one that a call makes
+pub record BeginsWith (pool : ℕ) (history part : List Entry) (call : Ask) : Type 0 where
+  pub entry : Entry
+  pub rest : List Entry
+  pub joined : history ≡ part ++ entry ∷ rest
+  pub made : entry_made (standing_of pool part) call ≡ Some entry
+
+-- what is under way is the beginning of the history that plays, and the call that comes next makes its
+-- next entry
+abbrev pub UnderWayIsBeginning : Type 0
+UnderWayIsBeginning = (program : Program) (captures : List (List (List ℕ))) (history part : List Entry) (user : ℕ) (call : Ask) → HasNoBlock program
+    → Replays program captures history → ComesTo program captures part user call → BeginsWith program.pool history part call
+
+-- of two histories under way one is the beginning of the other, or they are one and come to one call
+abbrev pub UnderWayIsOne : Type 0
+UnderWayIsOne = (program : Program) (captures : List (List (List ℕ))) (part other : List Entry) (user : ℕ) (call : Ask) (next_user : ℕ) (next : Ask) → HasNoBlock program
+    → ComesTo program captures part user call → ComesTo program captures other next_user next
+    → ((part ≡ other) × (call ≡ next)) ⊎ (BeginsWith program.pool part other next ⊎ BeginsWith program.pool other part call)
+
+-- each entry of a history that plays a script is the one that its ask makes
+abbrev pub PlayedIsLegal : Type 0
+PlayedIsLegal = (program : Program) (captures : List (List (List ℕ))) (history : List Entry) → Replays program captures history → IsLegal program.pool history
+
+-- a user's entries in two pieces, one after the other
+pub record GoBetween (pool : ℕ) (history : List Entry) (before : Machine) (numbers others : List ℕ) (after : Machine) : Type 0 where
+  pub between : Machine
+  pub front : ReplaysUser pool history before numbers between
+  pub back : ReplaysUser pool history between others after
+
+abbrev pub PiecesAreOne : Type 0
+PiecesAreOne = (pool : ℕ) (history : List Entry) (before : Machine) (numbers others : List ℕ) (after : Machine)
+    → ReplaysUser pool history before (numbers ++ others) after → GoBetween pool history before numbers others after
+
+-- what a user's entries say is read in the history up to the last of them
+abbrev pub ReadsToItsLast : Type 0
+ReadsToItsLast = (pool : ℕ) (history : List Entry) (count : ℕ) (before : Machine) (numbers : List ℕ) (after : Machine) → last_of numbers ≤ count
+    → ReplaysUser pool history before numbers after ↔ ReplaysUser pool (take count history) before numbers after
+
+-- the states to which a history brings its users are theirs alone
+abbrev pub StatesAreOne : Type 0
+StatesAreOne = (pool : ℕ) (history : List Entry) (before : Machine) (numbers : List ℕ) (after other : Machine)
+    → ReplaysUser pool history before numbers after → ReplaysUser pool history before numbers other → after ≡ other

@@ -1,0 +1,70 @@
+-- The five owners of a buffer while a script is played: the pool, a lease, the kernel side of a ring, a slot
+-- of a user, the list of a port's extra buffers.
+use Rattle.std.specs.Prelude.{ℕ, not, ◌==◌, ◌≡◌, ◌≤◌, if◌then◌else◌, List, [], ◌∷◌, ◌++◌, length, map, filter, flat_map, replicate, count_by, take, Option, Some, None}
+use Rattle.std.specs.List.{range_with_len}
+use Rattle.nm_types.specs.declared.id.Side.TheVariants.{Tx}
+use Rattle.nm_types.specs.Positions.{is_user_slot}
+use Rattle.nm_types.specs.OwnPorts.{OwnRing, OwnPort, buffer_in}
+use Rattle.vale_entry.specs.declared.entry.Entry.{Entry}
+use Rattle.vale_entry.specs.World.{Port, Lot}
+use Rattle.vale_entry.specs.Holdings.{PortBuffers, is_buffer_index}
+use Rattle.vale_entry.specs.Legal.{Standing, standing_of}
+use Rattle.vale_script.specs.Script.{Program}
+use Rattle.vale_replay.specs.Machine.{Machine}
+use Rattle.vale_replay.specs.Replay.{IsUnderWay}
+
+pub data Owner : Type 0 where
+  Pool : Owner
+  Lease : Owner
+  KernelSlot : Owner
+  UserSlot : Owner
+  ExtraList : Owner
+
+-- an owner once for each time that the buffer stands in its list
+abbrev pub times_in : ℕ → List ℕ → ℕ
+times_in b buffers = count_by (λ x. x == b) buffers
+
+abbrev pub owner_of_each : ℕ → Owner → List ℕ → List Owner
+owner_of_each b owner buffers = replicate (times_in b buffers) owner
+
+-- a lot's buffers are its lease's until it is done, and then the kernel side's
+abbrev pub owners_of_lots : ℕ → List Lot → List (List ℕ) → List Owner
+owners_of_lots b [] buffers = []
+owners_of_lots b (lot ∷ lots) [] = []
+owners_of_lots b (lot ∷ lots) (held ∷ buffers) = owner_of_each b (if lot.is_done then KernelSlot else Lease) held ++ owners_of_lots b lots buffers
+
+-- the kernel side of a port's receive ring
+abbrev pub owners_at : ℕ → List Port → List PortBuffers → List Owner
+owners_at b [] helds = []
+owners_at b (port ∷ ports) [] = []
+owners_at b (port ∷ ports) (held ∷ helds) = (owner_of_each b KernelSlot held.idle ++ owners_of_lots b port.line held.lots) ++ owners_at b ports helds
+
+-- the places of a transmit ring: those of the user, and the others
+abbrev pub user_places : OwnRing → List ℕ
+user_places r = map (buffer_in Tx r) (filter (is_user_slot r.ring) (range_with_len 0 r.ring.size))
+
+abbrev pub kernel_places : OwnRing → List ℕ
+kernel_places r = map (buffer_in Tx r) (filter (λ at. not (is_user_slot r.ring at)) (range_with_len 0 r.ring.size))
+
+abbrev pub owners_of_tx : ℕ → Option OwnRing → List Owner
+owners_of_tx b None = []
+owners_of_tx b (Some r) = owner_of_each b UserSlot (user_places r) ++ owner_of_each b KernelSlot (kernel_places r)
+
+abbrev pub owners_of_port : ℕ → OwnPort → List Owner
+owners_of_port b p = owners_of_tx b p.tx ++ (owner_of_each b UserSlot p.rx.held ++ owner_of_each b ExtraList p.extra)
+
+abbrev pub owners_of_user : ℕ → Machine → List Owner
+owners_of_user b user = flat_map (owners_of_port b) user.own.ports
+
+abbrev pub owners_of : Standing → List Machine → ℕ → List Owner
+owners_of s users b = owner_of_each b Pool s.holdings.free ++ (owners_at b s.world.ports s.holdings.ports ++ flat_map (owners_of_user b) users)
+
+-- each buffer of the pool has just one owner, and no other index has any
+abbrev pub IsOwnedOnce : ℕ → Standing → List Machine → Type 0
+IsOwnedOnce pool s users = (b : ℕ) → length (owners_of s users b) ≡ (if is_buffer_index pool b then 1 else 0)
+
+-- Before each entry of a history that plays a script, and after the last one, each buffer has one owner:
+-- the state at each place is that of some users on their way.
+abbrev pub AreOwnedOnce : Program → List (List (List ℕ)) → List Entry → Type 0
+AreOwnedOnce program captures history = (count : ℕ) → count ≤ length history
+    → (nows : List Machine) × (IsUnderWay program captures (take count history) nows × IsOwnedOnce program.pool (standing_of program.pool (take count history)) nows)
