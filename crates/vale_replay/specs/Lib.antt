@@ -5,3 +5,4 @@ pub mod Owners
 pub mod Replay
 pub mod Saved
 pub mod Tasks
+pub mod Rows
