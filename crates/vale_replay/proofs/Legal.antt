@@ -10,8 +10,9 @@ use Rattle.vale_entry.specs.Legal.{Standing, Outcome, step, kept_ask, recorded_s
 use Rattle.vale_entry.proofs.Counting.{count_of, count_of-cons, count_of-append}
 use Rattle.vale_entry.proofs.KeptPuts.{puts-kept}
 use Rattle.vale_entry.proofs.Worlds.{legal-push}
+use Rattle.vale_script.specs.Script.{Program}
 use Rattle.vale_replay.specs.Machine.{Machine}
-use Rattle.vale_replay.specs.Replay.{Share, TakesTurn, TakesTurns, ReplaysUser, ReplaysUnit, ReplaysUnits, EachShare, times_among, entry_by, entry_made, standing_before, starting, units_of, users_of}
+use Rattle.vale_replay.specs.Replay.{TakesTurn, TakesTurns, ReplaysShare, ReplaysUnit, ReplaysUnits, EachShare, AreSplit, HasPlayed, Reaches, ScriptUnit, times_among, entry_by, entry_made, standing_before, starting, units_of, users_of}
 use Rattle.vale_replay.specs.Laws.{PlayedIsLegal}
 
 -- the entry that an ask makes follows
@@ -80,8 +81,8 @@ one-or_others pool h b ns lists some one others = by_here (cases_lt 0 (count_of 
     by_here (inl here) = one (omega (arith, here))
     by_here (inr none) = others (omega (arith, all, none, some))
 
-shares-follow : (pool : ℕ) (h : List Entry) (b : ℕ) (users : List Machine) (unit : List Share) (lists : List (List ℕ)) (afters : List Machine)
-    → EachShare (ReplaysUser pool h) users unit lists afters → 1 ≤ times_among b lists → FollowsAt pool h b
+shares-follow : (pool : ℕ) (h : List Entry) (b : ℕ) (users : List Machine) (unit : ScriptUnit) (lists : List (List ℕ)) (afters : List Machine)
+    → EachShare (ReplaysShare pool h) users unit lists afters → 1 ≤ times_among b lists → FollowsAt pool h b
 shares-follow pool h b users [] [] [] each some = absurd (omega (arith, some))
 shares-follow pool h b users (share ∷ shares) (ns ∷ lists) (after ∷ afters) each some =
     one-or_others pool h b ns lists some (turns-follow pool h b (starting share each.0.0) ns after each.0.2.turns) (shares-follow pool h b users shares lists afters each.1)
@@ -90,15 +91,19 @@ shares-follow pool h b users [] (ns ∷ lists) afters each some = absurd each
 shares-follow pool h b users (share ∷ shares) [] afters each some = absurd each
 shares-follow pool h b users (share ∷ shares) (ns ∷ lists) [] each some = absurd each
 
-unit-follows : (pool : ℕ) (h : List Entry) (users : List Machine) (first : ℕ) (unit : List Share) (next : List Machine) (last b : ℕ) → ReplaysUnit pool h users first unit next last
-    → first < b → b ≤ last → FollowsAt pool h b
-unit-follows pool h users first unit next last b one up down =
+split-follows : (pool : ℕ) (h : List Entry) (users : List Machine) (first : ℕ) (unit : ScriptUnit) (lists : List (List ℕ)) (afters : List Machine) (last b : ℕ)
+    → AreSplit first last lists → EachShare (ReplaysShare pool h) users unit lists afters → first < b → b ≤ last → FollowsAt pool h b
+split-follows pool h users first unit lists afters last b split each up down =
     let low : nat_lt first b ≡ true = lt-ltb first b up in
     let high : nat_le b last ≡ true = le-leb b last down in
-    let once : times_among b one.lists ≡ 1 = one.split b ∙ ap (λ (x : Bool). cond (x && nat_le b last) 1 0) low ∙ ap (λ (x : Bool). cond x 1 0) high in
-    shares-follow pool h b users unit one.lists one.afters one.replays (omega (arith, once))
+    let once : times_among b lists ≡ 1 = split b ∙ ap (λ (x : Bool). cond (x && nat_le b last) 1 0) low ∙ ap (λ (x : Bool). cond x 1 0) high in
+    shares-follow pool h b users unit lists afters each (omega (arith, once))
 
-units-follow : (pool : ℕ) (h : List Entry) (users : List Machine) (first : ℕ) (units : List (List Share)) (next : List Machine) (last b : ℕ) → ReplaysUnits pool h users first units next last
+unit-follows : (pool : ℕ) (h : List Entry) (users : List Machine) (first : ℕ) (unit : ScriptUnit) (next : List Machine) (last b : ℕ) → ReplaysUnit pool h users first unit next last
+    → first < b → b ≤ last → FollowsAt pool h b
+unit-follows pool h users first unit next last b one up down = split-follows pool h users first unit one.lists one.afters last b one.split one.replays up down
+
+units-follow : (pool : ℕ) (h : List Entry) (users : List Machine) (first : ℕ) (units : List ScriptUnit) (next : List Machine) (last b : ℕ) → ReplaysUnits pool h users first units next last
     → first < b → b ≤ last → FollowsAt pool h b
 units-follow pool h users first [] next last b all up down = let is : last ≡ first = all.1 in absurd (omega (arith, is, up, down))
 units-follow pool h users first (unit ∷ units) next last b all up down =
@@ -127,8 +132,18 @@ legal-to pool h each (suc n) within =
     let before = legal-to pool h each n (omega (arith, within)) in
     subst (IsLegal pool) (sym (take-one_more h n here.entry there)) (legal-push pool (take n h) here.entry before follows)
 
+reached-follows : (program : Program) (captures : List (List (List ℕ))) (h : List Entry) (nows : List Machine) → Reaches program captures h nows
+    → (b : ℕ) → 0 < b → b ≤ length h → FollowsAt program.pool h b
+reached-follows program captures h nows r b up down = by_unit (cases_lt r.first b)
+  where
+    by_unit : (r.first < b) ⊎ (b ≤ r.first) → FollowsAt program.pool h b
+    by_unit (inl later) = split-follows program.pool h r.users r.first r.unit r.lists r.afters (length h) b r.split r.replays later down
+    by_unit (inr here) = units-follow program.pool h (users_of program) 0 (take r.count (units_of program captures)) r.users r.first b r.units up here
+
 pub played-legal : PlayedIsLegal
-played-legal program captures h one =
-    let all = one.played.units in
-    subst (IsLegal program.pool) (take_all (length h) h (omega arith))
-    (legal-to program.pool h (λ b up down. units-follow program.pool h (users_of program) 0 (units_of program captures) one.users (length h) b all up down) (length h) (omega arith))
+played-legal program captures h nows way =
+    subst (IsLegal program.pool) (take_all (length h) h (omega arith)) (legal-to program.pool h (by_way way) (length h) (omega arith))
+  where
+    by_way : HasPlayed program captures h nows ⊎ Reaches program captures h nows → (b : ℕ) → 0 < b → b ≤ length h → FollowsAt program.pool h b
+    by_way (inl one) = λ b up down. units-follow program.pool h (users_of program) 0 (units_of program captures) nows (length h) b one.units up down
+    by_way (inr r) = reached-follows program captures h nows r

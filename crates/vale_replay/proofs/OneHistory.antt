@@ -10,7 +10,7 @@ use Rattle.vale_entry.specs.Arrivals.{arrivals_of}
 use Rattle.vale_entry.specs.Legal.{Standing, standing_of}
 use Rattle.vale_script.specs.Script.{Program}
 use Rattle.vale_replay.specs.Machine.{Machine, next_call, resting, answered}
-use Rattle.vale_replay.specs.Replay.{Share, standing_before, entry_made, TakesTurn, TakesTurns, ReplaysUser, ReplaysUnits, EachShare, ComesTo, is_share_of, with_afters, starting, units_of, users_of}
+use Rattle.vale_replay.specs.Replay.{UnitShare, ScriptUnit, standing_before, entry_made, TakesTurn, TakesTurns, ReplaysShare, ReplaysUnits, EachShare, ComesTo, is_share_of, with_afters, starting, units_of, users_of}
 use Rattle.vale_replay.specs.Laws.{HasNoBlock, PlaysOneHistory, BeginsWith, UnderWayIsBeginning, UnderWayIsOne}
 use Rattle.vale_replay.proofs.Turns.{some-same, entry-same}
 use Rattle.vale_replay.proofs.Units.{Alone, AloneUnits, alone_share, alone-units, alone-so_far, numbers_between, shares_in, units-alone, take-alone, unit-at}
@@ -86,7 +86,7 @@ pub record SameUnits (h k : List Entry) (next next' : List Machine) (last last' 
   pub last_is : last ≡ last'
   pub taken : take last h ≡ take last k
 
-unit-same : (pool : ℕ) (h k : List Entry) (users : List Machine) (first : ℕ) (unit : Share) (next next' : List Machine) (last last' : ℕ) → take first h ≡ take first k
+unit-same : (pool : ℕ) (h k : List Entry) (users : List Machine) (first : ℕ) (unit : UnitShare) (next next' : List Machine) (last last' : ℕ) → take first h ≡ take first k
     → Alone pool h users first unit next last → Alone pool k users first unit next' last' → SameUnits h k next next' last last'
 unit-same pool h k users first unit next next' last last' same one other =
     let before : one.before ≡ other.before = some-same one.before other.before (sym one.here ∙ other.here) in
@@ -104,7 +104,7 @@ unit-same pool h k users first unit next next' last last' same one other =
       taken = subst (λ (n : ℕ). take n h ≡ take n k) ends t.taken;
     }
 
-units-same : (pool : ℕ) (h k : List Entry) (users : List Machine) (first : ℕ) (units : List Share) (next next' : List Machine) (last last' : ℕ) → take first h ≡ take first k
+units-same : (pool : ℕ) (h k : List Entry) (users : List Machine) (first : ℕ) (units : ScriptUnit) (next next' : List Machine) (last last' : ℕ) → take first h ≡ take first k
     → AloneUnits pool h users first units next last → AloneUnits pool k users first units next' last' → SameUnits h k next next' last last'
 units-same pool h k users first [] next next' last last' same one other =
     record { next_is = one.0 ∙ sym other.0; last_is = one.1 ∙ sym other.1; taken = subst (λ (n : ℕ). take n h ≡ take n k) (sym one.1) same }
@@ -119,7 +119,7 @@ script-units : (program : Program) (captures : List (List (List ℕ))) (h : List
     → ReplaysUnits program.pool h (users_of program) 0 (units_of program captures) users last → AloneUnits program.pool h (users_of program) 0 (shares_in program captures) users last
 script-units program captures h users last lines units =
     alone-units program.pool h (users_of program) 0 (shares_in program captures) users last
-    (subst (λ (us : List (List Share)). ReplaysUnits program.pool h (users_of program) 0 us users last) (units-alone program captures lines) units)
+    (subst (λ (us : List ScriptUnit). ReplaysUnits program.pool h (users_of program) 0 us users last) (units-alone program captures lines) units)
 
 pub plays-one : PlaysOneHistory
 plays-one program captures h k lines one other =
@@ -174,14 +174,14 @@ turns-begin pool h k first (suc count) (suc count') m after now call same one ot
     (subst (λ (n : ℕ). call-at pool (take n h) after ≡ None) more ended) (subst (λ (n : ℕ). call-at pool (take n k) now ≡ Some call) more' called) in
     (rest.0, (subst (λ (n : ℕ). slice_get h n ≡ Some rest.0) (sym more') rest.1.0, (subst (λ (n : ℕ). entry_made (standing_of pool (take n k)) call ≡ Some rest.0) (sym more') rest.1.1.0, subst (λ (n : ℕ). take n h ≡ take n k) (sym more') rest.1.1.1)))
 
-units-begin : (pool : ℕ) (h k : List Entry) (users : List Machine) (first : ℕ) (units : List Share) (next : List Machine) (last count : ℕ) (unit : Share) (between : List Machine) (from : ℕ) (before now : Machine) (call : Ask)
+units-begin : (pool : ℕ) (h k : List Entry) (users : List Machine) (first : ℕ) (units : ScriptUnit) (next : List Machine) (last count : ℕ) (unit : UnitShare) (between : List Machine) (from : ℕ) (before now : Machine) (call : Ask)
     → take first h ≡ take first k → AloneUnits pool h users first units next last → slice_get units count ≡ Some unit → AloneUnits pool k users first (take count units) between from
     → slice_get between (unit.user - 1) ≡ Some before → from ≤ length k → TakesTurns pool k (starting unit before) (numbers_between from (length k)) now → call-at pool k now ≡ Some call
     → BeginsWith pool h k call
 units-begin pool h k users first [] next last count unit between from before now call same one there other here up turns called = absurd cc
 units-begin pool h k users first (u ∷ units) next last zero unit between from before now call same one there other here up turns called =
     let is : u ≡ unit = some-same u unit there in
-    let r : Alone pool h users first unit one.0 one.1.0 = subst (λ (x : Share). Alone pool h users first x one.0 one.1.0) is one.1.1.0 in
+    let r : Alone pool h users first unit one.0 one.1.0 = subst (λ (x : UnitShare). Alone pool h users first x one.0 one.1.0) is one.1.1.0 in
     let same_before : r.before ≡ before = some-same r.before before (sym r.here ∙ ap (λ (us : List Machine). slice_get us (unit.user - 1)) (sym other.0) ∙ here) in
     let front = r.forward in
     let from_is : from ≡ first = other.1 in
@@ -199,9 +199,9 @@ units-begin pool h k users first (u ∷ units) next last (suc count) unit betwee
     units-begin pool h k one.0 one.1.0 units next last count unit between from before now call s.taken one.1.1.1 there back here up turns called
 
 -- what is under way in a script without blocks: units of one user each, and the user of the next one
-record OnItsWay (pool : ℕ) (users : List Machine) (shares : List Share) (h : List Entry) (call : Ask) : Type 0 where
+record OnItsWay (pool : ℕ) (users : List Machine) (shares : ScriptUnit) (h : List Entry) (call : Ask) : Type 0 where
   count : ℕ
-  share : Share
+  share : UnitShare
   there : slice_get shares count ≡ Some share
   between : List Machine
   from : ℕ
@@ -218,7 +218,7 @@ set-here [] n old new now here there = absurd cc
 set-here (u ∷ users) zero old new now here there = some-same new now there
 set-here (u ∷ users) (suc n) old new now here there = set-here users n old new now here there
 
-user-is : (user : ℕ) (share : Share) → list_any (is_share_of user) (share ∷ []) ≡ true → share.user ≡ user
+user-is : (user : ℕ) (share : UnitShare) → list_any (is_share_of user) (share ∷ []) ≡ true → share.user ≡ user
 user-is user share e = eqb-true share.user user (by_here (share.user == user) e)
   where
     by_here : (b : Bool) → (b || false) ≡ true → b ≡ true
@@ -230,14 +230,14 @@ on-its-way : (program : Program) (captures : List (List (List ℕ))) (h : List E
 on-its-way program captures h user call lines comes =
     let r = comes.reached in
     let units = units-alone program captures lines in
-    let at = unit-at (shares_in program captures) r.count r.unit (ap (λ (us : List (List Share)). slice_get us r.count) (sym units) ∙ r.there) in
+    let at = unit-at (shares_in program captures) r.count r.unit (ap (λ (us : List ScriptUnit). slice_get us r.count) (sym units) ∙ r.there) in
     let taken : take r.count (units_of program captures) ≡ map alone_share (take r.count (shares_in program captures)) =
     ap (take r.count) units ∙ take-alone r.count (shares_in program captures) in
     let so_far = alone-so_far program.pool h r.users r.first (length h) at.share r.lists r.afters r.forward r.split
-    (subst (λ (u : List Share). EachShare (ReplaysUser program.pool h) r.users u r.lists r.afters) at.is r.replays) in
-    let is : at.share.user ≡ user = user-is user at.share (ap (λ (u : List Share). list_any (is_share_of user) u) (sym at.is) ∙ comes.of_unit) in
+    (subst (λ (u : ScriptUnit). EachShare (ReplaysShare program.pool h) r.users u r.lists r.afters) at.is r.replays) in
+    let is : at.share.user ≡ user = user-is user at.share (ap (λ (u : ScriptUnit). list_any (is_share_of user) u) (sym at.is) ∙ comes.of_unit) in
     let nows : comes.nows ≡ slice_set r.users (at.share.user - 1) so_far.after =
-    r.nows_are ∙ ap (λ (u : List Share). with_afters u r.afters r.users) at.is ∙ ap (λ (ms : List Machine). with_afters (at.share ∷ []) ms r.users) so_far.afters_are in
+    r.nows_are ∙ ap (λ (u : ScriptUnit). with_afters u r.afters r.users) at.is ∙ ap (λ (ms : List Machine). with_afters (at.share ∷ []) ms r.users) so_far.afters_are in
     let found : slice_get (slice_set r.users (at.share.user - 1) so_far.after) (at.share.user - 1) ≡ Some comes.now =
     ap (λ (us : List Machine). slice_get us (at.share.user - 1)) (sym nows) ∙ ap (λ n. slice_get comes.nows (n - 1)) is ∙ comes.here in
     let now : so_far.after ≡ comes.now = set-here r.users (at.share.user - 1) so_far.before so_far.after comes.now so_far.here found in
@@ -248,7 +248,7 @@ on-its-way program captures h user call lines comes =
       between = r.users;
       from = r.first;
       units = alone-units program.pool h (users_of program) 0 (take r.count (shares_in program captures)) r.users r.first
-          (subst (λ (us : List (List Share)). ReplaysUnits program.pool h (users_of program) 0 us r.users r.first) taken r.units);
+          (subst (λ (us : List ScriptUnit). ReplaysUnits program.pool h (users_of program) 0 us r.users r.first) taken r.units);
       before = so_far.before;
       here = so_far.here;
       within = r.forward;
@@ -300,13 +300,13 @@ turns-two pool h k first (suc count) (suc count') m now now' call next all all' 
     (subst (λ (x : Machine). TakesTurns pool k x (range_with_len (first + 1 + 1) count') now') (sym t.after_is) other.1.1) called called'
 
 -- a unit whose user still has a call, against one that is whole
-unit-begins : (pool : ℕ) (h k : List Entry) (users next : List Machine) (first last : ℕ) (unit : Share) (before now : Machine) (call : Ask) → take first h ≡ take first k → Alone pool h users first unit next last
+unit-begins : (pool : ℕ) (h k : List Entry) (users next : List Machine) (first last : ℕ) (unit : UnitShare) (before now : Machine) (call : Ask) → take first h ≡ take first k → Alone pool h users first unit next last
     → slice_get users (unit.user - 1) ≡ Some before → first ≤ length k → TakesTurns pool k (starting unit before) (numbers_between first (length k)) now → call-at pool k now ≡ Some call
     → BeginsWith pool h k call
 unit-begins pool h k users next first last unit before now call same whole here up turns called =
     units-begin pool h k users first (unit ∷ []) next last 0 unit users first before now call same (next, (last, (whole, (refl, refl)))) refl (refl, refl) here up turns called
 
-units-two : (pool : ℕ) (h k : List Entry) (users : List Machine) (first : ℕ) (units : List Share) (count count' : ℕ) (unit unit' : Share) (between between' : List Machine) (from from' : ℕ) (before before' now now' : Machine) (call next : Ask)
+units-two : (pool : ℕ) (h k : List Entry) (users : List Machine) (first : ℕ) (units : ScriptUnit) (count count' : ℕ) (unit unit' : UnitShare) (between between' : List Machine) (from from' : ℕ) (before before' now now' : Machine) (call next : Ask)
     → take first h ≡ take first k
     → slice_get units count ≡ Some unit → AloneUnits pool h users first (take count units) between from → slice_get between (unit.user - 1) ≡ Some before → from ≤ length h → TakesTurns pool h (starting unit before) (numbers_between from (length h)) now → call-at pool h now ≡ Some call
     → slice_get units count' ≡ Some unit' → AloneUnits pool k users first (take count' units) between' from' → slice_get between' (unit'.user - 1) ≡ Some before' → from' ≤ length k → TakesTurns pool k (starting unit' before') (numbers_between from' (length k)) now' → call-at pool k now' ≡ Some next
@@ -314,22 +314,22 @@ units-two : (pool : ℕ) (h k : List Entry) (users : List Machine) (first : ℕ)
 units-two pool h k users first [] count count' unit unit' between between' from from' before before' now now' call next same there one here up turns called there' other here' up' turns' called' = absurd cc
 units-two pool h k users first (u ∷ units) zero zero unit unit' between between' from from' before before' now now' call next same there one here up turns called there' other here' up' turns' called' =
     let is : unit ≡ unit' = some-same unit unit' (sym there ∙ there') in
-    let same_before : before ≡ before' = some-same before before' (sym here ∙ ap (λ (us : List Machine). slice_get us (unit.user - 1)) (one.0 ∙ sym other.0) ∙ ap (λ (x : Share). slice_get between' (x.user - 1)) is ∙ here') in
+    let same_before : before ≡ before' = some-same before before' (sym here ∙ ap (λ (us : List Machine). slice_get us (unit.user - 1)) (one.0 ∙ sym other.0) ∙ ap (λ (x : UnitShare). slice_get between' (x.user - 1)) is ∙ here') in
     let from_is : from ≡ first = one.1 in
     let from_is' : from' ≡ first = other.1 in
     turns-two pool h k first (length h - first) (length k - first) (starting unit before) now now' call next (omega (arith, up, from_is)) (omega (arith, up', from_is')) same
     (subst (λ (n : ℕ). TakesTurns pool h (starting unit before) (numbers_between n (length h)) now) from_is turns)
-    (subst (λ (m : Machine). TakesTurns pool k (starting unit m) (numbers_between first (length k)) now') (sym same_before) (subst (λ (x : Share). TakesTurns pool k (starting x before') (numbers_between first (length k)) now') (sym is) (subst (λ (n : ℕ). TakesTurns pool k (starting unit' before') (numbers_between n (length k)) now') from_is' turns')))
+    (subst (λ (m : Machine). TakesTurns pool k (starting unit m) (numbers_between first (length k)) now') (sym same_before) (subst (λ (x : UnitShare). TakesTurns pool k (starting x before') (numbers_between first (length k)) now') (sym is) (subst (λ (n : ℕ). TakesTurns pool k (starting unit' before') (numbers_between n (length k)) now') from_is' turns')))
     called called'
 units-two pool h k users first (u ∷ units) zero (suc count') unit unit' between between' from from' before before' now now' call next same there one here up turns called there' other here' up' turns' called' =
     let is : u ≡ unit = some-same u unit there in
     let from_is : from ≡ first = one.1 in
-    inr (inr (unit-begins pool k h users other.0 first other.1.0 unit before now call (sym same) (subst (λ (x : Share). Alone pool k users first x other.0 other.1.0) is other.1.1.0)
+    inr (inr (unit-begins pool k h users other.0 first other.1.0 unit before now call (sym same) (subst (λ (x : UnitShare). Alone pool k users first x other.0 other.1.0) is other.1.1.0)
     (ap (λ (us : List Machine). slice_get us (unit.user - 1)) (sym one.0) ∙ here) (omega (arith, up, from_is)) (subst (λ (n : ℕ). TakesTurns pool h (starting unit before) (numbers_between n (length h)) now) from_is turns) called))
 units-two pool h k users first (u ∷ units) (suc count) zero unit unit' between between' from from' before before' now now' call next same there one here up turns called there' other here' up' turns' called' =
     let is : u ≡ unit' = some-same u unit' there' in
     let from_is : from' ≡ first = other.1 in
-    inr (inl (unit-begins pool h k users one.0 first one.1.0 unit' before' now' next same (subst (λ (x : Share). Alone pool h users first x one.0 one.1.0) is one.1.1.0)
+    inr (inl (unit-begins pool h k users one.0 first one.1.0 unit' before' now' next same (subst (λ (x : UnitShare). Alone pool h users first x one.0 one.1.0) is one.1.1.0)
     (ap (λ (us : List Machine). slice_get us (unit'.user - 1)) (sym other.0) ∙ here') (omega (arith, up', from_is)) (subst (λ (n : ℕ). TakesTurns pool k (starting unit' before') (numbers_between n (length k)) now') from_is turns') called'))
 units-two pool h k users first (u ∷ units) (suc count) (suc count') unit unit' between between' from from' before before' now now' call next same there one here up turns called there' other here' up' turns' called' =
     let s = unit-same pool h k users first u one.0 other.0 one.1.0 other.1.0 same one.1.1.0 other.1.1.0 in

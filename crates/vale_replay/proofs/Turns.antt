@@ -9,7 +9,7 @@ use Rattle.vale_entry.specs.Laws.{Rise}
 use Rattle.vale_entry.specs.Legal.{Standing, standing_of}
 use Rattle.vale_replay.specs.Machine.{Machine, next_call, answered, resting}
 use Rattle.vale_replay.specs.Replay.{TakesTurn, TakesTurns, ReplaysUser, standing_before, entry_made, last_of, last_behind}
-use Rattle.vale_replay.specs.Laws.{PiecesAreOne, ReadsToItsLast, StatesAreOne}
+use Rattle.vale_replay.specs.Laws.{PiecesAreOne, ReadsToItsLast, StatesAreOne, GoBetween}
 use Rattle.vale_replay.proofs.Numbers.{rise-front, rise-back, rise-cut, rise-last, rise-within}
 
 pub some-same : {X : Type 0} (x y : X) → Some x ≡ Some y → x ≡ y
@@ -50,14 +50,25 @@ turns-split pool h before (n ∷ ns) ms after turns =
     let rest = turns-split pool h turns.0 ns ms after turns.1.1 in
     record { between = rest.between; front = (turns.0, (turns.1.0, rest.front)); back = rest.back }
 
+turns-append : (pool : ℕ) (h : List Entry) (before : Machine) (ns ms : List ℕ) (between after : Machine) → TakesTurns pool h before ns between → TakesTurns pool h between ms after
+    → TakesTurns pool h before (ns ++ ms) after
+turns-append pool h before [] ms between after front back = subst (λ (m : Machine). TakesTurns pool h m ms after) front back
+turns-append pool h before (n ∷ ns) ms between after front back = (front.0, (front.1.0, turns-append pool h front.0 ns ms between after front.1.1 back))
+
 pub pieces-one : PiecesAreOne
-pieces-one pool h before ns ms after replays =
-    let cut = turns-split pool h before ns ms after replays.turns in
-    record {
-      between = cut.between;
-      front = record { rise = rise-front 0 ns ms (length h) replays.rise; turns = cut.front };
-      back = record { rise = rise-back 0 ns ms (length h) replays.rise; turns = cut.back };
-    }
+pieces-one pool h before ns ms after rise = (cut, join)
+  where
+    cut : ReplaysUser pool h before (ns ++ ms) after → GoBetween pool h before ns ms after
+    cut replays =
+        let parts = turns-split pool h before ns ms after replays.turns in
+        record {
+          between = parts.between;
+          front = record { rise = rise-front 0 ns ms (length h) replays.rise; turns = parts.front };
+          back = record { rise = rise-back 0 ns ms (length h) replays.rise; turns = parts.back };
+        }
+
+    join : GoBetween pool h before ns ms after → ReplaysUser pool h before (ns ++ ms) after
+    join both = record { rise = rise; turns = turns-append pool h before ns ms both.between after both.front.turns both.back.turns }
 
 -- What is read of a history.
 

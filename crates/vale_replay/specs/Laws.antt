@@ -1,17 +1,18 @@
 -- Laws of the histories that play a script, as statements.
-use Rattle.std.specs.Prelude.{ℕ, ◌≡◌, ◌≤◌, ◌↔◌, ◌⊎◌, List, ◌∷◌, ◌++◌, take, Some}
+use Rattle.std.specs.Prelude.{ℕ, ◌≡◌, ◌≤◌, ◌↔◌, ◌⊎◌, List, ◌∷◌, ◌++◌, take, Some, length}
 use Rattle.std.specs.List.{AllByRecursion}
 use Rattle.vale_entry.specs.declared.entry.Ask.{Ask}
 use Rattle.vale_entry.specs.declared.entry.Entry.{Entry}
+use Rattle.vale_entry.specs.Laws.{Rise}
 use Rattle.vale_entry.specs.Legal.{IsLegal, standing_of}
-use Rattle.vale_script.specs.declared.script.Unit.{Unit as Part}
+use Rattle.vale_script.specs.declared.script.Unit.{Unit as ReadUnit}
 use Rattle.vale_script.specs.declared.script.Unit.TheVariants as parts
 use Rattle.vale_script.specs.Script.{Program}
 use Rattle.vale_replay.specs.Machine.{Machine}
-use Rattle.vale_replay.specs.Replay.{Replays, ReplaysUser, ComesTo, entry_made, last_of}
+use Rattle.vale_replay.specs.Replay.{Replays, ReplaysUser, IsUnderWay, ComesTo, entry_made, last_of}
 
 -- a script without blocks
-abbrev pub IsLine : Part → Type 0
+abbrev pub IsLine : ReadUnit → Type 0
 IsLine (parts.Single line) = Unit {0}
 IsLine (parts.Block lines) = ⊥
 
@@ -42,9 +43,9 @@ UnderWayIsOne = (program : Program) (captures : List (List (List ℕ))) (part ot
     → ComesTo program captures part user call → ComesTo program captures other next_user next
     → ((part ≡ other) × (call ≡ next)) ⊎ (BeginsWith program.pool part other next ⊎ BeginsWith program.pool other part call)
 
--- each entry of a history that plays a script is the one that its ask makes
+-- each entry of a history that plays a script, or is under way, is the one that its ask makes
 abbrev pub PlayedIsLegal : Type 0
-PlayedIsLegal = (program : Program) (captures : List (List (List ℕ))) (history : List Entry) → Replays program captures history → IsLegal program.pool history
+PlayedIsLegal = (program : Program) (captures : List (List (List ℕ))) (history : List Entry) (nows : List Machine) → IsUnderWay program captures history nows → IsLegal program.pool history
 
 -- a user's entries in two pieces, one after the other
 pub record GoBetween (pool : ℕ) (history : List Entry) (before : Machine) (numbers others : List ℕ) (after : Machine) : Type 0 where
@@ -53,8 +54,8 @@ pub record GoBetween (pool : ℕ) (history : List Entry) (before : Machine) (num
   pub back : ReplaysUser pool history between others after
 
 abbrev pub PiecesAreOne : Type 0
-PiecesAreOne = (pool : ℕ) (history : List Entry) (before : Machine) (numbers others : List ℕ) (after : Machine)
-    → ReplaysUser pool history before (numbers ++ others) after → GoBetween pool history before numbers others after
+PiecesAreOne = (pool : ℕ) (history : List Entry) (before : Machine) (numbers others : List ℕ) (after : Machine) → Rise 0 (numbers ++ others) (length history)
+    → ReplaysUser pool history before (numbers ++ others) after ↔ GoBetween pool history before numbers others after
 
 -- what a user's entries say is read in the history up to the last of them
 abbrev pub ReadsToItsLast : Type 0

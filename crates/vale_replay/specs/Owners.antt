@@ -1,13 +1,15 @@
 -- The five owners of a buffer while a script is played: the pool, a lease, the kernel side of a ring, a slot
 -- of a user, the list of a port's extra buffers.
 use Rattle.std.specs.Prelude.{ℕ, not, ◌==◌, ◌≡◌, ◌≤◌, if◌then◌else◌, List, [], ◌∷◌, ◌++◌, length, map, filter, flat_map, replicate, count_by, take, Option, Some, None}
-use Rattle.std.specs.List.{range_with_len}
+use Rattle.std.specs.List.{range_with_len, AllByRecursion}
+use Rattle.std.specs.Option.{option_map_or}
+use Rattle.nm_types.specs.declared.id.SessionId.{SessionId}
 use Rattle.nm_types.specs.declared.id.Side.TheVariants.{Tx}
 use Rattle.nm_types.specs.Positions.{is_user_slot}
-use Rattle.nm_types.specs.OwnPorts.{OwnRing, OwnPort, buffer_in}
+use Rattle.nm_types.specs.OwnPorts.{OwnRing, OwnPort, buffer_in, buffers_in}
 use Rattle.vale_entry.specs.declared.entry.Entry.{Entry}
 use Rattle.vale_entry.specs.World.{Port, Lot}
-use Rattle.vale_entry.specs.Holdings.{PortBuffers, is_buffer_index}
+use Rattle.vale_entry.specs.Holdings.{PortBuffers, is_buffer_index, buffers_of_session}
 use Rattle.vale_entry.specs.Legal.{Standing, standing_of}
 use Rattle.vale_script.specs.Script.{Program}
 use Rattle.vale_replay.specs.Machine.{Machine}
@@ -59,12 +61,23 @@ owners_of_user b user = flat_map (owners_of_port b) user.own.ports
 abbrev pub owners_of : Standing → List Machine → ℕ → List Owner
 owners_of s users b = owner_of_each b Pool s.holdings.free ++ (owners_at b s.world.ports s.holdings.ports ++ flat_map (owners_of_user b) users)
 
--- each buffer of the pool has just one owner, and no other index has any
-abbrev pub IsOwnedOnce : ℕ → Standing → List Machine → Type 0
-IsOwnedOnce pool s users = (b : ℕ) → length (owners_of s users b) ≡ (if is_buffer_index pool b then 1 else 0)
+-- the buffers in a user's places are those that its session holds
+abbrev pub buffers_in_places : Machine → List ℕ
+buffers_in_places user = flat_map buffers_in user.own.ports
 
--- Before each entry of a history that plays a script, and after the last one, each buffer has one owner:
--- the state at each place is that of some users on their way.
-abbrev pub AreOwnedOnce : Program → List (List (List ℕ)) → List Entry → Type 0
-AreOwnedOnce program captures history = (count : ℕ) → count ≤ length history
-    → (nows : List Machine) × (IsUnderWay program captures (take count history) nows × IsOwnedOnce program.pool (standing_of program.pool (take count history)) nows)
+abbrev pub buffers_of_user : Standing → Machine → List ℕ
+buffers_of_user s user = option_map_or (λ (session : SessionId). buffers_of_session s.holdings.sessions session.0) user.session []
+
+abbrev pub HoldsItsOwn : Standing → Machine → Type 0
+HoldsItsOwn s user = (b : ℕ) → times_in b (buffers_in_places user) ≡ times_in b (buffers_of_user s user)
+
+-- each buffer of the pool has just one owner, and no other index has any
+pub record AreOwnedOnce (pool : ℕ) (s : Standing) (users : List Machine) : Type 0 where
+  pub once : (b : ℕ) → length (owners_of s users b) ≡ (if is_buffer_index pool b then 1 else 0)
+  pub own : AllByRecursion (HoldsItsOwn s) users
+
+-- before each entry of a history that plays a script, and after the last one, wherever its users are on
+-- their way
+abbrev pub AreAlwaysOwnedOnce : Program → List (List (List ℕ)) → List Entry → Type 0
+AreAlwaysOwnedOnce program captures history = (count : ℕ) (nows : List Machine) → count ≤ length history → IsUnderWay program captures (take count history) nows
+    → AreOwnedOnce program.pool (standing_of program.pool (take count history)) nows

@@ -1,7 +1,7 @@
 -- The histories that play a script: each user's entries are the calls of its machine, one after another;
 -- the units of the script (its lines, its blocks, and then the closing of each user) have consecutive
 -- ranges of entries, and each entry of a block's range is of one of its users.
-use Rattle.std.specs.Prelude.{ℕ, Bool, true, ◌⊎◌, ◌&&◌, ◌==◌, ◌≡◌, ◌-◌, ◌≤◌, nat_le, nat_lt, if◌then◌else◌, List, [], ◌∷◌, ◌++◌, length, map, filter, flat_map, take, slice_get, slice_set, count_by, Option, Some, None, option_map}
+use Rattle.std.specs.Prelude.{ℕ, Bool, true, ◌⊎◌, ◌&&◌, ◌==◌, ◌≡◌, ◌-◌, ◌<◌, ◌≤◌, nat_le, nat_lt, if◌then◌else◌, List, [], ◌∷◌, ◌++◌, length, map, filter, flat_map, take, slice_get, slice_set, count_by, Option, Some, None, option_map}
 use Rattle.std.specs.List.{range_with_len, list_any, AllByRecursion}
 use Rattle.nm_types.specs.declared.id.SessionId.{SessionId}
 use Rattle.vale_entry.specs.declared.entry.Ask.{Ask}
@@ -12,7 +12,7 @@ use Rattle.vale_entry.specs.Arrivals.{arrivals_of}
 use Rattle.vale_entry.specs.Legal.{Standing, Outcome, kept_ask, step, standing_of}
 use Rattle.vale_script.specs.declared.script.Act.{Act}
 use Rattle.vale_script.specs.declared.script.Line.{Line}
-use Rattle.vale_script.specs.declared.script.Unit.{Unit as Part}
+use Rattle.vale_script.specs.declared.script.Unit.{Unit as ReadUnit}
 use Rattle.vale_script.specs.declared.script.Unit.TheVariants as parts
 use Rattle.vale_script.specs.Script.{Program}
 use Rattle.vale_replay.specs.Tasks.{Task, records_of, tasks_of_lines}
@@ -69,19 +69,23 @@ last_behind number (next ∷ numbers) = last_behind next numbers
 abbrev pub last_of : List ℕ → ℕ
 last_of numbers = last_behind 0 numbers
 
--- a user plays its lines by these entries: after the last of them it needs no call more
+-- a user plays its lines by these entries: after the last of them it has nothing to do and needs no call
 pub record PlaysUser (pool : ℕ) (history : List Entry) (before : Machine) (numbers : List ℕ) (after : Machine) : Type 0 where
   pub replays : ReplaysUser pool history before numbers after
+  pub no_task : after.tasks ≡ []
   pub ended : NeedsNoCall pool (take (last_of numbers) history) after
 
 -- The units of a script.
 
 -- what a unit has one of its users do
-pub record Share : Type 0 where
+pub record UnitShare : Type 0 where
   pub user : ℕ
   pub tasks : Machine → List Task
 
-abbrev pub share_of : (List ℕ → List (List ℕ)) → ℕ → List Act → Share
+abbrev pub ScriptUnit : Type 0
+ScriptUnit = List UnitShare
+
+abbrev pub share_of : (List ℕ → List (List ℕ)) → ℕ → List Act → UnitShare
 share_of records user acts = record { user = user; tasks = λ (machine : Machine). tasks_of_lines records acts }
 
 abbrev pub is_of_user : ℕ → Line → Bool
@@ -97,11 +101,11 @@ abbrev pub has_line : List Line → ℕ → Bool
 has_line lines user = list_any (is_of_user user) lines
 
 -- a block has a share for each user that has lines in it
-abbrev pub shares_of : (List ℕ → List (List ℕ)) → ℕ → Part → List Share
+abbrev pub shares_of : (List ℕ → List (List ℕ)) → ℕ → ReadUnit → ScriptUnit
 shares_of records users (parts.Single line) = share_of records line.user (line.act ∷ []) ∷ []
 shares_of records users (parts.Block lines) = map (λ user. share_of records user (acts_of lines user)) (filter (has_line lines) (range_with_len 1 users))
 
-abbrev pub closing_unit : ℕ → List Share
+abbrev pub closing_unit : ℕ → ScriptUnit
 closing_unit user = record { user = user; tasks = closing_tasks } ∷ []
 
 abbrev pub user_count : Program → ℕ
@@ -109,20 +113,23 @@ user_count program = length program.users
 
 -- the lines and blocks of a script in order, and then the closing of each user; `captures` has, for each
 -- file that it plays, the captured bytes of its records
-abbrev pub units_of : Program → List (List (List ℕ)) → List (List Share)
+abbrev pub units_of : Program → List (List (List ℕ)) → List ScriptUnit
 units_of program captures =
     map (shares_of (records_of program.files captures) (user_count program)) program.units ++ map closing_unit (range_with_len 1 (user_count program))
 
-abbrev pub starting : Share → Machine → Machine
+abbrev pub starting : UnitShare → Machine → Machine
 starting share user = resting (record user { tasks = share.tasks user })
 
 -- a relation for each share, from its user's state at the unit's beginning by its numbers to a state
-abbrev pub EachShare : (Machine → List ℕ → Machine → Type 0) → List Machine → List Share → List (List ℕ) → List Machine → Type 0
+abbrev pub EachShare : (UnitShare → Machine → List ℕ → Machine → Type 0) → List Machine → ScriptUnit → List (List ℕ) → List Machine → Type 0
 EachShare R users [] [] [] = Unit {0}
 EachShare R users (share ∷ shares) (numbers ∷ lists) (after ∷ afters) =
-    ((before : Machine) × (slice_get users (share.user - 1) ≡ Some before) × R (starting share before) numbers after)
-    × EachShare R users shares lists afters
+    ((before : Machine) × (slice_get users (share.user - 1) ≡ Some before) × R share before numbers after) × EachShare R users shares lists afters
 EachShare R users _ _ _ = ⊥
+
+-- a share's user replays its entries from where the share starts
+abbrev pub ReplaysShare : ℕ → List Entry → UnitShare → Machine → List ℕ → Machine → Type 0
+ReplaysShare pool history share before numbers after = ReplaysUser pool history (starting share before) numbers after
 
 -- each number behind the first ones up to the last one stands in just one of the lists, and no other does
 abbrev pub times_among : ℕ → List (List ℕ) → ℕ
@@ -131,25 +138,25 @@ times_among number lists = count_by (λ n. n == number) (flat_map (λ (numbers :
 abbrev pub AreSplit : ℕ → ℕ → List (List ℕ) → Type 0
 AreSplit first last lists = (number : ℕ) → times_among number lists ≡ (if nat_lt first number && nat_le number last then 1 else 0)
 
-abbrev pub with_afters : List Share → List Machine → List Machine → List Machine
+abbrev pub with_afters : ScriptUnit → List Machine → List Machine → List Machine
 with_afters [] afters users = users
 with_afters (share ∷ shares) [] users = users
 with_afters (share ∷ shares) (after ∷ afters) users = with_afters shares afters (slice_set users (share.user - 1) after)
 
 -- a unit's entries are those behind the first ones up to the last one: with them its users have done it,
 -- and none of them needs a call more
-pub record ReplaysUnit (pool : ℕ) (history : List Entry) (users : List Machine) (first : ℕ) (unit : List Share) (next : List Machine) (last : ℕ) : Type 0 where
+pub record ReplaysUnit (pool : ℕ) (history : List Entry) (users : List Machine) (first : ℕ) (unit : ScriptUnit) (next : List Machine) (last : ℕ) : Type 0 where
   pub lists : List (List ℕ)
   pub afters : List Machine
   pub forward : first ≤ last
   pub within : last ≤ length history
   pub split : AreSplit first last lists
-  pub replays : EachShare (ReplaysUser pool history) users unit lists afters
+  pub replays : EachShare (ReplaysShare pool history) users unit lists afters
   pub ended : AllByRecursion (NeedsNoCall pool (take last history)) afters
   pub others : next ≡ with_afters unit afters users
 
 -- units one after another
-abbrev pub ReplaysUnits : ℕ → List Entry → List Machine → ℕ → List (List Share) → List Machine → ℕ → Type 0
+abbrev pub ReplaysUnits : ℕ → List Entry → List Machine → ℕ → List ScriptUnit → List Machine → ℕ → Type 0
 ReplaysUnits pool history users first [] next last = (next ≡ users) × (last ≡ first)
 ReplaysUnits pool history users first (unit ∷ units) next last =
     (between : List Machine) × ((number : ℕ) × (ReplaysUnit pool history users first unit between number × ReplaysUnits pool history between number units next last))
@@ -157,8 +164,13 @@ ReplaysUnits pool history users first (unit ∷ units) next last =
 abbrev pub users_of : Program → List Machine
 users_of program = map (new_machine program.pool) (range_with_len 1 (user_count program))
 
+-- there are records for each file that the script plays
+abbrev pub HasCaptures : Program → List (List (List ℕ)) → Type 0
+HasCaptures program captures = length captures ≡ length program.files
+
 -- the history is that of all units of the script, and has brought its users to these states
 pub record HasPlayed (program : Program) (captures : List (List (List ℕ))) (history : List Entry) (users : List Machine) : Type 0 where
+  pub files : HasCaptures program captures
   pub units : ReplaysUnits program.pool history (users_of program) 0 (units_of program captures) users (length history)
 
 pub record Replays (program : Program) (captures : List (List (List ℕ))) (history : List Entry) : Type 0 where
@@ -168,8 +180,9 @@ pub record Replays (program : Program) (captures : List (List (List ℕ))) (hist
 -- the history is that of some units of the script and of a part of the next one, whose users it has brought
 -- to these states
 pub record Reaches (program : Program) (captures : List (List (List ℕ))) (history : List Entry) (nows : List Machine) : Type 0 where
+  pub files : HasCaptures program captures
   pub count : ℕ
-  pub unit : List Share
+  pub unit : ScriptUnit
   pub there : slice_get (units_of program captures) count ≡ Some unit
   pub users : List Machine
   pub first : ℕ
@@ -178,17 +191,18 @@ pub record Reaches (program : Program) (captures : List (List (List ℕ))) (hist
   pub lists : List (List ℕ)
   pub afters : List Machine
   pub split : AreSplit first (length history) lists
-  pub replays : EachShare (ReplaysUser program.pool history) users unit lists afters
+  pub replays : EachShare (ReplaysShare program.pool history) users unit lists afters
   pub nows_are : nows ≡ with_afters unit afters users
 
 -- a history that need not be at its end, and the states to which it has brought the users
 abbrev pub IsUnderWay : Program → List (List (List ℕ)) → List Entry → List Machine → Type 0
 IsUnderWay program captures history nows = HasPlayed program captures history nows ⊎ Reaches program captures history nows
 
--- the history is under way, and this is the call that a user of the unit under way needs next
-abbrev pub is_share_of : ℕ → Share → Bool
+abbrev pub is_share_of : ℕ → UnitShare → Bool
 is_share_of user share = share.user == user
 
+-- the history is under way, and this is the call that a user of the unit under way needs next; it may be a
+-- Finish that waits for leases
 pub record ComesTo (program : Program) (captures : List (List (List ℕ))) (history : List Entry) (user : ℕ) (call : Ask) : Type 0 where
   pub nows : List Machine
   pub reached : Reaches program captures history nows
@@ -196,3 +210,12 @@ pub record ComesTo (program : Program) (captures : List (List (List ℕ))) (hist
   pub now : Machine
   pub here : slice_get nows (user - 1) ≡ Some now
   pub called : next_call (standing_of program.pool history).world now ≡ Some call
+
+-- of a unit in which a user's call was refused, each user of a smaller number has played its lines
+abbrev pub PlaysIfSmaller : ℕ → List Entry → ℕ → UnitShare → Machine → List ℕ → Machine → Type 0
+PlaysIfSmaller pool history user share before numbers after = share.user < user → PlaysUser pool history (starting share before) numbers after
+
+-- the history up to where the user of the smallest number was refused its call
+pub record StopsAt (program : Program) (captures : List (List (List ℕ))) (history : List Entry) (user : ℕ) (call : Ask) : Type 0 where
+  pub comes : ComesTo program captures history user call
+  pub smallest : EachShare (PlaysIfSmaller program.pool history user) comes.reached.users comes.reached.unit comes.reached.lists comes.reached.afters

@@ -14,7 +14,7 @@ use Rattle.nm_types.specs.Names.{is_name, is_switch_port_name, is_pipe_name, is_
 use Rattle.vale_script.specs.Script.{Program}
 use Rattle.vale_replay.specs.Machine.{Machine, next_call, answered, resting}
 use Rattle.vale_replay.specs.Saved.{SavedFile, saved_files}
-use Rattle.vale_replay.specs.Replay.{Share, entry_made, starting, units_of, users_of}
+use Rattle.vale_replay.specs.Replay.{UnitShare, ScriptUnit, entry_made, starting, units_of, users_of}
 
 -- what stands, and the users
 record Stage : Type 0 where
@@ -38,14 +38,14 @@ with_calls (suc count) s user = with_call (with_calls count) s user (next_call s
 abbrev stage_with : ℕ → List Machine → Standing × Machine → Stage
 stage_with at users (s, user) = record { standing = s; users = slice_set users at user }
 
-abbrev after_user : Stage → Share → Option Machine → Stage
+abbrev after_user : Stage → UnitShare → Option Machine → Stage
 after_user stage share None = stage
 after_user stage share (Some user) = stage_with (share.user - 1) stage.users (with_calls 1000 stage.standing (starting share user))
 
-abbrev after_share : Stage → Share → Stage
+abbrev after_share : Stage → UnitShare → Stage
 after_share stage share = after_user stage share (slice_get stage.users (share.user - 1))
 
-abbrev after_unit : Stage → List Share → Stage
+abbrev after_unit : Stage → ScriptUnit → Stage
 after_unit stage unit = fold after_share stage unit
 
 abbrev stage_after : Program → List (List (List ℕ)) → Stage
@@ -167,3 +167,46 @@ saved_by_script captures (Ok program) = saved_files program (stage_after program
 saved_capture : saved_by_script (capture ∷ []) (script_of playing_script) ≡ (record { file = codes "out.pcap"; frames = record { seconds = 9; fraction = 0; bytes = small_frame } ∷ record { seconds = 9; fraction = 1; bytes = small_frame ++ 1 ∷ [] } ∷ record { seconds = 9; fraction = 2; bytes = small_frame } ∷ [] }) ∷ []
 unfolding verb_of number_in text_of port_name is_hex_byte is_digits frame_bytes is_mac mac_of is_name is_switch_port_name is_pipe_name is_monitor_name switch_of peer_name digits start_line end_line
 saved_capture = refl
+
+abbrev three_frames : List (List ℕ)
+three_frames = small_frame ∷ (small_frame ++ 1 ∷ []) ∷ (small_frame ++ 2 ∷ []) ∷ []
+
+-- A put into a ring of one free slot sends before each further frame, and not behind the last.
+small_ring : transcript_of [] (codes "pool 4\nuser a\nopen a vale0:a 2 2\nput a vale0:a 3 ff:ff:ff:ff:ff:ff 02:00:00:00:00:0a 14 00\n") ≡ codes "vale 1 pool 4\n1 enter 1\n2 1 open vale0:a 2 2 0 = ok\n3 1 send 2 ffffffffffff02000000000a88b5 = short 0 lone 1 to -\n4 1 send 2 ffffffffffff02000000000a88b5 = short 0 lone 1 to -\n5 1 shut 2\n6 1 finish 2 2,3 found 0 astray 0 = unread 0\n7 1 leave\nend 7 free 4\n"
+unfolding verb_of number_in text_of port_name is_hex_byte is_digits frame_bytes is_mac mac_of is_name is_switch_port_name is_pipe_name is_monitor_name switch_of peer_name digits start_line end_line
+small_ring = refl
+
+-- A refused sync ends its line, a put or a capture, and the next line goes on.
+refused_lines : transcript_of (three_frames ∷ []) (codes "pool 4\nuser a\nopen a vale0:a 2 2\nmove a vale0:a tx 5 0\nput a vale0:a 2 ff:ff:ff:ff:ff:ff 02:00:00:00:00:0a 14 00\npoke a vale0:a tx 0 idx 9\nplay a vale0:a f 1\n") ≡ codes "vale 1 pool 4\n1 enter 1\n2 1 open vale0:a 2 2 0 = ok\n3 1 reset 2 tx headout 5 0 1\n4 1 reset 2 tx indexout 0 9\n5 1 shut 2\n6 1 finish 2 2,3 found 0 astray 0 = unread 0\n7 1 leave\nend 7 free 4\n"
+unfolding verb_of number_in text_of port_name is_hex_byte is_digits frame_bytes is_mac mac_of is_name is_switch_port_name is_pipe_name is_monitor_name switch_of peer_name digits start_line end_line
+refused_lines = refl
+
+-- A refused opening, a save of it, and a later port of the name with a chain of extra buffers.
+refused_size : transcript_of [] (codes "pool 7\nuser a\nopen a vale0:a 1 2\nsave a vale0:a g\nclose a vale0:a\nopen a vale0:a 2 2 3\nextra a vale0:a 2 1\n") ≡ codes "vale 1 pool 7\n1 enter 1\n2 1 open vale0:a 1 2 0 = badsize\n3 1 open vale0:a 2 2 3 = ok\n4 1 shut 3\n5 1 finish 3 2,3,6,7,8 found 2 astray 1 = unread 0\n6 1 leave\nend 6 free 7\n"
+unfolding verb_of number_in text_of port_name is_hex_byte is_digits frame_bytes is_mac mac_of is_name is_switch_port_name is_pipe_name is_monitor_name switch_of peer_name digits start_line end_line
+refused_size = refl
+
+-- Frames that nobody took stay pushed and are accepted; the other end takes one of them later.
+pipe_later : transcript_of (three_frames ∷ []) (codes "pool 9\nuser a\nopen a pipe0{ 3 2\nplay a pipe0{ f 1\nmove a pipe0{ tx 0 0\ntx a pipe0{\nput a pipe0{ 3 ff:ff:ff:ff:ff:ff 02:00:00:00:00:0a 14 00\nopen a pipe0} 2 2\ntx a pipe0{\n") ≡ codes "vale 1 pool 9\n1 enter 1\n2 1 open pipe0{ 3 2 0 = ok\n3 1 put 2 1 = peergone\n4 1 reset 2 tx headout 0 1 2\n5 1 put 2 2 = peergone\n6 1 open pipe0} 2 2 0 = ok\n7 1 put 2 2 = took 2:ffffffffffff02000000000a88b5 to -\n8 1 shut 2\n9 1 finish 2 9,3,4 found 0 astray 0 = unread 0\n10 1 shut 6\n11 1 finish 6 7,8 found 0 astray 0 = unread 1\n12 1 leave\nend 12 free 9\n"
+unfolding verb_of number_in text_of port_name is_hex_byte is_digits frame_bytes is_mac mac_of is_name is_switch_port_name is_pipe_name is_monitor_name switch_of peer_name digits start_line end_line
+pipe_later = refl
+
+-- A monitor of a pipe sees what was taken alone.
+pipe_monitor : transcript_of (three_frames ∷ []) (codes "pool 12\nuser a\nopen a pipe0{ 3 2\nopen a pipe0} 2 2\nopen a mon0 0 2\nwatch a mon0 pipe0{ t\nplay a pipe0{ f 3\n") ≡ codes "vale 1 pool 12\n1 enter 1\n2 1 open pipe0{ 3 2 0 = ok\n3 1 open pipe0} 2 2 0 = ok\n4 1 open mon0 0 2 0 = ok\n5 1 watch 4 pipe0{ t = ok 2\n6 1 put 2 2 = took 2:ffffffffffff02000000000a88b5 to 4*1\n7 1 grant 6 4 = given 1 full 0 gone 0\n8 1 done 7\n9 1 put 2 2 = took - to -\n10 1 shut 2\n11 1 finish 2 9,3,4 found 0 astray 0 = unread 0\n12 1 shut 3\n13 1 finish 3 7,8 found 0 astray 0 = unread 1\n14 1 shut 4\n15 1 finish 4 - found 0 astray 0 = unread 1\n16 1 leave\nend 16 free 12\n"
+unfolding verb_of number_in text_of port_name is_hex_byte is_digits frame_bytes is_mac mac_of is_name is_switch_port_name is_pipe_name is_monitor_name switch_of peer_name digits start_line end_line
+pipe_monitor = refl
+
+-- Two slots swapped and sent; a swap without marks is refused then, as the send took the marks away.
+marks_taken : transcript_of [] (codes "pool 5\nuser a\nopen a vale0:a 3 2\nswap a vale0:a tx 0 vale0:a tx 1\nhex a vale0:a ffffffffffff02000000000a88b501\nhex a vale0:a ffffffffffff02000000000a88b502\ntx a vale0:a\nhex a vale0:a 03\ntx a vale0:a\nswap a vale0:a tx 0 vale0:a tx 1 quiet\nhex a vale0:a 04\ntx a vale0:a\n") ≡ codes "vale 1 pool 5\n1 enter 1\n2 1 open vale0:a 3 2 0 = ok\n3 1 send 2 ffffffffffff02000000000a88b501,ffffffffffff02000000000a88b502 = short 0 lone 2 to -\n4 1 send 2 03 = short 1 lone 0 to -\n5 1 reset 2 tx unannounced 0 2 3\n6 1 shut 2\n7 1 finish 2 3,2,4 found 0 astray 0 = unread 0\n8 1 leave\nend 8 free 5\n"
+unfolding verb_of number_in text_of port_name is_hex_byte is_digits frame_bytes is_mac mac_of is_name is_switch_port_name is_pipe_name is_monitor_name switch_of peer_name digits start_line end_line
+marks_taken = refl
+
+-- A receive ring at positions that do not fit, with and without `keep`.
+receive_positions : transcript_of [] (codes "pool 4\nuser a\nopen a vale0:a 2 2\nmove a vale0:a rx 1 1\nrx a vale0:a keep\nmove a vale0:a rx 1 1\nrx a vale0:a\n") ≡ codes "vale 1 pool 4\n1 enter 1\n2 1 open vale0:a 2 2 0 = ok\n3 1 reset 2 rx headout 1 0 0\n4 1 sync 2 - = gave 0 to -\n5 1 shut 2\n6 1 finish 2 2,3 found 0 astray 0 = unread 0\n7 1 leave\nend 7 free 4\n"
+unfolding verb_of number_in text_of port_name is_hex_byte is_digits frame_bytes is_mac mac_of is_name is_switch_port_name is_pipe_name is_monitor_name switch_of peer_name digits start_line end_line
+receive_positions = refl
+
+-- One user with two ports of a switch, grants before completions, and ports closed in order.
+three_ports : transcript_of [] (codes "pool 12\nuser a\nopen a vale0:a 2 2\nopen a vale0:b 2 2\nopen a vale0:c 2 2\nhex a vale0:a ffffffffffff02000000000a88b5\ntx a vale0:a\nrx a vale0:b\nfwd a vale0:b vale0:a 9\ntx a vale0:a\nrx a vale0:b\n") ≡ codes "vale 1 pool 12\n1 enter 1\n2 1 open vale0:a 2 2 0 = ok\n3 1 open vale0:b 2 2 0 = ok\n4 1 open vale0:c 2 2 0 = ok\n5 1 send 2 ffffffffffff02000000000a88b5 = short 0 lone 0 to 3*1,4*1\n6 1 grant 5 3 = given 1 full 0 gone 0\n7 1 done 6\n8 1 grant 5 4 = given 1 full 0 gone 0\n9 1 done 8\n10 1 sync 3 - = gave 1 to -\n11 1 send 2 ffffffffffff02000000000a88b5 = short 0 lone 0 to 3*1,4*1\n12 1 grant 11 3 = given 0 full 1 gone 0\n13 1 grant 11 4 = given 0 full 1 gone 0\n14 1 sync 3 3 = gave 0 to -\n15 1 shut 2\n16 1 finish 2 2,8 found 0 astray 0 = unread 0\n17 1 shut 3\n18 1 finish 3 6,7 found 0 astray 0 = unread 0\n19 1 shut 4\n20 1 finish 4 10,11 found 0 astray 0 = unread 1\n21 1 leave\nend 21 free 12\n"
+unfolding verb_of number_in text_of port_name is_hex_byte is_digits frame_bytes is_mac mac_of is_name is_switch_port_name is_pipe_name is_monitor_name switch_of peer_name digits start_line end_line
+three_ports = refl

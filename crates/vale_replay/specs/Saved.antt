@@ -9,7 +9,7 @@ use Rattle.vale_entry.specs.Delivery.{delivered_frames}
 use Rattle.vale_entry.specs.Delivered.{told}
 use Rattle.vale_script.specs.declared.script.Act.{Act}
 use Rattle.vale_script.specs.declared.script.Act.TheVariants as acts
-use Rattle.vale_script.specs.declared.script.Unit.{Unit as Part}
+use Rattle.vale_script.specs.declared.script.Unit.{Unit as ReadUnit}
 use Rattle.vale_script.specs.declared.script.Unit.TheVariants as parts
 use Rattle.vale_script.specs.Script.{Program}
 use Rattle.vale_replay.specs.Machine.{Machine, Save}
@@ -54,12 +54,12 @@ abbrev pub file_of_save : Act → Option (List ℕ)
 file_of_save (acts.Save name file) = Some file
 file_of_save _ = None
 
-abbrev pub acts_of_part : Part → List Act
-acts_of_part (parts.Single line) = line.act ∷ []
-acts_of_part (parts.Block lines) = map act_of lines
+abbrev pub acts_of_unit : ReadUnit → List Act
+acts_of_unit (parts.Single line) = line.act ∷ []
+acts_of_unit (parts.Block lines) = map act_of lines
 
 abbrev pub files_saved : Program → List (List ℕ)
-files_saved program = filter_map file_of_save (flat_map acts_of_part program.units)
+files_saved program = filter_map file_of_save (flat_map acts_of_unit program.units)
 
 abbrev pub saves_of : List Machine → List Save
 saves_of users = flat_map (λ (user : Machine). user.saves) users

@@ -21,12 +21,12 @@ pub fn under_way_is_one()
     ensures { UnderWayIsOne }
 {}
 
-/// A history that plays a script, with blocks or without, is legal.
+/// A history that plays a script, with blocks or without, is legal, and so is one that is under way.
 pub fn played_is_legal()
     ensures { PlayedIsLegal }
 {}
 
-/// A user's entries in two pieces are the one piece and then the other.
+/// A user's entries in two pieces, one behind the other, are the first piece and then the other.
 pub fn pieces_are_one()
     ensures { PiecesAreOne }
 {}
