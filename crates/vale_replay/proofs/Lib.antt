@@ -3,3 +3,4 @@ pub mod Turns
 pub mod Units
 pub mod Legal
 pub mod OneHistory
+pub mod Others

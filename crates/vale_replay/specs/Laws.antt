@@ -1,14 +1,16 @@
 -- Laws of the histories that play a script, as statements.
-use Rattle.std.specs.Prelude.{ℕ, ◌≡◌, ◌≤◌, ◌↔◌, ◌⊎◌, List, ◌∷◌, ◌++◌, take, Some, length}
+use Rattle.std.specs.Prelude.{ℕ, ◌≡◌, ◌≤◌, ◌↔◌, ◌⊎◌, List, ◌∷◌, ◌++◌, take, Some, length, All}
 use Rattle.std.specs.List.{AllByRecursion}
 use Rattle.vale_entry.specs.declared.entry.Ask.{Ask}
 use Rattle.vale_entry.specs.declared.entry.Entry.{Entry}
 use Rattle.vale_entry.specs.Laws.{Rise}
-use Rattle.vale_entry.specs.Legal.{IsLegal, standing_of}
+use Rattle.vale_entry.specs.Legal.{IsLegal, standing_of, world_of}
 use Rattle.vale_script.specs.declared.script.Unit.{Unit as ReadUnit}
 use Rattle.vale_script.specs.declared.script.Unit.TheVariants as parts
 use Rattle.vale_script.specs.Script.{Program}
-use Rattle.vale_replay.specs.Machine.{Machine}
+use Rattle.nm_types.specs.declared.id.SessionId.{SessionId}
+use Rattle.vale_own.specs.Laws.{IsOfOther}
+use Rattle.vale_replay.specs.Machine.{Machine, next_call}
 use Rattle.vale_replay.specs.Replay.{Replays, ReplaysUser, IsUnderWay, ComesTo, entry_made, last_of}
 
 -- a script without blocks
@@ -66,3 +68,8 @@ ReadsToItsLast = (pool : ℕ) (history : List Entry) (count : ℕ) (before : Mac
 abbrev pub StatesAreOne : Type 0
 StatesAreOne = (pool : ℕ) (history : List Entry) (before : Machine) (numbers : List ℕ) (after other : Machine)
     → ReplaysUser pool history before numbers after → ReplaysUser pool history before numbers other → after ≡ other
+
+-- entries of others leave the call that a user needs next as it is
+abbrev pub OthersChangeNoCall : Type 0
+OthersChangeNoCall = (pool : ℕ) (past more : List Entry) (user : Machine) (session : SessionId) → user.session ≡ Some session → IsLegal pool (past ++ more)
+    → All (IsOfOther session.0) more → next_call (world_of pool (past ++ more)) user ≡ next_call (world_of pool past) user

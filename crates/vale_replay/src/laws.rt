@@ -3,6 +3,7 @@
 
 ghost use Rattle.vale_replay.specs.Laws.{PlaysOneHistory, UnderWayIsBeginning, UnderWayIsOne};
 ghost use Rattle.vale_replay.specs.Laws.{PlayedIsLegal, PiecesAreOne, ReadsToItsLast, StatesAreOne};
+ghost use Rattle.vale_replay.specs.Laws.{OthersChangeNoCall};
 
 /// At most one history plays a script without blocks.
 pub fn plays_one_history()
@@ -40,4 +41,10 @@ pub fn reads_to_its_last()
 /// The state to which a user's entries bring it is one.
 pub fn states_are_one()
     ensures { StatesAreOne }
+{}
+
+/// Entries of others leave the call that a user needs next as it is: what a user does next is told by its
+/// own lines, rings, slots and buffers, and by its session's own offers and leases.
+pub fn others_change_no_call()
+    ensures { OthersChangeNoCall }
 {}
