@@ -4,3 +4,4 @@ pub mod Units
 pub mod Legal
 pub mod OneHistory
 pub mod Others
+pub mod Walks

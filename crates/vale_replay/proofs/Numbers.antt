@@ -1,5 +1,5 @@
 -- Rising numbers: their last one, and that a range is the only rising list of its numbers.
-use Rattle.std.proofs.Common.{Bool, true, false, cond, ℕ, suc, ◌+◌, ◌-◌, ◌<◌, ◌≤◌, ◌≡◌, ◌⊎◌, inl, inr, List, [], ◌∷◌, ◌++◌, refl, sym, ◌∙◌, ap, arith}
+use Rattle.std.proofs.Common.{zero, subst, Bool, true, false, cond, ℕ, suc, ◌+◌, ◌-◌, ◌<◌, ◌≤◌, ◌≡◌, ◌⊎◌, inl, inr, List, [], ◌∷◌, ◌++◌, refl, sym, ◌∙◌, ap, arith}
 use Rattle.std.specs.Prelude.{◌==◌, ◌&&◌, nat_lt, nat_le}
 use Rattle.std.specs.List.{range_with_len}
 use Rattle.std.proofs.lemmas.Bool.{eq-eqb, ne_eqb, cases_lt, lt-ltb, le-ltb, le-leb, lt-leb}
@@ -141,3 +141,59 @@ split-one first last ns high up r split = these-range first last ns high (from-f
             let hit : (m == m) ≡ true = eq-eqb m m refl in
             let front : count_of m (m ∷ ms) ≡ 1 + count_of m ms = count_of-cons m m ms ∙ ap (λ (x : Bool). cond x 1 0 + count_of m ms) hit in
             absurd (omega (arith, zero', front))
+
+-- And back: a range is the list of a unit's only user.
+
+pub rise-past : (low : ℕ) (ns : List ℕ) (high b : ℕ) → Rise low ns high → high < b → count_of b ns ≡ 0
+rise-past low [] high b r past = refl
+rise-past low (n ∷ ns) high b r past =
+    let up = rise-low n ns high r.1 in
+    let miss : (n == b) ≡ false = ne_eqb n b (λ e. omega (arith, up, past, e)) in
+    let rest = rise-past n ns high b r.1 past in
+    rw (count_of-cons b n ns, miss) (omega (arith, rest))
+
+pub range-rises : (low count : ℕ) → Rise low (range_with_len (low + 1) count) (low + count)
+range-rises low zero = omega arith
+range-rises low (suc count) =
+    let next : low + 1 + count ≡ low + suc count = omega arith in
+    (omega arith, subst (λ (high : ℕ). Rise (low + 1) (range_with_len (low + 1 + 1) count) high) next (range-rises (low + 1) count))
+
+range-once : (low count b : ℕ) → low < b → b ≤ low + count → count_of b (range_with_len (low + 1) count) ≡ 1
+range-once low zero b up down = absurd (omega (arith, up, down))
+range-once low (suc count) b up down = by_first (cases_lt (low + 1) b) (range-once (low + 1) count b)
+  where
+    front : count_of b (range_with_len (low + 1) (suc count)) ≡ cond ((low + 1) == b) 1 0 + count_of b (range_with_len (low + 1 + 1) count)
+    front = count_of-cons b (low + 1) (range_with_len (low + 1 + 1) count)
+
+    by_first : (low + 1 < b) ⊎ (b ≤ low + 1) → (low + 1 < b → b ≤ low + 1 + count → count_of b (range_with_len (low + 1 + 1) count) ≡ 1)
+        → count_of b (range_with_len (low + 1) (suc count)) ≡ 1
+    by_first (inl later) rest =
+        let one = rest later (omega (arith, down)) in
+        let miss : ((low + 1) == b) ≡ false = ne_eqb (low + 1) b (λ e. omega (arith, later, e)) in
+        front ∙ ap (λ (x : Bool). cond x 1 0 + count_of b (range_with_len (low + 1 + 1) count)) miss ∙ omega (arith, one)
+    by_first (inr here) rest =
+        let hit : ((low + 1) == b) ≡ true = eq-eqb (low + 1) b (omega (arith, up, here)) in
+        let none = rise-above (low + 1) (range_with_len (low + 1 + 1) count) (low + 1 + count) b (range-rises (low + 1) count) here in
+        front ∙ ap (λ (x : Bool). cond x 1 0 + count_of b (range_with_len (low + 1 + 1) count)) hit ∙ omega (arith, none)
+
+pub range-split : (first count : ℕ) → AreSplit first (first + count) (range_with_len (first + 1) count ∷ [])
+range-split first count b = alone ∙ by_low (cases_lt first b)
+  where
+    alone : count_of b (range_with_len (first + 1) count ++ []) ≡ count_of b (range_with_len (first + 1) count)
+    alone = let all = count_of-append b (range_with_len (first + 1) count) [] in omega (arith, all)
+
+    by_high : first < b → (first + count < b) ⊎ (b ≤ first + count) → count_of b (range_with_len (first + 1) count) ≡ cond (nat_lt first b && nat_le b (first + count)) 1 0
+    by_high up (inl past) =
+        let one : nat_lt first b ≡ true = lt-ltb first b up in
+        let none : nat_le b (first + count) ≡ false = lt-leb b (first + count) past in
+        rw (one, none) (rise-past first (range_with_len (first + 1) count) (first + count) b (range-rises first count) past)
+    by_high up (inr down) =
+        let one : nat_lt first b ≡ true = lt-ltb first b up in
+        let two : nat_le b (first + count) ≡ true = le-leb b (first + count) down in
+        rw (one, two) (range-once first count b up down)
+
+    by_low : (first < b) ⊎ (b ≤ first) → count_of b (range_with_len (first + 1) count) ≡ cond (nat_lt first b && nat_le b (first + count)) 1 0
+    by_low (inl up) = by_high up (cases_lt (first + count) b)
+    by_low (inr below) =
+        let none : nat_lt first b ≡ false = le-ltb first b below in
+        rw none (rise-above first (range_with_len (first + 1) count) (first + count) b (range-rises first count) below)

@@ -134,7 +134,7 @@ turns-cut pool h count low high before (n ∷ ns) after rise within turns =
     let last = rise-last n ns high rise.1 in
     (turns.0, ((turn-cut pool h count before n turns.0 (omega (arith, up)) (omega (arith, last, within))).0 turns.1.0, turns-cut pool h count n high turns.0 ns after rise.1 within turns.1.1))
 
-turns-back : (pool : ℕ) (h : List Entry) (count low high : ℕ) (before : Machine) (ns : List ℕ) (after : Machine) → Rise low ns high → last_behind low ns ≤ count
+pub turns-back : (pool : ℕ) (h : List Entry) (count low high : ℕ) (before : Machine) (ns : List ℕ) (after : Machine) → Rise low ns high → last_behind low ns ≤ count
     → TakesTurns pool (take count h) before ns after → TakesTurns pool h before ns after
 turns-back pool h count low high before [] after rise within turns = turns
 turns-back pool h count low high before (n ∷ ns) after rise within turns =

@@ -5,4 +5,5 @@ pub mod Owners
 pub mod Replay
 pub mod Saved
 pub mod Tasks
+pub mod Walk
 pub mod Rows

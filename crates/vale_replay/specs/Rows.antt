@@ -1,59 +1,23 @@
 -- Worked scripts, each with the transcript of the history that plays it, as theorems that hold by
--- computation. The users of a block run here one after another.
-use Rattle.std.specs.Prelude.{ℕ, ◌≡◌, ◌+◌, ◌-◌, suc, zero, List, [], ◌∷◌, ◌++◌, fold, slice_get, slice_set, Option, Some, None, Result, Ok, Err, codes, refl, replicate}
-use Rattle.vale_entry.specs.declared.entry.Ask.{Ask}
-use Rattle.vale_entry.specs.declared.entry.Entry.{Entry}
-use Rattle.vale_entry.specs.Arrivals.{arrivals_of}
-use Rattle.vale_entry.specs.Legal.{Standing, after, fresh_standing}
+-- computation.
+use Rattle.std.specs.Prelude.{ℕ, ◌≡◌, List, [], ◌∷◌, ◌++◌, Option, Some, None, Result, Ok, Err, codes, refl, replicate}
+use Rattle.std.specs.Fmt.{digits}
+use Rattle.nm_types.specs.Names.{is_name, is_switch_port_name, is_pipe_name, is_monitor_name, switch_of, peer_name}
 use Rattle.vale_entry.specs.Transcript.{transcript_text, start_line, end_line}
 use Rattle.vale_script.specs.Grammar.{Fault, script_of}
 use Rattle.vale_script.specs.Forms.{verb_of}
 use Rattle.vale_script.specs.Words.{number_in, text_of, port_name, is_hex_byte, is_digits, frame_bytes, is_mac, mac_of}
-use Rattle.std.specs.Fmt.{digits}
-use Rattle.nm_types.specs.Names.{is_name, is_switch_port_name, is_pipe_name, is_monitor_name, switch_of, peer_name}
 use Rattle.vale_script.specs.Script.{Program}
-use Rattle.vale_replay.specs.Machine.{Machine, next_call, answered, resting}
 use Rattle.vale_replay.specs.Saved.{SavedFile, saved_files}
-use Rattle.vale_replay.specs.Replay.{UnitShare, ScriptUnit, entry_made, starting, units_of, users_of}
+use Rattle.vale_replay.specs.Walk.{Stage, walk}
 
--- what stands, and the users
-record Stage : Type 0 where
-  standing : Standing
-  users : List Machine
-
--- a user's calls one after another, a thousand at most
-abbrev with_entry : (Standing → Machine → Standing × Machine) → Standing → Machine → Option Entry → Standing × Machine
-with_entry rest s user None = (s, user)
-with_entry rest s user (Some entry) =
-    rest (after s entry) (resting (answered (s.world.entry_count + 1) entry (arrivals_of s entry.ask entry.reply) user))
-
-abbrev with_call : (Standing → Machine → Standing × Machine) → Standing → Machine → Option Ask → Standing × Machine
-with_call rest s user None = (s, user)
-with_call rest s user (Some ask) = with_entry rest s user (entry_made s ask)
-
-abbrev with_calls : ℕ → Standing → Machine → Standing × Machine
-with_calls zero s user = (s, user)
-with_calls (suc count) s user = with_call (with_calls count) s user (next_call s.world user)
-
-abbrev stage_with : ℕ → List Machine → Standing × Machine → Stage
-stage_with at users (s, user) = record { standing = s; users = slice_set users at user }
-
-abbrev after_user : Stage → UnitShare → Option Machine → Stage
-after_user stage share None = stage
-after_user stage share (Some user) = stage_with (share.user - 1) stage.users (with_calls 1000 stage.standing (starting share user))
-
-abbrev after_share : Stage → UnitShare → Stage
-after_share stage share = after_user stage share (slice_get stage.users (share.user - 1))
-
-abbrev after_unit : Stage → ScriptUnit → Stage
-after_unit stage unit = fold after_share stage unit
-
-abbrev stage_after : Program → List (List (List ℕ)) → Stage
-stage_after program captures = fold after_unit (record { standing = fresh_standing program.pool; users = users_of program }) (units_of program captures)
+abbrev transcript_at : ℕ → Option Stage → List ℕ
+transcript_at pool None = []
+transcript_at pool (Some stage) = transcript_text pool stage.standing.past
 
 abbrev transcript_by : List (List (List ℕ)) → Result Program Fault → List ℕ
 transcript_by captures (Err fault) = []
-transcript_by captures (Ok program) = transcript_text program.pool (stage_after program captures).standing.past
+transcript_by captures (Ok program) = transcript_at program.pool (walk 1000 program captures)
 
 -- the transcript of a script that plays these captures
 abbrev transcript_of : List (List (List ℕ)) → List ℕ → List ℕ
@@ -159,9 +123,13 @@ played_capture : transcript_of (capture ∷ []) playing_script ≡ codes "vale 1
 unfolding verb_of number_in text_of port_name is_hex_byte is_digits frame_bytes is_mac mac_of is_name is_switch_port_name is_pipe_name is_monitor_name switch_of peer_name digits start_line end_line
 played_capture = refl
 
+abbrev saved_at_end : Program → Option Stage → List SavedFile
+saved_at_end program None = []
+saved_at_end program (Some stage) = saved_files program stage.standing.past stage.users
+
 abbrev saved_by_script : List (List (List ℕ)) → Result Program Fault → List SavedFile
 saved_by_script captures (Err fault) = []
-saved_by_script captures (Ok program) = saved_files program (stage_after program captures).standing.past (stage_after program captures).users
+saved_by_script captures (Ok program) = saved_at_end program (walk 1000 program captures)
 
 -- What the port gave stands in the file that it saves, each frame with its entry and its place there.
 saved_capture : saved_by_script (capture ∷ []) (script_of playing_script) ≡ (record { file = codes "out.pcap"; frames = record { seconds = 9; fraction = 0; bytes = small_frame } ∷ record { seconds = 9; fraction = 1; bytes = small_frame ++ 1 ∷ [] } ∷ record { seconds = 9; fraction = 2; bytes = small_frame } ∷ [] }) ∷ []

@@ -4,6 +4,7 @@
 ghost use Rattle.vale_replay.specs.Laws.{PlaysOneHistory, UnderWayIsBeginning, UnderWayIsOne};
 ghost use Rattle.vale_replay.specs.Laws.{PlayedIsLegal, PiecesAreOne, ReadsToItsLast, StatesAreOne};
 ghost use Rattle.vale_replay.specs.Laws.{OthersChangeNoCall};
+ghost use Rattle.vale_replay.specs.Walk.{WalksPlay};
 
 /// At most one history plays a script without blocks.
 pub fn plays_one_history()
@@ -47,4 +48,9 @@ pub fn states_are_one()
 /// own lines, rings, slots and buffers, and by its session's own offers and leases.
 pub fn others_change_no_call()
     ensures { OthersChangeNoCall }
+{}
+
+/// The history that a walk through a script without blocks computes, to its end, is the one that plays it.
+pub fn walks_play()
+    ensures { WalksPlay }
 {}
