@@ -1,4 +1,5 @@
--- Each entry of a history that plays a script is the one that its ask makes, so the history is legal.
+-- Each entry of a history that plays a script is the one that its ask makes, so the history is
+-- legal.
 use Rattle.std.proofs.Common.{Bool, true, false, cond, ℕ, zero, suc, ◌+◌, ◌-◌, ◌<◌, ◌≤◌, ◌≡◌, ◌⊎◌, inl, inr, List, [], ◌∷◌, ◌++◌, length, take, slice_get, Option, Some, None, option_map, refl, sym, ◌∙◌, ap, subst, arith}
 use Rattle.std.specs.Prelude.{nat_lt, nat_le, ◌&&◌, ◌==◌, flat_map}
 use Rattle.std.proofs.lemmas.Bool.{eqb-true, cases_lt, cases_Bool, lt-ltb, le-leb}
@@ -14,9 +15,11 @@ use Rattle.vale_script.specs.Script.{Program}
 use Rattle.vale_replay.specs.Machine.{Machine}
 use Rattle.vale_replay.specs.Replay.{TakesTurn, TakesTurns, ReplaysShare, ReplaysUnit, ReplaysUnits, EachShare, AreSplit, HasPlayed, Reaches, ScriptUnit, times_among, entry_by, entry_made, standing_before, starting, units_of, users_of}
 use Rattle.vale_replay.specs.Laws.{PlayedIsLegal}
+use Rattle.vale_replay.specs.Tasks.{Captures}
 
 -- the entry that an ask makes follows
-recorded : (s : Standing) (ask : Ask) (made : Outcome) → step s ask ≡ Some made → recorded_step s (kept_ask ask) made.reply ≡ Some made
+recorded : (s : Standing) (ask : Ask) (made : Outcome) → step s ask ≡ Some made
+    → recorded_step s (kept_ask ask) made.reply ≡ Some made
 recorded s (Enter user) made e = e
 recorded s (Open session name tx rx extra) made e = e
 recorded s (Send port frames) made e = e
@@ -33,14 +36,16 @@ recorded s (Get port back) made e = e
 recorded s (Watch monitor target sides) made e = e
 recorded s (Stat port) made e = e
 
-made-by : (s : Standing) (ask : Ask) (entry : Entry) (made : Option Outcome) → step s ask ≡ made → option_map (entry_by ask) made ≡ Some entry → Follows s entry
+made-by : (s : Standing) (ask : Ask) (entry : Entry) (made : Option Outcome) → step s ask ≡ made
+    → option_map (entry_by ask) made ≡ Some entry → Follows s entry
 made-by s ask entry None e is = absurd cc
 made-by s ask entry (Some made) e is =
     let same : entry_by ask made ≡ entry = cc in
     let here : Follows s (entry_by ask made) = ap (option_map session_and_reply) (recorded s ask made e) in
     subst (λ (x : Entry). Follows s x) same here
 
-pub made-follows : (s : Standing) (ask : Ask) (entry : Entry) → entry_made s ask ≡ Some entry → Follows s entry
+pub made-follows : (s : Standing) (ask : Ask) (entry : Entry) → entry_made s ask ≡ Some entry
+    → Follows s entry
 made-follows s ask entry made = made-by s ask entry (step s ask) refl made
 
 -- an entry that follows what stands before it
@@ -49,11 +54,13 @@ record FollowsAt (pool : ℕ) (h : List Entry) (n : ℕ) : Type 0 where
   there : slice_get h (n - 1) ≡ Some entry
   follows : Follows (standing_before pool h n) entry
 
-turn-follows : (pool : ℕ) (h : List Entry) (before : Machine) (n : ℕ) (after : Machine) → TakesTurn pool h before n after → FollowsAt pool h n
+turn-follows : (pool : ℕ) (h : List Entry) (before : Machine) (n : ℕ) (after : Machine)
+    → TakesTurn pool h before n after → FollowsAt pool h n
 turn-follows pool h before n after turn =
     record { entry = turn.entry; there = turn.there; follows = made-follows (standing_before pool h n) turn.ask turn.entry turn.made }
 
-first-or_rest : (pool : ℕ) (h : List Entry) (b n : ℕ) (ns : List ℕ) → 1 ≤ count_of b (n ∷ ns) → FollowsAt pool h n → (1 ≤ count_of b ns → FollowsAt pool h b) → FollowsAt pool h b
+first-or_rest : (pool : ℕ) (h : List Entry) (b n : ℕ) (ns : List ℕ) → 1 ≤ count_of b (n ∷ ns)
+    → FollowsAt pool h n → (1 ≤ count_of b ns → FollowsAt pool h b) → FollowsAt pool h b
 first-or_rest pool h b n ns some first rest = by_here (cases_Bool (n == b))
   where
     front : count_of b (n ∷ ns) ≡ cond (n == b) 1 0 + count_of b ns
@@ -65,12 +72,14 @@ first-or_rest pool h b n ns some first rest = by_here (cases_Bool (n == b))
         let less : count_of b (n ∷ ns) ≡ 0 + count_of b ns = front ∙ ap (λ (x : Bool). cond x 1 0 + count_of b ns) e in
         rest (omega (arith, less, some))
 
-turns-follow : (pool : ℕ) (h : List Entry) (b : ℕ) (before : Machine) (ns : List ℕ) (after : Machine) → TakesTurns pool h before ns after → 1 ≤ count_of b ns → FollowsAt pool h b
+turns-follow : (pool : ℕ) (h : List Entry) (b : ℕ) (before : Machine) (ns : List ℕ) (after : Machine)
+    → TakesTurns pool h before ns after → 1 ≤ count_of b ns → FollowsAt pool h b
 turns-follow pool h b before [] after turns some = absurd (omega (arith, some))
 turns-follow pool h b before (n ∷ ns) after turns some =
     first-or_rest pool h b n ns some (turn-follows pool h before n turns.0 turns.1.0) (turns-follow pool h b turns.0 ns after turns.1.1)
 
-one-or_others : (pool : ℕ) (h : List Entry) (b : ℕ) (ns : List ℕ) (lists : List (List ℕ)) → 1 ≤ times_among b (ns ∷ lists) → (1 ≤ count_of b ns → FollowsAt pool h b)
+one-or_others : (pool : ℕ) (h : List Entry) (b : ℕ) (ns : List ℕ) (lists : List (List ℕ))
+    → 1 ≤ times_among b (ns ∷ lists) → (1 ≤ count_of b ns → FollowsAt pool h b)
     → (1 ≤ times_among b lists → FollowsAt pool h b) → FollowsAt pool h b
 one-or_others pool h b ns lists some one others = by_here (cases_lt 0 (count_of b ns))
   where
@@ -99,30 +108,35 @@ split-follows pool h users first unit lists afters last b split each up down =
     let once : times_among b lists ≡ 1 = split b ∙ ap (λ (x : Bool). cond (x && nat_le b last) 1 0) low ∙ ap (λ (x : Bool). cond x 1 0) high in
     shares-follow pool h b users unit lists afters each (omega (arith, once))
 
-unit-follows : (pool : ℕ) (h : List Entry) (users : List Machine) (first : ℕ) (unit : ScriptUnit) (next : List Machine) (last b : ℕ) → ReplaysUnit pool h users first unit next last
+unit-follows : (pool : ℕ) (h : List Entry) (users : List Machine) (first : ℕ) (unit : ScriptUnit) (next : List Machine) (last b : ℕ)
+    → ReplaysUnit pool h users first unit next last
     → first < b → b ≤ last → FollowsAt pool h b
 unit-follows pool h users first unit next last b one up down = split-follows pool h users first unit one.lists one.afters last b one.split one.replays up down
 
-units-follow : (pool : ℕ) (h : List Entry) (users : List Machine) (first : ℕ) (units : List ScriptUnit) (next : List Machine) (last b : ℕ) → ReplaysUnits pool h users first units next last
+units-follow : (pool : ℕ) (h : List Entry) (users : List Machine) (first : ℕ) (units : List ScriptUnit) (next : List Machine) (last b : ℕ)
+    → ReplaysUnits pool h users first units next last
     → first < b → b ≤ last → FollowsAt pool h b
 units-follow pool h users first [] next last b all up down = let is : last ≡ first = all.1 in absurd (omega (arith, is, up, down))
 units-follow pool h users first (unit ∷ units) next last b all up down =
     later-or_here pool h b all.1.0 (λ later. units-follow pool h all.0 all.1.0 units next last b all.1.1.1 later down) (λ here. unit-follows pool h users first unit all.0 all.1.0 b all.1.1.0 up here)
   where
-    later-or_here : (pool : ℕ) (h : List Entry) (b number : ℕ) → (number < b → FollowsAt pool h b) → (b ≤ number → FollowsAt pool h b) → FollowsAt pool h b
+    later-or_here : (pool : ℕ) (h : List Entry) (b number : ℕ) → (number < b → FollowsAt pool h b)
+        → (b ≤ number → FollowsAt pool h b) → FollowsAt pool h b
     later-or_here pool h b number later here = by_lt (cases_lt number b)
       where
         by_lt : (number < b) ⊎ (b ≤ number) → FollowsAt pool h b
         by_lt (inl up) = later up
         by_lt (inr down) = here down
 
-take-one_more : (h : List Entry) (n : ℕ) (e : Entry) → slice_get h n ≡ Some e → take (suc n) h ≡ take n h ++ e ∷ []
+take-one_more : (h : List Entry) (n : ℕ) (e : Entry) → slice_get h n ≡ Some e
+    → take (suc n) h ≡ take n h ++ e ∷ []
 take-one_more [] n e there = absurd cc
 take-one_more (x ∷ xs) zero e there = let same : x ≡ e = cc in ap (λ (y : Entry). y ∷ []) same
 take-one_more (x ∷ xs) (suc n) e there = ap (λ (ys : List Entry). x ∷ ys) (take-one_more xs n e there)
 
 -- a history each of whose entries follows what stands before it is legal
-legal-to : (pool : ℕ) (h : List Entry) → ((b : ℕ) → 0 < b → b ≤ length h → FollowsAt pool h b) → (n : ℕ) → n ≤ length h → IsLegal pool (take n h)
+legal-to : (pool : ℕ) (h : List Entry) → ((b : ℕ) → 0 < b → b ≤ length h → FollowsAt pool h b)
+    → (n : ℕ) → n ≤ length h → IsLegal pool (take n h)
 legal-to pool h each zero within = tt
 legal-to pool h each (suc n) within =
     let here = each (suc n) (omega arith) within in
@@ -132,7 +146,8 @@ legal-to pool h each (suc n) within =
     let before = legal-to pool h each n (omega (arith, within)) in
     subst (IsLegal pool) (sym (take-one_more h n here.entry there)) (legal-push pool (take n h) here.entry before follows)
 
-reached-follows : (program : Program) (captures : List (List (List ℕ))) (h : List Entry) (nows : List Machine) → Reaches program captures h nows
+reached-follows : (program : Program) (captures : Captures) (h : List Entry) (nows : List Machine)
+    → Reaches program captures h nows
     → (b : ℕ) → 0 < b → b ≤ length h → FollowsAt program.pool h b
 reached-follows program captures h nows r b up down = by_unit (cases_lt r.first b)
   where
@@ -144,6 +159,7 @@ pub played-legal : PlayedIsLegal
 played-legal program captures h nows way =
     subst (IsLegal program.pool) (take_all (length h) h (omega arith)) (legal-to program.pool h (by_way way) (length h) (omega arith))
   where
-    by_way : HasPlayed program captures h nows ⊎ Reaches program captures h nows → (b : ℕ) → 0 < b → b ≤ length h → FollowsAt program.pool h b
+    by_way : HasPlayed program captures h nows ⊎ Reaches program captures h nows → (b : ℕ) → 0 < b
+        → b ≤ length h → FollowsAt program.pool h b
     by_way (inl one) = λ b up down. units-follow program.pool h (users_of program) 0 (units_of program captures) nows (length h) b one.units up down
     by_way (inr r) = reached-follows program captures h nows r

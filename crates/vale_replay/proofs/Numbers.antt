@@ -19,11 +19,13 @@ pub rise-within : (low : ℕ) (ns : List ℕ) (high : ℕ) → Rise low ns high 
 rise-within low [] high r = r
 rise-within low (n ∷ ns) high r = rise-within n ns high r.1
 
-pub rise-cut : (low : ℕ) (ns : List ℕ) (high other : ℕ) → Rise low ns high → last_behind low ns ≤ other → Rise low ns other
+pub rise-cut : (low : ℕ) (ns : List ℕ) (high other : ℕ) → Rise low ns high
+    → last_behind low ns ≤ other → Rise low ns other
 rise-cut low [] high other r within = within
 rise-cut low (n ∷ ns) high other r within = (r.0, rise-cut n ns high other r.1 within)
 
-pub rise-wider : (less low : ℕ) (ns : List ℕ) (high : ℕ) → less ≤ low → Rise low ns high → Rise less ns high
+pub rise-wider : (less low : ℕ) (ns : List ℕ) (high : ℕ) → less ≤ low → Rise low ns high
+    → Rise less ns high
 rise-wider less low [] high down r = let up : low ≤ high = r in omega (arith, down, up)
 rise-wider less low (n ∷ ns) high down r = let a = r.0 in (omega (arith, down, a), r.1)
 
@@ -36,7 +38,8 @@ rise-back low [] ms high r = r
 rise-back low (n ∷ ns) ms high r = let a = r.0 in rise-wider low n ms high (omega (arith, a)) (rise-back n ns ms high r.1)
 
 -- no number of a rising list is at or below the first bound
-pub rise-above : (low : ℕ) (ns : List ℕ) (high b : ℕ) → Rise low ns high → b ≤ low → count_of b ns ≡ 0
+pub rise-above : (low : ℕ) (ns : List ℕ) (high b : ℕ) → Rise low ns high → b ≤ low
+    → count_of b ns ≡ 0
 rise-above low [] high b r below = refl
 rise-above low (n ∷ ns) high b r below =
     let up = r.0 in
@@ -50,7 +53,8 @@ record AreThese (low last : ℕ) (ns : List ℕ) : Type 0 where
   below : (b : ℕ) → b ≤ low → count_of b ns ≡ 0
   above : (b : ℕ) → last < b → count_of b ns ≡ 0
 
-these-first : (low last n : ℕ) (ns : List ℕ) (high : ℕ) → Rise low (n ∷ ns) high → AreThese low last (n ∷ ns) → (n ≡ low + 1) × (n ≤ last)
+these-first : (low last n : ℕ) (ns : List ℕ) (high : ℕ) → Rise low (n ∷ ns) high
+    → AreThese low last (n ∷ ns) → (n ≡ low + 1) × (n ≤ last)
 these-first low last n ns high r these = by_last (cases_lt last n)
   where
     hit : (n == n) ≡ true
@@ -71,7 +75,8 @@ these-first low last n ns high r these = by_last (cases_lt last n)
         absurd (omega (arith, none, one))
     by_last (inr within) = by_first within (cases_lt (low + 1) n)
 
-these-rest : (low last n : ℕ) (ns : List ℕ) (high : ℕ) → Rise low (n ∷ ns) high → n ≡ low + 1 → AreThese low last (n ∷ ns) → AreThese n last ns
+these-rest : (low last n : ℕ) (ns : List ℕ) (high : ℕ) → Rise low (n ∷ ns) high → n ≡ low + 1
+    → AreThese low last (n ∷ ns) → AreThese n last ns
 these-rest low last n ns high r first these = record {
   within = λ b up down.
       let miss : (n == b) ≡ false = ne_eqb n b (λ e. omega (arith, up, e)) in
@@ -86,7 +91,8 @@ these-rest low last n ns high r first these = record {
 }
 
 -- a range is the only rising list of its numbers
-these-range : (low last : ℕ) (ns : List ℕ) (high : ℕ) → Rise low ns high → AreThese low last ns → ns ≡ range_with_len (low + 1) (last - low)
+these-range : (low last : ℕ) (ns : List ℕ) (high : ℕ) → Rise low ns high → AreThese low last ns
+    → ns ≡ range_with_len (low + 1) (last - low)
 these-range low last [] high r these = by_last (cases_lt low last)
   where
     by_last : (low < last) ⊎ (last ≤ low) → [] ≡ range_with_len (low + 1) (last - low)
@@ -102,7 +108,8 @@ these-range low last (n ∷ ns) high r these =
     ap (λ (m : ℕ). m ∷ ns) is ∙ ap (λ (ms : List ℕ). (low + 1) ∷ ms) (rest ∙ ap (λ (m : ℕ). range_with_len m (last - n)) next) ∙ ap (range_with_len (low + 1)) count
 
 -- so it is the list of a unit's only user
-pub split-one : (first last : ℕ) (ns : List ℕ) (high : ℕ) → first ≤ high → Rise 0 ns high → AreSplit first last (ns ∷ []) → ns ≡ range_with_len (first + 1) (last - first)
+pub split-one : (first last : ℕ) (ns : List ℕ) (high : ℕ) → first ≤ high → Rise 0 ns high
+    → AreSplit first last (ns ∷ []) → ns ≡ range_with_len (first + 1) (last - first)
 split-one first last ns high up r split = these-range first last ns high (from-first ns r these.below) these
   where
     alone : (b : ℕ) → count_of b (ns ++ []) ≡ count_of b ns
@@ -130,7 +137,8 @@ split-one first last ns high up r split = these-range first last ns high (from-f
       above = λ b up. by_first b up (cases_lt first b);
     }
 
-    from-first : (ms : List ℕ) → Rise 0 ms high → ((b : ℕ) → b ≤ first → count_of b ms ≡ 0) → Rise first ms high
+    from-first : (ms : List ℕ) → Rise 0 ms high → ((b : ℕ) → b ≤ first → count_of b ms ≡ 0)
+        → Rise first ms high
     from-first [] rr none = up
     from-first (m ∷ ms) rr none = by_lt (cases_lt first m)
       where
@@ -144,7 +152,8 @@ split-one first last ns high up r split = these-range first last ns high (from-f
 
 -- And back: a range is the list of a unit's only user.
 
-pub rise-past : (low : ℕ) (ns : List ℕ) (high b : ℕ) → Rise low ns high → high < b → count_of b ns ≡ 0
+pub rise-past : (low : ℕ) (ns : List ℕ) (high b : ℕ) → Rise low ns high → high < b
+    → count_of b ns ≡ 0
 rise-past low [] high b r past = refl
 rise-past low (n ∷ ns) high b r past =
     let up = rise-low n ns high r.1 in
@@ -158,14 +167,16 @@ range-rises low (suc count) =
     let next : low + 1 + count ≡ low + suc count = omega arith in
     (omega arith, subst (λ (high : ℕ). Rise (low + 1) (range_with_len (low + 1 + 1) count) high) next (range-rises (low + 1) count))
 
-range-once : (low count b : ℕ) → low < b → b ≤ low + count → count_of b (range_with_len (low + 1) count) ≡ 1
+range-once : (low count b : ℕ) → low < b → b ≤ low + count
+    → count_of b (range_with_len (low + 1) count) ≡ 1
 range-once low zero b up down = absurd (omega (arith, up, down))
 range-once low (suc count) b up down = by_first (cases_lt (low + 1) b) (range-once (low + 1) count b)
   where
     front : count_of b (range_with_len (low + 1) (suc count)) ≡ cond ((low + 1) == b) 1 0 + count_of b (range_with_len (low + 1 + 1) count)
     front = count_of-cons b (low + 1) (range_with_len (low + 1 + 1) count)
 
-    by_first : (low + 1 < b) ⊎ (b ≤ low + 1) → (low + 1 < b → b ≤ low + 1 + count → count_of b (range_with_len (low + 1 + 1) count) ≡ 1)
+    by_first : (low + 1 < b) ⊎ (b ≤ low + 1)
+        → (low + 1 < b → b ≤ low + 1 + count → count_of b (range_with_len (low + 1 + 1) count) ≡ 1)
         → count_of b (range_with_len (low + 1) (suc count)) ≡ 1
     by_first (inl later) rest =
         let one = rest later (omega (arith, down)) in
@@ -176,13 +187,15 @@ range-once low (suc count) b up down = by_first (cases_lt (low + 1) b) (range-on
         let none = rise-above (low + 1) (range_with_len (low + 1 + 1) count) (low + 1 + count) b (range-rises (low + 1) count) here in
         front ∙ ap (λ (x : Bool). cond x 1 0 + count_of b (range_with_len (low + 1 + 1) count)) hit ∙ omega (arith, none)
 
-pub range-split : (first count : ℕ) → AreSplit first (first + count) (range_with_len (first + 1) count ∷ [])
+pub range-split : (first count : ℕ)
+    → AreSplit first (first + count) (range_with_len (first + 1) count ∷ [])
 range-split first count b = alone ∙ by_low (cases_lt first b)
   where
     alone : count_of b (range_with_len (first + 1) count ++ []) ≡ count_of b (range_with_len (first + 1) count)
     alone = let all = count_of-append b (range_with_len (first + 1) count) [] in omega (arith, all)
 
-    by_high : first < b → (first + count < b) ⊎ (b ≤ first + count) → count_of b (range_with_len (first + 1) count) ≡ cond (nat_lt first b && nat_le b (first + count)) 1 0
+    by_high : first < b → (first + count < b) ⊎ (b ≤ first + count)
+        → count_of b (range_with_len (first + 1) count) ≡ cond (nat_lt first b && nat_le b (first + count)) 1 0
     by_high up (inl past) =
         let one : nat_lt first b ≡ true = lt-ltb first b up in
         let none : nat_le b (first + count) ≡ false = lt-leb b (first + count) past in
@@ -192,7 +205,8 @@ range-split first count b = alone ∙ by_low (cases_lt first b)
         let two : nat_le b (first + count) ≡ true = le-leb b (first + count) down in
         rw (one, two) (range-once first count b up down)
 
-    by_low : (first < b) ⊎ (b ≤ first) → count_of b (range_with_len (first + 1) count) ≡ cond (nat_lt first b && nat_le b (first + count)) 1 0
+    by_low : (first < b) ⊎ (b ≤ first)
+        → count_of b (range_with_len (first + 1) count) ≡ cond (nat_lt first b && nat_le b (first + count)) 1 0
     by_low (inl up) = by_high up (cases_lt (first + count) b)
     by_low (inr below) =
         let none : nat_lt first b ≡ false = le-ltb first b below in

@@ -1,4 +1,5 @@
--- The users of a script without blocks are machines, so that their calls and the replies make one history.
+-- The users of a script without blocks are machines, so that their calls and the replies make one
+-- history.
 use Rattle.std.proofs.Common.{ℕ, zero, suc, ◌+◌, ◌-◌, ◌≤◌, ◌≡◌, ◌⊎◌, inl, inr, Bool, true, false, List, [], ◌∷◌, ◌++◌, length, map, take, drop, Option, Some, None, slice_get, slice_set, refl, sym, ◌∙◌, ap, subst, arith, take-append-drop}
 use Rattle.std.specs.List.{range_with_len, list_any}
 use Rattle.std.specs.Prelude.{◌==◌, ◌||◌}
@@ -14,11 +15,13 @@ use Rattle.vale_replay.specs.Replay.{UnitShare, ScriptUnit, standing_before, ent
 use Rattle.vale_replay.specs.Laws.{HasNoBlock, PlaysOneHistory, BeginsWith, UnderWayIsBeginning, UnderWayIsOne}
 use Rattle.vale_replay.proofs.Turns.{some-same, entry-same}
 use Rattle.vale_replay.proofs.Units.{Alone, AloneUnits, alone_share, alone-units, alone-so_far, numbers_between, shares_in, units-alone, take-alone, unit-at}
+use Rattle.vale_replay.specs.Tasks.{Captures}
 
 abbrev call-at : ℕ → List Entry → Machine → Option Ask
 call-at pool h user = next_call (standing_of pool h).world user
 
-take-next : (h : List Entry) (n : ℕ) (e : Entry) → slice_get h n ≡ Some e → take (suc n) h ≡ take n h ++ e ∷ []
+take-next : (h : List Entry) (n : ℕ) (e : Entry) → slice_get h n ≡ Some e
+    → take (suc n) h ≡ take n h ++ e ∷ []
 take-next [] n e there = absurd cc
 take-next (x ∷ xs) zero e there = let same : x ≡ e = cc in ap (λ (y : Entry). y ∷ []) same
 take-next (x ∷ xs) (suc n) e there = ap (λ (ys : List Entry). x ∷ ys) (take-next xs n e there)
@@ -28,7 +31,9 @@ pub record SameTurn (h k : List Entry) (first : ℕ) (after after' : Machine) : 
   pub after_is : after ≡ after'
   pub taken : take (suc first) h ≡ take (suc first) k
 
-turn-same : (pool : ℕ) (h k : List Entry) (first : ℕ) (m after after' : Machine) → take first h ≡ take first k → TakesTurn pool h m (first + 1) after → TakesTurn pool k m (first + 1) after' → SameTurn h k first after after'
+turn-same : (pool : ℕ) (h k : List Entry) (first : ℕ) (m after after' : Machine)
+    → take first h ≡ take first k → TakesTurn pool h m (first + 1) after
+    → TakesTurn pool k m (first + 1) after' → SameTurn h k first after after'
 turn-same pool h k first m after after' same one other =
     let at : first + 1 - 1 ≡ first = omega arith in
     let stands : standing_before pool h (first + 1) ≡ standing_before pool k (first + 1) =
@@ -51,14 +56,18 @@ pub record SameTurns (h k : List Entry) (first count count' : ℕ) (after after'
   pub after_is : after ≡ after'
   pub taken : take (first + count) h ≡ take (first + count) k
 
-calls-apart : (pool : ℕ) (h k : List Entry) (first : ℕ) (m after : Machine) → take first h ≡ take first k → call-at pool (take first h) m ≡ None → TakesTurn pool k m (first + 1) after → ⊥
+calls-apart : (pool : ℕ) (h k : List Entry) (first : ℕ) (m after : Machine)
+    → take first h ≡ take first k → call-at pool (take first h) m ≡ None
+    → TakesTurn pool k m (first + 1) after → ⊥
 calls-apart pool h k first m after same ended turn =
     let at : first + 1 - 1 ≡ first = omega arith in
     let stands : standing_before pool k (first + 1) ≡ standing_of pool (take first h) = ap (λ n. standing_of pool (take n k)) at ∙ ap (standing_of pool) (sym same) in
     let clash : Some turn.ask ≡ None = sym turn.asked ∙ ap (λ (s : Standing). next_call s.world m) stands ∙ ended in
     absurd cc
 
-turns-same : (pool : ℕ) (h k : List Entry) (first count count' : ℕ) (m after after' : Machine) → take first h ≡ take first k → TakesTurns pool h m (range_with_len (first + 1) count) after → TakesTurns pool k m (range_with_len (first + 1) count') after'
+turns-same : (pool : ℕ) (h k : List Entry) (first count count' : ℕ) (m after after' : Machine)
+    → take first h ≡ take first k → TakesTurns pool h m (range_with_len (first + 1) count) after
+    → TakesTurns pool k m (range_with_len (first + 1) count') after'
     → call-at pool (take (first + count) h) after ≡ None → call-at pool (take (first + count') k) after' ≡ None → SameTurns h k first count count' after after'
 turns-same pool h k first zero zero m after after' same one other ended ended' =
     let at : first + 0 ≡ first = omega arith in
@@ -86,7 +95,8 @@ pub record SameUnits (h k : List Entry) (next next' : List Machine) (last last' 
   pub last_is : last ≡ last'
   pub taken : take last h ≡ take last k
 
-unit-same : (pool : ℕ) (h k : List Entry) (users : List Machine) (first : ℕ) (unit : UnitShare) (next next' : List Machine) (last last' : ℕ) → take first h ≡ take first k
+unit-same : (pool : ℕ) (h k : List Entry) (users : List Machine) (first : ℕ) (unit : UnitShare) (next next' : List Machine) (last last' : ℕ)
+    → take first h ≡ take first k
     → Alone pool h users first unit next last → Alone pool k users first unit next' last' → SameUnits h k next next' last last'
 unit-same pool h k users first unit next next' last last' same one other =
     let before : one.before ≡ other.before = some-same one.before other.before (sym one.here ∙ other.here) in
@@ -104,7 +114,8 @@ unit-same pool h k users first unit next next' last last' same one other =
       taken = subst (λ (n : ℕ). take n h ≡ take n k) ends t.taken;
     }
 
-units-same : (pool : ℕ) (h k : List Entry) (users : List Machine) (first : ℕ) (units : ScriptUnit) (next next' : List Machine) (last last' : ℕ) → take first h ≡ take first k
+units-same : (pool : ℕ) (h k : List Entry) (users : List Machine) (first : ℕ) (units : ScriptUnit) (next next' : List Machine) (last last' : ℕ)
+    → take first h ≡ take first k
     → AloneUnits pool h users first units next last → AloneUnits pool k users first units next' last' → SameUnits h k next next' last last'
 units-same pool h k users first [] next next' last last' same one other =
     record { next_is = one.0 ∙ sym other.0; last_is = one.1 ∙ sym other.1; taken = subst (λ (n : ℕ). take n h ≡ take n k) (sym one.1) same }
@@ -115,7 +126,8 @@ units-same pool h k users first (unit ∷ units) next next' last last' same one 
     units-same pool h k one.0 one.1.0 units next next' last last' u.taken one.1.1.1 back
 
 -- the units of a history that plays a script without blocks
-script-units : (program : Program) (captures : List (List (List ℕ))) (h : List Entry) (users : List Machine) (last : ℕ) → HasNoBlock program
+script-units : (program : Program) (captures : Captures) (h : List Entry) (users : List Machine) (last : ℕ)
+    → HasNoBlock program
     → ReplaysUnits program.pool h (users_of program) 0 (units_of program captures) users last → AloneUnits program.pool h (users_of program) 0 (shares_in program captures) users last
 script-units program captures h users last lines units =
     alone-units program.pool h (users_of program) 0 (shares_in program captures) users last
@@ -129,7 +141,9 @@ plays-one program captures h k lines one other =
 
 -- A history under way.
 
-begins-by : (pool : ℕ) (h k : List Entry) (n : ℕ) (e : Entry) (call : Ask) → take n h ≡ k → slice_get h n ≡ Some e → entry_made (standing_of pool k) call ≡ Some e → BeginsWith pool h k call
+begins-by : (pool : ℕ) (h k : List Entry) (n : ℕ) (e : Entry) (call : Ask) → take n h ≡ k
+    → slice_get h n ≡ Some e → entry_made (standing_of pool k) call ≡ Some e
+    → BeginsWith pool h k call
 begins-by pool h k n e call same there made = record {
   entry = e;
   rest = drop (suc n) h;
@@ -142,11 +156,15 @@ begins-by pool h k n e call same there made = record {
     cut (x ∷ xs) = ap (λ (ys : List Entry). x ∷ ys) (cut xs)
 
 -- the entry of a turn is made by the call that comes there in an equal standing
-made-there : (pool : ℕ) (s : Standing) (es : List Entry) (ask call : Ask) (e : Entry) → s ≡ standing_of pool es → ask ≡ call → entry_made s ask ≡ Some e → entry_made (standing_of pool es) call ≡ Some e
+made-there : (pool : ℕ) (s : Standing) (es : List Entry) (ask call : Ask) (e : Entry)
+    → s ≡ standing_of pool es → ask ≡ call → entry_made s ask ≡ Some e
+    → entry_made (standing_of pool es) call ≡ Some e
 made-there pool s es ask call e stands asks made = ap (λ (x : Standing). entry_made x call) (sym stands) ∙ ap (entry_made s) (sym asks) ∙ made
 
 -- the call of a user that is under way is the entry behind its turns
-turns-begin : (pool : ℕ) (h k : List Entry) (first count count' : ℕ) (m after now : Machine) (call : Ask) → take first h ≡ take first k → TakesTurns pool h m (range_with_len (first + 1) count) after → TakesTurns pool k m (range_with_len (first + 1) count') now
+turns-begin : (pool : ℕ) (h k : List Entry) (first count count' : ℕ) (m after now : Machine) (call : Ask)
+    → take first h ≡ take first k → TakesTurns pool h m (range_with_len (first + 1) count) after
+    → TakesTurns pool k m (range_with_len (first + 1) count') now
     → call-at pool (take (first + count) h) after ≡ None → call-at pool (take (first + count') k) now ≡ Some call
     → (e : Entry) × ((slice_get h (first + count') ≡ Some e) × ((entry_made (standing_of pool (take (first + count') k)) call ≡ Some e) × (take (first + count') h ≡ take (first + count') k)))
 turns-begin pool h k first zero zero m after now call same one other ended called =
@@ -198,7 +216,8 @@ units-begin pool h k users first (u ∷ units) next last (suc count) unit betwee
     subst (λ (us : List Machine). AloneUnits pool k us one.1.0 (take count units) between from) (sym s.next_is) (subst (λ (n : ℕ). AloneUnits pool k other.0 n (take count units) between from) (sym s.last_is) other.1.1.1) in
     units-begin pool h k one.0 one.1.0 units next last count unit between from before now call s.taken one.1.1.1 there back here up turns called
 
--- what is under way in a script without blocks: units of one user each, and the user of the next one
+-- what is under way in a script without blocks: units of one user each, and the user of the next
+-- one
 record OnItsWay (pool : ℕ) (users : List Machine) (shares : ScriptUnit) (h : List Entry) (call : Ask) : Type 0 where
   count : ℕ
   share : UnitShare
@@ -213,19 +232,22 @@ record OnItsWay (pool : ℕ) (users : List Machine) (shares : ScriptUnit) (h : L
   turns : TakesTurns pool h (starting share before) (numbers_between from (length h)) now
   called : call-at pool h now ≡ Some call
 
-set-here : (users : List Machine) (n : ℕ) (old new now : Machine) → slice_get users n ≡ Some old → slice_get (slice_set users n new) n ≡ Some now → new ≡ now
+set-here : (users : List Machine) (n : ℕ) (old new now : Machine) → slice_get users n ≡ Some old
+    → slice_get (slice_set users n new) n ≡ Some now → new ≡ now
 set-here [] n old new now here there = absurd cc
 set-here (u ∷ users) zero old new now here there = some-same new now there
 set-here (u ∷ users) (suc n) old new now here there = set-here users n old new now here there
 
-user-is : (user : ℕ) (share : UnitShare) → list_any (is_share_of user) (share ∷ []) ≡ true → share.user ≡ user
+user-is : (user : ℕ) (share : UnitShare) → list_any (is_share_of user) (share ∷ []) ≡ true
+    → share.user ≡ user
 user-is user share e = eqb-true share.user user (by_here (share.user == user) e)
   where
     by_here : (b : Bool) → (b || false) ≡ true → b ≡ true
     by_here true e = refl
     by_here false e = e
 
-on-its-way : (program : Program) (captures : List (List (List ℕ))) (h : List Entry) (user : ℕ) (call : Ask) → HasNoBlock program → ComesTo program captures h user call
+on-its-way : (program : Program) (captures : Captures) (h : List Entry) (user : ℕ) (call : Ask)
+    → HasNoBlock program → ComesTo program captures h user call
     → OnItsWay program.pool (users_of program) (shares_in program captures) h call
 on-its-way program captures h user call lines comes =
     let r = comes.reached in
@@ -269,7 +291,8 @@ under-way program captures h k user call lines plays comes =
 abbrev OneOrBegun : ℕ → List Entry → List Entry → Ask → Ask → Type 0
 OneOrBegun pool part other call next = ((part ≡ other) × (call ≡ next)) ⊎ (BeginsWith pool part other next ⊎ BeginsWith pool other part call)
 
-turns-two : (pool : ℕ) (h k : List Entry) (first count count' : ℕ) (m now now' : Machine) (call next : Ask) → first + count ≡ length h → first + count' ≡ length k → take first h ≡ take first k
+turns-two : (pool : ℕ) (h k : List Entry) (first count count' : ℕ) (m now now' : Machine) (call next : Ask)
+    → first + count ≡ length h → first + count' ≡ length k → take first h ≡ take first k
     → TakesTurns pool h m (range_with_len (first + 1) count) now → TakesTurns pool k m (range_with_len (first + 1) count') now'
     → call-at pool h now ≡ Some call → call-at pool k now' ≡ Some next → OneOrBegun pool h k call next
 turns-two pool h k first zero zero m now now' call next all all' same one other called called' =
@@ -300,7 +323,8 @@ turns-two pool h k first (suc count) (suc count') m now now' call next all all' 
     (subst (λ (x : Machine). TakesTurns pool k x (range_with_len (first + 1 + 1) count') now') (sym t.after_is) other.1.1) called called'
 
 -- a unit whose user still has a call, against one that is whole
-unit-begins : (pool : ℕ) (h k : List Entry) (users next : List Machine) (first last : ℕ) (unit : UnitShare) (before now : Machine) (call : Ask) → take first h ≡ take first k → Alone pool h users first unit next last
+unit-begins : (pool : ℕ) (h k : List Entry) (users next : List Machine) (first last : ℕ) (unit : UnitShare) (before now : Machine) (call : Ask)
+    → take first h ≡ take first k → Alone pool h users first unit next last
     → slice_get users (unit.user - 1) ≡ Some before → first ≤ length k → TakesTurns pool k (starting unit before) (numbers_between first (length k)) now → call-at pool k now ≡ Some call
     → BeginsWith pool h k call
 unit-begins pool h k users next first last unit before now call same whole here up turns called =

@@ -14,12 +14,14 @@ use Rattle.vale_own.proofs.Reading.{first-leases, first-offers}
 use Rattle.vale_replay.specs.Machine.{owed_lot, next_offer, done_call, grant_call, settling_call, call_of_tasks}
 use Rattle.vale_replay.specs.Laws.{OthersChangeNoCall}
 
-lots-same : (pool : ℕ) (past more : List Entry) (session : ℕ) → IsLegal pool (past ++ more) → IsLegal pool past → All (IsOfOther session) more
+lots-same : (pool : ℕ) (past more : List Entry) (session : ℕ) → IsLegal pool (past ++ more)
+    → IsLegal pool past → All (IsOfOther session) more
     → owed_lot (world_of pool (past ++ more)) session ≡ owed_lot (world_of pool past) session
 lots-same pool past more session legal before others =
     first-leases pool (past ++ more) session legal ∙ ap (λ (own : Own). option_map lot_of_lease (slice_get own.leases 0)) (own-kept pool past more session legal others) ∙ sym (first-leases pool past session before)
 
-offers-same : (pool : ℕ) (past more : List Entry) (session : ℕ) → IsLegal pool (past ++ more) → All (IsOfOther session) more
+offers-same : (pool : ℕ) (past more : List Entry) (session : ℕ) → IsLegal pool (past ++ more)
+    → All (IsOfOther session) more
     → next_offer (world_of pool (past ++ more)) session ≡ next_offer (world_of pool past) session
 offers-same pool past more session legal others =
     first-offers (standing_of pool (past ++ more)) session ∙ ap (λ (own : Own). slice_get own.offers 0) (own-kept pool past more session legal others) ∙ sym (first-offers (standing_of pool past) session)

@@ -16,19 +16,22 @@ pub some-same : {X : Type 0} (x y : X) → Some x ≡ Some y → x ≡ y
 some-same x y e = cc
 
 -- what a turn's entry is, and where it leads, from what stands before it alone
-pub entry-same : (s : Standing) (m : Machine) (ask other : Ask) (entry entry' : Entry) → next_call s.world m ≡ Some ask → next_call s.world m ≡ Some other
+pub entry-same : (s : Standing) (m : Machine) (ask other : Ask) (entry entry' : Entry)
+    → next_call s.world m ≡ Some ask → next_call s.world m ≡ Some other
     → entry_made s ask ≡ Some entry → entry_made s other ≡ Some entry' → entry ≡ entry'
 entry-same s m ask other entry entry' one two made made' =
     let asks : ask ≡ other = some-same ask other (sym one ∙ two) in
     some-same entry entry' (sym made ∙ ap (entry_made s) asks ∙ made')
 
-turn-one : (pool : ℕ) (h : List Entry) (m : Machine) (n : ℕ) (after other : Machine) → TakesTurn pool h m n after → TakesTurn pool h m n other → after ≡ other
+turn-one : (pool : ℕ) (h : List Entry) (m : Machine) (n : ℕ) (after other : Machine)
+    → TakesTurn pool h m n after → TakesTurn pool h m n other → after ≡ other
 turn-one pool h m n after other one two =
     let s = standing_before pool h n in
     let entries = entry-same s m one.ask two.ask one.entry two.entry one.asked two.asked one.made two.made in
     one.goes_on ∙ ap (λ (e : Entry). resting (answered n e (arrivals_of s e.ask e.reply) m)) entries ∙ sym two.goes_on
 
-turns-one : (pool : ℕ) (h : List Entry) (m : Machine) (ns : List ℕ) (after other : Machine) → TakesTurns pool h m ns after → TakesTurns pool h m ns other → after ≡ other
+turns-one : (pool : ℕ) (h : List Entry) (m : Machine) (ns : List ℕ) (after other : Machine)
+    → TakesTurns pool h m ns after → TakesTurns pool h m ns other → after ≡ other
 turns-one pool h m [] after other one two = one ∙ sym two
 turns-one pool h m (n ∷ ns) after other one two =
     let same : two.0 ≡ one.0 = turn-one pool h m n two.0 one.0 two.1.0 one.1.0 in
@@ -44,13 +47,15 @@ record Between (pool : ℕ) (h : List Entry) (before : Machine) (ns ms : List �
   front : TakesTurns pool h before ns between
   back : TakesTurns pool h between ms after
 
-turns-split : (pool : ℕ) (h : List Entry) (before : Machine) (ns ms : List ℕ) (after : Machine) → TakesTurns pool h before (ns ++ ms) after → Between pool h before ns ms after
+turns-split : (pool : ℕ) (h : List Entry) (before : Machine) (ns ms : List ℕ) (after : Machine)
+    → TakesTurns pool h before (ns ++ ms) after → Between pool h before ns ms after
 turns-split pool h before [] ms after turns = record { between = before; front = refl; back = turns }
 turns-split pool h before (n ∷ ns) ms after turns =
     let rest = turns-split pool h turns.0 ns ms after turns.1.1 in
     record { between = rest.between; front = (turns.0, (turns.1.0, rest.front)); back = rest.back }
 
-turns-append : (pool : ℕ) (h : List Entry) (before : Machine) (ns ms : List ℕ) (between after : Machine) → TakesTurns pool h before ns between → TakesTurns pool h between ms after
+turns-append : (pool : ℕ) (h : List Entry) (before : Machine) (ns ms : List ℕ) (between after : Machine)
+    → TakesTurns pool h before ns between → TakesTurns pool h between ms after
     → TakesTurns pool h before (ns ++ ms) after
 turns-append pool h before [] ms between after front back = subst (λ (m : Machine). TakesTurns pool h m ms after) front back
 turns-append pool h before (n ∷ ns) ms between after front back = (front.0, (front.1.0, turns-append pool h front.0 ns ms between after front.1.1 back))
@@ -72,13 +77,15 @@ pieces-one pool h before ns ms after rise = (cut, join)
 
 -- What is read of a history.
 
-pub slice_get-take : (h : List Entry) (n count : ℕ) → n < count → slice_get (take count h) n ≡ slice_get h n
+pub slice_get-take : (h : List Entry) (n count : ℕ) → n < count
+    → slice_get (take count h) n ≡ slice_get h n
 slice_get-take h n zero up = absurd (omega (arith, up))
 slice_get-take [] n (suc count) up = refl
 slice_get-take (e ∷ h) zero (suc count) up = refl
 slice_get-take (e ∷ h) (suc n) (suc count) up = slice_get-take h n count (omega (arith, up))
 
-pub length-take : (h : List Entry) (count high : ℕ) → high ≤ count → high ≤ length h → high ≤ length (take count h)
+pub length-take : (h : List Entry) (count high : ℕ) → high ≤ count → high ≤ length h
+    → high ≤ length (take count h)
 length-take h zero high up within = omega (arith, up)
 length-take [] (suc count) high up within = within
 length-take (e ∷ h) (suc count) zero up within = omega arith
@@ -91,7 +98,8 @@ length-less h zero = omega arith
 length-less [] (suc count) = omega arith
 length-less (e ∷ h) (suc count) = let rest = length-less h count in omega (arith, rest)
 
-turn-cut : (pool : ℕ) (h : List Entry) (count : ℕ) (before : Machine) (n : ℕ) (after : Machine) → 0 < n → n ≤ count
+turn-cut : (pool : ℕ) (h : List Entry) (count : ℕ) (before : Machine) (n : ℕ) (after : Machine)
+    → 0 < n → n ≤ count
     → TakesTurn pool h before n after ↔ TakesTurn pool (take count h) before n after
 turn-cut pool h count before n after some within = (cut, back)
   where
@@ -126,7 +134,8 @@ turn-cut pool h count before n after some within = (cut, back)
       goes_on = turn.goes_on ∙ ap (λ (s : Standing). resting (answered n turn.entry (arrivals_of s turn.entry.ask turn.entry.reply) before)) stands;
     }
 
-turns-cut : (pool : ℕ) (h : List Entry) (count low high : ℕ) (before : Machine) (ns : List ℕ) (after : Machine) → Rise low ns high → last_behind low ns ≤ count
+turns-cut : (pool : ℕ) (h : List Entry) (count low high : ℕ) (before : Machine) (ns : List ℕ) (after : Machine)
+    → Rise low ns high → last_behind low ns ≤ count
     → TakesTurns pool h before ns after → TakesTurns pool (take count h) before ns after
 turns-cut pool h count low high before [] after rise within turns = turns
 turns-cut pool h count low high before (n ∷ ns) after rise within turns =
@@ -134,7 +143,8 @@ turns-cut pool h count low high before (n ∷ ns) after rise within turns =
     let last = rise-last n ns high rise.1 in
     (turns.0, ((turn-cut pool h count before n turns.0 (omega (arith, up)) (omega (arith, last, within))).0 turns.1.0, turns-cut pool h count n high turns.0 ns after rise.1 within turns.1.1))
 
-pub turns-back : (pool : ℕ) (h : List Entry) (count low high : ℕ) (before : Machine) (ns : List ℕ) (after : Machine) → Rise low ns high → last_behind low ns ≤ count
+pub turns-back : (pool : ℕ) (h : List Entry) (count low high : ℕ) (before : Machine) (ns : List ℕ) (after : Machine)
+    → Rise low ns high → last_behind low ns ≤ count
     → TakesTurns pool (take count h) before ns after → TakesTurns pool h before ns after
 turns-back pool h count low high before [] after rise within turns = turns
 turns-back pool h count low high before (n ∷ ns) after rise within turns =

@@ -6,7 +6,7 @@ use Rattle.vale_script.specs.declared.script.Unit.{Unit as ReadUnit}
 use Rattle.vale_script.specs.declared.script.Unit.TheVariants as parts
 use Rattle.vale_script.specs.Script.{Program}
 use Rattle.vale_replay.specs.Machine.{Machine, closing_tasks}
-use Rattle.vale_replay.specs.Tasks.{records_of}
+use Rattle.vale_replay.specs.Tasks.{Captures, records_of}
 use Rattle.vale_replay.specs.Replay.{UnitShare, ScriptUnit, TakesTurns, ReplaysShare, ReplaysUnit, ReplaysUnits, EachShare, AreSplit, NeedsNoCall, with_afters, share_of, shares_of, closing_unit, starting, units_of, user_count}
 use Rattle.vale_replay.specs.Laws.{IsLine, HasNoBlock}
 use Rattle.vale_replay.proofs.Numbers.{split-one}
@@ -28,7 +28,8 @@ pub record Alone (pool : ℕ) (h : List Entry) (users : List Machine) (first : �
 abbrev pub alone_share : UnitShare → ScriptUnit
 alone_share share = share ∷ []
 
--- the user of a unit of one user, and where it has come with the entries of the unit up to some number
+-- the user of a unit of one user, and where it has come with the entries of the unit up to some
+-- number
 pub record AloneSoFar (pool : ℕ) (h : List Entry) (users : List Machine) (first : ℕ) (share : UnitShare) (afters : List Machine) (last : ℕ) : Type 0 where
   pub before : Machine
   pub after : Machine
@@ -90,7 +91,9 @@ abbrev line_shares : (List ℕ → List (List ℕ)) → List ReadUnit → Script
 line_shares records [] = []
 line_shares records (part ∷ parts) = share_of_part records part ++ line_shares records parts
 
-lines-alone : (records : List ℕ → List (List ℕ)) (users : ℕ) (units : List ReadUnit) → AllByRecursion IsLine units → map (shares_of records users) units ≡ map alone_share (line_shares records units)
+lines-alone : (records : List ℕ → List (List ℕ)) (users : ℕ) (units : List ReadUnit)
+    → AllByRecursion IsLine units
+    → map (shares_of records users) units ≡ map alone_share (line_shares records units)
 lines-alone records users [] lines = refl
 lines-alone records users (parts.Single line ∷ units) lines =
     ap (λ (rest : List ScriptUnit). (share_of records line.user (line.act ∷ []) ∷ []) ∷ rest) (lines-alone records users units lines.1)
@@ -103,14 +106,16 @@ closings-alone : (ns : List ℕ) → map closing_unit ns ≡ map alone_share (ma
 closings-alone [] = refl
 closings-alone (n ∷ ns) = ap (λ (rest : List ScriptUnit). closing_unit n ∷ rest) (closings-alone ns)
 
-map-both : (xs ys : ScriptUnit) → map alone_share xs ++ map alone_share ys ≡ map alone_share (xs ++ ys)
+map-both : (xs ys : ScriptUnit)
+    → map alone_share xs ++ map alone_share ys ≡ map alone_share (xs ++ ys)
 map-both [] ys = refl
 map-both (x ∷ xs) ys = ap (λ (rest : List ScriptUnit). alone_share x ∷ rest) (map-both xs ys)
 
-abbrev pub shares_in : Program → List (List (List ℕ)) → ScriptUnit
+abbrev pub shares_in : Program → Captures → ScriptUnit
 shares_in program captures = line_shares (records_of program.files captures) program.units ++ map closing_share (range_with_len 1 (user_count program))
 
-pub units-alone : (program : Program) (captures : List (List (List ℕ))) → HasNoBlock program → units_of program captures ≡ map alone_share (shares_in program captures)
+pub units-alone : (program : Program) (captures : Captures) → HasNoBlock program
+    → units_of program captures ≡ map alone_share (shares_in program captures)
 units-alone program captures lines =
     let front = lines-alone (records_of program.files captures) (user_count program) program.units lines in
     let back = closings-alone (range_with_len 1 (user_count program)) in
@@ -118,7 +123,8 @@ units-alone program captures lines =
     ∙ ap (λ (rest : List ScriptUnit). map alone_share (line_shares (records_of program.files captures) program.units) ++ rest) back
     ∙ map-both (line_shares (records_of program.files captures) program.units) (map closing_share (range_with_len 1 (user_count program)))
 
-pub take-alone : (count : ℕ) (shares : ScriptUnit) → take count (map alone_share shares) ≡ map alone_share (take count shares)
+pub take-alone : (count : ℕ) (shares : ScriptUnit)
+    → take count (map alone_share shares) ≡ map alone_share (take count shares)
 take-alone zero shares = refl
 take-alone (suc count) [] = refl
 take-alone (suc count) (share ∷ shares) = ap (λ (rest : List ScriptUnit). alone_share share ∷ rest) (take-alone count shares)
@@ -128,7 +134,8 @@ pub record IsAt (shares : ScriptUnit) (count : ℕ) (unit : ScriptUnit) : Type 0
   pub there : slice_get shares count ≡ Some share
   pub is : unit ≡ share ∷ []
 
-pub unit-at : (shares : ScriptUnit) (count : ℕ) (unit : ScriptUnit) → slice_get (map alone_share shares) count ≡ Some unit → IsAt shares count unit
+pub unit-at : (shares : ScriptUnit) (count : ℕ) (unit : ScriptUnit)
+    → slice_get (map alone_share shares) count ≡ Some unit → IsAt shares count unit
 unit-at [] count unit e = absurd cc
 unit-at (share ∷ shares) zero unit e = let same : alone_share share ≡ unit = cc in record { share = share; there = refl; is = sym same }
 unit-at (share ∷ shares) (suc count) unit e = let rest = unit-at shares count unit e in record { share = rest.share; there = rest.there; is = rest.is }

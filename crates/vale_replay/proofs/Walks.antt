@@ -25,7 +25,8 @@ record Walks (pool : ℕ) (h : List Entry) (user : Machine) (r : Walked) : Type 
   turns : TakesTurns pool (h ++ more) user (range_with_len (length h + 1) (length more)) r.user
   ended : next_call r.standing.world r.user ≡ None
 
-get-seam : (h : List Entry) (e : Entry) (more : List Entry) → slice_get (h ++ e ∷ more) (length h) ≡ Some e
+get-seam : (h : List Entry) (e : Entry) (more : List Entry)
+    → slice_get (h ++ e ∷ more) (length h) ≡ Some e
 get-seam [] e more = refl
 get-seam (x ∷ h) e more = get-seam h e more
 
@@ -33,11 +34,13 @@ take-seam : (h more : List Entry) → take (length h) (h ++ more) ≡ h
 take-seam [] more = refl
 take-seam (x ∷ h) more = ap (λ (es : List Entry). x ∷ es) (take-seam h more)
 
-caller-is : (caller : Option SessionId) (session : SessionId) → is_caller caller session ≡ true → caller ≡ Some session
+caller-is : (caller : Option SessionId) (session : SessionId) → is_caller caller session ≡ true
+    → caller ≡ Some session
 caller-is None session e = absurd cc
 caller-is (Some caller) session e = ap (λ (n : ℕ). Some (record { 0 = n })) (eqb-true caller.0 session.0 e)
 
-turn-there : (pool : ℕ) (h : List Entry) (user : Machine) (ask : Ask) (entry : Entry) (more : List Entry) → next_call (standing_of pool h).world user ≡ Some ask
+turn-there : (pool : ℕ) (h : List Entry) (user : Machine) (ask : Ask) (entry : Entry) (more : List Entry)
+    → next_call (standing_of pool h).world user ≡ Some ask
     → entry_made (standing_of pool h) ask ≡ Some entry → is_caller (caller_of (next_number (standing_of pool h)) user ask) entry.session ≡ true
     → TakesTurn pool (h ++ entry ∷ more) user (length h + 1) (gone_on (standing_of pool h) user entry)
 turn-there pool h user ask entry more called made caller =
@@ -57,7 +60,8 @@ turn-there pool h user ask entry more called made caller =
     }
 
 -- one call, and then the others
-walks-entry : (pool count : ℕ) (h : List Entry) (user : Machine) (ask : Ask) (entry : Entry) (r : Walked) → next_call (standing_of pool h).world user ≡ Some ask
+walks-entry : (pool count : ℕ) (h : List Entry) (user : Machine) (ask : Ask) (entry : Entry) (r : Walked)
+    → next_call (standing_of pool h).world user ≡ Some ask
     → entry_made (standing_of pool h) ask ≡ Some entry → is_caller (caller_of (next_number (standing_of pool h)) user ask) entry.session ≡ true
     → Walks pool (h ++ entry ∷ []) (gone_on (standing_of pool h) user entry) r → Walks pool h user r
 walks-entry pool count h user ask entry r called made caller rest =
@@ -73,7 +77,8 @@ walks-entry pool count h user ask entry r called made caller rest =
       ended = rest.ended;
     }
 
-walks-none : (pool : ℕ) (h : List Entry) (user : Machine) (r : Walked) → next_call (standing_of pool h).world user ≡ None
+walks-none : (pool : ℕ) (h : List Entry) (user : Machine) (r : Walked)
+    → next_call (standing_of pool h).world user ≡ None
     → Some (record { standing = standing_of pool h; user = user }) ≡ Some r → Walks pool h user r
 walks-none pool h user r called e =
     let is : record { standing = standing_of pool h; user = user } ≡ r = some-same (record { standing = standing_of pool h; user = user }) r e in
@@ -84,7 +89,8 @@ walks-none pool h user r called e =
       ended = called;
     })
 
-walks-same : (pool count : ℕ) (h : List Entry) (user : Machine) (ask : Ask) (entry : Entry) (r : Walked) (same : Bool) → next_call (standing_of pool h).world user ≡ Some ask
+walks-same : (pool count : ℕ) (h : List Entry) (user : Machine) (ask : Ask) (entry : Entry) (r : Walked) (same : Bool)
+    → next_call (standing_of pool h).world user ≡ Some ask
     → entry_made (standing_of pool h) ask ≡ Some entry → is_caller (caller_of (next_number (standing_of pool h)) user ask) entry.session ≡ same
     → walk_entry (walk_calls count) (standing_of pool h) user ask (Some entry) ≡ Some r
     → (walk_calls count (standing_of pool (h ++ entry ∷ [])) (gone_on (standing_of pool h) user entry) ≡ Some r → Walks pool (h ++ entry ∷ []) (gone_on (standing_of pool h) user entry) r)
@@ -98,7 +104,8 @@ walks-same pool count h user ask entry r true called made caller e rest =
     walks-entry pool count h user ask entry r called made caller
     (rest (ap (λ (s : Standing). walk_calls count s (gone_on (standing_of pool h) user entry)) (standing-push pool h entry) ∙ sym some ∙ e))
 
-walks-made : (pool count : ℕ) (h : List Entry) (user : Machine) (ask : Ask) (r : Walked) (made : Option Entry) → next_call (standing_of pool h).world user ≡ Some ask
+walks-made : (pool count : ℕ) (h : List Entry) (user : Machine) (ask : Ask) (r : Walked) (made : Option Entry)
+    → next_call (standing_of pool h).world user ≡ Some ask
     → entry_made (standing_of pool h) ask ≡ made → walk_entry (walk_calls count) (standing_of pool h) user ask made ≡ Some r
     → ((entry : Entry) → walk_calls count (standing_of pool (h ++ entry ∷ [])) (gone_on (standing_of pool h) user entry) ≡ Some r → Walks pool (h ++ entry ∷ []) (gone_on (standing_of pool h) user entry) r)
     → Walks pool h user r
@@ -106,21 +113,24 @@ walks-made pool count h user ask r None called made e rest = absurd cc
 walks-made pool count h user ask r (Some entry) called made e rest =
     walks-same pool count h user ask entry r (is_caller (caller_of (next_number (standing_of pool h)) user ask) entry.session) called made refl e (rest entry)
 
-walks-call : (pool count : ℕ) (h : List Entry) (user : Machine) (r : Walked) (call : Option Ask) → next_call (standing_of pool h).world user ≡ call
+walks-call : (pool count : ℕ) (h : List Entry) (user : Machine) (r : Walked) (call : Option Ask)
+    → next_call (standing_of pool h).world user ≡ call
     → walk_call (walk_calls count) (standing_of pool h) user call ≡ Some r
     → ((entry : Entry) → walk_calls count (standing_of pool (h ++ entry ∷ [])) (gone_on (standing_of pool h) user entry) ≡ Some r → Walks pool (h ++ entry ∷ []) (gone_on (standing_of pool h) user entry) r)
     → Walks pool h user r
 walks-call pool count h user r None called e rest = walks-none pool h user r called e
 walks-call pool count h user r (Some ask) called e rest = walks-made pool count h user ask r (entry_made (standing_of pool h) ask) called refl e rest
 
-walks : (pool count : ℕ) (h : List Entry) (user : Machine) (r : Walked) → walk_calls count (standing_of pool h) user ≡ Some r → Walks pool h user r
+walks : (pool count : ℕ) (h : List Entry) (user : Machine) (r : Walked)
+    → walk_calls count (standing_of pool h) user ≡ Some r → Walks pool h user r
 walks pool zero h user r e = absurd cc
 walks pool (suc count) h user r e =
     walks-call pool count h user r (next_call (standing_of pool h).world user) refl e (λ entry. walks pool count (h ++ entry ∷ []) (gone_on (standing_of pool h) user entry) r)
 
 -- Units.
 
-turns-longer : (pool : ℕ) (h more : List Entry) (low count : ℕ) (before after : Machine) → low + count ≤ length h → TakesTurns pool h before (range_with_len (low + 1) count) after
+turns-longer : (pool : ℕ) (h more : List Entry) (low count : ℕ) (before after : Machine)
+    → low + count ≤ length h → TakesTurns pool h before (range_with_len (low + 1) count) after
     → TakesTurns pool (h ++ more) before (range_with_len (low + 1) count) after
 turns-longer pool h more low count before after within turns =
     let rise = range-rises low count in
@@ -132,9 +142,11 @@ turns-longer pool h more low count before after within turns =
 record WalksUnit (pool : ℕ) (h : List Entry) (users : List Machine) (share : UnitShare) (next : Stage) : Type 0 where
   more : List Entry
   standing_is : next.standing ≡ standing_of pool (h ++ more)
-  unit : (later : List Entry) → ReplaysUnit pool ((h ++ more) ++ later) users (length h) (share ∷ []) next.users (length (h ++ more))
+  unit : (later : List Entry)
+      → ReplaysUnit pool ((h ++ more) ++ later) users (length h) (share ∷ []) next.users (length (h ++ more))
 
-unit-walks : (pool : ℕ) (h : List Entry) (users : List Machine) (share : UnitShare) (before : Machine) (r : Walked) → slice_get users (share.user - 1) ≡ Some before
+unit-walks : (pool : ℕ) (h : List Entry) (users : List Machine) (share : UnitShare) (before : Machine) (r : Walked)
+    → slice_get users (share.user - 1) ≡ Some before
     → Walks pool h (starting share before) r → WalksUnit pool h users share (stage_with users (share.user - 1) r)
 unit-walks pool h users share before r here w =
     let total : length (h ++ w.more) ≡ length h + length w.more = length-append h w.more in
@@ -172,14 +184,16 @@ unit-walks pool h users share before r here w =
           };
     }
 
-share-found : (pool count : ℕ) (h : List Entry) (users : List Machine) (share : UnitShare) (before : Machine) (next : Stage) (walked : Option Walked) → slice_get users (share.user - 1) ≡ Some before
+share-found : (pool count : ℕ) (h : List Entry) (users : List Machine) (share : UnitShare) (before : Machine) (next : Stage) (walked : Option Walked)
+    → slice_get users (share.user - 1) ≡ Some before
     → walk_calls count (standing_of pool h) (starting share before) ≡ walked → option_map (stage_with users (share.user - 1)) walked ≡ Some next → WalksUnit pool h users share next
 share-found pool count h users share before next None here e is = absurd cc
 share-found pool count h users share before next (Some r) here e is =
     let same : stage_with users (share.user - 1) r ≡ next = cc in
     subst (WalksUnit pool h users share) same (unit-walks pool h users share before r here (walks pool count h (starting share before) r e))
 
-share-walks : (pool count : ℕ) (h : List Entry) (users : List Machine) (share : UnitShare) (next : Stage) (found : Option Machine) → slice_get users (share.user - 1) ≡ found
+share-walks : (pool count : ℕ) (h : List Entry) (users : List Machine) (share : UnitShare) (next : Stage) (found : Option Machine)
+    → slice_get users (share.user - 1) ≡ found
     → option_and_then (walk_from count (record { standing = standing_of pool h; users = users }) share) found ≡ Some next → WalksUnit pool h users share next
 share-walks pool count h users share next None here e = absurd cc
 share-walks pool count h users share next (Some before) here e =
@@ -203,7 +217,8 @@ units-then pool h users share shares between next w rest =
       units = subst (λ (es : List Entry). ReplaysUnits pool es users (length h) (map alone_share (share ∷ shares)) next.users (length es)) joined all;
     }
 
-unit-only : (count : ℕ) (stage : Stage) (share : UnitShare) (found : Option Stage) → option_and_then (λ (next : Stage). walk_unit count next []) found ≡ found
+unit-only : (count : ℕ) (stage : Stage) (share : UnitShare) (found : Option Stage)
+    → option_and_then (λ (next : Stage). walk_unit count next []) found ≡ found
 unit-only count stage share None = refl
 unit-only count stage share (Some next) = refl
 
@@ -221,7 +236,8 @@ units-walk pool count h users (share ∷ shares) next e =
     (ap (option_and_then (λ (s : Stage). walk_units count s (map alone_share shares))) (sym (unit-only count (record { standing = standing_of pool h; users = users }) share (walk_share count (record { standing = standing_of pool h; users = users }) share))) ∙ e)
     (λ h' users'. units-walk pool count h' users' shares next)
   where
-    by-share : (found : Option Stage) → walk_share count (record { standing = standing_of pool h; users = users }) share ≡ found
+    by-share : (found : Option Stage)
+        → walk_share count (record { standing = standing_of pool h; users = users }) share ≡ found
         → option_and_then (λ (s : Stage). walk_units count s (map alone_share shares)) found ≡ Some next
         → ((h' : List Entry) (users' : List Machine) → walk_units count (record { standing = standing_of pool h'; users = users' }) (map alone_share shares) ≡ Some next → WalksUnits pool h' users' shares next)
         → WalksUnits pool h users (share ∷ shares) next
@@ -233,7 +249,8 @@ units-walk pool count h users (share ∷ shares) next e =
         (others (h ++ w.more) between.users (ap (λ (s : Stage). walk_units count s (map alone_share shares)) (sym stands) ∙ rest))
 
 -- The past of what stands is the history.
-past-after : (s : Standing) (e : Entry) (made : Option Outcome) → (standing_after s e made).past ≡ s.past ++ e ∷ []
+past-after : (s : Standing) (e : Entry) (made : Option Outcome)
+    → (standing_after s e made).past ≡ s.past ++ e ∷ []
 past-after s e None = refl
 past-after s e (Some made) = refl
 

@@ -1,5 +1,5 @@
--- What a line changes of what its user has, without a call: nothing where it names a port that the user
--- does not have open, as one whose opening was refused.
+-- What a line changes of what its user has, without a call: nothing where it names a port that the
+-- user does not have open, as one whose opening was refused.
 use Rattle.std.specs.Prelude.{ℕ, not, List, Option, Some, None}
 use Rattle.nm_types.specs.declared.id.Side.{Side}
 use Rattle.nm_types.specs.Slots.{SlotState}
@@ -30,7 +30,8 @@ with_field Ptr value slot = record slot { ptr = value }
 
 abbrev pub poked_if : Side → ℕ → SlotField → ℕ → ℕ → OwnState → Option SlotState → OwnState
 poked_if side at field value id s None = s
-poked_if side at field value id s (Some slot) = with_user_slot side id at (with_field field value slot) s
+poked_if side at field value id s (Some slot) =
+    with_user_slot side id at (with_field field value slot) s
 
 -- a field of a user slot is written
 abbrev pub poked : Side → ℕ → SlotField → ℕ → ℕ → OwnState → OwnState
@@ -42,6 +43,8 @@ changed_by (acts.Fwd from to count) s = at_ports from to (with_forwarded count) 
 changed_by (acts.Poke name side slot field value) s = at_port name (poked side slot field value) s
 changed_by (acts.Move name side head cur) s = at_port name (λ id. with_positions side id head cur) s
 changed_by (acts.Swap name side slot other other_side other_slot quiet) s =
-    at_ports name other (λ id other_id. with_slots_swapped (not quiet) (record { side = side; port = id; at = slot }) (record { side = other_side; port = other_id; at = other_slot })) s
+    at_ports name other (λ id other_id. with_slots_swapped (not quiet)
+        (record { side = side; port = id; at = slot })
+        (record { side = other_side; port = other_id; at = other_slot })) s
 changed_by (acts.Extra name i j) s = at_port name (λ id. with_extra_link id i j) s
 changed_by _ s = s

@@ -12,6 +12,7 @@ use Rattle.nm_types.specs.declared.id.SessionId.{SessionId}
 use Rattle.vale_own.specs.Laws.{IsOfOther}
 use Rattle.vale_replay.specs.Machine.{Machine, next_call}
 use Rattle.vale_replay.specs.Replay.{Replays, ReplaysUser, IsUnderWay, ComesTo, entry_made, last_of}
+use Rattle.vale_replay.specs.Tasks.{Captures}
 
 -- a script without blocks
 abbrev pub IsLine : ReadUnit → Type 0
@@ -23,7 +24,9 @@ HasNoBlock program = AllByRecursion IsLine program.units
 
 -- at most one history plays a script without blocks
 abbrev pub PlaysOneHistory : Type 0
-PlaysOneHistory = (program : Program) (captures : List (List (List ℕ))) (history other : List Entry) → HasNoBlock program
+PlaysOneHistory =
+    (program : Program) (captures : Captures) (history other : List Entry)
+        → HasNoBlock program
     → Replays program captures history → Replays program captures other → history ≡ other
 
 -- the history begins with these entries, and the next one is the one that a call makes
@@ -33,21 +36,29 @@ pub record BeginsWith (pool : ℕ) (history part : List Entry) (call : Ask) : Ty
   pub joined : history ≡ part ++ entry ∷ rest
   pub made : entry_made (standing_of pool part) call ≡ Some entry
 
--- what is under way is the beginning of the history that plays, and the call that comes next makes its
--- next entry
+-- what is under way is the beginning of the history that plays, and the call that comes next makes
+-- its next entry
 abbrev pub UnderWayIsBeginning : Type 0
-UnderWayIsBeginning = (program : Program) (captures : List (List (List ℕ))) (history part : List Entry) (user : ℕ) (call : Ask) → HasNoBlock program
-    → Replays program captures history → ComesTo program captures part user call → BeginsWith program.pool history part call
+UnderWayIsBeginning =
+    (program : Program) (captures : Captures) (history part : List Entry) (user : ℕ) (call : Ask)
+        → HasNoBlock program
+    → Replays program captures history → ComesTo program captures part user call
+    → BeginsWith program.pool history part call
 
--- of two histories under way one is the beginning of the other, or they are one and come to one call
+-- of two histories under way one is the beginning of the other, or they are one and come to one
+-- call
 abbrev pub UnderWayIsOne : Type 0
-UnderWayIsOne = (program : Program) (captures : List (List (List ℕ))) (part other : List Entry) (user : ℕ) (call : Ask) (next_user : ℕ) (next : Ask) → HasNoBlock program
+UnderWayIsOne =
+    (program : Program) (captures : Captures) (part other : List Entry) (user : ℕ) (call : Ask) (next_user : ℕ) (next : Ask)
+        → HasNoBlock program
     → ComesTo program captures part user call → ComesTo program captures other next_user next
     → ((part ≡ other) × (call ≡ next)) ⊎ (BeginsWith program.pool part other next ⊎ BeginsWith program.pool other part call)
 
 -- each entry of a history that plays a script, or is under way, is the one that its ask makes
 abbrev pub PlayedIsLegal : Type 0
-PlayedIsLegal = (program : Program) (captures : List (List (List ℕ))) (history : List Entry) (nows : List Machine) → IsUnderWay program captures history nows → IsLegal program.pool history
+PlayedIsLegal =
+    (program : Program) (captures : Captures) (history : List Entry) (nows : List Machine)
+        → IsUnderWay program captures history nows → IsLegal program.pool history
 
 -- a user's entries in two pieces, one after the other
 pub record GoBetween (pool : ℕ) (history : List Entry) (before : Machine) (numbers others : List ℕ) (after : Machine) : Type 0 where
@@ -56,20 +67,29 @@ pub record GoBetween (pool : ℕ) (history : List Entry) (before : Machine) (num
   pub back : ReplaysUser pool history between others after
 
 abbrev pub PiecesAreOne : Type 0
-PiecesAreOne = (pool : ℕ) (history : List Entry) (before : Machine) (numbers others : List ℕ) (after : Machine) → Rise 0 (numbers ++ others) (length history)
+PiecesAreOne =
+    (pool : ℕ) (history : List Entry) (before : Machine) (numbers others : List ℕ) (after : Machine)
+        → Rise 0 (numbers ++ others) (length history)
     → ReplaysUser pool history before (numbers ++ others) after ↔ GoBetween pool history before numbers others after
 
 -- what a user's entries say is read in the history up to the last of them
 abbrev pub ReadsToItsLast : Type 0
-ReadsToItsLast = (pool : ℕ) (history : List Entry) (count : ℕ) (before : Machine) (numbers : List ℕ) (after : Machine) → last_of numbers ≤ count
+ReadsToItsLast =
+    (pool : ℕ) (history : List Entry) (count : ℕ) (before : Machine) (numbers : List ℕ) (after : Machine)
+        → last_of numbers ≤ count
     → ReplaysUser pool history before numbers after ↔ ReplaysUser pool (take count history) before numbers after
 
 -- the states to which a history brings its users are theirs alone
 abbrev pub StatesAreOne : Type 0
-StatesAreOne = (pool : ℕ) (history : List Entry) (before : Machine) (numbers : List ℕ) (after other : Machine)
-    → ReplaysUser pool history before numbers after → ReplaysUser pool history before numbers other → after ≡ other
+StatesAreOne =
+    (pool : ℕ) (history : List Entry) (before : Machine) (numbers : List ℕ) (after other : Machine)
+    → ReplaysUser pool history before numbers after → ReplaysUser pool history before numbers other
+    → after ≡ other
 
 -- entries of others leave the call that a user needs next as it is
 abbrev pub OthersChangeNoCall : Type 0
-OthersChangeNoCall = (pool : ℕ) (past more : List Entry) (user : Machine) (session : SessionId) → user.session ≡ Some session → IsLegal pool (past ++ more)
-    → All (IsOfOther session.0) more → next_call (world_of pool (past ++ more)) user ≡ next_call (world_of pool past) user
+OthersChangeNoCall =
+    (pool : ℕ) (past more : List Entry) (user : Machine) (session : SessionId)
+        → user.session ≡ Some session → IsLegal pool (past ++ more)
+    → All (IsOfOther session.0) more
+    → next_call (world_of pool (past ++ more)) user ≡ next_call (world_of pool past) user

@@ -1,5 +1,5 @@
--- The five owners of a buffer while a script is played: the pool, a lease, the kernel side of a ring, a slot
--- of a user, the list of a port's extra buffers.
+-- The five owners of a buffer while a script is played: the pool, a lease, the kernel side of a
+-- ring, a slot of a user, the list of a port's extra buffers.
 use Rattle.std.specs.Prelude.{ℕ, not, ◌==◌, ◌≡◌, ◌≤◌, if◌then◌else◌, List, [], ◌∷◌, ◌++◌, length, map, filter, flat_map, replicate, count_by, take, Option, Some, None}
 use Rattle.std.specs.List.{range_with_len, AllByRecursion}
 use Rattle.std.specs.Option.{option_map_or}
@@ -14,6 +14,7 @@ use Rattle.vale_entry.specs.Legal.{Standing, standing_of}
 use Rattle.vale_script.specs.Script.{Program}
 use Rattle.vale_replay.specs.Machine.{Machine}
 use Rattle.vale_replay.specs.Replay.{IsUnderWay}
+use Rattle.vale_replay.specs.Tasks.{Captures}
 
 pub data Owner : Type 0 where
   Pool : Owner
@@ -33,51 +34,63 @@ owner_of_each b owner buffers = replicate (times_in b buffers) owner
 abbrev pub owners_of_lots : ℕ → List Lot → List (List ℕ) → List Owner
 owners_of_lots b [] buffers = []
 owners_of_lots b (lot ∷ lots) [] = []
-owners_of_lots b (lot ∷ lots) (held ∷ buffers) = owner_of_each b (if lot.is_done then KernelSlot else Lease) held ++ owners_of_lots b lots buffers
+owners_of_lots b (lot ∷ lots) (held ∷ buffers) =
+    owner_of_each b (if lot.is_done then KernelSlot else Lease) held ++ owners_of_lots b lots buffers
 
 -- the kernel side of a port's receive ring
 abbrev pub owners_at : ℕ → List Port → List PortBuffers → List Owner
 owners_at b [] helds = []
 owners_at b (port ∷ ports) [] = []
-owners_at b (port ∷ ports) (held ∷ helds) = (owner_of_each b KernelSlot held.idle ++ owners_of_lots b port.line held.lots) ++ owners_at b ports helds
+owners_at b (port ∷ ports) (held ∷ helds) =
+    (owner_of_each b KernelSlot held.idle ++ owners_of_lots b port.line held.lots)
+    ++ owners_at b ports helds
 
 -- the places of a transmit ring: those of the user, and the others
 abbrev pub user_places : OwnRing → List ℕ
 user_places r = map (buffer_in Tx r) (filter (is_user_slot r.ring) (range_with_len 0 r.ring.size))
 
 abbrev pub kernel_places : OwnRing → List ℕ
-kernel_places r = map (buffer_in Tx r) (filter (λ at. not (is_user_slot r.ring at)) (range_with_len 0 r.ring.size))
+kernel_places r =
+    map (buffer_in Tx r) (filter (λ at. not (is_user_slot r.ring at)) (range_with_len 0 r.ring.size))
 
 abbrev pub owners_of_tx : ℕ → Option OwnRing → List Owner
 owners_of_tx b None = []
-owners_of_tx b (Some r) = owner_of_each b UserSlot (user_places r) ++ owner_of_each b KernelSlot (kernel_places r)
+owners_of_tx b (Some r) =
+    owner_of_each b UserSlot (user_places r) ++ owner_of_each b KernelSlot (kernel_places r)
 
 abbrev pub owners_of_port : ℕ → OwnPort → List Owner
-owners_of_port b p = owners_of_tx b p.tx ++ (owner_of_each b UserSlot p.rx.held ++ owner_of_each b ExtraList p.extra)
+owners_of_port b p =
+    owners_of_tx b p.tx ++ (owner_of_each b UserSlot p.rx.held ++ owner_of_each b ExtraList p.extra)
 
 abbrev pub owners_of_user : ℕ → Machine → List Owner
 owners_of_user b user = flat_map (owners_of_port b) user.own.ports
 
 abbrev pub owners_of : Standing → List Machine → ℕ → List Owner
-owners_of s users b = owner_of_each b Pool s.holdings.free ++ (owners_at b s.world.ports s.holdings.ports ++ flat_map (owners_of_user b) users)
+owners_of s users b =
+    owner_of_each b Pool s.holdings.free
+    ++ (owners_at b s.world.ports s.holdings.ports ++ flat_map (owners_of_user b) users)
 
 -- the buffers in a user's places are those that its session holds
 abbrev pub buffers_in_places : Machine → List ℕ
 buffers_in_places user = flat_map buffers_in user.own.ports
 
 abbrev pub buffers_of_user : Standing → Machine → List ℕ
-buffers_of_user s user = option_map_or (λ (session : SessionId). buffers_of_session s.holdings.sessions session.0) user.session []
+buffers_of_user s user =
+    option_map_or (λ (session : SessionId). buffers_of_session s.holdings.sessions session.0) user.session []
 
 abbrev pub HoldsItsOwn : Standing → Machine → Type 0
-HoldsItsOwn s user = (b : ℕ) → times_in b (buffers_in_places user) ≡ times_in b (buffers_of_user s user)
+HoldsItsOwn s user =
+    (b : ℕ) → times_in b (buffers_in_places user) ≡ times_in b (buffers_of_user s user)
 
 -- each buffer of the pool has just one owner, and no other index has any
 pub record AreOwnedOnce (pool : ℕ) (s : Standing) (users : List Machine) : Type 0 where
   pub once : (b : ℕ) → length (owners_of s users b) ≡ (if is_buffer_index pool b then 1 else 0)
   pub own : AllByRecursion (HoldsItsOwn s) users
 
--- before each entry of a history that plays a script, and after the last one, wherever its users are on
--- their way
-abbrev pub AreAlwaysOwnedOnce : Program → List (List (List ℕ)) → List Entry → Type 0
-AreAlwaysOwnedOnce program captures history = (count : ℕ) (nows : List Machine) → count ≤ length history → IsUnderWay program captures (take count history) nows
+-- before each entry of a history that plays a script, and after the last one, wherever its users
+-- are on their way
+abbrev pub AreAlwaysOwnedOnce : Program → Captures → List Entry → Type 0
+AreAlwaysOwnedOnce program captures history =
+    (count : ℕ) (nows : List Machine) → count ≤ length history
+        → IsUnderWay program captures (take count history) nows
     → AreOwnedOnce program.pool (standing_of program.pool (take count history)) nows

@@ -10,17 +10,18 @@ use Rattle.vale_script.specs.Words.{number_in, text_of, port_name, is_hex_byte, 
 use Rattle.vale_script.specs.Script.{Program}
 use Rattle.vale_replay.specs.Saved.{SavedFile, saved_files}
 use Rattle.vale_replay.specs.Walk.{Stage, walk}
+use Rattle.vale_replay.specs.Tasks.{Captures}
 
 abbrev transcript_at : ℕ → Option Stage → List ℕ
 transcript_at pool None = []
 transcript_at pool (Some stage) = transcript_text pool stage.standing.past
 
-abbrev transcript_by : List (List (List ℕ)) → Result Program Fault → List ℕ
+abbrev transcript_by : Captures → Result Program Fault → List ℕ
 transcript_by captures (Err fault) = []
 transcript_by captures (Ok program) = transcript_at program.pool (walk 1000 program captures)
 
 -- the transcript of a script that plays these captures
-abbrev transcript_of : List (List (List ℕ)) → List ℕ → List ℕ
+abbrev transcript_of : Captures → List ℕ → List ℕ
 transcript_of captures script = transcript_by captures (script_of script)
 
 -- One broadcast frame reaches the other port.
@@ -127,7 +128,7 @@ abbrev saved_at_end : Program → Option Stage → List SavedFile
 saved_at_end program None = []
 saved_at_end program (Some stage) = saved_files program stage.standing.past stage.users
 
-abbrev saved_by_script : List (List (List ℕ)) → Result Program Fault → List SavedFile
+abbrev saved_by_script : Captures → Result Program Fault → List SavedFile
 saved_by_script captures (Err fault) = []
 saved_by_script captures (Ok program) = saved_at_end program (walk 1000 program captures)
 

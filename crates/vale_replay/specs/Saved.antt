@@ -15,8 +15,8 @@ use Rattle.vale_script.specs.Script.{Program}
 use Rattle.vale_replay.specs.Machine.{Machine, Save}
 use Rattle.vale_replay.specs.Replay.{act_of}
 
--- a record of a saved capture: the number of the entry in place of seconds, and the frame's place in it in
--- place of their fraction
+-- a record of a saved capture: the number of the entry in place of seconds, and the frame's place
+-- in it in place of their fraction
 pub record SavedFrame : Type 0 where
   pub seconds : ℕ
   pub fraction : ℕ
@@ -24,7 +24,8 @@ pub record SavedFrame : Type 0 where
 
 abbrev pub saved_from : ℕ → ℕ → List Frame → List SavedFrame
 saved_from number place [] = []
-saved_from number place (frame ∷ frames) = record { seconds = number; fraction = place; bytes = frame.bytes } ∷ saved_from number (place + 1) frames
+saved_from number place (frame ∷ frames) =
+    record { seconds = number; fraction = place; bytes = frame.bytes } ∷ saved_from number (place + 1) frames
 
 abbrev pub saved_at : World → Option Port → List SavedFrame
 saved_at w None = []
@@ -47,7 +48,8 @@ pub record SavedFile : Type 0 where
   pub frames : List SavedFrame
 
 abbrev pub saved_file : ℕ → List Entry → Save → SavedFile
-saved_file pool history save = record { file = save.file; frames = saved_frames pool history save.port.0 }
+saved_file pool history save =
+    record { file = save.file; frames = saved_frames pool history save.port.0 }
 
 -- the files of a script's `save` lines, in their order
 abbrev pub file_of_save : Act → Option (List ℕ)
@@ -67,7 +69,9 @@ saves_of users = flat_map (λ (user : Machine). user.saves) users
 abbrev pub save_into : List Machine → List ℕ → Option Save
 save_into users file = find (λ (save : Save). bytes_eq save.file file) (saves_of users)
 
--- The files that a script has saved once its history is at its end, with what the users' ports gave; a
--- line that saves a port whose opening was refused saves no file.
+-- The files that a script has saved once its history is at its end, with what the users' ports
+-- gave; a line that saves a port whose opening was refused saves no file.
 abbrev pub saved_files : Program → List Entry → List Machine → List SavedFile
-saved_files program history users = filter_map (λ file. option_map (saved_file program.pool history) (save_into users file)) (files_saved program)
+saved_files program history users =
+    filter_map (λ file. option_map (saved_file program.pool history) (save_into users file))
+    (files_saved program)

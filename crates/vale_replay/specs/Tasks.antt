@@ -6,8 +6,8 @@ use Rattle.nm_types.specs.declared.id.Sides.{Sides}
 use Rattle.vale_script.specs.declared.script.Act.{Act}
 use Rattle.vale_script.specs.declared.script.Act.TheVariants as acts
 
--- Each task makes one call at most. A line that puts many frames puts them one by one, and a port is shut
--- and then finished.
+-- Each task makes one call at most. A line that puts many frames puts them one by one, and a port
+-- is shut and then finished.
 pub data Task : Type 0 where
   Arrive : Task
   OpenPort : (name : List ℕ) → (tx rx extra : ℕ) → Task
@@ -23,12 +23,16 @@ pub data Task : Type 0 where
   Depart : Task
   EndLine : Task
 
--- the captured bytes of each record of a file that is played: the files and their records stand in the
--- same order
-abbrev pub records_of : List (List ℕ) → List (List (List ℕ)) → List ℕ → List (List ℕ)
+-- for each file that a script plays, in their order, the captured bytes of its records
+abbrev pub Captures : Type 0
+Captures = List (List (List ℕ))
+
+-- the records of a file
+abbrev pub records_of : List (List ℕ) → Captures → List ℕ → List (List ℕ)
 records_of [] captures file = []
 records_of (name ∷ names) [] file = []
-records_of (name ∷ names) (records ∷ captures) file = if bytes_eq name file then records else records_of names captures file
+records_of (name ∷ names) (records ∷ captures) file =
+    if bytes_eq name file then records else records_of names captures file
 
 -- the first `len` bytes of destination, source, 88 b5 and the fill byte repeated
 abbrev pub frame_of_put : Mac → Mac → ℕ → ℕ → List ℕ
@@ -38,8 +42,8 @@ frame_of_put to from len fill = take len (to.0 ++ (from.0 ++ (136 ∷ 181 ∷ re
 abbrev pub fits_a_buffer : List ℕ → Bool
 fits_a_buffer bytes = nat_le (length bytes) buffer_bytes
 
--- Frames one after another, with a sync behind each `batch` of them and behind the last one; so many are
--- still to be put before the next sync.
+-- Frames one after another, with a sync behind each `batch` of them and behind the last one; so
+-- many are still to be put before the next sync.
 abbrev pub played_before_sync : List ℕ → ℕ → ℕ → List (List ℕ) → List Task
 played_before_sync name batch left [] = if left == batch then [] else SendFrames name ∷ []
 played_before_sync name batch left (bytes ∷ frames) =
@@ -53,15 +57,19 @@ played name batch frames = played_before_sync name batch batch (filter fits_a_bu
 abbrev pub tasks_of : (List ℕ → List (List ℕ)) → Act → List Task
 tasks_of records acts.Enter = Arrive ∷ []
 tasks_of records (acts.Open name tx rx extra) = OpenPort name tx rx extra ∷ []
-tasks_of records (acts.Put name count to from len fill) = replicate count (PutFrame name (frame_of_put to from len fill))
+tasks_of records (acts.Put name count to from len fill) =
+    replicate count (PutFrame name (frame_of_put to from len fill))
 tasks_of records (acts.Hex name frame) = PutFrame name frame.bytes ∷ []
 tasks_of records (acts.Play name file batch) = played name batch (records file)
 tasks_of records (acts.Tx name) = SendFrames name ∷ []
-tasks_of records (acts.Rx name keep) = if keep then TakeFrames name ∷ [] else ChangeOwn (acts.Rx name keep) ∷ TakeFrames name ∷ []
+tasks_of records (acts.Rx name keep) =
+    if keep then TakeFrames name ∷ [] else ChangeOwn (acts.Rx name keep) ∷ TakeFrames name ∷ []
 tasks_of records (acts.Fwd from to count) = ChangeOwn (acts.Fwd from to count) ∷ []
-tasks_of records (acts.Poke name side slot field value) = ChangeOwn (acts.Poke name side slot field value) ∷ []
+tasks_of records (acts.Poke name side slot field value) =
+    ChangeOwn (acts.Poke name side slot field value) ∷ []
 tasks_of records (acts.Move name side head cur) = ChangeOwn (acts.Move name side head cur) ∷ []
-tasks_of records (acts.Swap name side slot other other_side other_slot quiet) = ChangeOwn (acts.Swap name side slot other other_side other_slot quiet) ∷ []
+tasks_of records (acts.Swap name side slot other other_side other_slot quiet) =
+    ChangeOwn (acts.Swap name side slot other other_side other_slot quiet) ∷ []
 tasks_of records (acts.Extra name i j) = ChangeOwn (acts.Extra name i j) ∷ []
 tasks_of records (acts.Watch monitor target sides) = WatchPort monitor target sides ∷ []
 tasks_of records (acts.Stat name) = ReadCounts name ∷ []
