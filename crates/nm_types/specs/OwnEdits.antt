@@ -6,6 +6,8 @@ use Rattle.std.specs.Int.RustNames.{bit_or}
 use Rattle.bitflags.specs.Sets.{without}
 use Rattle.nm_types.specs.declared.id.Side.{Side}
 use Rattle.nm_types.specs.declared.id.Side.TheVariants.{Tx, Rx}
+use Rattle.nm_types.specs.declared.slot.SlotWrite.{SlotWrite}
+use Rattle.nm_types.specs.declared.slot.SlotWrite.TheVariants.{BufIdx, Len, Flags, Ptr}
 use Rattle.nm_types.specs.Positions.{step_on, is_user_slot}
 use Rattle.nm_types.specs.Slots.{SlotState, buf_changed, no_learn, indirect, more_fragments}
 use Rattle.nm_types.specs.SyncChecks.{ring_refusal, contains_index}
@@ -38,6 +40,20 @@ user_slot_at side s id at = option_and_then (λ (r : OwnRing). user_slot side r 
 
 abbrev pub with_user_slot : Side → ℕ → ℕ → SlotState → OwnState → OwnState
 with_user_slot side id at slot s = with_ring side id (λ (r : OwnRing). if is_user_slot r.ring at then with_slot side at slot r else r) s
+
+-- one field of a user slot is written
+abbrev pub slot_written : SlotWrite → SlotState → SlotState
+slot_written (BufIdx idx) slot = record slot { buf_idx = idx }
+slot_written (Len len) slot = record slot { len = len }
+slot_written (Flags flags) slot = record slot { flags = flags }
+slot_written (Ptr ptr) slot = record slot { ptr = ptr }
+
+abbrev pub with_written_slot : Side → ℕ → ℕ → SlotWrite → OwnState → Option SlotState → OwnState
+with_written_slot side id at write s None = s
+with_written_slot side id at write s (Some slot) = with_user_slot side id at (slot_written write slot) s
+
+abbrev pub with_slot_field : Side → ℕ → ℕ → SlotWrite → OwnState → OwnState
+with_slot_field side id at write s = with_written_slot side id at write s (user_slot_at side s id at)
 
 -- two user slots change the buffers that they name, and say so unless it is done quietly
 abbrev pub announced_if : Bool → ℕ → ℕ

@@ -4,14 +4,16 @@ use Rattle.std.specs.Prelude.{ℕ, Bool, ◌≡◌, true, false, List, [], ◌�
 use Rattle.nm_types.specs.declared.id.Side.{Side}
 use Rattle.nm_types.specs.declared.id.Side.TheVariants.{Tx, Rx}
 use Rattle.nm_types.specs.declared.id.Chain.{Chain}
+use Rattle.nm_types.specs.declared.slot.SlotWrite.TheVariants.{BufIdx, Len, Flags, Ptr}
 use Rattle.nm_types.specs.declared.fault.SyncFault.{SyncFault}
 use Rattle.nm_types.specs.declared.fault.SyncFault.TheVariants.{HeadOut, CurOut, Indirect, IndexOut, NotHeld, Doubled, Unannounced, LongLen, Fragment}
 use Rattle.nm_types.specs.Positions.{RingState}
 use Rattle.nm_types.specs.Frames.{Frame}
 use Rattle.nm_types.specs.Slots.{SlotState, pushed_frames}
-use Rattle.nm_types.specs.OwnPorts.{OwnRing, OwnPort, OwnState, Arrival, empty_own, bytes_at, port_with_id, ring_at, buffers_in, named_of, refusal_in, pushed_on}
+use Rattle.nm_types.specs.Chain.{linked}
+use Rattle.nm_types.specs.OwnPorts.{OwnRing, OwnPort, OwnState, Arrival, empty_own, bytes_at, with_bytes, port_with_id, ring_at, buffers_in, named_of, refusal_in, pushed_on}
 use Rattle.nm_types.specs.OwnSyncs.{own_after_open, own_after_send, own_after_put, own_after_receive, own_after_reset, own_after_finish, offered_slots, back_on, chain_in}
-use Rattle.nm_types.specs.OwnEdits.{SlotPlace, with_positions, with_all_back, user_slot_at, with_user_slot, with_slots_swapped, has_room, with_frame, with_forwarded, with_extra_link, with_head_of_chain}
+use Rattle.nm_types.specs.OwnEdits.{SlotPlace, with_positions, with_all_back, user_slot_at, with_user_slot, with_slot_field, with_slots_swapped, has_room, with_frame, with_forwarded, with_extra_link, with_head_of_chain}
 
 abbrev arrival : ℕ → Arrival
 arrival buffer = record { buffer = buffer; bytes = [] }
@@ -322,3 +324,68 @@ taken_slot = refl
 
 taken_buffer_gone : bytes_at both_taken 2 ≡ []
 taken_buffer_gone = refl
+
+-- a frame that a pipe has not taken is in the kernel side's slot: its buffer is no named one
+pending_not_named : refusal_on Tx 3 (with_user_slot Tx 3 2 (record { buf_idx = 3; len = 14; flags = 1; ptr = 0 }) (with_positions Tx 3 3 3 one_taken)) ≡ Some (NotHeld 2 3)
+pending_not_named = refl
+
+-- where the other end is gone the push is accepted, and both frames stay pushed
+peer_gone_offered : option_map offered_slots (ring_at Tx (own_after_put 3 [] pipe_pushed) 3) ≡ Some (0 ∷ 1 ∷ [])
+peer_gone_offered = refl
+
+peer_gone_positions : positions_on Tx 3 (own_after_put 3 [] pipe_pushed) ≡ Some (record { size = 4; head = 2; cur = 2; tail = 3; accepted_head = 2; last_tail = 3 })
+peer_gone_positions = refl
+
+-- Two ports of one session: a slot of the first names a buffer in the second's places.
+
+abbrev two_ports : OwnState
+two_ports = own_after_open 3 (codes "vale0:c") 4 4 (map arrival (10 ∷ 11 ∷ 12 ∷ 13 ∷ [])) four_slots
+
+abbrev across : ℕ → OwnState
+across head = own_after_send 2 (with_user_slot Tx 2 0 (record { buf_idx = 11; len = 0; flags = 1; ptr = 0 }) (with_positions Tx 2 head head two_ports))
+
+across_places : held_on Tx 2 (across 2) ≡ Some (11 ∷ 3 ∷ 4 ∷ 5 ∷ [])
+across_places = refl
+
+across_places_there : held_on Tx 3 (across 2) ≡ Some (10 ∷ 2 ∷ 12 ∷ 13 ∷ [])
+across_places_there = refl
+
+-- the slot there keeps naming the buffer that left
+across_unannounced : refusal_on Tx 3 (with_positions Tx 3 2 2 (across 2)) ≡ Some (Unannounced 1 11 2)
+across_unannounced = refl
+
+across_not_named : refusal_on Tx 3 (with_positions Tx 3 2 2 (across 1)) ≡ Some (NotHeld 1 11)
+across_not_named = refl
+
+-- a detach names what stands in the port's places, wherever it came from
+across_detached : detached (across 2) 3 ≡ Some (10 ∷ 2 ∷ 12 ∷ 13 ∷ [], chain 0 0)
+across_detached = refl
+
+-- a reset is of all the user's slots, pushed or not
+unpushed_reset : own_after_reset 2 Tx (with_user_slot Tx 2 2 (record { buf_idx = 3; len = 9; flags = 8; ptr = 7 }) four_slots) ≡ four_slots
+unpushed_reset = refl
+
+-- a received frame's length stays in a reset, and its address does not
+received_len_stays : own_after_reset 4 Rx (with_slot_field Rx 4 0 (BufIdx 10) (with_slot_field Rx 4 0 (Flags 1) (with_slot_field Rx 4 0 (Ptr 5) second_user))) ≡ second_user
+received_len_stays = refl
+
+received_len_written : user_slot_at Rx (own_after_reset 4 Rx (with_slot_field Rx 4 0 (Len 60) second_user)) 4 0 ≡ Some (record { buf_idx = 14; len = 60; flags = 0; ptr = 0 })
+received_len_written = refl
+
+-- no field is written of a slot that is not the user's
+kept_slot_not_written : with_slot_field Tx 2 3 (Len 60) four_slots ≡ four_slots
+kept_slot_not_written = refl
+
+-- a push goes round the ring
+abbrev gone_round : OwnState
+gone_round = with_frame 2 broadcast (with_frame 2 broadcast (own_after_send 2 (with_positions Tx 2 3 3 four_slots)))
+
+round_slots : option_map offered_slots (ring_at Tx gone_round 2) ≡ Some (3 ∷ 0 ∷ [])
+round_slots = refl
+
+round_positions : positions_on Tx 2 (own_after_send 2 gone_round) ≡ Some (positions 4 1 1 0)
+round_positions = refl
+
+-- a link may be any number of 32 bits
+greatest_link : detached (with_bytes 6 (linked 4294967295 (bytes_at with_extras 6)) with_extras) 2 ≡ Some (2 ∷ 3 ∷ 6 ∷ 7 ∷ 8 ∷ [], chain 1 2)
+greatest_link = refl

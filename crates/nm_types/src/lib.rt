@@ -28,4 +28,4 @@ pub use limits::{
 pub use name::{Kind, Name};
 pub use place::Place;
 pub use refusal::{RingFault, SlotFault};
-pub use slot::{Seen, Slot};
+pub use slot::{Seen, Slot, SlotWrite};
