@@ -95,11 +95,12 @@ impl Hold {
     pub fn set_port(&mut self, port: PortId, tx: u32, rx: u32, extra: u32)
         requires room { self.old.room ≡ Some (record { tx = tx; rx = rx; extra = extra }) }
         requires new { has_port self.old.ports port.0 ≡ false }
-        ensures { self.new ≡ record self.old {
+        ensures ports { self.new ≡ record self.old {
           ports = self.old.ports
               ++ record { port = port; sizes = record { tx = tx; rx = rx; extra = extra } } ∷ [];
           room = None;
         } }
+        ensures hold { IsHold self.new }
     {
         if let Some(mut table) = self.room.take() {
             table.places.port = port;
@@ -110,9 +111,10 @@ impl Hold {
     /// Removes the places of a port, which hold nothing.
     pub fn drop_port(&mut self, port: PortId)
         requires { HoldsNothing self.old port.0 }
-        ensures { self.new ≡ record self.old {
+        ensures ports { self.new ≡ record self.old {
           ports = filter (λ (p : PortPlaces). not (p.port.0 == port.0)) self.old.ports;
         } }
+        ensures hold { IsHold self.new }
     {
         self.ports.remove(port);
     }
@@ -236,6 +238,7 @@ impl Hold {
             (Some (record { home = record { place = place; named = false }; buf = buf })) }
         ensures places { (p : Place) → index_at self.new p
             ≡ (if is_same_place place p then Some buf.index else index_at self.old p) }
+        ensures hold { IsHold self.new }
     {
         let idx = buf.index();
         let home = Home {
@@ -257,6 +260,7 @@ impl Hold {
         ensures cell { self.new ≡ with_cell self.old result.index None }
         ensures places { (p : Place) → index_at self.new p
             ≡ (if is_same_place place p then None else index_at self.old p) }
+        ensures hold { IsHold self.new }
     {
         let idx = self.ports.number(place);
         self.ports.put(place, 0);
@@ -273,6 +277,7 @@ impl Hold {
         ensures cell { (idx : ℕ) → index_at self.old place ≡ Some idx
             → self.new ≡ with_cell self.old idx (cell_named named (standing_at self.old idx)) }
         ensures places { SamePlaces (places_of self.old) (places_of self.new) }
+        ensures hold { IsHold self.new }
     {
         let idx = self.ports.number(place);
         rename(&mut self.cells[idx as usize], named);
@@ -290,6 +295,7 @@ impl Hold {
             → is_named_at self.new i ≡ is_named_at self.old (swapped was idx i) }
         ensures ports { self.new.ports ≡ self.old.ports }
         ensures room { self.new.room ≡ self.old.room }
+        ensures hold { IsHold self.new }
     {
         let was = self.ports.number(place);
         if was == idx {

@@ -8,7 +8,7 @@ use Rattle.nm_hold.specs.Holds.{places_in, cell_at}
 use Rattle.nm_hold.specs.Ties.{IsTied}
 use Rattle.nm_hold.proofs.Numbers.{ports_of-put}
 use Rattle.nm_hold.proofs.Tied.{held-number}
-use Rattle.nm_hold.proofs.Shown.{number_if-none}
+use Rattle.nm_hold.proofs.Shown.{number_if-none, IsHold-stored}
 use Rattle.nm_hold.proofs.Steps.{put_are_tables, added_tied, added_places}
 use Rattle.nm_hold.proofs.hold.Hold.add.Goals as goal
 
@@ -72,3 +72,6 @@ returns-clause-places c p =
     let places = added_places cells (slice_set cells c.index-idx.result (Some s)) c.self.inside.ports.tables c.args.place c.index-idx.result inv.tables inv.tied f.has (omega (arith, f.low)) f.tied p in
     let named = ap (λ (n : ℕ). if is_same_place c.args.place p then Some n else held_at (places_in cells) p) c.index-idx.ensures in
     rw (← c.self.view_is, f.after) (places ∙ named)
+
+pub returns-clause-hold : goal.returns-clause-hold
+returns-clause-hold c = let inv = invariant_of-self c in IsHold-stored _ _ _ inv.low inv.high inv.tables inv.once inv.tied

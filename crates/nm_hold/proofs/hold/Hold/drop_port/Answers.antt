@@ -5,7 +5,7 @@ use Rattle.nm_hold.specs.Tables.{IsTable, ports_of, number_at}
 use Rattle.nm_hold.specs.Holds.{port_of}
 use Rattle.nm_hold.proofs.Numbers.{without, number-without, tables-without, ports_of-without}
 use Rattle.nm_hold.proofs.Tied.{tied-same, held-number}
-use Rattle.nm_hold.proofs.Shown.{number_if-none, room_kept, once-without}
+use Rattle.nm_hold.proofs.Shown.{number_if-none, room_kept, once-without, IsHold-stored}
 use Rattle.nm_hold.proofs.hold.Hold.drop_port.Goals as goal
 
 pub invariant_of-self : goal.invariant_of-self
@@ -27,9 +27,12 @@ invariant_of-self c =
       room = room_kept c.self.inside.room c.self.inside.ports.spare c.remove.new.self.spare c.remove.ensures.spare inv.room;
     }
 
-pub returns : goal.returns
-returns c =
+pub returns-clause-ports : goal.returns-clause-ports
+returns-clause-ports c =
     let tables = c.self.inside.ports.tables in
     let port = c.args.port.0 in
     let kept : c.remove.new.self.tables ≡ without port tables = c.remove.ensures.tables in
     rw (← c.self.view_is, kept, ports_of-without port tables) refl
+
+pub returns-clause-hold : goal.returns-clause-hold
+returns-clause-hold c = let inv = invariant_of-self c in IsHold-stored _ _ _ inv.low inv.high inv.tables inv.once inv.tied

@@ -9,7 +9,7 @@ use Rattle.nm_hold.proofs.hold.Hold.exchange.Goals.{in_default-via-in-Some+in_de
 use Rattle.nm_hold.specs.Tables.{number_at, put_in}
 use Rattle.nm_hold.specs.Holds.{cell_at, places_in, is_named_in}
 use Rattle.nm_hold.proofs.Tied.{number_if-some, held-number, standing_by_number, within_cells}
-use Rattle.nm_hold.proofs.Shown.{cell_read, held_has_number, named_stands, number_if-is}
+use Rattle.nm_hold.proofs.Shown.{cell_read, held_has_number, named_stands, number_if-is, IsHold-stored}
 use Rattle.nm_hold.proofs.Exchanging.{swapped-same, places_stay, Exchange, put_both, ports_of-put_both, exchange_made, moved, count_moved, tied_moved, places_moved, bufs_moved, all_moved, named_moved}
 use Rattle.nm_hold.proofs.hold.Hold.exchange.Goals as goal
 
@@ -179,3 +179,11 @@ returns-clause-all c =
     let tables = c.self.inside.ports.tables in
     let new = put_both c.args.place c.args.idx f.t.home.place (number_at tables c.args.place) tables in
     rw (← c.self.view_is, f.cells) (all_moved cells tables new c.args.place c.args.idx f.s f.t f.made)
+
+pub returns-clause-hold : goal.returns-clause-hold
+returns-clause-hold c = let inv = invariant_of-self c in IsHold-stored _ _ _ inv.low inv.high inv.tables inv.once inv.tied
+
+pub returns-then-was-idx-clause-hold : goal.returns-then-was-idx-clause-hold
+returns-then-was-idx-clause-hold c =
+    let inv = c.self.invariant in
+    rw (← c.self.view_is) (IsHold-stored c.self.inside.cells.items c.self.inside.ports.tables _ inv.low inv.high inv.tables inv.once inv.tied)

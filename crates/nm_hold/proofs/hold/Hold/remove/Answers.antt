@@ -7,7 +7,7 @@ use Rattle.nm_hold.specs.Holds.{cell_at}
 use Rattle.nm_hold.specs.Ties.{IsTied}
 use Rattle.nm_hold.proofs.Numbers.{ports_of-put}
 use Rattle.nm_hold.proofs.Tied.{number_if-some, held-number, standing_by_number, within_cells}
-use Rattle.nm_hold.proofs.Shown.{cell_read, held_has_number}
+use Rattle.nm_hold.proofs.Shown.{cell_read, held_has_number, IsHold-stored}
 use Rattle.nm_hold.proofs.Steps.{put_are_tables, removed_tied, removed_places}
 use Rattle.nm_hold.proofs.hold.Hold.remove.Goals as goal
 
@@ -95,3 +95,6 @@ returns-clause-places c q =
     let inv = c.self.invariant in
     let cells = c.self.inside.cells.items in
     rw (← c.self.view_is, c.take.ensures.after) (removed_places cells (slice_set cells c.number-idx.result None) c.self.inside.ports.tables c.args.place inv.tables inv.tied f.some f.tied q)
+
+pub returns-clause-hold : goal.returns-clause-hold
+returns-clause-hold c = let inv = invariant_of-self c in IsHold-stored _ _ _ inv.low inv.high inv.tables inv.once inv.tied

@@ -6,7 +6,7 @@ use Rattle.nm_hold.specs.Tables.{number_at}
 use Rattle.nm_hold.specs.Holds.{cell_at}
 use Rattle.nm_hold.specs.Ties.{IsTied}
 use Rattle.nm_hold.proofs.Tied.{tied-kept, held-number, standing_by_number, within_cells}
-use Rattle.nm_hold.proofs.Shown.{cell_read, held_has_number, number_if-is}
+use Rattle.nm_hold.proofs.Shown.{cell_read, held_has_number, number_if-is, IsHold-stored}
 use Rattle.nm_hold.proofs.Steps.{same_places}
 use Rattle.nm_hold.proofs.hold.Hold.set_named.Goals as goal
 
@@ -56,3 +56,6 @@ pub returns-clause-places : goal.returns-clause-places
 returns-clause-places c q =
     let f = step c in
     rw (← c.self.view_is) (same_places c.self.inside.cells.items (slice_set c.self.inside.cells.items c.number-idx.result c.rename.new.cell) c.self.inside.ports.tables c.self.invariant.tied f.tied q)
+
+pub returns-clause-hold : goal.returns-clause-hold
+returns-clause-hold c = let inv = invariant_of-self c in IsHold-stored _ _ _ inv.low inv.high inv.tables inv.once inv.tied

@@ -5,7 +5,7 @@ use Rattle.nm_hold.specs.Tables.{ports_of}
 use Rattle.nm_hold.specs.Ties.{IsBlank}
 use Rattle.nm_hold.proofs.Numbers.{number-push}
 use Rattle.nm_hold.proofs.Tied.{tied-same}
-use Rattle.nm_hold.proofs.Shown.{tables-push, once-push}
+use Rattle.nm_hold.proofs.Shown.{tables-push, once-push, IsHold-stored}
 use Rattle.nm_hold.proofs.hold.Hold.set_port.Goals as goal
 
 pub invariant_of-self : goal.invariant_of-self
@@ -27,3 +27,6 @@ invariant_of-self c =
       tied = rw items (tied-same cells tables (tables ++ new ∷ []) inv.tied (λ p. number-push new tables p blank));
       room = rw c.take.ensures.after tt;
     }
+
+pub returns-in-Some-clause-hold : goal.returns-in-Some-clause-hold
+returns-in-Some-clause-hold c = let inv = invariant_of-self c in IsHold-stored _ _ _ inv.low inv.high inv.tables inv.once inv.tied
