@@ -18,8 +18,9 @@ use Rattle.nm_hold.specs.declared.standing.Standing.{Standing}
 use Rattle.nm_hold.specs.Holds.{HoldState, buffers_of, empty_hold}
 use Rattle.nm_hold.proofs.Spots.{nat_eq-is}
 use Rattle.nm_user.specs.declared.port.UserPort.{UserPort}
-use Rattle.nm_user.specs.RingSlots.{RingSlots, slot_of_user}
-use Rattle.nm_user.specs.Sides.{slot_at, pushed_seen, pushed_seen_at}
+use Rattle.nm_user.specs.RingSlots.{RingSlots, slot_of_user, slot_at, slot_before_tail}
+use Rattle.nm_user.specs.Acts.{head_slot_in}
+use Rattle.nm_user.specs.Sides.{pushed_seen, pushed_seen_at}
 use Rattle.nm_user.specs.Own.{frame_seen, frames_seen, bytes_in_hold, bytes_in_cell, ring_seen, own_seen, port_at, slots_on, slots_at, AreSided, AreRings, IsRingIf, refusal_at}
 use Rattle.nm_user.proofs.Seeing.{pushed_is_seen, side_of_found, ring_is_seen}
 
@@ -143,3 +144,7 @@ tx_ring_found ports port r rings e = let f = found ports Tx port r e in over por
         tx_ring : (o : Option RingSlots) → o ≡ Some r → IsRingIf o → IsRing r.ring
         tx_ring None e is = absurd cc
         tx_ring (Some t) e is = let same : t ≡ r = cc in rw (← same) is
+
+-- the slot at the head, as it is seen
+pub head_slot_seen : (h : HoldState) (port : PortId) (side : Side) (r : RingSlots) → r.side ≡ side → slot_before_tail r ≡ head_slot_in side (Some (ring_seen h port r))
+head_slot_seen h port side r e = rw e refl

@@ -4,14 +4,14 @@ use Rattle.std.proofs.lemmas.Bool.{cases_Bool}
 use Rattle.nm_types.specs.declared.id.PortId.{PortId}
 use Rattle.nm_types.specs.declared.id.Side.{Side}
 use Rattle.nm_types.specs.declared.id.Side.TheVariants.{Tx, Rx}
-use Rattle.nm_types.specs.Positions.{RingState, IsRing, is_user_slot}
+use Rattle.nm_types.specs.Positions.{RingState, IsRing, step_on, is_user_slot}
 use Rattle.nm_types.specs.Slots.{SlotState}
 use Rattle.nm_types.specs.OwnPorts.{OwnState, with_slot, with_port, with_ring_on}
 use Rattle.nm_hold.specs.Holds.{HoldState}
 use Rattle.nm_user.specs.declared.edit.RingEdit.{RingEdit}
-use Rattle.nm_user.specs.declared.edit.RingEdit.TheVariants.{Head, Cur, Slot}
+use Rattle.nm_user.specs.declared.edit.RingEdit.TheVariants.{Head, Cur, Positions, AllBack, Slot, Forward, Frame}
 use Rattle.nm_user.specs.declared.port.UserPort.{UserPort}
-use Rattle.nm_user.specs.RingSlots.{RingSlots, with_held, at_positions, with_slot_of_user}
+use Rattle.nm_user.specs.RingSlots.{RingSlots, with_held, at_positions, with_slot_of_user, slot_at, with_slot_at, both_stepped, head_stepped, slot_framed}
 use Rattle.nm_user.specs.Own.{named_ring_places, held_on, ring_seen, own_seen, AreSided, AreRings}
 use Rattle.nm_user.proofs.Changing.{Keeps, seen_changed}
 use Rattle.nm_user.specs.Edits.{edited, port_edited_if, own_edited, ring_edit}
@@ -28,6 +28,10 @@ slot_written h id side r at slot e = elim (cases_Bool (is_user_slot r.ring at)) 
 side_edited : (edit : RingEdit) (r : RingSlots) → (edited edit r).side ≡ r.side
 side_edited (Head head) r = refl
 side_edited (Cur cur) r = refl
+side_edited (Positions head cur) r = refl
+side_edited AllBack r = refl
+side_edited (Forward slot) r = refl
+side_edited (Frame len) r = refl
 side_edited (Slot at slot) r = elim (cases_Bool (is_user_slot r.ring at)) [
   | inl user ↦ rw user refl
   | inr other ↦ rw other refl
@@ -42,17 +46,34 @@ held_same h id Rx head cur ring = refl
 ring_seen_edited : (h : HoldState) (id : PortId) (side : Side) (edit : RingEdit) (r : RingSlots) → r.side ≡ side → ring_seen h id (edited edit r) ≡ ring_edit side edit (ring_seen h id r)
 ring_seen_edited h id side (Head head) r e = ap (λ (held : List ℕ). with_held held (at_positions head r.ring.cur r)) (held_same h id r.side head r.ring.cur r.ring)
 ring_seen_edited h id side (Cur cur) r e = ap (λ (held : List ℕ). with_held held (at_positions r.ring.head cur r)) (held_same h id r.side r.ring.head cur r.ring)
+ring_seen_edited h id side (Positions head cur) r e = ap (λ (held : List ℕ). with_held held (at_positions head cur r)) (held_same h id r.side head cur r.ring)
+ring_seen_edited h id side AllBack r e = ap (λ (held : List ℕ). with_held held (at_positions r.ring.tail r.ring.tail r)) (held_same h id r.side r.ring.tail r.ring.tail r.ring)
 ring_seen_edited h id side (Slot at slot) r e = slot_written h id side r at slot e
+ring_seen_edited h id side (Forward slot) r e =
+    let head = step_on r.ring.size r.ring.head 1 in
+    let cur = step_on r.ring.size r.ring.cur 1 in
+    rw (← e) (ap (λ (held : List ℕ). with_held held (both_stepped (with_slot_at r.ring.head slot r))) (held_same h id r.side head cur r.ring))
+ring_seen_edited h id side (Frame len) r e =
+    let head = step_on r.ring.size r.ring.head 1 in
+    rw (← e) (ap (λ (held : List ℕ). with_held held (head_stepped (with_slot_at r.ring.head (slot_framed len (slot_at r r.ring.head)) r))) (held_same h id r.side head head r.ring))
 
 own_is : (id : ℕ) (side : Side) (edit : RingEdit) (s : OwnState) → own_edited id side edit s ≡ with_port id (with_ring_on side (ring_edit side edit)) s
 own_is id side (Head head) s = refl
 own_is id side (Cur cur) s = refl
+own_is id side (Positions head cur) s = refl
+own_is id side AllBack s = refl
 own_is id side (Slot at slot) s = refl
+own_is id side (Forward slot) s = refl
+own_is id side (Frame len) s = refl
 
 -- what is kept of the fields
 places_edited : (id : PortId) (edit : RingEdit) (r : RingSlots) → named_ring_places id (edited edit r) ≡ named_ring_places id r
 places_edited id (Head head) r = refl
 places_edited id (Cur cur) r = refl
+places_edited id (Positions head cur) r = refl
+places_edited id AllBack r = refl
+places_edited id (Forward slot) r = refl
+places_edited id (Frame len) r = refl
 places_edited id (Slot at slot) r = elim (cases_Bool (is_user_slot r.ring at)) [
   | inl user ↦ rw user refl
   | inr other ↦ rw other refl
@@ -61,6 +82,10 @@ places_edited id (Slot at slot) r = elim (cases_Bool (is_user_slot r.ring at)) [
 is_ring_edited : (edit : RingEdit) (r : RingSlots) → IsRing r.ring → IsRing (edited edit r).ring
 is_ring_edited (Head head) r is = record { is_size = is.is_size; accepted = is.accepted; within = is.within; one_tail = is.one_tail }
 is_ring_edited (Cur cur) r is = record { is_size = is.is_size; accepted = is.accepted; within = is.within; one_tail = is.one_tail }
+is_ring_edited (Positions head cur) r is = record { is_size = is.is_size; accepted = is.accepted; within = is.within; one_tail = is.one_tail }
+is_ring_edited AllBack r is = record { is_size = is.is_size; accepted = is.accepted; within = is.within; one_tail = is.one_tail }
+is_ring_edited (Forward slot) r is = record { is_size = is.is_size; accepted = is.accepted; within = is.within; one_tail = is.one_tail }
+is_ring_edited (Frame len) r is = record { is_size = is.is_size; accepted = is.accepted; within = is.within; one_tail = is.one_tail }
 is_ring_edited (Slot at slot) r is = elim (cases_Bool (is_user_slot r.ring at)) [
   | inl user ↦ rw user is
   | inr other ↦ rw other is

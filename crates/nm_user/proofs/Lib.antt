@@ -8,3 +8,4 @@ pub mod Editing
 pub mod Renaming
 pub mod Resetting
 pub mod Changing
+pub mod Forwarding

@@ -4,3 +4,4 @@ pub mod Kept
 pub mod Own
 pub mod Edits
 pub mod Resets
+pub mod Acts

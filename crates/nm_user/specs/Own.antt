@@ -17,8 +17,8 @@ use Rattle.nm_types.specs.OwnPorts.{OwnRing, OwnPort, OwnState, ring_at, refusal
 use Rattle.nm_hold.specs.declared.standing.Standing.{Standing}
 use Rattle.nm_hold.specs.Holds.{HoldState, buffers_of, standing_at}
 use Rattle.nm_user.specs.declared.port.UserPort.{UserPort}
-use Rattle.nm_user.specs.RingSlots.{RingSlots, with_held}
-use Rattle.nm_user.specs.Sides.{place_on, number_at, slot_at}
+use Rattle.nm_user.specs.RingSlots.{RingSlots, with_held, slot_at}
+use Rattle.nm_user.specs.Sides.{place_on, number_at}
 
 -- the positions whose places a ring has
 abbrev pub positions_of : Side → RingState → List ℕ

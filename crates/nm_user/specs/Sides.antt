@@ -7,14 +7,13 @@ use Rattle.nm_types.specs.declared.id.Side.TheVariants.{Tx, Rx}
 use Rattle.nm_types.specs.declared.place.Place.{Place}
 use Rattle.nm_types.specs.declared.place.Place.TheVariants as place
 use Rattle.nm_types.specs.Positions.{pushed_slots}
-use Rattle.nm_types.specs.Slots.{SlotState, Pushed}
+use Rattle.nm_types.specs.Slots.{Pushed}
 use Rattle.nm_types.specs.SyncChecks.{contains_index, slot_refusal, seen_of}
 use Rattle.nm_types.specs.declared.refusal.SlotFault.{SlotFault}
 use Rattle.nm_types.specs.declared.fault.SyncFault.{SyncFault}
 use Rattle.nm_types.specs.SyncFaults.{slot_sync_fault}
-use Rattle.nm_types.specs.OwnPorts.{index_of, blank_slot}
 use Rattle.nm_hold.specs.Holds.{HoldState, index_at, is_named_at, IsHold}
-use Rattle.nm_user.specs.RingSlots.{RingSlots}
+use Rattle.nm_user.specs.RingSlots.{RingSlots, slot_at}
 
 abbrev pub place_on : Side → PortId → ℕ → Place
 place_on Tx port at = place.Tx port at
@@ -23,10 +22,7 @@ place_on Rx port at = place.Rx port at
 abbrev pub number_at : HoldState → Place → ℕ
 number_at h p = unwrap_or (index_at h p) 0
 
--- the slot of a position, and what a sync finds pushed there
-abbrev pub slot_at : RingSlots → ℕ → SlotState
-slot_at r at = slice_index_or r.slots (index_of r.side r.ring at) blank_slot
-
+-- what a sync finds pushed at a position
 abbrev pub pushed_seen_at : HoldState → PortId → RingSlots → ℕ → Pushed
 pushed_seen_at h port r at = record { at = at; slot = slot_at r at; was = number_at h (place_on r.side port at) }
 

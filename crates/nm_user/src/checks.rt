@@ -7,10 +7,10 @@ ghost use Rattle.nm_types.specs.Slots.{pushed_names};
 ghost use Rattle.nm_types.specs.SyncFaults.{ring_sync_fault, slot_sync_fault};
 ghost use Rattle.nm_types.specs.SyncChecks.{slot_refusal, seen_of, slots_refusal, refusal_of};
 ghost use Rattle.nm_hold.specs.Holds.{buffers_of, is_named_at, IsHold};
-ghost use Rattle.nm_user.specs.Sides.{place_on, number_at, slot_at, pushed_seen_at, pushed_seen};
+ghost use Rattle.nm_user.specs.Sides.{place_on, number_at, pushed_seen_at, pushed_seen};
 ghost use Rattle.nm_user.specs.Sides.{names_pushed, AreNamed, AreMarked, AreMarkedOf, AreCleared};
 ghost use Rattle.nm_user.specs.Sides.{JudgesSlot, JudgesAll, TellsRefusal, marks_after};
-ghost use Rattle.nm_user.specs.RingSlots.{IsRingSlots};
+ghost use Rattle.nm_user.specs.RingSlots.{IsRingSlots, slot_at};
 
 use crate::slot_ring::SlotRing;
 use nm_hold::Hold;

@@ -5,12 +5,23 @@ use crate::port::UserPort;
 use crate::slot_ring::SlotRing;
 use nm_types::{PortId, Side, Slot};
 
-/// What a user writes on a ring: a head or a cur, which may be any numbers, or one of its slots.
+/// What a user writes on a ring.
 #[derive(Clone, Copy)]
 pub(crate) enum RingEdit {
+    /// A head, any number.
     Head(u32),
+    /// A cur, any number.
     Cur(u32),
+    /// Head and cur, any numbers.
+    Positions(u32, u32),
+    /// The tail as head and cur.
+    AllBack,
+    /// One of the user's slots.
     Slot(u32, Slot),
+    /// The slot at the head, and the next head and the next cur.
+    Forward(Slot),
+    /// A frame's length in the slot at the head, and the next position as head and cur.
+    Frame(u16),
 }
 
 /// Makes an edit of a ring.
@@ -20,7 +31,11 @@ fn edit_ring(ring: &mut SlotRing, edit: RingEdit)
     match edit {
         RingEdit::Head(head) => ring.put_head(head),
         RingEdit::Cur(cur) => ring.put_cur(cur),
+        RingEdit::Positions(head, cur) => ring.put_positions(head, cur),
+        RingEdit::AllBack => ring.give_all_back(),
         RingEdit::Slot(at, slot) => ring.put_slot(at, slot),
+        RingEdit::Forward(slot) => ring.forward(slot),
+        RingEdit::Frame(len) => ring.put_frame(len),
     }
 }
 

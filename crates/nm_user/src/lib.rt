@@ -1,6 +1,7 @@
 //! A user's own side of its ports, after netmap(4): rings, slots, and the buffers in their places.
 #![tactic(auto)]
 
+mod acts;
 mod checks;
 mod edit;
 mod gather;
@@ -12,4 +13,5 @@ mod slots;
 #[cfg(test)]
 mod tests;
 
+pub use acts::SlotPlace;
 pub use own::OwnSide;

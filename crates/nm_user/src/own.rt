@@ -9,6 +9,8 @@ ghost use Rattle.nm_types.specs.OwnEdits.{user_slot_at, with_user_slot, with_hea
 ghost use Rattle.nm_user.specs.Sides.{TellsRefusal};
 ghost use Rattle.nm_types.specs.OwnSyncs.{own_after_reset};
 ghost use Rattle.nm_user.specs.Edits.{own_edited};
+ghost use Rattle.nm_user.specs.RingSlots.{slot_before_tail};
+ghost use Rattle.nm_user.specs.Acts.{head_slot_in};
 
 use crate::checks::check_ring;
 use crate::edit::{RingEdit, edit_rings};
@@ -67,6 +69,17 @@ fn ring_at(ports: &[UserPort], id: PortId, side: Side) -> Option<&SlotRing>
     match port_at(ports, id) {
         Some(port) => ring_on(port, side),
         None => None,
+    }
+}
+
+/// The slot at the head of a ring, if its positions fit and its head is before its tail.
+fn slot_at_head(ring: &SlotRing) -> Option<Slot>
+    ensures { result ≡ slot_before_tail ring.now }
+{
+    if ring.has_slot() {
+        Some(ring.head_slot())
+    } else {
+        None
     }
 }
 
@@ -138,8 +151,18 @@ impl OwnSide {
         self.edit(port, side, RingEdit::Cur(cur));
     }
 
+    /// The slot at the head of a ring whose positions fit and whose head is before its tail.
+    pub(crate) fn head_slot(&self, port: PortId, side: Side) -> Option<Slot>
+        ensures { result ≡ head_slot_in side (ring_at side self.now port.0) }
+    {
+        match ring_at(&self.ports, port, side) {
+            Some(ring) => slot_at_head(ring),
+            None => None,
+        }
+    }
+
     /// Makes an edit of a port's ring.
-    fn edit(&mut self, port: PortId, side: Side, edit: RingEdit)
+    pub(crate) fn edit(&mut self, port: PortId, side: Side, edit: RingEdit)
         ensures { self.new ≡ own_edited port.0 side edit self.old }
     {
         edit_rings(&mut self.ports, port, side, edit);

@@ -7,14 +7,15 @@ ghost use Rattle.nm_types.specs.Slots.{published_slot};
 ghost use Rattle.nm_types.specs.Reset.{reset_positions};
 ghost use Rattle.nm_types.specs.OwnPorts.{blank_slot};
 ghost use Rattle.nm_user.specs.RingSlots.{RingSlots, IsRingSlots, slot_of_user};
-ghost use Rattle.nm_user.specs.Sides.{slot_at};
 ghost use Rattle.nm_user.specs.RingSlots.{with_slot_of_user, with_slot_reset_at, at_positions};
+ghost use Rattle.nm_user.specs.RingSlots.{slot_at, with_slot_at, both_stepped, head_stepped};
+ghost use Rattle.nm_user.specs.RingSlots.{slot_framed, head_has_slot};
 ghost use Rattle.nm_types.specs.OwnPorts.{index_of};
 ghost use Rattle.nm_types.specs.declared.id.Side.TheVariants.{Tx, Rx};
-ghost use Rattle.nm_types.specs.Positions.{FitsRing, dist, kernel_count};
+ghost use Rattle.nm_types.specs.Positions.{FitsRing, dist, step_on, kernel_count};
 ghost use Rattle.nm_types.specs.OwnSyncs.{accepted, slots_after_push};
 
-use crate::slots::{blank_slots, clear_announcements, drop_front};
+use crate::slots::{BLANK, blank_slots, clear_announcements, drop_front, framed};
 use nm_ring::Ring;
 use nm_types::{Side, Slot};
 use std::alloc::{AllocError, Global};
@@ -66,6 +67,95 @@ impl SlotRing {
         ensures { self.new ≡ at_positions self.old.ring.head cur self.old }
     {
         self.ring.put_cur(cur);
+    }
+
+    /// Stores a head and a cur, even ones that no sync accepts.
+    pub(crate) fn put_positions(&mut self, head: u32, cur: u32)
+        ensures { self.new ≡ at_positions head cur self.old }
+    {
+        self.ring.put_head(head);
+        self.ring.put_cur(cur);
+    }
+
+    /// Stores the tail as head and as cur.
+    pub(crate) fn give_all_back(&mut self)
+        ensures { self.new ≡ at_positions self.old.ring.tail self.old.ring.tail self.old }
+    {
+        let tail = self.ring.tail();
+        self.put_positions(tail, tail);
+    }
+
+    /// Whether the positions fit and the head is before the tail.
+    pub(crate) fn has_slot(&self) -> bool
+        ensures { result ≡ head_has_slot self.now.ring }
+    {
+        match self.ring.check(self.ring.head(), self.ring.cur()) {
+            Ok(()) => self.ring.head() != self.ring.tail(),
+            Err(_) => false,
+        }
+    }
+
+    /// The position after one that may be any number.
+    fn next(&self, at: u32) -> u32
+        ensures { result ≡ step_on self.now.ring.size at 1 }
+    {
+        ((at as u64 + 1) % self.ring.size() as u64) as u32
+    }
+
+    /// Where the slot at the head, which may be any number, would be in the list of slots.
+    fn head_index(&self) -> usize
+        ensures { result ≡ index_of self.now.side self.now.ring self.now.ring.head }
+    {
+        let head = self.ring.head() as usize;
+        match self.side {
+            Side::Tx => head,
+            Side::Rx => {
+                let (first, _) = self.ring.user_range();
+                let size = self.ring.size() as usize;
+                (head + size - first as usize) % size
+            }
+        }
+    }
+
+    /// The slot at the head, a blank one if the head is no slot of the ring.
+    pub(crate) fn head_slot(&self) -> Slot
+        ensures { result ≡ slot_at self.now self.now.ring.head }
+    {
+        match self.slots.get(self.head_index()) {
+            Some(slot) => *slot,
+            None => BLANK,
+        }
+    }
+
+    /// Writes the slot at the head; does nothing if the head is no slot of the ring.
+    fn put_head_slot(&mut self, slot: Slot)
+        ensures { self.new ≡ with_slot_at self.old.ring.head slot self.old }
+    {
+        let index = self.head_index();
+        if index < self.slots.len() {
+            self.slots[index] = slot;
+        }
+    }
+
+    /// Writes the slot at the head, and moves head and cur on by one.
+    pub(crate) fn forward(&mut self, slot: Slot)
+        ensures { self.new ≡ both_stepped (with_slot_at self.old.ring.head slot self.old) }
+    {
+        self.put_head_slot(slot);
+        let (head, cur) = (self.next(self.ring.head()), self.next(self.ring.cur()));
+        self.put_positions(head, cur);
+    }
+
+    /// Writes the length of a frame to the slot at the head, clears the marks of a former frame
+    /// there, and moves head and cur to the next position.
+    pub(crate) fn put_frame(&mut self, len: u16)
+        ensures { self.new ≡ head_stepped (with_slot_at self.old.ring.head
+            (slot_framed len (slot_at self.old self.old.ring.head)) self.old) }
+    {
+        let slot = framed(self.head_slot(), len);
+        self.put_head_slot(slot);
+        let next = self.next(self.ring.head());
+        self.put_positions(next, next);
     }
 
     /// Whether a position is one of the user's slots.

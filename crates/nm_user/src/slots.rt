@@ -4,11 +4,35 @@ ghost use Rattle.nm_types.specs.Positions.{slots_from};
 ghost use Rattle.nm_types.specs.Slots.{slot_after_push};
 ghost use Rattle.nm_types.specs.OwnPorts.{blank_slot};
 ghost use Rattle.nm_types.specs.OwnSyncs.{with_push_cleared};
+ghost use Rattle.nm_user.specs.RingSlots.{slot_framed};
 
 use bitflags::Flags;
 use nm_types::{Slot, SlotFlags};
 use std::alloc::{AllocError, Global};
 use std::collections::VecDeque;
+
+/// A slot that names no buffer.
+pub(crate) const BLANK: Slot = Slot {
+    buf_idx: 0,
+    len: 0,
+    flags: 0,
+    ptr: 0,
+};
+
+/// The marks of a frame: not to be learned, indirect, going on in the next slot.
+const FRAME_MARKS: SlotFlags = SlotFlags(0x0038);
+
+/// A slot with a frame of that length, and no mark of a former one.
+pub(crate) fn framed(slot: Slot, len: u16) -> Slot
+    ensures { result ≡ slot_framed len slot }
+{
+    let flags = SlotFlags::from_bits_retain(slot.flags);
+    Slot {
+        len,
+        flags: flags.difference(FRAME_MARKS).bits(),
+        ..slot
+    }
+}
 
 /// Clears the announcement of a pushed slot.
 fn clear_announcement(slot: &mut Slot)
@@ -51,12 +75,7 @@ pub(crate) fn blank_slots(alloc: Global, size: u32) -> Result<VecDeque<Slot>, Al
 {
     let mut slots = VecDeque::with_capacity(alloc, size as usize)?;
     for _ in 0..size {
-        slots.push_back_reserved(Slot {
-            buf_idx: 0,
-            len: 0,
-            flags: 0,
-            ptr: 0,
-        });
+        slots.push_back_reserved(BLANK);
     }
     Ok(slots)
 }
