@@ -1,7 +1,9 @@
 ghost use Rattle.std.specs.Prelude.{◌≡◌, ◌≤◌, ◌<◌, length, None, Some, IsSome, MatchOption};
-ghost use Rattle.std.specs.Prelude.{option_map, false};
-ghost use Rattle.nm_types.specs.Chain.{linked, link_of, chain_of};
-ghost use Rattle.nm_hold.specs.Holds.{IsHold};
+ghost use Rattle.std.specs.Prelude.{option_map, false, true};
+ghost use Rattle.nm_types.specs.Chain.{link_bytes, linked, link_of, chain_of};
+ghost use Rattle.nm_hold.specs.Holds.{IsHold, SamePlaces, places_of, with_cell, standing_at};
+ghost use Rattle.nm_hold.specs.Holds.{is_named_at};
+ghost use Rattle.nm_hold.specs.Standings.{cell_fronted};
 ghost use Rattle.nm_extra.specs.Extras.{extras_of, link_at, position_at};
 
 use byteorder::{ByteOrder, LittleEndian};
@@ -13,7 +15,22 @@ use nm_types::{Chain, MAX_EXTRA, Place, PortId};
 pub fn link(buf: &mut Buf, next: u32)
     ensures { buf.new ≡ record buf.old { bytes = linked next buf.old.bytes } }
 {
-    put_link(buf.bytes_mut(), next);
+    let mut link = [0; 4];
+    put_link(&mut link, next);
+    buf.write(&link);
+}
+
+/// Links the named buffer of an index to the next one of its chain. 0 ends the chain.
+pub fn relink(hold: &mut Hold, idx: u32, next: u32)
+    requires { is_named_at hold.old idx ≡ true }
+    ensures cell { hold.new ≡ with_cell hold.old idx
+        (cell_fronted (link_bytes next) (standing_at hold.old idx)) }
+    ensures places { SamePlaces (places_of hold.old) (places_of hold.new) }
+    ensures hold { IsHold hold.new }
+{
+    let mut link = [0; 4];
+    put_link(&mut link, next);
+    hold.write(idx, &link);
 }
 
 fn put_link(bytes: &mut [u8], next: u32)

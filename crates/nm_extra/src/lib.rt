@@ -6,5 +6,5 @@ pub mod laws;
 #[cfg(test)]
 mod tests;
 
-pub use chain::{link, walk};
+pub use chain::{link, relink, walk};
 pub use nm_types::Chain;

@@ -3,6 +3,7 @@ use Rattle.std.specs.Prelude.{ℕ, Bool, true, false, List, Option, Some, None, 
 use Rattle.std.specs.Borrow.{Lends, MutBor, Fml, Array, u8}
 use Rattle.std.specs.contracts.option.Option.{the_row as option_row}
 use Rattle.nm_region.specs.Buffers.{Buffer, with_bytes}
+use Rattle.nm_region.specs.Marked.{with_front}
 use Rattle.nm_hold.specs.declared.standing.Home.{Home}
 use Rattle.nm_hold.specs.declared.standing.Standing.{Standing}
 use Rattle.nm_hold.specs.contracts.standing.Standing.{the_row}
@@ -31,6 +32,10 @@ named_bytes_in (Some s) = bytes_if s.home.named s.buf.bytes
 
 abbrev pub cell_written : Option Standing → List ℕ → Option Standing
 cell_written cell bytes = option_map (λ (s : Standing). record s { buf = with_bytes s.buf bytes }) cell
+
+-- a cell whose buffer's first bytes are written
+abbrev pub cell_fronted : List ℕ → Option Standing → Option Standing
+cell_fronted bytes cell = option_map (λ (s : Standing). record s { buf = with_front bytes s.buf }) cell
 
 abbrev pub bytes_in : Option Standing → Option (List ℕ)
 bytes_in cell = option_map (λ (s : Standing). s.buf.bytes) cell

@@ -10,13 +10,15 @@ ghost use Rattle.nm_types.specs.Exchange.{exchanged, swapped};
 ghost use Rattle.nm_region.specs.Buffers.{Buffer};
 ghost use Rattle.nm_hold.specs.declared.table.PortPlaces.{PortPlaces};
 ghost use Rattle.nm_hold.specs.Offsets.{AreSizes, has_place, has_port};
-ghost use Rattle.nm_hold.specs.Standings.{home_in, cell_named};
+ghost use Rattle.nm_hold.specs.Standings.{home_in, cell_named, cell_fronted};
 ghost use Rattle.nm_hold.specs.Holds.{empty_hold, buffers_of, extra_of, place_at, IsHold};
 ghost use Rattle.nm_hold.specs.Holds.{standing_at, buffer_at, is_named_at, named_bytes_at, index_at};
 ghost use Rattle.nm_hold.specs.Holds.{places_of, bufs_of, with_cell, SamePlaces, HoldsNothing};
 
 use crate::ports::Ports;
-use crate::standing::{Home, Standing, buf_of, bytes_mut, home_of, move_to, named_bytes, rename};
+use crate::standing::{
+    Home, Standing, buf_of, bytes_mut, home_of, move_to, named_bytes, rename, write_front,
+};
 use crate::table::{PortPlaces, PortTable};
 use nm_region::Buf;
 use nm_types::{NoMemory, Place, PortId, PortSizes};
@@ -226,6 +228,18 @@ impl Hold {
         ensures bytes { named_bytes_at self.old idx ≡ Some result.now }
     {
         bytes_mut(&mut self.cells[idx as usize])
+    }
+
+    /// Writes bytes over the first ones of a named buffer.
+    pub fn write(&mut self, idx: u32, bytes: &[u8])
+        requires named { is_named_at self.old idx ≡ true }
+        requires fits { length bytes.now ≤ 2048 }
+        ensures cell { self.new
+            ≡ with_cell self.old idx (cell_fronted bytes.now (standing_at self.old idx)) }
+        ensures places { SamePlaces (places_of self.old) (places_of self.new) }
+        ensures hold { IsHold self.new }
+    {
+        write_front(&mut self.cells[idx as usize], bytes);
     }
 
     /// Puts a buffer into an empty place of one of the hold's ports. It is not a named buffer yet.

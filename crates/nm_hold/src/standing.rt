@@ -1,7 +1,8 @@
-ghost use Rattle.std.specs.Prelude.{◌≡◌, Some, IsSome};
+ghost use Rattle.std.specs.Prelude.{◌≡◌, ◌≤◌, length, Some, IsSome};
 ghost use Rattle.std.specs.Borrow.{sem};
 ghost use Rattle.std.specs.Option.{option_copied};
 ghost use Rattle.nm_hold.specs.Standings.{home_in, cell_moved, cell_named, buf_in, named_bytes_in};
+ghost use Rattle.nm_hold.specs.Standings.{cell_fronted};
 ghost use Rattle.nm_hold.specs.Standings.{bytes_in, LendsStanding, LendsCell};
 
 use nm_region::Buf;
@@ -45,6 +46,16 @@ pub(crate) fn rename(cell: &mut Option<Standing>, named: bool)
 {
     if let Some(s) = cell {
         s.home.named = named;
+    }
+}
+
+/// Writes bytes over the first ones of the buffer in a cell.
+pub(crate) fn write_front(cell: &mut Option<Standing>, bytes: &[u8])
+    requires { length bytes.now ≤ 2048 }
+    ensures { cell.new ≡ cell_fronted bytes.now cell.old }
+{
+    if let Some(s) = cell {
+        s.buf.write(bytes);
     }
 }
 

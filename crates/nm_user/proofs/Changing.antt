@@ -7,18 +7,28 @@ use Rattle.nm_types.specs.declared.id.Side.{Side}
 use Rattle.nm_types.specs.declared.id.Side.TheVariants.{Tx, Rx}
 use Rattle.nm_types.specs.declared.place.Place.{Place}
 use Rattle.nm_types.specs.declared.place.Place.TheVariants as place
-use Rattle.nm_types.specs.Positions.{IsRing}
+use Rattle.nm_types.specs.Positions.{RingState, IsRing, is_user_slot}
 use Rattle.nm_types.specs.OwnPorts.{OwnRing, OwnPort, OwnState, port_if, with_ring, with_ring_on}
 use Rattle.nm_hold.specs.Holds.{HoldState, buffers_of}
 use Rattle.nm_user.specs.declared.port.UserPort.{UserPort}
 use Rattle.nm_user.specs.RingSlots.{RingSlots}
-use Rattle.nm_user.specs.Own.{bytes_in_cell, ring_seen, port_seen, own_seen, named_ring_places, named_tx_places, named_places_of, named_places, AreSided, AreRings, AreFlagged, IsTxSide, IsRingIf, port_changed, port_changed_if}
+use Rattle.nm_user.specs.Own.{bytes_in_cell, ring_seen, port_seen, own_seen, named_ring_places, named_tx_places, named_places_of, named_places, AreSided, AreRings, AreFlagged, AreFilled, HasPlaces, size_if, is_filled, is_filled_in, places_of_port, IsTxSide, IsRingIf, port_changed, port_changed_if}
+
+-- a ring that has the same slots, of which the same are the user's
+pub record SameUse (new ring : RingState) : Type 0 where
+  pub size : new.size ≡ ring.size
+  pub accepted : new.accepted_head ≡ ring.accepted_head
+  pub last : new.last_tail ≡ ring.last_tail
+
+user_same : (new ring : RingState) (at : ℕ) → SameUse new ring → is_user_slot new at ≡ is_user_slot ring at
+user_same new ring at same = rw (same.size, same.accepted, same.last) refl
 
 -- a change of a ring keeps its side and its places, and is seen as a change of what is seen
 pub record Keeps (h : HoldState) (side : Side) (f : PortId → RingSlots → RingSlots) (g : OwnRing → OwnRing) : Type 0 where
   pub sides : (id : PortId) (r : RingSlots) → (f id r).side ≡ r.side
   pub rings : (id : PortId) (r : RingSlots) → IsRing r.ring → IsRing (f id r).ring
   pub places : (id : PortId) (r : RingSlots) → named_ring_places id (f id r) ≡ named_ring_places id r
+  pub same : (id : PortId) (r : RingSlots) → SameUse (f id r).ring r.ring
   pub seen : (id : PortId) (r : RingSlots) → r.side ≡ side → IsRing r.ring → ring_seen h id (f id r) ≡ g (ring_seen h id r)
 
 module _ (h : HoldState) (side : Side) (f : PortId → RingSlots → RingSlots) (g : OwnRing → OwnRing) (keeps : Keeps h side f g) where
@@ -100,3 +110,39 @@ module _ (h : HoldState) (side : Side) (f : PortId → RingSlots → RingSlots) 
 
   pub flagged_changed : (id : ℕ) (ports : List UserPort) → AreFlagged h ports → AreFlagged h (map (port_changed_if id side f) ports)
   flagged_changed id ports flagged idx s there = rw (named_changed id ports) (flagged idx s there)
+
+  tx_size : (id : PortId) (tx : Option RingSlots) → size_if (option_map (f id) tx) ≡ size_if tx
+  tx_size id None = refl
+  tx_size id (Some r) = (keeps.same id r).size
+
+  port_places_same : (s : Side) (p : UserPort) → places_of_port (port_changed s f p) ≡ places_of_port p
+  port_places_same Tx p = rw (tx_size p.id p.tx) refl
+  port_places_same Rx p = rw ((keeps.same p.id p.rx).size) refl
+
+  pub places_changed : (id : ℕ) (ports : List UserPort) → HasPlaces h ports → HasPlaces h (map (port_changed_if id side f) ports)
+  places_changed id ports has = has ∙ sym (over ports)
+    where
+      over : (ports : List UserPort) → map places_of_port (map (port_changed_if id side f) ports) ≡ map places_of_port ports
+      over [] = refl
+      over (p ∷ ports) = elim (cases_Bool (nat_eq p.id.0 id)) [
+        | inl here ↦ rw (here, port_places_same side p, over ports) refl
+        | inr other ↦ rw (other, over ports) refl
+      ]
+
+  filled_port : (s : Side) (q : Place) (p : UserPort) → is_filled_in q (port_changed s f p) ≡ is_filled_in q p
+  filled_port Tx (place.Tx port at) p = rw (tx_size p.id p.tx) refl
+  filled_port Tx (place.Rx port at) p = refl
+  filled_port Tx (place.Extra port at) p = refl
+  filled_port Rx (place.Tx port at) p = refl
+  filled_port Rx (place.Rx port at) p = rw (user_same (f p.id p.rx).ring p.rx.ring at (keeps.same p.id p.rx)) refl
+  filled_port Rx (place.Extra port at) p = refl
+
+  pub filled_changed : (id : ℕ) (ports : List UserPort) → AreFilled h ports → AreFilled h (map (port_changed_if id side f) ports)
+  filled_changed id ports filled q = filled q ∙ sym (over ports)
+    where
+      over : (ports : List UserPort) → is_filled (map (port_changed_if id side f) ports) q ≡ is_filled ports q
+      over [] = refl
+      over (p ∷ ports) = elim (cases_Bool (nat_eq p.id.0 id)) [
+        | inl here ↦ rw (here, filled_port side q p, over ports) refl
+        | inr other ↦ rw (other, over ports) refl
+      ]

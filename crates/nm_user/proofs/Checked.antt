@@ -104,7 +104,7 @@ pub slot_is_seen : (h : HoldState) (port : PortId) (side : Side) (r : RingSlots)
 slot_is_seen h port side r at e = rw e refl
 
 -- the bytes of a buffer, and the frames of a push that passes, as they are seen
-bytes_are_seen : (h : HoldState) (ports : List UserPort) (idx : ℕ) → bytes_at (own_seen h ports) idx ≡ bytes_in_hold h idx
+pub bytes_are_seen : (h : HoldState) (ports : List UserPort) (idx : ℕ) → bytes_at (own_seen h ports) idx ≡ bytes_in_hold h idx
 bytes_are_seen h ports idx = get_mapped h.cells idx
   where
     get_mapped : (cells : List (Option Standing)) (idx : ℕ) → get_or (map bytes_in_cell cells) idx [] ≡ bytes_in_cell (get_or cells idx None)

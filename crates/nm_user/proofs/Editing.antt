@@ -13,7 +13,7 @@ use Rattle.nm_user.specs.declared.edit.RingEdit.TheVariants.{Head, Cur, Position
 use Rattle.nm_user.specs.declared.port.UserPort.{UserPort}
 use Rattle.nm_user.specs.RingSlots.{RingSlots, with_held, at_positions, with_slot_of_user, slot_at, with_slot_at, both_stepped, head_stepped, slot_framed}
 use Rattle.nm_user.specs.Own.{named_ring_places, held_on, ring_seen, own_seen, AreSided, AreRings}
-use Rattle.nm_user.proofs.Changing.{Keeps, seen_changed}
+use Rattle.nm_user.proofs.Changing.{Keeps, SameUse, seen_changed}
 use Rattle.nm_user.specs.Edits.{edited, port_edited_if, own_edited, ring_edit}
 
 -- a slot that is written is that of the ring as it is seen
@@ -79,6 +79,18 @@ places_edited id (Slot at slot) r = elim (cases_Bool (is_user_slot r.ring at)) [
   | inr other ↦ rw other refl
 ]
 
+same_use : (edit : RingEdit) (r : RingSlots) → SameUse (edited edit r).ring r.ring
+same_use (Head head) r = record { size = refl; accepted = refl; last = refl }
+same_use (Cur cur) r = record { size = refl; accepted = refl; last = refl }
+same_use (Positions head cur) r = record { size = refl; accepted = refl; last = refl }
+same_use AllBack r = record { size = refl; accepted = refl; last = refl }
+same_use (Forward slot) r = record { size = refl; accepted = refl; last = refl }
+same_use (Frame len) r = record { size = refl; accepted = refl; last = refl }
+same_use (Slot at slot) r = elim (cases_Bool (is_user_slot r.ring at)) [
+  | inl user ↦ rw user (record { size = refl; accepted = refl; last = refl })
+  | inr other ↦ rw other (record { size = refl; accepted = refl; last = refl })
+]
+
 is_ring_edited : (edit : RingEdit) (r : RingSlots) → IsRing r.ring → IsRing (edited edit r).ring
 is_ring_edited (Head head) r is = record { is_size = is.is_size; accepted = is.accepted; within = is.within; one_tail = is.one_tail }
 is_ring_edited (Cur cur) r is = record { is_size = is.is_size; accepted = is.accepted; within = is.within; one_tail = is.one_tail }
@@ -97,6 +109,7 @@ edits_keep h side edit = record {
   sides = λ id r. side_edited edit r;
   rings = λ id r is. is_ring_edited edit r is;
   places = λ id r. places_edited id edit r;
+  same = λ id r. same_use edit r;
   seen = λ id r e is. ring_seen_edited h id side edit r e;
 }
 

@@ -9,3 +9,6 @@ pub mod Renaming
 pub mod Resetting
 pub mod Changing
 pub mod Forwarding
+pub mod Filled
+pub mod Written
+pub mod Filling

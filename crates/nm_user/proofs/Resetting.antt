@@ -49,5 +49,6 @@ resets_keep h side = record {
   sides = λ id r. refl;
   rings = λ id r is. record { is_size = is.is_size; accepted = is.accepted; within = omega (arith, is.within, is.one_tail); one_tail = refl };
   places = λ id r. refl;
+  same = λ id r. record { size = refl; accepted = refl; last = refl };
   seen = λ id r e is. reset_is_seen h id side r e is;
 }

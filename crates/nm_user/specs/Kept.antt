@@ -1,11 +1,14 @@
 -- What holds of the fields of a session's own side.
 use Rattle.std.specs.Prelude.{◌≡◌, ◌+◌, false, replicate}
-use Rattle.nm_hold.specs.Holds.{buffers_of}
-use Rattle.nm_user.specs.Own.{AreFlagged, AreRings, AreSided}
+use Rattle.nm_hold.specs.Holds.{buffers_of, IsHold}
+use Rattle.nm_user.specs.Own.{AreFilled, AreFlagged, AreRings, AreSided, HasPlaces}
 use Rattle.nm_user.specs.declared.own.OwnSide.TheInside.{Inside}
 
 pub record IsKept (o : Inside) : Type 0 where
   pub sided : AreSided o.ports.items
   pub rings : AreRings o.ports.items
   pub flagged : AreFlagged o.hold o.ports.items
+  pub hold : IsHold o.hold
+  pub places : HasPlaces o.hold o.ports.items
+  pub filled : AreFilled o.hold o.ports.items
   pub blank : o.marks.items ≡ replicate (buffers_of o.hold + 2) false

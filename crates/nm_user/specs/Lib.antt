@@ -5,3 +5,4 @@ pub mod Own
 pub mod Edits
 pub mod Resets
 pub mod Acts
+pub mod Filling

@@ -1,6 +1,6 @@
 -- A session's own side as it is kept: its ports with their rings, and a hold of the buffers in their
 -- places; and how it is seen.
-use Rattle.std.specs.Prelude.{ℕ, ◌≡◌, ◌==◌, if◌then◌else◌, List, [], ◌∷◌, ◌++◌, map, find, flat_map, Option, Some, None, option_map, option_and_then}
+use Rattle.std.specs.Prelude.{ℕ, Bool, ◌≡◌, ◌==◌, ◌&&◌, nat_lt, is_some, if◌then◌else◌, List, [], ◌∷◌, ◌++◌, map, find, flat_map, Option, Some, None, option_map, option_and_then}
 use Rattle.std.specs.Option.{option_map_or}
 use Rattle.std.specs.List.{range_with_len, list_any}
 use Rattle.nm_types.specs.declared.id.PortId.{PortId}
@@ -9,13 +9,14 @@ use Rattle.nm_types.specs.declared.id.Side.TheVariants.{Tx, Rx}
 use Rattle.nm_types.specs.declared.place.Place.{Place}
 use Rattle.nm_types.specs.declared.place.Place.TheVariants as place
 use Rattle.nm_types.specs.declared.fault.SyncFault.{SyncFault}
-use Rattle.nm_types.specs.Positions.{RingState, IsRing, user_slots, pushed_slots}
+use Rattle.nm_types.specs.Positions.{RingState, IsRing, is_user_slot, user_slots, pushed_slots}
 use Rattle.nm_types.specs.Frames.{Frame}
 use Rattle.nm_types.specs.Slots.{frame_at}
 use Rattle.nm_types.specs.Places.{is_same_place}
 use Rattle.nm_types.specs.OwnPorts.{OwnRing, OwnPort, OwnState, ring_at, refusal_in}
 use Rattle.nm_hold.specs.declared.standing.Standing.{Standing}
-use Rattle.nm_hold.specs.Holds.{HoldState, buffers_of, standing_at}
+use Rattle.nm_hold.specs.Holds.{HoldState, buffers_of, standing_at, index_at}
+use Rattle.nm_hold.specs.declared.table.PortPlaces.{PortPlaces}
 use Rattle.nm_user.specs.declared.port.UserPort.{UserPort}
 use Rattle.nm_user.specs.RingSlots.{RingSlots, with_held, slot_at}
 use Rattle.nm_user.specs.Sides.{place_on, number_at}
@@ -73,6 +74,30 @@ named_places ports = flat_map named_places_of ports
 -- a buffer is a named one where its place is one of these
 abbrev pub AreFlagged : HoldState → List UserPort → Type 0
 AreFlagged h ports = (idx : ℕ) (s : Standing) → standing_at h idx ≡ Some s → s.home.named ≡ list_any (λ q. is_same_place q s.home.place) (named_places ports)
+
+-- the places of a port that hold a buffer: all transmit slots, the receive slots of the user, and the
+-- extra positions; no other place of the hold does
+abbrev pub size_if : Option RingSlots → ℕ
+size_if None = 0
+size_if (Some r) = r.ring.size
+
+abbrev pub is_filled_in : Place → UserPort → Bool
+is_filled_in (place.Tx port at) p = (port.0 == p.id.0) && nat_lt at (size_if p.tx)
+is_filled_in (place.Rx port at) p = (port.0 == p.id.0) && is_user_slot p.rx.ring at
+is_filled_in (place.Extra port at) p = (port.0 == p.id.0) && nat_lt at p.extra
+
+abbrev pub is_filled : List UserPort → Place → Bool
+is_filled ports q = list_any (is_filled_in q) ports
+
+abbrev pub AreFilled : HoldState → List UserPort → Type 0
+AreFilled h ports = (q : Place) → is_some (index_at h q) ≡ is_filled ports q
+
+-- the ports of the hold are these ports' places
+abbrev pub places_of_port : UserPort → PortPlaces
+places_of_port p = record { port = p.id; sizes = record { tx = size_if p.tx; rx = p.rx.ring.size; extra = p.extra } }
+
+abbrev pub HasPlaces : HoldState → List UserPort → Type 0
+HasPlaces h ports = h.ports ≡ map places_of_port ports
 
 abbrev pub IsTxSide : Option RingSlots → Type 0
 IsTxSide None = Unit {0}

@@ -1,7 +1,7 @@
-ghost use Rattle.std.specs.Prelude.{◌≡◌, is_some, unwrap_or};
+ghost use Rattle.std.specs.Prelude.{◌≡◌, ◌≤◌, length, is_some, unwrap_or};
 ghost use Rattle.nm_types.specs.OwnEdits.{with_positions, with_all_back, with_slot_field};
 ghost use Rattle.nm_types.specs.OwnEdits.{slot_naming, slot_of_place, with_slots_swapped};
-ghost use Rattle.nm_types.specs.OwnEdits.{has_room, with_forwarded};
+ghost use Rattle.nm_types.specs.OwnEdits.{has_room, with_frame, with_forwarded};
 ghost use Rattle.nm_user.specs.Acts.{place_seen, after_one};
 
 use crate::edit::RingEdit;
@@ -95,6 +95,19 @@ impl OwnSide {
         ensures { result ≡ has_room self.now port.0 }
     {
         self.head_slot(port, Side::Tx).is_some()
+    }
+
+    /// Puts a frame at the head of a port's transmit ring, if it has room: writes the bytes over
+    /// the first ones of the buffer that the slot names, if it is a named one, sets the slot's
+    /// length, clears its marks of a former frame, and moves head and cur to the next position.
+    pub fn put_frame(&mut self, port: PortId, bytes: &[u8])
+        requires { length bytes.now ≤ 2048 }
+        ensures { self.new ≡ with_frame port.0 bytes.now self.old }
+    {
+        if let Some(slot) = self.head_slot(port, Side::Tx) {
+            self.write_front(slot.buf_idx, bytes);
+            self.edit(port, Side::Tx, RingEdit::Frame(bytes.len() as u16));
+        }
     }
 
     /// Forwards up to `count` frames without a copy, from the receive ring of one port to the

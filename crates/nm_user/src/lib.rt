@@ -4,6 +4,7 @@
 mod acts;
 mod checks;
 mod edit;
+mod fill;
 mod gather;
 mod own;
 mod port;

@@ -1,4 +1,4 @@
-ghost use Rattle.std.specs.Prelude.{◌≡◌, IfOk, IsSome, OnErr, None, Some, option_map};
+ghost use Rattle.std.specs.Prelude.{◌≡◌, ◌≤◌, length, IfOk, IsSome, OnErr, None, Some, option_map};
 ghost use Rattle.std.specs.Option.{option_copied};
 ghost use Rattle.nm_types.specs.Buffers.{IsPoolSize};
 ghost use Rattle.nm_types.specs.declared.id.Side.TheVariants.{Tx};
@@ -6,6 +6,7 @@ ghost use Rattle.nm_types.specs.Slots.{pushed_frames};
 ghost use Rattle.nm_types.specs.OwnPorts.{empty_own, bytes_at, ring_at, pushed_on};
 ghost use Rattle.nm_user.specs.Own.{refusal_at, port_at, slots_on, slots_at, ring_of};
 ghost use Rattle.nm_types.specs.OwnEdits.{user_slot_at, with_user_slot, with_head, with_cur};
+ghost use Rattle.nm_types.specs.OwnEdits.{with_written};
 ghost use Rattle.nm_user.specs.Sides.{TellsRefusal};
 ghost use Rattle.nm_types.specs.OwnSyncs.{own_after_reset};
 ghost use Rattle.nm_user.specs.Edits.{own_edited};
@@ -158,6 +159,16 @@ impl OwnSide {
         match ring_at(&self.ports, port, side) {
             Some(ring) => slot_at_head(ring),
             None => None,
+        }
+    }
+
+    /// Writes bytes over the first ones of a named buffer; does nothing if it is not one.
+    pub(crate) fn write_front(&mut self, idx: u32, bytes: &[u8])
+        requires { length bytes.now ≤ 2048 }
+        ensures { self.new ≡ with_written idx bytes.now self.old }
+    {
+        if self.hold.named(idx) {
+            self.hold.write(idx, bytes);
         }
     }
 

@@ -1,5 +1,20 @@
+use Rattle.std.proofs.Common.{◌≡◌, ◌+◌, false, replicate, refl, rules, ap, ◌∙◌, sym}
 use Rattle.nm_user.proofs.Checked.{is_made}
+use Rattle.nm_user.proofs.Filled.{fresh}
 use Rattle.nm_user.proofs.own.OwnSide.new.Goals as goal
+
+pub invariant_of-result : goal.invariant_of-result
+invariant_of-result c =
+    let f = fresh c.in_ok-hold.hold c.args.buffers c.in_ok-hold.ensures c.requires in
+    record {
+      sided = rw c.new-2.ensures.items tt;
+      rings = rw c.new-2.ensures.items tt;
+      flagged = rw c.new-2.ensures.items f.flagged;
+      hold = f.hold;
+      places = rw c.new-2.ensures.items f.places;
+      filled = rw c.new-2.ensures.items f.filled;
+      blank = rw f.count (search rules);
+    }
 
 pub returns : goal.returns
 returns c = rw (c.in_ok-hold.ensures, c.new-2.ensures.items) (is_made c.args.buffers)

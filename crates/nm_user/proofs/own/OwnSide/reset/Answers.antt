@@ -4,8 +4,8 @@ use Rattle.std.specs.Vec.{with_items}
 use Rattle.nm_user.specs.declared.port.UserPort.{UserPort}
 use Rattle.nm_types.specs.OwnSyncs.{ring_after_reset, own_after_reset}
 use Rattle.nm_user.specs.Resets.{ring_reset, port_reset_if}
-use Rattle.nm_user.proofs.Changing.{seen_changed, sided_changed, rings_changed, flagged_changed}
-use Rattle.nm_user.specs.Own.{own_seen, AreSided, AreRings, AreFlagged}
+use Rattle.nm_user.proofs.Changing.{seen_changed, sided_changed, rings_changed, flagged_changed, places_changed, filled_changed}
+use Rattle.nm_user.specs.Own.{own_seen, AreSided, AreRings, AreFlagged, AreFilled, HasPlaces}
 use Rattle.nm_user.proofs.Resetting.{resets_keep}
 use Rattle.nm_user.proofs.own.OwnSide.reset.Goals as goal
 
@@ -26,10 +26,15 @@ invariant_of-self c =
     let h = c.self.inside.hold in
     let keeps = resets_keep h c.args.side in
     let Flagged : List UserPort → Type 0 = AreFlagged c.self.inside.hold in
+    let Placed : List UserPort → Type 0 = HasPlaces c.self.inside.hold in
+    let Filled : List UserPort → Type 0 = AreFilled c.self.inside.hold in
     record {
       sided = subst AreSided are (sided_changed h c.args.side (ring_reset h) (ring_after_reset c.args.side) keeps id ports kept.sided);
       rings = subst AreRings are (rings_changed h c.args.side (ring_reset h) (ring_after_reset c.args.side) keeps id ports kept.rings);
       flagged = subst Flagged are (flagged_changed h c.args.side (ring_reset h) (ring_after_reset c.args.side) keeps id ports kept.flagged);
+      hold = kept.hold;
+      places = subst Placed are (places_changed h c.args.side (ring_reset h) (ring_after_reset c.args.side) keeps id ports kept.places);
+      filled = subst Filled are (filled_changed h c.args.side (ring_reset h) (ring_after_reset c.args.side) keeps id ports kept.filled);
       blank = kept.blank;
     }
 
