@@ -20,7 +20,7 @@ use Rattle.nm_hold.proofs.Spots.{nat_eq-is}
 use Rattle.nm_user.specs.declared.port.UserPort.{UserPort}
 use Rattle.nm_user.specs.RingSlots.{RingSlots}
 use Rattle.nm_user.specs.Sides.{place_on, number_at}
-use Rattle.nm_user.specs.Own.{own_seen, named_ring_places, named_tx_places, named_places_of, named_places, size_if, is_filled, is_filled_in, AreFilled, AreFlagged, AreRings, AreSided, IsTxSide, IsRingIf}
+use Rattle.nm_user.specs.Own.{own_seen, named_ring_places, named_tx_places, named_places_of, named_places, size_if, is_filled, is_filled_in, AreWhole, AreFilled, AreFlagged, AreRings, AreSided, IsTxSide, IsRingIf}
 use Rattle.nm_user.proofs.Judging.{same_eq, false_true}
 use Rattle.nm_user.proofs.Naming.{are_named, named_is_seen}
 
@@ -161,6 +161,7 @@ pub record Fresh (h : HoldState) (n : ℕ) : Type 0 where
   pub hold : IsHold h
   pub places : h.ports ≡ []
   pub filled : AreFilled h []
+  pub whole : AreWhole h
   pub count : buffers_of h ≡ n
 
 pub fresh : (h : HoldState) (n : ℕ) → h ≡ empty_hold n → IsPoolSize n → Fresh h n
@@ -169,5 +170,6 @@ fresh h n e size = rw e (record {
   hold = empty_is_hold n size;
   places = refl;
   filled = empty_is_filled n;
+  whole = λ idx s there. absurd (none_some s (sym (none_at (n + 2) idx) ∙ there));
   count = (let none : Option Standing = None in omega (arith, length-replicate (n + 2) none));
 })

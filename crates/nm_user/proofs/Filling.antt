@@ -1,9 +1,9 @@
 -- Buffers that come into the empty places of a row, one after another.
-use Rattle.std.proofs.Common.{ℕ, zero, suc, ◌≡◌, ◌≢◌, ◌<◌, ◌+◌, ◌-◌, ◌||◌, Bool, true, false, nat_eq, nat_lt, if◌then◌else◌, List, [], ◌∷◌, ◌++◌, length, map, get_or, set, Option, Some, None, option_map, inl, inr, refl, sym, ◌∙◌, ap, arith, subst, append_assoc, length-append}
+use Rattle.std.proofs.Common.{ℕ, zero, suc, ◌≡◌, ◌≢◌, ◌<◌, ◌+◌, ◌-◌, ◌||◌, Bool, true, false, nat_eq, nat_lt, if◌then◌else◌, List, [], ◌∷◌, ◌++◌, length, map, get_or, set, drop, replicate, Option, Some, None, option_map, inl, inr, refl, sym, ◌∙◌, ap, arith, subst, append_assoc, length-append}
 use Rattle.std.specs.List.{AllByRecursion, IsDistinct}
 use Rattle.std.proofs.lemmas.Bool.{cases_Bool}
 use Rattle.std.proofs.lemmas.Bool.Decides.{nat_tests}
-use Rattle.std.proofs.lemmas.List.{length-set, get_or-set_same, get_or-set_other, map-append}
+use Rattle.std.proofs.lemmas.List.{length-set, length-drop, length-replicate, get_or-set_same, get_or-set_other, map-append}
 use Rattle.nm_types.specs.declared.id.PortId.{PortId}
 use Rattle.nm_types.specs.declared.place.Place.{Place}
 use Rattle.nm_types.specs.declared.place.Place.TheVariants.{Tx, Extra}
@@ -18,7 +18,7 @@ use Rattle.nm_hold.specs.Holds.{HoldState, buffers_of, index_at, standing_at, wi
 use Rattle.nm_hold.proofs.Spots.{nat_eq-is, same_place-is, same_place-refl}
 use Rattle.nm_user.specs.declared.fill.Row.{Row}
 use Rattle.nm_user.specs.declared.fill.Row.TheVariants.{Slots, Extras}
-use Rattle.nm_user.specs.Own.{bytes_in_cell}
+use Rattle.nm_user.specs.Own.{bytes_in_cell, AreWhole}
 use Rattle.nm_user.specs.Filling.{place_in, first_bytes, placed, index_with, named_with, bytes_with, FlaggedBy, AreFilledWith, ArePartlyIn, IsAway}
 use Rattle.nm_user.proofs.Judging.{false_true}
 use Rattle.nm_user.proofs.Written.{map-set}
@@ -109,6 +109,19 @@ or_false : (a b : Bool) → (a || b) ≡ false → (a ≡ false) × (b ≡ false
 or_false true b e = cc
 or_false false b e = (refl, e)
 
+-- a buffer that comes has all its bytes
+zeros_length : (n v : ℕ) → length (replicate n v) ≡ n
+zeros_length n v = length-replicate n v
+
+dropped_length : (n k v : ℕ) → length (drop k (replicate n v)) ≡ n - k
+dropped_length n k v = length-drop k (replicate n v) ∙ ap (λ (m : ℕ). m - k) (zeros_length n v)
+
+first_whole : (row : Row) (next : ℕ) → length (first_bytes row next) ≡ 2048
+first_whole Slots next = zeros_length 2048 0
+first_whole Extras next =
+    let zeros = dropped_length 2048 4 0 in
+    omega (arith, zeros)
+
 -- one buffer more stands in the row
 pub fill_next : (h now new : HoldState) (port : PortId) (row : Row) (named at : ℕ) (done : List ℕ) (x : Buffer) → AreFilledWith h now port row named (at + 1) done
     → FindsRoom now (place_in port row at) x.index → x.bytes ≡ first_bytes row (chain_head done)
@@ -122,6 +135,7 @@ fill_next h now new port row named at done x filled room bytes cell places is = 
   bytes = ap (λ (s : HoldState). map bytes_in_cell s.cells) cell ∙ (map-set bytes_in_cell now.cells x.index (Some here) ∙ (ap (λ (b : List ℕ). set (map bytes_in_cell now.cells) x.index b) bytes
       ∙ ap (λ (all : List (List ℕ)). set all x.index (first_bytes row (chain_head done))) filled.bytes));
   flags = λ was flagged idx s there. by_index was flagged idx s there (nat_eq x.index idx) refl;
+  whole = λ all idx s there. whole_at all idx s there (nat_eq x.index idx) refl;
   ports = ap (λ (s : HoldState). s.ports) cell ∙ filled.ports;
   count = ap buffers_of cell ∙ (ap (λ (n : ℕ). n - 2) (length-set now.cells x.index (Some here)) ∙ filled.count);
   is_hold = is;
@@ -133,17 +147,28 @@ fill_next h now new port row named at done x filled room bytes cell places is = 
     same_true : (a b : ℕ) → a ≡ b → nat_eq a b ≡ true
     same_true a b e = grind (arith, nat_tests)
 
-    by_index : (was : Place → Bool) → FlaggedBy h was → (idx : ℕ) (s : Standing) → standing_at new idx ≡ Some s → (b : Bool) → nat_eq x.index idx ≡ b
-        → s.home.named ≡ named_with port row named at (x.index ∷ done) was s.home.place
-    by_index was flagged idx s there true e =
+    stands_here : (idx : ℕ) (s : Standing) → standing_at new idx ≡ Some s → nat_eq x.index idx ≡ true → here ≡ s
+    stands_here idx s there e =
         let same : x.index ≡ idx = nat_eq-is x.index idx e in
         let within = within_pool now x.index filled.is_hold room.index in
         let stands : standing_at new idx ≡ Some here = ap (standing_at new) (sym same) ∙ (ap (λ (n : HoldState). standing_at n x.index) cell ∙ get_or-set_same now.cells x.index (Some here) None within) in
-        let is_here : here ≡ s = some_same here s (sym stands ∙ there) in
-        rw (← is_here, same_place-refl (place_in port row at)) refl
-    by_index was flagged idx s there false e =
+        some_same here s (sym stands ∙ there)
+
+    stood_there : (idx : ℕ) (s : Standing) → standing_at new idx ≡ Some s → nat_eq x.index idx ≡ false → standing_at now idx ≡ Some s
+    stood_there idx s there e =
         let other : idx ≢ x.index = (λ same. false_true (sym e ∙ same_true x.index idx (sym same))) in
-        let stood : standing_at now idx ≡ Some s = sym (ap (λ (n : HoldState). standing_at n idx) cell ∙ get_or-set_other now.cells x.index idx (Some here) None other) ∙ there in
+        sym (ap (λ (n : HoldState). standing_at n idx) cell ∙ get_or-set_other now.cells x.index idx (Some here) None other) ∙ there
+
+    whole_at : AreWhole h → (idx : ℕ) (s : Standing) → standing_at new idx ≡ Some s → (b : Bool) → nat_eq x.index idx ≡ b → length s.buf.bytes ≡ 2048
+    whole_at all idx s there true e = rw (← (stands_here idx s there e), bytes) (first_whole row (chain_head done))
+    whole_at all idx s there false e = filled.whole all idx s (stood_there idx s there e)
+
+    by_index : (was : Place → Bool) → FlaggedBy h was → (idx : ℕ) (s : Standing) → standing_at new idx ≡ Some s → (b : Bool) → nat_eq x.index idx ≡ b
+        → s.home.named ≡ named_with port row named at (x.index ∷ done) was s.home.place
+    by_index was flagged idx s there true e =
+        rw (← (stands_here idx s there e), same_place-refl (place_in port row at)) refl
+    by_index was flagged idx s there false e =
+        let stood = stood_there idx s there e in
         let apart : is_same_place (place_in port row at) s.home.place ≡ false = elim (cases_Bool (is_same_place (place_in port row at) s.home.place)) [
           | inl same ↦ absurd (some_none idx (sym ((filled.is_hold.standing idx s stood).there) ∙ (ap (index_at now) (sym (same_place-is (place_in port row at) s.home.place same)) ∙ room.empty)))
           | inr differs ↦ differs
@@ -151,7 +176,7 @@ fill_next h now new port row named at done x filled room bytes cell places is = 
         filled.flags was flagged idx s stood ∙ rw apart refl
 
 pub none_filled : (h : HoldState) (port : PortId) (row : Row) (named at : ℕ) → IsHold h → AreFilledWith h h port row named at []
-none_filled h port row named at is = record { index = λ q. refl; others = λ i other. refl; bytes = refl; flags = λ was flagged. flagged; ports = refl; count = refl; is_hold = is }
+none_filled h port row named at is = record { index = λ q. refl; others = λ i other. refl; bytes = refl; flags = λ was flagged. flagged; whole = λ all. all; ports = refl; count = refl; is_hold = is }
 
 -- the next buffer, the last of those left, and what stands in the row once it came
 module _ (h now : HoldState) (port : PortId) (row : Row) (named : ℕ) (all bufs rest : List Buffer) (x : Buffer) (next : ℕ) (partly : ArePartlyIn h now port row named all bufs next) (last : bufs ≡ rest ++ x ∷ []) where

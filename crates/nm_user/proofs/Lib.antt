@@ -12,3 +12,6 @@ pub mod Forwarding
 pub mod Filled
 pub mod Written
 pub mod Filling
+pub mod Opening
+pub mod Opened
+pub mod Readied

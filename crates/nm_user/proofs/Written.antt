@@ -1,11 +1,12 @@
 -- A buffer whose first bytes are written, over what is seen.
-use Rattle.std.proofs.Common.{ℕ, zero, suc, ◌≡◌, ◌≢◌, ◌-◌, ◌+◌, Bool, true, false, nat_eq, List, [], ◌∷◌, ◌++◌, length, drop, map, get_or, set, replicate, if◌then◌else◌, Option, Some, None, option_map, inl, inr, refl, sym, ◌∙◌, ap, arith}
+use Rattle.std.proofs.Common.{ℕ, zero, suc, ◌≡◌, ◌≢◌, ◌≤◌, ◌-◌, ◌+◌, Bool, true, false, nat_eq, List, [], ◌∷◌, ◌++◌, length, drop, map, get_or, set, replicate, if◌then◌else◌, Option, Some, None, option_map, inl, inr, refl, sym, ◌∙◌, ap, arith, length-append}
 use Rattle.std.specs.Prelude.{is_some, unwrap_or}
 use Rattle.std.specs.List.{range_with_len}
 use Rattle.std.proofs.lemmas.Bool.{cases_Bool}
-use Rattle.std.proofs.lemmas.List.{length-set, get_or-set_same, get_or-set_other}
+use Rattle.std.proofs.lemmas.List.{length-set, length-drop}
 use Rattle.nm_types.specs.declared.id.PortId.{PortId}
-use Rattle.nm_types.specs.declared.id.Side.TheVariants.{Tx}
+use Rattle.nm_types.specs.declared.id.Side.{Side}
+use Rattle.nm_types.specs.declared.id.Side.TheVariants.{Tx, Rx}
 use Rattle.nm_types.specs.declared.place.Place.{Place}
 use Rattle.nm_types.specs.declared.place.Place.TheVariants as place
 use Rattle.nm_types.specs.Slots.{SlotState}
@@ -17,13 +18,13 @@ use Rattle.nm_types.specs.SyncChecks.{contains_index}
 use Rattle.nm_hold.specs.declared.standing.Home.{Home}
 use Rattle.nm_hold.specs.declared.standing.Standing.{Standing}
 use Rattle.nm_hold.specs.Standings.{cell_fronted}
-use Rattle.nm_hold.specs.Holds.{HoldState, buffers_of, index_at, standing_at, cell_at, places_of, with_cell, is_named_at, is_named_in, IsHold, SamePlaces}
+use Rattle.nm_hold.specs.Holds.{HoldState, port_of, buffers_of, index_at, standing_at, cell_at, places_of, with_cell, is_named_at, is_named_in, IsHold, SamePlaces}
 use Rattle.nm_hold.proofs.Shown.{named_stands}
 use Rattle.nm_hold.proofs.Tied.{within_cells}
 use Rattle.nm_user.specs.declared.port.UserPort.{UserPort}
 use Rattle.nm_user.specs.RingSlots.{RingSlots}
-use Rattle.nm_user.specs.Sides.{place_on, number_at}
-use Rattle.nm_user.specs.Own.{positions_of, number_on, held_on, extra_number_at, ring_seen, port_seen, own_seen, bytes_in_cell, AreSided, AreRings, AreFlagged, AreFilled}
+use Rattle.nm_user.specs.Sides.{number_at}
+use Rattle.nm_user.specs.Own.{positions_of, number_on, held_on, extra_number_at, ring_seen, port_seen, own_seen, bytes_in_cell, AreSided, AreRings, AreFlagged, AreFilled, AreWhole}
 use Rattle.nm_user.proofs.Filled.{is_named_seen}
 use Rattle.nm_user.proofs.Checked.{bytes_are_seen}
 
@@ -31,21 +32,25 @@ map-same : {X : Type 0} (f g : ℕ → X) (xs : List ℕ) → ((x : ℕ) → f x
 map-same f g [] same = refl
 map-same {X = X} f g (x ∷ xs) same = ap (λ (y : X). y ∷ map f xs) (same x) ∙ ap (λ (ys : List X). g x ∷ ys) (map-same f g xs same)
 
--- ports whose places hold the same buffers are seen the same
-module _ (h new : HoldState) (same : (q : Place) → number_at new q ≡ number_at h q) where
-  ring_same : (id : PortId) (r : RingSlots) → ring_seen new id r ≡ ring_seen h id r
-  ring_same id r = rw (map-same (number_on new r.side id) (number_on h r.side id) (positions_of r.side r.ring) (λ at. same (place_on r.side id at))) refl
+-- a port whose places hold the same buffers is seen the same
+module _ (h new : HoldState) (p : UserPort) (same : (q : Place) → port_of q ≡ p.id.0 → number_at new q ≡ number_at h q) where
+  number_same : (side : Side) (at : ℕ) → number_on new side p.id at ≡ number_on h side p.id at
+  number_same Tx at = same (place.Tx p.id at) refl
+  number_same Rx at = same (place.Rx p.id at) refl
 
-  tx_same : (id : PortId) (tx : Option RingSlots) → option_map (ring_seen new id) tx ≡ option_map (ring_seen h id) tx
-  tx_same id None = refl
-  tx_same id (Some r) = ap (λ (o : OwnRing). Some o) (ring_same id r)
+  ring_same : (r : RingSlots) → ring_seen new p.id r ≡ ring_seen h p.id r
+  ring_same r = rw (map-same (number_on new r.side p.id) (number_on h r.side p.id) (positions_of r.side r.ring) (number_same r.side)) refl
 
-  port_same : (p : UserPort) → port_seen new p ≡ port_seen h p
-  port_same p = rw (tx_same p.id p.tx, ring_same p.id p.rx, map-same (extra_number_at new p.id) (extra_number_at h p.id) (range_with_len 0 p.extra) (λ at. same (place.Extra p.id at))) refl
+  tx_same : (tx : Option RingSlots) → option_map (ring_seen new p.id) tx ≡ option_map (ring_seen h p.id) tx
+  tx_same None = refl
+  tx_same (Some r) = ap (λ (o : OwnRing). Some o) (ring_same r)
 
-  pub ports_same : (ports : List UserPort) → map (port_seen new) ports ≡ map (port_seen h) ports
-  ports_same [] = refl
-  ports_same (p ∷ ports) = rw (port_same p, ports_same ports) refl
+  pub port_same : port_seen new p ≡ port_seen h p
+  port_same = rw (tx_same p.tx, ring_same p.rx, map-same (extra_number_at new p.id) (extra_number_at h p.id) (range_with_len 0 p.extra) (λ at. same (place.Extra p.id at) refl)) refl
+
+pub ports_same : (h new : HoldState) → ((q : Place) → number_at new q ≡ number_at h q) → (ports : List UserPort) → map (port_seen new) ports ≡ map (port_seen h) ports
+ports_same h new same [] = refl
+ports_same h new same (p ∷ ports) = rw (port_same h new p (λ q e. same q), ports_same h new same ports) refl
 
 pub map-set : {X Y : Type 0} (f : X → Y) (xs : List X) (at : ℕ) (x : X) → map f (set xs at x) ≡ set (map f xs) at (f x)
 map-set f [] at x = refl
@@ -144,3 +149,26 @@ head_lacks s id bytes e = by_ring (ring_at Tx s id) e
 pub nothing_there : {X : Type 0} (o : Option X) → ((x : X) → o ≡ Some x → ⊥) → o ≡ None
 nothing_there None never = refl
 nothing_there (Some x) never = absurd (never x refl)
+
+-- a buffer whose first bytes are written has as many bytes
+whole_fronted : (cells : List (Option Standing)) (idx i : ℕ) (bytes : List ℕ) (s : Standing) → length bytes ≤ 2048 → ((j : ℕ) (t : Standing) → cell_at cells j ≡ Some t → length t.buf.bytes ≡ 2048)
+    → cell_at (set cells idx (cell_fronted bytes (cell_at cells idx))) i ≡ Some s → length s.buf.bytes ≡ 2048
+whole_fronted [] idx i bytes s few whole e = absurd cc
+whole_fronted (cell ∷ cells) zero zero bytes s few whole e = by_cell cell (λ t there. whole zero t there) e
+  where
+    option_bytes : Option Standing → List ℕ → List ℕ
+    option_bytes None d = d
+    option_bytes (Some x) d = x.buf.bytes
+
+    by_cell : (cell : Option Standing) → ((t : Standing) → cell ≡ Some t → length t.buf.bytes ≡ 2048) → cell_fronted bytes cell ≡ Some s → length s.buf.bytes ≡ 2048
+    by_cell None all e = absurd cc
+    by_cell (Some t) all e =
+        let is : s.buf.bytes ≡ bytes ++ drop (length bytes) t.buf.bytes = ap (λ (o : Option Standing). option_bytes o []) (sym e) in
+        let size = all t refl in
+        rw is (omega (arith, length-append bytes (drop (length bytes) t.buf.bytes), length-drop (length bytes) t.buf.bytes, size))
+whole_fronted (cell ∷ cells) zero (suc i) bytes s few whole e = whole (suc i) s e
+whole_fronted (cell ∷ cells) (suc idx) zero bytes s few whole e = whole zero s e
+whole_fronted (cell ∷ cells) (suc idx) (suc i) bytes s few whole e = whole_fronted cells idx i bytes s few (λ j t there. whole (suc j) t there) e
+
+pub whole_kept : (h new : HoldState) (idx : ℕ) (bytes : List ℕ) → length bytes ≤ 2048 → new ≡ with_cell h idx (cell_fronted bytes (standing_at h idx)) → AreWhole h → AreWhole new
+whole_kept h new idx bytes few cell whole i s e = whole_fronted h.cells idx i bytes s few whole (ap (λ (x : HoldState). standing_at x i) (sym cell) ∙ e)

@@ -10,7 +10,7 @@ use Rattle.nm_types.specs.SyncChecks.{contains_index}
 use Rattle.nm_region.specs.Buffers.{Buffer, indices_of}
 use Rattle.nm_hold.specs.declared.standing.Standing.{Standing}
 use Rattle.nm_hold.specs.Holds.{HoldState, buffers_of, index_at, standing_at, IsHold}
-use Rattle.nm_user.specs.Own.{bytes_in_cell}
+use Rattle.nm_user.specs.Own.{bytes_in_cell, AreWhole}
 use Rattle.nm_user.specs.declared.fill.Row.{Row}
 use Rattle.nm_user.specs.declared.fill.Row.TheVariants.{Slots, Extras}
 
@@ -53,6 +53,7 @@ pub record AreFilledWith (h new : HoldState) (port : PortId) (row : Row) (named 
   pub others : (i : ℕ) → contains_index idxs i ≡ false → standing_at new i ≡ standing_at h i
   pub bytes : map bytes_in_cell new.cells ≡ bytes_with row idxs (map bytes_in_cell h.cells)
   pub flags : (was : Place → Bool) → FlaggedBy h was → FlaggedBy new (named_with port row named at idxs was)
+  pub whole : AreWhole h → AreWhole new
   pub ports : new.ports ≡ h.ports
   pub count : buffers_of new ≡ buffers_of h
   pub is_hold : IsHold new

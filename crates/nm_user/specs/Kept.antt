@@ -1,7 +1,7 @@
 -- What holds of the fields of a session's own side.
 use Rattle.std.specs.Prelude.{◌≡◌, ◌+◌, false, replicate}
 use Rattle.nm_hold.specs.Holds.{buffers_of, IsHold}
-use Rattle.nm_user.specs.Own.{AreFilled, AreFlagged, AreRings, AreSided, HasPlaces}
+use Rattle.nm_user.specs.Own.{AreWhole, AreFilled, AreFlagged, AreRings, AreSided, HasPlaces}
 use Rattle.nm_user.specs.declared.own.OwnSide.TheInside.{Inside}
 
 pub record IsKept (o : Inside) : Type 0 where
@@ -11,4 +11,5 @@ pub record IsKept (o : Inside) : Type 0 where
   pub hold : IsHold o.hold
   pub places : HasPlaces o.hold o.ports.items
   pub filled : AreFilled o.hold o.ports.items
+  pub whole : AreWhole o.hold
   pub blank : o.marks.items ≡ replicate (buffers_of o.hold + 2) false

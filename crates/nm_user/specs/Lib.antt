@@ -6,3 +6,4 @@ pub mod Edits
 pub mod Resets
 pub mod Acts
 pub mod Filling
+pub mod Opening

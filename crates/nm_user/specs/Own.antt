@@ -1,6 +1,6 @@
 -- A session's own side as it is kept: its ports with their rings, and a hold of the buffers in their
 -- places; and how it is seen.
-use Rattle.std.specs.Prelude.{ℕ, Bool, ◌≡◌, ◌==◌, ◌&&◌, nat_lt, is_some, if◌then◌else◌, List, [], ◌∷◌, ◌++◌, map, find, flat_map, Option, Some, None, option_map, option_and_then}
+use Rattle.std.specs.Prelude.{ℕ, Bool, ◌≡◌, ◌==◌, ◌&&◌, nat_lt, is_some, if◌then◌else◌, List, [], ◌∷◌, ◌++◌, length, map, find, flat_map, Option, Some, None, option_map, option_and_then}
 use Rattle.std.specs.Option.{option_map_or}
 use Rattle.std.specs.List.{range_with_len, list_any}
 use Rattle.nm_types.specs.declared.id.PortId.{PortId}
@@ -10,6 +10,7 @@ use Rattle.nm_types.specs.declared.place.Place.{Place}
 use Rattle.nm_types.specs.declared.place.Place.TheVariants as place
 use Rattle.nm_types.specs.declared.fault.SyncFault.{SyncFault}
 use Rattle.nm_types.specs.Positions.{RingState, IsRing, is_user_slot, user_slots, pushed_slots}
+use Rattle.nm_types.specs.Limits.{buffer_bytes}
 use Rattle.nm_types.specs.Frames.{Frame}
 use Rattle.nm_types.specs.Slots.{frame_at}
 use Rattle.nm_types.specs.Places.{is_same_place}
@@ -98,6 +99,10 @@ places_of_port p = record { port = p.id; sizes = record { tx = size_if p.tx; rx 
 
 abbrev pub HasPlaces : HoldState → List UserPort → Type 0
 HasPlaces h ports = h.ports ≡ map places_of_port ports
+
+-- a buffer has all its bytes
+abbrev pub AreWhole : HoldState → Type 0
+AreWhole h = (idx : ℕ) (s : Standing) → standing_at h idx ≡ Some s → length s.buf.bytes ≡ buffer_bytes
 
 abbrev pub IsTxSide : Option RingSlots → Type 0
 IsTxSide None = Unit {0}

@@ -6,6 +6,7 @@ mod checks;
 mod edit;
 mod fill;
 mod gather;
+mod open;
 mod own;
 mod port;
 mod reset;

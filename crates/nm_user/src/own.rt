@@ -1,27 +1,34 @@
-ghost use Rattle.std.specs.Prelude.{◌≡◌, ◌≤◌, length, IfOk, IsSome, OnErr, None, Some, option_map};
+ghost use Rattle.std.specs.Prelude.{◌≡◌, ◌≤◌, ◌++◌, length, nat_eq, IfOk, IfErr, OnOk, IsSome, OnErr, None, Some, option_map};
 ghost use Rattle.std.specs.Option.{option_copied};
 ghost use Rattle.nm_types.specs.Buffers.{IsPoolSize};
 ghost use Rattle.nm_types.specs.declared.id.Side.TheVariants.{Tx};
 ghost use Rattle.nm_types.specs.Slots.{pushed_frames};
-ghost use Rattle.nm_types.specs.OwnPorts.{empty_own, bytes_at, ring_at, pushed_on};
+ghost use Rattle.std.specs.List.{AllByRecursion, IsDistinct};
+ghost use Rattle.nm_types.specs.Positions.{IsRingSize};
+ghost use Rattle.nm_region.specs.Buffers.{indices_of};
+ghost use Rattle.nm_user.specs.Opening.{IsTxSize, IsNew, blank_arrivals};
+ghost use Rattle.nm_types.specs.OwnPorts.{empty_own, bytes_at, ring_at, pushed_on, port_with_id};
 ghost use Rattle.nm_user.specs.Own.{refusal_at, port_at, slots_on, slots_at, ring_of};
 ghost use Rattle.nm_types.specs.OwnEdits.{user_slot_at, with_user_slot, with_head, with_cur};
 ghost use Rattle.nm_types.specs.OwnEdits.{with_written};
 ghost use Rattle.nm_user.specs.Sides.{TellsRefusal};
-ghost use Rattle.nm_types.specs.OwnSyncs.{own_after_reset};
+ghost use Rattle.nm_types.specs.OwnSyncs.{own_after_open, own_after_reset};
 ghost use Rattle.nm_user.specs.Edits.{own_edited};
 ghost use Rattle.nm_user.specs.RingSlots.{slot_before_tail};
 ghost use Rattle.nm_user.specs.Acts.{head_slot_in};
 
 use crate::checks::check_ring;
 use crate::edit::{RingEdit, edit_rings};
+use crate::fill::{Row, fill};
 use crate::gather::gather;
+use crate::open::{make_port, reserve};
 use crate::port::UserPort;
 use crate::reset::reset_rings;
 use crate::slot_ring::SlotRing;
 use nm_hold::Hold;
+use nm_region::Buf;
 use nm_ring::Ring;
-use nm_types::{Batch, NoMemory, PortId, Side, Slot, SyncFault};
+use nm_types::{Batch, Name, NoMemory, PortId, Side, Slot, SyncFault};
 use std::alloc::Global;
 use std::marker::Model;
 
@@ -97,6 +104,46 @@ impl OwnSide {
             ports: Vec::new(alloc),
             marks,
         })
+    }
+
+    /// Adds a port that was opened as `id`, with these buffers in its transmit slots and in its
+    /// extra positions; a monitor has no transmit slots. The buffers are cleared, each extra one
+    /// links to the next, and each transmit slot names its own. If memory is wanting, they come
+    /// back as they were.
+    pub fn add_port(
+        &mut self,
+        alloc: Global,
+        id: PortId,
+        name: Name,
+        rx: u32,
+        tx: Vec<Buf>,
+        extra: Vec<Buf>,
+    ) -> Result<(), (NoMemory, Vec<Buf>, Vec<Buf>)>
+        requires tx { IsTxSize (length tx.items) }
+        requires rx { IsRingSize rx }
+        requires extra { length extra.items ≤ 1024 }
+        requires new { port_with_id self.old id.0 ≡ None }
+        requires away { AllByRecursion (IsNew self.old)
+            (indices_of tx.items ++ indices_of extra.items) }
+        requires once { IsDistinct nat_eq (indices_of tx.items ++ indices_of extra.items) }
+        ensures ok { OnOk result (self.new ≡ own_after_open id.0 name (length tx.items) rx
+            (blank_arrivals (indices_of tx.items ++ indices_of extra.items)) self.old) }
+        ensures err { OnErr result (self.new ≡ self.old) }
+        ensures back { IfErr result (λ e. (e.1.items ≡ tx.items) × (e.2.items ≡ extra.items)) }
+    {
+        let port = match make_port(alloc, id, name, rx, &tx, &extra) {
+            Ok(port) => port,
+            Err(fault) => return Err((fault, tx, extra)),
+        };
+        let (slots, extras) = (tx.len() as u32, extra.len() as u32);
+        if let Err(fault) = reserve(&mut self.hold, &mut self.ports, slots, rx, extras) {
+            return Err((fault, tx, extra));
+        }
+        self.hold.set_port(id, slots, rx, extras);
+        fill(&mut self.hold, id, Row::Slots, slots.saturating_sub(1), tx);
+        fill(&mut self.hold, id, Row::Extras, extras, extra);
+        self.ports.push_reserved(port);
+        Ok(())
     }
 
     /// The first check that refuses a sync of a port's ring.

@@ -1,11 +1,12 @@
 ghost use Rattle.std.specs.Prelude.{ℕ, ◌≡◌, ◌<◌, ◌≤◌, ◌++◌, ◌∷◌, [], None, Some, IfSome, IfOk};
-ghost use Rattle.std.specs.Prelude.{option_map, drop, replicate, true};
+ghost use Rattle.std.specs.Prelude.{option_map, drop, length, map, true};
 ghost use Rattle.std.specs.Option.{option_copied};
 ghost use Rattle.nm_types.specs.Positions.{IsRing, IsRingSize, is_user_slot, opened_tx};
 ghost use Rattle.nm_types.specs.Positions.{opened_rx};
 ghost use Rattle.nm_types.specs.Slots.{published_slot};
 ghost use Rattle.nm_types.specs.Reset.{reset_positions};
-ghost use Rattle.nm_types.specs.OwnPorts.{blank_slot};
+ghost use Rattle.nm_types.specs.OwnSyncs.{opened_slot};
+ghost use Rattle.nm_region.specs.Buffers.{indices_of};
 ghost use Rattle.nm_user.specs.RingSlots.{RingSlots, IsRingSlots, slot_of_user};
 ghost use Rattle.nm_user.specs.RingSlots.{with_slot_of_user, with_slot_reset_at, at_positions};
 ghost use Rattle.nm_user.specs.RingSlots.{slot_at, with_slot_at, both_stepped, head_stepped};
@@ -15,7 +16,8 @@ ghost use Rattle.nm_types.specs.declared.id.Side.TheVariants.{Tx, Rx};
 ghost use Rattle.nm_types.specs.Positions.{FitsRing, dist, step_on, kernel_count};
 ghost use Rattle.nm_types.specs.OwnSyncs.{accepted, slots_after_push};
 
-use crate::slots::{BLANK, blank_slots, clear_announcements, drop_front, framed};
+use crate::slots::{BLANK, clear_announcements, drop_front, framed, opened_slots};
+use nm_region::Buf;
 use nm_ring::Ring;
 use nm_types::{Side, Slot};
 use std::alloc::{AllocError, Global};
@@ -305,19 +307,19 @@ impl SlotRing {
         self.ring.reset();
     }
 
-    /// An opened transmit ring, whose slots name no buffer yet.
-    pub(crate) fn tx(alloc: Global, size: u32) -> Result<SlotRing, AllocError>
-        requires { IsRingSize size }
+    /// An opened transmit ring, each of whose slots names a buffer.
+    pub(crate) fn tx(alloc: Global, bufs: &[Buf]) -> Result<SlotRing, AllocError>
+        requires { IsRingSize (length bufs.now) }
         ensures { IfOk result (λ r. r ≡ record {
           side = Tx;
-          ring = opened_tx size;
-          slots = replicate size blank_slot;
+          ring = opened_tx (length bufs.now);
+          slots = map opened_slot (indices_of bufs.now);
         }) }
     {
         Ok(SlotRing {
             side: Side::Tx,
-            ring: Ring::tx(size),
-            slots: blank_slots(alloc, size)?,
+            ring: Ring::tx(bufs.len() as u32),
+            slots: opened_slots(alloc, bufs)?,
         })
     }
 

@@ -1,12 +1,13 @@
-ghost use Rattle.std.specs.Prelude.{◌≡◌, ◌<◌, ◌≤◌, IfOk, drop, fold, length, replicate};
+ghost use Rattle.std.specs.Prelude.{◌≡◌, ◌<◌, ◌≤◌, IfOk, drop, fold, length, map};
 ghost use Rattle.std.specs.VecDeque.{deque_capacity};
 ghost use Rattle.nm_types.specs.Positions.{slots_from};
 ghost use Rattle.nm_types.specs.Slots.{slot_after_push};
-ghost use Rattle.nm_types.specs.OwnPorts.{blank_slot};
-ghost use Rattle.nm_types.specs.OwnSyncs.{with_push_cleared};
+ghost use Rattle.nm_types.specs.OwnSyncs.{with_push_cleared, opened_slot};
+ghost use Rattle.nm_region.specs.Buffers.{indices_of};
 ghost use Rattle.nm_user.specs.RingSlots.{slot_framed};
 
 use bitflags::Flags;
+use nm_region::Buf;
 use nm_types::{Slot, SlotFlags};
 use std::alloc::{AllocError, Global};
 use std::collections::VecDeque;
@@ -68,14 +69,17 @@ pub(crate) fn drop_front(slots: &mut VecDeque<Slot>, count: u32)
     }
 }
 
-/// As many slots as a transmit ring has, none of which names a buffer yet.
-pub(crate) fn blank_slots(alloc: Global, size: u32) -> Result<VecDeque<Slot>, AllocError>
-    ensures slots { IfOk result (λ slots. slots.items ≡ replicate size blank_slot) }
-    ensures room { IfOk result (λ slots. size ≤ deque_capacity slots) }
+/// The slots of an opened transmit ring, each of which names a buffer.
+pub(crate) fn opened_slots(alloc: Global, bufs: &[Buf]) -> Result<VecDeque<Slot>, AllocError>
+    ensures slots { IfOk result (λ slots. slots.items ≡ map opened_slot (indices_of bufs.now)) }
+    ensures room { IfOk result (λ slots. length bufs.now ≤ deque_capacity slots) }
 {
-    let mut slots = VecDeque::with_capacity(alloc, size as usize)?;
-    for _ in 0..size {
-        slots.push_back_reserved(BLANK);
+    let mut slots = VecDeque::with_capacity(alloc, bufs.len())?;
+    for buf in bufs {
+        slots.push_back_reserved(Slot {
+            buf_idx: buf.index(),
+            ..BLANK
+        });
     }
     Ok(slots)
 }

@@ -35,6 +35,7 @@ invariant_of-self c =
       hold = kept.hold;
       places = subst Placed are (places_changed h c.args.side (λ (id : PortId). edited c.args.edit) (ring_edit c.args.side c.args.edit) keeps id ports kept.places);
       filled = subst Filled are (filled_changed h c.args.side (λ (id : PortId). edited c.args.edit) (ring_edit c.args.side c.args.edit) keeps id ports kept.filled);
+      whole = kept.whole;
       blank = kept.blank;
     }
 

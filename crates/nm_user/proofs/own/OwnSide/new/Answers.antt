@@ -13,6 +13,7 @@ invariant_of-result c =
       hold = f.hold;
       places = rw c.new-2.ensures.items f.places;
       filled = rw c.new-2.ensures.items f.filled;
+      whole = f.whole;
       blank = rw f.count (search rules);
     }
 

@@ -35,6 +35,7 @@ invariant_of-self c =
       hold = kept.hold;
       places = subst Placed are (places_changed h c.args.side (ring_reset h) (ring_after_reset c.args.side) keeps id ports kept.places);
       filled = subst Filled are (filled_changed h c.args.side (ring_reset h) (ring_after_reset c.args.side) keeps id ports kept.filled);
+      whole = kept.whole;
       blank = kept.blank;
     }
 

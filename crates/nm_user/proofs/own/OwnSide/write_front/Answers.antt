@@ -1,7 +1,7 @@
 use Rattle.std.proofs.Common.{◌≡◌, ◌∙◌, ◌+◌, false, replicate, ap, refl, sym}
 use Rattle.nm_hold.specs.Holds.{HoldState}
 use Rattle.nm_types.specs.OwnEdits.{with_written}
-use Rattle.nm_user.proofs.Written.{fronted_is_seen, not_written, fronted_keeps, flagged_kept, filled_kept}
+use Rattle.nm_user.proofs.Written.{fronted_is_seen, not_written, fronted_keeps, flagged_kept, filled_kept, whole_kept}
 use Rattle.nm_user.proofs.own.OwnSide.write_front.Goals as goal
 
 pub invariant_of-self : goal.invariant_of-self
@@ -18,6 +18,7 @@ invariant_of-self c =
       hold = c.write.ensures.hold;
       places = ap (λ (x : HoldState). x.ports) c.write.ensures.cell ∙ kept.places;
       filled = filled_kept h new ports c.write.ensures.places kept.filled;
+      whole = whole_kept h new c.args.idx c.args.bytes.now c.requires c.write.ensures.cell kept.whole;
       blank = rw homes.count kept.blank;
     }
 
