@@ -8,6 +8,8 @@ mod fill;
 mod gather;
 mod open;
 mod own;
+#[cfg(test)]
+mod own_tests;
 mod port;
 mod reset;
 mod slot_ring;

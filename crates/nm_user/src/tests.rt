@@ -106,11 +106,12 @@ fn pushes_are_checked(rt: HostRuntime) {
     let Ok((_region, mut all)) = Region::new(rt.alloc(), 4) else {
         panic!(rt; "out of memory");
     };
+    assert_eq!(rt; all.len(), 4);
     let Ok(mut hold) = Hold::new(rt.alloc(), 64) else {
         panic!(rt; "out of memory");
     };
     let (Ok(mut ring), Ok(mut marks), Ok(())) = (
-        SlotRing::tx(rt.alloc(), 4),
+        SlotRing::tx(rt.alloc(), &all),
         vec![in rt.alloc(); false; 66],
         hold.reserve(4, 4, 0),
     ) else {

@@ -1,0 +1,251 @@
+ghost use Rattle.std.specs.Prelude.{◌≡◌, ◌≤◌, ◌∷◌, [], IsSome, true};
+ghost use Rattle.std.specs.Vec.{vec_capacity};
+ghost use Rattle.nm_types.specs.OwnPorts.{empty_own};
+ghost use Rattle.nm_region.specs.Buffers.{indices_of};
+
+use crate::{OwnSide, SlotPlace};
+use nm_region::{Buf, Region};
+use nm_types::{Name, PortId, Side, Slot, SlotWrite, SyncFault};
+use std::alloc::Global;
+use std::process::Abort;
+use std::test::Fail;
+
+const PORT: PortId = PortId(2);
+
+/// A broadcast from 02:00:00:00:00:0a.
+const FRAME: [u8; 14] = [255, 255, 255, 255, 255, 255, 2, 0, 0, 0, 0, 10, 136, 181];
+
+/// Writes to slot 0 of a push of one frame, and what refuses the sync then. The transmit slots hold
+/// the buffers 2 to 5 of a pool of 64, the last one is the kernel side's, and 6 is an extra buffer.
+const WRITES: [(SlotWrite, Option<SyncFault>); 8] = [
+    (SlotWrite::Ptr(7), None),
+    (
+        SlotWrite::BufIdx(1),
+        Some(SyncFault::IndexOut { slot: 0, idx: 1 }),
+    ),
+    (
+        SlotWrite::BufIdx(66),
+        Some(SyncFault::IndexOut { slot: 0, idx: 66 }),
+    ),
+    (
+        SlotWrite::BufIdx(7),
+        Some(SyncFault::NotHeld { slot: 0, idx: 7 }),
+    ),
+    (
+        SlotWrite::BufIdx(5),
+        Some(SyncFault::NotHeld { slot: 0, idx: 5 }),
+    ),
+    (
+        SlotWrite::BufIdx(6),
+        Some(SyncFault::Unannounced {
+            slot: 0,
+            idx: 6,
+            was: 2,
+        }),
+    ),
+    (
+        SlotWrite::Len(2049),
+        Some(SyncFault::LongLen { slot: 0, len: 2049 }),
+    ),
+    (SlotWrite::Flags(16), Some(SyncFault::Indirect { slot: 0 })),
+];
+
+/// Positions of the transmit ring, and what refuses a sync at them.
+const POSITIONS: [(u32, u32, Option<SyncFault>); 4] = [
+    (
+        2,
+        1,
+        Some(SyncFault::CurOut {
+            cur: 1,
+            from: 2,
+            to: 3,
+        }),
+    ),
+    (
+        4,
+        4,
+        Some(SyncFault::HeadOut {
+            head: 4,
+            from: 0,
+            to: 3,
+        }),
+    ),
+    (
+        4294967295,
+        0,
+        Some(SyncFault::HeadOut {
+            head: 4294967295,
+            from: 0,
+            to: 3,
+        }),
+    ),
+    (3, 3, None),
+];
+
+fn slot(buf_idx: u32, len: u16, flags: u16) -> Option<Slot> {
+    Some(Slot {
+        buf_idx,
+        len,
+        flags,
+        ptr: 0,
+    })
+}
+
+fn slot_at(own: &OwnSide, at: u32) -> Option<Slot> {
+    match own.slot(PORT, Side::Tx, at) {
+        Some(slot) => Some(*slot),
+        None => None,
+    }
+}
+
+/// What refuses a sync of the port's ring.
+fn refusal(rt: &impl Abort, own: &mut OwnSide, side: Side) -> Option<SyncFault>
+    ensures { own.new ≡ own.old }
+{
+    assert!(rt; own.ring(PORT, side).is_some());
+    own.check(PORT, side).err()
+}
+
+/// The bytes of the only frame that is pushed are those of the broadcast.
+fn is_pushed(rt: &impl Abort, own: &mut OwnSide, alloc: Global) -> bool {
+    assert!(rt; own.ring(PORT, Side::Tx).is_some());
+    match own.check(PORT, Side::Tx) {
+        Ok(()) => match own.frames(alloc, PORT) {
+            Ok(batch) => batch.len() == 1 && batch.frame(0) == FRAME.as_slice(),
+            Err(_) => false,
+        },
+        Err(_) => false,
+    }
+}
+
+/// One frame is put, slot 0 is written, the sync is judged, and the ring is reset.
+fn write_each(rt: &impl Abort, own: &mut OwnSide) {
+    for (write, wanted) in WRITES {
+        own.put_frame(PORT, &FRAME);
+        own.write_slot(PORT, Side::Tx, 0, write);
+        assert!(rt; refusal(rt, own, Side::Tx) == wanted, "{write:?}");
+        own.reset(PORT, Side::Tx);
+        assert!(rt; slot_at(own, 0) == slot(2, 0, 0), "{write:?}");
+    }
+}
+
+/// Head and cur are written, the sync is judged, and the ring is reset.
+fn move_each(rt: &impl Abort, own: &mut OwnSide) {
+    for (head, cur, wanted) in POSITIONS {
+        own.put_positions(PORT, Side::Tx, head, cur);
+        assert!(rt; refusal(rt, own, Side::Tx) == wanted, "{head} {cur}");
+        own.reset(PORT, Side::Tx);
+        assert!(rt; own.has_room(PORT), "{head} {cur}");
+    }
+    let out = SyncFault::HeadOut {
+        head: 1,
+        from: 0,
+        to: 0,
+    };
+    own.put_positions(PORT, Side::Rx, 1, 1);
+    assert!(rt; refusal(rt, own, Side::Rx) == Some(out));
+    own.give_all_back(PORT);
+    assert!(rt; refusal(rt, own, Side::Rx).is_none());
+}
+
+/// Two slots are swapped with marks, and back without: then the first one is refused.
+fn swap(rt: &impl Abort, own: &mut OwnSide) {
+    let [here, there] = [0, 1].map(|at| SlotPlace {
+        side: Side::Tx,
+        port: PORT,
+        at,
+    });
+    own.put_frame(PORT, &FRAME);
+    own.put_frame(PORT, &FRAME);
+    own.swap_slots(here, there, true);
+    assert!(rt; slot_at(own, 0) == slot(3, 14, 1) && slot_at(own, 1) == slot(2, 14, 1));
+    assert!(rt; refusal(rt, own, Side::Tx).is_none());
+    own.reset(PORT, Side::Tx);
+    own.swap_slots(here, there, false);
+    own.put_positions(PORT, Side::Tx, 2, 2);
+    let unannounced = SyncFault::Unannounced {
+        slot: 0,
+        idx: 3,
+        was: 2,
+    };
+    assert!(rt; refusal(rt, own, Side::Tx) == Some(unannounced));
+    own.reset(PORT, Side::Tx);
+}
+
+/// A ring of four slots takes three frames; nothing is forwarded from an empty receive ring.
+fn fill(rt: &impl Abort, own: &mut OwnSide, alloc: Global) {
+    own.forward(PORT, PORT, 9);
+    own.put_frame(PORT, &FRAME);
+    assert!(rt; is_pushed(rt, own, alloc));
+    for _ in 0..3 {
+        own.put_frame(PORT, &FRAME);
+    }
+    assert!(rt; !own.has_room(PORT));
+    assert!(rt; slot_at(own, 2) == slot(4, 14, 0) && slot_at(own, 3).is_none());
+}
+
+/// Puts buffers into a vector, in order.
+fn put_four(bufs: &mut Vec<Buf>, one: Buf, two: Buf, three: Buf, four: Buf)
+    requires room { 4 ≤ vec_capacity bufs.old }
+    requires empty { bufs.old.items ≡ [] }
+    ensures { indices_of bufs.new.items ≡ one.index ∷ two.index ∷ three.index ∷ four.index ∷ [] }
+{
+    bufs.push_reserved(one);
+    bufs.push_reserved(two);
+    bufs.push_reserved(three);
+    bufs.push_reserved(four);
+}
+
+/// Opens a port of four slots in each ring with an extra buffer, and uses it.
+fn play(
+    rt: &impl Abort,
+    own: &mut OwnSide,
+    alloc: Global,
+    name: Name,
+    tx: Vec<Buf>,
+    extra: Vec<Buf>,
+)
+    requires own { own.old ≡ empty_own 64 }
+    requires tx { indices_of tx.items ≡ 2 ∷ 3 ∷ 4 ∷ 5 ∷ [] }
+    requires extra { indices_of extra.items ≡ 6 ∷ [] }
+{
+    match own.add_port(alloc, PORT, name, 4, tx, extra) {
+        Ok(()) => {}
+        Err(_back) => panic!(rt; "out of memory"),
+    }
+    assert!(rt; slot_at(own, 0) == slot(2, 0, 0) && slot_at(own, 2) == slot(4, 0, 0));
+    write_each(rt, own);
+    move_each(rt, own);
+    swap(rt, own);
+    fill(rt, own, alloc);
+}
+
+/// The buffers stay in the own side: the test ends by the panic that it expects.
+#[test]
+#[should_panic(expected = "the buffers stay in the own side")]
+fn port_of_four_slots(rt: HostRuntime) {
+    let Ok((_region, mut all)) = Region::new(rt.alloc(), 5) else {
+        panic!(rt; "out of memory");
+    };
+    let Ok(name) = Name::parse("vale0:a") else {
+        panic!(rt; "no name");
+    };
+    let Ok(mut own) = OwnSide::new(rt.alloc(), 64) else {
+        panic!(rt; "out of memory");
+    };
+    let Ok(mut tx) = Vec::with_capacity(rt.alloc(), 4) else {
+        panic!(rt; "out of memory");
+    };
+    let Ok(mut extra) = Vec::with_capacity(rt.alloc(), 1) else {
+        panic!(rt; "out of memory");
+    };
+    assert_eq!(rt; all.len(), 5);
+    let (two, three, four) = (all.remove(0), all.remove(0), all.remove(0));
+    let (five, six) = (all.remove(0), all.remove(0));
+    assert!(rt; two.index() == 2 && three.index() == 3 && four.index() == 4);
+    assert!(rt; five.index() == 5 && six.index() == 6);
+    put_four(&mut tx, two, three, four, five);
+    extra.push_reserved(six);
+    play(&rt, &mut own, rt.alloc(), name, tx, extra);
+    panic!(rt; "the buffers stay in the own side");
+}
