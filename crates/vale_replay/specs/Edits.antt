@@ -2,9 +2,11 @@
 -- user does not have open, as one whose opening was refused.
 use Rattle.std.specs.Prelude.{ℕ, not, List, Option, Some, None}
 use Rattle.nm_types.specs.declared.id.Side.{Side}
-use Rattle.nm_types.specs.Slots.{SlotState}
+use Rattle.nm_types.specs.declared.slot.SlotWrite.{SlotWrite}
+use Rattle.nm_types.specs.declared.slot.SlotWrite.TheVariants.{BufIdx}
+use Rattle.nm_types.specs.declared.slot.SlotWrite.TheVariants as writes
 use Rattle.nm_types.specs.OwnPorts.{OwnPort, OwnState, port_with_name}
-use Rattle.nm_types.specs.OwnEdits.{with_positions, with_all_back, user_slot_at, with_user_slot, with_slots_swapped, with_forwarded, with_extra_link}
+use Rattle.nm_types.specs.OwnEdits.{with_positions, with_all_back, with_slot_field, with_slots_swapped, with_forwarded, with_extra_link}
 use Rattle.vale_script.specs.declared.script.SlotField.{SlotField}
 use Rattle.vale_script.specs.declared.script.SlotField.TheVariants.{Idx, Len, Flags, Ptr}
 use Rattle.vale_script.specs.declared.script.Act.{Act}
@@ -22,20 +24,16 @@ at_port name change s = change_found change s (port_with_name s name)
 abbrev pub at_ports : List ℕ → List ℕ → (ℕ → ℕ → OwnState → OwnState) → OwnState → OwnState
 at_ports name other change s = at_port name (λ id. at_port other (change id)) s
 
-abbrev pub with_field : SlotField → ℕ → SlotState → SlotState
-with_field Idx value slot = record slot { buf_idx = value }
-with_field Len value slot = record slot { len = value }
-with_field Flags value slot = record slot { flags = value }
-with_field Ptr value slot = record slot { ptr = value }
-
-abbrev pub poked_if : Side → ℕ → SlotField → ℕ → ℕ → OwnState → Option SlotState → OwnState
-poked_if side at field value id s None = s
-poked_if side at field value id s (Some slot) =
-    with_user_slot side id at (with_field field value slot) s
+-- a line that writes a field names it and the value apart
+abbrev pub field_written : SlotField → ℕ → SlotWrite
+field_written Idx value = BufIdx value
+field_written Len value = writes.Len value
+field_written Flags value = writes.Flags value
+field_written Ptr value = writes.Ptr value
 
 -- a field of a user slot is written
 abbrev pub poked : Side → ℕ → SlotField → ℕ → ℕ → OwnState → OwnState
-poked side at field value id s = poked_if side at field value id s (user_slot_at side s id at)
+poked side at field value id s = with_slot_field side id at (field_written field value) s
 
 abbrev pub changed_by : Act → OwnState → OwnState
 changed_by (acts.Rx name keep) s = at_port name with_all_back s
