@@ -9,7 +9,7 @@ use Rattle.nm_io.proofs.Gathering.{gathered_more, gathered_fails, grows_past}
 use Rattle.vale_entry.specs.declared.entry.Entry.{Entry}
 use Rattle.vale_entry.specs.Transcript.{entry_line, entry_lines}
 
-entry_lines-append : (n : ℕ) (es fs : List Entry) → entry_lines n (es ++ fs) ≡ entry_lines n es ++ entry_lines (n + length es) fs
+pub entry_lines-append : (n : ℕ) (es fs : List Entry) → entry_lines n (es ++ fs) ≡ entry_lines n es ++ entry_lines (n + length es) fs
 entry_lines-append n [] fs = ap (λ m. entry_lines m fs) (let e : n ≡ n + 0 = omega arith in e)
 entry_lines-append n (e ∷ es) fs =
     let next : n + 1 + length es ≡ n + length (e ∷ es) = omega arith in

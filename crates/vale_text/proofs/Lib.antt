@@ -1,8 +1,11 @@
-mod Cuts
 mod Digits
 mod Entries
 mod Flat
 mod Lines
 mod NameWords
-mod Numerals
+mod GivingBack
+mod LineReads
+mod Reading
+mod Rising
 pub mod Transcripts
+mod Wider

@@ -24,9 +24,9 @@ use Rattle.nm_types.specs.declared.id.Sides.{Sides}
 use Rattle.nm_types.specs.declared.id.Sides.TheVariants as watched_sides
 use Rattle.nm_types.specs.declared.id.Counts.{Counts}
 use Rattle.vale_entry.specs.declared.entry.Item.{Item}
-use Rattle.vale_entry.specs.Fits.{FitsU64, FitsDest, FitsItem, FitsRefusal, FitsFault, FitsCounts, FitsAsk, FitsReply, FitsEntry}
-use Rattle.vale_text.proofs.Cuts.{IsWord, spell}
-use Rattle.vale_text.proofs.Numerals.{decimal-word, decimal-same, decimal-digits, not-number, numbers-same, numbers-word, dests-same, dests-word, frames-same, frames-word, IsPlainItem, plain-items, items-same, items-word}
+use Rattle.vale_entry.specs.Fits.{FitsU64, FitsDest, FitsRefusal, FitsFault, FitsCounts, FitsAsk, FitsReply, FitsEntry}
+use Rattle.vale_fields.proofs.Cuts.{IsWord, spell}
+use Rattle.vale_fields.proofs.Texts.{decimal-word, decimal-same, decimal-digits, not-number, numbers-same, numbers-word, dests-same, dests-word, frames-same, frames-word, IsPlainItem, plain-items, items-same, items-word}
 use Rattle.vale_text.proofs.NameWords.{literal, name-word}
 
 -- what a watch is answered
@@ -141,7 +141,7 @@ IsPlain (counted s port counts) = FitsU64 s × FitsU64 port × FitsCounts counts
 
 -- Each line is its words.
 
-abbrev entry_words : Entry → List (List ℕ)
+abbrev pub entry_words : Entry → List (List ℕ)
 entry_words e = ask_words e.session.0 e.ask ++ reply_words e.reply
 
 -- a word and more words, each behind a blank, up to a line feed
@@ -156,28 +156,28 @@ spell-is w (v ∷ vs) a =
     ∙ append_assoc w (32 ∷ v) ((words_text vs ++ 10 ∷ []) ++ a)
     ∙ ap (λ (t : List ℕ). w ++ 32 ∷ t) (sym (spell-front v vs a) ∙ spell-is v vs a)
 
+pub said-words : (n : ℕ) (x : Said) → entry_words (said_entry n x) ≡ words x
+said-words n (opened s name tx rx extra None) = refl
+said-words n (opened s name tx rx extra (Some fault)) = refl
+said-words n (monitored s monitor name sides (watching port)) = refl
+said-words n (monitored s monitor name sides no_target) = refl
+said-words n (monitored s monitor name sides (watched_by port)) = refl
+said-words n (entered user) = refl
+said-words n (sent s port frames short lone to) = refl
+said-words n (granted s origin to given full gone) = refl
+said-words n (completed s lease) = refl
+said-words n (synced s port back count to) = refl
+said-words n (closed s port) = refl
+said-words n (finished s port bufs found astray count) = refl
+said-words n (departed s) = refl
+said-words n (reset s port side fault) = append-nil (decimal s ∷ codes "reset" ∷ decimal port ∷ side_word side ∷ fault_words fault)
+said-words n (took s port offered items to) = refl
+said-words n (lost s port offered) = refl
+said-words n (received s port back count to) = refl
+said-words n (counted s port counts) = refl
+
 pub line-spelled : (n : ℕ) (x : Said) (a : List ℕ) → entry_line n (said_entry n x) ++ a ≡ spell (decimal n) (words x) a
 line-spelled n x a = ap (λ (ws : List (List ℕ)). (decimal n ++ words_text ws ++ 10 ∷ []) ++ a) (said-words n x) ∙ spell-is (decimal n) (words x) a
-  where
-    said-words : (n : ℕ) (x : Said) → entry_words (said_entry n x) ≡ words x
-    said-words n (opened s name tx rx extra None) = refl
-    said-words n (opened s name tx rx extra (Some fault)) = refl
-    said-words n (monitored s monitor name sides (watching port)) = refl
-    said-words n (monitored s monitor name sides no_target) = refl
-    said-words n (monitored s monitor name sides (watched_by port)) = refl
-    said-words n (entered user) = refl
-    said-words n (sent s port frames short lone to) = refl
-    said-words n (granted s origin to given full gone) = refl
-    said-words n (completed s lease) = refl
-    said-words n (synced s port back count to) = refl
-    said-words n (closed s port) = refl
-    said-words n (finished s port bufs found astray count) = refl
-    said-words n (departed s) = refl
-    said-words n (reset s port side fault) = append-nil (decimal s ∷ codes "reset" ∷ decimal port ∷ side_word side ∷ fault_words fault)
-    said-words n (took s port offered items to) = refl
-    said-words n (lost s port offered) = refl
-    said-words n (received s port back count to) = refl
-    said-words n (counted s port counts) = refl
 
 refusal-are-words : (refusal : Option OpenFault) → Each IsWord (refusal_words refusal)
 refusal-are-words None = (literal (codes "ok") refl, tt)

@@ -9,7 +9,7 @@ use Rattle.nm_types.specs.Names.{is_word_byte, are_word_bytes, is_word, is_switc
 use Rattle.nm_types.specs.declared.name.Kind.{Kind}
 use Rattle.nm_types.specs.declared.name.Kind.TheVariants.{Vale, Master, Slave, Monitor}
 use Rattle.vale_entry.proofs.Each.{each-append}
-use Rattle.vale_text.proofs.Cuts.{IsWordByte, IsWord}
+use Rattle.vale_fields.proofs.Cuts.{IsWordByte, IsWord}
 
 no-truth : {X : Type 0} → false ≡ true → X
 no-truth e = absurd cc

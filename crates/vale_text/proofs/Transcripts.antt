@@ -7,8 +7,8 @@ use Rattle.vale_entry.specs.Laws.{ArePrintable}
 use Rattle.vale_entry.specs.Fits.{FitsU64, FitsEntry}
 use Rattle.vale_text.specs.Laws.{TranscriptsTellHistories}
 use Rattle.vale_text.specs.Written.{text_of}
-use Rattle.vale_text.proofs.Cuts.{cut, spell, spell-same}
-use Rattle.vale_text.proofs.Numerals.{IsDigit, decimal-digits, decimal-word, decimal-same, no-number}
+use Rattle.vale_fields.proofs.Cuts.{cut, spell, spell-same}
+use Rattle.vale_fields.proofs.Texts.{IsDigit, decimal-digits, decimal-word, decimal-same, no-number}
 use Rattle.vale_text.proofs.Lines.{said_entry, words, line-spelled, are-words, words-same, Says, says}
 
 -- an entry's line, and what stands behind it
@@ -26,7 +26,7 @@ spell-number : (n x : ℕ) (ws : List (List ℕ)) (a b : List ℕ) → 58 < x �
 spell-number n x [] a b big e = no-number (decimal n) 10 x a b (decimal-digits n) big (omega arith) e
 spell-number n x (w ∷ ws) a b big e = no-number (decimal n) 32 x (spell w ws a) b (decimal-digits n) big (omega arith) e
 
-line-end : (n : ℕ) (e : Entry) (a b : List ℕ) → Says n e → entry_line n e ++ a ≡ 101 ∷ b → ⊥
+pub line-end : (n : ℕ) (e : Entry) (a b : List ℕ) → Says n e → entry_line n e ++ a ≡ 101 ∷ b → ⊥
 line-end n e a b one same =
     let first : entry_line n e ++ a ≡ spell (decimal n) (words one.said) a = ap (λ (x : Entry). entry_line n x ++ a) one.is ∙ line-spelled n one.said a in
     spell-number n 101 (words one.said) a b (omega arith) (sym first ∙ same)

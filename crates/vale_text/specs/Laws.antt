@@ -4,6 +4,7 @@ use Rattle.std.specs.List.{AllByRecursion}
 use Rattle.vale_entry.specs.declared.entry.Entry.{Entry}
 use Rattle.vale_entry.specs.Laws.{ArePrintable}
 use Rattle.vale_entry.specs.Fits.{FitsU64, FitsEntry}
+use Rattle.vale_text.specs.Reading.{IsTold, IsTextOf}
 use Rattle.vale_text.specs.Written.{text_of}
 
 -- equal transcripts are of equal pools and equal histories, whatever free buffers they end with
@@ -11,3 +12,11 @@ abbrev pub TranscriptsTellHistories : Type 0
 TranscriptsTellHistories =
     (p q : ℕ) (h k : List Entry) (f g : ℕ) → FitsU64 p → FitsU64 q → ArePrintable 1 h → ArePrintable 1 k → AllByRecursion FitsEntry h → AllByRecursion FitsEntry k
     → text_of p h f ≡ text_of q k g → (p ≡ q) × (h ≡ k)
+
+-- Reading gives back what was written: a text is that of one history alone.
+abbrev pub ReadingGivesBack : Type 0
+ReadingGivesBack = (pool free : ℕ) (written read : List Entry) → IsTold pool written free → IsTextOf (text_of pool written free) read → read ≡ written
+
+-- What was read is written as the same bytes.
+abbrev pub WritingGivesBack : Type 0
+WritingGivesBack = (bytes : List ℕ) (read : List Entry) → (text : IsTextOf bytes read) → text_of text.pool read text.free ≡ bytes

@@ -1,3 +1,5 @@
 pub mod Laws
+pub mod Lines
 pub mod Pieces
+pub mod Reading
 pub mod Written

@@ -4,11 +4,14 @@
 mod hex;
 pub mod laws;
 mod pieces;
+mod printable;
+mod reader;
 mod rows;
 #[cfg(test)]
 mod tests;
 mod transcript;
 
 pub use pieces::{Part, put_parts};
+pub use reader::{TextFault, read};
 pub use rows::{EndLine, EntryLine, StartLine, write_line};
 pub use transcript::{PutError, write_transcript};

@@ -1,6 +1,6 @@
 ghost use Rattle.std.specs.Prelude.{[], ◌∷◌};
 
-use crate::{PutError, write_line, write_transcript};
+use crate::{PutError, TextFault, read, write_line, write_transcript};
 use nm_io::{MemorySink, Sink};
 use nm_types::{
     Batch, Chain, Counts, Frame, LeaseId, Name, OpenFault, PortId, SessionId, Side, Sides,
@@ -291,5 +291,131 @@ fn pipes_monitors_and_counters_are_written(rt: HostRuntime) -> Result<(), Fail> 
         put_line(&mut out, number, entry)?;
     }
     assert_eq!(rt; out.bytes(), PIPES);
+    Ok(())
+}
+
+// a transcript with a line of each kind, each refusal of an opening, each fault and each answer
+const EACH_KIND: &[u8] =
+    b"vale 1 pool 65536\n1 enter 18446744073709551615\n2 1 open vale0:a 4 4 0 = ok\n3 1 open pipe0{ 4 4 4294967295 = badsize\n4 1 open mon0 0 4 0 = switchesfull\n5 1 open vale0:a 4 4 0 = portsfull\n6 1 open vale0:a 4 4 0 = nametaken\n7 1 open vale0:a 4 4 0 = nobuffers 8 4\n8 1 send 2 ff0a,~.,.,~00 = short 2 lone 0 to 4*1,5*2\n9 1 send 2 - = short 0 lone 0 to -\n10 1 grant 8 4 = given 1 full 0 gone 0\n11 1 done 10\n12 2 sync 4 12,13 = gave 1 to 6*1\n13 2 sync 4 - = gave 0 to -\n14 1 reset 2 rx headout 1 0 0\n15 1 reset 2 tx curout 1 2 3\n16 1 reset 2 tx indirect 0\n17 1 reset 2 tx indexout 0 66\n18 1 reset 2 tx notheld 0 6\n19 1 reset 2 tx doubled 1 2\n20 1 reset 4 rx unannounced 0 10 14\n21 1 reset 2 tx longlen 0 65535\n22 1 reset 2 tx fragment 0\n23 1 shut 2\n24 1 finish 2 2,3,4,5 found 0 astray 0 = unread 0\n25 1 put 3 2 = took 2:ff0a,3:. to 6*1\n26 1 put 3 1 = took - to -\n27 1 put 3 1 = peergone\n28 2 get 4 2 = gave 0 to -\n29 3 watch 6 vale0:a t = ok 4\n30 3 watch 6 vale0:a r = notarget\n31 3 watch 6 vale0:a tr = watched 6\n32 2 stat 4 = sent 18446744073709551615 short 0 lone 0 given 1 full 2 read 1\n33 1 leave\nend 33 free 4294967295\n";
+
+#[test]
+fn each_kind_of_entry_is_read_back(rt: HostRuntime) -> Result<(), Fail> {
+    let text = EACH_KIND;
+    assert!(rt; text.len() < 4_294_967_295);
+    let entries = read(rt.alloc(), text).ok().ok_or("read")?;
+    assert!(rt; entries.len() == 33);
+    let mut out = MemorySink::new(rt.alloc(), Vec::new(rt.alloc()));
+    write_transcript(rt.alloc(), &mut out, 65_536, &entries, u32::MAX)
+        .ok()
+        .ok_or("written")?;
+    assert_eq!(rt; out.bytes(), EACH_KIND);
+    Ok(())
+}
+
+// texts that are none, each with the first line that is none
+const BAD_TEXTS: [(&[u8], u32); 38] = [
+    (b"", 1),
+    (b"\n", 1),
+    (b"vale 1 pool 0\nend 0 free 0\n", 1),
+    (b"vale 1 pool 65537\nend 0 free 0\n", 1),
+    (b"vale 1 pool 064\nend 0 free 0\n", 1),
+    (b"vale 2 pool 64\nend 0 free 0\n", 1),
+    (b"vale 1 pool 64", 1),
+    (b"vale 1 pool 64 \nend 0 free 0\n", 1),
+    (b"vale 1 pool 64\n", 2),
+    (b"vale 1 pool 64\nend 0 free 0", 2),
+    (b"vale 1 pool 64\nend 0 free 00\n", 2),
+    (b"vale 1 pool 64\nend 0 free 4294967296\n", 2),
+    (b"vale 1 pool 64\nend 1 free 0\n", 2),
+    (b"vale 1 pool 64\nend 0 free 0\n\n", 3),
+    (b"vale 1 pool 64\nend 0 free 0\n1 enter 1\n", 3),
+    (b"vale 1 pool 64\n1 enter 01\nend 1 free 0\n", 2),
+    (
+        b"vale 1 pool 64\n1 enter 18446744073709551616\nend 1 free 0\n",
+        2,
+    ),
+    (b"vale 1 pool 64\n2 enter 1\nend 1 free 0\n", 2),
+    (b"vale 1 pool 64\n1 enter 1\r\nend 1 free 0\n", 2),
+    (b"vale 1 pool 64\n1 enter 1\n2 enter  2\nend 2 free 0\n", 3),
+    (b"vale 1 pool 64\n1 enter 1\n2 1 leave \nend 2 free 0\n", 3),
+    (
+        b"vale 1 pool 64\n1 enter 1\n2 1 leave now\nend 2 free 0\n",
+        3,
+    ),
+    (
+        b"vale 1 pool 64\n1 1 open eth0 4 4 0 = ok\nend 1 free 0\n",
+        2,
+    ),
+    (
+        b"vale 1 pool 64\n1 1 open vale0:a 4 4 = ok\nend 1 free 0\n",
+        2,
+    ),
+    (
+        b"vale 1 pool 64\n1 1 open vale0:a 4 4 0 = nobuffers 8\nend 1 free 0\n",
+        2,
+    ),
+    (
+        b"vale 1 pool 64\n1 1 send 2 FF = short 0 lone 0 to -\nend 1 free 0\n",
+        2,
+    ),
+    (
+        b"vale 1 pool 64\n1 1 send 2 f = short 0 lone 0 to -\nend 1 free 0\n",
+        2,
+    ),
+    (
+        b"vale 1 pool 64\n1 1 send 2 ff, = short 0 lone 0 to -\nend 1 free 0\n",
+        2,
+    ),
+    (
+        b"vale 1 pool 64\n1 1 send 2 ~ = short 0 lone 0 to -\nend 1 free 0\n",
+        2,
+    ),
+    (
+        b"vale 1 pool 64\n1 1 send 2 ff = short 0 lone 0 to 5*1,4*1\nend 1 free 0\n",
+        2,
+    ),
+    (
+        b"vale 1 pool 64\n1 1 send 2 ff = short 0 lone 0 to 4*1,4*1\nend 1 free 0\n",
+        2,
+    ),
+    (
+        b"vale 1 pool 64\n1 1 send 2 ff = short 0 lone 0 to\nend 1 free 0\n",
+        2,
+    ),
+    (
+        b"vale 1 pool 64\n1 1 sync 2 2-3 = gave 0 to -\nend 1 free 0\n",
+        2,
+    ),
+    (
+        b"vale 1 pool 64\n1 1 put 2 1 = took 2:~ff to -\nend 1 free 0\n",
+        2,
+    ),
+    (
+        b"vale 1 pool 64\n1 1 reset 2 tx peergone\nend 1 free 0\n",
+        2,
+    ),
+    (
+        b"vale 1 pool 64\n1 1 reset 2 tx longlen 0 65536\nend 1 free 0\n",
+        2,
+    ),
+    (
+        b"vale 1 pool 64\n1 1 watch 2 vale0:a rt = ok 3\nend 1 free 0\n",
+        2,
+    ),
+    (
+        b"vale 1 pool 64\n1 1 stat 2 = sent 1 short 0 lone 0 given 0 full 0 read\nend 1 free 0\n",
+        2,
+    ),
+];
+
+#[test]
+fn the_first_bad_line_is_told(rt: HostRuntime) -> Result<(), Fail> {
+    for (text, line) in BAD_TEXTS {
+        assert!(rt; text.len() < 4_294_967_295);
+        match read(rt.alloc(), text) {
+            Ok(_) => assert!(rt; false),
+            Err(fault) => assert_eq!(rt; fault, TextFault::BadLine { line }),
+        }
+    }
     Ok(())
 }

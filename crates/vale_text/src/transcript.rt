@@ -44,7 +44,7 @@ impl From<NoMemory> for PutError {
 
 /// Whole lines in memory. Takes every byte, as long as there is memory.
 #[derive(Drop)]
-struct Lines {
+pub(crate) struct Lines {
     bytes: Vec<u8>,
     faults: u64,
 }
@@ -56,7 +56,7 @@ impl Model for Lines {
 }
 
 impl Lines {
-    fn new(alloc: Global) -> Lines
+    pub(crate) fn new(alloc: Global) -> Lines
         ensures { result ≡ record { bytes = []; faults = 0 } }
     {
         Lines {
@@ -65,14 +65,14 @@ impl Lines {
         }
     }
 
-    fn bytes(&self) -> &[u8]
+    pub(crate) fn bytes(&self) -> &[u8]
         ensures { result.now ≡ self.now.bytes }
     {
         &self.bytes
     }
 
     /// Forgets what went out, and all bytes behind the first `len`.
-    fn truncate(&mut self, len: usize)
+    pub(crate) fn truncate(&mut self, len: usize)
         ensures { self.new ≡ record self.old { bytes = take len self.old.bytes } }
     {
         self.bytes.truncate(len);
@@ -107,7 +107,7 @@ fn put_gathered<K: Sink>(out: &mut K, lines: &mut Lines) -> Result<(), Failed>
 }
 
 /// Writes a line in memory, or says that there is none left.
-fn gather<T: Text>(lines: &mut Lines, line: &T) -> Result<(), NoMemory>
+pub(crate) fn gather<T: Text>(lines: &mut Lines, line: &T) -> Result<(), NoMemory>
     ensures ok { OnOk result (lines.new.bytes ≡ lines.old.bytes ++ T.text line.now) }
 {
     match line.write(lines) {

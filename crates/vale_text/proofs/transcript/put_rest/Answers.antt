@@ -1,4 +1,4 @@
-use Rattle.std.proofs.Common.{◌≡◌, List, ℕ, [], ◌++◌, length, subst}
+use Rattle.std.proofs.Common.{List, ℕ, ◌++◌, length, subst}
 use Rattle.std.proofs.lemmas.Result.{err_from_is_err_and}
 use Rattle.nm_io.specs.Gathered.{Gathered}
 use Rattle.nm_io.specs.Held.{GrowsByPrefix}

@@ -1,6 +1,6 @@
 use Rattle.std.proofs.Common.{List, ℕ, ◌++◌, length, sym, subst, append_assoc}
 use Rattle.std.proofs.lemmas.Result.{err_from_is_err_and}
-use Rattle.nm_io.specs.Held.{GrowsByPrefix, Writes}
+use Rattle.nm_io.specs.Held.{Writes}
 use Rattle.nm_io.proofs.Growth.{grows_longer}
 use Rattle.vale_entry.specs.Transcript.{start_line, entry_lines, end_line}
 use Rattle.vale_text.specs.Written.{text_of}

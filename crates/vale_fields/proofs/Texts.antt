@@ -11,7 +11,7 @@ use Rattle.vale_entry.specs.Transcript.{is_unmarked, item_text, items_text}
 use Rattle.vale_entry.specs.Transcript.{hex_digit, hex_byte, hex_text, frame_text, frames_text, numbers_text, dest_text, dests_text}
 use Rattle.vale_entry.specs.Fits.{FitsU64, FitsDest, FitsItem}
 use Rattle.vale_entry.proofs.Each.{each-weaker, each-append, each-map}
-use Rattle.vale_text.proofs.Cuts.{cut, IsWordByte, IsWord, IsItemByte, IsItem, list-same, list-word, map-apart}
+use Rattle.vale_fields.proofs.Cuts.{cut, IsWordByte, IsWord, IsItemByte, IsItem, list-same, list-word, map-apart}
 
 -- Decimal numbers.
 
@@ -49,7 +49,7 @@ digit-item b h = inr (omega (arith, h.0))
 pub decimal-word : (n : ℕ) → IsWord (decimal n)
 decimal-word n = each-weaker IsDigit IsWordByte digit-word (decimal n) (decimal-digits n)
 
-decimal-item : (n : ℕ) → IsItem (decimal n)
+pub decimal-item : (n : ℕ) → IsItem (decimal n)
 decimal-item n = each-weaker IsDigit IsItemByte digit-item (decimal n) (decimal-digits n)
 
 -- no number begins with this byte
@@ -77,7 +77,7 @@ numbers-word xs px = list-word (map decimal xs) (each-map FitsU64 IsItem decimal
 star-not_digit : IsDigit 42 → ⊥
 star-not_digit h = absurd (omega (arith, h.0))
 
-dest-item : (d : Dest) → IsItem (dest_text d)
+pub dest-item : (d : Dest) → IsItem (dest_text d)
 dest-item d = each-append IsItemByte (decimal d.to.0 ++ 42 ∷ []) (decimal d.count) (each-append IsItemByte (decimal d.to.0) (42 ∷ []) (decimal-item d.to.0) (inl refl, tt)) (decimal-item d.count)
 
 dest-same : (d e : Dest) → FitsDest d → FitsDest e → dest_text d ≡ dest_text e → d ≡ e
@@ -183,7 +183,7 @@ frame-item f = by_mark f.no_learn
     by_mark true = (inr (omega arith), hex-item f.bytes)
     by_mark false = hex-item f.bytes
 
-frames-items : (fs : List Frame) → Each IsItem (map frame_text fs)
+pub frames-items : (fs : List Frame) → Each IsItem (map frame_text fs)
 frames-items [] = tt
 frames-items (f ∷ fs) = (frame-item f, frames-items fs)
 
@@ -207,10 +207,10 @@ IsPlainItem item = FitsItem item × (is_unmarked item ≡ true)
 colon-not_digit : IsDigit 58 → ⊥
 colon-not_digit h = absurd (omega (arith, h.1))
 
-item-item : (i : Item) → IsItem (item_text i)
+pub item-item : (i : Item) → IsItem (item_text i)
 item-item i = each-append IsItemByte (decimal i.index ++ 58 ∷ []) (hex_text i.bytes.bytes) (each-append IsItemByte (decimal i.index) (58 ∷ []) (decimal-item i.index) (inr (omega arith), tt)) (hex-item i.bytes.bytes)
 
-no-mark : (b : Bool) → not b ≡ true → b ≡ false
+pub no-mark : (b : Bool) → not b ≡ true → b ≡ false
 no-mark true e = cc
 no-mark false e = refl
 

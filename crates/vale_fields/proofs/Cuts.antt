@@ -63,7 +63,7 @@ IsItemByte b = (b ≡ 42) ⊎ (45 < b)
 abbrev pub IsItem : List ℕ → Type 0
 IsItem item = Each IsItemByte item
 
-no-comma : IsItemByte 44 → ⊥
+pub no-comma : IsItemByte 44 → ⊥
 no-comma (inl h) = absurd (omega arith)
 no-comma (inr h) = absurd (omega arith)
 

@@ -1,0 +1,9 @@
+pub mod Back
+pub mod Cuts
+pub mod Entries
+pub mod Numerals
+mod Pairs
+mod Parts
+pub mod Sizes
+pub mod Splits
+pub mod Texts

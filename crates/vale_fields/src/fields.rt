@@ -1,0 +1,177 @@
+//! Single fields.
+ghost use Rattle.std.specs.Prelude.{◌≡◌, ◌<◌, ◌++◌, ◌∷◌, [], map, min, length, IsTrue, IfOk, OnOk};
+ghost use Rattle.vale_fields.specs.Fields.{number_of, long_of, short_of, half_of, hex_value, bytes_of, is_marked, frame_of, front_by, back_by, mark_in, dest_of, item_of, name_of, side_of, sides_of, word_at};
+
+use nm_types::{Batch, Frame, Name, NoMemory, PortId, Side, Sides};
+use std::alloc::Global;
+use vale_entry::{Dest, Item};
+
+/// The number of 64 bits that digits write, or the greatest one if theirs is greater.
+#[tactic(auto, using(crate::proofs::Numerals::numerals), unfolding(crate::specs::Fields::long_of))]
+pub fn long_of(word: &[u8]) -> u64
+    ensures { result ≡ long_of word.now }
+{
+    let mut number = 0u128;
+    for b in word {
+        number = (number * 10 + b.saturating_sub(b'0') as u128).min(u64::MAX as u128);
+    }
+    number as u64
+}
+
+/// The number of 32 bits that digits write, or the greatest one if theirs is greater.
+#[tactic(auto, unfolding(crate::specs::Fields::short_of))]
+pub fn short_of(word: &[u8]) -> u32
+    ensures { result ≡ short_of word.now }
+{
+    long_of(word).min(u32::MAX as u64) as u32
+}
+
+/// The number of 16 bits that digits write, or the greatest one if theirs is greater.
+#[tactic(auto, unfolding(crate::specs::Fields::half_of))]
+pub(crate) fn half_of(word: &[u8]) -> u16
+    ensures { result ≡ half_of word.now }
+{
+    long_of(word).min(u16::MAX as u64) as u16
+}
+
+/// What a hexadecimal digit in lower case stands for; 0 for any other byte.
+#[tactic(auto, unfolding(crate::specs::Fields::hex_value))]
+fn hex_value(b: u8) -> u8
+    ensures value { result ≡ hex_value b }
+    ensures low { result < 16 }
+{
+    if (b'0'..=b'9').contains(&b) {
+        b - b'0'
+    } else if (b'a'..=b'f').contains(&b) {
+        b - b'a' + 10
+    } else {
+        0
+    }
+}
+
+/// The bytes that hexadecimal digits write.
+#[tactic(auto, using(crate::proofs::Pairs::pairs))]
+fn bytes_of(alloc: Global, digits: &[u8]) -> Result<Vec<u8>, NoMemory>
+    ensures { IfOk result (λ bytes. bytes.items ≡ bytes_of digits.now) }
+{
+    let mut bytes = Vec::with_capacity(alloc, digits.len() / 2)?;
+    for k in 0..digits.len() / 2 {
+        bytes.push(hex_value(digits[2 * k]) * 16 + hex_value(digits[2 * k + 1]))?;
+    }
+    Ok(bytes)
+}
+
+fn is_marked(word: &[u8]) -> bool
+    ensures value { result ≡ is_marked word.now }
+    ensures some { IsTrue result → 0 < length word.now }
+{
+    match word.first() {
+        Some(b) => *b == b'~',
+        None => false,
+    }
+}
+
+/// The digits of a frame, without the tilde that marks it, and whether it is marked.
+#[tactic(auto, unfolding(crate::specs::Fields::frame_of))]
+fn unmarked(word: &[u8]) -> (&[u8], bool)
+    ensures { record { bytes = bytes_of result.0.now; no_learn = result.1 } ≡ frame_of word.now }
+{
+    if is_marked(word) {
+        (&word[1..], true)
+    } else {
+        (word, false)
+    }
+}
+
+/// Adds the frame of this text to those of a batch.
+pub(crate) fn push_frame(alloc: Global, frames: &mut Batch, word: &[u8]) -> Result<(), NoMemory>
+    ensures ok { OnOk result (frames.new ≡ frames.old ++ frame_of word.now ∷ []) }
+{
+    let (digits, no_learn) = unmarked(word);
+    let bytes = bytes_of(alloc, digits)?;
+    frames.push(&bytes, no_learn)
+}
+
+fn mark_in(mark: u8, word: &[u8]) -> Option<usize>
+    ensures { result ≡ mark_in mark word.now }
+{
+    word.iter().position(|b| *b == mark)
+}
+
+/// What stands before a mark, and what behind it.
+pub fn cut_at(mark: u8, word: &[u8]) -> (&[u8], &[u8])
+    ensures front { result.0.now ≡ front_by (mark_in mark word.now) word.now }
+    ensures back { result.1.now ≡ back_by (mark_in mark word.now) word.now }
+{
+    match mark_in(mark, word) {
+        Some(k) => (&word[..k], &word[k + 1..]),
+        None => (word, b""),
+    }
+}
+
+/// A destination: its port, a star, and how many frames.
+#[tactic(auto, unfolding(crate::specs::Fields::dest_of))]
+pub(crate) fn dest_of(word: &[u8]) -> Dest
+    ensures { result ≡ dest_of word.now }
+{
+    let (to, count) = cut_at(b'*', word);
+    Dest {
+        to: PortId(short_of(to)),
+        count: short_of(count),
+    }
+}
+
+/// A frame that a pipe took: its buffer, a colon, and its digits.
+#[tactic(auto, unfolding(crate::specs::Fields::item_of))]
+pub(crate) fn item_of(alloc: Global, word: &[u8]) -> Result<Item, NoMemory>
+    ensures { IfOk result (λ item. item ≡ item_of word.now) }
+{
+    let (index, digits) = cut_at(b':', word);
+    let bytes = bytes_of(alloc, digits)?;
+    Ok(Item {
+        index: short_of(index),
+        bytes: Frame::new(alloc, &bytes, false)?,
+    })
+}
+
+/// The name of a port, a pipe end or a monitor, or none if the word is none.
+#[tactic(auto, unfolding(crate::specs::Fields::name_of))]
+pub(crate) fn name_of(word: &[u8]) -> Option<Name>
+    ensures { result ≡ name_of word.now }
+{
+    Name::from_bytes(word).ok()
+}
+
+#[tactic(auto, unfolding(crate::specs::Fields::side_of))]
+pub(crate) fn side_of(word: &[u8]) -> Side
+    ensures { result ≡ side_of word.now }
+{
+    if word == b"tx".as_slice() {
+        Side::Tx
+    } else {
+        Side::Rx
+    }
+}
+
+#[tactic(auto, unfolding(crate::specs::Fields::sides_of))]
+pub(crate) fn sides_of(word: &[u8]) -> Sides
+    ensures { result ≡ sides_of word.now }
+{
+    if word == b"t".as_slice() {
+        Sides::T
+    } else if word == b"r".as_slice() {
+        Sides::R
+    } else {
+        Sides::TR
+    }
+}
+
+/// The word at a place, counted from 0; past the line's end it is empty.
+pub(crate) fn word_at<'a>(words: &[&'a [u8]], i: usize) -> &'a [u8]
+    ensures { result.now ≡ word_at i (map (λ w. w.now) words.now) }
+{
+    match words.get(i) {
+        Some(word) => word,
+        None => b"",
+    }
+}

@@ -1,0 +1,94 @@
+//! The lists of a line.
+ghost use Rattle.std.specs.Prelude.{◌≡◌, map, IfOk};
+ghost use Rattle.std.specs.List.{slice_split};
+ghost use Rattle.vale_fields.specs.Fields.{short_of, dest_of, item_of, frame_of};
+ghost use Rattle.vale_fields.specs.Lists.{is_comma, is_blank, words_of, parts_of, numbers_of, dests_of, items_of, frames_of};
+
+use crate::fields::{dest_of, item_of, push_frame, short_of};
+use nm_types::{Batch, NoMemory};
+use std::alloc::{AllocError, Global};
+use vale_entry::{Dests, Items, Numbers};
+
+fn is_comma(b: u8) -> bool
+    ensures { result ≡ is_comma b }
+{
+    b == b','
+}
+
+fn is_blank(b: u8) -> bool
+    ensures { result ≡ is_blank b }
+{
+    b == b' '
+}
+
+/// The words of a line, cut at blanks.
+pub fn words_of(alloc: Global, line: &[u8]) -> Result<Vec<&[u8]>, AllocError>
+    ensures { IfOk result (λ words. map (λ w. w.now) words.items ≡ words_of line.now) }
+{
+    line.split(|b| is_blank(*b)).collect(alloc)
+}
+
+fn split_commas(alloc: Global, word: &[u8]) -> Result<Vec<&[u8]>, AllocError>
+    ensures { IfOk result (λ parts. map (λ w. w.now) parts.items ≡ slice_split is_comma word.now) }
+{
+    word.split(|b| is_comma(*b)).collect(alloc)
+}
+
+/// The items of a list.
+#[tactic(auto, unfolding(crate::specs::Lists::parts_of))]
+fn parts_of(alloc: Global, word: &[u8]) -> Result<Vec<&[u8]>, AllocError>
+    ensures { IfOk result (λ parts. map (λ w. w.now) parts.items ≡ parts_of word.now) }
+{
+    if word == b"-".as_slice() {
+        return Ok(Vec::new(alloc));
+    }
+    split_commas(alloc, word)
+}
+
+#[tactic(auto, using(crate::proofs::Parts::parts))]
+pub(crate) fn numbers_of(alloc: Global, word: &[u8]) -> Result<Numbers, NoMemory>
+    ensures { IfOk result (λ numbers. numbers ≡ numbers_of word.now) }
+{
+    let parts = parts_of(alloc, word)?;
+    let mut numbers = Vec::with_capacity(alloc, parts.len())?;
+    for part in &parts {
+        numbers.push(short_of(part))?;
+    }
+    Ok(Numbers::from(numbers))
+}
+
+#[tactic(auto, using(crate::proofs::Parts::parts))]
+pub(crate) fn dests_of(alloc: Global, word: &[u8]) -> Result<Dests, NoMemory>
+    ensures { IfOk result (λ dests. dests ≡ dests_of word.now) }
+{
+    let parts = parts_of(alloc, word)?;
+    let mut dests = Vec::with_capacity(alloc, parts.len())?;
+    for part in &parts {
+        dests.push(dest_of(part))?;
+    }
+    Ok(Dests::from(dests))
+}
+
+#[tactic(auto, using(crate::proofs::Parts::parts))]
+pub(crate) fn items_of(alloc: Global, word: &[u8]) -> Result<Items, NoMemory>
+    ensures { IfOk result (λ items. items ≡ items_of word.now) }
+{
+    let parts = parts_of(alloc, word)?;
+    let mut items = Vec::with_capacity(alloc, parts.len())?;
+    for part in &parts {
+        items.push(item_of(alloc, part)?)?;
+    }
+    Ok(Items::from(items))
+}
+
+#[tactic(auto, using(crate::proofs::Parts::parts))]
+pub(crate) fn frames_of(alloc: Global, word: &[u8]) -> Result<Batch, NoMemory>
+    ensures { IfOk result (λ frames. frames ≡ frames_of word.now) }
+{
+    let parts = parts_of(alloc, word)?;
+    let mut frames = Batch::new(alloc);
+    for part in &parts {
+        push_frame(alloc, &mut frames, part)?;
+    }
+    Ok(frames)
+}

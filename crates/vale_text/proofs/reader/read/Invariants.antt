@@ -1,0 +1,13 @@
+use Rattle.std.proofs.Common.{◌≡◌, ◌≤◌, ◌+◌, length}
+use Rattle.vale_text.specs.Reading.{IsReadTo}
+use Rattle.vale_text.proofs.reader.read.Given as goal
+
+abbrev pub invariant-loop-line : goal.invariant-loop-line
+invariant-loop-line l = record {
+  read : IsReadTo l.fn.bytes l.entries.items l.rest;
+  number : l.at ≡ length l.entries.items + 2;
+  room : l.at + length l.rest ≤ length l.fn.bytes + 1;
+}
+
+abbrev pub decreases-loop-line : goal.decreases-loop-line
+decreases-loop-line l = length l.rest
