@@ -1,6 +1,7 @@
 -- The forms of lines, a row for each: the first word, the places of the longest form, and how many of them
 -- each such line has.
 use Rattle.std.specs.Prelude.{ℕ, List, [], ◌∷◌, Option, find, bytes_eq, codes}
+use Rattle.nm_types.specs.Limits.{most_counts, most_pool, buffer_bytes, most_batch}
 use Rattle.vale_script.specs.declared.forms.Form.{Form as Row}
 use Rattle.vale_script.specs.declared.forms.Place.{Place}
 use Rattle.vale_script.specs.declared.forms.Place.TheVariants.{UserName, PortName, Address, File, Number, Byte, Bytes, Side, Sides, Field, Value, Keep, Quiet}
@@ -18,15 +19,15 @@ any_number = Number 0 4294967295
 
 -- how many frames
 abbrev pub frame_count : Place
-frame_count = Number 0 1000000
+frame_count = Number 0 most_counts
 
 abbrev pub form_of : Verb → Form
-form_of Pool = record { word = codes "pool"; places = Number 1 65536 ∷ []; least = 1 }
+form_of Pool = record { word = codes "pool"; places = Number 1 most_pool ∷ []; least = 1 }
 form_of User = record { word = codes "user"; places = UserName ∷ []; least = 1 }
 form_of Open = record { word = codes "open"; places = UserName ∷ PortName ∷ any_number ∷ any_number ∷ any_number ∷ []; least = 4 }
-form_of Put = record { word = codes "put"; places = UserName ∷ PortName ∷ frame_count ∷ Address ∷ Address ∷ Number 0 2048 ∷ Byte ∷ []; least = 7 }
+form_of Put = record { word = codes "put"; places = UserName ∷ PortName ∷ frame_count ∷ Address ∷ Address ∷ Number 0 buffer_bytes ∷ Byte ∷ []; least = 7 }
 form_of Hex = record { word = codes "hex"; places = UserName ∷ PortName ∷ Bytes ∷ []; least = 3 }
-form_of Play = record { word = codes "play"; places = UserName ∷ PortName ∷ File ∷ Number 1 1023 ∷ []; least = 4 }
+form_of Play = record { word = codes "play"; places = UserName ∷ PortName ∷ File ∷ Number 1 most_batch ∷ []; least = 4 }
 form_of Tx = record { word = codes "tx"; places = UserName ∷ PortName ∷ []; least = 2 }
 form_of Rx = record { word = codes "rx"; places = UserName ∷ PortName ∷ Keep ∷ []; least = 2 }
 form_of Fwd = record { word = codes "fwd"; places = UserName ∷ PortName ∷ PortName ∷ frame_count ∷ []; least = 4 }

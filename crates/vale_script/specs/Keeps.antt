@@ -1,12 +1,13 @@
 -- What a draft keeps.
 use Rattle.std.specs.Prelude.{ℕ, ◌≤◌, List, length, Option, Some, None, IfSome}
 use Rattle.std.specs.List.{AllByRecursion as Each}
+use Rattle.nm_types.specs.Limits.{most_pool, most_users}
 use Rattle.vale_script.specs.Rules.{Draft, Opened}
 use Rattle.vale_script.specs.Sound.{IsSoundAct, IsSoundLine, IsSoundUnit}
 use Rattle.vale_script.specs.Statements.{Statement, Nothing, Pool, NewUser, Begin, End, Does}
 
 abbrev pub IsPoolRange : ℕ → Type 0
-IsPoolRange size = (1 ≤ size) × (size ≤ 65536)
+IsPoolRange size = (1 ≤ size) × (size ≤ most_pool)
 
 abbrev pub IsSoundStatement : Statement → Type 0
 IsSoundStatement (Pool size) = IsPoolRange size
@@ -21,7 +22,7 @@ IsSoundBlock users block = Each (IsSoundLine users) block.lines
 
 pub record IsSoundDraft (draft : Draft) : Type 0 where
   pub pool : IfSome draft.pool IsPoolRange
-  pub few : length draft.users ≤ 64
+  pub few : length draft.users ≤ most_users
   pub numbers : (name : List ℕ) → IfSome (draft.numbers name) (IsUserNumber (length draft.users))
   pub units : Each (IsSoundUnit (length draft.users)) draft.units
   pub block : IfSome draft.block (IsSoundBlock (length draft.users))

@@ -1,5 +1,6 @@
 -- What the lines so far have said, what is wrong with the next one, and what it adds.
 use Rattle.std.specs.Prelude.{ℕ, Bool, true, false, not, ◌||◌, ◌&&◌, ◌+◌, nat_le, if◌then◌else◌, List, [], ◌∷◌, ◌++◌, length, Option, Some, None, is_some, option_map, unwrap_or, Result, Ok, Err}
+use Rattle.nm_types.specs.Limits.{most_users, default_pool}
 use Rattle.nm_types.specs.Names.{is_monitor_name}
 use Rattle.nm_types.specs.declared.id.Side.{Side}
 use Rattle.nm_types.specs.declared.id.Side.TheVariants as rings
@@ -115,7 +116,7 @@ act_cause draft user act =
 abbrev pub user_cause : Draft → List ℕ → Option LineCause
 user_cause draft name =
     if is_some draft.block then Some causes.Order
-    else (if is_some (draft.numbers name) || nat_le 64 (length draft.users) then Some causes.Twice else None)
+    else (if is_some (draft.numbers name) || nat_le most_users (length draft.users) then Some causes.Twice else None)
 
 -- what is wrong with a line that says this, behind the lines so far
 abbrev pub cause_of : Draft → Statement → Option LineCause
@@ -193,4 +194,4 @@ finished_by None program = Ok program
 finished_by (Some block) program = Err block.at
 
 abbrev pub finished : Draft → Result Program ℕ
-finished draft = finished_by draft.block (record { pool = unwrap_or draft.pool 8192; users = draft.users; files = draft.played; units = draft.units })
+finished draft = finished_by draft.block (record { pool = unwrap_or draft.pool default_pool; users = draft.users; files = draft.played; units = draft.units })

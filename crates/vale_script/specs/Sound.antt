@@ -2,6 +2,7 @@
 use Rattle.std.specs.Prelude.{ℕ, ◌≤◌, ◌<◌, ◌^◌, List, length, Option, Some, None, IfSome}
 use Rattle.std.specs.List.{AllByRecursion as Each}
 use Rattle.nm_types.specs.Frames.{Frame}
+use Rattle.nm_types.specs.Limits.{most_counts, most_pool, most_users, buffer_bytes, most_batch}
 use Rattle.vale_script.specs.declared.script.Act.{Act}
 use Rattle.vale_script.specs.declared.script.Act.TheVariants as acts
 use Rattle.vale_script.specs.declared.script.Line.{Line}
@@ -11,9 +12,9 @@ use Rattle.vale_script.specs.Script.{Program}
 
 -- numbers are within the ranges of their places
 abbrev pub IsSoundAct : Act → Type 0
-IsSoundAct (acts.Put name count to from len fill) = (count ≤ 1000000) × (len ≤ 2048)
-IsSoundAct (acts.Play name file batch) = (1 ≤ batch) × (batch ≤ 1023)
-IsSoundAct (acts.Fwd from to count) = count ≤ 1000000
+IsSoundAct (acts.Put name count to from len fill) = (count ≤ most_counts) × (len ≤ buffer_bytes)
+IsSoundAct (acts.Play name file batch) = (1 ≤ batch) × (batch ≤ most_batch)
+IsSoundAct (acts.Fwd from to count) = count ≤ most_counts
 IsSoundAct _ = Unit {0}
 
 pub record IsSoundLine (users : ℕ) (line : Line) : Type 0 where
@@ -29,6 +30,6 @@ IsSoundUnit users (parts.Block lines) = Each (IsSoundLine users) lines
 -- whose numbers are in range
 pub record IsSound (program : Program) : Type 0 where
   pub least : 1 ≤ program.pool
-  pub most : program.pool ≤ 65536
-  pub few : length program.users ≤ 64
+  pub most : program.pool ≤ most_pool
+  pub few : length program.users ≤ most_users
   pub units_are : Each (IsSoundUnit (length program.users)) program.units

@@ -1,6 +1,7 @@
 -- What the words of a line say by themselves, or why they say nothing that a script may say.
 use Rattle.std.specs.Prelude.{ℕ, Bool, false, ◌==◌, ◌+◌, ◌≡◌, nat_le, nat_lt, ◌||◌, not, if◌then◌else◌, List, [], ◌∷◌, length, slice_index_or, Option, Some, None, option_map, Result, Ok, Err}
 use Rattle.std.specs.Borrow.{Bor}
+use Rattle.nm_types.specs.Limits.{most_counts, most_pool, buffer_bytes, most_batch}
 use Rattle.nm_types.specs.declared.id.Mac.{Mac}
 use Rattle.nm_types.specs.declared.fault.LineCause.{LineCause}
 use Rattle.nm_types.specs.declared.fault.LineCause.TheVariants as causes
@@ -66,21 +67,21 @@ abbrev pub put_with : List ℕ → ℕ → List (List ℕ) → Result Act LineCa
 put_with name count words = do
   to ← address_at 4 words
   from ← address_at 5 words
-  len ← number_at 0 2048 6 words
+  len ← number_at 0 buffer_bytes 6 words
   fill ← byte_at_place 7 words
   Ok (acts.Put name count to from len fill)
 
 abbrev pub put_act : List (List ℕ) → Result Act LineCause
 put_act words = do
   name ← port_at 2 words
-  count ← number_at 0 1000000 3 words
+  count ← number_at 0 most_counts 3 words
   put_with name count words
 
 abbrev pub fwd_act : List (List ℕ) → Result Act LineCause
 fwd_act words = do
   from ← port_at 2 words
   to ← port_at 3 words
-  count ← number_at 0 1000000 4 words
+  count ← number_at 0 most_counts 4 words
   Ok (acts.Fwd from to count)
 
 abbrev pub poke_act : List (List ℕ) → Result Act LineCause
@@ -152,7 +153,7 @@ abbrev pub play_act : List (List ℕ) → Result Act LineCause
 play_act words = do
   name ← port_at 2 words
   file ← text_at 3 words
-  batch ← number_at 1 1023 4 words
+  batch ← number_at 1 most_batch 4 words
   Ok (acts.Play name file batch)
 
 abbrev pub save_act : List (List ℕ) → Result Act LineCause
@@ -183,7 +184,7 @@ does_act verb words = do
   Ok (Does user act)
 
 abbrev pub statement_of : Verb → List (List ℕ) → Result Statement LineCause
-statement_of verbs.Pool words = number_at 1 65536 1 words >>= (λ size. Ok (Pool size))
+statement_of verbs.Pool words = number_at 1 most_pool 1 words >>= (λ size. Ok (Pool size))
 statement_of verbs.User words = user_at words >>= (λ name. Ok (NewUser name))
 statement_of verbs.Par words = Ok Begin
 statement_of verbs.End words = Ok End

@@ -1,6 +1,7 @@
 -- The words of a script: lines cut at line feeds, words at blanks and tabs, and what a word can be.
 use Rattle.std.specs.Prelude.{ℕ, Bool, true, ◌&&◌, ◌||◌, ◌==◌, ◌+◌, ◌-◌, ◌*◌, ◌/◌, ◌%◌, nat_lt, nat_le, if◌then◌else◌, List, [], ◌∷◌, length, map, codes, bytes_eq, filter, slice_index, Option, Some, None}
 use Rattle.std.specs.List.{list_all, slice_split, range_with_len}
+use Rattle.nm_types.specs.Limits.{buffer_bytes}
 use Rattle.nm_types.specs.Names.{are_word_bytes, is_name}
 use Rattle.nm_types.specs.declared.id.Mac.{Mac}
 
@@ -93,7 +94,7 @@ hex_byte_of word = if is_hex_byte word then Some (byte_at word 0) else None
 
 -- the digits of 1 to 2048 bytes
 unfoldable pub is_digits : List ℕ → Bool
-is_digits word = (has_up_to 4096 word && (length word % 2 == 0)) && are_hex word
+is_digits word = (has_up_to (2 * buffer_bytes) word && (length word % 2 == 0)) && are_hex word
 
 -- each two digits are a byte
 abbrev pub bytes_of : List ℕ → List ℕ

@@ -279,7 +279,7 @@ impl Draft {
     }
 
     fn add_user(&mut self, at: u32, name: &str) -> Result<(), NoMemory>
-        requires { length self.old.users.items < 64 }
+        requires { length self.old.users.items < MAX_USERS }
         ensures few { length self.new.units.items ≤ length self.old.units.items + 1 }
         ensures value { OnOk result (draft_of self.new ≡ with_user (draft_of self.old) at name.now) }
     {

@@ -2,6 +2,8 @@
 ghost use Rattle.std.specs.Prelude.{◌≡◌};
 ghost use Rattle.vale_script.specs.Forms.{shown_form, form_of, verb_of};
 
+use nm_types::{BUFFER_BYTES, MAX_BATCH, MAX_COUNTS, MAX_POOL};
+
 /// The first word of a line.
 #[derive(Clone, Copy, Debug, PartialEq, Eq)]
 pub enum Verb {
@@ -98,18 +100,24 @@ const ANY: Place = Place::Number {
 /// The number of frames of a `put` or a `fwd` line.
 const COUNT: Place = Place::Number {
     low: 0,
-    high: 1_000_000,
+    high: MAX_COUNTS as u32,
 };
 
 /// The frames between two syncs of a `play` line.
-const BATCH: Place = Place::Number { low: 1, high: 1023 };
+const BATCH: Place = Place::Number {
+    low: 1,
+    high: MAX_BATCH as u32,
+};
 
 const POOL: Place = Place::Number {
     low: 1,
-    high: 65_536,
+    high: MAX_POOL,
 };
 
-const LENGTH: Place = Place::Number { low: 0, high: 2048 };
+const LENGTH: Place = Place::Number {
+    low: 0,
+    high: BUFFER_BYTES as u32,
+};
 
 const U: Place = Place::UserName;
 
@@ -169,7 +177,7 @@ fn word_of(verb: Verb) -> &'static [u8]
 
 /// What a line does that begins with this word, or none if no line does.
 #[tactic(auto, unfolding(crate::specs::Forms::verb_of))]
-pub(crate) fn verb_of(word: &[u8]) -> Option<Verb>
+pub fn verb_of(word: &[u8]) -> Option<Verb>
     ensures { result ≡ verb_of word.now }
 {
     VERBS.iter().copied().find(|verb| word_of(*verb) == word)

@@ -12,7 +12,9 @@ use crate::words::{
     are_line_bytes, frame_bytes, hex_byte_of, is_silent, is_user_name, mac_of, number_in,
     port_name, text_of, words_of,
 };
-use nm_types::{Frame, LineCause, MAX_POOL, Mac, Name, NoMemory, Side};
+use nm_types::{
+    BUFFER_BYTES, Frame, LineCause, MAX_BATCH, MAX_COUNTS, MAX_POOL, Mac, Name, NoMemory, Side,
+};
 use std::alloc::{AllocError, Global};
 
 /// Why a line says nothing that a script may say.
@@ -72,7 +74,7 @@ pub enum Said<'a> {
 }
 
 /// The word at a place, counted from 0; past the line's end it is empty.
-fn word_at<'a>(words: &[&'a [u8]], i: usize) -> &'a [u8]
+pub fn word_at<'a>(words: &[&'a [u8]], i: usize) -> &'a [u8]
     ensures { result.now ≡ word_at i (map (λ w. w.now) words.now) }
 {
     match words.get(i) {
@@ -165,13 +167,13 @@ fn open_act(words: &[&[u8]]) -> Result<Act, LineCause>
 }
 
 fn put_with(words: &[&[u8]], name: Name, count: u32) -> Result<Act, LineCause>
-    requires { count ≤ 1000000 }
+    requires { count ≤ MAX_COUNTS }
     ensures sound { IfOk result IsSoundAct }
     ensures value { result ≡ put_with name count (map (λ w. w.now) words.now) }
 {
     let to = address_at(words, 4)?;
     let from = address_at(words, 5)?;
-    let len = number_at(words, 6, 0, 2048)?;
+    let len = number_at(words, 6, 0, BUFFER_BYTES as u32)?;
     let fill = byte_at(words, 7)?;
     Ok(Act::Put {
         name,
@@ -188,7 +190,7 @@ fn put_act(words: &[&[u8]]) -> Result<Act, LineCause>
     ensures value { result ≡ put_act (map (λ w. w.now) words.now) }
 {
     let name = port_at(words, 2)?;
-    let count = number_at(words, 3, 0, 1_000_000)?;
+    let count = number_at(words, 3, 0, MAX_COUNTS as u32)?;
     put_with(words, name, count)
 }
 
@@ -198,7 +200,7 @@ fn fwd_act(words: &[&[u8]]) -> Result<Act, LineCause>
 {
     let from = port_at(words, 2)?;
     let to = port_at(words, 3)?;
-    let count = number_at(words, 4, 0, 1_000_000)?;
+    let count = number_at(words, 4, 0, MAX_COUNTS as u32)?;
     Ok(Act::Fwd { from, to, count })
 }
 
@@ -336,7 +338,7 @@ fn play_act(alloc: Global, words: &[&[u8]]) -> Result<Act, LineFault>
 {
     let name = port_at(words, 2)?;
     let file = text_at(words, 3)?;
-    let batch = number_at(words, 4, 1, 1023)?;
+    let batch = number_at(words, 4, 1, MAX_BATCH as u32)?;
     let file = ScriptWord::new(alloc, file)?;
     Ok(Act::Play { name, file, batch })
 }

@@ -3,7 +3,7 @@ ghost use Rattle.std.specs.Prelude.{◌≡◌, ◌+◌, ◌*◌, ◌<◌, ◌≤
 ghost use Rattle.nm_types.specs.Names.{is_word_byte, are_word_bytes};
 ghost use Rattle.vale_script.specs.Words.{is_blank, has_bytes, words_of, is_line_byte, are_line_bytes, begins_with_hash, is_silent, has_up_to, is_user_name, port_name, text_of, is_digit, are_digits, is_number, number_of, number_in, is_hex, are_hex, hex_value, is_pair_at, byte_at, is_colon_at, is_hex_byte, hex_byte_of, is_digits, bytes_of, frame_bytes, are_pairs, are_joined, is_mac, mac_value, mac_of};
 
-use nm_types::{Mac, Name, NoMemory};
+use nm_types::{BUFFER_BYTES, Mac, Name, NoMemory};
 use std::alloc::{AllocError, Global};
 
 /// Above each number of a script.
@@ -29,7 +29,7 @@ pub(crate) fn are_line_bytes(line: &[u8]) -> bool
 }
 
 /// The words of a line, cut at blanks and tabs.
-pub(crate) fn words_of(alloc: Global, line: &[u8]) -> Result<Vec<&[u8]>, AllocError>
+pub fn words_of(alloc: Global, line: &[u8]) -> Result<Vec<&[u8]>, AllocError>
     ensures { IfOk result (λ words. map (λ w. w.now) words.items ≡ words_of line.now) }
 {
     line.split(|b| is_blank(*b))
@@ -216,7 +216,7 @@ fn is_digits(word: &[u8]) -> bool
     ensures value { result ≡ is_digits word.now }
     ensures hex { IsTrue result → are_hex word.now ≡ true }
 {
-    has_up_to(4096, word) && word.len() % 2 == 0 && are_hex(word)
+    has_up_to(2 * BUFFER_BYTES, word) && word.len() % 2 == 0 && are_hex(word)
 }
 
 /// The bytes that hexadecimal digits write.
