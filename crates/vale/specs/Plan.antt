@@ -1,13 +1,17 @@
 -- The lines of a script that this program runs: users, and opening, putting, sending, receiving and closing
 -- at ports of switches. The first other line is bad, for the cause `word`, if no line before it is bad.
-use Rattle.std.specs.Prelude.{ℕ, Bool, true, false, not, ◌&&◌, ◌==◌, ◌≡◌, ◌+◌, nat_le, if◌then◌else◌, List, [], ◌∷◌, ◌++◌, length, take, sum_by, replicate, Option, Some, None, is_some, option_map, Result, Ok, Err}
+use Rattle.std.specs.Prelude.{ℕ, Bool, true, false, not, ◌&&◌, ◌||◌, ◌==◌, ◌≡◌, ◌+◌, nat_le, if◌then◌else◌, List, [], ◌∷◌, ◌++◌, length, take, sum_by, replicate, Option, Some, None, is_some, option_map, Result, Ok, Err}
 use Rattle.std.specs.List.{filter_map}
 use Rattle.std.specs.Str.Lines.{lines}
-use Rattle.nm_types.specs.Names.{is_switch_port_name}
+use Rattle.nm_types.specs.Names.{is_name, is_switch_port_name}
 use Rattle.nm_types.specs.declared.id.Mac.{Mac}
 use Rattle.nm_types.specs.declared.fault.LineCause.{LineCause}
 use Rattle.nm_types.specs.declared.fault.LineCause.TheVariants.{Word}
-use Rattle.vale_script.specs.Statements.{Statement, Nothing, Pool, NewUser, Begin, End, Does, line_said}
+use Rattle.vale_script.specs.Forms.{verb_of}
+use Rattle.vale_script.specs.Statements.{Statement, Nothing, Pool, NewUser, Begin, End, Does, word_at, line_said}
+use Rattle.vale_script.specs.Words.{words_of}
+use Rattle.vale_script.specs.declared.forms.Verb.{Verb}
+use Rattle.vale_script.specs.declared.forms.Verb.TheVariants as verbs
 use Rattle.vale_script.specs.declared.reader.ScriptFault.{ScriptFault}
 use Rattle.vale_script.specs.declared.reader.ScriptFault.TheVariants.{BadLine, NoMemory}
 use Rattle.vale_script.specs.declared.script.Act.{Act as ScriptAct}
@@ -48,9 +52,12 @@ count_of_line line = count_of line.act
 abbrev pub frames_put : Program → ℕ
 frames_put program = sum_by count_of_line program.lines
 
+abbrev pub planned_open : List ℕ → ℕ → ℕ → ℕ → Option Act
+planned_open name tx rx extra = if is_switch_port_name name && (extra == 0) then Some (Open name tx rx) else None
+
 abbrev pub planned_act : ScriptAct → Option Act
 planned_act acts.Enter = Some Enter
-planned_act (acts.Open name tx rx extra) = if is_switch_port_name name && (extra == 0) then Some (Open name tx rx) else None
+planned_act (acts.Open name tx rx extra) = planned_open name tx rx extra
 planned_act (acts.Put name count to from len fill) = Some (Put name count (record { destination = to; source = from; len = len; byte = fill }))
 planned_act (acts.Tx name) = Some (Tx name)
 planned_act (acts.Rx name keep) = if keep then None else Some (Rx name)
@@ -79,16 +86,44 @@ is_other Begin = true
 is_other End = true
 is_other (Does user act) = not (is_some (planned_act act))
 
-abbrev pub is_other_line : Result Statement LineCause → Bool
-is_other_line (Ok said) = is_other said
-is_other_line (Err cause) = false
+-- the first words of the lines that it runs
+abbrev pub is_run : Verb → Bool
+is_run verbs.Pool = true
+is_run verbs.User = true
+is_run verbs.Open = true
+is_run verbs.Put = true
+is_run verbs.Tx = true
+is_run verbs.Rx = true
+is_run verbs.Close = true
+is_run _ = false
+
+abbrev pub is_other_verb : Option Verb → Bool
+is_other_verb None = false
+is_other_verb (Some verb) = not (is_run verb)
+
+-- the name of a pipe end or a monitor
+abbrev pub is_other_name : List ℕ → Bool
+is_other_name word = is_name word && not (is_switch_port_name word)
+
+-- A malformed line is one that this program does not run if its first word is that of such a line, or if
+-- a pipe end or a monitor stands where such a line names its port.
+abbrev pub is_other_kind : List (List ℕ) → Bool
+is_other_kind words = is_other_verb (verb_of (word_at 0 words)) || is_other_name (word_at 2 words)
+
+abbrev pub other_by : Result Statement LineCause → List ℕ → Bool
+other_by (Ok said) line = is_other said
+other_by (Err cause) line = is_other_kind (words_of line)
+
+abbrev pub is_other_line : List ℕ → Bool
+is_other_line line = other_by (line_said line) line
 
 -- the number of the first such line
 abbrev pub first_other : ℕ → List (List ℕ) → Option ℕ
 first_other at [] = None
-first_other at (line ∷ lines) = if is_other_line (line_said line) then Some at else first_other (at + 1) lines
+first_other at (line ∷ lines) = if is_other_line line then Some at else first_other (at + 1) lines
 
--- the smaller line number is the one that is reported; on one line it is this cause
+-- The smaller line number is the one that is reported. A line that this program does not run has this cause,
+-- whatever else is wrong with it.
 abbrev pub judged : Option ℕ → Result scripts.Program Fault → Result Program Fault
 judged None (Ok script) = Ok (program_of script)
 judged None (Err fault) = Err fault

@@ -5,13 +5,17 @@ ghost use Rattle.std.specs.Option.{option_to_list};
 ghost use Rattle.std.specs.List.{filter_map};
 ghost use Rattle.std.specs.Str.Lines.{lines};
 ghost use Rattle.vale_script.specs.Statements.{shown};
-ghost use Rattle.vale.specs.Plan.{frame_of_put, count_of, frames_put, planned_act, planned_line, planned_unit, is_other, first_other, bad_word, script_of, BlamesLine};
+ghost use Rattle.vale_script.specs.Words.{words_of};
+ghost use Rattle.vale.specs.Plan.{frame_of_put, count_of, frames_put, planned_open, planned_act, planned_line, planned_unit, is_other, is_run, is_other_verb, is_other_name, is_other_kind, is_other_line, first_other, bad_word, script_of, BlamesLine};
 ghost use Rattle.vale.specs.Sound.{IsSound};
 
 use nm_types::{LineCause, Mac, Name, NoMemory};
 use std::alloc::Global;
 use std::marker::Model;
-use vale_script::{LineFault, Said, ScriptFault, Unit, first_line, line_said, parse};
+use vale_script::{
+    LineFault, Said, ScriptFault, Unit, Verb, first_line, line_said, parse, verb_of, word_at,
+    words_of,
+};
 
 /// A frame as a script describes it: Ethernet addresses, the type 88 b5, and a byte that fills it up
 /// to its length of at most 2048 bytes.
@@ -138,54 +142,48 @@ impl Plan {
     }
 }
 
+/// The opening of a switch's port without extra buffers; none for any other.
+fn planned_open(name: Name, tx: u32, rx: u32, extra: u32) -> Option<Act>
+    ensures { result ≡ planned_open name tx rx extra }
+{
+    if name.is_switch_port() && extra == 0 {
+        Some(Act::Open { name, tx, rx })
+    } else {
+        None
+    }
+}
+
 /// What a line of the script has its user do, or none if this program does not run it.
 fn planned_act(act: &vale_script::Act) -> Option<Act>
     ensures { result ≡ planned_act act.now }
 {
-    match act {
+    match *act {
         vale_script::Act::Enter => Some(Act::Enter),
         vale_script::Act::Open {
             name,
             tx,
             rx,
             extra,
-        } => {
-            if name.is_switch_port() && *extra == 0 {
-                Some(Act::Open {
-                    name: *name,
-                    tx: *tx,
-                    rx: *rx,
-                })
-            } else {
-                None
-            }
-        }
+        } => planned_open(name, tx, rx, extra),
         vale_script::Act::Put {
             name,
             count,
-            to,
-            from,
+            to: destination,
+            from: source,
             len,
-            fill,
-        } => Some(Act::Put {
-            name: *name,
-            count: *count,
-            fill: Fill {
-                destination: *to,
-                source: *from,
-                len: *len,
-                byte: *fill,
-            },
-        }),
-        vale_script::Act::Tx { name } => Some(Act::Tx { name: *name }),
-        vale_script::Act::Rx { name, keep } => {
-            if *keep {
-                None
-            } else {
-                Some(Act::Rx { name: *name })
-            }
+            fill: byte,
+        } => {
+            let fill = Fill {
+                destination,
+                source,
+                len,
+                byte,
+            };
+            Some(Act::Put { name, count, fill })
         }
-        vale_script::Act::Close { name } => Some(Act::Close { name: *name }),
+        vale_script::Act::Tx { name } => Some(Act::Tx { name }),
+        vale_script::Act::Rx { name, keep: false } => Some(Act::Rx { name }),
+        vale_script::Act::Close { name } => Some(Act::Close { name }),
         _ => None,
     }
 }
@@ -236,6 +234,53 @@ fn is_other(said: &Said<'_>) -> bool
     }
 }
 
+fn is_run(verb: Verb) -> bool
+    ensures { result ≡ is_run verb }
+{
+    matches!(
+        verb,
+        Verb::Pool | Verb::User | Verb::Open | Verb::Put | Verb::Tx | Verb::Rx | Verb::Close
+    )
+}
+
+fn is_other_verb(verb: Option<Verb>) -> bool
+    ensures { result ≡ is_other_verb verb }
+{
+    match verb {
+        Some(verb) => !is_run(verb),
+        None => false,
+    }
+}
+
+/// Whether a word names a pipe end or a monitor.
+fn is_other_name(word: &[u8]) -> bool
+    ensures { result ≡ is_other_name word.now }
+{
+    match Name::from_bytes(word) {
+        Ok(name) => !name.is_switch_port(),
+        Err(_) => false,
+    }
+}
+
+/// Whether a malformed line is of a kind that this program does not run.
+fn is_other_kind(alloc: Global, line: &[u8]) -> Result<bool, NoMemory>
+    ensures { IfOk result (λ other. other ≡ is_other_kind (words_of line.now)) }
+{
+    let words = words_of(alloc, line)?;
+    Ok(is_other_verb(verb_of(word_at(&words, 0))) || is_other_name(word_at(&words, 2)))
+}
+
+/// Whether this program does not run a line.
+fn is_other_line(alloc: Global, line: &[u8]) -> Result<bool, NoMemory>
+    ensures { IfOk result (λ other. other ≡ is_other_line line.now) }
+{
+    match line_said(alloc, line) {
+        Ok(said) => Ok(is_other(&said)),
+        Err(LineFault::Bad { .. }) => is_other_kind(alloc, line),
+        Err(LineFault::NoMemory) => Err(NoMemory),
+    }
+}
+
 /// The number of the first line that this program does not run.
 fn first_other(alloc: Global, bytes: &[u8]) -> Result<Option<u32>, NoMemory>
     requires { length bytes.now < 2 ^ 32 - 1 }
@@ -245,14 +290,8 @@ fn first_other(alloc: Global, bytes: &[u8]) -> Result<Option<u32>, NoMemory>
     let mut at = 1;
     while !rest.is_empty() {
         let (line, after) = first_line(rest);
-        match line_said(alloc, line) {
-            Ok(said) => {
-                if is_other(&said) {
-                    return Ok(Some(at));
-                }
-            }
-            Err(LineFault::Bad { .. }) => {}
-            Err(LineFault::NoMemory) => return Err(NoMemory),
+        if is_other_line(alloc, line)? {
+            return Ok(Some(at));
         }
         rest = after;
         at += 1;
