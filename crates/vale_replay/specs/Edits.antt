@@ -42,7 +42,7 @@ changed_by (acts.Poke name side slot field value) s = at_port name (poked side s
 changed_by (acts.Move name side head cur) s = at_port name (λ id. with_positions side id head cur) s
 changed_by (acts.Swap name side slot other other_side other_slot quiet) s =
     at_ports name other (λ id other_id. with_slots_swapped (not quiet)
-        (record { side = side; port = id; at = slot })
-        (record { side = other_side; port = other_id; at = other_slot })) s
+    (record { side = side; port = id; at = slot })
+    (record { side = other_side; port = other_id; at = other_slot })) s
 changed_by (acts.Extra name i j) s = at_port name (λ id. with_extra_link id i j) s
 changed_by _ s = s

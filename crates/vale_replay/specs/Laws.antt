@@ -26,7 +26,7 @@ HasNoBlock program = AllByRecursion IsLine program.units
 abbrev pub PlaysOneHistory : Type 0
 PlaysOneHistory =
     (program : Program) (captures : Captures) (history other : List Entry)
-        → HasNoBlock program
+    → HasNoBlock program
     → Replays program captures history → Replays program captures other → history ≡ other
 
 -- the history begins with these entries, and the next one is the one that a call makes
@@ -41,7 +41,7 @@ pub record BeginsWith (pool : ℕ) (history part : List Entry) (call : Ask) : Ty
 abbrev pub UnderWayIsBeginning : Type 0
 UnderWayIsBeginning =
     (program : Program) (captures : Captures) (history part : List Entry) (user : ℕ) (call : Ask)
-        → HasNoBlock program
+    → HasNoBlock program
     → Replays program captures history → ComesTo program captures part user call
     → BeginsWith program.pool history part call
 
@@ -50,7 +50,7 @@ UnderWayIsBeginning =
 abbrev pub UnderWayIsOne : Type 0
 UnderWayIsOne =
     (program : Program) (captures : Captures) (part other : List Entry) (user : ℕ) (call : Ask) (next_user : ℕ) (next : Ask)
-        → HasNoBlock program
+    → HasNoBlock program
     → ComesTo program captures part user call → ComesTo program captures other next_user next
     → ((part ≡ other) × (call ≡ next)) ⊎ (BeginsWith program.pool part other next ⊎ BeginsWith program.pool other part call)
 
@@ -58,7 +58,7 @@ UnderWayIsOne =
 abbrev pub PlayedIsLegal : Type 0
 PlayedIsLegal =
     (program : Program) (captures : Captures) (history : List Entry) (nows : List Machine)
-        → IsUnderWay program captures history nows → IsLegal program.pool history
+    → IsUnderWay program captures history nows → IsLegal program.pool history
 
 -- a user's entries in two pieces, one after the other
 pub record GoBetween (pool : ℕ) (history : List Entry) (before : Machine) (numbers others : List ℕ) (after : Machine) : Type 0 where
@@ -69,14 +69,14 @@ pub record GoBetween (pool : ℕ) (history : List Entry) (before : Machine) (num
 abbrev pub PiecesAreOne : Type 0
 PiecesAreOne =
     (pool : ℕ) (history : List Entry) (before : Machine) (numbers others : List ℕ) (after : Machine)
-        → Rise 0 (numbers ++ others) (length history)
+    → Rise 0 (numbers ++ others) (length history)
     → ReplaysUser pool history before (numbers ++ others) after ↔ GoBetween pool history before numbers others after
 
 -- what a user's entries say is read in the history up to the last of them
 abbrev pub ReadsToItsLast : Type 0
 ReadsToItsLast =
     (pool : ℕ) (history : List Entry) (count : ℕ) (before : Machine) (numbers : List ℕ) (after : Machine)
-        → last_of numbers ≤ count
+    → last_of numbers ≤ count
     → ReplaysUser pool history before numbers after ↔ ReplaysUser pool (take count history) before numbers after
 
 -- the states to which a history brings its users are theirs alone
@@ -90,6 +90,6 @@ StatesAreOne =
 abbrev pub OthersChangeNoCall : Type 0
 OthersChangeNoCall =
     (pool : ℕ) (past more : List Entry) (user : Machine) (session : SessionId)
-        → user.session ≡ Some session → IsLegal pool (past ++ more)
+    → user.session ≡ Some session → IsLegal pool (past ++ more)
     → All (IsOfOther session.0) more
     → next_call (world_of pool (past ++ more)) user ≡ next_call (world_of pool past) user

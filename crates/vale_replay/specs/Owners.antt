@@ -92,5 +92,5 @@ pub record AreOwnedOnce (pool : ℕ) (s : Standing) (users : List Machine) : Typ
 abbrev pub AreAlwaysOwnedOnce : Program → Captures → List Entry → Type 0
 AreAlwaysOwnedOnce program captures history =
     (count : ℕ) (nows : List Machine) → count ≤ length history
-        → IsUnderWay program captures (take count history) nows
+    → IsUnderWay program captures (take count history) nows
     → AreOwnedOnce program.pool (standing_of program.pool (take count history)) nows

@@ -152,7 +152,7 @@ times_among number lists =
 abbrev pub AreSplit : ℕ → ℕ → List (List ℕ) → Type 0
 AreSplit first last lists =
     (number : ℕ)
-        → times_among number lists ≡ (if nat_lt first number && nat_le number last then 1 else 0)
+    → times_among number lists ≡ (if nat_lt first number && nat_le number last then 1 else 0)
 
 abbrev pub with_afters : ScriptUnit → List Machine → List Machine → List Machine
 with_afters [] afters users = users
@@ -178,8 +178,8 @@ abbrev pub ReplaysUnits : ℕ → List Entry → List Machine → ℕ → List S
 ReplaysUnits pool history users first [] next last = (next ≡ users) × (last ≡ first)
 ReplaysUnits pool history users first (unit ∷ units) next last =
     (between : List Machine) × ((number : ℕ)
-        × (ReplaysUnit pool history users first unit between number
-        × ReplaysUnits pool history between number units next last))
+    × (ReplaysUnit pool history users first unit between number
+    × ReplaysUnits pool history between number units next last))
 
 abbrev pub users_of : Program → List Machine
 users_of program = map (new_machine program.pool) (range_with_len 1 (user_count program))

@@ -86,6 +86,6 @@ walk count program captures =
 abbrev pub WalksPlay : Type 0
 WalksPlay =
     (count : ℕ) (program : Program) (captures : Captures) (stage : Stage)
-        → HasNoBlock program → HasCaptures program captures
+    → HasNoBlock program → HasCaptures program captures
     → walk count program captures ≡ Some stage
     → HasPlayed program captures stage.standing.past stage.users
