@@ -1,6 +1,6 @@
 -- What the lines of an accepted script keep.
 use Rattle.std.specs.List.{AllByRecursion as Each}
-use Rattle.std.proofs.Common.{ℕ, ◌+◌, ◌<◌, ◌≤◌, ◌≡◌, Bool, true, false, cond, ◌||◌, not, nat_le, List, [], ◌∷◌, ◌++◌, length, Option, Some, None, is_some, unwrap_or, IfSome, Result, Ok, Err, bytes_eq, refl, sym, ap, subst, arith, length-append}
+use Rattle.std.proofs.Common.{ℕ, ◌+◌, ◌<◌, ◌≤◌, ◌≡◌, Bool, true, false, cond, ◌||◌, not, nat_le, List, [], ◌∷◌, ◌++◌, length, Option, Some, None, is_some, unwrap_or, IfSome, Ok, bytes_eq, refl, sym, subst, arith, length-append}
 use Rattle.std.proofs.lemmas.Bool.{leb-false}
 use Rattle.nm_types.specs.declared.fault.LineCause.{LineCause}
 use Rattle.nm_types.specs.declared.fault.LineCause.TheVariants.{User, Order, Twice}
@@ -10,7 +10,7 @@ use Rattle.vale_script.specs.declared.script.Line.{Line}
 use Rattle.vale_script.specs.declared.script.Unit.{Unit as Part}
 use Rattle.vale_script.specs.declared.script.Unit.TheVariants as parts
 use Rattle.vale_script.specs.Keeps.{IsPoolRange, IsSoundStatement, IsUserNumber, IsSoundBlock, IsSoundDraft}
-use Rattle.vale_script.specs.Rules.{Draft, Opened, nothing_said, user_cause, act_cause, cause_of, with_port, with_played, with_saved, with_act, with_line, units_with, block_with, with_user, with_end, ended_units, does_act, after, finished_by, finished}
+use Rattle.vale_script.specs.Rules.{Draft, Opened, nothing_said, user_cause, act_cause, cause_of, with_act, with_line, units_with, block_with, with_user, ended_units, does_act, after, finished_by, finished}
 use Rattle.vale_script.specs.Script.{Program}
 use Rattle.vale_script.specs.Sound.{IsSoundAct, IsSoundLine, IsSoundUnit, IsSound}
 use Rattle.vale_script.specs.Statements.{Statement, Nothing, Pool, NewUser, Begin, End, Does}

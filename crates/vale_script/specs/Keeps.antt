@@ -1,10 +1,10 @@
 -- What a draft keeps.
-use Rattle.std.specs.Prelude.{ℕ, ◌≤◌, List, length, Option, Some, None, IfSome}
+use Rattle.std.specs.Prelude.{ℕ, ◌≤◌, List, length, IfSome}
 use Rattle.std.specs.List.{AllByRecursion as Each}
 use Rattle.nm_types.specs.Limits.{most_pool, most_users}
 use Rattle.vale_script.specs.Rules.{Draft, Opened}
 use Rattle.vale_script.specs.Sound.{IsSoundAct, IsSoundLine, IsSoundUnit}
-use Rattle.vale_script.specs.Statements.{Statement, Nothing, Pool, NewUser, Begin, End, Does}
+use Rattle.vale_script.specs.Statements.{Statement, Pool, Does}
 
 abbrev pub IsPoolRange : ℕ → Type 0
 IsPoolRange size = (1 ≤ size) × (size ≤ most_pool)

@@ -1,5 +1,5 @@
 -- What is wrong with a line's words, each at its place.
-use Rattle.std.specs.Prelude.{ℕ, Bool, false, not, ◌||◌, if◌then◌else◌, List, [], ◌∷◌, codes, bytes_eq, is_some}
+use Rattle.std.specs.Prelude.{ℕ, Bool, false, not, ◌||◌, if◌then◌else◌, List, ◌∷◌, codes, bytes_eq, is_some}
 use Rattle.nm_types.specs.declared.fault.LineCause.{LineCause}
 use Rattle.nm_types.specs.declared.fault.LineCause.TheVariants.{Word, Name}
 use Rattle.nm_types.specs.declared.fault.LineCause.TheVariants as causes

@@ -1,20 +1,36 @@
 -- What the lines of an accepted script keep.
-use Rattle.std.specs.Prelude.{ℕ, ◌≤◌, ◌<◌, ◌^◌, List, length, Option, Some, None, IfSome}
+use Rattle.std.specs.Prelude.{ℕ, ◌≤◌, ◌≡◌, false, length}
 use Rattle.std.specs.List.{AllByRecursion as Each}
 use Rattle.nm_types.specs.Frames.{Frame}
 use Rattle.nm_types.specs.Limits.{most_counts, most_pool, most_users, buffer_bytes, most_batch}
 use Rattle.vale_script.specs.declared.script.Act.{Act}
 use Rattle.vale_script.specs.declared.script.Act.TheVariants as acts
 use Rattle.vale_script.specs.declared.script.Line.{Line}
+use Rattle.vale_script.specs.declared.script.SlotField.{SlotField}
+use Rattle.vale_script.specs.declared.script.SlotField.TheVariants.{Idx, Len, Flags, Ptr}
 use Rattle.vale_script.specs.declared.script.Unit.{Unit as Part}
 use Rattle.vale_script.specs.declared.script.Unit.TheVariants as parts
 use Rattle.vale_script.specs.Script.{Program}
 
+-- the greatest number that a field of a slot holds
+abbrev pub most_of : SlotField → ℕ
+most_of Idx = 4294967295
+most_of Len = 65535
+most_of Flags = 65535
+most_of Ptr = 18446744073709551615
+
+-- a frame that a buffer holds, without a mark
+pub record IsSoundFrame (frame : Frame) : Type 0 where
+  pub fits : length frame.bytes ≤ buffer_bytes
+  pub unmarked : frame.no_learn ≡ false
+
 -- numbers are within the ranges of their places
 abbrev pub IsSoundAct : Act → Type 0
 IsSoundAct (acts.Put name count to from len fill) = (count ≤ most_counts) × (len ≤ buffer_bytes)
+IsSoundAct (acts.Hex name frame) = IsSoundFrame frame
 IsSoundAct (acts.Play name file batch) = (1 ≤ batch) × (batch ≤ most_batch)
 IsSoundAct (acts.Fwd from to count) = count ≤ most_counts
+IsSoundAct (acts.Poke name side slot field value) = value ≤ most_of field
 IsSoundAct _ = Unit {0}
 
 pub record IsSoundLine (users : ℕ) (line : Line) : Type 0 where

@@ -1,5 +1,5 @@
 -- What the words of a line say by themselves, or why they say nothing that a script may say.
-use Rattle.std.specs.Prelude.{ℕ, Bool, false, ◌==◌, ◌+◌, ◌≡◌, nat_le, nat_lt, ◌||◌, not, if◌then◌else◌, List, [], ◌∷◌, length, slice_index_or, Option, Some, None, option_map, Result, Ok, Err}
+use Rattle.std.specs.Prelude.{ℕ, false, ◌==◌, ◌≡◌, nat_lt, ◌||◌, if◌then◌else◌, List, [], ◌∷◌, length, slice_index_or, Option, Some, None, Result, Ok, Err}
 use Rattle.std.specs.Borrow.{Bor}
 use Rattle.nm_types.specs.Limits.{most_counts, most_pool, buffer_bytes, most_batch}
 use Rattle.nm_types.specs.declared.id.Mac.{Mac}

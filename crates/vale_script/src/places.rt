@@ -1,6 +1,7 @@
 //! What is wrong with a line's words, each at its place.
 ghost use Rattle.std.specs.Prelude.{◌≡◌, ◌≤◌, map, length};
 ghost use Rattle.vale_script.specs.Places.{is_side, is_sides, is_field, misses_word, misses_number, misses_name, is_out, any_out, greatest_of, side_of, sides_of, field_of};
+ghost use Rattle.vale_script.specs.Sound.{most_of};
 
 use crate::forms::Place;
 use crate::script::SlotField;
@@ -30,7 +31,8 @@ fn is_field(word: &[u8]) -> bool
 
 /// The greatest value of a slot's field.
 pub(crate) fn greatest_of(field: &[u8]) -> u64
-    ensures { result ≡ greatest_of field.now }
+    ensures value { result ≡ greatest_of field.now }
+    ensures fits { result ≤ most_of (field_of field.now) }
 {
     if field == b"idx".as_slice() {
         4_294_967_295

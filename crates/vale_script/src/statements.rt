@@ -118,7 +118,8 @@ fn byte_at(words: &[&[u8]], i: usize) -> Result<u8, LineCause>
 }
 
 fn value_at(words: &[&[u8]], i: usize, high: u64) -> Result<u64, LineCause>
-    ensures { result ≡ number_at 0 high i (map (λ w. w.now) words.now) }
+    ensures within { IfOk result (λ n. n ≤ high) }
+    ensures value { result ≡ number_at 0 high i (map (λ w. w.now) words.now) }
 {
     number_in(0, high, word_at(words, i)).ok_or(LineCause::Number)
 }

@@ -1,5 +1,5 @@
 //! The words of a script's lines, each by itself.
-ghost use Rattle.std.specs.Prelude.{◌≡◌, ◌+◌, ◌*◌, ◌<◌, ◌≤◌, ◌^◌, ℕ, length, map, option_map, min, is_some, true, IsTrue, IfOk, IfSome};
+ghost use Rattle.std.specs.Prelude.{◌≡◌, ◌+◌, ◌*◌, ◌/◌, ◌<◌, ◌≤◌, ◌^◌, ℕ, length, map, option_map, min, is_some, true, IsTrue, IfOk, IfSome};
 ghost use Rattle.nm_types.specs.Names.{is_word_byte, are_word_bytes};
 ghost use Rattle.vale_script.specs.Words.{is_blank, has_bytes, words_of, is_line_byte, are_line_bytes, begins_with_hash, is_silent, has_up_to, is_user_name, port_name, text_of, is_digit, are_digits, is_number, number_of, number_in, is_hex, are_hex, hex_value, is_pair_at, byte_at, is_colon_at, is_hex_byte, hex_byte_of, is_digits, bytes_of, frame_bytes, are_pairs, are_joined, is_mac, mac_value, mac_of};
 
@@ -215,6 +215,7 @@ fn are_hex(word: &[u8]) -> bool
 fn is_digits(word: &[u8]) -> bool
     ensures value { result ≡ is_digits word.now }
     ensures hex { IsTrue result → are_hex word.now ≡ true }
+    ensures few { IsTrue result → length word.now ≤ 2 * BUFFER_BYTES }
 {
     has_up_to(2 * BUFFER_BYTES, word) && word.len() % 2 == 0 && are_hex(word)
 }
@@ -223,7 +224,8 @@ fn is_digits(word: &[u8]) -> bool
 #[tactic(auto, using(crate::proofs::Numerals::pairs))]
 fn bytes_of(alloc: Global, word: &[u8]) -> Result<Vec<u8>, NoMemory>
     requires { are_hex word.now ≡ true }
-    ensures { IfOk result (λ bytes. bytes.items ≡ bytes_of word.now) }
+    ensures half { IfOk result (λ bytes. length bytes.items ≡ length word.now / 2) }
+    ensures value { IfOk result (λ bytes. bytes.items ≡ bytes_of word.now) }
 {
     let mut bytes = Vec::new(alloc);
     for k in 0..word.len() / 2 {
@@ -243,7 +245,8 @@ pub(crate) fn frame_bytes_fit(word: &[u8]) -> bool
 /// The bytes of a frame in digits, or none if the word is none. A dot is the empty frame.
 #[tactic(auto, unfolding(crate::specs::Words::frame_bytes))]
 pub(crate) fn frame_bytes(alloc: Global, word: &[u8]) -> Result<Option<Vec<u8>>, NoMemory>
-    ensures { IfOk result (λ bytes. option_map (λ b. b.items) bytes ≡ frame_bytes word.now) }
+    ensures fits { IfOk result (λ bytes. IfSome bytes (λ b. length b.items ≤ BUFFER_BYTES)) }
+    ensures value { IfOk result (λ bytes. option_map (λ b. b.items) bytes ≡ frame_bytes word.now) }
 {
     if word == b".".as_slice() {
         return Ok(Some(Vec::new(alloc)));
