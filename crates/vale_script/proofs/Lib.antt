@@ -1,5 +1,7 @@
 mod Cuts
 mod Numerals
 mod Pairs
+mod Replays
+mod Sayings
 mod Soundness
 mod Texts

@@ -3,6 +3,7 @@ pub mod Forms
 pub mod Grammar
 pub mod Keeps
 pub mod Places
+pub mod Replay
 pub mod Rules
 pub mod Script
 pub mod Sound

@@ -10,6 +10,8 @@ use Rattle.vale_script.specs.declared.script.SlotField.{SlotField}
 use Rattle.vale_script.specs.declared.script.SlotField.TheVariants.{Idx, Len, Flags, Ptr}
 use Rattle.vale_script.specs.declared.script.Unit.{Unit as Part}
 use Rattle.vale_script.specs.declared.script.Unit.TheVariants as parts
+use Rattle.vale_script.specs.Replay.{program_says, replayed, MeetNoCause}
+use Rattle.vale_script.specs.Rules.{nothing_said}
 use Rattle.vale_script.specs.Script.{Program}
 
 -- the greatest number that a field of a slot holds
@@ -24,14 +26,19 @@ pub record IsSoundFrame (frame : Frame) : Type 0 where
   pub fits : length frame.bytes ≤ buffer_bytes
   pub unmarked : frame.no_learn ≡ false
 
--- numbers are within the ranges of their places
+-- what a user does that has entered: numbers are within the ranges of their places
+abbrev pub IsSoundDeed : Act → Type 0
+IsSoundDeed acts.Enter = ⊥
+IsSoundDeed (acts.Put name count to from len fill) = (count ≤ most_counts) × (len ≤ buffer_bytes)
+IsSoundDeed (acts.Hex name frame) = IsSoundFrame frame
+IsSoundDeed (acts.Play name file batch) = (1 ≤ batch) × (batch ≤ most_batch)
+IsSoundDeed (acts.Fwd from to count) = count ≤ most_counts
+IsSoundDeed (acts.Poke name side slot field value) = value ≤ most_of field
+IsSoundDeed _ = Unit {0}
+
 abbrev pub IsSoundAct : Act → Type 0
-IsSoundAct (acts.Put name count to from len fill) = (count ≤ most_counts) × (len ≤ buffer_bytes)
-IsSoundAct (acts.Hex name frame) = IsSoundFrame frame
-IsSoundAct (acts.Play name file batch) = (1 ≤ batch) × (batch ≤ most_batch)
-IsSoundAct (acts.Fwd from to count) = count ≤ most_counts
-IsSoundAct (acts.Poke name side slot field value) = value ≤ most_of field
-IsSoundAct _ = Unit {0}
+IsSoundAct acts.Enter = Unit {0}
+IsSoundAct act = IsSoundDeed act
 
 pub record IsSoundLine (users : ℕ) (line : Line) : Type 0 where
   pub least : 1 ≤ line.user
@@ -42,10 +49,14 @@ abbrev pub IsSoundUnit : ℕ → Part → Type 0
 IsSoundUnit users (parts.Single line) = IsSoundLine users line
 IsSoundUnit users (parts.Block lines) = Each (IsSoundLine users) lines
 
--- the pool has a size that a pool may have, there are at most 64 users, and each line is one of theirs
--- whose numbers are in range
+-- The pool has a size that a pool may have. There are at most 64 users, and each line is one of theirs whose
+-- numbers are in range. The lines, replayed from nothing said, are bad for no cause; they declare these users
+-- and play these files.
 pub record IsSound (program : Program) : Type 0 where
   pub least : 1 ≤ program.pool
   pub most : program.pool ≤ most_pool
   pub few : length program.users ≤ most_users
   pub units_are : Each (IsSoundUnit (length program.users)) program.units
+  pub causes : MeetNoCause nothing_said (program_says program)
+  pub declares : program.users ≡ (replayed nothing_said (program_says program)).users
+  pub plays : program.files ≡ (replayed nothing_said (program_says program)).played

@@ -2,7 +2,7 @@
 ghost use Rattle.std.specs.Prelude.{◌≡◌, ◌≤◌, ◌^◌, ℕ, map, slice_index_or, length, IfOk, Ok};
 ghost use Rattle.vale_script.specs.Places.{side_of, sides_of, field_of};
 ghost use Rattle.vale_script.specs.Keeps.{IsSoundStatement};
-ghost use Rattle.vale_script.specs.Sound.{IsSoundAct};
+ghost use Rattle.vale_script.specs.Sound.{IsSoundDeed};
 ghost use Rattle.vale_script.specs.Statements.{shown, word_at, user_at, port_at, text_at, number_at, address_at, byte_at_place, open_act, put_with, put_act, fwd_act, poke_act, move_act, swap_act, extra_act, watch_act, named_act, plain_act, hex_act, play_act, save_act, act_of, statement_of, cause_of_words, words_said, line_said, Tells, TellsSaid, shown_text};
 
 use crate::forms::{Verb, form_of, verb_of};
@@ -148,7 +148,7 @@ fn side_at(words: &[&[u8]], i: usize) -> Side
 }
 
 fn open_act(words: &[&[u8]]) -> Result<Act, LineCause>
-    ensures sound { IfOk result IsSoundAct }
+    ensures sound { IfOk result IsSoundDeed }
     ensures value { result ≡ open_act (map (λ w. w.now) words.now) }
 {
     let name = port_at(words, 2)?;
@@ -169,7 +169,7 @@ fn open_act(words: &[&[u8]]) -> Result<Act, LineCause>
 
 fn put_with(words: &[&[u8]], name: Name, count: u32) -> Result<Act, LineCause>
     requires { count ≤ MAX_COUNTS }
-    ensures sound { IfOk result IsSoundAct }
+    ensures sound { IfOk result IsSoundDeed }
     ensures value { result ≡ put_with name count (map (λ w. w.now) words.now) }
 {
     let to = address_at(words, 4)?;
@@ -187,7 +187,7 @@ fn put_with(words: &[&[u8]], name: Name, count: u32) -> Result<Act, LineCause>
 }
 
 fn put_act(words: &[&[u8]]) -> Result<Act, LineCause>
-    ensures sound { IfOk result IsSoundAct }
+    ensures sound { IfOk result IsSoundDeed }
     ensures value { result ≡ put_act (map (λ w. w.now) words.now) }
 {
     let name = port_at(words, 2)?;
@@ -196,7 +196,7 @@ fn put_act(words: &[&[u8]]) -> Result<Act, LineCause>
 }
 
 fn fwd_act(words: &[&[u8]]) -> Result<Act, LineCause>
-    ensures sound { IfOk result IsSoundAct }
+    ensures sound { IfOk result IsSoundDeed }
     ensures value { result ≡ fwd_act (map (λ w. w.now) words.now) }
 {
     let from = port_at(words, 2)?;
@@ -206,7 +206,7 @@ fn fwd_act(words: &[&[u8]]) -> Result<Act, LineCause>
 }
 
 fn poke_act(words: &[&[u8]]) -> Result<Act, LineCause>
-    ensures sound { IfOk result IsSoundAct }
+    ensures sound { IfOk result IsSoundDeed }
     ensures value { result ≡ poke_act (map (λ w. w.now) words.now) }
 {
     let name = port_at(words, 2)?;
@@ -224,7 +224,7 @@ fn poke_act(words: &[&[u8]]) -> Result<Act, LineCause>
 }
 
 fn move_act(words: &[&[u8]]) -> Result<Act, LineCause>
-    ensures sound { IfOk result IsSoundAct }
+    ensures sound { IfOk result IsSoundDeed }
     ensures value { result ≡ move_act (map (λ w. w.now) words.now) }
 {
     let name = port_at(words, 2)?;
@@ -240,7 +240,7 @@ fn move_act(words: &[&[u8]]) -> Result<Act, LineCause>
 }
 
 fn swap_act(words: &[&[u8]]) -> Result<Act, LineCause>
-    ensures sound { IfOk result IsSoundAct }
+    ensures sound { IfOk result IsSoundDeed }
     ensures value { result ≡ swap_act (map (λ w. w.now) words.now) }
 {
     let name = port_at(words, 2)?;
@@ -259,7 +259,7 @@ fn swap_act(words: &[&[u8]]) -> Result<Act, LineCause>
 }
 
 fn extra_act(words: &[&[u8]]) -> Result<Act, LineCause>
-    ensures sound { IfOk result IsSoundAct }
+    ensures sound { IfOk result IsSoundDeed }
     ensures value { result ≡ extra_act (map (λ w. w.now) words.now) }
 {
     let name = port_at(words, 2)?;
@@ -269,7 +269,7 @@ fn extra_act(words: &[&[u8]]) -> Result<Act, LineCause>
 }
 
 fn watch_act(words: &[&[u8]]) -> Result<Act, LineCause>
-    ensures sound { IfOk result IsSoundAct }
+    ensures sound { IfOk result IsSoundDeed }
     ensures value { result ≡ watch_act (map (λ w. w.now) words.now) }
 {
     let monitor = port_at(words, 2)?;
@@ -283,7 +283,7 @@ fn watch_act(words: &[&[u8]]) -> Result<Act, LineCause>
 
 /// An act on one port, of which the line says no more than `keep`.
 fn named_act(verb: Verb, words: &[&[u8]]) -> Result<Act, LineCause>
-    ensures sound { IfOk result IsSoundAct }
+    ensures sound { IfOk result IsSoundDeed }
     ensures value { result ≡ named_act verb (map (λ w. w.now) words.now) }
 {
     let name = port_at(words, 2)?;
@@ -301,7 +301,7 @@ fn named_act(verb: Verb, words: &[&[u8]]) -> Result<Act, LineCause>
 
 /// An act whose words take no memory.
 fn plain_act(verb: Verb, words: &[&[u8]]) -> Result<Act, LineCause>
-    ensures sound { IfOk result IsSoundAct }
+    ensures sound { IfOk result IsSoundDeed }
     ensures value { result ≡ plain_act verb (map (λ w. w.now) words.now) }
 {
     match verb {
@@ -318,7 +318,7 @@ fn plain_act(verb: Verb, words: &[&[u8]]) -> Result<Act, LineCause>
 }
 
 fn hex_act(alloc: Global, words: &[&[u8]]) -> Result<Act, LineFault>
-    ensures sound { IfOk result IsSoundAct }
+    ensures sound { IfOk result IsSoundDeed }
     ensures value { Tells (hex_act (map (λ w. w.now) words.now)) result }
 {
     let name = port_at(words, 2)?;
@@ -334,7 +334,7 @@ fn hex_act(alloc: Global, words: &[&[u8]]) -> Result<Act, LineFault>
 }
 
 fn play_act(alloc: Global, words: &[&[u8]]) -> Result<Act, LineFault>
-    ensures sound { IfOk result IsSoundAct }
+    ensures sound { IfOk result IsSoundDeed }
     ensures value { Tells (play_act (map (λ w. w.now) words.now)) result }
 {
     let name = port_at(words, 2)?;
@@ -345,7 +345,7 @@ fn play_act(alloc: Global, words: &[&[u8]]) -> Result<Act, LineFault>
 }
 
 fn save_act(alloc: Global, words: &[&[u8]]) -> Result<Act, LineFault>
-    ensures sound { IfOk result IsSoundAct }
+    ensures sound { IfOk result IsSoundDeed }
     ensures value { Tells (save_act (map (λ w. w.now) words.now)) result }
 {
     let name = port_at(words, 2)?;
@@ -356,7 +356,7 @@ fn save_act(alloc: Global, words: &[&[u8]]) -> Result<Act, LineFault>
 
 /// What a line of this form has its user do.
 fn act_of(alloc: Global, verb: Verb, words: &[&[u8]]) -> Result<Act, LineFault>
-    ensures sound { IfOk result IsSoundAct }
+    ensures sound { IfOk result IsSoundDeed }
     ensures value { Tells (act_of verb (map (λ w. w.now) words.now)) result }
 {
     match verb {
