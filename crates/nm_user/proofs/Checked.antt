@@ -31,7 +31,7 @@ pub record Found (ports : List UserPort) (side : Side) (port : PortId) (r : Ring
   pub on : slots_on side p ≡ Some r
   pub id : p.id ≡ port
 
-id_of_found : (ports : List UserPort) (id : ℕ) (p : UserPort) → port_at ports id ≡ Some p → p.id.0 ≡ id
+pub id_of_found : (ports : List UserPort) (id : ℕ) (p : UserPort) → port_at ports id ≡ Some p → p.id.0 ≡ id
 id_of_found [] id p e = absurd cc
 id_of_found (q ∷ ports) id p e = elim (cases_Bool (nat_eq q.id.0 id)) [
   | inl here ↦ (let is : q ≡ p = (let found : Some q ≡ Some p = rw here at e in cc) in rw (← is) (nat_eq-is q.id.0 id here))

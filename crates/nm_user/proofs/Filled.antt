@@ -34,11 +34,11 @@ or_second : (a b : Bool) → b ≡ true → (a || b) ≡ true
 or_second true b e = refl
 or_second false b e = e
 
-all_append : {X : Type 0} (P : X → Type 0) (xs ys : List X) → AllByRecursion P xs → AllByRecursion P ys → AllByRecursion P (xs ++ ys)
+pub all_append : {X : Type 0} (P : X → Type 0) (xs ys : List X) → AllByRecursion P xs → AllByRecursion P ys → AllByRecursion P (xs ++ ys)
 all_append P [] ys left right = right
 all_append P (x ∷ xs) ys left right = (left.0, all_append P xs ys left.1 right)
 
-all_range : {X : Type 0} (P : X → Type 0) (f : ℕ → X) (a n : ℕ) → ((k : ℕ) → k < a + n → P (f k)) → AllByRecursion P (map f (range_with_len a n))
+pub all_range : {X : Type 0} (P : X → Type 0) (f : ℕ → X) (a n : ℕ) → ((k : ℕ) → k < a + n → P (f k)) → AllByRecursion P (map f (range_with_len a n))
 all_range P f a zero each = tt
 all_range P f a (suc n) each = (each a (omega arith), all_range P f (a + 1) n (λ k below. each k (omega arith)))
 
@@ -47,7 +47,7 @@ abbrev HoldIn : List UserPort → Place → Type 0
 HoldIn ports q = is_filled ports q ≡ true
 
 -- each user slot is a slot that holds a buffer
-all_slots : (P : Place → Type 0) (f : ℕ → Place) (size first a n : ℕ) → ((k : ℕ) → k < a + n → P (f (step_on size first k)))
+pub all_slots : (P : Place → Type 0) (f : ℕ → Place) (size first a n : ℕ) → ((k : ℕ) → k < a + n → P (f (step_on size first k)))
     → AllByRecursion P (map f (map (step_on size first) (range_with_len a n)))
 all_slots P f size first a zero each = tt
 all_slots P f size first a (suc n) each = (each a (omega arith), all_slots P f size first (a + 1) n (λ k below. each k (omega arith)))

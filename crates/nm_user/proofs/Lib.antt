@@ -15,3 +15,5 @@ pub mod Filling
 pub mod Opening
 pub mod Opened
 pub mod Readied
+pub mod Taking
+pub mod Closing

@@ -51,7 +51,7 @@ no_port h (p ∷ ports) id e = elim (cases_Bool (nat_eq p.id.0 id)) [
     some_none : (x : OwnPort) → Some x ≡ None → ⊥
     some_none x e = cc
 
-unfilled_in : (p : UserPort) (id : ℕ) (q : Place) → port_of q ≡ id → IsOther id p → is_filled_in q p ≡ false
+pub unfilled_in : (p : UserPort) (id : ℕ) (q : Place) → port_of q ≡ id → IsOther id p → is_filled_in q p ≡ false
 unfilled_in p id (place.Tx port at) e other = rw (e, turned p.id.0 id other) refl
 unfilled_in p id (place.Rx port at) e other = rw (e, turned p.id.0 id other) refl
 unfilled_in p id (place.Extra port at) e other = rw (e, turned p.id.0 id other) refl

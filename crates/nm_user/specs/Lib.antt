@@ -7,3 +7,4 @@ pub mod Resets
 pub mod Acts
 pub mod Filling
 pub mod Opening
+pub mod Closing

@@ -3,6 +3,7 @@
 
 mod acts;
 mod checks;
+mod close;
 mod edit;
 mod fill;
 mod gather;

@@ -13,11 +13,16 @@ ghost use Rattle.nm_types.specs.OwnEdits.{user_slot_at, with_user_slot, with_hea
 ghost use Rattle.nm_types.specs.OwnEdits.{with_written};
 ghost use Rattle.nm_user.specs.Sides.{TellsRefusal};
 ghost use Rattle.nm_types.specs.OwnSyncs.{own_after_open, own_after_reset};
+ghost use Rattle.nm_types.specs.OwnSyncs.{own_after_finish, chain_in};
+ghost use Rattle.nm_user.specs.Closing.{buffers_with_id};
+ghost use Rattle.std.specs.Vec.{vec_capacity};
+ghost use Rattle.std.specs.Prelude.{[], ◌+◌, ◌↔◌, IfSome, true};
 ghost use Rattle.nm_user.specs.Edits.{own_edited};
 ghost use Rattle.nm_user.specs.RingSlots.{slot_before_tail};
 ghost use Rattle.nm_user.specs.Acts.{head_slot_in};
 
 use crate::checks::check_ring;
+use crate::close::empty_port;
 use crate::edit::{RingEdit, edit_rings};
 use crate::fill::{Row, fill};
 use crate::gather::gather;
@@ -28,7 +33,7 @@ use crate::slot_ring::SlotRing;
 use nm_hold::Hold;
 use nm_region::Buf;
 use nm_ring::Ring;
-use nm_types::{Batch, Name, NoMemory, PortId, Side, Slot, SyncFault};
+use nm_types::{Batch, Chain, Name, NoMemory, PortId, Side, Slot, SyncFault};
 use std::alloc::Global;
 use std::marker::Model;
 
@@ -144,6 +149,58 @@ impl OwnSide {
         fill(&mut self.hold, id, Row::Extras, extras, extra);
         self.ports.push_reserved(port);
         Ok(())
+    }
+
+    /// Whether the session has no port.
+    pub fn is_empty(&self) -> bool
+        ensures { (result ≡ true) ↔ (self.now.ports ≡ []) }
+    {
+        self.ports.is_empty()
+    }
+
+    /// The number of buffers in the places of a port, 0 if there is no such port.
+    pub fn buffer_count(&self, port: PortId) -> u32
+        ensures { result ≡ length (buffers_with_id self.now port.0) }
+    {
+        match port_at(&self.ports, port) {
+            Some(port) => port.place_count(),
+            None => 0,
+        }
+    }
+
+    /// Removes a port, and counts the chain of its extra buffers. The buffers in its places go to
+    /// `back`, which has room for them, in their order: transmit slots, the user's receive slots,
+    /// extra positions.
+    pub fn close_port(&mut self, port: PortId, back: &mut Vec<Buf>) -> Chain
+        requires there { IsSome (port_with_id self.old port.0) }
+        requires room { length back.old.items + length (buffers_with_id self.old port.0)
+            ≤ vec_capacity back.old }
+        ensures own { self.new
+            ≡ own_after_finish port.0 (buffers_with_id self.old port.0) self.old }
+        ensures back { indices_of back.new.items
+            ≡ indices_of back.old.items ++ buffers_with_id self.old port.0 }
+        ensures chain { IfSome (port_with_id self.old port.0)
+            (λ p. result ≡ chain_in self.old p) }
+    {
+        let chain = match port_at(&self.ports, port) {
+            Some(own) => empty_port(&mut self.hold, own, back),
+            None => unreachable!(),
+        };
+        self.hold.drop_port(port);
+        self.ports.retain(|own| own.id.0 != port.0);
+        chain
+    }
+
+    /// Ends an own side without ports.
+    pub fn close(self)
+        requires { self.ports ≡ [] }
+    {
+        let OwnSide {
+            hold,
+            ports: _,
+            marks: _,
+        } = self;
+        hold.close();
     }
 
     /// The first check that refuses a sync of a port's ring.
