@@ -20,13 +20,13 @@ done-requires-clause-lot c =
 pub sync-got-requires-clause-returned : goal.sync-got-requires-clause-returned
 sync-got-requires-clause-returned c =
     let is = round-granted c.args.line.now c.grant.new.self c.in-Some.lease c.args.id 0 c.in-Some.ensures.lease c.in-Some.ensures.count c.in-Some.ensures.lot in
-    let all = round-complete c.args.region.now c.args.line.now c.grant.new.self c.done.new.self c.args.back.items c.in-Some.lease c.fill_all.new.lease c.args.id c.requires.rest is c.fill_all.ensures.id c.fill_all.ensures.names c.done.ensures in
+    let all = round-complete c.args.region.now c.args.line.now c.grant.new.self c.done.new.self c.args.back.items c.in-Some.lease c.fill_all.new.lease c.args.id c.requires.rest is c.fill_all.ensures.id c.fill_all.ensures.names c.done.ensures.line in
     all.is_done.returned
 
 pub sync-got-requires-clause-room : goal.sync-got-requires-clause-room
 sync-got-requires-clause-room c =
     let is = round-granted c.args.line.now c.grant.new.self c.in-Some.lease c.args.id 0 c.in-Some.ensures.lease c.in-Some.ensures.count c.in-Some.ensures.lot in
-    let all = round-complete c.args.region.now c.args.line.now c.grant.new.self c.done.new.self c.args.back.items c.in-Some.lease c.fill_all.new.lease c.args.id c.requires.rest is c.fill_all.ensures.id c.fill_all.ensures.names c.done.ensures in
+    let all = round-complete c.args.region.now c.args.line.now c.grant.new.self c.done.new.self c.args.back.items c.in-Some.lease c.fill_all.new.lease c.args.id c.requires.rest is c.fill_all.ensures.id c.fill_all.ensures.names c.done.ensures.line in
     let few = all.few in
     let room = c.requires.gots_room in
     omega (arith, few, room)
@@ -34,7 +34,7 @@ sync-got-requires-clause-room c =
 pub take_buffers-requires-clause-room : goal.take_buffers-requires-clause-room
 take_buffers-requires-clause-room c =
     let is = round-granted c.args.line.now c.grant.new.self c.in-Some.lease c.args.id 0 c.in-Some.ensures.lease c.in-Some.ensures.count c.in-Some.ensures.lot in
-    let all = round-complete c.args.region.now c.args.line.now c.grant.new.self c.done.new.self c.args.back.items c.in-Some.lease c.fill_all.new.lease c.args.id c.requires.rest is c.fill_all.ensures.id c.fill_all.ensures.names c.done.ensures in
+    let all = round-complete c.args.region.now c.args.line.now c.grant.new.self c.done.new.self c.args.back.items c.in-Some.lease c.fill_all.new.lease c.args.id c.requires.rest is c.fill_all.ensures.id c.fill_all.ensures.names c.done.ensures.line in
     let few = all.few in
     let room = c.requires.bufs_room in
     let got = ap length c.sync-got.ensures.got in
@@ -43,13 +43,13 @@ take_buffers-requires-clause-room c =
 pub returns-clause-rest : goal.returns-clause-rest
 returns-clause-rest c =
     let is = round-granted c.args.line.now c.grant.new.self c.in-Some.lease c.args.id 0 c.in-Some.ensures.lease c.in-Some.ensures.count c.in-Some.ensures.lot in
-    let all = round-complete c.args.region.now c.args.line.now c.grant.new.self c.done.new.self c.args.back.items c.in-Some.lease c.fill_all.new.lease c.args.id c.requires.rest is c.fill_all.ensures.id c.fill_all.ensures.names c.done.ensures in
+    let all = round-complete c.args.region.now c.args.line.now c.grant.new.self c.done.new.self c.args.back.items c.in-Some.lease c.fill_all.new.lease c.args.id c.requires.rest is c.fill_all.ensures.id c.fill_all.ensures.names c.done.ensures.line in
     round-rest c.args.region.now c.done.new.self c.sync-got.new.self c.args.back.items c.take_buffers.result.items c.fill_all.new.lease c.sync-got.result.items all c.sync-got.ensures.line c.sync-got.ensures.got c.take_buffers.ensures
 
 pub returns-clause-few : goal.returns-clause-few
 returns-clause-few c =
     let is = round-granted c.args.line.now c.grant.new.self c.in-Some.lease c.args.id 0 c.in-Some.ensures.lease c.in-Some.ensures.count c.in-Some.ensures.lot in
-    let all = round-complete c.args.region.now c.args.line.now c.grant.new.self c.done.new.self c.args.back.items c.in-Some.lease c.fill_all.new.lease c.args.id c.requires.rest is c.fill_all.ensures.id c.fill_all.ensures.names c.done.ensures in
+    let all = round-complete c.args.region.now c.args.line.now c.grant.new.self c.done.new.self c.args.back.items c.in-Some.lease c.fill_all.new.lease c.args.id c.requires.rest is c.fill_all.ensures.id c.fill_all.ensures.names c.done.ensures.line in
     let few = all.few in
     let got = ap length c.sync-got.ensures.got in
     let count = c.len.ensures in
