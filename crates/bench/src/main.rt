@@ -1,4 +1,5 @@
-//! Measures parts of vale: `bench capture`, `bench pool`, `bench turn`, `bench line`, `bench batch`.
+//! Measures parts of vale: `bench capture`, `bench pool`, `bench turn`, `bench line`, `bench batch`,
+//! `bench text`.
 //! Without a word each part runs small and prints counts alone.
 #![tactic(auto)]
 
@@ -7,6 +8,7 @@ mod capture;
 mod line;
 mod look;
 mod pool;
+mod text;
 mod turn;
 
 use anyhow::Result;
@@ -22,6 +24,7 @@ fn main(rt: HostRuntime) -> Result<()> {
             "turn" => turn::run(&rt, rt.alloc(), true)?,
             "line" => line::run(&rt, rt.alloc(), true)?,
             "batch" => batch::run(&rt, rt.alloc(), true)?,
+            "text" => text::run(&rt, rt.alloc(), true)?,
             other => println!(&rt; "{other}: no such measurement")?,
         }
     }
@@ -31,6 +34,7 @@ fn main(rt: HostRuntime) -> Result<()> {
         turn::run(&rt, rt.alloc(), false)?;
         line::run(&rt, rt.alloc(), false)?;
         batch::run(&rt, rt.alloc(), false)?;
+        text::run(&rt, rt.alloc(), false)?;
     }
     Ok(())
 }
