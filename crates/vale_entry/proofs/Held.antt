@@ -1,7 +1,7 @@
 -- After every legal history each buffer of the pool is held once, and the buffers held agree with
 -- the world: a port's idle ones with its space, its lots with their frames, a session's with its
 -- dues.
-use Rattle.std.proofs.Common.{ℕ, ◌+◌, ◌-◌, ◌≡◌, Bool, true, false, ◌==◌, List, [], ◌++◌, map, length, sum_by, flat_map, filter, not, Some, refl, sym, ◌∙◌, ap, subst, arith, slice_get, slice_set, length-append, sum}
+use Rattle.std.proofs.Common.{ℕ, ◌+◌, ◌≡◌, Bool, true, false, ◌==◌, List, [], ◌++◌, map, length, sum_by, flat_map, filter, not, Some, refl, sym, ◌∙◌, ap, subst, arith, slice_get, slice_set, length-append, sum}
 use Rattle.std.specs.List.{AllByRecursion as Each, list_all, remove}
 use Rattle.std.proofs.lemmas.List.Sums.{sum-map, count_by-le-length}
 use Rattle.std.proofs.lemmas.List.Concat.{length-flat_map}

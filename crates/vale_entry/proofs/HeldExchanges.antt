@@ -1,5 +1,5 @@
 -- Who holds what after a Sync, a Get and a Put.
-use Rattle.std.proofs.Common.{ℕ, zero, suc, ◌+◌, ◌-◌, ◌≤◌, ◌≡◌, true, false, cond, ◌==◌, List, [], ◌∷◌, ◌++◌, map, length, take, drop, sum_by, flat_map, Some, refl, sym, ◌∙◌, ap, subst, arith, slice_get, slice_set, length-append, length-drop, append-nil, ap₂, sum}
+use Rattle.std.proofs.Common.{ℕ, zero, suc, ◌+◌, ◌≤◌, ◌≡◌, true, false, cond, ◌==◌, List, [], ◌∷◌, ◌++◌, map, length, take, drop, sum_by, flat_map, Some, refl, sym, ◌∙◌, ap, subst, arith, slice_get, slice_set, length-append, length-drop, append-nil, ap₂, sum}
 use Rattle.std.specs.List.{AllByRecursion as Each, list_all, prefix_len}
 use Rattle.std.proofs.lemmas.List.{length-take-le, drop-map, take-map, take-append-drop, length-map}
 use Rattle.std.proofs.lemmas.List.Sums.{sum_by-take-drop, sum-map}

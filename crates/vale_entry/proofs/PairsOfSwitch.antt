@@ -14,7 +14,7 @@ use Rattle.vale_entry.specs.Grant.{port_after_grant, granted_frames}
 use Rattle.vale_entry.specs.Delivery.{port_after_done, port_after_sync}
 use Rattle.vale_entry.specs.Closing.{shut}
 use Rattle.vale_entry.specs.Pipe.{frames_of_items, port_after_put}
-use Rattle.vale_entry.specs.Legal.{Standing, Outcome, after, world_of, fresh_standing, can_send, send_step}
+use Rattle.vale_entry.specs.Legal.{Standing, Outcome, after, fresh_standing, can_send, send_step}
 use Rattle.vale_entry.specs.Laws.{IsPortOfPair, IsPairOf, PairsAreOfSwitch}
 use Rattle.vale_entry.proofs.Each.{each-weaker, each-append, each-map}
 use Rattle.vale_entry.proofs.Removals.{each-filter}
@@ -26,38 +26,37 @@ use Rattle.vale_entry.proofs.Watched.{only-place}
 use Rattle.vale_entry.proofs.Within.{ports-within}
 use Rattle.vale_entry.proofs.Follows.{EachKind, after-by}
 
--- a pair of a port that was opened
-record IsPair (count : ℕ) (ports : List Port) (pair : Pair) : Type 0 where
-  within : pair.port ≤ count
-  of_switch : IsPairOf ports pair
+-- the ports that a pair's port is among are of the pair's switch
+abbrev AreOfPair : List Port → Pair → Type 0
+AreOfPair ports pair = Each (IsPortOfPair pair) ports
 
 abbrev ArePairs : ℕ → List Port → List Pair → Type 0
-ArePairs count ports pairs = Each (IsPair count ports) pairs
+ArePairs count ports pairs = Each (IsPairOf count ports) pairs
 
 pairs-later :
     (count : ℕ) (ports : List Port) (pairs : List Pair) → ArePairs count ports pairs
     → ArePairs (count + 1) ports pairs
 pairs-later count ports pairs all =
-    each-weaker (IsPair count ports) (IsPair (count + 1) ports)
+    each-weaker (IsPairOf count ports) (IsPairOf (count + 1) ports)
     (λ pair here.
-    let low = here.within in record { within = omega (arith, low); of_switch = here.of_switch })
+    let low = here.within in record { within = omega (arith, low); on_switch = here.on_switch })
     pairs all
 
 -- ports that keep their ids and names
 pairs-ports :
     (count : ℕ) (ports later : List Port) (pairs : List Pair)
-    → ((pair : Pair) → IsPairOf ports pair → IsPairOf later pair)
+    → ((pair : Pair) → AreOfPair ports pair → AreOfPair later pair)
     → ArePairs count ports pairs → ArePairs (count + 1) later pairs
 pairs-ports count ports later pairs keeps all =
-    each-weaker (IsPair count ports) (IsPair (count + 1) later)
+    each-weaker (IsPairOf count ports) (IsPairOf (count + 1) later)
     (λ pair here.
     let low = here.within in record
-    { within = omega (arith, low); of_switch = keeps pair here.of_switch }) pairs all
+    { within = omega (arith, low); on_switch = keeps pair here.on_switch }) pairs all
 
 mapped :
     (change : Port → Port) → ((p : Port) → (change p).id ≡ p.id)
     → ((p : Port) → (change p).name ≡ p.name) → (ports : List Port) (pair : Pair)
-    → IsPairOf ports pair → IsPairOf (map change ports) pair
+    → AreOfPair ports pair → AreOfPair (map change ports) pair
 mapped change ids names ports pair all =
     each-map (IsPortOfPair pair) (IsPortOfPair pair) change
     (λ p here same. rw (names p) (here (sym (ids p) ∙ same))) ports all
@@ -77,7 +76,7 @@ name_if false change p same = refl
 changed :
     (id : ℕ) (change : Port → Port) → ((p : Port) → (change p).id ≡ p.id)
     → ((p : Port) → (change p).name ≡ p.name) → (ports : List Port) (pair : Pair)
-    → IsPairOf ports pair → IsPairOf (changed_at id change ports) pair
+    → AreOfPair ports pair → AreOfPair (changed_at id change ports) pair
 changed id change ids names ports pair all =
     mapped (λ (p : Port). changed_if (p.id == id) change p)
     (λ p. id_if (p.id == id) change p (ids p)) (λ p. name_if (p.id == id) change p (names p)) ports
@@ -97,7 +96,7 @@ taught count ports sender pairs frame under on all = by_test (is_learnable frame
         (cond b
         (record { switch = switch_of sender.name; address = source_address frame; port = sender.id }
         ∷ pairs) pairs)
-    by_test true = (record { within = under; of_switch = on }, all)
+    by_test true = (record { within = under; on_switch = on }, all)
     by_test false = all
 
 batch :
@@ -148,13 +147,13 @@ paired_open : (s : Standing) (new : Port) → new.id ≡ s.world.entry_count + 1
     → ArePairs (s.world.entry_count + 1) (s.world.ports ++ new ∷ []) s.world.pairs
 paired_open s new id k =
     let w = s.world in
-    each-weaker (IsPair w.entry_count w.ports) (IsPair (w.entry_count + 1) (w.ports ++ new ∷ []))
+    each-weaker (IsPairOf w.entry_count w.ports) (IsPairOf (w.entry_count + 1) (w.ports ++ new ∷ []))
     (λ pair here.
     let low = here.within in
     record {
       within = omega (arith, low);
-      of_switch =
-          each-append (IsPortOfPair pair) w.ports (new ∷ []) here.of_switch
+      on_switch =
+          each-append (IsPortOfPair pair) w.ports (new ∷ []) here.on_switch
           ((λ same. absurd (omega (arith, low, id, same))), tt);
     }) w.pairs k
 
@@ -215,9 +214,5 @@ both_entry s e b = record {
 
 pub pairs-of_switch : PairsAreOfSwitch
 pairs-of_switch pool h =
-    let b =
-    standing-by Both both_entry (fresh_standing pool) h
-    (record { numbered = world-numbered pool []; paired = tt }) in
-    each-weaker (IsPair (world_of pool h).entry_count (world_of pool h).ports)
-    (IsPairOf (world_of pool h).ports) (λ pair here. here.of_switch) (world_of pool h).pairs
-    b.paired
+    (standing-by Both both_entry (fresh_standing pool) h
+    (record { numbered = world-numbered pool []; paired = tt })).paired

@@ -160,8 +160,13 @@ pub record AreWatches (ports : List Port) (watches : List Watcher) : Type 0 wher
 abbrev pub IsPortOfPair : Pair → Port → Type 0
 IsPortOfPair pair port = port.id ≡ pair.port → is_on_switch pair.switch port ≡ true
 
-abbrev pub IsPairOf : List Port → Pair → Type 0
-IsPairOf ports pair = AllByRecursion (IsPortOfPair pair) ports
+-- it was opened by one of so many entries, and while it is there it is of the pair's switch
+pub record IsPairOf (count : ℕ) (ports : List Port) (pair : Pair) : Type 0 where
+  pub within : pair.port ≤ count
+  pub on_switch : AllByRecursion (IsPortOfPair pair) ports
+
+abbrev pub ArePairsOf : World → Type 0
+ArePairsOf w = AllByRecursion (IsPairOf w.entry_count w.ports) w.pairs
 
 -- no two ports bear one name
 abbrev pub IsNamedApart : Port → Port → Type 0
@@ -312,8 +317,7 @@ CountersAreKept =
 
 abbrev pub PairsAreOfSwitch : Type 0
 PairsAreOfSwitch =
-    (pool : ℕ) (history : List Entry)
-    → AllByRecursion (IsPairOf (world_of pool history).ports) (world_of pool history).pairs
+    (pool : ℕ) (history : List Entry) → ArePairsOf (world_of pool history)
 
 abbrev pub WatchesAreOpen : Type 0
 WatchesAreOpen =

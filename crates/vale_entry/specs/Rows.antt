@@ -9,7 +9,6 @@ use Rattle.vale_entry.specs.declared.entry.Ask.TheVariants.{Enter, Open, Send, G
 use Rattle.vale_entry.specs.declared.entry.Entry.{Entry}
 use Rattle.vale_entry.specs.declared.entry.Reply.TheVariants.{Made, Opened, Refused, Offered, Shared, Gave, Unread, LeasesOut}
 use Rattle.vale_entry.specs.World.{World, Offer, free_count}
-use Rattle.vale_entry.specs.Closing.{shut}
 use Rattle.vale_entry.specs.Grant.{grant_reply, after_grant}
 use Rattle.vale_entry.specs.Legal.{IsLegal, standing_of, world_of, holdings_of, reply_to}
 use Rattle.vale_entry.specs.Delivered.{given_frames, read_frames, unread_counts}

@@ -39,7 +39,7 @@ use Rattle.vale_parts.specs.SwitchPorts.{is_open_on, open_ports_on}
 use Rattle.vale_parts.specs.Batches.{IsOfferOf, AreOffersOf, AreLookedAs, want_of_all, with_want, wants_monitored, dest_wanted, dests_wanted}
 use Rattle.vale_parts.specs.BatchLaws.{IsSender, BatchesAreNamed, LoneFramesAreCounted, SentWantsAreOffers, GivenWantsAreOffers, PutWantsAreOffers, DestsAreWanted, OpenPortsRise, SendableCanBeLookedUp, SendsAreReplied, ReadsAreReplied, PutsAreReplied, wants_at}
 use Rattle.vale_parts.proofs.OpenPorts.{some_is_any}
-use Rattle.vale_parts.proofs.PairsKept.{world-paired}
+use Rattle.vale_entry.proofs.PairsOfSwitch.{pairs-of_switch}
 use Rattle.vale_parts.proofs.Lookups.{batch_named, frames_named, lone_counted, NamesOpen, NamesOpenAt, named_open}
 use Rattle.vale_parts.proofs.WantedFrames.{wants_are, none-wanted, all-wanted}
 use Rattle.vale_parts.proofs.WantOffers.{IsPlain, IsOther, IsItself, plain, monitored}
@@ -220,7 +220,7 @@ sending pool h from frames port entries is =
     let up : is_open w.ports port.id ≡ true = ap (is_open w.ports) place.id_is ∙ ap (λ (found : Option Port). is_some found) is.here in
     record {
       looked = batch_named port w.ports w.pairs entries frames fits is.size up is.finds;
-      opens = named_open port w.entry_count from.0 w.ports rise is.here can.0 w.pairs frames (world-paired pool h);
+      opens = named_open port w.entry_count from.0 w.ports rise is.here can.0 w.pairs frames (pairs-of_switch pool h);
     }
 
 sender_id : (pool : ℕ) (h : List Entry) (from : PortId) (frames : List Frame) (port : Port) (entries : Entries) → IsSender (world_of pool h) from frames port entries → port.id ≡ from.0

@@ -23,12 +23,12 @@ use Rattle.vale_entry.specs.World.{Port, Pair, is_open, open_port}
 use Rattle.vale_entry.specs.Learning.{is_short, is_group, destination_address, learned, port_of_address}
 use Rattle.vale_entry.specs.Lookup.{Named, named_frames, destination_of, destination_found, names_some_port, is_lone, is_named, is_other_port}
 use Rattle.vale_entry.specs.Offers.{frame_of}
-use Rattle.vale_entry.specs.Laws.{Rise, id_of_port as number_of}
+use Rattle.vale_entry.specs.Laws.{Rise, id_of_port as number_of, IsPairOf}
 use Rattle.vale_entry.proofs.Each.{each-all, each-weaker}
 use Rattle.vale_entry.proofs.Places.{open-place}
 use Rattle.vale_entry.proofs.Watched.{only-place}
 use Rattle.vale_parts.specs.Ids.{id_of, port_id, id_of_port}
-use Rattle.vale_parts.specs.SwitchPorts.{IsPairOf, is_open_on, open_ports_on}
+use Rattle.vale_parts.specs.SwitchPorts.{is_open_on, open_ports_on}
 use Rattle.vale_parts.specs.Tables.{FindsPairs}
 use Rattle.vale_parts.specs.Batches.{named_as, IsLookedAs, AreLookedAs}
 use Rattle.vale_parts.specs.BatchLaws.{SlotsAreOne, ShortFramesAreCounted}

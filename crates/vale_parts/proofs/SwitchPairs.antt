@@ -8,7 +8,8 @@ use Rattle.vale_entry.specs.Learning.{bucket_of, is_in_bucket, port_of_pair, por
 use Rattle.vale_entry.specs.Opening.{is_on_switch}
 use Rattle.vale_entry.proofs.ListLaws.{place-of}
 use Rattle.vale_entry.proofs.Each.{each-find}
-use Rattle.vale_parts.specs.SwitchPorts.{IsPairOf, IsOfSwitchAt, is_open_on}
+use Rattle.vale_parts.specs.SwitchPorts.{is_open_on}
+use Rattle.vale_entry.specs.Laws.{IsPairOf, IsPortOfPair}
 
 -- a pair that an address finds, and what holds of each
 pub record PairFound (ports : List Port) (switch : List ℕ) (P : Pair → Type 0) (id : ℕ) : Type 0 where
@@ -45,14 +46,14 @@ pub record PortFound (ports : List Port) (switch : List ℕ) (id : ℕ) : Type 0
   pub id_is : port.id ≡ id
   pub on : is_open_on switch port ≡ true
 
-open_found : (ports : List Port) (switch : List ℕ) (pair : Pair) (id : ℕ) → Each (IsOfSwitchAt pair) ports → pair.switch ≡ switch → pair.port ≡ id
+open_found : (ports : List Port) (switch : List ℕ) (pair : Pair) (id : ℕ) → Each (IsPortOfPair pair) ports → pair.switch ≡ switch → pair.port ≡ id
     → (found : Option Port) → open_port ports id ≡ found → is_some found ≡ true → PortFound ports switch id
 open_found ports switch pair id all same at None e some = absurd cc
 open_found ports switch pair id all same at (Some port) e some =
     let place = place-of (is_open_at id) ports port e in
     let tests = and_parts (port.id == id) (not port.shutting) place.passes in
     let id_is : port.id ≡ id = eqb-true port.id id tests.0 in
-    let on : is_on_switch pair.switch port ≡ true = each-find (IsOfSwitchAt pair) (is_open_at id) ports port all e (id_is ∙ sym at) in
+    let on : is_on_switch pair.switch port ≡ true = each-find (IsPortOfPair pair) (is_open_at id) ports port all e (id_is ∙ sym at) in
     record {
       port = port;
       here = e;

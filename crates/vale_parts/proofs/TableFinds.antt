@@ -20,10 +20,11 @@ use Rattle.vale_entry.specs.Opening.{is_on_switch}
 use Rattle.vale_entry.specs.Closing.{shut}
 use Rattle.vale_entry.proofs.Each.{each-find, each-none}
 use Rattle.vale_parts.specs.Ids.{id_of, port_id}
-use Rattle.vale_parts.specs.SwitchPorts.{IsPairOf, is_open_on}
+use Rattle.vale_parts.specs.SwitchPorts.{is_open_on}
 use Rattle.vale_parts.specs.Tables.{FindsPairs, FindsNothing}
 use Rattle.vale_parts.proofs.OpenPorts.{open-shut}
 use Rattle.vale_parts.proofs.SwitchPairs.{found-port}
+use Rattle.vale_entry.specs.Laws.{IsPairOf}
 
 abbrev pub IsTable : Entries → Type 0
 IsTable entries = length entries ≡ 1024

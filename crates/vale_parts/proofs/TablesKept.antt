@@ -32,13 +32,13 @@ use Rattle.vale_entry.proofs.Worlds.{standing-push}
 use Rattle.vale_entry.proofs.Numbered.{Numbered, world-numbered}
 use Rattle.vale_entry.proofs.Follows.{EachKind, Left, IsQuiet, refused_open, resets, finds_no_peer, finds_no_target, finds_watched, counts, Receives, by_sync, by_get, follows-by}
 use Rattle.vale_parts.specs.Ids.{id_of, port_id}
-use Rattle.vale_parts.specs.SwitchPorts.{IsPairOf, ArePairsOf}
 use Rattle.vale_parts.specs.Tables.{FindsPairs, Finds, table_after}
 use Rattle.vale_parts.specs.TableLaws.{TablesFollow, EmptyTablesServe, LastPortsEmptyTables, FoundPortsAreOpen, FreshTablesFindNothing, FreshTablesAreTables, TablesKeepTheirSize, FramesAreLearned, LearningIsTakenBack}
 use Rattle.vale_parts.proofs.OpenPorts.{open-map, open-changed, open-pushed, open-without}
 use Rattle.vale_parts.proofs.TableFinds.{IsTable, frame-size, frame-finds, batch-finds, other-finds, ports-find, forgotten-finds, elsewhere-finds, vacant-finds, vacant-nothing}
 use Rattle.vale_parts.proofs.SwitchPairs.{found-port}
-use Rattle.vale_parts.proofs.PairsKept.{world-paired}
+use Rattle.vale_entry.proofs.PairsOfSwitch.{pairs-of_switch}
+use Rattle.vale_entry.specs.Laws.{IsPairOf, ArePairsOf}
 
 quiet_table : (s : Standing) (switch : List ℕ) (entries : Entries) (ask : Ask) (session : ℕ) (reply : Reply) → IsQuiet s ask session reply → table_after s.world switch ask entries ≡ entries
 quiet_table s switch entries _ _ _ (refused_open session name tx rx extra fault can e) = refl
@@ -148,15 +148,15 @@ pub tables_follow : TablesFollow
 tables_follow pool h e switch entries follows size finds =
     let s = standing_of pool h in
     subst (λ (t : Standing). Finds t.world switch (table_after s.world switch e.ask entries)) (sym (standing-push pool h e))
-    (kept s (world-numbered pool h) (world-paired pool h) switch entries size finds e follows)
+    (kept s (world-numbered pool h) (pairs-of_switch pool h) switch entries size finds e follows)
 
 pub empty_serve : EmptyTablesServe
 empty_serve pool h switch entries none nothing =
-    let w = world_of pool h in vacant-finds w.entry_count w.ports w.pairs switch entries (world-paired pool h) none nothing
+    let w = world_of pool h in vacant-finds w.entry_count w.ports w.pairs switch entries (pairs-of_switch pool h) none nothing
 
 pub last_empty : LastPortsEmptyTables
 last_empty pool h switch entries none finds =
-    let w = world_of pool h in vacant-nothing w.entry_count w.ports w.pairs switch entries (world-paired pool h) none finds
+    let w = world_of pool h in vacant-nothing w.entry_count w.ports w.pairs switch entries (pairs-of_switch pool h) none finds
 
 -- ---- what tables have
 
@@ -166,7 +166,7 @@ found_id found id other is same = sym same ∙ ap id_of is
 pub found_open : FoundPortsAreOpen
 found_open pool h switch entries a id finds is =
     let w = world_of pool h in
-    let found = found-port w.entry_count w.ports w.pairs switch a id.0 (world-paired pool h) (found_id (table_port entries a) id (port_of_address w.ports w.pairs switch a) is (finds a)) in
+    let found = found-port w.entry_count w.ports w.pairs switch a id.0 (pairs-of_switch pool h) (found_id (table_port entries a) id (port_of_address w.ports w.pairs switch a) is (finds a)) in
     record { port = found.port; here = found.here; on = found.on }
 
 pub fresh_nothing : FreshTablesFindNothing

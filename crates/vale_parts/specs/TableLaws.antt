@@ -15,12 +15,8 @@ use Rattle.vale_entry.specs.Learning.{learned}
 use Rattle.vale_parts.specs.Ids.{port_id}
 use Rattle.vale_entry.specs.declared.entry.Entry.{Entry}
 use Rattle.vale_entry.specs.Legal.{standing_of, world_of, Follows}
-use Rattle.vale_parts.specs.SwitchPorts.{ArePairsOf, is_open_on}
+use Rattle.vale_parts.specs.SwitchPorts.{is_open_on}
 use Rattle.vale_parts.specs.Tables.{FindsPairs, Finds, FindsNothing, table_after}
-
--- each pair is of a port of the pair's switch, as long as that port is there
-abbrev pub PairsAreOfSwitch : Type 0
-PairsAreOfSwitch = (pool : ℕ) (history : List Entry) → ArePairsOf (world_of pool history)
 
 -- what an entry makes of a switch's table finds what is learned once the entry is made
 abbrev pub TablesFollow : Type 0

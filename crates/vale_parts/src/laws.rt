@@ -22,17 +22,12 @@ ghost use Rattle.vale_parts.specs.PartLaws.{PartsFollow, EmptyPartsAreFirst, Tab
 ghost use Rattle.vale_parts.specs.PartLaws.{SendsTeachOne, ShutsEmptyOne, OtherShutsEmptyNone};
 ghost use Rattle.vale_parts.specs.SwitchTableLaws.{AllTablesFollow, TablesAreGivenOver};
 ghost use Rattle.vale_parts.specs.SwitchTableLaws.{FreshTablesAreAdded};
-ghost use Rattle.vale_parts.specs.TableLaws.{PairsAreOfSwitch, TablesFollow, EmptyTablesServe};
+ghost use Rattle.vale_parts.specs.TableLaws.{TablesFollow, EmptyTablesServe};
 ghost use Rattle.vale_parts.specs.TableLaws.{LastPortsEmptyTables, FoundPortsAreOpen};
 ghost use Rattle.vale_parts.specs.TableLaws.{FreshTablesFindNothing, FreshTablesAreTables};
 ghost use Rattle.vale_parts.specs.TableLaws.{TablesKeepTheirSize, FramesAreLearned};
 ghost use Rattle.vale_parts.specs.TableLaws.{LearningIsTakenBack};
 ghost use Rattle.vale_parts.specs.WatchLaws.{WatchesFollow, WatchedAreWatched};
-
-/// A pair's port, as long as it is there, is of the pair's switch.
-pub fn pairs_are_of_their_switch()
-    ensures { PairsAreOfSwitch }
-{}
 
 /// A switch's table, taught by each Send of its ports and emptied of each port that is shut, finds
 /// each address where the pairs say, after every entry.

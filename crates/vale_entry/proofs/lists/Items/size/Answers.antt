@@ -1,4 +1,4 @@
-use Rattle.std.proofs.Common.{◌<◌, ◌≡◌, length, arith, ap, ℕ}
+use Rattle.std.proofs.Common.{◌<◌, length, arith, ap, ℕ}
 use Rattle.vale_entry.proofs.ItemBytes.{bytes_of_items, item_bytes-more}
 use Rattle.vale_entry.proofs.lists.Items.size.Goals as goal
 
