@@ -1,0 +1,4 @@
+pub mod Rooms
+pub mod Moves
+pub mod Opened
+pub mod Comings
