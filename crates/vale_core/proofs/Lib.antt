@@ -2,3 +2,4 @@ pub mod Rooms
 pub mod Moves
 pub mod Opened
 pub mod Comings
+pub mod Standing
