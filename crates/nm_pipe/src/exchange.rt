@@ -9,6 +9,7 @@ fn take_first<T>(pending: &mut Vec<T>, taken: &mut Vec<T>, count: usize)
     requires room { length taken.old.items + count ≤ vec_capacity taken.old }
     ensures taken { taken.new.items ≡ taken.old.items ++ take count pending.old.items }
     ensures pending { pending.new.items ≡ drop count pending.old.items }
+    ensures capacity { vec_capacity pending.new ≡ vec_capacity pending.old }
 {
     pending.reverse();
     for _ in 0..count {
@@ -30,6 +31,7 @@ pub fn give<T>(pending: &mut Vec<T>, taken: &mut Vec<T>, lent: &mut Vec<Buf>, ba
     ensures taken { taken.new.items
         ≡ taken.old.items ++ take (length lent.old.items) pending.old.items }
     ensures pending { pending.new.items ≡ drop (length lent.old.items) pending.old.items }
+    ensures capacity { vec_capacity pending.new ≡ vec_capacity pending.old }
     ensures back { back.new.items ≡ back.old.items ++ lent.old.items }
     ensures lent { lent.new.items ≡ [] }
 {

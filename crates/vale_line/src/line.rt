@@ -284,6 +284,13 @@ impl Line {
         })
     }
 
+    /// The number of slots of the ring.
+    pub fn size(&self) -> u32
+        ensures { result ≡ self.now.size }
+    {
+        self.size
+    }
+
     /// The number of buffers that a grant can lease: one always stays idle.
     pub fn space(&self) -> u32
         ensures space { result ≡ space_of self.now }
@@ -396,11 +403,13 @@ impl Line {
         requires single { All IsSingle frames.old.items }
         ensures line { self.new ≡ with_put id frames.old.items self.old }
         ensures none { frames.new.items ≡ [] }
+        ensures was { IsLine self.old }
     {
-        if frames.is_empty() {
+        let gots = replace(frames, Vec::new(self.alloc));
+        if gots.is_empty() {
+            gots.destroy_empty();
             return;
         }
-        let gots = replace(frames, Vec::new(self.alloc));
         self.leases.open(id, gots.len() as u32);
         self.leases.done(id);
         self.lots.push_back_reserved(Lot::put(id, gots));

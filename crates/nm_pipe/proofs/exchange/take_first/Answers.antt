@@ -20,5 +20,6 @@ loop-preserved g c =
           ∙ (ap (λ xs. xs ++ item ∷ []) c.loop.invariant.taken
           ∙ (append_assoc c.args.taken.now.items (take c.loop.counter all) (item ∷ []) ∙ ap (λ xs. c.args.taken.now.items ++ xs) (sym next.front)));
       pending = next.behind;
+      capacity = search rules;
       room = omega (arith, room, len, capacity, test);
     }
