@@ -1,8 +1,8 @@
 -- The calls of a port, over plain values.
-use Rattle.std.proofs.Common.{ℕ, zero, suc, ◌≡◌, ◌+◌, ◌-◌, ◌<◌, ◌≤◌, List, [], ◌∷◌, ◌++◌, length, take, drop, map, min, Option, Some, None, refl, sym, ◌∙◌, ap, subst, arith}
+use Rattle.std.proofs.Common.{ℕ, ◌≡◌, ◌+◌, ◌-◌, ◌≤◌, List, [], ◌∷◌, ◌++◌, length, take, drop, min, Option, Some, None, refl, sym, ◌∙◌, ap, subst, arith}
 use Rattle.std.specs.Prelude.{All, sum, IfSome, IfNone}
 use Rattle.std.proofs.lemmas.List.Elements.{All-take}
-use Rattle.std.proofs.lemmas.List.{length-append, length-map, length-take, length-take-le, length-drop}
+use Rattle.std.proofs.lemmas.List.{length-append, length-map, length-take-le}
 use Rattle.nm_types.specs.declared.id.LeaseId.{LeaseId}
 use Rattle.nm_types.specs.Frames.{Frame, slots_of, size_of_frames}
 use Rattle.nm_region.specs.Buffers.{Buffer, indices_of}
@@ -15,7 +15,7 @@ use Rattle.vale_line.proofs.LotLemmas.{slots-parts, length-ready}
 use Rattle.vale_entry.specs.World.{Offer, space_of}
 use Rattle.vale_entry.specs.Delivery.{delivered_frames}
 use Rattle.vale_port.specs.Kept.{bytes_of}
-use Rattle.vale_port.specs.Laws.{exchanged}
+use Rattle.vale_port.specs.Laws.{line_after_put}
 use Rattle.vale_port.specs.Ports.{PortState, IsSeatOf, IsLeaseFor, sizes_of}
 use Rattle.vale_port.specs.Seat.{Seat, given_frames, seat_given, seat_put}
 use Rattle.vale_port.proofs.LineTies.{given-lots, ties-line, indices-take}
@@ -125,14 +125,14 @@ taking p pending count back taken line least lent took =
     }
 
 pub line-taken : (p : PortState) (id : LeaseId) (pending : List Got) (count n : ℕ) (back : List Buffer) (taken : List Got) (line : LineState)
-    → Taking p pending count n back taken → line ≡ with_put id taken (record p.line { idle = drop count p.line.idle }) → line ≡ exchanged id (take n pending) p.line
+    → Taking p pending count n back taken → line ≡ with_put id taken (record p.line { idle = drop count p.line.idle }) → line ≡ line_after_put id (take n pending) p.line
 line-taken p id pending count n back taken line takes made =
     made
     ∙ (ap (λ (gots : List Got). with_put id gots (record p.line { idle = drop count p.line.idle })) takes.taken_is
     ∙ ap (λ (k : ℕ). with_put id (take n pending) (record p.line { idle = drop k p.line.idle })) (takes.count_is ∙ sym takes.as_many))
 
 pub seat-taken : (seat : Seat) (p : PortState) (id : LeaseId) (session : ℕ) (frames : List Frame) (pending : List Got) (count n : ℕ) (back : List Buffer) (taken : List Got) (line : LineState)
-    → IsSeatOf seat p → IsLine p.line → All IsSingle pending → Taking p pending count n back taken → line ≡ exchanged id (take n pending) p.line
+    → IsSeatOf seat p → IsLine p.line → All IsSingle pending → Taking p pending count n back taken → line ≡ line_after_put id (take n pending) p.line
     → bytes_of frames ≡ frames_in (take n pending)
     → IsSeatOf (seat_put id.0 session frames (indices_of (buffers_of (take n pending))) seat) (record p { line = line })
 seat-taken seat p id session frames pending count n back taken line is kept single takes made bytes =

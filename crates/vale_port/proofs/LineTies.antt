@@ -1,26 +1,24 @@
 -- A line and the world's port are seen as the same.
-use Rattle.std.proofs.Common.{ℕ, zero, suc, Bool, true, false, not, ◌≡◌, ◌+◌, ◌-◌, ◌<◌, ◌≤◌, ◌&&◌, ◌||◌, List, [], ◌∷◌, ◌++◌, length, take, drop, map, Option, Some, None, inl, inr, if◌then◌else◌, refl, sym, ◌∙◌, ap, subst, arith}
-use Rattle.std.specs.Prelude.{flat_map, is_some, option_map, find, All, sum, sum_by, nat_le, ◌==◌}
+use Rattle.std.proofs.Common.{ℕ, zero, suc, Bool, true, false, not, ◌≡◌, ◌+◌, List, [], ◌∷◌, ◌++◌, length, take, drop, map, Option, Some, None, inl, inr, if◌then◌else◌, refl, sym, ◌∙◌, ap, subst, arith}
+use Rattle.std.specs.Prelude.{flat_map, is_some, option_map, find, sum_by, ◌==◌}
 use Rattle.std.specs.Option.{option_map_or}
 use Rattle.std.specs.List.{prefix_len, take_while, list_any}
-use Rattle.std.proofs.lemmas.Bool.{cases_Bool, ne_eqb, eqb-true, or_parts, both_ways}
-use Rattle.std.proofs.lemmas.List.{map-append, length-append, length-map, length-drop}
+use Rattle.std.proofs.lemmas.Bool.{cases_Bool, eqb-true, or_parts, both_ways}
+use Rattle.std.proofs.lemmas.List.{map-append, length-append, length-map}
 use Rattle.std.proofs.lemmas.List.Sums.{sum_by-cons, sum_by-append}
-use Rattle.nm_types.specs.declared.id.LeaseId.{LeaseId}
 use Rattle.nm_types.specs.Frames.{Frame, slots_of, size_of_frames}
 use Rattle.nm_region.specs.Buffers.{Buffer, indices_of}
 use Rattle.vale_lease.specs.Leases.{AreLeases, is_out, out_count, is_there}
 use Rattle.vale_lease.specs.declared.leases.LeaseSlots.{LeaseSlots}
 use Rattle.vale_line.specs.declared.got.Got.{Got}
-use Rattle.vale_line.specs.Gots.{buffer_of, buffers_of, frames_in}
-use Rattle.vale_line.specs.Lines.{HeldLot, LineState, IsLot, is_done, is_out_at, gots_of, frames_of_lot as held_frames, lease_of, leases_of, done_lots, behind_done, ready_gots, ready_frames, held_gots, completed, opened_lot, put_lot, slots_out}
+use Rattle.vale_line.specs.Gots.{buffer_of, buffers_of}
+use Rattle.vale_line.specs.Lines.{HeldLot, LineState, is_done, is_out_at, gots_of, frames_of_lot as held_frames, lease_of, leases_of, done_lots, behind_done, ready_gots, ready_frames, held_gots, completed, slots_out}
 use Rattle.vale_line.specs.Lines.{slots_of as line_slots}
 use Rattle.vale_entry.specs.World.{Port, Lot, size_of_line, is_undone}
 use Rattle.vale_entry.specs.Holdings.{PortBuffers}
-use Rattle.vale_entry.specs.Closing.{leases_out}
 use Rattle.vale_entry.specs.Delivery.{is_done_lot, is_lease, lot_after_done, frames_of_lot}
-use Rattle.vale_port.specs.Kept.{KeptFrames, KeptLot, KeptLine, kept_gots, kept_lot, kept_line, bytes_of, world_frames, world_lot, world_lots, world_line, IsLineOf}
-use Rattle.vale_port.specs.Seat.{LotSeat, lease_among}
+use Rattle.vale_port.specs.Kept.{KeptFrames, KeptLot, KeptLine, kept_gots, kept_lot, bytes_of, world_frames, world_lot, world_lots, IsLineOf}
+use Rattle.vale_port.specs.Seat.{lease_among}
 use Rattle.vale_port.specs.Ports.{frames_of_seat}
 use Rattle.vale_port.specs.Laws.{size_of_lot, is_numbered}
 

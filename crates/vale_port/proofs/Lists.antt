@@ -1,23 +1,23 @@
 -- Ports in a list stand for those of a world, one by one, as the world's change.
-use Rattle.std.proofs.Common.{ℕ, zero, suc, Bool, true, false, not, ◌≡◌, ◌+◌, ◌<◌, ◌≤◌, ◌==◌, ◌||◌, List, [], ◌∷◌, ◌++◌, length, take, drop, map, filter, slice_get, slice_set, Option, Some, None, if◌then◌else◌, refl, sym, ◌∙◌, ap, subst, arith, inl, inr}
+use Rattle.std.proofs.Common.{ℕ, zero, suc, true, false, not, ◌≡◌, ◌<◌, ◌≤◌, ◌==◌, List, [], ◌∷◌, ◌++◌, length, map, filter, slice_get, slice_set, Some, None, if◌then◌else◌, refl, sym, ◌∙◌, ap, subst, arith, inl, inr}
 use Rattle.std.specs.Prelude.{count_by, sum_by}
 use Rattle.std.specs.List.{AllByRecursion as Each, list_any, remove}
-use Rattle.std.proofs.lemmas.Bool.{cases_Bool, ne_eqb, eq-eqb, or_parts}
+use Rattle.std.proofs.lemmas.Bool.{cases_Bool, ne_eqb}
 use Rattle.std.proofs.lemmas.List.Sums.{sum_by-cons}
-use Rattle.vale_entry.specs.World.{Port, Lot, changed_at, changed_if}
+use Rattle.vale_entry.specs.World.{Port, Lot, changed_at}
 use Rattle.vale_entry.specs.Closing.{shut, ports_without}
 use Rattle.vale_entry.specs.Delivery.{port_after_done, ports_after_done, lot_after_done}
-use Rattle.vale_entry.specs.Holdings.{PortBuffers, PortAgrees, PortsAgree, changed_buffers}
-use Rattle.vale_entry.specs.Laws.{Rise, id_of_port, id_of_held, AreSingle, HasLotsUpTo, IsGrantedBy, bears_number}
+use Rattle.vale_entry.specs.Holdings.{PortBuffers, PortsAgree, changed_buffers}
+use Rattle.vale_entry.specs.Laws.{Rise, id_of_port, id_of_held, IsGrantedBy, bears_number}
 use Rattle.vale_entry.proofs.ListLaws.{sum-at}
-use Rattle.vale_entry.proofs.Agreeing.{HeldAt, agree-ids, agree-at}
+use Rattle.vale_entry.proofs.Agreeing.{agree-ids, agree-at}
 use Rattle.vale_entry.proofs.Places.{changed_at-place, changed_buffers-place}
 use Rattle.vale_entry.proofs.Removals.{filter-at_key}
 use Rattle.vale_port.specs.Laws.{is_numbered}
-use Rattle.vale_port.specs.Lists.{IsFoundAt, IsNotFound, ArePortsOf, AreRising, StandsAt, EachPortStands, FoundIsFound, NotFoundIsNone, ChangeIsChange, ShutIsShutAmong, DoneIsDoneAmong, OpenIsOpenAmong, GoneIsGone, NewIsNew}
+use Rattle.vale_port.specs.Lists.{AreRising, EachPortStands, FoundIsFound, NotFoundIsNone, ChangeIsChange, ShutIsShutAmong, DoneIsDoneAmong, OpenIsOpenAmong, GoneIsGone, NewIsNew}
 use Rattle.vale_port.specs.Ports.{PortState, IsSeatOf, AreSeatsOf}
-use Rattle.vale_port.specs.Seat.{Seat, port_of, held_of, seats_of, seat_done}
-use Rattle.vale_port.proofs.SeatTies.{lots_are_lots}
+use Rattle.vale_port.specs.Seat.{Seat, port_of, held_of, seats_of}
+use Rattle.vale_port.proofs.SeatTies.{lots_are_lots, filled-numbered}
 
 -- Seats and ports, side by side.
 
@@ -272,12 +272,14 @@ done-place number (p ∷ ps) (suc place) port single e some =
     sum-least number ports place port e = sum-at (lots_of number) ports place port e
 
 pub done_is_done_among : DoneIsDoneAmong
-done_is_done_among ports helds old new place number port held are single e f there changes =
+done_is_done_among ports helds old new place lease port held are single e f filled changes =
+    let number = lease.id in
+    let there = filled-numbered (seat_with port held) lease filled in
     let all : ports_after_done number ports ≡ slice_set ports place (port_after_done number port) = done-place number ports place port (single number) e (some-numbered number port.line there) in
     let seats : seats_of (ports_after_done number ports) helds ≡ slice_set (seats_of ports helds) place (seat_with (port_after_done number port) held) =
     rw all (seats-set_port ports helds place (port_after_done number port) held f) in
     let made : AreSeatsOf (slice_set (seats_of ports helds) place (seat_with (port_after_done number port) held)) new =
-    changes (seats_of ports helds) (seat_with port held) are.stand (seats-at ports helds place port held e f) in
+    changes (seats_of ports helds) (seat_with port held) are.stand (seats-at ports helds place port held e f) filled in
     subst (λ (ss : List Seat). AreSeatsOf ss new) (sym seats) made
 
 -- The number of a later entry is that of no lot.

@@ -1,12 +1,12 @@
 -- A search among ports of owned buffers finds what a search among the world's ports finds.
-use Rattle.std.proofs.Common.{ℕ, zero, suc, Bool, true, false, not, ◌≡◌, ◌<◌, ◌≤◌, ◌+◌, ◌&&◌, ◌==◌, nat_lt, List, [], ◌∷◌, length, map, find, slice_get, get_or, Option, Some, None, cond, refl, sym, ◌∙◌, ap, arith}
+use Rattle.std.proofs.Common.{ℕ, zero, suc, Bool, true, false, not, ◌≡◌, ◌<◌, ◌≤◌, ◌+◌, nat_lt, List, [], ◌∷◌, length, map, find, slice_get, get_or, Option, Some, None, cond, refl, sym, ◌∙◌, arith}
 use Rattle.std.specs.Prelude.{position, IfSome, IfNone}
 use Rattle.std.specs.List.{position_or_len}
 use Rattle.std.proofs.lemmas.Bool.{ltb-false}
 use Rattle.std.proofs.lemmas.List.Quantifiers.{position-Some}
-use Rattle.vale_entry.specs.World.{Port, is_open_at, open_port}
-use Rattle.vale_entry.specs.Closing.{is_shutting_at, shutting_port, is_port_of}
-use Rattle.vale_entry.specs.Delivered.{has_id, port_at}
+use Rattle.vale_entry.specs.World.{Port, is_open_at}
+use Rattle.vale_entry.specs.Closing.{is_shutting_at, is_port_of}
+use Rattle.vale_entry.specs.Delivered.{has_id}
 use Rattle.vale_port.specs.Lists.{IsFoundAt, IsNotFound}
 use Rattle.vale_port.specs.Ports.{PortState, IsSeatOf, AreSeatsOf, is_open_state, is_shutting_state, is_state_of, is_state_of_session}
 use Rattle.vale_port.specs.Seat.{Seat, port_of}

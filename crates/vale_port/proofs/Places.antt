@@ -2,12 +2,11 @@
 use Rattle.std.proofs.Common.{ℕ, zero, suc, ◌≡◌, ◌<◌, List, [], ◌∷◌, length, slice_get, slice_set, get_or, Option, Some, None, refl, sym, ◌∙◌, ap, subst, arith}
 use Rattle.std.specs.Prelude.{IfSome, IfNone}
 use Rattle.vale_line.specs.Leased.{Leased}
-use Rattle.vale_entry.specs.World.{Port, Offer}
-use Rattle.vale_entry.specs.Holdings.{PortBuffers}
-use Rattle.vale_port.specs.Lists.{ChangesSeat, OfSeat, OfState, AreRising, SeatChangeIsChange}
+use Rattle.vale_entry.specs.World.{Offer}
+use Rattle.vale_port.specs.Lists.{ChangesSeat, ChangesSeatIf, OfSeat, OfState, SeatChangeIsChange}
 use Rattle.vale_port.specs.Ports.{PortState, IsSeatOf, AreSeatsOf, IsLeaseFor, sizes_of}
 use Rattle.vale_port.specs.Seat.{Seat, seats_of, given_frames}
-use Rattle.vale_port.proofs.Lists.{are-set, are-at, seats-at, seats-set, change-set}
+use Rattle.vale_port.proofs.Lists.{are-set, seats-at, change-set}
 
 -- the seat at a place is that of the port there
 pub seat-there : (seats : List Seat) (ps : List PortState) (place : ℕ) (seat : Seat) (d : PortState) → AreSeatsOf seats ps → slice_get seats place ≡ Some seat
@@ -49,10 +48,10 @@ seat_change_is_change ports helds old new place port held step change changed ar
     subst (λ (ss : List Seat). AreSeatsOf ss new) (sym (change-set ports helds place port held change changed are e f)) next
 
 -- A change that wants something of the seat.
-pub changes-filled : (P : Seat → Type 0) (change : Seat → Seat) (old : List PortState) (place : ℕ) (was now : PortState) → was ≡ get_or old place was → OfSeat P old place
-    → ((seat : Seat) → IsSeatOf seat was → P seat → IsSeatOf (change seat) now) → ChangesSeat change old place (slice_set old place now)
-changes-filled P change old place was now here holds keeps = λ seats seat are e.
-    are-set seats old place (change seat) now are (keeps seat (subst (IsSeatOf seat) (sym here) (seat-there seats old place seat was are e)) (holds seats seat are e))
+pub changes-if : (P : Seat → Type 0) (change : Seat → Seat) (old : List PortState) (place : ℕ) (was now : PortState) → was ≡ get_or old place was
+    → ((seat : Seat) → IsSeatOf seat was → P seat → IsSeatOf (change seat) now) → ChangesSeatIf P change old place (slice_set old place now)
+changes-if P change old place was now here keeps = λ seats seat are e holds.
+    are-set seats old place (change seat) now are (keeps seat (subst (IsSeatOf seat) (sym here) (seat-there seats old place seat was are e)) holds)
 
 -- What a grant gives to the seat at a place.
 
@@ -69,6 +68,12 @@ pub none-of_seat : (want : List ℕ) (ps : List PortState) (place : ℕ) (was : 
 none-of_seat want ps place was (Some lease) here gives = tt
 none-of_seat want ps place was None here gives = λ offer same.
     of-seat (λ (seat : Seat). given_frames offer seat ≡ []) ps place was here (λ seat is. gives seat offer is same)
+
+-- that a grant gives nothing says something of the port at the place
+pub none-of_state : (P : PortState → Type 0) (ps : List PortState) (place : ℕ) (was : PortState) (r : Option Leased) → was ≡ get_or ps place was → IfNone r (P was)
+    → IfNone r (OfState P ps place)
+none-of_state P ps place was (Some lease) here holds = tt
+none-of_state P ps place was None here holds = state-of P ps place was here holds
 
 pub some-of_state : (P : PortState → Leased → Type 0) (ps : List PortState) (place : ℕ) (was : PortState) (r : Option Leased) → was ≡ get_or ps place was
     → IfSome r (P was) → IfSome r (λ (lease : Leased). OfState (λ (p : PortState). P p lease) ps place)

@@ -1,7 +1,7 @@
 -- Ports of owned buffers and the seats of the world that they stand for: each step keeps the tie.
-use Rattle.std.proofs.Common.{ℕ, zero, suc, Bool, true, false, not, ◌≡◌, ◌+◌, ◌-◌, ◌<◌, ◌≤◌, ◌||◌, List, [], ◌∷◌, ◌++◌, length, take, drop, map, Option, Some, None, inl, inr, if◌then◌else◌, refl, sym, ◌∙◌, ap, subst, arith}
+use Rattle.std.proofs.Common.{ℕ, zero, suc, Bool, true, false, not, ◌≡◌, ◌+◌, ◌-◌, ◌<◌, ◌≤◌, ◌||◌, List, [], ◌∷◌, ◌++◌, length, take, drop, map, Option, Some, None, inl, inr, refl, sym, ◌∙◌, ap, subst, arith}
 use Rattle.std.specs.Prelude.{flat_map, All, sum, sum_by, nat_le, find, option_map, ◌==◌}
-use Rattle.std.specs.List.{take_while, list_any}
+use Rattle.std.specs.List.{list_any}
 use Rattle.std.proofs.lemmas.Bool.{cases_Bool, ne_eqb, eq-eqb, eqb-true, leb-true, and_parts}
 use Rattle.std.proofs.lemmas.List.{length-append, length-map, length-drop}
 use Rattle.std.proofs.lemmas.List.Elements.{All-cons, All-head, All-tail}
@@ -9,27 +9,25 @@ use Rattle.std.proofs.lemmas.List.Sums.{sum_by-cons}
 use Rattle.nm_types.specs.declared.id.LeaseId.{LeaseId}
 use Rattle.nm_types.specs.Frames.{Frame, slots_of, size_of_frames}
 use Rattle.nm_types.proofs.Sizes.{size_of_frames-length}
-use Rattle.nm_region.specs.Buffers.{Buffer, indices_of}
-use Rattle.vale_lease.specs.Leases.{out_count}
+use Rattle.nm_region.specs.Buffers.{indices_of}
 use Rattle.vale_line.specs.declared.got.Got.{Got}
 use Rattle.vale_line.specs.Fitting.{fitting_sizes, IsFrameSize}
 use Rattle.vale_line.specs.Gots.{buffers_of, buffer_of, frames_in, last_count, is_last, IsSingle}
 use Rattle.vale_line.specs.Leased.{Leased, buffer_count}
-use Rattle.vale_line.specs.Lines.{HeldLot, LineState, IsLine, with_lease, given_by_sync, out_of, opened_lot, put_lot, ready_gots, ready_frames, held_gots, leases_of, completed, granted_sizes, with_put, gots_of, slots_out}
+use Rattle.vale_line.specs.Lines.{HeldLot, LineState, IsLine, with_lease, given_by_sync, out_of, opened_lot, put_lot, ready_gots, held_gots, completed, gots_of, slots_out}
 use Rattle.vale_line.specs.Lines.{space_of as line_space, slots_of as line_slots}
 use Rattle.vale_line.proofs.FittingLemmas.{sum-cons}
 use Rattle.vale_line.proofs.FrameLemmas.{count-frames}
 use Rattle.vale_line.proofs.LotLemmas.{slots_of-push, slots-parts, ready-frames, all-done}
-use Rattle.vale_entry.specs.World.{Port, Lot, Offer, space_of}
+use Rattle.vale_entry.specs.World.{Port, Lot, space_of}
 use Rattle.vale_entry.specs.Grant.{longest_fitting, port_after_grant}
-use Rattle.vale_entry.specs.Closing.{unread_count}
-use Rattle.vale_entry.specs.Delivery.{delivered_frames, ready_lots, frames_of_lot, port_after_sync, port_after_done, lot_after_done, is_lease}
-use Rattle.vale_entry.specs.Holdings.{PortBuffers, PortAgrees, with_lot_buffers, with_returned, with_put_buffers, buffers_at_port}
+use Rattle.vale_entry.specs.Delivery.{ready_lots, frames_of_lot, port_after_sync, port_after_done, lot_after_done, is_lease}
+use Rattle.vale_entry.specs.Holdings.{PortBuffers, PortAgrees, with_lot_buffers, with_returned, with_put_buffers}
 use Rattle.vale_entry.specs.Pipe.{port_after_put}
-use Rattle.vale_port.specs.Kept.{KeptLot, KeptLine, kept_lot, KeptFrames, kept_gots, world_lot, world_lots, bytes_of, IsLineOf}
-use Rattle.vale_port.specs.Ports.{PortState, IsSeatOf, Gives, sizes_of, frames_of_seat}
-use Rattle.vale_port.specs.Seat.{Seat, LotSeat, given_frames, seat_given, seat_synced, seat_put, lease_among, lease_seat}
-use Rattle.vale_port.specs.Laws.{SpaceIsSpace, SizesAreSizes, GrantIsGrant, NoGrantIsNone, DoneIsDone, SyncIsSync, PutIsPut, ClearGivesAll, LotsAreLots, FilledIsOut, RingIsRing, SizesAreFrameSizes, exchanged, is_numbered, size_of_lot}
+use Rattle.vale_port.specs.Kept.{KeptLine, kept_lot, KeptFrames, kept_gots, world_lot, bytes_of, IsLineOf}
+use Rattle.vale_port.specs.Ports.{IsFilledFor, PortState, IsSeatOf, Gives, sizes_of, frames_of_seat}
+use Rattle.vale_port.specs.Seat.{Seat, LotSeat, given_frames, seat_put, lease_among, lease_seat}
+use Rattle.vale_port.specs.Laws.{SpaceIsSpace, SizesAreSizes, GrantIsGrant, NoGrantIsNone, DoneIsDone, SyncIsSync, PutIsPut, ClearGivesAll, LotsAreLots, FilledIsOut, RingIsRing, SizesAreFrameSizes, line_after_put, is_numbered, size_of_lot}
 use Rattle.vale_port.proofs.LineTies.{Ties, some-same, cons-head, cons-tail, ties-line, line-same, length-indices, indices-append, slots-lots, out-lots, there-lots, sizes-lots, kept-push, kept-done, given-lots, all-lots}
 
 -- the lots of a port's line, with what they stand for
@@ -228,9 +226,9 @@ with_put_buffers-some : (taken : List ℕ) (held : PortBuffers) → 0 < length t
     → with_put_buffers taken held ≡ record held { idle = drop (length taken) held.idle; lots = held.lots ++ taken ∷ [] }
 with_put_buffers-some taken held some = let other : (length taken == 0) ≡ false = ne_eqb (length taken) 0 (λ e. absurd (omega (arith, some, e))) in rw other refl
 
-exchanged-some : (id : LeaseId) (gots : List Got) (line : LineState) → 0 < length gots
-    → exchanged id gots line ≡ record line { idle = drop (length gots) line.idle; lots = line.lots ++ put_lot id gots ∷ [] }
-exchanged-some id gots line some = let other : (length gots == 0) ≡ false = ne_eqb (length gots) 0 (λ e. absurd (omega (arith, some, e))) in rw other refl
+line_after_put-some : (id : LeaseId) (gots : List Got) (line : LineState) → 0 < length gots
+    → line_after_put id gots line ≡ record line { idle = drop (length gots) line.idle; lots = line.lots ++ put_lot id gots ∷ [] }
+line_after_put-some id gots line some = let other : (length gots == 0) ≡ false = ne_eqb (length gots) 0 (λ e. absurd (omega (arith, some, e))) in rw other refl
 
 abbrev put_seat : Seat → ℕ → ℕ → List Frame → List ℕ → Seat
 put_seat seat number session frames taken = record {
@@ -249,13 +247,13 @@ put-none seat number session [] [] none fewer = refl
 put-none seat number session [] (b ∷ bs) none fewer = absurd (omega (arith, fewer))
 put-none seat number session (f ∷ fs) taken none fewer = absurd (omega (arith, none))
 
-exchanged-none : (id : LeaseId) (gots : List Got) (line : LineState) → length gots ≡ 0 → exchanged id gots line ≡ line
-exchanged-none id [] line none = refl
-exchanged-none id (got ∷ gots) line none = absurd (omega (arith, none))
+line_after_put-none : (id : LeaseId) (gots : List Got) (line : LineState) → length gots ≡ 0 → line_after_put id gots line ≡ line
+line_after_put-none id [] line none = refl
+line_after_put-none id (got ∷ gots) line none = absurd (omega (arith, none))
 
 put-more : (seat : Seat) (p : PortState) (id : LeaseId) (session : ℕ) (frames : List Frame) (gots : List Got) → IsSeatOf seat p → IsLine p.line
     → size_of_frames frames ≡ length gots → bytes_of frames ≡ frames_in gots → length gots ≤ line_space p.line → 0 < length gots
-    → IsSeatOf (seat_put id.0 session frames (indices_of (buffers_of gots)) seat) (record p { line = exchanged id gots p.line })
+    → IsSeatOf (seat_put id.0 session frames (indices_of (buffers_of gots)) seat) (record p { line = line_after_put id gots p.line })
 put-more seat p id session frames gots is line slots bytes fits some =
     let n = length gots in
     let taken = indices_of (buffers_of gots) in
@@ -276,8 +274,8 @@ put-more seat p id session frames gots is line slots bytes fits some =
     let within = line.within in
     let whole = with_seat seat p after.port after.held (record p.line { idle = drop n p.line.idle; lots = p.line.lots ++ put_lot id gots ∷ [] }) is refl refl refl refl refl refl made
     (omega (arith, left, sum, out, idle, within, fits)) in
-    subst (λ (s : Seat). IsSeatOf s (record p { line = exchanged id gots p.line })) (sym (put-some seat id.0 session frames taken frames_some (omega (arith, count, some))))
-    (subst (λ (l : LineState). IsSeatOf after (record p { line = l })) (sym (exchanged-some id gots p.line some)) whole)
+    subst (λ (s : Seat). IsSeatOf s (record p { line = line_after_put id gots p.line })) (sym (put-some seat id.0 session frames taken frames_some (omega (arith, count, some))))
+    (subst (λ (l : LineState). IsSeatOf after (record p { line = l })) (sym (line_after_put-some id gots p.line some)) whole)
 
 pub put_is_put : PutIsPut
 put_is_put seat p id session frames gots is line single bytes fits = elim (cases_Bool (length gots == 0)) [
@@ -286,8 +284,8 @@ put_is_put seat p id session frames gots is line single bytes fits = elim (cases
       let slots = size-put frames gots single bytes in
       let same = size_of_frames-length frames in
       let count = length-taken gots in
-      subst (λ (s : Seat). IsSeatOf s (record p { line = exchanged id gots p.line })) (sym (put-none seat id.0 session frames (indices_of (buffers_of gots)) (omega (arith, few, slots, same)) (omega (arith, few, count))))
-      (subst (λ (l : LineState). IsSeatOf seat (record p { line = l })) (sym (exchanged-none id gots p.line few)) is)
+      subst (λ (s : Seat). IsSeatOf s (record p { line = line_after_put id gots p.line })) (sym (put-none seat id.0 session frames (indices_of (buffers_of gots)) (omega (arith, few, slots, same)) (omega (arith, few, count))))
+      (subst (λ (l : LineState). IsSeatOf seat (record p { line = l })) (sym (line_after_put-none id gots p.line few)) is)
   | inr some ↦
       put-more seat p id session frames gots is line (size-put frames gots single bytes) bytes fits (nonzero (length gots) some)
 ]
@@ -314,11 +312,34 @@ clear_gives_all seat p is line none =
 
 -- A lease that is filled.
 
+-- where a lease is found there is a lot of its number
+
+or-right : (a b : Bool) → b ≡ true → (a || b) ≡ true
+or-right true b e = refl
+or-right false b e = e
+
+lease-numbered : (number : ℕ) (lots : List Lot) (lists : List (List ℕ)) (x : LotSeat) → lease_among number lots lists ≡ Some x → list_any (is_numbered number) lots ≡ true
+lease-numbered number [] lists x e = absurd cc
+lease-numbered number (lot ∷ lots) [] x e = absurd cc
+lease-numbered number (lot ∷ lots) (list ∷ lists) x e = elim (cases_Bool (is_lease number lot)) [
+  | inl here ↦ let numbered : is_numbered number lot ≡ true = (and_parts (lot.number == number) (not lot.is_done) here).0 in rw numbered refl
+  | inr other ↦
+      let rest : lease_among number lots lists ≡ Some x = rw other at e in
+      or-right (is_numbered number lot) (list_any (is_numbered number) lots) (lease-numbered number lots lists x rest)
+]
+
+numbered-by : (number : ℕ) (seat : Seat) (frames : KeptFrames) (found : Option LotSeat) → lease_seat number seat ≡ found → option_map frames_of_seat found ≡ Some frames
+    → list_any (is_numbered number) seat.port.line ≡ true
+numbered-by number seat frames None e filled = absurd cc
+numbered-by number seat frames (Some x) e filled = lease-numbered number seat.port.line seat.held.lots x e
+
+pub filled-numbered : (seat : Seat) (lease : Leased) → IsFilledFor seat lease → list_any (is_numbered lease.id) seat.port.line ≡ true
+filled-numbered seat lease filled = numbered-by lease.id seat (kept_gots lease.filled) (lease_seat lease.id seat) refl filled
+
 -- the lot that a search finds, with as many buffers as slots
 record Leasing (number : ℕ) (lots : List Lot) (x : LotSeat) : Type 0 where
   found : find (is_lease number) lots ≡ Some x.lot
   size : length x.buffers ≡ size_of_frames x.lot.frames
-  there : list_any (is_numbered number) lots ≡ true
 
 leasing : (number : ℕ) (lots : List Lot) (lists : List (List ℕ)) (x : LotSeat) → map (λ (list : List ℕ). length list) lists ≡ map (λ (lot : Lot). size_of_frames lot.frames) lots
     → lease_among number lots lists ≡ Some x → Leasing number lots x
@@ -329,22 +350,17 @@ leasing number (lot ∷ lots) (list ∷ lists) x sizes e = elim (cases_Bool (is_
       let told : Some (lot_seat lot list) ≡ Some x = rw here at e in
       let same : lot_seat lot list ≡ x = some-same told in
       let found : find (is_lease number) (lot ∷ lots) ≡ Some lot = rw here refl in
-      let numbered : is_numbered number lot ≡ true = (and_parts (lot.number == number) (not lot.is_done) here).0 in
       let size : length list ≡ size_of_frames lot.frames = cons-head sizes in
-      subst (λ (y : LotSeat). Leasing number (lot ∷ lots) y) same (record { found = found; size = size; there = rw numbered refl })
+      subst (λ (y : LotSeat). Leasing number (lot ∷ lots) y) same (record { found = found; size = size })
   | inr other ↦
       let rest : lease_among number lots lists ≡ Some x = rw other at e in
       let later = leasing number lots lists x (cons-tail sizes) rest in
       let found : find (is_lease number) (lot ∷ lots) ≡ Some x.lot = rw other later.found in
-      record { found = found; size = later.size; there = or-right (is_numbered number lot) (list_any (is_numbered number) lots) later.there }
+      record { found = found; size = later.size }
 ]
   where
     lot_seat : Lot → List ℕ → LotSeat
     lot_seat lot list = record { lot = lot; buffers = list }
-
-    or-right : (a b : Bool) → b ≡ true → (a || b) ≡ true
-    or-right true b e = refl
-    or-right false b e = e
 
 filled-by : (seat : Seat) (p : PortState) (lease : Leased) (found : Option LotSeat) → IsSeatOf seat p → PortAgrees seat.port seat.held → lease.empty ≡ []
     → lease_seat lease.id seat ≡ found → option_map frames_of_seat found ≡ Some (kept_gots lease.filled)
@@ -358,9 +374,9 @@ filled-by seat p lease (Some x) is agrees full e filled =
     let size = told.size in
     let count : size_of_frames x.lot.frames ≡ buffer_count lease = omega (arith, buffers, none, size) in
     let slots = (lots_are_lots seat p lease.id is).1.1 in
-    (slots ∙ (ap (option_map size_of_lot) told.found ∙ ap (λ (n : ℕ). Some n) count), told.there)
+    (slots ∙ (ap (option_map size_of_lot) told.found ∙ ap (λ (n : ℕ). Some n) count), lease-numbered lease.id seat.port.line seat.held.lots x e)
 
 pub filled_is_out : FilledIsOut
 filled_is_out seat p lease is agrees filled full = filled-by seat p lease (lease_seat lease.id seat) is agrees full refl filled
 
-pub ruleset seats = (lots_are_lots, space_is_space, sizes_are_sizes, grant_is_grant, no_grant_is_none, done_is_done, sync_is_sync, put_is_put, clear_gives_all, filled_is_out)
+pub ruleset seats = (lots_are_lots, size-seat, space_is_space, sizes_are_sizes, grant_is_grant, no_grant_is_none, done_is_done, sync_is_sync, put_is_put, clear_gives_all, filled_is_out)

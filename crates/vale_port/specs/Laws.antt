@@ -1,5 +1,5 @@
 -- What a line does is what the world's port does.
-use Rattle.std.specs.Prelude.{ℕ, Bool, true, ◌==◌, ◌≡◌, ◌≤◌, List, [], ◌++◌, drop, length, map, sum, find, Some, option_map, All}
+use Rattle.std.specs.Prelude.{ℕ, Bool, true, ◌==◌, ◌≡◌, ◌≤◌, List, [], ◌++◌, drop, length, map, find, Some, option_map, All}
 use Rattle.std.specs.List.{list_any}
 use Rattle.nm_types.specs.declared.id.LeaseId.{LeaseId}
 use Rattle.nm_types.specs.Frames.{Frame, size_of_frames}
@@ -51,13 +51,13 @@ SyncIsSync = (seat : Seat) (p : PortState) (back : List Buffer) → IsSeatOf sea
     → Gives seat (ready_gots p.line.lots) × IsSeatOf (seat_synced (indices_of back) seat) (with_line (given_by_sync back p.line) p)
 
 -- as many of the first idle buffers leave the line as frames come
-abbrev pub exchanged : LeaseId → List Got → LineState → LineState
-exchanged id gots line = with_put id gots (record line { idle = drop (length gots) line.idle })
+abbrev pub line_after_put : LeaseId → List Got → LineState → LineState
+line_after_put id gots line = with_put id gots (record line { idle = drop (length gots) line.idle })
 
 abbrev pub PutIsPut : Type 0
 PutIsPut = (seat : Seat) (p : PortState) (id : LeaseId) (session : ℕ) (frames : List Frame) (gots : List Got) → IsSeatOf seat p → IsLine p.line
     → All IsSingle gots → bytes_of frames ≡ frames_in gots → length gots ≤ line_space p.line
-    → IsSeatOf (seat_put id.0 session frames (indices_of (buffers_of gots)) seat) (with_line (exchanged id gots p.line) p)
+    → IsSeatOf (seat_put id.0 session frames (indices_of (buffers_of gots)) seat) (with_line (line_after_put id gots p.line) p)
 
 abbrev pub ShutIsShut : Type 0
 ShutIsShut = (seat : Seat) (p : PortState) → IsSeatOf seat p → IsSeatOf (seat_shut seat) (record p { shutting = true })

@@ -1,15 +1,15 @@
 -- Ports in a list, in the order of their ids, with the seats that they stand for.
-use Rattle.std.specs.Prelude.{ℕ, Bool, true, false, ◌≡◌, ◌<◌, ◌==◌, not, List, [], ◌∷◌, ◌++◌, length, map, filter, Option, Some, None, slice_get, slice_set}
-use Rattle.std.specs.List.{list_any, remove}
+use Rattle.std.specs.Prelude.{ℕ, false, ◌≡◌, ◌<◌, ◌==◌, not, List, [], ◌∷◌, ◌++◌, length, map, filter, Option, Some, None, slice_get, slice_set}
+use Rattle.std.specs.List.{remove}
 use Rattle.vale_entry.specs.World.{Port, changed_at}
 use Rattle.vale_entry.specs.Closing.{shut, ports_without}
-use Rattle.vale_entry.specs.Delivery.{port_after_done, ports_after_done}
+use Rattle.vale_entry.specs.Delivery.{ports_after_done}
 use Rattle.vale_entry.specs.Holdings.{PortBuffers, PortAgrees, PortsAgree, changed_buffers}
 use Rattle.vale_entry.specs.Laws.{Rise, id_of_port, AreSingle, HasLotsUpTo}
 use Rattle.vale_lease.specs.Leases.{is_there}
+use Rattle.vale_line.specs.Leased.{Leased}
 use Rattle.vale_line.specs.Lines.{leases_of}
-use Rattle.vale_port.specs.Laws.{is_numbered}
-use Rattle.vale_port.specs.Ports.{PortState, IsSeatOf, AreSeatsOf}
+use Rattle.vale_port.specs.Ports.{PortState, IsSeatOf, IsFilledFor, AreSeatsOf}
 use Rattle.vale_port.specs.Seat.{Seat, port_of, seats_of, seat_done, seat_shut}
 
 -- where a search among the world's ports finds one, whichever seats these are
@@ -44,6 +44,11 @@ pub record StandsAt (ports : List Port) (helds : List PortBuffers) (ps : List Po
 -- One port changes, and the seat that it stands for with it.
 abbrev pub ChangesSeat : (Seat → Seat) → List PortState → ℕ → List PortState → Type 0
 ChangesSeat change old place new = (seats : List Seat) (seat : Seat) → AreSeatsOf seats old → slice_get seats place ≡ Some seat
+    → AreSeatsOf (slice_set seats place (change seat)) new
+
+-- the same for a seat that is so
+abbrev pub ChangesSeatIf : (Seat → Type 0) → (Seat → Seat) → List PortState → ℕ → List PortState → Type 0
+ChangesSeatIf P change old place new = (seats : List Seat) (seat : Seat) → AreSeatsOf seats old → slice_get seats place ≡ Some seat → P seat
     → AreSeatsOf (slice_set seats place (change seat)) new
 
 -- what holds of the seat at a place
@@ -89,11 +94,12 @@ ShutIsShutAmong = (ports : List Port) (helds : List PortBuffers) (old new : List
     → slice_get ports place ≡ Some port → slice_get helds place ≡ Some held → ChangesSeat seat_shut old place new
     → ArePortsOf (changed_at port.id shut ports) helds new
 
--- a lot of that number is done: no other port has one
+-- the lot of a filled lease is done: no other port has a lot of that number
 abbrev pub DoneIsDoneAmong : Type 0
-DoneIsDoneAmong = (ports : List Port) (helds : List PortBuffers) (old new : List PortState) (place number : ℕ) (port : Port) (held : PortBuffers) → AreRising ports helds old
-    → AreSingle ports → slice_get ports place ≡ Some port → slice_get helds place ≡ Some held → list_any (is_numbered number) port.line ≡ true
-    → ChangesSeat (seat_done number) old place new → ArePortsOf (ports_after_done number ports) helds new
+DoneIsDoneAmong = (ports : List Port) (helds : List PortBuffers) (old new : List PortState) (place : ℕ) (lease : Leased) (port : Port) (held : PortBuffers)
+    → AreRising ports helds old → AreSingle ports → slice_get ports place ≡ Some port → slice_get helds place ≡ Some held
+    → IsFilledFor (record { port = port; held = held }) lease → ChangesSeatIf (λ (seat : Seat). IsFilledFor seat lease) (seat_done lease.id) old place new
+    → ArePortsOf (ports_after_done lease.id ports) helds new
 
 abbrev pub OpenIsOpenAmong : Type 0
 OpenIsOpenAmong = (ports : List Port) (helds : List PortBuffers) (ps : List PortState) (port : Port) (held : PortBuffers) (p : PortState)

@@ -1,5 +1,5 @@
 -- A port that owns the buffers of its kernel side, and the seat of the world that it stands for.
-use Rattle.std.specs.Prelude.{ℕ, Bool, false, ◌≡◌, ◌≤◌, ◌+◌, ◌&&◌, ◌==◌, not, List, [], ◌∷◌, length, take, map, Option, Some, option_map}
+use Rattle.std.specs.Prelude.{ℕ, Bool, false, ◌≡◌, ◌≤◌, ◌+◌, ◌&&◌, ◌==◌, not, List, [], ◌∷◌, length, take, map, Some, option_map}
 use Rattle.nm_types.specs.Frames.{Frame, slots_of, size_of_frames}
 use Rattle.nm_region.specs.Buffers.{Buffer, indices_of}
 use Rattle.vale_line.specs.declared.got.Got.{Got}

@@ -12,7 +12,7 @@ ghost use Rattle.vale_entry.specs.Closing.{leases_out, unread_count};
 ghost use Rattle.vale_entry.specs.Pipe.{taken_count};
 ghost use Rattle.vale_entry.specs.Holdings.{buffers_at_port};
 ghost use Rattle.vale_port.specs.Kept.{bytes_of};
-ghost use Rattle.vale_port.specs.Laws.{with_line, exchanged};
+ghost use Rattle.vale_port.specs.Laws.{with_line, line_after_put};
 ghost use Rattle.vale_port.specs.Ports.{opened_state, due_of_state, is_open_state, is_shutting_state, IsSeatOf, IsLeaseFor, IsFilledFor, Gives, sizes_of};
 ghost use Rattle.vale_port.specs.Seat.{Seat, opened_seat, given_frames, seat_given, seat_done, seat_synced, seat_put, seat_shut};
 
@@ -151,6 +151,15 @@ impl Port {
         self.tx as u64 + self.extra as u64 + self.out as u64
     }
 
+    /// Returns the number of slots of the receive ring.
+    #[tactic(auto, using(crate::proofs::SeatTies::seats))]
+    pub fn rx(&self) -> u32
+        ensures state { result ≡ self.now.line.size }
+        ensures seat { (seat : Seat) → IsSeatOf seat self.now → result ≡ seat.port.rx }
+    {
+        self.line.size()
+    }
+
     /// Returns the number of slots that a grant or a put can still fill.
     #[tactic(auto, using(crate::proofs::SeatTies::seats))]
     pub fn space(&self) -> u32
@@ -191,6 +200,7 @@ impl Port {
             → IsLeaseFor id.0 offer seat lease) }
         ensures none { IfNone result ((seat : Seat) (offer : Offer) → IsSeatOf seat self.old
             → want.now ≡ sizes_of offer.frames → given_frames offer seat ≡ []) }
+        ensures refused { IfNone result (granted_sizes want.now self.old.line ≡ []) }
         ensures lease { IfSome result (λ lease. lease
             ≡ leased id self.old.id (granted_sizes want.now self.old.line) self.old.line) }
         ensures lot { IfSome result (λ lease.
@@ -246,9 +256,10 @@ impl Port {
             → IsSeatOf (seat_put id.0 session frames
             (indices_of (buffers_of (take (length result.items) pending.old.items))) seat)
             self.new }
-        ensures line { self.new ≡ with_line
-            (exchanged id (take (length result.items) pending.old.items) self.old.line) self.old }
+        ensures line { self.new ≡ with_line (line_after_put id
+            (take (length result.items) pending.old.items) self.old.line) self.old }
         ensures pending { pending.new.items ≡ drop (length result.items) pending.old.items }
+        ensures capacity { vec_capacity pending.new ≡ vec_capacity pending.old }
         ensures back { result.items ≡ take (length result.items) self.old.line.idle }
         ensures idle { (seat : Seat) → IsSeatOf seat self.old
             → indices_of result.items ≡ take (length result.items) seat.held.idle }
@@ -279,6 +290,7 @@ impl Port {
         ensures held { (seat : Seat) → IsSeatOf seat self
             → indices_of result.0.items ≡ buffers_at_port seat.held }
         ensures unread { (seat : Seat) → IsSeatOf seat self → result.1 ≡ unread_count seat.port }
+        ensures unread_here { result.1 ≡ length (frames_in (held_gots self.line.lots)) }
     {
         let Port {
             id: _,

@@ -12,8 +12,8 @@ ghost use Rattle.vale_entry.specs.Pipe.{taken_count};
 ghost use Rattle.vale_entry.specs.Closing.{unread_count};
 ghost use Rattle.vale_entry.specs.Holdings.{buffers_at_port};
 ghost use Rattle.vale_port.specs.Kept.{bytes_of};
-ghost use Rattle.vale_port.specs.Laws.{with_line, exchanged};
-ghost use Rattle.vale_port.specs.Lists.{ChangesSeat, OfSeat, OfState};
+ghost use Rattle.vale_port.specs.Laws.{with_line, line_after_put};
+ghost use Rattle.vale_port.specs.Lists.{ChangesSeat, ChangesSeatIf, OfSeat, OfState};
 ghost use Rattle.vale_port.specs.Ports.{IsLeaseFor, IsFilledFor, Gives, sizes_of};
 ghost use Rattle.vale_port.specs.Seat.{given_frames, seat_given, seat_done, seat_synced, seat_put, seat_shut};
 
@@ -43,6 +43,8 @@ pub fn grant_at(
         → OfSeat (λ seat. IsLeaseFor id.0 offer seat lease) ports.old.items place) }
     ensures none { IfNone result ((offer : Offer) → want.now ≡ sizes_of offer.frames
         → OfSeat (λ seat. given_frames offer seat ≡ []) ports.old.items place) }
+    ensures refused { IfNone result (OfState (λ p. granted_sizes want.now p.line ≡ [])
+        ports.old.items place) }
     ensures lease { IfSome result (λ lease. OfState (λ p. lease
         ≡ leased id p.id (granted_sizes want.now p.line) p.line) ports.old.items place) }
     ensures lot { IfSome result (λ lease. OfState (λ p. ports.new.items
@@ -61,8 +63,8 @@ pub fn done_at(ports: &mut Vec<Port>, place: usize, lease: Lease)
     requires lot { OfState (λ p. slots_out lease.id p.line.lots ≡ Some (buffer_count lease))
         ports.old.items place }
     requires full { lease.sizes ≡ [] }
-    ensures seats { OfSeat (λ seat. IsFilledFor seat lease) ports.old.items place
-        → ChangesSeat (seat_done lease.id) ports.old.items place ports.new.items }
+    ensures seats { ChangesSeatIf (λ seat. IsFilledFor seat lease) (seat_done lease.id)
+        ports.old.items place ports.new.items }
     ensures lots { OfState (λ p. ports.new.items ≡ slice_set ports.old.items place
         (with_line (record p.line { lots = map (completed lease.id lease.filled) p.line.lots }) p))
         ports.old.items place }
@@ -107,6 +109,8 @@ pub fn put_at(
     requires single { All IsSingle pending.old.items }
     requires room { OfState (λ p. min (length pending.old.items) (line_space p.line) ≤ room)
         ports.old.items place }
+    ensures number { OfState (λ p. length result.items
+        ≡ min (length pending.old.items) (line_space p.line)) ports.old.items place }
     ensures took { OfSeat (λ seat. length result.items
         ≡ taken_count (Some seat.port) (length pending.old.items)) ports.old.items place }
     ensures seats { (session : ℕ) (frames : List Frame)
@@ -115,12 +119,13 @@ pub fn put_at(
         (indices_of (buffers_of (take (length result.items) pending.old.items))))
         ports.old.items place ports.new.items }
     ensures pending { pending.new.items ≡ drop (length result.items) pending.old.items }
+    ensures pending_capacity { vec_capacity pending.new ≡ vec_capacity pending.old }
     ensures idle { OfSeat (λ seat. indices_of result.items
         ≡ take (length result.items) seat.held.idle) ports.old.items place }
     ensures back { OfState (λ p. result.items ≡ take (length result.items) p.line.idle)
         ports.old.items place }
     ensures line { OfState (λ p. ports.new.items ≡ slice_set ports.old.items place (with_line
-        (exchanged id (take (length result.items) pending.old.items) p.line) p))
+        (line_after_put id (take (length result.items) pending.old.items) p.line) p))
         ports.old.items place }
     ensures count { vec_len ports.new ≡ vec_len ports.old }
     ensures capacity { vec_capacity ports.new ≡ vec_capacity ports.old }
@@ -151,6 +156,8 @@ pub fn close_at(ports: &mut Vec<Port>, place: usize) -> (Vec<Buf>, u32)
     ensures held { OfSeat (λ seat. indices_of result.0.items ≡ buffers_at_port seat.held)
         ports.old.items place }
     ensures unread { OfSeat (λ seat. result.1 ≡ unread_count seat.port) ports.old.items place }
+    ensures unread_here { OfState (λ p. result.1
+        ≡ length (frames_in (held_gots p.line.lots))) ports.old.items place }
     ensures capacity { vec_capacity ports.new ≡ vec_capacity ports.old }
 {
     ports.remove(place).close()

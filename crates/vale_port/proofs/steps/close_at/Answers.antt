@@ -1,5 +1,5 @@
-use Rattle.std.proofs.Common.{◌++◌, ◌≡◌, get_or, rules}
-use Rattle.vale_line.specs.Gots.{buffers_of}
+use Rattle.std.proofs.Common.{◌++◌, ◌≡◌, get_or, length, rules}
+use Rattle.vale_line.specs.Gots.{buffers_of, frames_in}
 use Rattle.vale_line.specs.Lines.{held_gots}
 use Rattle.vale_port.specs.Ports.{PortState}
 use Rattle.nm_region.specs.Buffers.{indices_of}
@@ -23,3 +23,8 @@ pub returns-clause-buffers : goal.returns-clause-buffers
 returns-clause-buffers c =
     let here : c.remove.result ≡ get_or c.args.ports.now.items c.args.place c.remove.result = search rules in
     state-of (λ (p : PortState). c.close.result.0.items ≡ p.line.idle ++ buffers_of (held_gots p.line.lots)) c.args.ports.now.items c.args.place c.remove.result here c.close.ensures.buffers
+
+pub returns-clause-unread_here : goal.returns-clause-unread_here
+returns-clause-unread_here c =
+    let here : c.remove.result ≡ get_or c.args.ports.now.items c.args.place c.remove.result = search rules in
+    state-of (λ (p : PortState). c.close.result.1 ≡ length (frames_in (held_gots p.line.lots))) c.args.ports.now.items c.args.place c.remove.result here c.close.ensures.unread_here

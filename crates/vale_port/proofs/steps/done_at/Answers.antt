@@ -3,13 +3,13 @@ use Rattle.vale_line.specs.Lines.{completed}
 use Rattle.vale_port.specs.Laws.{with_line}
 use Rattle.vale_port.specs.Ports.{PortState, IsFilledFor}
 use Rattle.vale_port.specs.Seat.{Seat, seat_done}
-use Rattle.vale_port.proofs.Places.{changes-filled, set-of_state}
+use Rattle.vale_port.proofs.Places.{changes-if, set-of_state}
 use Rattle.vale_port.proofs.steps.done_at.Goals as goal
 
 pub returns-clause-seats : goal.returns-clause-seats
-returns-clause-seats c = λ filled.
-    changes-filled (λ (seat : Seat). IsFilledFor seat c.args.lease) (seat_done c.args.lease.id) c.args.ports.now.items c.args.place c.index_mut.result.now c.done.new.self
-    c.index_mut.ensures.value filled c.done.ensures.seat
+returns-clause-seats c =
+    changes-if (λ (seat : Seat). IsFilledFor seat c.args.lease) (seat_done c.args.lease.id) c.args.ports.now.items c.args.place c.index_mut.result.now c.done.new.self
+    c.index_mut.ensures.value c.done.ensures.seat
 
 pub returns-clause-lots : goal.returns-clause-lots
 returns-clause-lots c =

@@ -1,10 +1,10 @@
-use Rattle.std.proofs.Common.{◌≡◌}
+use Rattle.std.proofs.Common.{◌≡◌, []}
 use Rattle.vale_line.specs.Leased.{Leased, buffer_count}
 use Rattle.vale_line.specs.Lines.{granted_sizes, leased, with_lease}
 use Rattle.vale_port.specs.Laws.{with_line}
-use Rattle.vale_port.specs.Ports.{PortState, IsLeaseFor}
-use Rattle.vale_port.specs.Seat.{Seat, given_frames, seat_given}
-use Rattle.vale_port.proofs.Places.{changes-at, lease-of_seat, none-of_seat, some-of_state, some-set, none-set}
+use Rattle.vale_port.specs.Ports.{PortState}
+use Rattle.vale_port.specs.Seat.{seat_given}
+use Rattle.vale_port.proofs.Places.{changes-at, lease-of_seat, none-of_seat, none-of_state, some-of_state, some-set, none-set}
 use Rattle.vale_port.proofs.steps.grant_at.Goals as goal
 
 pub returns-clause-seats : goal.returns-clause-seats
@@ -19,6 +19,11 @@ returns-clause-some c =
 pub returns-clause-none : goal.returns-clause-none
 returns-clause-none c =
     none-of_seat c.args.want.now c.args.ports.now.items c.args.place c.index_mut.result.now c.grant.result c.index_mut.ensures.value c.grant.ensures.none
+
+pub returns-clause-refused : goal.returns-clause-refused
+returns-clause-refused c =
+    none-of_state (λ (p : PortState). granted_sizes c.args.want.now p.line ≡ []) c.args.ports.now.items c.args.place c.index_mut.result.now c.grant.result
+    c.index_mut.ensures.value c.grant.ensures.refused
 
 pub returns-clause-lease : goal.returns-clause-lease
 returns-clause-lease c =

@@ -1,4 +1,4 @@
-use Rattle.std.proofs.Common.{◌≡◌, ap, sym, ◌∙◌, subst}
+use Rattle.std.proofs.Common.{sym, subst}
 use Rattle.vale_line.specs.Lines.{LineState}
 use Rattle.vale_port.specs.Ports.{PortState, IsSeatOf}
 use Rattle.vale_port.specs.Seat.{seat_done}

@@ -1,4 +1,4 @@
-use Rattle.std.proofs.Common.{◌≡◌, ◌≤◌, sym, ◌∙◌, ap, subst}
+use Rattle.std.proofs.Common.{sym, subst}
 use Rattle.vale_port.specs.Ports.{PortState, IsSeatOf}
 use Rattle.vale_port.specs.Stored.{state_of}
 use Rattle.vale_port.proofs.Calls.{seat-granted, lease-for, nothing-given}

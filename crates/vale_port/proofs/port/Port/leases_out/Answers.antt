@@ -1,5 +1,5 @@
-use Rattle.std.proofs.Common.{◌≡◌, ap, sym, ◌∙◌, subst}
-use Rattle.vale_port.specs.Ports.{PortState, IsSeatOf}
+use Rattle.std.proofs.Common.{sym, ◌∙◌, subst}
+use Rattle.vale_port.specs.Ports.{IsSeatOf}
 use Rattle.vale_port.specs.Stored.{state_of}
 use Rattle.vale_port.proofs.SeatTies.{lots_are_lots}
 use Rattle.vale_port.proofs.port.Port.leases_out.Goals as goal

@@ -1,13 +1,9 @@
-use Rattle.std.proofs.Common.{ℕ, ◌≡◌, ◌≤◌, ◌+◌, List, [], ◌++◌, ap, sym, ◌∙◌, subst, length, take, drop, min, arith, rules}
-use Rattle.nm_region.specs.Buffers.{Buffer, indices_of}
-use Rattle.vale_line.specs.declared.got.Got.{Got}
-use Rattle.vale_line.specs.Gots.{buffers_of, frames_in}
-use Rattle.vale_line.specs.Lines.{LineState, IsLine, with_put}
+use Rattle.std.proofs.Common.{◌≡◌, List, ap, sym, ◌∙◌, subst, length, take, drop, min, rules}
+use Rattle.nm_region.specs.Buffers.{Buffer}
+use Rattle.vale_line.specs.Lines.{LineState, with_put}
 use Rattle.vale_line.specs.Lines.{space_of as line_space}
-use Rattle.vale_port.specs.Kept.{bytes_of}
-use Rattle.vale_port.specs.Laws.{exchanged, with_line}
+use Rattle.vale_port.specs.Laws.{line_after_put, with_line}
 use Rattle.vale_port.specs.Ports.{PortState, IsSeatOf}
-use Rattle.vale_port.specs.Seat.{Seat, seat_put}
 use Rattle.vale_port.specs.Stored.{state_of}
 use Rattle.vale_port.proofs.Calls.{Taking, taking, line-taken, seat-taken, count-taken, lent-seat}
 use Rattle.vale_port.proofs.port.Port.put.Goals as goal
@@ -15,7 +11,7 @@ use Rattle.vale_port.proofs.port.Port.put.Goals as goal
 -- what was handed out and what was taken
 record Step (c : goal.After-destroy_empty-2) : Type 0 where
   takes : Taking (state_of c.self.inside) c.args.pending.now.items c.min-count.result (length c.give.new.back.items) c.give.new.back.items c.give.new.taken.items
-  line : c.accept.new.self ≡ exchanged c.args.id (take (length c.give.new.back.items) c.args.pending.now.items) c.self.inside.line
+  line : c.accept.new.self ≡ line_after_put c.args.id (take (length c.give.new.back.items) c.args.pending.now.items) c.self.inside.line
 
 step : (c : goal.After-destroy_empty-2) → Step c
 step c =
@@ -54,7 +50,7 @@ pub returns-clause-line : goal.returns-clause-line
 returns-clause-line c =
     let p : PortState = state_of c.self.inside in
     let taken = take (length c.give.new.back.items) c.args.pending.now.items in
-    ap (λ (l : LineState). with_line l p) (step c).line ∙ ap (λ (q : PortState). with_line (exchanged c.args.id taken q.line) q) c.self.view_is
+    ap (λ (l : LineState). with_line l p) (step c).line ∙ ap (λ (q : PortState). with_line (line_after_put c.args.id taken q.line) q) c.self.view_is
 
 pub returns-clause-back : goal.returns-clause-back
 returns-clause-back c =

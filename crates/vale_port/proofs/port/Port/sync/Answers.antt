@@ -1,9 +1,9 @@
-use Rattle.std.proofs.Common.{◌≡◌, ◌≤◌, ◌+◌, ◌-◌, List, ap, sym, ◌∙◌, subst, length, arith, rules}
+use Rattle.std.proofs.Common.{◌≡◌, ◌≤◌, List, ap, sym, ◌∙◌, subst, length, arith, rules}
 use Rattle.nm_region.specs.Buffers.{indices_of}
 use Rattle.vale_line.specs.declared.got.Got.{Got}
-use Rattle.vale_line.specs.Lines.{LineState, IsLine, out_of, ready_gots}
+use Rattle.vale_line.specs.Lines.{LineState, out_of}
 use Rattle.vale_port.specs.Ports.{PortState, IsSeatOf, Gives}
-use Rattle.vale_port.specs.Seat.{Seat, seat_synced}
+use Rattle.vale_port.specs.Seat.{seat_synced}
 use Rattle.vale_port.specs.Stored.{state_of}
 use Rattle.vale_port.proofs.Calls.{out-synced}
 use Rattle.vale_port.proofs.SeatTies.{sync_is_sync}
