@@ -1,13 +1,16 @@
-ghost use Rattle.std.specs.Prelude.{◌≡◌, ◌≤◌, [], ◌∷◌, ◌++◌, All, length, map, sum, vec_capacity, false, Some};
+ghost use Rattle.std.specs.Prelude.{◌≡◌, ◌≤◌, ◌<◌, ◌+◌, [], ◌∷◌, ◌++◌, All, length, map, sum, vec_capacity, false, Some};
 ghost use Rattle.vale_lease.specs.Leases.{is_there};
 ghost use Rattle.vale_line.specs.Fitting.{IsFrameSize};
-ghost use Rattle.vale_line.specs.Gots.{buffers_of, IsSingle};
+ghost use Rattle.vale_line.specs.Gots.{IsSingle};
 ghost use Rattle.vale_line.specs.Leased.{buffer_count};
 ghost use Rattle.vale_line.specs.Lines.{slots_out, behind_done, completed, leases_of, opened_lot};
+ghost use Rattle.vale_port.specs.Lists.{OfState};
 
 use crate::{
-    Opening, Port, PutRoom, first_of_session, leased_port, open_port, shut_at, shutting_port,
+    Opening, Port, PutRoom, close_at, done_at, first_of_session, grant_at, leased_port, open_port,
+    put_at, shut_at, shutting_port, sync_at,
 };
+use nm_frag::slots;
 use nm_region::{Buf, Region};
 use nm_types::{LeaseId, Name, PortId, SessionId};
 use std::alloc::Global;
@@ -67,12 +70,13 @@ fn grant(rt: &impl Abort, alloc: Global, port: &mut Port, id: u32, want: &[u32])
     }
 }
 
-/// Fills a lease with a frame of one slot.
+/// Fills a lease with its next frame.
 fn fill(rt: &impl Abort, lease: &mut Lease, bytes: &[u8])
     ensures id { lease.new.id ≡ lease.old.id }
     ensures count { buffer_count lease.new ≡ buffer_count lease.old }
 {
-    assert!(rt; bytes.len() <= 2048 && lease.filled() < lease.count() && lease.next() == 1);
+    assert!(rt; bytes.len() <= 131_072 && lease.filled() < lease.count());
+    assert!(rt; lease.next() == slots(bytes.len()));
     lease.fill(bytes);
 }
 
@@ -162,42 +166,204 @@ fn frames_of(mut bufs: Vec<Buf>, mut gots: Vec<Got>) -> Vec<Got>
     gots
 }
 
-/// Puts frames to a pipe's end.
-fn put(rt: &impl Abort, alloc: Global, port: &mut Port, id: u32, pending: &mut Vec<Got>) -> Vec<Buf>
-    requires new { is_there id (leases_of port.old.line.lots) ≡ false }
-    requires single { All IsSingle pending.old.items }
-    ensures { All IsSingle pending.new.items }
+/// The buffers that a sync handed out, the last one first.
+fn turned_buffers(mut gots: Vec<Got>, mut bufs: Vec<Buf>) -> Vec<Buf>
+    requires none { bufs.items ≡ [] }
+    requires room { length gots.items ≤ vec_capacity bufs }
 {
-    let Ok(room) = PutRoom::new(alloc, port.space()) else {
-        panic!(rt; "no memory");
-    };
-    port.put(LeaseId(id), pending, room)
+    while let Some(got) = gots.pop() {
+        let Got {
+            buf,
+            len: _,
+            rest: _,
+        } = got;
+        bufs.push_reserved(buf);
+    }
+    gots.destroy_empty();
+    bufs
 }
 
-/// A ring of 4 takes three of five frames, and then no more: it is full. Closed, it gives all its
-/// buffers, those of the three frames behind its last idle one. The buffers stay out.
+/// The ports 3 and 7, with rings of these buffers.
+fn two_ports(rt: &impl Abort, alloc: Global, first: Vec<Buf>, second: Vec<Buf>) -> Vec<Port>
+    requires first { (1 ≤ length first.items) × (length first.items ≤ 1024) }
+    requires second { (1 ≤ length second.items) × (length second.items ≤ 1024) }
+    ensures count { length result.items ≡ 2 }
+    ensures first { OfState (λ p. p.line.lots ≡ []) result.items 0 }
+    ensures second { OfState (λ p. p.line.lots ≡ []) result.items 1 }
+{
+    let Ok(mut ports) = Vec::with_capacity(alloc, 2) else {
+        panic!(rt; "no memory");
+    };
+    ports.push_reserved(port_of(rt, alloc, 3, first));
+    ports.push_reserved(port_of(rt, alloc, 7, second));
+    ports
+}
+
+/// Grants what is wanted at a place where no lease is out.
+fn grant_there(
+    rt: &impl Abort,
+    alloc: Global,
+    ports: &mut Vec<Port>,
+    at: usize,
+    id: u32,
+    want: &[u32],
+) -> Lease
+    requires place { at < length ports.old.items }
+    requires none { OfState (λ p. p.line.lots ≡ []) ports.old.items at }
+    requires sizes { All IsFrameSize want.now }
+    requires room { sum want.now ≤ 8 }
+    ensures count { length ports.new.items ≡ length ports.old.items }
+    ensures lot { OfState (λ p. slots_out result.id p.line.lots ≡ Some (buffer_count result))
+        ports.new.items at }
+{
+    let Ok(room) = LeaseRoom::new(alloc, 8) else {
+        panic!(rt; "no memory");
+    };
+    match grant_at(ports, at, LeaseId(id), room, want) {
+        Some(lease) => lease,
+        None => panic!(rt; "no frame fits"),
+    }
+}
+
+/// Completes a lease at a place, after a look that it is full.
+#[tactic(auto, using(vale_line::proofs::Filling::tests))]
+fn complete_there(rt: &impl Abort, ports: &mut Vec<Port>, at: usize, lease: Lease)
+    requires place { at < length ports.old.items }
+    requires lot { OfState (λ p. slots_out lease.id p.line.lots ≡ Some (buffer_count lease))
+        ports.old.items at }
+    ensures { length ports.new.items ≡ length ports.old.items }
+{
+    assert!(rt; lease.filled() == lease.count());
+    done_at(ports, at, lease);
+}
+
+/// Syncs the port at a place, with as many buffers back as it has out, or fewer.
+fn sync_there(
+    rt: &impl Abort,
+    alloc: Global,
+    ports: &mut Vec<Port>,
+    at: usize,
+    back: Vec<Buf>,
+) -> Vec<Got>
+    requires { at < length ports.old.items }
+    ensures { length ports.new.items ≡ length ports.old.items }
+{
+    let Ok(room) = Vec::with_capacity(alloc, ports[at].ready() as usize) else {
+        panic!(rt; "no memory");
+    };
+    assert!(rt; back.len() <= ports[at].out() as usize);
+    sync_at(ports, at, back, room)
+}
+
+/// Puts frames to the pipe's end at a place where no lot is.
+fn put_there(
+    rt: &impl Abort,
+    alloc: Global,
+    ports: &mut Vec<Port>,
+    at: usize,
+    pending: &mut Vec<Got>,
+) -> Vec<Buf>
+    requires place { at < length ports.old.items }
+    requires none { OfState (λ p. p.line.lots ≡ []) ports.old.items at }
+    requires single { All IsSingle pending.old.items }
+    ensures { length ports.new.items ≡ length ports.old.items }
+{
+    let Ok(room) = PutRoom::new(alloc, ports[at].space()) else {
+        panic!(rt; "no memory");
+    };
+    put_at(ports, at, LeaseId(5), pending, room)
+}
+
+/// Closes the port at a place, after a look that no lease of it is out, and compares the indices of
+/// its buffers.
+fn close_there(
+    rt: &impl Abort,
+    ports: &mut Vec<Port>,
+    at: usize,
+    indices: &[u32],
+    unread: u32,
+) -> Vec<Buf>
+    requires { at < length ports.old.items }
+    ensures { length ports.new.items + 1 ≡ length ports.old.items }
+{
+    assert!(rt; ports[at].leases_out() == 0);
+    let (bufs, count) = close_at(ports, at);
+    assert!(rt; count == unread && bufs.len() == indices.len());
+    for i in 0..bufs.len() {
+        assert!(rt; bufs[i].index() == indices[i], "buffer {i}");
+    }
+    bufs
+}
+
+/// A pipe's end with a ring of 4 takes three of five frames, and then it is full. Closed, it gives
+/// all its buffers, those of the three frames behind its last idle one, and the next port stands at
+/// its place. The buffers stay out: the test ends by the panic that it expects.
 #[test]
 #[should_panic(expected = "the buffers stay out")]
 fn puts_and_close(rt: HostRuntime) {
-    let (_region, bufs) = region_of(&rt, rt.alloc(), 4);
-    let mut port = port_of(&rt, rt.alloc(), 3, bufs);
+    let (_small, four) = region_of(&rt, rt.alloc(), 4);
+    let (_large, eight) = region_of(&rt, rt.alloc(), 8);
+    let mut ports = two_ports(&rt, rt.alloc(), four, eight);
     let (_senders, frames) = region_of(&rt, rt.alloc(), 5);
     let Ok(room) = Vec::with_capacity(rt.alloc(), 5) else {
         panic!(rt; "no memory");
     };
     let mut pending = frames_of(frames, room);
-    let back = put(&rt, rt.alloc(), &mut port, 5, &mut pending);
+    let back = put_there(&rt, rt.alloc(), &mut ports, 0, &mut pending);
     assert!(rt; back.len() == 3 && back[0].index() == 2 && back[2].index() == 4);
     assert!(rt; pending.len() == 2 && pending[0].buf.index() == 3);
-    assert!(rt; port.space() == 0 && port.ready() == 3 && port.out() == 0);
-    port.shut();
-    assert!(rt; !port.is_open() && port.leases_out() == 0);
-    let (bufs, unread) = port.close();
-    assert!(rt; unread == 3 && bufs.len() == 4);
-    let indices = [5, 6, 5, 4];
-    for at in 0..4 {
-        assert!(rt; bufs[at].index() == indices[at], "buffer {at}");
+    assert!(rt; ports[0].rx() == 4 && ports[0].space() == 0);
+    assert!(rt; ports[0].ready() == 3 && ports[0].out() == 0);
+    shut_at(&mut ports, 0);
+    assert!(rt; !ports[0].is_open() && ports[1].is_open());
+    let _bufs = close_there(&rt, &mut ports, 0, &[5, 6, 5, 4], 3);
+    let Ok(name) = Name::parse("vale0:a") else {
+        panic!(rt; "no name");
+    };
+    assert!(rt; ports[0].id() == PortId(7) && ports[0].session() == SessionId(1));
+    assert!(rt; ports[0].name() == name && ports[0].space() == 7);
+    panic!(rt; "the buffers stay out");
+}
+
+/// A ring of 8 has space for 7: of frames of 1, 2, 3 and 2 slots three are granted, in 6 buffers. One
+/// sync hands these out, and one takes them back, the last one first; they are the last idle ones
+/// then. The buffers stay out: the test ends by the panic that it expects.
+#[test]
+#[should_panic(expected = "the buffers stay out")]
+fn steps_at_a_place(rt: HostRuntime) {
+    let (_small, four) = region_of(&rt, rt.alloc(), 4);
+    let (_large, eight) = region_of(&rt, rt.alloc(), 8);
+    let mut ports = two_ports(&rt, rt.alloc(), four, eight);
+    let mut lease = grant_there(&rt, rt.alloc(), &mut ports, 1, 9, &[1, 2, 3, 2]);
+    assert!(rt; lease.id() == LeaseId(9) && lease.to() == PortId(7));
+    assert!(rt; lease.count() == 3 && lease.slots() == 6);
+    assert!(rt; ports[1].space() == 1 && ports[1].leases_out() == 1 && ports[0].space() == 3);
+    fill(&rt, &mut lease, &[5; 14]);
+    fill(&rt, &mut lease, &[6; 3000]);
+    fill(&rt, &mut lease, &[7; 5000]);
+    complete_there(&rt, &mut ports, 1, lease);
+    assert!(rt; ports[1].ready() == 6 && ports[1].leases_out() == 0);
+    let got = sync_there(&rt, rt.alloc(), &mut ports, 1, Vec::new(rt.alloc()));
+    assert!(rt; got.len() == 6 && ports[1].out() == 6 && ports[1].due() == 12);
+    for (at, len, rest) in [
+        (0, 14, 0),
+        (1, 2048, 1),
+        (2, 952, 0),
+        (3, 2048, 2),
+        (4, 2048, 1),
+        (5, 904, 0),
+    ] {
+        let part = &got[at];
+        assert!(rt; part.buf.index() == at as u32 + 2, "buffer {at}");
+        assert!(rt; part.len == len && part.rest == rest, "part {at}");
     }
+    let Ok(room) = Vec::with_capacity(rt.alloc(), 6) else {
+        panic!(rt; "no memory");
+    };
+    let none = sync_there(&rt, rt.alloc(), &mut ports, 1, turned_buffers(got, room));
+    assert!(rt; none.is_empty() && ports[1].out() == 0 && ports[1].due() == 6);
+    let _bufs = close_there(&rt, &mut ports, 1, &[8, 9, 7, 6, 5, 4, 3, 2], 0);
+    assert!(rt; ports.len() == 1 && ports[0].id() == PortId(3));
     panic!(rt; "the buffers stay out");
 }
 

@@ -1,4 +1,4 @@
-use Rattle.std.proofs.Common.{◌≡◌, ◌+◌, ◌≤◌}
+use Rattle.std.proofs.Common.{◌+◌, ◌≤◌}
 use Rattle.std.specs.Prelude.{All}
 use Rattle.std.specs.Vec.{vec_len, vec_capacity}
 use Rattle.vale_line.specs.Gots.{IsSingle}
