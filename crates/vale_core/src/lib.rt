@@ -5,6 +5,9 @@
 
 mod book;
 mod coming;
+mod monitoring;
+mod offers;
 mod tables;
 
 pub use book::Book;
+pub use offers::Offers;
