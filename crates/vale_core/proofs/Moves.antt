@@ -1,9 +1,11 @@
 -- A book whose parts change as a step says is a book with one entry more.
-use Rattle.std.proofs.Common.{ℕ, Bool, true, false, List, [], ◌∷◌, ◌++◌, ◌≡◌, ◌+◌, length, map, Some, Result, Ok, Err, OnOk, OnErr, refl, sym, ◌∙◌, ap, subst, arith}
+use Rattle.std.proofs.Common.{ℕ, Bool, true, false, List, [], ◌∷◌, ◌++◌, ◌≡◌, ◌<◌, ◌+◌, ◌^◌, length, map, Some, Result, Ok, Err, OnOk, OnErr, refl, sym, ◌∙◌, ap, subst, arith}
 use Rattle.std.specs.List.{AllByRecursion as Each}
 use Rattle.nm_types.specs.declared.fault.Part.TheVariants.{Entries, Bytes}
 use Rattle.nm_types.specs.declared.fault.StepFault.{StepFault}
 use Rattle.nm_types.specs.declared.fault.StepFault.TheVariants.{RecordFull, NoMemory}
+use Rattle.nm_types.specs.Buffers.{IsPoolSize}
+use Rattle.nm_types.specs.declared.limits.Limits.{Limits}
 use Rattle.nm_pool.specs.Free.{PoolState}
 use Rattle.vale_entry.specs.declared.entry.Ask.{Ask}
 use Rattle.vale_entry.specs.declared.entry.Ask.TheVariants.{Enter, Open, Send, Grant, Done, Sync, Reset, Shut, Finish, Leave, Put, PutKept, Get, Watch, Stat}
@@ -14,6 +16,7 @@ use Rattle.vale_entry.specs.Legal.{Standing, Outcome, step, standing_of, standin
 use Rattle.vale_entry.specs.Room.{promised_of, bytes_of}
 use Rattle.vale_entry.specs.Laws.{room_back}
 use Rattle.vale_entry.proofs.HistoryLaws.{room-promised}
+use Rattle.vale_entry.proofs.Wants.{is_owed}
 use Rattle.vale_entry.proofs.Worlds.{standing-push, legal-push}
 use Rattle.vale_port.specs.Lists.{ArePortsOf}
 use Rattle.vale_parts.specs.Parts.{Parts, ArePartsAfter}
@@ -22,7 +25,7 @@ use Rattle.vale_parts.proofs.FreeKept.{size_kept}
 use Rattle.vale_core.specs.declared.book.Book.TheInside.{Inside}
 use Rattle.vale_core.specs.BookView.{recorded, parts_in, number_of_session, AreOf, HasBuffersOf, StandsFor, IsBook}
 use Rattle.vale_core.specs.Recorded.{entry_of, after_ask, IsFullFor, refused_by, IsRefusal, HasRoomFor, HasRoom, room_by}
-use Rattle.vale_core.proofs.Rooms.{step-recorded, had-after}
+use Rattle.vale_core.proofs.Rooms.{step-recorded, had-after, room-owed, within-had}
 
 abbrev pub before : Inside → Standing
 before b = standing_of b.pool.buffers b.history.entries
@@ -86,6 +89,8 @@ moved b next ask made k m =
       stands = subst (λ (h : List Entry). StandsFor next.pool.buffers h next) (sym m.entries)
           (subst (λ (pool : ℕ). StandsFor pool (b.history.entries ++ entry_of ask made ∷ []) next) (sym size) (stands-moved b next ask made k.stands m));
       rooms = had-after (recorded b) (recorded next) ask k.rooms (record-moved b next ask made m) (had-room b next ask made m);
+      few = subst (λ (limits : Limits). limits.entries < 2 ^ 32) (sym m.limits) k.few;
+      pool_fits = subst IsPoolSize (sym size) k.pool_fits;
       size = m.buffers ∙ (k.size ∙ sym size);
       region_is = rw (m.region, size) k.region_is;
       free_are = rw m.region m.free_are;
@@ -123,6 +128,8 @@ stayed b next k s =
       stands = subst (λ (h : List Entry). StandsFor next.pool.buffers h next) (sym s.entries)
           (subst (λ (p : PoolState). StandsFor p.buffers b.history.entries next) (sym pool) stands);
       rooms = rw (pool, s.region, s.limits, s.entries) k.rooms;
+      few = subst (λ (limits : Limits). limits.entries < 2 ^ 32) (sym s.limits) k.few;
+      pool_fits = subst (λ (p : PoolState). IsPoolSize p.buffers) (sym pool) k.pool_fits;
       size = s.buffers ∙ (k.size ∙ sym (ap (λ (p : PoolState). p.buffers) pool));
       region_is = rw (s.region, pool) k.region_is;
       free_are = rw (s.region, pool) k.free_are;
@@ -190,3 +197,15 @@ parts-stay s (Put port offered) reply parts quiet = absurd cc
 parts-stay s (PutKept port offered) reply parts quiet = absurd cc
 parts-stay s (Get port back) reply parts quiet = absurd cc
 parts-stay s (Watch monitor target sides) reply parts quiet = absurd cc
+
+-- A step that was promised has room.
+pub owed-room : (b : Inside) (ask : Ask) (made : Outcome) → IsBook b → is_owed ask ≡ true → step (before b) ask ≡ Some made → HasRoomFor (recorded b) ask made
+owed-room b ask made k owed is = subst (room_by (recorded b) ask) is (room-owed (recorded b) ask k.stands.legal k.rooms owed)
+
+-- A book has fewer than 2^32 entries.
+pub entries-few : (b : Inside) → IsBook b → length b.history.entries < 2 ^ 32
+entries-few b k =
+    let within = within-had (recorded b) k.stands.legal k.rooms in
+    let room = within.0 in
+    let few = k.few in
+    omega (arith, room, few)

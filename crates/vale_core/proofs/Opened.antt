@@ -1,7 +1,8 @@
 -- A pool over all buffers of a region, and a book over it.
-use Rattle.std.proofs.Common.{ℕ, ◌≡◌, List, [], ◌∷◌, length, map, refl, sym, ◌∙◌, ap, subst}
+use Rattle.std.proofs.Common.{ℕ, ◌≡◌, ◌<◌, ◌^◌, List, [], ◌∷◌, length, map, refl, sym, ◌∙◌, ap, subst}
 use Rattle.std.specs.List.{AllByRecursion as Each, range_with_len}
 use Rattle.std.proofs.lemmas.List.FromFn.{length-map-range_with_len}
+use Rattle.nm_types.specs.Buffers.{IsPoolSize}
 use Rattle.nm_region.specs.Buffers.{Buffer, RegionState, opened_buffer, opened_buffers, indices_of}
 use Rattle.nm_pool.specs.Free.{PoolState, AreWhole}
 use Rattle.vale_parts.proofs.AllParts.{empty_first}
@@ -50,6 +51,8 @@ pub record IsFresh (b : Inside) (bufs : List Buffer) : Type 0 where
   pub pool : b.pool ≡ (record { buffers = length bufs; free = bufs })
   pub bufs_are : bufs ≡ opened_buffers b.region
   pub size : b.region.buffers ≡ b.buffers
+  pub few : b.history.limits.entries < 2 ^ 32
+  pub fits : IsPoolSize b.buffers
 
 pub fresh-book : (b : Inside) (bufs : List Buffer) → IsFresh b bufs → IsBook b
 fresh-book b bufs f =
@@ -67,6 +70,8 @@ fresh-book b bufs f =
     record {
       stands = subst (λ (h : List Entry). StandsFor b.pool.buffers h b) (sym f.entries) (subst (λ (p : PoolState). StandsFor p.buffers [] b) (sym f.pool) stands);
       rooms = subst (λ (h : List Entry). HadRoom (record { pool = b.pool.buffers; region = b.region.region; limits = b.history.limits; entries = h })) (sym f.entries) tt;
+      few = f.few;
+      pool_fits = subst IsPoolSize (sym count ∙ sym (ap (λ (p : PoolState). p.buffers) f.pool)) f.fits;
       size = sym count ∙ sym (ap (λ (p : PoolState). p.buffers) f.pool);
       region_is = f.size ∙ (sym count ∙ sym (ap (λ (p : PoolState). p.buffers) f.pool));
       free_are = subst (λ (p : PoolState). AreOf b.region.region p.free) (sym f.pool) (are-of_opened b.region bufs f.bufs_are);

@@ -1,17 +1,16 @@
 -- What a book's ports say of the world, and whose buffers they have.
-use Rattle.std.proofs.Common.{ℕ, zero, suc, Bool, true, false, ◌≡◌, ◌<◌, List, [], ◌∷◌, ◌++◌, take, drop, length, slice_get, slice_set, Option, Some, None, refl, sym, ◌∙◌, ap, subst}
+use Rattle.std.proofs.Common.{ℕ, zero, suc, Bool, true, ◌≡◌, ◌<◌, List, [], ◌∷◌, ◌++◌, take, drop, length, slice_get, map, Option, Some, None, option_map, arith, refl, sym, ◌∙◌, ap, subst}
 use Rattle.std.specs.List.{AllByRecursion as Each, remove}
-use Rattle.nm_region.specs.Buffers.{Buffer}
+use Rattle.std.proofs.lemmas.Option.{slice_get-map}
 use Rattle.vale_entry.specs.declared.entry.Entry.{Entry}
 use Rattle.vale_entry.specs.World.{Port}
-use Rattle.vale_entry.specs.Legal.{world_of, holdings_of, IsLegal, is_met}
-use Rattle.vale_entry.specs.Laws.{AreSingle}
-use Rattle.vale_entry.proofs.HistoryLaws.{numbers-rise, holdings-agree, lots-single}
-use Rattle.vale_port.specs.Ports.{PortState}
-use Rattle.vale_port.specs.Lists.{IsFoundAt, IsNotFound, ArePortsOf, AreRising, StandsAt}
-use Rattle.vale_port.proofs.Lists.{each_port_stands, found_is_found, not_found_is_none}
+use Rattle.vale_entry.specs.Legal.{world_of, holdings_of, is_met}
+use Rattle.vale_entry.proofs.HistoryLaws.{numbers-rise, holdings-agree}
+use Rattle.vale_port.specs.Seat.{port_of, seats_of}
+use Rattle.vale_port.specs.Lists.{IsFoundAt, IsNotFound, AreRising, StandsAt}
+use Rattle.vale_port.proofs.Lists.{are-length, seats-ports, each_port_stands, found_is_found, not_found_is_none}
 use Rattle.vale_core.specs.declared.book.Book.TheInside.{Inside}
-use Rattle.vale_core.specs.BookView.{AreOf, HasBuffersOf, StandsFor}
+use Rattle.vale_core.specs.BookView.{StandsFor}
 
 -- ---- lists
 
@@ -79,3 +78,28 @@ pub not-found : (pool : ℕ) (h : List Entry) (b : Inside) (search' : List Port 
     → search' (world_of pool h).ports ≡ None
 not-found pool h b search' stands none =
     not_found_is_none (world_of pool h).ports (holdings_of pool h).ports b.ports.items search' (ports-rising pool h b stands) none
+
+get-some : {X : Type 0} (xs : List X) (i : ℕ) → i < length xs → (x : X) × (slice_get xs i ≡ Some x)
+get-some [] i within = absurd (omega (arith, within))
+get-some (x ∷ xs) zero within = (x, refl)
+get-some (x ∷ xs) (suc i) within = get-some xs i (omega (arith, within))
+
+-- a place that a search finds has a port
+pub record IsFound (pool : ℕ) (h : List Entry) (b : Inside) (search' : List Port → Option Port) (place : ℕ) : Type 0 where
+  pub port : Port
+  pub here : IsHere pool h b search' place port
+
+pub found-some : (pool : ℕ) (h : List Entry) (b : Inside) (search' : List Port → Option Port) (place : ℕ) → StandsFor pool h b → IsFoundAt search' b.ports.items place
+    → IsFound pool h b search' place
+found-some pool h b search' place stands found =
+    let w = world_of pool h in
+    let x = holdings_of pool h in
+    let are = ports-rising pool h b stands in
+    let seats = seats_of w.ports x.ports in
+    let count = are-length seats b.ports.items are.stand in
+    let within = found.within in
+    let seat = get-some seats place (omega (arith, count, within)) in
+    let there : slice_get (map port_of seats) place ≡ Some (port_of seat.0) = slice_get-map port_of seats place ∙ ap (option_map port_of) seat.1 in
+    let here : slice_get w.ports place ≡ Some (port_of seat.0) = subst (λ (ps : List Port). slice_get ps place ≡ Some (port_of seat.0)) (seats-ports w.ports x.ports are.agree) there in
+    let is : search' w.ports ≡ Some (port_of seat.0) = found_is_found w.ports x.ports b.ports.items search' place are found ∙ here in
+    record { port = port_of seat.0; here = found-here pool h b search' place (port_of seat.0) stands found is }

@@ -1,7 +1,8 @@
 -- What a book stands for, and how its parts are those of a switch.
-use Rattle.std.specs.Prelude.{ℕ, ◌≡◌, ◌++◌, List, map}
+use Rattle.std.specs.Prelude.{ℕ, ◌≡◌, ◌<◌, ◌^◌, ◌++◌, List, map}
 use Rattle.std.specs.List.{AllByRecursion}
 use Rattle.nm_types.specs.Names.{switch_of}
+use Rattle.nm_types.specs.Buffers.{IsPoolSize}
 use Rattle.nm_types.specs.declared.id.SessionId.{SessionId}
 use Rattle.nm_region.specs.Buffers.{Buffer}
 use Rattle.vale_line.specs.Gots.{buffers_of}
@@ -31,8 +32,11 @@ abbrev pub number_of_session : SessionId → ℕ
 number_of_session session = session.0
 
 -- buffers of a region
+abbrev pub IsBufferOf : ℕ → Buffer → Type 0
+IsBufferOf region b = b.region ≡ region
+
 abbrev pub AreOf : ℕ → List Buffer → Type 0
-AreOf region bufs = AllByRecursion (λ (b : Buffer). b.region ≡ region) bufs
+AreOf region bufs = AllByRecursion (IsBufferOf region) bufs
 
 abbrev pub buffers_in_port : PortState → List Buffer
 buffers_in_port p = p.line.idle ++ buffers_of (held_gots p.line.lots)
@@ -53,6 +57,8 @@ pub record StandsFor (pool : ℕ) (history : List Entry) (b : Inside) : Type 0 w
 pub record IsBook (b : Inside) : Type 0 where
   pub stands : StandsFor b.pool.buffers b.history.entries b
   pub rooms : HadRoom (recorded b)
+  pub few : b.history.limits.entries < 2 ^ 32
+  pub pool_fits : IsPoolSize b.pool.buffers
   pub size : b.buffers ≡ b.pool.buffers
   pub region_is : b.region.buffers ≡ b.pool.buffers
   pub free_are : AreOf b.region.region b.pool.free

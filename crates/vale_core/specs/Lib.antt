@@ -1,3 +1,4 @@
 pub mod Recorded
 pub mod BookView
 pub mod Offering
+pub mod Granting

@@ -1,12 +1,11 @@
 -- What an entry's frames are wanted for, and what a grant of it gives.
-use Rattle.std.specs.Prelude.{ℕ, ◌≡◌, ◌≤◌, List, [], ◌∷◌, map, reverse, sum, slice_get, Option, Some, None}
+use Rattle.std.specs.Prelude.{ℕ, ◌≡◌, ◌<◌, ◌^◌, List, length, map, reverse, sum, slice_get, Some}
 use Rattle.std.specs.List.{AllByRecursion}
 use Rattle.nm_types.specs.Frames.{Frame}
 use Rattle.vale_batch.specs.declared.lists.Want.{Want}
 use Rattle.vale_batch.specs.Wants.{Wanted, wanted}
 use Rattle.vale_line.specs.Leased.{Leased}
-use Rattle.vale_entry.specs.World.{Port, Offer, open_port}
-use Rattle.vale_entry.specs.Holdings.{PortBuffers}
+use Rattle.vale_entry.specs.World.{Offer, open_port}
 use Rattle.vale_entry.specs.Legal.{Standing}
 use Rattle.vale_port.specs.Seat.{Seat}
 use Rattle.vale_port.specs.Ports.{IsLeaseFor, IsFilledFor}
@@ -32,9 +31,13 @@ slots_wanted want = sum want.sizes
 abbrev pub slots_in : Want → ℕ
 slots_in want = slots_wanted (wanted want)
 
--- there is room for the lease of each
-abbrev pub HasRooms : Inside → Type 0
-HasRooms o = o.rooms.items ≡ map slots_in o.wants.items
+abbrev pub IsFew : Want → Type 0
+IsFew want = length want.sizes.items < 2 ^ 32
+
+-- there is room for the lease of each, and each is of fewer than 2^32 frames
+pub record IsOffers (o : Inside) : Type 0 where
+  pub rooms : o.rooms.items ≡ map slots_in o.wants.items
+  pub few : AllByRecursion IsFew o.wants.items
 
 abbrev pub IsOfferBy : ℕ → Offer → Type 0
 IsOfferBy session offer = offer.session ≡ session

@@ -5,9 +5,11 @@
 
 mod book;
 mod coming;
+mod granting;
 mod monitoring;
 mod offers;
 mod tables;
 
 pub use book::Book;
+pub use granting::Granted;
 pub use offers::Offers;

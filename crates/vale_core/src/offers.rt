@@ -25,11 +25,11 @@ impl Model for Offers {
 
     ghost Value = { OffersState };
 
-    ghost use Rattle.vale_core.specs.Offering.{offers_seen, HasRooms};
+    ghost use Rattle.vale_core.specs.Offering.{offers_seen, IsOffers};
 
     ghost view = { offers_seen };
 
-    ghost invariant = { HasRooms };
+    ghost invariant = { IsOffers };
 }
 
 /// How many slots the frames of a want take.
@@ -92,6 +92,7 @@ impl Offers {
         requires { 1 ≤ length self.old.wants }
         ensures want { self.old ≡ record self.new { wants = wanted result.0 ∷ self.new.wants } }
         ensures room { result.1 ≡ slots_wanted (wanted result.0) }
+        ensures few { length result.0.sizes.items < 2 ^ 32 }
     {
         (self.wants.take_last(), self.rooms.take_last())
     }

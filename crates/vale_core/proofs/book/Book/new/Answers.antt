@@ -24,6 +24,8 @@ invariant_of-result c = fresh-book _ c.in_ok-region.all.items (record {
   pool = c.in-Ok.ensures.ok;
   bufs_are = c.in_ok-region.ensures.all;
   size = c.in_ok-region.ensures.buffers;
+  few = rw c.new-in-Ok.ensures.limits c.requires.few;
+  fits = c.requires.pool;
 })
 
 pub close-requires : goal.close-requires
