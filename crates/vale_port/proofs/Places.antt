@@ -1,6 +1,7 @@
 -- A change of the port at one place, with the seat that it stands for.
 use Rattle.std.proofs.Common.{ℕ, zero, suc, ◌≡◌, ◌<◌, List, [], ◌∷◌, length, slice_get, slice_set, get_or, Option, Some, None, refl, sym, ◌∙◌, ap, subst, arith}
 use Rattle.std.specs.Prelude.{IfSome, IfNone}
+use Rattle.std.proofs.lemmas.Option.{get_or_from_slice_get}
 use Rattle.vale_line.specs.Leased.{Leased}
 use Rattle.vale_entry.specs.World.{Offer}
 use Rattle.vale_port.specs.Lists.{ChangesSeat, ChangesSeatIf, OfSeat, OfState, SeatChangeIsChange}
@@ -16,11 +17,6 @@ seat-there (s ∷ ss) [] place seat d are e = absurd are
 seat-there (s ∷ ss) (p ∷ ps) zero seat d are e = let same : s ≡ seat = cc in subst (λ (t : Seat). IsSeatOf t p) same are.0
 seat-there (s ∷ ss) (p ∷ ps) (suc place) seat d are e = seat-there ss ps place seat d are.1 e
 
-pub state-there : (ps : List PortState) (place : ℕ) (d : PortState) → place < length ps → slice_get ps place ≡ Some (get_or ps place d)
-state-there [] place d within = absurd (omega (arith, within))
-state-there (p ∷ ps) zero d within = refl
-state-there (p ∷ ps) (suc place) d within = state-there ps place d (omega (arith, within))
-
 pub changes-at : (change : Seat → Seat) (old : List PortState) (place : ℕ) (was now : PortState) → was ≡ get_or old place was
     → ((seat : Seat) → IsSeatOf seat was → IsSeatOf (change seat) now) → ChangesSeat change old place (slice_set old place now)
 changes-at change old place was now here keeps = λ seats seat are e.
@@ -30,16 +26,8 @@ pub of-seat : (P : Seat → Type 0) (ps : List PortState) (place : ℕ) (was : P
     → OfSeat P ps place
 of-seat P ps place was here holds = λ seats seat are e. holds seat (subst (IsSeatOf seat) (sym here) (seat-there seats ps place seat was are e))
 
-pub of-state : (P : PortState → Type 0) (ps : List PortState) (place : ℕ) (d : PortState) → place < length ps → OfState P ps place → P (get_or ps place d)
-of-state P ps place d within of = of (get_or ps place d) (state-there ps place d within)
-
-here-is : (ps : List PortState) (place : ℕ) (p d : PortState) → slice_get ps place ≡ Some p → get_or ps place d ≡ p
-here-is [] place p d e = absurd cc
-here-is (q ∷ ps) zero p d e = cc
-here-is (q ∷ ps) (suc place) p d e = here-is ps place p d e
-
 pub state-of : (P : PortState → Type 0) (ps : List PortState) (place : ℕ) (was : PortState) → was ≡ get_or ps place was → P was → OfState P ps place
-state-of P ps place was here holds = λ p e. subst P (here ∙ here-is ps place p was e) holds
+state-of P ps place was here holds = λ p e. subst P (here ∙ get_or_from_slice_get ps place p was e) holds
 
 pub seat_change_is_change : SeatChangeIsChange
 seat_change_is_change ports helds old new place port held step change changed are e f changes same =

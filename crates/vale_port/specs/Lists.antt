@@ -46,7 +46,7 @@ abbrev pub ChangesSeat : (Seat → Seat) → List PortState → ℕ → List Por
 ChangesSeat change old place new = (seats : List Seat) (seat : Seat) → AreSeatsOf seats old → slice_get seats place ≡ Some seat
     → AreSeatsOf (slice_set seats place (change seat)) new
 
--- the same for a seat that is so
+-- the same where P holds of the seat
 abbrev pub ChangesSeatIf : (Seat → Type 0) → (Seat → Seat) → List PortState → ℕ → List PortState → Type 0
 ChangesSeatIf P change old place new = (seats : List Seat) (seat : Seat) → AreSeatsOf seats old → slice_get seats place ≡ Some seat → P seat
     → AreSeatsOf (slice_set seats place (change seat)) new

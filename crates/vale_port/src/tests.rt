@@ -325,9 +325,9 @@ fn puts_and_close(rt: HostRuntime) {
     panic!(rt; "the buffers stay out");
 }
 
-/// A ring of 8 has space for 7: of frames of 1, 2, 3 and 2 slots three are granted, in 6 buffers. One
-/// sync hands these out, and one takes them back, the last one first; they are the last idle ones
-/// then. The buffers stay out: the test ends by the panic that it expects.
+/// A ring of 8 has space for 7: of frames of 1, 2, 3 and 2 slots three are granted, in 6 buffers.
+/// One sync hands these out, and one takes them back, the last one first; they are the last idle
+/// ones then. The buffers stay out: the test ends by the panic that it expects.
 #[test]
 #[should_panic(expected = "the buffers stay out")]
 fn steps_at_a_place(rt: HostRuntime) {
