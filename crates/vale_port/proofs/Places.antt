@@ -1,5 +1,5 @@
 -- A change of the port at one place, with the seat that it stands for.
-use Rattle.std.proofs.Common.{ℕ, zero, suc, ◌≡◌, ◌<◌, List, [], ◌∷◌, length, slice_get, slice_set, get_or, Option, Some, None, refl, sym, ◌∙◌, ap, subst, arith}
+use Rattle.std.proofs.Common.{ℕ, zero, suc, ◌≡◌, List, [], ◌∷◌, slice_get, slice_set, get_or, Option, Some, None, refl, sym, ◌∙◌, ap, subst}
 use Rattle.std.specs.Prelude.{IfSome, IfNone}
 use Rattle.std.proofs.lemmas.Option.{get_or_from_slice_get}
 use Rattle.vale_line.specs.Leased.{Leased}

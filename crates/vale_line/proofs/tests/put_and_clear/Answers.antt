@@ -1,4 +1,4 @@
-use Rattle.std.proofs.Common.{ℕ, suc, false, ◌≡◌, ◌==◌, ◌++◌, List, [], ◌∷◌, length, take, drop, ap, sym, ◌∙◌, refl, arith, rules}
+use Rattle.std.proofs.Common.{false, ◌≡◌, ◌==◌, ◌++◌, List, [], ◌∷◌, length, take, drop, ap, ◌∙◌, refl, arith, rules}
 use Rattle.std.proofs.lemmas.Bool.{ne_eqb}
 use Rattle.std.proofs.lemmas.List.{append-nil}
 use Rattle.nm_types.specs.declared.id.LeaseId.{LeaseId}
