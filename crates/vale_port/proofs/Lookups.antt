@@ -1,14 +1,16 @@
 -- A search among ports of owned buffers finds what a search among the world's ports finds.
-use Rattle.std.proofs.Common.{ℕ, zero, suc, Bool, true, false, not, ◌≡◌, ◌<◌, ◌≤◌, ◌+◌, nat_lt, List, [], ◌∷◌, length, map, find, slice_get, get_or, Option, Some, None, cond, refl, sym, ◌∙◌, arith}
-use Rattle.std.specs.Prelude.{position, IfSome, IfNone}
+use Rattle.std.proofs.Common.{ℕ, zero, suc, Bool, true, false, not, ◌≡◌, ◌<◌, ◌≤◌, ◌+◌, nat_lt, List, [], ◌∷◌, length, map, find, slice_get, get_or, Option, Some, None, cond, refl, sym, ◌∙◌, ap, arith, inl, inr, Vec, Global, ◌&&◌}
+use Rattle.std.specs.Prelude.{position, filter, IfOk, IfSome, IfNone, Result, Ok, Err}
+use Rattle.nm_types.specs.declared.id.PortId.{PortId}
+use Rattle.vale_entry.specs.Opening.{is_on_switch}
 use Rattle.std.specs.List.{position_or_len}
-use Rattle.std.proofs.lemmas.Bool.{ltb-false}
+use Rattle.std.proofs.lemmas.Bool.{cases_Bool, ltb-false}
 use Rattle.std.proofs.lemmas.List.Quantifiers.{position-Some}
 use Rattle.vale_entry.specs.World.{Port, is_open_at}
 use Rattle.vale_entry.specs.Closing.{is_shutting_at, is_port_of}
 use Rattle.vale_entry.specs.Delivered.{has_id}
-use Rattle.vale_port.specs.Lists.{IsFoundAt, IsNotFound}
-use Rattle.vale_port.specs.Ports.{PortState, IsSeatOf, AreSeatsOf, is_open_state, is_shutting_state, is_state_of, is_state_of_session}
+use Rattle.vale_port.specs.Lists.{IsFoundAt, IsNotFound, AreOpenOn, port_id}
+use Rattle.vale_port.specs.Ports.{PortState, IsSeatOf, AreSeatsOf, id_of_state, is_open_state, is_open_state_on, is_shutting_state, is_state_of, is_state_of_session}
 use Rattle.vale_port.specs.Seat.{Seat, port_of}
 
 found-at : (test : PortState → Bool) (of : Port → Bool) → ((seat : Seat) (p : PortState) → IsSeatOf seat p → of seat.port ≡ test p)
@@ -75,3 +77,29 @@ same-id id seat p is = let one = is.id in cc
 
 pub same-session : (session : ℕ) (seat : Seat) (p : PortState) → IsSeatOf seat p → is_port_of session seat.port ≡ is_state_of_session session p
 same-session session seat p is = let one = is.session in cc
+
+-- The open ports of a switch are those of the world.
+
+same-on : (switch : List ℕ) (seat : Seat) (p : PortState) → IsSeatOf seat p → is_open_state_on switch p ≡ (not seat.port.shutting && is_on_switch switch seat.port)
+same-on switch seat p is = let one = is.name in let two = is.shutting in cc
+
+open-on : (switch : List ℕ) (seats : List Seat) (ps : List PortState) → AreSeatsOf seats ps
+    → map id_of_state (filter (is_open_state_on switch) ps) ≡ map port_id (filter (λ (port : Port). not port.shutting && is_on_switch switch port) (map port_of seats))
+open-on switch [] [] are = refl
+open-on switch [] (p ∷ ps) are = absurd are
+open-on switch (s ∷ ss) [] are = absurd are
+open-on switch (s ∷ ss) (p ∷ ps) are =
+    let own : id_of_state p ≡ port_id s.port = let id = are.0.id in cc in
+    let same = same-on switch s p are.0 in
+    let rest = open-on switch ss ps are.1 in
+    elim (cases_Bool (is_open_state_on switch p)) [
+      | inl here ↦
+          let there : (not s.port.shutting && is_on_switch switch s.port) ≡ true = sym same ∙ here in
+          rw (here, there) (rw own (ap (λ (ids : List PortId). port_id s.port ∷ ids) rest))
+      | inr other ↦ let away : (not s.port.shutting && is_on_switch switch s.port) ≡ false = sym same ∙ other in rw (other, away) rest
+    ]
+
+pub found-open : {E : Type 0} (switch : List ℕ) (ps : List PortState) (r : Result (Vec PortId Global) E)
+    → IfOk r (λ (ids : Vec PortId Global). ids.items ≡ map id_of_state (filter (is_open_state_on switch) ps)) → IfOk r (λ (ids : Vec PortId Global). AreOpenOn switch ps ids.items)
+found-open switch ps (Ok ids) is = λ seats are. is ∙ open-on switch seats ps are
+found-open switch ps (Err fault) is = tt

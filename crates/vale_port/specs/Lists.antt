@@ -1,7 +1,9 @@
 -- Ports in a list, in the order of their ids, with the seats that they stand for.
-use Rattle.std.specs.Prelude.{ℕ, false, ◌≡◌, ◌<◌, ◌==◌, not, List, [], ◌∷◌, ◌++◌, length, map, filter, Option, Some, None, slice_get, slice_set}
+use Rattle.std.specs.Prelude.{ℕ, false, ◌≡◌, ◌<◌, ◌==◌, not, ◌&&◌, List, [], ◌∷◌, ◌++◌, length, map, filter, Option, Some, None, slice_get, slice_set}
 use Rattle.std.specs.List.{remove}
+use Rattle.nm_types.specs.declared.id.PortId.{PortId}
 use Rattle.vale_entry.specs.World.{Port, changed_at}
+use Rattle.vale_entry.specs.Opening.{is_on_switch}
 use Rattle.vale_entry.specs.Closing.{shut, ports_without}
 use Rattle.vale_entry.specs.Delivery.{ports_after_done}
 use Rattle.vale_entry.specs.Holdings.{PortBuffers, PortAgrees, PortsAgree, changed_buffers}
@@ -19,6 +21,14 @@ pub record IsFoundAt (search : List Port → Option Port) (ps : List PortState) 
 
 abbrev pub IsNotFound : (List Port → Option Port) → List PortState → Type 0
 IsNotFound search ps = (seats : List Seat) → AreSeatsOf seats ps → search (map port_of seats) ≡ None
+
+abbrev pub port_id : Port → PortId
+port_id port = record { 0 = port.id }
+
+-- the ids of the open ports of a switch, whichever seats these are
+abbrev pub AreOpenOn : List ℕ → List PortState → List PortId → Type 0
+AreOpenOn switch ps ids = (seats : List Seat) → AreSeatsOf seats ps
+    → ids ≡ map port_id (filter (λ (port : Port). not port.shutting && is_on_switch switch port) (map port_of seats))
 
 -- The ports of a world, with what the holdings say of their buffers, are those of a list.
 abbrev pub ArePortsOf : List Port → List PortBuffers → List PortState → Type 0

@@ -1,5 +1,6 @@
 ghost use Rattle.std.specs.Prelude.{List, ℕ, true, ◌≡◌, ◌≤◌, ◌+◌, ◌-◌, not, [], ◌++◌, All, length, take, drop, map, min, sum, false, Some, vec_capacity, IfOk, IfErr, IfSome, IfNone};
 ghost use Rattle.nm_types.specs.Frames.{Frame, size_of_frames};
+ghost use Rattle.nm_types.specs.Names.{switch_of};
 ghost use Rattle.nm_region.specs.Buffers.{indices_of};
 ghost use Rattle.vale_lease.specs.Leases.{is_there, out_count};
 ghost use Rattle.vale_line.specs.Fitting.{IsFrameSize};
@@ -13,7 +14,7 @@ ghost use Rattle.vale_entry.specs.Pipe.{taken_count};
 ghost use Rattle.vale_entry.specs.Holdings.{buffers_at_port};
 ghost use Rattle.vale_port.specs.Kept.{bytes_of};
 ghost use Rattle.vale_port.specs.Laws.{with_line, line_after_put};
-ghost use Rattle.vale_port.specs.Ports.{opened_state, due_of_state, is_open_state, is_shutting_state, IsSeatOf, IsLeaseFor, IsFilledFor, Gives, sizes_of};
+ghost use Rattle.vale_port.specs.Ports.{opened_state, due_of_state, is_open_state, is_open_state_on, is_shutting_state, IsSeatOf, IsLeaseFor, IsFilledFor, Gives, sizes_of};
 ghost use Rattle.vale_port.specs.Seat.{Seat, opened_seat, given_frames, seat_given, seat_done, seat_synced, seat_put, seat_shut};
 
 use crate::room::PutRoom;
@@ -134,6 +135,12 @@ impl Port {
         ensures { result ≡ is_shutting_state id.0 self.now }
     {
         self.id == id && self.shutting
+    }
+
+    pub(crate) fn is_open_on(&self, name: &Name) -> bool
+        ensures { result ≡ is_open_state_on (switch_of name.now) self.now }
+    {
+        !self.shutting && self.name.is_switch_port() && self.name.switch() == name.switch()
     }
 
     /// Returns the number of buffers that syncs handed out and that have not come back.

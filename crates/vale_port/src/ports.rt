@@ -1,12 +1,14 @@
-ghost use Rattle.std.specs.Prelude.{◌≡◌, find, position, IfSome, IfNone};
+ghost use Rattle.std.specs.Prelude.{◌≡◌, map, filter, find, position, IfOk, IfSome, IfNone};
+ghost use Rattle.nm_types.specs.Names.{switch_of};
 ghost use Rattle.vale_entry.specs.World.{open_port};
 ghost use Rattle.vale_entry.specs.Closing.{shutting_port, is_port_of};
 ghost use Rattle.vale_entry.specs.Delivered.{port_at};
-ghost use Rattle.vale_port.specs.Lists.{IsFoundAt, IsNotFound};
-ghost use Rattle.vale_port.specs.Ports.{is_state_of, is_state_of_session, is_open_state, is_shutting_state};
+ghost use Rattle.vale_port.specs.Lists.{IsFoundAt, IsNotFound, AreOpenOn};
+ghost use Rattle.vale_port.specs.Ports.{id_of_state, is_state_of, is_state_of_session, is_open_state, is_open_state_on, is_shutting_state};
 
 use crate::port::Port;
-use nm_types::{PortId, SessionId};
+use nm_types::{Name, NoMemory, PortId, SessionId};
+use std::alloc::Global;
 use vale_line::Lease;
 
 fn place_of(ports: &[Port], id: PortId) -> Option<usize>
@@ -63,4 +65,23 @@ pub fn first_of_session(ports: &[Port], session: SessionId) -> Option<usize>
     ensures none { IfNone result (IsNotFound (λ all. find (is_port_of session.0) all) ports.now) }
 {
     place_of_session(ports, session)
+}
+
+fn ids_on(alloc: Global, ports: &[Port], name: &Name) -> Result<Vec<PortId>, NoMemory>
+    ensures { IfOk result (λ ids. ids.items
+        ≡ map id_of_state (filter (is_open_state_on (switch_of name.now)) ports.now)) }
+{
+    let ids = ports
+        .iter()
+        .filter(|port| port.is_open_on(name))
+        .map(|port| port.id())
+        .collect(alloc)?;
+    Ok(ids)
+}
+
+/// Returns the ids of the open ports on the switch of a name, in the order of the ports.
+pub fn open_ports_on(alloc: Global, ports: &[Port], name: &Name) -> Result<Vec<PortId>, NoMemory>
+    ensures { IfOk result (λ ids. AreOpenOn (switch_of name.now) ports.now ids.items) }
+{
+    ids_on(alloc, ports, name)
 }

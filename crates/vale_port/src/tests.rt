@@ -8,7 +8,7 @@ ghost use Rattle.vale_port.specs.Lists.{OfState};
 
 use crate::{
     Opening, Port, PutRoom, close_at, done_at, first_of_session, grant_at, leased_port, open_port,
-    put_at, shut_at, shutting_port, sync_at,
+    open_ports_on, put_at, shut_at, shutting_port, sync_at,
 };
 use nm_frag::slots;
 use nm_region::{Buf, Region};
@@ -392,6 +392,22 @@ fn ports_are_found(rt: HostRuntime) {
     ] {
         assert!(rt; open_port(&ports, PortId(id)) == open, "port {id}");
         assert!(rt; shutting_port(&ports, PortId(id)) == shutting, "port {id}");
+    }
+    for (text, first, last, count) in [
+        ("vale0:b", Some(PortId(3)), Some(PortId(12)), 2),
+        ("vale1:b", None, None, 0),
+    ] {
+        let Ok(name) = Name::parse(text) else {
+            panic!(rt; "no name");
+        };
+        let Ok(ids) = open_ports_on(rt.alloc(), &ports, &name) else {
+            panic!(rt; "no memory");
+        };
+        assert!(rt; ids.len() == count, "{text}");
+        assert!(rt;
+            ids.first().copied() == first && ids.last().copied() == last,
+            "{text}"
+        );
     }
     assert!(rt; leased_port(&ports, &lease) == Some(1));
     assert!(rt; first_of_session(&ports, SessionId(1)) == Some(0));
