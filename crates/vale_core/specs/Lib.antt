@@ -2,3 +2,4 @@ pub mod Recorded
 pub mod BookView
 pub mod Offering
 pub mod Granting
+pub mod SwitchTables

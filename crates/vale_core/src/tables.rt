@@ -1,3 +1,7 @@
+ghost use Rattle.std.specs.Prelude.{◌≡◌, position};
+ghost use Rattle.nm_types.specs.Names.{switch_of};
+ghost use Rattle.vale_core.specs.SwitchTables.{is_for_switch};
+
 use nm_types::Name;
 use vale_learn::Table;
 
@@ -7,4 +11,13 @@ pub(crate) struct SwitchTable {
     /// The name of a port that is or was on the switch.
     pub(crate) label: Name,
     pub(crate) table: Table,
+}
+
+/// The place of the table of the switch that a port of this name is on.
+pub(crate) fn table_of(tables: &[SwitchTable], name: &Name) -> Option<usize>
+    ensures { result ≡ position (is_for_switch (switch_of name.now)) tables.now }
+{
+    tables
+        .iter()
+        .position(|table| table.label.switch() == name.switch())
 }
