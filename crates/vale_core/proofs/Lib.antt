@@ -1,8 +1,12 @@
 pub mod Rooms
 pub mod Moves
-pub mod Opened
+pub mod FreshBooks
 pub mod Comings
 pub mod Standing
 pub mod Leasing
 pub mod Wanting
 pub mod Grants
+pub mod TakenParts
+pub mod OpenTables
+pub mod OpenMoves
+pub mod OpenRefusals

@@ -13,3 +13,8 @@ mod tables;
 pub use book::Book;
 pub use granting::Granted;
 pub use offers::Offers;
+mod opening;
+mod tables;
+
+pub use book::Book;
+pub use opening::Opened;

@@ -1,7 +1,7 @@
 use Rattle.std.proofs.Common.{◌∙◌, sym, subst}
 use Rattle.nm_types.specs.Buffers.{IsPoolSize}
 use Rattle.nm_region.proofs.Named.{AreAllOf-opened}
-use Rattle.vale_core.proofs.Opened.{size-opened, whole-opened, fresh-book}
+use Rattle.vale_core.proofs.FreshBooks.{size-opened, whole-opened, fresh-book}
 use Rattle.vale_core.proofs.book.Book.new.Goals as goal
 
 pub new-requires-4-clause-size : goal.new-requires-4-clause-size
