@@ -10,3 +10,6 @@ pub mod TakenParts
 pub mod OpenTables
 pub mod OpenMoves
 pub mod OpenRefusals
+pub mod MonitorWants
+pub mod PortLines
+pub mod ReadMoves

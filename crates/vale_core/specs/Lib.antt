@@ -5,3 +5,5 @@ pub mod Granting
 pub mod SwitchTables
 pub mod OpenAnswers
 pub mod OpenParts
+pub mod Monitored
+pub mod Reading

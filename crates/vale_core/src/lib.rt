@@ -6,8 +6,10 @@
 mod book;
 mod coming;
 mod granting;
+mod monitored;
 mod monitoring;
 mod offers;
+mod reading;
 mod tables;
 
 pub use book::Book;
@@ -18,3 +20,4 @@ mod tables;
 
 pub use book::Book;
 pub use opening::Opened;
+pub use reading::Synced;

@@ -1,0 +1,55 @@
+-- Whose buffers a port has once some come back and what is ready goes.
+use Rattle.std.proofs.Common.{ℕ, zero, suc, ◌≡◌, List, [], ◌∷◌, ◌++◌, slice_get, slice_set, Some, sym, subst}
+use Rattle.std.specs.Prelude.{take_while}
+use Rattle.std.specs.List.{AllByRecursion as Each, prefix_len}
+use Rattle.std.proofs.lemmas.List.{map-append}
+use Rattle.nm_region.specs.Buffers.{Buffer}
+use Rattle.vale_line.specs.Gots.{buffers_of, buffer_of}
+use Rattle.vale_line.specs.Lines.{HeldLot, is_done, gots_of, held_gots, ready_gots, behind_done, given_by_sync}
+use Rattle.vale_port.specs.Laws.{with_line}
+use Rattle.vale_port.specs.Ports.{PortState}
+use Rattle.vale_core.specs.BookView.{AreOf, HasBuffersOf}
+use Rattle.vale_core.proofs.Standing.{each-append, each-left, each-right, each-take, each-drop}
+
+pub each-at : {X : Type 0} (P : X → Type 0) (xs : List X) (place : ℕ) (x : X) → slice_get xs place ≡ Some x → Each P xs → P x
+each-at P [] place x here all = absurd cc
+each-at P (y ∷ ys) zero x here all = let same : y ≡ x = cc in subst P same all.0
+each-at P (y ∷ ys) (suc place) x here all = each-at P ys place x here all.1
+
+-- one of a list changes, and keeps what holds of each
+pub each-set : {X : Type 0} (P : X → Type 0) (xs : List X) (place : ℕ) (x new : X) → slice_get xs place ≡ Some x → (P x → P new) → Each P xs → Each P (slice_set xs place new)
+each-set P [] place x new here keeps all = absurd cc
+each-set P (y ∷ ys) zero x new here keeps all = let same : y ≡ x = cc in (keeps (subst P same all.0), all.1)
+each-set P (y ∷ ys) (suc place) x new here keeps all = (all.0, each-set P ys place x new here keeps all.1)
+
+-- the buffers of each lot
+abbrev IsLotOf : ℕ → HeldLot → Type 0
+IsLotOf region lot = AreOf region (buffers_of (gots_of lot))
+
+lots-of : (region : ℕ) (lots : List HeldLot) → AreOf region (buffers_of (held_gots lots)) → Each (IsLotOf region) lots
+lots-of region [] all = tt
+lots-of region (lot ∷ lots) all =
+    let both = subst (AreOf region) (map-append buffer_of (gots_of lot) (held_gots lots)) all in (
+      each-left (λ (b : Buffer). b.region ≡ region) (buffers_of (gots_of lot)) (buffers_of (held_gots lots)) both,
+      lots-of region lots (each-right (λ (b : Buffer). b.region ≡ region) (buffers_of (gots_of lot)) (buffers_of (held_gots lots)) both),
+    )
+
+of-lots : (region : ℕ) (lots : List HeldLot) → Each (IsLotOf region) lots → AreOf region (buffers_of (held_gots lots))
+of-lots region [] all = tt
+of-lots region (lot ∷ lots) all =
+    subst (AreOf region) (sym (map-append buffer_of (gots_of lot) (held_gots lots)))
+    (each-append (λ (b : Buffer). b.region ≡ region) (buffers_of (gots_of lot)) (buffers_of (held_gots lots)) all.0 (of-lots region lots all.1))
+
+held-of : (region : ℕ) (p : PortState) → HasBuffersOf region p → AreOf region (buffers_of (held_gots p.line.lots))
+held-of region p all = each-right (λ (b : Buffer). b.region ≡ region) p.line.idle (buffers_of (held_gots p.line.lots)) all
+
+pub of-synced : (region : ℕ) (back : List Buffer) (p : PortState) → AreOf region back → HasBuffersOf region p → HasBuffersOf region (with_line (given_by_sync back p.line) p)
+of-synced region back p of all =
+    let idle = each-left (λ (b : Buffer). b.region ≡ region) p.line.idle (buffers_of (held_gots p.line.lots)) all in
+    each-append (λ (b : Buffer). b.region ≡ region) (p.line.idle ++ back) (buffers_of (held_gots (behind_done p.line.lots)))
+    (each-append (λ (b : Buffer). b.region ≡ region) p.line.idle back idle of)
+    (of-lots region (behind_done p.line.lots) (each-drop (IsLotOf region) (prefix_len is_done p.line.lots) p.line.lots (lots-of region p.line.lots (held-of region p all))))
+
+pub of-given : (region : ℕ) (ps : List PortState) (place : ℕ) (p : PortState) → slice_get ps place ≡ Some p → Each (HasBuffersOf region) ps → AreOf region (buffers_of (ready_gots p.line.lots))
+of-given region ps place p here all =
+    of-lots region (take_while is_done p.line.lots) (each-take (IsLotOf region) (prefix_len is_done p.line.lots) p.line.lots (lots-of region p.line.lots (held-of region p (each-at (HasBuffersOf region) ps place p here all))))
