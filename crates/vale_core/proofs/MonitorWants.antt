@@ -4,6 +4,7 @@ use Rattle.std.specs.Prelude.{sum, All}
 use Rattle.std.specs.List.{AllByRecursion as Each, range_with_len}
 use Rattle.std.proofs.lemmas.Bool.{ne_eqb}
 use Rattle.std.proofs.lemmas.List.Elements.{All-from_recursion}
+use Rattle.std.proofs.lemmas.List.{length-replicate}
 use Rattle.std.proofs.lemmas.List.FromFn.{length-range_with_len}
 use Rattle.std.proofs.lemmas.List.Sums.{sum_by-cons}
 use Rattle.nm_types.specs.declared.id.PortId.{PortId}
@@ -13,12 +14,15 @@ use Rattle.vale_entry.specs.declared.entry.Dest.{Dest}
 use Rattle.vale_parts.specs.Batches.{dests_wanted, wants_monitored}
 use Rattle.vale_parts.specs.Ids.{id_of}
 use Rattle.nm_types.specs.Frames.{Frame, slots_of}
-use Rattle.vale_core.specs.Offering.{slots_in, slots_wanted}
+use Rattle.vale_core.specs.Offering.{IsFew as IsFewFrames, slots_in, slots_wanted}
 use Rattle.vale_core.specs.Monitored.{want_all, wants_by, dest_in}
 
 pub sum-ones : (n : ℕ) → sum (replicate n 1) ≡ n
 sum-ones zero = refl
 sum-ones (suc n) = let one = sum_by-cons (λ (k : ℕ). k) 1 (replicate n 1) in let rest = sum-ones n in omega (arith, one, rest)
+
+abbrev HasFew : Wanted → Type 0
+HasFew want = length want.sizes < 2 ^ 32
 
 -- each want is of few frames, in as many slots
 abbrev IsFew : Wanted → Type 0
@@ -46,6 +50,19 @@ each-right (w ∷ ws) all = (all.0.1, each-right ws all.1)
 
 few-wanted : (wants : List Want) (monitor : Option PortId) (count : ℕ) → map wanted wants ≡ wants_by monitor count → count < 2 ^ 32 → Each (λ (want : Want). IsFew (wanted want)) wants
 few-wanted wants monitor count is few = few-of wants (subst (Each IsFew) (sym is) (few-by monitor count few))
+
+pub few-frames : (wants : List Want) (monitor : Option PortId) (count : ℕ) → map wanted wants ≡ wants_by monitor count → count < 2 ^ 32 → Each IsFewFrames wants
+few-frames wants monitor count is few = unmapped wants (subst (Each HasFew) (sym is) (by_monitor monitor))
+  where
+    by_count : (b : Bool) (to : PortId) → Each HasFew (cond b [] (want_all to count ∷ []))
+    by_count true to = tt
+    by_count false to = let sizes = length-replicate {A = ℕ} count 1 in (omega (arith, sizes, few), tt)
+    by_monitor : (monitor : Option PortId) → Each HasFew (wants_by monitor count)
+    by_monitor None = tt
+    by_monitor (Some to) = by_count (count == 0) to
+    unmapped : (wants : List Want) → Each HasFew (map wanted wants) → Each IsFewFrames wants
+    unmapped [] all = tt
+    unmapped (w ∷ ws) all = (all.0, unmapped ws all.1)
 
 pub few-places : (wants : List Want) (monitor : Option PortId) (count : ℕ) → map wanted wants ≡ wants_by monitor count → count < 2 ^ 32 → All (λ (want : Want). length want.places.items < 2 ^ 32) wants
 few-places wants monitor count is few = All-from_recursion (λ (want : Want). length want.places.items < 2 ^ 32) wants (each-left wants (few-wanted wants monitor count is few))
@@ -102,4 +119,4 @@ wants-monitored monitor frames count id is same =
         let some : (length (f ∷ fs) == 0) ≡ false = ne_eqb (length (f ∷ fs)) 0 (λ none. absurd (omega (arith, none))) in
         ap (λ (b : Bool). cond b [] (want_all to (length (f ∷ fs)) ∷ [])) some ∙ all-by to (range_with_len 0 (length (f ∷ fs))) (replicate (length (f ∷ fs)) 1) (map slots_of (f ∷ fs)) (ones (f ∷ fs))
 
-pub ruleset monitor_wants = (few-places, few-slots, one-want)
+pub ruleset monitor_wants = (few-places, few-slots, few-frames, one-want)

@@ -134,6 +134,8 @@ tables-kept b next k kept =
         };
       };
       rooms = k.rooms;
+      few = k.few;
+      pool_fits = k.pool_fits;
       size = k.size;
       region_is = k.region_is;
       free_are = k.free_are;

@@ -1,6 +1,6 @@
 -- What the monitor of a port is offered of an entry's frames: all of them, if there are some.
 use Rattle.std.specs.Prelude.{ℕ, ◌≡◌, ◌≤◌, ◌==◌, if◌then◌else◌, List, [], ◌∷◌, length, map, replicate, Option, Some, None}
-use Rattle.std.specs.List.{range_with_len}
+use Rattle.std.specs.List.{AllByRecursion, range_with_len}
 use Rattle.nm_types.specs.declared.id.PortId.{PortId}
 use Rattle.nm_types.specs.declared.id.SessionId.{SessionId}
 use Rattle.vale_batch.specs.Wants.{Wanted, wanted}
@@ -8,7 +8,7 @@ use Rattle.vale_batch.specs.declared.lists.Want.{Want}
 use Rattle.vale_entry.specs.declared.entry.Dest.{Dest}
 use Rattle.vale_parts.specs.Batches.{dest_wanted}
 use Rattle.vale_core.specs.declared.monitored.Monitored.TheInside.{Inside}
-use Rattle.vale_core.specs.Offering.{OffersState, slots_in}
+use Rattle.vale_core.specs.Offering.{OffersState, IsFew, slots_in}
 
 -- all of so many frames, each of which takes one slot
 abbrev pub want_all : PortId → ℕ → Wanted
@@ -26,6 +26,7 @@ pub record AreMonitored (m : Inside) : Type 0 where
   pub rooms : m.rooms.items ≡ map slots_in m.wants.items
   pub to : m.to.items ≡ map dest_in m.wants.items
   pub few : length m.wants.items ≤ 1
+  pub small : AllByRecursion IsFew m.wants.items
 
 -- the offers of an entry that has nobody but a monitor to offer to
 abbrev pub offers_to : ℕ → SessionId → List Wanted → OffersState

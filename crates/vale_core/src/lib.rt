@@ -9,15 +9,12 @@ mod granting;
 mod monitored;
 mod monitoring;
 mod offers;
+mod opening;
 mod reading;
 mod tables;
 
 pub use book::Book;
 pub use granting::Granted;
 pub use offers::Offers;
-mod opening;
-mod tables;
-
-pub use book::Book;
 pub use opening::Opened;
 pub use reading::Synced;

@@ -12,3 +12,6 @@ returns-clause-offers c =
 
 pub returns-clause-to : goal.returns-clause-to
 returns-clause-to c = rw (← c.self.view_is) (c.from.ensures ∙ (c.self.invariant.to ∙ dests-in c.self.inside.wants.items))
+
+pub invariant_of-offers : goal.invariant_of-offers
+invariant_of-offers c = record { rooms = c.self.invariant.rooms; few = c.self.invariant.small }
