@@ -1,5 +1,5 @@
--- `decimal` writes the last 64 digits of a number, so it tells only smaller numbers apart. Each
--- number of an entry of a legal history is kept in 64 bits at most.
+-- `decimal` writes the last 64 digits of a number, so it tells numbers below 2^64 apart. Those of a
+-- legal history are below 2^64, if it has fewer than 2^32 entries and its pool fewer buffers.
 use Rattle.std.specs.Prelude.{ℕ, ◌<◌, ◌^◌}
 use Rattle.std.specs.List.{AllByRecursion}
 use Rattle.nm_types.specs.declared.fault.OpenFault.{OpenFault}
@@ -74,6 +74,6 @@ FitsReply (Watched by) = FitsU64 by.0
 FitsReply (Counted counts) = FitsCounts counts
 FitsReply _ = Unit {0}
 
--- the numbers of an entry's line fit
+-- the numbers of an entry's line are below 2^64
 abbrev pub FitsEntry : Entry → Type 0
 FitsEntry entry = FitsU64 entry.session.0 × FitsAsk entry.ask × FitsReply entry.reply

@@ -120,8 +120,8 @@ brings_lot (Grant origin to) = true
 brings_lot (PutKept port offered) = true
 brings_lot _ = false
 
--- a lot bears the number of the entry of its session that brought it, which is a Grant where the
--- lot is not done
+-- a lot bears the number of the entry of its session that brought it: of a Grant or a Put, and of a
+-- Grant if the lot is not done
 pub record IsOfEntry (history : List Entry) (lot : Lot) : Type 0 where
   pub entry : Entry
   pub counted : 0 < lot.number
@@ -353,8 +353,8 @@ RoomIsUsed =
     → room_used pool (history ++ entry ∷ []) + room_back made.reply
     ≡ room_used pool history + made.want
 
--- each number of a legal history of fewer than 2^32 entries, whose pool has fewer buffers, fits its
--- field
+-- each number of a legal history is below 2^64, if the pool has fewer than 2^32 buffers and the
+-- history fewer than 2^32 entries
 abbrev pub LegalHistoriesFit : Type 0
 LegalHistoriesFit =
     (pool : ℕ) (history : List Entry) → IsLegal pool history → pool < 2 ^ 32

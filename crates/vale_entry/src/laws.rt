@@ -93,7 +93,7 @@ pub fn lots_are_single()
 {}
 
 /// After every legal history each lot bears the number of the entry of its session that brought it:
-/// of a Grant, or of a Put if it was done when it was made.
+/// of a Grant or a Put, and of a Grant if the lot is not done.
 pub fn lots_are_of_entries()
     ensures { LotsAreOfEntries }
 {}
@@ -108,7 +108,7 @@ pub fn room_is_used()
     ensures { RoomIsUsed }
 {}
 
-/// The numbers of each entry of a legal history fit their fields, if the pool has fewer than 2^32
+/// The numbers of each entry of a legal history are below 2^64, if the pool has fewer than 2^32
 /// buffers and the history fewer than 2^32 entries.
 pub fn legal_histories_fit()
     ensures { LegalHistoriesFit }

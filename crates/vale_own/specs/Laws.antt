@@ -74,7 +74,7 @@ abbrev pub FirstLeasesAreOwn : Type 0
 FirstLeasesAreOwn = (pool : ℕ) (history : List Entry) (session : ℕ) → IsLegal pool history
     → find (is_owed_by session) (flat_map line_of (world_of pool history).ports) ≡ option_map lot_of_lease (slice_get (own_of session (standing_of pool history)).leases 0)
 
--- the offers that are left of an entry are all of its session's
+-- the offers left of an entry, if there are any, are its session's, which has no others
 abbrev pub OffersLeftAreOwn : Type 0
 OffersLeftAreOwn = (pool : ℕ) (history : List Entry) (origin : ℕ) (offer : Offer) → IsLegal pool history → first_offer (world_of pool history) origin ≡ Some offer
     → filter (is_offer_of origin) (world_of pool history).offers ≡ (own_of offer.session (standing_of pool history)).offers

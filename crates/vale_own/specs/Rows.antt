@@ -1,32 +1,20 @@
 -- Worked examples of what is a session's own, as theorems about the definitions: a pool of 64 buffers,
 -- and two sessions with a port of 4 and 4 slots each.
 use Rattle.std.specs.Prelude.{ℕ, ◌≡◌, true, false, List, [], ◌∷◌, ◌++◌, take, codes, Some, None, refl}
-use Rattle.nm_types.specs.Frames.{Frame}
 use Rattle.nm_types.specs.Names.{is_name, is_switch_port_name, is_pipe_name, is_monitor_name, switch_of, peer_name}
-use Rattle.nm_types.specs.declared.id.PortId.{PortId}
 use Rattle.vale_entry.specs.declared.entry.Ask.{Ask}
-use Rattle.vale_entry.specs.declared.entry.Ask.TheVariants.{Enter, Open, Send, Grant, Done, Sync, Shut, Finish, PutKept}
+use Rattle.vale_entry.specs.declared.entry.Ask.TheVariants.{Enter, Send, Grant, Sync, Shut, Finish, PutKept}
 use Rattle.vale_entry.specs.declared.entry.Entry.{Entry}
-use Rattle.vale_entry.specs.declared.entry.Item.{Item}
-use Rattle.vale_entry.specs.declared.entry.Reply.{Reply}
 use Rattle.vale_entry.specs.declared.entry.Reply.TheVariants.{Made, Opened, Offered, Shared, Gave, Took, LeasesOut}
 use Rattle.vale_entry.specs.World.{Port}
+use Rattle.vale_entry.specs.RowWords.{entry, port, opening, completes, dest, item, no_chain, frame_f}
 use Rattle.vale_entry.specs.Legal.{Standing, IsLegal, standing_of, reply_to, session_of}
 use Rattle.vale_own.specs.Own.{Own, HeldLot, own_of}
 use Rattle.vale_own.specs.Asker.{asker_of, asks}
 use Rattle.vale_own.specs.OwnAsks.{may_ask}
 
-abbrev frame_f : Frame
-frame_f = record { bytes = 255 ∷ 255 ∷ 255 ∷ 255 ∷ 255 ∷ 255 ∷ 2 ∷ 0 ∷ 0 ∷ 0 ∷ 0 ∷ 10 ∷ 136 ∷ 181 ∷ []; no_learn = false }
-
-abbrev port : ℕ → PortId
-port id = record { 0 = id }
-
-abbrev by_session : ℕ → Ask → Reply → Entry
-by_session session ask reply = record { session = record { 0 = session }; ask = ask; reply = reply }
-
-abbrev opening : ℕ → List ℕ → Entry
-opening session name = by_session session (Open (record { 0 = session }) name 4 4 0) Opened
+abbrev opened : ℕ → List ℕ → Entry
+opened session name = entry session (opening session name 4 4) Opened
 
 -- a port as its session sees it
 abbrev port_seen : ℕ → ℕ → List ℕ → ℕ → Port
@@ -36,20 +24,20 @@ port_seen id session name out = record { id = id; session = session; name = name
 -- one reads it after that, or shuts its port before.
 abbrev start : List Entry
 start =
-    by_session 1 (Enter 1) Made
-    ∷ by_session 2 (Enter 2) Made
-    ∷ opening 1 (codes "vale0:a")
-    ∷ opening 2 (codes "vale0:b")
-    ∷ by_session 1 (Send (port 3) (frame_f ∷ [])) (Offered 0 0 (record { to = port 4; count = 1 } ∷ []))
-    ∷ by_session 1 (Grant 5 (port 4)) (Shared 1 0 0)
+    entry 1 (Enter 1) Made
+    ∷ entry 2 (Enter 2) Made
+    ∷ opened 1 (codes "vale0:a")
+    ∷ opened 2 (codes "vale0:b")
+    ∷ entry 1 (Send (port 3) (frame_f ∷ [])) (Offered 0 0 (dest 4 1 ∷ []))
+    ∷ entry 1 (Grant 5 (port 4)) (Shared 1 0 0)
     ∷ []
 
 abbrev run : List Entry
 run =
     start
-    ++ by_session 1 (Done (record { 0 = 6 })) Made
-    ∷ by_session 2 (Sync (port 4) []) (Gave 1 [])
-    ∷ by_session 2 (Sync (port 4) (14 ∷ [])) (Gave 0 [])
+    ++ entry 1 (completes 6) Made
+    ∷ entry 2 (Sync (port 4) []) (Gave 1 [])
+    ∷ entry 2 (Sync (port 4) (14 ∷ [])) (Gave 0 [])
     ∷ []
 
 run-legal : IsLegal 64 run
@@ -126,10 +114,10 @@ brought_back = refl
 
 -- A Finish that waits for a lease is its session's still, though it makes no entry.
 abbrev waiting : Standing
-waiting = standing_of 64 (start ++ by_session 2 (Shut (port 4)) Made ∷ [])
+waiting = standing_of 64 (start ++ entry 2 (Shut (port 4)) Made ∷ [])
 
 abbrev finish_4 : Ask
-finish_4 = Finish (port 4) (10 ∷ 11 ∷ 12 ∷ 13 ∷ []) (record { found = 0; astray = 0 })
+finish_4 = Finish (port 4) (10 ∷ 11 ∷ 12 ∷ 13 ∷ []) no_chain
 
 waits : reply_to waiting finish_4 ≡ Some (LeasesOut 1)
 unfolding is_name is_switch_port_name is_pipe_name is_monitor_name switch_of peer_name
@@ -148,12 +136,12 @@ unfolding is_name is_switch_port_name is_pipe_name is_monitor_name switch_of pee
 told_by_own = refl
 
 -- not with a buffer less
-too_few : may_ask 2 (own_of 2 waiting) (Finish (port 4) (10 ∷ 11 ∷ 12 ∷ []) (record { found = 0; astray = 0 })) ≡ false
+too_few : may_ask 2 (own_of 2 waiting) (Finish (port 4) (10 ∷ 11 ∷ 12 ∷ []) no_chain) ≡ false
 unfolding is_name is_switch_port_name is_pipe_name is_monitor_name switch_of peer_name
 too_few = refl
 
 -- a session with a lease may complete it, and not send
-may_complete : may_ask 1 (own_at 1 6) (Done (record { 0 = 6 })) ≡ true
+may_complete : may_ask 1 (own_at 1 6) (completes 6) ≡ true
 unfolding is_name is_switch_port_name is_pipe_name is_monitor_name switch_of peer_name
 may_complete = refl
 
@@ -162,7 +150,7 @@ unfolding is_name is_switch_port_name is_pipe_name is_monitor_name switch_of pee
 may_not_send = refl
 
 -- nor complete what is another's
-not_of_other : may_ask 2 (own_at 2 6) (Done (record { 0 = 6 })) ≡ false
+not_of_other : may_ask 2 (own_at 2 6) (completes 6) ≡ false
 unfolding is_name is_switch_port_name is_pipe_name is_monitor_name switch_of peer_name
 not_of_other = refl
 
@@ -175,7 +163,7 @@ grant_of_first : asker_of (standing_of 64 (take 5 run)) (Grant 5 (port 4)) ≡ S
 unfolding is_name is_switch_port_name is_pipe_name is_monitor_name switch_of peer_name
 grant_of_first = refl
 
-done_of_first : asker_of (standing_of 64 (take 6 run)) (Done (record { 0 = 6 })) ≡ Some 1
+done_of_first : asker_of (standing_of 64 (take 6 run)) (completes 6) ≡ Some 1
 unfolding is_name is_switch_port_name is_pipe_name is_monitor_name switch_of peer_name
 done_of_first = refl
 
@@ -188,16 +176,13 @@ enter_of_nobody = refl
 
 -- A Put swaps buffers: the one with the frame goes to the other end, an idle one of that comes; nothing
 -- of the other's own changes until it reads.
-abbrev item : ℕ → Item
-item index = record { index = index; bytes = frame_f }
-
 abbrev pipe_run : List Entry
 pipe_run =
-    by_session 1 (Enter 1) Made
-    ∷ by_session 2 (Enter 2) Made
-    ∷ opening 1 (codes "pipe0{")
-    ∷ opening 2 (codes "pipe0}")
-    ∷ by_session 1 (PutKept (port 3) 1) (Took (item 2 ∷ []) [])
+    entry 1 (Enter 1) Made
+    ∷ entry 2 (Enter 2) Made
+    ∷ opened 1 (codes "pipe0{")
+    ∷ opened 2 (codes "pipe0}")
+    ∷ entry 1 (PutKept (port 3) 1) (Took (item 2 frame_f.bytes ∷ []) [])
     ∷ []
 
 pipe_run-legal : IsLegal 64 pipe_run

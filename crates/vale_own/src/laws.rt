@@ -66,7 +66,8 @@ pub fn first_leases_are_own()
     ensures { FirstLeasesAreOwn }
 {}
 
-/// In a legal history the offers that are left of an entry are all offers of its session.
+/// In a legal history the offers left of an entry, if there are any, are its session's, and the
+/// session has no others.
 #[tactic(auto, using(crate::proofs::OwnLaws::reading_laws))]
 pub fn offers_left_are_own()
     ensures { OffersLeftAreOwn }
