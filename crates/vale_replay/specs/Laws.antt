@@ -79,7 +79,7 @@ ReadsToItsLast =
     → last_of numbers ≤ count
     → ReplaysUser pool history before numbers after ↔ ReplaysUser pool (take count history) before numbers after
 
--- the states to which a history brings its users are theirs alone
+-- the state to which a user's entries bring it is one
 abbrev pub StatesAreOne : Type 0
 StatesAreOne =
     (pool : ℕ) (history : List Entry) (before : Machine) (numbers : List ℕ) (after other : Machine)

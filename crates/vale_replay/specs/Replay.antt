@@ -1,7 +1,7 @@
 -- The histories that play a script: each user's entries are the calls of its machine, one after
 -- another; the units of the script (its lines, its blocks, and then the closing of each user) have
 -- consecutive ranges of entries, and each entry of a block's range is of one of its users.
-use Rattle.std.specs.Prelude.{ℕ, Bool, true, ◌⊎◌, ◌&&◌, ◌==◌, ◌≡◌, ◌-◌, ◌<◌, ◌≤◌, nat_le, nat_lt, if◌then◌else◌, List, [], ◌∷◌, ◌++◌, length, map, filter, flat_map, take, slice_get, slice_set, count_by, Option, Some, None, option_map}
+use Rattle.std.specs.Prelude.{ℕ, Bool, true, ◌⊎◌, ◌&&◌, ◌==◌, ◌≡◌, ◌-◌, ◌≤◌, nat_le, nat_lt, if◌then◌else◌, List, [], ◌∷◌, ◌++◌, length, map, filter, flat_map, take, slice_get, slice_set, count_by, Option, Some, None, option_map}
 use Rattle.std.specs.List.{range_with_len, list_any, AllByRecursion}
 use Rattle.nm_types.specs.declared.id.SessionId.{SessionId}
 use Rattle.vale_entry.specs.declared.entry.Ask.{Ask}
@@ -29,7 +29,7 @@ abbrev pub caller_of : ℕ → Machine → Ask → Option SessionId
 caller_of number user (Enter name) = Some (record { 0 = number })
 caller_of number user _ = user.session
 
--- the entry that an ask makes
+-- the entry that an ask makes; where a book records it, vale_book calls it `entry_of`
 abbrev pub entry_by : Ask → Outcome → Entry
 entry_by ask made =
     record { session = record { 0 = made.session }; ask = kept_ask ask; reply = made.reply }
@@ -72,8 +72,8 @@ last_behind number (next ∷ numbers) = last_behind next numbers
 abbrev pub last_of : List ℕ → ℕ
 last_of numbers = last_behind 0 numbers
 
--- a user plays its lines by these entries: after the last of them it has nothing to do and needs no
--- call
+-- a user plays its lines by these entries: behind them it has nothing to do, and it needs no call in
+-- what stands after the last of them, or before all entries if it has none
 pub record PlaysUser (pool : ℕ) (history : List Entry) (before : Machine) (numbers : List ℕ) (after : Machine) : Type 0 where
   pub replays : ReplaysUser pool history before numbers after
   pub no_task : after.tasks ≡ []
@@ -231,13 +231,3 @@ pub record ComesTo (program : Program) (captures : Captures) (history : List Ent
   pub now : Machine
   pub here : slice_get nows (user - 1) ≡ Some now
   pub called : next_call (standing_of program.pool history).world now ≡ Some call
-
--- of a unit in which a user's call was refused, each user of a smaller number has played its lines
-abbrev pub PlaysIfSmaller : ℕ → List Entry → ℕ → UnitShare → Machine → List ℕ → Machine → Type 0
-PlaysIfSmaller pool history user share before numbers after =
-    share.user < user → PlaysUser pool history (starting share before) numbers after
-
--- the history up to where the user of the smallest number was refused its call
-pub record StopsAt (program : Program) (captures : Captures) (history : List Entry) (user : ℕ) (call : Ask) : Type 0 where
-  pub comes : ComesTo program captures history user call
-  pub smallest : EachShare (PlaysIfSmaller program.pool history user) comes.reached.users comes.reached.unit comes.reached.lists comes.reached.afters

@@ -1,12 +1,9 @@
 -- The frames that go into a saved file: those that the Syncs and Gets of its port gave, in order.
-use Rattle.std.specs.Prelude.{ℕ, ◌==◌, ◌+◌, if◌then◌else◌, List, [], ◌∷◌, flat_map, filter_map, find, map, bytes_eq, Option, Some, None, option_map}
+use Rattle.std.specs.Prelude.{ℕ, ◌+◌, List, [], ◌∷◌, flat_map, filter_map, find, map, bytes_eq, Option, Some, None, option_map}
 use Rattle.nm_types.specs.Frames.{Frame}
-use Rattle.vale_entry.specs.declared.entry.Ask.{Ask}
-use Rattle.vale_entry.specs.declared.entry.Ask.TheVariants.{Sync, Get}
 use Rattle.vale_entry.specs.declared.entry.Entry.{Entry}
-use Rattle.vale_entry.specs.World.{World, Port, open_port}
-use Rattle.vale_entry.specs.Delivery.{delivered_frames}
-use Rattle.vale_entry.specs.Delivered.{told}
+use Rattle.vale_entry.specs.World.{World}
+use Rattle.vale_entry.specs.Delivered.{told, read_in}
 use Rattle.vale_script.specs.declared.script.Act.{Act}
 use Rattle.vale_script.specs.declared.script.Act.TheVariants as acts
 use Rattle.vale_script.specs.declared.script.Unit.{Unit as ReadUnit}
@@ -27,17 +24,9 @@ saved_from number place [] = []
 saved_from number place (frame ∷ frames) =
     record { seconds = number; fraction = place; bytes = frame.bytes } ∷ saved_from number (place + 1) frames
 
-abbrev pub saved_at : World → Option Port → List SavedFrame
-saved_at w None = []
-saved_at w (Some port) = saved_from (w.entry_count + 1) 0 (delivered_frames port)
-
-abbrev pub saved_by : ℕ → World → Ask → List SavedFrame
-saved_by port w (Sync at back) = if at.0 == port then saved_at w (open_port w.ports port) else []
-saved_by port w (Get at back) = if at.0 == port then saved_at w (open_port w.ports port) else []
-saved_by port w _ = []
-
+-- those of an entry that reads at the port
 abbrev pub saved_in : ℕ → World → Entry → List SavedFrame
-saved_in port w entry = saved_by port w entry.ask
+saved_in port w entry = saved_from (w.entry_count + 1) 0 (read_in port w entry)
 
 abbrev pub saved_frames : ℕ → List Entry → ℕ → List SavedFrame
 saved_frames pool history port = told (saved_in port) pool history
