@@ -176,7 +176,7 @@ start-is-line p = record {
 
 -- The last line.
 
-end-free : (c f : ℕ) → Is32 f → free_in (end_line c f) ≡ f
+pub end-free : (c f : ℕ) → Is32 f → free_in (end_line c f) ≡ f
 unfolding end_line free_in
 end-free c f small =
     let count : List ℕ = decimal c in
@@ -196,8 +196,7 @@ end-begins c f = refl
 
 pub end-complete : (c f : ℕ) → Is32 f → is_end c (end_line c f) ≡ true
 end-complete c f small =
-    ap (λ (k : ℕ). (slice_index (end_line c f) 0 == 101) && bytes_eq (end_line c k) (end_line c f)) (end-free c f small)
-    ∙ both-true (slice_index (end_line c f) 0 == 101) (bytes_eq (end_line c f) (end_line c f)) (ap (λ (b : ℕ). b == 101) (end-begins c f)) (bytes-same (end_line c f))
+    ap (λ (k : ℕ). bytes_eq (end_line c k) (end_line c f)) (end-free c f small) ∙ bytes-same (end_line c f)
 
 pub record IsEnd (count : ℕ) (line : List ℕ) : Type 0 where
   pub free : ℕ
@@ -210,8 +209,20 @@ free-small line = short-fits (front_of 10 (drop 5 (back_of 32 (drop 4 line))))
 
 pub end-sound : (c : ℕ) (line : List ℕ) → is_end c line ≡ true → IsEnd c line
 end-sound c line h =
-    let parts = and_parts (slice_index line 0 == 101) (bytes_eq (end_line c (free_in line)) line) h in
-    record { free = free_in line; small = free-small line; is = sym ((bytes_eq-Decides (end_line c (free_in line)) line).0 parts.1) }
+    record { free = free_in line; small = free-small line; is = sym ((bytes_eq-Decides (end_line c (free_in line)) line).0 h) }
+
+-- a line that begins with another letter is not the last one
+pub not_end : (c : ℕ) (line : List ℕ) → (slice_index line 0 == 101) ≡ false → is_end c line ≡ false
+not_end c line apart = by_test (bytes_eq (end_line c (free_in line)) line) refl
+  where
+    by_test : (b : Bool) → is_end c line ≡ b → is_end c line ≡ false
+    by_test false is = is
+    by_test true is =
+        let same : end_line c (free_in line) ≡ line = (bytes_eq-Decides (end_line c (free_in line)) line).0 is in
+        let first : slice_index line 0 ≡ 101 = ap (λ (l : List ℕ). slice_index l 0) (sym same) ∙ end-begins c (free_in line) in
+        absurd (no-truth (sym apart ∙ ap (λ (b : ℕ). b == 101) first))
+
+pub ruleset ends = (not_end)
 
 pub end-none : (c : ℕ) (line : List ℕ) → is_end c line ≡ false → IsEnd c line → ⊥
 end-none c line none one =

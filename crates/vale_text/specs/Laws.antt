@@ -17,6 +17,7 @@ TranscriptsTellHistories =
 abbrev pub ReadingGivesBack : Type 0
 ReadingGivesBack = (pool free : ℕ) (written read : List Entry) → IsTold pool written free → IsTextOf (text_of pool written free) read → read ≡ written
 
--- What was read is written as the same bytes.
-abbrev pub WritingGivesBack : Type 0
-WritingGivesBack = (bytes : List ℕ) (read : List Entry) → (text : IsTextOf bytes read) → text_of text.pool read text.free ≡ bytes
+-- However a text is read as that of a history, its pool and its free buffers are the same. So what was read
+-- is written as the same bytes, by `IsTextOf`.
+abbrev pub ATextTellsItsNumbers : Type 0
+ATextTellsItsNumbers = (bytes : List ℕ) (read other : List Entry) (text : IsTextOf bytes read) (again : IsTextOf bytes other) → (text.pool ≡ again.pool) × (text.free ≡ again.free)

@@ -1,5 +1,5 @@
 -- How the lines of a transcript are judged, each by itself.
-use Rattle.std.specs.Prelude.{ℕ, Bool, false, ◌&&◌, ◌==◌, ◌≡◌, nat_le, if◌then◌else◌, List, [], ◌∷◌, ◌++◌, drop, bytes_eq, slice_index, Option, Some, None}
+use Rattle.std.specs.Prelude.{ℕ, Bool, false, ◌&&◌, ◌==◌, ◌≡◌, nat_le, if◌then◌else◌, List, [], ◌∷◌, ◌++◌, drop, bytes_eq, Option, Some, None}
 use Rattle.std.specs.List.{AllByRecursion}
 use Rattle.nm_types.specs.Limits.{most_pool}
 use Rattle.vale_entry.specs.declared.entry.Entry.{Entry}
@@ -44,7 +44,7 @@ unfoldable pub free_in : List ℕ → ℕ
 free_in line = short_of (front_of 10 (drop 5 (back_of 32 (drop 4 line))))
 
 abbrev pub is_end : ℕ → List ℕ → Bool
-is_end count line = (slice_index line 0 == 101) && bytes_eq (end_line count (free_in line)) line
+is_end count line = bytes_eq (end_line count (free_in line)) line
 
 abbrev pub kept_if : ℕ → List ℕ → Option Entry → Option Entry
 kept_if number line None = None

@@ -1,6 +1,6 @@
 //! Laws of transcripts. Each function does nothing; its contract is a law about the definitions, which
 //! the check proves.
-ghost use Rattle.vale_text.specs.Laws.{TranscriptsTellHistories, ReadingGivesBack, WritingGivesBack};
+ghost use Rattle.vale_text.specs.Laws.{TranscriptsTellHistories, ReadingGivesBack, ATextTellsItsNumbers};
 
 /// Two histories of printable entries whose numbers fit have equal transcripts only if they are equal,
 /// and their pools too: the text tells the history.
@@ -14,7 +14,8 @@ pub fn reading_gives_back()
     ensures { ReadingGivesBack }
 {}
 
-/// What was read is written as the same bytes.
-pub fn writing_gives_back()
-    ensures { WritingGivesBack }
+/// A text tells its numbers: however it is read as the text of a history, the pool and the free
+/// buffers are the same.
+pub fn a_text_tells_its_numbers()
+    ensures { ATextTellsItsNumbers }
 {}

@@ -110,6 +110,7 @@ fn begins_with_e(line: &[u8]) -> bool
     }
 }
 
+#[tactic(auto, using(crate::proofs::LineReads::ends))]
 fn is_end(scratch: &mut Lines, count: u32, line: &[u8]) -> Result<bool, NoMemory>
     ensures { IfOk result (λ is. is ≡ is_end count line.now) }
 {
@@ -164,7 +165,10 @@ fn read_start<'a>(scratch: &mut Lines, bytes: &'a [u8]) -> Result<&'a [u8], Text
     }
 }
 
-/// Reads a transcript and returns its entries. `BadLine` exactly if the text is that of no history.
+/// Reads a transcript and returns its entries. What was read is written as the same bytes:
+/// `IsTextOf` says so of the pool and of the free buffers that the text tells, which
+/// `a_text_tells_its_numbers` makes one. `BadLine` tells that the text is that of no history;
+/// `NoMemory` tells nothing.
 pub fn read(alloc: Global, bytes: &[u8]) -> Result<Vec<Entry>, TextFault>
     requires { length bytes.now < 2 ^ 32 - 1 }
     ensures ok { IfOk result (λ entries. IsTextOf bytes.now entries.items) }

@@ -1,10 +1,10 @@
 //! The lines of a transcript, one row for each kind.
-ghost use Rattle.std.specs.Prelude.{◌≡◌, ◌≤◌, ◌++◌, OnErr};
+ghost use Rattle.std.specs.Prelude.{◌≡◌, ◌≤◌, [], ◌∷◌, ◌++◌, codes, decimal, OnErr};
 ghost use Rattle.nm_io.specs.Counts.{Rose};
 ghost use Rattle.nm_io.specs.Held.{Writes};
-ghost use Rattle.vale_entry.specs.Transcript.{side_word, sides_word, ask_words, reply_words, words_text, entry_line, start_line, end_line};
+ghost use Rattle.vale_entry.specs.Transcript.{numbers_text, side_word, sides_word, fault_words, ask_words, reply_words, words_text, entry_line, start_line, end_line};
 ghost use Rattle.vale_entry.specs.declared.entry.Ask.TheVariants.{Reset, Finish, Watch};
-ghost use Rattle.vale_entry.specs.declared.entry.Reply.TheVariants.{Refused, Offered, Counted};
+ghost use Rattle.vale_entry.specs.declared.entry.Reply.TheVariants.{Refused, Offered, Shared, Counted};
 ghost use Rattle.vale_text.specs.declared.pieces.Piece.TheVariants.{Number as NumberPiece};
 
 use crate::pieces::Piece::{Buffers, Destinations, Frames, Number, Taken, Word};
@@ -104,6 +104,76 @@ fn put_opening<K: Sink>(out: &mut K, fault: &OpenFault) -> Result<(), Failed>
     }
 }
 
+/// Writes the port and the side of a ring that was reset.
+fn put_reset_ring<K: Sink>(
+    out: &mut K,
+    session: u32,
+    port: PortId,
+    side: Side,
+) -> Result<(), Failed>
+    ensures writes { Writes (K.holds out.old) (K.holds out.new) result
+        (words_text (decimal session ∷ codes "reset" ∷ decimal port.0 ∷ side_word side ∷ [])) }
+    ensures later { K.faults out.old ≤ K.faults out.new }
+    ensures cause { OnErr result (Rose (K.faults out.old) (K.faults out.new)) }
+{
+    let (port, side) = (short(port.0), Word(side_word(side)));
+    put_words(out, &[short(session), Word(b"reset"), port, side])
+}
+
+/// Writes a word and two numbers.
+fn put_two<K: Sink>(out: &mut K, word: &[u8], first: u32, second: u32) -> Result<(), Failed>
+    ensures writes { Writes (K.holds out.old) (K.holds out.new) result
+        (words_text (word.now ∷ decimal first ∷ decimal second ∷ [])) }
+    ensures later { K.faults out.old ≤ K.faults out.new }
+    ensures cause { OnErr result (Rose (K.faults out.old) (K.faults out.new)) }
+{
+    put_words(out, &[Word(word), short(first), short(second)])
+}
+
+/// Writes a word and three numbers.
+fn put_three<K: Sink>(
+    out: &mut K,
+    word: &[u8],
+    first: u32,
+    second: u32,
+    third: u32,
+) -> Result<(), Failed>
+    ensures writes { Writes (K.holds out.old) (K.holds out.new) result
+        (words_text (word.now ∷ decimal first ∷ decimal second ∷ decimal third ∷ [])) }
+    ensures later { K.faults out.old ≤ K.faults out.new }
+    ensures cause { OnErr result (Rose (K.faults out.old) (K.faults out.new)) }
+{
+    put_words(
+        out,
+        &[Word(word), short(first), short(second), short(third)],
+    )
+}
+
+/// Writes why a sync was refused.
+fn put_fault<K: Sink>(out: &mut K, fault: &SyncFault) -> Result<(), Failed>
+    ensures writes { Writes (K.holds out.old) (K.holds out.new) result (words_text (fault_words fault.now)) }
+    ensures later { K.faults out.old ≤ K.faults out.new }
+    ensures cause { OnErr result (Rose (K.faults out.old) (K.faults out.new)) }
+{
+    match *fault {
+        SyncFault::HeadOut { head, from, to } => put_three(out, b"headout", head, from, to),
+        SyncFault::CurOut { cur, from, to } => put_three(out, b"curout", cur, from, to),
+        SyncFault::Indirect { slot } => put_words(out, &[Word(b"indirect"), short(slot)]),
+        SyncFault::IndexOut { slot, idx } => put_two(out, b"indexout", slot, idx),
+        SyncFault::NotHeld { slot, idx } => put_two(out, b"notheld", slot, idx),
+        SyncFault::Doubled { slot, idx } => put_two(out, b"doubled", slot, idx),
+        SyncFault::Unannounced { slot, idx, was } => {
+            put_three(out, b"unannounced", slot, idx, was)
+        }
+        SyncFault::LongLen { slot, len } => put_two(out, b"longlen", slot, len as u32),
+        SyncFault::Fragment { slot } => put_words(out, &[Word(b"fragment"), short(slot)]),
+        SyncFault::PeerGone | SyncFault::RecordFull { .. } | SyncFault::NoMemory => {
+            put_words(out, &[])
+        }
+    }
+}
+
+#[tactic(auto, using(crate::proofs::Flat::flat))]
 fn put_reset<K: Sink>(
     out: &mut K,
     session: u32,
@@ -116,100 +186,63 @@ fn put_reset<K: Sink>(
     ensures later { K.faults out.old ≤ K.faults out.new }
     ensures cause { OnErr result (Rose (K.faults out.old) (K.faults out.new)) }
 {
-    let (s, reset, p, side) = (
-        short(session),
-        Word(b"reset"),
-        short(port.0),
-        Word(side_word(side)),
-    );
-    match *fault {
-        SyncFault::HeadOut { head, from, to } => put_words(
-            out,
-            &[
-                s,
-                reset,
-                p,
-                side,
-                Word(b"headout"),
-                short(head),
-                short(from),
-                short(to),
-            ],
-        ),
-        SyncFault::CurOut { cur, from, to } => put_words(
-            out,
-            &[
-                s,
-                reset,
-                p,
-                side,
-                Word(b"curout"),
-                short(cur),
-                short(from),
-                short(to),
-            ],
-        ),
-        SyncFault::Indirect { slot } => {
-            put_words(out, &[s, reset, p, side, Word(b"indirect"), short(slot)])
-        }
-        SyncFault::IndexOut { slot, idx } => {
-            put_words(
-                out,
-                &[
-                    s,
-                    reset,
-                    p,
-                    side,
-                    Word(b"indexout"),
-                    short(slot),
-                    short(idx),
-                ],
-            )
-        }
-        SyncFault::NotHeld { slot, idx } => {
-            put_words(
-                out,
-                &[s, reset, p, side, Word(b"notheld"), short(slot), short(idx)],
-            )
-        }
-        SyncFault::Doubled { slot, idx } => {
-            put_words(
-                out,
-                &[s, reset, p, side, Word(b"doubled"), short(slot), short(idx)],
-            )
-        }
-        SyncFault::Unannounced { slot, idx, was } => put_words(
-            out,
-            &[
-                s,
-                reset,
-                p,
-                side,
-                Word(b"unannounced"),
-                short(slot),
-                short(idx),
-                short(was),
-            ],
-        ),
-        SyncFault::LongLen { slot, len } => put_words(
-            out,
-            &[
-                s,
-                reset,
-                p,
-                side,
-                Word(b"longlen"),
-                short(slot),
-                Number(len as u64),
-            ],
-        ),
-        SyncFault::Fragment { slot } => {
-            put_words(out, &[s, reset, p, side, Word(b"fragment"), short(slot)])
-        }
-        SyncFault::PeerGone | SyncFault::RecordFull { .. } | SyncFault::NoMemory => {
-            put_words(out, &[s, reset, p, side])
-        }
-    }
+    put_reset_ring(out, session, port, side)?;
+    put_fault(out, fault)
+}
+
+fn put_open<K: Sink>(
+    out: &mut K,
+    session: u32,
+    name: &Name,
+    tx: u32,
+    rx: u32,
+    extra: u32,
+) -> Result<(), Failed>
+    ensures writes { Writes (K.holds out.old) (K.holds out.new) result
+        (words_text (decimal session ∷ codes "open" ∷ name.now ∷ decimal tx ∷ decimal rx
+        ∷ decimal extra ∷ [])) }
+    ensures later { K.faults out.old ≤ K.faults out.new }
+    ensures cause { OnErr result (Rose (K.faults out.old) (K.faults out.new)) }
+{
+    let (s, name) = (short(session), Word(name.as_bytes()));
+    let (tx, rx, extra) = (short(tx), short(rx), short(extra));
+    put_words(out, &[s, Word(b"open"), name, tx, rx, extra])
+}
+
+/// Writes a word and two numbers, of a session.
+fn put_pair<K: Sink>(
+    out: &mut K,
+    session: u32,
+    word: &[u8],
+    first: u32,
+    second: u32,
+) -> Result<(), Failed>
+    ensures writes { Writes (K.holds out.old) (K.holds out.new) result
+        (words_text (decimal session ∷ word.now ∷ decimal first ∷ decimal second ∷ [])) }
+    ensures later { K.faults out.old ≤ K.faults out.new }
+    ensures cause { OnErr result (Rose (K.faults out.old) (K.faults out.new)) }
+{
+    put_words(
+        out,
+        &[short(session), Word(word), short(first), short(second)],
+    )
+}
+
+/// Writes a word, a port and buffers, of a session.
+fn put_buffers<K: Sink>(
+    out: &mut K,
+    session: u32,
+    word: &[u8],
+    port: PortId,
+    numbers: &Numbers,
+) -> Result<(), Failed>
+    ensures writes { Writes (K.holds out.old) (K.holds out.new) result
+        (words_text (decimal session ∷ word.now ∷ decimal port.0 ∷ numbers_text numbers.now ∷ [])) }
+    ensures later { K.faults out.old ≤ K.faults out.new }
+    ensures cause { OnErr result (Rose (K.faults out.old) (K.faults out.new)) }
+{
+    let (port, numbers) = (short(port.0), Buffers(numbers.as_slice()));
+    put_words(out, &[short(session), Word(word), port, numbers])
 }
 
 fn put_finish<K: Sink>(
@@ -280,36 +313,19 @@ fn put_ask<K: Sink>(out: &mut K, session: u32, ask: &Ask) -> Result<(), Failed>
             rx,
             extra,
             ..
-        } => {
-            let (name, tx, rx) = (Word(name.as_bytes()), short(*tx), short(*rx));
-            put_words(out, &[s, Word(b"open"), name, tx, rx, short(*extra)])
-        }
+        } => put_open(out, session, name, *tx, *rx, *extra),
         Ask::Send { port, frames } => {
             put_words(out, &[s, Word(b"send"), short(port.0), Frames(frames)])
         }
-        Ask::Grant { origin, to } => {
-            put_words(out, &[s, Word(b"grant"), short(*origin), short(to.0)])
-        }
+        Ask::Grant { origin, to } => put_pair(out, session, b"grant", *origin, to.0),
         Ask::Done { lease } => put_words(out, &[s, Word(b"done"), short(lease.0)]),
-        Ask::Sync { port, back } => {
-            put_words(
-                out,
-                &[s, Word(b"sync"), short(port.0), Buffers(back.as_slice())],
-            )
-        }
+        Ask::Sync { port, back } => put_buffers(out, session, b"sync", *port, back),
         Ask::Reset { port, side, fault } => put_reset(out, session, *port, *side, fault),
         Ask::Shut { port } => put_words(out, &[s, Word(b"shut"), short(port.0)]),
         Ask::Finish { port, bufs, chain } => put_finish(out, session, *port, bufs, *chain),
         Ask::Leave { .. } => put_words(out, &[s, Word(b"leave")]),
-        Ask::PutKept { port, offered } => {
-            put_words(out, &[s, Word(b"put"), short(port.0), short(*offered)])
-        }
-        Ask::Get { port, back } => {
-            put_words(
-                out,
-                &[s, Word(b"get"), short(port.0), Buffers(back.as_slice())],
-            )
-        }
+        Ask::PutKept { port, offered } => put_pair(out, session, b"put", port.0, *offered),
+        Ask::Get { port, back } => put_buffers(out, session, b"get", *port, back),
         Ask::Watch {
             monitor,
             target,
@@ -367,45 +383,51 @@ fn put_offered<K: Sink>(out: &mut K, lines: u32, lone: u32, to: &Dests) -> Resul
     )
 }
 
+fn put_shared<K: Sink>(out: &mut K, given: u32, full: u32, gone: u32) -> Result<(), Failed>
+    ensures writes { Writes (K.holds out.old) (K.holds out.new) result
+        (words_text (reply_words (Shared given full gone))) }
+    ensures later { K.faults out.old ≤ K.faults out.new }
+    ensures cause { OnErr result (Rose (K.faults out.old) (K.faults out.new)) }
+{
+    let (given, full, gone) = (short(given), short(full), short(gone));
+    put_words(
+        out,
+        &[
+            Word(b"="),
+            Word(b"given"),
+            given,
+            Word(b"full"),
+            full,
+            Word(b"gone"),
+            gone,
+        ],
+    )
+}
+
 /// Writes the answer.
 fn put_reply<K: Sink>(out: &mut K, reply: &Reply) -> Result<(), Failed>
     ensures writes { Writes (K.holds out.old) (K.holds out.new) result (words_text (reply_words reply.now)) }
     ensures later { K.faults out.old ≤ K.faults out.new }
     ensures cause { OnErr result (Rose (K.faults out.old) (K.faults out.new)) }
 {
-    let is = Word(b"=");
     match reply {
-        Reply::Opened => put_words(out, &[is, Word(b"ok")]),
+        Reply::Opened => put_words(out, &[Word(b"="), Word(b"ok")]),
         Reply::Refused { fault } => put_opening(out, fault),
         Reply::Offered { short, lone, to } => put_offered(out, *short, *lone, to),
-        Reply::Shared { given, full, gone } => {
-            let (given, full, gone) = (short(*given), short(*full), short(*gone));
-            put_words(
-                out,
-                &[
-                    is,
-                    Word(b"given"),
-                    given,
-                    Word(b"full"),
-                    full,
-                    Word(b"gone"),
-                    gone,
-                ],
-            )
-        }
+        Reply::Shared { given, full, gone } => put_shared(out, *given, *full, *gone),
         Reply::Gave { count, to } => {
             let (count, to) = (short(*count), Destinations(to.as_slice()));
-            put_words(out, &[is, Word(b"gave"), count, Word(b"to"), to])
+            put_words(out, &[Word(b"="), Word(b"gave"), count, Word(b"to"), to])
         }
         Reply::Took { items, to } => {
             let (items, to) = (Taken(items.as_slice()), Destinations(to.as_slice()));
-            put_words(out, &[is, Word(b"took"), items, Word(b"to"), to])
+            put_words(out, &[Word(b"="), Word(b"took"), items, Word(b"to"), to])
         }
-        Reply::PeerGone => put_words(out, &[is, Word(b"peergone")]),
-        Reply::Unread { count } => put_words(out, &[is, Word(b"unread"), short(*count)]),
-        Reply::Watching { target } => put_words(out, &[is, Word(b"ok"), short(target.0)]),
-        Reply::NoTarget => put_words(out, &[is, Word(b"notarget")]),
-        Reply::Watched { by } => put_words(out, &[is, Word(b"watched"), short(by.0)]),
+        Reply::PeerGone => put_words(out, &[Word(b"="), Word(b"peergone")]),
+        Reply::Unread { count } => put_words(out, &[Word(b"="), Word(b"unread"), short(*count)]),
+        Reply::Watching { target } => put_words(out, &[Word(b"="), Word(b"ok"), short(target.0)]),
+        Reply::NoTarget => put_words(out, &[Word(b"="), Word(b"notarget")]),
+        Reply::Watched { by } => put_words(out, &[Word(b"="), Word(b"watched"), short(by.0)]),
         Reply::Counted { counts } => put_counts(out, counts),
         Reply::Made | Reply::LeasesOut { .. } => put_words(out, &[]),
     }

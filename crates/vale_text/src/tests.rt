@@ -294,9 +294,119 @@ fn pipes_monitors_and_counters_are_written(rt: HostRuntime) -> Result<(), Fail> 
     Ok(())
 }
 
-// a transcript with a line of each kind, each refusal of an opening, each fault and each answer
+// a transcript with a line of each kind, each refusal of an opening, each fault and each answer;
+// numbers that could be exchanged differ
 const EACH_KIND: &[u8] =
-    b"vale 1 pool 65536\n1 enter 18446744073709551615\n2 1 open vale0:a 4 4 0 = ok\n3 1 open pipe0{ 4 4 4294967295 = badsize\n4 1 open mon0 0 4 0 = switchesfull\n5 1 open vale0:a 4 4 0 = portsfull\n6 1 open vale0:a 4 4 0 = nametaken\n7 1 open vale0:a 4 4 0 = nobuffers 8 4\n8 1 send 2 ff0a,~.,.,~00 = short 2 lone 0 to 4*1,5*2\n9 1 send 2 - = short 0 lone 0 to -\n10 1 grant 8 4 = given 1 full 0 gone 0\n11 1 done 10\n12 2 sync 4 12,13 = gave 1 to 6*1\n13 2 sync 4 - = gave 0 to -\n14 1 reset 2 rx headout 1 0 0\n15 1 reset 2 tx curout 1 2 3\n16 1 reset 2 tx indirect 0\n17 1 reset 2 tx indexout 0 66\n18 1 reset 2 tx notheld 0 6\n19 1 reset 2 tx doubled 1 2\n20 1 reset 4 rx unannounced 0 10 14\n21 1 reset 2 tx longlen 0 65535\n22 1 reset 2 tx fragment 0\n23 1 shut 2\n24 1 finish 2 2,3,4,5 found 0 astray 0 = unread 0\n25 1 put 3 2 = took 2:ff0a,3:. to 6*1\n26 1 put 3 1 = took - to -\n27 1 put 3 1 = peergone\n28 2 get 4 2 = gave 0 to -\n29 3 watch 6 vale0:a t = ok 4\n30 3 watch 6 vale0:a r = notarget\n31 3 watch 6 vale0:a tr = watched 6\n32 2 stat 4 = sent 18446744073709551615 short 0 lone 0 given 1 full 2 read 1\n33 1 leave\nend 33 free 4294967295\n";
+    b"vale 1 pool 65536\n1 enter 18446744073709551615\n2 1 open vale0:a 4 5 0 = ok\n3 1 open pipe0{ 6 7 4294967295 = badsize\n4 1 open mon0 0 4 0 = switchesfull\n5 1 open vale0:a 4 4 0 = portsfull\n6 1 open vale0:a 4 4 0 = nametaken\n7 1 open vale0:a 4 4 0 = nobuffers 8 5\n8 1 send 2 ff0a,~.,.,~00 = short 3 lone 1 to 4*1,5*2\n9 1 send 2 - = short 0 lone 0 to -\n10 1 grant 8 4 = given 1 full 2 gone 3\n11 1 done 10\n12 2 sync 4 12,13 = gave 1 to 6*2\n13 2 sync 4 - = gave 0 to -\n14 1 reset 2 rx headout 1 3 4\n15 1 reset 2 tx curout 1 2 3\n16 1 reset 2 tx indirect 5\n17 1 reset 2 tx indexout 1 66\n18 1 reset 2 tx notheld 3 6\n19 1 reset 2 tx doubled 1 2\n20 1 reset 4 rx unannounced 5 10 14\n21 1 reset 2 tx longlen 3 65535\n22 1 reset 2 tx fragment 6\n23 1 shut 2\n24 1 finish 2 3,4,5 found 6 astray 7 = unread 8\n25 1 put 3 2 = took 4:ff0a,5:. to 6*1\n26 1 put 3 1 = took - to -\n27 1 put 3 1 = peergone\n28 2 get 4 3 = gave 1 to 6*5\n29 3 watch 6 vale0:a t = ok 4\n30 3 watch 6 vale0:a r = notarget\n31 3 watch 6 vale0:a tr = watched 7\n32 2 stat 4 = sent 18446744073709551615 short 1 lone 3 given 5 full 6 read 7\n33 1 leave\nend 33 free 4294967295\n";
+
+/// The numbers of the reset of a ring: its port, and those of the fault.
+fn reset(port: u64, fault: &SyncFault) -> [u64; 4] {
+    match *fault {
+        SyncFault::HeadOut { head, from, to } => [port, head as u64, from as u64, to as u64],
+        SyncFault::CurOut { cur, from, to } => [port, cur as u64, from as u64, to as u64],
+        SyncFault::Indirect { slot } | SyncFault::Fragment { slot } => [port, slot as u64, 0, 0],
+        SyncFault::IndexOut { slot, idx }
+        | SyncFault::NotHeld { slot, idx }
+        | SyncFault::Doubled { slot, idx } => [port, slot as u64, idx as u64, 0],
+        SyncFault::Unannounced { slot, idx, was } => [port, slot as u64, idx as u64, was as u64],
+        SyncFault::LongLen { slot, len } => [port, slot as u64, len as u64, 0],
+        SyncFault::PeerGone | SyncFault::RecordFull { .. } | SyncFault::NoMemory => [0; 4],
+    }
+}
+
+/// The numbers of what was asked, in the order of its fields, and of lists how long they are.
+fn asked(ask: &Ask) -> [u64; 4] {
+    match ask {
+        Ask::Enter { user } => [*user, 0, 0, 0],
+        Ask::Open {
+            session,
+            tx,
+            rx,
+            extra,
+            ..
+        } => [session.0 as u64, *tx as u64, *rx as u64, *extra as u64],
+        Ask::Send { port, frames } => [port.0 as u64, frames.len() as u64, 0, 0],
+        Ask::Grant { origin, to } => [*origin as u64, to.0 as u64, 0, 0],
+        Ask::Done { lease } => [lease.0 as u64, 0, 0, 0],
+        Ask::Sync { port, back } | Ask::Get { port, back } => {
+            [port.0 as u64, back.as_slice().len() as u64, 0, 0]
+        }
+        Ask::Reset { port, fault, .. } => reset(port.0 as u64, fault),
+        Ask::Shut { port } | Ask::Stat { port } => [port.0 as u64, 0, 0, 0],
+        Ask::Finish { port, bufs, chain } => {
+            let count = bufs.as_slice().len() as u64;
+            [
+                port.0 as u64,
+                count,
+                chain.found as u64,
+                chain.astray as u64,
+            ]
+        }
+        Ask::Leave { session } => [session.0 as u64, 0, 0, 0],
+        Ask::PutKept { port, offered } => [port.0 as u64, *offered as u64, 0, 0],
+        Ask::Watch { monitor, .. } => [monitor.0 as u64, 0, 0, 0],
+        Ask::Put { .. } => [0; 4],
+    }
+}
+
+/// The numbers of the answer, in the order of its fields.
+fn answered(reply: &Reply) -> [u64; 6] {
+    match reply {
+        Reply::Refused {
+            fault: OpenFault::NoBuffers { want, have },
+        } => [*want as u64, *have as u64, 0, 0, 0, 0],
+        Reply::Offered { short, lone, .. } => [*short as u64, *lone as u64, 0, 0, 0, 0],
+        Reply::Shared { given, full, gone } => {
+            [*given as u64, *full as u64, *gone as u64, 0, 0, 0]
+        }
+        Reply::Gave { count, .. } | Reply::Unread { count } => [*count as u64, 0, 0, 0, 0, 0],
+        Reply::Took { items, .. } => [items.as_slice().len() as u64, 0, 0, 0, 0, 0],
+        Reply::Watching { target } => [target.0 as u64, 0, 0, 0, 0, 0],
+        Reply::Watched { by } => [by.0 as u64, 0, 0, 0, 0, 0],
+        Reply::Counted { counts } => {
+            let (sent, short, lone) = (counts.sent, counts.short, counts.lone);
+            [sent, short, lone, counts.given, counts.full, counts.read]
+        }
+        _ => [0; 6],
+    }
+}
+
+// the numbers of each entry, of what was asked and of the answer
+const NUMBERS: [([u64; 4], [u64; 6]); 33] = [
+    ([u64::MAX, 0, 0, 0], [0, 0, 0, 0, 0, 0]),
+    ([1, 4, 5, 0], [0, 0, 0, 0, 0, 0]),
+    ([1, 6, 7, 4_294_967_295], [0, 0, 0, 0, 0, 0]),
+    ([1, 0, 4, 0], [0, 0, 0, 0, 0, 0]),
+    ([1, 4, 4, 0], [0, 0, 0, 0, 0, 0]),
+    ([1, 4, 4, 0], [0, 0, 0, 0, 0, 0]),
+    ([1, 4, 4, 0], [8, 5, 0, 0, 0, 0]),
+    ([2, 4, 0, 0], [3, 1, 0, 0, 0, 0]),
+    ([2, 0, 0, 0], [0, 0, 0, 0, 0, 0]),
+    ([8, 4, 0, 0], [1, 2, 3, 0, 0, 0]),
+    ([10, 0, 0, 0], [0, 0, 0, 0, 0, 0]),
+    ([4, 2, 0, 0], [1, 0, 0, 0, 0, 0]),
+    ([4, 0, 0, 0], [0, 0, 0, 0, 0, 0]),
+    ([2, 1, 3, 4], [0, 0, 0, 0, 0, 0]),
+    ([2, 1, 2, 3], [0, 0, 0, 0, 0, 0]),
+    ([2, 5, 0, 0], [0, 0, 0, 0, 0, 0]),
+    ([2, 1, 66, 0], [0, 0, 0, 0, 0, 0]),
+    ([2, 3, 6, 0], [0, 0, 0, 0, 0, 0]),
+    ([2, 1, 2, 0], [0, 0, 0, 0, 0, 0]),
+    ([4, 5, 10, 14], [0, 0, 0, 0, 0, 0]),
+    ([2, 3, 65_535, 0], [0, 0, 0, 0, 0, 0]),
+    ([2, 6, 0, 0], [0, 0, 0, 0, 0, 0]),
+    ([2, 0, 0, 0], [0, 0, 0, 0, 0, 0]),
+    ([2, 3, 6, 7], [8, 0, 0, 0, 0, 0]),
+    ([3, 2, 0, 0], [2, 0, 0, 0, 0, 0]),
+    ([3, 1, 0, 0], [0, 0, 0, 0, 0, 0]),
+    ([3, 1, 0, 0], [0, 0, 0, 0, 0, 0]),
+    ([4, 1, 0, 0], [1, 0, 0, 0, 0, 0]),
+    ([6, 0, 0, 0], [4, 0, 0, 0, 0, 0]),
+    ([6, 0, 0, 0], [0, 0, 0, 0, 0, 0]),
+    ([6, 0, 0, 0], [7, 0, 0, 0, 0, 0]),
+    ([4, 0, 0, 0], [u64::MAX, 1, 3, 5, 6, 7]),
+    ([1, 0, 0, 0], [0, 0, 0, 0, 0, 0]),
+];
 
 #[test]
 fn each_kind_of_entry_is_read_back(rt: HostRuntime) -> Result<(), Fail> {
@@ -304,6 +414,11 @@ fn each_kind_of_entry_is_read_back(rt: HostRuntime) -> Result<(), Fail> {
     assert!(rt; text.len() < 4_294_967_295);
     let entries = read(rt.alloc(), text).ok().ok_or("read")?;
     assert!(rt; entries.len() == 33);
+    for (i, (ask, reply)) in NUMBERS.iter().enumerate() {
+        let entry = entries.get(i).ok_or("entry")?;
+        assert_eq!(rt; asked(&entry.ask), *ask);
+        assert_eq!(rt; answered(&entry.reply), *reply);
+    }
     let mut out = MemorySink::new(rt.alloc(), Vec::new(rt.alloc()));
     write_transcript(rt.alloc(), &mut out, 65_536, &entries, u32::MAX)
         .ok()
@@ -312,8 +427,24 @@ fn each_kind_of_entry_is_read_back(rt: HostRuntime) -> Result<(), Fail> {
     Ok(())
 }
 
+// the transcript of the first run
+const FIRST_TEXT: &[u8] =
+    b"vale 1 pool 8192\n1 enter 1\n2 enter 2\n3 1 open vale0:a 4 4 0 = ok\n4 2 open vale0:b 4 4 0 = ok\n5 1 send 3 ffffffffffff02000000000a88b511111111111111111111111111111111111111111111111111111111111111111111111111111111111111111111 = short 0 lone 0 to 4*1\n6 1 grant 5 4 = given 1 full 0 gone 0\n7 1 done 6\n8 2 sync 4 - = gave 1 to -\n9 1 shut 3\n10 1 finish 3 2,3,4,5 found 0 astray 0 = unread 0\n11 1 leave\n12 2 shut 4\n13 2 finish 4 10,11,12,13,14 found 0 astray 0 = unread 0\n14 2 leave\nend 14 free 8192\n";
+
+#[test]
+fn the_first_run_is_read(rt: HostRuntime) -> Result<(), Fail> {
+    let text = FIRST_TEXT;
+    assert!(rt; text.len() < 4_294_967_295);
+    let entries = read(rt.alloc(), text).ok().ok_or("read")?;
+    assert_eq!(rt; entries.len(), 14);
+    let end = text.len().saturating_sub(17);
+    let unended = read(rt.alloc(), &text[..end]).err();
+    assert_eq!(rt; unended, Some(TextFault::BadLine { line: 16 }));
+    Ok(())
+}
+
 // texts that are none, each with the first line that is none
-const BAD_TEXTS: [(&[u8], u32); 38] = [
+const BAD_TEXTS: [(&[u8], u32); 41] = [
     (b"", 1),
     (b"\n", 1),
     (b"vale 1 pool 0\nend 0 free 0\n", 1),
@@ -329,6 +460,9 @@ const BAD_TEXTS: [(&[u8], u32); 38] = [
     (b"vale 1 pool 64\nend 1 free 0\n", 2),
     (b"vale 1 pool 64\nend 0 free 0\n\n", 3),
     (b"vale 1 pool 64\nend 0 free 0\n1 enter 1\n", 3),
+    (b"vale 1 pool 64\n1 enter 1\n", 3),
+    (b"vale 1 pool 64\n1 enter 1", 2),
+    (b"vale 1 pool 64\n1 enter 1\nend 1 free 0\nx", 4),
     (b"vale 1 pool 64\n1 enter 01\nend 1 free 0\n", 2),
     (
         b"vale 1 pool 64\n1 enter 18446744073709551616\nend 1 free 0\n",
