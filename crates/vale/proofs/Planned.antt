@@ -33,7 +33,7 @@ rx-sound false name act e = subst IsSoundAct (some-same (Rx name) act e) tt
 act-sound : (said : ScriptAct) (act : Act) → sounds.IsSoundAct said → planned_act said ≡ Some act → IsSoundAct act
 act-sound acts.Enter act sound e = subst IsSoundAct (some-same Enter act e) tt
 act-sound (acts.Open name tx rx extra) act sound e = open-sound (is_switch_port_name name) (extra == 0) name tx rx act refl e
-act-sound (acts.Put name count to from len fill) act sound e = subst IsSoundAct (some-same (Put name count (record { destination = to; source = from; len = len; byte = fill })) act e) sound
+act-sound (acts.Put name count to from len fill) act sound e = subst IsSoundAct (some-same (Put name count (record { destination = to; source = from; len = len; byte = fill })) act e) (sound.1, sound.2)
 act-sound (acts.Tx name) act sound e = subst IsSoundAct (some-same (Tx name) act e) tt
 act-sound (acts.Rx name keep) act sound e = rx-sound keep name act e
 act-sound (acts.Close name) act sound e = subst IsSoundAct (some-same (Close name) act e) tt

@@ -15,7 +15,7 @@ use Rattle.vale_script.specs.Keeps.{IsPoolRange, IsSoundStatement, IsUserNumber,
 use Rattle.vale_script.specs.Replay.{units_say}
 use Rattle.vale_script.specs.Rules.{Draft, Opened, nothing_said, user_cause, act_cause, cause_of, with_act, with_line, units_with, block_with, with_user, ended_units, does_act, after, finished_by, finished}
 use Rattle.vale_script.specs.Script.{Program}
-use Rattle.vale_script.specs.Sound.{IsSoundDeed, IsSoundAct, IsSoundLine, IsSoundUnit, IsSound}
+use Rattle.vale_script.specs.Sound.{IsUserName, IsSoundDeed, IsSoundAct, IsSoundLine, IsSoundUnit, IsSound}
 use Rattle.vale_script.specs.Statements.{Statement, Nothing, Pool, NewUser, Begin, End, Does}
 use Rattle.vale_script.specs.Tables.{updated}
 use Rattle.vale_script.proofs.Replays.{IsUnits, replay_more}
@@ -53,6 +53,7 @@ line-sound : (draft : Draft) (line : Line) → HasSoundParts draft → IsSoundLi
 line-sound draft line sound here = record {
   pool = sound.pool;
   few = sound.few;
+  names = sound.names;
   numbers = sound.numbers;
   units = units-sound (length draft.users) draft.block line draft.units here sound.units;
   block = block-sound (length draft.users) draft.block line here sound.block;
@@ -60,10 +61,10 @@ line-sound draft line sound here = record {
 }
 
 act-sound : (draft : Draft) (user : List ℕ) (act : Act) → HasSoundParts draft → HasSoundParts (with_act draft user act)
-act-sound draft user (acts.Open name tx rx extra) sound = record { pool = sound.pool; few = sound.few; numbers = sound.numbers; units = sound.units; block = sound.block; named = sound.named }
-act-sound draft user (acts.Close name) sound = record { pool = sound.pool; few = sound.few; numbers = sound.numbers; units = sound.units; block = sound.block; named = sound.named }
-act-sound draft user (acts.Play name file batch) sound = record { pool = sound.pool; few = sound.few; numbers = sound.numbers; units = sound.units; block = sound.block; named = sound.named }
-act-sound draft user (acts.Save name file) sound = record { pool = sound.pool; few = sound.few; numbers = sound.numbers; units = sound.units; block = sound.block; named = sound.named }
+act-sound draft user (acts.Open name tx rx extra) sound = record { pool = sound.pool; few = sound.few; names = sound.names; numbers = sound.numbers; units = sound.units; block = sound.block; named = sound.named }
+act-sound draft user (acts.Close name) sound = record { pool = sound.pool; few = sound.few; names = sound.names; numbers = sound.numbers; units = sound.units; block = sound.block; named = sound.named }
+act-sound draft user (acts.Play name file batch) sound = record { pool = sound.pool; few = sound.few; names = sound.names; numbers = sound.numbers; units = sound.units; block = sound.block; named = sound.named }
+act-sound draft user (acts.Save name file) sound = record { pool = sound.pool; few = sound.few; names = sound.names; numbers = sound.numbers; units = sound.units; block = sound.block; named = sound.named }
 act-sound draft user act sound = sound
 
 -- the act leaves users and numbers as they were
@@ -153,13 +154,14 @@ named-with : (users : List (List ℕ)) (numbers : List ℕ → Option ℕ) (name
 named-with users numbers name other true same range named = name_last users name ∙ same.0 refl
 named-with users numbers name other false same range named = named-more users name other (numbers other) range named
 
-user-parts : (draft : Draft) (at : ℕ) (name : List ℕ) → HasSoundParts draft → length draft.users < 64 → HasSoundParts (with_user draft at name)
-user-parts draft at name sound room =
+user-parts : (draft : Draft) (at : ℕ) (name : List ℕ) → HasSoundParts draft → IsUserName name → length draft.users < 64 → HasSoundParts (with_user draft at name)
+user-parts draft at name sound here room =
     let count : length (draft.users ++ name ∷ []) ≡ length draft.users + 1 = omega (arith, length-append draft.users (name ∷ [])) in
     let line : Line = record { at = at; user = length draft.users + 1; act = acts.Enter } in
     record {
       pool = sound.pool;
       few = omega (arith, count, room);
+      names = each-push IsUserName draft.users name sound.names here;
       numbers = λ other. subst (λ (n : ℕ). IfSome (updated draft.numbers name (Some (length draft.users + 1)) other) (IsUserNumber n)) (sym count) (numbers-with draft.numbers name other (length draft.users) (bytes_eq name other) (sound.numbers other));
       units = subst (λ (n : ℕ). Each (IsSoundUnit n) (draft.units ++ parts.Single line ∷ [])) (sym count)
           (each-push (IsSoundUnit (length draft.users + 1)) draft.units (parts.Single line) (units-more (length draft.users) (length draft.users + 1) draft.units (omega arith) sound.units) (record { least = omega arith; most = omega arith; act = tt }));
@@ -167,9 +169,9 @@ user-parts draft at name sound room =
       named = λ other. named-with draft.users draft.numbers name other (bytes_eq name other) (bytes_eq-Decides name other) (sound.numbers other) (sound.named other);
     }
 
-user-sound : (draft : Draft) (at : ℕ) (name : List ℕ) → IsSoundDraft draft → user_cause draft name ≡ None → IsSoundDraft (with_user draft at name)
-user-sound draft at name sound none =
-    adds draft at (NewUser name) tt sound none (user-parts draft at name sound.parts (room-for draft name none))
+user-sound : (draft : Draft) (at : ℕ) (name : List ℕ) → IsSoundDraft draft → IsUserName name → user_cause draft name ≡ None → IsSoundDraft (with_user draft at name)
+user-sound draft at name sound here none =
+    adds draft at (NewUser name) tt sound none (user-parts draft at name sound.parts here (room-for draft name none))
     (says_user draft.users name draft.block draft.units at (no-block (is_some draft.block) _ none) sound.parts.units)
 
 ended-sound : (users : ℕ) (block : Option Opened) (units : List Part) → IfSome block (IsSoundBlock users) → Each (IsSoundUnit users) units → Each (IsSoundUnit users) (ended_units block units)
@@ -177,13 +179,13 @@ ended-sound users None units here all = all
 ended-sound users (Some block) units here all = each-push (IsSoundUnit users) units (parts.Block block.lines) all here
 
 begin-parts : (draft : Draft) (at : ℕ) → HasSoundParts draft → HasSoundParts (after draft at Begin)
-begin-parts draft at sound = record { pool = sound.pool; few = sound.few; numbers = sound.numbers; units = sound.units; block = tt; named = sound.named }
+begin-parts draft at sound = record { pool = sound.pool; few = sound.few; names = sound.names; numbers = sound.numbers; units = sound.units; block = tt; named = sound.named }
 
 end-parts : (draft : Draft) (at : ℕ) → HasSoundParts draft → HasSoundParts (after draft at End)
-end-parts draft at sound = record { pool = sound.pool; few = sound.few; numbers = sound.numbers; units = ended-sound (length draft.users) draft.block draft.units sound.block sound.units; block = tt; named = sound.named }
+end-parts draft at sound = record { pool = sound.pool; few = sound.few; names = sound.names; numbers = sound.numbers; units = ended-sound (length draft.users) draft.block draft.units sound.block sound.units; block = tt; named = sound.named }
 
 pool-parts : (draft : Draft) (at size : ℕ) → IsPoolRange size → HasSoundParts draft → HasSoundParts (after draft at (Pool size))
-pool-parts draft at size here sound = record { pool = here; few = sound.few; numbers = sound.numbers; units = sound.units; block = sound.block; named = sound.named }
+pool-parts draft at size here sound = record { pool = here; few = sound.few; names = sound.names; numbers = sound.numbers; units = sound.units; block = sound.block; named = sound.named }
 
 -- the pool's size is no matter of a replay
 pool-replay : (draft : Draft) (at size : ℕ) (said : List Statement) → IsReplayedBy draft said → IsReplayedBy (after draft at (Pool size)) said
@@ -196,7 +198,7 @@ pool-replay draft at size said r = record {
 pub after_sound : (draft : Draft) (at : ℕ) (said : Statement) → IsSoundDraft draft → IsSoundStatement said → cause_of draft said ≡ None → IsSoundDraft (after draft at said)
 after_sound draft at Nothing sound here none = sound
 after_sound draft at (Pool size) sound here none = record { parts = pool-parts draft at size here sound.parts; replay = pool-replay draft at size (draft_says draft) sound.replay }
-after_sound draft at (NewUser name) sound here none = user-sound draft at name sound none
+after_sound draft at (NewUser name) sound here none = user-sound draft at name sound here none
 after_sound draft at Begin sound here none =
     adds draft at Begin tt sound none (begin-parts draft at sound.parts) (says_begin draft.users draft.block draft.units (no-block (is_some draft.block) None none))
 after_sound draft at End sound here none =
@@ -205,7 +207,7 @@ after_sound draft at (Does user act) sound here none = does-sound draft at user 
 
 pub nothing_sound : IsSoundDraft nothing_said
 nothing_sound = record {
-  parts = record { pool = tt; few = omega arith; numbers = λ name. tt; units = tt; block = tt; named = λ name. tt };
+  parts = record { pool = tt; few = omega arith; names = tt; numbers = λ name. tt; units = tt; block = tt; named = λ name. tt };
   replay = record { causes = tt; alike = record { users = refl; numbers = refl; ports = refl; files = refl; played = refl; block = refl } };
 }
 
@@ -216,7 +218,7 @@ pool-range (Some size) range = range
 program-sound : (draft : Draft) → HasSoundParts draft → IsReplayedBy draft (units_say draft.users draft.units) → IsSound (record { pool = unwrap_or draft.pool 8192; users = draft.users; files = draft.played; units = draft.units })
 program-sound draft sound replay =
     let range = pool-range draft.pool sound.pool in
-    record { least = range.0; most = range.1; few = sound.few; units_are = sound.units; causes = replay.causes; declares = replay.alike.users; plays = replay.alike.played }
+    record { least = range.0; most = range.1; few = sound.few; names = sound.names; units_are = sound.units; causes = replay.causes; declares = replay.alike.users; plays = replay.alike.played }
 
 finished-sound : (draft : Draft) (block : Option Opened) (program : Program) → HasSoundParts draft → IsReplayedBy draft (units_say draft.users draft.units ++ opened_says draft.users block) → finished_by block (record { pool = unwrap_or draft.pool 8192; users = draft.users; files = draft.played; units = draft.units }) ≡ Ok program → IsSound program
 finished-sound draft None program sound replay e =

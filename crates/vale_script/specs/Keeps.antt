@@ -4,14 +4,15 @@ use Rattle.std.specs.List.{AllByRecursion as Each}
 use Rattle.nm_types.specs.Limits.{most_pool, most_users}
 use Rattle.vale_script.specs.Replay.{user_name, lines_say, units_say, replayed, MeetNoCause}
 use Rattle.vale_script.specs.Rules.{Draft, Opened, nothing_said}
-use Rattle.vale_script.specs.Sound.{IsSoundDeed, IsSoundLine, IsSoundUnit}
-use Rattle.vale_script.specs.Statements.{Statement, Pool, Begin, Does}
+use Rattle.vale_script.specs.Sound.{IsUserName, IsSoundDeed, IsSoundLine, IsSoundUnit}
+use Rattle.vale_script.specs.Statements.{Statement, Pool, NewUser, Begin, Does}
 
 abbrev pub IsPoolRange : ℕ → Type 0
 IsPoolRange size = (1 ≤ size) × (size ≤ most_pool)
 
 abbrev pub IsSoundStatement : Statement → Type 0
 IsSoundStatement (Pool size) = IsPoolRange size
+IsSoundStatement (NewUser name) = IsUserName name
 IsSoundStatement (Does user act) = IsSoundDeed act
 IsSoundStatement _ = Unit {0}
 
@@ -28,6 +29,7 @@ IsNumberOf users name number = user_name users number ≡ name
 pub record HasSoundParts (draft : Draft) : Type 0 where
   pub pool : IfSome draft.pool IsPoolRange
   pub few : length draft.users ≤ most_users
+  pub names : Each IsUserName draft.users
   pub numbers : (name : List ℕ) → IfSome (draft.numbers name) (IsUserNumber (length draft.users))
   pub units : Each (IsSoundUnit (length draft.users)) draft.units
   pub block : IfSome draft.block (IsSoundBlock (length draft.users))

@@ -14,9 +14,13 @@ has_bytes word = nat_lt 0 (length word)
 abbrev pub words_of : List ℕ → List (List ℕ)
 words_of line = filter has_bytes (slice_split is_blank line)
 
+-- a printable byte that is no blank
+abbrev pub is_graphic : ℕ → Bool
+is_graphic b = nat_le 33 b && nat_le b 126
+
 -- what a line that says something holds: printable bytes, blanks and tabs
 abbrev pub is_line_byte : ℕ → Bool
-is_line_byte b = is_blank b || (nat_le 33 b && nat_le b 126)
+is_line_byte b = is_blank b || is_graphic b
 
 abbrev pub are_line_bytes : List ℕ → Bool
 are_line_bytes line = list_all is_line_byte line
@@ -40,9 +44,16 @@ is_user_name word = has_up_to 16 word && are_word_bytes word
 unfoldable pub port_name : List ℕ → Option (List ℕ)
 port_name word = if is_name word then Some word else None
 
--- a word's text, where its bytes are in range
+abbrev pub are_graphic : List ℕ → Bool
+are_graphic word = list_all is_graphic word
+
+-- a file's name: any word
+abbrev pub is_file_name : List ℕ → Bool
+is_file_name word = has_bytes word && are_graphic word
+
+-- the text of a word
 unfoldable pub text_of : List ℕ → Option (List ℕ)
-text_of word = if are_line_bytes word then Some word else None
+text_of word = if is_file_name word then Some word else None
 
 abbrev pub is_digit : ℕ → Bool
 is_digit b = nat_le 48 b && nat_le b 57

@@ -2,7 +2,8 @@
 ghost use Rattle.std.specs.Prelude.{◌≡◌, ◌≤◌, ◌^◌, ℕ, map, slice_index_or, length, IfOk, Ok};
 ghost use Rattle.vale_script.specs.Places.{side_of, sides_of, field_of};
 ghost use Rattle.vale_script.specs.Keeps.{IsSoundStatement};
-ghost use Rattle.vale_script.specs.Sound.{IsSoundDeed};
+ghost use Rattle.nm_types.specs.Names.{IsName};
+ghost use Rattle.vale_script.specs.Sound.{IsUserName, IsFileName, IsSoundDeed};
 ghost use Rattle.vale_script.specs.Statements.{shown, word_at, user_at, port_at, text_at, number_at, address_at, byte_at_place, open_act, put_with, put_act, fwd_act, poke_act, move_act, swap_act, extra_act, watch_act, named_act, plain_act, hex_act, play_act, save_act, act_of, statement_of, cause_of_words, words_said, line_said, Tells, TellsSaid, shown_text};
 
 use crate::forms::{Verb, form_of, verb_of};
@@ -84,7 +85,8 @@ pub fn word_at<'a>(words: &[&'a [u8]], i: usize) -> &'a [u8]
 }
 
 fn user_at<'a>(words: &[&'a [u8]]) -> Result<&'a str, LineCause>
-    ensures { shown_text result ≡ user_at (map (λ w. w.now) words.now) }
+    ensures user { shown_text result ≡ user_at (map (λ w. w.now) words.now) }
+    ensures named { IfOk result (λ name. IsUserName name.now) }
 {
     let word = word_at(words, 1);
     if !is_user_name(word) {
@@ -94,13 +96,15 @@ fn user_at<'a>(words: &[&'a [u8]]) -> Result<&'a str, LineCause>
 }
 
 fn text_at<'a>(words: &[&'a [u8]], i: usize) -> Result<&'a str, LineCause>
-    ensures { shown_text result ≡ text_at i (map (λ w. w.now) words.now) }
+    ensures text { shown_text result ≡ text_at i (map (λ w. w.now) words.now) }
+    ensures named { IfOk result (λ text. IsFileName text.now) }
 {
     text_of(word_at(words, i)).ok_or(LineCause::Word)
 }
 
 fn port_at(words: &[&[u8]], i: usize) -> Result<Name, LineCause>
-    ensures { result ≡ port_at i (map (λ w. w.now) words.now) }
+    ensures port { result ≡ port_at i (map (λ w. w.now) words.now) }
+    ensures named { IfOk result IsName }
 {
     port_name(word_at(words, i)).ok_or(LineCause::Name)
 }
@@ -168,7 +172,8 @@ fn open_act(words: &[&[u8]]) -> Result<Act, LineCause>
 }
 
 fn put_with(words: &[&[u8]], name: Name, count: u32) -> Result<Act, LineCause>
-    requires { count ≤ MAX_COUNTS }
+    requires counted { count ≤ MAX_COUNTS }
+    requires named { IsName name }
     ensures sound { IfOk result IsSoundDeed }
     ensures value { result ≡ put_with name count (map (λ w. w.now) words.now) }
 {

@@ -137,7 +137,7 @@ fn bad_lines_are_blamed(rt: HostRuntime) -> Result<(), Fail> {
 }
 
 /// Each cause that the fifth line can have by itself, on each kind of line.
-const EACH_CAUSE: [(&[u8], LineCause); 103] = [
+const EACH_CAUSE: [(&[u8], LineCause); 105] = [
     (b"pool 64\x7f", Word),
     (b"user c\x7f", Word),
     (b"open a vale0:q 4 4\x7f", Word),
@@ -249,6 +249,8 @@ const EACH_CAUSE: [(&[u8], LineCause); 103] = [
     (b"poke a vale0:q tx 0 len 1", Port),
     (b"move a vale0:q tx 0 0", Port),
     (b"swap a vale0:q rx 0 vale0:p tx 0", Port),
+    (b"fwd a vale0:p vale0:q 1", Port),
+    (b"swap a vale0:p rx 0 vale0:q tx 0", Port),
     (b"extra a vale0:q 0 0", Port),
     (b"watch a mon1 vale0:p t", Port),
     (b"stat a vale0:q", Port),

@@ -1,7 +1,7 @@
 //! The words of a script's lines, each by itself.
 ghost use Rattle.std.specs.Prelude.{◌≡◌, ◌+◌, ◌*◌, ◌/◌, ◌<◌, ◌≤◌, ◌^◌, ℕ, length, map, option_map, min, is_some, true, IsTrue, IfOk, IfSome};
-ghost use Rattle.nm_types.specs.Names.{is_word_byte, are_word_bytes};
-ghost use Rattle.vale_script.specs.Words.{is_blank, has_bytes, words_of, is_line_byte, are_line_bytes, begins_with_hash, is_silent, has_up_to, is_user_name, port_name, text_of, is_digit, are_digits, is_number, number_of, number_in, is_hex, are_hex, hex_value, is_pair_at, byte_at, is_colon_at, is_hex_byte, hex_byte_of, is_digits, bytes_of, frame_bytes, are_pairs, are_joined, is_mac, mac_value, mac_of};
+ghost use Rattle.nm_types.specs.Names.{is_word_byte, are_word_bytes, IsName};
+ghost use Rattle.vale_script.specs.Words.{is_blank, has_bytes, words_of, is_graphic, is_line_byte, are_line_bytes, begins_with_hash, is_silent, has_up_to, is_user_name, port_name, are_graphic, is_file_name, text_of, is_digit, are_digits, is_number, number_of, number_in, is_hex, are_hex, hex_value, is_pair_at, byte_at, is_colon_at, is_hex_byte, hex_byte_of, is_digits, bytes_of, frame_bytes, are_pairs, are_joined, is_mac, mac_value, mac_of};
 
 use nm_types::{BUFFER_BYTES, Mac, Name, NoMemory};
 use std::alloc::{AllocError, Global};
@@ -15,10 +15,16 @@ fn is_blank(b: u8) -> bool
     b == b' ' || b == b'\t'
 }
 
+fn is_graphic(b: u8) -> bool
+    ensures { result ≡ is_graphic b }
+{
+    (33..=126).contains(&b)
+}
+
 fn is_line_byte(b: u8) -> bool
     ensures { result ≡ is_line_byte b }
 {
-    is_blank(b) || (33..=126).contains(&b)
+    is_blank(b) || is_graphic(b)
 }
 
 /// Whether a line that says something may hold these bytes.
@@ -80,12 +86,26 @@ pub(crate) fn is_user_name(word: &[u8]) -> bool
     has_up_to(16, word) && are_word_bytes(word)
 }
 
-/// The text of a word, or none if a byte is out of range.
+fn are_graphic(word: &[u8]) -> bool
+    ensures { result ≡ are_graphic word.now }
+{
+    word.iter().all(|b| is_graphic(*b))
+}
+
+fn is_file_name(word: &[u8]) -> bool
+    ensures { result ≡ is_file_name word.now }
+{
+    !word.is_empty() && are_graphic(word)
+}
+
+/// The text of a word, or none if it has no byte, or one that is not printable or a blank.
 #[tactic(auto, using(crate::proofs::Texts::texts), unfolding(crate::specs::Words::text_of))]
 pub(crate) fn text_of(word: &[u8]) -> Option<&str>
-    ensures { option_map (λ text. text.now) result ≡ text_of word.now }
+    ensures text { option_map (λ text. text.now) result ≡ text_of word.now }
+    ensures same { IfSome result (λ text. text.now ≡ word.now) }
+    ensures named { IfSome result (λ text. is_file_name text.now ≡ true) }
 {
-    if are_line_bytes(word) {
+    if is_file_name(word) {
         str::from_utf8(word).ok()
     } else {
         None
@@ -95,7 +115,8 @@ pub(crate) fn text_of(word: &[u8]) -> Option<&str>
 /// The name of a port, a pipe end or a monitor, or none if the word is none.
 #[tactic(auto, unfolding(crate::specs::Words::port_name))]
 pub(crate) fn port_name(word: &[u8]) -> Option<Name>
-    ensures { result ≡ port_name word.now }
+    ensures name { result ≡ port_name word.now }
+    ensures named { IfSome result IsName }
 {
     Name::from_bytes(word).ok()
 }
