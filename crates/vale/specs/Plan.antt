@@ -97,18 +97,20 @@ is_run verbs.Rx = true
 is_run verbs.Close = true
 is_run _ = false
 
-abbrev pub is_other_verb : Option Verb → Bool
-is_other_verb None = false
-is_other_verb (Some verb) = not (is_run verb)
-
 -- the name of a pipe end or a monitor
 abbrev pub is_other_name : List ℕ → Bool
 is_other_name word = is_name word && not (is_switch_port_name word)
 
 -- A malformed line is one that this program does not run if its first word is that of such a line, or if
--- a pipe end or a monitor stands where such a line names its port.
+-- a pipe end or a monitor stands where the line names its port; one of the pool or of a user names none.
+abbrev pub is_other_by : Option Verb → List ℕ → Bool
+is_other_by None name = false
+is_other_by (Some verbs.Pool) name = false
+is_other_by (Some verbs.User) name = false
+is_other_by (Some verb) name = not (is_run verb) || is_other_name name
+
 abbrev pub is_other_kind : List (List ℕ) → Bool
-is_other_kind words = is_other_verb (verb_of (word_at 0 words)) || is_other_name (word_at 2 words)
+is_other_kind words = is_other_by (verb_of (word_at 0 words)) (word_at 2 words)
 
 abbrev pub other_by : Result Statement LineCause → List ℕ → Bool
 other_by (Ok said) line = is_other said
@@ -122,8 +124,7 @@ abbrev pub first_other : ℕ → List (List ℕ) → Option ℕ
 first_other at [] = None
 first_other at (line ∷ lines) = if is_other_line line then Some at else first_other (at + 1) lines
 
--- The smaller line number is the one that is reported. A line that this program does not run has this cause,
--- whatever else is wrong with it.
+-- The smaller line number is the one that is reported; on one line this cause goes before those of parsing.
 abbrev pub judged : Option ℕ → Result scripts.Program Fault → Result Program Fault
 judged None (Ok script) = Ok (program_of script)
 judged None (Err fault) = Err fault

@@ -6,7 +6,7 @@ ghost use Rattle.std.specs.List.{filter_map};
 ghost use Rattle.std.specs.Str.Lines.{lines};
 ghost use Rattle.vale_script.specs.Statements.{shown};
 ghost use Rattle.vale_script.specs.Words.{words_of};
-ghost use Rattle.vale.specs.Plan.{frame_of_put, count_of, frames_put, planned_open, planned_act, planned_line, planned_unit, is_other, is_run, is_other_verb, is_other_name, is_other_kind, is_other_line, first_other, bad_word, script_of, BlamesLine};
+ghost use Rattle.vale.specs.Plan.{frame_of_put, count_of, frames_put, planned_open, planned_act, planned_line, planned_unit, is_other, is_run, is_other_name, is_other_by, is_other_kind, is_other_line, first_other, bad_word, script_of, BlamesLine};
 ghost use Rattle.vale.specs.Sound.{IsSound};
 
 use nm_types::{LineCause, Mac, Name, NoMemory};
@@ -243,15 +243,6 @@ fn is_run(verb: Verb) -> bool
     )
 }
 
-fn is_other_verb(verb: Option<Verb>) -> bool
-    ensures { result ≡ is_other_verb verb }
-{
-    match verb {
-        Some(verb) => !is_run(verb),
-        None => false,
-    }
-}
-
 /// Whether a word names a pipe end or a monitor.
 fn is_other_name(word: &[u8]) -> bool
     ensures { result ≡ is_other_name word.now }
@@ -262,12 +253,23 @@ fn is_other_name(word: &[u8]) -> bool
     }
 }
 
-/// Whether a malformed line is of a kind that this program does not run.
+/// Whether a malformed line is of a kind that this program does not run, by its first word and the name
+/// of its port.
+fn is_other_by(verb: Option<Verb>, name: &[u8]) -> bool
+    ensures { result ≡ is_other_by verb name.now }
+{
+    match verb {
+        None | Some(Verb::Pool | Verb::User) => false,
+        Some(verb) => !is_run(verb) || is_other_name(name),
+    }
+}
+
+/// The same, by its words.
 fn is_other_kind(alloc: Global, line: &[u8]) -> Result<bool, NoMemory>
     ensures { IfOk result (λ other. other ≡ is_other_kind (words_of line.now)) }
 {
     let words = words_of(alloc, line)?;
-    Ok(is_other_verb(verb_of(word_at(&words, 0))) || is_other_name(word_at(&words, 2)))
+    Ok(is_other_by(verb_of(word_at(&words, 0)), word_at(&words, 2)))
 }
 
 /// Whether this program does not run a line.

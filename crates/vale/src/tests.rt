@@ -95,7 +95,8 @@ fn a_second_call_fails(rt: HostRuntime) -> Result<(), Fail> {
     Ok(())
 }
 
-/// A word twice; a port that is not open, is another's, is closed twice; frames too many, and bytes.
+/// A word twice; a port that is not open, is another's, is closed twice; lines that are not run, and
+/// malformed ones; frames too many, and bytes.
 #[test]
 fn bad_scripts_are_told(rt: HostRuntime) -> Result<(), Fail> {
     for (script, text) in [
@@ -107,6 +108,10 @@ fn bad_scripts_are_told(rt: HostRuntime) -> Result<(), Fail> {
         (BLOCK, SECOND_WORD),
         (BLOCK_LATER, SECOND_TWICE),
         (PIPE, SECOND_WORD),
+        (LONG_USER, FIRST_COUNT),
+        (LONG_POOL, FIRST_COUNT),
+        (LONG_BLOCK, FIRST_WORD),
+        (MONITOR, FIRST_WORD),
         (KEEP, FOURTH_WORD),
         (MANY_FRAMES, MANY_FRAMES_LINE),
         (MANY_BYTES, MANY_BYTES_LINE),

@@ -94,8 +94,20 @@ pub(super) const BLOCK: &[u8] = b"user a\npar\nuser a\nend\n";
 pub(super) const BLOCK_LATER: &[u8] = b"user a\nuser a\npar\n";
 /// A pipe, which is not run yet.
 pub(super) const PIPE: &[u8] = b"user a\nopen a pipe0{ 4 4\n";
+/// A word too many on a user's line, which names a monitor.
+pub(super) const LONG_USER: &[u8] = b"user a mon0\n";
+/// The same of the pool.
+pub(super) const LONG_POOL: &[u8] = b"pool 5 mon0\n";
+/// A malformed line that begins as one that is not run yet.
+pub(super) const LONG_BLOCK: &[u8] = b"par x\n";
+/// A malformed line at a monitor.
+pub(super) const MONITOR: &[u8] = b"tx a.b mon0\n";
 /// A ring that keeps its positions, which is not run yet.
 pub(super) const KEEP: &[u8] = b"user a\nopen a vale0:a 4 4 0\nrx a vale0:a\nrx a vale0:a keep\n";
+
+pub(super) const FIRST_COUNT: &[u8] = b"vale: script line 1: count\n";
+
+pub(super) const FIRST_WORD: &[u8] = b"vale: script line 1: word\n";
 
 pub(super) const SECOND_WORD: &[u8] = b"vale: script line 2: word\n";
 
