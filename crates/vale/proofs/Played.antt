@@ -13,7 +13,7 @@ use Rattle.vale.specs.Plan.{Program}
 use Rattle.vale.specs.declared.status.Status.{Status}
 use Rattle.vale.specs.declared.status.Status.TheVariants.{Done, Usage, BadScript, ReadFault, WriteFault, Over, NoMemory}
 use Rattle.vale.specs.Replay.{Plays}
-use Rattle.vale.specs.Run.{TellsHistory, Written, Played, IsCounted}
+use Rattle.vale.specs.Run.{TellsHistory, HistoryOf, Written, Played, IsCounted}
 use Rattle.vale.specs.Steps.{DoesProgram, StopsProgram}
 use Rattle.vale.proofs.Deliveries.{delivers}
 use Rattle.vale.proofs.Sums.{refusal-sum}
@@ -48,28 +48,33 @@ text-tells pool history small few legal =
 
 -- a run that ended, and whose transcript was written
 
-played-by : (limits : Limits) (program : Program) (history : List Entry) (write_faults : ℕ × ℕ) (old new : Option (List ℕ)) (status : Status)
-    → TellsHistory program.pool history → Plays program history → (world_of program.pool history).sessions ≡ [] → free_count (world_of program.pool history) ≡ program.pool
-    → HadRoom (record { pool = program.pool; limits = limits; entries = history }) → Written program.pool history write_faults old new status → Played limits program write_faults old new status
-played-by limits program history write_faults old new Done tells plays left whole roomy written = record { history = history; plays = plays; roomy = roomy; delivers = delivers program.pool history plays.legal left; left = left; whole = whole; held = written; told = tells }
-played-by limits program history write_faults old new WriteFault tells plays left whole roomy written = (record { history = history; plays = plays; roomy = roomy; delivers = delivers program.pool history plays.legal left; left = left; whole = whole; part = written.0 }, written.1)
-played-by limits program history write_faults old new NoMemory tells plays left whole roomy written = inr (record { history = history; plays = plays; roomy = roomy; delivers = delivers program.pool history plays.legal left; left = left; whole = whole; part = written })
-played-by limits program history write_faults old new (BadScript line cause) tells plays left whole roomy written = absurd written
-played-by limits program history write_faults old new Usage tells plays left whole roomy written = absurd written
-played-by limits program history write_faults old new (ReadFault name) tells plays left whole roomy written = absurd written
-played-by limits program history write_faults old new (Over what count limit) tells plays left whole roomy written = absurd written
+played-by : (limits : Limits) (program : Program) (history : HistoryOf limits program) (write_faults : ℕ × ℕ) (old new : Option (List ℕ)) (status : Status)
+    → TellsHistory program.pool history.entries → Written program.pool history.entries write_faults old new status → Played limits program write_faults old new status
+played-by limits program history write_faults old new Done tells written = record { history = history; held = written; told = tells }
+played-by limits program history write_faults old new WriteFault tells written = (record { history = history; part = written.0 }, written.1)
+played-by limits program history write_faults old new NoMemory tells written = inr (record { history = history; part = written })
+played-by limits program history write_faults old new (BadScript line cause) tells written = absurd written
+played-by limits program history write_faults old new Usage tells written = absurd written
+played-by limits program history write_faults old new (ReadFault name) tells written = absurd written
+played-by limits program history write_faults old new (Over what count limit) tells written = absurd written
 
 pub played-written : (limits : Limits) (start b : Recorded) (program : Program) (write_faults : ℕ × ℕ) (old new : Option (List ℕ)) (status : Status) → start ≡ fresh_book program.pool limits → DoesProgram start b program → IsLegal b.pool b.entries → HadRoom b
     → b.pool < 2 ^ 32 → length b.entries < 2 ^ 32 → Written b.pool b.entries write_faults old new status → Played limits program write_faults old new status
 played-written limits start b program write_faults old new status is does legal roomy small few written =
     let pool_is : b.pool ≡ program.pool = does.pool_is ∙ ap (λ (r : Recorded). r.pool) is in
     let limits_are : b.limits ≡ limits = does.limits_are ∙ ap (λ (r : Recorded). r.limits) is in
-    played-by limits program b.entries write_faults old new status
+    let plays : Plays program b.entries = record { legal = subst (λ (p : ℕ). IsLegal p b.entries) pool_is legal; replayed = does.replayed } in
+    let left : (world_of program.pool b.entries).sessions ≡ [] = subst (λ (p : ℕ). (world_of p b.entries).sessions ≡ []) pool_is does.left in
+    let history : HistoryOf limits program = record {
+      entries = b.entries;
+      plays = plays;
+      roomy = subst (λ (p : ℕ). HadRoom (record { pool = p; limits = limits; entries = b.entries })) pool_is (subst (λ (l : Limits). HadRoom (record { pool = b.pool; limits = l; entries = b.entries })) limits_are roomy);
+      delivers = delivers program.pool b.entries plays.legal left;
+      left = left;
+      whole = subst (λ (p : ℕ). free_count (world_of p b.entries) ≡ p) pool_is does.whole;
+    } in
+    played-by limits program history write_faults old new status
     (subst (λ (p : ℕ). TellsHistory p b.entries) pool_is (text-tells b.pool b.entries small few legal))
-    (record { legal = subst (λ (p : ℕ). IsLegal p b.entries) pool_is legal; replayed = does.replayed })
-    (subst (λ (p : ℕ). (world_of p b.entries).sessions ≡ []) pool_is does.left)
-    (subst (λ (p : ℕ). free_count (world_of p b.entries) ≡ p) pool_is does.whole)
-    (subst (λ (p : ℕ). HadRoom (record { pool = p; limits = limits; entries = b.entries })) pool_is (subst (λ (l : Limits). HadRoom (record { pool = b.pool; limits = l; entries = b.entries })) limits_are roomy))
     (subst (λ (p : ℕ). Written p b.entries write_faults old new status) pool_is written)
 
 -- a run that met a full record

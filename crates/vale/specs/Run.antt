@@ -35,27 +35,26 @@ TellsHistory pool history =
     (buffers : ℕ) (other : List Entry) → buffers < 2 ^ 32 → length other < 2 ^ 32 → IsLegal buffers other
     → transcript_text buffers other ≡ transcript_text pool history → (buffers ≡ pool) × (other ≡ history)
 
--- the transcript of a history that plays the program was written whole; it tells that history; the record
--- had room for each of its entries, it delivers, and at its end no session is left, and all buffers are free
+-- a history that plays the program: the record had room for each of its entries, it delivers, and at its end
+-- no session is left, and all buffers are free
+pub record HistoryOf (limits : Limits) (program : Program) : Type 0 where
+  pub entries : List Entry
+  pub plays : Plays program entries
+  pub roomy : HadRoom (record { pool = program.pool; limits = limits; entries = entries })
+  pub delivers : Delivers program.pool entries
+  pub left : (world_of program.pool entries).sessions ≡ []
+  pub whole : free_count (world_of program.pool entries) ≡ program.pool
+
+-- the transcript of such a history was written whole, and tells it
 pub record WritesText (limits : Limits) (program : Program) (old new : Option (List ℕ)) : Type 0 where
-  pub history : List Entry
-  pub plays : Plays program history
-  pub roomy : HadRoom (record { pool = program.pool; limits = limits; entries = history })
-  pub delivers : Delivers program.pool history
-  pub left : (world_of program.pool history).sessions ≡ []
-  pub whole : free_count (world_of program.pool history) ≡ program.pool
-  pub held : new ≡ grown old (transcript_text program.pool history)
-  pub told : TellsHistory program.pool history
+  pub history : HistoryOf limits program
+  pub held : new ≡ grown old (transcript_text program.pool history.entries)
+  pub told : TellsHistory program.pool history.entries
 
 -- a prefix of it was
 pub record WritesPart (limits : Limits) (program : Program) (old new : Option (List ℕ)) : Type 0 where
-  pub history : List Entry
-  pub plays : Plays program history
-  pub roomy : HadRoom (record { pool = program.pool; limits = limits; entries = history })
-  pub delivers : Delivers program.pool history
-  pub left : (world_of program.pool history).sessions ≡ []
-  pub whole : free_count (world_of program.pool history) ≡ program.pool
-  pub part : GrowsByPrefix old new (transcript_text program.pool history)
+  pub history : HistoryOf limits program
+  pub part : GrowsByPrefix old new (transcript_text program.pool history.entries)
 
 -- after some of the program, for which the record had room, it was full for the call that came next
 pub record StopsFull (limits : Limits) (program : Program) (part : Part) (count : ℕ) : Type 0 where
