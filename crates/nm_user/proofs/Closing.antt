@@ -1,10 +1,11 @@
 -- A session once a port of it is closed.
 use Rattle.std.proofs.Common.{ℕ, zero, suc, ◌≡◌, ◌<◌, ◌≤◌, ◌+◌, ◌-◌, ◌||◌, Bool, true, false, nat_eq, nat_lt, if◌then◌else◌, List, [], ◌∷◌, ◌++◌, length, map, fold, Option, Some, None, option_map, inl, inr, refl, sym, ◌∙◌, ap, arith, append_assoc, rules}
-use Rattle.std.specs.Prelude.{is_some, unwrap_or, IsSome, filter, find, not, flat_map}
+use Rattle.std.specs.Prelude.{is_some, unwrap_or, IsSome, filter, find, not, flat_map, take, drop}
 use Rattle.std.specs.Option.{option_map_or}
 use Rattle.std.specs.List.{AllByRecursion, list_any, range_with_len, filter_map}
 use Rattle.std.proofs.lemmas.Bool.{cases_Bool, cases_lt}
 use Rattle.std.proofs.lemmas.Bool.Decides.{nat_tests}
+use Rattle.std.proofs.Math.Seq.{take-append_seam, drop-append_seam}
 use Rattle.std.proofs.lemmas.List.{length-map}
 use Rattle.std.proofs.lemmas.List.FromFn.{length-range_with_len}
 use Rattle.std.proofs.lemmas.List.Elements.{recursion_from_All}
@@ -21,7 +22,8 @@ use Rattle.nm_types.specs.SyncChecks.{contains_index}
 use Rattle.nm_types.specs.Chain.{link_of, seen_in_chain, chain_of}
 use Rattle.nm_types.specs.OwnPorts.{OwnRing, OwnPort, OwnState, bytes_at, port_with_id, held_if, buffers_in}
 use Rattle.nm_types.specs.OwnSyncs.{without_bytes_of, own_after_finish, chain_in}
-use Rattle.nm_region.specs.Buffers.{Buffer}
+use Rattle.nm_region.specs.Buffers.{Buffer, indices_of}
+use Rattle.nm_hold.specs.Standings.{buf_in}
 use Rattle.nm_hold.specs.declared.standing.Standing.{Standing}
 use Rattle.nm_hold.specs.declared.table.PortPlaces.{PortPlaces}
 use Rattle.nm_hold.specs.Offsets.{has_port as has_id, ArePortsOnce, AreSizes}
@@ -34,7 +36,7 @@ use Rattle.nm_user.specs.Sides.{place_on, number_at}
 use Rattle.nm_user.specs.Own.{number_on, extra_number_at, ring_seen, port_seen, own_seen, port_at, bytes_in_cell, bytes_in_hold, named_ring_places, named_tx_places, named_places_of, named_places, size_if, is_filled, is_filled_in, places_of_port, AreFilled, AreFlagged, AreSided, AreRings, AreWhole, HasPlaces, IsTxSide, IsRingIf}
 use Rattle.nm_user.specs.Kept.{IsKept}
 use Rattle.nm_user.specs.declared.own.OwnSide.TheInside.{Inside}
-use Rattle.nm_user.specs.Closing.{user_count, place_count, held_place, held_places, buffers_with_id, AreTaken}
+use Rattle.nm_user.specs.Closing.{user_count, place_count, held_place, held_places, buffers_with_id, bytes_of_buffers, AreTaken}
 use Rattle.nm_user.proofs.Checked.{bytes_are_seen, id_of_found}
 use Rattle.nm_user.proofs.Filled.{all_append, all_range, all_slots}
 use Rattle.nm_user.proofs.Written.{port_same}
@@ -374,6 +376,37 @@ module _ (h : HoldState) (ports : List UserPort) (id : PortId) (p : UserPort) (h
     elsewhere : (q : Place) → nat_eq (port_of q) id.0 ≡ false → index_at now q ≡ index_at h q
     elsewhere q other = taken.index q ∙ ap (λ (b : Bool). if b then None else index_at h q) (elsewhere_none p (place_count p) q (rw same_id other))
 
+    numbers : map (number_at h) (held_places p (place_count p)) ≡ buffers_with_id (own_seen h ports) id.0
+    numbers = sym numbers_are
+
+    bytes_found : (out : List Buffer) (idxs : List ℕ) → map Some out ≡ map (buffer_at h) idxs → bytes_of_buffers out ≡ map (bytes_at (own_seen h ports)) idxs
+    bytes_found [] [] e = refl
+    bytes_found [] (idx ∷ idxs) e = absurd cc
+    bytes_found (b ∷ out) [] e = absurd cc
+    bytes_found (b ∷ out) (idx ∷ idxs) e =
+        let first : Some b ≡ buffer_at h idx = cc in
+        let others : map Some out ≡ map (buffer_at h) idxs = cc in
+        ap (λ (xs : List (List ℕ)). b.bytes ∷ xs) (bytes_found out idxs others) ∙ ap (λ (x : List ℕ). x ∷ map (bytes_at (own_seen h ports)) idxs) (one b idx first ∙ sym (bytes_are_seen h ports idx))
+      where
+        one : (b : Buffer) (idx : ℕ) → Some b ≡ buffer_at h idx → b.bytes ≡ bytes_in_hold h idx
+        one b idx e = by_cell (standing_at h idx) refl
+          where
+            by_cell : (o : Option Standing) → standing_at h idx ≡ o → b.bytes ≡ bytes_in_hold h idx
+            by_cell None there = absurd (let none = e ∙ ap buf_in there in cc)
+            by_cell (Some s) there = (let same : Some b ≡ Some s.buf = e ∙ ap buf_in there in ap (λ (x : Buffer). x.bytes) (some_is b s.buf same) ∙ sym (ap bytes_in_cell there))
+
+    out_is : drop (length before) after ≡ taken.out
+    out_is = ap (drop (length before)) taken.joined ∙ drop-append_seam before taken.out
+
+    pub before_stays : take (length before) after ≡ before
+    before_stays = ap (take (length before)) taken.joined ∙ take-append_seam before taken.out
+
+    pub indices_come : indices_of (drop (length before) after) ≡ buffers_with_id (own_seen h ports) id.0
+    indices_come = ap indices_of out_is ∙ (taken.indices ∙ numbers)
+
+    pub bytes_come : bytes_of_buffers (drop (length before) after) ≡ map (bytes_at (own_seen h ports)) (buffers_with_id (own_seen h ports) id.0)
+    bytes_come = ap bytes_of_buffers out_is ∙ bytes_found taken.out (buffers_with_id (own_seen h ports) id.0) (taken.each ∙ ap (map (buffer_at h)) numbers)
+
     pub holds_nothing : HoldsNothing now id.0
     holds_nothing q at = taken.index q ∙ (elim (cases_Bool (is_filled_in q p)) [
       | inl filled ↦ ap (λ (b : Bool). if b then None else index_at h q) (filled_taken p q ring filled)
@@ -464,3 +497,11 @@ all_gone h [] e is filled idx = by_cell (standing_at h idx) refl
     by_cell None there = refl
     by_cell (Some s) there = absurd (let some = ap is_some (sym (is.standing idx s there).there) ∙ filled s.home.place in cc)
 all_gone h (p ∷ ports) e is filled idx = absurd cc
+
+-- whether there is a port of an id
+pub port_is_there : (h : HoldState) (ports : List UserPort) (id : ℕ) → is_some (port_at ports id) ≡ is_some (port_with_id (own_seen h ports) id)
+port_is_there h ports id = by_port (port_at ports id) refl
+  where
+    by_port : (o : Option UserPort) → port_at ports id ≡ o → is_some (port_at ports id) ≡ is_some (port_with_id (own_seen h ports) id)
+    by_port None e = rw (e, lacks_port h ports id e) refl
+    by_port (Some p) e = rw (e, port_found h ports id p e) refl

@@ -4,7 +4,7 @@ use Rattle.std.specs.Prelude.{is_some, unwrap_or, IsSome}
 use Rattle.std.specs.List.{list_any, range_with_len}
 use Rattle.std.proofs.lemmas.Bool.{cases_Bool}
 use Rattle.std.proofs.lemmas.Bool.Decides.{nat_tests}
-use Rattle.std.proofs.lemmas.List.{length-set, map-append}
+use Rattle.std.proofs.lemmas.List.{length-set, map-append, append-nil}
 use Rattle.std.proofs.lemmas.List.Folds.{list_any-append}
 use Rattle.std.proofs.lemmas.List.FromFn.{map-range_with_len_more}
 use Rattle.std.proofs.lemmas.List.Sums.{fold-append}
@@ -17,7 +17,8 @@ use Rattle.nm_types.specs.OwnSyncs.{without_bytes_of}
 use Rattle.nm_types.proofs.RingSteps.{dist-below, dist-step_on, step_on-below, step_on-dist}
 use Rattle.nm_region.specs.Buffers.{Buffer, indices_of}
 use Rattle.nm_hold.specs.declared.standing.Standing.{Standing}
-use Rattle.nm_hold.specs.Holds.{HoldState, buffers_of, index_at, standing_at, cell_at, with_cell, port_of, IsHold}
+use Rattle.nm_hold.specs.Standings.{buf_in}
+use Rattle.nm_hold.specs.Holds.{HoldState, buffers_of, buffer_at, index_at, standing_at, cell_at, with_cell, port_of, IsHold}
 use Rattle.nm_hold.proofs.Spots.{nat_eq-is, same_place-is, same_place-refl}
 use Rattle.nm_user.specs.declared.port.UserPort.{UserPort}
 use Rattle.nm_user.specs.Sides.{number_at}
@@ -179,15 +180,11 @@ emptied (c ∷ cells) (suc i) zero s e = e
 emptied (c ∷ cells) (suc i) (suc j) s e = emptied cells i j s e
 
 pub none_taken : (h : HoldState) (before : List Buffer) → IsHold h → AreTaken h h [] before before
-none_taken h before is = record { index = λ q. refl; stood = λ idx s e. e; bytes = refl; buffers = sym (append_none (indices_of before)); ports = refl; count = refl; is_hold = is }
-  where
-    append_none : (xs : List ℕ) → xs ++ [] ≡ xs
-    append_none [] = refl
-    append_none (x ∷ xs) = ap (λ (ys : List ℕ). x ∷ ys) (append_none xs)
+none_taken h before is = record { index = λ q. refl; stood = λ idx s e. e; bytes = refl; out = []; joined = sym (append-nil before); each = refl; indices = refl; ports = refl; count = refl; is_hold = is }
 
 -- one more buffer
 module _ (h now new : HoldState) (places : List Place) (before after : List Buffer) (p : Place) (buf : Buffer) (taken : AreTaken h now places before after) (fresh : list_any (λ x. is_same_place x p) places ≡ false)
-    (there : index_at now p ≡ Some buf.index) (cell : new ≡ with_cell now buf.index None) (index : (q : Place) → index_at new q ≡ (if is_same_place p q then None else index_at now q)) (is : IsHold new) where
+    (there : index_at now p ≡ Some buf.index) (stands : buffer_at now buf.index ≡ Some buf) (cell : new ≡ with_cell now buf.index None) (index : (q : Place) → index_at new q ≡ (if is_same_place p q then None else index_at now q)) (is : IsHold new) where
   number : number_at h p ≡ buf.index
   number =
       let was : index_at now p ≡ index_at h p = taken.index p ∙ ap (λ (b : Bool). if b then None else index_at h p) fresh in
@@ -195,6 +192,13 @@ module _ (h now new : HoldState) (places : List Place) (before after : List Buff
 
   numbers : map (number_at h) (places ++ p ∷ []) ≡ map (number_at h) places ++ buf.index ∷ []
   numbers = map-append (number_at h) places (p ∷ []) ∙ ap (λ (n : ℕ). map (number_at h) places ++ n ∷ []) number
+
+  stood_there : buffer_at h buf.index ≡ Some buf
+  stood_there = by_cell (standing_at now buf.index) refl
+    where
+      by_cell : (o : Option Standing) → standing_at now buf.index ≡ o → buffer_at h buf.index ≡ Some buf
+      by_cell None e = absurd (let none = ap buf_in (sym e) ∙ stands in cc)
+      by_cell (Some s) e = ap buf_in (taken.stood buf.index s e) ∙ (ap buf_in (sym e) ∙ stands)
 
   none_or : (a b : Bool) (o : Option ℕ) → (if b then None else (if a then None else o)) ≡ (if (a || (b || false)) then None else o)
   none_or true true o = refl
@@ -208,8 +212,12 @@ module _ (h now new : HoldState) (places : List Place) (before after : List Buff
     stood = λ idx s e. taken.stood idx s (emptied now.cells buf.index idx s (rw cell at e));
     bytes = ap (λ (x : HoldState). map bytes_in_cell x.cells) cell ∙ (map-set bytes_in_cell now.cells buf.index None ∙ (ap (λ (b : List (List ℕ)). set b buf.index []) taken.bytes
         ∙ sym (ap (fold without_bytes_of (map bytes_in_cell h.cells)) numbers ∙ fold-append without_bytes_of (map bytes_in_cell h.cells) (map (number_at h) places) (buf.index ∷ []))));
-    buffers = map-append (λ (b : Buffer). b.index) after (buf ∷ []) ∙ (ap (λ (xs : List ℕ). xs ++ buf.index ∷ []) taken.buffers
-        ∙ (append_assoc (indices_of before) (map (number_at h) places) (buf.index ∷ []) ∙ ap (λ (xs : List ℕ). indices_of before ++ xs) (sym numbers)));
+    out = taken.out ++ buf ∷ [];
+    joined = ap (λ (all : List Buffer). all ++ buf ∷ []) taken.joined ∙ append_assoc before taken.out (buf ∷ []);
+    each = map-append Some taken.out (buf ∷ []) ∙ (ap (λ (all : List (Option Buffer)). all ++ Some buf ∷ []) taken.each
+        ∙ (ap (λ (o : Option Buffer). map (buffer_at h) (map (number_at h) places) ++ o ∷ []) (sym stood_there)
+        ∙ (sym (map-append (buffer_at h) (map (number_at h) places) (buf.index ∷ [])) ∙ ap (map (buffer_at h)) (sym numbers))));
+    indices = map-append (λ (b : Buffer). b.index) taken.out (buf ∷ []) ∙ (ap (λ (xs : List ℕ). xs ++ buf.index ∷ []) taken.indices ∙ sym numbers);
     ports = ap (λ (x : HoldState). x.ports) cell ∙ taken.ports;
     count = ap buffers_of cell ∙ (ap (λ (n : ℕ). n - 2) (length-set now.cells buf.index None) ∙ taken.count);
     is_hold = is;

@@ -11,7 +11,7 @@ use Rattle.nm_types.specs.OwnPorts.{OwnState, port_with_id, buffers_in}
 use Rattle.nm_types.specs.OwnSyncs.{without_bytes_of}
 use Rattle.nm_region.specs.Buffers.{Buffer, indices_of}
 use Rattle.nm_hold.specs.declared.standing.Standing.{Standing}
-use Rattle.nm_hold.specs.Holds.{HoldState, buffers_of, index_at, standing_at, IsHold}
+use Rattle.nm_hold.specs.Holds.{HoldState, buffers_of, buffer_at, index_at, standing_at, IsHold}
 use Rattle.nm_user.specs.declared.port.UserPort.{UserPort}
 use Rattle.nm_user.specs.Sides.{number_at}
 use Rattle.nm_user.specs.Own.{size_if, bytes_in_cell}
@@ -33,6 +33,10 @@ held_place p k =
     else if nat_lt (k - size_if p.tx) (user_count p.rx.ring) then Rx p.id (step_on p.rx.ring.size p.rx.ring.accepted_head (k - size_if p.tx))
     else Extra p.id (k - size_if p.tx - user_count p.rx.ring)
 
+-- the bytes of some buffers, in their order
+abbrev pub bytes_of_buffers : List Buffer → List (List ℕ)
+bytes_of_buffers bufs = map (λ (b : Buffer). b.bytes) bufs
+
 abbrev pub held_places : UserPort → ℕ → List Place
 held_places p count = map (held_place p) (range_with_len 0 count)
 
@@ -41,7 +45,10 @@ pub record AreTaken (h now : HoldState) (places : List Place) (before after : Li
   pub index : (q : Place) → index_at now q ≡ (if list_any (λ p. is_same_place p q) places then None else index_at h q)
   pub stood : (idx : ℕ) (s : Standing) → standing_at now idx ≡ Some s → standing_at h idx ≡ Some s
   pub bytes : map bytes_in_cell now.cells ≡ fold without_bytes_of (map bytes_in_cell h.cells) (map (number_at h) places)
-  pub buffers : indices_of after ≡ indices_of before ++ map (number_at h) places
+  pub out : List Buffer
+  pub joined : after ≡ before ++ out
+  pub each : map Some out ≡ map (buffer_at h) (map (number_at h) places)
+  pub indices : indices_of out ≡ map (number_at h) places
   pub ports : now.ports ≡ h.ports
   pub count : buffers_of now ≡ buffers_of h
   pub is_hold : IsHold now

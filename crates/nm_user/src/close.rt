@@ -64,6 +64,7 @@ pub(crate) fn empty_port(hold: &mut Hold, port: &UserPort, back: &mut Vec<Buf>) 
     requires room { length back.old.items + place_count port.now ≤ vec_capacity back.old }
     ensures taken { AreTaken hold.old hold.new (held_places port.now (place_count port.now))
         back.old.items back.new.items }
+    ensures capacity { vec_capacity back.new ≡ vec_capacity back.old }
     ensures chain { result ≡ chain_of (extras_of hold.old port.now.id) (link_at hold.old)
         port.now.extra_head }
 {
@@ -80,8 +81,9 @@ fn take_all(hold: &mut Hold, port: &UserPort, back: &mut Vec<Buf>)
     requires held { (k : ℕ) → k < place_count port.now
         → IsSome (index_at hold.old (held_place port.now k)) }
     requires room { length back.old.items + place_count port.now ≤ vec_capacity back.old }
-    ensures { AreTaken hold.old hold.new (held_places port.now (place_count port.now))
+    ensures taken { AreTaken hold.old hold.new (held_places port.now (place_count port.now))
         back.old.items back.new.items }
+    ensures capacity { vec_capacity back.new ≡ vec_capacity back.old }
 {
     for k in 0..port.place_count() {
         back.push_reserved(hold.remove(port.held_place(k)));

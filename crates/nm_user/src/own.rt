@@ -14,9 +14,9 @@ ghost use Rattle.nm_types.specs.OwnEdits.{with_written};
 ghost use Rattle.nm_user.specs.Sides.{TellsRefusal};
 ghost use Rattle.nm_types.specs.OwnSyncs.{own_after_open, own_after_reset};
 ghost use Rattle.nm_types.specs.OwnSyncs.{own_after_finish, chain_in};
-ghost use Rattle.nm_user.specs.Closing.{buffers_with_id};
+ghost use Rattle.nm_user.specs.Closing.{buffers_with_id, bytes_of_buffers};
 ghost use Rattle.std.specs.Vec.{vec_capacity};
-ghost use Rattle.std.specs.Prelude.{[], ◌+◌, ◌↔◌, IfSome, true};
+ghost use Rattle.std.specs.Prelude.{[], ◌+◌, ◌↔◌, IfSome, true, take, drop, map, is_some};
 ghost use Rattle.nm_user.specs.Edits.{own_edited};
 ghost use Rattle.nm_user.specs.RingSlots.{slot_before_tail};
 ghost use Rattle.nm_user.specs.Acts.{head_slot_in};
@@ -158,6 +158,13 @@ impl OwnSide {
         self.ports.is_empty()
     }
 
+    /// Whether the session has a port.
+    pub fn has_port(&self, port: PortId) -> bool
+        ensures { result ≡ is_some (port_with_id self.now port.0) }
+    {
+        port_at(&self.ports, port).is_some()
+    }
+
     /// The number of buffers in the places of a port, 0 if there is no such port.
     pub fn buffer_count(&self, port: PortId) -> u32
         ensures { result ≡ length (buffers_with_id self.now port.0) }
@@ -177,8 +184,12 @@ impl OwnSide {
             ≤ vec_capacity back.old }
         ensures own { self.new
             ≡ own_after_finish port.0 (buffers_with_id self.old port.0) self.old }
-        ensures back { indices_of back.new.items
-            ≡ indices_of back.old.items ++ buffers_with_id self.old port.0 }
+        ensures before { take (length back.old.items) back.new.items ≡ back.old.items }
+        ensures back { indices_of (drop (length back.old.items) back.new.items)
+            ≡ buffers_with_id self.old port.0 }
+        ensures bytes { bytes_of_buffers (drop (length back.old.items) back.new.items)
+            ≡ map (bytes_at self.old) (buffers_with_id self.old port.0) }
+        ensures capacity { vec_capacity back.new ≡ vec_capacity back.old }
         ensures chain { IfSome (port_with_id self.old port.0)
             (λ p. result ≡ chain_in self.old p) }
     {

@@ -20,7 +20,7 @@ loop-k-preserved c =
     let inv = c.loop-k.invariant in
     let index : (q : Place) → index_at c.remove.new.self q ≡ (if is_same_place (held_place p k) q then None else index_at c.loop-k.hold q) = rw (← c.held_place.ensures) c.remove.ensures.places in
     let taken = taken_next c.args.hold.now c.loop-k.hold c.remove.new.self (held_places p k) c.args.back.now.items c.loop-k.back.items (held_place p k) c.remove.result inv.0 (not_yet p k c.requires.ring)
-    (rw (← c.held_place.ensures) c.remove.ensures.index) c.remove.ensures.cell index c.remove.ensures.hold in
+    (rw (← c.held_place.ensures) c.remove.ensures.index) c.remove.ensures.buffer c.remove.ensures.cell index c.remove.ensures.hold in
     let count : length c.push_reserved.new.self.items ≡ length c.loop-k.back.items + 1 = ap (λ (xs : List Buffer). length xs) c.push_reserved.ensures.items ∙ length-append c.loop-k.back.items (c.remove.result ∷ []) in
-    let room : length c.args.back.now.items + place_count p ≤ vec_capacity c.push_reserved.new.self = search rules in
+    let room : vec_capacity c.push_reserved.new.self ≡ vec_capacity c.args.back.now = c.push_reserved.ensures.capacity ∙ inv.1 in
     (rw (held_more p k, c.push_reserved.ensures.items) taken, room, omega (arith, count, inv.2))

@@ -6,5 +6,5 @@ use Rattle.nm_user.proofs.close.take_all.Given as goal
 abbrev pub invariant-loop-k : goal.invariant-loop-k
 invariant-loop-k l =
     AreTaken l.fn.hold l.hold (held_places l.port l.k) l.fn.back.items l.back.items
-    × (length l.fn.back.items + place_count l.port ≤ vec_capacity l.back)
+    × (vec_capacity l.back ≡ vec_capacity l.fn.back)
     × (length l.back.items ≡ length l.fn.back.items + l.k)

@@ -6,7 +6,7 @@ use Rattle.nm_types.specs.OwnSyncs.{own_after_finish}
 use Rattle.nm_user.specs.declared.port.UserPort.{UserPort}
 use Rattle.nm_user.specs.Own.{own_seen, port_at}
 use Rattle.nm_user.specs.Closing.{buffers_with_id, place_count}
-use Rattle.nm_user.proofs.Closing.{others, others_sided, others_rings, port_not_found, port_found, has_port, ring_one, extra_small, is_held, buffers_count, numbers_are, chain_is, holds_nothing, places_left, filled_left, flagged_left, whole_left, count_left, closed_is_seen}
+use Rattle.nm_user.proofs.Closing.{others, others_sided, others_rings, port_not_found, port_found, has_port, ring_one, extra_small, is_held, buffers_count, chain_is, before_stays, indices_come, bytes_come, holds_nothing, places_left, filled_left, flagged_left, whole_left, count_left, closed_is_seen}
 use Rattle.nm_user.proofs.own.OwnSide.close_port.Goals as goal
 
 pub empty_port-chain-requires-clause-ring : goal.empty_port-chain-requires-clause-ring
@@ -85,11 +85,23 @@ returns-clause-own c =
     ∙ (closed_is_seen h ports c.args.port c.in-Some.own.now has c.empty_port-chain.new.hold c.args.back.now.items c.empty_port-chain.new.back.items c.empty_port-chain.ensures.taken c.drop_port.new.self c.drop_port.ensures.ports c.drop_port.ensures.hold
     ∙ ap (λ (s : OwnState). own_after_finish c.args.port.0 (buffers_with_id s c.args.port.0) s) c.self.view_is)
 
+pub returns-clause-before : goal.returns-clause-before
+returns-clause-before c =
+    let there : port_at c.self.inside.ports.items c.args.port.0 ≡ Some c.in-Some.own.now = sym (rw (c.in-Some.is, c.deref.ensures.value) at c.port_at.ensures) in
+    let has = has_port c.self.inside c.args.port c.in-Some.own.now c.self.invariant there in
+    before_stays c.self.inside.hold c.self.inside.ports.items c.args.port c.in-Some.own.now has c.empty_port-chain.new.hold c.args.back.now.items c.empty_port-chain.new.back.items c.empty_port-chain.ensures.taken
+
 pub returns-clause-back : goal.returns-clause-back
 returns-clause-back c =
     let there : port_at c.self.inside.ports.items c.args.port.0 ≡ Some c.in-Some.own.now = sym (rw (c.in-Some.is, c.deref.ensures.value) at c.port_at.ensures) in
     let has = has_port c.self.inside c.args.port c.in-Some.own.now c.self.invariant there in
-    rw (← c.self.view_is, numbers_are c.self.inside.hold c.self.inside.ports.items c.args.port c.in-Some.own.now has) c.empty_port-chain.ensures.taken.buffers
+    rw (← c.self.view_is) (indices_come c.self.inside.hold c.self.inside.ports.items c.args.port c.in-Some.own.now has c.empty_port-chain.new.hold c.args.back.now.items c.empty_port-chain.new.back.items c.empty_port-chain.ensures.taken)
+
+pub returns-clause-bytes : goal.returns-clause-bytes
+returns-clause-bytes c =
+    let there : port_at c.self.inside.ports.items c.args.port.0 ≡ Some c.in-Some.own.now = sym (rw (c.in-Some.is, c.deref.ensures.value) at c.port_at.ensures) in
+    let has = has_port c.self.inside c.args.port c.in-Some.own.now c.self.invariant there in
+    rw (← c.self.view_is) (bytes_come c.self.inside.hold c.self.inside.ports.items c.args.port c.in-Some.own.now has c.empty_port-chain.new.hold c.args.back.now.items c.empty_port-chain.new.back.items c.empty_port-chain.ensures.taken)
 
 pub returns-clause-chain : goal.returns-clause-chain
 returns-clause-chain c =
