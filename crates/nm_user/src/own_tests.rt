@@ -220,9 +220,30 @@ fn play(
     fill(rt, own, alloc);
 }
 
-/// The buffers stay in the own side: the test ends by the panic that it expects.
+/// Closes the port, and then the own side. The port's buffers come in the order of its places.
+fn close(rt: &impl Abort, mut own: OwnSide, back: &mut Vec<Buf>)
+    requires room { 5 ≤ vec_capacity back.old }
+    requires empty { back.old.items ≡ [] }
+{
+    assert!(rt; own.has_port(PORT) && !own.has_port(PortId(3)) && !own.is_empty());
+    assert_eq!(rt; own.buffer_count(PortId(3)), 0);
+    assert_eq!(rt; own.buffer_count(PORT), 5);
+    assert!(rt; own.has_port(PORT));
+    let chain = own.close_port(PORT, back);
+    assert_eq!(rt; chain.found, 1);
+    assert_eq!(rt; chain.astray, 0);
+    assert!(rt; own.is_empty());
+    own.close();
+    for (at, buf) in back.iter().enumerate() {
+        assert_eq!(rt; buf.index() as usize, at + 2);
+    }
+    assert_eq!(rt; back.len(), 5);
+    assert!(rt; back[0].bytes().starts_with(&FRAME));
+}
+
+/// No contract says that the buffers are of one region: the test ends by the panic that it expects.
 #[test]
-#[should_panic(expected = "the buffers stay in the own side")]
+#[should_panic(expected = "the buffers stay out of the region")]
 fn port_of_four_slots(rt: HostRuntime) {
     let Ok((_region, mut all)) = Region::new(rt.alloc(), 5) else {
         panic!(rt; "out of memory");
@@ -247,5 +268,9 @@ fn port_of_four_slots(rt: HostRuntime) {
     put_four(&mut tx, two, three, four, five);
     extra.push_reserved(six);
     play(&rt, &mut own, rt.alloc(), name, tx, extra);
-    panic!(rt; "the buffers stay in the own side");
+    let Ok(mut back) = Vec::with_capacity(rt.alloc(), 5) else {
+        panic!(rt; "out of memory");
+    };
+    close(&rt, own, &mut back);
+    panic!(rt; "the buffers stay out of the region");
 }
