@@ -8,7 +8,7 @@ use Rattle.nm_types.specs.OwnEdits.{SlotPlace, has_slot, with_one_forwarded}
 use Rattle.nm_user.specs.declared.acts.SlotPlace.{SlotPlace as PlaceOfSlot}
 
 abbrev pub place_seen : PlaceOfSlot → SlotPlace
-place_seen place = record { side = place.side; port = place.port.0; at = place.at }
+place_seen place = record { port = place.port.0; side = place.side; at = place.at }
 
 -- the slot at the head of a ring that has one there
 abbrev pub head_slot_of : Side → OwnRing → Option SlotState

@@ -11,8 +11,8 @@ use nm_types::{PortId, Side, Slot, SlotFlags, SlotWrite};
 /// A slot of a session's port.
 #[derive(Clone, Copy, Debug, PartialEq, Eq)]
 pub struct SlotPlace {
-    pub side: Side,
     pub port: PortId,
+    pub side: Side,
     pub at: u32,
 }
 
@@ -52,7 +52,7 @@ impl OwnSide {
     pub fn write_slot(&mut self, port: PortId, side: Side, at: u32, write: SlotWrite)
         ensures { self.new ≡ with_slot_field side port.0 at write self.old }
     {
-        if let Some(slot) = self.slot_in(SlotPlace { side, port, at }) {
+        if let Some(slot) = self.slot_in(SlotPlace { port, side, at }) {
             let mut slot = slot;
             slot.write(write);
             self.put_slot(port, side, at, slot);

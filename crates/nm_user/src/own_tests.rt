@@ -151,8 +151,8 @@ fn move_each(rt: &impl Abort, own: &mut OwnSide) {
 /// Two slots are swapped with marks, and back without: then the first one is refused.
 fn swap(rt: &impl Abort, own: &mut OwnSide) {
     let [here, there] = [0, 1].map(|at| SlotPlace {
-        side: Side::Tx,
         port: PORT,
+        side: Side::Tx,
         at,
     });
     own.put_frame(PORT, &FRAME);

@@ -48,6 +48,15 @@ impl Model for SlotRing {
         × (r.ring.size ≤ deque_capacity r.slots) };
 }
 
+/// How many steps it is from one position of a ring to another, going round.
+fn dist(size: u32, from: u32, to: u32) -> u32
+    requires size { 0 < size }
+    requires from { from < size }
+    ensures { result ≡ dist size from to }
+{
+    ((to as u64 + (size - from) as u64) % size as u64) as u32
+}
+
 impl SlotRing {
     /// The positions of the ring.
     pub(crate) fn ring(&self) -> &Ring
@@ -104,26 +113,11 @@ impl SlotRing {
         ((at as u64 + 1) % self.ring.size() as u64) as u32
     }
 
-    /// Where the slot at the head, which may be any number, would be in the list of slots.
-    fn head_index(&self) -> usize
-        ensures { result ≡ index_of self.now.side self.now.ring self.now.ring.head }
-    {
-        let head = self.ring.head() as usize;
-        match self.side {
-            Side::Tx => head,
-            Side::Rx => {
-                let (first, _) = self.ring.user_range();
-                let size = self.ring.size() as usize;
-                (head + size - first as usize) % size
-            }
-        }
-    }
-
     /// The slot at the head, a blank one if the head is no slot of the ring.
     pub(crate) fn head_slot(&self) -> Slot
         ensures { result ≡ slot_at self.now self.now.ring.head }
     {
-        match self.slots.get(self.head_index()) {
+        match self.slots.get(self.index_of(self.ring.head())) {
             Some(slot) => *slot,
             None => BLANK,
         }
@@ -133,7 +127,7 @@ impl SlotRing {
     fn put_head_slot(&mut self, slot: Slot)
         ensures { self.new ≡ with_slot_at self.old.ring.head slot self.old }
     {
-        let index = self.head_index();
+        let index = self.index_of(self.ring.head());
         if index < self.slots.len() {
             self.slots[index] = slot;
         }
@@ -166,19 +160,18 @@ impl SlotRing {
         ensures slots { IsRingSlots self.now }
     {
         let (first, count) = self.ring.user_range();
-        at < self.ring.size() && (at + self.ring.size() - first) % self.ring.size() < count
+        at < self.ring.size() && dist(self.ring.size(), first, at) < count
     }
 
-    /// Where the slot of a position is in the list of slots.
+    /// Where the slot of a position, which may be any number, would be in the list of slots.
     fn index_of(&self, at: u32) -> usize
-        requires { at < self.now.ring.size }
         ensures { result ≡ index_of self.now.side self.now.ring at }
     {
         match self.side {
             Side::Tx => at as usize,
             Side::Rx => {
                 let (first, _) = self.ring.user_range();
-                ((at + self.ring.size() - first) % self.ring.size()) as usize
+                dist(self.ring.size(), first, at) as usize
             }
         }
     }
@@ -229,8 +222,7 @@ impl SlotRing {
         ensures slots { IsRingSlots self.now }
     {
         let (first, _) = self.ring.user_range();
-        let size = self.ring.size();
-        (first, (self.ring.head() + size - first) % size)
+        (first, dist(self.ring.size(), first, self.ring.head()))
     }
 
     /// Moves the tail of a transmit ring on, past slots of the kernel side.

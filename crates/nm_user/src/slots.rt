@@ -21,7 +21,9 @@ pub(crate) const BLANK: Slot = Slot {
 };
 
 /// The marks of a frame: not to be learned, indirect, going on in the next slot.
-const FRAME_MARKS: SlotFlags = SlotFlags(0x0038);
+const FRAME_MARKS: SlotFlags = SlotFlags(
+    SlotFlags::NO_LEARN.0 | SlotFlags::INDIRECT.0 | SlotFlags::MORE_FRAGMENTS.0,
+);
 
 /// A slot with a frame of that length, and no mark of a former one.
 pub(crate) fn framed(slot: Slot, len: u16) -> Slot
