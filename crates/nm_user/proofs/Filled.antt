@@ -1,15 +1,14 @@
 -- The places that hold a buffer, and the named buffers among those of all indices.
-use Rattle.std.proofs.Common.{ℕ, zero, suc, ◌≡◌, ◌<◌, ◌≤◌, ◌+◌, ◌&&◌, ◌||◌, Bool, true, false, nat_eq, nat_lt, List, [], ◌∷◌, ◌++◌, map, replicate, Option, Some, None, inl, inr, refl, sym, ◌∙◌, ap, arith, rules, get_or}
+use Rattle.std.proofs.Common.{ℕ, zero, suc, ◌≡◌, ◌<◌, ◌+◌, ◌&&◌, ◌||◌, Bool, true, false, nat_eq, nat_lt, List, [], ◌∷◌, ◌++◌, map, replicate, Option, Some, None, inl, inr, refl, sym, ◌∙◌, ap, arith, rules}
 use Rattle.std.specs.Prelude.{is_some, unwrap_or}
-use Rattle.std.specs.List.{AllByRecursion, list_any, range_with_len}
+use Rattle.std.specs.List.{AllByRecursion, range_with_len}
 use Rattle.std.proofs.lemmas.Bool.{cases_Bool, cases_lt}
 use Rattle.std.proofs.lemmas.Bool.Decides.{nat_tests}
 use Rattle.std.proofs.lemmas.List.{length-replicate}
-use Rattle.nm_types.specs.declared.id.PortId.{PortId}
 use Rattle.nm_types.specs.declared.id.Side.TheVariants.{Rx}
 use Rattle.nm_types.specs.declared.place.Place.{Place}
 use Rattle.nm_types.specs.declared.place.Place.TheVariants as place
-use Rattle.nm_types.specs.Positions.{IsRing, dist, step_on, user_slots, is_user_slot}
+use Rattle.nm_types.specs.Positions.{IsRing, dist, step_on, is_user_slot}
 use Rattle.nm_types.specs.Buffers.{IsPoolSize}
 use Rattle.nm_types.specs.SyncChecks.{contains_index}
 use Rattle.nm_types.specs.OwnPorts.{named_of}

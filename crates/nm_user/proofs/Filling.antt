@@ -1,5 +1,5 @@
 -- Buffers that come into the empty places of a row, one after another.
-use Rattle.std.proofs.Common.{ℕ, zero, suc, ◌≡◌, ◌≢◌, ◌<◌, ◌+◌, ◌-◌, ◌||◌, Bool, true, false, nat_eq, nat_lt, if◌then◌else◌, List, [], ◌∷◌, ◌++◌, length, map, get_or, set, drop, replicate, Option, Some, None, option_map, inl, inr, refl, sym, ◌∙◌, ap, arith, subst, append_assoc, length-append}
+use Rattle.std.proofs.Common.{ℕ, zero, suc, ◌≡◌, ◌≢◌, ◌<◌, ◌+◌, ◌-◌, ◌||◌, Bool, true, false, nat_eq, nat_lt, if◌then◌else◌, List, [], ◌∷◌, ◌++◌, length, map, set, drop, replicate, Option, Some, None, inl, inr, refl, sym, ◌∙◌, ap, arith, subst, append_assoc, length-append}
 use Rattle.std.specs.List.{AllByRecursion, IsDistinct}
 use Rattle.std.proofs.lemmas.Bool.{cases_Bool}
 use Rattle.std.proofs.lemmas.Bool.Decides.{nat_tests}
@@ -19,7 +19,7 @@ use Rattle.nm_hold.proofs.Spots.{nat_eq-is, same_place-is, same_place-refl}
 use Rattle.nm_user.specs.declared.fill.Row.{Row}
 use Rattle.nm_user.specs.declared.fill.Row.TheVariants.{Slots, Extras}
 use Rattle.nm_user.specs.Own.{bytes_in_cell, AreWhole}
-use Rattle.nm_user.specs.Filling.{place_in, first_bytes, placed, index_with, named_with, bytes_with, FlaggedBy, AreFilledWith, ArePartlyIn, IsAway}
+use Rattle.nm_user.specs.Filling.{place_in, first_bytes, placed, index_with, named_with, FlaggedBy, AreFilledWith, ArePartlyIn, IsAway}
 use Rattle.nm_user.proofs.Judging.{false_true}
 use Rattle.nm_user.proofs.Written.{map-set}
 

@@ -1,6 +1,6 @@
 -- A session once a port of it is opened.
-use Rattle.std.proofs.Common.{ℕ, zero, suc, ◌≡◌, ◌≢◌, ◌<◌, ◌≤◌, ◌+◌, ◌-◌, ◌&&◌, ◌||◌, Bool, true, false, nat_eq, nat_lt, nat_le, if◌then◌else◌, List, [], ◌∷◌, ◌++◌, length, map, take, drop, fold, Option, Some, None, option_map, inl, inr, refl, sym, ◌∙◌, ap, arith, append_assoc}
-use Rattle.std.specs.Prelude.{is_some, unwrap_or, flat_map}
+use Rattle.std.proofs.Common.{ℕ, ◌≡◌, ◌<◌, ◌-◌, ◌&&◌, ◌||◌, Bool, true, false, nat_eq, nat_lt, List, [], ◌∷◌, ◌++◌, length, map, Option, option_map, inl, inr, refl, sym, ◌∙◌, ap, arith, append_assoc}
+use Rattle.std.specs.Prelude.{is_some, unwrap_or}
 use Rattle.std.specs.List.{AllByRecursion, IsDistinct, list_any, range_with_len}
 use Rattle.std.proofs.lemmas.Bool.{cases_Bool}
 use Rattle.std.proofs.lemmas.Bool.Decides.{nat_tests}
@@ -8,32 +8,30 @@ use Rattle.std.proofs.lemmas.List.{map-append, length-map}
 use Rattle.std.proofs.lemmas.List.Folds.{list_any-append}
 use Rattle.std.proofs.Math.Seq.{take-append_seam, drop-append_seam}
 use Rattle.nm_types.specs.declared.id.PortId.{PortId}
-use Rattle.nm_types.specs.declared.id.PortSizes.{PortSizes}
 use Rattle.nm_types.specs.declared.id.Side.TheVariants as side
 use Rattle.nm_types.specs.declared.place.Place.{Place}
 use Rattle.nm_types.specs.declared.place.Place.TheVariants as place
 use Rattle.nm_types.specs.Places.{held_at, is_same_place}
-use Rattle.nm_types.specs.Positions.{RingState, IsRing, IsRingSize, opened_tx, opened_rx, user_slots, is_user_slot, dist}
+use Rattle.nm_types.specs.Positions.{IsRingSize, opened_rx, is_user_slot, dist}
 use Rattle.nm_types.proofs.RingSteps.{dist_self}
-use Rattle.nm_types.specs.OwnPorts.{OwnRing, OwnPort, OwnState}
-use Rattle.nm_types.specs.OwnSyncs.{opened_slot, opened_tx_ring, opened_port, own_after_open, buffers_of_arrivals}
+use Rattle.nm_types.specs.OwnPorts.{OwnPort}
+use Rattle.nm_types.specs.OwnSyncs.{opened_tx_ring, opened_port, own_after_open, buffers_of_arrivals}
 use Rattle.nm_region.specs.Buffers.{Buffer, indices_of}
 use Rattle.nm_ring.proofs.RingLaws.{fresh_slots, positions_fit_at_opening}
 use Rattle.nm_hold.specs.declared.standing.Standing.{Standing}
 use Rattle.nm_hold.specs.declared.table.PortPlaces.{PortPlaces}
-use Rattle.nm_hold.specs.Holds.{HoldState, buffers_of, index_at, standing_at, port_of, places_in, cell_at}
+use Rattle.nm_hold.specs.Holds.{HoldState, buffers_of, index_at, port_of, places_in, cell_at}
 use Rattle.nm_hold.proofs.Spots.{nat_eq-is, same_place-is}
 use Rattle.nm_user.specs.declared.fill.Row.TheVariants.{Slots, Extras}
 use Rattle.nm_user.specs.declared.port.UserPort.{UserPort}
-use Rattle.nm_user.specs.RingSlots.{RingSlots, with_held}
-use Rattle.nm_user.specs.Sides.{place_on, number_at}
+use Rattle.nm_user.specs.Sides.{place_on}
 use Rattle.nm_user.specs.Own.{number_on, held_on, extra_number_at, ring_seen, port_seen, own_seen, bytes_in_cell, named_ring_places, named_tx_places, named_places_of, named_places, size_if, is_filled, is_filled_in, places_of_port, AreFilled, AreFlagged, AreSided, AreRings, AreWhole, HasPlaces, IsTxSide, IsRingIf}
-use Rattle.nm_user.specs.Filling.{place_in, index_with, named_with, bytes_with, FlaggedBy, AreFilledWith}
-use Rattle.nm_user.specs.Opening.{IsTxSize, blank_arrival, blank_arrivals, opened_slots, opened_user_port}
+use Rattle.nm_user.specs.Filling.{place_in, index_with, named_with, bytes_with, AreFilledWith}
+use Rattle.nm_user.specs.Opening.{IsTxSize, blank_arrivals, opened_slots, opened_user_port}
 use Rattle.nm_user.proofs.Judging.{false_true}
 use Rattle.nm_user.proofs.Filled.{named_are_filled}
 use Rattle.nm_user.proofs.Written.{port_same}
-use Rattle.nm_user.proofs.Opening.{IsOther, unfilled, row_port, opened_bytes, index_off, other_port, in_range, index_row, row_numbers, named_from, named_off}
+use Rattle.nm_user.proofs.Opening.{IsOther, unfilled, opened_bytes, index_off, other_port, in_range, index_row, row_numbers, named_from, named_off}
 
 pub indices_length : (bufs : List Buffer) → length (indices_of bufs) ≡ length bufs
 indices_length bufs = length-map bufs (λ (b : Buffer). b.index)

@@ -1,32 +1,29 @@
 -- A port that is opened: its places, and how it is seen.
-use Rattle.std.proofs.Common.{ℕ, zero, suc, ◌≡◌, ◌≢◌, ◌<◌, ◌≤◌, ◌+◌, ◌-◌, ◌%◌, ◌&&◌, ◌||◌, Bool, true, false, nat_eq, nat_lt, nat_le, if◌then◌else◌, List, [], ◌∷◌, ◌++◌, length, map, take, drop, fold, set, Option, Some, None, option_map, inl, inr, refl, sym, ◌∙◌, ap, arith, append-nil, append_assoc}
-use Rattle.std.specs.Prelude.{is_some, unwrap_or, flat_map, find}
+use Rattle.std.proofs.Common.{ℕ, zero, suc, ◌≡◌, ◌≢◌, ◌<◌, ◌≤◌, ◌+◌, ◌-◌, ◌&&◌, ◌||◌, Bool, true, false, nat_eq, nat_lt, nat_le, if◌then◌else◌, List, [], ◌∷◌, ◌++◌, length, map, fold, set, Option, Some, None, inl, inr, refl, sym, ◌∙◌, ap, arith}
+use Rattle.std.specs.Prelude.{is_some, unwrap_or}
 use Rattle.std.specs.List.{AllByRecursion, IsDistinct, list_any, range_with_len, zip}
 use Rattle.std.proofs.lemmas.Bool.{cases_Bool, cases_lt}
 use Rattle.std.proofs.lemmas.Bool.Decides.{nat_tests}
 use Rattle.std.proofs.lemmas.List.{map-append}
-use Rattle.std.proofs.lemmas.List.Folds.{list_any-append}
 use Rattle.std.proofs.lemmas.List.Sums.{fold-append}
 use Rattle.nm_types.specs.declared.id.PortId.{PortId}
 use Rattle.nm_types.specs.declared.id.PortSizes.{PortSizes}
-use Rattle.nm_types.specs.declared.id.Side.TheVariants as side
 use Rattle.nm_types.specs.declared.place.Place.{Place}
 use Rattle.nm_types.specs.declared.place.Place.TheVariants as place
 use Rattle.nm_types.specs.Places.{is_same_place}
-use Rattle.nm_types.specs.Buffers.{IsBufferIndex, cleared_but}
+use Rattle.nm_types.specs.Buffers.{cleared_but}
 use Rattle.nm_types.specs.Chain.{linked, chain_head, opened_links}
-use Rattle.nm_types.specs.OwnPorts.{OwnPort, OwnState, port_with_id, bytes_at}
+use Rattle.nm_types.specs.OwnPorts.{OwnPort, port_with_id}
 use Rattle.nm_types.specs.OwnSyncs.{with_arrival, with_link, with_links}
-use Rattle.nm_hold.specs.declared.standing.Standing.{Standing}
 use Rattle.nm_hold.specs.declared.table.PortPlaces.{PortPlaces}
 use Rattle.nm_hold.specs.Offsets.{has_place, has_port, offset_of}
-use Rattle.nm_hold.specs.Holds.{HoldState, buffers_of, index_at, standing_at, port_of, places_in, cell_at}
+use Rattle.nm_hold.specs.Holds.{HoldState, port_of}
 use Rattle.nm_hold.proofs.Spots.{nat_eq-is, same_place-is, same_place-refl}
 use Rattle.nm_user.specs.declared.fill.Row.{Row}
 use Rattle.nm_user.specs.declared.fill.Row.TheVariants.{Slots, Extras}
 use Rattle.nm_user.specs.declared.port.UserPort.{UserPort}
-use Rattle.nm_user.specs.Own.{port_seen, own_seen, bytes_in_cell, is_filled, is_filled_in, places_of_port}
-use Rattle.nm_user.specs.Filling.{place_in, first_bytes, index_with, named_with, bytes_with}
+use Rattle.nm_user.specs.Own.{port_seen, own_seen, is_filled, is_filled_in, places_of_port}
+use Rattle.nm_user.specs.Filling.{place_in, index_with, named_with, bytes_with}
 use Rattle.nm_user.specs.Opening.{blank_arrival, blank_arrivals}
 use Rattle.nm_user.proofs.Filling.{row_apart}
 use Rattle.nm_user.proofs.Judging.{false_true}

@@ -1,16 +1,12 @@
 -- A hold that is ready for the buffers of a port that is opened.
-use Rattle.std.proofs.Common.{ℕ, ◌≡◌, ◌<◌, ◌≤◌, ◌+◌, ◌-◌, ◌||◌, Bool, true, false, nat_eq, List, [], ◌∷◌, ◌++◌, length, map, Option, Some, None, refl, sym, ◌∙◌, ap, arith, subst}
-use Rattle.std.specs.Prelude.{is_some}
+use Rattle.std.proofs.Common.{ℕ, ◌≡◌, ◌<◌, ◌-◌, true, false, nat_eq, List, [], ◌∷◌, ◌++◌, length, Option, Some, None, refl, sym, ◌∙◌, ap, arith}
 use Rattle.std.specs.List.{AllByRecursion, IsDistinct}
-use Rattle.std.proofs.lemmas.Bool.Decides.{nat_tests}
 use Rattle.nm_types.specs.declared.id.PortId.{PortId}
 use Rattle.nm_types.specs.declared.id.PortSizes.{PortSizes}
-use Rattle.nm_types.specs.declared.place.Place.{Place}
 use Rattle.nm_types.specs.Places.{held_at}
 use Rattle.nm_types.specs.Positions.{IsRingSize}
-use Rattle.nm_types.specs.Buffers.{IsBufferIndex}
 use Rattle.nm_types.specs.SyncChecks.{contains_index}
-use Rattle.nm_types.specs.OwnPorts.{OwnState, port_with_id, bytes_at}
+use Rattle.nm_types.specs.OwnPorts.{port_with_id, bytes_at}
 use Rattle.nm_hold.specs.declared.standing.Standing.{Standing}
 use Rattle.nm_hold.specs.declared.table.PortPlaces.{PortPlaces}
 use Rattle.nm_hold.specs.Offsets.{has_place, has_port}
@@ -18,11 +14,11 @@ use Rattle.nm_hold.specs.Holds.{HoldState, buffers_of, index_at, standing_at, pl
 use Rattle.nm_user.specs.declared.fill.Row.{Row}
 use Rattle.nm_user.specs.declared.fill.Row.TheVariants.{Slots, Extras}
 use Rattle.nm_user.specs.declared.port.UserPort.{UserPort}
-use Rattle.nm_user.specs.Own.{own_seen, bytes_in_cell, places_of_port, AreFilled, AreWhole, HasPlaces}
+use Rattle.nm_user.specs.Own.{own_seen, bytes_in_cell, AreFilled, AreWhole, HasPlaces}
 use Rattle.nm_user.specs.Filling.{place_in, IsAway, AreFilledWith}
 use Rattle.nm_user.specs.Opening.{IsTxSize, IsNew}
 use Rattle.nm_user.proofs.Checked.{bytes_are_seen}
-use Rattle.nm_user.proofs.Opening.{IsOther, no_port, no_places_of, unfilled, row_port, row_size, none_if, has_row, index_off}
+use Rattle.nm_user.proofs.Opening.{IsOther, no_port, no_places_of, unfilled, row_port, none_if, has_row, index_off}
 use Rattle.nm_user.proofs.Opened.{Opens}
 
 pub record IsReady (h h1 : HoldState) (ports : List UserPort) (id : PortId) (rx : ℕ) (tx extra : List ℕ) : Type 0 where

@@ -1,30 +1,27 @@
 -- A buffer whose first bytes are written, over what is seen.
-use Rattle.std.proofs.Common.{ℕ, zero, suc, ◌≡◌, ◌≢◌, ◌≤◌, ◌-◌, ◌+◌, Bool, true, false, nat_eq, List, [], ◌∷◌, ◌++◌, length, drop, map, get_or, set, replicate, if◌then◌else◌, Option, Some, None, option_map, inl, inr, refl, sym, ◌∙◌, ap, arith, length-append}
+use Rattle.std.proofs.Common.{ℕ, zero, suc, ◌≡◌, ◌≤◌, ◌-◌, Bool, true, false, List, [], ◌∷◌, ◌++◌, length, drop, map, set, Option, Some, None, option_map, refl, sym, ◌∙◌, ap, arith, length-append}
 use Rattle.std.specs.Prelude.{is_some, unwrap_or}
 use Rattle.std.specs.List.{range_with_len}
-use Rattle.std.proofs.lemmas.Bool.{cases_Bool}
 use Rattle.std.proofs.lemmas.List.{length-set, length-drop}
-use Rattle.nm_types.specs.declared.id.PortId.{PortId}
 use Rattle.nm_types.specs.declared.id.Side.{Side}
 use Rattle.nm_types.specs.declared.id.Side.TheVariants.{Tx, Rx}
 use Rattle.nm_types.specs.declared.place.Place.{Place}
 use Rattle.nm_types.specs.declared.place.Place.TheVariants as place
 use Rattle.nm_types.specs.Slots.{SlotState}
-use Rattle.nm_types.specs.OwnPorts.{OwnRing, OwnPort, OwnState, bytes_at, with_bytes, with_ring, slot_in, named_of, ring_at}
-use Rattle.nm_types.specs.OwnEdits.{has_slot, with_written, with_frame, with_frame_on, ring_with_frame}
+use Rattle.nm_types.specs.OwnPorts.{OwnRing, OwnPort, OwnState, bytes_at, with_ring, slot_in, named_of, ring_at}
+use Rattle.nm_types.specs.OwnEdits.{has_slot, with_written, with_frame, with_frame_on}
 use Rattle.nm_user.specs.Acts.{head_slot_in}
 use Rattle.nm_user.specs.Edits.{ring_framed}
 use Rattle.nm_types.specs.SyncChecks.{contains_index}
 use Rattle.nm_hold.specs.declared.standing.Home.{Home}
 use Rattle.nm_hold.specs.declared.standing.Standing.{Standing}
 use Rattle.nm_hold.specs.Standings.{cell_fronted}
-use Rattle.nm_hold.specs.Holds.{HoldState, port_of, buffers_of, index_at, standing_at, cell_at, places_of, with_cell, is_named_at, is_named_in, IsHold, SamePlaces}
+use Rattle.nm_hold.specs.Holds.{HoldState, port_of, buffers_of, standing_at, cell_at, places_of, with_cell, is_named_at, IsHold, SamePlaces}
 use Rattle.nm_hold.proofs.Shown.{named_stands}
-use Rattle.nm_hold.proofs.Tied.{within_cells}
 use Rattle.nm_user.specs.declared.port.UserPort.{UserPort}
 use Rattle.nm_user.specs.RingSlots.{RingSlots}
 use Rattle.nm_user.specs.Sides.{number_at}
-use Rattle.nm_user.specs.Own.{positions_of, number_on, held_on, extra_number_at, ring_seen, port_seen, own_seen, bytes_in_cell, AreSided, AreRings, AreFlagged, AreFilled, AreWhole}
+use Rattle.nm_user.specs.Own.{positions_of, number_on, extra_number_at, ring_seen, port_seen, own_seen, bytes_in_cell, AreSided, AreRings, AreFlagged, AreFilled, AreWhole}
 use Rattle.nm_user.proofs.Filled.{is_named_seen}
 use Rattle.nm_user.proofs.Checked.{bytes_are_seen}
 

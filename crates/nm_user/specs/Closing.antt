@@ -1,6 +1,6 @@
 -- A port that is closed: the buffers in its places go out in the order of the places, transmit slots,
 -- receive slots of the user, extra positions.
-use Rattle.std.specs.Prelude.{ℕ, ◌≡◌, ◌+◌, ◌-◌, nat_lt, if◌then◌else◌, List, [], ◌++◌, length, map, fold, Option, Some, None}
+use Rattle.std.specs.Prelude.{ℕ, ◌≡◌, ◌+◌, ◌-◌, nat_lt, if◌then◌else◌, List, [], ◌++◌, map, fold, Some, None}
 use Rattle.std.specs.Option.{option_map_or}
 use Rattle.std.specs.List.{range_with_len, list_any}
 use Rattle.nm_types.specs.declared.place.Place.{Place}

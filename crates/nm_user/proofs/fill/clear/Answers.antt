@@ -1,4 +1,4 @@
-use Rattle.std.proofs.Common.{◌≡◌, refl}
+use Rattle.std.proofs.Common.{refl}
 use Rattle.nm_user.proofs.fill.clear.Goals as goal
 
 pub returns-in-Slots : goal.returns-in-Slots

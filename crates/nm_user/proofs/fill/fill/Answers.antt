@@ -1,10 +1,10 @@
-use Rattle.std.proofs.Common.{ℕ, ◌≡◌, ◌∙◌, ◌++◌, ◌∷◌, [], List, length, Some, nat_lt, if◌then◌else◌, ap, refl, sym, rules}
+use Rattle.std.proofs.Common.{◌≡◌, ◌∙◌, ◌++◌, ◌∷◌, [], length, Some, nat_lt, if◌then◌else◌, ap, rules}
 use Rattle.nm_types.specs.declared.place.Place.{Place}
 use Rattle.nm_types.specs.Places.{is_same_place}
 use Rattle.nm_region.specs.Buffers.{Buffer}
 use Rattle.nm_hold.specs.Holds.{index_at, with_cell}
 use Rattle.nm_user.specs.Filling.{place_in, placed}
-use Rattle.nm_user.proofs.Filling.{FindsRoom, partly_room, partly_next, none_filled}
+use Rattle.nm_user.proofs.Filling.{FindsRoom, partly_room, partly_next}
 use Rattle.nm_user.proofs.fill.fill.Goals as goal
 
 -- the buffer that comes next

@@ -1,5 +1,4 @@
-use Rattle.std.proofs.Common.{◌≡◌, ◌∙◌, ◌≤◌, Some, refl, sym, rules}
-use Rattle.std.specs.Prelude.{IsSome}
+use Rattle.std.proofs.Common.{◌≡◌, ◌∙◌, Some, rules}
 use Rattle.nm_hold.specs.Holds.{index_at}
 use Rattle.nm_user.proofs.Filling.{put_is, put_place}
 use Rattle.nm_user.proofs.fill.put.Goals as goal
