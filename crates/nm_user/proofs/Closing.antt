@@ -76,7 +76,7 @@ others_places id (p ∷ ports) = elim (cases_Bool (nat_eq p.id.0 id)) [
 ]
 
 -- no other port has the id of the one before them
-rest_other : (ports : List UserPort) (id : ℕ) → has_id (map places_of_port ports) id ≡ false → AllByRecursion (IsOther id) ports
+pub rest_other : (ports : List UserPort) (id : ℕ) → has_id (map places_of_port ports) id ≡ false → AllByRecursion (IsOther id) ports
 rest_other [] id none = tt
 rest_other (p ∷ ports) id none = elim (cases_Bool (nat_eq p.id.0 id)) [
   | inl here ↦ absurd (let e = rw here at none in cc)
@@ -128,13 +128,13 @@ tx_of_port : (id : PortId) (tx : Option RingSlots) → AllByRecursion (IsOf id.0
 tx_of_port id None = tt
 tx_of_port id (Some r) = ring_of_port id r
 
-named_of_port : (p : UserPort) → AllByRecursion (IsOf p.id.0) (named_places_of p)
+pub named_of_port : (p : UserPort) → AllByRecursion (IsOf p.id.0) (named_places_of p)
 named_of_port p =
     all_append (IsOf p.id.0) (named_tx_places p.id p.tx) (named_ring_places p.id p.rx ++ map (place.Extra p.id) (range_with_len 0 p.extra)) (tx_of_port p.id p.tx)
     (all_append (IsOf p.id.0) (named_ring_places p.id p.rx) (map (place.Extra p.id) (range_with_len 0 p.extra)) (ring_of_port p.id p.rx)
     (all_range (IsOf p.id.0) (place.Extra p.id) 0 p.extra (λ k below. refl)))
 
-none_same : (qs : List Place) (id : ℕ) (q : Place) → AllByRecursion (IsOf id) qs → nat_eq (port_of q) id ≡ false → list_any (λ x. is_same_place x q) qs ≡ false
+pub none_same : (qs : List Place) (id : ℕ) (q : Place) → AllByRecursion (IsOf id) qs → nat_eq (port_of q) id ≡ false → list_any (λ x. is_same_place x q) qs ≡ false
 none_same [] id q all other = refl
 none_same (x ∷ qs) id q all other = elim (cases_Bool (is_same_place x q)) [
   | inl same ↦ absurd (clash (ap port_of (sym (same_place-is x q same)) ∙ all.0))
@@ -299,7 +299,7 @@ all_found f a (suc n) each = by_first (f a) refl (all_found f (a + 1) n (λ k be
     by_first (Some x) e others = rw e (ap (λ (xs : List ℕ). x ∷ xs) others)
 
 -- what is found in a list of ports
-filled_in_one : (ports : List UserPort) (id : ℕ) (p : UserPort) (q : Place) → port_at ports id ≡ Some p → is_filled_in q p ≡ true → is_filled ports q ≡ true
+pub filled_in_one : (ports : List UserPort) (id : ℕ) (p : UserPort) (q : Place) → port_at ports id ≡ Some p → is_filled_in q p ≡ true → is_filled ports q ≡ true
 filled_in_one [] id p q found filled = absurd cc
 filled_in_one (x ∷ ports) id p q found filled = elim (cases_Bool (nat_eq x.id.0 id)) [
   | inl here ↦ (let is : x ≡ p = some_is x p (rw here at found) in rw (is, filled) refl)

@@ -17,3 +17,5 @@ pub mod Opened
 pub mod Readied
 pub mod Taking
 pub mod Closing
+pub mod Exchanged
+pub mod Pushed

@@ -1,10 +1,11 @@
 -- The slots of a ring as a list, changed one after another.
-use Rattle.std.proofs.Common.{ℕ, ◌≡◌, ◌<◌, ◌+◌, ◌%◌, add-zero, List, [], ◌∷◌, length, get_or, set, fold, refl, sym, ◌∙◌, ap, arith}
+use Rattle.std.proofs.Common.{ℕ, ◌≡◌, ◌<◌, ◌≤◌, ◌+◌, ◌%◌, add-zero, List, [], ◌∷◌, length, get_or, set, fold, refl, sym, ◌∙◌, ap, arith}
 use Rattle.std.proofs.lemmas.List.{length-set, get_or_read}
 use Rattle.std.proofs.lemmas.List.FromFn.{map-range_with_len_more}
 use Rattle.std.proofs.lemmas.List.Sums.{fold-append}
 use Rattle.std.proofs.Math.Nat.{mod-eq_of_lt}
-use Rattle.nm_types.specs.Positions.{RingState, IsRing, advanced, step_on, slots_from}
+use Rattle.nm_types.specs.Positions.{RingState, IsRing, FitsRing, advanced, step_on, slots_from, kernel_count}
+use Rattle.nm_types.proofs.RingSteps.{dist_self, step_on-step_on}
 use Rattle.nm_types.specs.Slots.{SlotState, slot_after_push}
 use Rattle.nm_types.specs.OwnPorts.{blank_slot}
 use Rattle.nm_types.specs.OwnSyncs.{with_push_cleared, accepted}
@@ -26,12 +27,30 @@ cleared_next slots now size first k slot new e within read changed =
     ap (set now (step_on size first k)) (changed ∙ ap slot_after_push at)
     ∙ (ap (λ (s : List SlotState). with_push_cleared s (step_on size first k)) e ∙ sym (fold-slots_from with_push_cleared slots size first k))
 
+step_on-none : (size at : ℕ) → at < size → step_on size at 0 ≡ at
+step_on-none size at h = ap (λ (n : ℕ). n % size) (add-zero at) ∙ mod-eq_of_lt h
+
 -- a head that is accepted while the tail stays
 pub accepted_none : (ring : RingState) → IsRing ring → advanced ring ring.head ring.cur ring.tail ≡ accepted 0 ring
 accepted_none ring is = ap (advanced ring ring.head ring.cur) (is.one_tail ∙ sym (step_on-none ring.size ring.last_tail (omega arith)))
-  where
-    step_on-none : (size at : ℕ) → at < size → step_on size at 0 ≡ at
-    step_on-none size at h = ap (λ (n : ℕ). n % size) (add-zero at) ∙ mod-eq_of_lt h
+
+-- a head that is accepted, and then a tail that goes on
+pub accepted_then : (ring : RingState) (taken : ℕ) → accepted taken (accepted 0 ring) ≡ accepted taken ring
+accepted_then ring taken = let none : 0 + taken ≡ taken = omega arith in ap (advanced ring ring.head ring.cur) (step_on-step_on ring.size ring.last_tail 0 taken ∙ ap (step_on ring.size ring.last_tail) none)
+
+tail_stays : (ring : RingState) → IsRing ring → step_on ring.size ring.last_tail 0 ≡ ring.last_tail
+tail_stays ring is = let within = is.within in let one = is.one_tail in step_on-none ring.size ring.last_tail (omega arith)
+
+pub still_fits : (ring : RingState) → IsRing ring → FitsRing ring ring.head ring.cur → FitsRing (accepted 0 ring) ring.head ring.cur
+still_fits ring is fits = record {
+  head_within = fits.head_within;
+  cur_within = fits.cur_within;
+  head_reach = (let none = dist_self ring.size ring.head fits.head_within in omega arith);
+  cur_reach = rw (tail_stays ring is) fits.cur_reach;
+}
+
+pub still_room : (ring : RingState) (taken : ℕ) → IsRing ring → taken ≤ kernel_count ring.size ring.head ring.last_tail → taken ≤ kernel_count ring.size ring.head (accepted 0 ring).last_tail
+still_room ring taken is few = rw (tail_stays ring is) few
 
 pub accepted_ring : (ring : RingState) (tail : ℕ) → IsRing ring → ring.head < ring.size → tail < ring.size → IsRing (advanced ring ring.head ring.cur tail)
 accepted_ring ring tail is head below = record { is_size = is.is_size; accepted = head; within = below; one_tail = refl }

@@ -8,3 +8,4 @@ pub mod Acts
 pub mod Filling
 pub mod Opening
 pub mod Closing
+pub mod Exchanges

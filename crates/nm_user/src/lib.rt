@@ -5,6 +5,7 @@ mod acts;
 mod checks;
 mod close;
 mod edit;
+mod exchange;
 mod fill;
 mod gather;
 mod open;

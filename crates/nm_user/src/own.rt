@@ -13,7 +13,7 @@ ghost use Rattle.nm_types.specs.OwnEdits.{user_slot_at, with_user_slot, with_hea
 ghost use Rattle.nm_types.specs.OwnEdits.{with_written};
 ghost use Rattle.nm_user.specs.Sides.{TellsRefusal};
 ghost use Rattle.nm_types.specs.OwnSyncs.{own_after_open, own_after_reset};
-ghost use Rattle.nm_types.specs.OwnSyncs.{own_after_finish, chain_in};
+ghost use Rattle.nm_types.specs.OwnSyncs.{own_after_finish, own_after_send, chain_in};
 ghost use Rattle.nm_user.specs.Closing.{buffers_with_id, bytes_of_buffers};
 ghost use Rattle.std.specs.Vec.{vec_capacity};
 ghost use Rattle.std.specs.Prelude.{[], ◌+◌, ◌↔◌, IfSome, true, take, drop, map, is_some};
@@ -24,6 +24,7 @@ ghost use Rattle.nm_user.specs.Acts.{head_slot_in};
 use crate::checks::check_ring;
 use crate::close::empty_port;
 use crate::edit::{RingEdit, edit_rings};
+use crate::exchange::{accept_pushes, send_out};
 use crate::fill::{Row, fill};
 use crate::gather::gather;
 use crate::open::{make_port, reserve};
@@ -305,6 +306,20 @@ impl OwnSide {
             Some(ring) => gather(alloc, &self.hold, ring),
             None => unreachable!(),
         }
+    }
+
+    /// What stands after a send, for a push that no check refuses: the buffers that the pushed slots
+    /// name are in their places, and the tail goes on by as many slots.
+    pub fn sent(&mut self, port: PortId)
+        requires ring { IsSome (ring_at Tx self.old port.0) }
+        requires passes { refusal_at Tx port.0 self.old ≡ None }
+        ensures { self.new ≡ own_after_send port.0 self.old }
+    {
+        let taken = match ring_at(&self.ports, port, Side::Tx) {
+            Some(ring) => send_out(&mut self.hold, port, ring),
+            None => unreachable!(),
+        };
+        accept_pushes(&mut self.ports, port, taken);
     }
 
     /// Resets a port's ring: its positions are those last accepted, and each of the user's slots

@@ -184,6 +184,36 @@ fn fill(rt: &impl Abort, own: &mut OwnSide, alloc: Global) {
     assert!(rt; slot_at(own, 2) == slot(4, 14, 0) && slot_at(own, 3).is_none());
 }
 
+/// Sends what is pushed, which no check refuses.
+fn send(rt: &impl Abort, own: &mut OwnSide) {
+    assert!(rt; own.ring(PORT, Side::Tx).is_some());
+    match own.check(PORT, Side::Tx) {
+        Ok(()) => own.sent(PORT),
+        Err(fault) => panic!(rt; "{fault:?}"),
+    }
+}
+
+/// Three frames are sent, and a fourth in a slot that changed its buffer with another one. The
+/// places have changed their buffers then, and the other slot is accepted as it is.
+fn exchange(rt: &impl Abort, own: &mut OwnSide) {
+    send(rt, own);
+    assert!(rt; own.has_room(PORT));
+    assert!(rt; slot_at(own, 3) == slot(5, 0, 0) && slot_at(own, 2).is_none());
+    let [here, there] = [3, 0].map(|at| SlotPlace {
+        port: PORT,
+        side: Side::Tx,
+        at,
+    });
+    own.swap_slots(here, there, true);
+    own.put_frame(PORT, &FRAME);
+    send(rt, own);
+    assert!(rt; slot_at(own, 0) == slot(5, 14, 1) && slot_at(own, 3).is_none());
+    own.put_positions(PORT, Side::Tx, 1, 1);
+    assert!(rt; refusal(rt, own, Side::Tx).is_none());
+    own.reset(PORT, Side::Tx);
+    assert!(rt; slot_at(own, 0) == slot(5, 0, 0));
+}
+
 /// Puts buffers into a vector, in order.
 fn put_four(bufs: &mut Vec<Buf>, one: Buf, two: Buf, three: Buf, four: Buf)
     requires room { 4 ≤ vec_capacity bufs.old }
@@ -218,6 +248,7 @@ fn play(
     move_each(rt, own);
     swap(rt, own);
     fill(rt, own, alloc);
+    exchange(rt, own);
 }
 
 /// Closes the port, and then the own side. The port's buffers come in the order of its places.
@@ -234,11 +265,11 @@ fn close(rt: &impl Abort, mut own: OwnSide, back: &mut Vec<Buf>)
     assert_eq!(rt; chain.astray, 0);
     assert!(rt; own.is_empty());
     own.close();
-    for (at, buf) in back.iter().enumerate() {
-        assert_eq!(rt; buf.index() as usize, at + 2);
+    for (buf, wanted) in back.iter().zip([5, 3, 4, 2, 6]) {
+        assert_eq!(rt; buf.index(), wanted);
     }
     assert_eq!(rt; back.len(), 5);
-    assert!(rt; back[0].bytes().starts_with(&FRAME));
+    assert!(rt; back[3].bytes().starts_with(&FRAME));
 }
 
 /// No contract says that the buffers are of one region: the test ends by the panic that it expects.

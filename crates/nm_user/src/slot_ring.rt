@@ -15,6 +15,7 @@ ghost use Rattle.nm_types.specs.OwnPorts.{index_of};
 ghost use Rattle.nm_types.specs.declared.id.Side.TheVariants.{Tx, Rx};
 ghost use Rattle.nm_types.specs.Positions.{FitsRing, dist, step_on, kernel_count};
 ghost use Rattle.nm_types.specs.OwnSyncs.{accepted, slots_after_push};
+ghost use Rattle.nm_user.specs.Exchanges.{CanPushOut, ring_pushed_out};
 
 use crate::slots::{BLANK, clear_announcements, drop_front, framed, opened_slots};
 use nm_region::Buf;
@@ -234,6 +235,15 @@ impl SlotRing {
     {
         let tail = (self.ring.tail() + taken) % self.ring.size();
         self.ring.advance(self.ring.head(), self.ring.cur(), tail);
+    }
+
+    /// Accepts the push of a transmit ring, of whose frames `taken` were taken.
+    pub(crate) fn push_out(&mut self, taken: u32)
+        requires { CanPushOut taken self.old }
+        ensures { self.new ≡ ring_pushed_out taken self.old }
+    {
+        self.accept_push();
+        self.move_tail(taken);
     }
 
     /// Accepts the push of a receive ring whose positions fit: the pushed slots are no longer the
