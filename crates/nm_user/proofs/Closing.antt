@@ -1,9 +1,9 @@
 -- A session once a port of it is closed.
 use Rattle.std.proofs.Common.{ℕ, zero, suc, ◌≡◌, ◌<◌, ◌≤◌, ◌+◌, ◌-◌, ◌||◌, Bool, true, false, nat_eq, nat_lt, if◌then◌else◌, List, [], ◌∷◌, ◌++◌, length, map, fold, Option, Some, None, option_map, inl, inr, refl, sym, ◌∙◌, ap, arith, append_assoc, rules}
-use Rattle.std.specs.Prelude.{is_some, unwrap_or, IsSome, filter, find, not, flat_map, take, drop}
+use Rattle.std.specs.Prelude.{is_some, unwrap_or, IsSome, filter, not, take, drop}
 use Rattle.std.specs.Option.{option_map_or}
 use Rattle.std.specs.List.{AllByRecursion, list_any, range_with_len, filter_map}
-use Rattle.std.proofs.lemmas.Bool.{cases_Bool, cases_lt}
+use Rattle.std.proofs.lemmas.Bool.{cases_Bool}
 use Rattle.std.proofs.lemmas.Bool.Decides.{nat_tests}
 use Rattle.std.proofs.Math.Seq.{take-append_seam, drop-append_seam}
 use Rattle.std.proofs.lemmas.List.{length-map}
@@ -17,10 +17,10 @@ use Rattle.nm_types.specs.declared.id.Chain.{Chain}
 use Rattle.nm_types.specs.declared.place.Place.{Place}
 use Rattle.nm_types.specs.declared.place.Place.TheVariants as place
 use Rattle.nm_types.specs.Places.{held_at, is_same_place}
-use Rattle.nm_types.specs.Positions.{RingState, IsRing, dist, step_on, user_slots}
+use Rattle.nm_types.specs.Positions.{IsRing, dist, step_on, user_slots}
 use Rattle.nm_types.specs.SyncChecks.{contains_index}
 use Rattle.nm_types.specs.Chain.{link_of, seen_in_chain, chain_of}
-use Rattle.nm_types.specs.OwnPorts.{OwnRing, OwnPort, OwnState, bytes_at, port_with_id, held_if, buffers_in}
+use Rattle.nm_types.specs.OwnPorts.{OwnPort, bytes_at, port_with_id, held_if, buffers_in}
 use Rattle.nm_types.specs.OwnSyncs.{without_bytes_of, own_after_finish, chain_in}
 use Rattle.nm_region.specs.Buffers.{Buffer, indices_of}
 use Rattle.nm_hold.specs.Standings.{buf_in}
@@ -33,7 +33,7 @@ use Rattle.nm_extra.specs.Extras.{extras_of, link_at}
 use Rattle.nm_user.specs.declared.port.UserPort.{UserPort}
 use Rattle.nm_user.specs.RingSlots.{RingSlots}
 use Rattle.nm_user.specs.Sides.{place_on, number_at}
-use Rattle.nm_user.specs.Own.{number_on, extra_number_at, ring_seen, port_seen, own_seen, port_at, bytes_in_cell, bytes_in_hold, named_ring_places, named_tx_places, named_places_of, named_places, size_if, is_filled, is_filled_in, places_of_port, AreFilled, AreFlagged, AreSided, AreRings, AreWhole, HasPlaces, IsTxSide, IsRingIf}
+use Rattle.nm_user.specs.Own.{number_on, extra_number_at, ring_seen, port_seen, own_seen, port_at, bytes_in_cell, bytes_in_hold, named_ring_places, named_tx_places, named_places_of, named_places, size_if, is_filled, is_filled_in, places_of_port, AreFilled, AreFlagged, AreSided, AreRings, AreWhole, HasPlaces, IsTxSide}
 use Rattle.nm_user.specs.Kept.{IsKept}
 use Rattle.nm_user.specs.declared.own.OwnSide.TheInside.{Inside}
 use Rattle.nm_user.specs.Closing.{user_count, place_count, held_place, held_places, buffers_with_id, bytes_of_buffers, AreTaken}

@@ -1,8 +1,8 @@
 -- The pushed slots of a ring, exchanged one after another, and buffers that are named ones or not.
-use Rattle.std.proofs.Common.{ℕ, zero, suc, ◌≡◌, ◌≢◌, ◌<◌, ◌≤◌, ◌+◌, ◌-◌, ◌||◌, Bool, true, false, nat_eq, if◌then◌else◌, List, [], ◌∷◌, ◌++◌, length, map, fold, set, take, drop, get_or, Option, Some, None, option_map, inl, inr, refl, sym, ◌∙◌, ap, arith, rules}
-use Rattle.std.specs.Prelude.{is_some, unwrap_or, IsSome, option_and_then}
+use Rattle.std.proofs.Common.{ℕ, zero, suc, ◌≡◌, ◌≢◌, ◌<◌, ◌≤◌, ◌+◌, ◌||◌, Bool, true, false, nat_eq, if◌then◌else◌, List, [], ◌∷◌, ◌++◌, length, map, fold, take, drop, get_or, Option, Some, None, option_map, inl, inr, refl, sym, ◌∙◌, ap, arith, rules}
+use Rattle.std.specs.Prelude.{is_some, unwrap_or, IsSome}
 use Rattle.std.specs.Option.{option_map_or}
-use Rattle.std.specs.List.{AllByRecursion, list_any, range_with_len}
+use Rattle.std.specs.List.{AllByRecursion, range_with_len}
 use Rattle.std.proofs.lemmas.Bool.{cases_Bool}
 use Rattle.std.proofs.lemmas.Bool.Decides.{nat_tests}
 use Rattle.std.proofs.lemmas.List.{get_or-set_same, get_or-set_other, get_or_at, drop_more, length-map, length-take-le}
@@ -15,28 +15,26 @@ use Rattle.nm_types.specs.declared.id.Side.TheVariants.{Tx, Rx}
 use Rattle.nm_types.specs.declared.place.Place.{Place}
 use Rattle.nm_types.specs.declared.place.Place.TheVariants as place
 use Rattle.nm_types.specs.Places.{is_same_place}
-use Rattle.nm_types.specs.Positions.{RingState, IsRing, dist, step_on, slots_from}
-use Rattle.nm_types.specs.Slots.{Pushed}
+use Rattle.nm_types.specs.Positions.{IsRing, dist, step_on, slots_from}
 use Rattle.nm_types.specs.Exchange.{swapped, exchanged}
-use Rattle.nm_types.specs.OwnPorts.{OwnRing, OwnPort, ring_on, buffer_in}
+use Rattle.nm_types.specs.OwnPorts.{OwnRing, OwnPort, ring_on}
 use Rattle.nm_types.specs.OwnSyncs.{ring_swapped, port_swapped, buffer_on, after_slot}
 use Rattle.nm_types.proofs.Exchanges.{held_at-exchanged}
 use Rattle.nm_hold.specs.declared.standing.Standing.{Standing}
 use Rattle.nm_hold.specs.Standings.{buf_in, cell_named}
-use Rattle.nm_hold.specs.Holds.{HoldState, places_of, bufs_of, bufs_in, index_at, standing_at, cell_at, stands_at, is_named_at, is_named_in, with_cell, IsHold, SamePlaces}
-use Rattle.nm_hold.proofs.Spots.{nat_eq-is, same_place-is, same_place-refl}
+use Rattle.nm_hold.specs.Holds.{HoldState, places_of, bufs_of, index_at, standing_at, stands_at, is_named_at, is_named_in, with_cell, IsHold, SamePlaces}
+use Rattle.nm_hold.proofs.Spots.{nat_eq-is, same_place-is}
 use Rattle.nm_hold.proofs.Shown.{named_stands}
 use Rattle.nm_hold.proofs.Tied.{within_cells}
 use Rattle.nm_user.specs.declared.port.UserPort.{UserPort}
-use Rattle.nm_user.specs.RingSlots.{RingSlots, slot_at}
-use Rattle.nm_user.specs.Sides.{place_on, number_at, name_at, pushed_seen_at}
-use Rattle.nm_user.specs.Own.{number_on, positions_of, held_on, extra_number_at, ring_seen, port_seen, port_at, slots_on, slots_at, AreSided}
+use Rattle.nm_user.specs.RingSlots.{RingSlots}
+use Rattle.nm_user.specs.Sides.{number_at, name_at, pushed_seen_at}
+use Rattle.nm_user.specs.Own.{number_on, positions_of, extra_number_at, ring_seen, port_seen, slots_on, slots_at, AreSided}
 use Rattle.nm_user.specs.Filling.{FlaggedBy}
 use Rattle.nm_user.specs.Exchanges.{IsNamedThere, pushed_count_of, user_position, user_place, CanExchange, AreExchanged, is_among, named_if, AreRenamed, tx_places, ArePushedOut}
 use Rattle.nm_user.proofs.Seeing.{buffer_seen}
 use Rattle.nm_user.proofs.Pushes.{seen_more}
-use Rattle.nm_user.proofs.SlotLists.{fold-slots_from}
-use Rattle.nm_user.proofs.Checked.{found, id_of_found, side_found}
+use Rattle.nm_user.proofs.Checked.{side_found}
 use Rattle.nm_user.proofs.Judging.{false_true}
 use Rattle.nm_user.proofs.Written.{ports_same}
 

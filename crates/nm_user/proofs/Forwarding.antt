@@ -1,10 +1,9 @@
 -- Frames that are forwarded one after another.
 use Rattle.std.specs.Prelude.{is_some, unwrap_or}
-use Rattle.std.proofs.Common.{ℕ, zero, suc, ◌≡◌, ◌<◌, ◌+◌, ◌-◌, Bool, true, false, ◌&&◌, Option, Some, None, refl, sym, ◌∙◌, ap, arith}
+use Rattle.std.proofs.Common.{ℕ, zero, suc, ◌≡◌, ◌<◌, ◌+◌, ◌-◌, Bool, true, false, Option, Some, None, refl, sym, ◌∙◌, ap, arith}
 use Rattle.nm_types.specs.declared.id.Side.TheVariants.{Tx, Rx}
-use Rattle.nm_types.specs.Slots.{SlotState}
-use Rattle.nm_types.specs.OwnPorts.{OwnRing, OwnState, ring_at, slot_in}
-use Rattle.nm_types.specs.OwnEdits.{has_slot, with_forwarded, with_next_forwarded, with_one_forwarded}
+use Rattle.nm_types.specs.OwnPorts.{OwnRing, OwnState, ring_at}
+use Rattle.nm_types.specs.OwnEdits.{has_slot, with_forwarded, with_next_forwarded}
 use Rattle.nm_user.specs.Acts.{head_slot_in, forwarded_by, after_one}
 
 -- what the others make of the next one, if there is one

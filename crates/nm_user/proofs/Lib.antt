@@ -19,3 +19,4 @@ pub mod Taking
 pub mod Closing
 pub mod Exchanged
 pub mod Pushed
+pub mod Linking

@@ -1,7 +1,7 @@
 -- A transmit push that is accepted, over what is seen: the buffers that its slots name stand in their
 -- places, the slots pushed are the kernel side's, and those behind the tail the user's.
-use Rattle.std.proofs.Common.{ℕ, zero, suc, ◌≡◌, ◌<◌, ◌≤◌, ◌+◌, ◌-◌, ◌%◌, ◌&&◌, ◌||◌, ◌⊎◌, Bool, true, false, nat_eq, nat_lt, if◌then◌else◌, List, [], ◌∷◌, ◌++◌, length, map, fold, replicate, Option, Some, None, option_map, inl, inr, refl, sym, ◌∙◌, ap, arith, rules}
-use Rattle.std.specs.Prelude.{is_some, unwrap_or, IsSome, option_and_then, flat_map}
+use Rattle.std.proofs.Common.{ℕ, zero, suc, ◌≡◌, ◌<◌, ◌≤◌, ◌+◌, ◌-◌, ◌&&◌, ◌||◌, ◌⊎◌, Bool, true, false, nat_eq, nat_lt, if◌then◌else◌, List, [], ◌∷◌, ◌++◌, length, map, fold, replicate, Option, Some, None, option_map, inl, inr, refl, sym, ◌∙◌, ap, arith, rules}
+use Rattle.std.specs.Prelude.{is_some, IsSome}
 use Rattle.std.specs.Option.{option_map_or}
 use Rattle.std.specs.List.{AllByRecursion, list_any, range_with_len}
 use Rattle.std.proofs.lemmas.Bool.{cases_Bool, cases_lt}
@@ -14,34 +14,33 @@ use Rattle.nm_types.specs.declared.id.Side.TheVariants as side
 use Rattle.nm_types.specs.declared.place.Place.{Place}
 use Rattle.nm_types.specs.declared.place.Place.TheVariants as place
 use Rattle.nm_types.specs.Places.{is_same_place}
-use Rattle.nm_types.specs.Positions.{RingState, IsRing, FitsRing, dist, step_on, slots_from, user_slots, pushed_slots, kernel_count, is_user_slot}
-use Rattle.nm_types.specs.Slots.{SlotState, Pushed}
-use Rattle.nm_types.specs.SyncChecks.{contains_index, EachPasses, PassesSlot, seen_of}
-use Rattle.nm_types.specs.OwnPorts.{OwnRing, OwnPort, OwnState, port_if, with_ring, with_ring_on, named_of, pushed_on, pushed_in, pushed_count, ring_at}
+use Rattle.nm_types.specs.Positions.{IsRing, FitsRing, dist, step_on, slots_from, user_slots, kernel_count}
+use Rattle.nm_types.specs.Slots.{Pushed}
+use Rattle.nm_types.specs.SyncChecks.{contains_index, EachPasses}
+use Rattle.nm_types.specs.OwnPorts.{OwnRing, OwnPort, OwnState, port_if, with_ring_on, named_of, pushed_on, pushed_count}
 use Rattle.nm_types.specs.OwnSyncs.{accepted, slots_after_push, after_slot, after_exchange, ring_after_send, own_after_send}
-use Rattle.nm_types.proofs.RingSteps.{dist-below, dist-step_on, step_on-below, step_on-dist, dist-add, dist_self, dist_split, dist-cases, step_on-cases, length-slots_from}
+use Rattle.nm_types.proofs.RingSteps.{dist-below, dist-step_on, step_on-below, step_on-dist, dist-add, dist_split, dist-cases, length-slots_from}
 use Rattle.nm_slot.proofs.CheckLaws.{passed_slots_pass}
 use Rattle.nm_region.specs.Buffers.{Buffer}
 use Rattle.nm_hold.specs.declared.standing.Standing.{Standing}
-use Rattle.nm_hold.specs.declared.table.PortPlaces.{PortPlaces}
 use Rattle.nm_hold.specs.Offsets.{ArePortsOnce}
 use Rattle.nm_hold.specs.Standings.{buf_in}
-use Rattle.nm_hold.specs.Holds.{HoldState, buffers_of, bufs_of, index_at, standing_at, cell_at, is_named_at, is_named_in, port_of, stands_at, IsHold}
-use Rattle.nm_hold.proofs.Spots.{nat_eq-is, same_place-is, same_place-refl}
+use Rattle.nm_hold.specs.Holds.{HoldState, buffers_of, index_at, standing_at, cell_at, is_named_at, is_named_in, port_of, stands_at, IsHold}
+use Rattle.nm_hold.proofs.Spots.{nat_eq-is, same_place-is}
 use Rattle.nm_user.specs.declared.port.UserPort.{UserPort}
 use Rattle.nm_user.specs.declared.own.OwnSide.TheInside.{Inside}
-use Rattle.nm_user.specs.RingSlots.{RingSlots, slot_at}
-use Rattle.nm_user.specs.Sides.{place_on, number_at, name_at, pushed_seen, pushed_seen_at}
-use Rattle.nm_user.specs.Own.{number_on, ring_seen, port_seen, own_seen, port_at, slots_on, slots_at, refusal_at, bytes_in_cell, named_ring_places, named_tx_places, named_places_of, named_places, size_if, is_filled, is_filled_in, places_of_port, AreFilled, AreFlagged, AreSided, AreRings, AreWhole, HasPlaces, IsTxSide, IsRingIf, port_changed, port_changed_if}
+use Rattle.nm_user.specs.RingSlots.{RingSlots}
+use Rattle.nm_user.specs.Sides.{place_on, name_at, pushed_seen, pushed_seen_at}
+use Rattle.nm_user.specs.Own.{ring_seen, port_seen, own_seen, port_at, slots_at, refusal_at, bytes_in_cell, named_ring_places, named_tx_places, named_places_of, named_places, size_if, is_filled, is_filled_in, places_of_port, AreFilled, AreFlagged, AreSided, AreRings, AreWhole, HasPlaces, IsTxSide, IsRingIf, port_changed, port_changed_if}
 use Rattle.nm_user.specs.Kept.{IsKept}
-use Rattle.nm_user.specs.Exchanges.{IsNamedThere, pushed_count_of, user_position, user_place, CanExchange, ArePushedOut, is_among, named_if, named_after_push, tx_places, ring_pushed_out, CanPushOut, CanPushOutIf, CanAccept}
+use Rattle.nm_user.specs.Exchanges.{IsNamedThere, pushed_count_of, user_position, CanExchange, ArePushedOut, is_among, named_after_push, tx_places, ring_pushed_out, CanPushOut, CanPushOutIf, CanAccept}
 use Rattle.nm_user.proofs.Judging.{false_true, same_eq}
 use Rattle.nm_user.proofs.Naming.{are_named}
 use Rattle.nm_user.proofs.Opening.{IsOther}
 use Rattle.nm_user.proofs.Closing.{rest_other, none_same, named_of_port, filled_in_one, filled_one}
 use Rattle.nm_user.proofs.SlotLists.{accepted_ring}
 use Rattle.nm_user.proofs.Seeing.{pushed_is_seen}
-use Rattle.nm_user.proofs.Checked.{Found, found, ring_found, side_found, refusal_is_seen, passed_fits, tx_ring_found}
+use Rattle.nm_user.proofs.Checked.{found, ring_found, side_found, refusal_is_seen, passed_fits, tx_ring_found}
 
 some_is : {X : Type 0} (x y : X) → Some x ≡ Some y → x ≡ y
 some_is x y e = cc

@@ -1,6 +1,6 @@
 -- The buffers in a port's places, taken out one after another.
-use Rattle.std.proofs.Common.{ℕ, zero, suc, ◌≡◌, ◌<◌, ◌≤◌, ◌+◌, ◌-◌, ◌&&◌, ◌||◌, Bool, true, false, nat_eq, nat_lt, if◌then◌else◌, List, [], ◌∷◌, ◌++◌, length, map, fold, set, Option, Some, None, option_map, inl, inr, refl, sym, ◌∙◌, ap, arith, append_assoc}
-use Rattle.std.specs.Prelude.{is_some, unwrap_or, IsSome}
+use Rattle.std.proofs.Common.{ℕ, zero, suc, ◌≡◌, ◌<◌, ◌≤◌, ◌+◌, ◌-◌, ◌&&◌, ◌||◌, Bool, true, false, nat_eq, nat_lt, if◌then◌else◌, List, [], ◌∷◌, ◌++◌, map, fold, set, Option, Some, None, inl, inr, refl, sym, ◌∙◌, ap, arith, append_assoc}
+use Rattle.std.specs.Prelude.{unwrap_or, IsSome}
 use Rattle.std.specs.List.{list_any, range_with_len}
 use Rattle.std.proofs.lemmas.Bool.{cases_Bool}
 use Rattle.std.proofs.lemmas.Bool.Decides.{nat_tests}
@@ -12,10 +12,10 @@ use Rattle.nm_types.specs.declared.id.PortId.{PortId}
 use Rattle.nm_types.specs.declared.place.Place.{Place}
 use Rattle.nm_types.specs.declared.place.Place.TheVariants.{Tx, Rx, Extra}
 use Rattle.nm_types.specs.Places.{is_same_place}
-use Rattle.nm_types.specs.Positions.{RingState, IsRing, dist, step_on, is_user_slot}
+use Rattle.nm_types.specs.Positions.{IsRing, dist, step_on, is_user_slot}
 use Rattle.nm_types.specs.OwnSyncs.{without_bytes_of}
 use Rattle.nm_types.proofs.RingSteps.{dist-below, dist-step_on, step_on-below, step_on-dist}
-use Rattle.nm_region.specs.Buffers.{Buffer, indices_of}
+use Rattle.nm_region.specs.Buffers.{Buffer}
 use Rattle.nm_hold.specs.declared.standing.Standing.{Standing}
 use Rattle.nm_hold.specs.Standings.{buf_in}
 use Rattle.nm_hold.specs.Holds.{HoldState, buffers_of, buffer_at, index_at, standing_at, cell_at, with_cell, port_of, IsHold}

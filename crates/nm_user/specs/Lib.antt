@@ -9,3 +9,4 @@ pub mod Filling
 pub mod Opening
 pub mod Closing
 pub mod Exchanges
+pub mod ExtraChain

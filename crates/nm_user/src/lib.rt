@@ -6,6 +6,7 @@ mod checks;
 mod close;
 mod edit;
 mod exchange;
+mod extras;
 mod fill;
 mod gather;
 mod open;

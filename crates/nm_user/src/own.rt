@@ -10,13 +10,16 @@ ghost use Rattle.nm_user.specs.Opening.{IsTxSize, IsNew, blank_arrivals};
 ghost use Rattle.nm_types.specs.OwnPorts.{empty_own, bytes_at, ring_at, pushed_on, port_with_id};
 ghost use Rattle.nm_user.specs.Own.{refusal_at, port_at, slots_on, slots_at, ring_of};
 ghost use Rattle.nm_types.specs.OwnEdits.{user_slot_at, with_user_slot, with_head, with_cur};
-ghost use Rattle.nm_types.specs.OwnEdits.{with_written};
+ghost use Rattle.nm_types.specs.OwnEdits.{with_written, with_head_of_chain};
+ghost use Rattle.nm_types.specs.Chain.{link_bytes};
+ghost use Rattle.nm_user.specs.ExtraChain.{head_of_extras, extra_numbered, named_bytes};
 ghost use Rattle.nm_user.specs.Sides.{TellsRefusal};
 ghost use Rattle.nm_types.specs.OwnSyncs.{own_after_open, own_after_reset};
 ghost use Rattle.nm_types.specs.OwnSyncs.{own_after_finish, own_after_send, chain_in};
 ghost use Rattle.nm_user.specs.Closing.{buffers_with_id, bytes_of_buffers};
 ghost use Rattle.std.specs.Vec.{vec_capacity};
 ghost use Rattle.std.specs.Prelude.{[], ◌+◌, ◌↔◌, IfSome, true, take, drop, map, is_some};
+ghost use Rattle.std.specs.Prelude.{option_and_then};
 ghost use Rattle.nm_user.specs.Edits.{own_edited};
 ghost use Rattle.nm_user.specs.RingSlots.{slot_before_tail};
 ghost use Rattle.nm_user.specs.Acts.{head_slot_in};
@@ -25,12 +28,14 @@ use crate::checks::check_ring;
 use crate::close::empty_port;
 use crate::edit::{RingEdit, edit_rings};
 use crate::exchange::{accept_pushes, send_out};
+use crate::extras::{extra_numbered, set_heads};
 use crate::fill::{Row, fill};
 use crate::gather::gather;
 use crate::open::{make_port, reserve};
 use crate::port::UserPort;
 use crate::reset::reset_rings;
 use crate::slot_ring::SlotRing;
+use nm_extra::relink;
 use nm_hold::Hold;
 use nm_region::Buf;
 use nm_ring::Ring;
@@ -176,6 +181,52 @@ impl OwnSide {
         }
     }
 
+    /// The index that a port's list of extra buffers begins with, any number.
+    pub fn extra_head(&self, port: PortId) -> Option<u32>
+        ensures { result ≡ option_map head_of_extras (port_with_id self.now port.0) }
+    {
+        match port_at(&self.ports, port) {
+            Some(own) => Some(own.extra_head),
+            None => None,
+        }
+    }
+
+    /// Stores the index that a port's list of extra buffers begins with, any number; does nothing
+    /// if there is no such port.
+    pub fn set_extra_head(&mut self, port: PortId, idx: u32)
+        ensures { self.new ≡ with_head_of_chain port.0 idx self.old }
+    {
+        set_heads(&mut self.ports, port, idx);
+    }
+
+    /// The buffer in an extra position of a port, counted from 1, and 0 for the position 0; none if
+    /// there is no such position.
+    pub fn extra_numbered(&self, port: PortId, number: u32) -> Option<u32>
+        ensures { result
+            ≡ option_and_then (extra_numbered number) (port_with_id self.now port.0) }
+    {
+        match port_at(&self.ports, port) {
+            Some(own) => extra_numbered(&self.hold, own, number),
+            None => None,
+        }
+    }
+
+    /// Links a named buffer to the next one of its list; does nothing if it is not one.
+    pub(crate) fn relink(&mut self, idx: u32, next: u32)
+        ensures { self.new ≡ with_written idx (link_bytes next) self.old }
+    {
+        if self.hold.named(idx) {
+            relink(&mut self.hold, idx, next);
+        }
+    }
+
+    /// The bytes of a buffer that the user may name.
+    pub fn bytes(&self, idx: u32) -> Option<&[u8]>
+        ensures { option_copied result ≡ named_bytes self.now idx }
+    {
+        self.hold.bytes(idx)
+    }
+
     /// Removes a port, and counts the chain of its extra buffers. The buffers in its places go to
     /// `back`, which has room for them, in their order: transmit slots, the user's receive slots,
     /// extra positions.
@@ -279,7 +330,7 @@ impl OwnSide {
     }
 
     /// Writes bytes over the first ones of a named buffer; does nothing if it is not one.
-    pub(crate) fn write_front(&mut self, idx: u32, bytes: &[u8])
+    pub fn write_front(&mut self, idx: u32, bytes: &[u8])
         requires { length bytes.now ≤ 2048 }
         ensures { self.new ≡ with_written idx bytes.now self.old }
     {

@@ -214,6 +214,40 @@ fn exchange(rt: &impl Abort, own: &mut OwnSide) {
     assert!(rt; slot_at(own, 0) == slot(5, 0, 0));
 }
 
+/// The first bytes of a buffer, if the user may name it.
+fn starts_with(own: &OwnSide, idx: u32, bytes: &[u8]) -> bool {
+    match own.bytes(idx) {
+        Some(all) => all.starts_with(bytes),
+        None => false,
+    }
+}
+
+/// The only extra buffer is linked, and the head of the list stored. The buffer 2 stands in the
+/// slot of the kernel side.
+fn link(rt: &impl Abort, own: &mut OwnSide) {
+    assert_eq!(rt; own.extra_head(PORT), Some(6));
+    assert!(rt; own.extra_head(PortId(3)).is_none());
+    assert_eq!(rt; own.extra_numbered(PORT, 0), Some(0));
+    assert_eq!(rt; own.extra_numbered(PORT, 1), Some(6));
+    assert!(rt; own.extra_numbered(PORT, 2).is_none());
+    own.link_extra(PORT, 1, 1);
+    assert!(rt; starts_with(own, 6, &[6, 0, 0, 0]));
+    own.link_extra(PORT, 1, 2);
+    own.link_extra(PORT, 2, 0);
+    assert!(rt; starts_with(own, 6, &[6, 0, 0, 0]));
+    own.link_extra(PORT, 1, 0);
+    assert!(rt; starts_with(own, 6, &[0, 0, 0, 0]));
+    own.link_extra(PORT, 0, 0);
+    assert_eq!(rt; own.extra_head(PORT), Some(0));
+    own.set_extra_head(PORT, 4294967295);
+    assert_eq!(rt; own.extra_head(PORT), Some(4294967295));
+    own.link_extra(PORT, 0, 1);
+    assert_eq!(rt; own.extra_head(PORT), Some(6));
+    own.write_front(5, &[1, 2]);
+    own.write_front(2, &[1, 2]);
+    assert!(rt; starts_with(own, 5, &[1, 2]) && own.bytes(2).is_none());
+}
+
 /// Puts buffers into a vector, in order.
 fn put_four(bufs: &mut Vec<Buf>, one: Buf, two: Buf, three: Buf, four: Buf)
     requires room { 4 ≤ vec_capacity bufs.old }
@@ -249,6 +283,7 @@ fn play(
     swap(rt, own);
     fill(rt, own, alloc);
     exchange(rt, own);
+    link(rt, own);
 }
 
 /// Closes the port, and then the own side. The port's buffers come in the order of its places.

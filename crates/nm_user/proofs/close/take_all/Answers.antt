@@ -1,10 +1,10 @@
-use Rattle.std.proofs.Common.{ℕ, ◌≡◌, ◌<◌, ◌≤◌, ◌+◌, ◌∷◌, [], ◌++◌, length, List, if◌then◌else◌, None, ap, sym, ◌∙◌, arith, rules, length-append}
+use Rattle.std.proofs.Common.{◌≡◌, ◌<◌, ◌+◌, ◌∷◌, [], length, List, if◌then◌else◌, None, ap, ◌∙◌, arith, length-append}
 use Rattle.std.specs.Vec.{vec_capacity}
 use Rattle.nm_types.specs.declared.place.Place.{Place}
 use Rattle.nm_types.specs.Places.{is_same_place}
 use Rattle.nm_region.specs.Buffers.{Buffer}
 use Rattle.nm_hold.specs.Holds.{index_at}
-use Rattle.nm_user.specs.Closing.{place_count, held_place, held_places, AreTaken}
+use Rattle.nm_user.specs.Closing.{place_count, held_place, held_places}
 use Rattle.nm_user.proofs.Taking.{still_held, not_yet, taken_next, held_more}
 use Rattle.nm_user.proofs.close.take_all.Goals as goal
 

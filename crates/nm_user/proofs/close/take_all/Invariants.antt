@@ -1,6 +1,6 @@
-use Rattle.std.proofs.Common.{◌≡◌, ◌≤◌, ◌+◌, length}
+use Rattle.std.proofs.Common.{◌≡◌, ◌+◌, length}
 use Rattle.std.specs.Vec.{vec_capacity}
-use Rattle.nm_user.specs.Closing.{place_count, held_places, AreTaken}
+use Rattle.nm_user.specs.Closing.{held_places, AreTaken}
 use Rattle.nm_user.proofs.close.take_all.Given as goal
 
 abbrev pub invariant-loop-k : goal.invariant-loop-k

@@ -1,9 +1,5 @@
-use Rattle.std.proofs.Common.{◌≡◌, ◌<◌, ◌∙◌, refl, arith}
-use Rattle.std.specs.Prelude.{IsSome}
-use Rattle.nm_types.specs.Positions.{dist, step_on, is_user_slot}
-use Rattle.nm_types.specs.Slots.{SlotState}
-use Rattle.nm_hold.specs.Holds.{index_at, is_named_at}
-use Rattle.nm_user.specs.Sides.{place_on, name_at}
+use Rattle.std.proofs.Common.{◌≡◌, ◌<◌, refl, arith}
+use Rattle.nm_types.specs.Positions.{dist}
 use Rattle.nm_user.specs.RingSlots.{slot_at}
 use Rattle.nm_user.specs.Exchanges.{pushed_count_of, user_position, user_place}
 use Rattle.nm_user.proofs.Pushes.{pushed_is_user}

@@ -1,4 +1,3 @@
-use Rattle.std.proofs.Common.{◌≡◌, ◌<◌, arith}
 use Rattle.std.specs.Prelude.{IsSome}
 use Rattle.nm_types.specs.Positions.{step_on}
 use Rattle.nm_types.specs.declared.place.Place.TheVariants as place

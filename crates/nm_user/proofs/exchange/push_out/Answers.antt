@@ -1,4 +1,4 @@
-use Rattle.std.proofs.Common.{◌≡◌, true, false}
+use Rattle.std.proofs.Common.{true, false}
 use Rattle.nm_user.specs.Exchanges.{AreRenamed, pushed_count_of, tx_places}
 use Rattle.nm_user.proofs.Exchanged.{pushed_out}
 use Rattle.nm_user.proofs.exchange.push_out.Goals as goal

@@ -1,4 +1,4 @@
-use Rattle.std.proofs.Common.{◌≡◌, ◌∷◌, [], nat_eq, refl}
+use Rattle.std.proofs.Common.{◌∷◌, [], nat_eq, refl}
 use Rattle.std.specs.List.{IsDistinct}
 use Rattle.nm_user.proofs.own_tests.play.Goals as goal
 

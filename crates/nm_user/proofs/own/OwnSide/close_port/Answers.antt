@@ -1,11 +1,11 @@
-use Rattle.std.proofs.Common.{◌≡◌, ◌∙◌, ◌+◌, ◌≤◌, ◌++◌, length, nat_eq, List, Some, None, ap, sym, rules, arith}
-use Rattle.std.specs.Prelude.{not, filter}
+use Rattle.std.proofs.Common.{◌≡◌, ◌∙◌, nat_eq, Some, None, ap, sym, rules}
+use Rattle.std.specs.Prelude.{not}
 use Rattle.std.proofs.lemmas.Fn.{filter_same}
 use Rattle.nm_types.specs.OwnPorts.{OwnState}
 use Rattle.nm_types.specs.OwnSyncs.{own_after_finish}
 use Rattle.nm_user.specs.declared.port.UserPort.{UserPort}
 use Rattle.nm_user.specs.Own.{own_seen, port_at}
-use Rattle.nm_user.specs.Closing.{buffers_with_id, place_count}
+use Rattle.nm_user.specs.Closing.{buffers_with_id}
 use Rattle.nm_user.proofs.Closing.{others, others_sided, others_rings, port_not_found, port_found, has_port, ring_one, extra_small, is_held, buffers_count, chain_is, before_stays, indices_come, bytes_come, holds_nothing, places_left, filled_left, flagged_left, whole_left, count_left, closed_is_seen}
 use Rattle.nm_user.proofs.own.OwnSide.close_port.Goals as goal
 

@@ -1,4 +1,4 @@
-use Rattle.std.proofs.Common.{◌≡◌, ◌+◌, false, replicate, refl, rules, ap, ◌∙◌, sym}
+use Rattle.std.proofs.Common.{rules}
 use Rattle.nm_user.proofs.Checked.{is_made}
 use Rattle.nm_user.proofs.Filled.{fresh}
 use Rattle.nm_user.proofs.own.OwnSide.new.Goals as goal

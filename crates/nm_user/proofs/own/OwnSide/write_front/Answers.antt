@@ -1,6 +1,5 @@
-use Rattle.std.proofs.Common.{◌≡◌, ◌∙◌, ◌+◌, false, replicate, ap, refl, sym}
+use Rattle.std.proofs.Common.{◌∙◌, ap, sym}
 use Rattle.nm_hold.specs.Holds.{HoldState}
-use Rattle.nm_types.specs.OwnEdits.{with_written}
 use Rattle.nm_user.proofs.Written.{fronted_is_seen, not_written, fronted_keeps, flagged_kept, filled_kept, whole_kept}
 use Rattle.nm_user.proofs.own.OwnSide.write_front.Goals as goal
 

@@ -1,5 +1,4 @@
 use Rattle.std.proofs.Common.{◌≡◌, ◌∙◌, Some, refl, sym}
-use Rattle.nm_types.specs.OwnPorts.{OwnState}
 use Rattle.nm_types.specs.OwnEdits.{user_slot_at}
 use Rattle.nm_user.proofs.own.OwnSide.write_slot.Goals as goal
 

@@ -1,6 +1,5 @@
-use Rattle.std.proofs.Common.{◌≡◌, ◌∙◌, refl, ap}
+use Rattle.std.proofs.Common.{ap}
 use Rattle.nm_types.specs.Positions.{RingState}
-use Rattle.nm_user.specs.RingSlots.{RingSlots}
 use Rattle.nm_user.specs.Exchanges.{ring_pushed_out}
 use Rattle.nm_user.proofs.SlotLists.{accepted_then, still_fits, still_room}
 use Rattle.nm_user.proofs.slot_ring.SlotRing.push_out.Goals as goal
