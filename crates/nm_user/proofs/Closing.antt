@@ -2,7 +2,7 @@
 use Rattle.std.proofs.Common.{ℕ, zero, suc, ◌≡◌, ◌<◌, ◌≤◌, ◌+◌, ◌-◌, ◌||◌, Bool, true, false, nat_eq, nat_lt, if◌then◌else◌, List, [], ◌∷◌, ◌++◌, length, map, fold, Option, Some, None, option_map, inl, inr, refl, sym, ◌∙◌, ap, arith, append_assoc, rules}
 use Rattle.std.specs.Prelude.{is_some, unwrap_or, IsSome, filter, not, take, drop}
 use Rattle.std.specs.Option.{option_map_or}
-use Rattle.std.specs.List.{AllByRecursion, list_any, range_with_len, filter_map}
+use Rattle.std.specs.List.{AllByRecursion, IsDistinct, list_any, range_with_len, filter_map}
 use Rattle.std.proofs.lemmas.Bool.{cases_Bool}
 use Rattle.std.proofs.lemmas.Bool.Decides.{nat_tests}
 use Rattle.std.proofs.Math.Seq.{take-append_seam, drop-append_seam}
@@ -27,8 +27,8 @@ use Rattle.nm_hold.specs.Standings.{buf_in}
 use Rattle.nm_hold.specs.declared.standing.Standing.{Standing}
 use Rattle.nm_hold.specs.declared.table.PortPlaces.{PortPlaces}
 use Rattle.nm_hold.specs.Offsets.{has_port as has_id, ArePortsOnce, AreSizes}
-use Rattle.nm_hold.specs.Holds.{HoldState, buffers_of, index_at, standing_at, buffer_at, cell_at, places_in, port_of, extra_of, HoldsNothing, IsHold}
-use Rattle.nm_hold.proofs.Spots.{nat_eq-is, same_place-is}
+use Rattle.nm_hold.specs.Holds.{HoldState, buffers_of, index_at, standing_at, stands_at, buffer_at, cell_at, places_in, port_of, extra_of, HoldsNothing, IsHold}
+use Rattle.nm_hold.proofs.Spots.{nat_eq-is, same_place-is, same_place-refl}
 use Rattle.nm_extra.specs.Extras.{extras_of, link_at}
 use Rattle.nm_user.specs.declared.port.UserPort.{UserPort}
 use Rattle.nm_user.specs.RingSlots.{RingSlots}
@@ -37,11 +37,12 @@ use Rattle.nm_user.specs.Own.{number_on, extra_number_at, ring_seen, port_seen, 
 use Rattle.nm_user.specs.Kept.{IsKept}
 use Rattle.nm_user.specs.declared.own.OwnSide.TheInside.{Inside}
 use Rattle.nm_user.specs.Closing.{user_count, place_count, held_place, held_places, buffers_with_id, bytes_of_buffers, AreTaken}
+use Rattle.nm_user.proofs.Judging.{false_true}
 use Rattle.nm_user.proofs.Checked.{bytes_are_seen, id_of_found}
 use Rattle.nm_user.proofs.Filled.{all_append, all_range, all_slots}
 use Rattle.nm_user.proofs.Written.{port_same}
 use Rattle.nm_user.proofs.Opening.{IsOther, unfilled_in, unfilled, none_if}
-use Rattle.nm_user.proofs.Taking.{elsewhere_none, filled_taken, held_filled}
+use Rattle.nm_user.proofs.Taking.{held_apart, elsewhere_none, filled_taken, held_filled}
 
 -- the ports but the one of an id
 abbrev pub others : ℕ → List UserPort → List UserPort
@@ -354,6 +355,41 @@ module _ (h : HoldState) (ports : List UserPort) (id : PortId) (p : UserPort) (h
   numbers_are = (let sides = sided_one ports id.0 p has.found has.sided in
       ap (λ (o : Option OwnPort). option_map_or buffers_in o []) (port_found h ports id.0 p has.found) ∙ sym (held_numbers h p sides.0 sides.1))
 
+  -- each buffer in its places is in one of them
+  numbers_apart : (j k : ℕ) → j < k → k < place_count p → nat_eq (number_at h (held_place p j)) (number_at h (held_place p k)) ≡ false
+  numbers_apart j k less below = elim (cases_Bool (nat_eq (number_at h (held_place p j)) (number_at h (held_place p k)))) [
+    | inl same ↦ by_index (index_at h (held_place p j)) (index_at h (held_place p k)) refl refl (is_held j (omega arith)) (is_held k below) (nat_eq-is (number_at h (held_place p j)) (number_at h (held_place p k)) same)
+    | inr other ↦ other
+  ]
+    where
+      stands : (q : Place) (i : ℕ) (s : Standing) → index_at h q ≡ Some i → standing_at h i ≡ Some s → q ≡ s.home.place
+      stands q i s e there = same_place-is q s.home.place (sym (ap (stands_at q) there) ∙ has.is_hold.held q i e)
+
+      one_place : (i : ℕ) → index_at h (held_place p j) ≡ Some i → index_at h (held_place p k) ≡ Some i → (o : Option Standing) → standing_at h i ≡ o → held_place p j ≡ held_place p k
+      one_place i e f None there = absurd (let none = sym (ap (stands_at (held_place p j)) there) ∙ has.is_hold.held (held_place p j) i e in cc)
+      one_place i e f (Some s) there = stands (held_place p j) i s e there ∙ sym (stands (held_place p k) i s f there)
+
+      by_index : (a b : Option ℕ) → index_at h (held_place p j) ≡ a → index_at h (held_place p k) ≡ b → IsSome (index_at h (held_place p j)) → IsSome (index_at h (held_place p k))
+          → number_at h (held_place p j) ≡ number_at h (held_place p k) → nat_eq (number_at h (held_place p j)) (number_at h (held_place p k)) ≡ false
+      by_index None b e f left right same = absurd (let none : Option ℕ = None in let no : IsSome none = rw e at left in cc)
+      by_index (Some i) None e f left right same = absurd (let none : Option ℕ = None in let no : IsSome none = rw f at right in cc)
+      by_index (Some i) (Some n) e f left right same =
+          let equal : i ≡ n = sym (ap (λ (o : Option ℕ). unwrap_or o 0) e) ∙ (same ∙ ap (λ (o : Option ℕ). unwrap_or o 0) f) in
+          let place : held_place p j ≡ held_place p k = one_place i e (f ∙ ap (λ (x : ℕ). Some x) (sym equal)) (standing_at h i) refl in
+          false_true (sym (held_apart p j k ring less) ∙ (ap (λ (q : Place). is_same_place (held_place p j) q) (sym place) ∙ same_place-refl (held_place p j)))
+
+  pub buffers_once : IsDistinct nat_eq (buffers_with_id (own_seen h ports) id.0)
+  unfolding IsDistinct
+  buffers_once = rw numbers_are (over 0 (place_count p) (omega arith))
+    where
+      others_apart : (j a n : ℕ) → j < a → a + n ≤ place_count p → AllByRecursion (λ y. nat_eq (number_at h (held_place p j)) y ≡ false) (map (number_at h) (map (held_place p) (range_with_len a n)))
+      others_apart j a zero less room = tt
+      others_apart j a (suc n) less room = (numbers_apart j a less (omega arith), others_apart j (a + 1) n (omega arith) (omega arith))
+
+      over : (a n : ℕ) → a + n ≤ place_count p → IsDistinct nat_eq (map (number_at h) (map (held_place p) (range_with_len a n)))
+      over a zero room = tt
+      over a (suc n) room = (others_apart a (a + 1) n (omega arith) (omega arith), over (a + 1) n (omega arith))
+
   pub chain_is : chain_of (extras_of h p.id) (link_at h) p.extra_head ≡ chain_in (own_seen h ports) (port_seen h p)
   chain_is =
       let size : extra_of h.ports p.id.0 ≡ p.extra =
@@ -505,3 +541,7 @@ port_is_there h ports id = by_port (port_at ports id) refl
     by_port : (o : Option UserPort) → port_at ports id ≡ o → is_some (port_at ports id) ≡ is_some (port_with_id (own_seen h ports) id)
     by_port None e = rw (e, lacks_port h ports id e) refl
     by_port (Some p) e = rw (e, port_found h ports id p e) refl
+
+pub none_once : (h : HoldState) (ports : List UserPort) (id : ℕ) → port_at ports id ≡ None → IsDistinct nat_eq (buffers_with_id (own_seen h ports) id)
+unfolding IsDistinct
+none_once h ports id none = rw (lacks_port h ports id none) tt

@@ -46,7 +46,7 @@ fn name_slots(hold: &mut Hold, port: PortId, size: u32, first: u32, count: u32, 
 
 /// Exchanges the buffers of a transmit push, of whose frames `taken` were taken, and names those of
 /// the slots that are then the user's.
-fn push_out(hold: &mut Hold, port: PortId, ring: &SlotRing, taken: u32)
+pub(crate) fn push_out(hold: &mut Hold, port: PortId, ring: &SlotRing, taken: u32)
     requires can { CanExchange hold.old port ring.now }
     requires side { ring.now.side ≡ Tx }
     requires taken { taken ≤ ring.now.ring.size }

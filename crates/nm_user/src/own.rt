@@ -15,7 +15,7 @@ ghost use Rattle.nm_types.specs.Chain.{link_bytes};
 ghost use Rattle.nm_user.specs.ExtraChain.{head_of_extras, extra_numbered, named_bytes};
 ghost use Rattle.nm_user.specs.Sides.{TellsRefusal};
 ghost use Rattle.nm_types.specs.OwnSyncs.{own_after_open, own_after_reset};
-ghost use Rattle.nm_types.specs.OwnSyncs.{own_after_finish, own_after_send, chain_in};
+ghost use Rattle.nm_types.specs.OwnSyncs.{own_after_finish, own_after_send, own_after_put, chain_in};
 ghost use Rattle.nm_user.specs.Closing.{buffers_with_id, bytes_of_buffers};
 ghost use Rattle.std.specs.Vec.{vec_capacity};
 ghost use Rattle.std.specs.Prelude.{[], ◌+◌, ◌↔◌, IfSome, true, take, drop, map, is_some};
@@ -27,7 +27,7 @@ ghost use Rattle.nm_user.specs.Acts.{head_slot_in};
 use crate::checks::check_ring;
 use crate::close::empty_port;
 use crate::edit::{RingEdit, edit_rings};
-use crate::exchange::{accept_pushes, send_out};
+use crate::exchange::{accept_pushes, push_out, send_out};
 use crate::extras::{extra_numbered, set_heads};
 use crate::fill::{Row, fill};
 use crate::gather::gather;
@@ -171,9 +171,11 @@ impl OwnSide {
         port_at(&self.ports, port).is_some()
     }
 
-    /// The number of buffers in the places of a port, 0 if there is no such port.
+    /// The number of buffers in the places of a port, 0 if there is no such port. No buffer is in two
+    /// of them.
     pub fn buffer_count(&self, port: PortId) -> u32
-        ensures { result ≡ length (buffers_with_id self.now port.0) }
+        ensures count { result ≡ length (buffers_with_id self.now port.0) }
+        ensures once { IsDistinct nat_eq (buffers_with_id self.now port.0) }
     {
         match port_at(&self.ports, port) {
             Some(port) => port.place_count(),
@@ -371,6 +373,21 @@ impl OwnSide {
             None => unreachable!(),
         };
         accept_pushes(&mut self.ports, port, taken);
+    }
+
+    /// What stands after a put none of whose frames was taken, or whose peer is gone, for a push that
+    /// no check refuses: the buffers that the pushed slots name are in their places, and the slots
+    /// stay pushed.
+    pub fn offered(&mut self, port: PortId)
+        requires ring { IsSome (ring_at Tx self.old port.0) }
+        requires passes { refusal_at Tx port.0 self.old ≡ None }
+        ensures { self.new ≡ own_after_put port.0 [] self.old }
+    {
+        match ring_at(&self.ports, port, Side::Tx) {
+            Some(ring) => push_out(&mut self.hold, port, ring, 0),
+            None => unreachable!(),
+        }
+        accept_pushes(&mut self.ports, port, 0);
     }
 
     /// Resets a port's ring: its positions are those last accepted, and each of the user's slots

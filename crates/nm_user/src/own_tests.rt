@@ -248,6 +248,21 @@ fn link(rt: &impl Abort, own: &mut OwnSide) {
     assert!(rt; starts_with(own, 5, &[1, 2]) && own.bytes(2).is_none());
 }
 
+/// A frame is offered to a peer that is gone: its slot stays pushed, and its buffer cannot be named.
+fn offer(rt: &impl Abort, own: &mut OwnSide) {
+    own.put_frame(PORT, &FRAME);
+    assert!(rt; own.ring(PORT, Side::Tx).is_some());
+    match own.check(PORT, Side::Tx) {
+        Ok(()) => own.offered(PORT),
+        Err(fault) => panic!(rt; "{fault:?}"),
+    }
+    assert!(rt; slot_at(own, 0).is_none() && slot_at(own, 1).is_some());
+    assert!(rt; slot_at(own, 2).is_some() && slot_at(own, 3).is_none());
+    assert!(rt; own.bytes(5).is_none() && own.bytes(3).is_some());
+    own.reset(PORT, Side::Tx);
+    assert!(rt; slot_at(own, 0).is_none());
+}
+
 /// Puts buffers into a vector, in order.
 fn put_four(bufs: &mut Vec<Buf>, one: Buf, two: Buf, three: Buf, four: Buf)
     requires room { 4 ≤ vec_capacity bufs.old }
@@ -284,6 +299,7 @@ fn play(
     fill(rt, own, alloc);
     exchange(rt, own);
     link(rt, own);
+    offer(rt, own);
 }
 
 /// Closes the port, and then the own side. The port's buffers come in the order of its places.
