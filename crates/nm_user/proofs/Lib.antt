@@ -20,3 +20,4 @@ pub mod Closing
 pub mod Exchanged
 pub mod Pushed
 pub mod Linking
+pub mod Offered

@@ -10,3 +10,4 @@ pub mod Opening
 pub mod Closing
 pub mod Exchanges
 pub mod ExtraChain
+pub mod Offers

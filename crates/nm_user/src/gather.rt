@@ -1,7 +1,9 @@
 ghost use Rattle.std.specs.Prelude.{◌≡◌, IfOk, take};
 ghost use Rattle.nm_types.specs.Positions.{FitsRing};
 ghost use Rattle.nm_types.specs.Slots.{no_learn, has_flag};
+ghost use Rattle.nm_user.specs.Sides.{names_pushed};
 ghost use Rattle.nm_user.specs.Own.{bytes_in_hold, frames_seen};
+ghost use Rattle.nm_user.specs.Offers.{offers_seen};
 
 use crate::slot_ring::SlotRing;
 use bitflags::Flags;
@@ -40,6 +42,37 @@ pub(crate) fn gather(alloc: Global, hold: &Hold, ring: &SlotRing) -> Result<Batc
     for k in 0..count {
         let slot = ring.user_slot((first + k) % size);
         batch.push(frame_bytes(hold, &slot), is_not_learned(&slot))?;
+    }
+    Ok(batch)
+}
+
+/// The indices that the pushed slots name, in their order.
+pub(crate) fn gather_names(alloc: Global, ring: &SlotRing) -> Result<Vec<u32>, NoMemory>
+    requires { FitsRing ring.now.ring ring.now.ring.head ring.now.ring.cur }
+    ensures { IfOk result (λ names. names.items ≡ names_pushed ring.now) }
+{
+    let (first, count) = ring.pushed();
+    let size = ring.ring().size();
+    let mut names = Vec::with_capacity(alloc, count as usize)?;
+    for k in 0..count {
+        let slot = ring.user_slot((first + k) % size);
+        names.push_reserved(slot.buf_idx);
+    }
+    Ok(names)
+}
+
+/// The frames that a put offers: those of the slots still pushed, and then of those pushed now. None
+/// of them is marked.
+pub(crate) fn gather_offered(alloc: Global, hold: &Hold, ring: &SlotRing) -> Result<Batch, NoMemory>
+    requires { FitsRing ring.now.ring ring.now.ring.head ring.now.ring.cur }
+    ensures { IfOk result (λ batch. batch ≡ offers_seen hold.now ring.now) }
+{
+    let (first, count) = ring.offered();
+    let size = ring.ring().size();
+    let mut batch = Batch::new(alloc);
+    for k in 0..count {
+        let slot = ring.any_slot((first + k) % size);
+        batch.push(frame_bytes(hold, &slot), false)?;
     }
     Ok(batch)
 }

@@ -1,7 +1,7 @@
 ghost use Rattle.std.specs.Prelude.{◌≡◌, ◌≤◌, ◌++◌, length, nat_eq, IfOk, IfErr, OnOk, IsSome, OnErr, None, Some, option_map};
 ghost use Rattle.std.specs.Option.{option_copied};
 ghost use Rattle.nm_types.specs.Buffers.{IsPoolSize};
-ghost use Rattle.nm_types.specs.declared.id.Side.TheVariants.{Tx};
+ghost use Rattle.nm_types.specs.declared.id.Side.TheVariants.{Tx, Rx};
 ghost use Rattle.nm_types.specs.Slots.{pushed_frames};
 ghost use Rattle.std.specs.List.{AllByRecursion, IsDistinct};
 ghost use Rattle.nm_types.specs.Positions.{IsRingSize};
@@ -12,10 +12,11 @@ ghost use Rattle.nm_user.specs.Own.{refusal_at, port_at, slots_on, slots_at, rin
 ghost use Rattle.nm_types.specs.OwnEdits.{user_slot_at, with_user_slot, with_head, with_cur};
 ghost use Rattle.nm_types.specs.OwnEdits.{with_written, with_head_of_chain};
 ghost use Rattle.nm_types.specs.Chain.{link_bytes};
+ghost use Rattle.nm_user.specs.Offers.{frames_offered};
 ghost use Rattle.nm_user.specs.ExtraChain.{head_of_extras, extra_numbered, named_bytes};
 ghost use Rattle.nm_user.specs.Sides.{TellsRefusal};
 ghost use Rattle.nm_types.specs.OwnSyncs.{own_after_open, own_after_reset};
-ghost use Rattle.nm_types.specs.OwnSyncs.{own_after_finish, own_after_send, own_after_put, chain_in};
+ghost use Rattle.nm_types.specs.OwnSyncs.{own_after_finish, own_after_send, own_after_put, back_on, chain_in};
 ghost use Rattle.nm_user.specs.Closing.{buffers_with_id, bytes_of_buffers};
 ghost use Rattle.std.specs.Vec.{vec_capacity};
 ghost use Rattle.std.specs.Prelude.{[], ◌+◌, ◌↔◌, IfSome, true, take, drop, map, is_some};
@@ -30,7 +31,7 @@ use crate::edit::{RingEdit, edit_rings};
 use crate::exchange::{accept_pushes, push_out, send_out};
 use crate::extras::{extra_numbered, set_heads};
 use crate::fill::{Row, fill};
-use crate::gather::gather;
+use crate::gather::{gather, gather_names, gather_offered};
 use crate::open::{make_port, reserve};
 use crate::port::UserPort;
 use crate::reset::reset_rings;
@@ -357,6 +358,31 @@ impl OwnSide {
     {
         match ring_at(&self.ports, port, Side::Tx) {
             Some(ring) => gather(alloc, &self.hold, ring),
+            None => unreachable!(),
+        }
+    }
+
+    /// The frames that a put of a transmit ring offers, none of them marked, for a push that no check
+    /// refuses: those of the slots still pushed, and then of those pushed now.
+    pub fn offers(&self, alloc: Global, port: PortId) -> Result<Batch, NoMemory>
+        requires ring { IsSome (ring_at Tx self.now port.0) }
+        requires passes { refusal_at Tx port.0 self.now ≡ None }
+        ensures { IfOk result (λ batch. batch ≡ frames_offered port.0 self.now) }
+    {
+        match ring_at(&self.ports, port, Side::Tx) {
+            Some(ring) => gather_offered(alloc, &self.hold, ring),
+            None => unreachable!(),
+        }
+    }
+
+    /// The indices of the buffers that a receive sync gives back, for a push that no check refuses.
+    pub fn back(&self, alloc: Global, port: PortId) -> Result<Vec<u32>, NoMemory>
+        requires ring { IsSome (ring_at Rx self.now port.0) }
+        requires passes { refusal_at Rx port.0 self.now ≡ None }
+        ensures { IfOk result (λ names. names.items ≡ back_on port.0 self.now) }
+    {
+        match ring_at(&self.ports, port, Side::Rx) {
+            Some(ring) => gather_names(alloc, ring),
             None => unreachable!(),
         }
     }

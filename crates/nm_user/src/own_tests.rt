@@ -5,7 +5,7 @@ ghost use Rattle.nm_region.specs.Buffers.{indices_of};
 
 use crate::{OwnSide, SlotPlace};
 use nm_region::{Buf, Region};
-use nm_types::{Name, PortId, Side, Slot, SlotWrite, SyncFault};
+use nm_types::{Batch, Name, PortId, Side, Slot, SlotWrite, SyncFault};
 use std::alloc::Global;
 use std::process::Abort;
 use std::test::Fail;
@@ -248,8 +248,27 @@ fn link(rt: &impl Abort, own: &mut OwnSide) {
     assert!(rt; starts_with(own, 5, &[1, 2]) && own.bytes(2).is_none());
 }
 
+/// The frames that are offered to a pipe, if no check refuses the push.
+fn offers(rt: &impl Abort, own: &mut OwnSide, alloc: Global) -> Option<Batch> {
+    assert!(rt; own.ring(PORT, Side::Tx).is_some());
+    match own.check(PORT, Side::Tx) {
+        Ok(()) => own.offers(alloc, PORT).ok(),
+        Err(_) => None,
+    }
+}
+
+/// The number of buffers that a receive sync gives back, if no check refuses it.
+fn back_count(rt: &impl Abort, own: &mut OwnSide, alloc: Global) -> Option<usize> {
+    assert!(rt; own.ring(PORT, Side::Rx).is_some());
+    match own.check(PORT, Side::Rx) {
+        Ok(()) => own.back(alloc, PORT).ok().map(|names| names.len()),
+        Err(_) => None,
+    }
+}
+
 /// A frame is offered to a peer that is gone: its slot stays pushed, and its buffer cannot be named.
-fn offer(rt: &impl Abort, own: &mut OwnSide) {
+/// It is offered again with the next one.
+fn offer(rt: &impl Abort, own: &mut OwnSide, alloc: Global) {
     own.put_frame(PORT, &FRAME);
     assert!(rt; own.ring(PORT, Side::Tx).is_some());
     match own.check(PORT, Side::Tx) {
@@ -261,6 +280,16 @@ fn offer(rt: &impl Abort, own: &mut OwnSide) {
     assert!(rt; own.bytes(5).is_none() && own.bytes(3).is_some());
     own.reset(PORT, Side::Tx);
     assert!(rt; slot_at(own, 0).is_none());
+    own.put_frame(PORT, &FRAME[..7]);
+    match offers(rt, own, alloc) {
+        Some(batch) => {
+            assert_eq!(rt; batch.len(), 2);
+            assert!(rt; batch.frame(0) == FRAME.as_slice());
+            assert!(rt; batch.frame(1) == &FRAME[..7]);
+        }
+        None => panic!(rt; "no frames"),
+    }
+    assert_eq!(rt; back_count(rt, own, alloc), Some(0));
 }
 
 /// Puts buffers into a vector, in order.
@@ -299,7 +328,7 @@ fn play(
     fill(rt, own, alloc);
     exchange(rt, own);
     link(rt, own);
-    offer(rt, own);
+    offer(rt, own, alloc);
 }
 
 /// Closes the port, and then the own side. The port's buffers come in the order of its places.

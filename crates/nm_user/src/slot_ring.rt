@@ -1,5 +1,5 @@
 ghost use Rattle.std.specs.Prelude.{ℕ, ◌≡◌, ◌<◌, ◌≤◌, ◌++◌, ◌∷◌, [], None, Some, IfSome, IfOk};
-ghost use Rattle.std.specs.Prelude.{option_map, drop, length, map, true};
+ghost use Rattle.std.specs.Prelude.{option_map, drop, length, map, true, ◌+◌};
 ghost use Rattle.std.specs.Option.{option_copied};
 ghost use Rattle.nm_types.specs.Positions.{IsRing, IsRingSize, is_user_slot, opened_tx};
 ghost use Rattle.nm_types.specs.Positions.{opened_rx};
@@ -114,14 +114,21 @@ impl SlotRing {
         ((at as u64 + 1) % self.ring.size() as u64) as u32
     }
 
+    /// The slot at a position, a blank one if it is no slot of the ring.
+    pub(crate) fn any_slot(&self, at: u32) -> Slot
+        ensures { result ≡ slot_at self.now at }
+    {
+        match self.slots.get(self.index_of(at)) {
+            Some(slot) => *slot,
+            None => BLANK,
+        }
+    }
+
     /// The slot at the head, a blank one if the head is no slot of the ring.
     pub(crate) fn head_slot(&self) -> Slot
         ensures { result ≡ slot_at self.now self.now.ring.head }
     {
-        match self.slots.get(self.index_of(self.ring.head())) {
-            Some(slot) => *slot,
-            None => BLANK,
-        }
+        self.any_slot(self.ring.head())
     }
 
     /// Writes the slot at the head; does nothing if the head is no slot of the ring.
@@ -224,6 +231,21 @@ impl SlotRing {
     {
         let (first, _) = self.ring.user_range();
         (first, dist(self.ring.size(), first, self.ring.head()))
+    }
+
+    /// The first of the slots that a put at the ring's head offers, and the number of them: those
+    /// behind the tail that are still pushed, and those pushed now.
+    pub(crate) fn offered(&self) -> (u32, u32)
+        requires { self.now.ring.head < self.now.ring.size }
+        ensures first { result.0 ≡ step_on self.now.ring.size self.now.ring.last_tail 1 }
+        ensures count { result.1
+            ≡ dist self.now.ring.size result.0 self.now.ring.accepted_head
+            + dist self.now.ring.size self.now.ring.accepted_head self.now.ring.head }
+        ensures slots { IsRingSlots self.now }
+    {
+        let (accepted, pushed) = self.pushed();
+        let first = self.next(self.ring.tail());
+        (first, dist(self.ring.size(), first, accepted) + pushed)
     }
 
     /// Moves the tail of a transmit ring on, past slots of the kernel side.
