@@ -13,3 +13,4 @@ pub mod OpenRefusals
 pub mod MonitorWants
 pub mod PortLines
 pub mod ReadMoves
+pub mod Dones

@@ -1,5 +1,5 @@
 -- A book whose parts change as a step says is a book with one entry more.
-use Rattle.std.proofs.Common.{ℕ, Bool, true, false, List, [], ◌∷◌, ◌++◌, ◌≡◌, ◌<◌, ◌+◌, ◌^◌, length, map, Some, Result, Ok, Err, OnOk, OnErr, refl, sym, ◌∙◌, ap, subst, arith}
+use Rattle.std.proofs.Common.{ℕ, Bool, true, false, List, [], ◌∷◌, ◌++◌, ◌≡◌, ◌≤◌, ◌<◌, ◌+◌, ◌^◌, length, map, Some, Result, Ok, Err, OnOk, OnErr, refl, sym, ◌∙◌, ap, subst, arith}
 use Rattle.std.specs.List.{AllByRecursion as Each}
 use Rattle.nm_types.specs.declared.fault.Part.TheVariants.{Entries, Bytes}
 use Rattle.nm_types.specs.declared.fault.StepFault.{StepFault}
@@ -209,3 +209,12 @@ entries-few b k =
     let room = within.0 in
     let few = k.few in
     omega (arith, room, few)
+
+-- A step that wants no room was promised it.
+pub owed-promised : (b : Inside) (ask : Ask) (made : Outcome) → IsBook b → step (before b) ask ≡ Some made → made.want ≡ 0 → 1 + room_back made.reply ≤ b.history.promised
+owed-promised b ask made k is none =
+    let pool = b.pool.buffers in
+    let h = b.history.entries in
+    let law = room-promised pool h (entry_of ask made) made k.stands.legal (follows-of pool h ask made is) (step-recorded (standing_of pool h) ask made is) in
+    let owed = k.stands.promised_is in
+    omega (arith, law, owed, none)

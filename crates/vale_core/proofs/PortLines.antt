@@ -23,10 +23,10 @@ each-set P (y ∷ ys) zero x new here keeps all = let same : y ≡ x = cc in (ke
 each-set P (y ∷ ys) (suc place) x new here keeps all = (all.0, each-set P ys place x new here keeps all.1)
 
 -- the buffers of each lot
-abbrev IsLotOf : ℕ → HeldLot → Type 0
+abbrev pub IsLotOf : ℕ → HeldLot → Type 0
 IsLotOf region lot = AreOf region (buffers_of (gots_of lot))
 
-lots-of : (region : ℕ) (lots : List HeldLot) → AreOf region (buffers_of (held_gots lots)) → Each (IsLotOf region) lots
+pub lots-of : (region : ℕ) (lots : List HeldLot) → AreOf region (buffers_of (held_gots lots)) → Each (IsLotOf region) lots
 lots-of region [] all = tt
 lots-of region (lot ∷ lots) all =
     let both = subst (AreOf region) (map-append buffer_of (gots_of lot) (held_gots lots)) all in (
@@ -34,13 +34,13 @@ lots-of region (lot ∷ lots) all =
       lots-of region lots (each-right (λ (b : Buffer). b.region ≡ region) (buffers_of (gots_of lot)) (buffers_of (held_gots lots)) both),
     )
 
-of-lots : (region : ℕ) (lots : List HeldLot) → Each (IsLotOf region) lots → AreOf region (buffers_of (held_gots lots))
+pub of-lots : (region : ℕ) (lots : List HeldLot) → Each (IsLotOf region) lots → AreOf region (buffers_of (held_gots lots))
 of-lots region [] all = tt
 of-lots region (lot ∷ lots) all =
     subst (AreOf region) (sym (map-append buffer_of (gots_of lot) (held_gots lots)))
     (each-append (λ (b : Buffer). b.region ≡ region) (buffers_of (gots_of lot)) (buffers_of (held_gots lots)) all.0 (of-lots region lots all.1))
 
-held-of : (region : ℕ) (p : PortState) → HasBuffersOf region p → AreOf region (buffers_of (held_gots p.line.lots))
+pub held-of : (region : ℕ) (p : PortState) → HasBuffersOf region p → AreOf region (buffers_of (held_gots p.line.lots))
 held-of region p all = each-right (λ (b : Buffer). b.region ≡ region) p.line.idle (buffers_of (held_gots p.line.lots)) all
 
 pub of-synced : (region : ℕ) (back : List Buffer) (p : PortState) → AreOf region back → HasBuffersOf region p → HasBuffersOf region (with_line (given_by_sync back p.line) p)

@@ -5,6 +5,7 @@
 
 mod book;
 mod coming;
+mod completing;
 mod granting;
 mod monitored;
 mod monitoring;
