@@ -7,3 +7,4 @@ pub mod OpenAnswers
 pub mod OpenParts
 pub mod Monitored
 pub mod Reading
+pub mod SwitchTables
