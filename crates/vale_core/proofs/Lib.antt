@@ -14,3 +14,5 @@ pub mod MonitorWants
 pub mod PortLines
 pub mod ReadMoves
 pub mod Dones
+pub mod Owing
+pub mod Leaves

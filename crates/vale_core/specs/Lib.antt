@@ -8,3 +8,4 @@ pub mod OpenParts
 pub mod Monitored
 pub mod Reading
 pub mod SwitchTables
+pub mod Sessions

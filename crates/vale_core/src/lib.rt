@@ -12,6 +12,7 @@ mod monitoring;
 mod offers;
 mod opening;
 mod reading;
+mod leaving;
 mod tables;
 
 pub use book::Book;
