@@ -16,3 +16,6 @@ pub mod ReadMoves
 pub mod Dones
 pub mod Owing
 pub mod Leaves
+pub mod Found
+pub mod Notes
+pub mod Telling

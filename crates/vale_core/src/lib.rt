@@ -13,6 +13,7 @@ mod offers;
 mod opening;
 mod reading;
 mod leaving;
+mod noting;
 mod tables;
 
 pub use book::Book;
