@@ -19,3 +19,5 @@ pub mod Leaves
 pub mod Found
 pub mod Notes
 pub mod Telling
+pub mod SwitchTables
+pub mod Shuts

@@ -1,7 +1,7 @@
 -- Room was promised for an ask that wants none.
 use Rattle.std.proofs.Common.{◌≡◌, ◌<◌, Some, refl, arith}
 use Rattle.vale_entry.specs.declared.entry.Ask.{Ask}
-use Rattle.vale_entry.specs.Legal.{Outcome, step, standing_of, Follows}
+use Rattle.vale_entry.specs.Legal.{Outcome, step, Follows}
 use Rattle.vale_entry.proofs.HistoryLaws.{room-promised}
 use Rattle.vale_core.specs.declared.book.Book.TheInside.{Inside}
 use Rattle.vale_core.specs.BookView.{IsBook}

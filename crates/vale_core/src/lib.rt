@@ -14,6 +14,7 @@ mod opening;
 mod reading;
 mod leaving;
 mod noting;
+mod shutting;
 mod tables;
 
 pub use book::Book;
