@@ -21,3 +21,4 @@ pub mod Notes
 pub mod Telling
 pub mod SwitchTables
 pub mod Shuts
+pub mod WatchMoves

@@ -9,3 +9,5 @@ pub mod Monitored
 pub mod Reading
 pub mod SwitchTables
 pub mod Sessions
+pub mod WatchAnswers
+pub mod WatchSteps

@@ -16,6 +16,7 @@ mod leaving;
 mod noting;
 mod shutting;
 mod tables;
+mod watching;
 
 pub use book::Book;
 pub use granting::Granted;
