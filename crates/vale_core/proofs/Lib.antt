@@ -22,3 +22,4 @@ pub mod Telling
 pub mod SwitchTables
 pub mod Shuts
 pub mod WatchMoves
+pub mod Closes

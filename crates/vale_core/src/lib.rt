@@ -4,6 +4,7 @@
 #![tactic(auto)]
 
 mod book;
+mod closing;
 mod coming;
 mod completing;
 mod granting;
