@@ -42,7 +42,9 @@ pub struct Opening {
 /// A port of a switch, an end of a pipe or a monitor, with the kernel side of its receive ring.
 /// It cannot be dropped: `close` gives its buffers back.
 ///
-/// `out` counts the buffers that syncs handed out and that have not come back.
+/// `out` counts the buffers that syncs handed out and that have not come back. `numbers` is empty: it
+/// is memory for the numbers of the buffers that the session holds for the port, which `close` gives
+/// out.
 pub struct Port {
     id: PortId,
     session: SessionId,
@@ -52,6 +54,7 @@ pub struct Port {
     shutting: bool,
     out: u32,
     line: Line,
+    numbers: Vec<u32>,
 }
 
 impl Model for Port {
@@ -59,11 +62,11 @@ impl Model for Port {
 
     ghost Value = { PortState };
 
-    ghost use Rattle.vale_port.specs.Stored.{state_of, IsCounted};
+    ghost use Rattle.vale_port.specs.Stored.{state_of, IsStored};
 
     ghost view = { state_of };
 
-    ghost invariant = { IsCounted };
+    ghost invariant = { IsStored };
 }
 
 impl Port {
@@ -82,6 +85,10 @@ impl Port {
             opening.name opening.tx opening.extra (indices_of bufs.items)) port) }
         ensures err { IfErr result (λ fault. fault.1.items ≡ bufs.items) }
     {
+        let most = opening.tx as usize + opening.extra as usize + bufs.len();
+        let Ok(numbers) = Vec::with_capacity(alloc, most) else {
+            return Err((NoMemory, bufs));
+        };
         match Line::new(alloc, bufs) {
             Ok(line) => Ok(Port {
                 id: opening.id,
@@ -92,6 +99,7 @@ impl Port {
                 shutting: false,
                 out: 0,
                 line,
+                numbers,
             }),
             Err(fault) => Err(fault),
         }
@@ -290,14 +298,17 @@ impl Port {
     }
 
     /// Gives back the buffers of the kernel side of its receive ring, in the vector that the port
-    /// was opened with, and the number of frames that no sync handed out.
-    pub fn close(self) -> (Vec<Buf>, u32)
+    /// was opened with, the number of frames that no sync handed out, and an empty vector with room
+    /// for the numbers of the buffers that the session holds for the port.
+    pub fn close(self) -> (Vec<Buf>, u32, Vec<u32>)
         requires { out_count (leases_of self.line.lots) ≡ 0 }
         ensures buffers { result.0.items ≡ self.line.idle ++ buffers_of (held_gots self.line.lots) }
         ensures held { (seat : Seat) → IsSeatOf seat self
             → indices_of result.0.items ≡ buffers_at_port seat.held }
         ensures unread { (seat : Seat) → IsSeatOf seat self → result.1 ≡ unread_count seat.port }
         ensures unread_here { result.1 ≡ length (frames_in (held_gots self.line.lots)) }
+        ensures none { result.2.items ≡ [] }
+        ensures room { due_of_state self ≤ vec_capacity result.2 }
     {
         let Port {
             id: _,
@@ -308,7 +319,9 @@ impl Port {
             shutting: _,
             out: _,
             line,
+            numbers,
         } = self;
-        line.clear()
+        let (bufs, unread) = line.clear();
+        (bufs, unread, numbers)
     }
 }

@@ -14,7 +14,7 @@ ghost use Rattle.vale_entry.specs.Holdings.{buffers_at_port};
 ghost use Rattle.vale_port.specs.Kept.{bytes_of};
 ghost use Rattle.vale_port.specs.Laws.{with_line, line_after_put};
 ghost use Rattle.vale_port.specs.Lists.{ChangesSeat, ChangesSeatIf, OfSeat, OfState};
-ghost use Rattle.vale_port.specs.Ports.{IsLeaseFor, IsFilledFor, Gives, sizes_of};
+ghost use Rattle.vale_port.specs.Ports.{due_of_state, IsLeaseFor, IsFilledFor, Gives, sizes_of};
 ghost use Rattle.vale_port.specs.Seat.{given_frames, seat_given, seat_done, seat_synced, seat_put, seat_shut};
 
 use crate::port::Port;
@@ -145,9 +145,10 @@ pub fn shut_at(ports: &mut Vec<Port>, place: usize)
     ports[place].shut();
 }
 
-/// Takes the port at a place out of the list, and gives back the buffers of its kernel side and the
-/// number of frames that no sync handed out.
-pub fn close_at(ports: &mut Vec<Port>, place: usize) -> (Vec<Buf>, u32)
+/// Takes the port at a place out of the list, and gives back the buffers of its kernel side, the
+/// number of frames that no sync handed out, and an empty vector with room for the numbers of the
+/// buffers that the session holds for the port.
+pub fn close_at(ports: &mut Vec<Port>, place: usize) -> (Vec<Buf>, u32, Vec<u32>)
     requires place { place < length ports.old.items }
     requires done { OfState (λ p. out_count (leases_of p.line.lots) ≡ 0) ports.old.items place }
     ensures ports { ports.new.items ≡ remove ports.old.items place }
@@ -158,6 +159,8 @@ pub fn close_at(ports: &mut Vec<Port>, place: usize) -> (Vec<Buf>, u32)
     ensures unread { OfSeat (λ seat. result.1 ≡ unread_count seat.port) ports.old.items place }
     ensures unread_here { OfState (λ p. result.1
         ≡ length (frames_in (held_gots p.line.lots))) ports.old.items place }
+    ensures none { result.2.items ≡ [] }
+    ensures room { OfState (λ p. due_of_state p ≤ vec_capacity result.2) ports.old.items place }
     ensures capacity { vec_capacity ports.new ≡ vec_capacity ports.old }
 {
     ports.remove(place).close()

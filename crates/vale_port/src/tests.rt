@@ -287,8 +287,8 @@ fn close_there(
     ensures { length ports.new.items + 1 ≡ length ports.old.items }
 {
     assert!(rt; ports[at].leases_out() == 0);
-    let (bufs, count) = close_at(ports, at);
-    assert!(rt; count == unread && bufs.len() == indices.len());
+    let (bufs, count, numbers) = close_at(ports, at);
+    assert!(rt; count == unread && bufs.len() == indices.len() && numbers.is_empty());
     for i in 0..bufs.len() {
         assert!(rt; bufs[i].index() == indices[i], "buffer {i}");
     }

@@ -1,7 +1,7 @@
-use Rattle.std.proofs.Common.{◌++◌, ◌≡◌, get_or, length, rules}
+use Rattle.std.proofs.Common.{vec_capacity, ◌++◌, ◌≡◌, ◌≤◌, get_or, length, rules}
 use Rattle.vale_line.specs.Gots.{buffers_of, frames_in}
 use Rattle.vale_line.specs.Lines.{held_gots}
-use Rattle.vale_port.specs.Ports.{PortState}
+use Rattle.vale_port.specs.Ports.{PortState, due_of_state}
 use Rattle.nm_region.specs.Buffers.{indices_of}
 use Rattle.vale_entry.specs.Closing.{unread_count}
 use Rattle.vale_entry.specs.Holdings.{buffers_at_port}
@@ -28,3 +28,8 @@ pub returns-clause-unread_here : goal.returns-clause-unread_here
 returns-clause-unread_here c =
     let here : c.remove.result ≡ get_or c.args.ports.now.items c.args.place c.remove.result = search rules in
     state-of (λ (p : PortState). c.close.result.1 ≡ length (frames_in (held_gots p.line.lots))) c.args.ports.now.items c.args.place c.remove.result here c.close.ensures.unread_here
+
+pub returns-clause-room : goal.returns-clause-room
+returns-clause-room c =
+    let here : c.remove.result ≡ get_or c.args.ports.now.items c.args.place c.remove.result = search rules in
+    state-of (λ (p : PortState). due_of_state p ≤ vec_capacity c.close.result.2) c.args.ports.now.items c.args.place c.remove.result here c.close.ensures.room

@@ -12,11 +12,11 @@ returns-clause-held c = λ seat is.
     let p : PortState = state_of c.self.inside in
     let was : IsSeatOf seat p = subst (IsSeatOf seat) (sym c.self.view_is) is in
     let none : out_count (leases_of c.self.inside.line.lots) ≡ 0 = ap (λ (q : PortState). out_count (leases_of q.line.lots)) c.self.view_is ∙ c.requires in
-    ap indices_of c.clear.ensures.buffers ∙ (clear_gives_all seat p was c.clear.ensures.was none).0
+    ap indices_of c.clear-bufs.ensures.buffers ∙ (clear_gives_all seat p was c.clear-bufs.ensures.was none).0
 
 pub returns-clause-unread : goal.returns-clause-unread
 returns-clause-unread c = λ seat is.
     let p : PortState = state_of c.self.inside in
     let was : IsSeatOf seat p = subst (IsSeatOf seat) (sym c.self.view_is) is in
     let none : out_count (leases_of c.self.inside.line.lots) ≡ 0 = ap (λ (q : PortState). out_count (leases_of q.line.lots)) c.self.view_is ∙ c.requires in
-    c.clear.ensures.unread ∙ (clear_gives_all seat p was c.clear.ensures.was none).1
+    c.clear-bufs.ensures.unread ∙ (clear_gives_all seat p was c.clear-bufs.ensures.was none).1

@@ -1,4 +1,4 @@
-use Rattle.std.proofs.Common.{◌≡◌, ◌≤◌, List, ap, sym, ◌∙◌, subst, length, arith, rules}
+use Rattle.std.proofs.Common.{ℕ, ◌+◌, vec_capacity, ◌≡◌, ◌≤◌, List, ap, sym, ◌∙◌, subst, length, arith, rules}
 use Rattle.nm_region.specs.Buffers.{indices_of}
 use Rattle.vale_line.specs.declared.got.Got.{Got}
 use Rattle.vale_line.specs.Lines.{LineState, out_of}
@@ -18,9 +18,15 @@ invariant_of-self c =
     let back = c.args.back.items in
     let count : c.len.result ≡ length back = search rules in
     let ready = c.ready-ready.ensures.gots in
-    let out = c.self.invariant in
+    let was = c.self.invariant in
+    let out = was.out_is in
     let next = out-synced line back c.sync.ensures.was (few-back c) in
-    omega (arith, count, ready, out, next) ∙ ap out_of (sym c.sync.ensures.line)
+    let most : ℕ → Type 0 = λ size. c.self.inside.tx + c.self.inside.extra + size ≤ vec_capacity c.self.inside.numbers in
+    record {
+      out_is = omega (arith, count, ready, out, next) ∙ ap out_of (sym c.sync.ensures.line);
+      none = was.none;
+      room = subst most (sym (ap (λ (l : LineState). l.size) c.sync.ensures.line)) was.room;
+    }
 
 pub returns-clause-seat : goal.returns-clause-seat
 returns-clause-seat c = λ seat is.
