@@ -23,3 +23,5 @@ pub mod SwitchTables
 pub mod Shuts
 pub mod WatchMoves
 pub mod Closes
+pub mod GivenBack
+pub mod Finishes
