@@ -1,5 +1,5 @@
 -- A session leaves.
-use Rattle.std.proofs.Common.{ℕ, Bool, true, false, cond, not, List, [], ◌∷◌, ◌++◌, ◌≡◌, ◌+◌, ◌==◌, map, filter, Some, refl, ◌∙◌, ap, arith}
+use Rattle.std.proofs.Common.{ℕ, Bool, true, false, cond, List, [], ◌∷◌, ◌++◌, ◌≡◌, ◌+◌, map, Some, refl, ◌∙◌, ap, arith}
 use Rattle.nm_types.specs.declared.id.SessionId.{SessionId}
 use Rattle.vale_entry.specs.declared.entry.Ask.TheVariants.{Leave}
 use Rattle.vale_entry.specs.declared.entry.Reply.TheVariants.{Made}
@@ -11,7 +11,6 @@ use Rattle.vale_core.specs.BookView.{recorded, parts_in, number_of_session, IsBo
 use Rattle.vale_core.specs.Recorded.{HasRoomFor}
 use Rattle.vale_core.specs.Sessions.{is_other_user, users_without}
 use Rattle.vale_core.proofs.Moves.{Moves, before, free-same, parts-stay}
-use Rattle.vale_core.proofs.Rooms.{room-owed}
 
 pub leave-made : (s : Standing) (session : SessionId) → IsEnabled s (Leave session) → step s (Leave session) ≡ Some (leave_step s session.0)
 leave-made s session enabled = rw enabled refl

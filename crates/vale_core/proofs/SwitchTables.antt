@@ -1,18 +1,14 @@
 -- The table of a switch stands at its place, as the parts see it.
-use Rattle.std.proofs.Common.{ℕ, zero, suc, Bool, true, false, List, [], ◌∷◌, ◌≡◌, ◌<◌, ◌||◌, length, map, Some, None, slice_get, get_or, refl, ◌∙◌, ap, arith}
+use Rattle.std.proofs.Common.{ℕ, Bool, true, false, List, [], ◌∷◌, ◌≡◌, ◌<◌, ◌||◌, length, map, Some, None, slice_get, get_or, refl, ◌∙◌, ap}
 use Rattle.std.specs.Prelude.{position}
 use Rattle.std.specs.List.{list_any}
 use Rattle.std.proofs.lemmas.List.Quantifiers.{position-Some}
+use Rattle.std.proofs.lemmas.Option.{slice_get-get_or}
 use Rattle.vale_names.proofs.SwitchLemmas.{position_none}
 use Rattle.vale_parts.specs.SwitchTables.{has_table}
 use Rattle.vale_core.specs.declared.tables.SwitchTable.{SwitchTable}
 use Rattle.vale_core.specs.BookView.{table_seen}
 use Rattle.vale_core.specs.SwitchTables.{is_for_switch}
-
-pub at-get : {X : Type 0} (xs : List X) (place : ℕ) (d : X) → place < length xs → slice_get xs place ≡ Some (get_or xs place d)
-at-get [] place d within = absurd (omega (arith, within))
-at-get (x ∷ xs) zero d within = refl
-at-get (x ∷ xs) (suc place) d within = at-get xs place d (omega (arith, within))
 
 -- the table that a look-up finds
 pub record IsTableAt (switch : List ℕ) (tables : List SwitchTable) (place : ℕ) : Type 0 where
@@ -25,7 +21,7 @@ pub table-at : (switch : List ℕ) (tables : List SwitchTable) (place : ℕ) →
 table-at switch [] place is = absurd cc
 table-at switch (t ∷ ts) place is =
     let at = position-Some (is_for_switch switch) (t ∷ ts) place t is in
-    record { table = get_or (t ∷ ts) place t; within = at.0; here = at-get (t ∷ ts) place t at.0; its = at.1 }
+    record { table = get_or (t ∷ ts) place t; within = at.0; here = slice_get-get_or (t ∷ ts) place t at.0; its = at.1 }
 
 -- a switch has a table where the parts have one of it
 pub seen-any : (switch : List ℕ) (tables : List SwitchTable) → has_table switch (map table_seen tables) ≡ list_any (is_for_switch switch) tables

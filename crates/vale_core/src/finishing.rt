@@ -1,4 +1,5 @@
-ghost use Rattle.std.specs.Prelude.{◌≡◌, ◌<◌, ◌≤◌, [], length, Some, vec_capacity, OnOk, OnErr, IfOk, IfErr};
+ghost use Rattle.std.specs.Prelude.{◌≡◌, ◌<◌, ◌≤◌, [], length, Some, vec_capacity};
+ghost use Rattle.std.specs.Prelude.{OnOk, OnErr, IfOk, IfErr};
 ghost use Rattle.nm_region.specs.Buffers.{indices_of};
 ghost use Rattle.vale_lease.specs.Leases.{out_count};
 ghost use Rattle.vale_line.specs.Lines.{leases_of};
@@ -48,16 +49,24 @@ fn indices(mut numbers: Vec<u32>, bufs: &[Buf]) -> Vec<u32>
 }
 
 impl Book {
-    /// The port goes, and its buffers are free again, with those that its session brings back for it.
-    /// Answers how many frames nobody read. Where a lease of the port is not done it waits, and the
-    /// buffers are handed back.
+    /// The port goes, and its buffers are free again, with those that its session brings back for
+    /// it. Answers how many frames nobody read. Where a lease of the port is not done it waits, and
+    /// the buffers are handed back.
     pub fn finish(&mut self, port: PortId, bufs: Vec<Buf>, chain: Chain) -> Result<u32, LeasesOut>
-        requires enabled { IsEnabled (standing self.old) (asks.Finish port (indices_of bufs.items) chain) }
+        requires enabled { IsEnabled (standing self.old)
+            (asks.Finish port (indices_of bufs.items) chain) }
         requires region { AreOf self.old.region bufs.items }
-        ensures made { OnOk result (self.new ≡ after_ask self.old (asks.Finish port (indices_of bufs.items) chain)) }
-        ensures said { IfOk result (λ count. reply_to (standing self.old) (asks.Finish port (indices_of bufs.items) chain) ≡ Some (replies.Unread count)) }
-        ensures room { OnOk result (HasRoom self.old (asks.Finish port (indices_of bufs.items) chain)) }
-        ensures waits { IfErr result (λ out. (0 < out.n) × (reply_to (standing self.old) (asks.Finish port (indices_of bufs.items) chain) ≡ Some (replies.LeasesOut out.n)) × (out.bufs.items ≡ bufs.items)) }
+        ensures made { OnOk result (self.new
+            ≡ after_ask self.old (asks.Finish port (indices_of bufs.items) chain)) }
+        ensures said { IfOk result (λ count.
+            reply_to (standing self.old) (asks.Finish port (indices_of bufs.items) chain)
+            ≡ Some (replies.Unread count)) }
+        ensures room { OnOk result
+            (HasRoom self.old (asks.Finish port (indices_of bufs.items) chain)) }
+        ensures waits { IfErr result (λ out. (0 < out.n)
+            × (reply_to (standing self.old) (asks.Finish port (indices_of bufs.items) chain)
+            ≡ Some (replies.LeasesOut out.n))
+            × (out.bufs.items ≡ bufs.items)) }
         ensures err { OnErr result (self.new ≡ self.old) }
     {
         let Some(place) = shutting_port(&self.ports, port) else {

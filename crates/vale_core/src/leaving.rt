@@ -12,7 +12,11 @@ use vale_entry::{Ask, Entry, History, Reply};
 /// Records that a session leaves.
 fn leave(history: &mut History, sessions: &mut Vec<SessionId>, session: SessionId)
     requires { 0 < history.old.promised }
-    ensures entries { history.new.entries ≡ history.old.entries ++ (record { session = session; ask = asks.Leave session; reply = replies.Made }) ∷ [] }
+    ensures entries { history.new.entries ≡ history.old.entries ++ (record {
+      session = session;
+      ask = asks.Leave session;
+      reply = replies.Made;
+    }) ∷ [] }
     ensures promised { history.new.promised + 1 ≡ history.old.promised }
     ensures limits { history.new.limits ≡ history.old.limits }
     ensures sessions { sessions.new.items ≡ users_without session.0 sessions.old.items }

@@ -1,4 +1,5 @@
-ghost use Rattle.std.specs.Prelude.{◌≡◌, ◌<◌, [], ◌∷◌, ◌++◌, length, Some, OnOk, OnErr, IfOk, IfErr};
+ghost use Rattle.std.specs.Prelude.{◌≡◌, ◌<◌, [], ◌∷◌, ◌++◌, length, Some};
+ghost use Rattle.std.specs.Prelude.{OnOk, OnErr, IfOk, IfErr};
 ghost use Rattle.vale_entry.specs.declared.entry.Ask.TheVariants as asks;
 ghost use Rattle.vale_entry.specs.declared.entry.Reply.TheVariants as replies;
 ghost use Rattle.vale_entry.specs.Legal.{IsEnabled, reply_to};
@@ -43,7 +44,11 @@ fn note_counts(
     counts: Counts,
 ) -> Result<Counts, StepFault>
     ensures counts { IfOk result (λ told. told ≡ counts) }
-    ensures entries { OnOk result (history.new.entries ≡ history.old.entries ++ (record { session = session; ask = asks.Stat port; reply = replies.Counted counts }) ∷ []) }
+    ensures entries { OnOk result (history.new.entries ≡ history.old.entries ++ (record {
+      session = session;
+      ask = asks.Stat port;
+      reply = replies.Counted counts;
+    }) ∷ []) }
     ensures promised { history.new.promised ≡ history.old.promised }
     ensures limits { history.new.limits ≡ history.old.limits }
     ensures fits { OnOk result (Fits history.old 1 0) }
@@ -66,7 +71,8 @@ impl Book {
     pub fn stats(&mut self, port: PortId) -> Result<Counts, StepFault>
         requires { IsEnabled (standing self.old) (asks.Stat port) }
         ensures made { OnOk result (self.new ≡ after_ask self.old (asks.Stat port)) }
-        ensures said { IfOk result (λ counts. reply_to (standing self.old) (asks.Stat port) ≡ Some (replies.Counted counts)) }
+        ensures said { IfOk result (λ counts.
+            reply_to (standing self.old) (asks.Stat port) ≡ Some (replies.Counted counts)) }
         ensures room { OnOk result (HasRoom self.old (asks.Stat port)) }
         ensures full { IfErr result (IsRefusal self.old (asks.Stat port)) }
         ensures err { OnErr result (self.new ≡ self.old) }
@@ -84,7 +90,8 @@ impl Book {
     /// Records that a sync of this side of the port was refused, and the ring reset.
     pub fn reset(&mut self, port: PortId, side: Side, fault: &SyncFault) -> Result<(), StepFault>
         requires { IsEnabled (standing self.old) (asks.Reset port side fault.now) }
-        ensures made { OnOk result (self.new ≡ after_ask self.old (asks.Reset port side fault.now)) }
+        ensures made { OnOk result
+            (self.new ≡ after_ask self.old (asks.Reset port side fault.now)) }
         ensures room { OnOk result (HasRoom self.old (asks.Reset port side fault.now)) }
         ensures full { IfErr result (IsRefusal self.old (asks.Reset port side fault.now)) }
         ensures err { OnErr result (self.new ≡ self.old) }

@@ -32,8 +32,10 @@ fn forget_at(tables: &mut Vec<SwitchTable>, place: usize, port: PortId)
 /// Empties what the table of the name's switch has learned of the port, if it names a port of a
 /// switch.
 fn forget_on_switch(tables: &mut Vec<SwitchTable>, name: &Name, port: PortId)
-    requires there { is_switch_port_name name.now ≡ true → IsSome (position (is_for_switch (switch_of name.now)) tables.old.items) }
-    ensures switch { is_switch_port_name name.now ≡ true → IsForgottenOn (switch_of name.now) port tables.old.items tables.new.items }
+    requires there { is_switch_port_name name.now ≡ true
+        → IsSome (position (is_for_switch (switch_of name.now)) tables.old.items) }
+    ensures switch { is_switch_port_name name.now ≡ true
+        → IsForgottenOn (switch_of name.now) port tables.old.items tables.new.items }
     ensures other { is_switch_port_name name.now ≡ false → tables.new.items ≡ tables.old.items }
 {
     if name.is_switch_port() {

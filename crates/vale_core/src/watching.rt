@@ -55,7 +55,9 @@ fn store_answer(
 )
     requires promised { 0 < history.old.promised }
     requires bytes { (reply : Answer) → bytes_of ask reply ≡ 0 }
-    ensures entries { (reply : Answer) → reply_of_watch answer.now ≡ Some reply → history.new.entries ≡ history.old.entries ++ (record { session = session; ask = ask; reply = reply }) ∷ [] }
+    ensures entries { (reply : Answer) → reply_of_watch answer.now ≡ Some reply
+        → history.new.entries ≡ history.old.entries
+        ++ (record { session = session; ask = ask; reply = reply }) ∷ [] }
     ensures none { reply_of_watch answer.now ≡ None → history.new.entries ≡ history.old.entries }
     ensures promised { history.new.promised + 1 ≡ history.old.promised }
     ensures limits { history.new.limits ≡ history.old.limits }
@@ -80,7 +82,12 @@ fn watch(
     sides: Sides,
     found: Option<PortId>,
 ) -> Result<PortId, WatchFault>
-    ensures entries { (reply : Answer) → reply_of_watch result ≡ Some reply → (history.new.entries ≡ history.old.entries ++ (record { session = session; ask = asks.Watch monitor target.now sides; reply = reply }) ∷ []) × Fits history.old 1 0 }
+    ensures entries { (reply : Answer) → reply_of_watch result ≡ Some reply
+        → (history.new.entries ≡ history.old.entries ++ (record {
+          session = session;
+          ask = asks.Watch monitor target.now sides;
+          reply = reply;
+        }) ∷ []) × Fits history.old 1 0 }
     ensures none { reply_of_watch result ≡ None → history.new.entries ≡ history.old.entries }
     ensures promised { history.new.promised ≡ history.old.promised }
     ensures limits { history.new.limits ≡ history.old.limits }
@@ -110,8 +117,10 @@ impl Book {
         sides: Sides,
     ) -> Result<PortId, WatchFault>
         requires { IsEnabled (standing self.old) (asks.Watch monitor target.now sides) }
-        ensures watched { IfOk result (λ port. IsAnswered self.old self.new (asks.Watch monitor target.now sides) (replies.Watching port)) }
-        ensures unwatched { IfErr result (IsUnwatched self.old self.new (asks.Watch monitor target.now sides)) }
+        ensures watched { IfOk result (λ port. IsAnswered self.old self.new
+            (asks.Watch monitor target.now sides) (replies.Watching port)) }
+        ensures unwatched { IfErr result
+            (IsUnwatched self.old self.new (asks.Watch monitor target.now sides)) }
     {
         let Some(place) = open_port(&self.ports, monitor) else {
             unreachable!()
