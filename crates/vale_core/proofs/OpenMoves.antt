@@ -40,7 +40,7 @@ use Rattle.vale_parts.proofs.NameRoom.{openings_undone, openings_room}
 use Rattle.vale_parts.proofs.CountsKept.{next_not, as_many}
 use Rattle.vale_core.specs.declared.book.Book.TheInside.{Inside}
 use Rattle.vale_core.specs.BookView.{table_seen, AreOf, HasBuffersOf, IsBook}
-use Rattle.vale_core.specs.OpenParts.{name_of_state, name_of_port, StillTables, ComesOut, refusal_for, entry_for, state_for}
+use Rattle.vale_core.specs.OpenParts.{HasTableFor, name_of_state, name_of_port, StillTables, ComesOut, refusal_for, entry_for, state_for}
 use Rattle.vale_core.proofs.Moves.{Moves, before, fits-step}
 use Rattle.vale_core.proofs.Standing.{each-append, each-take, each-drop, ports-rising}
 
@@ -178,7 +178,7 @@ pub open-moves : (b next : Inside) (n : ℕ) (session : SessionId) (name : List 
     → Joins b.names (fresh_port name (port_id (n + 1))) next.names
     → next.history.entries ≡ b.history.entries ++ entry_for (opening_of n session name tx extra) rx Opened ∷ []
     → next.history.promised ≡ b.history.promised + 2 → next.history.limits ≡ b.history.limits → Fits b.history 3 0
-    → (is_switch_port_name name ≡ true → has_table (switch_of name) (map table_seen next.tables.items) ≡ true) → StillTables b.ports.items b.tables.items next.tables.items
+    → HasTableFor name next.tables.items → StillTables b.ports.items b.tables.items next.tables.items
     → next.ports.items ≡ b.ports.items ++ state_for (opening_of n session name tx extra) rx b.pool.free ∷ []
     → next.pool ≡ pool_less (tx + rx + extra) b.pool → next.tally ≡ tally_with (port_id (n + 1)) b.tally
     → next.sessions.items ≡ b.sessions.items → next.watches ≡ b.watches → next.region ≡ b.region → next.buffers ≡ b.buffers

@@ -1,5 +1,5 @@
 -- What an opening makes of the parts of a book.
-use Rattle.std.specs.Prelude.{ℕ, Bool, ◌≡◌, ◌&&◌, ◌+◌, not, List, length, take, drop, map, Option, bytes_eq}
+use Rattle.std.specs.Prelude.{ℕ, Bool, true, ◌≡◌, ◌&&◌, ◌+◌, not, List, length, take, drop, map, Option, bytes_eq}
 use Rattle.std.specs.List.{list_any}
 use Rattle.nm_types.specs.Names.{switch_of, is_switch_port_name}
 use Rattle.nm_types.specs.declared.fault.OpenFault.{OpenFault}
@@ -15,7 +15,7 @@ use Rattle.vale_entry.specs.Opening.{refusal_or_room}
 use Rattle.vale_entry.specs.Legal.{world_of}
 use Rattle.vale_port.specs.declared.port.Opening.{Opening}
 use Rattle.vale_port.specs.Ports.{PortState, opened_state}
-use Rattle.vale_parts.specs.SwitchTables.{TablesAre}
+use Rattle.vale_parts.specs.SwitchTables.{TablesAre, has_table}
 use Rattle.vale_core.specs.declared.opening.Opened.{Opened}
 use Rattle.vale_core.specs.declared.tables.SwitchTable.{SwitchTable}
 use Rattle.vale_core.specs.BookView.{table_seen}
@@ -26,6 +26,10 @@ is_port_on switch p = is_switch_port_name p.name && bytes_eq (switch_of p.name) 
 -- a table whose switch has no port
 abbrev pub is_vacant : List PortState → SwitchTable → Bool
 is_vacant ps table = not (list_any (is_port_on (switch_of table.label)) ps)
+
+-- a port of this name has its switch's table, if it is on a switch
+abbrev pub HasTableFor : List ℕ → List SwitchTable → Type 0
+HasTableFor name tables = is_switch_port_name name ≡ true → has_table (switch_of name) (map table_seen tables) ≡ true
 
 abbrev pub name_of_state : PortState → List ℕ
 name_of_state p = p.name

@@ -1,6 +1,8 @@
-ghost use Rattle.std.specs.Prelude.{ℕ, ◌≡◌, ◌+◌, ◌≤◌, true, false, [], ◌∷◌, ◌++◌, length, take, drop, map, position, None, Some, OnOk, OnErr, IfOk, IfErr, MatchResult};
+ghost use Rattle.std.specs.Prelude.{ℕ, ◌≡◌, ◌+◌, ◌≤◌, true, false, [], ◌∷◌, ◌++◌, length, take};
+ghost use Rattle.std.specs.Prelude.{drop, map, position, None, Some, OnOk, OnErr, IfOk, IfErr};
+ghost use Rattle.std.specs.Prelude.{MatchResult};
 ghost use Rattle.std.specs.List.{list_any};
-ghost use Rattle.nm_types.specs.Names.{switch_of, is_switch_port_name};
+ghost use Rattle.nm_types.specs.Names.{switch_of};
 ghost use Rattle.nm_region.specs.Buffers.{indices_of};
 ghost use Rattle.vale_names.specs.Ports.{fresh_port, Joins};
 ghost use Rattle.vale_names.specs.PortNames.{IsNames};
@@ -15,8 +17,8 @@ ghost use Rattle.vale_parts.specs.FreeLaws.{IsTakenBack};
 ghost use Rattle.vale_core.specs.BookView.{table_seen, AreOf};
 ghost use Rattle.vale_core.specs.Recorded.{standing};
 ghost use Rattle.vale_core.specs.OpenAnswers.{IsRecordedAs, IsUnopened, ByFault, IsNamed};
-ghost use Rattle.vale_core.specs.OpenParts.{is_port_on, is_vacant, StillTables, ComesOut};
-ghost use Rattle.vale_core.specs.OpenParts.{IsOpened, state_for, entry_for, refusal_for};
+ghost use Rattle.vale_core.specs.OpenParts.{is_port_on, is_vacant, HasTableFor, StillTables};
+ghost use Rattle.vale_core.specs.OpenParts.{ComesOut, IsOpened, state_for, entry_for, refusal_for};
 
 use crate::book::Book;
 use crate::tables::{SwitchTable, table_of};
@@ -29,13 +31,16 @@ use vale_learn::Table;
 use vale_names::Names;
 use vale_port::{Opening, Port};
 
-/// A port that was opened, with the buffers of its transmit ring and its extra ones. Those of its
-/// receive ring stay with the switch: they are named by their indices.
+/// A port that was opened, with the buffers that its session holds from now on. Those of its receive
+/// ring stay with the switch.
 pub struct Opened {
     /// The number of the entry that opened it.
     pub port: PortId,
+    /// The buffers for the slots of its transmit ring, in their order.
     pub tx: Vec<Buf>,
+    /// The indices of the buffers on the kernel side of its receive ring.
     pub rx: Vec<u32>,
+    /// Its extra buffers.
     pub extra: Vec<Buf>,
 }
 
@@ -48,13 +53,14 @@ struct Taken {
 
 // ---- The learning table of a switch.
 
-/// Tells whether a port is on the switch of this name's port.
+/// Tells whether the switch of this label has a port.
 fn is_used(ports: &[Port], label: &Name) -> bool
     ensures { result ≡ list_any (is_port_on (switch_of label.now)) ports.now }
 {
     ports.iter().any(|port| is_on_switch(port, label))
 }
 
+/// Tells whether the port is on the switch of this label.
 fn is_on_switch(port: &Port, label: &Name) -> bool
     ensures { result ≡ is_port_on (switch_of label.now) port.now }
 {
@@ -80,7 +86,8 @@ fn add_table(
     name: &Name,
 ) -> Result<(), NoMemory>
     requires none { has_table (switch_of name.now) (map table_seen tables.old.items) ≡ false }
-    ensures there { OnOk result (has_table (switch_of name.now) (map table_seen tables.new.items) ≡ true) }
+    ensures there { OnOk result
+        (has_table (switch_of name.now) (map table_seen tables.new.items) ≡ true) }
     ensures kept { StillTables ports.now tables.old.items tables.new.items }
 {
     match vacant_table(tables, ports) {
@@ -104,7 +111,7 @@ fn place_table(
     ports: &[Port],
     name: &Name,
 ) -> Result<(), NoMemory>
-    ensures there { OnOk result (is_switch_port_name name.now ≡ true → has_table (switch_of name.now) (map table_seen tables.new.items) ≡ true) }
+    ensures there { OnOk result (HasTableFor name.now tables.new.items) }
     ensures kept { StillTables ports.now tables.old.items tables.new.items }
 {
     if name.is_switch_port() && table_of(tables, name).is_none() {
@@ -128,14 +135,29 @@ fn give_back(pool: &mut Pool, mut bufs: Vec<Buf>)
     bufs.destroy_empty();
 }
 
+/// Makes all that were taken free again.
+fn give_all(pool: &mut Pool, taken: Taken)
+    requires { CanAllBeGiven pool.old (taken.tx.items ++ taken.rx.items ++ taken.extra.items) }
+    ensures { pool.new
+        ≡ pool_with_all (taken.tx.items ++ taken.rx.items ++ taken.extra.items) pool.old }
+{
+    let Taken { tx, rx, extra } = taken;
+    give_back(pool, tx);
+    give_back(pool, rx);
+    give_back(pool, extra);
+}
+
 /// Takes the first free buffers: for the transmit ring, for the receive ring, and as extra ones.
 fn take_all(alloc: Global, pool: &mut Pool, opening: &Opening, rx: u32) -> Result<Taken, NoMemory>
     requires back { (count : ℕ) → IsTakenBack pool.old count }
     requires enough { opening.now.tx + rx + opening.now.extra ≤ length pool.old.free }
     ensures tx { IfOk result (λ taken. taken.tx.items ≡ take opening.now.tx pool.old.free) }
-    ensures rx { IfOk result (λ taken. taken.rx.items ≡ take rx (drop opening.now.tx pool.old.free)) }
-    ensures extra { IfOk result (λ taken. taken.extra.items ≡ take opening.now.extra (drop (opening.now.tx + rx) pool.old.free)) }
-    ensures pool { OnOk result (pool.new ≡ pool_less (opening.now.tx + rx + opening.now.extra) pool.old) }
+    ensures rx { IfOk result (λ taken. taken.rx.items
+        ≡ take rx (drop opening.now.tx pool.old.free)) }
+    ensures extra { IfOk result (λ taken. taken.extra.items
+        ≡ take opening.now.extra (drop (opening.now.tx + rx) pool.old.free)) }
+    ensures pool { OnOk result
+        (pool.new ≡ pool_less (opening.now.tx + rx + opening.now.extra) pool.old) }
     ensures err { OnErr result (pool.new ≡ pool.old) }
 {
     let Ok(first) = pool.take(alloc, opening.tx) else {
@@ -173,7 +195,8 @@ fn indices(alloc: Global, bufs: &[Buf]) -> Result<Vec<u32>, NoMemory>
 /// Makes the port of an opening, or gives its buffers back.
 fn make_port(alloc: Global, opening: Opening, taken: Taken) -> Result<(Port, Opened), Taken>
     requires size { (1 ≤ length taken.rx.items) × (length taken.rx.items ≤ 1024) }
-    ensures port { IfOk result (λ made. made.0 ≡ opened_state opening.id.0 opening.session.0 opening.name opening.tx opening.extra taken.rx.items) }
+    ensures port { IfOk result (λ made. made.0 ≡ opened_state opening.id.0 opening.session.0
+        opening.name opening.tx opening.extra taken.rx.items) }
     ensures id { IfOk result (λ made. made.1.port ≡ opening.id) }
     ensures tx { IfOk result (λ made. made.1.tx.items ≡ taken.tx.items) }
     ensures rx { IfOk result (λ made. made.1.rx.items ≡ indices_of taken.rx.items) }
@@ -201,17 +224,6 @@ fn make_port(alloc: Global, opening: Opening, taken: Taken) -> Result<(Port, Ope
     }
 }
 
-/// Makes all that were taken free again.
-fn give_all(pool: &mut Pool, taken: Taken)
-    requires { CanAllBeGiven pool.old (taken.tx.items ++ taken.rx.items ++ taken.extra.items) }
-    ensures { pool.new ≡ pool_with_all (taken.tx.items ++ taken.rx.items ++ taken.extra.items) pool.old }
-{
-    let Taken { tx, rx, extra } = taken;
-    give_back(pool, tx);
-    give_back(pool, rx);
-    give_back(pool, extra);
-}
-
 /// Takes a port's buffers, and adds the port.
 fn seat_port(
     alloc: Global,
@@ -223,7 +235,8 @@ fn seat_port(
     requires back { (count : ℕ) → IsTakenBack pool.old count }
     requires enough { opening.tx + rx + opening.extra ≤ length pool.old.free }
     requires ring { (1 ≤ rx) × (rx ≤ 1024) }
-    ensures ports { OnOk result (ports.new.items ≡ ports.old.items ++ state_for opening rx pool.old.free ∷ []) }
+    ensures ports { OnOk result
+        (ports.new.items ≡ ports.old.items ++ state_for opening rx pool.old.free ∷ []) }
     ensures pool { OnOk result (pool.new ≡ pool_less (opening.tx + rx + opening.extra) pool.old) }
     ensures opened { IfOk result (IsOpened opening rx pool.old.free) }
     ensures err { OnErr result ((ports.new.items ≡ ports.old.items) × (pool.new ≡ pool.old)) }
@@ -254,9 +267,10 @@ fn place_port(
     requires back { (count : ℕ) → IsTakenBack pool.old count }
     requires enough { opening.tx + rx + opening.extra ≤ length pool.old.free }
     requires ring { (1 ≤ rx) × (rx ≤ 1024) }
-    ensures there { OnOk result (is_switch_port_name opening.name ≡ true → has_table (switch_of opening.name) (map table_seen tables.new.items) ≡ true) }
+    ensures there { OnOk result (HasTableFor opening.name tables.new.items) }
     ensures kept { StillTables ports.old.items tables.old.items tables.new.items }
-    ensures ports { OnOk result (ports.new.items ≡ ports.old.items ++ state_for opening rx pool.old.free ∷ []) }
+    ensures ports { OnOk result
+        (ports.new.items ≡ ports.old.items ++ state_for opening rx pool.old.free ∷ []) }
     ensures pool { OnOk result (pool.new ≡ pool_less (opening.tx + rx + opening.extra) pool.old) }
     ensures opened { IfOk result (IsOpened opening rx pool.old.free) }
     ensures err { OnErr result ((ports.new.items ≡ ports.old.items) × (pool.new ≡ pool.old)) }
@@ -266,44 +280,6 @@ fn place_port(
 }
 
 // ---- The record.
-
-/// Opens a port that is not refused, and records it.
-fn add_port(
-    alloc: Global,
-    history: &mut History,
-    tables: &mut Vec<SwitchTable>,
-    ports: &mut Vec<Port>,
-    pool: &mut Pool,
-    opening: Opening,
-    rx: u32,
-) -> Result<Opened, StepFault>
-    requires back { (count : ℕ) → IsTakenBack pool.old count }
-    requires enough { opening.tx + rx + opening.extra ≤ length pool.old.free }
-    requires ring { (1 ≤ rx) × (rx ≤ 1024) }
-    ensures entries { OnOk result (history.new.entries ≡ history.old.entries ++ entry_for opening rx replies.Opened ∷ []) }
-    ensures promised { OnOk result (history.new.promised ≡ history.old.promised + 2) }
-    ensures limits { history.new.limits ≡ history.old.limits }
-    ensures there { OnOk result (is_switch_port_name opening.name ≡ true → has_table (switch_of opening.name) (map table_seen tables.new.items) ≡ true) }
-    ensures kept { StillTables ports.old.items tables.old.items tables.new.items }
-    ensures ports { OnOk result (ports.new.items ≡ ports.old.items ++ state_for opening rx pool.old.free ∷ []) }
-    ensures pool { OnOk result (pool.new ≡ pool_less (opening.tx + rx + opening.extra) pool.old) }
-    ensures opened { IfOk result (IsOpened opening rx pool.old.free) }
-    ensures fits { OnOk result (Fits history.old 3 0) }
-    ensures full { IfErr result (IsFull history.old 3 0) }
-    ensures err { OnErr result ((history.new.entries ≡ history.old.entries) × (history.new.promised ≡ history.old.promised) × (ports.new.items ≡ ports.old.items) × (pool.new ≡ pool.old)) }
-{
-    history.reserve(3, 0)?;
-    match place_port(alloc, tables, ports, pool, opening, rx) {
-        Ok(opened) => {
-            history.push(entry_of(&opening, rx, Reply::Opened));
-            Ok(opened)
-        }
-        Err(NoMemory) => {
-            history.release(3);
-            Err(StepFault::NoMemory)
-        }
-    }
-}
 
 /// The entry of an opening.
 fn entry_of(opening: &Opening, rx: u32, reply: Reply) -> Entry
@@ -322,14 +298,58 @@ fn entry_of(opening: &Opening, rx: u32, reply: Reply) -> Entry
     }
 }
 
+/// Opens a port that is not refused, and records it.
+fn add_port(
+    alloc: Global,
+    history: &mut History,
+    tables: &mut Vec<SwitchTable>,
+    ports: &mut Vec<Port>,
+    pool: &mut Pool,
+    opening: Opening,
+    rx: u32,
+) -> Result<Opened, StepFault>
+    requires back { (count : ℕ) → IsTakenBack pool.old count }
+    requires enough { opening.tx + rx + opening.extra ≤ length pool.old.free }
+    requires ring { (1 ≤ rx) × (rx ≤ 1024) }
+    ensures entries { OnOk result (history.new.entries
+        ≡ history.old.entries ++ entry_for opening rx replies.Opened ∷ []) }
+    ensures promised { OnOk result (history.new.promised ≡ history.old.promised + 2) }
+    ensures limits { history.new.limits ≡ history.old.limits }
+    ensures there { OnOk result (HasTableFor opening.name tables.new.items) }
+    ensures kept { StillTables ports.old.items tables.old.items tables.new.items }
+    ensures ports { OnOk result
+        (ports.new.items ≡ ports.old.items ++ state_for opening rx pool.old.free ∷ []) }
+    ensures pool { OnOk result (pool.new ≡ pool_less (opening.tx + rx + opening.extra) pool.old) }
+    ensures opened { IfOk result (IsOpened opening rx pool.old.free) }
+    ensures fits { OnOk result (Fits history.old 3 0) }
+    ensures full { IfErr result (IsFull history.old 3 0) }
+    ensures err { OnErr result ((history.new.entries ≡ history.old.entries)
+        × (history.new.promised ≡ history.old.promised)
+        × (ports.new.items ≡ ports.old.items) × (pool.new ≡ pool.old)) }
+{
+    history.reserve(3, 0)?;
+    match place_port(alloc, tables, ports, pool, opening, rx) {
+        Ok(opened) => {
+            history.push(entry_of(&opening, rx, Reply::Opened));
+            Ok(opened)
+        }
+        Err(NoMemory) => {
+            history.release(3);
+            Err(StepFault::NoMemory)
+        }
+    }
+}
+
 /// Records that an opening is refused, and returns the fault, or else that of the record.
 fn refuse(history: &mut History, opening: &Opening, rx: u32, fault: OpenFault) -> OpenFault
     requires { IsNamed fault }
     ensures answer { ByFault
         (λ named. (named ≡ fault)
-        × (history.new.entries ≡ history.old.entries ++ entry_for opening.now rx (replies.Refused fault) ∷ [])
+        × (history.new.entries
+        ≡ history.old.entries ++ entry_for opening.now rx (replies.Refused fault) ∷ [])
         × Fits history.old 1 0)
-        (λ full. (history.new.entries ≡ history.old.entries) × IsFull history.old 1 0 full) result }
+        (λ full. (history.new.entries ≡ history.old.entries) × IsFull history.old 1 0 full)
+        result }
     ensures promised { history.new.promised ≡ history.old.promised }
     ensures limits { history.new.limits ≡ history.old.limits }
 {
@@ -349,7 +369,8 @@ fn name_port(names: &mut Names, pool: &Pool, opening: &Opening, rx: u32) -> Resu
     ensures refusal { MatchResult result
         (λ _. refusal_for names.old pool.now.free opening.now rx ≡ None)
         (λ fault. refusal_for names.old pool.now.free opening.now rx ≡ Some fault) }
-    ensures joins { OnOk result (Joins names.old (fresh_port opening.now.name opening.now.id) names.new) }
+    ensures joins { OnOk result
+        (Joins names.old (fresh_port opening.now.name opening.now.id) names.new) }
     ensures names { OnOk result (IsNames names.new) }
     ensures ring { OnOk result ((1 ≤ rx) × (rx ≤ 1024)) }
     ensures enough { OnOk result (opening.now.tx + rx + opening.now.extra ≤ length pool.now.free) }
@@ -380,13 +401,19 @@ impl Book {
         extra: u32,
     ) -> Result<Opened, OpenFault>
         requires { IsEnabled (standing self.old) (asks.Open session name.now tx rx extra) }
-        ensures made { OnOk result (IsRecordedAs self.old self.new (asks.Open session name.now tx rx extra) replies.Opened) }
+        ensures made { OnOk result (IsRecordedAs self.old self.new
+            (asks.Open session name.now tx rx extra) replies.Opened) }
         ensures port { IfOk result (λ opened. opened.port.0 ≡ length self.new.entries) }
-        ensures tx { IfOk result (λ opened. indices_of opened.tx.items ≡ take tx (standing self.old).holdings.free) }
-        ensures rx { IfOk result (λ opened. opened.rx.items ≡ take rx (drop tx (standing self.old).holdings.free)) }
-        ensures extra { IfOk result (λ opened. indices_of opened.extra.items ≡ take extra (drop (tx + rx) (standing self.old).holdings.free)) }
-        ensures region { IfOk result (λ opened. AreOf self.old.region opened.tx.items × AreOf self.old.region opened.extra.items) }
-        ensures unopened { IfErr result (IsUnopened self.old self.new (asks.Open session name.now tx rx extra)) }
+        ensures tx { IfOk result (λ opened. indices_of opened.tx.items
+            ≡ take tx (standing self.old).holdings.free) }
+        ensures rx { IfOk result (λ opened. opened.rx.items
+            ≡ take rx (drop tx (standing self.old).holdings.free)) }
+        ensures extra { IfOk result (λ opened. indices_of opened.extra.items
+            ≡ take extra (drop (tx + rx) (standing self.old).holdings.free)) }
+        ensures region { IfOk result (λ opened. AreOf self.old.region opened.tx.items
+            × AreOf self.old.region opened.extra.items) }
+        ensures unopened { IfErr result (IsUnopened self.old self.new
+            (asks.Open session name.now tx rx extra)) }
     {
         let opening = Opening {
             id: PortId(self.history.len() + 1),
