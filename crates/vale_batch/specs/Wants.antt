@@ -7,6 +7,7 @@ use Rattle.nm_types.specs.declared.id.PortId.{PortId}
 use Rattle.vale_batch.specs.declared.looking.Destination.{Destination}
 use Rattle.vale_batch.specs.declared.looking.Destination.TheVariants.{Short, Nobody, Only, Others}
 use Rattle.vale_batch.specs.declared.looking.Looked.{Looked}
+use Rattle.vale_batch.specs.declared.looking.Taught.{Taught}
 use Rattle.vale_batch.specs.declared.alone.Placed.{Placed}
 use Rattle.vale_batch.specs.declared.alone.Own.{Own}
 use Rattle.vale_batch.specs.declared.lists.Want.{Want}
@@ -93,11 +94,12 @@ dest_of want = record { to = want.to; count = length want.places }
 abbrev pub IsFew : Wanted → Type 0
 IsFew want = length want.places < 2 ^ 32
 
--- what contracts see of the lists of a batch
+-- what contracts see of the lists of a batch, and what it taught, from the first to the last
 pub record Classed : Type 0 where
   pub short : ℕ
   pub lone : ℕ
   pub wants : List Wanted
+  pub taughts : List Taught
 
 -- the frames that a test picks, each with its place, where the first frame has the place `first`
 abbrev pub picked : (Looked → Bool) → ℕ → List Looked → List Placed

@@ -1,7 +1,7 @@
 ghost use Rattle.std.specs.Prelude.{◌≡◌, ◌<◌, ◌≤◌, ◌^◌, All, length, map, count_by, IfOk, OnOk, OnErr};
 ghost use Rattle.std.specs.List.{list_any};
 ghost use Rattle.vale_batch.specs.Addresses.{is_short};
-ghost use Rattle.vale_batch.specs.Looking.{IsFrame, looked_up_batch, learned_of_batch};
+ghost use Rattle.vale_batch.specs.Looking.{IsFrame, looked_up_batch, learned_of_batch, untaught_all};
 ghost use Rattle.vale_batch.specs.Wants.{wants_of, is_other, is_lone, is_short_destination, is_lone_if, port_number, IsRising};
 
 use crate::alone::{flooded_of, owns_of};
@@ -47,6 +47,7 @@ fn lone_count(all: &[Looked], others: bool) -> usize
     all.iter().filter(|looked| is_lone(others, looked)).count()
 }
 
+/// The lists of frames that were looked up, before it is noted what they taught.
 #[tactic(auto, using(crate::proofs::WantLemmas::counts))]
 fn lists_of(
     alloc: Global,
@@ -71,11 +72,13 @@ fn lists_of(
         from,
         flooded,
         owns,
+        taughts: Vec::new(alloc),
     })
 }
 
 /// Learns the sources of a batch that port `from` sends, frame by frame, and finds out which of the
-/// switch's open ports each frame goes to. `ports` rise. `NoMemory` leaves the table as it was.
+/// switch's open ports each frame goes to. `ports` rise. `NoMemory` leaves the table as it was, and
+/// `Lists::forget` takes back what was learned.
 ///
 /// A frame to one port costs a binary search among the ports, a frame to all other ports one step,
 /// however many they are, and each port one step beside that. What a port wants of the flooded
@@ -93,6 +96,7 @@ pub fn classify(
     requires ports { IsRising (map port_number ports.now) }
     ensures table { OnOk result (table.new ≡ learned_of_batch from table.old batch.now) }
     ensures err { OnErr result (table.new ≡ table.old) }
+    ensures undo { IfOk result (λ lists. untaught_all table.new lists.taughts ≡ table.old) }
     ensures short { IfOk result (λ lists. lists.short ≡ count_by is_short batch.now) }
     ensures lone { IfOk result (λ lists. lists.lone
         ≡ count_by (is_lone from ports.now) (looked_up_batch from table.old batch.now)) }
@@ -103,7 +107,7 @@ pub fn classify(
     let mut all = Vec::with_capacity(alloc, batch.len())?;
     look_up(table, &mut taughts, &mut all, from, batch);
     match lists_of(alloc, from, ports, &all) {
-        Ok(lists) => Ok(lists),
+        Ok(lists) => Ok(Lists { taughts, ..lists }),
         Err(_) => {
             forget_taught(table, &mut taughts);
             Err(NoMemory)

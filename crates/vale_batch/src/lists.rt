@@ -1,10 +1,13 @@
 ghost use Rattle.std.specs.Prelude.{◌≡◌, ◌+◌, ◌<◌, ◌≤◌, ◌^◌, [], ◌∷◌, ◌++◌, All, Some, filter, length, map, option_map, slice_get, vec_len, vec_capacity, IfOk, IfSome, IfNone};
+ghost use Rattle.vale_batch.specs.Looking.{untaught_all};
 ghost use Rattle.vale_batch.specs.Wants.{wanted, dest_of, owned, merged, place_of, slots_of, flooded_to, want_of, want_seen, wants_some};
 
 use crate::alone::{Own, Placed};
+use crate::looking::{Taught, forget_taught};
 use nm_types::{NoMemory, PortId};
 use std::alloc::{AllocError, Global};
 use std::marker::Model;
+use vale_learn::Table;
 
 /// The frames of a batch that a port wants.
 #[derive(Debug, Drop)]
@@ -32,6 +35,7 @@ pub struct Lists {
     pub(crate) from: PortId,
     pub(crate) flooded: Vec<Placed>,
     pub(crate) owns: Vec<Own>,
+    pub(crate) taughts: Vec<Taught>,
 }
 
 impl Model for Lists {
@@ -46,6 +50,7 @@ impl Model for Lists {
       short = l.short;
       lone = l.lone;
       wants = map (want_seen l.from l.flooded.items) (map owned l.owns.items);
+      taughts = l.taughts.items;
     } };
 
     ghost invariant = { λ l. All IsFew
@@ -187,5 +192,14 @@ impl Lists {
         let own = &self.owns[i];
         let flooded = flooded_to(self.from, &self.flooded, own.to);
         Ok(want_of(alloc, own.to, &own.frames, flooded)?)
+    }
+
+    /// Takes back what `classify` taught the table, at the cost of the batch. If nothing else was
+    /// learned since, the table is what it was before the batch.
+    pub fn forget(self, table: &mut Table)
+        ensures { table.new ≡ untaught_all table.old self.taughts }
+    {
+        let mut taughts = self.taughts;
+        forget_taught(table, &mut taughts);
     }
 }

@@ -29,7 +29,7 @@ pub struct Looked {
 }
 
 /// What an address's entry held before it was learned.
-#[derive(Clone, Copy)]
+#[derive(Clone, Copy, Debug)]
 pub(crate) struct Taught {
     address: Mac,
     before: Option<Station>,

@@ -113,3 +113,15 @@ fn learned_before_looked_up(rt: HostRuntime) {
     assert!(rt; wants(&rt, rt.alloc(), &mixed, 0, 4, &[0, 1, 3], &[1, 3, 1]));
     assert!(rt; wants(&rt, rt.alloc(), &mixed, 1, 6, &[1], &[3]));
 }
+
+#[test]
+fn forgotten_batch_taught_nothing(rt: HostRuntime) {
+    let Ok(mut table) = Table::new(rt.alloc()) else {
+        panic!(rt; "no memory");
+    };
+    let frames = [(TO_ALL, false), (TO_A, false)];
+    let refused = send(&rt, rt.alloc(), &mut table, 4, &frames);
+    refused.forget(&mut table);
+    let unlearned = send(&rt, rt.alloc(), &mut table, 5, &[(TO_A, false)]);
+    assert_counts(&rt, &unlearned, 2, 0, 0);
+}
