@@ -3,7 +3,7 @@ use Rattle.std.proofs.Common.{ℕ, Bool, true, ◌≡◌, ◌+◌, ◌≤◌, �
 use Rattle.std.proofs.lemmas.Bool.{and_parts}
 use Rattle.std.proofs.lemmas.List.{length-take-le, length-drop}
 use Rattle.nm_types.specs.Limits.{most_ports}
-use Rattle.nm_types.specs.Names.{is_name, switch_of, is_switch_port_name}
+use Rattle.nm_types.specs.Names.{is_name}
 use Rattle.nm_types.specs.Openings.{open_refusal as names_refusal}
 use Rattle.nm_types.specs.declared.id.SessionId.{SessionId}
 use Rattle.nm_types.specs.declared.fault.OpenFault.{OpenFault}
@@ -29,7 +29,6 @@ use Rattle.vale_port.specs.Seat.{Seat, port_of, seats_of}
 use Rattle.vale_port.proofs.LineTies.{line-same, indices-take, indices-drop}
 use Rattle.vale_port.proofs.Lists.{seats-ports, open_is_open_among}
 use Rattle.vale_parts.specs.Ids.{port_id}
-use Rattle.vale_parts.specs.SwitchTables.{has_table}
 use Rattle.vale_parts.specs.FreeBuffers.{pool_less}
 use Rattle.vale_parts.specs.FreeLaws.{IsTakenBack}
 use Rattle.vale_parts.proofs.AllParts.{tables_stay}

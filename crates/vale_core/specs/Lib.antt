@@ -7,7 +7,6 @@ pub mod OpenAnswers
 pub mod OpenParts
 pub mod Monitored
 pub mod Reading
-pub mod SwitchTables
 pub mod Sessions
 pub mod WatchAnswers
 pub mod WatchSteps
