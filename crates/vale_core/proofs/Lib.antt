@@ -4,7 +4,9 @@ pub mod FreshBooks
 pub mod Comings
 pub mod Standing
 pub mod Leasing
-pub mod Wanting
+pub mod TakenWants
+pub mod MonitoredWants
+pub mod SmallWants
 pub mod Grants
 pub mod TakenParts
 pub mod OpenTables

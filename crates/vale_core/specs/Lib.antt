@@ -10,3 +10,4 @@ pub mod Reading
 pub mod Sessions
 pub mod WatchAnswers
 pub mod WatchSteps
+pub mod Wanting

@@ -20,6 +20,7 @@ mod reading;
 mod shutting;
 mod tables;
 mod watching;
+mod wanting;
 
 pub use book::Book;
 pub use finishing::LeasesOut;

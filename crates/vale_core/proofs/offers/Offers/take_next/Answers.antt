@@ -1,4 +1,4 @@
-use Rattle.vale_core.proofs.Wanting.{IsTaken, taken}
+use Rattle.vale_core.proofs.TakenWants.{IsTaken, taken}
 use Rattle.vale_core.proofs.offers.Offers.take_next.Goals as goal
 
 out : (c : goal.After-take_last-2) → IsTaken c.take_last-2.new.self.items c.take_last.new.self.items c.take_last-2.result c.take_last.result
