@@ -7,6 +7,7 @@ pub mod Leasing
 pub mod TakenWants
 pub mod MonitoredWants
 pub mod SmallWants
+pub mod SenderTables
 pub mod Grants
 pub mod TakenParts
 pub mod OpenTables
