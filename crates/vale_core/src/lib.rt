@@ -19,6 +19,8 @@ mod opening;
 mod reading;
 mod shutting;
 mod tables;
+#[cfg(test)]
+mod tests;
 mod watching;
 mod wanting;
 
