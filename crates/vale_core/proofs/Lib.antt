@@ -28,3 +28,5 @@ pub mod WatchMoves
 pub mod Closes
 pub mod GivenBack
 pub mod Finishes
+pub mod SentBatches
+pub mod SendMoves

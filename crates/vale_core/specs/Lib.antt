@@ -11,3 +11,4 @@ pub mod Sessions
 pub mod WatchAnswers
 pub mod WatchSteps
 pub mod Wanting
+pub mod Sending

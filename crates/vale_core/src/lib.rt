@@ -17,12 +17,13 @@ mod noting;
 mod offers;
 mod opening;
 mod reading;
+mod sending;
 mod shutting;
 mod tables;
+mod wanting;
+mod watching;
 #[cfg(test)]
 mod tests;
-mod watching;
-mod wanting;
 
 pub use book::Book;
 pub use finishing::LeasesOut;

@@ -14,7 +14,7 @@ use vale_entry::{Ask, Entry, Reply};
 use vale_port::{Port, open_port, shut_at};
 
 /// Returns the name of the port at a place.
-fn name_at(ports: &[Port], place: usize) -> Name
+pub(crate) fn name_at(ports: &[Port], place: usize) -> Name
     requires { place < length ports.now }
     ensures { OfState (λ p. result ≡ p.name) ports.now place }
 {
