@@ -15,6 +15,7 @@ pub mod OpenMoves
 pub mod OpenRefusals
 pub mod MonitorWants
 pub mod PortLines
+pub mod OfferedTo
 pub mod ReadMoves
 pub mod Dones
 pub mod Owing
@@ -30,3 +31,5 @@ pub mod GivenBack
 pub mod Finishes
 pub mod SentBatches
 pub mod SendMoves
+pub mod PutLists
+pub mod PutMoves

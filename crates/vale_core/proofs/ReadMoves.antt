@@ -1,8 +1,8 @@
 -- What a sync and a get make of a book.
-use Rattle.std.proofs.Common.{ℕ, Bool, true, false, ◌≡◌, ◌≤◌, ◌<◌, ◌+◌, ◌^◌, nat_le, List, [], ◌∷◌, ◌++◌, length, slice_set, Option, Some, None, is_some, Result, Ok, Err, OnOk, OnErr, IfOk, refl, sym, ◌∙◌, ap, subst, arith, length-append}
+use Rattle.std.proofs.Common.{ℕ, Bool, true, false, ◌≡◌, ◌≤◌, ◌<◌, ◌+◌, ◌^◌, nat_le, List, [], ◌∷◌, ◌++◌, length, slice_set, Option, Some, None, is_some, Result, Ok, Err, OnOk, OnErr, IfOk, refl, sym, ◌∙◌, ap, subst, arith}
 use Rattle.std.specs.Prelude.{IsSome}
 use Rattle.std.specs.Option.{ForSome, option_map_or}
-use Rattle.std.specs.List.{AllByRecursion as Each, cons_option}
+use Rattle.std.specs.List.{AllByRecursion as Each}
 use Rattle.std.proofs.lemmas.Bool.{and_parts, leb-true}
 use Rattle.nm_types.specs.declared.id.PortId.{PortId}
 use Rattle.nm_types.specs.declared.id.Counts.{Counts}
@@ -10,7 +10,7 @@ use Rattle.nm_types.specs.declared.id.SessionId.{SessionId}
 use Rattle.nm_types.specs.declared.id.Side.TheVariants.{Rx}
 use Rattle.nm_types.specs.declared.fault.StepFault.{StepFault}
 use Rattle.nm_types.specs.Counters.{SumFits}
-use Rattle.nm_types.specs.Frames.{Frame, size_of_frames}
+use Rattle.nm_types.specs.Frames.{size_of_frames}
 use Rattle.nm_types.specs.Limits.{most_pool}
 use Rattle.nm_types.proofs.Sizes.{size_of_frames-length}
 use Rattle.nm_region.specs.Buffers.{Buffer, indices_of}
@@ -27,8 +27,8 @@ use Rattle.vale_entry.specs.declared.entry.Entry.{Entry}
 use Rattle.vale_entry.specs.World.{Port, open_port, receive_monitor}
 use Rattle.vale_entry.specs.Delivery.{ready_lots, delivered_frames, port_after_sync}
 use Rattle.vale_entry.specs.Holdings.{with_returned, delivered_buffers}
-use Rattle.vale_entry.specs.Legal.{Standing, Outcome, step, is_met, can_sync, can_get, can_receive, sync_step, offers_of_sync, room_of_dests, IsEnabled, Follows, standing_of, world_of, kept_ask}
-use Rattle.vale_entry.specs.Offers.{dests_of, offers_of, offer_to, monitored_frames}
+use Rattle.vale_entry.specs.Legal.{Standing, Outcome, step, is_met, can_sync, can_get, can_receive, sync_step, offers_of_sync, room_of_dests, IsEnabled, Follows, world_of, kept_ask}
+use Rattle.vale_entry.specs.Offers.{dests_of, monitored_frames}
 use Rattle.vale_entry.specs.Room.{bytes_of}
 use Rattle.vale_entry.specs.Stored.{Fits, IsFull}
 use Rattle.vale_entry.proofs.Worlds.{count-world_of}
@@ -61,9 +61,10 @@ use Rattle.vale_core.specs.BookView.{recorded, parts_in, AreOf, HasBuffersOf, Is
 use Rattle.vale_core.specs.Monitored.{offers_to}
 use Rattle.vale_core.specs.Offering.{OffersState, IsOfferBy}
 use Rattle.vale_core.specs.Reading.{read_ask, wants_read, dests_read, room_of_read, read_entry, count_read, IsGivenOf, IsOfferedOf}
-use Rattle.vale_core.specs.Recorded.{standing, entry_of, IsRefusal}
+use Rattle.vale_core.specs.Recorded.{entry_of, IsRefusal}
 use Rattle.vale_core.proofs.MonitorWants.{wants-monitored}
 use Rattle.vale_core.proofs.Moves.{Moves, Stays, before, fits-step, full-step}
+use Rattle.vale_core.proofs.OfferedTo.{by-session, StandOffered, offered-to}
 use Rattle.vale_core.proofs.Rooms.{step-recorded}
 use Rattle.vale_core.proofs.Standing.{IsHere, met, found-here, not-found, ports-rising}
 use Rattle.vale_core.proofs.PortLines.{each-set, of-synced, of-given}
@@ -325,26 +326,13 @@ read-given b r back gots k is gives ready p found =
 
 -- ---- what is offered
 
-by-session : (origin session : ℕ) (wanted : Port → List Frame) (ports : List Port) → Each (IsOfferBy session) (offers_of origin session wanted ports)
-by-session origin session wanted [] = tt
-by-session origin session wanted (p ∷ ps) = by-frames (wanted p) (by-session origin session wanted ps)
-  where
-    by-frames : (frames : List Frame) → Each (IsOfferBy session) (offers_of origin session wanted ps)
-        → Each (IsOfferBy session) (cons_option (offer_to origin session p.id frames) (offers_of origin session wanted ps))
-    by-frames [] rest = rest
-    by-frames (f ∷ fs) rest = (refl, rest)
-
 started-by : (pipe : Bool) (s : Standing) (at : PortId) (back : List ℕ) (reply : Reply) (port : Port) → open_port s.world.ports at.0 ≡ Some port
     → offers_started s.world (read_ask pipe at back) reply ≡ offers_of_sync s.world port
 started-by true s at back reply port here = ap (λ (found : Option Port). option_map_or (offers_of_sync s.world) found []) here
 started-by false s at back reply port here = ap (λ (found : Option Port). option_map_or (offers_of_sync s.world) found []) here
 
--- what stands after it, of its entry
-pub record StandsOffered (b : Inside) (r : Reading) (back : List ℕ) (port : Port) (h : List Entry) : Type 0 where
-  pub are : OffersAre (world_of b.pool.buffers h) (length b.history.entries + 1) (delivered_frames port) (wants_read r)
-  pub by : Each (IsOfferBy r.session.0) (offers_at (world_of b.pool.buffers h) (length b.history.entries + 1))
-
-stands-offered : (b : Inside) (r : Reading) (back : List ℕ) → IsBook b → (is : IsReading b r back) → StandsOffered b r back is.at.port (b.history.entries ++ read_entry r back ∷ [])
+stands-offered : (b : Inside) (r : Reading) (back : List ℕ) → IsBook b → (is : IsReading b r back)
+    → StandOffered (world_of b.pool.buffers (b.history.entries ++ read_entry r back ∷ [])) (length b.history.entries + 1) r.session.0 (delivered_frames is.at.port) (wants_read r)
 stands-offered b r back k is =
     let pool = b.pool.buffers in
     let h = b.history.entries in
@@ -368,26 +356,10 @@ pub read-offered : (b next : Inside) (r : Reading) (back : List ℕ) (offers : O
     → next.history.entries ≡ b.history.entries ++ read_entry r back ∷ [] → offers ≡ offers_to (length b.history.entries + 1) r.session (wants_read r)
     → (p : Port) → open_port (before b).world.ports r.at.0 ≡ Some p → IsOfferedOf (recorded b) (recorded next) p offers
 read-offered b next r back offers k is pool entries offered p found =
-    let h = b.history.entries in
-    let entry = read_entry r back in
     let port = is.at.port in
-    let stood = stands-offered b r back k is in
-    let same : standing (recorded next) ≡ standing_of b.pool.buffers (h ++ entry ∷ []) = rw (pool, entries) refl in
-    let at : IsOfferedOf (recorded b) (recorded next) port (offers_to (length h + 1) r.session (wants_read r)) = record {
-      entry = sym (length-append h (entry ∷ [])) ∙ ap (λ (es : List Entry). length es) (sym entries);
-      session = sym is.session;
-      short = refl;
-      lone = refl;
-      wants = is.wants;
-      stand = record {
-        frames = delivered_frames port;
-        are = subst (λ (t : Standing). OffersAre t.world (length h + 1) (delivered_frames port) (wants_read r)) (sym same) stood.are;
-        by = subst (λ (t : Standing). Each (IsOfferBy r.session.0) (offers_at t.world (length h + 1))) (sym same) stood.by;
-      };
-      frames = refl;
-    } in
     subst (λ (q : Port). IsOfferedOf (recorded b) (recorded next) q offers) (same-port (open_port (before b).world.ports r.at.0) port p is.at.here.found found)
-    (subst (IsOfferedOf (recorded b) (recorded next) port) (sym offered) at)
+    (offered-to b next (read_entry r back) r.session port.session (receive_monitor (before b).world port.id) (delivered_frames port) (wants_read r) offers pool entries offered is.session is.wants
+    (stands-offered b r back k is))
 
 -- what the call says of its result
 pub given-on : {E : Type 0} (made : Result Synced E) (b : Inside) (r : Reading) (back : List ℕ) → IsBook b → IsReading b r back

@@ -12,3 +12,5 @@ pub mod WatchAnswers
 pub mod WatchSteps
 pub mod Wanting
 pub mod Sending
+pub mod Putting
+pub mod PutFaults

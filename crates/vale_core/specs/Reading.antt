@@ -1,6 +1,6 @@
 -- A sync of a switch port or a monitor, and a get of a pipe end: buffers come back, and what is ready
 -- is given.
-use Rattle.std.specs.Prelude.{ℕ, Bool, true, false, ◌≡◌, List, [], length, Some}
+use Rattle.std.specs.Prelude.{ℕ, Bool, true, false, ◌≡◌, List, length, Some}
 use Rattle.nm_types.specs.declared.id.Counts.{Counts}
 use Rattle.nm_types.specs.declared.id.PortId.{PortId}
 use Rattle.nm_types.specs.Counters.{zero_counts}
@@ -18,12 +18,12 @@ use Rattle.vale_entry.specs.Delivery.{ready_lots, delivered_frames}
 use Rattle.vale_entry.specs.Holdings.{delivered_buffers}
 use Rattle.vale_entry.specs.Legal.{Standing, room_of_dests}
 use Rattle.vale_port.specs.Kept.{bytes_of}
-use Rattle.vale_parts.specs.Batches.{dests_wanted, wants_monitored}
+use Rattle.vale_parts.specs.Batches.{dests_wanted}
 use Rattle.vale_core.specs.declared.reading.Reading.{Reading}
 use Rattle.vale_core.specs.BookView.{AreOf}
-use Rattle.vale_core.specs.Offering.{OffersState, OffersStand}
+use Rattle.vale_core.specs.Offering.{OffersState}
 use Rattle.vale_core.specs.Recorded.{Recorded, standing}
-use Rattle.vale_core.specs.Monitored.{wants_by}
+use Rattle.vale_core.specs.Monitored.{wants_by, IsOfferedTo}
 
 -- a pipe end's is a Get
 abbrev pub read_ask : Bool → PortId → List ℕ → Ask
@@ -58,15 +58,9 @@ pub record IsGivenOf (s : Standing) (region : ℕ) (port : Port) (gots : List Go
 abbrev pub IsGiven : Recorded → PortId → List Got → Type 0
 IsGiven b at gots = (port : Port) → open_port (standing b).world.ports at.0 ≡ Some port → IsGivenOf (standing b) b.region port gots
 
--- it is offered to the monitor of the port's receive side alone, as the frames of the last entry
-pub record IsOfferedOf (old new : Recorded) (port : Port) (offers : OffersState) : Type 0 where
-  pub entry : offers.entry ≡ length new.entries
-  pub session : offers.session ≡ port.session
-  pub short : offers.short ≡ 0
-  pub lone : offers.lone ≡ 0
-  pub wants : offers.wants ≡ wants_monitored (receive_monitor (standing old).world port.id) (delivered_frames port) []
-  pub stand : OffersStand (standing new) offers
-  pub frames : stand.frames ≡ delivered_frames port
+-- it is offered to the monitor of the port's receive side alone
+abbrev pub IsOfferedOf : Recorded → Recorded → Port → OffersState → Type 0
+IsOfferedOf old new port offers = IsOfferedTo new port.session (receive_monitor (standing old).world port.id) (delivered_frames port) offers
 
 abbrev pub IsOffered : Recorded → Recorded → PortId → OffersState → Type 0
 IsOffered old new at offers = (port : Port) → open_port (standing old).world.ports at.0 ≡ Some port → IsOfferedOf old new port offers
