@@ -35,7 +35,6 @@ use crate::reading::few_are_counted;
 use nm_count::Tally;
 use nm_region::Buf;
 use nm_types::{Batch, Counts, Frame, LeaseId, NoMemory, PortId, SessionId, Side, StepFault};
-use nm_watch::Watches;
 use std::alloc::Global;
 use vale_entry::{Ask, Dests, Entry, History, Item, Items, Reply};
 use vale_line::Got;

@@ -81,7 +81,10 @@ returns-in-None-clause-full c =
 
 -- ---- the other end is open
 
-known-before : (c : goal.After-put_to_peer-arg-in-Some-peer_of-4-1) → IsPutting c.self.inside (putting_of c.args.port c.session_of-session.result c.in-Some-peer_of.peer c.in-Some-open_port.there c.len-offered.result c.taken_by.result c.of.result) c.args.pending.now.items
+abbrev putting-before : goal.After-put_to_peer-arg-in-Some-peer_of-4-1 → Putting
+putting-before c = putting_of c.args.port c.session_of-session.result c.in-Some-peer_of.peer c.in-Some-open_port.there c.len-offered.result c.taken_by.result c.of.result
+
+known-before : (c : goal.After-put_to_peer-arg-in-Some-peer_of-4-1) → IsPutting c.self.inside (putting-before c) c.args.pending.now.items
 known-before c =
     let gots = c.args.pending.now.items in
     let enabled = subst (λ (x : Recorded). IsEnabled (standing x) (Put c.args.port (items_of gots))) (sym c.self.view_is) c.requires.enabled in
@@ -91,14 +94,14 @@ known-before c =
     c.deref.ensures.value c.deref-2.ensures.value c.deref-3.ensures.value c.deref-in-Some-peer_of.ensures.value c.deref-in-Some-peer_of-2.ensures.value
     c.in-Some.ensures.some c.session_of-session.ensures c.in-Some-peer_of.ensures.peer c.peer_of.ensures.names c.in-Some-open_port.ensures.some count c.taken_by.ensures.seat c.of.ensures
 
-fits : (c : goal.After-put_to_peer-arg-in-Some-peer_of-4-1) → CountsFit c.self.inside (putting_of c.args.port c.session_of-session.result c.in-Some-peer_of.peer c.in-Some-open_port.there c.len-offered.result c.taken_by.result c.of.result)
+fits : (c : goal.After-put_to_peer-arg-in-Some-peer_of-4-1) → CountsFit c.self.inside (putting-before c)
 fits c =
-    counts-fit c.self.inside (putting_of c.args.port c.session_of-session.result c.in-Some-peer_of.peer c.in-Some-open_port.there c.len-offered.result c.taken_by.result c.of.result) c.args.pending.now.items
+    counts-fit c.self.inside (putting-before c) c.args.pending.now.items
     c.self.invariant (known-before c) c.few_are_counted.ensures.pool c.few_are_counted.ensures.entries
 
 pub put_to_peer-requires-clause-new : goal.put_to_peer-requires-clause-new
 put_to_peer-requires-clause-new c =
-    new-here c.self.inside (putting_of c.args.port c.session_of-session.result c.in-Some-peer_of.peer c.in-Some-open_port.there c.len-offered.result c.taken_by.result c.of.result) c.args.pending.now.items (known-before c)
+    new-here c.self.inside (putting-before c) c.args.pending.now.items (known-before c)
 
 pub put_to_peer-requires-clause-own : goal.put_to_peer-requires-clause-own
 put_to_peer-requires-clause-own c = (fits c).own
@@ -112,7 +115,10 @@ put_to_peer-requires-clause-other c = (fits c).other
 pub put_to_peer-requires-clause-other_fits : goal.put_to_peer-requires-clause-other_fits
 put_to_peer-requires-clause-other_fits c = (fits c).other_fits
 
-known : (c : goal.After-put_to_peer) → IsPutting c.self.inside (putting_of c.args.port c.session_of-session.result c.in-Some-peer_of.peer c.in-Some-open_port.there c.len-offered.result c.taken_by.result c.of.result) c.args.pending.now.items
+abbrev putting : goal.After-put_to_peer → Putting
+putting c = putting_of c.args.port c.session_of-session.result c.in-Some-peer_of.peer c.in-Some-open_port.there c.len-offered.result c.taken_by.result c.of.result
+
+known : (c : goal.After-put_to_peer) → IsPutting c.self.inside (putting c) c.args.pending.now.items
 known c =
     let gots = c.args.pending.now.items in
     let enabled = subst (λ (x : Recorded). IsEnabled (standing x) (Put c.args.port (items_of gots))) (sym c.self.view_is) c.requires.enabled in
@@ -121,9 +127,6 @@ known c =
     c.deref.result.now c.deref-2.result.now c.deref-3.result.now c.deref-in-Some-peer_of.result.now c.deref-in-Some-peer_of-2.result.now c.self.invariant enabled
     c.deref.ensures.value c.deref-2.ensures.value c.deref-3.ensures.value c.deref-in-Some-peer_of.ensures.value c.deref-in-Some-peer_of-2.ensures.value
     c.in-Some.ensures.some c.session_of-session.ensures c.in-Some-peer_of.ensures.peer c.peer_of.ensures.names c.in-Some-open_port.ensures.some count c.taken_by.ensures.seat c.of.ensures
-
-abbrev putting : goal.After-put_to_peer → Putting
-putting c = putting_of c.args.port c.session_of-session.result c.in-Some-peer_of.peer c.in-Some-open_port.there c.len-offered.result c.taken_by.result c.of.result
 
 abbrev next : goal.After-put_to_peer → Inside
 next c = record c.self.inside { history = c.put_to_peer.new.history; ports = c.put_to_peer.new.ports; tally = c.put_to_peer.new.tally }
