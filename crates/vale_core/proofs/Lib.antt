@@ -33,3 +33,4 @@ pub mod SentBatches
 pub mod SendMoves
 pub mod PutLists
 pub mod PutMoves
+pub mod Openable

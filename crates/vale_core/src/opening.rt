@@ -31,6 +31,9 @@ use vale_learn::Table;
 use vale_names::Names;
 use vale_port::{Opening, Port};
 
+#[cfg(test)]
+mod tests;
+
 /// A port that was opened, with the buffers that its session holds from now on. Those of its receive
 /// ring stay with the switch.
 pub struct Opened {
