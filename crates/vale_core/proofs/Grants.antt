@@ -23,16 +23,16 @@ use Rattle.vale_entry.specs.declared.entry.Reply.TheVariants.{Shared}
 use Rattle.vale_entry.specs.declared.entry.Entry.{Entry}
 use Rattle.vale_entry.specs.World.{World, Port, Offer, open_port, is_open_at, changed_at}
 use Rattle.vale_entry.specs.Counters.{count_shared}
-use Rattle.vale_entry.specs.Grant.{first_offer, granted_frames, given_at, grant_reply, grant_reply_at, port_after_grant}
+use Rattle.vale_entry.specs.Grant.{first_offer, without_first, granted_frames, given_at, grant_reply, grant_reply_at, port_after_grant}
 use Rattle.vale_entry.specs.Holdings.{PortBuffers, with_lot_buffers, changed_buffers}
-use Rattle.vale_entry.specs.Legal.{Standing, Follows, reply_of, session_and_reply, grant_step, step}
+use Rattle.vale_entry.specs.Legal.{Standing, Follows, reply_of, session_and_reply, standing_of, standing_after, world_of, grant_step, step}
 use Rattle.vale_entry.specs.Offers.{is_offer_of}
 use Rattle.vale_entry.specs.Stored.{Stored}
-use Rattle.vale_entry.specs.Laws.{HasLotsUpTo, room_back}
-use Rattle.vale_entry.proofs.Each.{changed_at-same}
+use Rattle.vale_entry.specs.Laws.{HasLotsUpTo, IsFrom, room_back}
+use Rattle.vale_entry.proofs.Each.{each-find, changed_at-same}
 use Rattle.vale_entry.proofs.HistoryLaws.{numbers-rise}
 use Rattle.vale_entry.proofs.ListLaws.{place-of, each-at, each-set}
-use Rattle.vale_entry.proofs.Worlds.{count-world_of}
+use Rattle.vale_entry.proofs.Worlds.{count-world_of, standing-push}
 use Rattle.vale_port.specs.Laws.{with_line}
 use Rattle.vale_port.specs.Lists.{ArePortsOf, ChangesSeat, OfSeat, OfState, StandsAt}
 use Rattle.vale_port.specs.Ports.{PortState, IsLeaseFor, sizes_of}
@@ -43,7 +43,7 @@ use Rattle.vale_port.proofs.Places.{seat_change_is_change}
 use Rattle.vale_parts.specs.Offering.{OffersAre, offers_at}
 use Rattle.vale_parts.specs.Parts.{Parts, ArePartsAfter}
 use Rattle.vale_parts.proofs.AllParts.{tables_stay}
-use Rattle.vale_parts.proofs.OffersKept.{first_next}
+use Rattle.vale_parts.proofs.OffersKept.{first_next, offers_follow}
 use Rattle.vale_parts.proofs.CountsKept.{nothing_added, open_counted}
 use Rattle.vale_parts.proofs.Additions.{additions_fit}
 use Rattle.vale_parts.specs.Adding.{FitsIn}
@@ -370,7 +370,7 @@ pub record IsGranted (b next : Inside) (entry : ℕ) (to : PortId) (given full g
   pub first : first_offer (before b).world entry ≡ Some offer
   pub moves : Moves b next (Grant entry to) (grant_step (before b) offer)
   pub reply : grant_reply (before b).world offer ≡ Shared given full gone
-  pub none : IfNone lease (given ≡ 0)
+  pub given_is : given ≡ given_by lease
   pub leases : IfSome lease (λ (l : Leased). IsLeaseOf (before b) b.region.region (length b.history.entries + 1) offer l)
 
 lease-of : (b : Inside) (entry session : ℕ) (want : Wanted) (place : ℕ) (port : Port) (given full : ℕ) (l : Leased) → IsBook b
@@ -401,10 +401,6 @@ leases-of : (b : Inside) (entry session : ℕ) (want : Wanted) (place : ℕ) (po
 leases-of b entry session want place port given full None k s for is = tt
 leases-of b entry session want place port given full (Some l) k s for is = lease-of b entry session want place port given full l k s for is
 
-none-given : (lease : Option Leased) (given : ℕ) → given ≡ given_by lease → IfNone lease (given ≡ 0)
-none-given None given is = is
-none-given (Some l) given is = tt
-
 pub give-call : (b next : Inside) (by : SessionId) (entry : ℕ) (want : Wanted) (place : ℕ) (port : Port) (given full : ℕ) (lease : Option Leased) → IsBook b
     → IsGrant b entry by.0 want → IsHere b.pool.buffers b.history.entries b (λ (all : List Port). open_port all want.to.0) place port
     → GiveTells b by entry want place given full lease next.history next.ports.items → IsBeside b next
@@ -419,7 +415,7 @@ give-call b next by entry want place port given full lease k g here t beside tal
       moves = give-moves b next entry by.0 by want place port lease given full k s refl beside t.entries t.limits t.promised t.tells tally
           (lines-granted b.region.region (length b.history.entries + 1) lease b.ports.items next.ports.items place here.at.state k.lines_are here.at.state_here t.lots t.kept);
       reply = reply-shared b entry by.0 want place port lease given full s;
-      none = none-given lease given t.given_is;
+      given_is = t.given_is;
       leases = leases-of b entry by.0 want place port given full lease k s t.tells.some t.leases;
     }
 
@@ -435,13 +431,13 @@ lose-call b next by entry want lease k g gone none beside entries limits promise
       first = g.first;
       moves = lose-moves b next entry by.0 by want k l refl beside entries limits promised ports tally;
       reply = reply-lost b entry by.0 want l;
-      none = no-lease lease;
+      given_is = no-lease lease none;
       leases = no-leases _ lease none;
     }
   where
-    no-lease : (lease : Option Leased) → IfNone lease (◌≡◌ {A = ℕ} 0 0)
-    no-lease None = refl
-    no-lease (Some l) = tt
+    no-lease : (lease : Option Leased) → IfSome lease (λ (l : Leased). ⊥) → 0 ≡ given_by lease
+    no-lease None none = refl
+    no-lease (Some l) none = absurd none
     no-leases : (P : Leased → Type 0) (lease : Option Leased) → IfSome lease (λ (l : Leased). ⊥) → IfSome lease P
     no-leases P None none = tt
     no-leases P (Some l) none = absurd none
@@ -505,3 +501,57 @@ reply-told b next entry to given full gone lease made = ap (option_map reply_of)
 pub offers-taken : (o rest : OffersState) (i : OffersInside) (want : Wanted) → o ≡ record rest { wants = want ∷ rest.wants } → offers_seen i ≡ rest
     → rest ≡ record { entry = i.entry; session = o.session; short = o.short; lone = o.lone; wants = drop 1 o.wants }
 offers-taken o rest i want out seen = rw (out, ← seen) refl
+
+-- ---- the offers that are left
+
+less-is : (P : Offer → Type 0) (test : Offer → Bool) (granted : ℕ) (o : Offer) (os : List Offer) (first : Bool) → is_offer_of granted o ≡ first
+    → Each P (cond first (filter test os) (cond (test o) (o ∷ filter test (without_first granted os)) (filter test (without_first granted os)))) → Each P (filter test (without_first granted (o ∷ os)))
+less-is P test granted o os true is all = rw is all
+less-is P test granted o os false is all = rw is all
+
+less-by : (P : Offer → Type 0) (test : Offer → Bool) (granted : ℕ) (o : Offer) (os : List Offer) (first passes : Bool) → Each P (cond passes (o ∷ filter test os) (filter test os))
+    → (Each P (filter test os) → Each P (filter test (without_first granted os)))
+    → Each P (cond first (filter test os) (cond passes (o ∷ filter test (without_first granted os)) (filter test (without_first granted os))))
+less-by P test granted o os true true all later = all.1
+less-by P test granted o os true false all later = all
+less-by P test granted o os false true all later = (all.0, later all.1)
+less-by P test granted o os false false all later = later all
+
+each-less : (P : Offer → Type 0) (test : Offer → Bool) (granted : ℕ) (offers : List Offer) → Each P (filter test offers) → Each P (filter test (without_first granted offers))
+each-less P test granted [] all = tt
+each-less P test granted (o ∷ os) all =
+    less-is P test granted o os (is_offer_of granted o) refl (less-by P test granted o os (is_offer_of granted o) (test o) all (each-less P test granted os))
+
+-- the offers without the one that was granted stand once it is
+pub left-stand : (b next : Inside) (r : Recorded) (o rest : OffersState) (i : OffersInside) (want : Wanted) (given full gone : ℕ) (lease : Option Leased) → IsBook b → recorded b ≡ r → OffersStand (standing r) o
+    → o ≡ record rest { wants = want ∷ rest.wants } → offers_seen i ≡ rest → IsGranted b next i.entry want.to given full gone lease → next.pool ≡ b.pool
+    → OffersStand (standing (recorded next)) rest
+left-stand b next r o rest i want given full gone lease k view stand out seen made pool =
+    let n = b.pool.buffers in
+    let h = b.history.entries in
+    let w = (before b).world in
+    let now : OffersStand (before b) o = subst (λ (v : Recorded). OffersStand (standing v) o) (sym view) stand in
+    let found : OffersState = record (offers_seen i) { wants = want ∷ (offers_seen i).wants } in
+    let all : OffersStand (before b) found = subst (OffersStand (before b)) (out ∙ ap (λ (v : OffersState). with_want want v) (sym seen)) now in
+    let entry : Entry = entry_of (Grant i.entry want.to) (grant_step (before b) made.offer) in
+    let follows : Follows (before b) entry = ap (option_map session_and_reply) made.moves.step_is in
+    let origin : made.offer.origin ≡ i.entry = origin-is i.entry w.offers made.offer made.first in
+    let within : made.offer.origin ≤ length h = each-find (IsFrom (length h)) (is_offer_of i.entry) w.offers made.offer (numbers-rise n h).offers_within made.first in
+    let count = count-world_of n h in
+    let are = offers_follow n h entry i.entry all.frames found.wants follows (omega (arith, origin, within, count)) all.are in
+    let same : (i.entry == i.entry) ≡ true = eq-eqb i.entry i.entry refl in
+    let left : OffersAre (world_of n (h ++ entry ∷ [])) i.entry all.frames (offers_seen i).wants =
+        subst (λ (t : Bool). OffersAre (world_of n (h ++ entry ∷ [])) i.entry all.frames (cond t (drop 1 found.wants) found.wants)) same are in
+    let after : standing_of n (h ++ entry ∷ []) ≡ standing_after (before b) entry (Some (grant_step (before b) made.offer)) =
+        standing-push n h entry ∙ ap (standing_after (before b) entry) made.moves.step_is in
+    let by : Each (IsOfferBy i.session.0) (offers_at (world_of n (h ++ entry ∷ [])) i.entry) =
+        subst (λ (s : Standing). Each (IsOfferBy i.session.0) (offers_at s.world i.entry)) (sym after)
+        (each-less (IsOfferBy i.session.0) (is_offer_of i.entry) made.offer.origin w.offers all.by) in
+    let size : next.pool.buffers ≡ n = ap (λ (p : PoolState). p.buffers) pool in
+    let here : standing (recorded next) ≡ standing_of n (h ++ entry ∷ []) = rw (made.moves.entries, size) refl in
+    let stands : OffersStand (standing_of n (h ++ entry ∷ [])) (offers_seen i) = record { frames = all.frames; are = left; by = by } in
+    subst (OffersStand (standing (recorded next))) seen (subst (λ (s : Standing). OffersStand s (offers_seen i)) (sym here) stands)
+
+-- the want that was taken out was the first
+pub first-want : (o rest : OffersState) (want : Wanted) → o ≡ record rest { wants = want ∷ rest.wants } → slice_get o.wants 0 ≡ Some want
+first-want o rest want out = ap (λ (v : OffersState). slice_get v.wants 0) out

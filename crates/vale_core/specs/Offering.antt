@@ -42,7 +42,7 @@ pub record IsOffers (o : Inside) : Type 0 where
 abbrev pub IsOfferBy : ℕ → Offer → Type 0
 IsOfferBy session offer = offer.session ≡ session
 
--- these are the offers of the entry that are not granted, of the frames that it brought
+-- these are the offers of the entry that are not granted, of some frames, and all by its session
 pub record OffersStand (s : Standing) (o : OffersState) : Type 0 where
   pub frames : List Frame
   pub are : OffersAre s.world o.entry frames o.wants

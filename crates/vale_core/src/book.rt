@@ -81,12 +81,14 @@ impl Book {
         }
     }
 
-    /// The record of every step: a legal history, each entry of which had room.
+    /// The record of every step: a legal history of fewer than 2^32 entries, each of which had room.
     pub fn history(&self) -> &History
         ensures entries { result.now.entries ≡ self.now.entries }
         ensures limits { result.now.limits ≡ self.now.limits }
         ensures promised { result.now.promised ≡ promised_of (standing self.now).world }
         ensures roomy { HadRoom self.now }
+        ensures within { IsWithinLimits self.now }
+        ensures few { length self.now.entries < 2 ^ 32 }
         ensures legal { IsLegal self.now.pool self.now.entries }
     {
         &self.history

@@ -1,4 +1,5 @@
 ghost use Rattle.std.specs.Prelude.{false, ◌≡◌, ◌<◌, ◌≤◌, ◌+◌, ◌==◌, ◌^◌, [], ◌∷◌, ◌++◌, All, length, drop, sum, IsSome, slice_get, slice_set, Some, if◌then◌else◌, IfSome, IfNone, option_map};
+ghost use Rattle.vale_batch.specs.Wants.{wanted};
 ghost use Rattle.vale_line.specs.Fitting.{IsFrameSize};
 ghost use Rattle.vale_line.specs.Leased.{buffer_count};
 ghost use Rattle.vale_line.specs.Lines.{leases_of, leased, granted_sizes, with_lease};
@@ -28,14 +29,20 @@ use vale_entry::{Ask, Entry, History, Reply};
 use vale_line::{Lease, LeaseRoom};
 use vale_port::{Port, grant_at, open_port};
 
-/// What a grant gave: the frames for which there was room, those for which there was none, and
-/// those whose port is not open any more. It must be spent with its lease, which is there where
-/// some frames were given.
+/// What a grant gave. It must be spent with its lease.
 pub struct Granted {
+    /// The port to which the frames were offered.
     pub to: PortId,
+    /// The frames for which there was room.
     pub given: u32,
+    /// The frames for which there was none.
     pub full: u32,
+    /// The frames whose port is not open any more.
     pub gone: u32,
+    /// What was wanted: the first `given` of its places are those of the frames with which the
+    /// lease is to be filled.
+    pub want: Want,
+    /// The buffers for the frames given, if some were.
     pub lease: Option<Lease>,
 }
 
@@ -94,6 +101,7 @@ fn give(
     requires few { length want.sizes.items < 2 ^ 32 }
     requires room { sum want.sizes.items ≤ room }
     ensures to { result.to ≡ want.to }
+    ensures want { result.want ≡ want }
     ensures given { result.given ≡ given_by result.lease }
     ensures full { result.given + result.full ≡ length want.sizes.items }
     ensures gone { result.gone ≡ 0 }
@@ -132,6 +140,7 @@ fn give(
         given,
         full,
         gone: 0,
+        want,
         lease,
     }
 }
@@ -141,6 +150,7 @@ fn lose(history: &mut History, session: SessionId, origin: u32, want: Want) -> G
     requires promised { 2 ≤ history.old.promised }
     requires few { length want.sizes.items < 2 ^ 32 }
     ensures to { result.to ≡ want.to }
+    ensures want { result.want ≡ want }
     ensures given { (result.given ≡ 0) × (result.full ≡ 0) }
     ensures gone { result.gone ≡ length want.sizes.items }
     ensures lease { IfSome result.lease (λ _. ⊥) }
@@ -156,6 +166,7 @@ fn lose(history: &mut History, session: SessionId, origin: u32, want: Want) -> G
         given: 0,
         full: 0,
         gone,
+        want,
         lease: None,
     }
 }
@@ -179,8 +190,9 @@ fn count(tally: &mut Tally, granted: &Granted)
 
 impl Book {
     /// Grants the next of an entry's offers, and takes it out: as many of its first frames as there
-    /// is room for get buffers of the port's ring, which the lease owns. Room for the entry, and
-    /// for the completion of the lease, was promised.
+    /// is room for get buffers of the port's ring, which the lease owns. If the port is not open any
+    /// more all frames are gone, and there is no lease. Room for the entry, and for the completion
+    /// of the lease, was promised.
     pub fn grant(&mut self, offers: &mut Offers) -> Granted
         requires stand { OffersStand (standing self.old) offers.old }
         requires next { 1 ≤ length offers.old.wants }
@@ -190,7 +202,10 @@ impl Book {
             ≡ Some (replies.Shared result.given result.full result.gone) }
         ensures room { HasRoom self.old (asks.Grant offers.old.entry result.to) }
         ensures offers { offers.new ≡ record offers.old { wants = drop 1 offers.old.wants } }
-        ensures none { IfNone result.lease (result.given ≡ 0) }
+        ensures stand { OffersStand (standing self.new) offers.new }
+        ensures want { slice_get offers.old.wants 0 ≡ Some (wanted result.want) }
+        ensures to { result.to ≡ result.want.to }
+        ensures given { result.given ≡ given_by result.lease }
         ensures lease { IfSome result.lease (λ lease. (offer : Offer)
             → first_offer (standing self.old).world offers.old.entry ≡ Some offer
             → IsLeaseOf (standing self.old) self.old.region (length self.new.entries) offer

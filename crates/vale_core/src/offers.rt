@@ -65,14 +65,15 @@ impl Offers {
         self.entry
     }
 
-    /// How many frames of the entry were too short to have addresses. None of a sync's or a put's are.
+    /// How many frames of the entry were too short to have addresses: 0 for a sync or a put, whose
+    /// frames are not looked up.
     pub fn short(&self) -> u32
         ensures { result ≡ self.now.short }
     {
         self.short
     }
 
-    /// How many longer frames of the entry went to no port. None of a sync's or a put's did.
+    /// How many longer frames of the entry went to no port: 0 for a sync or a put.
     pub fn lone(&self) -> u32
         ensures { result ≡ self.now.lone }
     {

@@ -6,7 +6,7 @@ use Rattle.vale_entry.specs.Legal.{grant_step}
 use Rattle.vale_core.specs.declared.book.Book.TheInside.{Inside}
 use Rattle.vale_core.proofs.Moves.{before, moved, record-moved, had-room}
 use Rattle.vale_core.proofs.Standing.{found-some, not-found}
-use Rattle.vale_core.proofs.Grants.{LeaseTells, GiveTells, grant-by, entry-is, number-new, sizes-fit, counted-there, counts-fit, leases-told, reply-told, offers-taken, give-call, lose-call, shared-by}
+use Rattle.vale_core.proofs.Grants.{LeaseTells, GiveTells, grant-by, entry-is, number-new, sizes-fit, counted-there, counts-fit, leases-told, reply-told, offers-taken, left-stand, first-want, give-call, lose-call, shared-by}
 use Rattle.vale_core.proofs.book.Book.grant.Goals as goal
 use Rattle.vale_core.proofs.book.Book.grant.Goals.{in-Some, in-None}
 
@@ -100,7 +100,10 @@ returns c =
           said = reply-told b next i.entry want.to r.given r.full 0 r.lease made;
           room = had-room b next (Grant i.entry want.to) (grant_step (before b) made.offer) made.moves;
           offers = offers-taken c.args.offers.now c.take_next-want.new.self i want c.take_next-want.ensures.want c.offers.view_is;
-          none = made.none;
+          stand = left-stand b next c.args.self.now c.args.offers.now c.take_next-want.new.self i want r.given r.full 0 r.lease k c.self.view_is c.requires.stand c.take_next-want.ensures.want c.offers.view_is made refl;
+          want = rw e.want (first-want c.args.offers.now c.take_next-want.new.self want c.take_next-want.ensures.want);
+          to = rw e.want refl;
+          given = made.given_is;
           lease = leases-told b next i.entry want.to r.given r.full 0 r.lease made;
         })
       | in-None w ↦
@@ -114,7 +117,10 @@ returns c =
           said = reply-told b next i.entry want.to 0 0 (length want.sizes) r.lease made;
           room = had-room b next (Grant i.entry want.to) (grant_step (before b) made.offer) made.moves;
           offers = offers-taken c.args.offers.now c.take_next-want.new.self i want c.take_next-want.ensures.want c.offers.view_is;
-          none = made.none;
+          stand = left-stand b next c.args.self.now c.args.offers.now c.take_next-want.new.self i want 0 0 (length want.sizes) r.lease k c.self.view_is c.requires.stand c.take_next-want.ensures.want c.offers.view_is made refl;
+          want = rw e.want (first-want c.args.offers.now c.take_next-want.new.self want c.take_next-want.ensures.want);
+          to = rw e.want refl;
+          given = made.given_is;
           lease = leases-told b next i.entry want.to 0 0 (length want.sizes) r.lease made;
         })
     ]
