@@ -2,7 +2,7 @@
 ghost use Rattle.std.specs.Prelude.{◌≡◌, ◌≤◌, List, ℕ, OnErr};
 ghost use Rattle.nm_io.specs.Counts.{Rose};
 ghost use Rattle.nm_io.specs.Held.{Writes};
-ghost use Rattle.vale.specs.Status.{code_of, cause_text, what_text, status_text, Reports};
+ghost use Rattle.vale.specs.Status.{code_of, cause_text, what_text, over_line, status_text, Reports};
 
 use nm_io::{Failed, Sink, put_all};
 use nm_types::LineCause;
@@ -86,6 +86,27 @@ impl Status {
     }
 }
 
+#[tactic(auto, unfolding(crate::specs::Status::over_line))]
+fn put_over<K: Sink>(out: &mut K, what: What, count: u64, limit: u64) -> Result<(), Failed>
+    ensures writes { Writes (K.holds out.old) (K.holds out.new) result
+        (over_line (what_text what) count limit) }
+    ensures later { K.faults out.old ≤ K.faults out.new }
+    ensures cause { OnErr result (Rose (K.faults out.old) (K.faults out.new)) }
+{
+    put_parts(
+        out,
+        &[
+            Part::Text(b"vale: "),
+            Part::Text(what_text(what)),
+            Part::Text(b" "),
+            Part::Number(count),
+            Part::Text(b" over "),
+            Part::Number(limit),
+            Part::Text(b"\n"),
+        ],
+    )
+}
+
 /// Writes the one line that says how a run ended, or nothing if the whole transcript was written.
 #[tactic(auto, unfolding(crate::specs::Status::usage_line, crate::specs::Status::bad_script_line, crate::specs::Status::read_fault_line, crate::specs::Status::write_fault_line, crate::specs::Status::over_line, crate::specs::Status::no_memory_line))]
 fn put_status<K: Sink>(out: &mut K, status: &Status) -> Result<(), Failed>
@@ -115,18 +136,7 @@ fn put_status<K: Sink>(out: &mut K, status: &Status) -> Result<(), Failed>
             ],
         ),
         Status::WriteFault => put_all(out, b"vale: cannot write\n"),
-        Status::Over { what, count, limit } => put_parts(
-            out,
-            &[
-                Part::Text(b"vale: "),
-                Part::Text(what_text(*what)),
-                Part::Text(b" "),
-                Part::Number(*count),
-                Part::Text(b" over "),
-                Part::Number(*limit),
-                Part::Text(b"\n"),
-            ],
-        ),
+        Status::Over { what, count, limit } => put_over(out, *what, *count, *limit),
         Status::NoMemory => put_all(out, b"vale: no memory\n"),
     }
 }

@@ -60,28 +60,16 @@ fn are_unmarked(items: &[Item]) -> bool
 pub(crate) fn is_printable(number: u32, entry: &Entry) -> bool
     ensures { result ≡ is_printable number entry.now.session.0 entry.now.ask entry.now.reply }
 {
-    let session = entry.session.0;
+    let asker = entry.session.0;
     match (&entry.ask, &entry.reply) {
-        (Ask::Enter { .. }, Reply::Made) => session == number,
-        (
-            Ask::Open {
-                session: asked,
-                name,
-                ..
-            },
-            Reply::Opened,
-        ) => session == asked.0 && is_name(name),
-        (
-            Ask::Open {
-                session: asked,
-                name,
-                ..
-            },
-            Reply::Refused { fault },
-        ) => session == asked.0 && (is_name(name) && is_refusal(fault)),
+        (Ask::Enter { .. }, Reply::Made) => asker == number,
+        (Ask::Open { session, name, .. }, Reply::Opened) => asker == session.0 && is_name(name),
+        (Ask::Open { session, name, .. }, Reply::Refused { fault }) => {
+            asker == session.0 && (is_name(name) && is_refusal(fault))
+        }
         (Ask::Send { .. }, Reply::Offered { to, .. }) => dests_rise(to.as_slice()),
         (Ask::Sync { .. } | Ask::Get { .. }, Reply::Gave { to, .. }) => dests_rise(to.as_slice()),
-        (Ask::Leave { session: left }, Reply::Made) => session == left.0,
+        (Ask::Leave { session }, Reply::Made) => asker == session.0,
         (Ask::Reset { fault, .. }, Reply::Made) => is_check_fault(fault),
         (Ask::PutKept { .. }, Reply::Took { items, to }) => {
             are_unmarked(items.as_slice()) && dests_rise(to.as_slice())

@@ -129,46 +129,47 @@ fn a_sink_that_fails_holds_a_prefix(rt: HostRuntime) -> Result<(), Fail> {
 const RESETS: &[u8] =
     b"1 1 reset 2 rx headout 1 0 0\n2 1 reset 2 tx curout 1 2 3\n3 1 reset 2 tx indirect 0\n4 1 reset 2 tx indexout 0 66\n5 1 reset 2 tx notheld 0 6\n6 1 reset 2 tx doubled 1 2\n7 1 reset 4 rx unannounced 0 10 14\n8 1 reset 2 tx longlen 0 2049\n9 1 reset 2 tx fragment 0\n";
 
+const RESET_FAULTS: [(u32, Side, SyncFault); 9] = [
+    (
+        2,
+        Side::Rx,
+        SyncFault::HeadOut {
+            head: 1,
+            from: 0,
+            to: 0,
+        },
+    ),
+    (
+        2,
+        Side::Tx,
+        SyncFault::CurOut {
+            cur: 1,
+            from: 2,
+            to: 3,
+        },
+    ),
+    (2, Side::Tx, SyncFault::Indirect { slot: 0 }),
+    (2, Side::Tx, SyncFault::IndexOut { slot: 0, idx: 66 }),
+    (2, Side::Tx, SyncFault::NotHeld { slot: 0, idx: 6 }),
+    (2, Side::Tx, SyncFault::Doubled { slot: 1, idx: 2 }),
+    (
+        4,
+        Side::Rx,
+        SyncFault::Unannounced {
+            slot: 0,
+            idx: 10,
+            was: 14,
+        },
+    ),
+    (2, Side::Tx, SyncFault::LongLen { slot: 0, len: 2049 }),
+    (2, Side::Tx, SyncFault::Fragment { slot: 0 }),
+];
+
 #[test]
 fn resets_are_written(rt: HostRuntime) -> Result<(), Fail> {
-    let (slot, idx) = (0, 6);
     let mut out = MemorySink::new(rt.alloc(), Vec::new(rt.alloc()));
     let mut number = 0u32;
-    for (port, side, fault) in [
-        (
-            2,
-            Side::Rx,
-            SyncFault::HeadOut {
-                head: 1,
-                from: 0,
-                to: 0,
-            },
-        ),
-        (
-            2,
-            Side::Tx,
-            SyncFault::CurOut {
-                cur: 1,
-                from: 2,
-                to: 3,
-            },
-        ),
-        (2, Side::Tx, SyncFault::Indirect { slot }),
-        (2, Side::Tx, SyncFault::IndexOut { slot, idx: 66 }),
-        (2, Side::Tx, SyncFault::NotHeld { slot, idx }),
-        (2, Side::Tx, SyncFault::Doubled { slot: 1, idx: 2 }),
-        (
-            4,
-            Side::Rx,
-            SyncFault::Unannounced {
-                slot,
-                idx: 10,
-                was: 14,
-            },
-        ),
-        (2, Side::Tx, SyncFault::LongLen { slot, len: 2049 }),
-        (2, Side::Tx, SyncFault::Fragment { slot }),
-    ] {
+    for (port, side, fault) in RESET_FAULTS {
         number = number.saturating_add(1);
         let port = PortId(port);
         put_line(
