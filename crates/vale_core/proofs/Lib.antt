@@ -18,7 +18,6 @@ pub mod PortLines
 pub mod OfferedTo
 pub mod ReadMoves
 pub mod Dones
-pub mod Owing
 pub mod Leaves
 pub mod Found
 pub mod Notes

@@ -57,9 +57,11 @@ few-frames wants monitor count is few = unmapped wants (subst (Each HasFew) (sym
     by_count : (b : Bool) (to : PortId) → Each HasFew (cond b [] (want_all to count ∷ []))
     by_count true to = tt
     by_count false to = let sizes = length-replicate {A = ℕ} count 1 in (omega (arith, sizes, few), tt)
+
     by_monitor : (monitor : Option PortId) → Each HasFew (wants_by monitor count)
     by_monitor None = tt
     by_monitor (Some to) = by_count (count == 0) to
+
     unmapped : (wants : List Want) → Each HasFew (map wanted wants) → Each IsFewFrames wants
     unmapped [] all = tt
     unmapped (w ∷ ws) all = (all.0, unmapped ws all.1)

@@ -18,8 +18,8 @@ use Rattle.vale_port.specs.declared.port.Opening.{Opening}
 use Rattle.vale_parts.proofs.AllParts.{tables_stay}
 use Rattle.vale_core.specs.declared.book.Book.TheInside.{Inside}
 use Rattle.vale_core.specs.BookView.{recorded, parts_in, IsBook}
-use Rattle.vale_core.specs.Recorded.{IsRefusal}
-use Rattle.vale_core.specs.OpenAnswers.{ByFault, IsNamed, IsRecordedAs, IsUnopened}
+use Rattle.vale_core.specs.Recorded.{IsRefusal, IsRecordedAs}
+use Rattle.vale_core.specs.OpenAnswers.{ByFault, IsNamed, IsUnopened}
 use Rattle.vale_core.specs.OpenParts.{refusal_for, entry_for}
 use Rattle.vale_core.proofs.Moves.{Moves, Stays, before, fits-step, full-step, free-same, moved, stayed, record-moved, record-stayed, had-room}
 use Rattle.vale_core.proofs.OpenMoves.{opening_of, open-made, refusal-is}

@@ -4,7 +4,7 @@ use Rattle.std.specs.List.{list_any, position}
 use Rattle.std.proofs.lemmas.List.{map-append, map-set}
 use Rattle.std.proofs.lemmas.List.Folds.{list_any-append, list_any_at}
 use Rattle.std.proofs.lemmas.List.Quantifiers.{position-Some}
-use Rattle.std.proofs.lemmas.Option.{slice_get-map}
+use Rattle.std.proofs.lemmas.Option.{slice_get-get_or, slice_get-map}
 use Rattle.std.proofs.lemmas.Slice.Eq.{bytes_eq-Decides}
 use Rattle.vale_names.proofs.SwitchLemmas.{position_none}
 use Rattle.nm_types.specs.Names.{switch_of}
@@ -20,6 +20,7 @@ use Rattle.vale_core.specs.declared.tables.SwitchTable.{SwitchTable}
 use Rattle.vale_core.specs.SwitchTables.{is_for_switch}
 use Rattle.vale_core.specs.BookView.{table_seen}
 use Rattle.vale_core.specs.OpenParts.{is_port_on, is_vacant, name_of_state, name_of_port, StillTables}
+use Rattle.vale_core.proofs.SwitchTables.{any-map, seen-any}
 
 not-true : (b : Bool) → not b ≡ true → b ≡ false
 not-true true e = absurd cc
@@ -29,19 +30,10 @@ or-true : (b : Bool) → (b || true) ≡ true
 or-true true = refl
 or-true false = refl
 
-any-map : {X Y : Type 0} (test : Y → Bool) (f : X → Y) (xs : List X) → list_any test (map f xs) ≡ list_any (λ x. test (f x)) xs
-any-map test f [] = refl
-any-map test f (x ∷ xs) = ap (λ (b : Bool). test (f x) || b) (any-map test f xs)
-
 any-set : {X : Type 0} (test : X → Bool) (xs : List X) (at : ℕ) (x : X) → at < length xs → test x ≡ true → list_any test (slice_set xs at x) ≡ true
 any-set test [] at x within passes = absurd (omega (arith, within))
 any-set test (y ∷ ys) zero x within passes = ap (λ (b : Bool). b || list_any test ys) passes
 any-set test (y ∷ ys) (suc at) x within passes = ap (λ (b : Bool). test y || b) (any-set test ys at x (omega (arith, within)) passes) ∙ or-true (test y)
-
-get-there : {X : Type 0} (xs : List X) (at : ℕ) (d : X) → at < length xs → slice_get xs at ≡ Some (get_or xs at d)
-get-there [] at d within = absurd (omega (arith, within))
-get-there (x ∷ xs) zero d within = refl
-get-there (x ∷ xs) (suc at) d within = get-there xs at d (omega (arith, within))
 
 -- the ports of a list and those of a world are on the same switches
 used-same : (switch : List ℕ) (ps : List PortState) (ports : List Port) → map name_of_state ps ≡ map name_of_port ports
@@ -60,7 +52,7 @@ given-at ps tables at table found is =
     let facts = position-Some (is_vacant ps) tables at table found in
     record {
       within = facts.0;
-      here = get-there tables at table facts.0 ∙ ap (λ (t : SwitchTable). Some t) (sym is);
+      here = slice_get-get_or tables at table facts.0 ∙ ap (λ (t : SwitchTable). Some t) (sym is);
       vacant = not-true (list_any (is_port_on (switch_of table.label)) ps) (ap (is_vacant ps) is ∙ facts.1);
     }
 
@@ -98,9 +90,6 @@ added-kept ps tables new empty none = λ pool h same are.
     (fresh_added pool h (map table_seen tables) (switch_of new.label) are none)
 
 -- a search tells whether a table is there
-seen-there : (switch : List ℕ) (tables : List SwitchTable) → has_table switch (map table_seen tables) ≡ list_any (is_for_switch switch) tables
-seen-there switch tables = any-map (is_table_of switch) table_seen tables
-
 found-any : (switch : List ℕ) (tables : List SwitchTable) (at : ℕ) → position (is_for_switch switch) tables ≡ Some at → list_any (is_for_switch switch) tables ≡ true
 found-any switch [] at found = absurd cc
 found-any switch (t ∷ ts) at found =
@@ -111,5 +100,5 @@ pub seen-found : (switch : List ℕ) (tables : List SwitchTable) → has_table s
 seen-found switch tables = by_place (position (is_for_switch switch) tables) refl
   where
     by_place : (found : Option ℕ) → position (is_for_switch switch) tables ≡ found → has_table switch (map table_seen tables) ≡ is_some found
-    by_place None is = seen-there switch tables ∙ position_none (is_for_switch switch) tables is
-    by_place (Some at) is = seen-there switch tables ∙ found-any switch tables at is
+    by_place None is = seen-any switch tables ∙ position_none (is_for_switch switch) tables is
+    by_place (Some at) is = seen-any switch tables ∙ found-any switch tables at is

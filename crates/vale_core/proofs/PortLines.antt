@@ -8,21 +8,11 @@ use Rattle.nm_region.specs.Buffers.{Buffer}
 use Rattle.vale_line.specs.declared.got.Got.{Got}
 use Rattle.vale_line.specs.Gots.{buffers_of, buffer_of}
 use Rattle.vale_line.specs.Lines.{HeldLot, is_done, gots_of, held_gots, ready_gots, behind_done, given_by_sync, put_lot}
+use Rattle.vale_entry.proofs.ListLaws.{each-at}
 use Rattle.vale_port.specs.Laws.{with_line, line_after_put}
 use Rattle.vale_port.specs.Ports.{PortState}
 use Rattle.vale_core.specs.BookView.{AreOf, HasBuffersOf}
 use Rattle.vale_core.proofs.Standing.{each-append, each-left, each-right, each-take, each-drop}
-
-pub each-at : {X : Type 0} (P : X → Type 0) (xs : List X) (place : ℕ) (x : X) → slice_get xs place ≡ Some x → Each P xs → P x
-each-at P [] place x here all = absurd cc
-each-at P (y ∷ ys) zero x here all = let same : y ≡ x = cc in subst P same all.0
-each-at P (y ∷ ys) (suc place) x here all = each-at P ys place x here all.1
-
--- one of a list changes, and keeps what holds of each
-pub each-set : {X : Type 0} (P : X → Type 0) (xs : List X) (place : ℕ) (x new : X) → slice_get xs place ≡ Some x → (P x → P new) → Each P xs → Each P (slice_set xs place new)
-each-set P [] place x new here keeps all = absurd cc
-each-set P (y ∷ ys) zero x new here keeps all = let same : y ≡ x = cc in (keeps (subst P same all.0), all.1)
-each-set P (y ∷ ys) (suc place) x new here keeps all = (all.0, each-set P ys place x new here keeps all.1)
 
 -- the buffers of each lot
 abbrev pub IsLotOf : ℕ → HeldLot → Type 0
@@ -54,7 +44,7 @@ of-synced region back p of all =
 
 pub of-given : (region : ℕ) (ps : List PortState) (place : ℕ) (p : PortState) → slice_get ps place ≡ Some p → Each (HasBuffersOf region) ps → AreOf region (buffers_of (ready_gots p.line.lots))
 of-given region ps place p here all =
-    of-lots region (take_while is_done p.line.lots) (each-take (IsLotOf region) (prefix_len is_done p.line.lots) p.line.lots (lots-of region p.line.lots (held-of region p (each-at (HasBuffersOf region) ps place p here all))))
+    of-lots region (take_while is_done p.line.lots) (each-take (IsLotOf region) (prefix_len is_done p.line.lots) p.line.lots (lots-of region p.line.lots (held-of region p (each-at (HasBuffersOf region) ps place p all here))))
 
 pub of-first : (region n : ℕ) (gots : List Got) → AreOf region (buffers_of gots) → AreOf region (buffers_of (take n gots))
 of-first region zero gots of = tt

@@ -39,6 +39,7 @@ use Rattle.vale_entry.specs.Pipe.{indices_of as item_indices}
 use Rattle.vale_entry.specs.Stored.{Fits, IsFull}
 use Rattle.vale_entry.proofs.Worlds.{count-world_of}
 use Rattle.vale_entry.proofs.HistoryLaws.{numbers-rise}
+use Rattle.vale_entry.proofs.ListLaws.{each-at, each-set}
 use Rattle.vale_entry.proofs.HistoryPlaces.{helds-rise}
 use Rattle.vale_entry.proofs.Places.{open-place, peer-place, open_port-world, first_idle-place}
 use Rattle.vale_port.specs.Kept.{bytes_of}
@@ -74,7 +75,7 @@ use Rattle.vale_core.specs.Recorded.{entry_of, IsRefusal}
 use Rattle.vale_core.proofs.MonitorWants.{wants-monitored}
 use Rattle.vale_core.proofs.Moves.{Moves, Stays, before, fits-step, full-step}
 use Rattle.vale_core.proofs.OfferedTo.{by-session, StandOffered, offered-to}
-use Rattle.vale_core.proofs.PortLines.{each-at, each-set, of-first, of-put}
+use Rattle.vale_core.proofs.PortLines.{of-first, of-put}
 use Rattle.vale_core.proofs.PutLists.{items-first, indices-items, frames-items}
 use Rattle.vale_core.proofs.ReadMoves.{open_at, IsRest}
 use Rattle.vale_core.proofs.Rooms.{step-recorded}
@@ -401,7 +402,7 @@ new-here b p gots is = λ q e.
     let h = b.history.entries in
     let here = is.there.at in
     let same : q ≡ here.state = cc (e, here.state_here) in
-    let within = each-at (HasLotsUpTo (length h)) (before b).world.ports p.place is.peer here.here (numbers-rise b.pool.buffers h).lots_within in
+    let within = each-at (HasLotsUpTo (length h)) (before b).world.ports p.place is.peer (numbers-rise b.pool.buffers h).lots_within here.here in
     ap (λ (x : PortState). is_there (length h + 1) (leases_of x.line.lots)) same ∙ new_is_new (record { port = is.peer; held = here.held }) here.state (length h) (length h + 1) here.is_seat within (omega arith)
 
 pub record CountsFit (b : Inside) (p : Putting) : Type 0 where
@@ -493,8 +494,9 @@ put-moves (Ok a) b next p gots k is of single entries promised limits fits seats
       buffers = rest.buffers;
       free_are = subst (λ (x : Parts). AreOf b.region.region x.free.free) (sym rest.parts) k.free_are;
       lines_are = subst (Each (HasBuffersOf b.region.region)) (sym (line here.state here.state_here))
-          (each-set (HasBuffersOf b.region.region) b.ports.items p.place here.state (with_line (line_after_put (lot_id (length h + 1)) (taken_gots p gots) here.state.line) here.state) here.state_here
-          (of-put b.region.region (lot_id (length h + 1)) (taken_gots p gots) here.state (of-first b.region.region p.took gots of)) k.lines_are);
+          (each-set (HasBuffersOf b.region.region) b.ports.items p.place (with_line (line_after_put (lot_id (length h + 1)) (taken_gots p gots) here.state.line) here.state) k.lines_are
+          (of-put b.region.region (lot_id (length h + 1)) (taken_gots p gots) here.state (of-first b.region.region p.took gots of)
+          (each-at (HasBuffersOf b.region.region) b.ports.items p.place here.state k.lines_are here.state_here)));
     }
 
 pub put-stays : {A E : Type 0} (made : Result A E) (b next : Inside) (pending gots : List Got) → next.history.limits ≡ b.history.limits
@@ -549,7 +551,7 @@ put-given b next p gots put k is pool entries by idle back =
     let here = is.there.at in
     let monitor = transmit_monitor w is.port.id in
     let region = b.region.region in
-    let own = each-left (λ (x : Buffer). x.region ≡ region) here.state.line.idle _ (each-at (HasBuffersOf region) b.ports.items p.place here.state here.state_here k.lines_are) in
+    let own = each-left (λ (x : Buffer). x.region ≡ region) here.state.line.idle _ (each-at (HasBuffersOf region) b.ports.items p.place here.state k.lines_are here.state_here) in
     let first = first_idle-place p.took s.holdings.ports w.entry_count p.place here.held (helds-rise b.pool.buffers h k.stands.legal) here.held_here in
     let given = idle (seats_of w.ports s.holdings.ports) (record { port = is.peer; held = here.held }) k.stands.ports_are (seats-at w.ports s.holdings.ports p.place is.peer here.held here.here here.held_here) in
     let offers = offered-to b next (put_entry p (taken_items p gots)) p.session is.port.session monitor (taken_frames p gots) (wants_put p) put.offers pool entries by.offers is.session (wants-are b p gots is)

@@ -34,6 +34,7 @@ use Rattle.vale_entry.specs.Stored.{Fits, IsFull}
 use Rattle.vale_entry.proofs.Worlds.{count-world_of}
 use Rattle.vale_entry.proofs.HistoryLaws.{numbers-rise}
 use Rattle.vale_entry.proofs.HistoryPlaces.{delivered_buffers-world}
+use Rattle.vale_entry.proofs.ListLaws.{each-at, each-set}
 use Rattle.vale_entry.proofs.Places.{open-place}
 use Rattle.vale_port.specs.Laws.{with_line}
 use Rattle.vale_port.specs.Lists.{IsFoundAt, IsNotFound, ChangesSeat, OfSeat, OfState}
@@ -67,7 +68,7 @@ use Rattle.vale_core.proofs.Moves.{Moves, Stays, before, fits-step, full-step}
 use Rattle.vale_core.proofs.OfferedTo.{by-session, StandOffered, offered-to}
 use Rattle.vale_core.proofs.Rooms.{step-recorded}
 use Rattle.vale_core.proofs.Standing.{IsHere, met, found-here, not-found, ports-rising}
-use Rattle.vale_core.proofs.PortLines.{each-set, of-synced, of-given}
+use Rattle.vale_core.proofs.PortLines.{of-synced, of-given}
 
 -- ---- the two asks
 
@@ -281,8 +282,8 @@ read-moves (Ok a) b next r back k is of entries promised limits fits seats line 
       buffers = rest.buffers;
       free_are = subst (λ (p : Parts). AreOf b.region.region p.free.free) (sym rest.parts) k.free_are;
       lines_are = subst (Each (HasBuffersOf b.region.region)) (sym (line here.state here.state_here))
-          (each-set (HasBuffersOf b.region.region) b.ports.items r.place here.state (with_line (given_by_sync back here.state.line) here.state) here.state_here
-          (of-synced b.region.region back here.state of) k.lines_are);
+          (each-set (HasBuffersOf b.region.region) b.ports.items r.place (with_line (given_by_sync back here.state.line) here.state) k.lines_are
+          (of-synced b.region.region back here.state of (each-at (HasBuffersOf b.region.region) b.ports.items r.place here.state k.lines_are here.state_here)));
     }
 
 pub read-stays : {A E : Type 0} (made : Result A E) (b next : Inside) → next.history.limits ≡ b.history.limits

@@ -6,18 +6,7 @@ use Rattle.nm_region.specs.Buffers.{Buffer}
 use Rattle.nm_pool.specs.Free.{PoolState}
 use Rattle.vale_parts.specs.FreeBuffers.{CanAllBeGiven, pool_less, pool_with, pool_with_all}
 use Rattle.vale_parts.specs.FreeLaws.{IsTakenBack}
-
-pub can-front : (pool : PoolState) (a b : List Buffer) → CanAllBeGiven pool (a ++ b) → CanAllBeGiven pool a
-can-front pool [] b can = tt
-can-front pool (x ∷ xs) b can = (can.0, can-front (pool_with x pool) xs b can.1)
-
-pub can-rest : (pool : PoolState) (a b : List Buffer) → CanAllBeGiven pool (a ++ b) → CanAllBeGiven (pool_with_all a pool) b
-can-rest pool [] b can = can
-can-rest pool (x ∷ xs) b can = can-rest (pool_with x pool) xs b can.1
-
-pub with-both : (pool : PoolState) (a b : List Buffer) → pool_with_all (a ++ b) pool ≡ pool_with_all b (pool_with_all a pool)
-with-both pool [] b = refl
-with-both pool (x ∷ xs) b = with-both (pool_with x pool) xs b
+use Rattle.vale_core.proofs.GivenBack.{can-front, can-rest, with-both}
 
 -- two parts that can go back, the first one first
 pub record AreBack (was left : PoolState) (a b : List Buffer) : Type 0 where

@@ -30,8 +30,8 @@ use Rattle.vale_port.specs.Lists.{OfState}
 use Rattle.vale_port.specs.Ports.{PortState}
 use Rattle.vale_core.specs.declared.book.Book.TheInside.{Inside}
 use Rattle.vale_core.specs.BookView.{recorded, parts_in, IsBook}
-use Rattle.vale_core.specs.Recorded.{IsRefusal}
-use Rattle.vale_core.specs.WatchAnswers.{IsAnswered, IsUnwatched}
+use Rattle.vale_core.specs.Recorded.{IsRefusal, IsRecordedAs}
+use Rattle.vale_core.specs.WatchAnswers.{IsUnwatched}
 use Rattle.vale_core.specs.WatchSteps.{reply_of_watch, watcher_of, IsWatch, IsNoWatch}
 use Rattle.vale_core.proofs.Moves.{Moves, Stays, before, moved, record-moved, had-room, stayed, record-stayed, fits-step, full-step}
 use Rattle.vale_core.proofs.Found.{IsOpenHere, session-here}
@@ -117,10 +117,10 @@ watch-numbers (Some watch) by is = sym (ap id_of is)
 -- what a book answers and what stands then
 pub record Outcomes (b next : Inside) (ask : Ask) (r : Result PortId WatchFault) : Type 0 where
   pub book : IsBook next
-  pub watched : IfOk r (λ (target : PortId). IsAnswered (recorded b) (recorded next) ask (replies.Watching target))
+  pub watched : IfOk r (λ (target : PortId). IsRecordedAs (recorded b) (recorded next) ask (replies.Watching target))
   pub unwatched : IfErr r (IsUnwatched (recorded b) (recorded next) ask)
 
-answered-by : (b next : Inside) (ask : Ask) (made : Outcome) (reply : Reply) → Moves b next ask made → made.reply ≡ reply → IsAnswered (recorded b) (recorded next) ask reply
+answered-by : (b next : Inside) (ask : Ask) (made : Outcome) (reply : Reply) → Moves b next ask made → made.reply ≡ reply → IsRecordedAs (recorded b) (recorded next) ask reply
 answered-by b next ask made reply m is = record {
   reply_is = ap (option_map reply_of) m.step_is ∙ ap (λ (x : Reply). Some x) is;
   entry = record-moved b next ask made m;
@@ -211,7 +211,7 @@ module _ (b : Inside) (monitor : PortId) (name : List ℕ) (sides : Sides) (plac
   by-watched by (Some target) is watched = is-watched target (found-target target is) by watched
 
   noted : (fault : WatchFault) (reply : Reply) (h : Stored) (ws : Watching) → IsNote b ask session.0 reply
-      → ((next : Inside) → IsAnswered (recorded b) (recorded next) ask reply → IsUnwatched (recorded b) (recorded next) ask fault)
+      → ((next : Inside) → IsRecordedAs (recorded b) (recorded next) ask reply → IsUnwatched (recorded b) (recorded next) ask fault)
       → h.entries ≡ b.history.entries ++ (record { session = session; ask = ask; reply = reply }) ∷ [] → Fits b.history 1 0 → h.promised ≡ b.history.promised → h.limits ≡ b.history.limits
       → ws ≡ b.watches → Outcomes b (with_watches b h ws) ask (Err fault)
   noted fault reply h ws note says entries fits promised limits same =

@@ -1,14 +1,12 @@
 -- What an opening is answered, and what stands in the record after it.
-use Rattle.std.specs.Prelude.{◌≡◌, Some, option_map}
+use Rattle.std.specs.Prelude.{◌≡◌}
 use Rattle.nm_types.specs.declared.fault.StepFault.TheVariants as steps
 use Rattle.nm_types.specs.declared.fault.StepFault.{StepFault}
 use Rattle.nm_types.specs.declared.fault.OpenFault.{OpenFault}
 use Rattle.nm_types.specs.declared.fault.OpenFault.TheVariants.{BadSize, SwitchesFull, PortsFull, NameTaken, NoBuffers, RecordFull, NoMemory}
 use Rattle.vale_entry.specs.declared.entry.Ask.{Ask}
-use Rattle.vale_entry.specs.declared.entry.Reply.{Reply}
 use Rattle.vale_entry.specs.declared.entry.Reply.TheVariants.{Refused}
-use Rattle.vale_entry.specs.Legal.{Outcome, step}
-use Rattle.vale_core.specs.Recorded.{Recorded, standing, after_ask, IsRefusal, HasRoom}
+use Rattle.vale_core.specs.Recorded.{Recorded, IsRefusal, IsRecordedAs}
 
 -- an opening is refused by the name, the sizes or the free buffers, or for want of room or memory
 abbrev pub ByFault : (OpenFault → Type 0) → (StepFault → Type 0) → OpenFault → Type 0
@@ -22,12 +20,6 @@ ByFault named full NoMemory = full steps.NoMemory
 
 abbrev pub IsNamed : OpenFault → Type 0
 IsNamed fault = ByFault (λ named. Unit {0}) (λ full. ⊥) fault
-
--- the step of the ask has this reply, and the record, which had room for it, has its entry
-pub record IsRecordedAs (old new : Recorded) (ask : Ask) (reply : Reply) : Type 0 where
-  pub reply_is : option_map (λ (made : Outcome). made.reply) (step (standing old) ask) ≡ Some reply
-  pub entry : new ≡ after_ask old ask
-  pub room : HasRoom old ask
 
 -- a refusal by the name, the sizes or the free buffers is an entry; want of room or memory is none
 abbrev pub IsUnopened : Recorded → Recorded → Ask → OpenFault → Type 0

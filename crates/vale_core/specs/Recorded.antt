@@ -1,11 +1,12 @@
 -- What a book stands for: the entries that were made over a pool of buffers, within limits.
-use Rattle.std.specs.Prelude.{ℕ, ◌≡◌, ◌+◌, ◌<◌, ◌≤◌, List, [], ◌∷◌, ◌++◌, Option, Some, None}
+use Rattle.std.specs.Prelude.{ℕ, ◌≡◌, ◌+◌, ◌<◌, ◌≤◌, List, [], ◌∷◌, ◌++◌, Option, Some, None, option_map}
 use Rattle.nm_types.specs.declared.limits.Limits.{Limits}
 use Rattle.nm_types.specs.declared.fault.Part.TheVariants.{Entries, Bytes}
 use Rattle.nm_types.specs.declared.fault.StepFault.{StepFault}
 use Rattle.nm_types.specs.declared.fault.StepFault.TheVariants.{RecordFull, NoMemory}
 use Rattle.vale_entry.specs.declared.entry.Ask.{Ask}
 use Rattle.vale_entry.specs.declared.entry.Entry.{Entry}
+use Rattle.vale_entry.specs.declared.entry.Reply.{Reply}
 use Rattle.vale_entry.specs.Legal.{Standing, Outcome, step, recorded_step, standing_of, kept_ask}
 use Rattle.vale_entry.specs.Room.{room_used, bytes_of, frame_bytes}
 
@@ -62,6 +63,12 @@ room_by b ask (Some made) = HasRoomFor b ask made
 
 abbrev pub HasRoom : Recorded → Ask → Type 0
 HasRoom b ask = room_by b ask (step (standing b) ask)
+
+-- the step of the ask has this reply, and the record, which had room for it, has its entry
+pub record IsRecordedAs (old new : Recorded) (ask : Ask) (reply : Reply) : Type 0 where
+  pub reply_is : option_map (λ (made : Outcome). made.reply) (step (standing old) ask) ≡ Some reply
+  pub entry : new ≡ after_ask old ask
+  pub room : HasRoom old ask
 
 -- what each entry records had room in the record of those before it
 abbrev pub HadRoomFrom : Recorded → List Entry → Type 0

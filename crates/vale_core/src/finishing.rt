@@ -12,7 +12,7 @@ ghost use Rattle.vale_core.specs.BookView.{AreOf};
 ghost use Rattle.vale_core.specs.Recorded.{standing, after_ask, HasRoom};
 
 use crate::book::Book;
-use crate::freeing::give_back;
+use crate::buffers::{give_back, indices_into};
 use crate::noting::session_at;
 use nm_region::Buf;
 use nm_types::{Chain, PortId};
@@ -34,18 +34,6 @@ fn leases_out_at(ports: &[Port], place: usize) -> u32
     ensures seat { OfSeat (λ seat. result ≡ leases_out seat.port) ports.now place }
 {
     ports[place].leases_out()
-}
-
-/// Writes the indices of buffers into an empty vector with room for them.
-fn indices(mut numbers: Vec<u32>, bufs: &[Buf]) -> Vec<u32>
-    requires none { numbers.items ≡ [] }
-    requires room { length bufs.now ≤ vec_capacity numbers }
-    ensures { result.items ≡ indices_of bufs.now }
-{
-    for buf in bufs {
-        numbers.push_reserved(buf.index());
-    }
-    numbers
 }
 
 impl Book {
@@ -78,7 +66,7 @@ impl Book {
         }
         let session = session_at(&self.ports, place);
         let (own, count, numbers) = close_at(&mut self.ports, place);
-        let list = indices(numbers, &bufs);
+        let list = indices_into(numbers, &bufs);
         give_back(&mut self.pool, own);
         give_back(&mut self.pool, bufs);
         self.names.gone(port);

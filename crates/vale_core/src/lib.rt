@@ -4,12 +4,12 @@
 #![tactic(auto)]
 
 mod book;
+mod buffers;
 mod closing;
 mod coming;
 mod completing;
 mod fault;
 mod finishing;
-mod freeing;
 mod granting;
 mod leaving;
 mod monitored;
@@ -22,10 +22,10 @@ mod reading;
 mod sending;
 mod shutting;
 mod tables;
-mod wanting;
-mod watching;
 #[cfg(test)]
 mod tests;
+mod wanting;
+mod watching;
 
 pub use book::Book;
 pub use fault::PutFault;

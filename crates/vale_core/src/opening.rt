@@ -15,12 +15,13 @@ ghost use Rattle.vale_parts.specs.SwitchTables.{has_table};
 ghost use Rattle.vale_parts.specs.FreeBuffers.{CanAllBeGiven, pool_less, pool_with_all};
 ghost use Rattle.vale_parts.specs.FreeLaws.{IsTakenBack};
 ghost use Rattle.vale_core.specs.BookView.{table_seen, AreOf};
-ghost use Rattle.vale_core.specs.Recorded.{standing};
-ghost use Rattle.vale_core.specs.OpenAnswers.{IsRecordedAs, IsUnopened, ByFault, IsNamed};
+ghost use Rattle.vale_core.specs.Recorded.{standing, IsRecordedAs};
+ghost use Rattle.vale_core.specs.OpenAnswers.{IsUnopened, ByFault, IsNamed};
 ghost use Rattle.vale_core.specs.OpenParts.{is_port_on, is_vacant, HasTableFor, StillTables};
 ghost use Rattle.vale_core.specs.OpenParts.{ComesOut, IsOpened, state_for, entry_for, refusal_for};
 
 use crate::book::Book;
+use crate::buffers::{give_back, indices};
 use crate::tables::{SwitchTable, table_of};
 use nm_pool::Pool;
 use nm_region::Buf;
@@ -126,18 +127,6 @@ fn place_table(
 
 // ---- The buffers.
 
-/// Makes buffers free again, in their order.
-fn give_back(pool: &mut Pool, mut bufs: Vec<Buf>)
-    requires { CanAllBeGiven pool.old bufs.items }
-    ensures { pool.new ≡ pool_with_all bufs.items pool.old }
-{
-    bufs.reverse();
-    while let Some(buf) = bufs.pop() {
-        pool.give(buf);
-    }
-    bufs.destroy_empty();
-}
-
 /// Makes all that were taken free again.
 fn give_all(pool: &mut Pool, taken: Taken)
     requires { CanAllBeGiven pool.old (taken.tx.items ++ taken.rx.items ++ taken.extra.items) }
@@ -180,17 +169,6 @@ fn take_all(alloc: Global, pool: &mut Pool, opening: &Opening, rx: u32) -> Resul
         rx: second,
         extra: third,
     })
-}
-
-/// The indices of buffers.
-fn indices(alloc: Global, bufs: &[Buf]) -> Result<Vec<u32>, NoMemory>
-    ensures { IfOk result (λ indices. indices.items ≡ indices_of bufs.now) }
-{
-    let mut indices = Vec::with_capacity(alloc, bufs.len())?;
-    for buf in bufs {
-        indices.push_reserved(buf.index());
-    }
-    Ok(indices)
 }
 
 // ---- The port.

@@ -30,6 +30,7 @@ ghost use Rattle.vale_core.specs.Putting.{item_of, items_of, wants_put, room_of_
 use crate::book::Book;
 use crate::fault::PutFault;
 use crate::monitored::Monitored;
+use crate::noting::session_at;
 use crate::offers::Offers;
 use crate::reading::few_are_counted;
 use nm_count::Tally;
@@ -354,14 +355,6 @@ fn peer_of(ports: &[Port], names: &Names, place: usize) -> Option<PortId>
     names.find(&ports[place].name().peer())
 }
 
-/// The session of the port at a place.
-fn session_of(ports: &[Port], place: usize) -> SessionId
-    requires { place < length ports.now }
-    ensures { OfState (λ p. result.0 ≡ p.session) ports.now place }
-{
-    ports[place].session()
-}
-
 /// How many of so many frames the port at a place takes.
 fn taken_by(ports: &[Port], place: usize, offered: u32) -> u32
     requires { place < length ports.now }
@@ -398,7 +391,7 @@ impl Book {
         let Some(place) = open_port(&self.ports, port) else {
             unreachable!()
         };
-        let session = session_of(&self.ports, place);
+        let session = session_at(&self.ports, place);
         let offered = pending.len() as u32;
         match peer_of(&self.ports, &self.names, place) {
             None => put_nowhere(&mut self.history, session, port, offered),

@@ -23,6 +23,7 @@ ghost use Rattle.vale_core.specs.Recorded.{standing, after_ask, IsRefusal, HasRo
 ghost use Rattle.vale_core.specs.Reading.{read_ask, read_entry, wants_read, room_of_read, count_read, IsGiven, IsOffered};
 
 use crate::book::Book;
+use crate::buffers::indices;
 use crate::monitored::Monitored;
 use crate::offers::Offers;
 use nm_count::Tally;
@@ -30,7 +31,7 @@ use nm_pool::Pool;
 use nm_region::Buf;
 use nm_types::{Counts, PortId, SessionId, Side, StepFault};
 use nm_watch::Watches;
-use std::alloc::{AllocError, Global};
+use std::alloc::Global;
 use vale_entry::{Ask, Dests, Entry, History, Numbers, Reply};
 use vale_line::Got;
 use vale_port::{Port, open_port, sync_at};
@@ -84,13 +85,6 @@ fn reading_at(ports: &[Port], watches: &Watches, at: PortId, place: usize, is_pi
         count: port.ready(),
         monitor: watches.of(at, Side::Rx),
     }
-}
-
-/// The indices of buffers.
-fn numbers_of(alloc: Global, bufs: &[Buf]) -> Result<Vec<u32>, AllocError>
-    ensures { IfOk result (λ numbers. numbers.items ≡ indices_of bufs.now) }
-{
-    bufs.iter().map(|buf| buf.index()).collect(alloc)
 }
 
 /// The ask that is recorded.
@@ -147,7 +141,7 @@ fn room_to_read(
     ensures full { IfErr result (IsFull history.old (room_of_read reading) 0) }
     ensures err { OnErr result (history.new.promised ≡ history.old.promised) }
 {
-    let numbers = numbers_of(alloc, back)?;
+    let numbers = indices(alloc, back)?;
     let monitored = Monitored::new(alloc, reading.monitor, reading.count)?;
     let got = promise_read(alloc, history, reading.count, monitored.len())?;
     Ok(ReadRoom {

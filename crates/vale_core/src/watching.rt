@@ -5,8 +5,8 @@ ghost use Rattle.vale_entry.specs.declared.entry.Reply.TheVariants as replies;
 ghost use Rattle.vale_entry.specs.Legal.{IsEnabled};
 ghost use Rattle.vale_entry.specs.Room.{bytes_of};
 ghost use Rattle.vale_entry.specs.Stored.{Fits, IsFull};
-ghost use Rattle.vale_core.specs.Recorded.{standing};
-ghost use Rattle.vale_core.specs.WatchAnswers.{IsAnswered, IsUnwatched};
+ghost use Rattle.vale_core.specs.Recorded.{standing, IsRecordedAs};
+ghost use Rattle.vale_core.specs.WatchAnswers.{IsUnwatched};
 ghost use Rattle.vale_core.specs.WatchSteps.{reply_of_watch, IsWatch, IsNoWatch};
 
 use crate::book::Book;
@@ -117,7 +117,7 @@ impl Book {
         sides: Sides,
     ) -> Result<PortId, WatchFault>
         requires { IsEnabled (standing self.old) (asks.Watch monitor target.now sides) }
-        ensures watched { IfOk result (λ port. IsAnswered self.old self.new
+        ensures watched { IfOk result (λ port. IsRecordedAs self.old self.new
             (asks.Watch monitor target.now sides) (replies.Watching port)) }
         ensures unwatched { IfErr result
             (IsUnwatched self.old self.new (asks.Watch monitor target.now sides)) }

@@ -1,7 +1,7 @@
 use Rattle.std.proofs.Common.{◌≡◌, ◌++◌, ap, ◌∙◌, sym, subst}
 use Rattle.nm_pool.specs.Free.{PoolState}
 use Rattle.vale_parts.specs.FreeBuffers.{CanAllBeGiven, pool_with_all}
-use Rattle.vale_core.proofs.TakenParts.{can-front, can-rest, with-both}
+use Rattle.vale_core.proofs.GivenBack.{can-front, can-rest, with-both}
 use Rattle.vale_core.proofs.opening.give_all.Goals as goal
 
 pub give_back-requires : goal.give_back-requires

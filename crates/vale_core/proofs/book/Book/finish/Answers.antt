@@ -17,8 +17,7 @@ use Rattle.vale_core.specs.declared.book.Book.TheInside.{Inside}
 use Rattle.vale_core.specs.BookView.{recorded, AreOf}
 use Rattle.vale_core.specs.Recorded.{Recorded, standing, room_by}
 use Rattle.vale_core.proofs.Rooms.{room-owed}
-use Rattle.vale_core.proofs.Moves.{Moves, before, moved, record-moved}
-use Rattle.vale_core.proofs.Owing.{owed-promised}
+use Rattle.vale_core.proofs.Moves.{Moves, before, moved, record-moved, owed-promised}
 use Rattle.vale_core.proofs.GivenBack.{can-front, can-rest}
 use Rattle.vale_core.proofs.Finishes.{IsQuietHere, shutting-here, never-gone, quiet-here, of-gone, outcome, finish-made, said-unread, said-waits, due-here, can-give, counted-here, finish-moves}
 use Rattle.vale_core.proofs.book.Book.finish.Goals.{After-push}
@@ -58,7 +57,7 @@ moves c =
     let some = owed-promised b (ask c) (made c) k is refl in
     let less = ap (λ (h : Stored). h.promised) c.push.ensures in
     let promised : c.push.new.self.promised + 1 ≡ b.history.promised = omega (arith, some, less) in
-    let list : c.from.result ≡ bufs = c.from.ensures ∙ rw c.deref-4.ensures.value at c.indices-list.ensures in
+    let list : c.from.result ≡ bufs = c.from.ensures ∙ rw c.deref-4.ensures.value at c.indices_into-list.ensures in
     let back = c.give_back-2.ensures ∙ ap (pool_with_all c.args.bufs.items) c.give_back.ensures in
     finish-moves b c.args.port c.in-Some.place bufs c.args.chain k q.here (next c) c.session_at-session.result c.close_at-own.result.1 c.close_at-own.result.0.items c.args.bufs.items q.quiet refl room region
     (rw c.deref-3.ensures.value at c.session_at-session.ensures) c.close_at-own.ensures.held c.close_at-own.ensures.buffers c.close_at-own.ensures.unread
@@ -83,8 +82,8 @@ returns-then-n-gt0-clause-waits c =
     let out = of-gone b c.args.port c.in-Some.place bufs c.args.chain k here (λ (seat : Seat). n ≡ leases_out seat.port) (rw c.deref-2.ensures.value at c.leases_out_at-n.ensures.seat) in
     (some, rw (← c.self.view_is) (said-waits b c.args.port c.in-Some.place bufs c.args.chain k here n some out), refl)
 
-pub indices-list-requires-clause-room : goal.indices-list-requires-clause-room
-indices-list-requires-clause-room c =
+pub indices_into-list-requires-clause-room : goal.indices_into-list-requires-clause-room
+indices_into-list-requires-clause-room c =
     let b = c.self.inside in
     let k = c.self.invariant in
     let bufs = indices_of c.args.bufs.items in

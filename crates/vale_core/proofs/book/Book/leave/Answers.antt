@@ -5,8 +5,7 @@ use Rattle.vale_core.specs.declared.book.Book.TheInside.{Inside}
 use Rattle.vale_core.specs.BookView.{recorded}
 use Rattle.vale_core.specs.Recorded.{Recorded, standing, room_by}
 use Rattle.vale_core.proofs.Rooms.{room-owed}
-use Rattle.vale_core.proofs.Moves.{Moves, before, moved, record-moved}
-use Rattle.vale_core.proofs.Owing.{owed-promised}
+use Rattle.vale_core.proofs.Moves.{Moves, before, moved, record-moved, owed-promised}
 use Rattle.vale_core.proofs.Leaves.{leave-made, leave-moves}
 use Rattle.vale_core.proofs.book.Book.leave.Goals as goal
 

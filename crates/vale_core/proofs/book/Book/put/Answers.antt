@@ -35,13 +35,13 @@ unreachable-requires-in_default-open_port c =
 
 -- ---- the other end is not open
 
-gone : (c : goal.After-put_nowhere) → IsGone c.self.inside c.args.port (items_of c.args.pending.now.items) c.session_of-session.result c.len-offered.result
+gone : (c : goal.After-put_nowhere) → IsGone c.self.inside c.args.port (items_of c.args.pending.now.items) c.session_at-session.result c.len-offered.result
 gone c =
     let items = items_of c.args.pending.now.items in
     let enabled = subst (λ (x : Recorded). IsEnabled (standing x) (Put c.args.port items)) (sym c.self.view_is) c.requires.enabled in
     let count : length c.args.pending.now.items ≡ c.len-offered.result = omega (arith, c.args.pending.now.ok.0, c.len-offered.ensures) in
-    gone-known c.self.inside c.args.port items c.in-Some.place c.session_of-session.result c.len-offered.result c.deref.result.now c.deref-2.result.now c.deref-3.result.now c.self.invariant enabled
-    c.deref.ensures.value c.deref-2.ensures.value c.deref-3.ensures.value c.in-Some.ensures.some c.session_of-session.ensures c.in-None.ensures.peer c.peer_of.ensures.names
+    gone-known c.self.inside c.args.port items c.in-Some.place c.session_at-session.result c.len-offered.result c.deref.result.now c.deref-2.result.now c.deref-3.result.now c.self.invariant enabled
+    c.deref.ensures.value c.deref-2.ensures.value c.deref-3.ensures.value c.in-Some.ensures.some c.session_at-session.ensures c.in-None.ensures.peer c.peer_of.ensures.names
     (count-items c.args.pending.now.items ∙ count)
 
 abbrev next-gone : goal.After-put_nowhere → Inside
@@ -53,7 +53,7 @@ gone-rest c = record { sessions = refl; parts = refl; region = refl; buffers = r
 moves-gone : (c : goal.After-put_nowhere) → OnOk c.put_nowhere.result (Moves c.self.inside (next-gone c) (Put c.args.port (items_of c.args.pending.now.items)) (unchanged (before c.self.inside) (gone c).port.session PeerGone))
 moves-gone c =
     let e = c.put_nowhere.ensures in
-    gone-moves c.put_nowhere.result c.self.inside (next-gone c) c.args.port (items_of c.args.pending.now.items) c.session_of-session.result c.len-offered.result c.self.invariant (gone c)
+    gone-moves c.put_nowhere.result c.self.inside (next-gone c) c.args.port (items_of c.args.pending.now.items) c.session_at-session.result c.len-offered.result c.self.invariant (gone c)
     e.entries e.promised e.limits e.fits refl refl (gone-rest c)
 
 pub invariant_of-self : goal.invariant_of-self
@@ -72,27 +72,27 @@ returns-in-None-clause-room c =
 
 pub returns-in-None-clause-gone : goal.returns-in-None-clause-gone
 returns-in-None-clause-gone c =
-    rw (← c.self.view_is) (gone-on c.put_nowhere.result c.self.inside c.args.port (items_of c.args.pending.now.items) c.session_of-session.result c.len-offered.result (gone c))
+    rw (← c.self.view_is) (gone-on c.put_nowhere.result c.self.inside c.args.port (items_of c.args.pending.now.items) c.session_at-session.result c.len-offered.result (gone c))
 
 pub returns-in-None-clause-full : goal.returns-in-None-clause-full
 returns-in-None-clause-full c =
     rw (← c.self.view_is) (IfErr-weaker c.put_nowhere.result _ _
-    (λ fault. gone-full c.self.inside c.args.port (items_of c.args.pending.now.items) c.session_of-session.result c.len-offered.result fault c.self.invariant (gone c)) c.put_nowhere.ensures.full)
+    (λ fault. gone-full c.self.inside c.args.port (items_of c.args.pending.now.items) c.session_at-session.result c.len-offered.result fault c.self.invariant (gone c)) c.put_nowhere.ensures.full)
 
 -- ---- the other end is open
 
 abbrev putting-before : goal.After-put_to_peer-arg-in-Some-peer_of-4-1 → Putting
-putting-before c = putting_of c.args.port c.session_of-session.result c.in-Some-peer_of.peer c.in-Some-open_port.there c.len-offered.result c.taken_by.result c.of.result
+putting-before c = putting_of c.args.port c.session_at-session.result c.in-Some-peer_of.peer c.in-Some-open_port.there c.len-offered.result c.taken_by.result c.of.result
 
 known-before : (c : goal.After-put_to_peer-arg-in-Some-peer_of-4-1) → IsPutting c.self.inside (putting-before c) c.args.pending.now.items
 known-before c =
     let gots = c.args.pending.now.items in
     let enabled = subst (λ (x : Recorded). IsEnabled (standing x) (Put c.args.port (items_of gots))) (sym c.self.view_is) c.requires.enabled in
     let count : length c.args.pending.now.items ≡ c.len-offered.result = omega (arith, c.args.pending.now.ok.0, c.len-offered.ensures) in
-    putting-known c.self.inside c.args.port c.session_of-session.result c.in-Some-peer_of.peer c.in-Some.place c.in-Some-open_port.there c.len-offered.result c.taken_by.result c.of.result gots
+    putting-known c.self.inside c.args.port c.session_at-session.result c.in-Some-peer_of.peer c.in-Some.place c.in-Some-open_port.there c.len-offered.result c.taken_by.result c.of.result gots
     c.deref.result.now c.deref-2.result.now c.deref-3.result.now c.deref-in-Some-peer_of.result.now c.deref-in-Some-peer_of-2.result.now c.self.invariant enabled
     c.deref.ensures.value c.deref-2.ensures.value c.deref-3.ensures.value c.deref-in-Some-peer_of.ensures.value c.deref-in-Some-peer_of-2.ensures.value
-    c.in-Some.ensures.some c.session_of-session.ensures c.in-Some-peer_of.ensures.peer c.peer_of.ensures.names c.in-Some-open_port.ensures.some count c.taken_by.ensures.seat c.of.ensures
+    c.in-Some.ensures.some c.session_at-session.ensures c.in-Some-peer_of.ensures.peer c.peer_of.ensures.names c.in-Some-open_port.ensures.some count c.taken_by.ensures.seat c.of.ensures
 
 fits : (c : goal.After-put_to_peer-arg-in-Some-peer_of-4-1) → CountsFit c.self.inside (putting-before c)
 fits c =
@@ -116,17 +116,17 @@ pub put_to_peer-requires-clause-other_fits : goal.put_to_peer-requires-clause-ot
 put_to_peer-requires-clause-other_fits c = (fits c).other_fits
 
 abbrev putting : goal.After-put_to_peer → Putting
-putting c = putting_of c.args.port c.session_of-session.result c.in-Some-peer_of.peer c.in-Some-open_port.there c.len-offered.result c.taken_by.result c.of.result
+putting c = putting_of c.args.port c.session_at-session.result c.in-Some-peer_of.peer c.in-Some-open_port.there c.len-offered.result c.taken_by.result c.of.result
 
 known : (c : goal.After-put_to_peer) → IsPutting c.self.inside (putting c) c.args.pending.now.items
 known c =
     let gots = c.args.pending.now.items in
     let enabled = subst (λ (x : Recorded). IsEnabled (standing x) (Put c.args.port (items_of gots))) (sym c.self.view_is) c.requires.enabled in
     let count : length c.args.pending.now.items ≡ c.len-offered.result = omega (arith, c.args.pending.now.ok.0, c.len-offered.ensures) in
-    putting-known c.self.inside c.args.port c.session_of-session.result c.in-Some-peer_of.peer c.in-Some.place c.in-Some-open_port.there c.len-offered.result c.taken_by.result c.of.result gots
+    putting-known c.self.inside c.args.port c.session_at-session.result c.in-Some-peer_of.peer c.in-Some.place c.in-Some-open_port.there c.len-offered.result c.taken_by.result c.of.result gots
     c.deref.result.now c.deref-2.result.now c.deref-3.result.now c.deref-in-Some-peer_of.result.now c.deref-in-Some-peer_of-2.result.now c.self.invariant enabled
     c.deref.ensures.value c.deref-2.ensures.value c.deref-3.ensures.value c.deref-in-Some-peer_of.ensures.value c.deref-in-Some-peer_of-2.ensures.value
-    c.in-Some.ensures.some c.session_of-session.ensures c.in-Some-peer_of.ensures.peer c.peer_of.ensures.names c.in-Some-open_port.ensures.some count c.taken_by.ensures.seat c.of.ensures
+    c.in-Some.ensures.some c.session_at-session.ensures c.in-Some-peer_of.ensures.peer c.peer_of.ensures.names c.in-Some-open_port.ensures.some count c.taken_by.ensures.seat c.of.ensures
 
 abbrev next : goal.After-put_to_peer → Inside
 next c = record c.self.inside { history = c.put_to_peer.new.history; ports = c.put_to_peer.new.ports; tally = c.put_to_peer.new.tally }

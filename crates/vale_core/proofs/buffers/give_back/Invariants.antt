@@ -1,7 +1,7 @@
 use Rattle.std.proofs.Common.{◌≡◌, reverse}
 use Rattle.std.specs.Vec.{vec_len}
 use Rattle.vale_parts.specs.FreeBuffers.{CanAllBeGiven, pool_with_all}
-use Rattle.vale_core.proofs.opening.give_back.Given as goal
+use Rattle.vale_core.proofs.buffers.give_back.Given as goal
 
 abbrev pub invariant-loop-buf : goal.invariant-loop-buf
 invariant-loop-buf l = record {
