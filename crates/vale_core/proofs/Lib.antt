@@ -13,7 +13,6 @@ pub mod TakenParts
 pub mod OpenTables
 pub mod OpenMoves
 pub mod OpenRefusals
-pub mod MonitorWants
 pub mod PortLines
 pub mod OfferedTo
 pub mod ReadMoves
@@ -22,7 +21,7 @@ pub mod Leaves
 pub mod Found
 pub mod Notes
 pub mod Telling
-pub mod SwitchTables
+pub mod NamedTables
 pub mod Shuts
 pub mod WatchMoves
 pub mod Closes

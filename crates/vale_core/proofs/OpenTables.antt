@@ -14,13 +14,13 @@ use Rattle.vale_entry.specs.World.{Port}
 use Rattle.vale_entry.specs.Opening.{is_on_switch}
 use Rattle.vale_entry.specs.Legal.{world_of}
 use Rattle.vale_port.specs.Ports.{PortState}
-use Rattle.vale_parts.specs.SwitchTables.{SwitchTable as TableSeen, TablesAre, has_table, is_table_of}
+use Rattle.vale_parts.specs.SwitchTables.{SwitchTable, TablesAre, has_table, is_table_of}
 use Rattle.vale_parts.proofs.AllTables.{given_over, fresh_added}
-use Rattle.vale_core.specs.declared.tables.SwitchTable.{SwitchTable}
-use Rattle.vale_core.specs.SwitchTables.{is_for_switch}
+use Rattle.vale_core.specs.declared.tables.NamedTable.{NamedTable}
+use Rattle.vale_core.specs.NamedTables.{is_for_switch}
 use Rattle.vale_core.specs.BookView.{table_seen}
 use Rattle.vale_core.specs.OpenParts.{is_port_on, is_vacant, name_of_state, name_of_port, StillTables}
-use Rattle.vale_core.proofs.SwitchTables.{any-map, seen-any}
+use Rattle.vale_core.proofs.NamedTables.{any-map, seen-any}
 
 not-true : (b : Bool) → not b ≡ true → b ≡ false
 not-true true e = absurd cc
@@ -42,31 +42,31 @@ used-same switch ps ports same =
     sym (any-map (is_name_on switch) name_of_state ps) ∙ (ap (list_any (is_name_on switch)) same ∙ any-map (is_name_on switch) name_of_port ports)
 
 -- a table that was found vacant
-record IsGiven (ps : List PortState) (tables : List SwitchTable) (at : ℕ) (table : SwitchTable) : Type 0 where
+record IsGiven (ps : List PortState) (tables : List NamedTable) (at : ℕ) (table : NamedTable) : Type 0 where
   within : at < length tables
   here : slice_get tables at ≡ Some table
   vacant : list_any (is_port_on (switch_of table.label)) ps ≡ false
 
-given-at : (ps : List PortState) (tables : List SwitchTable) (at : ℕ) (table : SwitchTable) → position (is_vacant ps) tables ≡ Some at → table ≡ get_or tables at table → IsGiven ps tables at table
+given-at : (ps : List PortState) (tables : List NamedTable) (at : ℕ) (table : NamedTable) → position (is_vacant ps) tables ≡ Some at → table ≡ get_or tables at table → IsGiven ps tables at table
 given-at ps tables at table found is =
     let facts = position-Some (is_vacant ps) tables at table found in
     record {
       within = facts.0;
-      here = slice_get-get_or tables at table facts.0 ∙ ap (λ (t : SwitchTable). Some t) (sym is);
+      here = slice_get-get_or tables at table facts.0 ∙ ap (λ (t : NamedTable). Some t) (sym is);
       vacant = not-true (list_any (is_port_on (switch_of table.label)) ps) (ap (is_vacant ps) is ∙ facts.1);
     }
 
-abbrev relabelled : List ℕ → SwitchTable → SwitchTable
+abbrev relabelled : List ℕ → NamedTable → NamedTable
 relabelled name table = record { label = name; table = table.table }
 
-pub given-there : (ps : List PortState) (tables : List SwitchTable) (at : ℕ) (table : SwitchTable) (name : List ℕ) → position (is_vacant ps) tables ≡ Some at → table ≡ get_or tables at table
+pub given-there : (ps : List PortState) (tables : List NamedTable) (at : ℕ) (table : NamedTable) (name : List ℕ) → position (is_vacant ps) tables ≡ Some at → table ≡ get_or tables at table
     → has_table (switch_of name) (map table_seen (slice_set tables at (relabelled name table))) ≡ true
 given-there ps tables at table name found is =
     let given = given-at ps tables at table found is in
     any-map (is_table_of (switch_of name)) table_seen (slice_set tables at (relabelled name table))
-    ∙ any-set (λ (t : SwitchTable). is_table_of (switch_of name) (table_seen t)) tables at (relabelled name table) given.within ((bytes_eq-Decides (switch_of name) (switch_of name)).1 refl)
+    ∙ any-set (λ (t : NamedTable). is_table_of (switch_of name) (table_seen t)) tables at (relabelled name table) given.within ((bytes_eq-Decides (switch_of name) (switch_of name)).1 refl)
 
-pub given-kept : (ps : List PortState) (tables : List SwitchTable) (at : ℕ) (table : SwitchTable) (name : List ℕ) → position (is_vacant ps) tables ≡ Some at → table ≡ get_or tables at table
+pub given-kept : (ps : List PortState) (tables : List NamedTable) (at : ℕ) (table : NamedTable) (name : List ℕ) → position (is_vacant ps) tables ≡ Some at → table ≡ get_or tables at table
     → has_table (switch_of name) (map table_seen tables) ≡ false → StillTables ps tables (slice_set tables at (relabelled name table))
 given-kept ps tables at table name found is none = λ pool h same are.
     let given = given-at ps tables at table found is in
@@ -75,28 +75,28 @@ given-kept ps tables at table name found is none = λ pool h same are.
     subst (TablesAre (world_of pool h)) (sym (map-set table_seen tables at (relabelled name table)))
     (given_over pool h (map table_seen tables) at (table_seen table) (switch_of name) are there unused none)
 
-pub added-there : (tables : List SwitchTable) (new : SwitchTable) → has_table (switch_of new.label) (map table_seen (tables ++ new ∷ [])) ≡ true
+pub added-there : (tables : List NamedTable) (new : NamedTable) → has_table (switch_of new.label) (map table_seen (tables ++ new ∷ [])) ≡ true
 added-there tables new =
     let own : is_table_of (switch_of new.label) (table_seen new) ≡ true = (bytes_eq-Decides (switch_of new.label) (switch_of new.label)).1 refl in
     ap (has_table (switch_of new.label)) (map-append table_seen tables (new ∷ []))
     ∙ (list_any-append (is_table_of (switch_of new.label)) (map table_seen tables) (table_seen new ∷ [])
     ∙ (ap (λ (b : Bool). has_table (switch_of new.label) (map table_seen tables) || (b || false)) own ∙ or-true (has_table (switch_of new.label) (map table_seen tables))))
 
-pub added-kept : (ps : List PortState) (tables : List SwitchTable) (new : SwitchTable) → new.table ≡ no_stations → has_table (switch_of new.label) (map table_seen tables) ≡ false
+pub added-kept : (ps : List PortState) (tables : List NamedTable) (new : NamedTable) → new.table ≡ no_stations → has_table (switch_of new.label) (map table_seen tables) ≡ false
     → StillTables ps tables (tables ++ new ∷ [])
 added-kept ps tables new empty none = λ pool h same are.
     let seen : table_seen new ≡ record { switch = switch_of new.label; entries = no_stations } = rw empty refl in
-    subst (TablesAre (world_of pool h)) (sym (map-append table_seen tables (new ∷ []) ∙ ap (λ (t : TableSeen). map table_seen tables ++ t ∷ []) seen))
+    subst (TablesAre (world_of pool h)) (sym (map-append table_seen tables (new ∷ []) ∙ ap (λ (t : SwitchTable). map table_seen tables ++ t ∷ []) seen))
     (fresh_added pool h (map table_seen tables) (switch_of new.label) are none)
 
 -- a search tells whether a table is there
-found-any : (switch : List ℕ) (tables : List SwitchTable) (at : ℕ) → position (is_for_switch switch) tables ≡ Some at → list_any (is_for_switch switch) tables ≡ true
+found-any : (switch : List ℕ) (tables : List NamedTable) (at : ℕ) → position (is_for_switch switch) tables ≡ Some at → list_any (is_for_switch switch) tables ≡ true
 found-any switch [] at found = absurd cc
 found-any switch (t ∷ ts) at found =
     let facts = position-Some (is_for_switch switch) (t ∷ ts) at t found in
     list_any_at (is_for_switch switch) (t ∷ ts) at t facts.0 facts.1
 
-pub seen-found : (switch : List ℕ) (tables : List SwitchTable) → has_table switch (map table_seen tables) ≡ is_some (position (is_for_switch switch) tables)
+pub seen-found : (switch : List ℕ) (tables : List NamedTable) → has_table switch (map table_seen tables) ≡ is_some (position (is_for_switch switch) tables)
 seen-found switch tables = by_place (position (is_for_switch switch) tables) refl
   where
     by_place : (found : Option ℕ) → position (is_for_switch switch) tables ≡ found → has_table switch (map table_seen tables) ≡ is_some found

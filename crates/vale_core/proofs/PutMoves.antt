@@ -12,7 +12,7 @@ use Rattle.nm_types.specs.declared.id.Side.TheVariants.{Tx}
 use Rattle.nm_types.specs.declared.fault.StepFault.{StepFault}
 use Rattle.nm_types.specs.Counters.{SumFits, zero_counts}
 use Rattle.nm_types.specs.Frames.{Frame, bytes_of_frames}
-use Rattle.nm_types.specs.Limits.{most_pool, most_batch}
+use Rattle.nm_types.specs.Limits.{most_batch}
 use Rattle.nm_types.specs.Names.{is_pipe_name, peer_name}
 use Rattle.nm_region.specs.Buffers.{Buffer, indices_of}
 use Rattle.nm_count.specs.declared.tally.Tallied.{Tallied}
@@ -72,8 +72,8 @@ use Rattle.vale_core.specs.Monitored.{IsOfferedTo}
 use Rattle.vale_core.specs.Offering.{IsOfferBy}
 use Rattle.vale_core.specs.Putting.{items_of, wants_put, dests_put, room_of_put, put_entry, gone_entry, count_sent, count_given, lot_id, copied, IfPut, IsPutBy, IsPut}
 use Rattle.vale_core.specs.Recorded.{entry_of, IsRefusal}
-use Rattle.vale_core.proofs.MonitorWants.{wants-monitored}
-use Rattle.vale_core.proofs.Moves.{Moves, Stays, before, fits-step, full-step}
+use Rattle.vale_core.proofs.MonitoredWants.{wants-monitored}
+use Rattle.vale_core.proofs.Moves.{Moves, Stays, before, fits-step, full-step, entries-few}
 use Rattle.vale_core.proofs.OfferedTo.{by-session, StandOffered, offered-to}
 use Rattle.vale_core.proofs.PortLines.{of-first, of-put}
 use Rattle.vale_core.proofs.PutLists.{items-first, indices-items, frames-items}
@@ -414,14 +414,14 @@ pub record CountsFit (b : Inside) (p : Putting) : Type 0 where
 abbrev BothFit : List Tallied → ℕ → Option Port → ℕ → Type 0
 BothFit tally at peer count = FitsIn tally at (count_sent count) × FitsAtPeer (tally_after_add at (count_sent count) tally) peer (count_given count)
 
-pub counts-fit : (b : Inside) (p : Putting) (gots : List Got) → IsBook b → IsPutting b p gots → b.pool.buffers ≤ most_pool → length b.history.entries < 2 ^ 32 → CountsFit b p
-counts-fit b p gots k is pool few =
+pub counts-fit : (b : Inside) (p : Putting) (gots : List Got) → IsBook b → IsPutting b p gots → CountsFit b p
+counts-fit b p gots k is =
     let h = b.history.entries in
     let w = (before b).world in
     let taken = taken_items p gots in
     let tally = b.tally in
     let all : BothFit tally p.at.0 (peer_at w.ports p.at.0) (length taken) =
-    additions_fit b.pool.buffers h (put_entry p taken) tally pool k.stands.legal (follows-put b p gots k is) few k.stands.parts_are.counts_are in
+    additions_fit b.pool.buffers h (put_entry p taken) tally k.pool_fits.1 k.stands.legal (follows-put b p gots k is) (entries-few b k) k.stands.parts_are.counts_are in
     let fits : BothFit tally p.at.0 (Some is.peer) p.took =
     subst (BothFit tally p.at.0 (Some is.peer)) (count-taken b p gots is) (subst (λ (o : Option Port). BothFit tally p.at.0 o (length taken)) (peer-here b p gots is) all) in
     let own = open_counted b.pool.buffers h tally p.at.0 is.port k.stands.legal k.stands.parts_are.counts_are is.found in

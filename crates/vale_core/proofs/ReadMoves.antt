@@ -11,7 +11,6 @@ use Rattle.nm_types.specs.declared.id.Side.TheVariants.{Rx}
 use Rattle.nm_types.specs.declared.fault.StepFault.{StepFault}
 use Rattle.nm_types.specs.Counters.{SumFits}
 use Rattle.nm_types.specs.Frames.{size_of_frames}
-use Rattle.nm_types.specs.Limits.{most_pool}
 use Rattle.nm_types.proofs.Sizes.{size_of_frames-length}
 use Rattle.nm_region.specs.Buffers.{Buffer, indices_of}
 use Rattle.nm_count.specs.Tallies.{counts_of, tally_after_add}
@@ -63,8 +62,8 @@ use Rattle.vale_core.specs.Monitored.{offers_to}
 use Rattle.vale_core.specs.Offering.{OffersState, IsOfferBy}
 use Rattle.vale_core.specs.Reading.{read_ask, wants_read, dests_read, room_of_read, read_entry, count_read, IsGivenOf, IsOfferedOf}
 use Rattle.vale_core.specs.Recorded.{entry_of, IsRefusal}
-use Rattle.vale_core.proofs.MonitorWants.{wants-monitored}
-use Rattle.vale_core.proofs.Moves.{Moves, Stays, before, fits-step, full-step}
+use Rattle.vale_core.proofs.MonitoredWants.{wants-monitored}
+use Rattle.vale_core.proofs.Moves.{Moves, Stays, before, fits-step, full-step, entries-few}
 use Rattle.vale_core.proofs.OfferedTo.{by-session, StandOffered, offered-to}
 use Rattle.vale_core.proofs.Rooms.{step-recorded}
 use Rattle.vale_core.proofs.Standing.{IsHere, met, found-here, not-found, ports-rising}
@@ -218,11 +217,11 @@ fits-by : (pipe : Bool) (w : _) (at : PortId) (back : List ℕ) (count : ℕ) (t
 fits-by true w at back count to tally fits = fits
 fits-by false w at back count to tally fits = fits
 
-pub count-fits : (b : Inside) (r : Reading) (back : List ℕ) → IsBook b → IsReading b r back → b.pool.buffers ≤ most_pool → length b.history.entries < 2 ^ 32
+pub count-fits : (b : Inside) (r : Reading) (back : List ℕ) → IsBook b → IsReading b r back
     → ForSome (counts_of b.tally r.at.0) (λ (counts : Counts). SumFits counts (count_read r.count))
-count-fits b r back k is pool few =
+count-fits b r back k is =
     fits-by r.is_pipe (before b).world r.at back r.count (dests_read r) b.tally
-    (additions_fit b.pool.buffers b.history.entries (read_entry r back) b.tally pool k.stands.legal (follows-read b r back k is) few k.stands.parts_are.counts_are)
+    (additions_fit b.pool.buffers b.history.entries (read_entry r back) b.tally k.pool_fits.1 k.stands.legal (follows-read b r back k is) (entries-few b k) k.stands.parts_are.counts_are)
 
 pub is-counted : (b : Inside) (r : Reading) (back : List ℕ) → IsBook b → IsReading b r back → IsSome (counts_of b.tally r.at.0)
 is-counted b r back k is =

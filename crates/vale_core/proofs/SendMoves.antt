@@ -43,8 +43,8 @@ use Rattle.vale_parts.proofs.CountsKept.{open_counted}
 use Rattle.vale_parts.proofs.Additions.{additions_fit}
 use Rattle.vale_parts.proofs.OffersKept.{offers_start, sends_start}
 use Rattle.vale_core.specs.declared.book.Book.TheInside.{Inside}
-use Rattle.vale_core.specs.declared.tables.SwitchTable.{SwitchTable}
-use Rattle.vale_core.specs.SwitchTables.{is_for_switch}
+use Rattle.vale_core.specs.declared.tables.NamedTable.{NamedTable}
+use Rattle.vale_core.specs.NamedTables.{is_for_switch}
 use Rattle.vale_core.specs.BookView.{recorded, parts_in, table_seen, number_of_session, AreOf, IsBook}
 use Rattle.vale_core.specs.Recorded.{entry_of, standing, IsRefusal}
 use Rattle.vale_core.specs.Offering.{OffersState, IsOfferBy}
@@ -86,7 +86,7 @@ pub ids-rise : (b : Inside) (switch : List ℕ) (ids : List PortId) → IsBook b
 ids-rise b switch ids k are = subst (λ (all : List PortId). IsRising (map port_number all)) (sym (ids-are b switch ids k are)) (open_ports_rise b.pool.buffers b.history.entries switch)
 
 -- all that the call looked up
-pub record IsSending (b : Inside) (from : PortId) (place : ℕ) (frames : List Frame) (ids : List PortId) (monitor : Option PortId) (session : SessionId) (at : ℕ) (table : SwitchTable) : Type 0 where
+pub record IsSending (b : Inside) (from : PortId) (place : ℕ) (frames : List Frame) (ids : List PortId) (monitor : Option PortId) (session : SessionId) (at : ℕ) (table : NamedTable) : Type 0 where
   pub here : IsOpenHere b from.0 place (can_send (before b).world frames)
   pub whose : here.port.session ≡ session.0
   pub table_at : IsTableAt (before b).world here.port.name b.tables.items at table
@@ -98,7 +98,7 @@ monitor-is : (b : Inside) (from : PortId) (monitor : Option PortId) (id : ℕ) �
 monitor-is b from monitor id k is same =
     ap (option_map port_number) is ∙ (k.stands.parts_are.watches_are.transmit from.0 ∙ ap (transmit_monitor (before b).world) (sym same))
 
-pub sending : (b : Inside) (from : PortId) (place : ℕ) (frames : List Frame) (ids : List PortId) (monitor : Option PortId) (session : SessionId) (at : ℕ) (table : SwitchTable) → IsBook b
+pub sending : (b : Inside) (from : PortId) (place : ℕ) (frames : List Frame) (ids : List PortId) (monitor : Option PortId) (session : SessionId) (at : ℕ) (table : NamedTable) → IsBook b
     → (here : IsOpenHere b from.0 place (can_send (before b).world frames)) → here.port.session ≡ session.0 → IsTableAt (before b).world here.port.name b.tables.items at table
     → AreOpenOn (switch_of here.port.name) b.ports.items ids → monitor ≡ monitor_of b.watches from.0 Tx
     → IsSending b from place frames ids monitor session at table
@@ -115,21 +115,21 @@ sending b from place frames ids monitor session at table k here whose table_at a
 abbrev wants_sent : (b : Inside) (from : PortId) (frames : List Frame) (port : Port) (entries : Entries) → List Wanted
 wants_sent b from frames port entries = wants_monitored (transmit_monitor (before b).world port.id) frames (wants_at (before b).world from frames port entries)
 
-wants-are : (b : Inside) (from : PortId) (place : ℕ) (frames : List Frame) (ids : List PortId) (monitor : Option PortId) (session : SessionId) (at : ℕ) (table : SwitchTable)
+wants-are : (b : Inside) (from : PortId) (place : ℕ) (frames : List Frame) (ids : List PortId) (monitor : Option PortId) (session : SessionId) (at : ℕ) (table : NamedTable)
     (s : IsSending b from place frames ids monitor session at table) → all_wants monitor frames (classed from table.table frames ids) ≡ wants_sent b from frames s.here.port table.table
 wants-are b from place frames ids monitor session at table s = rw (s.monitor_is, s.ids_are) refl
 
-sender-is : (b : Inside) (from : PortId) (place : ℕ) (frames : List Frame) (ids : List PortId) (monitor : Option PortId) (session : SessionId) (at : ℕ) (table : SwitchTable)
+sender-is : (b : Inside) (from : PortId) (place : ℕ) (frames : List Frame) (ids : List PortId) (monitor : Option PortId) (session : SessionId) (at : ℕ) (table : NamedTable)
     (s : IsSending b from place frames ids monitor session at table) → IsSender (before b).world from frames s.here.port table.table
 sender-is b from place frames ids monitor session at table s = sender-at (before b).world from frames s.here.port b.tables.items at table s.table_at s.here.here.found s.here.passes
 
-pub reply-sent : (b : Inside) (from : PortId) (place : ℕ) (frames : List Frame) (ids : List PortId) (monitor : Option PortId) (session : SessionId) (at : ℕ) (table : SwitchTable) → IsBook b
+pub reply-sent : (b : Inside) (from : PortId) (place : ℕ) (frames : List Frame) (ids : List PortId) (monitor : Option PortId) (session : SessionId) (at : ℕ) (table : NamedTable) → IsBook b
     → (s : IsSending b from place frames ids monitor session at table)
     → (send_made b from place frames s.here).reply ≡ Offered (classed from table.table frames ids).short (classed from table.table frames ids).lone (dests_wanted (all_wants monitor frames (classed from table.table frames ids)))
 reply-sent b from place frames ids monitor session at table k s =
     rw (s.monitor_is, s.ids_are) (sends_replied b.pool.buffers b.history.entries from frames s.here.port table.table k.stands.legal (sender-is b from place frames ids monitor session at table s))
 
-pub room-sent : (b : Inside) (from : PortId) (place : ℕ) (frames : List Frame) (ids : List PortId) (monitor : Option PortId) (session : SessionId) (at : ℕ) (table : SwitchTable) → IsBook b
+pub room-sent : (b : Inside) (from : PortId) (place : ℕ) (frames : List Frame) (ids : List PortId) (monitor : Option PortId) (session : SessionId) (at : ℕ) (table : NamedTable) → IsBook b
     → (s : IsSending b from place frames ids monitor session at table) → (send_made b from place frames s.here).want ≡ send_room (all_wants monitor frames (classed from table.table frames ids))
 room-sent b from place frames ids monitor session at table k s =
     let w = (before b).world in
@@ -142,7 +142,7 @@ room-sent b from place frames ids monitor session at table k s =
 abbrev session_id : ℕ → SessionId
 session_id n = record { 0 = n }
 
-entry-sent : (b : Inside) (from : PortId) (place : ℕ) (frames : List Frame) (ids : List PortId) (monitor : Option PortId) (session : SessionId) (at : ℕ) (table : SwitchTable) → IsBook b
+entry-sent : (b : Inside) (from : PortId) (place : ℕ) (frames : List Frame) (ids : List PortId) (monitor : Option PortId) (session : SessionId) (at : ℕ) (table : NamedTable) → IsBook b
     → (s : IsSending b from place frames ids monitor session at table)
     → send_entry session from frames (classed from table.table frames ids) (all_wants monitor frames (classed from table.table frames ids)) ≡ entry_of (Send from frames) (send_made b from place frames s.here)
 entry-sent b from place frames ids monitor session at table k s =
@@ -152,7 +152,7 @@ entry-sent b from place frames ids monitor session at table k s =
 
 -- ---- the step
 
-pub send-moves : (b next : Inside) (from : PortId) (place : ℕ) (frames : List Frame) (ids : List PortId) (monitor : Option PortId) (session : SessionId) (at : ℕ) (table : SwitchTable) → IsBook b
+pub send-moves : (b next : Inside) (from : PortId) (place : ℕ) (frames : List Frame) (ids : List PortId) (monitor : Option PortId) (session : SessionId) (at : ℕ) (table : NamedTable) → IsBook b
     → (s : IsSending b from place frames ids monitor session at table)
     → next.history.entries ≡ b.history.entries ++ send_entry session from frames (classed from table.table frames ids) (all_wants monitor frames (classed from table.table frames ids)) ∷ []
     → next.history.promised + 1 ≡ b.history.promised + send_room (all_wants monitor frames (classed from table.table frames ids)) → next.history.limits ≡ b.history.limits
@@ -197,7 +197,7 @@ send-moves b next from place frames ids monitor session at table k s entries pro
 -- ---- the call
 
 -- what the call looked up, as its parts tell it
-pub send-at : (b : Inside) (from : PortId) (place : ℕ) (frames : List Frame) (ids : List PortId) (monitor : Option PortId) (session : SessionId) (name : List ℕ) (at : ℕ) (table : SwitchTable) → IsBook b
+pub send-at : (b : Inside) (from : PortId) (place : ℕ) (frames : List Frame) (ids : List PortId) (monitor : Option PortId) (session : SessionId) (name : List ℕ) (at : ℕ) (table : NamedTable) → IsBook b
     → is_met (can_send (before b).world frames) (open_port (before b).world.ports from.0) ≡ true → IsFoundAt (open_at from.0) b.ports.items place
     → OfState (λ (p : PortState). session.0 ≡ p.session) b.ports.items place → OfState (λ (p : PortState). name ≡ p.name) b.ports.items place
     → position (is_for_switch (switch_of name)) b.tables.items ≡ Some at → table ≡ get_or b.tables.items at table
@@ -229,7 +229,7 @@ follows-sent : (b : Inside) (from : PortId) (place : ℕ) (frames : List Frame) 
     → Follows (before b) (entry_of (Send from frames) (send_made b from place frames here))
 follows-sent b from place frames here = ap (option_map session_and_reply) (send-made b from place frames here)
 
-pub sent-counts-fit : (b : Inside) (from : PortId) (place : ℕ) (frames : List Frame) (ids : List PortId) (monitor : Option PortId) (session : SessionId) (at : ℕ) (table : SwitchTable) → IsBook b
+pub sent-counts-fit : (b : Inside) (from : PortId) (place : ℕ) (frames : List Frame) (ids : List PortId) (monitor : Option PortId) (session : SessionId) (at : ℕ) (table : NamedTable) → IsBook b
     → (s : IsSending b from place frames ids monitor session at table) → FitsIn b.tally from.0 (sent_counts (length frames) (classed from table.table frames ids).short (classed from table.table frames ids).lone)
 sent-counts-fit b from place frames ids monitor session at table k s =
     let fits = additions_fit b.pool.buffers b.history.entries (entry_of (Send from frames) (send_made b from place frames s.here)) b.tally k.pool_fits.1 k.stands.legal
@@ -250,7 +250,7 @@ begun-by b from place frames session here whose =
     rw here.here.found each
 
 -- the offers of the call are those that stand once it is made
-pub sent-stand : (b next : Inside) (from : PortId) (place : ℕ) (frames : List Frame) (ids : List PortId) (monitor : Option PortId) (session : SessionId) (at : ℕ) (table : SwitchTable) (offers : OffersState) → IsBook b
+pub sent-stand : (b next : Inside) (from : PortId) (place : ℕ) (frames : List Frame) (ids : List PortId) (monitor : Option PortId) (session : SessionId) (at : ℕ) (table : NamedTable) (offers : OffersState) → IsBook b
     → (s : IsSending b from place frames ids monitor session at table) → next.pool ≡ b.pool
     → next.history.entries ≡ b.history.entries ++ send_entry session from frames (classed from table.table frames ids) (all_wants monitor frames (classed from table.table frames ids)) ∷ []
     → offers ≡ send_offers (length b.history.entries + 1) session (classed from table.table frames ids) (all_wants monitor frames (classed from table.table frames ids))
@@ -285,26 +285,26 @@ sent-stand b next from place frames ids monitor session at table offers k s pool
     }
 
 -- a table that is as it was
-pub table-same : (tables : List SwitchTable) (at : ℕ) (table : SwitchTable) (entries : Entries) → table ≡ get_or tables at table → entries ≡ table.table
+pub table-same : (tables : List NamedTable) (at : ℕ) (table : NamedTable) (entries : Entries) → table ≡ get_or tables at table → entries ≡ table.table
     → slice_set tables at (record table { table = entries }) ≡ tables
 table-same tables at table entries is same =
-    ap (λ (e : Entries). slice_set tables at (record table { table = e })) same ∙ (ap (λ (t : SwitchTable). slice_set tables at t) is ∙ set-get_or tables at table)
+    ap (λ (e : Entries). slice_set tables at (record table { table = e })) same ∙ (ap (λ (t : NamedTable). slice_set tables at t) is ∙ set-get_or tables at table)
 
-pub full-sent : (b : Inside) (from : PortId) (place : ℕ) (frames : List Frame) (ids : List PortId) (monitor : Option PortId) (session : SessionId) (at : ℕ) (table : SwitchTable) (fault : StepFault) → IsBook b
+pub full-sent : (b : Inside) (from : PortId) (place : ℕ) (frames : List Frame) (ids : List PortId) (monitor : Option PortId) (session : SessionId) (at : ℕ) (table : NamedTable) (fault : StepFault) → IsBook b
     → (s : IsSending b from place frames ids monitor session at table) → IsFull b.history (send_room (all_wants monitor frames (classed from table.table frames ids))) (bytes_of_frames frames) fault
     → IsRefusal (recorded b) (Send from frames) fault
 full-sent b from place frames ids monitor session at table fault k s full =
     full-step b (Send from frames) (send_made b from place frames s.here) fault k (send-made b from place frames s.here)
     (subst (λ (n : ℕ). IsFull b.history n (bytes_of_frames frames) fault) (sym (room-sent b from place frames ids monitor session at table k s)) full)
 
-pub said-sent : (b : Inside) (from : PortId) (place : ℕ) (frames : List Frame) (ids : List PortId) (monitor : Option PortId) (session : SessionId) (at : ℕ) (table : SwitchTable) (number : ℕ) (offers : OffersState) → IsBook b
+pub said-sent : (b : Inside) (from : PortId) (place : ℕ) (frames : List Frame) (ids : List PortId) (monitor : Option PortId) (session : SessionId) (at : ℕ) (table : NamedTable) (number : ℕ) (offers : OffersState) → IsBook b
     → (s : IsSending b from place frames ids monitor session at table) → offers ≡ send_offers number session (classed from table.table frames ids) (all_wants monitor frames (classed from table.table frames ids))
     → option_map reply_of (step (before b) (Send from frames)) ≡ Some (Offered offers.short offers.lone (dests_wanted offers.wants))
 said-sent b from place frames ids monitor session at table number offers k s is =
     ap (option_map reply_of) (send-made b from place frames s.here)
     ∙ (ap (λ (r : Reply). Some r) (reply-sent b from place frames ids monitor session at table k s) ∙ ap (λ (o : OffersState). Some (Offered o.short o.lone (dests_wanted o.wants))) (sym is))
 
-pub counts-fit_offers : (b : Inside) (from : PortId) (place : ℕ) (frames : List Frame) (ids : List PortId) (monitor : Option PortId) (session : SessionId) (at : ℕ) (table : SwitchTable) (number count : ℕ) (offers : OffersState) → IsBook b
+pub counts-fit_offers : (b : Inside) (from : PortId) (place : ℕ) (frames : List Frame) (ids : List PortId) (monitor : Option PortId) (session : SessionId) (at : ℕ) (table : NamedTable) (number count : ℕ) (offers : OffersState) → IsBook b
     → (s : IsSending b from place frames ids monitor session at table) → offers ≡ send_offers number session (classed from table.table frames ids) (all_wants monitor frames (classed from table.table frames ids))
     → count ≡ length frames → FitsIn b.tally from.0 (sent_counts count offers.short offers.lone)
 counts-fit_offers b from place frames ids monitor session at table number count offers k s is size =

@@ -20,10 +20,10 @@ use Rattle.vale_parts.specs.Tables.{Finds}
 use Rattle.vale_parts.specs.SwitchTables.{TablesAre, IsTableIn, HasTable, has_table, is_table_of, tables_after}
 use Rattle.vale_parts.specs.BatchLaws.{IsSender}
 use Rattle.vale_parts.proofs.AllParts.{sends_teach}
-use Rattle.vale_core.specs.declared.tables.SwitchTable.{SwitchTable}
-use Rattle.vale_core.specs.SwitchTables.{is_for_switch}
+use Rattle.vale_core.specs.declared.tables.NamedTable.{NamedTable}
+use Rattle.vale_core.specs.NamedTables.{is_for_switch}
 use Rattle.vale_core.specs.BookView.{table_seen}
-use Rattle.vale_core.proofs.SwitchTables.{found-table, table-none}
+use Rattle.vale_core.proofs.NamedTables.{found-table, table-none}
 
 -- what is put back in its place
 pub set-back : {X : Type 0} (xs : List X) (at : ℕ) (x other : X) → slice_get xs at ≡ Some x → slice_set (slice_set xs at other) at x ≡ xs
@@ -32,7 +32,7 @@ set-back (y ∷ ys) zero x other is = (let same : y ≡ x = cc in ap (λ z. z �
 set-back (y ∷ ys) (suc at) x other is = ap (λ zs. y ∷ zs) (set-back ys at x other is)
 
 -- the table at a place is that of the switch that a port of this name is on
-pub record IsTableAt (w : World) (name : List ℕ) (tables : List SwitchTable) (place : ℕ) (table : SwitchTable) : Type 0 where
+pub record IsTableAt (w : World) (name : List ℕ) (tables : List NamedTable) (place : ℕ) (table : NamedTable) : Type 0 where
   pub within : place < length tables
   pub here : slice_get tables place ≡ Some table
   pub seen : slice_get (map table_seen tables) place ≡ Some (table_seen table)
@@ -41,7 +41,7 @@ pub record IsTableAt (w : World) (name : List ℕ) (tables : List SwitchTable) (
   pub is : IsTableIn w (table_seen table)
   pub finds : Finds w (switch_of name) table.table
 
-table-of : (w : World) (name : List ℕ) (tables : List SwitchTable) (place : ℕ) (table : SwitchTable) → TablesAre w (map table_seen tables)
+table-of : (w : World) (name : List ℕ) (tables : List NamedTable) (place : ℕ) (table : NamedTable) → TablesAre w (map table_seen tables)
     → place < length tables → slice_get tables place ≡ Some table → is_for_switch (switch_of name) table ≡ true → IsTableAt w name tables place table
 table-of w name tables place table are within here of =
     let seen : slice_get (map table_seen tables) place ≡ Some (table_seen table) = slice_get-map table_seen tables place ∙ ap (option_map table_seen) here in
@@ -57,21 +57,21 @@ table-of w name tables place table are within here of =
       finds = subst (λ (switch : List ℕ). Finds w switch table.table) same in_world.finds;
     }
 
-pub table-at : (w : World) (name : List ℕ) (tables : List SwitchTable) (place : ℕ) (table : SwitchTable) → TablesAre w (map table_seen tables)
+pub table-at : (w : World) (name : List ℕ) (tables : List NamedTable) (place : ℕ) (table : NamedTable) → TablesAre w (map table_seen tables)
     → position (is_for_switch (switch_of name)) tables ≡ Some place → table ≡ get_or tables place table → IsTableAt w name tables place table
 table-at w name tables place table are found is =
     let facts = position-Some (is_for_switch (switch_of name)) tables place table found in
-    table-of w name tables place table are facts.0 (slice_get-get_or tables place table facts.0 ∙ ap (λ (t : SwitchTable). Some t) (sym is))
+    table-of w name tables place table are facts.0 (slice_get-get_or tables place table facts.0 ∙ ap (λ (t : NamedTable). Some t) (sym is))
     (ap (is_for_switch (switch_of name)) is ∙ facts.1)
 
 -- a port's switch has its table
-pub record HasItsTable (w : World) (name : List ℕ) (tables : List SwitchTable) : Type 0 where
+pub record HasItsTable (w : World) (name : List ℕ) (tables : List NamedTable) : Type 0 where
   pub place : ℕ
-  pub table : SwitchTable
+  pub table : NamedTable
   pub found : position (is_for_switch (switch_of name)) tables ≡ Some place
   pub at : IsTableAt w name tables place table
 
-pub table-found : (w : World) (port : Port) (at : ℕ) (tables : List SwitchTable) → TablesAre w (map table_seen tables) → slice_get w.ports at ≡ Some port → is_switch_port_name port.name ≡ true
+pub table-found : (w : World) (port : Port) (at : ℕ) (tables : List NamedTable) → TablesAre w (map table_seen tables) → slice_get w.ports at ≡ Some port → is_switch_port_name port.name ≡ true
     → HasItsTable w port.name tables
 table-found w port at tables are there named = by_place (position (is_for_switch (switch_of port.name)) tables) refl
   where
@@ -84,12 +84,12 @@ table-found w port at tables are there named = by_place (position (is_for_switch
         record { place = place; table = found.table; found = is; at = table-of w port.name tables place found.table are found.within found.here found.its }
 
 -- so the port sends by it
-pub sender-at : (w : World) (from : PortId) (frames : List Frame) (port : Port) (tables : List SwitchTable) (place : ℕ) (table : SwitchTable) → IsTableAt w port.name tables place table
+pub sender-at : (w : World) (from : PortId) (frames : List Frame) (port : Port) (tables : List NamedTable) (place : ℕ) (table : NamedTable) → IsTableAt w port.name tables place table
     → open_port w.ports from.0 ≡ Some port → can_send w frames port ≡ true → IsSender w from frames port table.table
 sender-at w from frames port tables place table at here can = record { here = here; can = can; size = at.is.size; finds = at.finds }
 
 -- and what it sends teaches this table alone
-pub sends-teach_at : (w : World) (from : PortId) (frames : List Frame) (port : Port) (tables new : List SwitchTable) (place : ℕ) (table : SwitchTable) → TablesAre w (map table_seen tables)
+pub sends-teach_at : (w : World) (from : PortId) (frames : List Frame) (port : Port) (tables new : List NamedTable) (place : ℕ) (table : NamedTable) → TablesAre w (map table_seen tables)
     → IsTableAt w port.name tables place table → open_port w.ports from.0 ≡ Some port → can_send w frames port ≡ true
     → new ≡ slice_set tables place (record table { table = learned_of_batch from table.table frames }) → map table_seen new ≡ tables_after w (Send from frames) (map table_seen tables)
 sends-teach_at w from frames port tables new place table are at here can made =

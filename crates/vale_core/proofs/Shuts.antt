@@ -20,14 +20,14 @@ use Rattle.vale_port.specs.Ports.{PortState}
 use Rattle.vale_port.specs.Seat.{seat_shut}
 use Rattle.vale_port.proofs.Lists.{shut_is_shut}
 use Rattle.vale_core.specs.declared.book.Book.TheInside.{Inside}
-use Rattle.vale_core.specs.declared.tables.SwitchTable.{SwitchTable}
+use Rattle.vale_core.specs.declared.tables.NamedTable.{NamedTable}
 use Rattle.vale_core.specs.BookView.{recorded, table_seen, HasBuffersOf, IsBook}
 use Rattle.vale_core.specs.Recorded.{HasRoomFor}
-use Rattle.vale_core.specs.SwitchTables.{is_for_switch, without_port, IsForgottenOn}
+use Rattle.vale_core.specs.NamedTables.{is_for_switch, without_port, IsForgottenOn}
 use Rattle.vale_core.proofs.Moves.{Moves, before}
 use Rattle.vale_core.proofs.Standing.{ports-rising}
 use Rattle.vale_core.proofs.Found.{IsOpenHere, session-here}
-use Rattle.vale_core.proofs.SwitchTables.{table-none}
+use Rattle.vale_core.proofs.NamedTables.{table-none}
 
 -- the open port that is to be shut
 abbrev pub ShutsAt : Inside → PortId → ℕ → Type 0
@@ -62,7 +62,7 @@ table-there b port place here name k named is = by_place (position (is_for_switc
         let wrong : true ≡ false = sym there ∙ missing in
         absurd cc
 
-tables-shut : (b : Inside) (port : PortId) (place : ℕ) (here : ShutsAt b port place) (tables : List SwitchTable) → IsBook b
+tables-shut : (b : Inside) (port : PortId) (place : ℕ) (here : ShutsAt b port place) (tables : List NamedTable) → IsBook b
     → (is_switch_port_name here.port.name ≡ true → IsForgottenOn (switch_of here.port.name) port b.tables.items tables)
     → (is_switch_port_name here.port.name ≡ false → tables ≡ b.tables.items)
     → map table_seen tables ≡ tables_after (before b).world (Shut port) (map table_seen b.tables.items)

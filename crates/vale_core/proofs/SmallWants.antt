@@ -16,7 +16,7 @@ use Rattle.vale_batch.specs.Looking.{looked_up, looked_up_batch, learned_from}
 use Rattle.vale_batch.specs.Wants.{Wanted, wanted, want_at, wants_of, wants_some, goes_to, places_from, sizes_for}
 use Rattle.vale_parts.specs.Batches.{with_want, want_of_all, wants_monitored}
 use Rattle.vale_parts.proofs.Lookups.{slots_are_one}
-use Rattle.vale_core.specs.Offering.{slots_in, IsFew}
+use Rattle.vale_core.specs.Offering.{slots_in, HasFewFrames}
 use Rattle.vale_core.specs.Wanting.{IsSmall, IsSmallWant}
 
 -- ---- with a monitor's
@@ -48,7 +48,8 @@ unseen : (wants : List Want) → Each IsSmall (map wanted wants) → Each IsSmal
 unseen [] all = tt
 unseen (want ∷ wants) all = (all.0, unseen wants all.1)
 
-abbrev frames-of : ℕ → List Frame
+-- so many frames, of no bytes
+abbrev pub frames-of : ℕ → List Frame
 frames-of count = replicate count (record { bytes = []; no_learn = false })
 
 pub small-wants : (wants : List Want) (monitor : Option ℕ) (count : ℕ) (before : List Wanted) → count < 2 ^ 32 → All IsSmall before
@@ -64,8 +65,8 @@ small-wants wants monitor count before few all are =
 pub small-slots : (wants : List Want) → All IsSmallWant wants → All (λ (want : Want). slots_in want < 2 ^ 32) wants
 small-slots wants all = λ k d within. (all k d within).slots
 
-pub small-few : (wants : List Want) → All IsSmallWant wants → Each IsFew wants
-small-few wants all = recursion_from_All IsFew wants (λ k d within. (all k d within).sizes)
+pub small-few : (wants : List Want) → All IsSmallWant wants → Each HasFewFrames wants
+small-few wants all = recursion_from_All HasFewFrames wants (λ k d within. (all k d within).sizes)
 
 -- ---- those of a batch
 

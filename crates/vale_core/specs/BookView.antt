@@ -12,17 +12,17 @@ use Rattle.vale_entry.specs.Legal.{world_of, holdings_of, IsLegal}
 use Rattle.vale_entry.specs.Room.{promised_of}
 use Rattle.vale_port.specs.Ports.{PortState}
 use Rattle.vale_port.specs.Lists.{ArePortsOf}
-use Rattle.vale_parts.specs.SwitchTables.{SwitchTable as TableSeen}
+use Rattle.vale_parts.specs.SwitchTables.{SwitchTable}
 use Rattle.vale_parts.specs.Parts.{Parts, PartsAre}
 use Rattle.vale_core.specs.declared.book.Book.TheInside.{Inside}
-use Rattle.vale_core.specs.declared.tables.SwitchTable.{SwitchTable}
+use Rattle.vale_core.specs.declared.tables.NamedTable.{NamedTable}
 use Rattle.vale_core.specs.Recorded.{Recorded, HadRoom}
 
 abbrev pub recorded : Inside → Recorded
 recorded b = record { pool = b.pool.buffers; region = b.region.region; limits = b.history.limits; entries = b.history.entries }
 
 -- a switch's table is kept under the name of one of its ports
-abbrev pub table_seen : SwitchTable → TableSeen
+abbrev pub table_seen : NamedTable → SwitchTable
 table_seen table = record { switch = switch_of table.label; entries = table.table }
 
 abbrev pub parts_in : Inside → Parts

@@ -2,7 +2,7 @@ pub mod Recorded
 pub mod BookView
 pub mod Offering
 pub mod Granting
-pub mod SwitchTables
+pub mod NamedTables
 pub mod OpenAnswers
 pub mod OpenParts
 pub mod Monitored

@@ -31,13 +31,13 @@ slots_wanted want = sum want.sizes
 abbrev pub slots_in : Want → ℕ
 slots_in want = slots_wanted (wanted want)
 
-abbrev pub IsFew : Want → Type 0
-IsFew want = length want.sizes.items < 2 ^ 32
+abbrev pub HasFewFrames : Want → Type 0
+HasFewFrames want = length want.sizes.items < 2 ^ 32
 
 -- there is room for the lease of each, and each is of fewer than 2^32 frames
 pub record IsOffers (o : Inside) : Type 0 where
   pub rooms : o.rooms.items ≡ map slots_in o.wants.items
-  pub few : AllByRecursion IsFew o.wants.items
+  pub few : AllByRecursion HasFewFrames o.wants.items
 
 abbrev pub IsOfferBy : ℕ → Offer → Type 0
 IsOfferBy session offer = offer.session ≡ session

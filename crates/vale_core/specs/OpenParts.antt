@@ -1,9 +1,9 @@
 -- What an opening makes of the parts of a book.
-use Rattle.std.specs.Prelude.{ℕ, Bool, true, ◌≡◌, ◌&&◌, ◌+◌, not, List, length, take, drop, map, Option, bytes_eq}
+use Rattle.std.specs.Prelude.{ℕ, Bool, true, ◌≡◌, ◌+◌, not, List, length, take, drop, map, Option}
 use Rattle.std.specs.List.{list_any}
 use Rattle.nm_types.specs.Names.{switch_of, is_switch_port_name}
 use Rattle.nm_types.specs.declared.fault.OpenFault.{OpenFault}
-use Rattle.nm_types.specs.Openings.{open_refusal as names_refusal}
+use Rattle.nm_types.specs.Openings.{is_on_switch, open_refusal as names_refusal}
 use Rattle.nm_region.specs.Buffers.{Buffer, indices_of}
 use Rattle.vale_names.specs.declared.port.NamedPort.{NamedPort}
 use Rattle.vale_names.specs.Ports.{names_of, Joins, ports_without}
@@ -17,18 +17,18 @@ use Rattle.vale_port.specs.declared.port.Opening.{Opening}
 use Rattle.vale_port.specs.Ports.{PortState, opened_state}
 use Rattle.vale_parts.specs.SwitchTables.{TablesAre, has_table}
 use Rattle.vale_core.specs.declared.opening.Opened.{Opened}
-use Rattle.vale_core.specs.declared.tables.SwitchTable.{SwitchTable}
+use Rattle.vale_core.specs.declared.tables.NamedTable.{NamedTable}
 use Rattle.vale_core.specs.BookView.{table_seen}
 
 abbrev pub is_port_on : List ℕ → PortState → Bool
-is_port_on switch p = is_switch_port_name p.name && bytes_eq (switch_of p.name) switch
+is_port_on switch p = is_on_switch switch p.name
 
 -- a table whose switch has no port
-abbrev pub is_vacant : List PortState → SwitchTable → Bool
+abbrev pub is_vacant : List PortState → NamedTable → Bool
 is_vacant ps table = not (list_any (is_port_on (switch_of table.label)) ps)
 
 -- a port of this name has its switch's table, if it is on a switch
-abbrev pub HasTableFor : List ℕ → List SwitchTable → Type 0
+abbrev pub HasTableFor : List ℕ → List NamedTable → Type 0
 HasTableFor name tables = is_switch_port_name name ≡ true → has_table (switch_of name) (map table_seen tables) ≡ true
 
 abbrev pub name_of_state : PortState → List ℕ
@@ -38,7 +38,7 @@ abbrev pub name_of_port : Port → List ℕ
 name_of_port port = port.name
 
 -- tables that are those of a world whose ports have these names still are
-abbrev pub StillTables : List PortState → List SwitchTable → List SwitchTable → Type 0
+abbrev pub StillTables : List PortState → List NamedTable → List NamedTable → Type 0
 StillTables ps old new = (pool : ℕ) (history : List Entry) → map name_of_state ps ≡ map name_of_port (world_of pool history).ports
     → TablesAre (world_of pool history) (map table_seen old) → TablesAre (world_of pool history) (map table_seen new)
 

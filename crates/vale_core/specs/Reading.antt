@@ -1,9 +1,8 @@
 -- A sync of a switch port or a monitor, and a get of a pipe end: buffers come back, and what is ready
 -- is given.
-use Rattle.std.specs.Prelude.{ℕ, Bool, true, false, ◌≡◌, List, length, Some}
+use Rattle.std.specs.Prelude.{ℕ, Bool, true, false, ◌≡◌, List, [], length, Some}
 use Rattle.nm_types.specs.declared.id.Counts.{Counts}
 use Rattle.nm_types.specs.declared.id.PortId.{PortId}
-use Rattle.nm_types.specs.Counters.{zero_counts}
 use Rattle.nm_region.specs.Buffers.{indices_of}
 use Rattle.vale_batch.specs.Wants.{Wanted}
 use Rattle.vale_line.specs.declared.got.Got.{Got}
@@ -14,6 +13,7 @@ use Rattle.vale_entry.specs.declared.entry.Dest.{Dest}
 use Rattle.vale_entry.specs.declared.entry.Reply.TheVariants.{Gave}
 use Rattle.vale_entry.specs.declared.entry.Entry.{Entry}
 use Rattle.vale_entry.specs.World.{Port, open_port, receive_monitor}
+use Rattle.vale_entry.specs.Counters.{count_gave_at}
 use Rattle.vale_entry.specs.Delivery.{ready_lots, delivered_frames}
 use Rattle.vale_entry.specs.Holdings.{delivered_buffers}
 use Rattle.vale_entry.specs.Legal.{Standing, room_of_dests}
@@ -47,7 +47,7 @@ read_entry reading back = record {
 }
 
 abbrev pub count_read : ℕ → Counts
-count_read count = record zero_counts { read = count }
+count_read count = count_gave_at (Gave count [])
 
 -- what is given of a port: the frames of its ready lots, in the buffers that are held for these
 pub record IsGivenOf (s : Standing) (region : ℕ) (port : Port) (gots : List Got) : Type 0 where

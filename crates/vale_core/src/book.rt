@@ -5,7 +5,7 @@ ghost use Rattle.vale_entry.specs.Legal.{IsLegal};
 ghost use Rattle.vale_entry.specs.Room.{promised_of};
 ghost use Rattle.vale_core.specs.Recorded.{standing, HadRoom, IsWithinLimits};
 
-use crate::tables::SwitchTable;
+use crate::tables::NamedTable;
 use nm_count::Tally;
 use nm_pool::Pool;
 use nm_region::Region;
@@ -29,7 +29,7 @@ pub struct Book {
     pub(crate) sessions: Vec<SessionId>,
     pub(crate) ports: Vec<Port>,
     pub(crate) names: Names,
-    pub(crate) tables: Vec<SwitchTable>,
+    pub(crate) tables: Vec<NamedTable>,
     pub(crate) watches: Watches,
     pub(crate) tally: Tally,
     pub(crate) alloc: Global,

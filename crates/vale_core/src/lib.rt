@@ -13,7 +13,6 @@ mod finishing;
 mod granting;
 mod leaving;
 mod monitored;
-mod monitoring;
 mod noting;
 mod offers;
 mod opening;

@@ -1,12 +1,13 @@
-ghost use Rattle.std.specs.Prelude.{◌≡◌, ◌<◌, ◌^◌, All, length, map, IfOk};
+ghost use Rattle.std.specs.Prelude.{◌≡◌, All, length, map, IfOk};
 ghost use Rattle.vale_batch.specs.Wants.{wanted};
 ghost use Rattle.vale_parts.specs.Batches.{dests_wanted};
-ghost use Rattle.vale_core.specs.Monitored.{wants_by, dest_in, offers_to};
+ghost use Rattle.vale_core.specs.Monitored.{wants_by, offers_to};
+ghost use Rattle.vale_core.specs.Wanting.{IsSmallWant};
 
-use crate::monitoring::want_all;
 use crate::offers::{Offers, rooms_of};
+use crate::wanting::{add_monitor, dests_of};
 use nm_types::{NoMemory, PortId, SessionId};
-use std::alloc::{AllocError, Global};
+use std::alloc::Global;
 use std::marker::Model;
 use vale_batch::Want;
 use vale_entry::{Dest, Dests};
@@ -34,43 +35,18 @@ impl Model for Monitored {
 }
 
 /// The want of a monitor, if there is one and some frames are there.
-#[tactic(auto, using(crate::proofs::MonitorWants::monitor_wants))]
-fn wants_by(alloc: Global, monitor: Option<PortId>, count: u32) -> Result<Vec<Want>, AllocError>
-    ensures { IfOk result (λ wants. map wanted wants.items ≡ wants_by monitor count) }
+fn wants_by(alloc: Global, monitor: Option<PortId>, count: u32) -> Result<Vec<Want>, NoMemory>
+    ensures wants { IfOk result (λ wants. map wanted wants.items ≡ wants_by monitor count) }
+    ensures small { IfOk result (λ wants. All IsSmallWant wants.items) }
 {
     let mut wants = Vec::new(alloc);
-    match monitor {
-        Some(to) if count > 0 => {
-            wants.reserve(1)?;
-            wants.push_reserved(want_all(alloc, to, count)?);
-        }
-        _ => {}
-    }
+    add_monitor(alloc, &mut wants, monitor, count)?;
     Ok(wants)
-}
-
-/// How many frames a port wants.
-fn dest_of(want: &Want) -> Dest
-    requires { length want.now.places.items < 2 ^ 32 }
-    ensures { result ≡ dest_in want.now }
-{
-    Dest {
-        to: want.to,
-        count: want.places.len() as u32,
-    }
-}
-
-/// How many frames each port wants.
-fn dests_of(alloc: Global, wants: &[Want]) -> Result<Vec<Dest>, AllocError>
-    requires { All (λ want. length want.places.items < 2 ^ 32) wants.now }
-    ensures { IfOk result (λ to. to.items ≡ map dest_in wants.now) }
-{
-    wants.iter().map(|want| dest_of(want)).collect(alloc)
 }
 
 impl Monitored {
     /// What a port's monitor, if it has one, is offered of so many frames.
-    #[tactic(auto, using(crate::proofs::MonitorWants::monitor_wants))]
+    #[tactic(auto, using(crate::proofs::MonitoredWants::monitor_wants))]
     pub(crate) fn new(
         alloc: Global,
         monitor: Option<PortId>,

@@ -22,7 +22,7 @@ ghost use Rattle.vale_core.specs.OpenParts.{ComesOut, IsOpened, state_for, entry
 
 use crate::book::Book;
 use crate::buffers::{give_back, indices};
-use crate::tables::{SwitchTable, table_of};
+use crate::tables::{NamedTable, table_of};
 use nm_pool::Pool;
 use nm_region::Buf;
 use nm_types::{Name, NoMemory, OpenFault, PortId, SessionId, StepFault};
@@ -73,7 +73,7 @@ fn is_on_switch(port: &Port, label: &Name) -> bool
 }
 
 /// The first table whose switch has no port.
-fn vacant_table(tables: &[SwitchTable], ports: &[Port]) -> Option<usize>
+fn vacant_table(tables: &[NamedTable], ports: &[Port]) -> Option<usize>
     ensures { result ≡ position (is_vacant ports.now) tables.now }
 {
     tables
@@ -85,7 +85,7 @@ fn vacant_table(tables: &[SwitchTable], ports: &[Port]) -> Option<usize>
 /// its last port, or a fresh one.
 fn add_table(
     alloc: Global,
-    tables: &mut Vec<SwitchTable>,
+    tables: &mut Vec<NamedTable>,
     ports: &[Port],
     name: &Name,
 ) -> Result<(), NoMemory>
@@ -99,7 +99,7 @@ fn add_table(
         None => {
             let table = Table::new(alloc)?;
             tables.reserve(1)?;
-            tables.push_reserved(SwitchTable {
+            tables.push_reserved(NamedTable {
                 label: *name,
                 table,
             });
@@ -111,7 +111,7 @@ fn add_table(
 /// Sees to it that the switch of this name's port, if it is a port of one, has a table.
 fn place_table(
     alloc: Global,
-    tables: &mut Vec<SwitchTable>,
+    tables: &mut Vec<NamedTable>,
     ports: &[Port],
     name: &Name,
 ) -> Result<(), NoMemory>
@@ -239,7 +239,7 @@ fn seat_port(
 /// Finds a table for the port's switch, and adds the port.
 fn place_port(
     alloc: Global,
-    tables: &mut Vec<SwitchTable>,
+    tables: &mut Vec<NamedTable>,
     ports: &mut Vec<Port>,
     pool: &mut Pool,
     opening: Opening,
@@ -263,7 +263,7 @@ fn place_port(
 // ---- The record.
 
 /// The entry of an opening.
-fn entry_of(opening: &Opening, rx: u32, reply: Reply) -> Entry
+fn entry_for(opening: &Opening, rx: u32, reply: Reply) -> Entry
     ensures { result ≡ entry_for opening.now rx reply }
 {
     Entry {
@@ -283,7 +283,7 @@ fn entry_of(opening: &Opening, rx: u32, reply: Reply) -> Entry
 fn add_port(
     alloc: Global,
     history: &mut History,
-    tables: &mut Vec<SwitchTable>,
+    tables: &mut Vec<NamedTable>,
     ports: &mut Vec<Port>,
     pool: &mut Pool,
     opening: Opening,
@@ -311,7 +311,7 @@ fn add_port(
     history.reserve(3, 0)?;
     match place_port(alloc, tables, ports, pool, opening, rx) {
         Ok(opened) => {
-            history.push(entry_of(&opening, rx, Reply::Opened));
+            history.push(entry_for(&opening, rx, Reply::Opened));
             Ok(opened)
         }
         Err(NoMemory) => {
@@ -336,7 +336,7 @@ fn refuse(history: &mut History, opening: &Opening, rx: u32, fault: OpenFault) -
 {
     match history.reserve(1, 0) {
         Ok(()) => {
-            history.push(entry_of(opening, rx, Reply::Refused { fault }));
+            history.push(entry_for(opening, rx, Reply::Refused { fault }));
             fault
         }
         Err(full) => OpenFault::from(full),

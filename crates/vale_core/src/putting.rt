@@ -32,7 +32,6 @@ use crate::fault::PutFault;
 use crate::monitored::Monitored;
 use crate::noting::session_at;
 use crate::offers::Offers;
-use crate::reading::few_are_counted;
 use nm_count::Tally;
 use nm_region::Buf;
 use nm_types::{Batch, Counts, Frame, LeaseId, NoMemory, PortId, SessionId, Side, StepFault};
@@ -399,7 +398,6 @@ impl Book {
                 let Some(there) = open_port(&self.ports, peer) else {
                     unreachable!()
                 };
-                few_are_counted(&self.pool, &self.history);
                 let putting = Putting {
                     at: port,
                     session,

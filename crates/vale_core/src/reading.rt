@@ -1,7 +1,6 @@
 ghost use Rattle.std.specs.Prelude.{◌≡◌, ◌≤◌, ◌<◌, ◌+◌, ◌-◌, ◌*◌, ◌^◌, [], ◌∷◌, ◌++◌, length, slice_set, vec_capacity, Some, IsSome, OnOk, OnErr, IfOk, IfErr};
 ghost use Rattle.std.specs.Option.{ForSome};
 ghost use Rattle.nm_types.specs.Counters.{SumFits};
-ghost use Rattle.nm_types.specs.Limits.{most_pool};
 ghost use Rattle.nm_types.specs.Frames.{size_of_frames};
 ghost use Rattle.nm_types.specs.declared.id.Side.TheVariants.{Rx};
 ghost use Rattle.nm_region.specs.Buffers.{indices_of};
@@ -27,7 +26,6 @@ use crate::buffers::indices;
 use crate::monitored::Monitored;
 use crate::offers::Offers;
 use nm_count::Tally;
-use nm_pool::Pool;
 use nm_region::Buf;
 use nm_types::{Counts, PortId, SessionId, Side, StepFault};
 use nm_watch::Watches;
@@ -241,15 +239,6 @@ fn read(
     Ok(Synced { got, offers })
 }
 
-/// A pool has so few buffers, and a record so few entries, that no counter passes its limit.
-pub(crate) fn few_are_counted(pool: &Pool, history: &History)
-    ensures pool { pool.now.buffers ≤ most_pool }
-    ensures entries { length history.now.entries < 2 ^ 32 }
-{
-    pool.free();
-    history.len();
-}
-
 impl Book {
     /// A sync of a switch port or a monitor, or a get of a pipe end.
     fn read(
@@ -276,7 +265,6 @@ impl Book {
         let Some(place) = open_port(&self.ports, port) else {
             unreachable!()
         };
-        few_are_counted(&self.pool, &self.history);
         let reading = reading_at(&self.ports, &self.watches, port, place, is_pipe);
         read(
             self.alloc,

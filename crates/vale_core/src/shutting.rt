@@ -4,11 +4,11 @@ ghost use Rattle.vale_entry.specs.declared.entry.Ask.TheVariants as asks;
 ghost use Rattle.vale_entry.specs.Legal.{IsEnabled};
 ghost use Rattle.vale_port.specs.Lists.{OfState};
 ghost use Rattle.vale_core.specs.Recorded.{standing, after_ask, HasRoom};
-ghost use Rattle.vale_core.specs.SwitchTables.{is_for_switch, IsForgottenAt, IsForgottenOn};
+ghost use Rattle.vale_core.specs.NamedTables.{is_for_switch, IsForgottenAt, IsForgottenOn};
 
 use crate::book::Book;
 use crate::noting::session_at;
-use crate::tables::{SwitchTable, table_of};
+use crate::tables::{NamedTable, table_of};
 use nm_types::{Name, PortId};
 use vale_entry::{Ask, Entry, Reply};
 use vale_port::{Port, open_port, shut_at};
@@ -22,7 +22,7 @@ pub(crate) fn name_at(ports: &[Port], place: usize) -> Name
 }
 
 /// Empties what the table at a place has learned of the port.
-fn forget_at(tables: &mut Vec<SwitchTable>, place: usize, port: PortId)
+fn forget_at(tables: &mut Vec<NamedTable>, place: usize, port: PortId)
     requires { place < length tables.old.items }
     ensures { IsForgottenAt port place tables.old.items tables.new.items }
 {
@@ -31,7 +31,7 @@ fn forget_at(tables: &mut Vec<SwitchTable>, place: usize, port: PortId)
 
 /// Empties what the table of the name's switch has learned of the port, if it names a port of a
 /// switch.
-fn forget_on_switch(tables: &mut Vec<SwitchTable>, name: &Name, port: PortId)
+fn forget_on_switch(tables: &mut Vec<NamedTable>, name: &Name, port: PortId)
     requires there { is_switch_port_name name.now ≡ true
         → IsSome (position (is_for_switch (switch_of name.now)) tables.old.items) }
     ensures switch { is_switch_port_name name.now ≡ true

@@ -1,14 +1,39 @@
-ghost use Rattle.std.specs.Prelude.{◌≡◌, List, All, length, map, option_map, position, reverse, IfOk, OnOk};
+ghost use Rattle.std.specs.Prelude.{◌≡◌, List, All, length, map, option_map, position, replicate, reverse, IfOk, OnOk};
+ghost use Rattle.std.specs.List.{range_with_len};
 ghost use Rattle.nm_types.specs.Frames.{Frame};
 ghost use Rattle.vale_batch.specs.Wants.{port_number, wanted};
 ghost use Rattle.vale_parts.specs.Batches.{dests_wanted, with_want, wants_monitored};
-ghost use Rattle.vale_core.specs.Wanting.{IsSmall, IsSmallWant, dest_in, is_behind};
+ghost use Rattle.vale_core.specs.Wanting.{IsSmall, IsSmallWant, want_all, dest_in, is_behind};
 
-use crate::monitoring::want_all;
 use nm_types::{NoMemory, PortId};
 use std::alloc::{AllocError, Global};
 use vale_batch::{Lists, Want};
 use vale_entry::Dest;
+
+fn places(alloc: Global, count: u32) -> Result<Vec<u32>, AllocError>
+    ensures { IfOk result (λ all. all.items ≡ range_with_len 0 count) }
+{
+    (0..count).collect(alloc)
+}
+
+fn ones(alloc: Global, count: u32) -> Result<Vec<u32>, AllocError>
+    ensures { IfOk result (λ all. all.items ≡ replicate count 1) }
+{
+    let mut all = Vec::new(alloc);
+    all.resize(count as usize, 1)?;
+    Ok(all)
+}
+
+/// What a port wants that gets all of so many frames, each of which takes one slot.
+fn want_all(alloc: Global, to: PortId, count: u32) -> Result<Want, AllocError>
+    ensures { IfOk result (λ want. wanted want ≡ want_all to count) }
+{
+    Ok(Want {
+        to,
+        places: places(alloc, count)?,
+        sizes: ones(alloc, count)?,
+    })
+}
 
 /// The place of the first want of a port behind this one.
 fn place_behind(wants: &[Want], port: PortId) -> Option<usize>
@@ -79,6 +104,7 @@ pub(crate) fn wants_of(
     Ok(wants)
 }
 
+/// How many frames a port wants.
 fn dest_of(want: &Want) -> Dest
     requires { IsSmallWant want.now }
     ensures { result ≡ dest_in want.now }

@@ -1,5 +1,5 @@
 use Rattle.std.proofs.Common.{◌≡◌, ◌++◌, ◌∷◌, [], Some, ap, ◌∙◌, sym, subst, position}
-use Rattle.vale_core.specs.declared.tables.SwitchTable.{SwitchTable}
+use Rattle.vale_core.specs.declared.tables.NamedTable.{NamedTable}
 use Rattle.vale_core.specs.OpenParts.{is_vacant, StillTables}
 use Rattle.vale_core.proofs.OpenTables.{given-there, given-kept, added-there, added-kept}
 use Rattle.vale_core.proofs.opening.add_table.Goals as goal
@@ -15,7 +15,7 @@ pub returns-in-Some-clause-kept : goal.returns-in-Some-clause-kept
 returns-in-Some-clause-kept c =
     given-kept c.args.ports.now c.args.tables.now.items c.in-Some.at c.index_mut.result.now c.args.name.now (found c) c.index_mut.ensures.value c.requires.none
 
-fresh : goal.After-push_reserved → SwitchTable
+fresh : goal.After-push_reserved → NamedTable
 fresh c = record { label = c.args.name.now; table = c.in_ok-table-in-None.table }
 
 pushed : (c : goal.After-push_reserved) → c.push_reserved.new.self.items ≡ c.args.tables.now.items ++ fresh c ∷ []

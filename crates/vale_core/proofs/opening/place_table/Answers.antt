@@ -1,6 +1,6 @@
 use Rattle.std.proofs.Common.{ap, ◌∙◌, sym, is_some, position, not}
 use Rattle.nm_types.specs.Names.{switch_of}
-use Rattle.vale_core.specs.SwitchTables.{is_for_switch}
+use Rattle.vale_core.specs.NamedTables.{is_for_switch}
 use Rattle.vale_core.proofs.OpenTables.{seen-found}
 use Rattle.vale_core.proofs.opening.place_table.Goals as goal
 use Rattle.vale_core.proofs.opening.place_table.Goals.{else-is_switch_port-via-then-is_switch_port+else-is_none, else-is_switch_port-via-else-is_switch_port}

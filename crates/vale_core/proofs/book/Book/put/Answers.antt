@@ -97,7 +97,7 @@ known-before c =
 fits : (c : goal.After-put_to_peer-arg-in-Some-peer_of-4-1) → CountsFit c.self.inside (putting-before c)
 fits c =
     counts-fit c.self.inside (putting-before c) c.args.pending.now.items
-    c.self.invariant (known-before c) c.few_are_counted.ensures.pool c.few_are_counted.ensures.entries
+    c.self.invariant (known-before c)
 
 pub put_to_peer-requires-clause-new : goal.put_to_peer-requires-clause-new
 put_to_peer-requires-clause-new c =

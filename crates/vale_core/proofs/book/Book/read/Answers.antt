@@ -41,7 +41,7 @@ pub read-requires-clause-counted : goal.read-requires-clause-counted
 read-requires-clause-counted c = is-counted c.self.inside c.reading_at-reading.result (indices_of c.args.back.items) c.self.invariant (known-before c)
 
 pub read-requires-clause-fits : goal.read-requires-clause-fits
-read-requires-clause-fits c = count-fits c.self.inside c.reading_at-reading.result (indices_of c.args.back.items) c.self.invariant (known-before c) c.few_are_counted.ensures.pool c.few_are_counted.ensures.entries
+read-requires-clause-fits c = count-fits c.self.inside c.reading_at-reading.result (indices_of c.args.back.items) c.self.invariant (known-before c)
 
 abbrev next : goal.After-read → Inside
 next c = record c.self.inside { history = c.read.new.history; ports = c.read.new.ports; tally = c.read.new.tally }

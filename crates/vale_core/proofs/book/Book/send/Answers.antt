@@ -5,7 +5,7 @@ use Rattle.vale_entry.specs.declared.entry.Ask.TheVariants.{Send}
 use Rattle.vale_entry.specs.Legal.{IsEnabled, can_send}
 use Rattle.vale_port.specs.Lists.{AreOpenOn}
 use Rattle.vale_core.specs.declared.book.Book.TheInside.{Inside}
-use Rattle.vale_core.specs.declared.tables.SwitchTable.{SwitchTable}
+use Rattle.vale_core.specs.declared.tables.NamedTable.{NamedTable}
 use Rattle.vale_core.specs.BookView.{parts_in, table_seen}
 use Rattle.vale_core.specs.Recorded.{Recorded, standing}
 use Rattle.vale_core.proofs.Moves.{before, moved, stayed, record-moved, had-room}
@@ -105,7 +105,7 @@ invariant_of-self-in-Err c =
       promised = e.err.1;
       sessions = refl;
       ports = refl;
-      parts = ap (λ (tables : List SwitchTable). record (parts_in b) { tables = map table_seen tables }) same;
+      parts = ap (λ (tables : List NamedTable). record (parts_in b) { tables = map table_seen tables }) same;
       region = refl;
       buffers = refl;
     })

@@ -6,18 +6,18 @@ use Rattle.std.proofs.lemmas.List.Quantifiers.{position-Some}
 use Rattle.std.proofs.lemmas.Option.{slice_get-get_or}
 use Rattle.vale_names.proofs.SwitchLemmas.{position_none}
 use Rattle.vale_parts.specs.SwitchTables.{has_table, is_table_of}
-use Rattle.vale_core.specs.declared.tables.SwitchTable.{SwitchTable}
+use Rattle.vale_core.specs.declared.tables.NamedTable.{NamedTable}
 use Rattle.vale_core.specs.BookView.{table_seen}
-use Rattle.vale_core.specs.SwitchTables.{is_for_switch}
+use Rattle.vale_core.specs.NamedTables.{is_for_switch}
 
 -- the table that a look-up finds
-pub record IsFoundTable (switch : List ℕ) (tables : List SwitchTable) (place : ℕ) : Type 0 where
-  pub table : SwitchTable
+pub record IsFoundTable (switch : List ℕ) (tables : List NamedTable) (place : ℕ) : Type 0 where
+  pub table : NamedTable
   pub within : place < length tables
   pub here : slice_get tables place ≡ Some table
   pub its : is_for_switch switch table ≡ true
 
-pub found-table : (switch : List ℕ) (tables : List SwitchTable) (place : ℕ) → position (is_for_switch switch) tables ≡ Some place → IsFoundTable switch tables place
+pub found-table : (switch : List ℕ) (tables : List NamedTable) (place : ℕ) → position (is_for_switch switch) tables ≡ Some place → IsFoundTable switch tables place
 found-table switch [] place is = absurd cc
 found-table switch (t ∷ ts) place is =
     let at = position-Some (is_for_switch switch) (t ∷ ts) place t is in
@@ -28,8 +28,8 @@ pub any-map : {X Y : Type 0} (test : Y → Bool) (f : X → Y) (xs : List X) →
 any-map test f [] = refl
 any-map test f (x ∷ xs) = ap (λ (b : Bool). test (f x) || b) (any-map test f xs)
 
-pub seen-any : (switch : List ℕ) (tables : List SwitchTable) → has_table switch (map table_seen tables) ≡ list_any (is_for_switch switch) tables
+pub seen-any : (switch : List ℕ) (tables : List NamedTable) → has_table switch (map table_seen tables) ≡ list_any (is_for_switch switch) tables
 seen-any switch tables = any-map (is_table_of switch) table_seen tables
 
-pub table-none : (switch : List ℕ) (tables : List SwitchTable) → position (is_for_switch switch) tables ≡ None → has_table switch (map table_seen tables) ≡ false
+pub table-none : (switch : List ℕ) (tables : List NamedTable) → position (is_for_switch switch) tables ≡ None → has_table switch (map table_seen tables) ≡ false
 table-none switch tables none = seen-any switch tables ∙ position_none (is_for_switch switch) tables none
