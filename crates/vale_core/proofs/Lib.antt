@@ -16,6 +16,8 @@ pub mod OpenRefusals
 pub mod PortLines
 pub mod OfferedTo
 pub mod ReadMoves
+pub mod RingSizes
+pub mod ReadTold
 pub mod Dones
 pub mod Leaves
 pub mod Found

@@ -196,7 +196,7 @@ entry-by : (session : ℕ) (id : SessionId) (ask ask' : Ask) (count count' : ℕ
     → (let e : Entry = record { session = record { 0 = session }; ask = ask; reply = Gave count to } in e) ≡ record { session = id; ask = ask'; reply = Gave count' to' }
 entry-by session id ask ask' count count' to to' one two three four = rw (one, two, three, four) refl
 
-entry-is : (b : Inside) (r : Reading) (back : List ℕ) → IsBook b → (is : IsReading b r back) → entry_of (read_ask r.is_pipe r.at back) (read_made b r back is) ≡ read_entry r back
+pub entry-is : (b : Inside) (r : Reading) (back : List ℕ) → IsBook b → (is : IsReading b r back) → entry_of (read_ask r.is_pipe r.at back) (read_made b r back is) ≡ read_entry r back
 entry-is b r back k is =
     entry-by is.at.port.session r.session (kept_ask (read_ask r.is_pipe r.at back)) (read_ask r.is_pipe r.at back) (length (delivered_frames is.at.port)) r.count
     (dests_of (offers_of_sync (before b).world is.at.port)) (dests_read r) is.session (kept-read r.is_pipe r.at back) is.count (dests-are b r back k is)

@@ -1,21 +1,24 @@
-ghost use Rattle.std.specs.Prelude.{◌≡◌, ◌≤◌, ◌<◌, ◌+◌, ◌-◌, ◌*◌, ◌^◌, [], ◌∷◌, ◌++◌, length, slice_set, vec_capacity, Some, IsSome, OnOk, OnErr, IfOk, IfErr};
+ghost use Rattle.std.specs.Prelude.{◌≡◌, ◌≤◌, ◌<◌, ◌+◌, ◌-◌, ◌*◌, ◌^◌, [], ◌∷◌, ◌++◌, length, slice_set, vec_capacity, All, Some, IsSome, OnOk, OnErr, IfOk, IfErr};
 ghost use Rattle.std.specs.Option.{ForSome};
 ghost use Rattle.nm_types.specs.Counters.{SumFits};
 ghost use Rattle.nm_types.specs.Frames.{size_of_frames};
+ghost use Rattle.nm_types.specs.Limits.{most_ring};
 ghost use Rattle.nm_types.specs.declared.id.Side.TheVariants.{Rx};
 ghost use Rattle.nm_region.specs.Buffers.{indices_of};
 ghost use Rattle.nm_count.specs.Tallies.{counts_of, tally_after_add};
 ghost use Rattle.nm_watch.specs.Watching.{monitor_of};
+ghost use Rattle.vale_line.specs.Gots.{IsSingle};
 ghost use Rattle.vale_line.specs.Lines.{out_of, ready_gots, given_by_sync};
 ghost use Rattle.vale_entry.specs.declared.entry.Ask.TheVariants as asks;
 ghost use Rattle.vale_entry.specs.declared.entry.Reply.TheVariants as replies;
 ghost use Rattle.vale_entry.specs.Delivery.{delivered_frames};
-ghost use Rattle.vale_entry.specs.Legal.{IsEnabled};
+ghost use Rattle.vale_entry.specs.Legal.{IsEnabled, reply_to};
 ghost use Rattle.vale_entry.specs.Stored.{Fits, IsFull};
 ghost use Rattle.vale_port.specs.Laws.{with_line};
 ghost use Rattle.vale_port.specs.Lists.{ChangesSeat, OfSeat, OfState};
 ghost use Rattle.vale_port.specs.Ports.{Gives};
 ghost use Rattle.vale_port.specs.Seat.{seat_synced};
+ghost use Rattle.vale_parts.specs.Batches.{dests_wanted};
 ghost use Rattle.vale_core.specs.BookView.{AreOf};
 ghost use Rattle.vale_core.specs.Monitored.{offers_to};
 ghost use Rattle.vale_core.specs.Recorded.{standing, after_ask, IsRefusal, HasRoom};
@@ -252,7 +255,12 @@ impl Book {
         requires of { AreOf self.old.region back.items }
         ensures made { OnOk result (self.new ≡ after_ask self.old (read_ask is_pipe port
             (indices_of back.items))) }
+        ensures said { IfOk result (λ synced. reply_to (standing self.old) (read_ask is_pipe port
+            (indices_of back.items))
+            ≡ Some (replies.Gave (length synced.got.items) (dests_wanted synced.offers.wants))) }
         ensures got { IfOk result (λ synced. IsGiven self.old port synced.got.items) }
+        ensures single { IfOk result (λ synced. All IsSingle synced.got.items) }
+        ensures few { IfOk result (λ synced. length synced.got.items < most_ring) }
         ensures offers { IfOk result (λ synced.
             IsOffered self.old self.new port synced.offers) }
         ensures room { OnOk result (HasRoom self.old (read_ask is_pipe port
@@ -283,7 +291,11 @@ impl Book {
         requires of { AreOf self.old.region back.items }
         ensures made { OnOk result (self.new ≡ after_ask self.old (asks.Sync port
             (indices_of back.items))) }
+        ensures said { IfOk result (λ synced. reply_to (standing self.old) (asks.Sync port (indices_of back.items))
+            ≡ Some (replies.Gave (length synced.got.items) (dests_wanted synced.offers.wants))) }
         ensures got { IfOk result (λ synced. IsGiven self.old port synced.got.items) }
+        ensures single { IfOk result (λ synced. All IsSingle synced.got.items) }
+        ensures few { IfOk result (λ synced. length synced.got.items < most_ring) }
         ensures offers { IfOk result (λ synced.
             IsOffered self.old self.new port synced.offers) }
         ensures room { OnOk result (HasRoom self.old (asks.Sync port (indices_of back.items))) }
@@ -305,7 +317,11 @@ impl Book {
         requires of { AreOf self.old.region back.items }
         ensures made { OnOk result (self.new ≡ after_ask self.old (asks.Get port
             (indices_of back.items))) }
+        ensures said { IfOk result (λ synced. reply_to (standing self.old) (asks.Get port (indices_of back.items))
+            ≡ Some (replies.Gave (length synced.got.items) (dests_wanted synced.offers.wants))) }
         ensures got { IfOk result (λ synced. IsGiven self.old port synced.got.items) }
+        ensures single { IfOk result (λ synced. All IsSingle synced.got.items) }
+        ensures few { IfOk result (λ synced. length synced.got.items < most_ring) }
         ensures offers { IfOk result (λ synced.
             IsOffered self.old self.new port synced.offers) }
         ensures room { OnOk result (HasRoom self.old (asks.Get port (indices_of back.items))) }

@@ -1,13 +1,17 @@
-use Rattle.std.proofs.Common.{sym, subst, OnOk, OnErr, refl}
+use Rattle.std.proofs.Common.{◌≡◌, length, sym, subst, OnOk, OnErr, refl}
 use Rattle.std.proofs.lemmas.Result.{IfErr-weaker}
 use Rattle.nm_region.specs.Buffers.{indices_of}
 use Rattle.vale_entry.specs.declared.entry.Ask.{Ask}
 use Rattle.vale_entry.specs.Legal.{IsEnabled}
+use Rattle.vale_line.specs.Lines.{ready_gots}
+use Rattle.vale_port.specs.Lists.{OfState}
+use Rattle.vale_port.specs.Ports.{PortState}
 use Rattle.vale_core.specs.declared.book.Book.TheInside.{Inside}
 use Rattle.vale_core.specs.Reading.{read_ask}
 use Rattle.vale_core.specs.Recorded.{Recorded, standing}
 use Rattle.vale_core.proofs.Moves.{Moves, Stays, kept-on, after-on, room-on}
 use Rattle.vale_core.proofs.ReadMoves.{never-missing, returned, IsReading, read-known, read_made, count-fits, is-counted, IsRest, read-moves, read-stays, read-full, given-on, offered-on}
+use Rattle.vale_core.proofs.ReadTold.{said-on, few-on, single-on}
 use Rattle.vale_core.proofs.book.Book.read.Goals as goal
 
 known-before : (c : goal.After-read-arg-4-1) → IsReading c.self.inside c.reading_at-reading.result (indices_of c.args.back.items)
@@ -94,3 +98,22 @@ returns-clause-offers c =
     let e = c.reading_at-reading.ensures in
     let offered = offered-on c.read.result c.self.inside (next c) c.reading_at-reading.result (indices_of c.args.back.items) c.self.invariant (known c) refl c.read.ensures.entries c.read.ensures.offers in
     rw (← c.self.view_is) (rw e.at at offered)
+
+ready : (c : goal.After-read) → OfState (λ (p : PortState). length (ready_gots p.line.lots) ≡ c.reading_at-reading.result.count) c.self.inside.ports.items c.reading_at-reading.result.place
+ready c =
+    let e = c.reading_at-reading.ensures in
+    let count = rw c.deref-2.ensures.value at e.count in
+    rw e.place count
+
+pub returns-clause-said : goal.returns-clause-said
+returns-clause-said c =
+    let e = c.reading_at-reading.ensures in
+    let said = said-on c.read.result c.self.inside c.reading_at-reading.result (indices_of c.args.back.items) c.self.invariant (known c) (ready c) c.read.ensures.got c.read.ensures.offers in
+    rw (← c.self.view_is) (rw (e.pipe, e.at) at said)
+
+pub returns-clause-single : goal.returns-clause-single
+returns-clause-single c =
+    single-on c.read.result c.self.inside c.reading_at-reading.result (indices_of c.args.back.items) c.self.invariant (known c) (ready c) c.read.ensures.got c.read.ensures.gives
+
+pub returns-clause-few : goal.returns-clause-few
+returns-clause-few c = few-on c.read.result c.self.inside c.reading_at-reading.result (indices_of c.args.back.items) c.self.invariant (known c) (ready c) c.read.ensures.got
