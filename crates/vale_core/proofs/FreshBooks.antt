@@ -73,7 +73,7 @@ fresh-book b bufs f =
       few = f.few;
       pool_fits = subst IsPoolSize (sym count ∙ sym (ap (λ (p : PoolState). p.buffers) f.pool)) f.fits;
       size = sym count ∙ sym (ap (λ (p : PoolState). p.buffers) f.pool);
-      region_is = f.size ∙ (sym count ∙ sym (ap (λ (p : PoolState). p.buffers) f.pool));
+      region_size = f.size ∙ (sym count ∙ sym (ap (λ (p : PoolState). p.buffers) f.pool));
       free_are = subst (λ (p : PoolState). AreOf b.region.region p.free) (sym f.pool) (are-of_opened b.region bufs f.bufs_are);
       lines_are = subst (Each (HasBuffersOf b.region.region)) (sym f.ports) tt;
     }

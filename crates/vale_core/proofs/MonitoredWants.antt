@@ -1,7 +1,7 @@
 -- The want of a monitor stands among the others by its port's id.
 use Rattle.std.proofs.Common.{ℕ, zero, suc, Bool, true, false, cond, ◌≡◌, ◌+◌, ◌<◌, ◌≤◌, ◌==◌, List, [], ◌∷◌, ◌++◌, length, map, take, drop, get_or, refl, sym, ◌∙◌, ap, subst, arith}
 use Rattle.std.specs.Prelude.{Option, Some, None, option_map, position, replicate, reverse, slice_get}
-use Rattle.std.specs.List.{list_any, insert, range_with_len}
+use Rattle.std.specs.List.{list_any, insert}
 use Rattle.std.proofs.lemmas.List.{length-replicate, map-append, reverse-append, reverse-reverse, take_all}
 use Rattle.vale_entry.specs.declared.entry.Dest.{Dest}
 use Rattle.std.proofs.lemmas.Bool.{ne_eqb, or_parts}

@@ -92,7 +92,7 @@ moved b next ask made k m =
       few = subst (λ (limits : Limits). limits.entries < 2 ^ 32) (sym m.limits) k.few;
       pool_fits = subst IsPoolSize (sym size) k.pool_fits;
       size = m.buffers ∙ (k.size ∙ sym size);
-      region_is = rw (m.region, size) k.region_is;
+      region_size = rw (m.region, size) k.region_size;
       free_are = rw m.region m.free_are;
       lines_are = rw m.region m.lines_are;
     }
@@ -131,7 +131,7 @@ stayed b next k s =
       few = subst (λ (limits : Limits). limits.entries < 2 ^ 32) (sym s.limits) k.few;
       pool_fits = subst (λ (p : PoolState). IsPoolSize p.buffers) (sym pool) k.pool_fits;
       size = s.buffers ∙ (k.size ∙ sym (ap (λ (p : PoolState). p.buffers) pool));
-      region_is = rw (s.region, pool) k.region_is;
+      region_size = rw (s.region, pool) k.region_size;
       free_are = rw (s.region, pool) k.free_are;
       lines_are = rw (s.region, s.ports) k.lines_are;
     }

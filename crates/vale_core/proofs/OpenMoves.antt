@@ -136,7 +136,7 @@ tables-kept b next k kept =
       few = k.few;
       pool_fits = k.pool_fits;
       size = k.size;
-      region_is = k.region_is;
+      region_size = k.region_size;
       free_are = k.free_are;
       lines_are = k.lines_are;
     }

@@ -19,14 +19,14 @@ use Rattle.vale_parts.proofs.AllParts.{tables_stay}
 use Rattle.vale_core.specs.declared.book.Book.TheInside.{Inside}
 use Rattle.vale_core.specs.BookView.{recorded, parts_in, IsBook}
 use Rattle.vale_core.specs.Recorded.{IsRefusal, IsRecordedAs}
-use Rattle.vale_core.specs.OpenAnswers.{ByFault, IsNamed, IsUnopened}
+use Rattle.vale_core.specs.OpenAnswers.{ByFault, IsRecordedFault, IsUnopened}
 use Rattle.vale_core.specs.OpenParts.{refusal_for, entry_for}
 use Rattle.vale_core.proofs.Moves.{Moves, Stays, before, fits-step, full-step, free-same, moved, stayed, record-moved, record-stayed, had-room}
 use Rattle.vale_core.proofs.OpenMoves.{opening_of, open-made, refusal-is}
 
 -- ---- Faults.
 
-pub by-fault : (P P' : OpenFault → Type 0) (Q Q' : StepFault → Type 0) → ((named : OpenFault) → P named → P' named) → ((full : StepFault) → Q full → Q' full)
+pub by-fault : (P P' : OpenFault → Type 0) (Q Q' : StepFault → Type 0) → ((told : OpenFault) → P told → P' told) → ((full : StepFault) → Q full → Q' full)
     → (fault : OpenFault) → ByFault P Q fault → ByFault P' Q' fault
 by-fault P P' Q Q' f g BadSize is = f BadSize is
 by-fault P P' Q Q' f g SwitchesFull is = f SwitchesFull is
@@ -36,7 +36,7 @@ by-fault P P' Q Q' f g (NoBuffers want have) is = f (NoBuffers want have) is
 by-fault P P' Q Q' f g (RecordFull what used want) is = g (steps.RecordFull what used want) is
 by-fault P P' Q Q' f g NoMemory is = g steps.NoMemory is
 
-by-same : {X : Type 0} (fault : OpenFault) → ByFault (λ named. X) (λ full. X) fault → X
+by-same : {X : Type 0} (fault : OpenFault) → ByFault (λ told. X) (λ full. X) fault → X
 by-same BadSize is = is
 by-same SwitchesFull is = is
 by-same PortsFull is = is
@@ -50,30 +50,30 @@ by-full P Q (steps.RecordFull what used want) is = is
 by-full P Q steps.NoMemory is = is
 
 -- a refusal is one of five
-abbrev IsNamedIf : Option OpenFault → Type 0
-IsNamedIf None = Unit {0}
-IsNamedIf (Some fault) = IsNamed fault
+abbrev IsRecordedIf : Option OpenFault → Type 0
+IsRecordedIf None = Unit {0}
+IsRecordedIf (Some fault) = IsRecordedFault fault
 
-named-if : (b : Bool) (fault : OpenFault) (rest : Option OpenFault) → IsNamed fault → IsNamedIf rest → IsNamedIf (cond b (Some fault) rest)
-named-if true fault rest one more = one
-named-if false fault rest one more = more
+recorded-if : (b : Bool) (fault : OpenFault) (rest : Option OpenFault) → IsRecordedFault fault → IsRecordedIf rest → IsRecordedIf (cond b (Some fault) rest)
+recorded-if true fault rest one more = one
+recorded-if false fault rest one more = more
 
-named-or : (refusal : Option OpenFault) (want have : ℕ) → IsNamedIf refusal → IsNamedIf (refusal_or_room refusal want have)
-named-or (Some fault) want have one = one
-named-or None want have one = named-if (nat_lt have want) (NoBuffers want have) None tt tt
+recorded-or : (refusal : Option OpenFault) (want have : ℕ) → IsRecordedIf refusal → IsRecordedIf (refusal_or_room refusal want have)
+recorded-or (Some fault) want have one = one
+recorded-or None want have one = recorded-if (nat_lt have want) (NoBuffers want have) None tt tt
 
-refusal-named : (w : World) (name : List ℕ) (tx rx extra : ℕ) → IsNamedIf (open_refusal w name tx rx extra)
-refusal-named w name tx rx extra =
-    let taken = named-if (list_any (has_name name) w.ports) NameTaken None tt tt in
-    let ports = named-if (finds_ports_full w.ports name) PortsFull (cond (list_any (has_name name) w.ports) (Some NameTaken) None) tt taken in
-    let switches = named-if (finds_switches_full w.ports name) SwitchesFull (cond (finds_ports_full w.ports name) (Some PortsFull) (cond (list_any (has_name name) w.ports) (Some NameTaken) None)) tt ports in
-    named-or (name_refusal w.ports name tx rx extra) (tx + rx + extra) (free_count w)
-    (named-if (not (are_sizes name tx rx extra)) BadSize (cond (finds_switches_full w.ports name) (Some SwitchesFull) (cond (finds_ports_full w.ports name) (Some PortsFull) (cond (list_any (has_name name) w.ports) (Some NameTaken) None))) tt switches)
+refusal-recorded : (w : World) (name : List ℕ) (tx rx extra : ℕ) → IsRecordedIf (open_refusal w name tx rx extra)
+refusal-recorded w name tx rx extra =
+    let taken = recorded-if (list_any (has_name name) w.ports) NameTaken None tt tt in
+    let ports = recorded-if (finds_ports_full w.ports name) PortsFull (cond (list_any (has_name name) w.ports) (Some NameTaken) None) tt taken in
+    let switches = recorded-if (finds_switches_full w.ports name) SwitchesFull (cond (finds_ports_full w.ports name) (Some PortsFull) (cond (list_any (has_name name) w.ports) (Some NameTaken) None)) tt ports in
+    recorded-or (name_refusal w.ports name tx rx extra) (tx + rx + extra) (free_count w)
+    (recorded-if (not (are_sizes name tx rx extra)) BadSize (cond (finds_switches_full w.ports name) (Some SwitchesFull) (cond (finds_ports_full w.ports name) (Some PortsFull) (cond (list_any (has_name name) w.ports) (Some NameTaken) None))) tt switches)
 
-pub refused-named : (b : Inside) (n : ℕ) (session : SessionId) (name : List ℕ) (tx rx extra : ℕ) (fault : OpenFault) → IsBook b → can_open (before b).world session.0 name tx rx extra ≡ true
-    → refusal_for b.names b.pool.free (opening_of n session name tx extra) rx ≡ Some fault → IsNamed fault
-refused-named b n session name tx rx extra fault k can is =
-    subst IsNamedIf (refusal-is b n session name tx rx extra k can ∙ is) (refusal-named (before b).world name tx rx extra)
+pub refused-recorded : (b : Inside) (n : ℕ) (session : SessionId) (name : List ℕ) (tx rx extra : ℕ) (fault : OpenFault) → IsBook b → can_open (before b).world session.0 name tx rx extra ≡ true
+    → refusal_for b.names b.pool.free (opening_of n session name tx extra) rx ≡ Some fault → IsRecordedFault fault
+refused-recorded b n session name tx rx extra fault k can is =
+    subst IsRecordedIf (refusal-is b n session name tx rx extra k can ∙ is) (refusal-recorded (before b).world name tx rx extra)
 
 -- ---- An entry of a refusal.
 
@@ -132,7 +132,7 @@ beside-stays b next beside entries = record {
 
 -- what a refusal says of the record
 abbrev IsEntered : Inside → Inside → Opening → ℕ → OpenFault → OpenFault → Type 0
-IsEntered b next opening rx fault named = (named ≡ fault) × (next.history.entries ≡ b.history.entries ++ entry_for opening rx (Refused fault) ∷ []) × Fits b.history 1 0
+IsEntered b next opening rx fault told = (told ≡ fault) × (next.history.entries ≡ b.history.entries ++ entry_for opening rx (Refused fault) ∷ []) × Fits b.history 1 0
 
 abbrev IsNotEntered : Inside → Inside → StepFault → Type 0
 IsNotEntered b next full = (next.history.entries ≡ b.history.entries) × IsFull b.history 1 0 full
@@ -143,8 +143,8 @@ IsSaid b next opening rx fault answer = ByFault (IsEntered b next opening rx fau
 pub refused-kept : (b next : Inside) (n : ℕ) (session : SessionId) (name : List ℕ) (tx rx extra : ℕ) (fault answer : OpenFault) → IsBook b → can_open (before b).world session.0 name tx rx extra ≡ true
     → refusal_for b.names b.pool.free (opening_of n session name tx extra) rx ≡ Some fault → IsBeside b next → IsSaid b next (opening_of n session name tx extra) rx fault answer → IsBook next
 refused-kept b next n session name tx rx extra fault answer k can is beside said =
-    by-same answer (by-fault (IsEntered b next (opening_of n session name tx extra) rx fault) (λ named. IsBook next) (IsNotEntered b next) (λ full. IsBook next)
-    (λ named made. moved b next (Open session name tx rx extra) (open_step_by (Some fault) (before b) session.0 name tx rx extra) k (refused-moves b next n session name tx rx extra fault k can is beside made.1 made.2))
+    by-same answer (by-fault (IsEntered b next (opening_of n session name tx extra) rx fault) (λ told. IsBook next) (IsNotEntered b next) (λ full. IsBook next)
+    (λ told made. moved b next (Open session name tx rx extra) (open_step_by (Some fault) (before b) session.0 name tx rx extra) k (refused-moves b next n session name tx rx extra fault k can is beside made.1 made.2))
     (λ full none. stayed b next k (beside-stays b next beside none.0)) answer said)
 
 pub refused-said : (b next : Inside) (n : ℕ) (session : SessionId) (name : List ℕ) (tx rx extra : ℕ) (fault answer : OpenFault) → IsBook b → can_open (before b).world session.0 name tx rx extra ≡ true
@@ -154,8 +154,8 @@ refused-said b next n session name tx rx extra fault answer k can is beside said
     let s = before b in
     let ask = Open session name tx rx extra in
     let made : Outcome = open_step_by (Some fault) s session.0 name tx rx extra in
-    by-fault (IsEntered b next (opening_of n session name tx extra) rx fault) (λ named. IsRecordedAs (recorded b) (recorded next) ask (Refused named)) (IsNotEntered b next) (λ full. (recorded next ≡ recorded b) × IsRefusal (recorded b) ask full)
-    (λ named here. subst (λ (f : OpenFault). IsRecordedAs (recorded b) (recorded next) ask (Refused f)) (sym here.0)
+    by-fault (IsEntered b next (opening_of n session name tx extra) rx fault) (λ told. IsRecordedAs (recorded b) (recorded next) ask (Refused told)) (IsNotEntered b next) (λ full. (recorded next ≡ recorded b) × IsRefusal (recorded b) ask full)
+    (λ told here. subst (λ (f : OpenFault). IsRecordedAs (recorded b) (recorded next) ask (Refused f)) (sym here.0)
     (recorded-as b next ask made (refused-moves b next n session name tx rx extra fault k can is beside here.1 here.2)))
     (λ full none. (
       record-stayed b next (beside-stays b next beside none.0),
@@ -169,5 +169,5 @@ pub full-said : (b next : Inside) (n : ℕ) (session : SessionId) (name : List �
     → IsUnopened (recorded b) (recorded next) (Open session name tx rx extra) (open_fault_of full)
 full-said b next n session name tx rx extra full k can is same why =
     let s = before b in
-    by-full (λ named. IsRecordedAs (recorded b) (recorded next) (Open session name tx rx extra) (Refused named)) (λ f. (recorded next ≡ recorded b) × IsRefusal (recorded b) (Open session name tx rx extra) f) full
+    by-full (λ told. IsRecordedAs (recorded b) (recorded next) (Open session name tx rx extra) (Refused told)) (λ f. (recorded next ≡ recorded b) × IsRefusal (recorded b) (Open session name tx rx extra) f) full
     (same, full-step b (Open session name tx rx extra) (open_step_by None s session.0 name tx rx extra) full k (open-made s session name tx rx extra None can (refusal-is b n session name tx rx extra k can ∙ is)) why)

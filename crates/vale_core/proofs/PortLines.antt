@@ -1,5 +1,5 @@
 -- Whose buffers a port has once some come back and what is ready goes.
-use Rattle.std.proofs.Common.{ℕ, zero, suc, Bool, true, false, cond, ◌≡◌, ◌==◌, List, [], ◌∷◌, ◌++◌, slice_get, slice_set, Some, sym, subst, take, drop, length}
+use Rattle.std.proofs.Common.{ℕ, zero, suc, Bool, true, false, cond, ◌≡◌, ◌==◌, List, [], ◌∷◌, ◌++◌, slice_get, Some, sym, subst, take, drop, length}
 use Rattle.std.specs.Prelude.{take_while}
 use Rattle.std.specs.List.{AllByRecursion as Each, prefix_len}
 use Rattle.std.proofs.lemmas.List.{map-append}

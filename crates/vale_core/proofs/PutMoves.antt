@@ -1,5 +1,5 @@
 -- What a put makes of a book.
-use Rattle.std.proofs.Common.{ℕ, true, false, ◌≡◌, ◌≤◌, ◌<◌, ◌+◌, ◌^◌, nat_le, List, [], ◌∷◌, ◌++◌, length, take, slice_set, Option, Some, None, option_map, is_some, Result, Ok, Err, OnOk, OnErr, IfOk, refl, sym, ◌∙◌, ap, subst, arith}
+use Rattle.std.proofs.Common.{ℕ, true, false, ◌≡◌, ◌≤◌, ◌+◌, nat_le, List, [], ◌∷◌, ◌++◌, length, take, slice_set, Option, Some, None, option_map, is_some, Result, Ok, Err, OnOk, OnErr, IfOk, refl, sym, ◌∙◌, ap, subst, arith}
 use Rattle.std.specs.Prelude.{IsSome, IfSome, IfNone, All}
 use Rattle.std.specs.Option.{ForSome, option_map_or}
 use Rattle.std.specs.List.{AllByRecursion as Each}

@@ -1,5 +1,5 @@
 -- What a sync and a get tell of what they give.
-use Rattle.std.proofs.Common.{ℕ, Bool, true, false, ◌≡◌, ◌≤◌, ◌<◌, ◌+◌, List, [], ◌∷◌, length, Option, Some, option_map, Result, Ok, Err, IfOk, refl, sym, ◌∙◌, ap, subst, arith, inl, inr}
+use Rattle.std.proofs.Common.{ℕ, Bool, true, false, ◌≡◌, ◌≤◌, ◌<◌, ◌+◌, List, [], ◌∷◌, length, Some, option_map, Result, Ok, Err, IfOk, refl, sym, ◌∙◌, ap, arith, inl, inr}
 use Rattle.std.specs.Prelude.{All, sum_by}
 use Rattle.std.proofs.lemmas.Bool.{cases_Bool, eqb-true}
 use Rattle.std.proofs.lemmas.List.{length-map}
@@ -10,7 +10,7 @@ use Rattle.nm_types.specs.Frames.{Frame}
 use Rattle.nm_types.specs.Limits.{most_ring}
 use Rattle.nm_types.specs.declared.id.PortId.{PortId}
 use Rattle.vale_line.specs.declared.got.Got.{Got}
-use Rattle.vale_line.specs.Gots.{frames_in, last_count, is_last, IsSingle}
+use Rattle.vale_line.specs.Gots.{last_count, is_last, IsSingle}
 use Rattle.vale_line.specs.Lines.{ready_gots}
 use Rattle.vale_line.proofs.FrameLemmas.{count-frames}
 use Rattle.vale_entry.specs.declared.entry.Entry.{Entry}
@@ -18,7 +18,6 @@ use Rattle.vale_entry.specs.declared.entry.Reply.{Reply}
 use Rattle.vale_entry.specs.declared.entry.Reply.TheVariants.{Gave}
 use Rattle.vale_entry.specs.Delivery.{delivered_frames}
 use Rattle.vale_entry.specs.Legal.{Standing, Outcome, step, reply_of, reply_to}
-use Rattle.vale_port.specs.Kept.{bytes_of}
 use Rattle.vale_port.specs.Lists.{OfSeat, OfState}
 use Rattle.vale_port.specs.Ports.{PortState, Gives}
 use Rattle.vale_port.specs.Seat.{Seat, seats_of}

@@ -1,21 +1,18 @@
 -- A receive ring has at most 1,024 slots, and one of them is always idle.
-use Rattle.std.proofs.Common.{ℕ, Bool, true, false, cond, not, ◌≡◌, ◌≤◌, ◌<◌, ◌+◌, ◌&&◌, ◌==◌, nat_le, slice_get, List, [], ◌∷◌, length, drop, Option, Some, None, refl, arith}
+use Rattle.std.proofs.Common.{ℕ, Bool, true, false, cond, not, ◌≡◌, ◌≤◌, ◌<◌, ◌+◌, ◌&&◌, ◌==◌, nat_le, slice_get, List, length, Option, Some, None, refl, arith}
 use Rattle.std.specs.List.{AllByRecursion as Each}
 use Rattle.std.proofs.lemmas.Bool.{and_parts, leb-true}
-use Rattle.nm_types.specs.Frames.{size_of_frames}
 use Rattle.nm_types.specs.Limits.{most_ring}
 use Rattle.nm_types.specs.declared.fault.OpenFault.{OpenFault}
 use Rattle.nm_types.specs.declared.fault.OpenFault.TheVariants.{BadSize}
 use Rattle.nm_types.proofs.Sizes.{size_of_frames-length}
 use Rattle.vale_entry.specs.declared.entry.Entry.{Entry}
-use Rattle.vale_entry.specs.World.{World, Port, free_count, size_of_line}
+use Rattle.vale_entry.specs.World.{World, Port, free_count}
 use Rattle.vale_entry.specs.Opening.{is_ring_size, are_sizes, name_refusal, refusal_or_room, open_refusal}
-use Rattle.vale_entry.specs.Delivery.{ready_lots, delivered_frames, port_after_done, port_after_sync}
-use Rattle.vale_entry.specs.Grant.{given_at, port_after_grant}
-use Rattle.vale_entry.specs.Pipe.{frames_of_items, port_after_put}
+use Rattle.vale_entry.specs.Delivery.{delivered_frames, port_after_done, port_after_sync}
 use Rattle.vale_entry.specs.Closing.{shut}
 use Rattle.vale_entry.specs.Laws.{HasRoom}
-use Rattle.vale_entry.specs.Legal.{Standing, standing_of, after, world_of, IsLegal}
+use Rattle.vale_entry.specs.Legal.{Standing, standing_of, world_of, IsLegal}
 use Rattle.vale_entry.proofs.Each.{each-append, each-changed_at, each-map}
 use Rattle.vale_entry.proofs.Follows.{EachKind, after-by}
 use Rattle.vale_entry.proofs.HistoryLaws.{history-stands}

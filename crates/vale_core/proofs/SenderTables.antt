@@ -1,6 +1,6 @@
 -- The table of a sender's switch is found among those of all switches.
-use Rattle.std.proofs.Common.{ℕ, zero, suc, Bool, true, ◌||◌, ◌&&◌, ◌≡◌, ◌<◌, List, [], ◌∷◌, length, map, slice_get, slice_set, get_or, Option, Some, None, option_map, refl, sym, ◌∙◌, ap, subst, arith}
-use Rattle.std.specs.List.{list_any, position}
+use Rattle.std.proofs.Common.{ℕ, zero, suc, true, ◌&&◌, ◌≡◌, ◌<◌, List, [], ◌∷◌, length, map, slice_get, slice_set, get_or, Option, Some, None, option_map, refl, sym, ◌∙◌, ap, subst}
+use Rattle.std.specs.List.{position}
 use Rattle.std.proofs.lemmas.Bool.{and_parts, both_ways}
 use Rattle.std.proofs.lemmas.List.{map-set}
 use Rattle.std.proofs.lemmas.List.Quantifiers.{position-Some}
@@ -10,7 +10,6 @@ use Rattle.nm_types.specs.Frames.{Frame}
 use Rattle.nm_types.specs.Sendable.{is_sendable}
 use Rattle.nm_types.specs.Names.{switch_of, is_switch_port_name}
 use Rattle.nm_types.specs.declared.id.PortId.{PortId}
-use Rattle.vale_names.proofs.SwitchLemmas.{position_none}
 use Rattle.vale_batch.specs.Looking.{learned_of_batch}
 use Rattle.vale_entry.specs.declared.entry.Ask.TheVariants.{Send}
 use Rattle.vale_entry.specs.World.{World, Port, open_port, is_settled}

@@ -1,10 +1,10 @@
 -- Buffers that were taken in parts go back in parts, and then nothing has changed.
-use Rattle.std.proofs.Common.{ℕ, ◌≡◌, ◌+◌, List, [], ◌∷◌, ◌++◌, take, drop, refl, sym, ◌∙◌, ap, subst}
+use Rattle.std.proofs.Common.{ℕ, ◌≡◌, ◌+◌, List, ◌++◌, take, drop, sym, ◌∙◌, ap, subst}
 use Rattle.std.proofs.Math.Seq.{take-add}
 use Rattle.std.proofs.lemmas.List.{drop-drop}
 use Rattle.nm_region.specs.Buffers.{Buffer}
 use Rattle.nm_pool.specs.Free.{PoolState}
-use Rattle.vale_parts.specs.FreeBuffers.{CanAllBeGiven, pool_less, pool_with, pool_with_all}
+use Rattle.vale_parts.specs.FreeBuffers.{CanAllBeGiven, pool_less, pool_with_all}
 use Rattle.vale_parts.specs.FreeLaws.{IsTakenBack}
 use Rattle.vale_core.proofs.GivenBack.{can-front, can-rest, with-both}
 

@@ -21,7 +21,7 @@ use Rattle.vale_core.specs.Recorded.{Recorded, HadRoom}
 abbrev pub recorded : Inside → Recorded
 recorded b = record { pool = b.pool.buffers; region = b.region.region; limits = b.history.limits; entries = b.history.entries }
 
--- a switch's table is kept under the name of one of its ports
+-- a switch's table is kept under a name on that switch
 abbrev pub table_seen : NamedTable → SwitchTable
 table_seen table = record { switch = switch_of table.label; entries = table.table }
 
@@ -57,9 +57,12 @@ pub record StandsFor (pool : ℕ) (history : List Entry) (b : Inside) : Type 0 w
 pub record IsBook (b : Inside) : Type 0 where
   pub stands : StandsFor b.pool.buffers b.history.entries b
   pub rooms : HadRoom (recorded b)
+  -- the number of each entry has 32 bits
   pub few : b.history.limits.entries < 2 ^ 32
+  -- and over so few buffers no counter passes its 64 bits
   pub pool_fits : IsPoolSize b.pool.buffers
+  -- the book, its pool and its region are of one size
   pub size : b.buffers ≡ b.pool.buffers
-  pub region_is : b.region.buffers ≡ b.pool.buffers
+  pub region_size : b.region.buffers ≡ b.pool.buffers
   pub free_are : AreOf b.region.region b.pool.free
   pub lines_are : AllByRecursion (HasBuffersOf b.region.region) b.ports.items

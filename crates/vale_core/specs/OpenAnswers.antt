@@ -10,17 +10,18 @@ use Rattle.vale_core.specs.Recorded.{Recorded, IsRefusal, IsRecordedAs}
 
 -- an opening is refused by the name, the sizes or the free buffers, or for want of room or memory
 abbrev pub ByFault : (OpenFault → Type 0) → (StepFault → Type 0) → OpenFault → Type 0
-ByFault named full BadSize = named BadSize
-ByFault named full SwitchesFull = named SwitchesFull
-ByFault named full PortsFull = named PortsFull
-ByFault named full NameTaken = named NameTaken
-ByFault named full (NoBuffers want have) = named (NoBuffers want have)
-ByFault named full (RecordFull what used want) = full (steps.RecordFull what used want)
-ByFault named full NoMemory = full steps.NoMemory
+ByFault recorded full BadSize = recorded BadSize
+ByFault recorded full SwitchesFull = recorded SwitchesFull
+ByFault recorded full PortsFull = recorded PortsFull
+ByFault recorded full NameTaken = recorded NameTaken
+ByFault recorded full (NoBuffers want have) = recorded (NoBuffers want have)
+ByFault recorded full (RecordFull what used want) = full (steps.RecordFull what used want)
+ByFault recorded full NoMemory = full steps.NoMemory
 
-abbrev pub IsNamed : OpenFault → Type 0
-IsNamed fault = ByFault (λ named. Unit {0}) (λ full. ⊥) fault
+-- it is recorded
+abbrev pub IsRecordedFault : OpenFault → Type 0
+IsRecordedFault fault = ByFault (λ told. Unit {0}) (λ full. ⊥) fault
 
 -- a refusal by the name, the sizes or the free buffers is an entry; want of room or memory is none
 abbrev pub IsUnopened : Recorded → Recorded → Ask → OpenFault → Type 0
-IsUnopened old new ask fault = ByFault (λ named. IsRecordedAs old new ask (Refused named)) (λ full. (new ≡ old) × IsRefusal old ask full) fault
+IsUnopened old new ask fault = ByFault (λ told. IsRecordedAs old new ask (Refused told)) (λ full. (new ≡ old) × IsRefusal old ask full) fault

@@ -1,4 +1,5 @@
-ghost use Rattle.std.specs.Prelude.{◌≡◌, ◌+◌, ◌<◌, ◌^◌, [], ◌∷◌, ◌++◌, length, OnOk, OnErr, IfOk, IfErr};
+ghost use Rattle.std.specs.Prelude.{◌≡◌, ◌+◌, ◌<◌, ◌^◌, [], ◌∷◌, ◌++◌, length, OnOk, OnErr, IfOk};
+ghost use Rattle.std.specs.Prelude.{IfErr};
 ghost use Rattle.vale_entry.specs.declared.entry.Ask.TheVariants as asks;
 ghost use Rattle.vale_entry.specs.declared.entry.Reply.TheVariants as replies;
 ghost use Rattle.vale_entry.specs.Stored.{Fits, IsFull};
@@ -14,14 +15,20 @@ fn enter(
     sessions: &mut Vec<SessionId>,
     user: u64,
 ) -> Result<SessionId, StepFault>
-    ensures entries { IfOk result (λ id. history.new.entries ≡ history.old.entries ++ (record { session = id; ask = asks.Enter user; reply = replies.Made }) ∷ []) }
+    ensures entries { IfOk result (λ id. history.new.entries ≡ history.old.entries ++ (record {
+      session = id;
+      ask = asks.Enter user;
+      reply = replies.Made;
+    }) ∷ []) }
     ensures number { IfOk result (λ id. id.0 ≡ length history.old.entries + 1) }
     ensures promised { OnOk result (history.new.promised ≡ history.old.promised + 1) }
     ensures sessions { IfOk result (λ id. sessions.new.items ≡ sessions.old.items ++ id ∷ []) }
     ensures limits { history.new.limits ≡ history.old.limits }
     ensures fits { OnOk result (Fits history.old 2 0) }
     ensures full { IfErr result (IsFull history.old 2 0) }
-    ensures err { OnErr result ((history.new.entries ≡ history.old.entries) × (history.new.promised ≡ history.old.promised) × (sessions.new.items ≡ sessions.old.items)) }
+    ensures err { OnErr result ((history.new.entries ≡ history.old.entries)
+        × (history.new.promised ≡ history.old.promised)
+        × (sessions.new.items ≡ sessions.old.items)) }
 {
     sessions.reserve(1)?;
     history.reserve(2, 0)?;

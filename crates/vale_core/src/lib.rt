@@ -1,6 +1,6 @@
 //! The switch over its parts: names, learning tables, ports with their lines, watches, counters and
 //! the pool, and the record of every step. Buffers are owned: what an opening, a grant or a sync
-//! hands out leaves the book, and what comes back is spent.
+//! hands out leaves the book, and what comes back is the book's again.
 #![tactic(auto)]
 
 mod book;

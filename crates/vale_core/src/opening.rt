@@ -16,7 +16,7 @@ ghost use Rattle.vale_parts.specs.FreeBuffers.{CanAllBeGiven, pool_less, pool_wi
 ghost use Rattle.vale_parts.specs.FreeLaws.{IsTakenBack};
 ghost use Rattle.vale_core.specs.BookView.{table_seen, AreOf};
 ghost use Rattle.vale_core.specs.Recorded.{standing, IsRecordedAs};
-ghost use Rattle.vale_core.specs.OpenAnswers.{IsUnopened, ByFault, IsNamed};
+ghost use Rattle.vale_core.specs.OpenAnswers.{IsUnopened, ByFault, IsRecordedFault};
 ghost use Rattle.vale_core.specs.OpenParts.{is_port_on, is_vacant, HasTableFor, StillTables};
 ghost use Rattle.vale_core.specs.OpenParts.{ComesOut, IsOpened, state_for, entry_for, refusal_for};
 
@@ -35,8 +35,8 @@ use vale_port::{Opening, Port};
 #[cfg(test)]
 mod tests;
 
-/// A port that was opened, with the buffers that its session holds from now on. Those of its receive
-/// ring stay with the switch.
+/// A port that was opened, with the buffers that its session holds from now on. Those of its
+/// receive ring stay with the switch.
 pub struct Opened {
     /// The number of the entry that opened it.
     pub port: PortId,
@@ -323,9 +323,9 @@ fn add_port(
 
 /// Records that an opening is refused, and returns the fault, or else that of the record.
 fn refuse(history: &mut History, opening: &Opening, rx: u32, fault: OpenFault) -> OpenFault
-    requires { IsNamed fault }
+    requires { IsRecordedFault fault }
     ensures answer { ByFault
-        (λ named. (named ≡ fault)
+        (λ told. (told ≡ fault)
         × (history.new.entries
         ≡ history.old.entries ++ entry_for opening.now rx (replies.Refused fault) ∷ [])
         × Fits history.old 1 0)
@@ -370,9 +370,11 @@ fn name_port(names: &mut Names, pool: &Pool, opening: &Opening, rx: u32) -> Resu
 impl Book {
     /// Opens a port of this name for a session, with rings of so many slots and so many extra
     /// buffers. Its buffers are the smallest free ones: first the transmit ring's, then the receive
-    /// ring's, then the extra ones. A name that is taken, a size out of range, a full switch and
-    /// want of free buffers are recorded as refusals; a full record and want of memory change
-    /// nothing.
+    /// ring's, then the extra ones. Room for its `shut` and its `finish` is promised.
+    ///
+    /// A size out of range, a fifth switch, a port too many of a switch, a pipe end or a monitor
+    /// too many, a name that is taken and want of free buffers are recorded as refusals; a full
+    /// record and want of memory change nothing.
     pub fn open(
         &mut self,
         session: SessionId,

@@ -1,4 +1,6 @@
-ghost use Rattle.std.specs.Prelude.{ℕ, List, ◌≡◌, ◌≤◌, ◌<◌, ◌+◌, ◌-◌, ◌*◌, [], ◌∷◌, ◌++◌, true, false, All, length, min, take, drop, slice_set, vec_capacity, Some, None, IsSome, OnOk, OnErr, IfOk, IfErr, IfSome, IfNone};
+ghost use Rattle.std.specs.Prelude.{ℕ, List, ◌≡◌, ◌≤◌, ◌<◌, ◌+◌, ◌-◌, ◌*◌, [], ◌∷◌, ◌++◌, true};
+ghost use Rattle.std.specs.Prelude.{false, All, length, min, take, drop, slice_set, vec_capacity};
+ghost use Rattle.std.specs.Prelude.{Some, None, IsSome, OnOk, OnErr, IfOk, IfErr, IfSome, IfNone};
 ghost use Rattle.std.specs.Option.{ForSome};
 ghost use Rattle.nm_types.specs.Counters.{SumFits};
 ghost use Rattle.nm_types.specs.Frames.{Frame as Packet, bytes_of_frames};
@@ -25,7 +27,9 @@ ghost use Rattle.vale_port.specs.Seat.{seat_put};
 ghost use Rattle.vale_core.specs.BookView.{AreOf};
 ghost use Rattle.vale_core.specs.Recorded.{standing, after_ask, IsRefusal, HasRoom};
 ghost use Rattle.vale_core.specs.PutFaults.{IfMade, IfNotMade, IsPutRefusal};
-ghost use Rattle.vale_core.specs.Putting.{item_of, items_of, wants_put, room_of_put, put_entry, gone_entry, count_sent, count_given, lot_id, copied, took_of, IfPut, IsPutBy, IsPut};
+ghost use Rattle.vale_core.specs.Putting.{item_of, items_of, wants_put, room_of_put, put_entry};
+ghost use Rattle.vale_core.specs.Putting.{gone_entry, count_sent, count_given, lot_id, copied};
+ghost use Rattle.vale_core.specs.Putting.{took_of, IfPut, IsPutBy, IsPut};
 
 use crate::book::Book;
 use crate::fault::PutFault;

@@ -1,4 +1,6 @@
-ghost use Rattle.std.specs.Prelude.{◌≡◌, ◌≤◌, ◌<◌, ◌+◌, ◌-◌, ◌*◌, ◌^◌, [], ◌∷◌, ◌++◌, length, slice_set, vec_capacity, All, Some, IsSome, OnOk, OnErr, IfOk, IfErr};
+ghost use Rattle.std.specs.Prelude.{◌≡◌, ◌≤◌, ◌<◌, ◌+◌, ◌-◌, ◌*◌, ◌^◌, [], ◌∷◌, ◌++◌, length};
+ghost use Rattle.std.specs.Prelude.{slice_set, vec_capacity, All, Some, IsSome, OnOk, OnErr, IfOk};
+ghost use Rattle.std.specs.Prelude.{IfErr};
 ghost use Rattle.std.specs.Option.{ForSome};
 ghost use Rattle.nm_types.specs.Counters.{SumFits};
 ghost use Rattle.nm_types.specs.Frames.{size_of_frames};
@@ -22,7 +24,8 @@ ghost use Rattle.vale_parts.specs.Batches.{dests_wanted};
 ghost use Rattle.vale_core.specs.BookView.{AreOf};
 ghost use Rattle.vale_core.specs.Monitored.{offers_to};
 ghost use Rattle.vale_core.specs.Recorded.{standing, after_ask, IsRefusal, HasRoom};
-ghost use Rattle.vale_core.specs.Reading.{read_ask, read_entry, wants_read, room_of_read, count_read, IsGiven, IsOffered};
+ghost use Rattle.vale_core.specs.Reading.{read_ask, read_entry, wants_read, room_of_read};
+ghost use Rattle.vale_core.specs.Reading.{count_read, IsGiven, IsOffered};
 
 use crate::book::Book;
 use crate::buffers::indices;
@@ -285,13 +288,18 @@ impl Book {
     }
 
     /// Buffers come back to the receive ring of a switch port or a monitor, and those of its frames
-    /// that are ready go to its session. Where that fails, the buffers are handed back.
+    /// that are ready go to its session. A monitor of the port's receive side is offered all of
+    /// these frames; room for the grant of that offer, and for the completion of its lease, is
+    /// promised.
+    ///
+    /// A full record and want of memory change nothing, and the buffers are handed back.
     pub fn sync(&mut self, port: PortId, back: Vec<Buf>) -> Result<Synced, (StepFault, Vec<Buf>)>
         requires enabled { IsEnabled (standing self.old) (asks.Sync port (indices_of back.items)) }
         requires of { AreOf self.old.region back.items }
         ensures made { OnOk result (self.new ≡ after_ask self.old (asks.Sync port
             (indices_of back.items))) }
-        ensures said { IfOk result (λ synced. reply_to (standing self.old) (asks.Sync port (indices_of back.items))
+        ensures said { IfOk result (λ synced.
+            reply_to (standing self.old) (asks.Sync port (indices_of back.items))
             ≡ Some (replies.Gave (length synced.got.items) (dests_wanted synced.offers.wants))) }
         ensures got { IfOk result (λ synced. IsGiven self.old port synced.got.items) }
         ensures single { IfOk result (λ synced. All IsSingle synced.got.items) }
@@ -307,7 +315,7 @@ impl Book {
         self.read(port, false, back)
     }
 
-    /// `sync` on a pipe end.
+    /// `sync` of a pipe end, which is recorded as a get.
     pub fn pipe_get(
         &mut self,
         port: PortId,
@@ -317,7 +325,8 @@ impl Book {
         requires of { AreOf self.old.region back.items }
         ensures made { OnOk result (self.new ≡ after_ask self.old (asks.Get port
             (indices_of back.items))) }
-        ensures said { IfOk result (λ synced. reply_to (standing self.old) (asks.Get port (indices_of back.items))
+        ensures said { IfOk result (λ synced.
+            reply_to (standing self.old) (asks.Get port (indices_of back.items))
             ≡ Some (replies.Gave (length synced.got.items) (dests_wanted synced.offers.wants))) }
         ensures got { IfOk result (λ synced. IsGiven self.old port synced.got.items) }
         ensures single { IfOk result (λ synced. All IsSingle synced.got.items) }

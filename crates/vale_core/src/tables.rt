@@ -8,7 +8,7 @@ use vale_learn::Table;
 /// The learning table of a switch.
 #[derive(Drop)]
 pub(crate) struct NamedTable {
-    /// The name of a port that is or was on the switch.
+    /// A name on the switch: that of a port that is or was there, or of an opening that failed.
     pub(crate) label: Name,
     pub(crate) table: Table,
 }

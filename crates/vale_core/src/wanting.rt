@@ -1,4 +1,5 @@
-ghost use Rattle.std.specs.Prelude.{◌≡◌, List, All, length, map, option_map, position, replicate, reverse, IfOk, OnOk};
+ghost use Rattle.std.specs.Prelude.{◌≡◌, List, All, length, map, option_map, position, replicate};
+ghost use Rattle.std.specs.Prelude.{reverse, IfOk, OnOk};
 ghost use Rattle.std.specs.List.{range_with_len};
 ghost use Rattle.nm_types.specs.Frames.{Frame};
 ghost use Rattle.vale_batch.specs.Wants.{port_number, wanted};

@@ -25,5 +25,5 @@ close-requires-2 c =
     let b = c.self.inside in
     let k = c.self.invariant in
     let free = subst (λ (r : Recorded). free_count (standing r).world ≡ r.pool) (sym c.self.view_is) c.requires in
-    let count = ap (λ (bufs : List Buffer). length bufs) c.close.ensures.buffers ∙ (all-free b k free ∙ sym k.region_is) in
+    let count = ap (λ (bufs : List Buffer). length bufs) c.close.ensures.buffers ∙ (all-free b k free ∙ sym k.region_size) in
     all-back b.region c.close.result.items (subst (AreOf b.region.region) (sym c.close.ensures.buffers) k.free_are) c.close.ensures.whole count

@@ -7,7 +7,7 @@ use Rattle.vale_parts.specs.Ids.{port_id}
 use Rattle.vale_core.specs.declared.book.Book.TheInside.{Inside}
 use Rattle.vale_core.proofs.Moves.{Moves, Stays, before, moved, stayed, record-stayed}
 use Rattle.vale_core.proofs.OpenMoves.{comes-out, can-go-back, not-counted, room-to-count, with_tables, tables-kept, open-moves, front-is, idle-is}
-use Rattle.vale_core.proofs.OpenRefusals.{IsBeside, refused-named, refused-kept, refused-said, recorded-as, full-said}
+use Rattle.vale_core.proofs.OpenRefusals.{IsBeside, refused-recorded, refused-kept, refused-said, recorded-as, full-said}
 use Rattle.vale_core.proofs.book.Book.open.Goals as goal
 
 pub name_port-requires : goal.name_port-requires
@@ -113,7 +113,7 @@ returns-in-Err-add_port-clause-unopened c =
 pub refuse-requires : goal.refuse-requires
 refuse-requires c =
     let can : can_open (before c.self.inside).world c.args.session.0 c.args.name.now c.args.tx c.args.rx c.args.extra ≡ true = rw (← c.self.view_is) at c.requires in
-    refused-named c.self.inside c.len.result c.args.session c.args.name.now c.args.tx c.args.rx c.args.extra c.in-Err.fault c.self.invariant can c.in-Err.ensures.refusal
+    refused-recorded c.self.inside c.len.result c.args.session c.args.name.now c.args.tx c.args.rx c.args.extra c.in-Err.fault c.self.invariant can c.in-Err.ensures.refusal
 
 abbrev refused : goal.After-refuse → Inside
 refused c = record c.self.inside { history = c.refuse.new.history; names = c.name_port.new.names }
