@@ -22,6 +22,7 @@ use Rattle.vale_entry.specs.World.{Port, due_of}
 use Rattle.vale_entry.specs.Closing.{shutting_port, leases_out, unread_count}
 use Rattle.vale_entry.specs.Holdings.{buffers_at_port, buffers_of_port, holds_all}
 use Rattle.vale_entry.specs.Legal.{Outcome, step, is_met, IsEnabled, fits_chain, can_finish, finish_step, finish_step_at, finish_reply, finish_reply_at, reply_to, Follows}
+use Rattle.vale_entry.proofs.Each.{each-append}
 use Rattle.vale_entry.proofs.ListLaws.{each-at}
 use Rattle.vale_entry.proofs.Places.{shutting-place}
 use Rattle.vale_entry.proofs.HistoryPlaces.{buffers_of_port-world}
@@ -39,7 +40,7 @@ use Rattle.vale_core.specs.BookView.{recorded, parts_in, AreOf, HasBuffersOf, Is
 use Rattle.vale_core.specs.Recorded.{entry_of, HasRoomFor}
 use Rattle.vale_core.proofs.Rooms.{step-recorded}
 use Rattle.vale_core.proofs.Moves.{Moves, before}
-use Rattle.vale_core.proofs.Standing.{IsHere, met, found-here, not-found, ports-rising, each-remove, each-append}
+use Rattle.vale_core.proofs.Standing.{IsHere, met, found-here, not-found, ports-rising, each-remove}
 use Rattle.vale_core.proofs.GivenBack.{with-both, are-with_all}
 
 abbrev pub shutting_at : ℕ → List Port → Option Port

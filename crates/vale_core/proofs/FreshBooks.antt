@@ -1,8 +1,9 @@
 -- A pool over all buffers of a region, and a book over it.
-use Rattle.std.proofs.Common.{ℕ, ◌≡◌, ◌<◌, ◌^◌, List, [], ◌∷◌, length, map, refl, sym, ◌∙◌, ap, subst}
+use Rattle.std.proofs.Common.{ℕ, ◌≡◌, ◌<◌, ◌≤◌, ◌^◌, List, [], ◌∷◌, length, map, refl, sym, ◌∙◌, ap, subst, arith}
 use Rattle.std.specs.List.{AllByRecursion as Each, range_with_len}
 use Rattle.std.proofs.lemmas.List.FromFn.{length-map-range_with_len}
 use Rattle.nm_types.specs.Buffers.{IsPoolSize}
+use Rattle.nm_types.specs.Limits.{most_switches}
 use Rattle.nm_region.specs.Buffers.{Buffer, RegionState, opened_buffer, opened_buffers, indices_of}
 use Rattle.nm_pool.specs.Free.{PoolState, AreWhole}
 use Rattle.vale_parts.proofs.AllParts.{empty_first}
@@ -12,6 +13,7 @@ use Rattle.vale_port.specs.Lists.{ArePortsOf}
 use Rattle.vale_entry.specs.declared.entry.Entry.{Entry}
 use Rattle.vale_entry.specs.Legal.{world_of, holdings_of}
 use Rattle.vale_core.specs.declared.book.Book.TheInside.{Inside}
+use Rattle.vale_core.specs.declared.tables.NamedTable.{NamedTable}
 use Rattle.vale_core.specs.BookView.{parts_in, number_of_session, AreOf, HasBuffersOf, StandsFor, IsBook}
 use Rattle.vale_core.specs.Recorded.{HadRoom}
 
@@ -70,6 +72,7 @@ fresh-book b bufs f =
     record {
       stands = subst (λ (h : List Entry). StandsFor b.pool.buffers h b) (sym f.entries) (subst (λ (p : PoolState). StandsFor p.buffers [] b) (sym f.pool) stands);
       rooms = subst (λ (h : List Entry). HadRoom (record { pool = b.pool.buffers; region = b.region.region; limits = b.history.limits; entries = h })) (sym f.entries) tt;
+      tables_few = subst (λ (ts : List NamedTable). length ts ≤ most_switches) (sym f.tables) (omega arith);
       few = f.few;
       pool_fits = subst IsPoolSize (sym count ∙ sym (ap (λ (p : PoolState). p.buffers) f.pool)) f.fits;
       size = sym count ∙ sym (ap (λ (p : PoolState). p.buffers) f.pool);

@@ -29,7 +29,7 @@ use Rattle.vale_entry.specs.Legal.{Standing, Follows, reply_of, session_and_repl
 use Rattle.vale_entry.specs.Offers.{is_offer_of}
 use Rattle.vale_entry.specs.Stored.{Stored}
 use Rattle.vale_entry.specs.Laws.{HasLotsUpTo, IsFrom, room_back}
-use Rattle.vale_entry.proofs.Each.{each-find, changed_at-same}
+use Rattle.vale_entry.proofs.Each.{each-find, changed_at-same, each-drop, each-append}
 use Rattle.vale_entry.proofs.HistoryLaws.{numbers-rise}
 use Rattle.vale_entry.proofs.ListLaws.{place-of, each-at, each-set}
 use Rattle.vale_entry.proofs.Worlds.{count-world_of, standing-push}
@@ -54,7 +54,7 @@ use Rattle.vale_core.specs.Recorded.{Recorded, standing, entry_of}
 use Rattle.vale_core.specs.Granting.{given_by, grant_entry, lease_id}
 use Rattle.vale_core.specs.Offering.{OffersState, OffersStand, offers_seen, IsOfferBy, IsLeaseOf}
 use Rattle.vale_core.proofs.Moves.{Moves, before, owed-room, entries-few}
-use Rattle.vale_core.proofs.Standing.{IsHere, ports-rising, each-take, each-drop, each-append, each-left, each-right}
+use Rattle.vale_core.proofs.Standing.{IsHere, ports-rising, each-take, each-left, each-right}
 
 -- ---- the offer that is next
 

@@ -11,6 +11,7 @@ pub mod SenderTables
 pub mod Grants
 pub mod TakenParts
 pub mod OpenTables
+pub mod TableCounts
 pub mod OpenMoves
 pub mod OpenRefusals
 pub mod PortLines

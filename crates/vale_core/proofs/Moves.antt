@@ -4,7 +4,9 @@ use Rattle.std.specs.List.{AllByRecursion as Each}
 use Rattle.nm_types.specs.declared.fault.Part.TheVariants.{Entries, Bytes}
 use Rattle.nm_types.specs.declared.fault.StepFault.{StepFault}
 use Rattle.nm_types.specs.declared.fault.StepFault.TheVariants.{RecordFull, NoMemory}
+use Rattle.std.proofs.lemmas.List.{length-map}
 use Rattle.nm_types.specs.Buffers.{IsPoolSize}
+use Rattle.nm_types.specs.Limits.{most_switches}
 use Rattle.nm_types.specs.declared.limits.Limits.{Limits}
 use Rattle.nm_pool.specs.Free.{PoolState}
 use Rattle.vale_entry.specs.declared.entry.Ask.{Ask}
@@ -20,10 +22,12 @@ use Rattle.vale_entry.proofs.Wants.{is_owed}
 use Rattle.vale_entry.proofs.Worlds.{standing-push, legal-push}
 use Rattle.vale_port.specs.Lists.{ArePortsOf}
 use Rattle.vale_parts.specs.Parts.{Parts, ArePartsAfter}
+use Rattle.vale_parts.specs.SwitchTables.{SwitchTable, table_with}
 use Rattle.vale_parts.proofs.AllParts.{parts_follow, tables_stay}
 use Rattle.vale_parts.proofs.FreeKept.{size_kept}
 use Rattle.vale_core.specs.declared.book.Book.TheInside.{Inside}
-use Rattle.vale_core.specs.BookView.{recorded, parts_in, number_of_session, AreOf, HasBuffersOf, StandsFor, IsBook}
+use Rattle.vale_core.specs.declared.tables.NamedTable.{NamedTable}
+use Rattle.vale_core.specs.BookView.{recorded, table_seen, parts_in, number_of_session, AreOf, HasBuffersOf, StandsFor, IsBook}
 use Rattle.vale_core.specs.Recorded.{entry_of, after_ask, IsFullFor, refused_by, IsRefusal, HasRoomFor, HasRoom, room_by}
 use Rattle.vale_core.proofs.Rooms.{step-recorded, had-after, room-owed, within-had}
 
@@ -52,6 +56,16 @@ follows-of pool h ask made is = rw (step-recorded (standing_of pool h) ask made 
 pub size-moved : (b next : Inside) (ask : Ask) (made : Outcome) → Moves b next ask made → next.pool.buffers ≡ b.pool.buffers
 size-moved b next ask made m =
     size_kept b.pool.buffers b.history.entries (entry_of ask made) b.pool next.pool (follows-of b.pool.buffers b.history.entries ask made m.step_is) m.parts.free_next
+
+-- and as many tables
+as-many : (tables new : List NamedTable) → map table_seen new ≡ map table_seen tables → length new ≡ length tables
+as-many tables new same = sym (length-map new table_seen) ∙ (ap (λ (ts : List SwitchTable). length ts) same ∙ length-map tables table_seen)
+
+tables-moved : (b next : Inside) (ask : Ask) (made : Outcome) → Moves b next ask made → length next.tables.items ≡ length b.tables.items
+tables-moved b next ask made m =
+    let seen = map table_seen b.tables.items in
+    sym (length-map next.tables.items table_seen)
+    ∙ (ap (λ (ts : List SwitchTable). length ts) m.parts.tables_next ∙ (length-map seen (table_with (before b).world (kept_ask ask)) ∙ length-map b.tables.items table_seen))
 
 stands-moved : (b next : Inside) (ask : Ask) (made : Outcome) → StandsFor b.pool.buffers b.history.entries b → Moves b next ask made
     → StandsFor b.pool.buffers (b.history.entries ++ entry_of ask made ∷ []) next
@@ -89,6 +103,7 @@ moved b next ask made k m =
       stands = subst (λ (h : List Entry). StandsFor next.pool.buffers h next) (sym m.entries)
           (subst (λ (pool : ℕ). StandsFor pool (b.history.entries ++ entry_of ask made ∷ []) next) (sym size) (stands-moved b next ask made k.stands m));
       rooms = had-after (recorded b) (recorded next) ask k.rooms (record-moved b next ask made m) (had-room b next ask made m);
+      tables_few = subst (λ (n : ℕ). n ≤ most_switches) (sym (tables-moved b next ask made m)) k.tables_few;
       few = subst (λ (limits : Limits). limits.entries < 2 ^ 32) (sym m.limits) k.few;
       pool_fits = subst IsPoolSize (sym size) k.pool_fits;
       size = m.buffers ∙ (k.size ∙ sym size);
@@ -128,6 +143,7 @@ stayed b next k s =
       stands = subst (λ (h : List Entry). StandsFor next.pool.buffers h next) (sym s.entries)
           (subst (λ (p : PoolState). StandsFor p.buffers b.history.entries next) (sym pool) stands);
       rooms = rw (pool, s.region, s.limits, s.entries) k.rooms;
+      tables_few = subst (λ (n : ℕ). n ≤ most_switches) (sym (as-many b.tables.items next.tables.items (ap (λ (parts : Parts). parts.tables) s.parts))) k.tables_few;
       few = subst (λ (limits : Limits). limits.entries < 2 ^ 32) (sym s.limits) k.few;
       pool_fits = subst (λ (p : PoolState). IsPoolSize p.buffers) (sym pool) k.pool_fits;
       size = s.buffers ∙ (k.size ∙ sym (ap (λ (p : PoolState). p.buffers) pool));

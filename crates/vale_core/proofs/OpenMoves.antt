@@ -1,12 +1,13 @@
 -- A port is opened.
-use Rattle.std.proofs.Common.{ℕ, Bool, true, ◌≡◌, ◌+◌, ◌≤◌, ◌<◌, List, [], ◌∷◌, ◌++◌, length, map, take, drop, cond, Option, Some, None, refl, sym, ◌∙◌, ap, subst, arith}
+use Rattle.std.proofs.Common.{ℕ, Bool, true, false, not, ◌≡◌, ◌+◌, ◌≤◌, ◌<◌, List, [], ◌∷◌, ◌++◌, length, map, take, drop, cond, Option, Some, None, refl, sym, ◌∙◌, ap, subst, arith}
 use Rattle.std.proofs.lemmas.Bool.{and_parts}
 use Rattle.std.proofs.lemmas.List.{length-take-le, length-drop}
-use Rattle.nm_types.specs.Limits.{most_ports}
+use Rattle.nm_types.specs.Limits.{most_ports, most_switches}
 use Rattle.nm_types.specs.Names.{is_name}
 use Rattle.nm_types.specs.Openings.{open_refusal as names_refusal}
 use Rattle.nm_types.specs.declared.id.SessionId.{SessionId}
 use Rattle.nm_types.specs.declared.fault.OpenFault.{OpenFault}
+use Rattle.nm_types.specs.declared.fault.OpenFault.TheVariants.{BadSize, SwitchesFull}
 use Rattle.nm_region.specs.Buffers.{Buffer, indices_of}
 use Rattle.nm_pool.specs.Free.{PoolState}
 use Rattle.nm_count.specs.Tallies.{counts_of, tally_with}
@@ -18,9 +19,10 @@ use Rattle.vale_line.specs.Lines.{new_line, out_of}
 use Rattle.vale_entry.specs.declared.entry.Ask.TheVariants.{Open}
 use Rattle.vale_entry.specs.declared.entry.Reply.TheVariants.{Opened}
 use Rattle.vale_entry.specs.World.{World, is_session, free_count}
-use Rattle.vale_entry.specs.Opening.{open_refusal, opened_port, refusal_or_room}
+use Rattle.vale_entry.specs.Opening.{are_sizes, finds_switches_full, name_refusal, open_refusal, opened_port, refusal_or_room}
 use Rattle.vale_entry.specs.Legal.{Standing, open_step, open_step_by, step, can_open}
 use Rattle.vale_entry.specs.Stored.{Fits}
+use Rattle.vale_entry.proofs.Each.{each-append, each-drop}
 use Rattle.vale_entry.proofs.Worlds.{count-world_of}
 use Rattle.vale_entry.proofs.Roomy.{opened-room}
 use Rattle.vale_port.specs.declared.port.Opening.{Opening}
@@ -39,9 +41,10 @@ use Rattle.vale_parts.proofs.NameRoom.{openings_undone, openings_room}
 use Rattle.vale_parts.proofs.CountsKept.{next_not, as_many}
 use Rattle.vale_core.specs.declared.book.Book.TheInside.{Inside}
 use Rattle.vale_core.specs.BookView.{table_seen, AreOf, HasBuffersOf, IsBook}
-use Rattle.vale_core.specs.OpenParts.{HasTableFor, name_of_state, name_of_port, StillTables, ComesOut, refusal_for, entry_for, state_for}
+use Rattle.vale_core.specs.OpenParts.{HasTableFor, name_of_state, name_of_port, StillTables, StillFew, ComesOut, refusal_for, entry_for, state_for}
 use Rattle.vale_core.proofs.Moves.{Moves, before, fits-step}
-use Rattle.vale_core.proofs.Standing.{each-append, each-take, each-drop, ports-rising}
+use Rattle.vale_core.proofs.RingSizes.{none-first}
+use Rattle.vale_core.proofs.Standing.{each-take, ports-rising}
 
 -- an opening, as the entry that comes after so many makes it
 abbrev pub opening_of : ℕ → SessionId → List ℕ → ℕ → ℕ → Opening
@@ -113,8 +116,26 @@ names-agree b k =
 abbrev pub with_tables : Inside → Inside → Inside
 with_tables b next = record b { tables = next.tables }
 
-pub tables-kept : (b next : Inside) → IsBook b → StillTables b.ports.items b.tables.items next.tables.items → IsBook (with_tables b next)
-tables-kept b next k kept =
+-- an opening that is not refused does not find as many switches as there may be
+switches-left : (w : World) (name : List ℕ) (tx rx extra : ℕ) → open_refusal w name tx rx extra ≡ None → finds_switches_full w.ports name ≡ false
+switches-left w name tx rx extra none =
+    let refusal = none-first (name_refusal w.ports name tx rx extra) (tx + rx + extra) (free_count w) none in
+    by_full (are_sizes name tx rx extra) (finds_switches_full w.ports name) _ refusal
+  where
+    by_full : (sizes full : Bool) (rest : Option OpenFault) → cond (not sizes) (Some BadSize) (cond full (Some SwitchesFull) rest) ≡ None → full ≡ false
+    by_full true true rest is = absurd cc
+    by_full true false rest is = refl
+    by_full false full rest is = absurd cc
+
+pub tables-few : (b next : Inside) (n : ℕ) (session : SessionId) (name : List ℕ) (tx rx extra : ℕ) → IsBook b → can_open (before b).world session.0 name tx rx extra ≡ true
+    → refusal_for b.names b.pool.free (opening_of n session name tx extra) rx ≡ None → StillFew name b.ports.items b.tables.items next.tables.items
+    → length next.tables.items ≤ most_switches
+tables-few b next n session name tx rx extra k can none few =
+    few b.pool.buffers b.history.entries (names-agree b k) k.stands.parts_are.tables_are
+    (switches-left (before b).world name tx rx extra (refusal-is b n session name tx rx extra k can ∙ none)) k.tables_few
+
+pub tables-kept : (b next : Inside) → IsBook b → StillTables b.ports.items b.tables.items next.tables.items → length next.tables.items ≤ most_switches → IsBook (with_tables b next)
+tables-kept b next k kept few =
     let stands = k.stands in
     let parts = stands.parts_are in
     record {
@@ -133,6 +154,7 @@ tables-kept b next k kept =
         };
       };
       rooms = k.rooms;
+      tables_few = few;
       few = k.few;
       pool_fits = k.pool_fits;
       size = k.size;
@@ -177,12 +199,12 @@ pub open-moves : (b next : Inside) (n : ℕ) (session : SessionId) (name : List 
     → Joins b.names (fresh_port name (port_id (n + 1))) next.names
     → next.history.entries ≡ b.history.entries ++ entry_for (opening_of n session name tx extra) rx Opened ∷ []
     → next.history.promised ≡ b.history.promised + 2 → next.history.limits ≡ b.history.limits → Fits b.history 3 0
-    → HasTableFor name next.tables.items → StillTables b.ports.items b.tables.items next.tables.items
+    → HasTableFor name next.tables.items → StillTables b.ports.items b.tables.items next.tables.items → StillFew name b.ports.items b.tables.items next.tables.items
     → next.ports.items ≡ b.ports.items ++ state_for (opening_of n session name tx extra) rx b.pool.free ∷ []
     → next.pool ≡ pool_less (tx + rx + extra) b.pool → next.tally ≡ tally_with (port_id (n + 1)) b.tally
     → next.sessions.items ≡ b.sessions.items → next.watches ≡ b.watches → next.region ≡ b.region → next.buffers ≡ b.buffers
     → Moves (with_tables b next) next (Open session name tx rx extra) (open_step_by None (before b) session.0 name tx rx extra)
-open-moves b next n session name tx rx extra k can is none joins entries promised limits fits there kept ports pool tally sessions watches region buffers =
+open-moves b next n session name tx rx extra k can is none joins entries promised limits fits there kept few ports pool tally sessions watches region buffers =
     let s = before b in
     let ask = Open session name tx rx extra in
     let free = b.pool.free in
@@ -191,7 +213,7 @@ open-moves b next n session name tx rx extra k can is none joins entries promise
     let count : length free ≡ free_count s.world = free_counted b.pool.buffers b.history.entries b.pool k.stands.legal k.stands.parts_are.free_are in
     let room = (opened-room s.world name tx rx extra refused).0 in
     let enough : tx + rx + extra ≤ length free = omega (arith, room, count) in
-    let whole = tables-kept b next k kept in
+    let whole = tables-kept b next k kept (tables-few b next n session name tx rx extra k can none few) in
     let state = state_for (opening_of n session name tx extra) rx free in
     let taken : AreOf b.region.region (take rx (drop tx free)) = each-take (λ (buf : Buffer). buf.region ≡ b.region.region) rx (drop tx free) (each-drop (λ (buf : Buffer). buf.region ≡ b.region.region) tx free k.free_are) in
     record {

@@ -1,6 +1,7 @@
 -- The learning table of a port's switch is there, given over or added.
 use Rattle.std.proofs.Common.{ℕ, zero, suc, Bool, true, false, not, ◌||◌, ◌≡◌, ◌<◌, List, [], ◌∷◌, ◌++◌, length, map, slice_get, slice_set, get_or, Option, Some, None, option_map, is_some, refl, sym, ◌∙◌, ap, subst, arith}
 use Rattle.std.specs.List.{list_any, position}
+use Rattle.std.proofs.lemmas.Bool.{not-true}
 use Rattle.std.proofs.lemmas.List.{map-append, map-set}
 use Rattle.std.proofs.lemmas.List.Folds.{list_any-append, list_any_at}
 use Rattle.std.proofs.lemmas.List.Quantifiers.{position-Some}
@@ -22,10 +23,6 @@ use Rattle.vale_core.specs.BookView.{table_seen}
 use Rattle.vale_core.specs.OpenParts.{is_port_on, is_vacant, name_of_state, name_of_port, StillTables}
 use Rattle.vale_core.proofs.NamedTables.{any-map, seen-any}
 
-not-true : (b : Bool) → not b ≡ true → b ≡ false
-not-true true e = absurd cc
-not-true false e = refl
-
 or-true : (b : Bool) → (b || true) ≡ true
 or-true true = refl
 or-true false = refl
@@ -36,7 +33,7 @@ any-set test (y ∷ ys) zero x within passes = ap (λ (b : Bool). b || list_any 
 any-set test (y ∷ ys) (suc at) x within passes = ap (λ (b : Bool). test y || b) (any-set test ys at x (omega (arith, within)) passes) ∙ or-true (test y)
 
 -- the ports of a list and those of a world are on the same switches
-used-same : (switch : List ℕ) (ps : List PortState) (ports : List Port) → map name_of_state ps ≡ map name_of_port ports
+pub used-same : (switch : List ℕ) (ps : List PortState) (ports : List Port) → map name_of_state ps ≡ map name_of_port ports
     → list_any (is_port_on switch) ps ≡ list_any (is_on_switch switch) ports
 used-same switch ps ports same =
     sym (any-map (is_name_on switch) name_of_state ps) ∙ (ap (list_any (is_name_on switch)) same ∙ any-map (is_name_on switch) name_of_port ports)

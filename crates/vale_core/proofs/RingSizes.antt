@@ -27,7 +27,7 @@ HasRing port = port.rx ≤ most_ring
 abbrev Rings : Standing → Type 0
 Rings s = Each HasRing s.world.ports
 
-none-first : (refusal : Option OpenFault) (want have : ℕ) → refusal_or_room refusal want have ≡ None → refusal ≡ None
+pub none-first : (refusal : Option OpenFault) (want have : ℕ) → refusal_or_room refusal want have ≡ None → refusal ≡ None
 none-first (Some fault) want have none = absurd cc
 none-first None want have none = refl
 

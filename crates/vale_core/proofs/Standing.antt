@@ -20,10 +20,6 @@ each-remove P [] (suc place) all = tt
 each-remove P (x ∷ xs) zero all = all.1
 each-remove P (x ∷ xs) (suc place) all = (all.0, each-remove P xs place all.1)
 
-pub each-append : {X : Type 0} (P : X → Type 0) (xs ys : List X) → Each P xs → Each P ys → Each P (xs ++ ys)
-each-append P [] ys all more = more
-each-append P (x ∷ xs) ys all more = (all.0, each-append P xs ys all.1 more)
-
 pub each-left : {X : Type 0} (P : X → Type 0) (xs ys : List X) → Each P (xs ++ ys) → Each P xs
 each-left P [] ys all = tt
 each-left P (x ∷ xs) ys all = (all.0, each-left P xs ys all.1)
@@ -36,11 +32,6 @@ pub each-take : {X : Type 0} (P : X → Type 0) (n : ℕ) (xs : List X) → Each
 each-take P zero xs all = tt
 each-take P (suc n) [] all = tt
 each-take P (suc n) (x ∷ xs) all = (all.0, each-take P n xs all.1)
-
-pub each-drop : {X : Type 0} (P : X → Type 0) (n : ℕ) (xs : List X) → Each P xs → Each P (drop n xs)
-each-drop P zero xs all = all
-each-drop P (suc n) [] all = tt
-each-drop P (suc n) (x ∷ xs) all = each-drop P n xs all.1
 
 -- ---- ports
 

@@ -1,6 +1,7 @@
 -- What a book stands for, and how its parts are those of a switch.
-use Rattle.std.specs.Prelude.{ℕ, ◌≡◌, ◌<◌, ◌^◌, ◌++◌, List, map}
+use Rattle.std.specs.Prelude.{ℕ, ◌≡◌, ◌<◌, ◌≤◌, ◌^◌, ◌++◌, List, length, map}
 use Rattle.std.specs.List.{AllByRecursion}
+use Rattle.nm_types.specs.Limits.{most_switches}
 use Rattle.nm_types.specs.Names.{switch_of}
 use Rattle.nm_types.specs.Buffers.{IsPoolSize}
 use Rattle.nm_types.specs.declared.id.SessionId.{SessionId}
@@ -57,6 +58,8 @@ pub record StandsFor (pool : ℕ) (history : List Entry) (b : Inside) : Type 0 w
 pub record IsBook (b : Inside) : Type 0 where
   pub stands : StandsFor b.pool.buffers b.history.entries b
   pub rooms : HadRoom (recorded b)
+  -- a switch that has lost its last port leaves its table to the next
+  pub tables_few : length b.tables.items ≤ most_switches
   -- the number of each entry has 32 bits
   pub few : b.history.limits.entries < 2 ^ 32
   -- and over so few buffers no counter passes its 64 bits

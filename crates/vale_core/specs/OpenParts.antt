@@ -1,6 +1,7 @@
 -- What an opening makes of the parts of a book.
-use Rattle.std.specs.Prelude.{ℕ, Bool, true, ◌≡◌, ◌+◌, not, List, length, take, drop, map, Option}
+use Rattle.std.specs.Prelude.{ℕ, Bool, true, false, ◌≡◌, ◌≤◌, ◌+◌, not, List, length, take, drop, map, Option}
 use Rattle.std.specs.List.{list_any}
+use Rattle.nm_types.specs.Limits.{most_switches}
 use Rattle.nm_types.specs.Names.{switch_of, is_switch_port_name}
 use Rattle.nm_types.specs.declared.fault.OpenFault.{OpenFault}
 use Rattle.nm_types.specs.Openings.{is_on_switch, open_refusal as names_refusal}
@@ -11,7 +12,7 @@ use Rattle.vale_entry.specs.declared.entry.Entry.{Entry}
 use Rattle.vale_entry.specs.declared.entry.Ask.TheVariants.{Open}
 use Rattle.vale_entry.specs.declared.entry.Reply.{Reply}
 use Rattle.vale_entry.specs.World.{Port}
-use Rattle.vale_entry.specs.Opening.{refusal_or_room}
+use Rattle.vale_entry.specs.Opening.{finds_switches_full, refusal_or_room}
 use Rattle.vale_entry.specs.Legal.{world_of}
 use Rattle.vale_port.specs.declared.port.Opening.{Opening}
 use Rattle.vale_port.specs.Ports.{PortState, opened_state}
@@ -41,6 +42,12 @@ name_of_port port = port.name
 abbrev pub StillTables : List PortState → List NamedTable → List NamedTable → Type 0
 StillTables ps old new = (pool : ℕ) (history : List Entry) → map name_of_state ps ≡ map name_of_port (world_of pool history).ports
     → TablesAre (world_of pool history) (map table_seen old) → TablesAre (world_of pool history) (map table_seen new)
+
+-- and no more than a book may have switches, where one of this name is not refused for that
+abbrev pub StillFew : List ℕ → List PortState → List NamedTable → List NamedTable → Type 0
+StillFew name ps old new = (pool : ℕ) (history : List Entry) → map name_of_state ps ≡ map name_of_port (world_of pool history).ports
+    → TablesAre (world_of pool history) (map table_seen old) → finds_switches_full (world_of pool history).ports name ≡ false
+    → length old ≤ most_switches → length new ≤ most_switches
 
 -- names that a port joins are as they were once it is taken out again
 abbrev pub ComesOut : NamedPort → List NamedPort → Type 0

@@ -2,7 +2,7 @@ ghost use Rattle.std.specs.Prelude.{ℕ, ◌≡◌, ◌+◌, ◌≤◌, true, fa
 ghost use Rattle.std.specs.Prelude.{drop, map, position, None, Some, OnOk, OnErr, IfOk, IfErr};
 ghost use Rattle.std.specs.Prelude.{MatchResult};
 ghost use Rattle.std.specs.List.{list_any};
-ghost use Rattle.nm_types.specs.Names.{switch_of};
+ghost use Rattle.nm_types.specs.Names.{switch_of, is_switch_port_name};
 ghost use Rattle.nm_region.specs.Buffers.{indices_of};
 ghost use Rattle.vale_names.specs.Ports.{fresh_port, Joins};
 ghost use Rattle.vale_names.specs.PortNames.{IsNames};
@@ -17,7 +17,7 @@ ghost use Rattle.vale_parts.specs.FreeLaws.{IsTakenBack};
 ghost use Rattle.vale_core.specs.BookView.{table_seen, AreOf};
 ghost use Rattle.vale_core.specs.Recorded.{standing, IsRecordedAs};
 ghost use Rattle.vale_core.specs.OpenAnswers.{IsUnopened, ByFault, IsRecordedFault};
-ghost use Rattle.vale_core.specs.OpenParts.{is_port_on, is_vacant, HasTableFor, StillTables};
+ghost use Rattle.vale_core.specs.OpenParts.{is_port_on, is_vacant, HasTableFor, StillTables, StillFew};
 ghost use Rattle.vale_core.specs.OpenParts.{ComesOut, IsOpened, state_for, entry_for, refusal_for};
 
 use crate::book::Book;
@@ -93,6 +93,8 @@ fn add_table(
     ensures there { OnOk result
         (has_table (switch_of name.now) (map table_seen tables.new.items) ≡ true) }
     ensures kept { StillTables ports.now tables.old.items tables.new.items }
+    ensures few { is_switch_port_name name.now ≡ true
+        → StillFew name.now ports.now tables.old.items tables.new.items }
 {
     match vacant_table(tables, ports) {
         Some(at) => tables[at].label = *name,
@@ -117,6 +119,7 @@ fn place_table(
 ) -> Result<(), NoMemory>
     ensures there { OnOk result (HasTableFor name.now tables.new.items) }
     ensures kept { StillTables ports.now tables.old.items tables.new.items }
+    ensures few { StillFew name.now ports.now tables.old.items tables.new.items }
 {
     if name.is_switch_port() && table_of(tables, name).is_none() {
         add_table(alloc, tables, ports, name)
@@ -250,6 +253,7 @@ fn place_port(
     requires ring { (1 ≤ rx) × (rx ≤ 1024) }
     ensures there { OnOk result (HasTableFor opening.name tables.new.items) }
     ensures kept { StillTables ports.old.items tables.old.items tables.new.items }
+    ensures few { StillFew opening.name ports.old.items tables.old.items tables.new.items }
     ensures ports { OnOk result
         (ports.new.items ≡ ports.old.items ++ state_for opening rx pool.old.free ∷ []) }
     ensures pool { OnOk result (pool.new ≡ pool_less (opening.tx + rx + opening.extra) pool.old) }
@@ -298,6 +302,7 @@ fn add_port(
     ensures limits { history.new.limits ≡ history.old.limits }
     ensures there { OnOk result (HasTableFor opening.name tables.new.items) }
     ensures kept { StillTables ports.old.items tables.old.items tables.new.items }
+    ensures few { StillFew opening.name ports.old.items tables.old.items tables.new.items }
     ensures ports { OnOk result
         (ports.new.items ≡ ports.old.items ++ state_for opening rx pool.old.free ∷ []) }
     ensures pool { OnOk result (pool.new ≡ pool_less (opening.tx + rx + opening.extra) pool.old) }

@@ -1,7 +1,8 @@
 use Rattle.std.proofs.Common.{◌≡◌, ◌++◌, ◌∷◌, [], Some, ap, ◌∙◌, sym, subst, position}
 use Rattle.vale_core.specs.declared.tables.NamedTable.{NamedTable}
-use Rattle.vale_core.specs.OpenParts.{is_vacant, StillTables}
+use Rattle.vale_core.specs.OpenParts.{is_vacant, StillTables, StillFew}
 use Rattle.vale_core.proofs.OpenTables.{given-there, given-kept, added-there, added-kept}
+use Rattle.vale_core.proofs.TableCounts.{added-few, given-few}
 use Rattle.vale_core.proofs.opening.add_table.Goals as goal
 
 found : (c : goal.After-tables-1) → position (is_vacant c.args.ports.now) c.args.tables.now.items ≡ Some c.in-Some.at
@@ -30,3 +31,12 @@ pub returns-in_ok-reserve-in-None-clause-kept : goal.returns-in_ok-reserve-in-No
 unfolding fresh
 returns-in_ok-reserve-in-None-clause-kept c =
     subst (StillTables c.args.ports.now c.args.tables.now.items) (sym (pushed c)) (added-kept c.args.ports.now c.args.tables.now.items (fresh c) c.in_ok-table-in-None.ensures c.requires.none)
+
+pub returns-in-Some-clause-few : goal.returns-in-Some-clause-few
+returns-in-Some-clause-few c = λ named. given-few c.args.name.now c.args.ports.now c.args.tables.now.items c.in-Some.at (record { label = c.args.name.now; table = c.index_mut.result.now.table })
+
+pub returns-in_ok-reserve-in-None-clause-few : goal.returns-in_ok-reserve-in-None-clause-few
+unfolding fresh
+returns-in_ok-reserve-in-None-clause-few c = λ named.
+    let none = ap (position (is_vacant c.args.ports.now)) (sym c.deref.ensures.value) ∙ (sym c.vacant_table.ensures ∙ c.in-None.is) in
+    subst (StillFew c.args.name.now c.args.ports.now c.args.tables.now.items) (sym (pushed c)) (added-few c.args.name.now c.args.ports.now c.args.tables.now.items (fresh c) named none c.requires.none)

@@ -1,4 +1,5 @@
-use Rattle.std.proofs.Common.{◌≡◌, ◌+◌, None, ◌∙◌, ap, refl, true}
+use Rattle.std.proofs.Common.{◌≡◌, ◌≤◌, ◌+◌, length, None, ◌∙◌, ap, refl, true}
+use Rattle.nm_types.specs.Limits.{most_switches}
 use Rattle.nm_region.specs.Buffers.{indices_of}
 use Rattle.vale_names.specs.Ports.{fresh_port}
 use Rattle.vale_entry.specs.declared.entry.Ask.TheVariants.{Open}
@@ -6,7 +7,7 @@ use Rattle.vale_entry.specs.Legal.{can_open, open_step_by}
 use Rattle.vale_parts.specs.Ids.{port_id}
 use Rattle.vale_core.specs.declared.book.Book.TheInside.{Inside}
 use Rattle.vale_core.proofs.Moves.{Moves, Stays, before, moved, stayed, record-stayed}
-use Rattle.vale_core.proofs.OpenMoves.{comes-out, can-go-back, not-counted, room-to-count, with_tables, tables-kept, open-moves, front-is, idle-is}
+use Rattle.vale_core.proofs.OpenMoves.{comes-out, can-go-back, not-counted, room-to-count, with_tables, tables-few, tables-kept, open-moves, front-is, idle-is}
 use Rattle.vale_core.proofs.OpenRefusals.{IsBeside, refused-recorded, refused-kept, refused-said, recorded-as, full-said}
 use Rattle.vale_core.proofs.book.Book.open.Goals as goal
 
@@ -42,13 +43,18 @@ moves c =
     let named = c.in-Ok.ensures in
     let made = c.in-Ok-add_port.ensures in
     open-moves c.self.inside (opened c) c.len.result c.args.session c.args.name.now c.args.tx c.args.rx c.args.extra c.self.invariant can c.len.ensures.len named.refusal named.joins
-    made.entries made.promised made.limits made.fits made.there made.kept made.ports made.pool c.open.ensures refl refl refl refl
+    made.entries made.promised made.limits made.fits made.there made.kept made.few made.ports made.pool c.open.ensures refl refl refl refl
+
+few : (c : goal.After-open) → length c.add_port.new.tables.items ≤ most_switches
+few c =
+    let can : can_open (before c.self.inside).world c.args.session.0 c.args.name.now c.args.tx c.args.rx c.args.extra ≡ true = rw (← c.self.view_is) at c.requires in
+    tables-few c.self.inside (opened c) c.len.result c.args.session c.args.name.now c.args.tx c.args.rx c.args.extra c.self.invariant can c.in-Ok.ensures.refusal c.in-Ok-add_port.ensures.few
 
 pub invariant_of-self : goal.invariant_of-self
 invariant_of-self c =
     moved (with_tables c.self.inside (opened c)) (opened c) (Open c.args.session c.args.name.now c.args.tx c.args.rx c.args.extra)
     (open_step_by None (before c.self.inside) c.args.session.0 c.args.name.now c.args.tx c.args.rx c.args.extra)
-    (tables-kept c.self.inside (opened c) c.self.invariant c.in-Ok-add_port.ensures.kept) (moves c)
+    (tables-kept c.self.inside (opened c) c.self.invariant c.in-Ok-add_port.ensures.kept (few c)) (moves c)
 
 pub returns-in-Ok-add_port-clause-made : goal.returns-in-Ok-add_port-clause-made
 returns-in-Ok-add_port-clause-made c =
@@ -100,7 +106,10 @@ stays c =
 
 pub invariant_of-self-in-Err-add_port : goal.invariant_of-self-in-Err-add_port
 invariant_of-self-in-Err-add_port c =
-    stayed (with_tables c.self.inside (full c)) (full c) (tables-kept c.self.inside (full c) c.self.invariant c.in-Err-add_port.ensures.kept) (stays c)
+    let can : can_open (before c.self.inside).world c.args.session.0 c.args.name.now c.args.tx c.args.rx c.args.extra ≡ true = rw (← c.self.view_is) at c.requires in
+    let few =
+    tables-few c.self.inside (full c) c.len.result c.args.session c.args.name.now c.args.tx c.args.rx c.args.extra c.self.invariant can c.in-Ok.ensures.refusal c.in-Err-add_port.ensures.few in
+    stayed (with_tables c.self.inside (full c)) (full c) (tables-kept c.self.inside (full c) c.self.invariant c.in-Err-add_port.ensures.kept few) (stays c)
 
 pub returns-in-Err-add_port-clause-unopened : goal.returns-in-Err-add_port-clause-unopened
 returns-in-Err-add_port-clause-unopened c =
