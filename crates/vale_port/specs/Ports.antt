@@ -1,8 +1,8 @@
 -- A port that owns the buffers of its kernel side, and the seat of the world that it stands for.
-use Rattle.std.specs.Prelude.{ℕ, Bool, false, ◌≡◌, ◌≤◌, ◌+◌, ◌&&◌, ◌==◌, not, List, [], ◌∷◌, length, take, map, Some, option_map, bytes_eq}
+use Rattle.std.specs.Prelude.{ℕ, Bool, false, ◌≡◌, ◌≤◌, ◌+◌, ◌&&◌, ◌==◌, not, List, [], ◌∷◌, length, take, map, Some, option_map}
 use Rattle.nm_types.specs.Frames.{Frame, slots_of, size_of_frames}
 use Rattle.nm_types.specs.declared.id.PortId.{PortId}
-use Rattle.nm_types.specs.Names.{switch_of, is_switch_port_name}
+use Rattle.nm_types.specs.Openings.{is_on_switch}
 use Rattle.nm_region.specs.Buffers.{Buffer, indices_of}
 use Rattle.vale_line.specs.declared.got.Got.{Got}
 use Rattle.vale_line.specs.Gots.{buffers_of, frames_in}
@@ -65,7 +65,7 @@ abbrev pub id_of_state : PortState → PortId
 id_of_state p = record { 0 = p.id }
 
 abbrev pub is_open_state_on : List ℕ → PortState → Bool
-is_open_state_on switch p = not p.shutting && (is_switch_port_name p.name && bytes_eq (switch_of p.name) switch)
+is_open_state_on switch p = not p.shutting && is_on_switch switch p.name
 
 -- the slots of the frames that an offer wants
 abbrev pub sizes_of : List Frame → List ℕ
