@@ -1,5 +1,5 @@
 -- The learning table of a port's switch is there, given over or added.
-use Rattle.std.proofs.Common.{ℕ, zero, suc, Bool, true, false, not, ◌||◌, ◌≡◌, ◌<◌, List, [], ◌∷◌, ◌++◌, length, map, slice_get, slice_set, get_or, Option, Some, None, option_map, is_some, refl, sym, ◌∙◌, ap, subst, arith}
+use Rattle.std.proofs.Common.{ℕ, zero, suc, Bool, true, false, ◌||◌, ◌≡◌, ◌<◌, List, [], ◌∷◌, ◌++◌, length, map, slice_get, slice_set, get_or, Option, Some, None, option_map, is_some, refl, sym, ◌∙◌, ap, subst, arith}
 use Rattle.std.specs.List.{list_any, position}
 use Rattle.std.proofs.lemmas.Bool.{not-true}
 use Rattle.std.proofs.lemmas.List.{map-append, map-set}

@@ -41,7 +41,7 @@ use Rattle.vale_entry.proofs.Worlds.{count-world_of}
 use Rattle.vale_entry.proofs.HistoryLaws.{numbers-rise}
 use Rattle.vale_entry.proofs.ListLaws.{each-at, each-set}
 use Rattle.vale_entry.proofs.HistoryPlaces.{helds-rise}
-use Rattle.vale_entry.proofs.Places.{open-place, peer-place, open_port-world, first_idle-place}
+use Rattle.vale_entry.proofs.Places.{peer-place, open_port-world, first_idle-place}
 use Rattle.vale_port.specs.Kept.{bytes_of}
 use Rattle.vale_port.specs.Laws.{with_line, line_after_put}
 use Rattle.vale_port.specs.Lists.{IsFoundAt, IsNotFound, ChangesSeat, OfSeat, OfState}
@@ -72,14 +72,15 @@ use Rattle.vale_core.specs.Monitored.{IsOfferedTo}
 use Rattle.vale_core.specs.Offering.{IsOfferBy}
 use Rattle.vale_core.specs.Putting.{items_of, wants_put, dests_put, room_of_put, put_entry, gone_entry, count_sent, count_given, lot_id, copied, IfPut, IsPutBy, IsPut}
 use Rattle.vale_core.specs.Recorded.{entry_of, IsRefusal}
+use Rattle.vale_core.proofs.Found.{open_at, open-here, never-missing as never-closed}
 use Rattle.vale_core.proofs.MonitoredWants.{wants-monitored}
 use Rattle.vale_core.proofs.Moves.{Moves, Stays, before, fits-step, full-step, entries-few}
 use Rattle.vale_core.proofs.OfferedTo.{by-session, StandOffered, offered-to}
 use Rattle.vale_core.proofs.PortLines.{of-first, of-put}
 use Rattle.vale_core.proofs.PutLists.{items-first, indices-items, frames-items}
-use Rattle.vale_core.proofs.ReadMoves.{open_at, IsRest}
+use Rattle.vale_core.proofs.ReadMoves.{IsRest}
 use Rattle.vale_core.proofs.Rooms.{step-recorded}
-use Rattle.vale_core.proofs.Standing.{IsHere, met, found-here, not-found, ports-rising, each-take, each-left}
+use Rattle.vale_core.proofs.Standing.{IsHere, found-here, not-found, ports-rising, each-take, each-left}
 
 -- ---- the port that puts, at its place
 
@@ -97,27 +98,20 @@ step-put s at items port here can = rw (here, can) refl
 
 pub put-at : (b : Inside) (at : PortId) (items : List Item) (place : ℕ) → IsBook b → IsEnabled (before b) (Put at items) → IsFoundAt (open_at at.0) b.ports.items place → IsPutAt b at items place
 put-at b at items place k enabled found =
-    let pool = b.pool.buffers in
-    let h = b.history.entries in
     let s = before b in
-    let m = met (can_put s items) (open_port s.world.ports at.0) enabled in
-    let stands = open-place s.world.ports _ at.0 m.it (numbers-rise pool h).ports_rise m.found_is in
-    let parts = and_parts _ (nat_le (length items) most_batch) m.passes in
+    let here = open-here b at.0 place (can_put s items) k found enabled in
+    let parts = and_parts _ (nat_le (length items) most_batch) here.passes in
     record {
-      port = m.it;
-      here = found-here pool h b (open_at at.0) place m.it k.stands found m.found_is;
-      id_is = stands.id_is;
-      is_pipe = (and_parts (is_pipe_name m.it.name) _ parts.0).0;
+      port = here.port;
+      here = here.here;
+      id_is = here.id_is;
+      is_pipe = (and_parts (is_pipe_name here.port.name) _ parts.0).0;
       few = leb-true (length items) most_batch parts.1;
-      step_is = step-put s at items m.it m.found_is m.passes;
+      step_is = step-put s at items here.port here.here.found here.passes;
     }
 
 pub never-missing : (b : Inside) (at : PortId) (items : List Item) → IsBook b → IsEnabled (before b) (Put at items) → IsNotFound (open_at at.0) b.ports.items → ⊥
-never-missing b at items k enabled none =
-    let s = before b in
-    let m = met (can_put s items) (open_port s.world.ports at.0) enabled in
-    let wrong : Some m.it ≡ None = sym m.found_is ∙ not-found b.pool.buffers b.history.entries b (open_at at.0) k.stands none in
-    absurd cc
+never-missing b at items k enabled none = never-closed b at.0 (can_put (before b) items) k none enabled
 
 pub own-pipe : (b : Inside) (at : PortId) (items : List Item) (place : ℕ) → IsPutAt b at items place → OfState (λ (p : PortState). is_pipe_name p.name ≡ true) b.ports.items place
 own-pipe b at items place r = λ p is.

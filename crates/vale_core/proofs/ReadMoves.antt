@@ -1,5 +1,5 @@
 -- What a sync and a get make of a book.
-use Rattle.std.proofs.Common.{ℕ, Bool, true, false, ◌≡◌, ◌≤◌, ◌+◌, nat_le, List, [], ◌∷◌, ◌++◌, length, slice_set, Option, Some, None, is_some, Result, Ok, Err, OnOk, OnErr, IfOk, refl, sym, ◌∙◌, ap, subst, arith}
+use Rattle.std.proofs.Common.{ℕ, Bool, true, false, ◌≡◌, ◌≤◌, ◌+◌, nat_le, List, [], ◌∷◌, ◌++◌, length, slice_set, Option, Some, is_some, Result, Ok, Err, OnOk, OnErr, IfOk, refl, sym, ◌∙◌, ap, subst, arith}
 use Rattle.std.specs.Prelude.{IsSome}
 use Rattle.std.specs.Option.{ForSome, option_map_or}
 use Rattle.std.specs.List.{AllByRecursion as Each}
@@ -31,15 +31,13 @@ use Rattle.vale_entry.specs.Offers.{dests_of, monitored_frames}
 use Rattle.vale_entry.specs.Room.{bytes_of}
 use Rattle.vale_entry.specs.Stored.{Fits, IsFull}
 use Rattle.vale_entry.proofs.Worlds.{count-world_of}
-use Rattle.vale_entry.proofs.HistoryLaws.{numbers-rise}
 use Rattle.vale_entry.proofs.HistoryPlaces.{delivered_buffers-world}
 use Rattle.vale_entry.proofs.ListLaws.{each-at, each-set}
-use Rattle.vale_entry.proofs.Places.{open-place}
 use Rattle.vale_port.specs.Laws.{with_line}
 use Rattle.vale_port.specs.Lists.{IsFoundAt, IsNotFound, ChangesSeat, OfSeat, OfState}
 use Rattle.vale_port.specs.Ports.{PortState, Gives}
 use Rattle.vale_port.specs.Seat.{Seat, seats_of, seat_synced}
-use Rattle.vale_port.proofs.LineTies.{length-indices}
+use Rattle.vale_port.proofs.LineTies.{length-indices, some-same}
 use Rattle.vale_port.proofs.Lists.{seats-at}
 use Rattle.vale_port.proofs.Places.{seat_change_is_change}
 use Rattle.vale_parts.specs.Adding.{AddsFit}
@@ -62,11 +60,12 @@ use Rattle.vale_core.specs.Monitored.{offers_to}
 use Rattle.vale_core.specs.Offering.{OffersState, IsOfferBy}
 use Rattle.vale_core.specs.Reading.{read_ask, wants_read, dests_read, room_of_read, read_entry, count_read, IsGivenOf, IsOfferedOf}
 use Rattle.vale_core.specs.Recorded.{entry_of, IsRefusal}
+use Rattle.vale_core.proofs.Found.{open_at, open-here, never-missing as never-closed}
 use Rattle.vale_core.proofs.MonitoredWants.{wants-monitored}
 use Rattle.vale_core.proofs.Moves.{Moves, Stays, before, fits-step, full-step, entries-few}
 use Rattle.vale_core.proofs.OfferedTo.{by-session, StandOffered, offered-to}
 use Rattle.vale_core.proofs.Rooms.{step-recorded}
-use Rattle.vale_core.proofs.Standing.{IsHere, met, found-here, not-found, ports-rising}
+use Rattle.vale_core.proofs.Standing.{IsHere, ports-rising}
 use Rattle.vale_core.proofs.PortLines.{of-synced, of-given}
 
 -- ---- the two asks
@@ -106,9 +105,6 @@ step-read false s at back port here can = rw (here, can) refl
 
 -- ---- one that is enabled, at the place of its port
 
-abbrev pub open_at : ℕ → List Port → Option Port
-open_at id ports = open_port ports id
-
 pub record IsReadAt (b : Inside) (pipe : Bool) (at : PortId) (back : List ℕ) (place : ℕ) : Type 0 where
   pub port : Port
   pub here : IsHere b.pool.buffers b.history.entries b (open_at at.0) place port
@@ -119,25 +115,18 @@ pub record IsReadAt (b : Inside) (pipe : Bool) (at : PortId) (back : List ℕ) (
 pub read-at : (b : Inside) (pipe : Bool) (at : PortId) (back : List ℕ) (place : ℕ) → IsBook b → IsEnabled (before b) (read_ask pipe at back) → IsFoundAt (open_at at.0) b.ports.items place
     → IsReadAt b pipe at back place
 read-at b pipe at back place k enabled found =
-    let pool = b.pool.buffers in
-    let h = b.history.entries in
     let s = before b in
-    let m = met (can_read pipe s back) (open_port s.world.ports at.0) (met-read pipe s at back enabled) in
-    let stands = open-place s.world.ports _ at.0 m.it (numbers-rise pool h).ports_rise m.found_is in
+    let here = open-here b at.0 place (can_read pipe s back) k found (met-read pipe s at back enabled) in
     record {
-      port = m.it;
-      here = found-here pool h b (open_at at.0) place m.it k.stands found m.found_is;
-      id_is = stands.id_is;
-      few = few-back pipe s back m.it m.passes;
-      step_is = step-read pipe s at back m.it m.found_is m.passes;
+      port = here.port;
+      here = here.here;
+      id_is = here.id_is;
+      few = few-back pipe s back here.port here.passes;
+      step_is = step-read pipe s at back here.port here.here.found here.passes;
     }
 
 pub never-missing : (b : Inside) (pipe : Bool) (at : PortId) (back : List ℕ) → IsBook b → IsEnabled (before b) (read_ask pipe at back) → IsNotFound (open_at at.0) b.ports.items → ⊥
-never-missing b pipe at back k enabled none =
-    let s = before b in
-    let m = met (can_read pipe s back) (open_port s.world.ports at.0) (met-read pipe s at back enabled) in
-    let wrong : Some m.it ≡ None = sym m.found_is ∙ not-found b.pool.buffers b.history.entries b (open_at at.0) k.stands none in
-    absurd cc
+never-missing b pipe at back k enabled none = never-closed b at.0 (can_read pipe (before b) back) k none (met-read pipe (before b) at back enabled)
 
 pub returned : (b : Inside) (pipe : Bool) (at : PortId) (back : List Buffer) (place : ℕ) → IsReadAt b pipe at (indices_of back) place
     → OfState (λ (p : PortState). length back ≤ out_of p.line) b.ports.items place
@@ -303,9 +292,6 @@ read-full b r back fault k is full =
 
 -- ---- what is given
 
-same-port : (found : Option Port) (port p : Port) → found ≡ Some port → found ≡ Some p → port ≡ p
-same-port found port p one two = let both : Some port ≡ Some p = sym one ∙ two in cc
-
 pub read-given : (b : Inside) (r : Reading) (back : List ℕ) (gots : List Got) → IsBook b → (is : IsReading b r back) → OfSeat (λ (seat : Seat). Gives seat gots) b.ports.items r.place
     → OfState (λ (p : PortState). gots ≡ ready_gots p.line.lots) b.ports.items r.place → (p : Port) → open_port (before b).world.ports r.at.0 ≡ Some p
     → IsGivenOf (before b) b.region.region p gots
@@ -322,7 +308,7 @@ read-given b r back gots k is gives ready p found =
       buffers = given.buffers ∙ (sym buffers ∙ ap (λ (id : ℕ). delivered_buffers id (length (ready_lots port)) s.holdings.ports) here.agrees.id);
       region_is = subst (λ (g : List Got). AreOf b.region.region (buffers_of g)) (sym (ready here.state here.state_here)) (of-given b.region.region b.ports.items r.place here.state here.state_here k.lines_are);
     } in
-    subst (λ (q : Port). IsGivenOf s b.region.region q gots) (same-port (open_port s.world.ports r.at.0) port p is.at.here.found found) at
+    subst (λ (q : Port). IsGivenOf s b.region.region q gots) (some-same (sym is.at.here.found ∙ found)) at
 
 -- ---- what is offered
 
@@ -357,7 +343,7 @@ pub read-offered : (b next : Inside) (r : Reading) (back : List ℕ) (offers : O
     → (p : Port) → open_port (before b).world.ports r.at.0 ≡ Some p → IsOfferedOf (recorded b) (recorded next) p offers
 read-offered b next r back offers k is pool entries offered p found =
     let port = is.at.port in
-    subst (λ (q : Port). IsOfferedOf (recorded b) (recorded next) q offers) (same-port (open_port (before b).world.ports r.at.0) port p is.at.here.found found)
+    subst (λ (q : Port). IsOfferedOf (recorded b) (recorded next) q offers) (some-same (sym is.at.here.found ∙ found))
     (offered-to b next (read_entry r back) r.session port.session (receive_monitor (before b).world port.id) (delivered_frames port) (wants_read r) offers pool entries offered is.session is.wants
     (stands-offered b r back k is))
 

@@ -1,5 +1,5 @@
 -- What a book's ports say of the world, and whose buffers they have.
-use Rattle.std.proofs.Common.{ℕ, zero, suc, Bool, true, ◌≡◌, ◌<◌, List, [], ◌∷◌, ◌++◌, take, drop, length, slice_get, map, Option, Some, None, option_map, arith, refl, sym, ◌∙◌, ap, subst}
+use Rattle.std.proofs.Common.{ℕ, zero, suc, Bool, true, ◌≡◌, ◌<◌, List, [], ◌∷◌, ◌++◌, take, length, slice_get, map, Option, Some, None, option_map, arith, refl, sym, ◌∙◌, ap, subst}
 use Rattle.std.specs.List.{AllByRecursion as Each, remove}
 use Rattle.std.proofs.lemmas.Option.{slice_get-map}
 use Rattle.vale_entry.specs.declared.entry.Entry.{Entry}

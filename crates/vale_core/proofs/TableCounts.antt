@@ -1,6 +1,6 @@
 -- There are no more tables than a book may have switches.
-use Rattle.std.proofs.Common.{ℕ, Bool, true, false, cond, not, ◌≡◌, ◌≤◌, ◌<◌, ◌+◌, ◌||◌, ◌&&◌, nat_le, List, [], ◌∷◌, ◌++◌, length, map, filter, count_by, slice_set, Some, None, refl, sym, ◌∙◌, ap, subst, arith, bytes_eq, length-append}
-use Rattle.std.specs.Prelude.{position, sum_by}
+use Rattle.std.proofs.Common.{ℕ, Bool, true, false, cond, not, ◌≡◌, ◌≤◌, ◌<◌, ◌+◌, ◌||◌, ◌&&◌, nat_le, List, [], ◌∷◌, ◌++◌, length, map, filter, count_by, slice_set, None, refl, sym, ◌∙◌, subst, arith, bytes_eq, length-append}
+use Rattle.std.specs.Prelude.{position}
 use Rattle.std.specs.List.{AllByRecursion as Each, list_any}
 use Rattle.std.proofs.lemmas.Bool.{and_parts, or_parts, leb-false}
 use Rattle.std.proofs.lemmas.List.{length-map, length-set}
@@ -10,7 +10,7 @@ use Rattle.nm_types.specs.Limits.{most_switches}
 use Rattle.nm_types.specs.Names.{switch_of, is_switch_port_name}
 use Rattle.vale_names.proofs.SwitchLemmas.{position_none}
 use Rattle.vale_entry.specs.World.{Port}
-use Rattle.vale_entry.specs.Opening.{is_on_switch, switches_of, finds_switches_full}
+use Rattle.vale_entry.specs.Opening.{is_on_switch, switches_of}
 use Rattle.vale_entry.specs.Legal.{world_of}
 use Rattle.vale_entry.proofs.Removals.{sum-filter_less}
 use Rattle.vale_port.specs.Ports.{PortState}
