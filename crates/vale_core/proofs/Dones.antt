@@ -145,7 +145,7 @@ lease-owed b lease place k l =
     let match = place-of (is_lease lease.id) (flat_map line_of w.ports) lot.0 lot.1 in
     let number : (lot.0).number ≡ lease.id = eqb-true (lot.0).number lease.id (and_parts ((lot.0).number == lease.id) (not (lot.0).is_done) match.passes).0 in
     let of = each-find (IsOfEntry b.history.entries) (is_lease lease.id) (flat_map line_of w.ports) lot.0
-        (each-flat (IsOfEntry b.history.entries) w.ports (lots-of_entries b.pool.buffers b.history.entries k.stands.legal)) lot.1 in
+    (each-flat (IsOfEntry b.history.entries) w.ports (lots-of_entries b.pool.buffers b.history.entries k.stands.legal)) lot.1 in
     record {
       lot = lot.0;
       lot_is = lot.1;

@@ -198,8 +198,8 @@ shared-by b entry session want place port lease given full new k g here tells gi
     let number = length b.history.entries + 1 in
     let seat = seat_of port here.at.held in
     let same = given-as lease number g.offer seat
-        (if-some lease _ (λ (l : Leased). IsLeaseFor number g.offer seat l) (λ l all. here-holds b (λ (s : Seat). IsLeaseFor number g.offer s l) place port k here.at (all g.offer g.sizes)) tells.some)
-        (if-none lease _ (given_frames g.offer seat ≡ []) (λ all. here-holds b (λ (s : Seat). given_frames g.offer s ≡ []) place port k here.at (all g.offer g.sizes)) tells.none) in
+    (if-some lease _ (λ (l : Leased). IsLeaseFor number g.offer seat l) (λ l all. here-holds b (λ (s : Seat). IsLeaseFor number g.offer s l) place port k here.at (all g.offer g.sizes)) tells.some)
+    (if-none lease _ (given_frames g.offer seat ≡ []) (λ all. here-holds b (λ (s : Seat). given_frames g.offer s ≡ []) place port k here.at (all g.offer g.sizes)) tells.none) in
     record {
       grant = g;
       at = here.at;
@@ -272,10 +272,10 @@ give-moves b next entry session by want place port lease given full k s whose be
     let back : room_back (grant_reply w g.offer) ≡ cond (given == 0) 1 0 = ap room_back reply in
     let change : ℕ → List Frame → Port → Port = port_after_grant_by g.offer.session in
     let ports : ArePortsOf (changed_at port.id (change (length b.history.entries + 1) (given_frames g.offer (seat_of port s.at.held))) w.ports)
-            (changed_buffers port.id (with_lot_buffers (size_of_frames (given_frames g.offer (seat_of port s.at.held)))) x.ports) next.ports.items =
-        seat_change_is_change w.ports x.ports b.ports.items next.ports.items place port s.at.held (seat_given (length b.history.entries + 1) g.offer)
-        (change (length b.history.entries + 1) (given_frames g.offer (seat_of port s.at.held))) (with_lot_buffers (size_of_frames (given_frames g.offer (seat_of port s.at.held))))
-        (ports-rising b.pool.buffers b.history.entries b k.stands) s.at.here s.at.held_here (tells.seats g.offer g.sizes) refl in
+    (changed_buffers port.id (with_lot_buffers (size_of_frames (given_frames g.offer (seat_of port s.at.held)))) x.ports) next.ports.items =
+    seat_change_is_change w.ports x.ports b.ports.items next.ports.items place port s.at.held (seat_given (length b.history.entries + 1) g.offer)
+    (change (length b.history.entries + 1) (given_frames g.offer (seat_of port s.at.held))) (with_lot_buffers (size_of_frames (given_frames g.offer (seat_of port s.at.held))))
+    (ports-rising b.pool.buffers b.history.entries b k.stands) s.at.here s.at.held_here (tells.seats g.offer g.sizes) refl in
     record {
       step_is = g.step_is;
       entries = entries ∙ ap (λ (e : Entry). b.history.entries ++ e ∷ []) (entry-granted b entry session by want given full 0 g whose reply);
@@ -329,9 +329,9 @@ lose-moves b next entry session by want k l whose beside entries limits promised
     let none : open_port w.ports g.offer.to ≡ None = subst (λ (n : ℕ). open_port w.ports n ≡ None) g.to l.none in
     let frames : granted_frames w g.offer ≡ [] = ap (λ (o : Option Port). given_at o g.offer.frames) none in
     let same : changed_at g.offer.to (port_after_grant_by g.offer.session (w.entry_count + 1) []) w.ports ≡ w.ports =
-        changed_at-same g.offer.to (port_after_grant_by g.offer.session (w.entry_count + 1) []) (λ port. refl) w.ports in
+    changed_at-same g.offer.to (port_after_grant_by g.offer.session (w.entry_count + 1) []) (λ port. refl) w.ports in
     let nothing : tally_after_add want.to.0 (count_shared (grant_reply w g.offer)) b.tally ≡ b.tally =
-        ap (λ (r : Reply). tally_after_add want.to.0 (count_shared r) b.tally) reply ∙ nothing_added b.tally want.to.0 in
+    ap (λ (r : Reply). tally_after_add want.to.0 (count_shared r) b.tally) reply ∙ nothing_added b.tally want.to.0 in
     record {
       step_is = g.step_is;
       entries = entries ∙ ap (λ (e : Entry). b.history.entries ++ e ∷ []) (entry-granted b entry session by want 0 0 (length want.sizes) g whose reply);
@@ -438,6 +438,7 @@ lose-call b next by entry want lease k g gone none beside entries limits promise
     no-lease : (lease : Option Leased) → IfSome lease (λ (l : Leased). ⊥) → 0 ≡ given_by lease
     no-lease None none = refl
     no-lease (Some l) none = absurd none
+
     no-leases : (P : Leased → Type 0) (lease : Option Leased) → IfSome lease (λ (l : Leased). ⊥) → IfSome lease P
     no-leases P None none = tt
     no-leases P (Some l) none = absurd none
@@ -476,8 +477,8 @@ counts-fit b by entry want place port lease given full k s =
     let g = s.grant in
     let reply = reply-shared b entry by.0 want place port lease given full s in
     let follows : Follows (before b) (granted_entry by entry want.to given full) =
-        subst (λ (e : Entry). Follows (before b) e) (sym (entry-granted b entry by.0 by want given full 0 g refl reply))
-        (ap (option_map session_and_reply) g.step_is) in
+    subst (λ (e : Entry). Follows (before b) e) (sym (entry-granted b entry by.0 by want given full 0 g refl reply))
+    (ap (option_map session_and_reply) g.step_is) in
     additions_fit b.pool.buffers b.history.entries (granted_entry by entry want.to given full) b.tally k.pool_fits.1 k.stands.legal follows (entries-few b k) k.stands.parts_are.counts_are
 
 told_by : (s : Standing) (region entry count : ℕ) (offer : Offer) (lease : Option Leased) → first_offer s.world entry ≡ Some offer
@@ -541,12 +542,12 @@ left-stand b next r o rest i want given full gone lease k view stand out seen ma
     let are = offers_follow n h entry i.entry all.frames found.wants follows (omega (arith, origin, within, count)) all.are in
     let same : (i.entry == i.entry) ≡ true = eq-eqb i.entry i.entry refl in
     let left : OffersAre (world_of n (h ++ entry ∷ [])) i.entry all.frames (offers_seen i).wants =
-        subst (λ (t : Bool). OffersAre (world_of n (h ++ entry ∷ [])) i.entry all.frames (cond t (drop 1 found.wants) found.wants)) same are in
+    subst (λ (t : Bool). OffersAre (world_of n (h ++ entry ∷ [])) i.entry all.frames (cond t (drop 1 found.wants) found.wants)) same are in
     let after : standing_of n (h ++ entry ∷ []) ≡ standing_after (before b) entry (Some (grant_step (before b) made.offer)) =
-        standing-push n h entry ∙ ap (standing_after (before b) entry) made.moves.step_is in
+    standing-push n h entry ∙ ap (standing_after (before b) entry) made.moves.step_is in
     let by : Each (IsOfferBy i.session.0) (offers_at (world_of n (h ++ entry ∷ [])) i.entry) =
-        subst (λ (s : Standing). Each (IsOfferBy i.session.0) (offers_at s.world i.entry)) (sym after)
-        (each-less (IsOfferBy i.session.0) (is_offer_of i.entry) made.offer.origin w.offers all.by) in
+    subst (λ (s : Standing). Each (IsOfferBy i.session.0) (offers_at s.world i.entry)) (sym after)
+    (each-less (IsOfferBy i.session.0) (is_offer_of i.entry) made.offer.origin w.offers all.by) in
     let size : next.pool.buffers ≡ n = ap (λ (p : PoolState). p.buffers) pool in
     let here : standing (recorded next) ≡ standing_of n (h ++ entry ∷ []) = rw (made.moves.entries, size) refl in
     let stands : OffersStand (standing_of n (h ++ entry ∷ [])) (offers_seen i) = record { frames = all.frames; are = left; by = by } in

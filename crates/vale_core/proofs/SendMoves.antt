@@ -233,7 +233,7 @@ pub sent-counts-fit : (b : Inside) (from : PortId) (place : ℕ) (frames : List 
     → (s : IsSending b from place frames ids monitor session at table) → FitsIn b.tally from.0 (sent_counts (length frames) (classed from table.table frames ids).short (classed from table.table frames ids).lone)
 sent-counts-fit b from place frames ids monitor session at table k s =
     let fits = additions_fit b.pool.buffers b.history.entries (entry_of (Send from frames) (send_made b from place frames s.here)) b.tally k.pool_fits.1 k.stands.legal
-        (follows-sent b from place frames s.here) (entries-few b k) k.stands.parts_are.counts_are in
+    (follows-sent b from place frames s.here) (entries-few b k) k.stands.parts_are.counts_are in
     subst (λ (r : Reply). FitsIn b.tally from.0 (count_sent frames r)) (reply-sent b from place frames ids monitor session at table k s) fits
 
 -- offers of these frames, all by one session
@@ -267,7 +267,7 @@ sent-stand b next from place frames ids monitor session at table offers k s pool
     let started = sends_start n h entry from frames s.here.port table.table k.stands.legal follows refl (sender-is b from place frames ids monitor session at table s) in
     let begun = offers_start n h entry follows in
     let by : Each (IsOfferBy session.0) (offers_at (world_of n (h ++ entry ∷ [])) (w.entry_count + 1)) =
-        subst (Each (IsOfferBy session.0)) (sym begun) (begun-by b from place frames session s.here s.whose) in
+    subst (Each (IsOfferBy session.0)) (sym begun) (begun-by b from place frames session s.here s.whose) in
     let stands : OffersStandWith (standing_of n (h ++ entry ∷ [])) (send_offers (length h + 1) session (classed from table.table frames ids) (all_wants monitor frames (classed from table.table frames ids))) frames = record {
       are = subst (λ (m : ℕ). OffersAre (world_of n (h ++ entry ∷ [])) m frames (all_wants monitor frames (classed from table.table frames ids))) (ap (λ (m : ℕ). m + 1) count)
           (subst (OffersAre (world_of n (h ++ entry ∷ [])) (w.entry_count + 1) frames) (sym wants) started);

@@ -8,14 +8,14 @@ pub overflow_sub-full : goal.overflow_sub-full
 overflow_sub-full c =
     let id : LeaseId = record { 0 = c.len.result + 1 } in
     let some = subst (λ (want : List ℕ). given_by c.grant_at-lease.result ≤ length want) c.deref.ensures.value
-        (given-few c.grant_at-lease.result id c.deref.result.now c.args.ports.now.items c.args.place c.requires.place c.grant_at-lease.ensures.lease) in
+    (given-few c.grant_at-lease.result id c.deref.result.now c.args.ports.now.items c.args.place c.requires.place c.grant_at-lease.ensures.lease) in
     omega (arith, some, c.given_by-given.ensures, c.len-count.ensures)
 
 pub returns-clause-full : goal.returns-clause-full
 returns-clause-full c =
     let id : LeaseId = record { 0 = c.len.result + 1 } in
     let some = subst (λ (want : List ℕ). given_by c.grant_at-lease.result ≤ length want) c.deref.ensures.value
-        (given-few c.grant_at-lease.result id c.deref.result.now c.args.ports.now.items c.args.place c.requires.place c.grant_at-lease.ensures.lease) in
+    (given-few c.grant_at-lease.result id c.deref.result.now c.args.ports.now.items c.args.place c.requires.place c.grant_at-lease.ensures.lease) in
     omega (arith, some, c.given_by-given.ensures, c.len-count.ensures)
 
 pub returns-clause-some : goal.returns-clause-some

@@ -86,41 +86,41 @@ returns c =
     let same = entry-is c.args.offers.now c.take_next-want.new.self i want c.take_next-want.ensures.want c.offers.view_is in
     elim c.match-open_port.branch [
       | in-Some w ↦
-        let place = w.in-Some.place in
-        let at = found-some b.pool.buffers b.history.entries b (λ (all : List Port). open_port all want.to.0) place k.stands (rw (← c.deref.ensures.value) w.in-Some.ensures.some) in
-        let e = w.give-granted.ensures in
-        let r = w.give-granted.result in
-        let tells : LeaseTells b want.sizes place r.lease w.give-granted.new.ports.items = record { seats = e.seats; some = e.some; none = e.none } in
-        let next : Inside = record b { history = w.give-granted.new.history; ports = w.give-granted.new.ports; tally = w.count.new.tally } in
-        let t : GiveTells b i.session i.entry want place r.given r.full r.lease w.give-granted.new.history w.give-granted.new.ports.items =
-        record { given_is = e.given; full_is = e.full; entries = e.entries; promised = e.promised; limits = e.limits; tells = tells; leases = e.lease; lots = e.lot; kept = e.kept } in
-        let made = give-call b next i.session i.entry want place at.port r.given r.full r.lease k g at.here t (record { sessions = refl; parts = refl; region = refl; buffers = refl; pool = refl }) (w.count.ensures ∙ (rw e.to refl)) in
-        rw (w.self-is, w.result-is, ← c.self.view_is, same, e.to, e.gone) (record {
-          made = record-moved b next (Grant i.entry want.to) (grant_step (before b) made.offer) made.moves;
-          said = reply-told b next i.entry want.to r.given r.full 0 r.lease made;
-          room = had-room b next (Grant i.entry want.to) (grant_step (before b) made.offer) made.moves;
-          offers = offers-taken c.args.offers.now c.take_next-want.new.self i want c.take_next-want.ensures.want c.offers.view_is;
-          stand = left-stand b next c.args.self.now c.args.offers.now c.take_next-want.new.self i want r.given r.full 0 r.lease k c.self.view_is c.requires.stand c.take_next-want.ensures.want c.offers.view_is made refl;
-          want = rw e.want (first-want c.args.offers.now c.take_next-want.new.self want c.take_next-want.ensures.want);
-          to = rw e.want refl;
-          given = made.given_is;
-          lease = leases-told b next i.entry want.to r.given r.full 0 r.lease made;
-        })
+          let place = w.in-Some.place in
+          let at = found-some b.pool.buffers b.history.entries b (λ (all : List Port). open_port all want.to.0) place k.stands (rw (← c.deref.ensures.value) w.in-Some.ensures.some) in
+          let e = w.give-granted.ensures in
+          let r = w.give-granted.result in
+          let tells : LeaseTells b want.sizes place r.lease w.give-granted.new.ports.items = record { seats = e.seats; some = e.some; none = e.none } in
+          let next : Inside = record b { history = w.give-granted.new.history; ports = w.give-granted.new.ports; tally = w.count.new.tally } in
+          let t : GiveTells b i.session i.entry want place r.given r.full r.lease w.give-granted.new.history w.give-granted.new.ports.items =
+          record { given_is = e.given; full_is = e.full; entries = e.entries; promised = e.promised; limits = e.limits; tells = tells; leases = e.lease; lots = e.lot; kept = e.kept } in
+          let made = give-call b next i.session i.entry want place at.port r.given r.full r.lease k g at.here t (record { sessions = refl; parts = refl; region = refl; buffers = refl; pool = refl }) (w.count.ensures ∙ (rw e.to refl)) in
+          rw (w.self-is, w.result-is, ← c.self.view_is, same, e.to, e.gone) (record {
+            made = record-moved b next (Grant i.entry want.to) (grant_step (before b) made.offer) made.moves;
+            said = reply-told b next i.entry want.to r.given r.full 0 r.lease made;
+            room = had-room b next (Grant i.entry want.to) (grant_step (before b) made.offer) made.moves;
+            offers = offers-taken c.args.offers.now c.take_next-want.new.self i want c.take_next-want.ensures.want c.offers.view_is;
+            stand = left-stand b next c.args.self.now c.args.offers.now c.take_next-want.new.self i want r.given r.full 0 r.lease k c.self.view_is c.requires.stand c.take_next-want.ensures.want c.offers.view_is made refl;
+            want = rw e.want (first-want c.args.offers.now c.take_next-want.new.self want c.take_next-want.ensures.want);
+            to = rw e.want refl;
+            given = made.given_is;
+            lease = leases-told b next i.entry want.to r.given r.full 0 r.lease made;
+          })
       | in-None w ↦
-        let e = w.lose.ensures in
-        let r = w.lose.result in
-        let next : Inside = record b { history = w.lose.new.history } in
-        let gone = not-found b.pool.buffers b.history.entries b (λ (all : List Port). open_port all want.to.0) k.stands (rw (← c.deref.ensures.value) w.in-None.ensures.none) in
-        let made = lose-call b next i.session i.entry want r.lease k g gone e.lease (record { sessions = refl; parts = refl; region = refl; buffers = refl; pool = refl }) e.entries e.limits e.promised refl refl in
-        rw (w.self-is, w.result-is, ← c.self.view_is, same, e.to, e.given.0, e.given.1, e.gone) (record {
-          made = record-moved b next (Grant i.entry want.to) (grant_step (before b) made.offer) made.moves;
-          said = reply-told b next i.entry want.to 0 0 (length want.sizes) r.lease made;
-          room = had-room b next (Grant i.entry want.to) (grant_step (before b) made.offer) made.moves;
-          offers = offers-taken c.args.offers.now c.take_next-want.new.self i want c.take_next-want.ensures.want c.offers.view_is;
-          stand = left-stand b next c.args.self.now c.args.offers.now c.take_next-want.new.self i want 0 0 (length want.sizes) r.lease k c.self.view_is c.requires.stand c.take_next-want.ensures.want c.offers.view_is made refl;
-          want = rw e.want (first-want c.args.offers.now c.take_next-want.new.self want c.take_next-want.ensures.want);
-          to = rw e.want refl;
-          given = made.given_is;
-          lease = leases-told b next i.entry want.to 0 0 (length want.sizes) r.lease made;
-        })
+          let e = w.lose.ensures in
+          let r = w.lose.result in
+          let next : Inside = record b { history = w.lose.new.history } in
+          let gone = not-found b.pool.buffers b.history.entries b (λ (all : List Port). open_port all want.to.0) k.stands (rw (← c.deref.ensures.value) w.in-None.ensures.none) in
+          let made = lose-call b next i.session i.entry want r.lease k g gone e.lease (record { sessions = refl; parts = refl; region = refl; buffers = refl; pool = refl }) e.entries e.limits e.promised refl refl in
+          rw (w.self-is, w.result-is, ← c.self.view_is, same, e.to, e.given.0, e.given.1, e.gone) (record {
+            made = record-moved b next (Grant i.entry want.to) (grant_step (before b) made.offer) made.moves;
+            said = reply-told b next i.entry want.to 0 0 (length want.sizes) r.lease made;
+            room = had-room b next (Grant i.entry want.to) (grant_step (before b) made.offer) made.moves;
+            offers = offers-taken c.args.offers.now c.take_next-want.new.self i want c.take_next-want.ensures.want c.offers.view_is;
+            stand = left-stand b next c.args.self.now c.args.offers.now c.take_next-want.new.self i want 0 0 (length want.sizes) r.lease k c.self.view_is c.requires.stand c.take_next-want.ensures.want c.offers.view_is made refl;
+            want = rw e.want (first-want c.args.offers.now c.take_next-want.new.self want c.take_next-want.ensures.want);
+            to = rw e.want refl;
+            given = made.given_is;
+            lease = leases-told b next i.entry want.to 0 0 (length want.sizes) r.lease made;
+          })
     ]
