@@ -3,7 +3,7 @@ use Rattle.std.proofs.Common.{ℕ, zero, suc, ◌≡◌, ◌≢◌, ◌<◌, ◌
 use Rattle.std.specs.Prelude.{is_some, unwrap_or, IsSome}
 use Rattle.std.specs.Option.{option_map_or}
 use Rattle.std.specs.List.{AllByRecursion, range_with_len}
-use Rattle.std.proofs.lemmas.Bool.{cases_Bool}
+use Rattle.std.proofs.lemmas.Bool.{cases_Bool, cases_lt}
 use Rattle.std.proofs.lemmas.Bool.Decides.{nat_tests}
 use Rattle.std.proofs.lemmas.List.{get_or-set_same, get_or-set_other, get_or_at, drop_more, length-map, length-take-le}
 use Rattle.std.proofs.lemmas.List.Folds.{list_any-append}
@@ -15,11 +15,12 @@ use Rattle.nm_types.specs.declared.id.Side.TheVariants.{Tx, Rx}
 use Rattle.nm_types.specs.declared.place.Place.{Place}
 use Rattle.nm_types.specs.declared.place.Place.TheVariants as place
 use Rattle.nm_types.specs.Places.{is_same_place}
-use Rattle.nm_types.specs.Positions.{IsRing, dist, step_on, slots_from}
+use Rattle.nm_types.specs.Positions.{IsRing, FitsRing, dist, step_on, slots_from}
 use Rattle.nm_types.specs.Exchange.{swapped, exchanged}
 use Rattle.nm_types.specs.OwnPorts.{OwnRing, OwnPort, ring_on}
 use Rattle.nm_types.specs.OwnSyncs.{ring_swapped, port_swapped, buffer_on, after_slot}
-use Rattle.nm_types.proofs.Exchanges.{held_at-exchanged}
+use Rattle.nm_types.proofs.Exchanges.{held_at-exchanged, swapped-first, swapped-other}
+use Rattle.nm_types.proofs.RingSteps.{dist-below, dist-step_on}
 use Rattle.nm_hold.specs.declared.standing.Standing.{Standing}
 use Rattle.nm_hold.specs.Standings.{buf_in, cell_named}
 use Rattle.nm_hold.specs.Holds.{HoldState, places_of, bufs_of, index_at, standing_at, stands_at, is_named_at, is_named_in, with_cell, IsHold, SamePlaces}
@@ -28,7 +29,7 @@ use Rattle.nm_hold.proofs.Shown.{named_stands}
 use Rattle.nm_hold.proofs.Tied.{within_cells}
 use Rattle.nm_user.specs.declared.port.UserPort.{UserPort}
 use Rattle.nm_user.specs.RingSlots.{RingSlots}
-use Rattle.nm_user.specs.Sides.{number_at, name_at, pushed_seen_at}
+use Rattle.nm_user.specs.Sides.{place_on, number_at, name_at, pushed_seen_at}
 use Rattle.nm_user.specs.Own.{number_on, positions_of, extra_number_at, ring_seen, port_seen, slots_on, slots_at, AreSided}
 use Rattle.nm_user.specs.Filling.{FlaggedBy}
 use Rattle.nm_user.specs.Exchanges.{IsNamedThere, pushed_count_of, user_position, user_place, CanExchange, AreExchanged, is_among, named_if, AreRenamed, tx_places, ArePushedOut}
@@ -104,6 +105,34 @@ buffer_found now (p ∷ ports) side id r k sided e is below =
     seen_on Tx = refl
     seen_on Rx = refl
 
+-- a buffer stands in one place
+pub one_place : (h : HoldState) (p q : Place) (i : ℕ) → IsHold h → index_at h p ≡ Some i → index_at h q ≡ Some i → p ≡ q
+one_place h p q i is e f = by_cell (standing_at h i) refl
+  where
+    by_cell : (o : Option Standing) → standing_at h i ≡ o → p ≡ q
+    by_cell None there = absurd (let none = sym (ap (stands_at p) there) ∙ is.held p i e in cc)
+    by_cell (Some s) there =
+        let first : p ≡ s.home.place = same_place-is p s.home.place (sym (ap (stands_at p) there) ∙ is.held p i e) in
+        let second : q ≡ s.home.place = same_place-is q s.home.place (sym (ap (stands_at q) there) ∙ is.held q i f) in
+        first ∙ sym second
+
+-- the places of two pushed slots
+abbrev position_in : Place → ℕ
+position_in (place.Tx port at) = at
+position_in (place.Rx port at) = at
+position_in (place.Extra port at) = at
+
+position_on : (s : Side) (id : PortId) (at : ℕ) → position_in (place_on s id at) ≡ at
+position_on Tx id at = refl
+position_on Rx id at = refl
+
+pub user_apart : (id : PortId) (r : RingSlots) (j k : ℕ) → IsRing r.ring → FitsRing r.ring r.ring.head r.ring.cur → j < k → k < pushed_count_of r → user_place id r j ≢ user_place id r k
+user_apart id r j k is fits less below same =
+    let within = dist-below r.ring.size r.ring.accepted_head r.ring.head is.accepted in
+    let positions : user_position r j ≡ user_position r k = sym (position_on r.side id (user_position r j)) ∙ (ap position_in same ∙ position_on r.side id (user_position r k)) in
+    let alike : j ≡ k = sym (dist-step_on r.ring.size r.ring.accepted_head j is.accepted (omega arith)) ∙ (ap (dist r.ring.size r.ring.accepted_head) positions ∙ dist-step_on r.ring.size r.ring.accepted_head k is.accepted (omega arith)) in
+    omega arith
+
 -- one slot more
 module _ (h now new : HoldState) (id : PortId) (r : RingSlots) (k : ℕ) (is : IsRing r.ring) (can : CanExchange h id r) (so_far : AreExchanged h now id r k) (below : k < pushed_count_of r) where
   abbrev at : ℕ
@@ -158,6 +187,23 @@ module _ (h now new : HoldState) (id : PortId) (r : RingSlots) (k : ℕ) (is : I
           by_index None = refl
           by_index (Some i) = refl
 
+      index_here : index_at new here ≡ Some idx
+      index_here = index_new here ∙ (ap (option_map (swapped was idx)) stood ∙ ap (λ (n : ℕ). Some n) (swapped-first was idx))
+
+      -- the earlier places keep what their slots name: this place had another buffer, and this slot names another
+      index_earlier : (j : ℕ) → j < k → index_at new (user_place id r j) ≡ Some (name_at r (user_position r j))
+      index_earlier j less =
+          let name = name_at r (user_position r j) in
+          let before : index_at now (user_place id r j) ≡ Some name = so_far.names j less in
+          let not_was : name ≢ was = (λ (e : name ≡ was). user_apart id r j k is can.fits less below (one_place now (user_place id r j) here name so_far.is_hold before (stood ∙ ap (λ (n : ℕ). Some n) (sym e)))) in
+          index_new (user_place id r j) ∙ (ap (option_map (swapped was idx)) before ∙ ap (λ (n : ℕ). Some n) (swapped-other was idx name not_was (can.once j k less below)))
+
+      names_new : (j : ℕ) → j < k + 1 → index_at new (user_place id r j) ≡ Some (name_at r (user_position r j))
+      names_new j less = elim (cases_lt j k) [
+        | inl earlier ↦ index_earlier j earlier
+        | inr last ↦ (let same : k ≡ j = omega arith in rw (← same) index_here)
+      ]
+
       there_new : (q : Place) → IsNamedThere now q → IsNamedThere new q
       there_new q there i e =
           let before : index_at now q ≡ Some (swapped was idx i) = unswapped was idx i (index_at now q) (sym (index_new q) ∙ e) in
@@ -193,6 +239,7 @@ module _ (h now new : HoldState) (id : PortId) (r : RingSlots) (k : ℕ) (is : I
       exchanged_more : AreExchanged h new id r (k + 1)
       exchanged_more = record {
         seen = seen_new;
+        names = names_new;
         held = λ q. held_new q ∙ so_far.held q;
         there = λ q there. there_new q (so_far.there q there);
         named = λ i. named_new i ∙ so_far.named i;
@@ -210,7 +257,7 @@ module _ (h now new : HoldState) (id : PortId) (r : RingSlots) (k : ℕ) (is : I
         by_index (Some was) e some = exchanged_more was e
 
 pub none_exchanged : (h : HoldState) (id : PortId) (r : RingSlots) → IsHold h → AreExchanged h h id r 0
-none_exchanged h id r is = record { seen = λ ports sided e. refl; held = λ q. refl; there = λ q there. there; named = λ i. refl; flags = λ f flagged. flagged; bufs = refl; ports = refl; is_hold = is }
+none_exchanged h id r is = record { seen = λ ports sided e. refl; names = λ k below. absurd (omega arith); held = λ q. refl; there = λ q there. there; named = λ i. refl; flags = λ f flagged. flagged; bufs = refl; ports = refl; is_hold = is }
 
 -- one buffer more is a named one, or is not
 module _ (h now new : HoldState) (named : Bool) (places : List Place) (q : Place) (so_far : AreRenamed h now named places) where

@@ -21,3 +21,9 @@ pub mod Exchanged
 pub mod Pushed
 pub mod Linking
 pub mod Offered
+pub mod Passing
+pub mod OnePort
+pub mod Received
+pub mod Buffers
+pub mod RxPlaces
+pub mod GivenBack

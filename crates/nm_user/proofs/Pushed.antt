@@ -1,12 +1,11 @@
 -- A transmit push that is accepted, over what is seen: the buffers that its slots name stand in their
 -- places, the slots pushed are the kernel side's, and those behind the tail the user's.
-use Rattle.std.proofs.Common.{ℕ, zero, suc, ◌≡◌, ◌<◌, ◌≤◌, ◌+◌, ◌-◌, ◌&&◌, ◌||◌, ◌⊎◌, Bool, true, false, nat_eq, nat_lt, if◌then◌else◌, List, [], ◌∷◌, ◌++◌, length, map, fold, replicate, Option, Some, None, option_map, inl, inr, refl, sym, ◌∙◌, ap, arith, rules}
+use Rattle.std.proofs.Common.{ℕ, zero, suc, ◌≡◌, ◌<◌, ◌≤◌, ◌+◌, ◌-◌, ◌&&◌, ◌||◌, ◌⊎◌, Bool, true, false, nat_eq, nat_lt, if◌then◌else◌, List, [], ◌∷◌, ◌++◌, map, fold, replicate, Option, Some, None, option_map, inl, inr, refl, sym, ◌∙◌, ap, arith, rules}
 use Rattle.std.specs.Prelude.{is_some, IsSome}
 use Rattle.std.specs.Option.{option_map_or}
 use Rattle.std.specs.List.{AllByRecursion, list_any, range_with_len}
 use Rattle.std.proofs.lemmas.Bool.{cases_Bool, cases_lt}
 use Rattle.std.proofs.lemmas.Bool.Decides.{nat_tests}
-use Rattle.std.proofs.lemmas.List.{length-map}
 use Rattle.std.proofs.lemmas.List.Folds.{list_any-append}
 use Rattle.nm_types.specs.declared.id.PortId.{PortId}
 use Rattle.nm_types.specs.declared.id.Side.{Side}
@@ -15,68 +14,36 @@ use Rattle.nm_types.specs.declared.place.Place.{Place}
 use Rattle.nm_types.specs.declared.place.Place.TheVariants as place
 use Rattle.nm_types.specs.Places.{is_same_place}
 use Rattle.nm_types.specs.Positions.{IsRing, FitsRing, dist, step_on, slots_from, user_slots, kernel_count}
-use Rattle.nm_types.specs.Slots.{Pushed}
-use Rattle.nm_types.specs.SyncChecks.{contains_index, EachPasses}
-use Rattle.nm_types.specs.OwnPorts.{OwnRing, OwnPort, OwnState, port_if, with_ring_on, named_of, pushed_on, pushed_count}
+use Rattle.nm_types.specs.OwnPorts.{OwnRing, OwnPort, OwnState, port_if, with_ring_on, pushed_on, pushed_count}
 use Rattle.nm_types.specs.OwnSyncs.{accepted, slots_after_push, after_slot, after_exchange, ring_after_send, own_after_send, ring_after_put, own_after_put, taken_on, taken_from, bytes_after}
 use Rattle.nm_types.proofs.RingSteps.{dist-below, dist-step_on, step_on-below, step_on-dist, dist-add, dist_split, dist-cases, length-slots_from}
-use Rattle.nm_slot.proofs.CheckLaws.{passed_slots_pass}
-use Rattle.nm_region.specs.Buffers.{Buffer}
-use Rattle.nm_hold.specs.declared.standing.Standing.{Standing}
 use Rattle.nm_hold.specs.Offsets.{ArePortsOnce}
-use Rattle.nm_hold.specs.Standings.{buf_in}
-use Rattle.nm_hold.specs.Holds.{HoldState, buffers_of, index_at, standing_at, cell_at, is_named_at, is_named_in, port_of, stands_at, IsHold}
-use Rattle.nm_hold.proofs.Spots.{nat_eq-is, same_place-is}
+use Rattle.nm_hold.specs.Holds.{HoldState, buffers_of, index_at, port_of}
+use Rattle.nm_hold.proofs.Spots.{nat_eq-is}
 use Rattle.nm_user.specs.declared.port.UserPort.{UserPort}
 use Rattle.nm_user.specs.declared.own.OwnSide.TheInside.{Inside}
 use Rattle.nm_user.specs.RingSlots.{RingSlots}
-use Rattle.nm_user.specs.Sides.{place_on, name_at, pushed_seen, pushed_seen_at}
-use Rattle.nm_user.specs.Own.{ring_seen, port_seen, own_seen, port_at, slots_at, refusal_at, bytes_in_cell, named_ring_places, named_tx_places, named_places_of, named_places, size_if, is_filled, is_filled_in, places_of_port, AreFilled, AreFlagged, AreSided, AreRings, AreWhole, HasPlaces, IsTxSide, IsRingIf, port_changed, port_changed_if}
+use Rattle.nm_user.specs.Sides.{place_on, pushed_seen}
+use Rattle.nm_user.specs.Own.{ring_seen, port_seen, own_seen, port_at, slots_at, bytes_in_cell, named_ring_places, named_tx_places, named_places_of, named_places, size_if, is_filled, is_filled_in, places_of_port, AreFlagged, AreSided, AreRings, AreWhole, IsTxSide, IsRingIf, port_changed, port_changed_if}
 use Rattle.nm_user.specs.Kept.{IsKept}
-use Rattle.nm_user.specs.Exchanges.{IsNamedThere, pushed_count_of, user_position, CanExchange, ArePushedOut, is_among, named_after_push, tx_places, ring_pushed_out, CanPushOut, CanPushOutIf, CanAccept}
+use Rattle.nm_user.specs.Exchanges.{pushed_count_of, user_position, CanExchange, ArePushedOut, is_among, named_after_push, tx_places, ring_pushed_out, CanPushOut, CanPushOutIf, CanAccept}
 use Rattle.nm_user.proofs.Judging.{false_true, same_eq}
-use Rattle.nm_user.proofs.Naming.{are_named}
 use Rattle.nm_user.proofs.Opening.{IsOther}
 use Rattle.nm_user.proofs.Closing.{rest_other, none_same, named_of_port, filled_in_one, filled_one}
 use Rattle.nm_user.proofs.SlotLists.{accepted_ring}
 use Rattle.nm_user.proofs.Seeing.{pushed_is_seen}
-use Rattle.nm_user.proofs.Checked.{found, ring_found, side_found, refusal_is_seen, passed_fits, tx_ring_found}
+use Rattle.nm_user.proofs.Checked.{ring_found}
+use Rattle.nm_user.proofs.Buffers.{cells_by_bufs, count_by_bufs, whole_by_bufs}
+use Rattle.nm_user.proofs.Passing.{Passes, ring_is, own_side, positions_fit, ports_once, can_exchange_at}
 
 some_is : {X : Type 0} (x y : X) → Some x ≡ Some y → x ≡ y
 some_is x y e = cc
-
--- bytes, by the buffers of the cells
-abbrev bytes_in_buf : Option Buffer → List ℕ
-bytes_in_buf o = option_map_or (λ (b : Buffer). b.bytes) o []
-
-bytes_by_bufs : (cells : List (Option Standing)) → map bytes_in_cell cells ≡ map bytes_in_buf (map buf_in cells)
-bytes_by_bufs [] = refl
-bytes_by_bufs (None ∷ cells) = ap (λ (xs : List (List ℕ)). [] ∷ xs) (bytes_by_bufs cells)
-bytes_by_bufs (Some s ∷ cells) = ap (λ (xs : List (List ℕ)). s.buf.bytes ∷ xs) (bytes_by_bufs cells)
-
-buf_by_index : (cells others : List (Option Standing)) (i : ℕ) → map buf_in cells ≡ map buf_in others → buf_in (cell_at cells i) ≡ buf_in (cell_at others i)
-buf_by_index [] [] i e = refl
-buf_by_index [] (o ∷ os) i e = absurd cc
-buf_by_index (c ∷ cs) [] i e = absurd cc
-buf_by_index (c ∷ cs) (o ∷ os) zero e = cc
-buf_by_index (c ∷ cs) (o ∷ os) (suc i) e = let rest : map buf_in cs ≡ map buf_in os = cc in buf_by_index cs os i rest
-
--- what is asked of a ring whose push passes the checks
-each_named : (side : Side) (pool : ℕ) (named earlier : List ℕ) (f : ℕ → Pushed) (size first a n : ℕ) → EachPasses side pool named earlier (map f (map (step_on size first) (range_with_len a n)))
-    → (k : ℕ) → k < n → (contains_index named (f (step_on size first (a + k))).slot.buf_idx ≡ true) × (2 ≤ (f (step_on size first (a + k))).slot.buf_idx)
-each_named side pool named earlier f size first a zero passes k below = absurd (omega arith)
-each_named side pool named earlier f size first a (suc n) passes zero below =
-    let same : a ≡ a + 0 = omega arith in
-    rw (← same) ((passes.0.held, passes.0.least))
-each_named side pool named earlier f size first a (suc n) passes (suc k) below =
-    let same : a + 1 + k ≡ a + suc k = omega arith in
-    rw (← same) (each_named side pool named (earlier ++ (f (step_on size first a)).slot.buf_idx ∷ []) f size first (a + 1) n passes.1 k (omega arith))
 
 -- positions among slots from one on
 abbrev in_range : ℕ → ℕ → ℕ → Bool
 in_range a n d = nat_lt a (d + 1) && nat_lt d (a + n)
 
-is_slot_from : (size first n at : ℕ) → first < size → n ≤ size → at < size → list_any (λ x. nat_eq x at) (slots_from size first n) ≡ nat_lt (dist size first at) n
+pub is_slot_from : (size first n at : ℕ) → first < size → n ≤ size → at < size → list_any (λ x. nat_eq x at) (slots_from size first n) ≡ nat_lt (dist size first at) n
 is_slot_from size first n at f few inside = over 0 n (omega arith) ∙ from_zero (dist size first at) n
   where
     one : (k : ℕ) → k < size → nat_eq (step_on size first k) at ≡ nat_eq k (dist size first at)
@@ -108,7 +75,7 @@ is_slot_from size first n at f few inside = over 0 n (omega arith) ∙ from_zero
         more a n d = grind (arith, nat_tests)
 
 -- where a slot stands, seen from three positions
-seen_from : (size a h x : ℕ) → a < size → h < size → x < size → (dist size h x + dist size a h ≡ dist size a x) ⊎ (dist size h x + dist size a h ≡ dist size a x + size)
+pub seen_from : (size a h x : ℕ) → a < size → h < size → x < size → (dist size h x + dist size a h ≡ dist size a x) ⊎ (dist size h x + dist size a h ≡ dist size a x + size)
 seen_from size a h x al hl xl =
     let near = dist-cases size a h al hl in
     let far = dist-cases size a x al xl in
@@ -126,7 +93,7 @@ seen_from size a h x al hl xl =
     ]
 
 -- the user's slots after a push: those behind the tail that came, and of the old ones those not pushed
-flag_is : (size a b c h t n : ℕ) → a < size → b < size → c < size → h ≤ t → t < size → n + (t - h) < size → (b + h ≡ a) ⊎ (b + h ≡ a + size) → (c + t ≡ a) ⊎ (c + t ≡ a + size)
+pub flag_is : (size a b c h t n : ℕ) → a < size → b < size → c < size → h ≤ t → t < size → n + (t - h) < size → (b + h ≡ a) ⊎ (b + h ≡ a + size) → (c + t ≡ a) ⊎ (c + t ≡ a + size)
     → nat_lt b (t - h + n) ≡ (if nat_lt c n then true else if nat_lt a h then false else nat_lt a t)
 flag_is size a b c h t n al bl cl reach tl room near far = elim (cases_Bool (nat_lt c n)) [
   | inl freed ↦ rw freed (yes_lt b (t - h + n) (in_freed (is_lt c n freed)))
@@ -412,46 +379,26 @@ module _ (id : PortId) (r : RingSlots) (taken : ℕ) (is : IsRing r.ring) (can :
       both : {a b : Bool} → a ≡ false → b ≡ false → (a || b) ≡ false
       both e f = rw (e, f) refl
 
--- the own side of a push that passes
-pub record Passes (h : HoldState) (ports : List UserPort) (id : PortId) (p : UserPort) (r : RingSlots) : Type 0 where
-  pub sided : AreSided ports
-  pub rings : AreRings ports
-  pub flagged : AreFlagged h ports
-  pub is_hold : IsHold h
-  pub places : HasPlaces h ports
-  pub filled : AreFilled h ports
-  pub there : port_at ports id.0 ≡ Some p
-  pub tx : p.tx ≡ Some r
-  pub same_id : p.id ≡ id
-  pub at : slots_at side.Tx ports id.0 ≡ Some r
-  pub passes : refusal_at side.Tx id.0 (own_seen h ports) ≡ None
-
-pub passes_of : (o : Inside) (id : PortId) (r : RingSlots) → IsKept o → slots_at side.Tx o.ports.items id.0 ≡ Some r → refusal_at side.Tx id.0 (own_seen o.hold o.ports.items) ≡ None
-    → (p : UserPort) × Passes o.hold o.ports.items id p r
-passes_of o id r kept at passes =
-    let f = found o.ports.items side.Tx id r at in
-    (f.p, record { sided = kept.sided; rings = kept.rings; flagged = kept.flagged; is_hold = kept.hold; places = kept.places; filled = kept.filled; there = f.there; tx = f.on; same_id = f.id; at = at; passes = passes })
-
-module _ (h : HoldState) (ports : List UserPort) (id : PortId) (p : UserPort) (r : RingSlots) (x : Passes h ports id p r) where
+module _ (h : HoldState) (ports : List UserPort) (id : PortId) (p : UserPort) (r : RingSlots) (x : Passes h ports side.Tx id p r) where
   is_ring : IsRing r.ring
-  is_ring = tx_ring_found ports id r x.rings x.at
+  is_ring = ring_is h ports side.Tx id p r x
 
   pub tx_side : r.side ≡ side.Tx
-  tx_side = side_found ports side.Tx id r x.sided x.at
+  tx_side = own_side h ports side.Tx id p r x
 
   fits : FitsRing r.ring r.ring.head r.ring.cur
-  fits = passed_fits h ports side.Tx id r x.sided is_ring x.at x.passes
+  fits = positions_fit h ports side.Tx id p r x
 
   -- all its slots hold a buffer
-  pub slots_held : (at : ℕ) → at < r.ring.size → IsSome (index_at h (place.Tx id at))
-  slots_held at inside = some_of (index_at h (place.Tx id at)) (x.filled (place.Tx id at) ∙ filled_in_one ports id.0 p (place.Tx id at) x.there filled)
+  slot_filled : (at : ℕ) → at < r.ring.size → is_filled_in (place.Tx id at) p ≡ true
+  slot_filled at inside = rw (x.same_id, x.on, same_eq id.0 id.0 refl) (yes_lt at r.ring.size inside)
     where
-      filled : is_filled_in (place.Tx id at) p ≡ true
-      filled = rw (x.same_id, x.tx, same_eq id.0 id.0 refl) (yes_lt at r.ring.size inside)
-        where
-          yes_lt : (a b : ℕ) → a < b → nat_lt a b ≡ true
-          yes_lt a b e = grind (arith, nat_tests)
+      yes_lt : (a b : ℕ) → a < b → nat_lt a b ≡ true
+      yes_lt a b e = grind (arith, nat_tests)
 
+  pub slots_held : (at : ℕ) → at < r.ring.size → IsSome (index_at h (place.Tx id at))
+  slots_held at inside = some_of (index_at h (place.Tx id at)) (x.filled (place.Tx id at) ∙ filled_in_one ports id.0 p (place.Tx id at) x.there (slot_filled at inside))
+    where
       some_of : (o : Option ℕ) → is_some o ≡ true → IsSome o
       some_of None e = absurd cc
       some_of (Some i) e = search rules
@@ -463,7 +410,7 @@ module _ (h : HoldState) (ports : List UserPort) (id : PortId) (p : UserPort) (r
   user_named (y ∷ all) e at inside user = elim (cases_Bool (nat_eq y.id.0 id.0)) [
     | inl here ↦ (let is_p : y ≡ p = some_is y p (rw here at e) in
         let places : named_places_of y ≡ named_ring_places id r ++ (named_ring_places p.id p.rx ++ map (place.Extra p.id) (range_with_len 0 p.extra)) =
-        ap named_places_of is_p ∙ (ap (λ (o : Option RingSlots). named_tx_places p.id o ++ (named_ring_places p.id p.rx ++ map (place.Extra p.id) (range_with_len 0 p.extra))) x.tx
+        ap named_places_of is_p ∙ (ap (λ (o : Option RingSlots). named_tx_places p.id o ++ (named_ring_places p.id p.rx ++ map (place.Extra p.id) (range_with_len 0 p.extra))) x.on
         ∙ ap (λ (i : PortId). named_ring_places i r ++ (named_ring_places p.id p.rx ++ map (place.Extra p.id) (range_with_len 0 p.extra))) x.same_id) in
         let t = dist-below r.ring.size r.ring.accepted_head r.ring.last_tail is_ring.accepted in
         let in_ring : is_among (named_ring_places id r) (place.Tx id at) ≡ true =
@@ -480,23 +427,10 @@ module _ (h : HoldState) (ports : List UserPort) (id : PortId) (p : UserPort) (r
       or_second true b e = refl
       or_second false b e = e
 
-  named_there : (q : Place) → is_among (named_places ports) q ≡ true → IsNamedThere h q
-  named_there q among i e = by_cell (standing_at h i) refl (x.is_hold.held q i e)
-    where
-      by_cell : (o : Option Standing) → standing_at h i ≡ o → stands_at q (standing_at h i) ≡ true → is_named_at h i ≡ true
-      by_cell None none stands = false_true (ap (stands_at q) (sym none) ∙ stands)
-      by_cell (Some s) some stands =
-          let same : q ≡ s.home.place = same_place-is q s.home.place (sym (ap (stands_at q) some) ∙ stands) in
-          ap is_named_in some ∙ (x.flagged i s some ∙ (ap (is_among (named_places ports)) (sym same) ∙ among))
-
   pub can_exchange : CanExchange h id r
-  can_exchange = record {
-    fits = fits;
-    held = λ k below. rw tx_side (slots_held (user_position r k) (within k));
-    there = λ k below. rw tx_side (named_there (place.Tx id (user_position r k)) (user_named ports x.there (user_position r k) (within k) (user k below)));
-    named = λ k below. each k below;
-    is_hold = x.is_hold;
-  }
+  can_exchange = can_exchange_at h ports side.Tx id p r x
+      (λ k below. filled_in_one ports id.0 p (place.Tx id (user_position r k)) x.there (slot_filled (user_position r k) (within k)))
+      (λ k below. user_named ports x.there (user_position r k) (within k) (user k below))
     where
       within : (k : ℕ) → user_position r k < r.ring.size
       within k = step_on-below r.ring.size r.ring.accepted_head k is_ring.accepted
@@ -508,15 +442,6 @@ module _ (h : HoldState) (ports : List UserPort) (id : PortId) (p : UserPort) (r
           let there = dist-step_on r.ring.size r.ring.accepted_head k is_ring.accepted (omega arith) in
           omega arith
 
-      each : (k : ℕ) → k < pushed_count_of r → is_named_at h (name_at r (user_position r k)) ≡ true
-      each k below =
-          let named = named_of (own_seen h ports) in
-          let passes = passed_slots_pass r.side (buffers_of h) named r.ring (pushed_seen h id r) (sym (refusal_is_seen h ports side.Tx id r x.sided is_ring x.at) ∙ x.passes) in
-          let one = each_named r.side (buffers_of h) named [] (pushed_seen_at h id r) r.ring.size r.ring.accepted_head 0 (pushed_count_of r) passes k below in
-          let first : 0 + k ≡ k = omega arith in
-          let at = rw first at one in
-          are_named h ports x.sided x.rings x.flagged x.is_hold (name_at r (user_position r k)) at.1 ∙ at.0
-
   -- as many slots as were pushed can come back
   pub all_have_room : pushed_count_of r ≤ kernel_count r.ring.size r.ring.head r.ring.last_tail
   all_have_room =
@@ -526,7 +451,7 @@ module _ (h : HoldState) (ports : List UserPort) (id : PortId) (p : UserPort) (r
       omega arith
 
   once : ArePortsOnce (map places_of_port ports)
-  once = rw (← x.places) x.is_hold.once
+  once = ports_once h ports side.Tx id p r x
 
   -- the push of its ring alone is accepted
   module _ (taken : ℕ) (few : taken ≤ kernel_count r.ring.size r.ring.head r.ring.last_tail) where
@@ -544,7 +469,7 @@ module _ (h : HoldState) (ports : List UserPort) (id : PortId) (p : UserPort) (r
         over [] once there = absurd cc
         over (y ∷ all) once there = elim (cases_Bool (nat_eq y.id.0 id.0)) [
           | inl here ↦ (let is_p : y ≡ p = some_is y p (rw here at there) in
-              let tx_y : y.tx ≡ Some r = ap (λ (z : UserPort). z.tx) is_p ∙ x.tx in
+              let tx_y : y.tx ≡ Some r = ap (λ (z : UserPort). z.tx) is_p ∙ x.on in
               ((λ e. rw tx_y can), none_of all (rest_other all id.0 (rw (nat_eq-is y.id.0 id.0 here) at once.0))))
           | inr other ↦ ((λ e. false_true (sym other ∙ same_eq y.id.0 id.0 e)), over all once.1 (rw other at there))
         ]
@@ -584,34 +509,22 @@ module _ (h : HoldState) (ports : List UserPort) (id : PortId) (p : UserPort) (r
           let held : is_some (index_at h3 q) ≡ true = ap is_some (out.is_hold.standing i s there).there in
           let filled : is_filled ports q ≡ true = sym (x.filled q) ∙ (sym (out.held q) ∙ held) in
           out.flags (is_among (named_places ports)) x.flagged i s there
-          ∙ sym (named_after id r taken is_ring can ports p q x.sided once x.there x.tx (λ at e. inside at (sym (ap (is_filled ports) e) ∙ filled)))
+          ∙ sym (named_after id r taken is_ring can ports p q x.sided once x.there x.on (λ at e. inside at (sym (ap (is_filled ports) e) ∙ filled)))
         where
           inside : (at : ℕ) → is_filled ports (place.Tx id at) ≡ true → at < r.ring.size
           inside at e =
               let one : is_filled_in (place.Tx id at) p ≡ true = sym (filled_one ports id.0 p (place.Tx id at) x.there once refl) ∙ e in
-              let two : nat_lt at r.ring.size ≡ true = (let test = rw (x.same_id, x.tx, same_eq id.0 id.0 refl) at one in test) in
+              let two : nat_lt at r.ring.size ≡ true = (let test = rw (x.same_id, x.on, same_eq id.0 id.0 refl) at one in test) in
               is_lt at r.ring.size two
             where
               is_lt : (a b : ℕ) → nat_lt a b ≡ true → a < b
               is_lt a b e = grind (arith, nat_tests)
 
       cells_same : map bytes_in_cell h3.cells ≡ map bytes_in_cell h.cells
-      cells_same = bytes_by_bufs h3.cells ∙ (ap (map bytes_in_buf) out.bufs ∙ sym (bytes_by_bufs h.cells))
+      cells_same = cells_by_bufs h h3 out.bufs
 
       count_same : buffers_of h3 ≡ buffers_of h
-      count_same =
-          ap (λ (n : ℕ). n - 2) (sym (length-map h3.cells buf_in) ∙ (ap (λ (b : List (Option Buffer)). length b) out.bufs ∙ length-map h.cells buf_in))
-
-      whole_after : AreWhole h → AreWhole h3
-      whole_after whole i s there =
-          let same : Some s.buf ≡ buf_in (standing_at h i) = sym (ap buf_in there) ∙ buf_by_index h3.cells h.cells i out.bufs in
-          by_cell (standing_at h i) refl same
-        where
-          by_cell : (o : Option Standing) → standing_at h i ≡ o → Some s.buf ≡ buf_in (standing_at h i) → length s.buf.bytes ≡ 2048
-          by_cell None e same = absurd (let none = same ∙ ap buf_in e in cc)
-          by_cell (Some t) e same =
-              let is : s.buf ≡ t.buf = some_is s.buf t.buf (same ∙ ap buf_in e) in
-              ap (λ (b : Buffer). length b.bytes) is ∙ whole i t e
+      count_same = count_by_bufs h h3 out.bufs
 
       pub kept_after : (o : Inside) → IsKept o → (new : Inside) → o.hold ≡ h → o.ports.items ≡ ports → new.hold ≡ h3 → new.ports.items ≡ after → new.marks.items ≡ o.marks.items → IsKept new
       kept_after o kept new hold_is ports_are hold_new ports_new marks =
@@ -624,12 +537,12 @@ module _ (h : HoldState) (ports : List UserPort) (id : PortId) (p : UserPort) (r
             hold = rw hold_new out.is_hold;
             places = rw (hold_new, ports_new) (out.ports ∙ (x.places ∙ sym (places_after id moved (λ q r. refl) (λ q r. refl) ports)));
             filled = rw (hold_new, ports_new) (λ q. out.held q ∙ (x.filled q ∙ sym (filled_after id moved (λ q r. refl) (λ q r. refl) ports q)));
-            whole = rw hold_new (whole_after whole);
+            whole = rw hold_new (whole_by_bufs h h3 out.bufs whole);
             blank = rw hold_new (marks ∙ (blank ∙ ap (λ (n : ℕ). replicate (n + 2) false) (sym count_same)));
           }
 
-      ring_is : ring_seen h3 id (ring_pushed_out taken r) ≡ record (ring_seen h3 id r) { ring = accepted taken r.ring; slots = slots_after_push r.ring r.slots }
-      ring_is = rw tx_side refl
+      ring_moved : ring_seen h3 id (ring_pushed_out taken r) ≡ record (ring_seen h3 id r) { ring = accepted taken r.ring; slots = slots_after_push r.ring r.slots }
+      ring_moved = rw tx_side refl
 
       -- what is seen, where a ring is seen to moved as it does
       ports_seen : (g : OwnRing → OwnRing) → ring_seen h3 id (ring_pushed_out taken r) ≡ g (ring_seen h3 id r) → (all : List UserPort) → ArePortsOnce (map places_of_port all) → port_at all id.0 ≡ Some p
@@ -637,7 +550,7 @@ module _ (h : HoldState) (ports : List UserPort) (id : PortId) (p : UserPort) (r
       ports_seen g made [] once there = absurd cc
       ports_seen g made (y ∷ all) once there = elim (cases_Bool (nat_eq y.id.0 id.0)) [
         | inl here ↦ (let is_p : y ≡ p = some_is y p (rw here at there) in
-            let tx_y : y.tx ≡ Some r = ap (λ (z : UserPort). z.tx) is_p ∙ x.tx in
+            let tx_y : y.tx ≡ Some r = ap (λ (z : UserPort). z.tx) is_p ∙ x.on in
             let id_y : y.id ≡ id = ap (λ (z : UserPort). z.id) is_p ∙ x.same_id in
             let rest = rest_other all id.0 (rw (nat_eq-is y.id.0 id.0 here) at once.0) in
             let tx_is : option_map (ring_seen h3 y.id) (option_map (moved y.id) y.tx) ≡ option_map g (option_map (ring_seen h3 y.id) y.tx) = rw (tx_y, id_y) (ap (λ (o : OwnRing). Some o) made) in
@@ -670,7 +583,7 @@ module _ (h : HoldState) (ports : List UserPort) (id : PortId) (p : UserPort) (r
       pub offered_is_seen : taken ≡ 0 → own_seen h3 after ≡ own_after_put id.0 [] (own_seen h ports)
       offered_is_seen none =
           let made : ring_seen h3 id (ring_pushed_out taken r) ≡ ring_after_put [] (ring_seen h3 id r) =
-          ring_is ∙ ap (λ (n : ℕ). record (ring_seen h3 id r) { ring = accepted n r.ring; slots = slots_after_push r.ring r.slots }) none in
+          ring_moved ∙ ap (λ (n : ℕ). record (ring_seen h3 id r) { ring = accepted n r.ring; slots = slots_after_push r.ring r.slots }) none in
           let exchanged = (after_exchange side.Tx id.0 (own_seen h ports)).ports in
           let bytes : map bytes_in_cell h3.cells ≡ bytes_after (taken_on id.0 exchanged 0) [] (map bytes_in_cell h.cells) = cells_same ∙ ap (λ (gone : List ℕ). bytes_after gone [] (map bytes_in_cell h.cells)) (sym (nothing_taken exchanged)) in
           rw (count_same, bytes) (ap (λ (ps : List OwnPort). let s : OwnState = record { pool = buffers_of h; ports = ps; bytes = bytes_after (taken_on id.0 exchanged 0) [] (map bytes_in_cell h.cells) } in s)
@@ -680,6 +593,6 @@ module _ (h : HoldState) (ports : List UserPort) (id : PortId) (p : UserPort) (r
       sent_is_seen all =
           let count : pushed_count (ring_seen h3 id r) ≡ taken = length-slots_from r.ring.size r.ring.accepted_head (pushed_count_of r) ∙ sym all in
           let made : ring_seen h3 id (ring_pushed_out taken r) ≡ ring_after_send (ring_seen h3 id r) =
-          ring_is ∙ ap (λ (n : ℕ). record (ring_seen h3 id r) { ring = accepted n r.ring; slots = slots_after_push r.ring r.slots }) (sym count) in
+          ring_moved ∙ ap (λ (n : ℕ). record (ring_seen h3 id r) { ring = accepted n r.ring; slots = slots_after_push r.ring r.slots }) (sym count) in
           rw (count_same, cells_same) (ap (λ (ps : List OwnPort). let s : OwnState = record { pool = buffers_of h; ports = ps; bytes = map bytes_in_cell h.cells } in s)
           (ports_seen ring_after_send made ports once x.there ∙ ap (map (port_if id.0 (with_ring_on side.Tx ring_after_send))) exchanged_seen))

@@ -38,7 +38,7 @@ accepted_none ring is = ap (advanced ring ring.head ring.cur) (is.one_tail ∙ s
 pub accepted_then : (ring : RingState) (taken : ℕ) → accepted taken (accepted 0 ring) ≡ accepted taken ring
 accepted_then ring taken = let none : 0 + taken ≡ taken = omega arith in ap (advanced ring ring.head ring.cur) (step_on-step_on ring.size ring.last_tail 0 taken ∙ ap (step_on ring.size ring.last_tail) none)
 
-tail_stays : (ring : RingState) → IsRing ring → step_on ring.size ring.last_tail 0 ≡ ring.last_tail
+pub tail_stays : (ring : RingState) → IsRing ring → step_on ring.size ring.last_tail 0 ≡ ring.last_tail
 tail_stays ring is = let within = is.within in let one = is.one_tail in step_on-none ring.size ring.last_tail (omega arith)
 
 pub still_fits : (ring : RingState) → IsRing ring → FitsRing ring ring.head ring.cur → FitsRing (accepted 0 ring) ring.head ring.cur

@@ -25,7 +25,7 @@ use Rattle.nm_user.specs.Own.{positions_of, number_on, extra_number_at, ring_see
 use Rattle.nm_user.proofs.Filled.{is_named_seen}
 use Rattle.nm_user.proofs.Checked.{bytes_are_seen}
 
-map-same : {X : Type 0} (f g : ℕ → X) (xs : List ℕ) → ((x : ℕ) → f x ≡ g x) → map f xs ≡ map g xs
+pub map-same : {X : Type 0} (f g : ℕ → X) (xs : List ℕ) → ((x : ℕ) → f x ≡ g x) → map f xs ≡ map g xs
 map-same f g [] same = refl
 map-same {X = X} f g (x ∷ xs) same = ap (λ (y : X). y ∷ map f xs) (same x) ∙ ap (λ (ys : List X). g x ∷ ys) (map-same f g xs same)
 

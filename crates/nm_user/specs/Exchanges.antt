@@ -1,5 +1,5 @@
 -- A push in a hold: the exchange of its slots, and which buffers are the user's to name afterwards.
-use Rattle.std.specs.Prelude.{ℕ, Bool, true, false, ◌≡◌, ◌<◌, ◌≤◌, is_some, IsSome, if◌then◌else◌, List, map, fold, Option, Some, None}
+use Rattle.std.specs.Prelude.{ℕ, Bool, true, false, ◌≡◌, ◌≢◌, ◌<◌, ◌≤◌, is_some, IsSome, if◌then◌else◌, List, map, fold, Option, Some, None}
 use Rattle.std.specs.List.{list_any}
 use Rattle.nm_types.specs.declared.id.PortId.{PortId}
 use Rattle.nm_types.specs.declared.id.Side.TheVariants.{Tx}
@@ -28,18 +28,21 @@ user_position r k = step_on r.ring.size r.ring.accepted_head k
 abbrev pub user_place : PortId → RingSlots → ℕ → Place
 user_place id r k = place_on r.side id (user_position r k)
 
--- each pushed slot's place holds a named buffer, and the slot names one
+-- each pushed slot's place holds a named buffer, and the slot names one, which no other does
 pub record CanExchange (h : HoldState) (id : PortId) (r : RingSlots) : Type 0 where
   pub fits : FitsRing r.ring r.ring.head r.ring.cur
   pub held : (k : ℕ) → k < pushed_count_of r → IsSome (index_at h (user_place id r k))
   pub there : (k : ℕ) → k < pushed_count_of r → IsNamedThere h (user_place id r k)
   pub named : (k : ℕ) → k < pushed_count_of r → is_named_at h (name_at r (user_position r k)) ≡ true
+  pub once : (j k : ℕ) → j < k → k < pushed_count_of r → name_at r (user_position r j) ≢ name_at r (user_position r k)
   pub is_hold : IsHold h
 
--- for each of the first pushed slots the buffer in its place, and the one that it names, have changed places
+-- for each of the first pushed slots the buffer in its place, and the one that it names, have changed
+-- places; their places hold what they name
 pub record AreExchanged (h now : HoldState) (id : PortId) (r : RingSlots) (count : ℕ) : Type 0 where
   pub seen : (ports : List UserPort) → AreSided ports → slots_at r.side ports id.0 ≡ Some r
       → map (port_seen now) ports ≡ fold (after_slot r.side id.0) (map (port_seen h) ports) (map (pushed_seen_at h id r) (slots_from r.ring.size r.ring.accepted_head count))
+  pub names : (k : ℕ) → k < count → index_at now (user_place id r k) ≡ Some (name_at r (user_position r k))
   pub held : (q : Place) → is_some (index_at now q) ≡ is_some (index_at h q)
   pub there : (q : Place) → IsNamedThere h q → IsNamedThere now q
   pub named : (idx : ℕ) → is_named_at now idx ≡ is_named_at h idx

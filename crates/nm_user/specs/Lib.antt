@@ -11,3 +11,4 @@ pub mod Closing
 pub mod Exchanges
 pub mod ExtraChain
 pub mod Offers
+pub mod Receives

@@ -16,7 +16,7 @@ use nm_hold::Hold;
 use nm_types::{Place, PortId};
 
 /// Exchanges, for each pushed slot in order, the buffer in its place and the one that it names.
-fn exchange_pushed(hold: &mut Hold, port: PortId, ring: &SlotRing)
+pub(crate) fn exchange_pushed(hold: &mut Hold, port: PortId, ring: &SlotRing)
     requires can { CanExchange hold.old port ring.now }
     requires ring { IsRing ring.now.ring }
     ensures { AreExchanged hold.old hold.new port ring.now (pushed_count_of ring.now) }

@@ -14,6 +14,7 @@ mod own;
 #[cfg(test)]
 mod own_tests;
 mod port;
+mod receive;
 mod reset;
 mod slot_ring;
 mod slots;

@@ -17,6 +17,7 @@ ghost use Rattle.nm_user.specs.ExtraChain.{head_of_extras, extra_numbered, named
 ghost use Rattle.nm_user.specs.Sides.{TellsRefusal};
 ghost use Rattle.nm_types.specs.OwnSyncs.{own_after_open, own_after_reset};
 ghost use Rattle.nm_types.specs.OwnSyncs.{own_after_finish, own_after_send, own_after_put, back_on, chain_in};
+ghost use Rattle.nm_types.specs.OwnSyncs.{own_after_receive};
 ghost use Rattle.nm_user.specs.Closing.{buffers_with_id, bytes_of_buffers};
 ghost use Rattle.std.specs.Vec.{vec_capacity};
 ghost use Rattle.std.specs.Prelude.{[], ◌+◌, ◌↔◌, IfSome, true, take, drop, map, is_some};
@@ -28,12 +29,13 @@ ghost use Rattle.nm_user.specs.Acts.{head_slot_in};
 use crate::checks::check_ring;
 use crate::close::empty_port;
 use crate::edit::{RingEdit, edit_rings};
-use crate::exchange::{accept_pushes, push_out, send_out};
+use crate::exchange::{accept_pushes, exchange_pushed, push_out, send_out};
 use crate::extras::{extra_numbered, set_heads};
 use crate::fill::{Row, fill};
 use crate::gather::{gather, gather_names, gather_offered};
 use crate::open::{make_port, reserve};
 use crate::port::UserPort;
+use crate::receive::{accept_backs, take_pushed};
 use crate::reset::reset_rings;
 use crate::slot_ring::SlotRing;
 use nm_extra::relink;
@@ -385,6 +387,30 @@ impl OwnSide {
             Some(ring) => gather_names(alloc, ring),
             None => unreachable!(),
         }
+    }
+
+    /// What stands after a receive sync that brought no frame, for a push that no check refuses. The
+    /// buffers that the pushed slots name go to `back`, which has room for them, in the order of the
+    /// slots.
+    pub fn give_back(&mut self, port: PortId, back: &mut Vec<Buf>)
+        requires ring { IsSome (ring_at Rx self.old port.0) }
+        requires passes { refusal_at Rx port.0 self.old ≡ None }
+        requires room { length back.old.items + length (back_on port.0 self.old)
+            ≤ vec_capacity back.old }
+        ensures own { self.new ≡ own_after_receive port.0 [] self.old }
+        ensures before { take (length back.old.items) back.new.items ≡ back.old.items }
+        ensures back { indices_of (drop (length back.old.items) back.new.items)
+            ≡ back_on port.0 self.old }
+        ensures capacity { vec_capacity back.new ≡ vec_capacity back.old }
+    {
+        match ring_at(&self.ports, port, Side::Rx) {
+            Some(ring) => {
+                exchange_pushed(&mut self.hold, port, ring);
+                take_pushed(&mut self.hold, port, ring, back);
+            }
+            None => unreachable!(),
+        }
+        accept_backs(&mut self.ports, port);
     }
 
     /// What stands after a send, for a push that no check refuses: the buffers that the pushed slots

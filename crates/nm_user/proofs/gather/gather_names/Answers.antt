@@ -1,4 +1,4 @@
-use Rattle.std.proofs.Common.{ℕ, List, [], ◌∷◌, ◌++◌, ◌≡◌, ◌<◌, ◌∙◌, ◌+◌, length, map, refl, sym, ap, arith, length-append}
+use Rattle.std.proofs.Common.{ℕ, List, [], ◌∷◌, ◌++◌, ◌≡◌, ◌<◌, ◌∙◌, length, map, sym, ap, arith, length-append}
 use Rattle.nm_types.specs.Positions.{step_on, slots_from, dist}
 use Rattle.nm_types.specs.Slots.{SlotState}
 use Rattle.nm_user.specs.Sides.{name_at}

@@ -8,25 +8,26 @@ use Rattle.nm_user.specs.declared.port.UserPort.{UserPort}
 use Rattle.nm_user.specs.Own.{slots_at, own_seen, port_changed_if}
 use Rattle.nm_user.specs.Exchanges.{ring_pushed_out}
 use Rattle.nm_user.proofs.Checked.{no_ring}
-use Rattle.nm_user.proofs.Pushed.{passes_of, tx_side, can_exchange, slots_held, can_accept, kept_after, offered_is_seen}
+use Rattle.nm_user.proofs.Passing.{passes_of}
+use Rattle.nm_user.proofs.Pushed.{tx_side, can_exchange, slots_held, can_accept, kept_after, offered_is_seen}
 use Rattle.nm_user.proofs.own.OwnSide.offered.Goals as goal
 
 pub push_out-requires-clause-can : goal.push_out-requires-clause-can
 push_out-requires-clause-can c =
     let there : slots_at Tx c.self.inside.ports.items c.args.port.0 ≡ Some c.in-Some.ring.now = sym (rw (c.in-Some.is, c.deref.ensures.value) at c.ring_at.ensures) in
-    let x = passes_of c.self.inside c.args.port c.in-Some.ring.now c.self.invariant there (rw (← c.self.view_is) at c.requires.passes) in
+    let x = passes_of c.self.inside Tx c.args.port c.in-Some.ring.now c.self.invariant there (rw (← c.self.view_is) at c.requires.passes) in
     can_exchange c.self.inside.hold c.self.inside.ports.items c.args.port x.0 c.in-Some.ring.now x.1
 
 pub push_out-requires-clause-side : goal.push_out-requires-clause-side
 push_out-requires-clause-side c =
     let there : slots_at Tx c.self.inside.ports.items c.args.port.0 ≡ Some c.in-Some.ring.now = sym (rw (c.in-Some.is, c.deref.ensures.value) at c.ring_at.ensures) in
-    let x = passes_of c.self.inside c.args.port c.in-Some.ring.now c.self.invariant there (rw (← c.self.view_is) at c.requires.passes) in
+    let x = passes_of c.self.inside Tx c.args.port c.in-Some.ring.now c.self.invariant there (rw (← c.self.view_is) at c.requires.passes) in
     tx_side c.self.inside.hold c.self.inside.ports.items c.args.port x.0 c.in-Some.ring.now x.1
 
 pub push_out-requires-clause-held : goal.push_out-requires-clause-held
 push_out-requires-clause-held c =
     let there : slots_at Tx c.self.inside.ports.items c.args.port.0 ≡ Some c.in-Some.ring.now = sym (rw (c.in-Some.is, c.deref.ensures.value) at c.ring_at.ensures) in
-    let x = passes_of c.self.inside c.args.port c.in-Some.ring.now c.self.invariant there (rw (← c.self.view_is) at c.requires.passes) in
+    let x = passes_of c.self.inside Tx c.args.port c.in-Some.ring.now c.self.invariant there (rw (← c.self.view_is) at c.requires.passes) in
     slots_held c.self.inside.hold c.self.inside.ports.items c.args.port x.0 c.in-Some.ring.now x.1
 
 pub unreachable-requires : goal.unreachable-requires
@@ -40,7 +41,7 @@ accept_pushes-requires c =
     let ports = c.self.inside.ports.items in
     let r = c.in-Some.ring.now in
     let there : slots_at Tx ports c.args.port.0 ≡ Some r = sym (rw (c.in-Some.is, c.deref.ensures.value) at c.ring_at.ensures) in
-    let x = passes_of c.self.inside c.args.port r c.self.invariant there (rw (← c.self.view_is) at c.requires.passes) in
+    let x = passes_of c.self.inside Tx c.args.port r c.self.invariant there (rw (← c.self.view_is) at c.requires.passes) in
     rw c.deref_mut.ensures.value (can_accept h ports c.args.port x.0 r x.1 0 (omega arith))
 
 -- the ports once the push is accepted
@@ -59,7 +60,7 @@ invariant_of-self c =
     let ports = c.self.inside.ports.items in
     let r = c.in-Some.ring.now in
     let there : slots_at Tx ports c.args.port.0 ≡ Some r = sym (rw (c.in-Some.is, c.deref.ensures.value) at c.ring_at.ensures) in
-    let x = passes_of c.self.inside c.args.port r c.self.invariant there (rw (← c.self.view_is) at c.requires.passes) in
+    let x = passes_of c.self.inside Tx c.args.port r c.self.invariant there (rw (← c.self.view_is) at c.requires.passes) in
     kept_after h ports c.args.port x.0 r x.1 0 (omega arith) c.push_out.new.hold c.push_out.ensures
     c.self.inside c.self.invariant _ refl refl refl (ports_are c) refl
 
@@ -69,7 +70,7 @@ returns c =
     let ports = c.self.inside.ports.items in
     let r = c.in-Some.ring.now in
     let there : slots_at Tx ports c.args.port.0 ≡ Some r = sym (rw (c.in-Some.is, c.deref.ensures.value) at c.ring_at.ensures) in
-    let x = passes_of c.self.inside c.args.port r c.self.invariant there (rw (← c.self.view_is) at c.requires.passes) in
+    let x = passes_of c.self.inside Tx c.args.port r c.self.invariant there (rw (← c.self.view_is) at c.requires.passes) in
     ap (own_seen c.push_out.new.hold) (ports_are c)
     ∙ (offered_is_seen h ports c.args.port x.0 r x.1 0 (omega arith) c.push_out.new.hold c.push_out.ensures refl
     ∙ ap (own_after_put c.args.port.0 []) c.self.view_is)
