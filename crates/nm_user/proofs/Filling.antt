@@ -29,7 +29,7 @@ some_none x e = cc
 some_same : {X : Type 0} (x y : X) → Some x ≡ Some y → x ≡ y
 some_same x y e = cc
 
-within_pool : (h : HoldState) (idx : ℕ) → IsHold h → IsBufferIndex (buffers_of h) idx → idx < length h.cells
+pub within_pool : (h : HoldState) (idx : ℕ) → IsHold h → IsBufferIndex (buffers_of h) idx → idx < length h.cells
 within_pool h idx is index = let pool = is.pool in omega (arith, pool.0, index.1)
 
 -- a cell that is set, and set again

@@ -27,3 +27,6 @@ pub mod Received
 pub mod Buffers
 pub mod RxPlaces
 pub mod GivenBack
+pub mod PutOne
+pub mod Published
+pub mod OwnLaws

@@ -65,7 +65,7 @@ none_first (x ∷ xs) ys once = both ys (all_right (λ y. nat_eq x y ≡ false) 
     both (z ∷ zs) one two = (rw (one.0, two.0) refl, both zs one.1 two.1)
 
 -- a buffer without bytes stands nowhere
-away_of : (h : HoldState) (ports : List UserPort) (idx : ℕ) → AreWhole h → bytes_at (own_seen h ports) idx ≡ [] → standing_at h idx ≡ None
+pub away_of : (h : HoldState) (ports : List UserPort) (idx : ℕ) → AreWhole h → bytes_at (own_seen h ports) idx ≡ [] → standing_at h idx ≡ None
 away_of h ports idx whole none = by_standing (standing_at h idx) refl
   where
     by_standing : (o : Option Standing) → standing_at h idx ≡ o → o ≡ None

@@ -12,3 +12,4 @@ pub mod Exchanges
 pub mod ExtraChain
 pub mod Offers
 pub mod Receives
+pub mod Laws

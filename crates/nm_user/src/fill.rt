@@ -45,7 +45,7 @@ fn clear(buf: &mut Buf, row: Row, next: u32)
 }
 
 /// Puts a buffer into an empty place, whose buffer is a named one or not.
-fn put(hold: &mut Hold, place: Place, buf: Buf, named: bool)
+pub(crate) fn put(hold: &mut Hold, place: Place, buf: Buf, named: bool)
     requires hold { IsHold hold.old }
     requires belongs { has_place hold.old.ports place ≡ true }
     requires empty { index_at hold.old place ≡ None }

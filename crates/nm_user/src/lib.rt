@@ -9,12 +9,15 @@ mod exchange;
 mod extras;
 mod fill;
 mod gather;
+pub mod laws;
 mod open;
 mod own;
 #[cfg(test)]
 mod own_tests;
 mod port;
 mod receive;
+#[cfg(test)]
+mod receive_tests;
 mod reset;
 mod slot_ring;
 mod slots;

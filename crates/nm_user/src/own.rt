@@ -25,24 +25,25 @@ ghost use Rattle.std.specs.Prelude.{option_and_then};
 ghost use Rattle.nm_user.specs.Edits.{own_edited};
 ghost use Rattle.nm_user.specs.RingSlots.{slot_before_tail};
 ghost use Rattle.nm_user.specs.Acts.{head_slot_in};
+ghost use Rattle.nm_user.specs.Receives.{can_receive, own_with_arrival};
 
 use crate::checks::check_ring;
 use crate::close::empty_port;
 use crate::edit::{RingEdit, edit_rings};
 use crate::exchange::{accept_pushes, exchange_pushed, push_out, send_out};
 use crate::extras::{extra_numbered, set_heads};
-use crate::fill::{Row, fill};
+use crate::fill::{Row, fill, put};
 use crate::gather::{gather, gather_names, gather_offered};
 use crate::open::{make_port, reserve};
 use crate::port::UserPort;
-use crate::receive::{accept_backs, take_pushed};
+use crate::receive::{accept_backs, clear_behind, publish_at, take_pushed};
 use crate::reset::reset_rings;
 use crate::slot_ring::SlotRing;
 use nm_extra::relink;
 use nm_hold::Hold;
 use nm_region::Buf;
 use nm_ring::Ring;
-use nm_types::{Batch, Chain, Name, NoMemory, PortId, Side, Slot, SyncFault};
+use nm_types::{Batch, Chain, Name, NoMemory, Place, PortId, Side, Slot, SyncFault};
 use std::alloc::Global;
 use std::marker::Model;
 
@@ -411,6 +412,49 @@ impl OwnSide {
             None => unreachable!(),
         }
         accept_backs(&mut self.ports, port);
+    }
+
+    /// Whether a port's receive ring has its positions accepted, and a slot left for a frame.
+    pub fn can_receive(&self, port: PortId) -> bool
+        ensures { result ≡ can_receive port.0 self.now }
+    {
+        match ring_at(&self.ports, port, Side::Rx) {
+            Some(ring) => ring.has_free_slot(),
+            None => false,
+        }
+    }
+
+    /// Whether an index is that of a buffer of the pool which is none of the session's.
+    pub fn is_new(&self, idx: u32) -> bool
+        ensures { (result ≡ true) ↔ IsNew self.now idx }
+    {
+        if idx < 2 {
+            return false;
+        }
+        if idx as usize >= self.marks.len() {
+            return false;
+        }
+        self.hold.buffer(idx).is_none()
+    }
+
+    /// Publishes a frame of `len` bytes, the first ones of the buffer that brings it, in the next slot
+    /// of a port's receive ring. All bytes of the buffer behind the frame are cleared.
+    pub fn receive(&mut self, port: PortId, buf: Buf, len: u16)
+        requires room { can_receive port.0 self.old ≡ true }
+        requires len { len ≤ 2048 }
+        requires new { IsNew self.old buf.index }
+        ensures { self.new ≡ own_with_arrival port.0 self.old
+            (record { buffer = buf.index; bytes = take len buf.bytes }) }
+    {
+        let slot = match ring_at(&self.ports, port, Side::Rx) {
+            Some(ring) => ring.ring().tail(),
+            None => unreachable!(),
+        };
+        let mut buf = buf;
+        clear_behind(&mut buf, len);
+        let idx = buf.index();
+        put(&mut self.hold, Place::Rx { port, slot }, buf, true);
+        publish_at(&mut self.ports, port, idx, len);
     }
 
     /// What stands after a send, for a push that no check refuses: the buffers that the pushed slots

@@ -16,6 +16,7 @@ ghost use Rattle.nm_types.specs.declared.id.Side.TheVariants.{Tx, Rx};
 ghost use Rattle.nm_types.specs.Positions.{FitsRing, dist, step_on, kernel_count};
 ghost use Rattle.nm_types.specs.OwnSyncs.{accepted, slots_after_push};
 ghost use Rattle.nm_user.specs.Exchanges.{CanPushOut, ring_pushed_out};
+ghost use Rattle.nm_user.specs.Receives.{has_free_slot};
 
 use crate::slots::{BLANK, clear_announcements, drop_front, framed, opened_slots};
 use nm_region::Buf;
@@ -103,6 +104,17 @@ impl SlotRing {
     {
         match self.ring.check(self.ring.head(), self.ring.cur()) {
             Ok(()) => self.ring.head() != self.ring.tail(),
+            Err(_) => false,
+        }
+    }
+
+    /// Whether the positions fit, the head is accepted, and a slot is left for a frame that comes.
+    pub(crate) fn has_free_slot(&self) -> bool
+        ensures { result ≡ has_free_slot self.now.ring }
+    {
+        let (accepted, user) = self.ring.user_range();
+        match self.ring.check(self.ring.head(), self.ring.cur()) {
+            Ok(()) => accepted == self.ring.head() && user < self.ring.size() - 1,
             Err(_) => false,
         }
     }

@@ -1,0 +1,211 @@
+ghost use Rattle.std.specs.Prelude.{◌≡◌, ◌≤◌, ◌∷◌, [], ◌+◌, length};
+ghost use Rattle.std.specs.Vec.{vec_capacity};
+ghost use Rattle.nm_types.specs.OwnPorts.{empty_own};
+ghost use Rattle.nm_region.specs.Buffers.{indices_of};
+
+use crate::{OwnSide, SlotPlace};
+use nm_region::{Buf, Region};
+use nm_types::{Name, PortId, Side, Slot};
+use std::alloc::Global;
+use std::process::Abort;
+use std::test::Fail;
+
+const PORT: PortId = PortId(2);
+
+/// A broadcast from 02:00:00:00:00:0a.
+const FRAME: [u8; 14] = [255, 255, 255, 255, 255, 255, 2, 0, 0, 0, 0, 10, 136, 181];
+
+fn place(side: Side, at: u32) -> SlotPlace {
+    SlotPlace {
+        port: PORT,
+        side,
+        at,
+    }
+}
+
+/// Whether a slot is the user's, and names a buffer with a frame of that length.
+fn is_slot(own: &OwnSide, side: Side, at: u32, buf_idx: u32, len: u16, flags: u16) -> bool {
+    let wanted = Slot {
+        buf_idx,
+        len,
+        flags,
+        ptr: 0,
+    };
+    match own.slot(PORT, side, at) {
+        Some(slot) => *slot == wanted,
+        None => false,
+    }
+}
+
+/// The first bytes of a buffer, if the user may name it.
+fn starts_with(own: &OwnSide, idx: u32, bytes: &[u8]) -> bool {
+    match own.bytes(idx) {
+        Some(all) => all.starts_with(bytes),
+        None => false,
+    }
+}
+
+/// Publishes the first bytes of a buffer, all of whose bytes are 7 behind the broadcast.
+fn receive(rt: &impl Abort, own: &mut OwnSide, buf: Buf, len: u16) {
+    let mut buf = buf;
+    buf.write(&[7; 64]);
+    buf.write(&FRAME);
+    assert!(rt; len <= 14 && own.is_new(buf.index()));
+    assert!(rt; own.can_receive(PORT));
+    own.receive(PORT, buf, len);
+}
+
+/// Syncs the receive ring, which gives back up to three buffers.
+fn give_back(rt: &impl Abort, own: &mut OwnSide, alloc: Global, back: &mut Vec<Buf>)
+    requires room { 3 ≤ vec_capacity back.old }
+    requires empty { back.old.items ≡ [] }
+    ensures { vec_capacity back.new ≡ vec_capacity back.old }
+{
+    assert!(rt; own.ring(PORT, Side::Rx).is_some());
+    match own.check(PORT, Side::Rx) {
+        Ok(()) => match own.back(alloc, PORT) {
+            Ok(names) => {
+                assert!(rt; names.len() <= 3);
+                own.give_back(PORT, back);
+            }
+            Err(_) => panic!(rt; "out of memory"),
+        },
+        Err(fault) => panic!(rt; "{fault:?}"),
+    }
+}
+
+/// The last buffer that came back, which is that of an index.
+fn take_last(rt: &impl Abort, back: &mut Vec<Buf>, idx: u32) -> Buf
+    ensures { vec_capacity back.new ≡ vec_capacity back.old }
+{
+    match back.pop() {
+        Some(buf) => {
+            assert!(rt; buf.index() == idx);
+            buf
+        }
+        None => panic!(rt; "no buffer"),
+    }
+}
+
+/// Three frames fill a ring of four slots. Of each buffer only the frame is left.
+fn fill(rt: &impl Abort, own: &mut OwnSide, six: Buf, seven: Buf, eight: Buf) {
+    assert!(rt; six.index() == 6 && seven.index() == 7 && eight.index() == 8);
+    receive(rt, own, six, 14);
+    receive(rt, own, seven, 7);
+    receive(rt, own, eight, 0);
+    assert!(rt; !own.can_receive(PORT) && !own.is_new(6));
+    assert!(rt; is_slot(own, Side::Rx, 0, 6, 14, 0) && is_slot(own, Side::Rx, 1, 7, 7, 0));
+    assert!(rt; is_slot(own, Side::Rx, 2, 8, 0, 0) && own.slot(PORT, Side::Rx, 3).is_none());
+    assert!(rt; starts_with(own, 6, &FRAME));
+    assert!(rt; starts_with(own, 7, &[255, 255, 255, 255, 255, 255, 2, 0, 0]));
+    assert!(rt; starts_with(own, 8, &[0, 0, 0]));
+}
+
+/// Two slots that name each other's buffers go back, and the buffers come in the order of the slots.
+/// Each brings a frame again, in the slots behind.
+fn cross(rt: &impl Abort, own: &mut OwnSide, alloc: Global, back: &mut Vec<Buf>)
+    requires room { 3 ≤ vec_capacity back.old }
+    requires empty { back.old.items ≡ [] }
+    ensures { vec_capacity back.new ≡ vec_capacity back.old }
+{
+    own.swap_slots(place(Side::Rx, 0), place(Side::Rx, 1), true);
+    own.put_positions(PORT, Side::Rx, 2, 2);
+    give_back(rt, own, alloc, back);
+    assert!(rt; back.len() == 2 && own.is_new(6) && own.is_new(7));
+    assert!(rt; own.slot(PORT, Side::Rx, 0).is_none() && own.slot(PORT, Side::Rx, 1).is_none());
+    assert!(rt; is_slot(own, Side::Rx, 2, 8, 0, 0));
+    receive(rt, own, take_last(rt, back, 6), 1);
+    receive(rt, own, take_last(rt, back, 7), 2);
+    assert!(rt; is_slot(own, Side::Rx, 3, 6, 1, 0) && is_slot(own, Side::Rx, 0, 7, 2, 0));
+}
+
+/// A slot that names the buffer of a transmit slot gives that one back, and the other stands in the
+/// transmit slot's place.
+fn trade(rt: &impl Abort, own: &mut OwnSide, alloc: Global, back: &mut Vec<Buf>)
+    requires room { 3 ≤ vec_capacity back.old }
+    requires empty { back.old.items ≡ [] }
+    ensures { vec_capacity back.new ≡ vec_capacity back.old }
+{
+    own.swap_slots(place(Side::Rx, 2), place(Side::Tx, 0), true);
+    own.put_positions(PORT, Side::Rx, 3, 3);
+    give_back(rt, own, alloc, back);
+    assert!(rt; back.len() == 1 && back[0].index() == 2);
+    assert!(rt; own.bytes(2).is_none() && own.bytes(8).is_some());
+    own.reset(PORT, Side::Tx);
+    assert!(rt; is_slot(own, Side::Tx, 0, 8, 0, 0));
+}
+
+/// Closes the port and the own side: the buffers come behind the one that came back before, in the
+/// order of the places.
+fn close(rt: &impl Abort, mut own: OwnSide, back: &mut Vec<Buf>)
+    requires room { 8 ≤ vec_capacity back.old }
+{
+    assert!(rt; back.len() == 1 && own.has_port(PORT));
+    assert_eq!(rt; own.buffer_count(PORT), 6);
+    own.close_port(PORT, back);
+    assert!(rt; own.is_empty());
+    own.close();
+    for (buf, wanted) in back.iter().zip([2, 8, 3, 4, 5, 6, 7]) {
+        assert_eq!(rt; buf.index(), wanted);
+    }
+    assert_eq!(rt; back.len(), 7);
+}
+
+/// Opens a port of four slots in each ring.
+fn open(rt: &impl Abort, own: &mut OwnSide, alloc: Global, name: Name, tx: Vec<Buf>)
+    requires own { own.old ≡ empty_own 64 }
+    requires tx { indices_of tx.items ≡ 2 ∷ 3 ∷ 4 ∷ 5 ∷ [] }
+{
+    match own.add_port(alloc, PORT, name, 4, tx, Vec::new(alloc)) {
+        Ok(()) => {}
+        Err(_back) => panic!(rt; "out of memory"),
+    }
+    assert!(rt; own.slot(PORT, Side::Rx, 0).is_none());
+}
+
+/// Puts buffers into a vector, in order.
+fn put_four(bufs: &mut Vec<Buf>, one: Buf, two: Buf, three: Buf, four: Buf)
+    requires room { 4 ≤ vec_capacity bufs.old }
+    requires empty { bufs.old.items ≡ [] }
+    ensures { indices_of bufs.new.items ≡ one.index ∷ two.index ∷ three.index ∷ four.index ∷ [] }
+{
+    bufs.push_reserved(one);
+    bufs.push_reserved(two);
+    bufs.push_reserved(three);
+    bufs.push_reserved(four);
+}
+
+/// No contract says that the buffers are of one region: the test ends by the panic that it expects.
+#[test]
+#[should_panic(expected = "the buffers stay out of the region")]
+fn frames_come_and_go_back(rt: HostRuntime) {
+    let Ok((_region, mut all)) = Region::new(rt.alloc(), 7) else {
+        panic!(rt; "out of memory");
+    };
+    let Ok(name) = Name::parse("vale0:a") else {
+        panic!(rt; "no name");
+    };
+    let Ok(mut own) = OwnSide::new(rt.alloc(), 64) else {
+        panic!(rt; "out of memory");
+    };
+    let Ok(mut tx) = Vec::with_capacity(rt.alloc(), 4) else {
+        panic!(rt; "out of memory");
+    };
+    let Ok(mut back) = Vec::with_capacity(rt.alloc(), 8) else {
+        panic!(rt; "out of memory");
+    };
+    assert_eq!(rt; all.len(), 7);
+    let (two, three, four) = (all.remove(0), all.remove(0), all.remove(0));
+    let (five, six) = (all.remove(0), all.remove(0));
+    let (seven, eight) = (all.remove(0), all.remove(0));
+    assert!(rt; two.index() == 2 && three.index() == 3 && four.index() == 4);
+    assert!(rt; five.index() == 5);
+    put_four(&mut tx, two, three, four, five);
+    open(&rt, &mut own, rt.alloc(), name, tx);
+    fill(&rt, &mut own, six, seven, eight);
+    cross(&rt, &mut own, rt.alloc(), &mut back);
+    assert!(rt; back.is_empty());
+    trade(&rt, &mut own, rt.alloc(), &mut back);
+    close(&rt, own, &mut back);
+    panic!(rt; "the buffers stay out of the region");
+}
