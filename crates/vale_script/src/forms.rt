@@ -135,7 +135,11 @@ pub(crate) fn form_of(verb: Verb) -> Form
         Verb::Pool => (b"pool", &[POOL], 1),
         Verb::User => (b"user", &[U], 1),
         Verb::Open => (b"open", &[U, P, ANY, ANY, ANY], 4),
-        Verb::Put => (b"put", &[U, P, COUNT, ADDRESS, ADDRESS, LENGTH, Place::Byte], 7),
+        Verb::Put => (
+            b"put",
+            &[U, P, COUNT, ADDRESS, ADDRESS, LENGTH, Place::Byte],
+            7,
+        ),
         Verb::Hex => (b"hex", &[U, P, Place::Bytes], 3),
         Verb::Play => (b"play", &[U, P, Place::File, BATCH], 4),
         Verb::Tx => (b"tx", &[U, P], 2),
