@@ -35,3 +35,4 @@ pub mod SendMoves
 pub mod PutLists
 pub mod PutMoves
 pub mod Openable
+pub mod Lives

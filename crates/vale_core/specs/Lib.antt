@@ -14,3 +14,4 @@ pub mod Wanting
 pub mod Sending
 pub mod Putting
 pub mod PutFaults
+pub mod Lives
