@@ -1,0 +1,119 @@
+-- The lease that a grant gives is the last of its session's own.
+use Rattle.std.proofs.Common.{ℕ, zero, suc, ◌+◌, ◌-◌, ◌<◌, ◌≤◌, ◌≡◌, Bool, true, false, cond, not, ◌&&◌, ◌==◌, List, [], ◌∷◌, ◌++◌, length, filter, find, flat_map, Option, Some, None, refl, sym, ◌∙◌, ap, subst, arith, slice_get, take, length-append}
+use Rattle.std.specs.List.{AllByRecursion as Each, zip}
+use Rattle.std.specs.Prelude.{option_map}
+use Rattle.std.specs.Option.{option_or, option_map_or}
+use Rattle.std.proofs.lemmas.Bool.{and_parts, eqb-true, eq-eqb}
+use Rattle.std.proofs.lemmas.List.Folds.{find-append}
+use Rattle.nm_types.specs.declared.id.PortId.{PortId}
+use Rattle.nm_types.specs.Frames.{Frame, size_of_frames}
+use Rattle.nm_region.specs.Buffers.{indices_of}
+use Rattle.vale_entry.specs.declared.entry.Ask.TheVariants.{Grant}
+use Rattle.vale_entry.specs.declared.entry.Entry.{Entry}
+use Rattle.vale_entry.specs.World.{Port, Lot, Offer, open_port, is_open_at}
+use Rattle.vale_entry.specs.Grant.{first_offer, given_at, granted_frames}
+use Rattle.vale_entry.specs.Holdings.{PortBuffers, PortAgrees, PortsAgree, first_idle}
+use Rattle.vale_entry.specs.Laws.{HasLotsUpTo, IsGrantedBy}
+use Rattle.vale_entry.specs.Legal.{Standing, standing_of, session_and_reply, is_met, IsLegal}
+use Rattle.vale_entry.proofs.Each.{each-append, each-weaker}
+use Rattle.vale_entry.proofs.Removals.{each-filter}
+use Rattle.vale_entry.proofs.ListLaws.{place-of}
+use Rattle.vale_entry.proofs.Places.{first_idle-place}
+use Rattle.vale_entry.proofs.HistoryPlaces.{helds-rise}
+use Rattle.vale_entry.proofs.HistoryLaws.{history-stands}
+use Rattle.vale_entry.proofs.Worlds.{count-world_of}
+use Rattle.vale_own.specs.Own.{Own, HeldLot, own_of, leases_at, is_lease_of}
+use Rattle.vale_own.specs.OwnEntries.{own_granted, own_after_entry, lease_of}
+use Rattle.vale_own.proofs.OwnEntry.{own-entries}
+use Rattle.vale_own.proofs.Sides.{each-zip}
+use Rattle.vale_line.specs.Leased.{Leased}
+use Rattle.vale_port.specs.Ports.{sizes_of}
+use Rattle.vale_port.specs.Seat.{given_frames}
+use Rattle.vale_core.specs.Offering.{OffersState, OffersStand}
+use Rattle.vale_core.specs.Recorded.{Recorded, standing, after_ask, entry_of}
+use Rattle.vale_fabric.specs.Leases.{IsLeaseBy, IsHeldBy, WasGranted, is_grant_to, is_held_as}
+use Rattle.vale_fabric.proofs.Making.{Steps, stored}
+use Rattle.vale_fabric.proofs.OffersHeld.{Next, next-of, granted-at, granter}
+use Rattle.vale_fabric.proofs.Placed.{get-last}
+
+abbrev Below : ℕ → HeldLot → Type 0
+Below count held = held.0.number ≤ count
+
+-- no lease bears a number that is still to come
+none-yet : (n count : ℕ) (held : List HeldLot) → count < n → Each (Below count) held → find (is_held_as n) held ≡ None
+none-yet n count [] up all = refl
+none-yet n count (z ∷ zs) up all = by (is_held_as n z) refl (none-yet n count zs up all.1)
+  where
+    by : (b : Bool) → is_held_as n z ≡ b → find (is_held_as n) zs ≡ None → cond b (Some z) (find (is_held_as n) zs) ≡ None
+    by true t rest = let same = eqb-true z.0.number n (and_parts (z.0.number == n) (not z.0.is_done) t).0 in let low = all.0 in absurd (omega (arith, same, low, up))
+    by false t rest = rest
+
+leases-below : (session count : ℕ) (ports : List Port) (helds : List PortBuffers) → Each (HasLotsUpTo count) ports → Each (Below count) (flat_map (leases_at session) (zip ports helds))
+leases-below session count [] helds all = tt
+leases-below session count (p ∷ ps) [] all = tt
+leases-below session count (p ∷ ps) (h ∷ hs) all =
+    each-append (Below count) (leases_at session (p, h)) (flat_map (leases_at session) (zip ps hs))
+    (each-filter (Below count) (is_lease_of session) (zip p.line h.lots) (each-zip (IsGrantedBy count) p.line h.lots all.0))
+    (leases-below session count ps hs all.1)
+
+agrees-at : (ports : List Port) (helds : List PortBuffers) (k : ℕ) (p : Port) (h : PortBuffers) → PortsAgree ports helds → slice_get ports k ≡ Some p → slice_get helds k ≡ Some h → PortAgrees p h
+agrees-at [] helds k p h a here held = absurd cc
+agrees-at (q ∷ qs) [] k p h a here held = absurd a
+agrees-at (q ∷ qs) (i ∷ is) zero p h a here held = let one : q ≡ p = cc in let two : i ≡ h = cc in subst (PortAgrees p) two (subst (λ (x : Port). PortAgrees x i) one a.0)
+agrees-at (q ∷ qs) (i ∷ is) (suc k) p h a here held = agrees-at qs is k p h a.1 here held
+
+-- the lease of some frames, behind others
+last-found : (n session : ℕ) (before : List HeldLot) (frames : List Frame) (buffers : List ℕ) → find (is_held_as n) before ≡ None → 1 ≤ length frames
+    → find (is_held_as n) (before ++ lease_of n session frames buffers) ≡ Some (record { number = n; session = session; frames = frames; is_done = false }, buffers)
+last-found n session before [] buffers none some = absurd (omega (arith, some))
+last-found n session before (f ∷ fs) buffers none some =
+    let lot : Lot = record { number = n; session = session; frames = f ∷ fs; is_done = false } in
+    find-append (is_held_as n) before ((lot, buffers) ∷ [])
+    ∙ (ap (λ (o : Option HeldLot). option_or o (find (is_held_as n) ((lot, buffers) ∷ []))) none
+    ∙ ap (λ (b : Bool). cond (b && true) (Some (lot, buffers)) None) (eq-eqb n n refl))
+
+pub given-held : {b after : Recorded} (o : OffersState) (to : PortId) (steps : Steps b (Grant o.entry to)) (lease : Leased) → IsLegal b.pool b.entries → after ≡ after_ask b (Grant o.entry to)
+    → 1 ≤ length o.wants → OffersStand (standing b) o → IsLeaseBy b o.entry (length after.entries) lease → IsHeldBy after o.session lease
+given-held {b} {after} o to steps lease legal grown some st gives =
+    let s = standing b in
+    let n : Next s.world o = next-of s o some st in
+    let at = granted-at s to.0 (first_offer s.world o.entry) steps.makes steps.is in
+    let one : at.0 ≡ n.offer = let e = sym at.1 ∙ n.first in cc in
+    let whose : steps.makes.session ≡ o.session = granter s o to steps.makes some st steps.is in
+    let e : Entry = entry_of (Grant o.entry to) steps.makes in
+    let l = gives n.offer n.first in
+    let k = history-stands b.pool b.entries legal in
+    let count = count-world_of b.pool b.entries in
+    let more : after.entries ≡ b.entries ++ e ∷ [] = ap (λ (r : Recorded). r.entries) (stored steps grown) in
+    let long : length after.entries ≡ s.world.entry_count + 1 = let long = ap length more ∙ length-append b.entries (e ∷ []) in omega (arith, long, count) in
+    let number : lease.id ≡ s.world.entry_count + 1 = l.is.id ∙ long in
+    let place = place-of (is_open_at n.offer.to) s.world.ports l.seat.port l.is_open in
+    let port : l.seat.port.id ≡ n.offer.to = eqb-true l.seat.port.id n.offer.to (and_parts (l.seat.port.id == n.offer.to) (not l.seat.port.shutting) place.passes).0 in
+    let frames = given_frames n.offer l.seat in
+    let given : granted_frames s.world n.offer ≡ frames = ap (λ (found : Option Port). given_at found n.offer.frames) l.is_open in
+    let agrees = agrees-at s.world.ports s.holdings.ports l.at.place l.seat.port l.seat.held k.held.ports_agree l.at.port_here l.at.held_here in
+    let idle : first_idle n.offer.to (size_of_frames frames) s.holdings.ports ≡ take (size_of_frames frames) l.seat.held.idle =
+    ap (λ (id : ℕ). first_idle id (size_of_frames frames) s.holdings.ports) (sym (agrees.id ∙ port))
+    ∙ first_idle-place (size_of_frames frames) s.holdings.ports s.world.entry_count l.at.place l.seat.held (helds-rise b.pool b.entries legal) l.at.held_here in
+    let own = own_of o.session s in
+    let leases : (own_of o.session (standing after)).leases ≡ own.leases ++ lease_of (s.world.entry_count + 1) n.offer.session frames (take (size_of_frames frames) l.seat.held.idle) =
+    ap (λ (r : Recorded). (own_of o.session (standing r)).leases) (stored steps grown)
+    ∙ (ap (λ (own : Own). own.leases) (subst (λ (session : ℕ). own_of session (standing_of b.pool (b.entries ++ e ∷ [])) ≡ own_after_entry s (Grant o.entry to) e.reply (own_of session s)) whose
+    (own-entries b.pool b.entries e legal (ap (option_map session_and_reply) steps.is)))
+    ∙ (ap (λ (found : Option Offer). (option_map_or (own_granted s own) found own).leases) n.first
+    ∙ (ap (λ (fs : List Frame). own.leases ++ lease_of (s.world.entry_count + 1) n.offer.session fs (first_idle n.offer.to (size_of_frames fs) s.holdings.ports)) given
+    ∙ ap (λ (bufs : List ℕ). own.leases ++ lease_of (s.world.entry_count + 1) n.offer.session frames bufs) idle))) in
+    let lot : Lot = record { number = s.world.entry_count + 1; session = n.offer.session; frames = frames; is_done = false } in
+    let up : s.world.entry_count < s.world.entry_count + 1 = omega arith in
+    let none = none-yet (s.world.entry_count + 1) s.world.entry_count own.leases up (leases-below o.session s.world.entry_count s.world.ports s.holdings.ports k.numbered.lots_within) in
+    let found = last-found (s.world.entry_count + 1) n.offer.session own.leases frames (take (size_of_frames frames) l.seat.held.idle) none l.is.some in
+    let place_of : lease.id - 1 ≡ length b.entries = omega (arith, number, count) in
+    record {
+      held = (lot, take (size_of_frames frames) l.seat.held.idle);
+      own = ap (λ (m : ℕ). find (is_held_as m) (own_of o.session (standing after)).leases) number ∙ (ap (find (is_held_as (s.world.entry_count + 1))) leases ∙ found);
+      granted = ap (is_met (is_grant_to lease.to)) (ap (λ (h : List Entry). slice_get h (lease.id - 1)) more ∙ (ap (slice_get (b.entries ++ e ∷ [])) place_of ∙ get-last b.entries e))
+          ∙ eq-eqb to.0 lease.to (sym at.3 ∙ (ap (λ (x : Offer). x.to) one ∙ (sym port ∙ sym l.is.to)));
+      sizes = l.is.sizes;
+      buffers = l.is.buffers;
+      none = l.is.filled;
+    }

@@ -1,0 +1,11 @@
+pub mod Others
+pub mod Making
+pub mod Refusals
+pub mod OffersHeld
+pub mod OwnNow
+pub mod Speaking
+pub mod PutsMade
+pub mod Placed
+pub mod FilledNow
+pub mod LeasesHeld
+pub mod Comers

@@ -1,0 +1,68 @@
+-- The offers that a call starts are of the session whose entry it made, for which its pass speaks.
+use Rattle.std.proofs.Common.{ℕ, ◌+◌, ◌≤◌, ◌≡◌, Bool, true, false, cond, ◌==◌, List, [], ◌∷◌, ◌++◌, length, filter, Option, Some, None, refl, sym, ◌∙◌, ap, subst, arith, length-append}
+use Rattle.std.specs.List.{AllByRecursion as Each}
+use Rattle.std.proofs.lemmas.Bool.{eqb-true, eq-eqb}
+use Rattle.nm_turn.specs.Numbered.{Stands}
+use Rattle.nm_turn.proofs.Numbered.{Stands-left}
+use Rattle.vale_entry.specs.declared.entry.Ask.{Ask}
+use Rattle.vale_entry.specs.declared.entry.Entry.{Entry}
+use Rattle.vale_entry.specs.World.{Offer}
+use Rattle.vale_entry.specs.Offers.{is_offer_of}
+use Rattle.vale_entry.specs.Grant.{first_offer}
+use Rattle.vale_entry.specs.Laws.{IsFrom}
+use Rattle.vale_entry.specs.Legal.{Outcome, made_at, standing_of, world_of, IsLegal}
+use Rattle.vale_entry.proofs.Each.{each-find}
+use Rattle.vale_entry.proofs.Removals.{each-filter}
+use Rattle.vale_entry.proofs.ListLaws.{place-of}
+use Rattle.vale_entry.proofs.Numbered.{world-numbered}
+use Rattle.vale_entry.proofs.Worlds.{count-world_of}
+use Rattle.vale_own.specs.Own.{Own, own_of, is_offer_by}
+use Rattle.vale_own.specs.Asker.{is_enter}
+use Rattle.vale_own.proofs.OwnKept.{own-entry, legal-split}
+use Rattle.vale_own.proofs.Reading.{offers-left}
+use Rattle.vale_core.specs.Offering.{OffersState, OffersStand}
+use Rattle.vale_core.specs.Recorded.{Recorded, standing, after_ask, entry_of}
+use Rattle.vale_fabric.specs.declared.kept.Fixed.{Fixed}
+use Rattle.vale_fabric.specs.Fabrics.{Knowing, MayAsk}
+use Rattle.vale_fabric.specs.Steps.{IsTaken}
+use Rattle.vale_fabric.proofs.Making.{Steps, Made, stored, whose-now}
+use Rattle.vale_fabric.proofs.OffersHeld.{Next, next-of, filtered}
+
+-- offers of the last entry are of its session
+last-by : (pool : ℕ) (h : List Entry) (e : Entry) (o : OffersState) → IsLegal pool (h ++ e ∷ []) → OffersStand (standing_of pool (h ++ e ∷ [])) o → o.entry ≡ length h + 1
+    → 1 ≤ length o.wants → o.session ≡ e.session.0
+last-by pool h e o legal st last some = by (e.session.0 == o.session) refl
+  where
+    by : (b : Bool) → (e.session.0 == o.session) ≡ b → o.session ≡ e.session.0
+    by true t = sym (eqb-true e.session.0 o.session t)
+    by false t =
+        let parts = legal-split pool h (e ∷ []) legal in
+        let n : Next (world_of pool (h ++ e ∷ [])) o = next-of (standing_of pool (h ++ e ∷ [])) o some st in
+        let of = place-of (is_offer_of o.entry) (world_of pool (h ++ e ∷ [])).offers n.offer n.first in
+        let other = own-entry pool h e o.session parts.0 parts.1.0 (λ same. absurd (let equal = eq-eqb e.session.0 o.session same in cc)) in
+        let all : filter (is_offer_of o.entry) (world_of pool (h ++ e ∷ [])).offers ≡ filter (is_offer_by o.session) (world_of pool h).offers =
+        offers-left pool (h ++ e ∷ []) o.entry n.offer legal n.first
+        ∙ (ap (λ (session : ℕ). (own_of session (standing_of pool (h ++ e ∷ []))).offers) n.by ∙ ap (λ (own : Own). own.offers) other) in
+        let old = each-filter (IsFrom (world_of pool h).entry_count) (is_offer_by o.session) (world_of pool h).offers (world-numbered pool h).offers_within in
+        let each = filtered (IsFrom (world_of pool h).entry_count) (is_offer_of o.entry) (world_of pool (h ++ e ∷ [])).offers (subst (Each (IsFrom (world_of pool h).entry_count)) (sym all) old) in
+        let low = each-find (λ (z : Offer). is_offer_of o.entry z ≡ true → IsFrom (world_of pool h).entry_count z) (is_offer_of o.entry) (world_of pool (h ++ e ∷ [])).offers n.offer each n.first of.passes in
+        let origin = eqb-true n.offer.origin o.entry of.passes in
+        let count = count-world_of pool h in
+        absurd (omega (arith, low, origin, count, last))
+
+pub speaks-on : {fixed : Fixed} {v entered w : Knowing} {b after : Recorded} {ask : Ask} (o : OffersState) → MayAsk fixed v ask → IsTaken fixed v entered b → is_enter ask ≡ false → (steps : Steps b ask)
+    → after ≡ after_ask b ask → IsLegal after.pool after.entries → Made fixed v w b after ask → OffersStand (standing after) o → o.entry ≡ length after.entries → 1 ≤ length o.wants
+    → Stands o.session w.mine
+speaks-on {fixed} {v} {entered} {w} {b} {after} {ask} o may taken other steps grown legal m st last some =
+    let e = entry_of ask steps.makes in
+    let is = stored steps grown in
+    let long : length after.entries ≡ length b.entries + 1 = ap (λ (r : Recorded). length r.entries) is ∙ length-append b.entries (e ∷ []) in
+    let whose : o.session ≡ may.session =
+    last-by b.pool b.entries e o (subst (λ (r : Recorded). IsLegal r.pool r.entries) is legal) (subst (λ (r : Recorded). OffersStand (standing r) o) is st) (last ∙ long) some
+    ∙ whose-now may taken other steps in
+    subst (Stands o.session) (sym m.makes.told.mine) (Stands-left o.session v.mine _ (subst (λ (n : ℕ). Stands n v.mine) (sym whose) may.speaks))
+
+-- what an ask looks for is there if it makes an entry
+pub sought : {X : Type 0} (test : X → Bool) (make : X → Outcome) (found : Option X) (outcome : Outcome) → made_at test make found ≡ Some outcome → (x : X) × (found ≡ Some x)
+sought test make None outcome e = absurd cc
+sought test make (Some x) outcome e = (x, refl)

@@ -1,0 +1,65 @@
+use Rattle.std.proofs.Common.{ℕ, ◌≡◌, ap, sym, subst, length, drop}
+use Rattle.std.specs.Prelude.{IfSome}
+use Rattle.vale_port.proofs.Calls.{IfSome-weaker}
+use Rattle.vale_entry.specs.declared.entry.Ask.TheVariants.{Grant}
+use Rattle.vale_entry.specs.declared.entry.Reply.TheVariants.{Shared}
+use Rattle.vale_core.specs.Recorded.{Recorded, standing}
+use Rattle.vale_core.specs.Offering.{OffersState, OffersStand}
+use Rattle.vale_fabric.specs.Fabrics.{seen_by}
+use Rattle.vale_fabric.specs.Leases.{IsHeldBy, IsLeaseBy}
+use Rattle.vale_fabric.proofs.Making.{Steps, adds-by, steps-said, made, answered}
+use Rattle.vale_fabric.proofs.OffersHeld.{granter}
+use Rattle.vale_fabric.proofs.LeasesHeld.{given-held}
+use Rattle.vale_fabric.proofs.OwnNow.{stand-now, stand-after}
+use Rattle.vale_fabric.proofs.fabric.Fabric.grant.Goals as goal
+
+pub grant-granted-requires-clause-stand : goal.grant-granted-requires-clause-stand
+grant-granted-requires-clause-stand g c = stand-now c.args.offers.now c.take-shared.ensures.taken c.requires.speaks c.requires.next c.requires.stand
+
+pub give-requires-clause-adds : goal.give-requires-clause-adds
+give-requires-clause-adds g c =
+    let call = c.grant-granted.ensures in
+    let said = c.grant-granted.result in
+    let steps : Steps c.take-shared.result.book (Grant c.args.offers.now.entry said.to) = steps-said (Shared said.given said.full said.gone) call.said in
+    let st = stand-now c.args.offers.now c.take-shared.ensures.taken c.requires.speaks c.requires.next c.requires.stand in
+    adds-by c.take-shared.ensures.taken steps (granter (standing c.take-shared.result.book) c.args.offers.now said.to steps.makes c.requires.next st steps.is) c.requires.speaks call.made
+
+pub returns-clause-made : goal.returns-clause-made
+returns-clause-made g c =
+    let call = c.grant-granted.ensures in
+    let said = c.grant-granted.result in
+    let steps : Steps c.take-shared.result.book (Grant c.args.offers.now.entry said.to) = steps-said (Shared said.given said.full said.gone) call.said in
+    answered (made c.take-shared.ensures.taken steps call.made call.room c.give.ensures.back) call.said
+
+pub returns-clause-stand : goal.returns-clause-stand
+returns-clause-stand g c =
+    let call = c.grant-granted.ensures in
+    let said = c.grant-granted.result in
+    let steps : Steps c.take-shared.result.book (Grant c.args.offers.now.entry said.to) = steps-said (Shared said.given said.full said.gone) call.said in
+    let is = made c.take-shared.ensures.taken steps call.made call.room c.give.ensures.back in
+    let st = stand-now c.args.offers.now c.take-shared.ensures.taken c.requires.speaks c.requires.next c.requires.stand in
+    subst (OffersStand (standing (seen_by c.args.self.now c.give.new.pass))) (sym call.offers)
+    (subst (λ (b : Recorded). OffersStand (standing b) (record c.args.offers.now { wants = drop 1 c.args.offers.now.wants })) (sym is.now)
+    (stand-after c.args.offers.now said.to steps call.made c.requires.next st))
+
+pub returns-clause-lease : goal.returns-clause-lease
+returns-clause-lease g c =
+    let call = c.grant-granted.ensures in
+    let said = c.grant-granted.result in
+    let steps : Steps c.take-shared.result.book (Grant c.args.offers.now.entry said.to) = steps-said (Shared said.given said.full said.gone) call.said in
+    let is = made c.take-shared.ensures.taken steps call.made call.room c.give.ensures.back in
+    subst (λ (b : Recorded). IfSome said.lease (IsLeaseBy b c.args.offers.now.entry (length (seen_by c.args.self.now c.give.new.pass).entries))) (sym is.was)
+    (subst (λ (n : ℕ). IfSome said.lease (IsLeaseBy c.take-shared.result.book c.args.offers.now.entry n)) (sym (ap (λ (b : Recorded). length b.entries) is.now)) call.lease)
+
+pub returns-clause-held : goal.returns-clause-held
+returns-clause-held g c =
+    let call = c.grant-granted.ensures in
+    let said = c.grant-granted.result in
+    let b = c.take-shared.result.book in
+    let o = c.args.offers.now in
+    let steps : Steps b (Grant o.entry said.to) = steps-said (Shared said.given said.full said.gone) call.said in
+    let is = made c.take-shared.ensures.taken steps call.made call.room c.give.ensures.back in
+    let st = stand-now o c.take-shared.ensures.taken c.requires.speaks c.requires.next c.requires.stand in
+    IfSome-weaker {P = IsLeaseBy b o.entry (length c.grant-granted.new.self.entries)} {Q = IsHeldBy (seen_by c.args.self.now c.give.new.pass) o.session} said.lease
+    (λ lease gives. subst (λ (r : Recorded). IsHeldBy r o.session lease) (sym is.now) (given-held o said.to steps lease c.take-shared.ensures.taken.legal call.made c.requires.next st gives))
+    call.lease

@@ -1,0 +1,45 @@
+use Rattle.std.proofs.Common.{refl, sym, subst}
+use Rattle.vale_core.specs.Reading.{IsGiven, IsOffered}
+use Rattle.nm_region.specs.Buffers.{indices_of}
+use Rattle.vale_entry.specs.World.{open_port}
+use Rattle.vale_entry.specs.Legal.{can_get, sync_step}
+use Rattle.vale_core.specs.Recorded.{Recorded, standing}
+use Rattle.vale_fabric.specs.Fabrics.{before, seen_by}
+use Rattle.vale_fabric.proofs.Making.{enabled-now, adds-now, step-now, made, refused}
+use Rattle.vale_fabric.proofs.Speaking.{speaks-on, sought}
+use Rattle.vale_fabric.proofs.fabric.Fabric.pipe_get.Goals as goal
+
+pub pipe_get-requires-clause-enabled : goal.pipe_get-requires-clause-enabled
+pipe_get-requires-clause-enabled g c = enabled-now c.requires.may c.take-shared.ensures.taken
+
+pub give-requires-clause-adds : goal.give-requires-clause-adds
+give-requires-clause-adds g c =
+    adds-now c.requires.may c.take-shared.ensures.taken refl (step-now c.requires.may c.take-shared.ensures.taken tt) c.in-Ok.ensures.made
+
+pub returns-in-Ok-clause-made : goal.returns-in-Ok-clause-made
+returns-in-Ok-clause-made g c =
+    (made c.take-shared.ensures.taken (step-now c.requires.may c.take-shared.ensures.taken tt) c.in-Ok.ensures.made c.in-Ok.ensures.room c.give.ensures.back).makes
+
+pub returns-in-Ok-clause-got : goal.returns-in-Ok-clause-got
+returns-in-Ok-clause-got g c =
+    let is = made c.take-shared.ensures.taken (step-now c.requires.may c.take-shared.ensures.taken tt) c.in-Ok.ensures.made c.in-Ok.ensures.room c.give.ensures.back in
+    subst (λ (b : Recorded). IsGiven b c.args.port c.in-Ok.synced.got.items) (sym is.was) c.in-Ok.ensures.got
+
+pub returns-in-Ok-clause-offers : goal.returns-in-Ok-clause-offers
+returns-in-Ok-clause-offers g c =
+    let is = made c.take-shared.ensures.taken (step-now c.requires.may c.take-shared.ensures.taken tt) c.in-Ok.ensures.made c.in-Ok.ensures.room c.give.ensures.back in
+    subst (λ (new : Recorded). IsOffered (before c.args.self.now c.give.new.pass) new c.args.port c.in-Ok.synced.offers) (sym is.now)
+    (subst (λ (old : Recorded). IsOffered old c.pipe_get.new.self c.args.port c.in-Ok.synced.offers) (sym is.was) c.in-Ok.ensures.offers)
+
+pub returns-in-Err-clause-full : goal.returns-in-Err-clause-full
+returns-in-Err-clause-full g c = refused c.take-shared.ensures.taken c.in-Err.ensures.err c.in-Err.ensures.full c.put_back.ensures.back
+
+pub returns-in-Ok-clause-speaks : goal.returns-in-Ok-clause-speaks
+returns-in-Ok-clause-speaks g c some =
+    let s = standing c.take-shared.result.book in
+    let back = indices_of c.args.back.items in
+    let steps = step-now c.requires.may c.take-shared.ensures.taken tt in
+    let m = made c.take-shared.ensures.taken steps c.in-Ok.ensures.made c.in-Ok.ensures.room c.give.ensures.back in
+    let port = sought (can_get s back) (sync_step s back) (open_port s.world.ports c.args.port.0) steps.makes steps.is in
+    let given = c.in-Ok.ensures.offers port.0 port.1 in
+    speaks-on c.in-Ok.synced.offers c.requires.may c.take-shared.ensures.taken refl steps c.in-Ok.ensures.made c.give.ensures.back.legal m given.stand given.entry some

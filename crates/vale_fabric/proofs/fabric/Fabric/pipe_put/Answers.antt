@@ -1,0 +1,67 @@
+use Rattle.std.proofs.Common.{◌≡◌, sym, ◌∙◌, refl, subst}
+use Rattle.vale_entry.specs.declared.entry.Ask.TheVariants.{Put}
+use Rattle.vale_core.specs.Putting.{items_of, IsPut}
+use Rattle.vale_core.specs.Recorded.{Recorded, after_ask, HasRoom}
+use Rattle.vale_fabric.specs.Fabrics.{fixed_in, knowing, before, Makes}
+use Rattle.vale_fabric.proofs.Making.{enabled-now, adds-now, step-now, made}
+use Rattle.vale_fabric.proofs.PutsMade.{put-made, made-put, unmade-put, put-not, puts-gone, puts-none}
+use Rattle.vale_fabric.proofs.Speaking.{speaks-on}
+use Rattle.vale_fabric.proofs.fabric.Fabric.pipe_put.Goals as goal
+
+pub pipe_put-requires-clause-enabled : goal.pipe_put-requires-clause-enabled
+pipe_put-requires-clause-enabled g c = enabled-now c.requires.may c.take-shared.ensures.taken
+
+pub give-requires-clause-adds : goal.give-requires-clause-adds
+give-requires-clause-adds g c =
+    adds-now c.requires.may c.take-shared.ensures.taken refl (step-now c.requires.may c.take-shared.ensures.taken tt) c.in-Ok.ensures.made
+
+pub returns-in-Ok-clause-made : goal.returns-in-Ok-clause-made
+returns-in-Ok-clause-made g c =
+    (made c.take-shared.ensures.taken (step-now c.requires.may c.take-shared.ensures.taken tt) c.in-Ok.ensures.made c.in-Ok.ensures.room c.give.ensures.back).makes
+
+pub returns-in-Ok-clause-put : goal.returns-in-Ok-clause-put
+returns-in-Ok-clause-put g c =
+    let is = made c.take-shared.ensures.taken (step-now c.requires.may c.take-shared.ensures.taken tt) c.in-Ok.ensures.made c.in-Ok.ensures.room c.give.ensures.back in
+    subst (λ (new : Recorded). IsPut (before c.args.self.now c.give.new.pass) new c.args.port c.args.pending.now.items c.in-Ok.put) (sym is.now)
+    (subst (λ (old : Recorded). IsPut old c.pipe_put.new.self c.args.port c.args.pending.now.items c.in-Ok.put) (sym is.was) c.in-Ok.ensures.put)
+
+pub give-requires-then-is_put_said-clause-adds : goal.give-requires-then-is_put_said-clause-adds
+give-requires-then-is_put_said-clause-adds g c =
+    let said = sym c.if-is_put_said.true ∙ c.is_put_said.ensures in
+    let ask = Put c.args.port (items_of c.args.pending.now.items) in
+    adds-now c.requires.may c.take-shared.ensures.taken refl (step-now c.requires.may c.take-shared.ensures.taken tt)
+    (put-made c.in-Err.fault (c.pipe_put.new.self ≡ after_ask c.take-shared.result.book ask) said c.in-Err.ensures.made)
+
+pub returns-then-is_put_said-clause-made : goal.returns-then-is_put_said-clause-made
+returns-then-is_put_said-clause-made g c =
+    let said = sym c.if-is_put_said.true ∙ c.is_put_said.ensures in
+    let ask = Put c.args.port (items_of c.args.pending.now.items) in
+    let grown = put-made c.in-Err.fault (c.pipe_put.new.self ≡ after_ask c.take-shared.result.book ask) said c.in-Err.ensures.made in
+    let room = put-made c.in-Err.fault (HasRoom c.take-shared.result.book ask) said c.in-Err.ensures.room in
+    made-put c.in-Err.fault (Makes (fixed_in c.args.self.now) (knowing c.args.pass.now) (knowing c.give-then-is_put_said.new.pass) ask) said
+    (made c.take-shared.ensures.taken (step-now c.requires.may c.take-shared.ensures.taken tt) grown room c.give-then-is_put_said.ensures.back).makes
+
+pub returns-then-is_put_said-clause-refused : goal.returns-then-is_put_said-clause-refused
+returns-then-is_put_said-clause-refused g c =
+    let said = sym c.if-is_put_said.true ∙ c.is_put_said.ensures in
+    let ask = Put c.args.port (items_of c.args.pending.now.items) in
+    let grown = put-made c.in-Err.fault (c.pipe_put.new.self ≡ after_ask c.take-shared.result.book ask) said c.in-Err.ensures.made in
+    let room = put-made c.in-Err.fault (HasRoom c.take-shared.result.book ask) said c.in-Err.ensures.room in
+    let is = made c.take-shared.ensures.taken (step-now c.requires.may c.take-shared.ensures.taken tt) grown room c.give-then-is_put_said.ensures.back in
+    puts-gone (fixed_in c.args.self.now) (knowing c.args.pass.now) (knowing c.give-then-is_put_said.new.pass) c.take-shared.result.book c.pipe_put.new.self c.args.port
+    (items_of c.args.pending.now.items) c.in-Err.fault said is c.in-Err.ensures.refused
+
+pub returns-else-is_put_said-clause-refused : goal.returns-else-is_put_said-clause-refused
+returns-else-is_put_said-clause-refused g c =
+    let said = sym c.if-is_put_said.false ∙ c.is_put_said.ensures in
+    let steps = step-now c.requires.may c.take-shared.ensures.taken tt in
+    let same = put-not c.in-Err.fault (c.pipe_put.new.self ≡ c.take-shared.result.book) said c.in-Err.ensures.err in
+    puts-none (fixed_in c.args.self.now) (knowing c.args.pass.now) (knowing c.take-shared.new.pass) (knowing c.put_back.new.pass) c.take-shared.result.book c.pipe_put.new.self c.args.port
+    (items_of c.args.pending.now.items) c.in-Err.fault said c.take-shared.ensures.taken steps same c.in-Err.ensures.refused c.put_back.ensures.back
+
+pub returns-in-Ok-clause-speaks : goal.returns-in-Ok-clause-speaks
+returns-in-Ok-clause-speaks g c some =
+    let steps = step-now c.requires.may c.take-shared.ensures.taken tt in
+    let m = made c.take-shared.ensures.taken steps c.in-Ok.ensures.made c.in-Ok.ensures.room c.give.ensures.back in
+    let given = c.in-Ok.ensures.put.is.offers in
+    speaks-on c.in-Ok.put.offers c.requires.may c.take-shared.ensures.taken refl steps c.in-Ok.ensures.made c.give.ensures.back.legal m given.stand given.entry some

@@ -1,0 +1,32 @@
+use Rattle.std.proofs.Common.{refl, sym, subst}
+use Rattle.vale_core.specs.Recorded.{Recorded}
+use Rattle.vale_core.specs.Sending.{IsSent}
+use Rattle.vale_fabric.proofs.Making.{enabled-now, adds-now, step-now, made, answered, refused}
+use Rattle.vale_fabric.proofs.Speaking.{speaks-on}
+use Rattle.vale_fabric.proofs.fabric.Fabric.send.Goals as goal
+
+pub send-requires : goal.send-requires
+send-requires g c = enabled-now c.requires.may c.take-shared.ensures.taken
+
+pub give-requires-clause-adds : goal.give-requires-clause-adds
+give-requires-clause-adds g c =
+    adds-now c.requires.may c.take-shared.ensures.taken refl (step-now c.requires.may c.take-shared.ensures.taken tt) c.in-Ok.ensures.made
+
+pub returns-in-Ok-clause-made : goal.returns-in-Ok-clause-made
+returns-in-Ok-clause-made g c =
+    answered (made c.take-shared.ensures.taken (step-now c.requires.may c.take-shared.ensures.taken tt) c.in-Ok.ensures.made c.in-Ok.ensures.room c.give.ensures.back) c.in-Ok.ensures.said
+
+pub returns-in-Ok-clause-offers : goal.returns-in-Ok-clause-offers
+returns-in-Ok-clause-offers g c =
+    let is = made c.take-shared.ensures.taken (step-now c.requires.may c.take-shared.ensures.taken tt) c.in-Ok.ensures.made c.in-Ok.ensures.room c.give.ensures.back in
+    subst (λ (new : Recorded). IsSent new c.args.batch.now c.in-Ok.offers) (sym is.now) c.in-Ok.ensures.offers
+
+pub returns-in-Err-clause-full : goal.returns-in-Err-clause-full
+returns-in-Err-clause-full g c = refused c.take-shared.ensures.taken c.in-Err.ensures.err c.in-Err.ensures.full c.put_back.ensures.back
+
+pub returns-in-Ok-clause-speaks : goal.returns-in-Ok-clause-speaks
+returns-in-Ok-clause-speaks g c some =
+    let steps = step-now c.requires.may c.take-shared.ensures.taken tt in
+    let m = made c.take-shared.ensures.taken steps c.in-Ok.ensures.made c.in-Ok.ensures.room c.give.ensures.back in
+    let sent = c.in-Ok.ensures.offers in
+    speaks-on c.in-Ok.offers c.requires.may c.take-shared.ensures.taken refl steps c.in-Ok.ensures.made c.give.ensures.back.legal m sent.stand sent.entry some

@@ -1,0 +1,6 @@
+pub mod Roots
+pub mod Fabrics
+pub mod Steps
+pub mod Ports
+pub mod Puts
+pub mod Leases

@@ -1,0 +1,208 @@
+//! Ports open, are watched and told of, are shut and go.
+ghost use Rattle.std.specs.Prelude.{◌≡◌, length, OnOk, IfOk, IfErr, true, false};
+ghost use Rattle.nm_region.specs.Buffers.{indices_of};
+ghost use Rattle.vale_entry.specs.declared.entry.Ask.TheVariants as asks;
+ghost use Rattle.vale_entry.specs.declared.entry.Reply.TheVariants as replies;
+ghost use Rattle.vale_core.specs.BookView.{AreOf};
+ghost use Rattle.vale_fabric.specs.Fabrics.{IsPassIn, fixed_in, knowing, before};
+ghost use Rattle.vale_fabric.specs.Fabrics.{AnswersIn, MayIn, RefusesIn};
+ghost use Rattle.vale_fabric.specs.Ports.{Hands, OpensNot, Waits, WatchesNot, is_recorded, is_said};
+
+use crate::fabric::Fabric;
+use crate::kept::Pass;
+use nm_region::Buf;
+use nm_types::{
+    Chain, Counts, Name, OpenFault, PortId, SessionId, Side, Sides, StepFault, SyncFault,
+    WatchFault,
+};
+use std::sync::Wait;
+use vale_core::{LeasesOut, Opened};
+
+/// Whether an opening that is refused so is an entry.
+fn is_recorded(fault: OpenFault) -> bool
+    ensures { result ≡ is_recorded fault }
+{
+    !matches!(fault, OpenFault::RecordFull { .. } | OpenFault::NoMemory)
+}
+
+/// Whether a watch that is refused so is an entry.
+fn is_said(fault: WatchFault) -> bool
+    ensures { result ≡ is_said fault }
+{
+    matches!(fault, WatchFault::NoTarget | WatchFault::Watched { .. })
+}
+
+impl Fabric {
+    /// What the port has counted.
+    pub fn stats<R: Wait>(&self, rt: &R, pass: &mut Pass, port: PortId) -> Result<Counts, StepFault>
+        requires pass { IsPassIn self.now pass.old }
+        requires may { MayIn self.now pass.old (asks.Stat port) }
+        ensures pass { IsPassIn self.now pass.new }
+        ensures made { IfOk result (λ counts. AnswersIn self.now pass.old pass.new
+            (asks.Stat port) (replies.Counted counts)) }
+        ensures full { IfErr result (RefusesIn self.now pass.old pass.new (asks.Stat port)) }
+    {
+        let mut shared = self.take(rt, pass);
+        match shared.book.stats(port) {
+            Ok(counts) => {
+                self.give(pass, shared);
+                Ok(counts)
+            }
+            Err(fault) => {
+                self.put_back(pass, shared);
+                Err(fault)
+            }
+        }
+    }
+
+    /// Records that a sync of this side of the port was refused, and the ring reset.
+    pub fn reset<R: Wait>(
+        &self,
+        rt: &R,
+        pass: &mut Pass,
+        port: PortId,
+        side: Side,
+        fault: &SyncFault,
+    ) -> Result<(), StepFault>
+        requires pass { IsPassIn self.now pass.old }
+        requires may { MayIn self.now pass.old (asks.Reset port side fault.now) }
+        ensures pass { IsPassIn self.now pass.new }
+        ensures made { OnOk result (AnswersIn self.now pass.old pass.new
+            (asks.Reset port side fault.now) replies.Made) }
+        ensures full { IfErr result (RefusesIn self.now pass.old pass.new
+            (asks.Reset port side fault.now)) }
+    {
+        let mut shared = self.take(rt, pass);
+        match shared.book.reset(port, side, fault) {
+            Ok(()) => {
+                self.give(pass, shared);
+                Ok(())
+            }
+            Err(full) => {
+                self.put_back(pass, shared);
+                Err(full)
+            }
+        }
+    }
+
+    /// The port is closed for new frames. What was granted to it can still be read.
+    pub fn shut<R: Wait>(&self, rt: &R, pass: &mut Pass, port: PortId)
+        requires pass { IsPassIn self.now pass.old }
+        requires may { MayIn self.now pass.old (asks.Shut port) }
+        ensures pass { IsPassIn self.now pass.new }
+        ensures made { AnswersIn self.now pass.old pass.new (asks.Shut port) replies.Made }
+    {
+        let mut shared = self.take(rt, pass);
+        shared.book.shut(port);
+        self.give(pass, shared);
+    }
+
+    /// A monitor watches these sides of the port of this name. Answers which port that is. That no
+    /// open port has the name, and that the port has a monitor, are entries.
+    pub fn watch<R: Wait>(
+        &self,
+        rt: &R,
+        pass: &mut Pass,
+        monitor: PortId,
+        target: &Name,
+        sides: Sides,
+    ) -> Result<PortId, WatchFault>
+        requires pass { IsPassIn self.now pass.old }
+        requires may { MayIn self.now pass.old (asks.Watch monitor target.now sides) }
+        ensures pass { IsPassIn self.now pass.new }
+        ensures watched { IfOk result (λ port. AnswersIn self.now pass.old pass.new
+            (asks.Watch monitor target.now sides) (replies.Watching port)) }
+        ensures unwatched { IfErr result (WatchesNot (fixed_in self.now) (knowing pass.old)
+            (knowing pass.new) (asks.Watch monitor target.now sides)) }
+    {
+        let mut shared = self.take(rt, pass);
+        match shared.book.watch(monitor, target, sides) {
+            Ok(port) => {
+                self.give(pass, shared);
+                Ok(port)
+            }
+            Err(fault) => {
+                if is_said(fault) {
+                    self.give(pass, shared);
+                    return Err(fault);
+                }
+                self.put_back(pass, shared);
+                Err(fault)
+            }
+        }
+    }
+
+    /// Opens a port of this name for a session, and hands out its buffers, the smallest free ones.
+    /// A refusal by the name, the sizes or the free buffers is an entry too.
+    pub fn open<R: Wait>(
+        &self,
+        rt: &R,
+        pass: &mut Pass,
+        session: SessionId,
+        name: &Name,
+        tx: u32,
+        rx: u32,
+        extra: u32,
+    ) -> Result<Opened, OpenFault>
+        requires pass { IsPassIn self.now pass.old }
+        requires may { MayIn self.now pass.old (asks.Open session name.now tx rx extra) }
+        ensures pass { IsPassIn self.now pass.new }
+        ensures made { OnOk result (AnswersIn self.now pass.old pass.new
+            (asks.Open session name.now tx rx extra) replies.Opened) }
+        ensures port { IfOk result (λ opened. opened.port.0 ≡ length (knowing pass.new).seen) }
+        ensures hands { IfOk result (Hands (before self.now pass.new) tx rx extra) }
+        ensures unopened { IfErr result (OpensNot (fixed_in self.now) (knowing pass.old)
+            (knowing pass.new) (asks.Open session name.now tx rx extra)) }
+    {
+        let mut shared = self.take(rt, pass);
+        match shared.book.open(session, name, tx, rx, extra) {
+            Ok(opened) => {
+                self.give(pass, shared);
+                Ok(opened)
+            }
+            Err(fault) => {
+                if is_recorded(fault) {
+                    self.give(pass, shared);
+                    return Err(fault);
+                }
+                self.put_back(pass, shared);
+                Err(fault)
+            }
+        }
+    }
+
+    /// The port goes, and its buffers are free again, with those that its session brings back for
+    /// it. Answers how many frames nobody read. Where a lease of the port is not done it waits, and
+    /// the buffers are handed back.
+    pub fn finish<R: Wait>(
+        &self,
+        rt: &R,
+        pass: &mut Pass,
+        port: PortId,
+        bufs: Vec<Buf>,
+        chain: Chain,
+    ) -> Result<u32, LeasesOut>
+        requires pass { IsPassIn self.now pass.old }
+        requires may { MayIn self.now pass.old
+            (asks.Finish port (indices_of bufs.items) chain) }
+        requires region { AreOf (fixed_in self.now).region bufs.items }
+        ensures pass { IsPassIn self.now pass.new }
+        ensures made { IfOk result (λ count. AnswersIn self.now pass.old pass.new
+            (asks.Finish port (indices_of bufs.items) chain) (replies.Unread count)) }
+        ensures waits { IfErr result (λ out. Waits (fixed_in self.now) (knowing pass.old)
+            (knowing pass.new) (asks.Finish port (indices_of bufs.items) chain) out.n) }
+        ensures back { IfErr result (λ out. out.bufs.items ≡ bufs.items) }
+    {
+        let mut shared = self.take(rt, pass);
+        match shared.book.finish(port, bufs, chain) {
+            Ok(count) => {
+                self.give(pass, shared);
+                Ok(count)
+            }
+            Err(out) => {
+                self.put_back(pass, shared);
+                Err(out)
+            }
+        }
+    }
+}

@@ -1,0 +1,72 @@
+//! Frames are offered to a pipe's other end.
+ghost use Rattle.std.specs.Prelude.{◌≡◌, ◌≤◌, All, drop, length, vec_capacity, OnErr, IfOk, IfErr};
+ghost use Rattle.nm_turn.specs.Numbered.{Stands};
+ghost use Rattle.vale_line.specs.Gots.{buffers_of, IsSingle};
+ghost use Rattle.vale_entry.specs.declared.entry.Ask.TheVariants as asks;
+ghost use Rattle.vale_core.specs.BookView.{AreOf};
+ghost use Rattle.vale_core.specs.PutFaults.{IfMade};
+ghost use Rattle.vale_core.specs.Putting.{items_of, IsPut};
+ghost use Rattle.vale_fabric.specs.Fabrics.{IsPassIn, fixed_in, knowing, before, seen_by};
+ghost use Rattle.vale_fabric.specs.Fabrics.{MakesIn, MayIn};
+ghost use Rattle.vale_fabric.specs.Puts.{PutsNot, is_put_said};
+
+use crate::fabric::Fabric;
+use crate::kept::Pass;
+use nm_types::PortId;
+use std::sync::Wait;
+use vale_core::{Put, PutFault};
+use vale_line::Got;
+
+/// Whether a put that is refused so is an entry.
+fn is_put_said(fault: PutFault) -> bool
+    ensures { result ≡ is_put_said fault }
+{
+    matches!(fault, PutFault::PeerGone)
+}
+
+impl Fabric {
+    /// Frames are offered to the other end of a pipe, which takes as many as it has space for, with
+    /// their buffers, and gives as many of its idle buffers back. What it takes leaves `pending`.
+    /// That the other end is not open is an entry too.
+    pub fn pipe_put<R: Wait>(
+        &self,
+        rt: &R,
+        pass: &mut Pass,
+        port: PortId,
+        pending: &mut Vec<Got>,
+    ) -> Result<Put, PutFault>
+        requires pass { IsPassIn self.now pass.old }
+        requires may { MayIn self.now pass.old (asks.Put port (items_of pending.old.items)) }
+        requires region { AreOf (fixed_in self.now).region (buffers_of pending.old.items) }
+        requires single { All IsSingle pending.old.items }
+        ensures pass { IsPassIn self.now pass.new }
+        ensures made { IfMade result (MakesIn self.now pass.old pass.new
+            (asks.Put port (items_of pending.old.items))) }
+        ensures put { IfOk result (IsPut (before self.now pass.new) (seen_by self.now pass.new)
+            port pending.old.items) }
+        ensures speaks { IfOk result (λ put. 1 ≤ length put.offers.wants
+            → Stands put.offers.session (knowing pass.new).mine) }
+        ensures pending { IfOk result (λ put.
+            pending.new.items ≡ drop put.took pending.old.items) }
+        ensures capacity { vec_capacity pending.new ≡ vec_capacity pending.old }
+        ensures refused { IfErr result (PutsNot (fixed_in self.now) (knowing pass.old)
+            (knowing pass.new) port (items_of pending.old.items)) }
+        ensures kept { OnErr result (pending.new.items ≡ pending.old.items) }
+    {
+        let mut shared = self.take(rt, pass);
+        match shared.book.pipe_put(port, pending) {
+            Ok(put) => {
+                self.give(pass, shared);
+                Ok(put)
+            }
+            Err(fault) => {
+                if is_put_said(fault) {
+                    self.give(pass, shared);
+                    return Err(fault);
+                }
+                self.put_back(pass, shared);
+                Err(fault)
+            }
+        }
+    }
+}

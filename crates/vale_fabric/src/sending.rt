@@ -1,0 +1,100 @@
+//! Frames are sent, and what ports want of them is granted and completed.
+ghost use Rattle.std.specs.Prelude.{◌≡◌, ◌≤◌, [], drop, length, IfOk, IfErr, IfSome, IfNone};
+ghost use Rattle.nm_turn.specs.Numbered.{Stands};
+ghost use Rattle.vale_entry.specs.declared.entry.Ask.TheVariants as asks;
+ghost use Rattle.vale_entry.specs.declared.entry.Reply.TheVariants as replies;
+ghost use Rattle.vale_parts.specs.Batches.{dests_wanted};
+ghost use Rattle.vale_line.specs.Gots.{buffers_of};
+ghost use Rattle.vale_core.specs.BookView.{AreOf};
+ghost use Rattle.vale_core.specs.Granting.{lease_id};
+ghost use Rattle.vale_core.specs.Offering.{OffersStand};
+ghost use Rattle.vale_core.specs.Recorded.{standing};
+ghost use Rattle.vale_core.specs.Sending.{IsSent};
+ghost use Rattle.vale_fabric.specs.Fabrics.{IsPassIn, before, fixed_in, knowing, seen_by};
+ghost use Rattle.vale_fabric.specs.Fabrics.{AnswersIn, MayIn, RefusesIn};
+ghost use Rattle.vale_fabric.specs.Leases.{IsHeldBy, IsLeaseBy, MayFill};
+
+use crate::fabric::Fabric;
+use crate::kept::Pass;
+use nm_types::{Batch, PortId, StepFault};
+use std::sync::Wait;
+use vale_core::{Granted, Offers};
+use vale_line::Lease;
+
+impl Fabric {
+    /// Sends a batch into the switch of an open port. What each port wants of it is offered, and
+    /// room for the grants is promised. A full record and want of memory change nothing.
+    pub fn send<R: Wait>(
+        &self,
+        rt: &R,
+        pass: &mut Pass,
+        port: PortId,
+        batch: &Batch,
+    ) -> Result<Offers, StepFault>
+        requires pass { IsPassIn self.now pass.old }
+        requires may { MayIn self.now pass.old (asks.Send port batch.now) }
+        ensures pass { IsPassIn self.now pass.new }
+        ensures made { IfOk result (λ offers. AnswersIn self.now pass.old pass.new
+            (asks.Send port batch.now)
+            (replies.Offered offers.short offers.lone (dests_wanted offers.wants))) }
+        ensures offers { IfOk result (IsSent (seen_by self.now pass.new) batch.now) }
+        ensures speaks { IfOk result (λ offers. 1 ≤ length offers.wants
+            → Stands offers.session (knowing pass.new).mine) }
+        ensures full { IfErr result (RefusesIn self.now pass.old pass.new
+            (asks.Send port batch.now)) }
+    {
+        let mut shared = self.take(rt, pass);
+        match shared.book.send(port, batch) {
+            Ok(offers) => {
+                self.give(pass, shared);
+                Ok(offers)
+            }
+            Err(fault) => {
+                self.put_back(pass, shared);
+                Err(fault)
+            }
+        }
+    }
+
+    /// Grants the next of an entry's offers, and takes it out: as many of its first frames as there
+    /// is room for get buffers of the port's ring, which the lease owns.
+    pub fn grant<R: Wait>(&self, rt: &R, pass: &mut Pass, offers: &mut Offers) -> Granted
+        requires pass { IsPassIn self.now pass.old }
+        requires next { 1 ≤ length offers.old.wants }
+        requires stand { OffersStand (standing (seen_by self.now pass.old)) offers.old }
+        requires speaks { Stands offers.old.session (knowing pass.old).mine }
+        ensures pass { IsPassIn self.now pass.new }
+        ensures made { AnswersIn self.now pass.old pass.new
+            (asks.Grant offers.old.entry result.to)
+            (replies.Shared result.given result.full result.gone) }
+        ensures offers { offers.new ≡ record offers.old { wants = drop 1 offers.old.wants } }
+        ensures stand { OffersStand (standing (seen_by self.now pass.new)) offers.new }
+        ensures none { IfNone result.lease (result.given ≡ 0) }
+        ensures lease { IfSome result.lease (IsLeaseBy (before self.now pass.new)
+            offers.old.entry (length (knowing pass.new).seen)) }
+        ensures held { IfSome result.lease (IsHeldBy (seen_by self.now pass.new)
+            offers.old.session) }
+    {
+        let mut shared = self.take(rt, pass);
+        let granted = shared.book.grant(offers);
+        self.give(pass, shared);
+        granted
+    }
+
+    /// Completes a lease, which is full: its frames will be read once all that were granted to the
+    /// port before it are complete.
+    pub fn done<R: Wait>(&self, rt: &R, pass: &mut Pass, lease: Lease)
+        requires pass { IsPassIn self.now pass.old }
+        requires may { MayFill (fixed_in self.now) (knowing pass.old) lease }
+        requires full { lease.sizes ≡ [] }
+        requires empty { lease.empty ≡ [] }
+        requires region { AreOf (fixed_in self.now).region (buffers_of lease.filled) }
+        ensures pass { IsPassIn self.now pass.new }
+        ensures made { AnswersIn self.now pass.old pass.new (asks.Done (lease_id lease.id))
+            replies.Made }
+    {
+        let mut shared = self.take(rt, pass);
+        shared.book.done(lease);
+        self.give(pass, shared);
+    }
+}
