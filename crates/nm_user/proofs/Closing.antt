@@ -311,7 +311,7 @@ filled_in_one (x ∷ ports) id p q found filled = elim (cases_Bool (nat_eq x.id.
     or_second true b e = refl
     or_second false b e = e
 
-sided_one : (ports : List UserPort) (id : ℕ) (p : UserPort) → port_at ports id ≡ Some p → AreSided ports → IsTxSide p.tx × (p.rx.side ≡ side.Rx)
+pub sided_one : (ports : List UserPort) (id : ℕ) (p : UserPort) → port_at ports id ≡ Some p → AreSided ports → IsTxSide p.tx × (p.rx.side ≡ side.Rx)
 sided_one [] id p found sided = absurd cc
 sided_one (x ∷ ports) id p found sided = elim (cases_Bool (nat_eq x.id.0 id)) [
   | inl here ↦ (let is : x ≡ p = some_is x p (rw here at found) in rw (← is) sided.0)

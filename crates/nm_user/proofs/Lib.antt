@@ -30,3 +30,4 @@ pub mod GivenBack
 pub mod PutOne
 pub mod Published
 pub mod OwnLaws
+pub mod Taken

@@ -13,7 +13,7 @@ use Rattle.nm_types.specs.declared.place.Place.{Place}
 use Rattle.nm_types.specs.declared.place.Place.TheVariants as place
 use Rattle.nm_types.specs.declared.refusal.RingFault.{RingFault}
 use Rattle.nm_types.specs.Places.{is_same_place}
-use Rattle.nm_types.specs.Positions.{IsRing, dist, step_on, slots_from}
+use Rattle.nm_types.specs.Positions.{RingState, IsRing, dist, step_on, slots_from, FitsRing, kernel_count}
 use Rattle.nm_types.specs.Buffers.{IsBufferIndex, cleared_but}
 use Rattle.nm_types.specs.SyncChecks.{ring_refusal}
 use Rattle.nm_types.specs.OwnPorts.{OwnRing, Arrival, with_ring_on}
@@ -88,15 +88,18 @@ none_is : (o : Option RingFault) → is_none o ≡ true → o ≡ None
 none_is None e = refl
 none_is (Some x) e = absurd cc
 
+pub room_is : (ring : RingState) → IsRing ring → has_free_slot ring ≡ true → FitsRing ring ring.head ring.cur × (ring.accepted_head ≡ ring.head) × (0 < kernel_count ring.size ring.head ring.last_tail)
+room_is ring is free =
+    let both = and-is (is_none (ring_refusal ring ring.head ring.cur)) (nat_eq ring.accepted_head ring.head && nat_lt (dist ring.size ring.accepted_head ring.last_tail) (ring.size - 1)) free in
+    let rest = and-is (nat_eq ring.accepted_head ring.head) (nat_lt (dist ring.size ring.accepted_head ring.last_tail) (ring.size - 1)) both.1 in
+    let none : ring_refusal ring ring.head ring.cur ≡ None = none_is (ring_refusal ring ring.head ring.cur) both.0 in
+    let accepted : ring.accepted_head ≡ ring.head = nat_eq-is ring.accepted_head ring.head rest.0 in
+    let few = less_is (dist ring.size ring.accepted_head ring.last_tail) (ring.size - 1) rest.1 in
+    let same : dist ring.size ring.accepted_head ring.last_tail ≡ dist ring.size ring.head ring.last_tail = ap (λ (at : ℕ). dist ring.size at ring.last_tail) accepted in
+    (passed_positions_fit Rx 0 [] ring [] (rw none refl), accepted, omega arith)
+
 room_of : (r : RingSlots) → r.side ≡ Rx → IsRing r.ring → has_free_slot r.ring ≡ true → HasRoom r
-room_of r side is free =
-    let both = and-is (is_none (ring_refusal r.ring r.ring.head r.ring.cur)) (nat_eq r.ring.accepted_head r.ring.head && nat_lt (dist r.ring.size r.ring.accepted_head r.ring.last_tail) (r.ring.size - 1)) free in
-    let rest = and-is (nat_eq r.ring.accepted_head r.ring.head) (nat_lt (dist r.ring.size r.ring.accepted_head r.ring.last_tail) (r.ring.size - 1)) both.1 in
-    let none : ring_refusal r.ring r.ring.head r.ring.cur ≡ None = none_is (ring_refusal r.ring r.ring.head r.ring.cur) both.0 in
-    let accepted : r.ring.accepted_head ≡ r.ring.head = nat_eq-is r.ring.accepted_head r.ring.head rest.0 in
-    let few = less_is (dist r.ring.size r.ring.accepted_head r.ring.last_tail) (r.ring.size - 1) rest.1 in
-    let same : dist r.ring.size r.ring.accepted_head r.ring.last_tail ≡ dist r.ring.size r.ring.head r.ring.last_tail = ap (λ (at : ℕ). dist r.ring.size at r.ring.last_tail) accepted in
-    record { side = side; fits = passed_positions_fit Rx 0 [] r.ring [] (rw none refl); accepted = accepted; free = omega arith }
+room_of r side is free = let room = room_is r.ring is free in record { side = side; fits = room.0; accepted = room.1; free = room.2 }
 
 pub receives_of : (o : Inside) (id : PortId) (r : RingSlots) → IsKept o → slots_at Rx o.ports.items id.0 ≡ Some r → can_receive id.0 (own_seen o.hold o.ports.items) ≡ true → (p : UserPort) × Receives o.hold o.ports.items id p r
 receives_of o id r kept at can =
@@ -113,7 +116,7 @@ cannot_receive h ports id none can = clash (sym can ∙ ap (λ (o : Option OwnRi
     clash e = cc
 
 -- a place of a port that is found
-has_place_of : (ports : List UserPort) (id : ℕ) (p : UserPort) (q : Place) → port_at ports id ≡ Some p → is_some (offset_of (places_of_port p) q) ≡ true → has_place (map places_of_port ports) q ≡ true
+pub has_place_of : (ports : List UserPort) (id : ℕ) (p : UserPort) (q : Place) → port_at ports id ≡ Some p → is_some (offset_of (places_of_port p) q) ≡ true → has_place (map places_of_port ports) q ≡ true
 has_place_of [] id p q found e = absurd cc
 has_place_of (y ∷ ports) id p q found e = elim (cases_Bool (nat_eq y.id.0 id)) [
   | inl here ↦ (let is : y ≡ p = some_is y p (rw here at found) in rw (is, e) refl)

@@ -143,11 +143,11 @@ flag_is size a b c h t n al bl cl reach tl room near far = elim (cases_Bool (nat
     ]
 
 -- a place among transmit slots
-among_tx : (id : PortId) (ats : List ℕ) (at : ℕ) → is_among (map (place.Tx id) ats) (place.Tx id at) ≡ list_any (λ x. nat_eq x at) ats
+pub among_tx : (id : PortId) (ats : List ℕ) (at : ℕ) → is_among (map (place.Tx id) ats) (place.Tx id at) ≡ list_any (λ x. nat_eq x at) ats
 among_tx id [] at = refl
 among_tx id (x ∷ ats) at = rw (same_eq id.0 id.0 refl) (ap (λ (b : Bool). nat_eq x at || b) (among_tx id ats at))
 
-tx_elsewhere : (id : PortId) (ats : List ℕ) (q : Place) → nat_eq id.0 (port_of q) ≡ false → is_among (map (place.Tx id) ats) q ≡ false
+pub tx_elsewhere : (id : PortId) (ats : List ℕ) (q : Place) → nat_eq id.0 (port_of q) ≡ false → is_among (map (place.Tx id) ats) q ≡ false
 tx_elsewhere id [] q other = refl
 tx_elsewhere id (x ∷ ats) (place.Tx port at) other = rw other (tx_elsewhere id ats (place.Tx port at) other)
 tx_elsewhere id (x ∷ ats) (place.Rx port at) other = tx_elsewhere id ats (place.Rx port at) other
@@ -299,7 +299,7 @@ module _ (id : PortId) (r : RingSlots) (taken : ℕ) (is : IsRing r.ring) (can :
   rest_of p = named_ring_places p.id p.rx ++ map (place.Extra p.id) (range_with_len 0 p.extra)
 
   -- transmit slots are no receive slots and no extra positions
-  rest_not_tx : (p : UserPort) (at : ℕ) → p.rx.side ≡ side.Rx → is_among (rest_of p) (place.Tx id at) ≡ false
+  pub rest_not_tx : (p : UserPort) (at : ℕ) → p.rx.side ≡ side.Rx → is_among (rest_of p) (place.Tx id at) ≡ false
   rest_not_tx p at rx =
       list_any-append (λ x. is_same_place x (place.Tx id at)) (named_ring_places p.id p.rx) (map (place.Extra p.id) (range_with_len 0 p.extra))
       ∙ rw rx (both (slots (user_slots p.rx.ring)) (extras (range_with_len 0 p.extra)))

@@ -172,7 +172,7 @@ filled_taken p q is filled =
     one_in (held_place p) q 0 (place_count p) (rank p q) (omega arith) (let below = at.below in omega arith) (rw at.there (same_place-refl q))
 
 -- a cell that is emptied
-emptied : (cells : List (Option Standing)) (i j : ℕ) (s : Standing) → cell_at (set cells i None) j ≡ Some s → cell_at cells j ≡ Some s
+pub emptied : (cells : List (Option Standing)) (i j : ℕ) (s : Standing) → cell_at (set cells i None) j ≡ Some s → cell_at cells j ≡ Some s
 emptied [] i j s e = e
 emptied (c ∷ cells) zero zero s e = absurd cc
 emptied (c ∷ cells) zero (suc j) s e = e

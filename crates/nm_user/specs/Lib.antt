@@ -13,3 +13,4 @@ pub mod ExtraChain
 pub mod Offers
 pub mod Receives
 pub mod Laws
+pub mod Puts

@@ -16,11 +16,12 @@ mod own;
 mod own_tests;
 mod port;
 mod receive;
-#[cfg(test)]
-mod receive_tests;
 mod reset;
 mod slot_ring;
 mod slots;
+#[cfg(test)]
+mod sync_tests;
+mod take;
 #[cfg(test)]
 mod tests;
 

@@ -26,11 +26,12 @@ ghost use Rattle.nm_user.specs.Edits.{own_edited};
 ghost use Rattle.nm_user.specs.RingSlots.{slot_before_tail};
 ghost use Rattle.nm_user.specs.Acts.{head_slot_in};
 ghost use Rattle.nm_user.specs.Receives.{can_receive, own_with_arrival};
+ghost use Rattle.nm_user.specs.Puts.{has_offered, offered_buffer, own_with_taken};
 
 use crate::checks::check_ring;
 use crate::close::empty_port;
 use crate::edit::{RingEdit, edit_rings};
-use crate::exchange::{accept_pushes, exchange_pushed, push_out, send_out};
+use crate::exchange::{accept_pushes, exchange_pushed, name_slots, push_out, send_out};
 use crate::extras::{extra_numbered, set_heads};
 use crate::fill::{Row, fill, put};
 use crate::gather::{gather, gather_names, gather_offered};
@@ -39,6 +40,7 @@ use crate::port::UserPort;
 use crate::receive::{accept_backs, clear_behind, publish_at, take_pushed};
 use crate::reset::reset_rings;
 use crate::slot_ring::SlotRing;
+use crate::take::take_at;
 use nm_extra::relink;
 use nm_hold::Hold;
 use nm_region::Buf;
@@ -484,6 +486,43 @@ impl OwnSide {
             None => unreachable!(),
         }
         accept_pushes(&mut self.ports, port, 0);
+    }
+
+    /// Whether a port's transmit ring has its head accepted, and frames that are still offered.
+    pub fn has_offered(&self, port: PortId) -> bool
+        ensures { result ≡ has_offered port.0 self.now }
+    {
+        match ring_at(&self.ports, port, Side::Tx) {
+            Some(ring) => ring.has_free_slot(),
+            None => false,
+        }
+    }
+
+    /// What stands once the first frame that is still offered was taken: its buffer went, one that
+    /// came is in its place, with all bytes cleared, and the tail goes on by one.
+    pub fn taken(&mut self, port: PortId, buf: Buf) -> Buf
+        requires offered { has_offered port.0 self.old ≡ true }
+        requires new { IsNew self.old buf.index }
+        ensures own { self.new ≡ own_with_taken port.0 self.old
+            (record { buffer = buf.index; bytes = [] }) }
+        ensures index { result.index ≡ offered_buffer port.0 self.old }
+        ensures bytes { result.bytes ≡ bytes_at self.old result.index }
+    {
+        let (size, kept, slot) = match ring_at(&self.ports, port, Side::Tx) {
+            Some(ring) => {
+                let tail = ring.ring().tail();
+                (ring.ring().size(), tail, ring.next(tail))
+            }
+            None => unreachable!(),
+        };
+        let mut buf = buf;
+        buf.clear_behind(0);
+        let idx = buf.index();
+        let went = self.hold.remove(Place::Tx { port, slot });
+        put(&mut self.hold, Place::Tx { port, slot }, buf, false);
+        name_slots(&mut self.hold, port, size, kept, 1, true);
+        take_at(&mut self.ports, port, idx);
+        went
     }
 
     /// Resets a port's ring: its positions are those last accepted, and each of the user's slots

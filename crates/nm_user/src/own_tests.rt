@@ -10,10 +10,10 @@ use std::alloc::Global;
 use std::process::Abort;
 use std::test::Fail;
 
-const PORT: PortId = PortId(2);
+pub(crate) const PORT: PortId = PortId(2);
 
 /// A broadcast from 02:00:00:00:00:0a.
-const FRAME: [u8; 14] = [255, 255, 255, 255, 255, 255, 2, 0, 0, 0, 0, 10, 136, 181];
+pub(crate) const FRAME: [u8; 14] = [255, 255, 255, 255, 255, 255, 2, 0, 0, 0, 0, 10, 136, 181];
 
 /// Writes to slot 0 of a push of one frame, and what refuses the sync then. The transmit slots hold
 /// the buffers 2 to 5 of a pool of 64, the last one is the kernel side's, and 6 is an extra buffer.
@@ -215,7 +215,7 @@ fn exchange(rt: &impl Abort, own: &mut OwnSide) {
 }
 
 /// The first bytes of a buffer, if the user may name it.
-fn starts_with(own: &OwnSide, idx: u32, bytes: &[u8]) -> bool {
+pub(crate) fn starts_with(own: &OwnSide, idx: u32, bytes: &[u8]) -> bool {
     match own.bytes(idx) {
         Some(all) => all.starts_with(bytes),
         None => false,
@@ -293,7 +293,7 @@ fn offer(rt: &impl Abort, own: &mut OwnSide, alloc: Global) {
 }
 
 /// Puts buffers into a vector, in order.
-fn put_four(bufs: &mut Vec<Buf>, one: Buf, two: Buf, three: Buf, four: Buf)
+pub(crate) fn put_four(bufs: &mut Vec<Buf>, one: Buf, two: Buf, three: Buf, four: Buf)
     requires room { 4 ≤ vec_capacity bufs.old }
     requires empty { bufs.old.items ≡ [] }
     ensures { indices_of bufs.new.items ≡ one.index ∷ two.index ∷ three.index ∷ four.index ∷ [] }

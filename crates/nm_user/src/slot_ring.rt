@@ -17,6 +17,7 @@ ghost use Rattle.nm_types.specs.Positions.{FitsRing, dist, step_on, kernel_count
 ghost use Rattle.nm_types.specs.OwnSyncs.{accepted, slots_after_push};
 ghost use Rattle.nm_user.specs.Exchanges.{CanPushOut, ring_pushed_out};
 ghost use Rattle.nm_user.specs.Receives.{has_free_slot};
+ghost use Rattle.nm_user.specs.Puts.{HasOffered, ring_taken};
 
 use crate::slots::{BLANK, clear_announcements, drop_front, framed, opened_slots};
 use nm_region::Buf;
@@ -120,7 +121,7 @@ impl SlotRing {
     }
 
     /// The position after one that may be any number.
-    fn next(&self, at: u32) -> u32
+    pub(crate) fn next(&self, at: u32) -> u32
         ensures { result ≡ step_on self.now.ring.size at 1 }
     {
         ((at as u64 + 1) % self.ring.size() as u64) as u32
@@ -143,11 +144,11 @@ impl SlotRing {
         self.any_slot(self.ring.head())
     }
 
-    /// Writes the slot at the head; does nothing if the head is no slot of the ring.
-    fn put_head_slot(&mut self, slot: Slot)
-        ensures { self.new ≡ with_slot_at self.old.ring.head slot self.old }
+    /// Writes the slot at a position; does nothing if it is no slot of the ring.
+    fn put_any_slot(&mut self, at: u32, slot: Slot)
+        ensures { self.new ≡ with_slot_at at slot self.old }
     {
-        let index = self.index_of(self.ring.head());
+        let index = self.index_of(at);
         if index < self.slots.len() {
             self.slots[index] = slot;
         }
@@ -157,7 +158,8 @@ impl SlotRing {
     pub(crate) fn forward(&mut self, slot: Slot)
         ensures { self.new ≡ both_stepped (with_slot_at self.old.ring.head slot self.old) }
     {
-        self.put_head_slot(slot);
+        let at = self.ring.head();
+        self.put_any_slot(at, slot);
         let (head, cur) = (self.next(self.ring.head()), self.next(self.ring.cur()));
         self.put_positions(head, cur);
     }
@@ -169,7 +171,8 @@ impl SlotRing {
             (slot_framed len (slot_at self.old self.old.ring.head)) self.old) }
     {
         let slot = framed(self.head_slot(), len);
-        self.put_head_slot(slot);
+        let at = self.ring.head();
+        self.put_any_slot(at, slot);
         let next = self.next(self.ring.head());
         self.put_positions(next, next);
     }
@@ -269,6 +272,21 @@ impl SlotRing {
     {
         let tail = (self.ring.tail() + taken) % self.ring.size();
         self.ring.advance(self.ring.head(), self.ring.cur(), tail);
+    }
+
+    /// The first slot that is still offered, behind the tail, names another buffer, and the tail of
+    /// the transmit ring goes on by one.
+    pub(crate) fn take_first(&mut self, buffer: u32)
+        requires { HasOffered self.old }
+        ensures { self.new ≡ ring_taken buffer self.old }
+    {
+        let at = self.next(self.ring.tail());
+        let slot = Slot {
+            buf_idx: buffer,
+            ..self.any_slot(at)
+        };
+        self.put_any_slot(at, slot);
+        self.move_tail(1);
     }
 
     /// Accepts the push of a transmit ring, of whose frames `taken` were taken.

@@ -3,17 +3,13 @@ ghost use Rattle.std.specs.Vec.{vec_capacity};
 ghost use Rattle.nm_types.specs.OwnPorts.{empty_own};
 ghost use Rattle.nm_region.specs.Buffers.{indices_of};
 
+use crate::own_tests::{FRAME, PORT, put_four, starts_with};
 use crate::{OwnSide, SlotPlace};
 use nm_region::{Buf, Region};
-use nm_types::{Name, PortId, Side, Slot};
+use nm_types::{Name, Side, Slot};
 use std::alloc::Global;
 use std::process::Abort;
 use std::test::Fail;
-
-const PORT: PortId = PortId(2);
-
-/// A broadcast from 02:00:00:00:00:0a.
-const FRAME: [u8; 14] = [255, 255, 255, 255, 255, 255, 2, 0, 0, 0, 0, 10, 136, 181];
 
 fn place(side: Side, at: u32) -> SlotPlace {
     SlotPlace {
@@ -33,14 +29,6 @@ fn is_slot(own: &OwnSide, side: Side, at: u32, buf_idx: u32, len: u16, flags: u1
     };
     match own.slot(PORT, side, at) {
         Some(slot) => *slot == wanted,
-        None => false,
-    }
-}
-
-/// The first bytes of a buffer, if the user may name it.
-fn starts_with(own: &OwnSide, idx: u32, bytes: &[u8]) -> bool {
-    match own.bytes(idx) {
-        Some(all) => all.starts_with(bytes),
         None => false,
     }
 }
@@ -135,8 +123,62 @@ fn trade(rt: &impl Abort, own: &mut OwnSide, alloc: Global, back: &mut Vec<Buf>)
     assert!(rt; is_slot(own, Side::Tx, 0, 8, 0, 0));
 }
 
-/// Closes the port and the own side: the buffers come behind the one that came back before, in the
-/// order of the places.
+/// The number of frames that a put offers, and whether the first one is a given one.
+fn offers(rt: &impl Abort, own: &mut OwnSide, alloc: Global, first: &[u8]) -> usize
+    ensures { own.new ≡ own.old }
+{
+    assert!(rt; own.ring(PORT, Side::Tx).is_some());
+    match own.check(PORT, Side::Tx) {
+        Ok(()) => match own.offers(alloc, PORT) {
+            Ok(batch) => {
+                assert!(rt; batch.len() > 0);
+                assert!(rt; batch.frame(0) == first);
+                batch.len()
+            }
+            Err(_) => panic!(rt; "out of memory"),
+        },
+        Err(fault) => panic!(rt; "{fault:?}"),
+    }
+}
+
+/// The first frame that is still offered goes, in the buffer of an index.
+fn take(rt: &impl Abort, own: &mut OwnSide, buf: Buf, idx: u32) -> Buf {
+    assert!(rt; own.is_new(buf.index()));
+    assert!(rt; own.has_offered(PORT));
+    let went = own.taken(PORT, buf);
+    assert!(rt; went.index() == idx);
+    went
+}
+
+/// Two frames are offered and taken one after the other. The slot of one that was taken keeps its
+/// length, and names a cleared buffer; it is the user's once the next one goes.
+fn offer(rt: &impl Abort, own: &mut OwnSide, alloc: Global, back: &mut Vec<Buf>)
+    requires room { 3 ≤ vec_capacity back.old }
+    ensures { vec_capacity back.new ≡ vec_capacity back.old }
+{
+    own.put_frame(PORT, &FRAME);
+    own.put_frame(PORT, &FRAME[..7]);
+    assert_eq!(rt; offers(rt, own, alloc, &FRAME), 2);
+    assert!(rt; own.ring(PORT, Side::Tx).is_some());
+    match own.check(PORT, Side::Tx) {
+        Ok(()) => own.offered(PORT),
+        Err(fault) => panic!(rt; "{fault:?}"),
+    }
+    let went = take(rt, own, take_last(rt, back, 2), 8);
+    assert!(rt; went.bytes().starts_with(&FRAME));
+    assert!(rt; is_slot(own, Side::Tx, 3, 5, 0, 0) && own.slot(PORT, Side::Tx, 0).is_none());
+    assert!(rt; own.bytes(2).is_none());
+    assert_eq!(rt; offers(rt, own, alloc, &FRAME[..7]), 1);
+    let other = take(rt, own, went, 3);
+    assert!(rt; !own.has_offered(PORT));
+    assert!(rt; is_slot(own, Side::Tx, 0, 2, 14, 0) && own.slot(PORT, Side::Tx, 1).is_none());
+    assert!(rt; starts_with(own, 2, &[0; 14]));
+    assert!(rt; back.is_empty());
+    back.push_reserved(other);
+}
+
+/// Closes the port and the own side: the buffers come behind the one that went before, in the order
+/// of the places.
 fn close(rt: &impl Abort, mut own: OwnSide, back: &mut Vec<Buf>)
     requires room { 8 ≤ vec_capacity back.old }
 {
@@ -145,7 +187,7 @@ fn close(rt: &impl Abort, mut own: OwnSide, back: &mut Vec<Buf>)
     own.close_port(PORT, back);
     assert!(rt; own.is_empty());
     own.close();
-    for (buf, wanted) in back.iter().zip([2, 8, 3, 4, 5, 6, 7]) {
+    for (buf, wanted) in back.iter().zip([3, 2, 8, 4, 5, 6, 7]) {
         assert_eq!(rt; buf.index(), wanted);
     }
     assert_eq!(rt; back.len(), 7);
@@ -163,22 +205,10 @@ fn open(rt: &impl Abort, own: &mut OwnSide, alloc: Global, name: Name, tx: Vec<B
     assert!(rt; own.slot(PORT, Side::Rx, 0).is_none());
 }
 
-/// Puts buffers into a vector, in order.
-fn put_four(bufs: &mut Vec<Buf>, one: Buf, two: Buf, three: Buf, four: Buf)
-    requires room { 4 ≤ vec_capacity bufs.old }
-    requires empty { bufs.old.items ≡ [] }
-    ensures { indices_of bufs.new.items ≡ one.index ∷ two.index ∷ three.index ∷ four.index ∷ [] }
-{
-    bufs.push_reserved(one);
-    bufs.push_reserved(two);
-    bufs.push_reserved(three);
-    bufs.push_reserved(four);
-}
-
 /// No contract says that the buffers are of one region: the test ends by the panic that it expects.
 #[test]
 #[should_panic(expected = "the buffers stay out of the region")]
-fn frames_come_and_go_back(rt: HostRuntime) {
+fn frames_come_and_go(rt: HostRuntime) {
     let Ok((_region, mut all)) = Region::new(rt.alloc(), 7) else {
         panic!(rt; "out of memory");
     };
@@ -206,6 +236,7 @@ fn frames_come_and_go_back(rt: HostRuntime) {
     cross(&rt, &mut own, rt.alloc(), &mut back);
     assert!(rt; back.is_empty());
     trade(&rt, &mut own, rt.alloc(), &mut back);
+    offer(&rt, &mut own, rt.alloc(), &mut back);
     close(&rt, own, &mut back);
     panic!(rt; "the buffers stay out of the region");
 }

@@ -1,6 +1,6 @@
 use Rattle.std.proofs.Common.{◌∷◌, [], nat_eq, refl}
 use Rattle.std.specs.List.{IsDistinct}
-use Rattle.nm_user.proofs.receive_tests.open.Goals as goal
+use Rattle.nm_user.proofs.sync_tests.open.Goals as goal
 
 four_apart : IsDistinct nat_eq (2 ∷ 3 ∷ 4 ∷ 5 ∷ [])
 unfolding IsDistinct
