@@ -31,3 +31,4 @@ pub mod PutOne
 pub mod Published
 pub mod OwnLaws
 pub mod Taken
+pub mod PutLaws

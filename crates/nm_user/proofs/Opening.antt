@@ -109,7 +109,7 @@ set_alike {X = X} (z ∷ zs) (suc i) (suc j) x = ap (λ (ws : List X). z ∷ ws)
 lower : (i j : ℕ) → nat_eq (suc i) (suc j) ≡ false → nat_eq i j ≡ false
 lower i j e = grind (arith, nat_tests)
 
-set_apart : {X : Type 0} (xs : List X) (i j : ℕ) (x y : X) → nat_eq i j ≡ false → set (set xs i x) j y ≡ set (set xs j y) i x
+pub set_apart : {X : Type 0} (xs : List X) (i j : ℕ) (x y : X) → nat_eq i j ≡ false → set (set xs i x) j y ≡ set (set xs j y) i x
 set_apart [] i j x y e = refl
 set_apart (z ∷ zs) zero zero x y e = absurd cc
 set_apart (z ∷ zs) zero (suc j) x y e = refl
