@@ -11,6 +11,8 @@ mod putting;
 mod reading;
 mod sending;
 mod sessions;
+#[cfg(test)]
+mod tests;
 
 pub use fabric::Fabric;
 pub use kept::{Fixed, Pass, Shared};

@@ -1,0 +1,100 @@
+//! Users on threads of their own, through passes of one fabric.
+ghost use Rattle.std.specs.Prelude.{◌≡◌, ◌+◌, length, IfOk, OnOk};
+ghost use Rattle.vale_fabric.specs.Fabrics.{IsPassIn, knowing};
+
+use crate::{Book, Fabric, Pass};
+use nm_types::{Limits, NoMemory, StepFault};
+use std::alloc::Global;
+use std::sync::Wait;
+use std::test::Fail;
+use std::thread::{Threads, join};
+
+const LIMITS: Limits = Limits {
+    entries: 100,
+    bytes: 0,
+};
+
+/// A pass, and whether its user came and left.
+type Came = (Pass, Result<(), StepFault>);
+
+/// A user comes through this pass and leaves.
+fn come_and_leave<R: Wait>(rt: &R, fabric: &Fabric, mut pass: Pass, user: u64) -> Came
+    requires { IsPassIn fabric.now pass }
+    ensures pass { IsPassIn fabric.now result.0
+        × ((knowing result.0).part ≡ (knowing pass).part) }
+    ensures made { OnOk result.1
+        (length (knowing result.0).mine ≡ length (knowing pass).mine + 2) }
+{
+    match fabric.enter(rt, &mut pass, user) {
+        Ok(session) => {
+            fabric.leave(rt, &mut pass, session);
+            (pass, Ok(()))
+        }
+        Err(fault) => (pass, Err(fault)),
+    }
+}
+
+/// Both come and leave, each on a thread.
+fn both_come<R: Threads + Wait + Sync>(
+    rt: &R,
+    fabric: &Fabric,
+    one: Pass,
+    two: Pass,
+) -> (Came, Came)
+    requires one { IsPassIn fabric.now one }
+    requires two { IsPassIn fabric.now two }
+    ensures first { IsPassIn fabric.now result.0.0
+        × ((knowing result.0.0).part ≡ (knowing one).part) }
+    ensures second { IsPassIn fabric.now result.1.0
+        × ((knowing result.1.0).part ≡ (knowing two).part) }
+    ensures first_made { OnOk result.0.1
+        (length (knowing result.0.0).mine ≡ length (knowing one).mine + 2) }
+    ensures second_made { OnOk result.1.1
+        (length (knowing result.1.0).mine ≡ length (knowing two).mine + 2) }
+{
+    join(
+        rt,
+        || -> Came
+            requires { IsPassIn fabric.now one }
+            ensures pass { IsPassIn fabric.entry.now result.0
+                × ((knowing result.0).part ≡ (knowing one).part) }
+            ensures made { OnOk result.1
+                (length (knowing result.0).mine ≡ length (knowing one).mine + 2) }
+        { come_and_leave(rt, fabric, one, 1) },
+        || -> Came
+            requires { IsPassIn fabric.now two }
+            ensures pass { IsPassIn fabric.entry.now result.0
+                × ((knowing result.0).part ≡ (knowing two).part) }
+            ensures made { OnOk result.1
+                (length (knowing result.0).mine ≡ length (knowing two).mine + 2) }
+        { come_and_leave(rt, fabric, two, 2) },
+    )
+}
+
+/// Two users come and leave on two threads. Where both did, the book has just their four entries.
+fn two_come<R: Threads + Wait + Sync>(
+    rt: &R,
+    alloc: Global,
+) -> Result<(Book, Result<(), StepFault>), NoMemory>
+    ensures { IfOk result (λ r. OnOk r.1 (length r.0.entries ≡ 4)) }
+{
+    let (fabric, mut one) = Fabric::new(alloc, 8, LIMITS)?;
+    let two = fabric.fork(&mut one);
+    let ((mut one, first), (two, second)) = both_come(rt, &fabric, one, two);
+    fabric.join(&mut one, two);
+    let book = fabric.close(rt, one);
+    match (first, second) {
+        (Ok(()), Ok(())) => Ok((book, Ok(()))),
+        (Err(fault), _) | (_, Err(fault)) => Ok((book, Err(fault))),
+    }
+}
+
+#[test]
+fn two_users_come_and_leave(rt: HostRuntime) -> Result<(), Fail> {
+    let (book, said) = two_come(&rt, rt.alloc())?;
+    assert!(rt; book.free() == book.buffers());
+    let history = book.close();
+    said?;
+    assert_eq!(rt; history.len(), 4);
+    Ok(())
+}
