@@ -19,8 +19,8 @@ fn open(hold: &mut Hold, port: u32) -> Result<(), NoMemory>
     ensures cells { hold.new.cells ≡ hold.old.cells }
     ensures later { OnOk result ((other : ℕ) → port < other → has_port hold.new.ports other ≡ has_port hold.old.ports other) }
 {
-    hold.reserve(2, 2, 0)?;
-    hold.set_port(PortId(port), 2, 2, 0);
+    let room = hold.room(2, 2, 0)?;
+    hold.set_port(PortId(port), room);
     Ok(())
 }
 

@@ -1,6 +1,6 @@
 -- The table of a port, found in its row.
-use Rattle.std.proofs.Common.{ℕ, zero, suc, ◌≡◌, ◌≢◌, ◌<◌, Bool, true, false, nat_eq, if◌then◌else◌, List, [], ◌∷◌, ◌++◌, length, map, filter, find, get_or, slice_set, Option, Some, None, inl, inr, refl, sym, ◌∙◌, ap, arith}
-use Rattle.std.specs.Prelude.{◌||◌, All, IfSome, IsSome, option_map, is_some}
+use Rattle.std.proofs.Common.{ℕ, zero, suc, ◌≡◌, ◌≢◌, ◌<◌, ◌≤◌, Bool, true, false, nat_eq, if◌then◌else◌, List, [], ◌∷◌, ◌++◌, length, map, find, get_or, slice_set, Option, Some, None, inl, inr, refl, sym, ◌∙◌, ap, arith}
+use Rattle.std.specs.Prelude.{◌||◌, All, IfSome, option_map, is_some}
 use Rattle.std.specs.List.{AllByRecursion}
 use Rattle.std.specs.Option.{option_map_or}
 use Rattle.std.proofs.lemmas.Bool.{cases_Bool}
@@ -12,7 +12,7 @@ use Rattle.nm_hold.specs.declared.table.PortTable.{PortTable}
 use Rattle.nm_hold.specs.Offsets.{offset_of, has_port, ArePortsOnce}
 use Rattle.nm_hold.specs.Holds.{port_of}
 use Rattle.nm_hold.specs.Tables.{IsTable, ports_of, number_in, number_at, put_in}
-use Rattle.nm_hold.specs.Indexed.{tables_present, row_at, port_in, port_at, index_noted, IsIndexed, AreKeys}
+use Rattle.nm_hold.specs.Indexed.{tables_present, row_at, port_in, port_at, IsIndexed, AreKeys}
 use Rattle.nm_hold.proofs.Spots.{nat_eq-is, offset-port}
 use Rattle.nm_hold.proofs.Numbers.{without}
 
@@ -305,69 +305,34 @@ indexed-without rows at port index new is there gone = record {
   ];
 }
 
--- rows without those that are empty
-pub present-closed : (rows : List (Option PortTable)) → tables_present (filter (λ (s : Option PortTable). is_some s) rows) ≡ tables_present rows
-present-closed [] = refl
-present-closed (None ∷ rows) = present-closed rows
-present-closed (Some t ∷ rows) = ap (λ (ts : List PortTable). t ∷ ts) (present-closed rows)
+-- a table behind others is that of another port
+apart_from_it : (tables : List PortTable) (t : PortTable) (rest : List PortTable) (port : ℕ) → has_port (ports_of (tables ++ t ∷ rest)) port ≡ false → nat_eq t.places.port.0 port ≡ false
+apart_from_it [] t rest port none = elim (cases_Bool (nat_eq t.places.port.0 port)) [
+  | inl same ↦ true_false (sym (rw same refl) ∙ none)
+  | inr differs ↦ differs
+]
+apart_from_it (u ∷ tables) t rest port none = elim (cases_Bool (nat_eq u.places.port.0 port)) [
+  | inl same ↦ true_false (sym (rw same refl) ∙ none)
+  | inr differs ↦ apart_from_it tables t rest port (rw differs at none)
+]
 
-pub keys-closed : (rows new : List (Option PortTable)) (index : ℕ → Option ℕ) → tables_present new ≡ tables_present rows → IsIndexed rows index → AreKeys new index
-keys-closed rows new index same is = let keys = keys-indexed rows index is in record {
-  once = rw same keys.once;
-  known = λ port. keys.known port ∙ ap (λ (ts : List PortTable). has_port (ports_of ts) port) (sym same);
-}
+flipped : (a b : ℕ) → nat_eq a b ≡ false → nat_eq b a ≡ false
+flipped a b e = grind (arith, nat_tests)
 
--- the rows before this one are noted
-abbrev pub IsNoted : List (Option PortTable) → (ℕ → Option ℕ) → ℕ → Type 0
-IsNoted rows index next = (at port : ℕ) → at < next → port_at rows at ≡ Some port → index port ≡ Some at
+table_is_new : (tables : List PortTable) (t : PortTable) (rest : List PortTable) → ArePortsOnce (ports_of (tables ++ t ∷ rest)) → has_port (ports_of tables) t.places.port.0 ≡ false
+table_is_new [] t rest once = refl
+table_is_new (u ∷ tables) t rest once = rw (flipped t.places.port.0 u.places.port.0 (apart_from_it tables t rest u.places.port.0 once.0)) (table_is_new tables t rest once.1)
 
-pub indexed-noted : (rows : List (Option PortTable)) (index : ℕ → Option ℕ) → AreKeys rows index → IsNoted rows index (length rows) → IsIndexed rows index
-indexed-noted rows index keys noted = record {
-  found = all;
-  there = λ at port e. (let has : has_port (ports_of (tables_present rows)) port ≡ true = sym (keys.known port) ∙ ap is_some e in
-      let there = row-there rows port has in
-      let same : there.0 ≡ at = some_is there.0 at (sym (all there.0 port there.1) ∙ e) in
-      ap (port_at rows) (sym same) ∙ there.1);
-}
-  where
-    all : (at port : ℕ) → port_at rows at ≡ Some port → index port ≡ Some at
-    all at port e = noted at port (within_rows rows at port e) e
+pub row_is_new : (tables : List PortTable) (row : Option PortTable) (rest : List (Option PortTable)) (all : List PortTable) → tables ++ tables_present (row ∷ rest) ≡ all → ArePortsOnce (ports_of all)
+    → IfSome row (λ t. has_port (ports_of tables) t.places.port.0 ≡ false)
+row_is_new tables None rest all joined once = tt
+row_is_new tables (Some t) rest all joined once = table_is_new tables t (tables_present rest) (rw (← joined) at once)
 
-pub noted-next : (rows : List (Option PortTable)) (index new : ℕ → Option ℕ) (next : ℕ) → AreKeys rows index → IsNoted rows index next
-    → ((port : ℕ) → new port ≡ index_noted (port_at rows next) next port (index port)) → IsNoted rows new (suc next)
-noted-next rows index new next keys before put at other within e = by_port (port_at rows next) refl
-  where
-    by_port : (o : Option ℕ) → port_at rows next ≡ o → new other ≡ Some at
-    by_port None none =
-        let other_row : at ≢ next = (λ (same : at ≡ next). none_some other (sym none ∙ (ap (port_at rows) (sym same) ∙ e))) in
-        rw (put other, none) (before at other (omega (arith, within, other_row)) e)
-    by_port (Some port) there = elim (cases_Bool (nat_eq port other)) [
-      | inl same ↦ (let here : at ≡ next = apart-once rows keys.once at next other e (there ∙ ap (λ (n : ℕ). Some n) (nat_eq-is port other same)) in rw (put other, there, same, here) refl)
-      | inr differs ↦ (let other_row : at ≢ next = (λ (same : at ≡ next). apart_from port other differs (some_is port other (sym there ∙ (ap (port_at rows) (sym same) ∙ e)))) in
-          rw (put other, there, differs) (before at other (omega (arith, within, other_row)) e))
-    ]
-
-pub keys-noted : (rows : List (Option PortTable)) (index new : ℕ → Option ℕ) (next : ℕ) → AreKeys rows index
-    → ((port : ℕ) → new port ≡ index_noted (port_at rows next) next port (index port)) → AreKeys rows new
-keys-noted rows index new next keys put = record { once = keys.once; known = λ other. by_port other (port_at rows next) refl }
-  where
-    by_port : (other : ℕ) (o : Option ℕ) → port_at rows next ≡ o → is_some (new other) ≡ has_port (ports_of (tables_present rows)) other
-    by_port other None none = rw (put other, none) (keys.known other)
-    by_port other (Some port) there = elim (cases_Bool (nat_eq port other)) [
-      | inl same ↦ (let has = port-there rows next other (there ∙ ap (λ (n : ℕ). Some n) (nat_eq-is port other same)) in rw (put other, there, same) (sym has))
-      | inr differs ↦ rw (put other, there, differs) (keys.known other)
-    ]
-
-pub known_at : (rows : List (Option PortTable)) (index : ℕ → Option ℕ) (next : ℕ) → AreKeys rows index → IfSome (port_at rows next) (λ port. IsSome (index port))
-known_at rows index next keys = by_port (port_at rows next) refl
-  where
-    known : (o : Option ℕ) → is_some o ≡ true → IsSome o
-    known None e = cc
-    known (Some n) e = refl
-
-    by_port : (o : Option ℕ) → port_at rows next ≡ o → IfSome (port_at rows next) (λ port. IsSome (index port))
-    by_port None e = rw e tt
-    by_port (Some port) e = rw e (known (index port) (keys.known port ∙ port-there rows next port e))
+-- a row has no more tables than one
+pub rows_enough : (rows : List (Option PortTable)) → length (tables_present rows) ≤ length rows
+rows_enough [] = omega arith
+rows_enough (None ∷ rows) = omega (arith, rows_enough rows)
+rows_enough (Some t ∷ rows) = omega (arith, rows_enough rows)
 
 -- the table in a row is one of the tables
 pub row_is_table : (rows : List (Option PortTable)) (at : ℕ) → All IsTable (tables_present rows) → IfSome (row_at rows at) IsTable

@@ -1,6 +1,6 @@
 -- What a hold shows of its cells and tables.
 use Rattle.std.proofs.Common.{Bool, filter, not, ℕ, zero, suc, ◌≡◌, ◌<◌, ◌≤◌, true, false, nat_eq, List, [], ◌∷◌, ◌++◌, length, find, get_or, Option, Some, None, inl, inr, refl, sym, ◌∙◌, ap, arith}
-use Rattle.std.specs.Prelude.{All, ◌||◌, IsSome, IfSome, option_map}
+use Rattle.std.specs.Prelude.{All, ◌||◌, IsSome, option_map}
 use Rattle.std.specs.List.{AllByRecursion}
 use Rattle.std.specs.Option.{option_map_or}
 use Rattle.std.proofs.lemmas.Bool.{cases_Bool}
@@ -13,14 +13,12 @@ use Rattle.nm_hold.proofs.Spots.{nat_eq-is, extra_stands}
 use Rattle.nm_types.specs.declared.place.Place.{Place}
 use Rattle.nm_types.specs.Places.{held_at}
 use Rattle.nm_hold.specs.declared.standing.Standing.{Standing}
-use Rattle.nm_types.specs.declared.id.PortSizes.{PortSizes}
 use Rattle.nm_hold.specs.declared.table.PortPlaces.{PortPlaces}
 use Rattle.nm_hold.specs.declared.table.PortTable.{PortTable}
 use Rattle.nm_hold.specs.Offsets.{AreSizes, ArePortsOnce, has_port, has_place, offset_of}
 use Rattle.nm_hold.specs.Tables.{IsTable, ports_of, number_at}
 use Rattle.nm_hold.specs.Holds.{cell_at, places_in, extra_of, is_named_in, IsHold}
-use Rattle.nm_hold.specs.Standings.{bytes_in, named_bytes_in}
-use Rattle.nm_hold.specs.Ties.{IsTied, IsBlank}
+use Rattle.nm_hold.specs.Ties.{IsTied}
 use Rattle.nm_hold.proofs.Numbers.{has_place-from_number}
 use Rattle.nm_hold.proofs.Tied.{number_if, number_if-some, held-number}
 
@@ -44,9 +42,9 @@ sizes-tables : (tables : List PortTable) → AllByRecursion IsTable tables → A
 sizes-tables [] all = tt
 sizes-tables (t ∷ tables) all = (all.0.sizes, sizes-tables tables all.1)
 
-pub IsHold-stored : (cells : List (Option Standing)) (tables : List PortTable) (room : Option PortSizes) → 3 ≤ length cells → length cells ≤ 65538 → All IsTable tables → ArePortsOnce (ports_of tables) → IsTied cells tables
-    → IsHold (record { cells = cells; ports = ports_of tables; room = room })
-IsHold-stored cells tables room low high all once tied = record {
+pub IsHold-stored : (cells : List (Option Standing)) (tables : List PortTable) → 3 ≤ length cells → length cells ≤ 65538 → All IsTable tables → ArePortsOnce (ports_of tables) → IsTied cells tables
+    → IsHold (record { cells = cells; ports = ports_of tables })
+IsHold-stored cells tables low high all once tied = record {
   once = once;
   pool = (omega arith, omega arith);
   sizes = All-from_recursion (λ (p : PortPlaces). AreSizes p.sizes) (ports_of tables) (sizes-tables tables (recursion_from_All IsTable tables all));
@@ -80,11 +78,6 @@ all_push (u ∷ tables) t all new = (all.0, all_push tables t all.1 new)
 
 pub tables-push : (tables : List PortTable) (t : PortTable) → All IsTable tables → IsTable t → All IsTable (tables ++ t ∷ [])
 tables-push tables t all new = All-from_recursion IsTable (tables ++ t ∷ []) (all_push tables t (recursion_from_All IsTable tables all) new)
-
--- room that is kept stays where no less is spare
-pub room_kept : (room : Option PortTable) (spare new : ℕ) → spare ≤ new → IfSome room (λ t. IsBlank t × (0 < spare)) → IfSome room (λ t. IsBlank t × (0 < new))
-room_kept None spare new h kept = tt
-room_kept (Some t) spare new h kept = (kept.0, omega (arith, kept.1))
 
 -- a place that holds a buffer has its number
 pub held_has_number : (cells : List (Option Standing)) (tables : List PortTable) (p : Place) → IsTied cells tables → IsSome (held_at (places_in cells) p) → 0 < number_at tables p

@@ -1,5 +1,5 @@
 -- A session's places as contracts see them: at each index where the buffer of that index stands, the
--- ports with their sizes, and the sizes for which room is kept.
+-- ports with their sizes.
 use Rattle.std.specs.Prelude.{ℕ, Bool, false, true, All, find, ◌==◌, ◌≡◌, ◌+◌, ◌-◌, ◌≤◌, List, [], ◌∷◌, length, map, replicate, slice_index_or, slice_set, Option, Some, None, option_map}
 use Rattle.std.specs.Option.{option_map_or}
 use Rattle.nm_types.specs.declared.place.Place.{Place}
@@ -7,7 +7,6 @@ use Rattle.nm_types.specs.declared.place.Place.TheVariants.{Tx, Rx, Extra}
 use Rattle.nm_types.specs.Places.{Held, held_at, is_same_place}
 use Rattle.nm_region.specs.Buffers.{Buffer}
 use Rattle.nm_hold.specs.declared.standing.Standing.{Standing}
-use Rattle.nm_types.specs.declared.id.PortSizes.{PortSizes}
 use Rattle.nm_hold.specs.declared.table.PortPlaces.{PortPlaces}
 use Rattle.nm_types.specs.Buffers.{IsPoolSize}
 use Rattle.nm_hold.specs.Offsets.{AreSizes, ArePortsOnce, has_place}
@@ -16,11 +15,10 @@ use Rattle.nm_hold.specs.Standings.{buf_in, named_bytes_in, cell_written}
 pub record HoldState : Type 0 where
   pub cells : List (Option Standing)
   pub ports : List PortPlaces
-  pub room : Option PortSizes
 
 -- nothing stands anywhere, and there is no port
 abbrev pub empty_hold : ℕ → HoldState
-empty_hold buffers = record { cells = replicate (buffers + 2) None; ports = []; room = None }
+empty_hold buffers = record { cells = replicate (buffers + 2) None; ports = [] }
 
 -- the number of buffers in the pool of which the hold has some
 abbrev pub buffers_of : HoldState → ℕ

@@ -1,5 +1,5 @@
 -- The rows that keep the tables of ports, each found by its port's number.
-use Rattle.std.specs.Prelude.{ℕ, ◌≡◌, ◌==◌, if◌then◌else◌, List, [], ◌∷◌, Option, Some, None, is_some, option_map, slice_index_or}
+use Rattle.std.specs.Prelude.{ℕ, ◌≡◌, List, [], ◌∷◌, Option, Some, None, is_some, option_map, slice_index_or}
 use Rattle.nm_hold.specs.declared.table.PortTable.{PortTable}
 use Rattle.nm_hold.specs.Offsets.{has_port, ArePortsOnce}
 use Rattle.nm_hold.specs.Tables.{ports_of}
@@ -19,11 +19,6 @@ port_in row = option_map (λ (t : PortTable). t.places.port.0) row
 
 abbrev pub port_at : List (Option PortTable) → ℕ → Option ℕ
 port_at rows at = port_in (row_at rows at)
-
--- where a port is found once a row is noted for its port
-abbrev pub index_noted : Option ℕ → ℕ → ℕ → Option ℕ → Option ℕ
-index_noted None at other was = was
-index_noted (Some port) at other was = if port == other then Some at else was
 
 -- a port is found in the row that has its table, and no other number is found
 pub record IsIndexed (rows : List (Option PortTable)) (index : ℕ → Option ℕ) : Type 0 where

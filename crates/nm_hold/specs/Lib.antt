@@ -5,6 +5,7 @@ pub mod Lending
 pub mod Names
 pub mod Offsets
 pub mod PortLists
+pub mod Rooms
 pub mod Standings
 pub mod Stored
 pub mod Tables

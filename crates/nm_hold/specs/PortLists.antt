@@ -1,5 +1,5 @@
 -- The tables of a session's ports as contracts see them: in the order in which the ports came, and for
--- how many more of them room is kept.
+-- how many more of them there is room.
 use Rattle.std.specs.Prelude.{ℕ, List}
 use Rattle.nm_hold.specs.declared.table.PortTable.{PortTable}
 

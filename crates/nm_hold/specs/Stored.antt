@@ -1,8 +1,8 @@
 -- The fields of a hold.
-use Rattle.std.specs.Prelude.{◌<◌, ◌≤◌, length, All, IfSome}
+use Rattle.std.specs.Prelude.{◌≤◌, length, All}
 use Rattle.nm_hold.specs.Offsets.{ArePortsOnce}
 use Rattle.nm_hold.specs.Tables.{IsTable, ports_of}
-use Rattle.nm_hold.specs.Ties.{IsTied, IsBlank}
+use Rattle.nm_hold.specs.Ties.{IsTied}
 use Rattle.nm_hold.specs.declared.hold.Hold.TheInside.{Inside}
 
 pub record IsStored (h : Inside) : Type 0 where
@@ -11,4 +11,3 @@ pub record IsStored (h : Inside) : Type 0 where
   pub tables : All IsTable h.ports.tables
   pub once : ArePortsOnce (ports_of h.ports.tables)
   pub tied : IsTied h.cells.items h.ports.tables
-  pub room : IfSome h.room (λ t. IsBlank t × (0 < h.ports.spare))

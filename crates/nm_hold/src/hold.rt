@@ -1,6 +1,6 @@
 ghost use Rattle.std.specs.Prelude.{ℕ, ◌≡◌, ◌≢◌, ◌≤◌, ◌++◌, ◌∷◌, ◌==◌, ◌↔◌, [], true, false};
-ghost use Rattle.std.specs.Prelude.{None, Some, IsSome, IsTrue, IfOk, IfSome, OnOk, OnErr, filter, not};
-ghost use Rattle.std.specs.Prelude.{length, option_map, if◌then◌else◌};
+ghost use Rattle.std.specs.Prelude.{None, Some, IsSome, IsTrue, IfOk, IfSome, filter, not};
+ghost use Rattle.std.specs.Prelude.{◌<◌, length, option_map, if◌then◌else◌};
 ghost use Rattle.std.specs.Borrow.{sem};
 ghost use Rattle.std.specs.Option.{option_copied, option_copied_mut};
 ghost use Rattle.nm_types.specs.Buffers.{IsPoolSize, IsBufferIndex};
@@ -24,6 +24,27 @@ use nm_region::Buf;
 use nm_types::{NoMemory, Place, PortId, PortSizes};
 use std::alloc::Global;
 use std::marker::Model;
+use std::mem::replace;
+
+/// The memory for one more port of a hold: its places, and a list with room for it and the ports
+/// that there are.
+#[derive(Drop)]
+pub struct PortRoom {
+    table: PortTable,
+    ports: Ports,
+}
+
+impl Model for PortRoom {
+    ghost use Rattle.nm_hold.specs.Rooms.{RoomState};
+
+    ghost Value = { RoomState };
+
+    ghost use Rattle.nm_hold.specs.Rooms.{IsRoom};
+
+    ghost view = { λ r. record { sizes = r.table.places.sizes; ports = r.ports.spare } };
+
+    ghost invariant = { IsRoom };
+}
 
 /// The places of a session's ports and the buffers in them. It cannot be dropped: `close` ends it
 /// once it holds no buffer.
@@ -34,13 +55,10 @@ use std::marker::Model;
 pub struct Hold {
     cells: Vec<Option<Standing>>,
     ports: Ports,
-    room: Option<PortTable>,
     alloc: Global,
 }
 
 impl Model for Hold {
-    ghost use Rattle.std.specs.Prelude.{option_map};
-    ghost use Rattle.nm_hold.specs.declared.table.PortTable.{PortTable};
     ghost use Rattle.nm_hold.specs.Tables.{ports_of};
     ghost use Rattle.nm_hold.specs.Holds.{HoldState};
 
@@ -51,7 +69,6 @@ impl Model for Hold {
     ghost view = { λ h. record {
       cells = h.cells.items;
       ports = ports_of h.ports.tables;
-      room = option_map (λ (t : PortTable). t.places.sizes) h.room;
     } };
 
     ghost invariant = { IsStored };
@@ -73,41 +90,38 @@ impl Hold {
         Ok(Hold {
             cells,
             ports: Ports::new(alloc),
-            room: None,
             alloc,
         })
     }
 
-    /// Keeps room for one more port of these sizes, instead of room that was kept before. No size is
-    /// above that of the largest ring, or the most extra buffers of a port.
-    pub fn reserve(&mut self, tx: u32, rx: u32, extra: u32) -> Result<(), NoMemory>
+    /// The memory for one more port of these sizes, none of which is above that of the largest ring,
+    /// or the most extra buffers of a port. If it is not used, it is dropped.
+    pub fn room(&self, tx: u32, rx: u32, extra: u32) -> Result<PortRoom, NoMemory>
         requires { AreSizes (record { tx = tx; rx = rx; extra = extra }) }
-        ensures ok { OnOk result (self.new ≡ record self.old {
-          room = Some (record { tx = tx; rx = rx; extra = extra });
-        }) }
-        ensures err { OnErr result (self.new ≡ self.old) }
+        ensures sizes { IfOk result
+            (λ room. room.sizes ≡ record { tx = tx; rx = rx; extra = extra }) }
+        ensures ports { IfOk result (λ room. length self.now.ports < room.ports) }
     {
-        let sizes = PortSizes { tx, rx, extra };
-        self.ports.reserve()?;
-        self.room = Some(PortTable::blank(self.alloc, sizes)?);
-        Ok(())
+        let table = PortTable::blank(self.alloc, PortSizes { tx, rx, extra })?;
+        let ports = self.ports.with_room_for_more(self.alloc)?;
+        Ok(PortRoom { table, ports })
     }
 
-    /// Adds a port of the sizes for which room is kept. Its places hold nothing.
-    pub fn set_port(&mut self, port: PortId, tx: u32, rx: u32, extra: u32)
-        requires room { self.old.room ≡ Some (record { tx = tx; rx = rx; extra = extra }) }
+    /// Adds a port, whose places hold nothing. It takes no more memory, and its cost grows with the
+    /// number of ports.
+    pub fn set_port(&mut self, port: PortId, room: PortRoom)
+        requires room { length self.old.ports < room.ports }
         requires new { has_port self.old.ports port.0 ≡ false }
         ensures ports { self.new ≡ record self.old {
-          ports = self.old.ports
-              ++ record { port = port; sizes = record { tx = tx; rx = rx; extra = extra } } ∷ [];
-          room = None;
+          ports = self.old.ports ++ record { port = port; sizes = room.sizes } ∷ [];
         } }
         ensures hold { IsHold self.new }
     {
-        if let Some(mut table) = self.room.take() {
-            table.places.port = port;
-            self.ports.push(table);
-        }
+        let PortRoom { mut table, ports } = room;
+        let others = replace(&mut self.ports, ports);
+        self.ports.take_over(others);
+        table.places.port = port;
+        self.ports.push(table);
     }
 
     /// Removes the places of a port, which hold nothing.
@@ -308,7 +322,6 @@ impl Hold {
         ensures named { (was i : ℕ) → index_at self.old place ≡ Some was
             → is_named_at self.new i ≡ is_named_at self.old (swapped was idx i) }
         ensures ports { self.new.ports ≡ self.old.ports }
-        ensures room { self.new.room ≡ self.old.room }
         ensures hold { IsHold self.new }
     {
         let was = self.ports.number(place);
@@ -331,7 +344,6 @@ impl Hold {
         let Hold {
             mut cells,
             ports: _,
-            room: _,
             alloc: _,
         } = self;
         while let Some(cell) = cells.pop() {

@@ -9,7 +9,7 @@ mod table;
 #[cfg(test)]
 mod tests;
 
-pub use hold::Hold;
+pub use hold::{Hold, PortRoom};
 pub use nm_types::PortSizes;
 pub use standing::{Home, Standing};
 pub use table::PortPlaces;

@@ -1,12 +1,11 @@
-ghost use Rattle.std.specs.Prelude.{ℕ, ◌≡◌, ◌==◌, ◌≤◌, ◌<◌, ◌++◌, ◌∷◌, [], All, IfSome, IsSome};
-ghost use Rattle.std.specs.Prelude.{false, None, Some, OnOk, not, filter, find, map, nat_eq, option_map};
+ghost use Rattle.std.specs.Prelude.{◌≡◌, ◌==◌, ◌≤◌, ◌<◌, ◌+◌, ◌++◌, ◌∷◌, [], All, IfOk, IfSome};
+ghost use Rattle.std.specs.Prelude.{false, length, not, filter, find, map, option_map};
 ghost use Rattle.std.specs.Option.{option_copied};
-ghost use Rattle.std.specs.HashMap.{get, spare};
 ghost use Rattle.nm_hold.specs.declared.table.PortTable.{PortTable};
 ghost use Rattle.nm_hold.specs.Offsets.{has_port, ArePortsOnce};
 ghost use Rattle.nm_hold.specs.Holds.{port_of};
 ghost use Rattle.nm_hold.specs.Tables.{number_at, ports_of, put_in, IsTable};
-ghost use Rattle.nm_hold.specs.Indexed.{port_in, index_noted, IsIndexed, AreKeys};
+ghost use Rattle.nm_hold.specs.Indexed.{tables_present};
 
 use crate::table::PortTable;
 use nm_types::{Place, PortId};
@@ -18,7 +17,7 @@ use std::marker::Model;
 /// table of a port by its number.
 #[derive(Drop)]
 pub(crate) struct Ports {
-    // a removed port leaves its row empty until `reserve` closes up
+    // a removed port leaves its row empty until other ports take over
     rows: Vec<Option<PortTable>>,
     indices: HashMap<u32, usize>,
 }
@@ -86,11 +85,12 @@ impl Ports {
         }
     }
 
-    /// Adds the table of a new port, for which room is kept.
+    /// Adds the table of a new port, for which there is room.
     pub(crate) fn push(&mut self, table: PortTable)
         requires room { 0 < self.old.spare }
         requires new { has_port (ports_of self.old.tables) table.places.port.0 ≡ false }
-        ensures { self.new.tables ≡ self.old.tables ++ table ∷ [] }
+        ensures tables { self.new.tables ≡ self.old.tables ++ table ∷ [] }
+        ensures spare { self.old.spare ≤ self.new.spare + 1 }
     {
         let port = table.places.port;
         let at = self.rows.len();
@@ -112,27 +112,47 @@ impl Ports {
         }
     }
 
-    /// Keeps room for one more port.
-    pub(crate) fn reserve(&mut self) -> Result<(), AllocError>
-        ensures tables { self.new.tables ≡ self.old.tables }
-        ensures spare { self.old.spare ≤ self.new.spare }
-        ensures ok { OnOk result (0 < self.new.spare) }
+    /// No ports, with room for as many as these and one more.
+    pub(crate) fn with_room_for_more(&self, alloc: Global) -> Result<Ports, AllocError>
+        ensures tables { IfOk result (λ ports. ports.tables ≡ []) }
+        ensures spare { IfOk result (λ ports. length self.now.tables < ports.spare) }
     {
-        if self.indices.len() < self.rows.len() / 2 {
-            self.close_up();
-        }
-        self.rows.reserve(1)?;
-        self.indices.reserve(1)
+        let count = self.rows.as_slice().len() + 1;
+        let rows = Vec::with_capacity(alloc, count)?;
+        let mut indices = HashMap::new(alloc);
+        indices.reserve(count)?;
+        Ok(Ports { rows, indices })
     }
 
-    /// Leaves out the rows of removed ports. It costs as much as there are rows, and `reserve` calls
-    /// it if more than half of them are empty: so it costs a fixed amount for each removed port.
-    fn close_up(&mut self)
-        ensures tables { self.new.tables ≡ self.old.tables }
-        ensures spare { self.old.spare ≤ self.new.spare }
+    /// Takes over the tables of other ports in their order, for which there is room here.
+    pub(crate) fn take_over(&mut self, others: Ports)
+        requires empty { self.old.tables ≡ [] }
+        requires room { length others.tables ≤ self.old.spare }
+        ensures tables { self.new.tables ≡ others.tables }
+        ensures spare { self.old.spare ≤ self.new.spare + length others.tables }
     {
-        self.rows.retain(|row| row.is_some());
-        renumber(&self.rows, &mut self.indices);
+        let Ports {
+            mut rows,
+            indices: _,
+        } = others;
+        rows.reverse();
+        while let Some(row) = rows.pop() {
+            self.push_row(row);
+        }
+    }
+
+    /// Adds the table of a row, if it has one.
+    fn push_row(&mut self, row: Option<PortTable>)
+        requires room { IfSome row (λ table. 0 < self.old.spare) }
+        requires new { IfSome row
+            (λ table. has_port (ports_of self.old.tables) table.places.port.0 ≡ false) }
+        ensures tables { self.new.tables ≡ self.old.tables ++ tables_present (row ∷ []) }
+        ensures spare { self.old.spare + length self.old.tables
+            ≤ self.new.spare + length self.new.tables }
+    {
+        if let Some(table) = row {
+            self.push(table);
+        }
     }
 }
 
@@ -153,30 +173,5 @@ fn put_at(row: &mut Option<PortTable>, place: Place, number: u32)
 {
     if let Some(table) = row {
         table.put(place, number);
-    }
-}
-
-/// Notes for each port the row of its table.
-fn renumber(rows: &[Option<PortTable>], indices: &mut HashMap<u32, usize>)
-    requires { AreKeys rows.now (get nat_eq indices.old) }
-    ensures indexed { IsIndexed rows.now (get nat_eq indices.new) }
-    ensures spare { spare indices.new ≡ spare indices.old }
-{
-    for at in 0..rows.len() {
-        note(indices, &rows[at], at);
-    }
-}
-
-/// Notes a row for its port, which has an entry.
-fn note(indices: &mut HashMap<u32, usize>, row: &Option<PortTable>, at: usize)
-    requires { IfSome (port_in row.now) (λ port. IsSome (get nat_eq indices.old port)) }
-    ensures indices { (port : ℕ) → get nat_eq indices.new port
-        ≡ index_noted (port_in row.now) at port (get nat_eq indices.old port) }
-    ensures spare { spare indices.new ≡ spare indices.old }
-{
-    if let Some(table) = row
-        && let Some(index) = indices.get_mut(&table.places.port.0)
-    {
-        *index = at;
     }
 }

@@ -1,5 +1,5 @@
 ghost use Rattle.std.specs.Prelude.{ℕ, ◌≡◌, ◌≢◌, ◌≤◌, ◌++◌, ◌∷◌, [], false, Some, OnOk};
-ghost use Rattle.nm_region.specs.Buffers.{name_of, names_of, opened_buffers, region_names};
+ghost use Rattle.nm_region.specs.Buffers.{AreAllOf, name_of, names_of, opened_buffers, region_names};
 ghost use Rattle.nm_hold.specs.Holds.{empty_hold, buffer_at};
 ghost use Rattle.nm_hold.specs.Names.{name_at};
 ghost use Rattle.nm_hold.specs.Offsets.{has_port};
@@ -96,6 +96,24 @@ fn play(rt: &impl Abort, region: &Region, hold: &mut Hold, all: &mut Vec<Buf>)
     all.push_reserved(first);
 }
 
+/// A port of two slots each comes, and the buffers change places in it.
+fn open_and_play(
+    rt: &impl Abort,
+    region: &Region,
+    hold: &mut Hold,
+    all: &mut Vec<Buf>,
+) -> Result<(), NoMemory>
+    requires count { region.now.buffers ≡ 2 }
+    requires hold { hold.old ≡ empty_hold 8 }
+    requires all { all.old.items ≡ opened_buffers region.now }
+    ensures { AreAllOf region.now all.new.items }
+{
+    let room = hold.room(2, 2, 0)?;
+    hold.set_port(PORT, room);
+    play(rt, region, hold, all);
+    Ok(())
+}
+
 /// Ends a hold, after a look that no buffer is in it.
 fn close_empty(rt: &impl Abort, hold: Hold) {
     for idx in 0..65538 {
@@ -109,11 +127,7 @@ fn exchange_of_two_slots(rt: HostRuntime) -> Result<(), Fail> {
     let (region, mut all) = Region::new(rt.alloc(), 2)?;
     let done = match Hold::new(rt.alloc(), 8) {
         Ok(mut hold) => {
-            let made = hold.reserve(2, 2, 0);
-            if made.is_ok() {
-                hold.set_port(PORT, 2, 2, 0);
-                play(&rt, &region, &mut hold, &mut all);
-            }
+            let made = open_and_play(&rt, &region, &mut hold, &mut all);
             close_empty(&rt, hold);
             made
         }
@@ -136,10 +150,10 @@ fn named_bytes_are_written(rt: HostRuntime) {
     let Ok(mut hold) = Hold::new(rt.alloc(), 8) else {
         panic!(rt; "the buffer stays out: no memory");
     };
-    if hold.reserve(2, 2, 0).is_err() {
+    let Ok(room) = hold.room(2, 2, 0) else {
         panic!(rt; "the buffer stays out: no memory");
-    }
-    hold.set_port(PORT, 2, 2, 0);
+    };
+    hold.set_port(PORT, room);
     hold.add(FIRST, two);
     assert!(rt; hold.bytes_mut(2).is_none() && hold.bytes_mut(3).is_none());
     assert!(rt; hold.index(FIRST).is_some());
@@ -159,12 +173,12 @@ fn open(hold: &mut Hold, port: u32, extra: u32) -> Result<(), NoMemory>
     ensures ports { OnOk result (hold.new.ports ≡ hold.old.ports
         ++ record { port = record { 0 = port }; sizes = record { tx = 2; rx = 2; extra = extra } } ∷ []) }
 {
-    hold.reserve(2, 2, extra)?;
-    hold.set_port(PortId(port), 2, 2, extra);
+    let room = hold.room(2, 2, extra)?;
+    hold.set_port(PortId(port), room);
     Ok(())
 }
 
-/// Of four ports the first three go; when one more comes, the rows that they left are closed up.
+/// Of four ports the first three go, and then one more comes.
 fn four_ports(rt: &impl Abort, hold: &mut Hold) -> Result<(), NoMemory>
     requires { hold.old ≡ empty_hold 8 }
     ensures { hold.new.cells ≡ hold.old.cells }

@@ -1,277 +1,228 @@
--- A session once a port of it is opened.
-use Rattle.std.proofs.Common.{ℕ, ◌≡◌, ◌<◌, ◌-◌, ◌&&◌, ◌||◌, Bool, true, false, nat_eq, nat_lt, List, [], ◌∷◌, ◌++◌, length, map, Option, option_map, inl, inr, refl, sym, ◌∙◌, ap, arith, append_assoc}
-use Rattle.std.specs.Prelude.{is_some, unwrap_or}
-use Rattle.std.specs.List.{AllByRecursion, IsDistinct, list_any, range_with_len}
-use Rattle.std.proofs.lemmas.Bool.{cases_Bool}
-use Rattle.std.proofs.lemmas.Bool.Decides.{nat_tests}
-use Rattle.std.proofs.lemmas.List.{map-append, length-map}
-use Rattle.std.proofs.lemmas.List.Folds.{list_any-append}
-use Rattle.std.proofs.Math.Seq.{take-append_seam, drop-append_seam}
-use Rattle.nm_types.specs.declared.id.PortId.{PortId}
-use Rattle.nm_types.specs.declared.id.Side.TheVariants as side
-use Rattle.nm_types.specs.declared.place.Place.{Place}
-use Rattle.nm_types.specs.declared.place.Place.TheVariants as place
-use Rattle.nm_types.specs.Places.{held_at, is_same_place}
-use Rattle.nm_types.specs.Positions.{IsRingSize, opened_rx, is_user_slot, dist}
-use Rattle.nm_types.proofs.RingSteps.{dist_self}
-use Rattle.nm_types.specs.OwnPorts.{OwnPort}
-use Rattle.nm_types.specs.OwnSyncs.{opened_tx_ring, opened_port, own_after_open, buffers_of_arrivals}
+-- A session's port that the fabric opened, and the one that its own side adds.
+use Rattle.std.proofs.Common.{ℕ, ◌+◌, ◌^◌, ◌<◌, ◌≤◌, ◌≡◌, Bool, true, false, cond, ◌==◌, nat_eq, List, [], ◌∷◌, ◌++◌, map, take, drop, length, sym, ap, ap₂, subst, arith, refl, ◌∙◌, Option, Some, None, IfSome, inr}
+use Rattle.std.specs.Prelude.{find, option_map, if◌then◌else◌}
+use Rattle.std.specs.Option.{option_map_or}
+use Rattle.std.specs.List.{AllByRecursion as Each, IsDistinct}
+use Rattle.std.proofs.lemmas.Bool.{eq-eqb, ne_eqb, lt-ltb}
+use Rattle.std.proofs.lemmas.List.{length-map}
+use Rattle.std.proofs.lemmas.List.Elements.{recursion_from_All}
+use Rattle.nm_types.specs.declared.fault.OpenFault.{OpenFault}
+use Rattle.nm_types.specs.declared.fault.OpenFault.TheVariants.{BadSize, SwitchesFull, PortsFull, NameTaken, NoBuffers, RecordFull, NoMemory}
+use Rattle.nm_types.specs.declared.id.PortSizes.{PortSizes}
+use Rattle.nm_types.specs.Names.{is_name}
+use Rattle.nm_types.specs.Openings.{are_sizes}
+use Rattle.nm_types.specs.OwnPorts.{OwnPort, OwnState, port_with_id}
+use Rattle.nm_types.specs.OwnSyncs.{buffers_of_arrivals, own_after_open}
 use Rattle.nm_region.specs.Buffers.{Buffer, indices_of}
-use Rattle.nm_ring.proofs.RingLaws.{fresh_slots, positions_fit_at_opening}
-use Rattle.nm_hold.specs.declared.standing.Standing.{Standing}
-use Rattle.nm_hold.specs.declared.table.PortPlaces.{PortPlaces}
-use Rattle.nm_hold.specs.Holds.{HoldState, buffers_of, index_at, port_of, places_in, cell_at}
-use Rattle.nm_hold.proofs.Spots.{nat_eq-is, same_place-is}
-use Rattle.nm_user.specs.declared.fill.Row.TheVariants.{Slots, Extras}
-use Rattle.nm_user.specs.declared.port.UserPort.{UserPort}
-use Rattle.nm_user.specs.Sides.{place_on}
-use Rattle.nm_user.specs.Own.{number_on, held_on, extra_number_at, ring_seen, port_seen, own_seen, bytes_in_cell, named_ring_places, named_tx_places, named_places_of, named_places, size_if, is_filled, is_filled_in, places_of_port, AreFilled, AreFlagged, AreSided, AreRings, AreWhole, HasPlaces, IsTxSide, IsRingIf}
-use Rattle.nm_user.specs.Filling.{place_in, index_with, named_with, bytes_with, AreFilledWith}
-use Rattle.nm_user.specs.Opening.{IsTxSize, blank_arrivals, opened_slots, opened_user_port}
-use Rattle.nm_user.proofs.Judging.{false_true}
-use Rattle.nm_user.proofs.Filled.{named_are_filled}
-use Rattle.nm_user.proofs.Written.{port_same}
-use Rattle.nm_user.proofs.Opening.{IsOther, unfilled, opened_bytes, index_off, other_port, in_range, index_row, row_numbers, named_from, named_off}
+use Rattle.nm_own.specs.Regions.{SideState}
+use Rattle.nm_own.specs.NewPorts.{NewPortState, HasRoomFor}
+use Rattle.nm_own.specs.Opening.{IsNew, blank_arrivals}
+use Rattle.vale_entry.specs.declared.entry.Ask.{Ask}
+use Rattle.vale_entry.specs.declared.entry.Ask.TheVariants.{Open}
+use Rattle.vale_entry.specs.declared.entry.Reply.{Reply}
+use Rattle.vale_entry.specs.declared.entry.Reply.TheVariants.{Opened, Refused}
+use Rattle.vale_entry.specs.Arrivals.{arrivals_of}
+use Rattle.vale_entry.specs.Holdings.{is_buffer_index}
+use Rattle.vale_entry.specs.Opening.{open_refusal}
+use Rattle.vale_entry.specs.Legal.{Standing, standing_of, session_and_reply, open_step_by, can_open, fits_u32}
+use Rattle.vale_entry.proofs.Counting.{count_of, count_of-cons}
+use Rattle.vale_entry.proofs.HistoryLaws.{history-stands}
+use Rattle.vale_entry.proofs.Worlds.{count-world_of}
+use Rattle.vale_own.specs.Own.{Own, own_of}
+use Rattle.vale_own.specs.Asker.{asks}
+use Rattle.vale_own.specs.Side.{IsSoundSideOf, id_of}
+use Rattle.vale_own.specs.SideLaws.{IsNewTo}
+use Rattle.vale_own.proofs.Arriving.{arrivals-apart, buffers-come-new}
+use Rattle.vale_own.proofs.Buffers.{blank-buffers}
+use Rattle.vale_own.proofs.SideAsking.{open-asked}
+use Rattle.vale_own.proofs.SideKept.{OpensWith, opens-with, ids-older}
+use Rattle.vale_own.proofs.SideMoves.{one_if}
+use Rattle.vale_own.proofs.SideOpens.{opened-allowed}
+use Rattle.vale_own.proofs.Sounds.{sound-of}
+use Rattle.vale_core.specs.declared.opening.Opened.{Opened as OpenedPort}
+use Rattle.vale_fabric.specs.Fabrics.{Knowing, Answers, before_in, earlier, entry_by}
+use Rattle.vale_fabric.specs.Ports.{Hands, OpensNot as FabricOpensNot}
+use Rattle.nm_user.specs.Sessions.{SessionState, IsThere, standing_seen, own_in}
+use Rattle.nm_user.specs.Calls.{Made}
+use Rattle.nm_user.specs.Ports.{OpensNot}
+use Rattle.nm_user.specs.Opening.{IsReady, CanAdd, own_if}
+use Rattle.nm_user.proofs.Later.{between, same-own}
+use Rattle.nm_user.proofs.After.{after_call, there-still, whose, last}
+use Rattle.nm_user.proofs.Plain.{has-side, asked, there-answered}
 
-pub indices_length : (bufs : List Buffer) → length (indices_of bufs) ≡ length bufs
-indices_length bufs = length-map bufs (λ (b : Buffer). b.index)
+-- a session's opening
+abbrev pub opening : SessionState → List ℕ → ℕ → ℕ → ℕ → Ask
+opening s name tx rx extra = Open (record { 0 = s.id }) name tx rx extra
 
-pub ruleset lengths = (indices_length)
+pub open-asks : {s : SessionState} (name : List ℕ) (tx rx extra : ℕ) → IsThere None s → is_name name ≡ true → tx < 2 ^ 32 → rx < 2 ^ 32 → extra < 2 ^ 32
+    → asks (standing_seen s.fixed s.knows) s.id (opening s name tx rx extra) ≡ true
+open-asks {s} name tx rx extra t named first second third =
+    let one : fits_u32 tx ≡ true = lt-ltb tx (2 ^ 32) first in
+    let two : fits_u32 rx ≡ true = lt-ltb rx (2 ^ 32) second in
+    let three : fits_u32 extra ≡ true = lt-ltb extra (2 ^ 32) third in
+    asked (opening s name tx rx extra) t (open-asked s.fixed.pool s.knows.seen (record { 0 = s.id }) None s.own name tx rx extra (has-side t) named one two three)
 
--- an own side as it was, with room for a port, with its places, and with its buffers
-pub record Opens (h h1 h2 h3 : HoldState) (ports : List UserPort) (id : PortId) (rx : ℕ) (tx extra : List ℕ) : Type 0 where
-  pub none : AllByRecursion (IsOther id.0) ports
-  pub tx_size : IsTxSize (length tx)
-  pub rx_size : IsRingSize rx
-  pub cells : h1.cells ≡ h.cells
-  pub places : h1.ports ≡ h.ports ++ record { port = id; sizes = record { tx = length tx; rx = rx; extra = length extra } } ∷ []
-  pub slots : AreFilledWith h1 h2 id Slots (length tx - 1) 0 tx
-  pub extras : AreFilledWith h2 h3 id Extras (length extra) 0 extra
+abbrev reply-in : Option (ℕ × Reply) → Reply
+reply-in found = option_map_or (λ (made : ℕ × Reply). made.1) found Opened
 
-turn_or : (a b c : Bool) → (c || (b || a)) ≡ (a || ((b || c) || false))
-turn_or true true true = refl
-turn_or true true false = refl
-turn_or true false true = refl
-turn_or true false false = refl
-turn_or false true true = refl
-turn_or false true false = refl
-turn_or false false true = refl
-turn_or false false false = refl
+-- an opening that is answered so was not refused
+opened-none : (can : Bool) (refusal : Option OpenFault) (s : Standing) (session by : ℕ) (name : List ℕ) (tx rx extra : ℕ) (reply : Reply)
+    → option_map session_and_reply (if can then Some (open_step_by refusal s session name tx rx extra) else None) ≡ Some (by, reply) → reply ≡ Opened → refusal ≡ None
+opened-none false refusal s session by name tx rx extra reply e is = absurd cc
+opened-none true None s session by name tx rx extra reply e is = refl
+opened-none true (Some fault) s session by name tx rx extra reply e is = absurd (let bad : Refused fault ≡ Opened = ap reply-in e ∙ is in cc)
 
-module _ (h h1 h2 h3 : HoldState) (ports : List UserPort) (id : PortId) (name : List ℕ) (rx : ℕ) (tx extra : List ℕ) (o : Opens h h1 h2 h3 ports id rx tx extra) where
-  abbrev new : UserPort
-  new = opened_user_port id name rx tx extra
+-- a port that is older has another id
+none-older : (id : ℕ) (ports : List OwnPort) → Each (λ (n : ℕ). n < id) (map id_of ports) → find (λ (p : OwnPort). p.id.0 == id) ports ≡ None
+none-older id [] all = refl
+none-older id (p ∷ ports) all =
+    let other : (p.id.0 == id) ≡ false = ne_eqb p.id.0 id (λ e. let less = all.0 in omega (arith, less, e)) in
+    rw other (none-older id ports all.1)
 
-  size_new : size_if (opened_slots tx) ≡ length tx
-  size_new = elim (cases_Bool (nat_eq (length tx) 0)) [
-    | inl none ↦ rw none (sym (nat_eq-is (length tx) 0 none))
-    | inr some ↦ rw some refl
-  ]
+-- buffers that come once each
+none-same : (x : ℕ) (xs : List ℕ) → count_of x xs ≡ 0 → Each (λ y. nat_eq x y ≡ false) xs
+none-same x [] none = tt
+none-same x (y ∷ ys) none =
+    let all = count_of-cons x y ys in
+    (ne_eqb x y (λ e. let here : (y == x) ≡ true = eq-eqb y x (sym e) in let one : one_if (y == x) ≡ one_if true = ap one_if here in omega (arith, all, one, none)), none-same x ys (omega (arith, all, none)))
 
-  index_now : (q : Place) → index_at h3 q ≡ index_with id Extras 0 extra q (index_with id Slots 0 tx q (index_at h q))
-  index_now q = o.extras.index q ∙ ap (index_with id Extras 0 extra q) (o.slots.index q ∙ ap (λ (cells : List (Option Standing)). index_with id Slots 0 tx q (held_at (places_in cells) q)) o.cells)
+distinct-once : (xs : List ℕ) → ((b : ℕ) → count_of b xs ≤ 1) → IsDistinct nat_eq xs
+unfolding IsDistinct
+distinct-once [] once = tt
+distinct-once (x ∷ xs) once =
+    let all = count_of-cons x x xs in
+    let here : one_if (x == x) ≡ one_if true = ap one_if (eq-eqb x x refl) in
+    let one = once x in
+    (none-same x xs (omega (arith, all, here, one)), distinct-once xs (λ b. let more = count_of-cons b x xs in let few = once b in omega (arith, more, few)))
 
-  -- places of other ports
-  index_elsewhere : (q : Place) → nat_eq id.0 (port_of q) ≡ false → index_at h3 q ≡ index_at h q
-  index_elsewhere q e =
-      index_now q ∙ (index_off id Extras 0 extra q (index_with id Slots 0 tx q (index_at h q)) (other_port id Extras q e) ∙ index_off id Slots 0 tx q (index_at h q) (other_port id Slots q e))
+once-by : (n m : ℕ) (is : Bool) → n + m ≤ cond is 1 0 → m ≤ 1
+once-by n m true le = omega (arith, le)
+once-by n m false le = omega (arith, le)
 
-  index_tx : (x : ℕ) → index_at h3 (place.Tx id x) ≡ index_with id Slots 0 tx (place.Tx id x) (index_at h (place.Tx id x))
-  index_tx x = index_now (place.Tx id x) ∙ index_off id Extras 0 extra (place.Tx id x) (index_with id Slots 0 tx (place.Tx id x) (index_at h (place.Tx id x))) (λ k. refl)
+each-new : (pool : ℕ) (side : OwnState) (bs : List ℕ) → side.pool ≡ pool → Each (IsNewTo pool side) bs → Each (IsNew side) bs
+each-new pool side [] is all = tt
+each-new pool side (b ∷ bs) is all = ((rw is all.0.index, all.0.no_bytes), each-new pool side bs is all.1)
 
-  index_extra : (x : ℕ) → index_at h3 (place.Extra id x) ≡ index_with id Extras 0 extra (place.Extra id x) (index_at h (place.Extra id x))
-  index_extra x = index_now (place.Extra id x) ∙ ap (index_with id Extras 0 extra (place.Extra id x)) (index_off id Slots 0 tx (place.Extra id x) (index_at h (place.Extra id x)) (λ k. refl))
+abbrev now_at : SessionState → Knowing → Standing
+now_at s w = standing_of s.fixed.pool (earlier w.seen)
 
-  index_rx : (x : ℕ) → index_at h3 (place.Rx id x) ≡ index_at h (place.Rx id x)
-  index_rx x = index_now (place.Rx id x) ∙ (index_off id Extras 0 extra (place.Rx id x) (index_with id Slots 0 tx (place.Rx id x) (index_at h (place.Rx id x))) (λ k. refl) ∙ index_off id Slots 0 tx (place.Rx id x) (index_at h (place.Rx id x)) (λ k. refl))
+-- the buffers of an opened port
+abbrev bufs_at : Standing → ℕ → ℕ → ℕ → List ℕ
+bufs_at now tx rx extra = take tx now.holdings.free ++ take extra (drop (tx + rx) now.holdings.free)
 
-  -- the places that hold a buffer
-  from_start : (n x : ℕ) → in_range 0 n x ≡ nat_lt x n
-  from_start n x = grind (arith, nat_tests)
+-- what is known once the fabric has opened the port
+pub record IsOpened (s : SessionState) (w : Knowing) (name : List ℕ) (tx rx extra number : ℕ) : Type 0 where
+  pub sizes : are_sizes name tx rx extra ≡ true
+  pub lists : OpensWith (now_at s w).holdings.free tx rx extra
+  pub id : port_with_id s.own number ≡ None
+  pub away : Each (IsNew s.own) (bufs_at (now_at s w) tx rx extra)
+  pub once : IsDistinct nat_eq (bufs_at (now_at s w) tx rx extra)
 
-  no_user : (x : ℕ) → is_user_slot (opened_rx rx) x ≡ false
-  no_user x = (let zero : dist rx 0 0 ≡ 0 = dist_none rx o.rx_size in past (nat_lt x rx) (dist rx 0 x) (dist rx 0 0) zero)
-    where
-      dist_none : (n : ℕ) → IsRingSize n → dist n 0 0 ≡ 0
-      dist_none n size = dist_self n 0 (omega (arith, size.0))
+-- a side that has something is there
+pub side-there : (own : Option SideState) (has : OwnState) → own_if own ≡ Some has → (side : SideState) × (own ≡ Some side)
+side-there None has is = absurd cc
+side-there (Some side) has is = (side, refl)
 
-      past : (b : Bool) (a c : ℕ) → c ≡ 0 → (b && nat_lt a c) ≡ false
-      past b a c e = rw e (by_bool b a)
-        where
-          by_bool : (b : Bool) (a : ℕ) → (b && nat_lt a 0) ≡ false
-          by_bool true a = grind (arith, nat_tests)
-          by_bool false a = refl
+own-there : (own : Option SideState) (has : OwnState) → own_if own ≡ Some has → own_in own ≡ has
+own-there None has is = absurd cc
+own-there (Some side) has is = let same : side.own ≡ has = cc in same
 
-  same_self : nat_eq id.0 id.0 ≡ true
-  same_self = grind (arith, nat_tests)
+module _ (s : SessionState) (w : Knowing) (name : List ℕ) (tx rx extra : ℕ) (t : IsThere None s) (may : asks (standing_seen s.fixed s.knows) s.id (opening s name tx rx extra) ≡ true) where
+  abbrev ask : Ask
+  ask = opening s name tx rx extra
 
-  is_filled-more : (all : List UserPort) (q : Place) → is_filled (all ++ new ∷ []) q ≡ (is_filled all q || (is_filled_in q new || false))
-  is_filled-more all q = list_any-append (is_filled_in q) all (new ∷ [])
+  abbrev now : Standing
+  now = now_at s w
 
-  or_none : (b : Bool) → (b || false) ≡ b
-  or_none true = refl
-  or_none false = refl
+  abbrev bufs : List ℕ
+  bufs = bufs_at now tx rx extra
 
-  -- of a place of the new port
-  filled_here : (q : Place) → port_of q ≡ id.0 → AreFilled h ports → (b : Bool) → is_some (index_at h3 q) ≡ (b || is_some (index_at h q)) → is_filled_in q new ≡ b → is_some (index_at h3 q) ≡ is_filled (ports ++ new ∷ []) q
-  filled_here q port filled b now is =
-      let none : is_filled ports q ≡ false = unfilled ports id.0 q port o.none in
-      let before : is_some (index_at h q) ≡ false = filled q ∙ none in
-      let left : is_some (index_at h3 q) ≡ b = now ∙ (ap (λ (a : Bool). b || a) before ∙ or_none b) in
-      let right : is_filled (ports ++ new ∷ []) q ≡ b = is_filled-more ports q ∙ (ap (λ (a : Bool). a || (is_filled_in q new || false)) none ∙ (or_none (is_filled_in q new) ∙ is)) in
-      left ∙ sym right
+  pub is-opened : Answers s.fixed s.knows w ask Opened → IsOpened s w name tx rx extra (length w.seen)
+  is-opened a =
+      let pool = s.fixed.pool in
+      let h = earlier w.seen in
+      let m = a.makes in
+      let e = entry_by m.session ask m.reply in
+      let l = last m in
+      let none = opened-none (can_open now.world s.id name tx rx extra) (open_refusal now.world name tx rx extra) now s.id m.session name tx rx extra m.reply m.steps a.reply_is in
+      let stands = history-stands pool h l.legal in
+      let b = between s.id m t.come t.speaks in
+      let side : IsSoundSideOf pool s.id None (own_of s.id now) s.own = subst (λ (o : Own). IsSoundSideOf pool s.id None o s.own) (sym (same-own b)) t.side in
+      let own-side : IsSoundSideOf pool m.session None (own_of m.session now) s.own = subst (λ (n : ℕ). IsSoundSideOf pool n None (own_of n now) s.own) (sym (whose t m refl may)) side in
+      let come : buffers_of_arrivals (arrivals_of now ask m.reply) ≡ bufs = ap (λ (r : Reply). buffers_of_arrivals (arrivals_of now ask r)) a.reply_is ∙ blank-buffers bufs in
+      let new = recursion_from_All (IsNewTo pool s.own) _ (buffers-come-new pool h e None s.own l.legal l.follows own-side) in
+      let older = ids-older pool now None s.own stands (sound-of pool h l.legal) s.id side in
+      let number : now.world.entry_count + 1 ≡ length w.seen = ap (λ (n : ℕ). n + 1) (count-world_of pool h) ∙ sym l.count in
+      record {
+        sizes = opened-allowed now.world name tx rx extra none;
+        lists = opens-with pool now name tx rx extra stands none;
+        id = none-older (length w.seen) s.own.ports (subst (λ (n : ℕ). Each (λ (k : ℕ). k < n) (map id_of s.own.ports)) number older);
+        away = each-new pool s.own bufs side.of.pool_is (subst (Each (IsNewTo pool s.own)) come new);
+        once = distinct-once bufs (λ x. once-by (count_of x (own_of m.session now).buffers) (count_of x bufs) (is_buffer_index pool x) (rw (← ap (count_of x) come) (arrivals-apart pool h e x l.legal l.follows)));
+      }
 
-  filled_elsewhere : (q : Place) → nat_eq id.0 (port_of q) ≡ false → AreFilled h ports → is_filled_in q new ≡ false → is_some (index_at h3 q) ≡ is_filled (ports ++ new ∷ []) q
-  filled_elsewhere q other filled not = ap is_some (index_elsewhere q other) ∙ (filled q ∙ sym (is_filled-more ports q ∙ rw not (or_none (is_filled ports q))))
+  -- so its own side can add it
+  module _ (a : Answers s.fixed s.knows w ask Opened) (opened : OpenedPort) (number : opened.port.0 ≡ length w.seen) (hands : Hands (before_in s.fixed w) tx rx extra opened) where
+    came : indices_of opened.tx.items ++ indices_of opened.extra.items ≡ bufs
+    came = ap₂ (λ (xs ys : List ℕ). xs ++ ys) hands.tx_are hands.extra_are
 
-  turned : (a b : ℕ) → nat_eq a b ≡ false → nat_eq b a ≡ false
-  turned a b e = grind (arith, nat_tests)
+    pub can-add : (own : Option SideState) (new : Option NewPortState) (side : SideState) → own ≡ Some side → side.own ≡ s.own → IsReady s.own name tx rx extra new → CanAdd own new opened
+    can-add own None side is same ready = absurd (let sizes = (is-opened a).sizes in cc)
+    can-add own (Some port) side is same ready =
+        let k = is-opened a in
+        record {
+          side = side;
+          side_is = is;
+          port = port;
+          port_is = refl;
+          tx = sym (length-map opened.tx.items (λ (b : Buffer). b.index)) ∙ (ap (λ (xs : List ℕ). length xs) hands.tx_are ∙ (k.lists.front ∙ sym (ap (λ z. z.tx) ready.1)));
+          extra = sym (length-map opened.extra.items (λ (b : Buffer). b.index)) ∙ (ap (λ (xs : List ℕ). length xs) hands.extra_are ∙ (k.lists.behind ∙ sym (ap (λ z. z.extra) ready.1)));
+          room = subst (λ (o : OwnState). HasRoomFor o port) (sym same) ready.2;
+          id = subst (λ (o : OwnState). port_with_id o opened.port.0 ≡ None) (sym same) (subst (λ (n : ℕ). port_with_id s.own n ≡ None) (sym number) k.id);
+          away = subst (λ (o : OwnState). Each (IsNew o) (indices_of opened.tx.items ++ indices_of opened.extra.items)) (sym same) (subst (Each (IsNew s.own)) (sym came) k.away);
+          once = subst (IsDistinct nat_eq) (sym came) k.once;
+        }
 
-  port_is : (port : PortId) → nat_eq id.0 port.0 ≡ true → port ≡ id
-  port_is port e = ap (λ (n : ℕ). let i : PortId = record { 0 = n } in i) (sym (nat_eq-is id.0 port.0 e))
+    abbrev added : ℕ → List ℕ → ℕ → ℕ → List ℕ → OwnState → Option OwnState
+    added n label slots places idxs side = Some (own_after_open n label slots places (blank_arrivals idxs) side)
 
-  pub filled_now : AreFilled h ports → AreFilled h3 (ports ++ new ∷ [])
-  filled_now filled (place.Tx port x) = elim (cases_Bool (nat_eq id.0 port.0)) [
-    | inl here ↦ rw (port_is port here) (filled_here (place.Tx id x) refl filled (nat_lt x (length tx))
-        (ap is_some (index_tx x) ∙ (index_row id Slots 0 tx x (index_at h (place.Tx id x)) ∙ ap (λ (b : Bool). b || is_some (index_at h (place.Tx id x))) (from_start (length tx) x)))
-        (rw (same_self, size_new) refl))
-    | inr other ↦ filled_elsewhere (place.Tx port x) other filled (rw (turned id.0 port.0 other) refl)
-  ]
-  filled_now filled (place.Rx port x) = elim (cases_Bool (nat_eq id.0 port.0)) [
-    | inl here ↦ rw (port_is port here) (filled_here (place.Rx id x) refl filled false (ap is_some (index_rx x)) (rw (same_self, no_user x) refl))
-    | inr other ↦ filled_elsewhere (place.Rx port x) other filled (rw (turned id.0 port.0 other) refl)
-  ]
-  filled_now filled (place.Extra port x) = elim (cases_Bool (nat_eq id.0 port.0)) [
-    | inl here ↦ rw (port_is port here) (filled_here (place.Extra id x) refl filled (nat_lt x (length extra))
-        (ap is_some (index_extra x) ∙ (index_row id Extras 0 extra x (index_at h (place.Extra id x)) ∙ ap (λ (b : Bool). b || is_some (index_at h (place.Extra id x))) (from_start (length extra) x)))
-        (rw same_self refl))
-    | inr other ↦ filled_elsewhere (place.Extra port x) other filled (rw (turned id.0 port.0 other) refl)
-  ]
+    pub own-added : (old own : Option SideState) (new : Option NewPortState) (side : SideState) → old ≡ Some side → side.own ≡ s.own → IsReady s.own name tx rx extra new
+        → IfSome old (λ side. IfSome new (λ port. own_if own ≡ added opened.port.0 port.name port.sizes.tx port.sizes.rx (indices_of opened.tx.items ++ indices_of opened.extra.items) side.own))
+        → own_if own ≡ Some (after_call s w ask Opened).own
+    own-added old own None side was same ready made = absurd (let sizes = (is-opened a).sizes in cc)
+    own-added old own (Some port) side was same ready made =
+        let idxs = indices_of opened.tx.items ++ indices_of opened.extra.items in
+        subst (λ (o : Option SideState). IfSome o (λ (at : SideState). own_if own ≡ added opened.port.0 port.name port.sizes.tx port.sizes.rx idxs at.own)) was made
+        ∙ (ap (λ (o : OwnState). added opened.port.0 port.name port.sizes.tx port.sizes.rx idxs o) same
+        ∙ (ap (λ (n : ℕ). added n port.name port.sizes.tx port.sizes.rx idxs s.own) number
+        ∙ (ap (λ (label : List ℕ). added (length w.seen) label port.sizes.tx port.sizes.rx idxs s.own) ready.0
+        ∙ (ap (λ (z : PortSizes). added (length w.seen) name z.tx z.rx idxs s.own) ready.1
+        ∙ ap (λ (all : List ℕ). added (length w.seen) name tx rx all s.own) came))))
 
-  pub places_now : HasPlaces h ports → HasPlaces h3 (ports ++ new ∷ [])
-  places_now has =
-      o.extras.ports ∙ (o.slots.ports ∙ (o.places ∙ (ap (λ (all : List PortPlaces). all ++ record { port = id; sizes = record { tx = length tx; rx = rx; extra = length extra } } ∷ []) has
-      ∙ sym (map-append places_of_port ports (new ∷ []) ∙ rw size_new refl))))
+  pub opened-there : (own : Option SideState) → own_if own ≡ Some (after_call s w ask Opened).own → Answers s.fixed s.knows w ask Opened → IsThere None (record s { knows = w; own = own_in own })
+  opened-there own is a = subst (λ (o : OwnState). IsThere None (record s { knows = w; own = o })) (sym (own-there own (after_call s w ask Opened).own is)) (there-answered t may a refl refl tt)
 
-  pub count_now : buffers_of h3 ≡ buffers_of h
-  count_now = o.extras.count ∙ (o.slots.count ∙ ap (λ (cells : List (Option Standing)). length cells - 2) o.cells)
+  pub opened-made : (own : Option SideState) → own_if own ≡ Some (after_call s w ask Opened).own → Answers s.fixed s.knows w ask Opened → Made s (record s { knows = w; own = own_in own }) ask Opened
+  opened-made own is a = record { answers = a; fabric = refl; fixed = refl; id = refl; own = own-there own (after_call s w ask Opened).own is }
 
-  pub whole_now : AreWhole h → AreWhole h3
-  whole_now whole = o.extras.whole (o.slots.whole (λ idx s there. whole idx s (ap (λ (cells : List (Option Standing)). cell_at cells idx) (sym o.cells) ∙ there)))
+  pub unopened-there : (fault : OpenFault) → FabricOpensNot s.fixed s.knows w ask fault → IsThere None (record s { knows = w })
+  unopened-there BadSize a = there-answered t may a refl refl tt
+  unopened-there SwitchesFull a = there-answered t may a refl refl tt
+  unopened-there PortsFull a = there-answered t may a refl refl tt
+  unopened-there NameTaken a = there-answered t may a refl refl tt
+  unopened-there (NoBuffers want have) a = there-answered t may a refl refl tt
+  unopened-there (RecordFull what used want) a = there-still t a.none
+  unopened-there NoMemory a = there-still t a.none
 
-  pub sided_now : AreSided ports → AreSided (ports ++ new ∷ [])
-  sided_now sided = more ports sided
-    where
-      side_new : IsTxSide (opened_slots tx)
-      side_new = elim (cases_Bool (nat_eq (length tx) 0)) [ inl none ↦ rw none tt | inr some ↦ rw some refl ]
+module _ (s : SessionState) (w : Knowing) (name : List ℕ) (tx rx extra : ℕ) where
+  said : (fault : OpenFault) → Answers s.fixed s.knows w (opening s name tx rx extra) (Refused fault) → Made s (record s { knows = w }) (opening s name tx rx extra) (Refused fault)
+  said fault a = record { answers = a; fabric = refl; fixed = refl; id = refl; own = refl }
 
-      more : (all : List UserPort) → AreSided all → AreSided (all ++ new ∷ [])
-      more [] sided = ((side_new, refl), tt)
-      more (p ∷ all) sided = (sided.0, more all sided.1)
-
-  tx_is_size : nat_eq (length tx) 0 ≡ false → IsRingSize (length tx)
-  tx_is_size some = o.tx_size (positive (length tx) some)
-    where
-      positive : (n : ℕ) → nat_eq n 0 ≡ false → 0 < n
-      positive n e = grind (arith, nat_tests)
-
-  pub rings_now : AreRings ports → AreRings (ports ++ new ∷ [])
-  rings_now rings = more ports rings
-    where
-      ring_new : IsRingIf (opened_slots tx)
-      ring_new = elim (cases_Bool (nat_eq (length tx) 0)) [
-        | inl none ↦ rw none tt
-        | inr some ↦ rw some ((positions_fit_at_opening (length tx) (tx_is_size some)).0.is_ring)
-      ]
-
-      more : (all : List UserPort) → AreRings all → AreRings (all ++ new ∷ [])
-      more [] rings = ((ring_new, (positions_fit_at_opening rx o.rx_size).1.is_ring), tt)
-      more (p ∷ all) rings = (rings.0, more all rings.1)
-
-  -- the places of the new port whose buffers are named ones
-  tx_named_new : named_tx_places id (opened_slots tx) ≡ map (place_in id Slots) (range_with_len 0 (length tx - 1))
-  tx_named_new = elim (cases_Bool (nat_eq (length tx) 0)) [
-    | inl none ↦ (let zero : length tx - 1 ≡ 0 = (let e = nat_eq-is (length tx) 0 none in omega arith) in rw (none, zero) refl)
-    | inr some ↦ rw (some, (fresh_slots (length tx) (tx_is_size some)).0) refl
-  ]
-
-  rx_named_new : named_ring_places id new.rx ≡ []
-  rx_named_new = ap (map (place_on side.Rx id)) (fresh_slots rx o.rx_size).1
-
-  places_named : named_places (ports ++ new ∷ []) ≡ named_places ports ++ ((map (place_in id Slots) (range_with_len 0 (length tx - 1)) ++ map (place_in id Extras) (range_with_len 0 (length extra))) ++ [])
-  places_named = over ports
-    where
-      here : named_places_of new ≡ map (place_in id Slots) (range_with_len 0 (length tx - 1)) ++ map (place_in id Extras) (range_with_len 0 (length extra))
-      here = rw (tx_named_new, rx_named_new) refl
-
-      over : (all : List UserPort) → named_places (all ++ new ∷ []) ≡ named_places all ++ ((map (place_in id Slots) (range_with_len 0 (length tx - 1)) ++ map (place_in id Extras) (range_with_len 0 (length extra))) ++ [])
-      over [] = rw here refl
-      over (p ∷ all) = rw (over all) (sym (append_assoc (named_places_of p) (named_places all) _))
-
-  abbrev was_named : Place → Bool
-  was_named q = list_any (λ x. is_same_place x q) (named_places ports)
-
-  none_named : AreSided ports → AreRings ports → (q : Place) → port_of q ≡ id.0 → was_named q ≡ false
-  none_named sided rings q port = none_of (named_places ports) (named_are_filled ports sided rings)
-    where
-      none_of : (xs : List Place) → AllByRecursion (λ x. is_filled ports x ≡ true) xs → list_any (λ x. is_same_place x q) xs ≡ false
-      none_of [] all = refl
-      none_of (x ∷ xs) all = elim (cases_Bool (is_same_place x q)) [
-        | inl same ↦ false_true (sym (unfilled ports id.0 q port o.none) ∙ (ap (is_filled ports) (sym (same_place-is x q same)) ∙ all.0))
-        | inr other ↦ rw other (none_of xs all.1)
-      ]
-
-  pub flagged_now : AreSided ports → AreRings ports → AreFlagged h ports → AreFlagged h3 (ports ++ new ∷ [])
-  flagged_now sided rings flagged idx s there =
-      o.extras.flags (named_with id Slots (length tx - 1) 0 tx was_named) (o.slots.flags was_named (λ i t e. flagged i t (ap (λ (cells : List (Option Standing)). cell_at cells i) (sym o.cells) ∙ e))) idx s there
-      ∙ named_now s.home.place
-    where
-      named_now : (q : Place) → named_with id Extras (length extra) 0 extra (named_with id Slots (length tx - 1) 0 tx was_named) q ≡ list_any (λ x. is_same_place x q) (named_places (ports ++ new ∷ []))
-      named_now q =
-          let slots = map (place_in id Slots) (range_with_len 0 (length tx - 1)) in
-          let extras = map (place_in id Extras) (range_with_len 0 (length extra)) in
-          let f = named_with id Slots (length tx - 1) 0 tx was_named in
-          let second = named_from id Extras (length extra) extra f q (omega arith) (λ k. named_off id (length tx - 1) 0 k tx was_named ∙ none_named sided rings (place.Extra id k) refl) in
-          let first = named_from id Slots (length tx - 1) tx was_named q (omega arith) (λ k. none_named sided rings (place.Tx id k) refl) in
-          let all : list_any (λ x. is_same_place x q) (named_places (ports ++ new ∷ [])) ≡ (was_named q || ((list_any (λ x. is_same_place x q) slots || list_any (λ x. is_same_place x q) extras) || false)) =
-          ap (list_any (λ x. is_same_place x q)) places_named ∙ (list_any-append (λ x. is_same_place x q) (named_places ports) ((slots ++ extras) ++ [])
-          ∙ ap (λ (b : Bool). was_named q || b) (list_any-append (λ x. is_same_place x q) (slots ++ extras) [] ∙ ap (λ (b : Bool). b || false) (list_any-append (λ x. is_same_place x q) slots extras))) in
-          second ∙ (ap (λ (b : Bool). list_any (λ x. is_same_place x q) extras || b) first
-          ∙ (turn_or (was_named q) (list_any (λ x. is_same_place x q) slots) (list_any (λ x. is_same_place x q) extras) ∙ sym all))
-
-  -- how the ports are seen
-  old_seen : (all : List UserPort) → AllByRecursion (IsOther id.0) all → map (port_seen h3) all ≡ map (port_seen h) all
-  old_seen [] none = refl
-  old_seen (p ∷ all) none =
-      rw (port_same h h3 p (λ q port. ap (λ (i : Option ℕ). unwrap_or i 0) (index_elsewhere q (rw port (turned p.id.0 id.0 none.0)))), old_seen all none.1) refl
-
-  tx_numbers : map (number_on h3 side.Tx id) (range_with_len 0 (length tx)) ≡ tx
-  tx_numbers = row_numbers id Slots 0 tx (λ x. index_at h (place.Tx id x)) (number_on h3 side.Tx id) (λ x above. ap (λ (i : Option ℕ). unwrap_or i 0) (index_tx x))
-
-  extra_numbers : map (extra_number_at h3 id) (range_with_len 0 (length extra)) ≡ extra
-  extra_numbers = row_numbers id Extras 0 extra (λ x. index_at h (place.Extra id x)) (extra_number_at h3 id) (λ x above. ap (λ (i : Option ℕ). unwrap_or i 0) (index_extra x))
-
-  tx_seen_new : option_map (ring_seen h3 id) (opened_slots tx) ≡ opened_tx_ring (length tx) tx
-  tx_seen_new = elim (cases_Bool (nat_eq (length tx) 0)) [
-    | inl none ↦ rw none refl
-    | inr some ↦ rw (some, tx_numbers) refl
-  ]
-
-  rx_seen_new : held_on h3 side.Rx id (opened_rx rx) ≡ []
-  rx_seen_new = ap (map (number_on h3 side.Rx id)) (fresh_slots rx o.rx_size).1
-
-  new_seen : port_seen h3 new ≡ opened_port id.0 name (length tx) rx (tx ++ extra)
-  new_seen = rw (tx_seen_new, rx_seen_new, extra_numbers, take-append_seam tx extra, drop-append_seam tx extra) refl
-
-  pub opened_is_seen : IsDistinct nat_eq extra → own_seen h3 (ports ++ new ∷ []) ≡ own_after_open id.0 name (length tx) rx (blank_arrivals (tx ++ extra)) (own_seen h ports)
-  opened_is_seen once =
-      let buffers : buffers_of_arrivals (blank_arrivals (tx ++ extra)) ≡ tx ++ extra = seen_buffers (tx ++ extra) in
-      let all : map (port_seen h3) (ports ++ new ∷ []) ≡ map (port_seen h) ports ++ opened_port id.0 name (length tx) rx (tx ++ extra) ∷ [] =
-      map-append (port_seen h3) ports (new ∷ []) ∙ (ap (λ (xs : List OwnPort). xs ++ port_seen h3 new ∷ []) (old_seen ports o.none) ∙ ap (λ (p : OwnPort). map (port_seen h) ports ++ p ∷ []) new_seen) in
-      let bytes : map bytes_in_cell h3.cells ≡ bytes_with Extras extra (bytes_with Slots tx (map bytes_in_cell h.cells)) =
-      o.extras.bytes ∙ ap (bytes_with Extras extra) (o.slots.bytes ∙ ap (λ (cells : List (Option Standing)). bytes_with Slots tx (map bytes_in_cell cells)) o.cells) in
-      rw (count_now, all, bytes, opened_bytes tx extra (map bytes_in_cell h.cells) once, buffers, drop-append_seam tx extra) refl
-    where
-      seen_buffers : (xs : List ℕ) → buffers_of_arrivals (blank_arrivals xs) ≡ xs
-      seen_buffers [] = refl
-      seen_buffers (x ∷ xs) = ap (λ (ys : List ℕ). x ∷ ys) (seen_buffers xs)
+  pub unopened : (fault : OpenFault) → FabricOpensNot s.fixed s.knows w (opening s name tx rx extra) fault → OpensNot s (record s { knows = w }) (opening s name tx rx extra) fault
+  unopened BadSize a = said BadSize a
+  unopened SwitchesFull a = said SwitchesFull a
+  unopened PortsFull a = said PortsFull a
+  unopened NameTaken a = said NameTaken a
+  unopened (NoBuffers want have) a = said (NoBuffers want have) a
+  unopened (RecordFull what used want) a = record { refused = inr a; same = refl }
+  unopened NoMemory a = record { refused = inr a; same = refl }

@@ -1,39 +1,32 @@
--- A port of a session as it is opened.
-use Rattle.std.specs.Prelude.{ℕ, ◌≡◌, ◌==◌, ◌<◌, if◌then◌else◌, List, [], length, map, Option, Some, None}
-use Rattle.nm_types.specs.declared.id.PortId.{PortId}
-use Rattle.nm_types.specs.declared.id.Side.TheVariants.{Tx, Rx}
-use Rattle.nm_types.specs.Positions.{IsRingSize, opened_tx, opened_rx}
-use Rattle.nm_types.specs.Buffers.{IsBufferIndex}
-use Rattle.nm_types.specs.Chain.{chain_head}
-use Rattle.nm_types.specs.OwnPorts.{OwnState, Arrival, bytes_at}
-use Rattle.nm_types.specs.OwnSyncs.{opened_slot}
-use Rattle.nm_user.specs.declared.port.UserPort.{UserPort}
-use Rattle.nm_user.specs.RingSlots.{RingSlots}
+-- A port that is opened: the memory for it, and what is known once the fabric has opened it.
+use Rattle.std.specs.Prelude.{ℕ, false, ◌≡◌, ◌++◌, nat_eq, List, length, Option, Some, None, option_map}
+use Rattle.std.specs.List.{AllByRecursion, IsDistinct}
+use Rattle.nm_types.specs.Openings.{are_sizes}
+use Rattle.nm_types.specs.OwnPorts.{OwnState, port_with_id}
+use Rattle.nm_region.specs.Buffers.{indices_of}
+use Rattle.nm_own.specs.NewPorts.{NewPortState, HasRoomFor}
+use Rattle.nm_own.specs.Opening.{IsNew}
+use Rattle.nm_own.specs.Regions.{SideState}
+use Rattle.vale_core.specs.declared.opening.Opened.{Opened}
 
--- a monitor has no transmit slots
-abbrev pub IsTxSize : ℕ → Type 0
-IsTxSize size = 0 < size → IsRingSize size
+-- all memory for such a port is there; for sizes that its name does not allow none is wanted
+abbrev pub IsReady : OwnState → List ℕ → ℕ → ℕ → ℕ → Option NewPortState → Type 0
+IsReady own name tx rx extra None = are_sizes name tx rx extra ≡ false
+IsReady own name tx rx extra (Some new) = (new.name ≡ name) × (new.sizes ≡ record { tx = tx; rx = rx; extra = extra }) × HasRoomFor own new
 
--- a buffer of the pool that is none of the session's
-abbrev pub IsNew : OwnState → ℕ → Type 0
-IsNew s idx = IsBufferIndex s.pool idx × (bytes_at s idx ≡ [])
+-- the own side is there, with the memory for the port that was opened, whose buffers are new to it
+pub record CanAdd (own : Option SideState) (new : Option NewPortState) (opened : Opened) : Type 0 where
+  pub side : SideState
+  pub side_is : own ≡ Some side
+  pub port : NewPortState
+  pub port_is : new ≡ Some port
+  pub tx : length opened.tx.items ≡ port.sizes.tx
+  pub extra : length opened.extra.items ≡ port.sizes.extra
+  pub room : HasRoomFor side.own port
+  pub id : port_with_id side.own opened.port.0 ≡ None
+  pub away : AllByRecursion (IsNew side.own) (indices_of opened.tx.items ++ indices_of opened.extra.items)
+  pub once : IsDistinct nat_eq (indices_of opened.tx.items ++ indices_of opened.extra.items)
 
--- buffers that come with an opening, all of whose bytes are zero
-abbrev pub blank_arrival : ℕ → Arrival
-blank_arrival idx = record { buffer = idx; bytes = [] }
-
-abbrev pub blank_arrivals : List ℕ → List Arrival
-blank_arrivals idxs = map blank_arrival idxs
-
-abbrev pub opened_slots : List ℕ → Option RingSlots
-opened_slots idxs = if length idxs == 0 then None else Some (record { side = Tx; ring = opened_tx (length idxs); slots = map opened_slot idxs })
-
-abbrev pub opened_user_port : PortId → List ℕ → ℕ → List ℕ → List ℕ → UserPort
-opened_user_port id name rx tx extra = record {
-  id = id;
-  name = name;
-  tx = opened_slots tx;
-  rx = record { side = Rx; ring = opened_rx rx; slots = [] };
-  extra = length extra;
-  extra_head = chain_head extra;
-}
+-- what the session has on a side that is there
+abbrev pub own_if : Option SideState → Option OwnState
+own_if found = option_map (λ (side : SideState). side.own) found

@@ -1,29 +1,13 @@
-//! A user's own side of its ports, after netmap(4): rings, slots, and the buffers in their places.
+//! Sessions: users of netmap(4) on the switches and pipes of one fabric.
 #![tactic(auto)]
 
-mod acts;
-mod checks;
-mod close;
-mod edit;
-mod exchange;
-mod extras;
-mod fill;
-mod gather;
-pub mod laws;
-mod open;
-mod own;
-#[cfg(test)]
-mod own_tests;
-mod port;
-mod receive;
-mod reset;
-mod slot_ring;
-mod slots;
-#[cfg(test)]
-mod sync_tests;
-mod take;
-#[cfg(test)]
-mod tests;
+mod opening;
+mod passes;
+mod reading;
+mod sending;
+mod session;
+mod watching;
+mod writing;
 
-pub use acts::SlotPlace;
-pub use own::OwnSide;
+pub use sending::Sent;
+pub use session::Session;

@@ -55,7 +55,6 @@ invariant_of-self c =
       tables = rw f.same (put_are_tables c.args.place c.index-idx.result c.self.inside.ports.tables inv.tables);
       once = rw (f.same, ports_of-put c.args.place c.index-idx.result c.self.inside.ports.tables) inv.once;
       tied = rw (f.same, f.after) f.tied;
-      room = rw c.put.ensures.spare inv.room;
     }
 
 pub returns-clause-cell : goal.returns-clause-cell
@@ -74,4 +73,4 @@ returns-clause-places c p =
     rw (← c.self.view_is, f.after) (places ∙ named)
 
 pub returns-clause-hold : goal.returns-clause-hold
-returns-clause-hold c = let inv = invariant_of-self c in IsHold-stored _ _ _ inv.low inv.high inv.tables inv.once inv.tied
+returns-clause-hold c = let inv = invariant_of-self c in IsHold-stored _ _ inv.low inv.high inv.tables inv.once inv.tied

@@ -5,7 +5,7 @@ use Rattle.nm_hold.specs.Tables.{IsTable, ports_of, number_at}
 use Rattle.nm_hold.specs.Holds.{port_of}
 use Rattle.nm_hold.proofs.Numbers.{without, number-without, tables-without, ports_of-without}
 use Rattle.nm_hold.proofs.Tied.{tied-same, held-number}
-use Rattle.nm_hold.proofs.Shown.{number_if-none, room_kept, once-without, IsHold-stored}
+use Rattle.nm_hold.proofs.Shown.{number_if-none, once-without, IsHold-stored}
 use Rattle.nm_hold.proofs.hold.Hold.drop_port.Goals as goal
 
 pub invariant_of-self : goal.invariant_of-self
@@ -24,7 +24,6 @@ invariant_of-self c =
       tables = rw kept (All-from_recursion IsTable (without port tables) (tables-without port tables (recursion_from_All IsTable tables inv.tables)));
       once = rw (kept, ports_of-without port tables) (once-without port (ports_of tables) inv.once);
       tied = rw kept (tied-same cells tables (without port tables) inv.tied (λ p. number-without port tables p (empty p)));
-      room = room_kept c.self.inside.room c.self.inside.ports.spare c.remove.new.self.spare c.remove.ensures.spare inv.room;
     }
 
 pub returns-clause-ports : goal.returns-clause-ports
@@ -35,4 +34,4 @@ returns-clause-ports c =
     rw (← c.self.view_is, kept, ports_of-without port tables) refl
 
 pub returns-clause-hold : goal.returns-clause-hold
-returns-clause-hold c = let inv = invariant_of-self c in IsHold-stored _ _ _ inv.low inv.high inv.tables inv.once inv.tied
+returns-clause-hold c = let inv = invariant_of-self c in IsHold-stored _ _ inv.low inv.high inv.tables inv.once inv.tied

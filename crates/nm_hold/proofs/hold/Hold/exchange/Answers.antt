@@ -137,7 +137,6 @@ invariant_of-self c =
       tables = rw f.same (put_are_tables f.t.home.place (number_at tables c.args.place) (map (put_in c.args.place c.args.idx) tables) (put_are_tables c.args.place c.args.idx tables inv.tables));
       once = rw (f.same, ports_of-put_both c.args.place c.args.idx f.t.home.place (number_at tables c.args.place) tables) inv.once;
       tied = rw (f.same, f.cells) tied;
-      room = rw (c.put-2.ensures.spare, c.put.ensures.spare) inv.room;
     }
 
 pub returns-clause-places : goal.returns-clause-places
@@ -181,9 +180,9 @@ returns-clause-all c =
     rw (← c.self.view_is, f.cells) (all_moved cells tables new c.args.place c.args.idx f.s f.t f.made)
 
 pub returns-clause-hold : goal.returns-clause-hold
-returns-clause-hold c = let inv = invariant_of-self c in IsHold-stored _ _ _ inv.low inv.high inv.tables inv.once inv.tied
+returns-clause-hold c = let inv = invariant_of-self c in IsHold-stored _ _ inv.low inv.high inv.tables inv.once inv.tied
 
 pub returns-then-was-idx-clause-hold : goal.returns-then-was-idx-clause-hold
 returns-then-was-idx-clause-hold c =
     let inv = c.self.invariant in
-    rw (← c.self.view_is) (IsHold-stored c.self.inside.cells.items c.self.inside.ports.tables _ inv.low inv.high inv.tables inv.once inv.tied)
+    rw (← c.self.view_is) (IsHold-stored c.self.inside.cells.items c.self.inside.ports.tables inv.low inv.high inv.tables inv.once inv.tied)

@@ -21,9 +21,9 @@ returns-else-idx-eq0-clause-index c =
 pub returns-then-idx-eq0-clause-hold : goal.returns-then-idx-eq0-clause-hold
 returns-then-idx-eq0-clause-hold c =
     let inv = c.self.invariant in
-    rw (← c.self.view_is) (IsHold-stored c.self.inside.cells.items c.self.inside.ports.tables _ inv.low inv.high inv.tables inv.once inv.tied)
+    rw (← c.self.view_is) (IsHold-stored c.self.inside.cells.items c.self.inside.ports.tables inv.low inv.high inv.tables inv.once inv.tied)
 
 pub returns-else-idx-eq0-clause-hold : goal.returns-else-idx-eq0-clause-hold
 returns-else-idx-eq0-clause-hold c =
     let inv = c.self.invariant in
-    rw (← c.self.view_is) (IsHold-stored c.self.inside.cells.items c.self.inside.ports.tables _ inv.low inv.high inv.tables inv.once inv.tied)
+    rw (← c.self.view_is) (IsHold-stored c.self.inside.cells.items c.self.inside.ports.tables inv.low inv.high inv.tables inv.once inv.tied)

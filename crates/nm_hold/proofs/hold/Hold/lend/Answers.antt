@@ -23,5 +23,4 @@ invariant_of-self-lent c w =
       tables = inv.tables;
       once = inv.once;
       tied = rw is (tied-kept cells c.self.inside.ports.tables idx found.0 (record (found.0) { buf = with_bytes found.0.buf w }) inv.tied found.1 refl refl);
-      room = inv.room;
     }

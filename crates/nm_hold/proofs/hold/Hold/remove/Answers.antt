@@ -71,7 +71,6 @@ invariant_of-self c =
       tables = rw f.same (put_are_tables c.args.place 0 c.self.inside.ports.tables inv.tables);
       once = rw (f.same, ports_of-put c.args.place 0 c.self.inside.ports.tables) inv.once;
       tied = rw (f.same, c.take.ensures.after) f.tied;
-      room = rw c.put.ensures.spare inv.room;
     }
 
 pub returns-clause-index : goal.returns-clause-index
@@ -97,4 +96,4 @@ returns-clause-places c q =
     rw (← c.self.view_is, c.take.ensures.after) (removed_places cells (slice_set cells c.number-idx.result None) c.self.inside.ports.tables c.args.place inv.tables inv.tied f.some f.tied q)
 
 pub returns-clause-hold : goal.returns-clause-hold
-returns-clause-hold c = let inv = invariant_of-self c in IsHold-stored _ _ _ inv.low inv.high inv.tables inv.once inv.tied
+returns-clause-hold c = let inv = invariant_of-self c in IsHold-stored _ _ inv.low inv.high inv.tables inv.once inv.tied

@@ -43,7 +43,7 @@ invariant_of-self c =
     let f = step c in
     let inv = c.self.invariant in
     let count = length-set c.self.inside.cells.items c.number-idx.result c.rename.new.cell in
-    record { low = rw count inv.low; high = rw count inv.high; tables = inv.tables; once = inv.once; tied = f.tied; room = inv.room }
+    record { low = rw count inv.low; high = rw count inv.high; tables = inv.tables; once = inv.once; tied = f.tied }
 
 pub returns-clause-cell : goal.returns-clause-cell
 returns-clause-cell c idx e =
@@ -58,4 +58,4 @@ returns-clause-places c q =
     rw (← c.self.view_is) (same_places c.self.inside.cells.items (slice_set c.self.inside.cells.items c.number-idx.result c.rename.new.cell) c.self.inside.ports.tables c.self.invariant.tied f.tied q)
 
 pub returns-clause-hold : goal.returns-clause-hold
-returns-clause-hold c = let inv = invariant_of-self c in IsHold-stored _ _ _ inv.low inv.high inv.tables inv.once inv.tied
+returns-clause-hold c = let inv = invariant_of-self c in IsHold-stored _ _ inv.low inv.high inv.tables inv.once inv.tied

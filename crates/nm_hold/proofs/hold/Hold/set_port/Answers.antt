@@ -1,6 +1,7 @@
-use Rattle.std.proofs.Common.{◌≡◌, ◌++◌, ◌∷◌, [], Some}
+use Rattle.std.proofs.Common.{◌≡◌, ◌∙◌, ◌++◌, ◌∷◌, [], List, ap}
 use Rattle.nm_hold.specs.declared.table.PortTable.{PortTable}
 use Rattle.std.proofs.lemmas.List.{map-append}
+use Rattle.nm_hold.specs.PortLists.{PortList}
 use Rattle.nm_hold.specs.Tables.{ports_of}
 use Rattle.nm_hold.specs.Ties.{IsBlank}
 use Rattle.nm_hold.proofs.Numbers.{number-push}
@@ -13,20 +14,18 @@ invariant_of-self c =
     let inv = c.self.invariant in
     let cells = c.self.inside.cells.items in
     let tables = c.self.inside.ports.tables in
-    let table = c.in-Some.table in
-    let is : c.self.inside.room ≡ Some table = cc in
-    let kept = rw is at inv.room in
+    let table = c.room.inside.table in
+    let kept = c.room.invariant in
     let new : PortTable = record table { places = record (table.places) { port = c.args.port } } in
-    let blank : IsBlank new = record { table = record { sizes = kept.0.table.sizes; full = kept.0.table.full }; empty = kept.0.empty } in
-    let items = c.push.ensures in
+    let blank : IsBlank new = record { table = record { sizes = kept.blank.table.sizes; full = kept.blank.table.full }; empty = kept.blank.empty } in
+    let items : c.push.new.self.tables ≡ tables ++ new ∷ [] = c.push.ensures.tables ∙ ap (λ (ts : List PortTable). ts ++ new ∷ []) (c.take_over.ensures.tables ∙ ap (λ (p : PortList). p.tables) c.replace-others.ensures.value) in
     record {
       low = inv.low;
       high = inv.high;
       tables = rw items (tables-push tables new inv.tables blank.table);
       once = rw (items, map-append) (once-push (ports_of tables) new.places inv.once (rw (← c.self.view_is) at c.requires.new));
       tied = rw items (tied-same cells tables (tables ++ new ∷ []) inv.tied (λ p. number-push new tables p blank));
-      room = rw c.take.ensures.after tt;
     }
 
-pub returns-in-Some-clause-hold : goal.returns-in-Some-clause-hold
-returns-in-Some-clause-hold c = let inv = invariant_of-self c in IsHold-stored _ _ _ inv.low inv.high inv.tables inv.once inv.tied
+pub returns-clause-hold : goal.returns-clause-hold
+returns-clause-hold c = let inv = invariant_of-self c in IsHold-stored _ _ inv.low inv.high inv.tables inv.once inv.tied

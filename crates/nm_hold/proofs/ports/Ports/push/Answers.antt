@@ -12,5 +12,5 @@ invariant_of-self c =
     let put : (port : ℕ) → new port ≡ (if nat_eq c.args.table.places.port.0 port then Some (length rows) else index port) = (λ port. search rules) in
     rw c.push_reserved.ensures.items (indexed-push rows c.args.table index new c.self.invariant none put)
 
-pub returns : goal.returns
-returns c = rw (← c.self.view_is, c.push_reserved.ensures.items) (present-push c.self.inside.rows.items c.args.table)
+pub returns-clause-tables : goal.returns-clause-tables
+returns-clause-tables c = rw (← c.self.view_is, c.push_reserved.ensures.items) (present-push c.self.inside.rows.items c.args.table)

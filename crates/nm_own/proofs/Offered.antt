@@ -1,0 +1,71 @@
+-- What a put offers, and what a receive sync gives back, over what is seen.
+use Rattle.std.proofs.Common.{ℕ, ◌≡◌, ◌<◌, ◌+◌, List, [], ◌∷◌, ◌++◌, map, Some, refl, sym, ◌∙◌, ap, arith}
+use Rattle.nm_types.specs.declared.id.PortId.{PortId}
+use Rattle.nm_types.specs.declared.id.Side.TheVariants.{Tx, Rx}
+use Rattle.nm_types.specs.Positions.{RingState, IsRing, FitsRing, dist, step_on, slots_from, pending_slots, pushed_slots}
+use Rattle.nm_types.specs.Frames.{Frame}
+use Rattle.nm_types.specs.Slots.{SlotState, pushed_names}
+use Rattle.nm_types.specs.OwnPorts.{bytes_at, slot_in}
+use Rattle.nm_types.specs.OwnSyncs.{back_on}
+use Rattle.nm_types.proofs.RingSteps.{step_on-below, step_on-dist, slots_from-add}
+use Rattle.nm_hold.specs.Holds.{HoldState}
+use Rattle.nm_own.specs.declared.port.UserPort.{UserPort}
+use Rattle.nm_own.specs.RingSlots.{RingSlots, slot_at}
+use Rattle.nm_own.specs.Sides.{names_pushed}
+use Rattle.nm_own.specs.Own.{ring_seen, own_seen, slots_at, AreSided, AreRings}
+use Rattle.nm_own.specs.Offers.{unmarked_frame, offer_seen, offers_seen, frames_offered, length_seen, lengths_seen, offered_lengths}
+use Rattle.nm_own.proofs.Checked.{bytes_are_seen, found, ring_found, side_found}
+use Rattle.nm_own.proofs.Seeing.{pushed_is_seen}
+use Rattle.nm_own.proofs.Pushes.{names-seen}
+use Rattle.nm_own.proofs.Closing.{ring_one}
+
+-- the slots still pushed, and behind them those pushed now
+pub offered_are : (ring : RingState) → IsRing ring → slots_from ring.size (step_on ring.size ring.last_tail 1) (dist ring.size (step_on ring.size ring.last_tail 1) ring.accepted_head + dist ring.size ring.accepted_head ring.head)
+    ≡ pending_slots ring ++ pushed_slots ring ring.head
+offered_are ring is =
+    let first = step_on ring.size ring.last_tail 1 in
+    let tail : ring.last_tail < ring.size = (let w = is.within in let o = is.one_tail in omega arith) in
+    let within = step_on-below ring.size ring.last_tail 1 tail in
+    let pending = dist ring.size first ring.accepted_head in
+    let pushed = dist ring.size ring.accepted_head ring.head in
+    slots_from-add ring.size first pending pushed
+    ∙ ap (λ (at : ℕ). slots_from ring.size first pending ++ slots_from ring.size at pushed) (step_on-dist ring.size first ring.accepted_head within is.accepted)
+
+pub offers_are_seen : (h : HoldState) (ports : List UserPort) (id : PortId) (r : RingSlots) → AreSided ports → slots_at Tx ports id.0 ≡ Some r → offers_seen h r ≡ frames_offered id.0 (own_seen h ports)
+offers_are_seen h ports id r sided at =
+    let side = side_found ports Tx id r sided at in
+    rw (ring_found h ports Tx id r at) (over side (pending_slots r.ring ++ pushed_slots r.ring r.ring.head))
+  where
+    over : r.side ≡ Tx → (ats : List ℕ) → map (offer_seen h r) ats ≡ map (λ (k : ℕ). unmarked_frame (bytes_at (own_seen h ports)) (slot_in Tx (ring_seen h id r) k)) ats
+    over side [] = refl
+    over side (k ∷ ats) =
+        let slot : slot_at r k ≡ slot_in Tx (ring_seen h id r) k = rw side refl in
+        let bytes = bytes_are_seen h ports (slot_at r k).buf_idx in
+        let one : offer_seen h r k ≡ unmarked_frame (bytes_at (own_seen h ports)) (slot_in Tx (ring_seen h id r) k) = rw (← slot, bytes) refl in
+        ap (λ (frame : Frame). frame ∷ map (offer_seen h r) ats) one ∙ ap (λ (frames : List Frame). unmarked_frame (bytes_at (own_seen h ports)) (slot_in Tx (ring_seen h id r) k) ∷ frames) (over side ats)
+
+pub lengths_are_seen : (h : HoldState) (ports : List UserPort) (id : PortId) (r : RingSlots) → AreSided ports → slots_at Tx ports id.0 ≡ Some r → lengths_seen r ≡ offered_lengths id.0 (own_seen h ports)
+lengths_are_seen h ports id r sided at =
+    let side = side_found ports Tx id r sided at in
+    rw (ring_found h ports Tx id r at) (over side (pending_slots r.ring ++ pushed_slots r.ring r.ring.head))
+  where
+    over : r.side ≡ Tx → (ats : List ℕ) → map (length_seen r) ats ≡ map (λ (k : ℕ). (slot_in Tx (ring_seen h id r) k).len) ats
+    over side [] = refl
+    over side (k ∷ ats) =
+        let slot : slot_at r k ≡ slot_in Tx (ring_seen h id r) k = rw side refl in
+        ap (λ (n : ℕ). n ∷ map (length_seen r) ats) (ap (λ (s : SlotState). s.len) slot) ∙ ap (λ (ns : List ℕ). (slot_in Tx (ring_seen h id r) k).len ∷ ns) (over side ats)
+
+-- the positions of a receive ring that is found, and what is pushed there
+pub rx_ring_found : (ports : List UserPort) (id : PortId) (r : RingSlots) → AreRings ports → slots_at Rx ports id.0 ≡ Some r → IsRing r.ring
+rx_ring_found ports id r rings at =
+    let f = found ports Rx id r at in
+    let is : f.p.rx ≡ r = some_is f.p.rx r f.on in
+    rw (← is) (ring_one ports id.0 f.p f.there rings)
+  where
+    some_is : (x y : RingSlots) → Some x ≡ Some y → x ≡ y
+    some_is x y e = cc
+
+pub back_is_seen : (h : HoldState) (ports : List UserPort) (id : PortId) (r : RingSlots) → AreSided ports → IsRing r.ring → slots_at Rx ports id.0 ≡ Some r → FitsRing r.ring r.ring.head r.ring.cur
+    → names_pushed r ≡ back_on id.0 (own_seen h ports)
+back_is_seen h ports id r sided is at fits =
+    rw (ring_found h ports Rx id r at) (sym (ap pushed_names (pushed_is_seen h id Rx r (side_found ports Rx id r sided at) is fits) ∙ names-seen h id r))

@@ -1,0 +1,127 @@
+-- The own side of a push that passes the checks, and what its exchange asks.
+use Rattle.std.proofs.Common.{ℕ, zero, suc, ◌≡◌, ◌≢◌, ◌<◌, ◌≤◌, ◌+◌, true, nat_eq, List, ◌∷◌, [], ◌++◌, length, map, get_or, Option, Some, None, refl, sym, ◌∙◌, ap, arith, rules}
+use Rattle.std.specs.Prelude.{is_some, IsSome}
+use Rattle.std.specs.List.{IsDistinct, range_with_len}
+use Rattle.std.proofs.lemmas.List.{length-map}
+use Rattle.std.proofs.lemmas.Map.Keys.{apart_from_distinct}
+use Rattle.nm_types.specs.declared.id.PortId.{PortId}
+use Rattle.nm_types.specs.declared.id.Side.{Side}
+use Rattle.nm_types.specs.declared.id.Side.TheVariants.{Tx, Rx}
+use Rattle.nm_types.specs.declared.place.Place.{Place}
+use Rattle.nm_types.specs.Positions.{IsRing, FitsRing, step_on, slots_from}
+use Rattle.nm_types.specs.Slots.{Pushed}
+use Rattle.nm_types.specs.SyncChecks.{contains_index, EachPasses}
+use Rattle.nm_types.specs.OwnPorts.{named_of}
+use Rattle.nm_types.proofs.RingSteps.{length-slots_from}
+use Rattle.nm_slot.proofs.CheckLaws.{passed_slots_pass, passed_names_once}
+use Rattle.nm_hold.specs.declared.standing.Standing.{Standing}
+use Rattle.nm_hold.specs.Offsets.{ArePortsOnce}
+use Rattle.nm_hold.specs.Holds.{HoldState, buffers_of, index_at, standing_at, is_named_at, is_named_in, stands_at, IsHold}
+use Rattle.nm_hold.proofs.Spots.{same_place-is}
+use Rattle.nm_own.specs.declared.port.UserPort.{UserPort}
+use Rattle.nm_own.specs.declared.own.OwnSide.TheInside.{Inside}
+use Rattle.nm_own.specs.RingSlots.{RingSlots}
+use Rattle.nm_own.specs.Sides.{place_on, name_at, names_pushed, pushed_seen, pushed_seen_at}
+use Rattle.nm_own.specs.Own.{own_seen, port_at, slots_on, slots_at, refusal_at, named_places, places_of_port, is_filled, AreFilled, AreFlagged, AreSided, AreRings, HasPlaces}
+use Rattle.nm_own.specs.Kept.{IsKept}
+use Rattle.nm_own.specs.Exchanges.{IsNamedThere, pushed_count_of, user_position, user_place, is_among, CanExchange}
+use Rattle.nm_own.proofs.Judging.{false_true, same_eq}
+use Rattle.nm_own.proofs.Naming.{are_named}
+use Rattle.nm_own.proofs.Seeing.{get-slots}
+use Rattle.nm_own.proofs.Pushes.{names-seen}
+use Rattle.nm_own.proofs.Checked.{found, side_found, refusal_is_seen, passed_fits, tx_ring_found}
+use Rattle.nm_own.proofs.Offered.{rx_ring_found}
+
+-- what is asked of a ring whose push passes the checks
+each_named : (side : Side) (pool : ℕ) (named earlier : List ℕ) (f : ℕ → Pushed) (size first a n : ℕ) → EachPasses side pool named earlier (map f (map (step_on size first) (range_with_len a n)))
+    → (k : ℕ) → k < n → (contains_index named (f (step_on size first (a + k))).slot.buf_idx ≡ true) × (2 ≤ (f (step_on size first (a + k))).slot.buf_idx)
+each_named side pool named earlier f size first a zero passes k below = absurd (omega arith)
+each_named side pool named earlier f size first a (suc n) passes zero below =
+    let same : a ≡ a + 0 = omega arith in
+    rw (← same) ((passes.0.held, passes.0.least))
+each_named side pool named earlier f size first a (suc n) passes (suc k) below =
+    let same : a + 1 + k ≡ a + suc k = omega arith in
+    rw (← same) (each_named side pool named (earlier ++ (f (step_on size first a)).slot.buf_idx ∷ []) f size first (a + 1) n passes.1 k (omega arith))
+
+-- the own side of a push that passes
+pub record Passes (h : HoldState) (ports : List UserPort) (side : Side) (id : PortId) (p : UserPort) (r : RingSlots) : Type 0 where
+  pub sided : AreSided ports
+  pub rings : AreRings ports
+  pub flagged : AreFlagged h ports
+  pub is_hold : IsHold h
+  pub places : HasPlaces h ports
+  pub filled : AreFilled h ports
+  pub there : port_at ports id.0 ≡ Some p
+  pub on : slots_on side p ≡ Some r
+  pub same_id : p.id ≡ id
+  pub at : slots_at side ports id.0 ≡ Some r
+  pub passes : refusal_at side id.0 (own_seen h ports) ≡ None
+
+pub passes_of : (o : Inside) (side : Side) (id : PortId) (r : RingSlots) → IsKept o → slots_at side o.ports.items id.0 ≡ Some r → refusal_at side id.0 (own_seen o.hold o.ports.items) ≡ None
+    → (p : UserPort) × Passes o.hold o.ports.items side id p r
+passes_of o side id r kept at passes =
+    let f = found o.ports.items side id r at in
+    (f.p, record { sided = kept.sided; rings = kept.rings; flagged = kept.flagged; is_hold = kept.hold; places = kept.places; filled = kept.filled; there = f.there; on = f.on; same_id = f.id; at = at; passes = passes })
+
+some_of : (o : Option ℕ) → is_some o ≡ true → IsSome o
+some_of None e = absurd cc
+some_of (Some i) e = search rules
+
+module _ (h : HoldState) (ports : List UserPort) (side : Side) (id : PortId) (p : UserPort) (r : RingSlots) (x : Passes h ports side id p r) where
+  pub ring_is : IsRing r.ring
+  ring_is = by_side side x.at
+    where
+      by_side : (s : Side) → slots_at s ports id.0 ≡ Some r → IsRing r.ring
+      by_side Tx at = tx_ring_found ports id r x.rings at
+      by_side Rx at = rx_ring_found ports id r x.rings at
+
+  pub own_side : r.side ≡ side
+  own_side = side_found ports side id r x.sided x.at
+
+  pub positions_fit : FitsRing r.ring r.ring.head r.ring.cur
+  positions_fit = passed_fits h ports side id r x.sided ring_is x.at x.passes
+
+  pub ports_once : ArePortsOnce (map places_of_port ports)
+  ports_once = rw (← x.places) x.is_hold.once
+
+  pub named_there : (q : Place) → is_among (named_places ports) q ≡ true → IsNamedThere h q
+  named_there q among i e = by_cell (standing_at h i) refl (x.is_hold.held q i e)
+    where
+      by_cell : (o : Option Standing) → standing_at h i ≡ o → stands_at q (standing_at h i) ≡ true → is_named_at h i ≡ true
+      by_cell None none stands = false_true (ap (stands_at q) (sym none) ∙ stands)
+      by_cell (Some s) some stands =
+          let same : q ≡ s.home.place = same_place-is q s.home.place (sym (ap (stands_at q) some) ∙ stands) in
+          ap is_named_in some ∙ (x.flagged i s some ∙ (ap (is_among (named_places ports)) (sym same) ∙ among))
+
+  slots_pass : EachPasses r.side (buffers_of h) (named_of (own_seen h ports)) [] (pushed_seen h id r)
+  slots_pass = passed_slots_pass r.side (buffers_of h) (named_of (own_seen h ports)) r.ring (pushed_seen h id r) (sym (refusal_is_seen h ports side id r x.sided ring_is x.at) ∙ x.passes)
+
+  each : (k : ℕ) → k < pushed_count_of r → is_named_at h (name_at r (user_position r k)) ≡ true
+  each k below =
+      let named = named_of (own_seen h ports) in
+      let one = each_named r.side (buffers_of h) named [] (pushed_seen_at h id r) r.ring.size r.ring.accepted_head 0 (pushed_count_of r) slots_pass k below in
+      let first : 0 + k ≡ k = omega arith in
+      let at = rw first at one in
+      are_named h ports x.sided x.rings x.flagged x.is_hold (name_at r (user_position r k)) at.1 ∙ at.0
+
+  names_once : (j k : ℕ) → j < k → k < pushed_count_of r → name_at r (user_position r j) ≢ name_at r (user_position r k)
+  names_once j k less below same =
+      let names = names_pushed r in
+      let named = named_of (own_seen h ports) in
+      let once : IsDistinct nat_eq names = rw (names-seen h id r) at (passed_names_once r.side (buffers_of h) named (pushed_seen h id r) slots_pass).distinct in
+      let long : length names ≡ pushed_count_of r = length-map (slots_from r.ring.size r.ring.accepted_head (pushed_count_of r)) (name_at r) ∙ length-slots_from r.ring.size r.ring.accepted_head (pushed_count_of r) in
+      let apart = apart_from_distinct nat_eq names j k 0 once less (omega (arith, long, below)) in
+      let at : (i : ℕ) → i < pushed_count_of r → get_or names i 0 ≡ name_at r (user_position r i) = (λ i few. (let first : 0 + i ≡ i = omega arith in
+      get-slots (name_at r) r.ring.size r.ring.accepted_head 0 (pushed_count_of r) i 0 few ∙ ap (λ (n : ℕ). name_at r (user_position r n)) first)) in
+      false_true (sym apart ∙ same_eq (get_or names j 0) (get_or names k 0) (at j (omega arith) ∙ (same ∙ sym (at k below))))
+
+  pub can_exchange_at : ((k : ℕ) → k < pushed_count_of r → is_filled ports (place_on side id (user_position r k)) ≡ true) → ((k : ℕ) → k < pushed_count_of r → is_among (named_places ports) (place_on side id (user_position r k)) ≡ true)
+      → CanExchange h id r
+  can_exchange_at filled named = record {
+    fits = positions_fit;
+    held = λ k below. some_of (index_at h (user_place id r k)) (rw own_side (x.filled (place_on side id (user_position r k)) ∙ filled k below));
+    there = λ k below. rw own_side (named_there (place_on side id (user_position r k)) (named k below));
+    named = each;
+    once = names_once;
+    is_hold = x.is_hold;
+  }

@@ -1,0 +1,171 @@
+-- A buffer whose first bytes are written, over what is seen.
+use Rattle.std.proofs.Common.{ℕ, zero, suc, ◌≡◌, ◌≤◌, ◌-◌, Bool, true, false, List, [], ◌∷◌, ◌++◌, length, drop, map, set, Option, Some, None, option_map, refl, sym, ◌∙◌, ap, arith, length-append}
+use Rattle.std.specs.Prelude.{is_some, unwrap_or}
+use Rattle.std.specs.List.{range_with_len}
+use Rattle.std.proofs.lemmas.List.{length-set, length-drop}
+use Rattle.nm_types.specs.declared.id.Side.{Side}
+use Rattle.nm_types.specs.declared.id.Side.TheVariants.{Tx, Rx}
+use Rattle.nm_types.specs.declared.place.Place.{Place}
+use Rattle.nm_types.specs.declared.place.Place.TheVariants as place
+use Rattle.nm_types.specs.Slots.{SlotState}
+use Rattle.nm_types.specs.OwnPorts.{OwnRing, OwnPort, OwnState, bytes_at, with_ring, slot_in, named_of, ring_at}
+use Rattle.nm_types.specs.OwnEdits.{has_slot, with_written, with_frame, with_frame_on}
+use Rattle.nm_own.specs.Acts.{head_slot_in}
+use Rattle.nm_own.specs.Edits.{ring_framed}
+use Rattle.nm_types.specs.SyncChecks.{contains_index}
+use Rattle.nm_hold.specs.declared.standing.Home.{Home}
+use Rattle.nm_hold.specs.declared.standing.Standing.{Standing}
+use Rattle.nm_hold.specs.Standings.{cell_fronted}
+use Rattle.nm_hold.specs.Holds.{HoldState, port_of, buffers_of, standing_at, cell_at, places_of, with_cell, is_named_at, IsHold, SamePlaces}
+use Rattle.nm_hold.proofs.Shown.{named_stands}
+use Rattle.nm_own.specs.declared.port.UserPort.{UserPort}
+use Rattle.nm_own.specs.RingSlots.{RingSlots}
+use Rattle.nm_own.specs.Sides.{number_at}
+use Rattle.nm_own.specs.Own.{positions_of, number_on, extra_number_at, ring_seen, port_seen, own_seen, bytes_in_cell, AreSided, AreRings, AreFlagged, AreFilled, AreWhole}
+use Rattle.nm_own.proofs.Filled.{is_named_seen}
+use Rattle.nm_own.proofs.Checked.{bytes_are_seen}
+
+pub map-same : {X : Type 0} (f g : ℕ → X) (xs : List ℕ) → ((x : ℕ) → f x ≡ g x) → map f xs ≡ map g xs
+map-same f g [] same = refl
+map-same {X = X} f g (x ∷ xs) same = ap (λ (y : X). y ∷ map f xs) (same x) ∙ ap (λ (ys : List X). g x ∷ ys) (map-same f g xs same)
+
+-- a port whose places hold the same buffers is seen the same
+module _ (h new : HoldState) (p : UserPort) (same : (q : Place) → port_of q ≡ p.id.0 → number_at new q ≡ number_at h q) where
+  number_same : (side : Side) (at : ℕ) → number_on new side p.id at ≡ number_on h side p.id at
+  number_same Tx at = same (place.Tx p.id at) refl
+  number_same Rx at = same (place.Rx p.id at) refl
+
+  ring_same : (r : RingSlots) → ring_seen new p.id r ≡ ring_seen h p.id r
+  ring_same r = rw (map-same (number_on new r.side p.id) (number_on h r.side p.id) (positions_of r.side r.ring) (number_same r.side)) refl
+
+  tx_same : (tx : Option RingSlots) → option_map (ring_seen new p.id) tx ≡ option_map (ring_seen h p.id) tx
+  tx_same None = refl
+  tx_same (Some r) = ap (λ (o : OwnRing). Some o) (ring_same r)
+
+  pub port_same : port_seen new p ≡ port_seen h p
+  port_same = rw (tx_same p.tx, ring_same p.rx, map-same (extra_number_at new p.id) (extra_number_at h p.id) (range_with_len 0 p.extra) (λ at. same (place.Extra p.id at) refl)) refl
+
+pub ports_same : (h new : HoldState) → ((q : Place) → number_at new q ≡ number_at h q) → (ports : List UserPort) → map (port_seen new) ports ≡ map (port_seen h) ports
+ports_same h new same [] = refl
+ports_same h new same (p ∷ ports) = rw (port_same h new p (λ q e. same q), ports_same h new same ports) refl
+
+pub map-set : {X Y : Type 0} (f : X → Y) (xs : List X) (at : ℕ) (x : X) → map f (set xs at x) ≡ set (map f xs) at (f x)
+map-set f [] at x = refl
+map-set f (y ∷ ys) zero x = refl
+map-set {Y = Y} f (y ∷ ys) (suc at) x = ap (λ (zs : List Y). f y ∷ zs) (map-set f ys at x)
+
+-- a written cell
+fronted_bytes : (bytes : List ℕ) (cell : Option Standing) (s : Standing) → cell ≡ Some s → bytes_in_cell (cell_fronted bytes cell) ≡ bytes ++ drop (length bytes) (bytes_in_cell cell)
+fronted_bytes bytes cell s e = rw e refl
+
+pub fronted_is_seen : (h new : HoldState) (ports : List UserPort) (idx : ℕ) (bytes : List ℕ) → IsHold h → AreSided ports → AreRings ports → AreFlagged h ports → AreFilled h ports
+    → is_named_at h idx ≡ true → new ≡ with_cell h idx (cell_fronted bytes (standing_at h idx)) → SamePlaces (places_of h) (places_of new)
+    → own_seen new ports ≡ with_written idx bytes (own_seen h ports)
+fronted_is_seen h new ports idx bytes is sided rings flagged filled named cell places =
+    let found = named_stands (standing_at h idx) named in
+    let in_named : contains_index (named_of (own_seen h ports)) idx ≡ true = sym (is_named_seen h ports idx is sided rings flagged filled) ∙ named in
+    let seen : map (port_seen new) ports ≡ map (port_seen h) ports = ports_same h new (λ q. ap (λ (o : Option ℕ). unwrap_or o 0) (places q)) ports in
+    let count : buffers_of new ≡ buffers_of h = ap buffers_of cell ∙ ap (λ (n : ℕ). n - 2) (length-set h.cells idx (cell_fronted bytes (standing_at h idx))) in
+    let now : bytes_in_cell (cell_fronted bytes (standing_at h idx)) ≡ bytes ++ drop (length bytes) (bytes_at (own_seen h ports) idx) =
+    fronted_bytes bytes (standing_at h idx) found.0 found.1 ∙ ap (λ (old : List ℕ). bytes ++ drop (length bytes) old) (sym (bytes_are_seen h ports idx)) in
+    let all : map bytes_in_cell new.cells ≡ set (map bytes_in_cell h.cells) idx (bytes ++ drop (length bytes) (bytes_at (own_seen h ports) idx)) =
+    ap (λ (x : HoldState). map bytes_in_cell x.cells) cell ∙ (map-set bytes_in_cell h.cells idx (cell_fronted bytes (standing_at h idx)) ∙ ap (set (map bytes_in_cell h.cells) idx) now) in
+    rw in_named (made (buffers_of new) (buffers_of h) (map (port_seen new) ports) (map (port_seen h) ports) (map bytes_in_cell new.cells) (set (map bytes_in_cell h.cells) idx (bytes ++ drop (length bytes) (bytes_at (own_seen h ports) idx))) count seen all)
+  where
+    made : (a b : ℕ) (ps qs : List OwnPort) (bs cs : List (List ℕ)) → a ≡ b → ps ≡ qs → bs ≡ cs
+        → (let s : OwnState = record { pool = a; ports = ps; bytes = bs } in s) ≡ (let s : OwnState = record { pool = b; ports = qs; bytes = cs } in s)
+    made a b ps qs bs cs e f g = rw (e, f, g) refl
+
+pub not_written : (h : HoldState) (ports : List UserPort) (idx : ℕ) (bytes : List ℕ) → IsHold h → AreSided ports → AreRings ports → AreFlagged h ports → AreFilled h ports
+    → is_named_at h idx ≡ false → own_seen h ports ≡ with_written idx bytes (own_seen h ports)
+not_written h ports idx bytes is sided rings flagged filled named =
+    let in_named : contains_index (named_of (own_seen h ports)) idx ≡ false = sym (is_named_seen h ports idx is sided rings flagged filled) ∙ named in
+    rw in_named refl
+
+-- what is kept of a hold that has the same homes
+pub record KeepsHomes (h new : HoldState) : Type 0 where
+  pub homes : (i : ℕ) (s : Standing) → standing_at new i ≡ Some s → (t : Standing) × (standing_at h i ≡ Some t) × (s.home ≡ t.home)
+  pub count : buffers_of new ≡ buffers_of h
+
+homes_fronted : (cells : List (Option Standing)) (idx i : ℕ) (bytes : List ℕ) (s : Standing) → cell_at (set cells idx (cell_fronted bytes (cell_at cells idx))) i ≡ Some s
+    → (t : Standing) × (cell_at cells i ≡ Some t) × (s.home ≡ t.home)
+homes_fronted [] idx i bytes s e = absurd cc
+homes_fronted (cell ∷ cells) zero zero bytes s e = by_cell cell e
+  where
+    by_cell : (cell : Option Standing) → cell_fronted bytes cell ≡ Some s → (t : Standing) × (cell ≡ Some t) × (s.home ≡ t.home)
+    by_cell None e = absurd cc
+    by_cell (Some t) e = (t, refl, home_of e)
+      where
+        home_of : cell_fronted bytes (Some t) ≡ Some s → s.home ≡ t.home
+        home_of e = ap (λ (o : Option Standing). option_home o t.home) (sym e)
+          where
+            option_home : Option Standing → Home → Home
+            option_home None d = d
+            option_home (Some x) d = x.home
+homes_fronted (cell ∷ cells) zero (suc i) bytes s e = (s, e, refl)
+homes_fronted (cell ∷ cells) (suc idx) zero bytes s e = (s, e, refl)
+homes_fronted (cell ∷ cells) (suc idx) (suc i) bytes s e = homes_fronted cells idx i bytes s e
+
+pub fronted_keeps : (h new : HoldState) (idx : ℕ) (bytes : List ℕ) → new ≡ with_cell h idx (cell_fronted bytes (standing_at h idx)) → KeepsHomes h new
+fronted_keeps h new idx bytes cell = record {
+  homes = λ i s e. homes_fronted h.cells idx i bytes s (ap (λ (x : HoldState). standing_at x i) (sym cell) ∙ e);
+  count = ap buffers_of cell ∙ ap (λ (n : ℕ). n - 2) (length-set h.cells idx (cell_fronted bytes (standing_at h idx)));
+}
+
+pub flagged_kept : (h new : HoldState) (ports : List UserPort) → KeepsHomes h new → AreFlagged h ports → AreFlagged new ports
+flagged_kept h new ports keeps flagged i s e = let found = keeps.homes i s e in rw found.2 (flagged i found.0 found.1)
+
+pub filled_kept : (h new : HoldState) (ports : List UserPort) → SamePlaces (places_of h) (places_of new) → AreFilled h ports → AreFilled new ports
+filled_kept h new ports places filled q = ap is_some (places q) ∙ filled q
+
+-- a frame that is put at the head, if there is a slot
+pub head_has : (s : OwnState) (id : ℕ) (bytes : List ℕ) (slot : SlotState) → head_slot_in Tx (ring_at Tx s id) ≡ Some slot
+    → with_frame id bytes s ≡ with_ring Tx id (ring_framed Tx (length bytes)) (with_written slot.buf_idx bytes s)
+head_has s id bytes slot e = by_ring (ring_at Tx s id) e
+  where
+    by_slot : (r : OwnRing) (b : Bool) → has_slot r ≡ b → head_slot_in Tx (Some r) ≡ Some slot
+        → with_frame_on id bytes s (Some r) ≡ with_ring Tx id (ring_framed Tx (length bytes)) (with_written slot.buf_idx bytes s)
+    by_slot r false has e = absurd (let no = rw has at e in cc)
+    by_slot r true has e = let is : slot_in Tx r r.ring.head ≡ slot = (let one = rw has at e in cc) in rw (has, is) refl
+
+    by_ring : (o : Option OwnRing) → head_slot_in Tx o ≡ Some slot → with_frame_on id bytes s o ≡ with_ring Tx id (ring_framed Tx (length bytes)) (with_written slot.buf_idx bytes s)
+    by_ring None e = absurd cc
+    by_ring (Some r) e = by_slot r (has_slot r) refl e
+
+pub head_lacks : (s : OwnState) (id : ℕ) (bytes : List ℕ) → head_slot_in Tx (ring_at Tx s id) ≡ None → with_frame id bytes s ≡ s
+head_lacks s id bytes e = by_ring (ring_at Tx s id) e
+  where
+    by_slot : (r : OwnRing) (b : Bool) → has_slot r ≡ b → head_slot_in Tx (Some r) ≡ None → with_frame_on id bytes s (Some r) ≡ s
+    by_slot r false has e = rw has refl
+    by_slot r true has e = absurd (let one = rw has at e in cc)
+
+    by_ring : (o : Option OwnRing) → head_slot_in Tx o ≡ None → with_frame_on id bytes s o ≡ s
+    by_ring None e = refl
+    by_ring (Some r) e = by_slot r (has_slot r) refl e
+
+pub nothing_there : {X : Type 0} (o : Option X) → ((x : X) → o ≡ Some x → ⊥) → o ≡ None
+nothing_there None never = refl
+nothing_there (Some x) never = absurd (never x refl)
+
+-- a buffer whose first bytes are written has as many bytes
+whole_fronted : (cells : List (Option Standing)) (idx i : ℕ) (bytes : List ℕ) (s : Standing) → length bytes ≤ 2048 → ((j : ℕ) (t : Standing) → cell_at cells j ≡ Some t → length t.buf.bytes ≡ 2048)
+    → cell_at (set cells idx (cell_fronted bytes (cell_at cells idx))) i ≡ Some s → length s.buf.bytes ≡ 2048
+whole_fronted [] idx i bytes s few whole e = absurd cc
+whole_fronted (cell ∷ cells) zero zero bytes s few whole e = by_cell cell (λ t there. whole zero t there) e
+  where
+    option_bytes : Option Standing → List ℕ → List ℕ
+    option_bytes None d = d
+    option_bytes (Some x) d = x.buf.bytes
+
+    by_cell : (cell : Option Standing) → ((t : Standing) → cell ≡ Some t → length t.buf.bytes ≡ 2048) → cell_fronted bytes cell ≡ Some s → length s.buf.bytes ≡ 2048
+    by_cell None all e = absurd cc
+    by_cell (Some t) all e =
+        let is : s.buf.bytes ≡ bytes ++ drop (length bytes) t.buf.bytes = ap (λ (o : Option Standing). option_bytes o []) (sym e) in
+        let size = all t refl in
+        rw is (omega (arith, length-append bytes (drop (length bytes) t.buf.bytes), length-drop (length bytes) t.buf.bytes, size))
+whole_fronted (cell ∷ cells) zero (suc i) bytes s few whole e = whole (suc i) s e
+whole_fronted (cell ∷ cells) (suc idx) zero bytes s few whole e = whole zero s e
+whole_fronted (cell ∷ cells) (suc idx) (suc i) bytes s few whole e = whole_fronted cells idx i bytes s few (λ j t there. whole (suc j) t there) e
+
+pub whole_kept : (h new : HoldState) (idx : ℕ) (bytes : List ℕ) → length bytes ≤ 2048 → new ≡ with_cell h idx (cell_fronted bytes (standing_at h idx)) → AreWhole h → AreWhole new
+whole_kept h new idx bytes few cell whole i s e = whole_fronted h.cells idx i bytes s few whole (ap (λ (x : HoldState). standing_at x i) (sym cell) ∙ e)

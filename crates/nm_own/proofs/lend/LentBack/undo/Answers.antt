@@ -1,0 +1,29 @@
+use Rattle.std.proofs.Common.{◌≡◌, ◌∙◌, Some, None}
+use Rattle.nm_types.specs.declared.id.Side.TheVariants.{Rx}
+use Rattle.nm_own.specs.Own.{slots_at}
+use Rattle.nm_own.proofs.Lent.{fits_lent, few_lent, few_replaced}
+use Rattle.nm_own.proofs.lend.LentBack.undo.Goals as goal
+
+some_is : {X : Type 0} (x y : X) → Some x ≡ Some y → x ≡ y
+some_is x y e = cc
+
+clash : {X : Type 0} (x : X) → None ≡ Some x → ⊥
+clash x e = cc
+
+pub pushed-first-requires : goal.pushed-first-requires
+pushed-first-requires c =
+    let x = c.requires.1 in
+    let there : Some c.in-Some.ring.now ≡ slots_at Rx c.args.self.ports.items c.args.self.port.0 = rw (c.in-Some.is, c.deref.ensures.value) at c.ring_at.ensures in
+    rw (some_is c.in-Some.ring.now x.r (there ∙ x.ring)) (fits_lent c.requires.0 c.args.back.now.items c.args.self x).head_within
+
+pub put_slots-requires-clause-few : goal.put_slots-requires-clause-few
+put_slots-requires-clause-few c = few_lent c.requires.0 c.args.back.now.items c.args.self c.requires.1
+
+pub exchange_back-requires-clause-head : goal.exchange_back-requires-clause-head
+exchange_back-requires-clause-head c =
+    let x = c.requires.1 in
+    let there : Some c.in-Some.ring.now ≡ slots_at Rx c.args.self.ports.items c.args.self.port.0 = rw (c.in-Some.is, c.deref.ensures.value) at c.ring_at.ensures in
+    rw (some_is c.in-Some.ring.now x.r (there ∙ x.ring)) (fits_lent c.requires.0 c.args.back.now.items c.args.self x).head_within
+
+pub exchange_back-requires-clause-few : goal.exchange_back-requires-clause-few
+exchange_back-requires-clause-few c = few_replaced c.requires.0 c.args.back.now.items c.args.self c.requires.1

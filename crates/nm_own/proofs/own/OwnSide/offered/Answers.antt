@@ -1,0 +1,77 @@
+use Rattle.std.proofs.Common.{◌≡◌, ◌∙◌, List, length, map, Some, None, refl, sym, ap, arith, []}
+use Rattle.std.proofs.lemmas.List.{with_items_is, length-map}
+use Rattle.std.specs.Vec.{with_items}
+use Rattle.nm_types.specs.declared.id.PortId.{PortId}
+use Rattle.nm_types.specs.declared.id.Side.TheVariants.{Tx}
+use Rattle.nm_types.specs.OwnSyncs.{own_after_put}
+use Rattle.nm_own.specs.declared.port.UserPort.{UserPort}
+use Rattle.nm_own.specs.Own.{slots_at, own_seen, port_changed_if}
+use Rattle.nm_own.specs.Exchanges.{ring_pushed_out}
+use Rattle.nm_own.proofs.Checked.{no_ring}
+use Rattle.nm_own.proofs.Passing.{passes_of}
+use Rattle.nm_own.proofs.Pushed.{tx_side, can_exchange, slots_held, can_accept, kept_after, offered_is_seen}
+use Rattle.nm_own.proofs.Regions.{same_side, same_bufs}
+use Rattle.nm_own.proofs.own.OwnSide.offered.Goals as goal
+
+pub push_out-requires-clause-can : goal.push_out-requires-clause-can
+push_out-requires-clause-can c =
+    let there : slots_at Tx c.self.inside.ports.items c.args.port.0 ≡ Some c.in-Some.ring.now = sym (rw (c.in-Some.is, c.deref.ensures.value) at c.ring_at.ensures) in
+    let x = passes_of c.self.inside Tx c.args.port c.in-Some.ring.now c.self.invariant there (rw (← c.self.view_is) at c.requires.passes) in
+    can_exchange c.self.inside.hold c.self.inside.ports.items c.args.port x.0 c.in-Some.ring.now x.1
+
+pub push_out-requires-clause-side : goal.push_out-requires-clause-side
+push_out-requires-clause-side c =
+    let there : slots_at Tx c.self.inside.ports.items c.args.port.0 ≡ Some c.in-Some.ring.now = sym (rw (c.in-Some.is, c.deref.ensures.value) at c.ring_at.ensures) in
+    let x = passes_of c.self.inside Tx c.args.port c.in-Some.ring.now c.self.invariant there (rw (← c.self.view_is) at c.requires.passes) in
+    tx_side c.self.inside.hold c.self.inside.ports.items c.args.port x.0 c.in-Some.ring.now x.1
+
+pub push_out-requires-clause-held : goal.push_out-requires-clause-held
+push_out-requires-clause-held c =
+    let there : slots_at Tx c.self.inside.ports.items c.args.port.0 ≡ Some c.in-Some.ring.now = sym (rw (c.in-Some.is, c.deref.ensures.value) at c.ring_at.ensures) in
+    let x = passes_of c.self.inside Tx c.args.port c.in-Some.ring.now c.self.invariant there (rw (← c.self.view_is) at c.requires.passes) in
+    slots_held c.self.inside.hold c.self.inside.ports.items c.args.port x.0 c.in-Some.ring.now x.1
+
+pub unreachable-requires : goal.unreachable-requires
+unreachable-requires c =
+    let none : None ≡ slots_at Tx c.self.inside.ports.items c.args.port.0 = rw (c.in-None.is, c.deref.ensures.value) at c.ring_at.ensures in
+    no_ring c.self.inside.hold c.self.inside.ports.items Tx c.args.port.0 (sym none) (rw (← c.self.view_is) at c.requires.ring)
+
+pub accept_pushes-requires : goal.accept_pushes-requires
+accept_pushes-requires c =
+    let h = c.self.inside.hold in
+    let ports = c.self.inside.ports.items in
+    let r = c.in-Some.ring.now in
+    let there : slots_at Tx ports c.args.port.0 ≡ Some r = sym (rw (c.in-Some.is, c.deref.ensures.value) at c.ring_at.ensures) in
+    let x = passes_of c.self.inside Tx c.args.port r c.self.invariant there (rw (← c.self.view_is) at c.requires.passes) in
+    rw c.deref_mut.ensures.value (can_accept h ports c.args.port x.0 r x.1 0 (omega arith))
+
+-- the ports once the push is accepted
+ports_are : (c : goal.After-self-1) → (with_items c.self.inside.ports c.accept_pushes.new.ports).items
+    ≡ map (port_changed_if c.args.port.0 Tx (λ (of : PortId). ring_pushed_out 0)) c.self.inside.ports.items
+ports_are c =
+    let ports = c.self.inside.ports in
+    let change = port_changed_if c.args.port.0 Tx (λ (of : PortId). ring_pushed_out 0) in
+    let new : c.accept_pushes.new.ports ≡ map change ports.items = rw c.deref_mut.ensures.value at c.accept_pushes.ensures in
+    let count : length c.accept_pushes.new.ports ≡ ports.len = ap (λ (p : List UserPort). length p) new ∙ (length-map ports.items change ∙ sym (ports.ok.0)) in
+    with_items_is ports c.accept_pushes.new.ports count ∙ new
+
+pub invariant_of-self : goal.invariant_of-self
+invariant_of-self c =
+    let h = c.self.inside.hold in
+    let ports = c.self.inside.ports.items in
+    let r = c.in-Some.ring.now in
+    let there : slots_at Tx ports c.args.port.0 ≡ Some r = sym (rw (c.in-Some.is, c.deref.ensures.value) at c.ring_at.ensures) in
+    let x = passes_of c.self.inside Tx c.args.port r c.self.invariant there (rw (← c.self.view_is) at c.requires.passes) in
+    kept_after h ports c.args.port x.0 r x.1 0 (omega arith) c.push_out.new.hold c.push_out.ensures
+    c.self.inside c.self.invariant _ refl refl refl (ports_are c) refl
+
+pub returns : goal.returns
+returns c =
+    let h = c.self.inside.hold in
+    let ports = c.self.inside.ports.items in
+    let r = c.in-Some.ring.now in
+    let there : slots_at Tx ports c.args.port.0 ≡ Some r = sym (rw (c.in-Some.is, c.deref.ensures.value) at c.ring_at.ensures) in
+    let x = passes_of c.self.inside Tx c.args.port r c.self.invariant there (rw (← c.self.view_is) at c.requires.passes) in
+    let now = c.push_out.new.hold in
+    same_side h now ports _ c.args.self.now (own_after_put c.args.port.0 []) c.self.view_is (same_bufs h now c.push_out.ensures.bufs)
+    (ap (own_seen now) (ports_are c) ∙ offered_is_seen h ports c.args.port x.0 r x.1 0 (omega arith) now c.push_out.ensures refl)

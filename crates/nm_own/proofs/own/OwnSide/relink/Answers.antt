@@ -1,0 +1,41 @@
+use Rattle.std.proofs.Common.{◌∙◌, ap, sym, refl, arith}
+use Rattle.nm_hold.specs.Holds.{HoldState}
+use Rattle.nm_types.specs.Chain.{link_bytes}
+use Rattle.nm_own.proofs.Written.{fronted_is_seen, not_written, fronted_keeps, flagged_kept, filled_kept, whole_kept}
+use Rattle.nm_types.specs.OwnEdits.{with_written}
+use Rattle.nm_own.proofs.Regions.{same_side, regions_fronted}
+use Rattle.nm_own.proofs.own.OwnSide.relink.Goals as goal
+
+pub invariant_of-self : goal.invariant_of-self
+invariant_of-self c =
+    let kept = c.self.invariant in
+    let h = c.self.inside.hold in
+    let ports = c.self.inside.ports.items in
+    let new = c.relink.new.hold in
+    let homes = fronted_keeps h new c.args.idx (link_bytes c.args.next) c.relink.ensures.cell in
+    record {
+      sided = kept.sided;
+      rings = kept.rings;
+      flagged = flagged_kept h new ports homes kept.flagged;
+      hold = c.relink.ensures.hold;
+      places = ap (λ (x : HoldState). x.ports) c.relink.ensures.cell ∙ kept.places;
+      filled = filled_kept h new ports c.relink.ensures.places kept.filled;
+      whole = whole_kept h new c.args.idx (link_bytes c.args.next) (omega arith) c.relink.ensures.cell kept.whole;
+      blank = rw homes.count kept.blank;
+      back = kept.back;
+    }
+
+pub returns-then-named : goal.returns-then-named
+returns-then-named c =
+    let kept = c.self.invariant in
+    let h = c.self.inside.hold in
+    let ports = c.self.inside.ports.items in
+    same_side h c.relink.new.hold ports ports c.args.self.now (with_written c.args.idx (link_bytes c.args.next)) c.self.view_is (regions_fronted (link_bytes c.args.next) h c.relink.new.hold c.args.idx c.relink.ensures.cell)
+    (fronted_is_seen h c.relink.new.hold ports c.args.idx (link_bytes c.args.next) kept.hold kept.sided kept.rings kept.flagged kept.filled (sym c.named.ensures.named ∙ c.if-named.true) c.relink.ensures.cell c.relink.ensures.places)
+
+pub returns-else-named : goal.returns-else-named
+returns-else-named c =
+    let kept = c.self.invariant in
+    let h = c.self.inside.hold in
+    let ports = c.self.inside.ports.items in
+    sym c.self.view_is ∙ same_side h h ports ports c.args.self.now (with_written c.args.idx (link_bytes c.args.next)) c.self.view_is refl (not_written h ports c.args.idx (link_bytes c.args.next) kept.hold kept.sided kept.rings kept.flagged kept.filled (sym c.named.ensures.named ∙ c.if-named.false))

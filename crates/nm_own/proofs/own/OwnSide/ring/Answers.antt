@@ -1,0 +1,16 @@
+use Rattle.std.proofs.Common.{◌≡◌, Some, None, refl, sym}
+use Rattle.nm_own.specs.Own.{slots_at}
+use Rattle.nm_own.proofs.Checked.{ring_found, ring_not_found}
+use Rattle.nm_own.proofs.own.OwnSide.ring.Goals as goal
+
+pub returns-in-Some : goal.returns-in-Some
+returns-in-Some c =
+    let ports = c.self.inside.ports.items in
+    let there : Some c.in-Some.ring.now ≡ slots_at c.args.side ports c.args.port.0 = rw (c.in-Some.is, c.deref.ensures.value) at c.ring_at.ensures in
+    rw (← c.self.view_is, ring_found c.self.inside.hold ports c.args.side c.args.port c.in-Some.ring.now (sym there), c.ring.ensures.ring) refl
+
+pub returns-in-None : goal.returns-in-None
+returns-in-None c =
+    let ports = c.self.inside.ports.items in
+    let none : None ≡ slots_at c.args.side ports c.args.port.0 = rw (c.in-None.is, c.deref.ensures.value) at c.ring_at.ensures in
+    rw (← c.self.view_is, ring_not_found c.self.inside.hold ports c.args.side c.args.port.0 (sym none)) refl

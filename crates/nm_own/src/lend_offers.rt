@@ -1,0 +1,123 @@
+ghost use Rattle.std.specs.Prelude.{ℕ, List, ◌≡◌, ◌≤◌, ◌+◌, [], None, length, take, drop, map};
+ghost use Rattle.std.specs.Prelude.{IsSome, IfOk};
+ghost use Rattle.std.specs.Vec.{vec_capacity};
+ghost use Rattle.nm_types.specs.declared.id.Side.TheVariants.{Tx};
+ghost use Rattle.nm_types.specs.OwnPorts.{bytes_at, ring_at};
+ghost use Rattle.nm_region.specs.Buffers.{Buffer, indices_of};
+ghost use Rattle.nm_own.specs.Own.{refusal_at};
+ghost use Rattle.nm_own.specs.Closing.{bytes_of_buffers};
+ghost use Rattle.nm_own.specs.Offers.{offered_lengths};
+ghost use Rattle.nm_own.specs.LentOffers.{IsLentOffers, offered_buffers};
+ghost use Rattle.nm_own.specs.Regions.{SideState, AllOf, AreOf};
+
+use crate::gather::gather_lengths;
+use crate::own::{OwnSide, ring_at};
+use crate::port::UserPort;
+use crate::undo::{exchange_back, exchange_noted, put_slots, take_slots};
+use nm_hold::Hold;
+use nm_region::Buf;
+use nm_types::{NoMemory, PortId, Side};
+use std::alloc::Global;
+
+/// An own side whose put is about to be accepted: the buffers of the frames that it offers are lent
+/// out. It cannot be dropped: `undo` ends it once all of them came back.
+pub struct LentOffers {
+    pub(crate) hold: Hold,
+    pub(crate) ports: Vec<UserPort>,
+    pub(crate) marks: Vec<bool>,
+    pub(crate) port: PortId,
+    /// The buffers that stood in the places of the pushed slots.
+    pub(crate) replaced: Vec<u32>,
+}
+
+impl OwnSide {
+    /// The lengths of the frames that a put of a transmit ring offers, for a push that no check
+    /// refuses.
+    pub fn offered_lengths(&self, alloc: Global, port: PortId) -> Result<Vec<u16>, NoMemory>
+        requires ring { IsSome (ring_at Tx self.now.own port.0) }
+        requires passes { refusal_at Tx port.0 self.now.own ≡ None }
+        ensures { IfOk result (λ lengths. lengths.items ≡ offered_lengths port.0 self.now.own) }
+    {
+        match ring_at(&self.ports, port, Side::Tx) {
+            Some(ring) => gather_lengths(alloc, ring),
+            None => unreachable!(),
+        }
+    }
+
+    /// Lends the buffers of the frames that a put of a transmit ring offers, for a push that no check
+    /// refuses: those of the slots still pushed, and then those that the slots pushed now name. They
+    /// go to `pending`, which has room for them. `notes` is an empty vector with room for as many
+    /// numbers.
+    pub fn lend_offered(self, port: PortId, pending: &mut Vec<Buf>, notes: Vec<u32>) -> LentOffers
+        requires ring { IsSome (ring_at Tx self.own port.0) }
+        requires passes { refusal_at Tx port.0 self.own ≡ None }
+        requires room { length pending.old.items + length (offered_lengths port.0 self.own)
+            ≤ vec_capacity pending.old }
+        requires empty { notes.items ≡ [] }
+        requires notes { length (offered_lengths port.0 self.own) ≤ vec_capacity notes }
+        ensures lent { IsLentOffers self (drop (length pending.old.items) pending.new.items)
+            result }
+        ensures port { result.port ≡ port }
+        ensures before { take (length pending.old.items) pending.new.items
+            ≡ pending.old.items }
+        ensures buffers { indices_of (drop (length pending.old.items) pending.new.items)
+            ≡ offered_buffers port.0 self.own }
+        ensures bytes { bytes_of_buffers (drop (length pending.old.items) pending.new.items)
+            ≡ map (bytes_at self.own) (offered_buffers port.0 self.own) }
+        ensures capacity { vec_capacity pending.new ≡ vec_capacity pending.old }
+        ensures out { (region : ℕ) → AllOf region self
+            → AreOf region (drop (length pending.old.items) pending.new.items) }
+    {
+        let OwnSide {
+            mut hold,
+            ports,
+            marks,
+        } = self;
+        let mut replaced = notes;
+        match ring_at(&ports, port, Side::Tx) {
+            Some(ring) => {
+                exchange_noted(&mut hold, port, ring, &mut replaced);
+                let (first, count) = ring.offered();
+                let (side, size) = (ring.side(), ring.ring().size());
+                take_slots(&mut hold, port, side, size, first, count, pending);
+            }
+            None => unreachable!(),
+        }
+        LentOffers {
+            hold,
+            ports,
+            marks,
+            port,
+            replaced,
+        }
+    }
+}
+
+impl LentOffers {
+    /// The own side as it was before the buffers were lent, once they are back. `pending` has them,
+    /// and nothing else.
+    pub fn undo(self, pending: &mut Vec<Buf>) -> OwnSide
+        requires { (s : SideState) × IsLentOffers s pending.old.items self }
+        ensures own { (s : SideState) → IsLentOffers s pending.old.items self → result ≡ s }
+        ensures pending { pending.new.items ≡ [] }
+        ensures capacity { vec_capacity pending.new ≡ vec_capacity pending.old }
+    {
+        let LentOffers {
+            mut hold,
+            ports,
+            marks,
+            port,
+            replaced,
+        } = self;
+        match ring_at(&ports, port, Side::Tx) {
+            Some(ring) => {
+                let (first, unnamed) = ring.pending();
+                let (side, size) = (ring.side(), ring.ring().size());
+                put_slots(&mut hold, port, side, size, first, unnamed, pending);
+                exchange_back(&mut hold, port, ring, replaced);
+            }
+            None => unreachable!(),
+        }
+        OwnSide { hold, ports, marks }
+    }
+}

@@ -1,0 +1,156 @@
+ghost use Rattle.std.specs.Prelude.{◌≡◌, ◌<◌, ◌≤◌, ◌++◌, ◌∷◌, [], IfOk, length};
+ghost use Rattle.std.specs.Vec.{vec_capacity};
+ghost use Rattle.std.specs.VecDeque.{deque_capacity};
+ghost use Rattle.nm_types.specs.Positions.{IsRingSize};
+ghost use Rattle.nm_types.specs.Chain.{chain_head};
+ghost use Rattle.nm_region.specs.Buffers.{indices_of};
+ghost use Rattle.nm_own.specs.Opening.{IsTxSize, opened_slots, opened_user_port};
+
+use crate::buf_room::BufRoom;
+use crate::port::UserPort;
+use crate::slot_ring::SlotRing;
+use nm_hold::{Hold, PortRoom};
+use nm_region::Buf;
+use nm_types::{Name, NoMemory, PortId, Slot};
+use std::alloc::Global;
+use std::collections::VecDeque;
+use std::marker::Model;
+
+/// A port that may be opened, with all the memory that an own side wants for it. If it is not
+/// opened, it is dropped.
+#[derive(Drop)]
+pub struct NewPort {
+    name: Name,
+    slots: VecDeque<Slot>,
+    rx: SlotRing,
+    back: BufRoom,
+    room: PortRoom,
+    /// An empty list with room for the ports of the own side and this one.
+    ports: Vec<UserPort>,
+}
+
+impl Model for NewPort {
+    ghost use Rattle.std.specs.Prelude.{min};
+    ghost use Rattle.std.specs.Vec.{vec_capacity};
+    ghost use Rattle.nm_own.specs.NewPorts.{NewPortState};
+
+    ghost Value = { NewPortState };
+
+    ghost use Rattle.nm_own.specs.Prepared.{IsPrepared};
+
+    ghost view = { λ n. record {
+      name = n.name;
+      sizes = n.room.sizes;
+      ports = min (vec_capacity n.ports) n.room.ports;
+    } };
+
+    ghost invariant = { IsPrepared };
+}
+
+impl NewPort {
+    /// Takes the memory for a port of these sizes, besides the ports that there are.
+    pub(crate) fn new(
+        alloc: Global,
+        hold: &Hold,
+        ports: &[UserPort],
+        name: Name,
+        tx: u32,
+        rx: u32,
+        extra: u32,
+    ) -> Result<NewPort, NoMemory>
+        requires tx { IsTxSize tx }
+        requires rx { IsRingSize rx }
+        requires extra { extra ≤ 1024 }
+        requires same { length hold.now.ports ≡ length ports.now }
+        ensures name { IfOk result (λ new. new.name ≡ name) }
+        ensures sizes { IfOk result
+            (λ new. new.sizes ≡ record { tx = tx; rx = rx; extra = extra }) }
+        ensures ports { IfOk result (λ new. length ports.now < new.ports) }
+    {
+        Ok(NewPort {
+            name,
+            slots: VecDeque::with_capacity(alloc, tx as usize)?,
+            rx: SlotRing::rx(alloc, rx)?,
+            back: BufRoom::new(alloc, tx + rx + extra)?,
+            room: hold.room(tx, rx, extra)?,
+            ports: Vec::with_capacity(alloc, ports.len() + 1)?,
+        })
+    }
+
+    /// The port once it is opened with these buffers, and the room for it among others.
+    pub(crate) fn open(
+        self,
+        id: PortId,
+        tx: &[Buf],
+        extra: &[Buf],
+    ) -> (UserPort, PortRoom, Vec<UserPort>)
+        requires tx { length tx.now ≡ self.sizes.tx }
+        requires extra { length extra.now ≡ self.sizes.extra }
+        ensures port { result.0 ≡ opened_user_port id self.name self.sizes.rx
+            (indices_of tx.now) (indices_of extra.now) }
+        ensures sizes { result.1.sizes ≡ self.sizes }
+        ensures tx_size { IsTxSize self.sizes.tx }
+        ensures rx_size { IsRingSize self.sizes.rx }
+        ensures room { self.ports ≤ result.1.ports }
+        ensures none { result.2.items ≡ [] }
+        ensures ports { self.ports ≤ vec_capacity result.2 }
+    {
+        let NewPort {
+            name,
+            slots,
+            rx,
+            back,
+            room,
+            ports,
+        } = self;
+        let port = UserPort {
+            id,
+            name,
+            tx: tx_ring(slots, tx),
+            rx,
+            extra: extra.len() as u32,
+            extra_head: first_index(extra),
+            back,
+        };
+        (port, room, ports)
+    }
+}
+
+/// The index of the first buffer, 0 if there is none.
+#[tactic(auto, using(crate::proofs::Opened::lengths))]
+fn first_index(bufs: &[Buf]) -> u32
+    ensures { result ≡ chain_head (indices_of bufs.now) }
+{
+    match bufs.first() {
+        Some(buf) => buf.index(),
+        None => 0,
+    }
+}
+
+/// The transmit ring of a port that is opened with these buffers; a monitor has none.
+#[tactic(auto, using(crate::proofs::Opened::lengths))]
+fn tx_ring(slots: VecDeque<Slot>, bufs: &[Buf]) -> Option<SlotRing>
+    requires size { IsTxSize (length bufs.now) }
+    requires none { slots.items ≡ [] }
+    requires room { length bufs.now ≤ deque_capacity slots }
+    ensures { result ≡ opened_slots (indices_of bufs.now) }
+{
+    if bufs.is_empty() {
+        None
+    } else {
+        Some(SlotRing::tx(slots, bufs))
+    }
+}
+
+/// Adds a port to others, in a longer list.
+pub(crate) fn add_last(ports: &mut Vec<UserPort>, mut longer: Vec<UserPort>, port: UserPort)
+    requires none { longer.items ≡ [] }
+    requires room { length ports.old.items < vec_capacity longer }
+    ensures { ports.new.items ≡ ports.old.items ++ port ∷ [] }
+{
+    match longer.append(ports) {
+        Ok(()) => longer.push_reserved(port),
+        Err(_no_room) => unreachable!(),
+    }
+    *ports = longer;
+}

@@ -1,0 +1,565 @@
+ghost use Rattle.std.specs.Prelude.{◌≡◌, ◌≤◌, ◌++◌, length, nat_eq, IfOk, IsSome, None, Some};
+ghost use Rattle.std.specs.Prelude.{option_map};
+ghost use Rattle.std.specs.Borrow.{sem};
+ghost use Rattle.std.specs.Option.{option_copied, option_copied_mut};
+ghost use Rattle.nm_types.specs.SyncChecks.{contains_index};
+ghost use Rattle.nm_types.specs.Buffers.{IsPoolSize};
+ghost use Rattle.nm_types.specs.declared.id.Side.TheVariants.{Tx, Rx};
+ghost use Rattle.nm_types.specs.Slots.{pushed_frames};
+ghost use Rattle.std.specs.List.{AllByRecursion, IsDistinct};
+ghost use Rattle.nm_types.specs.Positions.{IsRingSize};
+ghost use Rattle.nm_region.specs.Buffers.{indices_of};
+ghost use Rattle.nm_own.specs.Opening.{IsTxSize, IsNew, blank_arrivals};
+ghost use Rattle.nm_own.specs.NewPorts.{HasRoomFor};
+ghost use Rattle.nm_types.specs.OwnPorts.{empty_own, bytes_at, ring_at, pushed_on, port_with_id};
+ghost use Rattle.nm_types.specs.OwnPorts.{named_of};
+ghost use Rattle.nm_own.specs.Own.{refusal_at, port_at, slots_on, slots_at, ring_of};
+ghost use Rattle.nm_types.specs.OwnEdits.{user_slot_at, with_user_slot, with_head, with_cur};
+ghost use Rattle.nm_types.specs.OwnEdits.{with_written, with_head_of_chain};
+ghost use Rattle.nm_types.specs.Chain.{link_bytes};
+ghost use Rattle.nm_own.specs.Offers.{frames_offered};
+ghost use Rattle.nm_own.specs.ExtraChain.{head_of_extras, extra_at, extra_numbered, named_bytes};
+ghost use Rattle.nm_own.specs.Sides.{TellsRefusal};
+ghost use Rattle.nm_types.specs.OwnSyncs.{own_after_open, own_after_reset};
+ghost use Rattle.nm_types.specs.OwnSyncs.{own_after_finish, own_after_send, own_after_put};
+ghost use Rattle.nm_types.specs.OwnSyncs.{back_on, chain_in};
+ghost use Rattle.nm_own.specs.Closing.{buffers_with_id, bytes_of_buffers};
+ghost use Rattle.std.specs.Vec.{vec_capacity};
+ghost use Rattle.nm_own.specs.Regions.{AllOf, AreOf, IsBufferOf};
+ghost use Rattle.std.specs.Prelude.{ℕ, [], ◌+◌, ◌↔◌, IfSome, true, take, drop, map, is_some};
+ghost use Rattle.std.specs.Prelude.{option_and_then};
+ghost use Rattle.nm_own.specs.Edits.{own_edited};
+ghost use Rattle.nm_own.specs.RingSlots.{slot_before_tail};
+ghost use Rattle.nm_own.specs.Acts.{head_slot_in};
+ghost use Rattle.nm_own.specs.Receives.{can_receive, own_with_arrival};
+ghost use Rattle.nm_own.specs.Puts.{has_offered, offered_buffer, own_with_taken};
+
+use crate::checks::check_ring;
+use crate::close::{empty_port, take_port};
+use crate::edit::{RingEdit, edit_rings};
+use crate::exchange::{accept_pushes, name_slots, push_out, send_out};
+use crate::extras::{extra_at, extra_numbered, set_heads};
+use crate::fill::{Row, fill, put};
+use crate::gather::{gather, gather_names, gather_offered};
+use crate::open::{NewPort, add_last};
+use crate::port::UserPort;
+use crate::receive::{clear_behind, publish_at};
+use crate::reset::reset_rings;
+use crate::slot_ring::SlotRing;
+use crate::take::take_at;
+use nm_extra::relink;
+use nm_hold::Hold;
+use nm_region::Buf;
+use nm_ring::Ring;
+use nm_types::{Batch, Chain, Name, NoMemory, Place, PortId, Side, Slot, SyncFault};
+use std::alloc::Global;
+use std::marker::Model;
+
+/// A session's own side: its ports with their rings and slots, and the buffers in their places.
+pub struct OwnSide {
+    pub(crate) hold: Hold,
+    pub(crate) ports: Vec<UserPort>,
+    /// Marks of indices, all of them clear between two calls.
+    pub(crate) marks: Vec<bool>,
+}
+
+impl Model for OwnSide {
+    ghost use Rattle.nm_own.specs.Regions.{SideState, side_seen};
+
+    ghost Value = { SideState };
+
+    ghost use Rattle.nm_own.specs.Kept.{IsKept};
+
+    ghost view = { λ o. side_seen o.hold o.ports.items };
+
+    ghost invariant = { IsKept };
+}
+
+/// The port of an id.
+fn port_at(ports: &[UserPort], id: PortId) -> Option<&UserPort>
+    ensures { option_copied result ≡ port_at ports.now id.0 }
+{
+    ports.iter().find(|port| port.id.0 == id.0)
+}
+
+/// The ring on a side of a port.
+fn ring_on(port: &UserPort, side: Side) -> Option<&SlotRing>
+    ensures { option_copied result ≡ slots_on side port.now }
+{
+    match side {
+        Side::Tx => port.tx.as_ref(),
+        Side::Rx => Some(&port.rx),
+    }
+}
+
+/// The ring on a side of the port of an id.
+pub(crate) fn ring_at(ports: &[UserPort], id: PortId, side: Side) -> Option<&SlotRing>
+    ensures { option_copied result ≡ slots_at side ports.now id.0 }
+{
+    match port_at(ports, id) {
+        Some(port) => ring_on(port, side),
+        None => None,
+    }
+}
+
+/// The slot at the head of a ring, if its positions fit and its head is before its tail.
+fn slot_at_head(ring: &SlotRing) -> Option<Slot>
+    ensures { result ≡ slot_before_tail ring.now }
+{
+    if ring.has_slot() {
+        Some(ring.head_slot())
+    } else {
+        None
+    }
+}
+
+impl OwnSide {
+    ghost use Rattle.nm_own.specs.LentBytes.{LendsBytesAt, LendsNamedAt};
+
+    /// An own side without ports, for a pool of `buffers` buffers.
+    pub fn new(alloc: Global, buffers: u32) -> Result<OwnSide, NoMemory>
+        requires { IsPoolSize buffers }
+        ensures { IfOk result
+            (λ side. side ≡ record { own = empty_own buffers; regions = [] }) }
+    {
+        let marks = vec![in alloc; false; buffers as usize + 2]?;
+        let hold = Hold::new(alloc, buffers)?;
+        Ok(OwnSide {
+            hold,
+            ports: Vec::new(alloc),
+            marks,
+        })
+    }
+
+    /// Takes all memory that a port of these sizes will want here; a monitor has 0 transmit slots. If
+    /// the port is not opened, what was prepared is dropped.
+    pub fn prepare(
+        &self,
+        alloc: Global,
+        name: Name,
+        tx: u32,
+        rx: u32,
+        extra: u32,
+    ) -> Result<NewPort, NoMemory>
+        requires tx { IsTxSize tx }
+        requires rx { IsRingSize rx }
+        requires extra { extra ≤ 1024 }
+        ensures name { IfOk result (λ new. new.name ≡ name) }
+        ensures sizes { IfOk result
+            (λ new. new.sizes ≡ record { tx = tx; rx = rx; extra = extra }) }
+        ensures room { IfOk result (HasRoomFor self.now.own) }
+    {
+        NewPort::new(alloc, &self.hold, &self.ports, name, tx, rx, extra)
+    }
+
+    /// Adds a port that was prepared and then opened as `id`, with these buffers in its transmit
+    /// slots and in its extra positions. The buffers are cleared, each extra one links to the next,
+    /// and each transmit slot names its own. It takes no memory.
+    pub fn add(&mut self, new: NewPort, id: PortId, tx: Vec<Buf>, extra: Vec<Buf>)
+        requires tx { length tx.items ≡ new.sizes.tx }
+        requires extra { length extra.items ≡ new.sizes.extra }
+        requires room { HasRoomFor self.old.own new }
+        requires id { port_with_id self.old.own id.0 ≡ None }
+        requires away { AllByRecursion (IsNew self.old.own)
+            (indices_of tx.items ++ indices_of extra.items) }
+        requires once { IsDistinct nat_eq (indices_of tx.items ++ indices_of extra.items) }
+        ensures own { self.new.own ≡ own_after_open id.0 new.name new.sizes.tx new.sizes.rx
+            (blank_arrivals (indices_of tx.items ++ indices_of extra.items)) self.old.own }
+        ensures region { (region : ℕ) → AllOf region self.old → AreOf region tx.items
+            → AreOf region extra.items → AllOf region self.new }
+    {
+        let (slots, extras) = (tx.len() as u32, extra.len() as u32);
+        let (port, room, ports) = new.open(id, &tx, &extra);
+        self.hold.set_port(id, room);
+        fill(&mut self.hold, id, Row::Slots, slots.saturating_sub(1), tx);
+        fill(&mut self.hold, id, Row::Extras, extras, extra);
+        add_last(&mut self.ports, ports, port);
+    }
+
+    /// Whether the session has no port.
+    pub fn is_empty(&self) -> bool
+        ensures { (result ≡ true) ↔ (self.now.own.ports ≡ []) }
+    {
+        self.ports.is_empty()
+    }
+
+    /// Whether the session has a port.
+    pub fn has_port(&self, port: PortId) -> bool
+        ensures { result ≡ is_some (port_with_id self.now.own port.0) }
+    {
+        port_at(&self.ports, port).is_some()
+    }
+
+    /// The number of buffers in the places of a port, 0 if there is no such port. No buffer is in
+    /// two of them.
+    pub fn buffer_count(&self, port: PortId) -> u32
+        ensures count { result ≡ length (buffers_with_id self.now.own port.0) }
+        ensures once { IsDistinct nat_eq (buffers_with_id self.now.own port.0) }
+    {
+        match port_at(&self.ports, port) {
+            Some(port) => port.place_count(),
+            None => 0,
+        }
+    }
+
+    /// The index that a port's list of extra buffers begins with, any number.
+    pub fn extra_head(&self, port: PortId) -> Option<u32>
+        ensures { result ≡ option_map head_of_extras (port_with_id self.now.own port.0) }
+    {
+        match port_at(&self.ports, port) {
+            Some(own) => Some(own.extra_head),
+            None => None,
+        }
+    }
+
+    /// Stores the index that a port's list of extra buffers begins with, any number; does nothing
+    /// if there is no such port.
+    pub fn set_extra_head(&mut self, port: PortId, idx: u32)
+        ensures { self.new ≡ record self.old { own = with_head_of_chain port.0 idx self.old.own } }
+    {
+        set_heads(&mut self.ports, port, idx);
+    }
+
+    /// The buffer in an extra position of a port, counted from 1, and 0 for the position 0; none if
+    /// there is no such position.
+    pub fn extra_numbered(&self, port: PortId, number: u32) -> Option<u32>
+        ensures { result
+            ≡ option_and_then (extra_numbered number) (port_with_id self.now.own port.0) }
+    {
+        match port_at(&self.ports, port) {
+            Some(own) => extra_numbered(&self.hold, own, number),
+            None => None,
+        }
+    }
+
+    /// The buffer in an extra position of a port, counted from 0; none if there is no such
+    /// position.
+    pub fn extra_at(&self, port: PortId, at: u32) -> Option<u32>
+        ensures { result ≡ option_and_then (extra_at at) (port_with_id self.now.own port.0) }
+    {
+        match port_at(&self.ports, port) {
+            Some(own) => extra_at(&self.hold, own, at),
+            None => None,
+        }
+    }
+
+    /// Links a named buffer to the next one of its list; does nothing if it is not one.
+    pub(crate) fn relink(&mut self, idx: u32, next: u32)
+        ensures { self.new
+            ≡ record self.old { own = with_written idx (link_bytes next) self.old.own } }
+    {
+        if self.hold.named(idx) {
+            relink(&mut self.hold, idx, next);
+        }
+    }
+
+    /// The bytes of a buffer that the user may name.
+    pub fn bytes(&self, idx: u32) -> Option<&[u8]>
+        ensures { option_copied result ≡ named_bytes self.now.own idx }
+    {
+        self.hold.bytes(idx)
+    }
+
+    /// The bytes of a buffer that the user may name, to be written. The own side then has what was
+    /// written there, and is otherwise unchanged.
+    pub fn bytes_mut(&mut self, idx: u32) -> Option<&mut [u8]>
+        ensures* writes_back { sem 𝓛 (LendsNamedAt self.entry idx result) }
+        ensures bytes { option_copied_mut result ≡ named_bytes self.old.own idx }
+    {
+        if self.finds_named(idx) {
+            Some(self.lend(idx))
+        } else {
+            None
+        }
+    }
+
+    /// Whether the user may name a buffer, asked through the reference that `bytes_mut` has.
+    fn finds_named(&mut self, idx: u32) -> bool
+        ensures named { result ≡ contains_index (named_of self.old.own) idx }
+        ensures same { self.new ≡ self.old }
+    {
+        self.hold.named(idx)
+    }
+
+    /// The bytes, to be written, of a buffer that the user may name.
+    fn lend(&mut self, idx: u32) -> &mut [u8]
+        requires { contains_index (named_of self.old.own) idx ≡ true }
+        ensures* writes_back { sem 𝓛 (LendsBytesAt self.entry idx result) }
+        ensures bytes { named_bytes self.old.own idx ≡ Some result.now }
+    {
+        self.hold.lend(idx)
+    }
+
+    /// Removes a port, and counts the chain of its extra buffers. The buffers in its places come in
+    /// their order: transmit slots, the user's receive slots, extra positions. It takes no memory.
+    pub fn close_port(&mut self, port: PortId) -> (Vec<Buf>, Chain)
+        requires there { IsSome (port_with_id self.old.own port.0) }
+        ensures own { self.new.own
+            ≡ own_after_finish port.0 (buffers_with_id self.old.own port.0) self.old.own }
+        ensures back { indices_of result.0.items ≡ buffers_with_id self.old.own port.0 }
+        ensures bytes { bytes_of_buffers result.0.items
+            ≡ map (bytes_at self.old.own) (buffers_with_id self.old.own port.0) }
+        ensures chain { IfSome (port_with_id self.old.own port.0)
+            (λ p. result.1 ≡ chain_in self.old.own p) }
+        ensures region { (region : ℕ) → AllOf region self.old → AllOf region self.new }
+        ensures out { (region : ℕ) → AllOf region self.old → AreOf region result.0.items }
+    {
+        let own = take_port(&mut self.ports, port);
+        let emptied = empty_port(&mut self.hold, own);
+        self.hold.drop_port(port);
+        emptied
+    }
+
+    /// Ends an own side without ports.
+    pub fn close(self)
+        requires { self.own.ports ≡ [] }
+    {
+        let OwnSide {
+            hold,
+            ports: _,
+            marks: _,
+        } = self;
+        hold.close();
+    }
+
+    /// The first check that refuses a sync of a port's ring.
+    pub fn check(&mut self, port: PortId, side: Side) -> Result<(), SyncFault>
+        requires { IsSome (ring_at side self.old.own port.0) }
+        ensures refusal { TellsRefusal result (refusal_at side port.0 self.old.own) }
+        ensures same { self.new ≡ self.old }
+    {
+        match ring_at(&self.ports, port, side) {
+            Some(ring) => check_ring(&self.hold, port, ring, &mut self.marks),
+            None => unreachable!(),
+        }
+    }
+
+    /// The positions of a port's ring, if the session has that port and the port that ring.
+    pub fn ring(&self, port: PortId, side: Side) -> Option<&Ring>
+        ensures { option_copied result ≡ option_map ring_of (ring_at side self.now.own port.0) }
+    {
+        match ring_at(&self.ports, port, side) {
+            Some(ring) => Some(ring.ring()),
+            None => None,
+        }
+    }
+
+    /// One of the user's slots; none if it is not the user's.
+    pub fn slot(&self, port: PortId, side: Side, at: u32) -> Option<&Slot>
+        ensures { option_copied result ≡ user_slot_at side self.now.own port.0 at }
+    {
+        match ring_at(&self.ports, port, side) {
+            Some(ring) => ring.slot(at),
+            None => None,
+        }
+    }
+
+    /// Writes one of the user's slots; does nothing if it is not the user's.
+    pub fn put_slot(&mut self, port: PortId, side: Side, at: u32, slot: Slot)
+        ensures { self.new
+            ≡ record self.old { own = with_user_slot side port.0 at slot self.old.own } }
+    {
+        self.edit(port, side, RingEdit::Slot(at, slot));
+    }
+
+    /// Stores a head, any number; does nothing if there is no such ring.
+    pub fn put_head(&mut self, port: PortId, side: Side, head: u32)
+        ensures { self.new ≡ record self.old { own = with_head side port.0 head self.old.own } }
+    {
+        self.edit(port, side, RingEdit::Head(head));
+    }
+
+    /// Stores a cur, any number; does nothing if there is no such ring.
+    pub fn put_cur(&mut self, port: PortId, side: Side, cur: u32)
+        ensures { self.new ≡ record self.old { own = with_cur side port.0 cur self.old.own } }
+    {
+        self.edit(port, side, RingEdit::Cur(cur));
+    }
+
+    /// The slot at the head of a ring whose positions fit and whose head is before its tail.
+    pub(crate) fn head_slot(&self, port: PortId, side: Side) -> Option<Slot>
+        ensures { result ≡ head_slot_in side (ring_at side self.now.own port.0) }
+    {
+        match ring_at(&self.ports, port, side) {
+            Some(ring) => slot_at_head(ring),
+            None => None,
+        }
+    }
+
+    /// Writes bytes over the first ones of a named buffer; does nothing if it is not one.
+    pub fn write_front(&mut self, idx: u32, bytes: &[u8])
+        requires { length bytes.now ≤ 2048 }
+        ensures { self.new ≡ record self.old { own = with_written idx bytes.now self.old.own } }
+    {
+        if self.hold.named(idx) {
+            self.hold.write(idx, bytes);
+        }
+    }
+
+    /// Makes an edit of a port's ring.
+    pub(crate) fn edit(&mut self, port: PortId, side: Side, edit: RingEdit)
+        ensures { self.new ≡ record self.old { own = own_edited port.0 side edit self.old.own } }
+    {
+        edit_rings(&mut self.ports, port, side, edit);
+    }
+
+    /// The frames of the pushed slots of a transmit ring, for a push that no check refuses.
+    pub fn frames(&self, alloc: Global, port: PortId) -> Result<Batch, NoMemory>
+        requires ring { IsSome (ring_at Tx self.now.own port.0) }
+        requires passes { refusal_at Tx port.0 self.now.own ≡ None }
+        ensures { IfOk result (λ batch.
+            batch ≡ pushed_frames (bytes_at self.now.own) (pushed_on Tx port.0 self.now.own)) }
+    {
+        match ring_at(&self.ports, port, Side::Tx) {
+            Some(ring) => gather(alloc, &self.hold, ring),
+            None => unreachable!(),
+        }
+    }
+
+    /// The frames that a put of a transmit ring offers, none of them marked, for a push that no
+    /// check refuses: those of the slots still pushed, and then of those pushed now.
+    pub fn offers(&self, alloc: Global, port: PortId) -> Result<Batch, NoMemory>
+        requires ring { IsSome (ring_at Tx self.now.own port.0) }
+        requires passes { refusal_at Tx port.0 self.now.own ≡ None }
+        ensures { IfOk result (λ batch. batch ≡ frames_offered port.0 self.now.own) }
+    {
+        match ring_at(&self.ports, port, Side::Tx) {
+            Some(ring) => gather_offered(alloc, &self.hold, ring),
+            None => unreachable!(),
+        }
+    }
+
+    /// The indices of the buffers that a receive sync gives back, for a push that no check refuses.
+    pub fn back(&self, alloc: Global, port: PortId) -> Result<Vec<u32>, NoMemory>
+        requires ring { IsSome (ring_at Rx self.now.own port.0) }
+        requires passes { refusal_at Rx port.0 self.now.own ≡ None }
+        ensures { IfOk result (λ names. names.items ≡ back_on port.0 self.now.own) }
+    {
+        match ring_at(&self.ports, port, Side::Rx) {
+            Some(ring) => gather_names(alloc, ring),
+            None => unreachable!(),
+        }
+    }
+
+    /// Whether a port's receive ring has its positions accepted, and a slot left for a frame.
+    pub fn can_receive(&self, port: PortId) -> bool
+        ensures { result ≡ can_receive port.0 self.now.own }
+    {
+        match ring_at(&self.ports, port, Side::Rx) {
+            Some(ring) => ring.has_free_slot(),
+            None => false,
+        }
+    }
+
+    /// Whether an index is that of a buffer of the pool which is none of the session's.
+    pub fn is_new(&self, idx: u32) -> bool
+        ensures { (result ≡ true) ↔ IsNew self.now.own idx }
+    {
+        if idx < 2 {
+            return false;
+        }
+        if idx as usize >= self.marks.len() {
+            return false;
+        }
+        self.hold.buffer(idx).is_none()
+    }
+
+    /// Publishes a frame of `len` bytes, the first ones of the buffer that brings it, in the next slot
+    /// of a port's receive ring. All bytes of the buffer behind the frame are cleared.
+    pub fn receive(&mut self, port: PortId, buf: Buf, len: u16)
+        requires room { can_receive port.0 self.old.own ≡ true }
+        requires len { len ≤ 2048 }
+        requires new { IsNew self.old.own buf.index }
+        ensures own { self.new.own ≡ own_with_arrival port.0 self.old.own
+            (record { buffer = buf.index; bytes = take len buf.bytes }) }
+        ensures region { (region : ℕ) → AllOf region self.old → IsBufferOf region buf
+            → AllOf region self.new }
+    {
+        let slot = match ring_at(&self.ports, port, Side::Rx) {
+            Some(ring) => ring.ring().tail(),
+            None => unreachable!(),
+        };
+        let mut buf = buf;
+        clear_behind(&mut buf, len);
+        let idx = buf.index();
+        put(&mut self.hold, Place::Rx { port, slot }, buf, true);
+        publish_at(&mut self.ports, port, idx, len);
+    }
+
+    /// What stands after a send, for a push that no check refuses: the buffers that the pushed
+    /// slots name are in their places, and the tail goes on by as many slots.
+    pub fn sent(&mut self, port: PortId)
+        requires ring { IsSome (ring_at Tx self.old.own port.0) }
+        requires passes { refusal_at Tx port.0 self.old.own ≡ None }
+        ensures { self.new ≡ record self.old { own = own_after_send port.0 self.old.own } }
+    {
+        let taken = match ring_at(&self.ports, port, Side::Tx) {
+            Some(ring) => send_out(&mut self.hold, port, ring),
+            None => unreachable!(),
+        };
+        accept_pushes(&mut self.ports, port, taken);
+    }
+
+    /// What stands after a put none of whose frames was taken, or whose peer is gone, for a push that
+    /// no check refuses: the buffers that the pushed slots name are in their places, and the slots
+    /// stay pushed.
+    pub fn offered(&mut self, port: PortId)
+        requires ring { IsSome (ring_at Tx self.old.own port.0) }
+        requires passes { refusal_at Tx port.0 self.old.own ≡ None }
+        ensures { self.new ≡ record self.old { own = own_after_put port.0 [] self.old.own } }
+    {
+        match ring_at(&self.ports, port, Side::Tx) {
+            Some(ring) => push_out(&mut self.hold, port, ring, 0),
+            None => unreachable!(),
+        }
+        accept_pushes(&mut self.ports, port, 0);
+    }
+
+    /// Whether a port's transmit ring has its head accepted, and frames that are still offered.
+    pub fn has_offered(&self, port: PortId) -> bool
+        ensures { result ≡ has_offered port.0 self.now.own }
+    {
+        match ring_at(&self.ports, port, Side::Tx) {
+            Some(ring) => ring.has_free_slot(),
+            None => false,
+        }
+    }
+
+    /// What stands once the first frame that is still offered was taken: its buffer went, one that
+    /// came is in its place, with all bytes cleared, and the tail goes on by one.
+    pub fn taken(&mut self, port: PortId, buf: Buf) -> Buf
+        requires offered { has_offered port.0 self.old.own ≡ true }
+        requires new { IsNew self.old.own buf.index }
+        ensures own { self.new.own ≡ own_with_taken port.0 self.old.own
+            (record { buffer = buf.index; bytes = [] }) }
+        ensures index { result.index ≡ offered_buffer port.0 self.old.own }
+        ensures bytes { result.bytes ≡ bytes_at self.old.own result.index }
+        ensures region { (region : ℕ) → AllOf region self.old → IsBufferOf region buf
+            → AllOf region self.new }
+        ensures out { (region : ℕ) → AllOf region self.old → IsBufferOf region result }
+    {
+        let (size, kept, slot) = match ring_at(&self.ports, port, Side::Tx) {
+            Some(ring) => {
+                let tail = ring.ring().tail();
+                (ring.ring().size(), tail, ring.next(tail))
+            }
+            None => unreachable!(),
+        };
+        let mut buf = buf;
+        buf.clear_behind(0);
+        let idx = buf.index();
+        let went = self.hold.remove(Place::Tx { port, slot });
+        put(&mut self.hold, Place::Tx { port, slot }, buf, false);
+        name_slots(&mut self.hold, port, size, kept, 1, true);
+        take_at(&mut self.ports, port, idx);
+        went
+    }
+
+    /// Resets a port's ring: its positions are those last accepted, and each of the user's slots
+    /// names the buffer in its place. Does nothing if there is no such ring.
+    pub fn reset(&mut self, port: PortId, side: Side)
+        ensures { self.new ≡ record self.old { own = own_after_reset port.0 side self.old.own } }
+    {
+        reset_rings(&self.hold, &mut self.ports, port, side);
+    }
+}
