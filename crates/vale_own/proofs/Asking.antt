@@ -36,7 +36,7 @@ use Rattle.vale_own.proofs.Sounds.{Sound, sound-of, lots-of_leases, settled-at, 
 use Rattle.vale_own.proofs.OwnKept.{own-kept, legal-split}
 
 -- a port that is found, and the session's that is found
-port-found : (at : Port → Bool) (id session : ℕ) → ((p : Port) → at (port_alone p) ≡ at p) → ((p : Port) → at p ≡ true → p.id ≡ id) → (s : Standing) → Sound s
+pub port-found : (at : Port → Bool) (id session : ℕ) → ((p : Port) → at (port_alone p) ≡ at p) → ((p : Port) → at p ≡ true → p.id ≡ id) → (s : Standing) → Sound s
     → find at (own_of session s).ports ≡ option_filter (is_port_of session) (option_map port_alone (find at s.world.ports))
 port-found at id session same of_id s k =
     let ports = s.world.ports in

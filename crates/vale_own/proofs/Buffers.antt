@@ -59,7 +59,7 @@ leases-hold pool h session legal =
     All-from_recursion HoldsFrames (own_of session s).leases (ports-hold session s.world.ports s.holdings.ports (history-stands pool h legal).held.ports_agree)
 
 -- each buffer of the pool is held once
-session-counted : (b session : ℕ) (helds : List SessionBuffers) → count_of b (buffers_of_session helds session) ≤ sum_by (at_session b) helds
+pub session-counted : (b session : ℕ) (helds : List SessionBuffers) → count_of b (buffers_of_session helds session) ≤ sum_by (at_session b) helds
 session-counted b session [] = omega arith
 session-counted b session (h ∷ hs) = by (h.session == session) refl (session-counted b session hs)
   where
@@ -113,11 +113,11 @@ buffers-apart pool h session b legal =
     omega (arith, all, one, two, parted)
 
 -- as many buffers are delivered as frames
-size-frames : (frames : List Frame) → size_of_frames frames ≡ length frames
+pub size-frames : (frames : List Frame) → size_of_frames frames ≡ length frames
 size-frames [] = refl
 size-frames (f ∷ fs) = let rest = size-frames fs in let sum = sum_by-cons slots_of f fs in omega (arith, rest, sum)
 
-came-length : (s : Standing) (id : ℕ) (port : Port) → open_port s.world.ports id ≡ Some port → Numbered s → Held s
+pub came-length : (s : Standing) (id : ℕ) (port : Port) → open_port s.world.ports id ≡ Some port → Numbered s → Held s
     → length (delivered_buffers port.id (length (ready_lots port)) s.holdings.ports) ≡ length (delivered_frames port)
 came-length s id port e n h =
     let w = s.world in
@@ -130,11 +130,11 @@ came-length s id port e n h =
     ap length there ∙ (delivered-length port at.held at.agrees ∙ size-frames (delivered_frames port))
 
 -- the buffers of arrivals
-blank-buffers : (bs : List ℕ) → buffers_of_arrivals (map blank_arrival bs) ≡ bs
+pub blank-buffers : (bs : List ℕ) → buffers_of_arrivals (map blank_arrival bs) ≡ bs
 blank-buffers [] = refl
 blank-buffers (b ∷ bs) = ap (λ (cs : List ℕ). b ∷ cs) (blank-buffers bs)
 
-frame-buffers : (bs : List ℕ) (frames : List Frame) → length bs ≡ length frames → buffers_of_arrivals (map frame_arrival (zip bs frames)) ≡ bs
+pub frame-buffers : (bs : List ℕ) (frames : List Frame) → length bs ≡ length frames → buffers_of_arrivals (map frame_arrival (zip bs frames)) ≡ bs
 frame-buffers [] frames e = refl
 frame-buffers (b ∷ bs) [] e = absurd (omega (arith, e))
 frame-buffers (b ∷ bs) (f ∷ fs) e = ap (λ (cs : List ℕ). b ∷ cs) (frame-buffers bs fs (omega (arith, e)))

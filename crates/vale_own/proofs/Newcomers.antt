@@ -93,7 +93,7 @@ lots-from pool h =
     (standing-by (λ (s : Standing). Numbered s × LotsFrom s) (λ s e k. (numbered_entry s e k.0, lots_entry s e k.0 k.1)) (fresh_standing pool) h (world-numbered pool [], tt)).1
 
 -- nothing of a session of a higher number
-rise-below : (low : ℕ) (ns : List ℕ) (high : ℕ) → Rise low ns high → Each (λ (n : ℕ). n ≤ high) ns
+pub rise-below : (low : ℕ) (ns : List ℕ) (high : ℕ) → Rise low ns high → Each (λ (n : ℕ). n ≤ high) ns
 rise-below low [] high r = tt
 rise-below low (n ∷ ns) high r = (rise-bounds n ns high r.1, rise-below n ns high r.1)
 

@@ -5,3 +5,8 @@ pub mod OwnAsks
 pub mod There
 pub mod Laws
 pub mod Rows
+pub mod Side
+pub mod SideLaws
+pub mod SideAsks
+pub mod SideEdits
+pub mod SideRows
