@@ -36,3 +36,4 @@ pub mod PutLists
 pub mod PutMoves
 pub mod Openable
 pub mod Lives
+pub mod Seen

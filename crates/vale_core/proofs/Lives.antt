@@ -58,6 +58,11 @@ session-is s n is = rw (← is) refl
 port-is : (p : PortId) (n : ℕ) → p.0 ≡ n → p ≡ port n
 port-is p n is = rw (← is) refl
 
+-- After some entries an ask is enabled, and the others are those with its own.
+pub record Leads (region : ℕ) (known : List Entry) (ask : Ask) (next : List Entry) : Type 0 where
+  pub can : IsEnabled (standing (life region known)) ask
+  pub made : after_ask (life region known) ask ≡ life region next
+
 -- A session comes, and opens ports.
 
 pub came-at : (b next : Recorded) → b.pool ≡ 20 → b.limits ≡ limits → b.entries ≡ [] → next ≡ after_ask b (Enter 7) → next ≡ life b.region came
@@ -85,40 +90,24 @@ taken-of region tx known b indices taken is are free = are ∙ ap (λ (r : Recor
 
 -- A port alone.
 
-pub opens-a : (region : ℕ) → IsEnabled (standing (life region came)) (opening 1 name_a 4 4)
+pub opened-a : (region : ℕ) → Leads region came (opening 1 name_a 4 4) one_port
 unfolding is_name is_switch_port_name is_pipe_name is_monitor_name switch_of peer_name
-opens-a region = refl
-
-pub opened-a : (region : ℕ) → after_ask (life region came) (opening 1 name_a 4 4) ≡ life region one_port
-unfolding is_name is_switch_port_name is_pipe_name is_monitor_name switch_of peer_name
-opened-a region = refl
+opened-a region = record { can = refl; made = refl }
 
 pub taken-a : (region : ℕ) → take 4 (standing (life region came)).holdings.free ≡ first_bufs
 taken-a region = refl
 
-pub shuts-a : (region : ℕ) → IsEnabled (standing (life region one_port)) (Shut (port 2))
+pub shut-a : (region : ℕ) → Leads region one_port (Shut (port 2)) shut_port
 unfolding is_name is_switch_port_name is_pipe_name is_monitor_name switch_of peer_name
-shuts-a region = refl
+shut-a region = record { can = refl; made = refl }
 
-pub shut-a : (region : ℕ) → after_ask (life region one_port) (Shut (port 2)) ≡ life region shut_port
+pub gone-a : (region : ℕ) → Leads region shut_port (Finish (port 2) first_bufs no_chain) gone_port
 unfolding is_name is_switch_port_name is_pipe_name is_monitor_name switch_of peer_name
-shut-a region = refl
+gone-a region = record { can = refl; made = refl }
 
-pub goes-a : (region : ℕ) → IsEnabled (standing (life region shut_port)) (Finish (port 2) first_bufs no_chain)
+pub left-a : (region : ℕ) → Leads region gone_port (left 1) left_alone
 unfolding is_name is_switch_port_name is_pipe_name is_monitor_name switch_of peer_name
-goes-a region = refl
-
-pub gone-a : (region : ℕ) → after_ask (life region shut_port) (Finish (port 2) first_bufs no_chain) ≡ life region gone_port
-unfolding is_name is_switch_port_name is_pipe_name is_monitor_name switch_of peer_name
-gone-a region = refl
-
-pub leaves-a : (region : ℕ) → IsEnabled (standing (life region gone_port)) (left 1)
-unfolding is_name is_switch_port_name is_pipe_name is_monitor_name switch_of peer_name
-leaves-a region = refl
-
-pub left-a : (region : ℕ) → after_ask (life region gone_port) (left 1) ≡ life region left_alone
-unfolding is_name is_switch_port_name is_pipe_name is_monitor_name switch_of peer_name
-left-a region = refl
+left-a region = record { can = refl; made = refl }
 
 pub free-a : (region : ℕ) → free_count (standing (life region left_alone)).world ≡ 20
 unfolding is_name is_switch_port_name is_pipe_name is_monitor_name switch_of peer_name
@@ -126,25 +115,17 @@ free-a region = refl
 
 -- A frame from one port to another.
 
-pub opens-b : (region : ℕ) → IsEnabled (standing (life region one_port)) (opening 1 name_b 4 4)
+pub opened-b : (region : ℕ) → Leads region one_port (opening 1 name_b 4 4) two_ports
 unfolding is_name is_switch_port_name is_pipe_name is_monitor_name switch_of peer_name
-opens-b region = refl
-
-pub opened-b : (region : ℕ) → after_ask (life region one_port) (opening 1 name_b 4 4) ≡ life region two_ports
-unfolding is_name is_switch_port_name is_pipe_name is_monitor_name switch_of peer_name
-opened-b region = refl
+opened-b region = record { can = refl; made = refl }
 
 pub taken-b : (region : ℕ) → take 4 (standing (life region one_port)).holdings.free ≡ 10 ∷ 11 ∷ 12 ∷ 13 ∷ []
 unfolding is_name is_switch_port_name is_pipe_name is_monitor_name switch_of peer_name
 taken-b region = refl
 
-pub sends : (region : ℕ) → IsEnabled (standing (life region two_ports)) (Send (port 2) (frame_h ∷ []))
+pub sent : (region : ℕ) → Leads region two_ports (Send (port 2) (frame_h ∷ [])) sent_one
 unfolding is_name is_switch_port_name is_pipe_name is_monitor_name switch_of peer_name
-sends region = refl
-
-pub sent : (region : ℕ) → after_ask (life region two_ports) (Send (port 2) (frame_h ∷ [])) ≡ life region sent_one
-unfolding is_name is_switch_port_name is_pipe_name is_monitor_name switch_of peer_name
-sent region = refl
+sent region = record { can = refl; made = refl }
 
 pub sent-said : (region : ℕ) → option_map reply_of (step (standing (life region two_ports)) (Send (port 2) (frame_h ∷ []))) ≡ Some (Offered 0 0 (dest 3 1 ∷ []))
 unfolding is_name is_switch_port_name is_pipe_name is_monitor_name switch_of peer_name
@@ -158,13 +139,9 @@ pub filled : (region : ℕ) → after_ask (life region granted_one) (completes 5
 unfolding is_name is_switch_port_name is_pipe_name is_monitor_name switch_of peer_name
 filled region = refl
 
-pub syncs : (region : ℕ) → IsEnabled (standing (life region filled_one)) (Sync (port 3) [])
+pub synced : (region : ℕ) → Leads region filled_one (Sync (port 3) []) read_one
 unfolding is_name is_switch_port_name is_pipe_name is_monitor_name switch_of peer_name
-syncs region = refl
-
-pub synced : (region : ℕ) → after_ask (life region filled_one) (Sync (port 3) []) ≡ life region read_one
-unfolding is_name is_switch_port_name is_pipe_name is_monitor_name switch_of peer_name
-synced region = refl
+synced region = record { can = refl; made = refl }
 
 -- What is offered goes to the second port.
 
@@ -376,45 +353,25 @@ with-of region bufs all buf is of own = subst (AreOf region) (sym is) (more bufs
     more [] of = (own, tt)
     more (b ∷ bufs) of = (of.0, more bufs of.1)
 
-pub shuts-first : (region : ℕ) → IsEnabled (standing (life region read_one)) (Shut (port 2))
+pub shut-first : (region : ℕ) → Leads region read_one (Shut (port 2)) shut_first
 unfolding is_name is_switch_port_name is_pipe_name is_monitor_name switch_of peer_name
-shuts-first region = refl
+shut-first region = record { can = refl; made = refl }
 
-pub shut-first : (region : ℕ) → after_ask (life region read_one) (Shut (port 2)) ≡ life region shut_first
+pub gone-first : (region : ℕ) → Leads region shut_first (Finish (port 2) first_bufs no_chain) gone_first
 unfolding is_name is_switch_port_name is_pipe_name is_monitor_name switch_of peer_name
-shut-first region = refl
+gone-first region = record { can = refl; made = refl }
 
-pub goes-first : (region : ℕ) → IsEnabled (standing (life region shut_first)) (Finish (port 2) first_bufs no_chain)
+pub shut-second : (region : ℕ) → Leads region gone_first (Shut (port 3)) shut_second
 unfolding is_name is_switch_port_name is_pipe_name is_monitor_name switch_of peer_name
-goes-first region = refl
+shut-second region = record { can = refl; made = refl }
 
-pub gone-first : (region : ℕ) → after_ask (life region shut_first) (Finish (port 2) first_bufs no_chain) ≡ life region gone_first
+pub gone-second : (region : ℕ) → Leads region shut_second (Finish (port 3) (second_bufs ++ 14 ∷ []) no_chain) gone_second
 unfolding is_name is_switch_port_name is_pipe_name is_monitor_name switch_of peer_name
-gone-first region = refl
+gone-second region = record { can = refl; made = refl }
 
-pub shuts-second : (region : ℕ) → IsEnabled (standing (life region gone_first)) (Shut (port 3))
+pub left-both : (region : ℕ) → Leads region gone_second (left 1) left_both
 unfolding is_name is_switch_port_name is_pipe_name is_monitor_name switch_of peer_name
-shuts-second region = refl
-
-pub shut-second : (region : ℕ) → after_ask (life region gone_first) (Shut (port 3)) ≡ life region shut_second
-unfolding is_name is_switch_port_name is_pipe_name is_monitor_name switch_of peer_name
-shut-second region = refl
-
-pub goes-second : (region : ℕ) → IsEnabled (standing (life region shut_second)) (Finish (port 3) (second_bufs ++ 14 ∷ []) no_chain)
-unfolding is_name is_switch_port_name is_pipe_name is_monitor_name switch_of peer_name
-goes-second region = refl
-
-pub gone-second : (region : ℕ) → after_ask (life region shut_second) (Finish (port 3) (second_bufs ++ 14 ∷ []) no_chain) ≡ life region gone_second
-unfolding is_name is_switch_port_name is_pipe_name is_monitor_name switch_of peer_name
-gone-second region = refl
-
-pub leaves-both : (region : ℕ) → IsEnabled (standing (life region gone_second)) (left 1)
-unfolding is_name is_switch_port_name is_pipe_name is_monitor_name switch_of peer_name
-leaves-both region = refl
-
-pub left-both : (region : ℕ) → after_ask (life region gone_second) (left 1) ≡ life region left_both
-unfolding is_name is_switch_port_name is_pipe_name is_monitor_name switch_of peer_name
-left-both region = refl
+left-both region = record { can = refl; made = refl }
 
 pub free-both : (region : ℕ) → free_count (standing (life region left_both)).world ≡ 20
 unfolding is_name is_switch_port_name is_pipe_name is_monitor_name switch_of peer_name
@@ -422,53 +379,29 @@ free-both region = refl
 
 -- A monitor, and what is told of a port.
 
-pub opens-m : (region : ℕ) → IsEnabled (standing (life region one_port)) (opening 1 name_m 0 2)
+pub opened-m : (region : ℕ) → Leads region one_port (opening 1 name_m 0 2) monitored
 unfolding is_name is_switch_port_name is_pipe_name is_monitor_name switch_of peer_name
-opens-m region = refl
+opened-m region = record { can = refl; made = refl }
 
-pub opened-m : (region : ℕ) → after_ask (life region one_port) (opening 1 name_m 0 2) ≡ life region monitored
+pub now-watched : (region : ℕ) → Leads region monitored (Watch (port 3) name_a TR) watched
 unfolding is_name is_switch_port_name is_pipe_name is_monitor_name switch_of peer_name
-opened-m region = refl
+now-watched region = record { can = refl; made = refl }
 
-pub watches : (region : ℕ) → IsEnabled (standing (life region monitored)) (Watch (port 3) name_a TR)
+pub now-again : (region : ℕ) → Leads region watched (Watch (port 3) name_a T) watched_again
 unfolding is_name is_switch_port_name is_pipe_name is_monitor_name switch_of peer_name
-watches region = refl
+now-again region = record { can = refl; made = refl }
 
-pub now-watched : (region : ℕ) → after_ask (life region monitored) (Watch (port 3) name_a TR) ≡ life region watched
+pub now-nobody : (region : ℕ) → Leads region watched_again (Watch (port 3) name_x T) watched_nobody
 unfolding is_name is_switch_port_name is_pipe_name is_monitor_name switch_of peer_name
-now-watched region = refl
+now-nobody region = record { can = refl; made = refl }
 
-pub watches-again : (region : ℕ) → IsEnabled (standing (life region watched)) (Watch (port 3) name_a T)
+pub now-told : (region : ℕ) → Leads region watched_nobody (Stat (port 2)) told
 unfolding is_name is_switch_port_name is_pipe_name is_monitor_name switch_of peer_name
-watches-again region = refl
+now-told region = record { can = refl; made = refl }
 
-pub now-again : (region : ℕ) → after_ask (life region watched) (Watch (port 3) name_a T) ≡ life region watched_again
+pub now-reset : (region : ℕ) → Leads region told (Reset (port 2) Tx (Fragment 1)) reset
 unfolding is_name is_switch_port_name is_pipe_name is_monitor_name switch_of peer_name
-now-again region = refl
-
-pub watches-nobody : (region : ℕ) → IsEnabled (standing (life region watched_again)) (Watch (port 3) name_x T)
-unfolding is_name is_switch_port_name is_pipe_name is_monitor_name switch_of peer_name
-watches-nobody region = refl
-
-pub now-nobody : (region : ℕ) → after_ask (life region watched_again) (Watch (port 3) name_x T) ≡ life region watched_nobody
-unfolding is_name is_switch_port_name is_pipe_name is_monitor_name switch_of peer_name
-now-nobody region = refl
-
-pub tells : (region : ℕ) → IsEnabled (standing (life region watched_nobody)) (Stat (port 2))
-unfolding is_name is_switch_port_name is_pipe_name is_monitor_name switch_of peer_name
-tells region = refl
-
-pub now-told : (region : ℕ) → after_ask (life region watched_nobody) (Stat (port 2)) ≡ life region told
-unfolding is_name is_switch_port_name is_pipe_name is_monitor_name switch_of peer_name
-now-told region = refl
-
-pub resets : (region : ℕ) → IsEnabled (standing (life region told)) (Reset (port 2) Tx (Fragment 1))
-unfolding is_name is_switch_port_name is_pipe_name is_monitor_name switch_of peer_name
-resets region = refl
-
-pub now-reset : (region : ℕ) → after_ask (life region told) (Reset (port 2) Tx (Fragment 1)) ≡ life region reset
-unfolding is_name is_switch_port_name is_pipe_name is_monitor_name switch_of peer_name
-now-reset region = refl
+now-reset region = record { can = refl; made = refl }
 
 pub asks-watch : (monitor : PortId) (target known : List ℕ) (sides : Sides) → monitor ≡ port 3 → target ≡ known → Watch monitor target sides ≡ Watch (port 3) known sides
 asks-watch monitor target known sides same name = ap (λ (p : PortId). Watch p target sides) same ∙ ap (λ (n : List ℕ). Watch (port 3) n sides) name

@@ -15,3 +15,4 @@ pub mod Sending
 pub mod Putting
 pub mod PutFaults
 pub mod Lives
+pub mod Asking

@@ -3,6 +3,7 @@
 //! hands out leaves the book, and what comes back is the book's again.
 #![tactic(auto)]
 
+mod asking;
 mod book;
 mod buffers;
 mod closing;
@@ -26,6 +27,7 @@ mod tests;
 mod wanting;
 mod watching;
 
+pub use asking::PortSeen;
 pub use book::Book;
 pub use fault::PutFault;
 pub use finishing::LeasesOut;

@@ -151,6 +151,13 @@ impl Port {
         !self.shutting && self.name.is_switch_port() && self.name.switch() == name.switch()
     }
 
+    /// Returns the number of slots of the transmit ring: 0 for a monitor, which has none.
+    pub fn tx(&self) -> u32
+        ensures { result ≡ self.now.tx }
+    {
+        self.tx
+    }
+
     /// Returns the number of buffers that syncs handed out and that have not come back.
     pub fn out(&self) -> u32
         ensures { result ≡ out_of self.now.line }

@@ -119,14 +119,7 @@ abbrev putting : goal.After-put_to_peer → Putting
 putting c = putting_of c.args.port c.session_at-session.result c.in-Some-peer_of.peer c.in-Some-open_port.there c.len-offered.result c.taken_by.result c.of.result
 
 known : (c : goal.After-put_to_peer) → IsPutting c.self.inside (putting c) c.args.pending.now.items
-known c =
-    let gots = c.args.pending.now.items in
-    let enabled = subst (λ (x : Recorded). IsEnabled (standing x) (Put c.args.port (items_of gots))) (sym c.self.view_is) c.requires.enabled in
-    let count : length c.args.pending.now.items ≡ c.len-offered.result = omega (arith, c.args.pending.now.ok.0, c.len-offered.ensures) in
-    putting-known c.self.inside c.args.port c.session_at-session.result c.in-Some-peer_of.peer c.in-Some.place c.in-Some-open_port.there c.len-offered.result c.taken_by.result c.of.result gots
-    c.deref.result.now c.deref-2.result.now c.deref-3.result.now c.deref-in-Some-peer_of.result.now c.deref-in-Some-peer_of-2.result.now c.self.invariant enabled
-    c.deref.ensures.value c.deref-2.ensures.value c.deref-3.ensures.value c.deref-in-Some-peer_of.ensures.value c.deref-in-Some-peer_of-2.ensures.value
-    c.in-Some.ensures.some c.session_at-session.ensures c.in-Some-peer_of.ensures.peer c.peer_of.ensures.names c.in-Some-open_port.ensures.some count c.taken_by.ensures.seat c.of.ensures
+known c = known-before c.before
 
 abbrev next : goal.After-put_to_peer → Inside
 next c = record c.self.inside { history = c.put_to_peer.new.history; ports = c.put_to_peer.new.ports; tally = c.put_to_peer.new.tally }

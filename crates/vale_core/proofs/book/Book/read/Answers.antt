@@ -23,12 +23,7 @@ known-before c =
     c.deref.ensures.value c.deref-2.ensures.value c.in-Some.ensures.some e.at e.place e.pipe e.session e.frames e.monitor
 
 known : (c : goal.After-read) → IsReading c.self.inside c.reading_at-reading.result (indices_of c.args.back.items)
-known c =
-    let e = c.reading_at-reading.ensures in
-    let back = indices_of c.args.back.items in
-    let enabled = subst (λ (x : Recorded). IsEnabled (standing x) (read_ask c.args.is_pipe c.args.port back)) (sym c.self.view_is) c.requires.enabled in
-    read-known c.self.inside c.reading_at-reading.result c.args.is_pipe c.args.port back c.in-Some.place c.deref.result.now c.deref-2.result.now c.self.invariant enabled
-    c.deref.ensures.value c.deref-2.ensures.value c.in-Some.ensures.some e.at e.place e.pipe e.session e.frames e.monitor
+known c = known-before c.before
 
 pub unreachable-requires : goal.unreachable-requires
 unreachable-requires c =

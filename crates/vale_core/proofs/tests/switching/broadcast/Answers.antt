@@ -10,7 +10,7 @@ use Rattle.vale_parts.specs.Batches.{dests_wanted}
 use Rattle.vale_core.specs.Lives.{life, two_ports, sent_one}
 use Rattle.vale_core.specs.Recorded.{Recorded, standing}
 use Rattle.vale_core.specs.Sending.{IsSent}
-use Rattle.vale_core.proofs.Lives.{enabled, stepped, sends, sent, sent-said, offered-to}
+use Rattle.vale_core.proofs.Lives.{enabled, stepped, sent, sent-said, offered-to}
 use Rattle.vale_core.proofs.tests.switching.broadcast.Goals as goal
 
 asked-of : (from : PortId) (frames : List Frame) → from ≡ port 2 → frames ≡ frame_h ∷ [] → Send from frames ≡ Send (port 2) (frame_h ∷ [])
@@ -20,14 +20,14 @@ pub send-offers-requires : goal.send-offers-requires
 send-offers-requires g c =
     let b = c.args.book.now in
     let asked = asked-of c.args.from c.batch-frames.result c.requires.from c.batch-frames.ensures in
-    enabled b (life b.region two_ports) (Send c.args.from c.batch-frames.result) (Send (port 2) (frame_h ∷ [])) c.requires.book asked (sends b.region)
+    enabled b (life b.region two_ports) (Send c.args.from c.batch-frames.result) (Send (port 2) (frame_h ∷ [])) c.requires.book asked (sent b.region).can
 
 pub returns-clause-book : goal.returns-clause-book
 returns-clause-book g c =
     let b = c.args.book.now in
     let asked = asked-of c.args.from c.batch-frames.result c.requires.from c.batch-frames.ensures in
     stepped b c.send-offers.new.book (life b.region two_ports) (life b.region sent_one) (Send c.args.from c.batch-frames.result) (Send (port 2) (frame_h ∷ [])) c.requires.book asked
-    c.send-offers.ensures.made (sent b.region)
+    c.send-offers.ensures.made (sent b.region).made
 
 pub returns-clause-sent : goal.returns-clause-sent
 returns-clause-sent g c = subst (λ (frames : List Frame). IsSent c.send-offers.new.book frames c.send-offers.result) c.batch-frames.ensures c.send-offers.ensures.sent

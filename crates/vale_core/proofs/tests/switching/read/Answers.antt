@@ -7,7 +7,7 @@ use Rattle.vale_line.specs.declared.got.Got.{Got}
 use Rattle.vale_line.specs.Gots.{buffers_of}
 use Rattle.vale_core.specs.BookView.{AreOf}
 use Rattle.vale_core.specs.Lives.{life, filled_one, read_one}
-use Rattle.vale_core.proofs.Lives.{enabled, stepped, syncs, synced, unwatched-one, gives-one, given-of, last-one}
+use Rattle.vale_core.proofs.Lives.{enabled, stepped, synced, unwatched-one, gives-one, given-of, last-one}
 use Rattle.vale_core.proofs.tests.switching.read.Goals as goal
 
 asked-of : (at : PortId) (back : List Buffer) → at ≡ port 3 → back ≡ [] → Sync at (indices_of back) ≡ Sync (port 3) []
@@ -17,7 +17,7 @@ pub sync-got-requires-clause-enabled : goal.sync-got-requires-clause-enabled
 sync-got-requires-clause-enabled g c =
     let b = c.args.book.now in
     let back = c.new.result.items in
-    enabled b (life b.region filled_one) (Sync c.args.at (indices_of back)) (Sync (port 3) []) c.requires.book (asked-of c.args.at back c.requires.at c.new.ensures.items) (syncs b.region)
+    enabled b (life b.region filled_one) (Sync c.args.at (indices_of back)) (Sync (port 3) []) c.requires.book (asked-of c.args.at back c.requires.at c.new.ensures.items) (synced b.region).can
 
 pub close-requires : goal.close-requires
 close-requires g c =
@@ -36,7 +36,7 @@ returns-clause-book g c =
     let b = c.args.book.now in
     let back = c.new.result.items in
     stepped b c.sync-got.new.book (life b.region filled_one) (life b.region read_one) (Sync c.args.at (indices_of back)) (Sync (port 3) []) c.requires.book
-    (asked-of c.args.at back c.requires.at c.new.ensures.items) c.sync-got.ensures.made (synced b.region)
+    (asked-of c.args.at back c.requires.at c.new.ensures.items) c.sync-got.ensures.made (synced b.region).made
 
 pub returns-clause-of : goal.returns-clause-of
 returns-clause-of g c =

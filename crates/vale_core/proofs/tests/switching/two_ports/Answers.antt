@@ -2,7 +2,7 @@ use Rattle.std.proofs.Common.{◌∙◌, [], ◌∷◌, ap, refl, sym}
 use Rattle.nm_region.specs.Buffers.{indices_of}
 use Rattle.vale_core.specs.Lives.{life, name_a, name_b, came, one_port, two_ports}
 use Rattle.vale_core.specs.Recorded.{Recorded}
-use Rattle.vale_core.proofs.Lives.{came-at, came-as, may-open, opened-at, opened-as, taken-of, opens-a, opened-a, opens-b, opened-b, taken-b}
+use Rattle.vale_core.proofs.Lives.{came-at, came-as, may-open, opened-at, opened-as, taken-of, opened-a, opened-b, taken-b}
 use Rattle.vale_core.proofs.tests.switching.two_ports.Goals as goal
 
 pub open-first-requires : goal.open-first-requires
@@ -12,7 +12,7 @@ open-first-requires g c =
     let user = c.enter-session in
     let one = came-at b user.new.book e.pool e.limits e.entries user.ensures.made in
     let who = came-as b.region user.new.book user.result one user.ensures.id in
-    may-open b.region came user.new.book user.result name_a 4 4 one who (opens-a b.region)
+    may-open b.region came user.new.book user.result name_a 4 4 one who (opened-a b.region).can
 
 pub open-second-requires : goal.open-second-requires
 open-second-requires g c =
@@ -22,8 +22,8 @@ open-second-requires g c =
     let one = came-at b user.new.book e.pool e.limits e.entries user.ensures.made in
     let who = came-as b.region user.new.book user.result one user.ensures.id in
     let first = c.open-first in
-    let two = opened-at b.region came one_port user.new.book first.new.book user.result name_a 4 4 one who first.ensures.made (opened-a b.region) in
-    may-open b.region one_port first.new.book user.result name_b 4 4 two who (opens-b b.region)
+    let two = opened-at b.region came one_port user.new.book first.new.book user.result name_a 4 4 one who first.ensures.made (opened-a b.region).made in
+    may-open b.region one_port first.new.book user.result name_b 4 4 two who (opened-b b.region).can
 
 pub returns-clause-book : goal.returns-clause-book
 returns-clause-book g c =
@@ -33,9 +33,9 @@ returns-clause-book g c =
     let one = came-at b user.new.book e.pool e.limits e.entries user.ensures.made in
     let who = came-as b.region user.new.book user.result one user.ensures.id in
     let first = c.open-first in
-    let two = opened-at b.region came one_port user.new.book first.new.book user.result name_a 4 4 one who first.ensures.made (opened-a b.region) in
+    let two = opened-at b.region came one_port user.new.book first.new.book user.result name_a 4 4 one who first.ensures.made (opened-a b.region).made in
     let second = c.open-second in
-    let three = opened-at b.region one_port two_ports first.new.book second.new.book user.result name_b 4 4 two who second.ensures.made (opened-b b.region) in
+    let three = opened-at b.region one_port two_ports first.new.book second.new.book user.result name_b 4 4 two who second.ensures.made (opened-b b.region).made in
     three ∙ sym (ap (λ (k : Recorded). life k.region two_ports) three)
 
 pub returns-clause-first : goal.returns-clause-first
@@ -46,7 +46,7 @@ returns-clause-first g c =
     let one = came-at b user.new.book e.pool e.limits e.entries user.ensures.made in
     let who = came-as b.region user.new.book user.result one user.ensures.id in
     let first = c.open-first in
-    let two = opened-at b.region came one_port user.new.book first.new.book user.result name_a 4 4 one who first.ensures.made (opened-a b.region) in
+    let two = opened-at b.region came one_port user.new.book first.new.book user.result name_a 4 4 one who first.ensures.made (opened-a b.region).made in
     opened-as b.region 2 one_port first.new.book first.result.port two refl first.ensures.port
 
 pub returns-clause-second : goal.returns-clause-second
@@ -57,9 +57,9 @@ returns-clause-second g c =
     let one = came-at b user.new.book e.pool e.limits e.entries user.ensures.made in
     let who = came-as b.region user.new.book user.result one user.ensures.id in
     let first = c.open-first in
-    let two = opened-at b.region came one_port user.new.book first.new.book user.result name_a 4 4 one who first.ensures.made (opened-a b.region) in
+    let two = opened-at b.region came one_port user.new.book first.new.book user.result name_a 4 4 one who first.ensures.made (opened-a b.region).made in
     let second = c.open-second in
-    let three = opened-at b.region one_port two_ports first.new.book second.new.book user.result name_b 4 4 two who second.ensures.made (opened-b b.region) in
+    let three = opened-at b.region one_port two_ports first.new.book second.new.book user.result name_b 4 4 two who second.ensures.made (opened-b b.region).made in
     opened-as b.region 3 two_ports second.new.book second.result.port three refl second.ensures.port
 
 pub returns-clause-second_tx : goal.returns-clause-second_tx
@@ -70,5 +70,5 @@ returns-clause-second_tx g c =
     let one = came-at b user.new.book e.pool e.limits e.entries user.ensures.made in
     let who = came-as b.region user.new.book user.result one user.ensures.id in
     let first = c.open-first in
-    let two = opened-at b.region came one_port user.new.book first.new.book user.result name_a 4 4 one who first.ensures.made (opened-a b.region) in
+    let two = opened-at b.region came one_port user.new.book first.new.book user.result name_a 4 4 one who first.ensures.made (opened-a b.region).made in
     taken-of b.region 4 one_port first.new.book (indices_of c.open-second.result.tx.items) (10 ∷ 11 ∷ 12 ∷ 13 ∷ []) two c.open-second.ensures.tx (taken-b b.region)
