@@ -1,5 +1,5 @@
 -- A user that has come may leave.
-use Rattle.std.proofs.Common.{ℕ, ◌+◌, ◌≡◌, ◌&&◌, ◌==◌, true, List, [], ◌∷◌, ◌++◌, length, Option, Some, None, Bool, false, inl, refl, sym, ◌∙◌, ap, subst, arith, length-append}
+use Rattle.std.proofs.Common.{ℕ, ◌+◌, ◌≡◌, true, List, [], ◌∷◌, ◌++◌, length, Some, None, Bool, false, inl, refl, sym, ◌∙◌, ap, subst, arith, length-append}
 use Rattle.std.specs.Prelude.{option_map, if◌then◌else◌}
 use Rattle.std.proofs.lemmas.Bool.{eq-eqb}
 use Rattle.nm_turn.specs.Numbered.{Stands}

@@ -1,35 +1,30 @@
 -- A lease that is filled, by what is its session's own, is filled for the port that waits for it.
-use Rattle.std.proofs.Common.{ℕ, zero, suc, ◌-◌, ◌≡◌, Bool, true, false, cond, not, ◌&&◌, ◌==◌, List, [], ◌∷◌, ◌++◌, map, filter, find, flat_map, Option, Some, None, is_some, refl, sym, ◌∙◌, ap, subst, slice_get}
+use Rattle.std.proofs.Common.{ℕ, zero, suc, ◌-◌, ◌≡◌, Bool, true, false, cond, not, ◌==◌, List, [], ◌∷◌, ◌++◌, map, filter, find, flat_map, Option, Some, None, is_some, refl, sym, ◌∙◌, ap, subst, slice_get}
 use Rattle.std.specs.Prelude.{option_map}
 use Rattle.std.specs.List.{AllByRecursion as Each, zip}
 use Rattle.std.specs.Option.{option_or}
 use Rattle.std.proofs.lemmas.Bool.{and_parts, eqb-true}
 use Rattle.std.proofs.lemmas.List.Folds.{find-append}
 use Rattle.std.proofs.lemmas.Map.Entries.{option_filter}
-use Rattle.nm_types.specs.declared.id.LeaseId.{LeaseId}
-use Rattle.nm_turn.specs.Numbered.{Stands}
 use Rattle.nm_turn.proofs.Prefixes.{prefix_get}
 use Rattle.vale_entry.specs.declared.entry.Ask.{Ask}
 use Rattle.vale_entry.specs.declared.entry.Ask.TheVariants.{Enter, Open, Send, Grant, Done, Sync, Reset, Shut, Finish, Leave, Put, PutKept, Get, Watch, Stat}
 use Rattle.vale_entry.specs.declared.entry.Entry.{Entry}
-use Rattle.vale_entry.specs.World.{Port, Lot, is_owed_by}
-use Rattle.vale_entry.specs.Holdings.{PortBuffers}
+use Rattle.vale_entry.specs.World.{Lot, is_owed_by}
 use Rattle.vale_entry.specs.Delivery.{is_lease, lease_at, line_of}
 use Rattle.vale_entry.specs.Laws.{bears_number}
-use Rattle.vale_entry.specs.Legal.{Standing, standing_of, is_met, IsEnabled, IsLegal}
+use Rattle.vale_entry.specs.Legal.{standing_of, is_met, IsEnabled, IsLegal}
 use Rattle.vale_entry.proofs.Each.{each-weaker, each-find}
 use Rattle.vale_entry.proofs.ListLaws.{place-of}
 use Rattle.vale_entry.proofs.HistoryLaws.{history-stands}
 use Rattle.vale_own.specs.Own.{Own, HeldLot, own_of, leases_at, is_lease_of, lot_of_lease}
-use Rattle.vale_own.specs.Asker.{asks}
 use Rattle.vale_own.proofs.Asking.{own-tells}
 use Rattle.vale_own.proofs.Finds.{find-kept}
 use Rattle.vale_own.proofs.Sides.{each-zip}
 use Rattle.vale_own.proofs.Single.{only-lots}
 use Rattle.vale_line.specs.Leased.{Leased}
-use Rattle.vale_port.specs.Kept.{kept_gots, world_frames}
 use Rattle.vale_port.specs.Ports.{frames_of_seat}
-use Rattle.vale_port.specs.Seat.{Seat, LotSeat, lease_among}
+use Rattle.vale_port.specs.Seat.{LotSeat, lease_among}
 use Rattle.vale_core.specs.Granting.{lease_id}
 use Rattle.vale_core.specs.Offering.{IsFilledIn}
 use Rattle.vale_core.specs.Recorded.{Recorded, standing}
@@ -168,7 +163,7 @@ filled-in b session lease legal enabled by =
 
 -- ---- from what the pass has seen
 
-find-mapped : {X Y : Type 0} (f : X → Y) (p : Y → Bool) (xs : List X) (x : X) → find (λ (z : X). p (f z)) xs ≡ Some x → is_some (find p (map f xs)) ≡ true
+pub find-mapped : {X Y : Type 0} (f : X → Y) (p : Y → Bool) (xs : List X) (x : X) → find (λ (z : X). p (f z)) xs ≡ Some x → is_some (find p (map f xs)) ≡ true
 find-mapped f p [] x e = absurd cc
 find-mapped {X} {Y} f p (z ∷ zs) x e = by (p (f z)) (find-mapped f p zs x) e
   where

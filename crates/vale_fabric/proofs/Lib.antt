@@ -4,8 +4,13 @@ pub mod Refusals
 pub mod OffersHeld
 pub mod OwnNow
 pub mod Speaking
+pub mod PutsTold
 pub mod PutsMade
 pub mod Placed
 pub mod FilledNow
 pub mod LeasesHeld
+pub mod AtHand
 pub mod Comers
+pub mod LeaseFilling
+pub mod Settlements
+pub mod GrantsSettle

@@ -4,10 +4,8 @@ use Rattle.std.specs.Prelude.{option_map, take, min, if◌then◌else◌}
 use Rattle.std.proofs.Math.Seq.{take-append_seam}
 use Rattle.std.proofs.lemmas.Bool.{eqb-true}
 use Rattle.std.proofs.Math.Nat.{min-eq_left}
-use Rattle.nm_turn.specs.declared.view.TurnStage.TheVariants.{Out}
 use Rattle.nm_turn.specs.Numbered.{numbered, Stands}
-use Rattle.nm_turn.specs.Shares.{IsWhole}
-use Rattle.nm_turn.specs.Passes.{HasAll, Told, at_stage, listed, new_since}
+use Rattle.nm_turn.specs.Passes.{Told, listed}
 use Rattle.nm_turn.specs.Turns.{AddsOne}
 use Rattle.nm_turn.proofs.Prefixes.{numbered-append}
 use Rattle.nm_turn.proofs.Telling.{told_made, told_none}
@@ -36,7 +34,7 @@ use Rattle.vale_core.specs.Recorded.{Recorded, standing, after_outcome, after_as
 use Rattle.vale_core.proofs.Comings.{enter-made}
 use Rattle.vale_fabric.specs.declared.kept.Fixed.{Fixed}
 use Rattle.vale_fabric.specs.Roots.{root_of}
-use Rattle.vale_fabric.specs.Fabrics.{Knowing, record_in, seen_in, before_in, earlier, entry_by, MayAsk, Makes, Answers, MakesNone, Refuses}
+use Rattle.vale_fabric.specs.Fabrics.{Knowing, record_in, seen_in, before_in, earlier, MayAsk, Makes, Answers, MakesNone, Refuses}
 use Rattle.vale_fabric.specs.Ports.{Waits}
 use Rattle.vale_fabric.specs.Steps.{IsTaken, IsPutBack}
 use Rattle.vale_fabric.proofs.Others.{others-past, adds-own}
@@ -102,7 +100,7 @@ step-now {fixed} {v} {entered} {b} {ask} may taken plain = let found = step-of (
 pub stored : {b after : Recorded} {ask : Ask} (steps : Steps b ask) → after ≡ after_ask b ask → after ≡ with_step b ask steps.makes
 stored {b} {after} {ask} steps grown = grown ∙ ap (after_outcome b ask) steps.is
 
-asker-is : (found : Option ℕ) (owner session : ℕ) → found ≡ Some owner → is_asker found session ≡ true → owner ≡ session
+pub asker-is : (found : Option ℕ) (owner session : ℕ) → found ≡ Some owner → is_asker found session ≡ true → owner ≡ session
 asker-is None owner session is e = absurd cc
 asker-is (Some other) owner session is e = let same : other ≡ owner = cc in sym same ∙ eqb-true other session e
 

@@ -1,5 +1,5 @@
 -- The offers at hand: entries of others leave them as they are, and their own grant takes the first.
-use Rattle.std.proofs.Common.{ℕ, ◌+◌, ◌≤◌, ◌≡◌, Bool, true, false, cond, ◌&&◌, ◌==◌, List, [], ◌∷◌, ◌++◌, filter, find, drop, length, Option, Some, None, refl, sym, ◌∙◌, ap, subst, arith}
+use Rattle.std.proofs.Common.{ℕ, ◌≤◌, ◌≡◌, Bool, true, false, cond, ◌&&◌, ◌==◌, List, [], ◌∷◌, ◌++◌, filter, find, drop, length, Option, Some, None, refl, sym, ◌∙◌, ap, subst, arith}
 use Rattle.std.specs.Prelude.{option_map}
 use Rattle.std.specs.List.{AllByRecursion as Each}
 use Rattle.std.proofs.lemmas.Bool.{eqb-true, eq-eqb}
@@ -12,12 +12,12 @@ use Rattle.vale_entry.specs.declared.entry.Entry.{Entry}
 use Rattle.vale_entry.specs.World.{World, Offer}
 use Rattle.vale_entry.specs.Offers.{is_offer_of}
 use Rattle.vale_entry.specs.Grant.{first_offer, without_first}
-use Rattle.vale_entry.specs.Legal.{Standing, Outcome, step, standing_of, world_of, is_enabled, is_met, is_offer_next, grant_step, grant_step_at, after, recorded_step, standing_after, IsLegal, Follows}
+use Rattle.vale_entry.specs.Legal.{Standing, Outcome, step, standing_of, world_of, is_enabled, is_met, is_offer_next, grant_step, grant_step_at, recorded_step, standing_after, IsLegal, Follows}
 use Rattle.vale_entry.proofs.Each.{each-find, each-without_first}
 use Rattle.vale_entry.proofs.Removals.{each-kept}
 use Rattle.vale_entry.proofs.ListLaws.{place-of}
 use Rattle.vale_entry.proofs.Worlds.{standing-push, count-world_of}
-use Rattle.vale_own.specs.Own.{Own, own_of}
+use Rattle.vale_own.specs.Own.{own_of}
 use Rattle.vale_own.specs.Asker.{asks, asker_of, is_asker, owner_of_offer}
 use Rattle.vale_own.proofs.Asking.{own-tells}
 use Rattle.vale_own.proofs.Reading.{offers-left}
@@ -25,6 +25,7 @@ use Rattle.vale_parts.specs.Batches.{AreOffersOf}
 use Rattle.vale_parts.specs.Offering.{OffersAre, offers_at, wants_after}
 use Rattle.vale_parts.proofs.OffersKept.{first_next, offers_follow}
 use Rattle.vale_core.specs.Offering.{OffersState, OffersStand, IsOfferBy}
+use Rattle.vale_fabric.specs.Leases.{StandOf}
 use Rattle.vale_fabric.proofs.Making.{and-first, and-second}
 
 -- the first of them is that of an offer of their session
@@ -74,9 +75,9 @@ next-by (Some offer) to session met by = (offer, refl, eqb-true offer.session se
 -- Offers are a session's own: where that is what it was, they stand as they did.
 module _ (pool : ℕ) (h k : List Entry) (o : OffersState) (legal : IsLegal pool h) (later : IsLegal pool k)
     (same : (own_of o.session (standing_of pool k)).offers ≡ (own_of o.session (standing_of pool h)).offers)
-    (some : 1 ≤ length o.wants) (st : OffersStand (standing_of pool h) o) where
+    (some : 1 ≤ length o.wants) (frames : List Frame) (of : StandOf (standing_of pool h) o frames) where
   before : Next (world_of pool h) o
-  before = next-of (standing_of pool h) o some st
+  before = next-of (standing_of pool h) o some of.stand
 
   asked : asks (standing_of pool k) o.session (grant_of o before.offer) ≡ true
   asked =
@@ -97,12 +98,16 @@ module _ (pool : ℕ) (h k : List Entry) (o : OffersState) (legal : IsLegal pool
   all-same : offers_at (world_of pool h) o.entry ≡ offers_at (world_of pool k) o.entry
   all-same = own-offers h legal before.offer before.first before.by ∙ (sym same ∙ sym (own-offers k later there.0 there.1 there.2))
 
-  pub offers-stand : OffersStand (standing_of pool k) o
-  offers-stand = record {
-    frames = st.frames;
-    are = subst (AreOffersOf st.frames o.wants) all-same st.are;
-    by = subst (Each (IsOfferBy o.session)) all-same st.by;
-  }
+  pub offers-stand : StandOf (standing_of pool k) o frames
+  offers-stand =
+      let st = of.stand in record {
+        stand = record {
+          frames = st.frames;
+          are = subst (AreOffersOf st.frames o.wants) all-same st.are;
+          by = subst (Each (IsOfferBy o.session)) all-same st.by;
+        };
+        frames_are = of.frames_are;
+      }
 
 -- Their own grant takes the first.
 
@@ -125,10 +130,11 @@ granter s o to made some st is =
     ap (λ (m : Outcome). m.session) g.2 ∙ (ap (λ (x : Offer). x.session) same ∙ n.by)
 
 pub offers-after : (pool : ℕ) (h : List Entry) (o : OffersState) (to : PortId) (e : Entry) (made : Outcome) → e.ask ≡ Grant o.entry to → Follows (standing_of pool h) e
-    → step (standing_of pool h) (Grant o.entry to) ≡ Some made → o.entry ≤ length h → OffersStand (standing_of pool h) o
-    → OffersStand (standing_of pool (h ++ e ∷ [])) (record o { wants = drop 1 o.wants })
-offers-after pool h o to e made asked follows is old st =
+    → step (standing_of pool h) (Grant o.entry to) ≡ Some made → o.entry ≤ length h → (frames : List Frame) → StandOf (standing_of pool h) o frames
+    → StandOf (standing_of pool (h ++ e ∷ [])) (record o { wants = drop 1 o.wants }) frames
+offers-after pool h o to e made asked follows is old frames of =
     let s = standing_of pool h in
+    let st = of.stand in
     let count = count-world_of pool h in
     let follow = offers_follow pool h e o.entry st.frames o.wants follows (omega (arith, count, old)) st.are in
     let less : wants_after o.entry e.ask o.wants ≡ drop 1 o.wants = ap (λ (a : Ask). wants_after o.entry a o.wants) asked ∙ ap (λ (b : Bool). cond b (drop 1 o.wants) o.wants) (eq-eqb o.entry o.entry refl) in
@@ -139,9 +145,12 @@ offers-after pool h o to e made asked follows is old st =
     ∙ (ap (λ (found : Option Outcome). (standing_after s e found).world.offers) recorded ∙ ap (λ (m : Outcome). m.next.world.offers) g.2) in
     let mine = filtered (IsOfferBy o.session) (is_offer_of o.entry) s.world.offers st.by in
     record {
-      frames = st.frames;
-      are = subst (OffersAre (world_of pool (h ++ e ∷ [])) o.entry st.frames) less follow;
-      by = each-kept (λ (x : Offer). is_offer_of o.entry x ≡ true → IsOfferBy o.session x) (IsOfferBy o.session) (is_offer_of o.entry) (λ x t all. all t) (world_of pool (h ++ e ∷ [])).offers
-          (subst (Each (λ (x : Offer). is_offer_of o.entry x ≡ true → IsOfferBy o.session x)) (sym left)
-          (each-without_first (λ (x : Offer). is_offer_of o.entry x ≡ true → IsOfferBy o.session x) g.0.origin s.world.offers mine));
+      stand = record {
+        frames = st.frames;
+        are = subst (OffersAre (world_of pool (h ++ e ∷ [])) o.entry st.frames) less follow;
+        by = each-kept (λ (x : Offer). is_offer_of o.entry x ≡ true → IsOfferBy o.session x) (IsOfferBy o.session) (is_offer_of o.entry) (λ x t all. all t) (world_of pool (h ++ e ∷ [])).offers
+            (subst (Each (λ (x : Offer). is_offer_of o.entry x ≡ true → IsOfferBy o.session x)) (sym left)
+            (each-without_first (λ (x : Offer). is_offer_of o.entry x ≡ true → IsOfferBy o.session x) g.0.origin s.world.offers mine));
+      };
+      frames_are = of.frames_are;
     }

@@ -1,11 +1,12 @@
 -- What others made since a pass saw the history leaves what its sessions may ask as it was.
-use Rattle.std.proofs.Common.{ℕ, ◌+◌, ◌<◌, ◌≡◌, ◌≢◌, List, [], ◌∷◌, ◌++◌, length, sym, ap, subst, arith, inr, slice_get, length-append, refl, suc, ◌∙◌}
+use Rattle.std.proofs.Common.{ℕ, ◌+◌, ◌<◌, ◌≡◌, List, [], ◌∷◌, ◌++◌, length, sym, ap, subst, arith, inr, slice_get, length-append, refl, suc, ◌∙◌}
 use Rattle.std.specs.Prelude.{min, Some, All}
 use Rattle.std.specs.List.{AllByRecursion as Each}
 use Rattle.std.proofs.Math.Nat.{min-eq_left}
 use Rattle.std.proofs.lemmas.List.Elements.{All-from_recursion}
-use Rattle.nm_turn.specs.Numbered.{numbered, Stands}
-use Rattle.nm_turn.specs.Passes.{Knows}
+use mathlib.Core.List.{IsPrefix}
+use Rattle.nm_turn.specs.Numbered.{numbered, Stands, IsPicked}
+use Rattle.nm_turn.specs.Passes.{Knows, NoRootPast}
 use Rattle.nm_turn.specs.Turns.{AddsOne}
 use Rattle.nm_turn.proofs.Prefixes.{get_right}
 use Rattle.nm_turn.proofs.Joining.{picked-Stands, numbered-within}
@@ -22,19 +23,23 @@ pub own-within : (history seen : List Entry) (mine : List (ℕ × Entry)) (sessi
 own-within history seen mine session knows st = numbered-within session 1 seen (picked-Stands session mine (numbered 1 seen) knows.stands st)
 
 -- no entry that a pass has not seen is of a session of which the Enter is the pass's own
-pub others-past : (history seen : List Entry) (mine : List (ℕ × Entry)) (session : ℕ) → Knows root_of history seen mine → Stands session mine
+pub others-beyond : (history seen : List Entry) (mine : List (ℕ × Entry)) (session : ℕ) → IsPrefix seen history → NoRootPast root_of seen mine history → IsPicked mine (numbered 1 seen) → Stands session mine
     → (more : List Entry) × (history ≡ seen ++ more) × All (IsOfOther session) more
-others-past history seen mine session knows st =
-    let more = knows.begins.0 in
-    let is : history ≡ seen ++ more = sym knows.begins.1 in
-    let within = own-within history seen mine session knows st in (
+others-beyond history seen mine session begins no_root picked st =
+    let more = begins.0 in
+    let is : history ≡ seen ++ more = sym begins.1 in
+    let within = numbered-within session 1 seen (picked-Stands session mine (numbered 1 seen) picked st) in (
       more,
       is,
       All-from_recursion (IsOfOther session) more (each-get (IsOfOther session) more (λ k e here same.
           let at : slice_get history (length seen + k) ≡ Some e = ap (λ (h : List Entry). slice_get h (length seen + k)) is ∙ get_right seen more k e here in
           let root : root_of e (length seen + k + 1) ≡ session = ap (λ (n : ℕ). min n (length seen + k + 1)) same ∙ min-eq_left (omega arith) in
-          knows.no_root (length seen + k) e (omega arith) at (subst (λ (n : ℕ). Stands n mine) (sym root) st))),
+          no_root (length seen + k) e (omega arith) at (subst (λ (n : ℕ). Stands n mine) (sym root) st))),
     )
+
+pub others-past : (history seen : List Entry) (mine : List (ℕ × Entry)) (session : ℕ) → Knows root_of history seen mine → Stands session mine
+    → (more : List Entry) × (history ≡ seen ++ more) × All (IsOfOther session) more
+others-past history seen mine session knows st = others-beyond history seen mine session knows.begins knows.no_root knows.stands st
 
 -- so an entry of that session may be added
 pub adds-own : (history seen : List Entry) (mine : List (ℕ × Entry)) (e : Entry) (after : List Entry) → Knows root_of history seen mine → Stands e.session.0 mine

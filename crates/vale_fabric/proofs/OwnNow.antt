@@ -1,12 +1,12 @@
 -- What is a session's own, from what its pass has seen to the book at its step.
-use Rattle.std.proofs.Common.{ℕ, ◌+◌, ◌≤◌, ◌≡◌, List, [], ◌∷◌, ◌++◌, drop, length, Option, Some, refl, sym, ◌∙◌, ap, subst, arith}
+use Rattle.std.proofs.Common.{ℕ, ◌≤◌, ◌≡◌, List, ◌++◌, drop, length, refl, sym, ◌∙◌, ap, subst, arith}
 use Rattle.std.specs.Prelude.{option_map}
 use Rattle.std.proofs.lemmas.Bool.{eqb-true}
 use Rattle.nm_turn.specs.Numbered.{Stands}
+use Rattle.nm_types.specs.Frames.{Frame}
 use Rattle.nm_types.specs.declared.id.PortId.{PortId}
 use Rattle.vale_entry.specs.declared.entry.Ask.TheVariants.{Grant}
 use Rattle.vale_entry.specs.declared.entry.Entry.{Entry}
-use Rattle.vale_entry.specs.World.{Offer}
 use Rattle.vale_entry.specs.Offers.{is_offer_of}
 use Rattle.vale_entry.specs.Legal.{Standing, standing_of, session_and_reply, IsLegal}
 use Rattle.vale_entry.proofs.Each.{each-find}
@@ -17,6 +17,7 @@ use Rattle.vale_entry.proofs.Worlds.{count-world_of}
 use Rattle.vale_own.specs.Own.{Own, own_of}
 use Rattle.vale_own.proofs.OwnKept.{own-kept, legal-split}
 use Rattle.vale_core.specs.Offering.{OffersState, OffersStand}
+use Rattle.vale_fabric.specs.Leases.{StandOf}
 use Rattle.vale_core.specs.Recorded.{Recorded, standing, after_ask, entry_of}
 use Rattle.vale_fabric.specs.declared.kept.Fixed.{Fixed}
 use Rattle.vale_fabric.specs.Fabrics.{Knowing, seen_in}
@@ -46,20 +47,24 @@ own-now {fixed} {v} {entered} {b} {session} taken speaks =
     }
 
 pub stand-now : {fixed : Fixed} {v entered : Knowing} {b : Recorded} (o : OffersState) → IsTaken fixed v entered b → Stands o.session v.mine → 1 ≤ length o.wants
-    → OffersStand (standing (seen_in fixed v)) o → OffersStand (standing b) o
-stand-now {fixed} {v} {entered} {b} o taken speaks some st =
+    → (frames : List Frame) → StandOf (standing (seen_in fixed v)) o frames → StandOf (standing b) o frames
+stand-now {fixed} {v} {entered} {b} o taken speaks some frames of =
     let k : SameOwn fixed v b o.session = own-now taken speaks in
-    subst (λ (p : ℕ). OffersStand (standing_of p b.entries) o) k.pool
-    (offers-stand fixed.pool v.seen b.entries o k.legal k.later (ap (λ (own : Own). own.offers) k.same) some st)
+    subst (λ (p : ℕ). StandOf (standing_of p b.entries) o frames) k.pool
+    (offers-stand fixed.pool v.seen b.entries o k.legal k.later (ap (λ (own : Own). own.offers) k.same) some frames of)
 
 -- after their grant
 pub stand-after : {b after : Recorded} (o : OffersState) (to : PortId) (steps : Steps b (Grant o.entry to)) → after ≡ after_ask b (Grant o.entry to) → 1 ≤ length o.wants
-    → OffersStand (standing b) o → OffersStand (standing after) (record o { wants = drop 1 o.wants })
-stand-after {b} {after} o to steps grown some st =
-    let n : Next (standing b).world o = next-of (standing b) o some st in
+    → (frames : List Frame) → StandOf (standing b) o frames → StandOf (standing after) (record o { wants = drop 1 o.wants }) frames
+stand-after {b} {after} o to steps grown some frames st =
+    let n : Next (standing b).world o = next-of (standing b) o some st.stand in
     let count = count-world_of b.pool b.entries in
     let from = each-find (IsFrom (standing b).world.entry_count) (is_offer_of o.entry) (standing b).world.offers n.offer (world-numbered b.pool b.entries).offers_within n.first in
     let of = eqb-true n.offer.origin o.entry (place-of (is_offer_of o.entry) (standing b).world.offers n.offer n.first).passes in
     let old : o.entry ≤ length b.entries = omega (arith, count, from, of) in
-    subst (λ (r : Recorded). OffersStand (standing r) (record o { wants = drop 1 o.wants })) (sym (stored steps grown))
-    (offers-after b.pool b.entries o to (entry_of (Grant o.entry to) steps.makes) steps.makes refl (ap (option_map session_and_reply) steps.is) steps.is old st)
+    subst (λ (r : Recorded). StandOf (standing r) (record o { wants = drop 1 o.wants }) frames) (sym (stored steps grown))
+    (offers-after b.pool b.entries o to (entry_of (Grant o.entry to) steps.makes) steps.makes refl (ap (option_map session_and_reply) steps.is) steps.is old frames st)
+
+-- the same with no word on their frames
+pub as-of : {s : Standing} {o : OffersState} (st : OffersStand s o) → StandOf s o st.frames
+as-of st = record { stand = st; frames_are = refl }

@@ -1,7 +1,5 @@
 -- What a call that may be refused by an entry tells, or by none.
-use Rattle.std.proofs.Common.{◌≡◌, true, false, ap, sym, refl}
-use Rattle.std.specs.Prelude.{option_map, Some}
-use Rattle.nm_types.specs.declared.fault.StepFault.TheVariants as steps
+use Rattle.std.proofs.Common.{◌≡◌, true, false}
 use Rattle.nm_types.specs.declared.fault.OpenFault.{OpenFault}
 use Rattle.nm_types.specs.declared.fault.OpenFault.TheVariants.{BadSize, SwitchesFull, PortsFull, NameTaken, NoBuffers, RecordFull, NoMemory}
 use Rattle.nm_types.specs.declared.fault.WatchFault.{WatchFault}
@@ -9,16 +7,17 @@ use Rattle.nm_types.specs.declared.fault.WatchFault.TheVariants as watches
 use Rattle.vale_entry.specs.declared.entry.Ask.{Ask}
 use Rattle.vale_entry.specs.declared.entry.Reply.{Reply}
 use Rattle.vale_entry.specs.declared.entry.Reply.TheVariants as replies
+use Rattle.vale_entry.specs.Transcript.{is_refusal}
 use Rattle.vale_core.specs.Recorded.{Recorded, IsRecordedAs}
 use Rattle.vale_core.specs.OpenAnswers.{IsUnopened}
 use Rattle.vale_core.specs.WatchAnswers.{IsUnwatched}
 use Rattle.vale_fabric.specs.declared.kept.Fixed.{Fixed}
 use Rattle.vale_fabric.specs.Fabrics.{Knowing, Answers}
-use Rattle.vale_fabric.specs.Ports.{OpensNot, WatchesNot, is_recorded, is_said}
+use Rattle.vale_fabric.specs.Ports.{OpensNot, WatchesNot, is_said}
 use Rattle.vale_fabric.specs.Steps.{IsTaken, IsPutBack}
-use Rattle.vale_fabric.proofs.Making.{Steps, steps-said, made, answered, refused}
+use Rattle.vale_fabric.proofs.Making.{refused}
 
-pub recorded : (old new : Recorded) (ask : Ask) (fault : OpenFault) → true ≡ is_recorded fault → IsUnopened old new ask fault → IsRecordedAs old new ask (replies.Refused fault)
+pub recorded : (old new : Recorded) (ask : Ask) (fault : OpenFault) → true ≡ is_refusal fault → IsUnopened old new ask fault → IsRecordedAs old new ask (replies.Refused fault)
 recorded old new ask BadSize is u = u
 recorded old new ask SwitchesFull is u = u
 recorded old new ask PortsFull is u = u
@@ -27,7 +26,7 @@ recorded old new ask (NoBuffers want have) is u = u
 recorded old new ask (RecordFull what used want) is u = absurd cc
 recorded old new ask NoMemory is u = absurd cc
 
-pub opens-said : (fixed : Fixed) (v w : Knowing) (ask : Ask) (fault : OpenFault) → true ≡ is_recorded fault → Answers fixed v w ask (replies.Refused fault) → OpensNot fixed v w ask fault
+pub opens-said : (fixed : Fixed) (v w : Knowing) (ask : Ask) (fault : OpenFault) → true ≡ is_refusal fault → Answers fixed v w ask (replies.Refused fault) → OpensNot fixed v w ask fault
 opens-said fixed v w ask BadSize is m = m
 opens-said fixed v w ask SwitchesFull is m = m
 opens-said fixed v w ask PortsFull is m = m
@@ -36,7 +35,7 @@ opens-said fixed v w ask (NoBuffers want have) is m = m
 opens-said fixed v w ask (RecordFull what used want) is m = absurd cc
 opens-said fixed v w ask NoMemory is m = absurd cc
 
-pub opens-same : (old new : Recorded) (ask : Ask) (fault : OpenFault) → false ≡ is_recorded fault → IsUnopened old new ask fault → new ≡ old
+pub opens-same : (old new : Recorded) (ask : Ask) (fault : OpenFault) → false ≡ is_refusal fault → IsUnopened old new ask fault → new ≡ old
 opens-same old new ask BadSize is u = absurd cc
 opens-same old new ask SwitchesFull is u = absurd cc
 opens-same old new ask PortsFull is u = absurd cc
@@ -45,7 +44,7 @@ opens-same old new ask (NoBuffers want have) is u = absurd cc
 opens-same old new ask (RecordFull what used want) is u = u.0
 opens-same old new ask NoMemory is u = u.0
 
-pub opens-none : (fixed : Fixed) (v entered w : Knowing) (old new : Recorded) (ask : Ask) (fault : OpenFault) → false ≡ is_recorded fault → IsTaken fixed v entered old
+pub opens-none : (fixed : Fixed) (v entered w : Knowing) (old new : Recorded) (ask : Ask) (fault : OpenFault) → false ≡ is_refusal fault → IsTaken fixed v entered old
     → IsUnopened old new ask fault → IsPutBack entered w new → OpensNot fixed v w ask fault
 opens-none fixed v entered w old new ask BadSize is taken u back = absurd cc
 opens-none fixed v entered w old new ask SwitchesFull is taken u back = absurd cc

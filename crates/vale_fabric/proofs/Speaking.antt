@@ -1,5 +1,5 @@
 -- The offers that a call starts are of the session whose entry it made, for which its pass speaks.
-use Rattle.std.proofs.Common.{ℕ, ◌+◌, ◌≤◌, ◌≡◌, Bool, true, false, cond, ◌==◌, List, [], ◌∷◌, ◌++◌, length, filter, Option, Some, None, refl, sym, ◌∙◌, ap, subst, arith, length-append}
+use Rattle.std.proofs.Common.{ℕ, ◌+◌, ◌≤◌, ◌≡◌, Bool, true, false, ◌==◌, List, [], ◌∷◌, ◌++◌, length, filter, Option, Some, None, refl, sym, ◌∙◌, ap, subst, arith, length-append}
 use Rattle.std.specs.List.{AllByRecursion as Each}
 use Rattle.std.proofs.lemmas.Bool.{eqb-true, eq-eqb}
 use Rattle.nm_turn.specs.Numbered.{Stands}
@@ -8,7 +8,6 @@ use Rattle.vale_entry.specs.declared.entry.Ask.{Ask}
 use Rattle.vale_entry.specs.declared.entry.Entry.{Entry}
 use Rattle.vale_entry.specs.World.{Offer}
 use Rattle.vale_entry.specs.Offers.{is_offer_of}
-use Rattle.vale_entry.specs.Grant.{first_offer}
 use Rattle.vale_entry.specs.Laws.{IsFrom}
 use Rattle.vale_entry.specs.Legal.{Outcome, made_at, standing_of, world_of, IsLegal}
 use Rattle.vale_entry.proofs.Each.{each-find}
@@ -29,7 +28,7 @@ use Rattle.vale_fabric.proofs.Making.{Steps, Made, stored, whose-now}
 use Rattle.vale_fabric.proofs.OffersHeld.{Next, next-of, filtered}
 
 -- offers of the last entry are of its session
-last-by : (pool : ℕ) (h : List Entry) (e : Entry) (o : OffersState) → IsLegal pool (h ++ e ∷ []) → OffersStand (standing_of pool (h ++ e ∷ [])) o → o.entry ≡ length h + 1
+pub last-by : (pool : ℕ) (h : List Entry) (e : Entry) (o : OffersState) → IsLegal pool (h ++ e ∷ []) → OffersStand (standing_of pool (h ++ e ∷ [])) o → o.entry ≡ length h + 1
     → 1 ≤ length o.wants → o.session ≡ e.session.0
 last-by pool h e o legal st last some = by (e.session.0 == o.session) refl
   where
@@ -50,16 +49,20 @@ last-by pool h e o legal st last some = by (e.session.0 == o.session) refl
         let count = count-world_of pool h in
         absurd (omega (arith, low, origin, count, last))
 
+pub offers-by : {fixed : Fixed} {v entered : Knowing} {b after : Recorded} {ask : Ask} (o : OffersState) (may : MayAsk fixed v ask) → IsTaken fixed v entered b → is_enter ask ≡ false → (steps : Steps b ask)
+    → after ≡ after_ask b ask → IsLegal after.pool after.entries → OffersStand (standing after) o → o.entry ≡ length after.entries → 1 ≤ length o.wants → o.session ≡ may.session
+offers-by {fixed} {v} {entered} {b} {after} {ask} o may taken other steps grown legal st last some =
+    let e = entry_of ask steps.makes in
+    let is = stored steps grown in
+    let long : length after.entries ≡ length b.entries + 1 = ap (λ (r : Recorded). length r.entries) is ∙ length-append b.entries (e ∷ []) in
+    last-by b.pool b.entries e o (subst (λ (r : Recorded). IsLegal r.pool r.entries) is legal) (subst (λ (r : Recorded). OffersStand (standing r) o) is st) (last ∙ long) some
+    ∙ whose-now may taken other steps
+
 pub speaks-on : {fixed : Fixed} {v entered w : Knowing} {b after : Recorded} {ask : Ask} (o : OffersState) → MayAsk fixed v ask → IsTaken fixed v entered b → is_enter ask ≡ false → (steps : Steps b ask)
     → after ≡ after_ask b ask → IsLegal after.pool after.entries → Made fixed v w b after ask → OffersStand (standing after) o → o.entry ≡ length after.entries → 1 ≤ length o.wants
     → Stands o.session w.mine
 speaks-on {fixed} {v} {entered} {w} {b} {after} {ask} o may taken other steps grown legal m st last some =
-    let e = entry_of ask steps.makes in
-    let is = stored steps grown in
-    let long : length after.entries ≡ length b.entries + 1 = ap (λ (r : Recorded). length r.entries) is ∙ length-append b.entries (e ∷ []) in
-    let whose : o.session ≡ may.session =
-    last-by b.pool b.entries e o (subst (λ (r : Recorded). IsLegal r.pool r.entries) is legal) (subst (λ (r : Recorded). OffersStand (standing r) o) is st) (last ∙ long) some
-    ∙ whose-now may taken other steps in
+    let whose = offers-by o may taken other steps grown legal st last some in
     subst (Stands o.session) (sym m.makes.told.mine) (Stands-left o.session v.mine _ (subst (λ (n : ℕ). Stands n v.mine) (sym whose) may.speaks))
 
 -- what an ask looks for is there if it makes an entry

@@ -1,22 +1,29 @@
 -- Leases through a fabric: what a grant gives, and what a lease that is done must hold.
-use Rattle.std.specs.Prelude.{ℕ, Bool, true, false, ◌≡◌, ◌-◌, ◌==◌, List, [], find, slice_get, Some}
+use Rattle.std.specs.Prelude.{ℕ, Bool, true, false, ◌≡◌, ◌-◌, ◌==◌, List, [], find, map, slice_get, Some}
+use Rattle.nm_types.specs.Frames.{Frame, size_of_frames}
 use Rattle.nm_region.specs.Buffers.{indices_of}
 use Rattle.nm_turn.specs.Numbered.{Stands}
-use Rattle.vale_line.specs.Leased.{Leased}
+use Rattle.vale_line.specs.Leased.{Leased, buffer_count}
 use Rattle.vale_entry.specs.declared.entry.Ask.{Ask}
 use Rattle.vale_entry.specs.declared.entry.Ask.TheVariants.{Grant}
 use Rattle.vale_entry.specs.declared.entry.Entry.{Entry}
 use Rattle.vale_entry.specs.World.{Offer}
 use Rattle.vale_entry.specs.Grant.{first_offer}
 use Rattle.vale_entry.specs.Delivery.{is_lease}
-use Rattle.vale_entry.specs.Legal.{is_met}
+use Rattle.vale_entry.specs.Legal.{Standing, is_met}
 use Rattle.vale_own.specs.Own.{HeldLot, own_of}
 use Rattle.vale_port.specs.Ports.{sizes_of}
-use Rattle.vale_port.specs.Kept.{kept_gots, world_frames}
-use Rattle.vale_core.specs.Offering.{IsLeaseOf}
+use Rattle.vale_port.specs.Kept.{bytes_of, kept_gots, world_frames}
+use Rattle.vale_core.specs.BookView.{AreOf}
+use Rattle.vale_core.specs.Offering.{OffersState, OffersStand, IsLeaseOf}
 use Rattle.vale_core.specs.Recorded.{Recorded, standing}
 use Rattle.vale_fabric.specs.declared.kept.Fixed.{Fixed}
 use Rattle.vale_fabric.specs.Fabrics.{Knowing, seen_in}
+
+-- what is offered of these frames
+pub record StandOf (s : Standing) (o : OffersState) (frames : List Frame) : Type 0 where
+  pub stand : OffersStand s o
+  pub frames_are : stand.frames ≡ frames
 
 -- the lease that the grant of an entry's first offer gave, as the entry of this number
 abbrev pub IsLeaseBy : Recorded → ℕ → ℕ → Leased → Type 0
@@ -45,6 +52,19 @@ pub record IsHeldBy (b : Recorded) (session : ℕ) (lease : Leased) : Type 0 whe
   pub sizes : lease.sizes ≡ sizes_of held.0.frames
   pub buffers : indices_of lease.empty ≡ held.1
   pub none : lease.filled ≡ []
+  pub slots : buffer_count lease ≡ size_of_frames held.0.frames
+  pub region_is : AreOf b.region lease.empty
+
+-- and its lot is the frames at these places among others
+pub record IsHeldFor (b : Recorded) (session : ℕ) (lease : Leased) (frames : List (List ℕ)) (places : List ℕ) : Type 0 where
+  pub is : IsHeldBy b session lease
+  pub frames_are : map (slice_get frames) places ≡ map Some (bytes_of is.held.0.frames)
+
+-- so it is one of some session's own
+pub record IsToFill (lease : Leased) (frames : List (List ℕ)) (places : List ℕ) : Type 0 where
+  pub book : Recorded
+  pub session : ℕ
+  pub is : IsHeldFor book session lease frames places
 
 -- of the session's own leases this one, which the Grant of its number gave, is filled with the frames of
 -- its lot, in the lot's buffers
@@ -58,4 +78,10 @@ pub record IsFilledBy (b : Recorded) (session : ℕ) (lease : Leased) : Type 0 w
 pub record MayFill (fixed : Fixed) (v : Knowing) (lease : Leased) : Type 0 where
   pub session : ℕ
   pub filled : IsFilledBy (seen_in fixed v) session lease
+  pub speaks : Stands session v.mine
+
+-- and the same of a lease that is to be filled with the frames at these places
+pub record MayFillFrom (fixed : Fixed) (v : Knowing) (lease : Leased) (frames : List (List ℕ)) (places : List ℕ) : Type 0 where
+  pub session : ℕ
+  pub held : IsHeldFor (seen_in fixed v) session lease frames places
   pub speaks : Stands session v.mine

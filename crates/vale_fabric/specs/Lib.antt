@@ -4,3 +4,5 @@ pub mod Steps
 pub mod Ports
 pub mod Puts
 pub mod Leases
+pub mod Filling
+pub mod Settling

@@ -3,7 +3,6 @@ use Rattle.std.specs.Prelude.{ℕ, Bool, true, false, ◌≡◌, ◌+◌, ◌<�
 use Rattle.nm_region.specs.Buffers.{indices_of}
 use Rattle.nm_types.specs.declared.fault.StepFault.TheVariants as steps
 use Rattle.nm_types.specs.declared.fault.OpenFault.{OpenFault}
-use Rattle.nm_types.specs.declared.fault.OpenFault.TheVariants as faults
 use Rattle.nm_types.specs.declared.fault.WatchFault.{WatchFault}
 use Rattle.nm_types.specs.declared.fault.WatchFault.TheVariants.{NoTarget, Watched, RecordFull, NoMemory}
 use Rattle.vale_entry.specs.declared.entry.Ask.{Ask}
@@ -28,11 +27,6 @@ pub record Hands (b : Recorded) (tx rx extra : ℕ) (opened : Opened) : Type 0 w
 -- there is no room or memory is none
 abbrev pub OpensNot : Fixed → Knowing → Knowing → Ask → OpenFault → Type 0
 OpensNot fixed v w ask fault = ByFault (λ named. Answers fixed v w ask (replies.Refused named)) (Refuses fixed v w ask) fault
-
-abbrev pub is_recorded : OpenFault → Bool
-is_recorded (faults.RecordFull what used want) = false
-is_recorded faults.NoMemory = false
-is_recorded _ = true
 
 -- that no open port has the name, or that it has a monitor, is an entry
 abbrev pub WatchesNot : Fixed → Knowing → Knowing → Ask → WatchFault → Type 0

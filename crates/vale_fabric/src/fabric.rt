@@ -16,6 +16,8 @@ pub struct Fabric {
     pub(crate) turn: Turn<Shared>,
     pub(crate) buffers: u32,
     ghost pool: { (opened turn).book.pool ≡ buffers },
+    ghost size: { IsPoolSize buffers },
+    ghost few: { (opened turn).book.limits.entries < 2 ^ 32 },
 }
 
 impl Fabric {
@@ -43,7 +45,8 @@ impl Fabric {
 
     /// The number of buffers in the pool.
     pub fn buffers(&self) -> u32
-        ensures { result ≡ (fixed_in self.now).pool }
+        ensures pool { result ≡ (fixed_in self.now).pool }
+        ensures size { IsPoolSize result }
     {
         self.buffers
     }

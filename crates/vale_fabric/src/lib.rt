@@ -4,6 +4,7 @@
 #![tactic(auto)]
 
 mod fabric;
+mod filling;
 mod kept;
 mod passes;
 mod ports;
@@ -11,9 +12,12 @@ mod putting;
 mod reading;
 mod sending;
 mod sessions;
+mod settling;
 #[cfg(test)]
 mod tests;
 
 pub use fabric::Fabric;
+pub use filling::{fill_from_batch, fill_from_gots};
 pub use kept::{Fixed, Pass, Shared};
+pub use settling::Shares;
 pub use vale_core::{Book, Granted, LeasesOut, Offers, Opened, Put, PutFault, Synced};

@@ -3,10 +3,11 @@ ghost use Rattle.std.specs.Prelude.{◌≡◌, length, OnOk, IfOk, IfErr, true, 
 ghost use Rattle.nm_region.specs.Buffers.{indices_of};
 ghost use Rattle.vale_entry.specs.declared.entry.Ask.TheVariants as asks;
 ghost use Rattle.vale_entry.specs.declared.entry.Reply.TheVariants as replies;
+ghost use Rattle.vale_entry.specs.Transcript.{is_refusal};
 ghost use Rattle.vale_core.specs.BookView.{AreOf};
 ghost use Rattle.vale_fabric.specs.Fabrics.{IsPassIn, fixed_in, knowing, before};
 ghost use Rattle.vale_fabric.specs.Fabrics.{AnswersIn, MayIn, RefusesIn};
-ghost use Rattle.vale_fabric.specs.Ports.{Hands, OpensNot, Waits, WatchesNot, is_recorded, is_said};
+ghost use Rattle.vale_fabric.specs.Ports.{Hands, OpensNot, Waits, WatchesNot, is_said};
 
 use crate::fabric::Fabric;
 use crate::kept::Pass;
@@ -20,7 +21,7 @@ use vale_core::{LeasesOut, Opened};
 
 /// Whether an opening that is refused so is an entry.
 fn is_recorded(fault: OpenFault) -> bool
-    ensures { result ≡ is_recorded fault }
+    ensures { result ≡ is_refusal fault }
 {
     !matches!(fault, OpenFault::RecordFull { .. } | OpenFault::NoMemory)
 }

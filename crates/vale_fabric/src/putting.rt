@@ -1,13 +1,19 @@
 //! Frames are offered to a pipe's other end.
-ghost use Rattle.std.specs.Prelude.{◌≡◌, ◌≤◌, All, drop, length, vec_capacity, OnErr, IfOk, IfErr};
+ghost use Rattle.std.specs.Prelude.{true, ◌≡◌, ◌≤◌, All, take, drop, length, vec_capacity};
+ghost use Rattle.std.specs.Prelude.{OnErr, IfOk, IfErr};
+ghost use Rattle.std.specs.List.{list_all};
+ghost use Rattle.nm_types.specs.Sendable.{fits_buffer};
 ghost use Rattle.nm_turn.specs.Numbered.{Stands};
 ghost use Rattle.vale_line.specs.Gots.{buffers_of, IsSingle};
 ghost use Rattle.vale_entry.specs.declared.entry.Ask.TheVariants as asks;
+ghost use Rattle.vale_entry.specs.declared.entry.Reply.TheVariants as replies;
+ghost use Rattle.vale_parts.specs.Batches.{dests_wanted};
+ghost use Rattle.vale_port.specs.Kept.{bytes_of};
 ghost use Rattle.vale_core.specs.BookView.{AreOf};
-ghost use Rattle.vale_core.specs.PutFaults.{IfMade};
 ghost use Rattle.vale_core.specs.Putting.{items_of, IsPut};
 ghost use Rattle.vale_fabric.specs.Fabrics.{IsPassIn, fixed_in, knowing, before, seen_by};
-ghost use Rattle.vale_fabric.specs.Fabrics.{MakesIn, MayIn};
+ghost use Rattle.vale_fabric.specs.Fabrics.{AnswersIn, MayIn};
+ghost use Rattle.vale_fabric.specs.Settling.{IsAtHand};
 ghost use Rattle.vale_fabric.specs.Puts.{PutsNot, is_put_said};
 
 use crate::fabric::Fabric;
@@ -40,12 +46,17 @@ impl Fabric {
         requires region { AreOf (fixed_in self.now).region (buffers_of pending.old.items) }
         requires single { All IsSingle pending.old.items }
         ensures pass { IsPassIn self.now pass.new }
-        ensures made { IfMade result (MakesIn self.now pass.old pass.new
-            (asks.Put port (items_of pending.old.items))) }
+        ensures made { IfOk result (λ put. AnswersIn self.now pass.old pass.new
+            (asks.Put port (items_of pending.old.items))
+            (replies.Took (items_of (take put.took pending.old.items))
+            (dests_wanted put.offers.wants))) }
         ensures put { IfOk result (IsPut (before self.now pass.new) (seen_by self.now pass.new)
             port pending.old.items) }
+        ensures fit { IfOk result (λ put. list_all fits_buffer put.copies ≡ true) }
         ensures speaks { IfOk result (λ put. 1 ≤ length put.offers.wants
             → Stands put.offers.session (knowing pass.new).mine) }
+        ensures hand { IfOk result (λ put. 1 ≤ length put.offers.wants
+            → IsAtHand (fixed_in self.now) (knowing pass.new) put.offers (bytes_of put.copies)) }
         ensures pending { IfOk result (λ put.
             pending.new.items ≡ drop put.took pending.old.items) }
         ensures capacity { vec_capacity pending.new ≡ vec_capacity pending.old }

@@ -1,12 +1,17 @@
 //! What a port was granted is read.
-ghost use Rattle.std.specs.Prelude.{◌≡◌, ◌≤◌, length, OnOk, IfOk, IfErr};
+ghost use Rattle.std.specs.Prelude.{◌≡◌, ◌≤◌, ◌<◌, All, length, IfOk, IfErr};
+ghost use Rattle.nm_types.specs.Limits.{most_ring};
 ghost use Rattle.nm_turn.specs.Numbered.{Stands};
 ghost use Rattle.nm_region.specs.Buffers.{indices_of};
 ghost use Rattle.vale_entry.specs.declared.entry.Ask.TheVariants as asks;
+ghost use Rattle.vale_entry.specs.declared.entry.Reply.TheVariants as replies;
+ghost use Rattle.vale_line.specs.Gots.{frames_in, IsSingle};
+ghost use Rattle.vale_parts.specs.Batches.{dests_wanted};
 ghost use Rattle.vale_core.specs.BookView.{AreOf};
 ghost use Rattle.vale_core.specs.Reading.{IsGiven, IsOffered};
 ghost use Rattle.vale_fabric.specs.Fabrics.{IsPassIn, fixed_in, knowing, before, seen_by};
-ghost use Rattle.vale_fabric.specs.Fabrics.{MakesIn, MayIn, RefusesIn};
+ghost use Rattle.vale_fabric.specs.Fabrics.{AnswersIn, MayIn, RefusesIn};
+ghost use Rattle.vale_fabric.specs.Settling.{IsAtHand};
 
 use crate::fabric::Fabric;
 use crate::kept::Pass;
@@ -29,14 +34,20 @@ impl Fabric {
         requires may { MayIn self.now pass.old (asks.Sync port (indices_of back.items)) }
         requires region { AreOf (fixed_in self.now).region back.items }
         ensures pass { IsPassIn self.now pass.new }
-        ensures made { OnOk result (MakesIn self.now pass.old pass.new
-            (asks.Sync port (indices_of back.items))) }
+        ensures made { IfOk result (λ synced. AnswersIn self.now pass.old pass.new
+            (asks.Sync port (indices_of back.items))
+            (replies.Gave (length synced.got.items) (dests_wanted synced.offers.wants))) }
         ensures got { IfOk result (λ synced.
             IsGiven (before self.now pass.new) port synced.got.items) }
+        ensures single { IfOk result (λ synced. All IsSingle synced.got.items) }
+        ensures few { IfOk result (λ synced. length synced.got.items < most_ring) }
         ensures offers { IfOk result (λ synced. IsOffered (before self.now pass.new)
             (seen_by self.now pass.new) port synced.offers) }
         ensures speaks { IfOk result (λ synced. 1 ≤ length synced.offers.wants
             → Stands synced.offers.session (knowing pass.new).mine) }
+        ensures hand { IfOk result (λ synced. 1 ≤ length synced.offers.wants
+            → IsAtHand (fixed_in self.now) (knowing pass.new) synced.offers
+            (frames_in synced.got.items)) }
         ensures full { IfErr result (λ refused. RefusesIn self.now pass.old pass.new
             (asks.Sync port (indices_of back.items)) refused.0) }
         ensures back { IfErr result (λ refused. refused.1 ≡ back) }
@@ -66,14 +77,20 @@ impl Fabric {
         requires may { MayIn self.now pass.old (asks.Get port (indices_of back.items)) }
         requires region { AreOf (fixed_in self.now).region back.items }
         ensures pass { IsPassIn self.now pass.new }
-        ensures made { OnOk result (MakesIn self.now pass.old pass.new
-            (asks.Get port (indices_of back.items))) }
+        ensures made { IfOk result (λ synced. AnswersIn self.now pass.old pass.new
+            (asks.Get port (indices_of back.items))
+            (replies.Gave (length synced.got.items) (dests_wanted synced.offers.wants))) }
         ensures got { IfOk result (λ synced.
             IsGiven (before self.now pass.new) port synced.got.items) }
+        ensures single { IfOk result (λ synced. All IsSingle synced.got.items) }
+        ensures few { IfOk result (λ synced. length synced.got.items < most_ring) }
         ensures offers { IfOk result (λ synced. IsOffered (before self.now pass.new)
             (seen_by self.now pass.new) port synced.offers) }
         ensures speaks { IfOk result (λ synced. 1 ≤ length synced.offers.wants
             → Stands synced.offers.session (knowing pass.new).mine) }
+        ensures hand { IfOk result (λ synced. 1 ≤ length synced.offers.wants
+            → IsAtHand (fixed_in self.now) (knowing pass.new) synced.offers
+            (frames_in synced.got.items)) }
         ensures full { IfErr result (λ refused. RefusesIn self.now pass.old pass.new
             (asks.Get port (indices_of back.items)) refused.0) }
         ensures back { IfErr result (λ refused. refused.1 ≡ back) }

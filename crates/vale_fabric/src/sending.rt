@@ -1,18 +1,23 @@
 //! Frames are sent, and what ports want of them is granted and completed.
-ghost use Rattle.std.specs.Prelude.{◌≡◌, ◌≤◌, [], drop, length, IfOk, IfErr, IfSome, IfNone};
+ghost use Rattle.std.specs.Prelude.{List, ◌≡◌, ◌≤◌, [], drop, length, slice_get, take, Some};
+ghost use Rattle.std.specs.Prelude.{IfOk, IfErr, IfSome};
+ghost use Rattle.nm_types.specs.Frames.{Frame};
 ghost use Rattle.nm_turn.specs.Numbered.{Stands};
 ghost use Rattle.vale_entry.specs.declared.entry.Ask.TheVariants as asks;
 ghost use Rattle.vale_entry.specs.declared.entry.Reply.TheVariants as replies;
 ghost use Rattle.vale_parts.specs.Batches.{dests_wanted};
 ghost use Rattle.vale_line.specs.Gots.{buffers_of};
 ghost use Rattle.vale_core.specs.BookView.{AreOf};
-ghost use Rattle.vale_core.specs.Granting.{lease_id};
+ghost use Rattle.vale_batch.specs.Wants.{wanted};
+ghost use Rattle.vale_port.specs.Kept.{bytes_of};
+ghost use Rattle.vale_core.specs.Granting.{given_by, lease_id};
 ghost use Rattle.vale_core.specs.Offering.{OffersStand};
 ghost use Rattle.vale_core.specs.Recorded.{standing};
 ghost use Rattle.vale_core.specs.Sending.{IsSent};
 ghost use Rattle.vale_fabric.specs.Fabrics.{IsPassIn, before, fixed_in, knowing, seen_by};
 ghost use Rattle.vale_fabric.specs.Fabrics.{AnswersIn, MayIn, RefusesIn};
-ghost use Rattle.vale_fabric.specs.Leases.{IsHeldBy, IsLeaseBy, MayFill};
+ghost use Rattle.vale_fabric.specs.Leases.{IsHeldBy, IsHeldFor, IsLeaseBy, MayFill, StandOf};
+ghost use Rattle.vale_fabric.specs.Settling.{IsAtHand};
 
 use crate::fabric::Fabric;
 use crate::kept::Pass;
@@ -40,6 +45,8 @@ impl Fabric {
         ensures offers { IfOk result (IsSent (seen_by self.now pass.new) batch.now) }
         ensures speaks { IfOk result (λ offers. 1 ≤ length offers.wants
             → Stands offers.session (knowing pass.new).mine) }
+        ensures hand { IfOk result (λ offers. 1 ≤ length offers.wants
+            → IsAtHand (fixed_in self.now) (knowing pass.new) offers (bytes_of batch.now)) }
         ensures full { IfErr result (RefusesIn self.now pass.old pass.new
             (asks.Send port batch.now)) }
     {
@@ -69,11 +76,20 @@ impl Fabric {
             (replies.Shared result.given result.full result.gone) }
         ensures offers { offers.new ≡ record offers.old { wants = drop 1 offers.old.wants } }
         ensures stand { OffersStand (standing (seen_by self.now pass.new)) offers.new }
-        ensures none { IfNone result.lease (result.given ≡ 0) }
+        ensures frames { (frames : List Frame)
+            → StandOf (standing (seen_by self.now pass.old)) offers.old frames
+            → StandOf (standing (seen_by self.now pass.new)) offers.new frames }
+        ensures want { slice_get offers.old.wants 0 ≡ Some (wanted result.want) }
+        ensures to { result.to ≡ result.want.to }
+        ensures given { result.given ≡ given_by result.lease }
         ensures lease { IfSome result.lease (IsLeaseBy (before self.now pass.new)
             offers.old.entry (length (knowing pass.new).seen)) }
         ensures held { IfSome result.lease (IsHeldBy (seen_by self.now pass.new)
             offers.old.session) }
+        ensures fills { IfSome result.lease (λ lease. (frames : List Frame)
+            → StandOf (standing (seen_by self.now pass.old)) offers.old frames
+            → IsHeldFor (seen_by self.now pass.new) offers.old.session lease (bytes_of frames)
+            (take result.given result.want.places.items)) }
     {
         let mut shared = self.take(rt, pass);
         let granted = shared.book.grant(offers);

@@ -1,27 +1,31 @@
-use Rattle.std.proofs.Common.{ℕ, ◌≡◌, ap, sym, subst, length, drop}
+use Rattle.std.proofs.Common.{ℕ, List, ap, sym, subst, length, drop, take}
 use Rattle.std.specs.Prelude.{IfSome}
+use Rattle.nm_types.specs.Frames.{Frame}
+use Rattle.vale_line.specs.Leased.{Leased}
+use Rattle.vale_batch.specs.Wants.{wanted}
+use Rattle.vale_port.specs.Kept.{bytes_of}
 use Rattle.vale_port.proofs.Calls.{IfSome-weaker}
 use Rattle.vale_entry.specs.declared.entry.Ask.TheVariants.{Grant}
 use Rattle.vale_entry.specs.declared.entry.Reply.TheVariants.{Shared}
 use Rattle.vale_core.specs.Recorded.{Recorded, standing}
 use Rattle.vale_core.specs.Offering.{OffersState, OffersStand}
 use Rattle.vale_fabric.specs.Fabrics.{seen_by}
-use Rattle.vale_fabric.specs.Leases.{IsHeldBy, IsLeaseBy}
+use Rattle.vale_fabric.specs.Leases.{IsHeldBy, IsHeldFor, IsLeaseBy, StandOf}
 use Rattle.vale_fabric.proofs.Making.{Steps, adds-by, steps-said, made, answered}
 use Rattle.vale_fabric.proofs.OffersHeld.{granter}
-use Rattle.vale_fabric.proofs.LeasesHeld.{given-held}
-use Rattle.vale_fabric.proofs.OwnNow.{stand-now, stand-after}
+use Rattle.vale_fabric.proofs.LeasesHeld.{given-held, held-frames}
+use Rattle.vale_fabric.proofs.OwnNow.{stand-now, stand-after, as-of}
 use Rattle.vale_fabric.proofs.fabric.Fabric.grant.Goals as goal
 
 pub grant-granted-requires-clause-stand : goal.grant-granted-requires-clause-stand
-grant-granted-requires-clause-stand g c = stand-now c.args.offers.now c.take-shared.ensures.taken c.requires.speaks c.requires.next c.requires.stand
+grant-granted-requires-clause-stand g c = (stand-now c.args.offers.now c.take-shared.ensures.taken c.requires.speaks c.requires.next c.requires.stand.frames (as-of c.requires.stand)).stand
 
 pub give-requires-clause-adds : goal.give-requires-clause-adds
 give-requires-clause-adds g c =
     let call = c.grant-granted.ensures in
     let said = c.grant-granted.result in
     let steps : Steps c.take-shared.result.book (Grant c.args.offers.now.entry said.to) = steps-said (Shared said.given said.full said.gone) call.said in
-    let st = stand-now c.args.offers.now c.take-shared.ensures.taken c.requires.speaks c.requires.next c.requires.stand in
+    let st = (stand-now c.args.offers.now c.take-shared.ensures.taken c.requires.speaks c.requires.next c.requires.stand.frames (as-of c.requires.stand)).stand in
     adds-by c.take-shared.ensures.taken steps (granter (standing c.take-shared.result.book) c.args.offers.now said.to steps.makes c.requires.next st steps.is) c.requires.speaks call.made
 
 pub returns-clause-made : goal.returns-clause-made
@@ -37,10 +41,37 @@ returns-clause-stand g c =
     let said = c.grant-granted.result in
     let steps : Steps c.take-shared.result.book (Grant c.args.offers.now.entry said.to) = steps-said (Shared said.given said.full said.gone) call.said in
     let is = made c.take-shared.ensures.taken steps call.made call.room c.give.ensures.back in
-    let st = stand-now c.args.offers.now c.take-shared.ensures.taken c.requires.speaks c.requires.next c.requires.stand in
+    let st = (stand-now c.args.offers.now c.take-shared.ensures.taken c.requires.speaks c.requires.next c.requires.stand.frames (as-of c.requires.stand)).stand in
     subst (OffersStand (standing (seen_by c.args.self.now c.give.new.pass))) (sym call.offers)
     (subst (λ (b : Recorded). OffersStand (standing b) (record c.args.offers.now { wants = drop 1 c.args.offers.now.wants })) (sym is.now)
-    (stand-after c.args.offers.now said.to steps call.made c.requires.next st))
+    (stand-after c.args.offers.now said.to steps call.made c.requires.next st.frames (as-of st)).stand)
+
+pub returns-clause-frames : goal.returns-clause-frames
+returns-clause-frames g c frames of =
+    let call = c.grant-granted.ensures in
+    let said = c.grant-granted.result in
+    let o = c.args.offers.now in
+    let steps : Steps c.take-shared.result.book (Grant o.entry said.to) = steps-said (Shared said.given said.full said.gone) call.said in
+    let is = made c.take-shared.ensures.taken steps call.made call.room c.give.ensures.back in
+    let st = stand-now o c.take-shared.ensures.taken c.requires.speaks c.requires.next frames of in
+    subst (λ (x : OffersState). StandOf (standing (seen_by c.args.self.now c.give.new.pass)) x frames) (sym call.offers)
+    (subst (λ (b : Recorded). StandOf (standing b) (record o { wants = drop 1 o.wants }) frames) (sym is.now)
+    (stand-after o said.to steps call.made c.requires.next frames st))
+
+pub returns-clause-fills : goal.returns-clause-fills
+returns-clause-fills g c =
+    let call = c.grant-granted.ensures in
+    let said = c.grant-granted.result in
+    let b = c.take-shared.result.book in
+    let o = c.args.offers.now in
+    let steps : Steps b (Grant o.entry said.to) = steps-said (Shared said.given said.full said.gone) call.said in
+    let is = made c.take-shared.ensures.taken steps call.made call.room c.give.ensures.back in
+    let now = λ (frames : List Frame) (of : StandOf (standing (seen_by c.args.self.now c.args.pass.now)) o frames). stand-now o c.take-shared.ensures.taken c.requires.speaks c.requires.next frames of in
+    let st = now c.requires.stand.frames (as-of c.requires.stand) in
+    subst (λ (r : Recorded). IfSome said.lease (λ (lease : Leased). (frames : List Frame) → StandOf (standing (seen_by c.args.self.now c.args.pass.now)) o frames
+    → IsHeldFor r o.session lease (bytes_of frames) (take said.given said.want.places.items))) (sym is.now)
+    (held-frames o said.to steps (λ (frames : List Frame). StandOf (standing (seen_by c.args.self.now c.args.pass.now)) o frames) said.lease said.given (wanted said.want)
+    c.take-shared.ensures.taken.legal call.made c.requires.next now st.stand call.want call.given call.lease)
 
 pub returns-clause-lease : goal.returns-clause-lease
 returns-clause-lease g c =
@@ -59,7 +90,7 @@ returns-clause-held g c =
     let o = c.args.offers.now in
     let steps : Steps b (Grant o.entry said.to) = steps-said (Shared said.given said.full said.gone) call.said in
     let is = made c.take-shared.ensures.taken steps call.made call.room c.give.ensures.back in
-    let st = stand-now o c.take-shared.ensures.taken c.requires.speaks c.requires.next c.requires.stand in
+    let st = (stand-now o c.take-shared.ensures.taken c.requires.speaks c.requires.next c.requires.stand.frames (as-of c.requires.stand)).stand in
     IfSome-weaker {P = IsLeaseBy b o.entry (length c.grant-granted.new.self.entries)} {Q = IsHeldBy (seen_by c.args.self.now c.give.new.pass) o.session} said.lease
-    (λ lease gives. subst (λ (r : Recorded). IsHeldBy r o.session lease) (sym is.now) (given-held o said.to steps lease c.take-shared.ensures.taken.legal call.made c.requires.next st gives))
+    (λ lease gives. subst (λ (r : Recorded). IsHeldBy r o.session lease) (sym is.now) (given-held o said.to steps lease c.take-shared.ensures.taken.legal call.made c.requires.next st gives).is)
     call.lease

@@ -1,5 +1,4 @@
-use Rattle.std.proofs.Common.{◌≡◌, Bool, true, false, cond, nat_le, List, length, ap, sym, subst}
-use Rattle.nm_turn.specs.Passes.{longer}
+use Rattle.std.proofs.Common.{Bool, true, false, cond, nat_le, List, length, ap, sym, subst}
 use Rattle.vale_entry.specs.declared.entry.Entry.{Entry}
 use Rattle.vale_entry.specs.Legal.{IsLegal}
 use Rattle.vale_fabric.specs.Fabrics.{Knowing, fixed_in, knowing}

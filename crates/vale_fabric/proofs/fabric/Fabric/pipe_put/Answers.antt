@@ -1,11 +1,14 @@
 use Rattle.std.proofs.Common.{◌≡◌, sym, ◌∙◌, refl, subst}
 use Rattle.vale_entry.specs.declared.entry.Ask.TheVariants.{Put}
 use Rattle.vale_core.specs.Putting.{items_of, IsPut}
-use Rattle.vale_core.specs.Recorded.{Recorded, after_ask, HasRoom}
-use Rattle.vale_fabric.specs.Fabrics.{fixed_in, knowing, before, Makes}
-use Rattle.vale_fabric.proofs.Making.{enabled-now, adds-now, step-now, made}
-use Rattle.vale_fabric.proofs.PutsMade.{put-made, made-put, unmade-put, put-not, puts-gone, puts-none}
+use Rattle.vale_core.specs.Recorded.{Recorded, standing, after_ask, HasRoom}
+use Rattle.vale_fabric.specs.Fabrics.{fixed_in, knowing, before}
+use Rattle.vale_fabric.proofs.Making.{enabled-now, adds-now, step-now, made, answered, said-by}
+use Rattle.vale_fabric.proofs.PutsMade.{put-made, put-not, puts-gone, puts-none}
+use Rattle.vale_fabric.proofs.PutsTold.{put-said, copies-fit}
 use Rattle.vale_fabric.proofs.Speaking.{speaks-on}
+use Rattle.vale_port.specs.Kept.{bytes_of}
+use Rattle.vale_fabric.proofs.AtHand.{hand-on, copies-are, puts-settled, puts-keep}
 use Rattle.vale_fabric.proofs.fabric.Fabric.pipe_put.Goals as goal
 
 pub pipe_put-requires-clause-enabled : goal.pipe_put-requires-clause-enabled
@@ -17,7 +20,12 @@ give-requires-clause-adds g c =
 
 pub returns-in-Ok-clause-made : goal.returns-in-Ok-clause-made
 returns-in-Ok-clause-made g c =
-    (made c.take-shared.ensures.taken (step-now c.requires.may c.take-shared.ensures.taken tt) c.in-Ok.ensures.made c.in-Ok.ensures.room c.give.ensures.back).makes
+    let steps = step-now c.requires.may c.take-shared.ensures.taken tt in
+    answered (made c.take-shared.ensures.taken steps c.in-Ok.ensures.made c.in-Ok.ensures.room c.give.ensures.back)
+    (said-by steps (put-said steps c.take-shared.ensures.taken.legal c.in-Ok.ensures.put))
+
+pub returns-in-Ok-clause-fit : goal.returns-in-Ok-clause-fit
+returns-in-Ok-clause-fit g c = copies-fit (step-now c.requires.may c.take-shared.ensures.taken tt) c.in-Ok.ensures.put
 
 pub returns-in-Ok-clause-put : goal.returns-in-Ok-clause-put
 returns-in-Ok-clause-put g c =
@@ -32,24 +40,16 @@ give-requires-then-is_put_said-clause-adds g c =
     adds-now c.requires.may c.take-shared.ensures.taken refl (step-now c.requires.may c.take-shared.ensures.taken tt)
     (put-made c.in-Err.fault (c.pipe_put.new.self ≡ after_ask c.take-shared.result.book ask) said c.in-Err.ensures.made)
 
-pub returns-then-is_put_said-clause-made : goal.returns-then-is_put_said-clause-made
-returns-then-is_put_said-clause-made g c =
-    let said = sym c.if-is_put_said.true ∙ c.is_put_said.ensures in
-    let ask = Put c.args.port (items_of c.args.pending.now.items) in
-    let grown = put-made c.in-Err.fault (c.pipe_put.new.self ≡ after_ask c.take-shared.result.book ask) said c.in-Err.ensures.made in
-    let room = put-made c.in-Err.fault (HasRoom c.take-shared.result.book ask) said c.in-Err.ensures.room in
-    made-put c.in-Err.fault (Makes (fixed_in c.args.self.now) (knowing c.args.pass.now) (knowing c.give-then-is_put_said.new.pass) ask) said
-    (made c.take-shared.ensures.taken (step-now c.requires.may c.take-shared.ensures.taken tt) grown room c.give-then-is_put_said.ensures.back).makes
-
 pub returns-then-is_put_said-clause-refused : goal.returns-then-is_put_said-clause-refused
 returns-then-is_put_said-clause-refused g c =
     let said = sym c.if-is_put_said.true ∙ c.is_put_said.ensures in
     let ask = Put c.args.port (items_of c.args.pending.now.items) in
     let grown = put-made c.in-Err.fault (c.pipe_put.new.self ≡ after_ask c.take-shared.result.book ask) said c.in-Err.ensures.made in
     let room = put-made c.in-Err.fault (HasRoom c.take-shared.result.book ask) said c.in-Err.ensures.room in
-    let is = made c.take-shared.ensures.taken (step-now c.requires.may c.take-shared.ensures.taken tt) grown room c.give-then-is_put_said.ensures.back in
+    let steps = step-now c.requires.may c.take-shared.ensures.taken tt in
+    let is = made c.take-shared.ensures.taken steps grown room c.give-then-is_put_said.ensures.back in
     puts-gone (fixed_in c.args.self.now) (knowing c.args.pass.now) (knowing c.give-then-is_put_said.new.pass) c.take-shared.result.book c.pipe_put.new.self c.args.port
-    (items_of c.args.pending.now.items) c.in-Err.fault said is c.in-Err.ensures.refused
+    (items_of c.args.pending.now.items) c.in-Err.fault said is steps c.in-Err.ensures.refused
 
 pub returns-else-is_put_said-clause-refused : goal.returns-else-is_put_said-clause-refused
 returns-else-is_put_said-clause-refused g c =
@@ -65,3 +65,16 @@ returns-in-Ok-clause-speaks g c some =
     let m = made c.take-shared.ensures.taken steps c.in-Ok.ensures.made c.in-Ok.ensures.room c.give.ensures.back in
     let given = c.in-Ok.ensures.put.is.offers in
     speaks-on c.in-Ok.put.offers c.requires.may c.take-shared.ensures.taken refl steps c.in-Ok.ensures.made c.give.ensures.back.legal m given.stand given.entry some
+
+pub returns-in-Ok-clause-hand : goal.returns-in-Ok-clause-hand
+returns-in-Ok-clause-hand g c some =
+    let s = standing c.take-shared.result.book in
+    let items = items_of c.args.pending.now.items in
+    let steps = step-now c.requires.may c.take-shared.ensures.taken tt in
+    let m = made c.take-shared.ensures.taken steps c.in-Ok.ensures.made c.in-Ok.ensures.room c.give.ensures.back in
+    let put = c.in-Ok.ensures.put in
+    let given = put.is.offers in
+    let has = copies-are c.pipe_put.new.self put.port.session _ _ c.in-Ok.put.copies c.in-Ok.put.offers given put.is.copies some in
+    let said = put-said steps c.take-shared.ensures.taken.legal put in
+    hand-on c.in-Ok.put.offers (bytes_of c.in-Ok.put.copies) c.requires.may c.take-shared.ensures.taken refl steps c.in-Ok.ensures.made c.give.ensures.back.legal m has given.entry
+    (puts-settled c.requires.may.session c.args.port items) (puts-keep s c.args.port items _ steps.makes.reply _ said) some

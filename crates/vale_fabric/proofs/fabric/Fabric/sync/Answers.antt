@@ -4,9 +4,12 @@ use Rattle.nm_region.specs.Buffers.{indices_of}
 use Rattle.vale_entry.specs.World.{open_port}
 use Rattle.vale_entry.specs.Legal.{can_sync, sync_step}
 use Rattle.vale_core.specs.Recorded.{Recorded, standing}
-use Rattle.vale_fabric.specs.Fabrics.{before, seen_by}
-use Rattle.vale_fabric.proofs.Making.{enabled-now, adds-now, step-now, made, refused}
+use Rattle.vale_fabric.specs.Fabrics.{before}
+use Rattle.vale_fabric.proofs.Making.{enabled-now, adds-now, step-now, made, answered, refused}
 use Rattle.vale_fabric.proofs.Speaking.{speaks-on, sought}
+use Rattle.vale_line.specs.Gots.{frames_in}
+use Rattle.vale_entry.specs.Delivery.{delivered_frames}
+use Rattle.vale_fabric.proofs.AtHand.{hand-on, syncs-settled, syncs-keep}
 use Rattle.vale_fabric.proofs.fabric.Fabric.sync.Goals as goal
 
 pub sync-requires-clause-enabled : goal.sync-requires-clause-enabled
@@ -18,7 +21,8 @@ give-requires-clause-adds g c =
 
 pub returns-in-Ok-clause-made : goal.returns-in-Ok-clause-made
 returns-in-Ok-clause-made g c =
-    (made c.take-shared.ensures.taken (step-now c.requires.may c.take-shared.ensures.taken tt) c.in-Ok.ensures.made c.in-Ok.ensures.room c.give.ensures.back).makes
+    let steps = step-now c.requires.may c.take-shared.ensures.taken tt in
+    answered (made c.take-shared.ensures.taken steps c.in-Ok.ensures.made c.in-Ok.ensures.room c.give.ensures.back) c.in-Ok.ensures.said
 
 pub returns-in-Ok-clause-got : goal.returns-in-Ok-clause-got
 returns-in-Ok-clause-got g c =
@@ -43,3 +47,16 @@ returns-in-Ok-clause-speaks g c some =
     let port = sought (can_sync s back) (sync_step s back) (open_port s.world.ports c.args.port.0) steps.makes steps.is in
     let given = c.in-Ok.ensures.offers port.0 port.1 in
     speaks-on c.in-Ok.synced.offers c.requires.may c.take-shared.ensures.taken refl steps c.in-Ok.ensures.made c.give.ensures.back.legal m given.stand given.entry some
+
+pub returns-in-Ok-clause-hand : goal.returns-in-Ok-clause-hand
+returns-in-Ok-clause-hand g c some =
+    let s = standing c.take-shared.result.book in
+    let back = indices_of c.args.back.items in
+    let steps = step-now c.requires.may c.take-shared.ensures.taken tt in
+    let m = made c.take-shared.ensures.taken steps c.in-Ok.ensures.made c.in-Ok.ensures.room c.give.ensures.back in
+    let port = sought (can_sync s back) (sync_step s back) (open_port s.world.ports c.args.port.0) steps.makes steps.is in
+    let given = c.in-Ok.ensures.offers port.0 port.1 in
+    let got = c.in-Ok.ensures.got port.0 port.1 in
+    hand-on c.in-Ok.synced.offers (frames_in c.in-Ok.synced.got.items) c.requires.may c.take-shared.ensures.taken refl steps c.in-Ok.ensures.made c.give.ensures.back.legal m
+    (record { frames = delivered_frames port.0; stand = record { stand = given.stand; frames_are = given.frames_are }; bytes_are = sym got.frames }) given.entry
+    (syncs-settled c.requires.may.session c.args.port back) (syncs-keep s c.args.port back steps.makes.reply) some
