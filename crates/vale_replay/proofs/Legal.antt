@@ -49,10 +49,10 @@ pub made-follows : (s : Standing) (ask : Ask) (entry : Entry) → entry_made s a
 made-follows s ask entry made = made-by s ask entry (step s ask) refl made
 
 -- an entry that follows what stands before it
-record FollowsAt (pool : ℕ) (h : List Entry) (n : ℕ) : Type 0 where
-  entry : Entry
-  there : slice_get h (n - 1) ≡ Some entry
-  follows : Follows (standing_before pool h n) entry
+pub record FollowsAt (pool : ℕ) (h : List Entry) (n : ℕ) : Type 0 where
+  pub entry : Entry
+  pub there : slice_get h (n - 1) ≡ Some entry
+  pub follows : Follows (standing_before pool h n) entry
 
 turn-follows : (pool : ℕ) (h : List Entry) (before : Machine) (n : ℕ) (after : Machine)
     → TakesTurn pool h before n after → FollowsAt pool h n
@@ -90,7 +90,7 @@ one-or_others pool h b ns lists some one others = by_here (cases_lt 0 (count_of 
     by_here (inl here) = one (omega (arith, here))
     by_here (inr none) = others (omega (arith, all, none, some))
 
-shares-follow : (pool : ℕ) (h : List Entry) (b : ℕ) (users : List Machine) (unit : ScriptUnit) (lists : List (List ℕ)) (afters : List Machine)
+pub shares-follow : (pool : ℕ) (h : List Entry) (b : ℕ) (users : List Machine) (unit : ScriptUnit) (lists : List (List ℕ)) (afters : List Machine)
     → EachShare (ReplaysShare pool h) users unit lists afters → 1 ≤ times_among b lists → FollowsAt pool h b
 shares-follow pool h b users [] [] [] each some = absurd (omega (arith, some))
 shares-follow pool h b users (share ∷ shares) (ns ∷ lists) (after ∷ afters) each some =
@@ -128,22 +128,23 @@ units-follow pool h users first (unit ∷ units) next last b all up down =
         by_lt (inl up) = later up
         by_lt (inr down) = here down
 
-take-one_more : (h : List Entry) (n : ℕ) (e : Entry) → slice_get h n ≡ Some e
+pub take-one_more : (h : List Entry) (n : ℕ) (e : Entry) → slice_get h n ≡ Some e
     → take (suc n) h ≡ take n h ++ e ∷ []
 take-one_more [] n e there = absurd cc
 take-one_more (x ∷ xs) zero e there = let same : x ≡ e = cc in ap (λ (y : Entry). y ∷ []) same
 take-one_more (x ∷ xs) (suc n) e there = ap (λ (ys : List Entry). x ∷ ys) (take-one_more xs n e there)
 
--- a history each of whose entries follows what stands before it is legal
-legal-to : (pool : ℕ) (h : List Entry) → ((b : ℕ) → 0 < b → b ≤ length h → FollowsAt pool h b)
-    → (n : ℕ) → n ≤ length h → IsLegal pool (take n h)
-legal-to pool h each zero within = tt
-legal-to pool h each (suc n) within =
+-- a history each of whose entries, up to one, follows what stands before it is legal up to there
+pub legal-to : (pool : ℕ) (h : List Entry) (last : ℕ)
+    → ((b : ℕ) → 0 < b → b ≤ last → FollowsAt pool h b)
+    → (n : ℕ) → n ≤ last → IsLegal pool (take n h)
+legal-to pool h last each zero within = tt
+legal-to pool h last each (suc n) within =
     let here = each (suc n) (omega arith) within in
     let at : suc n - 1 ≡ n = omega arith in
     let there : slice_get h n ≡ Some here.entry = ap (slice_get h) (sym at) ∙ here.there in
     let follows : Follows (standing_of pool (take n h)) here.entry = subst (λ (k : ℕ). Follows (standing_of pool (take k h)) here.entry) at here.follows in
-    let before = legal-to pool h each n (omega (arith, within)) in
+    let before = legal-to pool h last each n (omega (arith, within)) in
     subst (IsLegal pool) (sym (take-one_more h n here.entry there)) (legal-push pool (take n h) here.entry before follows)
 
 reached-follows : (program : Program) (captures : Captures) (h : List Entry) (nows : List Machine)
@@ -157,7 +158,7 @@ reached-follows program captures h nows r b up down = by_unit (cases_lt r.first 
 
 pub played-legal : PlayedIsLegal
 played-legal program captures h nows way =
-    subst (IsLegal program.pool) (take_all (length h) h (omega arith)) (legal-to program.pool h (by_way way) (length h) (omega arith))
+    subst (IsLegal program.pool) (take_all (length h) h (omega arith)) (legal-to program.pool h (length h) (by_way way) (length h) (omega arith))
   where
     by_way : HasPlayed program captures h nows ⊎ Reaches program captures h nows → (b : ℕ) → 0 < b
         → b ≤ length h → FollowsAt program.pool h b

@@ -26,13 +26,17 @@ offers-same : (pool : ℕ) (past more : List Entry) (session : ℕ) → IsLegal 
 offers-same pool past more session legal others =
     first-offers (standing_of pool (past ++ more)) session ∙ ap (λ (own : Own). slice_get own.offers 0) (own-kept pool past more session legal others) ∙ sym (first-offers (standing_of pool past) session)
 
-pub others-change-none : OthersChangeNoCall
-others-change-none pool past more user session is legal others =
+pub settling-same : (pool : ℕ) (past more : List Entry) (session : SessionId)
+    → IsLegal pool (past ++ more) → All (IsOfOther session.0) more
+    → settling_call (world_of pool (past ++ more)) session ≡ settling_call (world_of pool past) session
+settling-same pool past more session legal others =
     let lots = lots-same pool past more session.0 legal (legal-split pool past more legal).0 others in
     let offers = offers-same pool past more session.0 legal others in
-    let settles : settling_call (world_of pool (past ++ more)) session ≡ settling_call (world_of pool past) session =
     ap (λ (lot : Option Lot). option_or (option_map done_call lot) (option_map grant_call (next_offer (world_of pool (past ++ more)) session.0))) lots
-    ∙ ap (λ (offer : Option Offer). option_or (option_map done_call (owed_lot (world_of pool past) session.0)) (option_map grant_call offer)) offers in
+    ∙ ap (λ (offer : Option Offer). option_or (option_map done_call (owed_lot (world_of pool past) session.0)) (option_map grant_call offer)) offers
+
+pub others-change-none : OthersChangeNoCall
+others-change-none pool past more user session is legal others =
     ap (λ (s : Option SessionId). option_or (option_and_then (settling_call (world_of pool (past ++ more))) s) (call_of_tasks user user.tasks)) is
-    ∙ ap (λ (ask : Option Ask). option_or ask (call_of_tasks user user.tasks)) settles
+    ∙ ap (λ (ask : Option Ask). option_or ask (call_of_tasks user user.tasks)) (settling-same pool past more session legal others)
     ∙ ap (λ (s : Option SessionId). option_or (option_and_then (settling_call (world_of pool past)) s) (call_of_tasks user user.tasks)) (sym is)

@@ -23,7 +23,7 @@ entry-same s m ask other entry entry' one two made made' =
     let asks : ask ≡ other = some-same ask other (sym one ∙ two) in
     some-same entry entry' (sym made ∙ ap (entry_made s) asks ∙ made')
 
-turn-one : (pool : ℕ) (h : List Entry) (m : Machine) (n : ℕ) (after other : Machine)
+pub turn-one : (pool : ℕ) (h : List Entry) (m : Machine) (n : ℕ) (after other : Machine)
     → TakesTurn pool h m n after → TakesTurn pool h m n other → after ≡ other
 turn-one pool h m n after other one two =
     let s = standing_before pool h n in

@@ -11,7 +11,7 @@ use Rattle.vale_script.specs.Script.{Program}
 use Rattle.nm_types.specs.declared.id.SessionId.{SessionId}
 use Rattle.vale_own.specs.Laws.{IsOfOther}
 use Rattle.vale_replay.specs.Machine.{Machine, next_call}
-use Rattle.vale_replay.specs.Replay.{Replays, ReplaysUser, IsUnderWay, ComesTo, entry_made, last_of}
+use Rattle.vale_replay.specs.Replay.{Replays, HasPlayed, Reaches, ReplaysUser, IsUnderWay, ComesTo, entry_made, last_of}
 use Rattle.vale_replay.specs.Tasks.{Captures}
 
 -- a script without blocks
@@ -60,6 +60,13 @@ PlayedIsLegal =
     (program : Program) (captures : Captures) (history : List Entry) (nows : List Machine)
     → IsUnderWay program captures history nows → IsLegal program.pool history
 
+-- what a history under way began with, up to any of its entries, was under way
+abbrev pub PrefixIsUnderWay : Type 0
+PrefixIsUnderWay =
+    (program : Program) (captures : Captures) (history : List Entry) (nows : List Machine) (count : ℕ)
+    → IsUnderWay program captures history nows
+    → (befores : List Machine) × IsUnderWay program captures (take count history) befores
+
 -- a user's entries in two pieces, one after the other
 pub record GoBetween (pool : ℕ) (history : List Entry) (before : Machine) (numbers others : List ℕ) (after : Machine) : Type 0 where
   pub between : Machine
@@ -93,3 +100,38 @@ OthersChangeNoCall =
     → user.session ≡ Some session → IsLegal pool (past ++ more)
     → All (IsOfOther session.0) more
     → next_call (world_of pool (past ++ more)) user ≡ next_call (world_of pool past) user
+
+-- The states of a script's users, with blocks too: an entry's session tells its user.
+
+-- those to which a history that plays the script brings them are one
+abbrev pub PlayedStatesAreOne : Type 0
+PlayedStatesAreOne =
+    (program : Program) (captures : Captures) (history : List Entry) (users others : List Machine)
+    → HasPlayed program captures history users → HasPlayed program captures history others
+    → users ≡ others
+
+-- Those to which a history under way has brought them are one within each unit. What they do
+-- without a call may stand on either side of an entry, as a history that ends a unit is at the
+-- beginning of the next one too.
+abbrev pub ReachedStatesAreOne : Type 0
+ReachedStatesAreOne =
+    (program : Program) (captures : Captures) (history : List Entry) (nows others : List Machine)
+    → (one : Reaches program captures history nows) (other : Reaches program captures history others)
+    → one.count ≡ other.count → nows ≡ others
+
+-- a history that comes to a call is in one unit, so there the states are one
+pub record AreAtOnce (program : Program) (captures : Captures) (history : List Entry) (user : ℕ) (call : Ask) (next_user : ℕ) (next : Ask) (one : ComesTo program captures history user call) (other : ComesTo program captures history next_user next) : Type 0 where
+  pub count : one.reached.count ≡ other.reached.count
+  pub nows : one.nows ≡ other.nows
+
+abbrev pub CallsAreAtOnce : Type 0
+CallsAreAtOnce =
+    (program : Program) (captures : Captures) (history : List Entry) (user : ℕ) (call : Ask) (next_user : ℕ) (next : Ask)
+    → (one : ComesTo program captures history user call) (other : ComesTo program captures history next_user next)
+    → AreAtOnce program captures history user call next_user next one other
+
+-- and a history that plays the script comes to none
+abbrev pub PlayedComesToNone : Type 0
+PlayedComesToNone =
+    (program : Program) (captures : Captures) (history : List Entry) (users : List Machine) (user : ℕ) (call : Ask)
+    → HasPlayed program captures history users → ¬ ComesTo program captures history user call

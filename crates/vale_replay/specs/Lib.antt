@@ -1,9 +1,12 @@
 pub mod Edits
+pub mod Joined
 pub mod Laws
 pub mod Machine
 pub mod Owners
 pub mod Replay
 pub mod Saved
+pub mod Stops
 pub mod Tasks
 pub mod Walk
 pub mod Rows
+pub mod BlockRows

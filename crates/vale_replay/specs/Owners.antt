@@ -6,11 +6,12 @@ use Rattle.std.specs.Option.{option_map_or}
 use Rattle.nm_types.specs.declared.id.SessionId.{SessionId}
 use Rattle.nm_types.specs.declared.id.Side.TheVariants.{Tx}
 use Rattle.nm_types.specs.Positions.{is_user_slot}
-use Rattle.nm_types.specs.OwnPorts.{OwnRing, OwnPort, buffer_in, buffers_in}
+use Rattle.nm_types.specs.OwnPorts.{OwnRing, OwnPort, buffer_in}
 use Rattle.vale_entry.specs.declared.entry.Entry.{Entry}
 use Rattle.vale_entry.specs.World.{Port, Lot}
 use Rattle.vale_entry.specs.Holdings.{PortBuffers, is_buffer_index, buffers_of_session}
 use Rattle.vale_entry.specs.Legal.{Standing, standing_of}
+use Rattle.vale_own.specs.Side.{buffers_on}
 use Rattle.vale_script.specs.Script.{Program}
 use Rattle.vale_replay.specs.Machine.{Machine}
 use Rattle.vale_replay.specs.Replay.{IsUnderWay}
@@ -70,17 +71,14 @@ owners_of s users b =
     owner_of_each b Pool s.holdings.free
     ++ (owners_at b s.world.ports s.holdings.ports ++ flat_map (owners_of_user b) users)
 
--- the buffers in a user's places are those that its session holds
-abbrev pub buffers_in_places : Machine → List ℕ
-buffers_in_places user = flat_map buffers_in user.own.ports
-
 abbrev pub buffers_of_user : Standing → Machine → List ℕ
 buffers_of_user s user =
     option_map_or (λ (session : SessionId). buffers_of_session s.holdings.sessions session.0) user.session []
 
+-- the buffers in a user's places are those that its session holds
 abbrev pub HoldsItsOwn : Standing → Machine → Type 0
 HoldsItsOwn s user =
-    (b : ℕ) → times_in b (buffers_in_places user) ≡ times_in b (buffers_of_user s user)
+    (b : ℕ) → times_in b (buffers_on user.own) ≡ times_in b (buffers_of_user s user)
 
 -- each buffer of the pool has just one owner, and no other index has any
 pub record AreOwnedOnce (pool : ℕ) (s : Standing) (users : List Machine) : Type 0 where
@@ -94,3 +92,10 @@ AreAlwaysOwnedOnce program captures history =
     (count : ℕ) (nows : List Machine) → count ≤ length history
     → IsUnderWay program captures (take count history) nows
     → AreOwnedOnce program.pool (standing_of program.pool (take count history)) nows
+
+-- each user of a history under way holds what its session does
+abbrev pub UsersHoldTheirOwn : Type 0
+UsersHoldTheirOwn =
+    (program : Program) (captures : Captures) (history : List Entry) (nows : List Machine)
+    → IsUnderWay program captures history nows
+    → AllByRecursion (HoldsItsOwn (standing_of program.pool history)) nows

@@ -3,8 +3,13 @@
 
 ghost use Rattle.vale_replay.specs.Laws.{PlaysOneHistory, UnderWayIsBeginning, UnderWayIsOne};
 ghost use Rattle.vale_replay.specs.Laws.{PlayedIsLegal, PiecesAreOne, ReadsToItsLast, StatesAreOne};
-ghost use Rattle.vale_replay.specs.Laws.{OthersChangeNoCall};
+ghost use Rattle.vale_replay.specs.Laws.{OthersChangeNoCall, PrefixIsUnderWay};
+ghost use Rattle.vale_replay.specs.Laws.{PlayedStatesAreOne, ReachedStatesAreOne};
+ghost use Rattle.vale_replay.specs.Laws.{CallsAreAtOnce, PlayedComesToNone};
 ghost use Rattle.vale_replay.specs.Walk.{WalksPlay};
+ghost use Rattle.vale_replay.specs.Joined.{JoinsUsers, TurnsReadToTheirLast, TurnsGoOn};
+ghost use Rattle.vale_replay.specs.Stops.{UsersStop};
+ghost use Rattle.vale_replay.specs.Owners.{UsersHoldTheirOwn};
 
 /// At most one history plays a script without blocks.
 pub fn plays_one_history()
@@ -27,6 +32,12 @@ pub fn under_way_is_one()
 /// way.
 pub fn played_is_legal()
     ensures { PlayedIsLegal }
+{}
+
+/// The beginning of a history that plays a script or is under way, up to any of its entries, is
+/// under way.
+pub fn prefix_is_under_way()
+    ensures { PrefixIsUnderWay }
 {}
 
 /// A user's entries in two pieces, one behind the other, are the first piece and then the other.
@@ -55,4 +66,56 @@ pub fn others_change_no_call()
 /// plays it.
 pub fn walks_play()
     ensures { WalksPlay }
+{}
+
+/// What users promise of some units is read in the history up to the last of their entries, so it
+/// holds of every longer history.
+pub fn turns_read_to_their_last()
+    ensures { TurnsReadToTheirLast }
+{}
+
+/// Users that play some units and then one more play all of these.
+pub fn turns_go_on()
+    ensures { TurnsGoOn }
+{}
+
+/// Where the users of a script play each of its units, each by entries of its own, and these are
+/// all entries of the history, the history plays the script.
+pub fn joins_users()
+    ensures { JoinsUsers }
+{}
+
+/// Where a user of a unit is refused its call, and the other users play or stop, the history up to
+/// that refusal comes to the call.
+pub fn users_stop()
+    ensures { UsersStop }
+{}
+
+/// The states to which a history that plays a script, with blocks or without, brings its users are
+/// one.
+pub fn played_states_are_one()
+    ensures { PlayedStatesAreOne }
+{}
+
+/// The states to which a history under way, with blocks or without, has brought the users are one
+/// within each unit.
+pub fn reached_states_are_one()
+    ensures { ReachedStatesAreOne }
+{}
+
+/// The calls to which a history comes, of one user or of several, are of one unit, and the users'
+/// states there are one.
+pub fn calls_are_at_once()
+    ensures { CallsAreAtOnce }
+{}
+
+/// A history that plays a script comes to no call.
+pub fn played_comes_to_none()
+    ensures { PlayedComesToNone }
+{}
+
+/// Each user of a history that plays a script, or is under way, has in its places just the buffers
+/// that its session holds.
+pub fn users_hold_their_own()
+    ensures { UsersHoldTheirOwn }
 {}

@@ -1,0 +1,364 @@
+-- Each user of a history under way holds what its session does.
+use Rattle.std.proofs.Common.{Bool, true, false, cond, ℕ, zero, suc, ◌+◌, ◌-◌, ◌<◌, ◌≤◌, ◌≡◌, ◌⊎◌, inl, inr, List, [], ◌∷◌, ◌++◌, length, map, filter, take, drop, slice_get, Option, Some, None, option_map, refl, sym, ◌∙◌, ap, subst, arith, take-append-drop}
+use Rattle.std.specs.Prelude.{◌==◌, option_and_then}
+use Rattle.std.specs.Option.{option_or, option_map_or}
+use Rattle.std.specs.List.{range_with_len, AllByRecursion}
+use Rattle.std.proofs.lemmas.Bool.{eqb-true, ne_eqb, cases_Bool}
+use Rattle.std.proofs.lemmas.List.{take-take, take_all}
+use Rattle.std.proofs.lemmas.List.Elements.{All-from_recursion}
+use Rattle.nm_types.specs.declared.id.SessionId.{SessionId}
+use Rattle.nm_types.specs.OwnPorts.{OwnState, empty_own}
+use Rattle.vale_entry.specs.declared.entry.Ask.{Ask}
+use Rattle.vale_entry.specs.declared.entry.Entry.{Entry}
+use Rattle.vale_entry.specs.OwnCalls.{finish_call}
+use Rattle.vale_entry.specs.Holdings.{buffers_of_session}
+use Rattle.vale_entry.specs.Laws.{Rise}
+use Rattle.vale_entry.specs.Legal.{Standing, standing_of, IsLegal}
+use Rattle.vale_entry.proofs.Counting.{count_of, count_of-cons}
+use Rattle.vale_own.specs.Laws.{IsOfOther}
+use Rattle.vale_own.specs.Side.{buffers_on}
+use Rattle.vale_own.proofs.OwnKept.{legal-split}
+use Rattle.vale_own.proofs.SideEntries.{others-keep}
+use Rattle.vale_script.specs.declared.script.Line.{Line}
+use Rattle.vale_script.specs.declared.script.Unit.{Unit as ReadUnit}
+use Rattle.vale_script.specs.declared.script.Unit.TheVariants as parts
+use Rattle.vale_script.specs.Script.{Program}
+use Rattle.vale_replay.specs.Tasks.{Captures, Task, Arrive, OpenPort, PutFrame, SendFrames, TakeFrames, ChangeOwn, SaveFrames, WatchPort, ReadCounts, ShutPort, FinishPort, Depart, EndLine, records_of}
+use Rattle.vale_replay.specs.Machine.{Machine, new_machine, settling_call, call_of_task, call_of_tasks}
+use Rattle.vale_replay.specs.Replay.{UnitShare, ScriptUnit, TakesTurn, TakesTurns, EachShare, ReplaysShare, ReplaysUnit, ReplaysUnits, AreSplit, NeedsNoCall, HasPlayed, Reaches, times_among, acts_of, has_line, share_of, shares_of, closing_unit, starting, user_count, units_of, users_of, with_afters}
+use Rattle.vale_replay.specs.Owners.{HoldsItsOwn, UsersHoldTheirOwn, times_in}
+use Rattle.vale_replay.proofs.Numbers.{rise-low, rise-above}
+use Rattle.vale_replay.proofs.Turns.{some-same}
+use Rattle.vale_replay.proofs.Legal.{played-legal}
+use Rattle.vale_replay.proofs.Sessions.{IsOwnSession, own-back, own-entry, starting-same, turn-on}
+use Rattle.vale_replay.proofs.Members.{AreApart, Member, HasMember, numbers_at, few-one, member, has-member}
+use Rattle.vale_replay.proofs.Joins.{Cast, cast-next, sessions-apart, split-has, split-in, others-from, units-apart, take-apart, apart-at, first-cast}
+use Rattle.vale_replay.proofs.OneState.{narrow, from-first}
+use Rattle.vale_replay.proofs.TaskSides.{SideOf, ArePaired, AreInOrder, KeepsSide, rest-side, lines-paired, closing-paired}
+use Rattle.vale_replay.proofs.TurnSides.{turn-side}
+
+-- Entries of others.
+
+side-on : (pool : ℕ) (h : List Entry) (from last : ℕ) (session : Option SessionId) (shut : Option ℕ) (own : OwnState)
+    → from ≤ last → IsLegal pool (take last h)
+    → ((x : SessionId) (k : ℕ) (e : Entry) → session ≡ Some x → from ≤ k → k < last → slice_get h k ≡ Some e → IsOfOther x.0 e)
+    → SideOf pool (standing_of pool (take from h)) session shut own → SideOf pool (standing_of pool (take last h)) session shut own
+side-on pool h from last None shut own up legal others side = side
+side-on pool h from last (Some x) shut own up legal others side =
+    let cut : take from (take last h) ≡ take from h = take-take from last h up in
+    let whole : take from h ++ drop from (take last h) ≡ take last h = ap (λ (es : List Entry). es ++ drop from (take last h)) (sym cut) ∙ take-append-drop from (take last h) in
+    let all = All-from_recursion (IsOfOther x.0) (drop from (take last h)) (others-from x.0 from last h (λ k e low high there. others x k e refl low high there)) in
+    subst (λ (es : List Entry). SideOf pool (standing_of pool es) (Some x) shut own) whole
+    (others-keep pool (take from h) (drop from (take last h)) x.0 shut own (subst (IsLegal pool) (sym whole) legal) all side)
+
+keeps-on : (pool : ℕ) (h : List Entry) (from last : ℕ) (user : Machine)
+    → from ≤ last → IsLegal pool (take last h)
+    → ((x : SessionId) (k : ℕ) (e : Entry) → user.session ≡ Some x → from ≤ k → k < last → slice_get h k ≡ Some e → IsOfOther x.0 e)
+    → KeepsSide pool (standing_of pool (take from h)) user → KeepsSide pool (standing_of pool (take last h)) user
+keeps-on pool h from last user up legal others keeps =
+    record { shut = keeps.shut; side = side-on pool h from last user.session keeps.shut user.own up legal others keeps.side; order = keeps.order }
+
+-- the entries of the range that have none of a user's numbers are of none of its sessions
+abbrev AreForeign : List Entry → List ℕ → ℕ → ℕ → Option SessionId → Type 0
+AreForeign h ns from last session =
+    (x : SessionId) (k : ℕ) (e : Entry) → IsOwnSession session ns x → from ≤ k → k < last → count_of (k + 1) ns ≡ 0 → slice_get h k ≡ Some e → IsOfOther x.0 e
+
+turns-side : (pool : ℕ) (h : List Entry) (from last : ℕ) (user : Machine) (ns : List ℕ) (after : Machine)
+    → ((n : ℕ) → n ≤ last → IsLegal pool (take n h)) → last ≤ length h → Rise from ns last → from ≤ last
+    → AreForeign h ns from last user.session → KeepsSide pool (standing_of pool (take from h)) user → TakesTurns pool h user ns after
+    → KeepsSide pool (standing_of pool (take last h)) after
+turns-side pool h from last user [] after legal within rise up foreign keeps turns =
+    subst (KeepsSide pool (standing_of pool (take last h))) (sym turns)
+    (keeps-on pool h from last user up (legal last (omega arith)) (λ x k e is low high there. foreign x k e (inl is) low high refl there) keeps)
+turns-side pool h from last user (n ∷ ns) after legal within rise up foreign keeps turns =
+    turns-side pool h n last turns.0 ns after legal within rise.1 below later behind turns.1.1
+  where
+    above : from < n
+    above = rise.0
+
+    below : n ≤ last
+    below = rise-low n ns last rise.1
+
+    less : n - 1 ≤ last
+    less = omega (arith, below)
+
+    number : n - 1 + 1 ≡ n
+    number = omega (arith, above)
+
+    before : KeepsSide pool (standing_of pool (take (n - 1) h)) user
+    before = keeps-on pool h from (n - 1) user (omega (arith, above)) (legal (n - 1) less)
+        (λ x k e is low high there. foreign x k e (inl is) low (omega (arith, high, less)) (rise-above (k + 1) (n ∷ ns) last (k + 1) (omega (arith, high, above), rise.1) (omega arith)) there) keeps
+
+    behind : KeepsSide pool (standing_of pool (take n h)) turns.0
+    behind = subst (λ (k : ℕ). KeepsSide pool (standing_of pool (take k h)) turns.0) number
+        (turn-side pool h user (n - 1) turns.0 (legal (n - 1) less) (omega (arith, above, below, within)) before (subst (λ (k : ℕ). TakesTurn pool h user k turns.0) (sym number) turns.1.0))
+
+    later : AreForeign h ns n last turns.0.session
+    later x k e own low high none there =
+        let miss : (n == (k + 1)) ≡ false = ne_eqb n (k + 1) (λ is. omega (arith, is, low)) in
+        let all : count_of (k + 1) (n ∷ ns) ≡ 0 = count_of-cons (k + 1) n ns ∙ ap (λ (b : Bool). cond b 1 0 + count_of (k + 1) ns) miss ∙ omega (arith, none) in
+        foreign x k e (own-back n user.session turns.0.session ns x (turn-on pool h user n turns.0 turns.1.0).session own) (omega (arith, above, low)) high all there
+
+-- Units.
+
+abbrev IsPairedShare : UnitShare → Type 0
+IsPairedShare share = (m : Machine) → ArePaired (share.tasks m)
+
+-- what holds of each share and of each user behind it, beside its entries
+abbrev WithBoth : ℕ → List Entry → (Machine → Type 0) → UnitShare → Machine → List ℕ → Machine → Type 0
+WithBoth pool h Q share before ns after = ReplaysShare pool h share before ns after × (IsPairedShare share × Q after)
+
+with-both : (pool : ℕ) (h : List Entry) (Q : Machine → Type 0) (users : List Machine) (unit : ScriptUnit) (lists : List (List ℕ)) (afters : List Machine)
+    → AllByRecursion IsPairedShare unit → AllByRecursion Q afters
+    → EachShare (ReplaysShare pool h) users unit lists afters → EachShare (WithBoth pool h Q) users unit lists afters
+with-both pool h Q users [] [] [] paired qs each = tt
+with-both pool h Q users (share ∷ shares) (ns ∷ lists) (a ∷ afters) paired qs each =
+    ((each.0.0, each.0.1, (each.0.2, (paired.0, qs.0))), with-both pool h Q users shares lists afters paired.1 qs.1 each.1)
+with-both pool h Q users [] [] (a ∷ afters) paired qs each = absurd each
+with-both pool h Q users [] (ns ∷ lists) afters paired qs each = absurd each
+with-both pool h Q users (share ∷ shares) [] afters paired qs each = absurd each
+with-both pool h Q users (share ∷ shares) (ns ∷ lists) [] paired qs each = absurd each
+
+-- between units no port is shut
+abbrev HaveSides : ℕ → Standing → List Machine → Type 0
+HaveSides pool s users = (i : ℕ) (u : Machine) → slice_get users i ≡ Some u → SideOf pool s u.session None u.own
+
+foreign-at : (pool : ℕ) (h : List Entry) (users : List Machine) (first : ℕ) (unit : ScriptUnit) (lists : List (List ℕ)) (afters : List Machine) (last i : ℕ) (before : Machine)
+    → AreApart unit → EachShare (ReplaysShare pool h) users unit lists afters → AreSplit first last lists
+    → Cast first users → slice_get users i ≡ Some before → AreForeign h (numbers_at i unit lists) first last before.session
+foreign-at pool h users first unit lists afters last i before apart each split cast here x k e own low high none there same =
+    by_who (has-member (ReplaysShare pool h) users unit lists afters (k + 1) apart each (omega (arith, once)))
+  where
+    once : times_among (k + 1) lists ≡ 1
+    once = split-has first last lists (k + 1) split (omega (arith, low)) (omega (arith, high))
+
+    by_place : (who : HasMember (ReplaysShare pool h) users unit lists (k + 1))
+        → ((i == who.place) ≡ true) ⊎ ((i == who.place) ≡ false) → ⊥
+    by_place who (inl e') =
+        let is : i ≡ who.place = eqb-true i who.place e' in
+        let some : 1 ≤ count_of (k + 1) (numbers_at i unit lists) = subst (λ (j : ℕ). 1 ≤ count_of (k + 1) (numbers_at j unit lists)) (sym is) who.some in
+        omega (arith, none, some)
+    by_place who (inr e') =
+        let at : k + 1 - 1 ≡ k = omega arith in
+        let mine : e.session ≡ x = ap (λ (y : ℕ). record { 0 = y }) same in
+        let theirs : IsOwnSession who.before.session (numbers_at who.place unit lists) e.session =
+        subst (λ (s : Option SessionId). IsOwnSession s (numbers_at who.place unit lists) e.session) (starting-same who.share who.before).session
+        (own-entry pool h (k + 1) (starting who.share who.before) (numbers_at who.place unit lists) who.after e who.goes.turns who.some (ap (slice_get h) at ∙ there)) in
+        sessions-apart users first unit lists last i who.place before who.before x cast split e' here who.here own (subst (IsOwnSession who.before.session (numbers_at who.place unit lists)) mine theirs)
+
+    by_who : HasMember (ReplaysShare pool h) users unit lists (k + 1) → ⊥
+    by_who who = by_place who (cases_Bool (i == who.place))
+
+rises-at : (pool : ℕ) (h : List Entry) (first last : ℕ) (ns : List ℕ) → Rise 0 ns (length h)
+    → first ≤ last → ((b : ℕ) → 1 ≤ count_of b ns → (first < b) × (b ≤ last)) → Rise first ns last
+rises-at pool h first last ns rise up inside = from-first first ns last (narrow 0 ns (length h) last rise (omega arith) (λ b some. (inside b some).1)) up (λ b some. (inside b some).0)
+
+-- the users behind a unit
+unit-sides : (pool : ℕ) (h : List Entry) (Q : Machine → Type 0) (users : List Machine) (first : ℕ) (unit : ScriptUnit) (lists : List (List ℕ)) (afters : List Machine) (last i : ℕ) (u : Machine)
+    → AreApart unit → AllByRecursion IsPairedShare unit → AllByRecursion Q afters → EachShare (ReplaysShare pool h) users unit lists afters → AreSplit first last lists
+    → first ≤ last → last ≤ length h → ((n : ℕ) → n ≤ last → IsLegal pool (take n h)) → Cast first users → HaveSides pool (standing_of pool (take first h)) users
+    → slice_get (with_afters unit afters users) i ≡ Some u
+    → SideOf pool (standing_of pool (take last h)) u.session None u.own ⊎ (KeepsSide pool (standing_of pool (take last h)) u × Q u)
+unit-sides pool h Q users first unit lists afters last i u apart paired qs each split up within legal cast sides at = by_how m.how
+  where
+    m : Member (WithBoth pool h Q) users unit lists i u
+    m = member (WithBoth pool h Q) users users unit lists afters i u apart (with-both pool h Q users unit lists afters paired qs each) refl at
+
+    foreign : AreForeign h (numbers_at i unit lists) first last m.before.session
+    foreign = foreign-at pool h users first unit lists afters last i m.before apart each split cast m.here
+
+    inside : (b : ℕ) → 1 ≤ count_of b (numbers_at i unit lists) → (first < b) × (b ≤ last)
+    inside b some = let few = few-one b i unit lists in split-in first last lists b split (omega (arith, few, some))
+
+    by_how : ((numbers_at i unit lists ≡ []) × (u ≡ m.before)) ⊎ ((share : UnitShare) × WithBoth pool h Q share m.before (numbers_at i unit lists) u)
+        → SideOf pool (standing_of pool (take last h)) u.session None u.own ⊎ (KeepsSide pool (standing_of pool (take last h)) u × Q u)
+    by_how (inl none) = inl (subst (λ (v : Machine). SideOf pool (standing_of pool (take last h)) v.session None v.own) (sym none.1)
+        (side-on pool h first last m.before.session None m.before.own up (legal last (omega arith))
+        (λ x k e is low high there. foreign x k e (inl is) low high (ap (count_of (k + 1)) none.0) there) (sides i m.before m.here)))
+    by_how (inr some) =
+        let starts = rest-side pool (standing_of pool (take first h)) (record m.before { tasks = some.0.tasks m.before }) (some.0.tasks m.before) (sides i m.before m.here) (some.1.1.0 m.before) in
+        inr (
+          turns-side pool h first last (starting some.0 m.before) (numbers_at i unit lists) u legal within (rises-at pool h first last (numbers_at i unit lists) some.1.0.rise up inside) up
+              (subst (AreForeign h (numbers_at i unit lists) first last) (sym (starting-same some.0 m.before).session) foreign) starts some.1.0.turns,
+          some.1.1.1,
+        )
+
+or-second : (x y : Option Ask) → option_or x y ≡ None → y ≡ None
+or-second None y e = e
+or-second (Some a) y e = absurd cc
+
+-- a user that needs no call has no port that is shut
+keeps-ends : (pool : ℕ) (h : List Entry) (u : Machine) → NeedsNoCall pool h u
+    → KeepsSide pool (standing_of pool h) u → SideOf pool (standing_of pool h) u.session None u.own
+keeps-ends pool h u ended keeps = by_shut keeps.shut u.tasks none keeps.side keeps.order
+  where
+    none : call_of_tasks u u.tasks ≡ None
+    none = or-second (option_and_then (settling_call (standing_of pool h).world) u.session) (call_of_tasks u u.tasks) ended
+
+    by_shut : (shut : Option ℕ) (tasks : List Task) → call_of_tasks u tasks ≡ None
+        → SideOf pool (standing_of pool h) u.session shut u.own
+        → AreInOrder shut u.own tasks → SideOf pool (standing_of pool h) u.session None u.own
+    by_shut None tasks e side order = side
+    by_shut (Some id) (FinishPort name ∷ tasks) e side order =
+        let call : call_of_task u (FinishPort name) ≡ Some (finish_call u.own order.0.0) = ap (option_map (finish_call u.own)) order.0.1 in
+        let clash : None ≡ Some (finish_call u.own order.0.0) = sym e ∙ call in
+        absurd cc
+    by_shut (Some id) [] e side order = absurd order
+    by_shut (Some id) (Arrive ∷ tasks) e side order = absurd order
+    by_shut (Some id) (OpenPort other tx rx extra ∷ tasks) e side order = absurd order
+    by_shut (Some id) (PutFrame other bytes ∷ tasks) e side order = absurd order
+    by_shut (Some id) (SendFrames other ∷ tasks) e side order = absurd order
+    by_shut (Some id) (TakeFrames other ∷ tasks) e side order = absurd order
+    by_shut (Some id) (ChangeOwn act ∷ tasks) e side order = absurd order
+    by_shut (Some id) (SaveFrames other file ∷ tasks) e side order = absurd order
+    by_shut (Some id) (WatchPort monitor target sides ∷ tasks) e side order = absurd order
+    by_shut (Some id) (ReadCounts other ∷ tasks) e side order = absurd order
+    by_shut (Some id) (ShutPort other ∷ tasks) e side order = absurd order
+    by_shut (Some id) (Depart ∷ tasks) e side order = absurd order
+    by_shut (Some id) (EndLine ∷ tasks) e side order = absurd order
+
+-- Units one after another.
+
+record SidesOn (pool : ℕ) (h : List Entry) (users : List Machine) (last : ℕ) : Type 0 where
+  sides : HaveSides pool (standing_of pool (take last h)) users
+  cast : Cast last users
+
+units-sides : (pool : ℕ) (h : List Entry) (users : List Machine) (first : ℕ) (units : List ScriptUnit) (next : List Machine) (last : ℕ)
+    → AllByRecursion AreApart units → AllByRecursion (AllByRecursion IsPairedShare) units → ((n : ℕ) → n ≤ length h → IsLegal pool (take n h)) → last ≤ length h
+    → SidesOn pool h users first → ReplaysUnits pool h users first units next last → SidesOn pool h next last
+units-sides pool h users first [] next last apart paired legal within on r = subst (SidesOn pool h next) (sym r.1) (subst (λ (us : List Machine). SidesOn pool h us first) (sym r.0) on)
+units-sides pool h users first (unit ∷ units) next last apart paired legal within on r =
+    units-sides pool h r.0 number units next last apart.1 paired.1 legal within (subst (λ (us : List Machine). SidesOn pool h us number) (sym one.others) (record {
+      sides = λ i u at. by_user i u (unit-sides pool h (NeedsNoCall pool (take number h)) users first unit one.lists one.afters number i u apart.0 paired.0 one.ended one.replays one.split one.forward one.within (λ n below. let up = one.within in legal n (omega (arith, below, up))) on.cast on.sides at);
+      cast = cast-next pool h users first unit one.lists one.afters number apart.0 one.replays one.split one.forward on.cast;
+    })) r.1.1.1
+  where
+    number : ℕ
+    number = r.1.0
+
+    one : ReplaysUnit pool h users first unit r.0 number
+    one = r.1.1.0
+
+    by_user : (i : ℕ) (u : Machine)
+        → SideOf pool (standing_of pool (take number h)) u.session None u.own ⊎ (KeepsSide pool (standing_of pool (take number h)) u × NeedsNoCall pool (take number h) u)
+        → SideOf pool (standing_of pool (take number h)) u.session None u.own
+    by_user i u (inl side) = side
+    by_user i u (inr both) = keeps-ends pool (take number h) u both.1 both.0
+
+-- The units of a script.
+
+block-paired : (records : List ℕ → List (List ℕ)) (lines : List Line) (ns : List ℕ)
+    → AllByRecursion IsPairedShare (map (λ user. share_of records user (acts_of lines user)) ns)
+block-paired records lines [] = tt
+block-paired records lines (n ∷ ns) = (λ m. lines-paired records (acts_of lines n), block-paired records lines ns)
+
+unit-paired : (records : List ℕ → List (List ℕ)) (count : ℕ) (unit : ReadUnit)
+    → AllByRecursion IsPairedShare (shares_of records count unit)
+unit-paired records count (parts.Single line) = (λ m. lines-paired records (line.act ∷ []), tt)
+unit-paired records count (parts.Block lines) = block-paired records lines (filter (has_line lines) (range_with_len 1 count))
+
+lines-paired_all : (records : List ℕ → List (List ℕ)) (count : ℕ) (units : List ReadUnit)
+    → AllByRecursion (AllByRecursion IsPairedShare) (map (shares_of records count) units)
+lines-paired_all records count [] = tt
+lines-paired_all records count (unit ∷ units) = (unit-paired records count unit, lines-paired_all records count units)
+
+closings-paired : (ns : List ℕ) → AllByRecursion (AllByRecursion IsPairedShare) (map closing_unit ns)
+closings-paired [] = tt
+closings-paired (n ∷ ns) = ((closing-paired, tt), closings-paired ns)
+
+both-all : (P : ScriptUnit → Type 0) (xs ys : List ScriptUnit) → AllByRecursion P xs → AllByRecursion P ys
+    → AllByRecursion P (xs ++ ys)
+both-all P [] ys front back = back
+both-all P (x ∷ xs) ys front back = (front.0, both-all P xs ys front.1 back)
+
+units-paired : (program : Program) (captures : Captures)
+    → AllByRecursion (AllByRecursion IsPairedShare) (units_of program captures)
+units-paired program captures =
+    both-all (AllByRecursion IsPairedShare) (map (shares_of (records_of program.files captures) (user_count program)) program.units) (map closing_unit (range_with_len 1 (user_count program)))
+    (lines-paired_all (records_of program.files captures) (user_count program) program.units) (closings-paired (range_with_len 1 (user_count program)))
+
+take-all : (P : ScriptUnit → Type 0) (count : ℕ) (units : List ScriptUnit) → AllByRecursion P units
+    → AllByRecursion P (take count units)
+take-all P zero units all = tt
+take-all P (suc count) [] all = tt
+take-all P (suc count) (unit ∷ units) all = (all.0, take-all P count units all.1)
+
+all-at : (P : ScriptUnit → Type 0) (count : ℕ) (units : List ScriptUnit) (unit : ScriptUnit)
+    → AllByRecursion P units → slice_get units count ≡ Some unit → P unit
+all-at P count [] unit all at = absurd cc
+all-at P zero (u ∷ units) unit all at = subst P (some-same u unit at) all.0
+all-at P (suc count) (u ∷ units) unit all at = all-at P count units unit all.1 at
+
+-- at first no user has anything
+new-own : (pool low count i : ℕ) (u : Machine)
+    → slice_get (map (new_machine pool) (range_with_len low count)) i ≡ Some u
+    → (u.session ≡ None) × (u.own ≡ empty_own pool)
+new-own pool low zero i u at = absurd cc
+new-own pool low (suc count) zero u at =
+    let is : new_machine pool low ≡ u = some-same (new_machine pool low) u at in
+    (ap (λ (m : Machine). m.session) (sym is), ap (λ (m : Machine). m.own) (sym is))
+new-own pool low (suc count) (suc i) u at = new-own pool (low + 1) count i u at
+
+first-sides : (program : Program) (h : List Entry) → SidesOn program.pool h (users_of program) 0
+first-sides program h = record {
+  sides = λ i u at.
+      let new = new-own program.pool 1 (user_count program) i u at in
+      subst (λ (x : Option SessionId). SideOf program.pool (standing_of program.pool (take 0 h)) x None u.own) (sym new.0) (new.1, refl);
+  cast = first-cast program;
+}
+
+-- What a user holds.
+
+holds-by : (pool : ℕ) (s : Standing) (user : Machine) (session : Option SessionId) (shut : Option ℕ)
+    → user.session ≡ session → SideOf pool s session shut user.own → HoldsItsOwn s user
+holds-by pool s user None shut is side b =
+    ap (λ (o : OwnState). times_in b (buffers_on o)) side.0
+    ∙ ap (λ (x : Option SessionId). times_in b (option_map_or (λ (y : SessionId). buffers_of_session s.holdings.sessions y.0) x [])) (sym is)
+holds-by pool s user (Some x) shut is side b =
+    sym (side.of.buffers b) ∙ ap (λ (y : Option SessionId). times_in b (option_map_or (λ (z : SessionId). buffers_of_session s.holdings.sessions z.0) y [])) (sym is)
+
+each-from : (P : Machine → Type 0) (users : List Machine)
+    → ((i : ℕ) (u : Machine) → slice_get users i ≡ Some u → P u) → AllByRecursion P users
+each-from P [] f = tt
+each-from P (u ∷ users) f = (f 0 u refl, each-from P users (λ i v at. f (suc i) v at))
+
+nothing-more : (users : List Machine) → AllByRecursion (λ (u : Machine). Unit {0}) users
+nothing-more [] = tt
+nothing-more (u ∷ users) = (tt, nothing-more users)
+
+pub users-hold : UsersHoldTheirOwn
+users-hold program captures h nows way = each-from (HoldsItsOwn (standing_of program.pool h)) nows (λ i u at. by_way way i u at)
+  where
+    legal : (n : ℕ) → n ≤ length h → IsLegal program.pool (take n h)
+    legal n within = (legal-split program.pool (take n h) (drop n h) (subst (IsLegal program.pool) (sym (take-append-drop n h)) (played-legal program captures h nows way))).0
+
+    whole : take (length h) h ≡ h
+    whole = take_all (length h) h (omega arith)
+
+    played : HasPlayed program captures h nows → (i : ℕ) (u : Machine) → slice_get nows i ≡ Some u
+        → HoldsItsOwn (standing_of program.pool h) u
+    played p i u at =
+        let on = units-sides program.pool h (users_of program) 0 (units_of program captures) nows (length h) (units-apart program captures) (units-paired program captures) legal (omega arith) (first-sides program h) p.units in
+        holds-by program.pool (standing_of program.pool h) u u.session None refl (subst (λ (es : List Entry). SideOf program.pool (standing_of program.pool es) u.session None u.own) whole (on.sides i u at))
+
+    by_side : (u : Machine)
+        → SideOf program.pool (standing_of program.pool (take (length h) h)) u.session None u.own ⊎ (KeepsSide program.pool (standing_of program.pool (take (length h) h)) u × Unit {0})
+        → HoldsItsOwn (standing_of program.pool h) u
+    by_side u (inl side) = holds-by program.pool (standing_of program.pool h) u u.session None refl (subst (λ (es : List Entry). SideOf program.pool (standing_of program.pool es) u.session None u.own) whole side)
+    by_side u (inr both) =
+        let keeps = both.0 in
+        holds-by program.pool (standing_of program.pool h) u u.session keeps.shut refl (subst (λ (es : List Entry). SideOf program.pool (standing_of program.pool es) u.session keeps.shut u.own) whole keeps.side)
+
+    reached : Reaches program captures h nows → (i : ℕ) (u : Machine) → slice_get nows i ≡ Some u
+        → HoldsItsOwn (standing_of program.pool h) u
+    reached r i u at =
+        let on = units-sides program.pool h (users_of program) 0 (take r.count (units_of program captures)) r.users r.first (take-apart r.count (units_of program captures) (units-apart program captures))
+        (take-all (AllByRecursion IsPairedShare) r.count (units_of program captures) (units-paired program captures)) legal r.forward (first-sides program h) r.units in
+        by_side u (unit-sides program.pool h (λ (m : Machine). Unit {0}) r.users r.first r.unit r.lists r.afters (length h) i u (apart-at r.count (units_of program captures) r.unit (units-apart program captures) r.there)
+        (all-at (AllByRecursion IsPairedShare) r.count (units_of program captures) r.unit (units-paired program captures) r.there) (nothing-more r.afters) r.replays r.split r.forward (omega arith) legal on.cast on.sides
+        (ap (λ (us : List Machine). slice_get us i) (sym r.nows_are) ∙ at))
+
+    by_way : HasPlayed program captures h nows ⊎ Reaches program captures h nows → (i : ℕ) (u : Machine)
+        → slice_get nows i ≡ Some u → HoldsItsOwn (standing_of program.pool h) u
+    by_way (inl p) i u at = played p i u at
+    by_way (inr r) i u at = reached r i u at
