@@ -1,0 +1,13 @@
+pub mod Keeping
+pub mod Sessions
+pub mod Comers
+pub mod Acting
+pub mod Places
+pub mod Sizes
+pub mod Opens
+pub mod Sends
+pub mod Filling
+pub mod Granted
+pub mod Completed
+pub mod Asked
+pub mod Sought

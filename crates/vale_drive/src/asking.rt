@@ -1,0 +1,125 @@
+ghost use Rattle.std.specs.Prelude.{◌≡◌, None, Ok, IfSome, IfNone};
+ghost use Rattle.vale_entry.specs.declared.entry.Ask.TheVariants as asks;
+ghost use Rattle.vale_entry.specs.World.{open_port};
+ghost use Rattle.vale_core.specs.Recorded.{standing};
+ghost use Rattle.vale_drive.specs.DriveView.{AreUsersOf, IsOwner};
+ghost use Rattle.vale_drive.specs.Serving.{IsServed};
+
+use crate::completing::{done, place_of_lease};
+use crate::granting::{grant, place_of_origin};
+use crate::noting::stats;
+use crate::opening::open;
+use crate::sending::send;
+use crate::shutting::shut;
+use crate::users::{User, place_of};
+use nm_types::{Batch, LeaseId, Name, PortId, SessionId, StepFault};
+use std::alloc::Global;
+use vale_core::{Book, PortSeen};
+use vale_entry::Reply;
+
+/// What stands of an open port, and the place of its session.
+fn owner_of(book: &Book, users: &[User], port: PortId) -> Option<(PortSeen, usize)>
+    requires { AreUsersOf book.now users.now }
+    ensures some { IfSome result (λ found. IsOwner book.now users.now port found.0 found.1) }
+    ensures none { IfNone result (open_port (standing book.now).world.ports port.0 ≡ None) }
+{
+    let seen = book.open_port(port)?;
+    match place_of(users, seen.session) {
+        Some(place) => Some((seen, place)),
+        None => unreachable!(),
+    }
+}
+
+/// A session opens a port, if it is there.
+pub(crate) fn open_at(
+    alloc: Global,
+    book: &mut Book,
+    users: &mut Vec<User>,
+    session: SessionId,
+    name: &Name,
+    tx: u32,
+    rx: u32,
+    extra: u32,
+) -> Result<Option<Reply>, StepFault>
+    requires { AreUsersOf book.old users.old.items }
+    ensures served { IsServed book.old book.new (asks.Open session name.now tx rx extra) result }
+    ensures kept { AreUsersOf book.new users.new.items }
+{
+    match place_of(users, session) {
+        Some(place) => open(alloc, book, &mut users[place], name, tx, rx, extra),
+        None => Ok(None),
+    }
+}
+
+/// A batch is sent into the switch of a port, if that is open and its session may send.
+pub(crate) fn send_at(
+    alloc: Global,
+    book: &mut Book,
+    users: &mut Vec<User>,
+    port: PortId,
+    batch: &Batch,
+) -> Result<Option<Reply>, StepFault>
+    requires { AreUsersOf book.old users.old.items }
+    ensures served { IsServed book.old book.new (asks.Send port batch.now) result }
+    ensures kept { AreUsersOf book.new users.new.items }
+{
+    match owner_of(book, users, port) {
+        Some((seen, place)) => send(alloc, book, &mut users[place], port, seen, batch),
+        None => Ok(None),
+    }
+}
+
+/// A port is shut, if it is open and its session is settled.
+pub(crate) fn shut_at(book: &mut Book, users: &[User], port: PortId) -> Option<Reply>
+    requires { AreUsersOf book.old users.now }
+    ensures served { IsServed book.old book.new (asks.Shut port) (Ok result) }
+    ensures kept { AreUsersOf book.new users.now }
+{
+    let (_, place) = owner_of(book, users, port)?;
+    shut(book, &users[place], port)
+}
+
+/// The counters of a port are read, if it is open.
+pub(crate) fn stats_at(
+    book: &mut Book,
+    users: &[User],
+    port: PortId,
+) -> Result<Option<Reply>, StepFault>
+    requires { AreUsersOf book.old users.now }
+    ensures served { IsServed book.old book.new (asks.Stat port) result }
+    ensures kept { AreUsersOf book.new users.now }
+{
+    match owner_of(book, users, port) {
+        Some((_, place)) => stats(book, &users[place], port),
+        None => Ok(None),
+    }
+}
+
+/// The next offer of an entry is granted, if it is to this port.
+pub(crate) fn grant_at(
+    book: &mut Book,
+    users: &mut Vec<User>,
+    origin: u32,
+    to: PortId,
+) -> Option<Reply>
+    requires { AreUsersOf book.old users.old.items }
+    ensures served { IsServed book.old book.new (asks.Grant origin to) (Ok result) }
+    ensures kept { AreUsersOf book.new users.new.items }
+{
+    match place_of_origin(users, origin) {
+        Some(place) => grant(book, &mut users[place], origin, to),
+        None => None,
+    }
+}
+
+/// A lease is completed, if it is not done.
+pub(crate) fn done_at(book: &mut Book, users: &mut Vec<User>, lease: LeaseId) -> Option<Reply>
+    requires { AreUsersOf book.old users.old.items }
+    ensures served { IsServed book.old book.new (asks.Done lease) (Ok result) }
+    ensures kept { AreUsersOf book.new users.new.items }
+{
+    match place_of_lease(users, lease) {
+        Some(place) => done(book, &mut users[place], lease),
+        None => None,
+    }
+}

@@ -1,0 +1,63 @@
+ghost use Rattle.std.specs.Prelude.{◌≡◌, ◌<◌, ◌^◌, [], length, IfOk};
+ghost use Rattle.nm_types.specs.Buffers.{IsPoolSize};
+ghost use Rattle.vale_entry.specs.Legal.{IsLegal};
+ghost use Rattle.vale_entry.specs.Room.{promised_of};
+ghost use Rattle.vale_core.specs.Recorded.{standing, HadRoom};
+
+use crate::users::User;
+use nm_types::{Limits, NoMemory};
+use std::alloc::Global;
+use std::marker::Model;
+use vale_core::Book;
+use vale_entry::History;
+
+/// A book joined with what is outside it: the buffers of the sessions, their leases, and what of
+/// their frames is not granted yet. It cannot be dropped.
+///
+/// Contracts see a drive as its record, as they see a book.
+pub struct Drive {
+    pub(crate) book: Book,
+    pub(crate) users: Vec<User>,
+    pub(crate) alloc: Global,
+}
+
+impl Model for Drive {
+    ghost use Rattle.vale_core.specs.Recorded.{Recorded};
+
+    ghost Value = { Recorded };
+
+    ghost use Rattle.vale_drive.specs.DriveView.{IsDrive};
+
+    ghost view = { λ d. d.book };
+
+    ghost invariant = { IsDrive };
+}
+
+impl Drive {
+    /// A drive with no entries, over a pool of so many buffers, all free. A pool has 1 to 65,536
+    /// buffers, and the limit on entries is below 2^32.
+    pub fn new(alloc: Global, buffers: u32, limits: Limits) -> Result<Drive, NoMemory>
+        requires pool { IsPoolSize buffers }
+        requires few { limits.entries < 2 ^ 32 }
+        ensures pool { IfOk result (λ drive. drive.pool ≡ buffers) }
+        ensures limits { IfOk result (λ drive. drive.limits ≡ limits) }
+        ensures entries { IfOk result (λ drive. drive.entries ≡ []) }
+    {
+        Ok(Drive {
+            book: Book::new(alloc, buffers, limits)?,
+            users: Vec::new(alloc),
+            alloc,
+        })
+    }
+
+    /// The record of every step that was made: a legal history, each entry of which had room.
+    pub fn history(&self) -> &History
+        ensures entries { result.now.entries ≡ self.now.entries }
+        ensures limits { result.now.limits ≡ self.now.limits }
+        ensures promised { result.now.promised ≡ promised_of (standing self.now).world }
+        ensures roomy { HadRoom self.now }
+        ensures legal { IsLegal self.now.pool self.now.entries }
+    {
+        self.book.history()
+    }
+}

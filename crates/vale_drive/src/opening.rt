@@ -1,0 +1,94 @@
+ghost use Rattle.std.specs.Prelude.{◌≡◌, ◌≤◌, [], true, vec_capacity, IfOk};
+ghost use Rattle.vale_entry.specs.declared.entry.Ask.TheVariants as asks;
+ghost use Rattle.vale_entry.specs.World.{is_session};
+ghost use Rattle.vale_entry.specs.Legal.{IsLegal};
+ghost use Rattle.vale_core.specs.Recorded.{standing};
+ghost use Rattle.vale_drive.specs.Opening.{unopened, CanTake, TakesIn, HasTaken};
+ghost use Rattle.vale_drive.specs.Serving.{IsServed};
+ghost use Rattle.vale_drive.specs.Users.{IsUser, SameUser, IsRoom};
+
+use crate::buffers::move_all;
+use crate::users::User;
+use nm_region::Buf;
+use nm_types::{MAX_EXTRA, MAX_RING, Name, NoMemory, OpenFault, StepFault};
+use std::alloc::Global;
+use vale_core::{Book, Opened};
+use vale_entry::Reply;
+
+/// The most buffers that a session holds for one port: for two rings, and extra ones.
+const MOST_DUE: usize = 2 * MAX_RING as usize + MAX_EXTRA as usize;
+
+/// What is answered where no port is opened.
+fn unopened(fault: OpenFault) -> Result<Reply, StepFault>
+    ensures { result ≡ unopened fault }
+{
+    match fault {
+        OpenFault::RecordFull { what, used, want } => {
+            Err(StepFault::RecordFull { what, used, want })
+        }
+        OpenFault::NoMemory => Err(StepFault::NoMemory),
+        fault => Ok(Reply::Refused { fault }),
+    }
+}
+
+/// Makes room for what an opening gives, and for the buffers with which its port goes.
+fn room_to_open(alloc: Global, user: &mut User, tx: u32, extra: u32) -> Result<Vec<Buf>, NoMemory>
+    ensures same { SameUser user.old user.new }
+    ensures room { IfOk result IsRoom }
+    ensures takes { IfOk result (λ _. CanTake tx extra user.new) }
+{
+    user.bufs
+        .reserve(tx.min(MAX_RING) as usize + extra.min(MAX_EXTRA) as usize)?;
+    user.rooms.reserve(1)?;
+    Ok(Vec::with_capacity(alloc, MOST_DUE)?)
+}
+
+/// Gives a session what an opening gave, for which there is room.
+fn take_in(user: &mut User, opened: Opened, room: Vec<Buf>)
+    requires takes { TakesIn user.old opened }
+    requires room { IsRoom room }
+    ensures { HasTaken user.old opened room user.new }
+{
+    let Opened {
+        port: _,
+        tx,
+        rx: _,
+        extra,
+    } = opened;
+    move_all(tx, &mut user.bufs);
+    move_all(extra, &mut user.bufs);
+    user.rooms.push_reserved(room);
+}
+
+/// A session opens a port.
+pub(crate) fn open(
+    alloc: Global,
+    book: &mut Book,
+    user: &mut User,
+    name: &Name,
+    tx: u32,
+    rx: u32,
+    extra: u32,
+) -> Result<Option<Reply>, StepFault>
+    requires legal { IsLegal book.old.pool book.old.entries }
+    requires user { IsUser book.old user.old }
+    requires there { is_session (standing book.old).world user.old.id.0 ≡ true }
+    ensures served { IsServed book.old book.new
+        (asks.Open user.old.id name.now tx rx extra) result }
+    ensures kept { IsUser book.new user.new }
+    ensures id { user.new.id ≡ user.old.id }
+{
+    // A `Name` holds a name.
+    name.as_bytes();
+    let room = room_to_open(alloc, user, tx, extra)?;
+    match book.open(user.id, name, tx, rx, extra) {
+        Ok(opened) => {
+            take_in(user, opened, room);
+            Ok(Some(Reply::Opened))
+        }
+        Err(fault) => {
+            room.destroy_empty();
+            Ok(Some(unopened(fault)?))
+        }
+    }
+}

@@ -1,0 +1,100 @@
+ghost use Rattle.std.specs.Prelude.{◌≡◌, ◌≤◌, ◌+◌, [], None, length, position, vec_capacity, OnOk};
+ghost use Rattle.vale_drive.specs.Users.{SameUser, is_user, is_settled_user, is_offered, next_is};
+ghost use Rattle.vale_drive.specs.Users.{is_next_to};
+
+use nm_region::Buf;
+use nm_types::{PortId, SessionId};
+use std::alloc::{AllocError, Global};
+use vale_core::Offers;
+use vale_line::Lease;
+
+/// A session with what it has outside the book.
+pub(crate) struct User {
+    pub(crate) id: SessionId,
+    /// The buffers that it holds.
+    pub(crate) bufs: Vec<Buf>,
+    /// Its leases that are not done, each filled, by rising number.
+    pub(crate) leases: Vec<Lease>,
+    /// What is not granted of its last frames.
+    pub(crate) sent: Option<Sent>,
+    /// Memory for the buffers that go with its ports, one for each.
+    pub(crate) rooms: Vec<Vec<Buf>>,
+}
+
+/// Offers that are not all granted, and the bytes of the frames that they are of.
+pub(crate) struct Sent {
+    pub(crate) offers: Offers,
+    pub(crate) frames: Vec<Vec<u8>>,
+}
+
+impl User {
+    /// A session that has nothing.
+    pub(crate) fn new(alloc: Global, id: SessionId) -> User
+        ensures id { result.id ≡ id }
+        ensures bufs { result.bufs.items ≡ [] }
+        ensures leases { result.leases.items ≡ [] }
+        ensures sent { result.sent ≡ None }
+        ensures rooms { result.rooms.items ≡ [] }
+    {
+        User {
+            id,
+            bufs: Vec::new(alloc),
+            leases: Vec::new(alloc),
+            sent: None,
+            rooms: Vec::new(alloc),
+        }
+    }
+
+    /// Tells whether it has neither an offer nor a lease.
+    pub(crate) fn is_settled(&self) -> bool
+        ensures { result ≡ is_settled_user self.now }
+    {
+        self.sent.is_none() && self.leases.is_empty()
+    }
+
+    /// Makes room for so many leases more.
+    pub(crate) fn reserve_leases(&mut self, count: usize) -> Result<(), AllocError>
+        ensures same { SameUser self.old self.new }
+        ensures room { OnOk result
+            (length self.new.leases.items + count ≤ vec_capacity self.new.leases) }
+    {
+        self.leases.reserve(count)
+    }
+
+    /// Tells whether its offers are those of this entry.
+    pub(crate) fn has_offers_of(&self, origin: u32) -> bool
+        ensures { result ≡ is_offered origin self.now }
+    {
+        match &self.sent {
+            Some(sent) => sent.offers.entry() == origin,
+            None => false,
+        }
+    }
+
+    /// Tells whether its next offer is to this port.
+    pub(crate) fn is_next(&self, to: PortId) -> bool
+        ensures { result ≡ is_next_to to.0 self.now }
+    {
+        match &self.sent {
+            Some(sent) => is_next(&sent.offers, to),
+            None => false,
+        }
+    }
+}
+
+/// Tells whether the next of these offers is to this port.
+fn is_next(offers: &Offers, to: PortId) -> bool
+    ensures { result ≡ next_is to.0 offers.now.wants }
+{
+    match offers.next() {
+        Some(want) => want.to == to,
+        None => false,
+    }
+}
+
+/// The place of the session of this number.
+pub(crate) fn place_of(users: &[User], id: SessionId) -> Option<usize>
+    ensures { result ≡ position (is_user id.0) users.now }
+{
+    users.iter().position(|user| user.id == id)
+}
