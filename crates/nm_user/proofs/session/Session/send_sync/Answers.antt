@@ -1,0 +1,42 @@
+use Rattle.std.proofs.Common.{refl, ap, arith}
+use Rattle.nm_own.specs.Regions.{SideState}
+use Rattle.nm_user.specs.Sessions.{own_in, session_seen}
+use Rattle.nm_user.proofs.After.{there-still}
+use Rattle.nm_user.proofs.Sends.{ready, few-frames, may-send, unsent-at, send-ends, there-at, sent-at}
+use Rattle.nm_user.proofs.session.Session.send_sync.Goals as goal
+
+pub overflow_cast-pushed : goal.overflow_cast-pushed
+overflow_cast-pushed g c =
+    let few = few-frames (ready c.args.port c.in_ok-batch.batch c.self.view_is (ap own_in c.in-Some.is) c.self.invariant.there c.requires.ring c.requires.name c.requires.passes c.in_ok-batch.ensures) c.len-pushed.result c.len-pushed.ensures in
+    omega (arith, few)
+
+pub send-requires-clause-may : goal.send-requires-clause-may
+send-requires-clause-may g c = may-send (ready c.args.port c.in_ok-batch.batch c.self.view_is (ap own_in c.in-Some.is) c.self.invariant.there c.requires.ring c.requires.name c.requires.passes c.in_ok-batch.ensures)
+
+pub invariant_of-self-in-Err : goal.invariant_of-self-in-Err
+invariant_of-self-in-Err g c =
+    let k = ready c.args.port c.in_ok-batch.batch c.self.view_is (ap own_in c.in-Some.is) c.self.invariant.there c.requires.ring c.requires.name c.requires.passes c.in_ok-batch.ensures in
+    record { pass = c.send.ensures.pass; own = c.in-Some.own; own_is = refl; there = there-still k.there c.in-Err.ensures.full.none }
+
+pub returns-in-Err-clause-full : goal.returns-in-Err-clause-full
+returns-in-Err-clause-full g c =
+    let k = ready c.args.port c.in_ok-batch.batch c.self.view_is (ap own_in c.in-Some.is) c.self.invariant.there c.requires.ring c.requires.name c.requires.passes c.in_ok-batch.ensures in
+    unsent-at c.self.view_is (ap own_in c.in-Some.is) k c.in-Err.ensures.full
+
+pub invariant_of-self-2 : goal.invariant_of-self-2
+invariant_of-self-2 g c =
+    let k = ready c.args.port c.in_ok-batch.batch c.self.view_is (ap own_in c.in-Some.is) c.self.invariant.there c.requires.ring c.requires.name c.requires.passes c.in_ok-batch.ensures in
+    let ends = send-ends c.in-Ok.offers k.there k.sends c.in-Ok.ensures.made c.in-Ok.ensures.offers c.settle_batch-shares.ensures.none c.settle_batch-shares.ensures.settles in
+    record {
+      pass = c.settle_batch-shares.ensures.pass;
+      own = c.sent.new.self;
+      own_is = refl;
+      there = there-at (session_seen c.self.inside) c.in-Ok.offers k (ap (λ (side : SideState). side.own) c.sent.ensures) c.in-Ok.ensures.made ends;
+    }
+
+pub returns-clause-sent : goal.returns-clause-sent
+returns-clause-sent g c =
+    let k = ready c.args.port c.in_ok-batch.batch c.self.view_is (ap own_in c.in-Some.is) c.self.invariant.there c.requires.ring c.requires.name c.requires.passes c.in_ok-batch.ensures in
+    let ends = send-ends c.in-Ok.offers k.there k.sends c.in-Ok.ensures.made c.in-Ok.ensures.offers c.settle_batch-shares.ensures.none c.settle_batch-shares.ensures.settles in
+    sent-at c.in-Ok.offers (record { entry = c.entry-entry.result; pushed = c.len-pushed.result; short = c.short-short.result; lone = c.lone-lone.result; shares = c.settle_batch-shares.result })
+    c.self.view_is (ap own_in c.in-Some.is) k (ap (λ (side : SideState). side.own) c.sent.ensures) c.in-Ok.ensures.made c.in-Ok.ensures.offers ends c.entry-entry.ensures c.len-pushed.ensures c.short-short.ensures c.lone-lone.ensures refl

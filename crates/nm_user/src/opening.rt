@@ -1,0 +1,122 @@
+//! Ports are opened, with all memory taken first.
+ghost use Rattle.std.specs.Prelude.{◌≡◌, ◌++◌, length, IfOk, IfErr, IfSome, OnOk, Some};
+ghost use Rattle.nm_types.specs.Names.{IsName};
+ghost use Rattle.nm_types.specs.Openings.{are_sizes, is_ring_size};
+ghost use Rattle.nm_types.specs.OwnSyncs.{own_after_open};
+ghost use Rattle.nm_region.specs.Buffers.{indices_of};
+ghost use Rattle.nm_own.specs.Opening.{blank_arrivals};
+ghost use Rattle.vale_entry.specs.declared.entry.Ask.TheVariants as asks;
+ghost use Rattle.vale_entry.specs.declared.entry.Reply.TheVariants as replies;
+ghost use Rattle.nm_user.specs.Calls.{Made};
+ghost use Rattle.nm_user.specs.Ports.{OpensNot};
+ghost use Rattle.nm_user.specs.Opening.{IsReady, CanAdd, own_if};
+
+use crate::session::Session;
+use nm_own::{NewPort, OwnSide};
+use nm_types::{Kind, MAX_EXTRA, MAX_RING, MIN_RING, Name, NoMemory, OpenFault, PortId};
+use std::alloc::Global;
+use std::sync::Wait;
+use vale_core::Opened;
+
+/// Whether a ring may have `size` slots.
+fn is_ring_size(size: u32) -> bool
+    ensures { result ≡ is_ring_size size }
+{
+    (MIN_RING..=MAX_RING).contains(&size)
+}
+
+/// Whether a port of this name may have rings of `tx` and `rx` slots and `extra` buffers.
+#[tactic(auto, unfolding(nm_types::specs::Names::is_name, nm_types::specs::Names::is_monitor_name))]
+fn are_sizes(name: &Name, tx: u32, rx: u32, extra: u32) -> bool
+    ensures sizes { result ≡ are_sizes name.now tx rx extra }
+    ensures named { IsName name.now }
+{
+    let is_tx = match name.kind() {
+        Kind::Monitor => tx == 0,
+        _ => is_ring_size(tx),
+    };
+    is_tx && is_ring_size(rx) && extra <= MAX_EXTRA
+}
+
+/// All memory that a port will want here, if one of this name may have such sizes.
+fn room_for(
+    alloc: Global,
+    own: &OwnSide,
+    name: &Name,
+    tx: u32,
+    rx: u32,
+    extra: u32,
+) -> Result<Option<NewPort>, NoMemory>
+    ensures ready { IfOk result (IsReady own.now.own name.now tx rx extra) }
+    ensures named { IfOk result (λ new. IsName name.now) }
+{
+    if are_sizes(name, tx, rx, extra) {
+        Ok(Some(own.prepare(alloc, *name, tx, rx, extra)?))
+    } else {
+        Ok(None)
+    }
+}
+
+/// Adds the port that was opened.
+fn add(own: &mut Option<OwnSide>, new: Option<NewPort>, opened: Opened) -> PortId
+    requires { CanAdd own.old new opened }
+    ensures port { result ≡ opened.port }
+    ensures own { IfSome own.old (λ side. IfSome new (λ port. own_if own.new ≡ Some
+        (own_after_open opened.port.0 port.name port.sizes.tx port.sizes.rx
+        (blank_arrivals (indices_of opened.tx.items ++ indices_of opened.extra.items))
+        side.own))) }
+{
+    let Opened {
+        port,
+        tx,
+        rx: _,
+        extra,
+    } = opened;
+    match (own, new) {
+        (Some(own), Some(new)) => own.add(new, port, tx, extra),
+        _ => unreachable!(),
+    }
+    port
+}
+
+impl<'f> Session<'f> {
+    /// All memory that a port will want, if one of this name may have such sizes.
+    fn prepare(
+        &self,
+        name: &Name,
+        tx: u32,
+        rx: u32,
+        extra: u32,
+    ) -> Result<Option<NewPort>, NoMemory>
+        ensures ready { IfOk result (IsReady self.now.own name.now tx rx extra) }
+        ensures named { IfOk result (λ new. IsName name.now) }
+    {
+        match &self.own {
+            Some(own) => room_for(self.alloc, own, name, tx, rx, extra),
+            None => unreachable!(),
+        }
+    }
+
+    /// Opens a port of this name. A refusal by the name, the sizes or the free buffers is an entry
+    /// too.
+    pub fn open<R: Wait>(
+        &mut self,
+        rt: &R,
+        name: &Name,
+        tx: u32,
+        rx: u32,
+        extra: u32,
+    ) -> Result<PortId, OpenFault>
+        ensures made { OnOk result (Made self.old self.new
+            (asks.Open (record { 0 = self.old.id }) name.now tx rx extra) replies.Opened) }
+        ensures port { IfOk result (λ port. port.0 ≡ length self.new.knows.seen) }
+        ensures unopened { IfErr result (OpensNot self.old self.new
+            (asks.Open (record { 0 = self.old.id }) name.now tx rx extra)) }
+    {
+        let new = self.prepare(name, tx, rx, extra)?;
+        let opened = self
+            .fabric
+            .open(rt, &mut self.pass, self.id, name, tx, rx, extra)?;
+        Ok(add(&mut self.own, new, opened))
+    }
+}

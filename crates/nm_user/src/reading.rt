@@ -1,0 +1,65 @@
+//! What a user reads of its own side.
+ghost use Rattle.std.specs.Prelude.{◌≡◌, option_map, option_and_then};
+ghost use Rattle.std.specs.Option.{option_copied};
+ghost use Rattle.nm_types.specs.OwnPorts.{ring_at, port_with_id};
+ghost use Rattle.nm_types.specs.OwnEdits.{user_slot_at};
+ghost use Rattle.nm_own.specs.Own.{ring_of};
+ghost use Rattle.nm_own.specs.ExtraChain.{head_of_extras, extra_at, named_bytes};
+
+use crate::session::Session;
+use nm_ring::Ring;
+use nm_types::{PortId, Side, Slot};
+
+impl<'f> Session<'f> {
+    /// The positions of a port's ring, if the session has that port and the port that ring.
+    pub fn ring(&self, port: PortId, side: Side) -> Option<&Ring>
+        ensures { option_copied result ≡ option_map ring_of (ring_at side self.now.own port.0) }
+    {
+        match &self.own {
+            Some(own) => own.ring(port, side),
+            None => None,
+        }
+    }
+
+    /// One of the user's slots; none if it is not the user's.
+    pub fn slot(&self, port: PortId, side: Side, at: u32) -> Option<&Slot>
+        ensures { option_copied result ≡ user_slot_at side self.now.own port.0 at }
+    {
+        match &self.own {
+            Some(own) => own.slot(port, side, at),
+            None => None,
+        }
+    }
+
+    /// The 2,048 bytes of a buffer that the user may name.
+    pub fn bytes(&self, idx: u32) -> Option<&[u8]>
+        ensures { option_copied result ≡ named_bytes self.now.own idx }
+    {
+        match &self.own {
+            Some(own) => own.bytes(idx),
+            None => None,
+        }
+    }
+
+    /// The index that a port's list of extra buffers begins with, any number; none if the session
+    /// has no such port.
+    pub fn extra_head(&self, port: PortId) -> Option<u32>
+        ensures { result ≡ option_map head_of_extras (port_with_id self.now.own port.0) }
+    {
+        match &self.own {
+            Some(own) => own.extra_head(port),
+            None => None,
+        }
+    }
+
+    /// The buffer in an extra position of a port, counted from 0; none if there is no such
+    /// position.
+    pub fn extra_at(&self, port: PortId, at: u32) -> Option<u32>
+        ensures { result ≡ option_and_then (extra_at at) (port_with_id self.now.own port.0) }
+    {
+        match &self.own {
+            Some(own) => own.extra_at(port, at),
+            None => None,
+        }
+    }
+}
