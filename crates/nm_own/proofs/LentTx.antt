@@ -11,7 +11,7 @@ use Rattle.std.proofs.lemmas.List.Folds.{list_any-append}
 use Rattle.nm_types.specs.declared.id.PortId.{PortId}
 use Rattle.nm_types.specs.declared.id.Side.{Side}
 use Rattle.nm_types.specs.declared.id.Side.TheVariants as side
-use Rattle.nm_types.specs.OwnPorts.{OwnPort, OwnState, bytes_at, buffer_in, pushed_on}
+use Rattle.nm_types.specs.OwnPorts.{OwnPort, bytes_at, buffer_in, pushed_on}
 use Rattle.nm_types.specs.OwnSyncs.{after_slot, after_exchange, taken_from, taken_on}
 use Rattle.nm_types.specs.declared.place.Place.TheVariants as place
 use Rattle.nm_types.specs.Places.{is_same_place}

@@ -32,9 +32,12 @@ pub mod GivenBack
 pub mod PutOne
 pub mod Published
 pub mod OwnLaws
-pub mod Taken
-pub mod PutLaws
 pub mod Undoing
 pub mod Lent
 pub mod LentTx
 pub mod Regions
+pub mod ComingIn
+pub mod Refilled
+pub mod TakenTx
+pub mod TakenLent
+pub mod PortNames

@@ -2,7 +2,6 @@
 -- places, the slots pushed are the kernel side's, and those behind the tail the user's.
 use Rattle.std.proofs.Common.{ℕ, zero, suc, ◌≡◌, ◌<◌, ◌≤◌, ◌+◌, ◌-◌, ◌&&◌, ◌||◌, ◌⊎◌, Bool, true, false, nat_eq, nat_lt, if◌then◌else◌, List, [], ◌∷◌, ◌++◌, map, fold, replicate, Option, Some, None, option_map, inl, inr, refl, sym, ◌∙◌, ap, arith, rules}
 use Rattle.std.specs.Prelude.{is_some, IsSome}
-use Rattle.std.specs.Option.{option_map_or}
 use Rattle.std.specs.List.{AllByRecursion, list_any, range_with_len}
 use Rattle.std.proofs.lemmas.Bool.{cases_Bool, cases_lt}
 use Rattle.std.proofs.lemmas.Bool.Decides.{nat_tests}
@@ -15,7 +14,7 @@ use Rattle.nm_types.specs.declared.place.Place.TheVariants as place
 use Rattle.nm_types.specs.Places.{is_same_place}
 use Rattle.nm_types.specs.Positions.{IsRing, FitsRing, dist, step_on, slots_from, user_slots, kernel_count}
 use Rattle.nm_types.specs.OwnPorts.{OwnRing, OwnPort, OwnState, port_if, with_ring_on, pushed_on, pushed_count}
-use Rattle.nm_types.specs.OwnSyncs.{accepted, slots_after_push, after_slot, after_exchange, ring_after_send, own_after_send, ring_after_put, own_after_put, taken_on, taken_from, bytes_after}
+use Rattle.nm_types.specs.OwnSyncs.{accepted, slots_after_push, after_slot, after_exchange, ring_after_send, own_after_send}
 use Rattle.nm_types.proofs.RingSteps.{dist-below, dist-step_on, step_on-below, step_on-dist, dist-add, dist_split, dist-cases, length-slots_from}
 use Rattle.nm_hold.specs.Offsets.{ArePortsOnce}
 use Rattle.nm_hold.specs.Holds.{HoldState, buffers_of, index_at, port_of}
@@ -579,26 +578,6 @@ module _ (h : HoldState) (ports : List UserPort) (id : PortId) (p : UserPort) (r
           let pushed : pushed_on side.Tx id.0 (own_seen h ports) ≡ pushed_seen h id r = rw (ring_found h ports side.Tx id r x.at) (pushed_is_seen h id side.Tx r tx_side is_ring fits) in
           out.seen ports x.sided (ap (λ (s : Side). slots_at s ports id.0) tx_side ∙ x.at)
           ∙ (ap (λ (s : Side). fold (after_slot s id.0) (map (port_seen h) ports) (pushed_seen h id r)) tx_side ∙ ap (fold (after_slot side.Tx id.0) (map (port_seen h) ports)) (sym pushed))
-
-      nothing_taken : (all : List OwnPort) → taken_on id.0 all 0 ≡ []
-      nothing_taken [] = refl
-      nothing_taken (y ∷ all) = elim (cases_Bool (nat_eq y.id.0 id.0)) [
-        | inl here ↦ rw here (by_ring y.tx)
-        | inr other ↦ rw other (nothing_taken all)
-      ]
-        where
-          by_ring : (o : Option OwnRing) → option_map_or (taken_from 0) o [] ≡ []
-          by_ring None = refl
-          by_ring (Some t) = refl
-
-      pub offered_is_seen : taken ≡ 0 → own_seen h3 after ≡ own_after_put id.0 [] (own_seen h ports)
-      offered_is_seen none =
-          let made : ring_seen h3 id (ring_pushed_out taken r) ≡ ring_after_put [] (ring_seen h3 id r) =
-          ring_moved ∙ ap (λ (n : ℕ). record (ring_seen h3 id r) { ring = accepted n r.ring; slots = slots_after_push r.ring r.slots }) none in
-          let exchanged = (after_exchange side.Tx id.0 (own_seen h ports)).ports in
-          let bytes : map bytes_in_cell h3.cells ≡ bytes_after (taken_on id.0 exchanged 0) [] (map bytes_in_cell h.cells) = cells_same ∙ ap (λ (gone : List ℕ). bytes_after gone [] (map bytes_in_cell h.cells)) (sym (nothing_taken exchanged)) in
-          rw (count_same, bytes) (ap (λ (ps : List OwnPort). let s : OwnState = record { pool = buffers_of h; ports = ps; bytes = bytes_after (taken_on id.0 exchanged 0) [] (map bytes_in_cell h.cells) } in s)
-          (ports_seen (ring_after_put []) made ports once x.there ∙ ap (map (port_if id.0 (with_ring_on side.Tx (ring_after_put [])))) exchanged_seen))
 
       pub sent_is_seen : taken ≡ pushed_count_of r → own_seen h3 after ≡ own_after_send id.0 (own_seen h ports)
       sent_is_seen all =

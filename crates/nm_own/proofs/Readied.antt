@@ -6,7 +6,7 @@ use Rattle.nm_types.specs.declared.id.PortSizes.{PortSizes}
 use Rattle.nm_types.specs.Places.{held_at}
 use Rattle.nm_types.specs.Positions.{IsRingSize}
 use Rattle.nm_types.specs.SyncChecks.{contains_index}
-use Rattle.nm_types.specs.OwnPorts.{OwnState, port_with_id, bytes_at}
+use Rattle.nm_types.specs.OwnPorts.{port_with_id, bytes_at}
 use Rattle.nm_hold.specs.declared.standing.Standing.{Standing}
 use Rattle.nm_hold.specs.declared.table.PortPlaces.{PortPlaces}
 use Rattle.nm_hold.specs.Offsets.{has_place, has_port}

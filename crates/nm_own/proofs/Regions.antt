@@ -1,5 +1,5 @@
 -- Of which regions the buffers of a hold are.
-use Rattle.std.proofs.Common.{ℕ, zero, suc, ◌≡◌, ◌+◌, ◌++◌, List, [], ◌∷◌, length, map, set, drop, replicate, Option, Some, None, refl, sym, ◌∙◌, ap, subst}
+use Rattle.std.proofs.Common.{ℕ, zero, suc, ◌≡◌, ◌+◌, List, [], ◌∷◌, length, map, set, drop, replicate, Option, Some, None, refl, sym, ◌∙◌, ap, subst}
 use Rattle.std.specs.List.{AllByRecursion}
 use Rattle.std.proofs.Math.Seq.{drop-append_seam}
 use Rattle.nm_types.specs.declared.place.Place.{Place}
@@ -12,7 +12,7 @@ use Rattle.nm_own.specs.declared.port.UserPort.{UserPort}
 use Rattle.nm_own.specs.Own.{own_seen}
 use Rattle.nm_own.specs.Closing.{AreTaken}
 use Rattle.nm_own.proofs.Checked.{is_made}
-use Rattle.nm_own.specs.Regions.{SideState, IsRegion, AllOf, IsBufferOf, AreOf, regions_in, HoldsOf, side_seen}
+use Rattle.nm_own.specs.Regions.{SideState, IsRegion, AllOf, AreOf, regions_in, HoldsOf, side_seen}
 
 both : (a b : OwnState) (p q : List ℕ) → a ≡ b → p ≡ q → (let x : SideState = record { own = a; regions = p } in x) ≡ (let y : SideState = record { own = b; regions = q } in y)
 both a b p q e f = rw (e, f) refl
@@ -65,7 +65,7 @@ written bytes (Some s ∷ cells) (suc at) = ap (λ (rs : List ℕ). s.buf.region
 pub regions_written : (h : HoldState) (idx : ℕ) (bytes : List ℕ) → regions_in (bufs_of (hold_written h idx bytes)) ≡ regions_in (bufs_of h)
 regions_written h idx bytes = written bytes h.cells idx
 
--- a cell that is emptied, or has a buffer of the region
+-- a cell that is empty, or has a buffer of the region
 abbrev IsCellOf : ℕ → Option Standing → Type 0
 IsCellOf region cell = AllByRecursion (IsRegion region) (regions_in (bufs_in (cell ∷ [])))
 
@@ -82,9 +82,6 @@ with_cell_of region (Some s ∷ cells) (suc at) cell one of = (of.0, with_cell_o
 
 pub holds_added : (region : ℕ) (h new : HoldState) (idx : ℕ) (s : Standing) → new ≡ with_cell h idx (Some s) → s.buf.region ≡ region → HoldsOf region h → HoldsOf region new
 holds_added region h new idx s cell own of = subst (HoldsOf region) (sym cell) (with_cell_of region h.cells idx (Some s) (own, tt) of)
-
-pub holds_left : (region : ℕ) (h new : HoldState) (idx : ℕ) → new ≡ with_cell h idx None → HoldsOf region h → HoldsOf region new
-holds_left region h new idx cell of = subst (HoldsOf region) (sym cell) (with_cell_of region h.cells idx None tt of)
 
 -- each buffer that stands somewhere
 each_of : (region : ℕ) (cells : List (Option Standing)) → AllByRecursion (IsRegion region) (regions_in (bufs_in cells)) → (idx : ℕ) (s : Standing) → cell_at cells idx ≡ Some s → s.buf.region ≡ region
@@ -108,9 +105,6 @@ stood_of region idx h buf of e = by_cell (standing_at h idx) refl
         let some : Some s.buf ≡ Some buf = rw is at e in
         let same : s.buf ≡ buf = cc in
         ap (λ (b : Buffer). b.region) (sym same) ∙ each_of region h.cells of idx s is
-
-pub removed_of : (region : ℕ) (h : HoldState) (buf : Buffer) → HoldsOf region h → buffer_at h buf.index ≡ Some buf → buf.region ≡ region
-removed_of region h buf of e = stood_of region buf.index h buf of e
 
 -- buffers that are taken out
 pub holds_taken : (region : ℕ) (h now : HoldState) (places : List Place) (before after : List Buffer) → AreTaken h now places before after → HoldsOf region h → HoldsOf region now

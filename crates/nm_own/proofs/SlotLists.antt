@@ -7,8 +7,14 @@ use Rattle.std.proofs.Math.Nat.{mod-eq_of_lt}
 use Rattle.nm_types.specs.Positions.{RingState, IsRing, FitsRing, advanced, step_on, slots_from, kernel_count}
 use Rattle.nm_types.proofs.RingSteps.{dist_self, step_on-step_on}
 use Rattle.nm_types.specs.Slots.{SlotState, slot_after_push}
-use Rattle.nm_types.specs.OwnPorts.{blank_slot}
+use Rattle.nm_types.specs.declared.id.PortId.{PortId}
+use Rattle.nm_types.specs.declared.id.Side.TheVariants.{Tx}
+use Rattle.nm_types.specs.OwnPorts.{index_of, blank_slot}
 use Rattle.nm_types.specs.OwnSyncs.{with_push_cleared, accepted}
+use Rattle.nm_hold.specs.Holds.{HoldState}
+use Rattle.nm_own.specs.RingSlots.{RingSlots, slot_at, with_slot_at}
+use Rattle.nm_own.specs.Own.{number_on}
+use Rattle.nm_own.specs.Puts.{with_slot_named}
 
 -- one slot more behind those changed so far
 pub fold-slots_from : {X : Type 0} (f : X → ℕ → X) (x : X) (size first k : ℕ) → fold f x (slots_from size first (k + 1)) ≡ f (fold f x (slots_from size first k)) (step_on size first k)
@@ -54,3 +60,17 @@ still_room ring taken is few = rw (tail_stays ring is) few
 
 pub accepted_ring : (ring : RingState) (tail : ℕ) → IsRing ring → ring.head < ring.size → tail < ring.size → IsRing (advanced ring ring.head ring.cur tail)
 accepted_ring ring tail is head below = record { is_size = is.is_size; accepted = head; within = below; one_tail = refl }
+
+-- the next slot named, as it is read and written
+pub named_next : (h : HoldState) (id : PortId) (r now : RingSlots) (size first k : ℕ) (new : SlotState) → r.side ≡ Tx → now ≡ record r { slots = fold (with_slot_named h id) r.slots (slots_from size first k) }
+    → new ≡ record (slot_at now (step_on size first k)) { buf_idx = number_on h Tx id (step_on size first k) }
+    → with_slot_at (step_on size first k) new now ≡ record r { slots = fold (with_slot_named h id) r.slots (slots_from size first (k + 1)) }
+named_next h id r now size first k new side e made =
+    let at = step_on size first k in
+    let n = number_on h Tx id at in
+    let done = fold (with_slot_named h id) r.slots (slots_from size first k) in
+    let one : index_of r.side r.ring at ≡ at = rw side refl in
+    let slot : new ≡ record (get_or done at blank_slot) { buf_idx = n } =
+    made ∙ (ap (λ (x : RingSlots). record (slot_at x at) { buf_idx = n }) e ∙ ap (λ (i : ℕ). record (get_or done i blank_slot) { buf_idx = n }) one) in
+    ap (with_slot_at at new) e
+    ∙ ap (λ (slots : List SlotState). record r { slots = slots }) (ap (λ (i : ℕ). set done i new) one ∙ (ap (set done at) slot ∙ sym (fold-slots_from (with_slot_named h id) r.slots size first k)))

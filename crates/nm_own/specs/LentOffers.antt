@@ -1,10 +1,11 @@
 -- The own side of a put whose frames' buffers are lent out: they come back, or some of them go.
-use Rattle.std.specs.Prelude.{ℕ, ◌≡◌, ◌+◌, List, length, reverse, Some, None}
+use Rattle.std.specs.Prelude.{ℕ, ◌≡◌, ◌≤◌, ◌+◌, nat_eq, List, length, drop, reverse, Some, None}
+use Rattle.std.specs.List.{AllByRecursion, IsDistinct}
 use Rattle.nm_types.specs.declared.id.Side.TheVariants.{Tx}
 use Rattle.nm_types.specs.Positions.{dist}
 use Rattle.nm_types.specs.OwnPorts.{OwnState}
 use Rattle.nm_types.specs.OwnSyncs.{after_exchange, taken_on}
-use Rattle.nm_region.specs.Buffers.{Buffer}
+use Rattle.nm_region.specs.Buffers.{Buffer, indices_of}
 use Rattle.nm_hold.specs.Holds.{HoldState}
 use Rattle.nm_own.specs.declared.lend_offers.LentOffers.{LentOffers}
 use Rattle.nm_own.specs.RingSlots.{RingSlots}
@@ -12,6 +13,7 @@ use Rattle.nm_own.specs.Own.{own_seen, slots_at, refusal_at}
 use Rattle.nm_own.specs.Regions.{SideState, side_seen}
 use Rattle.nm_own.specs.Kept.{IsKept}
 use Rattle.nm_own.specs.Exchanges.{pushed_count_of, AreExchanged}
+use Rattle.nm_own.specs.Opening.{IsNew}
 use Rattle.nm_own.specs.Offers.{offered_lengths}
 use Rattle.nm_own.specs.Puts.{offered_slot}
 use Rattle.nm_own.specs.Lending.{Run, AreSwapped, AreOut}
@@ -49,3 +51,12 @@ pub record IsLentOffers (s : SideState) (lent : List Buffer) (l : LentOffers) : 
   pub count : length l.replaced.items ≡ pushed_count_of r
   pub lent_count : length lent ≡ offered_count_of r
   pub out : AreOut exchanged (offer_run l r) (pending_count_of r) (reverse lent) l.hold
+
+-- of the frames offered the first ones can be taken: the buffers of the others are back, and for each that
+-- goes one came, which is new to the session
+pub record CanBeTaken (s : SideState) (lent rest came : List Buffer) (l : LentOffers) : Type 0 where
+  pub lends : IsLentOffers s lent l
+  pub back : rest ≡ drop (length came) lent
+  pub few : length came ≤ length lent
+  pub new : AllByRecursion (IsNew s.own) (indices_of came)
+  pub once : IsDistinct nat_eq (indices_of came)

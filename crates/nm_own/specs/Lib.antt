@@ -22,3 +22,4 @@ pub mod Puts
 pub mod Lending
 pub mod LentBack
 pub mod LentOffers
+pub mod PortNames

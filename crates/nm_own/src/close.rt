@@ -9,6 +9,7 @@ ghost use Rattle.nm_own.specs.Own.{size_if, port_at, places_of_port, HasBackRoom
 ghost use Rattle.nm_own.specs.Closing.{place_count, held_place, held_places, AreTaken};
 ghost use Rattle.nm_own.specs.Closing.{has_id, others};
 
+use crate::own::OwnSide;
 use crate::port::UserPort;
 use nm_extra::walk;
 use nm_hold::Hold;
@@ -52,6 +53,21 @@ impl UserPort {
         } else {
             let at = k - slots - received;
             Place::Extra { port, at }
+        }
+    }
+}
+
+impl OwnSide {
+    ghost use Rattle.std.specs.Prelude.{option_map, slice_get};
+    ghost use Rattle.nm_types.specs.OwnPorts.{OwnPort};
+
+    /// The port that was opened first of those that the session has.
+    pub fn first_port(&self) -> Option<PortId>
+        ensures { result ≡ option_map (λ (p : OwnPort). p.id) (slice_get self.now.own.ports 0) }
+    {
+        match self.ports.first() {
+            Some(port) => Some(port.id),
+            None => None,
         }
     }
 }

@@ -3,16 +3,21 @@ ghost use Rattle.std.specs.Prelude.{IsSome, IfOk};
 ghost use Rattle.std.specs.Vec.{vec_capacity};
 ghost use Rattle.nm_types.specs.declared.id.Side.TheVariants.{Tx};
 ghost use Rattle.nm_types.specs.OwnPorts.{bytes_at, ring_at};
+ghost use Rattle.nm_types.specs.OwnSyncs.{own_after_put};
 ghost use Rattle.nm_region.specs.Buffers.{Buffer, indices_of};
 ghost use Rattle.nm_own.specs.Own.{refusal_at};
 ghost use Rattle.nm_own.specs.Closing.{bytes_of_buffers};
 ghost use Rattle.nm_own.specs.Offers.{offered_lengths};
-ghost use Rattle.nm_own.specs.LentOffers.{IsLentOffers, offered_buffers};
+ghost use Rattle.nm_own.specs.Opening.{blank_arrivals};
+ghost use Rattle.nm_own.specs.LentOffers.{IsLentOffers, CanBeTaken, offered_buffers};
+ghost use Rattle.nm_own.specs.Puts.{cleared};
 ghost use Rattle.nm_own.specs.Regions.{SideState, AllOf, AreOf};
 
+use crate::exchange::name_slots;
 use crate::gather::gather_lengths;
 use crate::own::{OwnSide, ring_at};
 use crate::port::UserPort;
+use crate::take::take_at;
 use crate::undo::{exchange_back, exchange_noted, put_slots, take_slots};
 use nm_hold::Hold;
 use nm_region::Buf;
@@ -20,7 +25,8 @@ use nm_types::{NoMemory, PortId, Side};
 use std::alloc::Global;
 
 /// An own side whose put is about to be accepted: the buffers of the frames that it offers are lent
-/// out. It cannot be dropped: `undo` ends it once all of them came back.
+/// out. It cannot be dropped: `taken` ends it once those of the frames that were taken are gone for
+/// good and the others came back, `undo` once all of them came back.
 pub struct LentOffers {
     pub(crate) hold: Hold,
     pub(crate) ports: Vec<UserPort>,
@@ -93,7 +99,61 @@ impl OwnSide {
     }
 }
 
+/// Clears all bytes of buffers.
+fn clear_all(bufs: &mut [Buf])
+    ensures { bufs.new ≡ map cleared bufs.old }
+{
+    for buf in bufs.iter_mut() {
+        buf.clear_behind(0);
+    }
+}
+
 impl LentOffers {
+    /// What stands after a put of whose frames some were taken, the first ones: for each of them a
+    /// buffer that came stands in its place, with all bytes cleared, and the tail goes on by as many
+    /// slots; the other frames stay pushed. `rest` has the buffers of those, and nothing else, and
+    /// `came` as many as were taken, none if the peer is gone.
+    pub fn taken(self, rest: &mut Vec<Buf>, came: Vec<Buf>) -> OwnSide
+        requires { (s : SideState) × ((lent : List Buffer)
+            × CanBeTaken s lent rest.old.items came.items self) }
+        ensures own { (s : SideState) (lent : List Buffer) → IsLentOffers s lent self
+            → rest.old.items ≡ drop (length came.items) lent
+            → result.own ≡ own_after_put self.port.0 (blank_arrivals (indices_of came.items)) s.own }
+        ensures region { (s : SideState) (lent : List Buffer) → IsLentOffers s lent self
+            → rest.old.items ≡ drop (length came.items) lent
+            → (region : ℕ) → AllOf region s → AreOf region came.items → AllOf region result }
+        ensures rest { rest.new.items ≡ [] }
+        ensures capacity { vec_capacity rest.new ≡ vec_capacity rest.old }
+    {
+        let LentOffers {
+            mut hold,
+            mut ports,
+            marks,
+            port,
+            replaced: _,
+        } = self;
+        let taken = came.len() as u32;
+        let mut came = came;
+        clear_all(&mut came);
+        match ring_at(&ports, port, Side::Tx) {
+            Some(ring) => {
+                let (first, pending) = ring.pending();
+                let (side, size, tail) = (ring.side(), ring.ring().size(), ring.ring().tail());
+                let (accepted, pushed) = ring.pushed();
+                let behind = (first + taken) % size;
+                let unnamed = pending.saturating_sub(taken);
+                put_slots(&mut hold, port, side, size, behind, unnamed, rest);
+                put_slots(&mut hold, port, side, size, first, pending, &mut came);
+                name_slots(&mut hold, port, size, accepted, pushed, false);
+                name_slots(&mut hold, port, size, tail, taken, true);
+            }
+            None => unreachable!(),
+        }
+        came.destroy_empty();
+        take_at(&hold, &mut ports, port, taken);
+        OwnSide { hold, ports, marks }
+    }
+
     /// The own side as it was before the buffers were lent, once they are back. `pending` has them,
     /// and nothing else.
     pub fn undo(self, pending: &mut Vec<Buf>) -> OwnSide

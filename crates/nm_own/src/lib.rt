@@ -13,6 +13,7 @@ mod gather;
 pub mod laws;
 mod lend;
 mod lend_offers;
+mod named;
 mod open;
 mod own;
 #[cfg(test)]

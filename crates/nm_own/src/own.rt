@@ -11,7 +11,7 @@ ghost use Rattle.nm_types.specs.Positions.{IsRingSize};
 ghost use Rattle.nm_region.specs.Buffers.{indices_of};
 ghost use Rattle.nm_own.specs.Opening.{IsTxSize, IsNew, blank_arrivals};
 ghost use Rattle.nm_own.specs.NewPorts.{HasRoomFor};
-ghost use Rattle.nm_types.specs.OwnPorts.{empty_own, bytes_at, ring_at, pushed_on, port_with_id};
+ghost use Rattle.nm_types.specs.OwnPorts.{OwnPort, empty_own, bytes_at, ring_at, pushed_on, port_with_id};
 ghost use Rattle.nm_types.specs.OwnPorts.{named_of};
 ghost use Rattle.nm_own.specs.Own.{refusal_at, port_at, slots_on, slots_at, ring_of};
 ghost use Rattle.nm_types.specs.OwnEdits.{user_slot_at, with_user_slot, with_head, with_cur};
@@ -21,23 +21,21 @@ ghost use Rattle.nm_own.specs.Offers.{frames_offered};
 ghost use Rattle.nm_own.specs.ExtraChain.{head_of_extras, extra_at, extra_numbered, named_bytes};
 ghost use Rattle.nm_own.specs.Sides.{TellsRefusal};
 ghost use Rattle.nm_types.specs.OwnSyncs.{own_after_open, own_after_reset};
-ghost use Rattle.nm_types.specs.OwnSyncs.{own_after_finish, own_after_send, own_after_put};
+ghost use Rattle.nm_types.specs.OwnSyncs.{own_after_finish, own_after_send};
 ghost use Rattle.nm_types.specs.OwnSyncs.{back_on, chain_in};
 ghost use Rattle.nm_own.specs.Closing.{buffers_with_id, bytes_of_buffers};
-ghost use Rattle.std.specs.Vec.{vec_capacity};
 ghost use Rattle.nm_own.specs.Regions.{AllOf, AreOf, IsBufferOf};
-ghost use Rattle.std.specs.Prelude.{ℕ, [], ◌+◌, ◌↔◌, IfSome, true, take, drop, map, is_some};
+ghost use Rattle.std.specs.Prelude.{ℕ, [], ◌+◌, ◌↔◌, IfSome, true, take, map, is_some};
 ghost use Rattle.std.specs.Prelude.{option_and_then};
 ghost use Rattle.nm_own.specs.Edits.{own_edited};
 ghost use Rattle.nm_own.specs.RingSlots.{slot_before_tail};
 ghost use Rattle.nm_own.specs.Acts.{head_slot_in};
 ghost use Rattle.nm_own.specs.Receives.{can_receive, own_with_arrival};
-ghost use Rattle.nm_own.specs.Puts.{has_offered, offered_buffer, own_with_taken};
 
 use crate::checks::check_ring;
 use crate::close::{empty_port, take_port};
 use crate::edit::{RingEdit, edit_rings};
-use crate::exchange::{accept_pushes, name_slots, push_out, send_out};
+use crate::exchange::{accept_pushes, send_out};
 use crate::extras::{extra_at, extra_numbered, set_heads};
 use crate::fill::{Row, fill, put};
 use crate::gather::{gather, gather_names, gather_offered};
@@ -46,7 +44,6 @@ use crate::port::UserPort;
 use crate::receive::{clear_behind, publish_at};
 use crate::reset::reset_rings;
 use crate::slot_ring::SlotRing;
-use crate::take::take_at;
 use nm_extra::relink;
 use nm_hold::Hold;
 use nm_region::Buf;
@@ -188,6 +185,17 @@ impl OwnSide {
         ensures { result ≡ is_some (port_with_id self.now.own port.0) }
     {
         port_at(&self.ports, port).is_some()
+    }
+
+    /// The name of a port, if the session has it.
+    pub fn name(&self, port: PortId) -> Option<&Name>
+        ensures { option_copied result
+            ≡ option_map (λ (p : OwnPort). p.name) (port_with_id self.now.own port.0) }
+    {
+        match port_at(&self.ports, port) {
+            Some(own) => Some(&own.name),
+            None => None,
+        }
     }
 
     /// The number of buffers in the places of a port, 0 if there is no such port. No buffer is in
@@ -498,61 +506,6 @@ impl OwnSide {
             None => unreachable!(),
         };
         accept_pushes(&mut self.ports, port, taken);
-    }
-
-    /// What stands after a put none of whose frames was taken, or whose peer is gone, for a push that
-    /// no check refuses: the buffers that the pushed slots name are in their places, and the slots
-    /// stay pushed.
-    pub fn offered(&mut self, port: PortId)
-        requires ring { IsSome (ring_at Tx self.old.own port.0) }
-        requires passes { refusal_at Tx port.0 self.old.own ≡ None }
-        ensures { self.new ≡ record self.old { own = own_after_put port.0 [] self.old.own } }
-    {
-        match ring_at(&self.ports, port, Side::Tx) {
-            Some(ring) => push_out(&mut self.hold, port, ring, 0),
-            None => unreachable!(),
-        }
-        accept_pushes(&mut self.ports, port, 0);
-    }
-
-    /// Whether a port's transmit ring has its head accepted, and frames that are still offered.
-    pub fn has_offered(&self, port: PortId) -> bool
-        ensures { result ≡ has_offered port.0 self.now.own }
-    {
-        match ring_at(&self.ports, port, Side::Tx) {
-            Some(ring) => ring.has_free_slot(),
-            None => false,
-        }
-    }
-
-    /// What stands once the first frame that is still offered was taken: its buffer went, one that
-    /// came is in its place, with all bytes cleared, and the tail goes on by one.
-    pub fn taken(&mut self, port: PortId, buf: Buf) -> Buf
-        requires offered { has_offered port.0 self.old.own ≡ true }
-        requires new { IsNew self.old.own buf.index }
-        ensures own { self.new.own ≡ own_with_taken port.0 self.old.own
-            (record { buffer = buf.index; bytes = [] }) }
-        ensures index { result.index ≡ offered_buffer port.0 self.old.own }
-        ensures bytes { result.bytes ≡ bytes_at self.old.own result.index }
-        ensures region { (region : ℕ) → AllOf region self.old → IsBufferOf region buf
-            → AllOf region self.new }
-        ensures out { (region : ℕ) → AllOf region self.old → IsBufferOf region result }
-    {
-        let (size, kept, slot) = match ring_at(&self.ports, port, Side::Tx) {
-            Some(ring) => {
-                let tail = ring.ring().tail();
-                (ring.ring().size(), tail, ring.next(tail))
-            }
-            None => unreachable!(),
-        };
-        let mut buf = buf;
-        buf.clear_behind(0);
-        let idx = buf.index();
-        let went = self.hold.remove(Place::Tx { port, slot });
-        put(&mut self.hold, Place::Tx { port, slot }, buf, false);
-        name_slots(&mut self.hold, port, size, kept, 1, true);
-        take_at(&mut self.ports, port, idx);
-        went
     }
 
     /// Resets a port's ring: its positions are those last accepted, and each of the user's slots

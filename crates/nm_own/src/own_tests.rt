@@ -3,8 +3,9 @@ ghost use Rattle.std.specs.Vec.{vec_capacity};
 ghost use Rattle.nm_types.specs.Buffers.{IsPoolSize};
 ghost use Rattle.nm_types.specs.OwnPorts.{empty_own};
 ghost use Rattle.nm_region.specs.Buffers.{indices_of};
+ghost use Rattle.nm_own.specs.LentOffers.{IsLentOffers};
 
-use crate::{OwnSide, SlotPlace};
+use crate::{LentOffers, OwnSide, SlotPlace};
 use nm_region::{Buf, Region};
 use nm_types::{Batch, Name, PortId, Side, Slot, SlotWrite, SyncFault};
 use std::alloc::Global;
@@ -267,22 +268,64 @@ fn back_count(rt: &impl Abort, own: &mut OwnSide, alloc: Global) -> Option<usize
     }
 }
 
-/// A frame is offered to a peer that is gone: its slot stays pushed, and its buffer cannot be
-/// named. It is offered again with the next one.
-fn offer(rt: &impl Abort, own: &mut OwnSide, alloc: Global) {
-    own.put_frame(PORT, &FRAME);
+/// An empty vector for up to three numbers.
+pub(crate) fn numbers(rt: &impl Abort, alloc: Global) -> Vec<u32>
+    ensures empty { result.items ≡ [] }
+    ensures room { 3 ≤ vec_capacity result }
+{
+    match Vec::with_capacity(alloc, 3) {
+        Ok(notes) => notes,
+        Err(_) => panic!(rt; "out of memory"),
+    }
+}
+
+/// Lends the buffers of up to two frames that a put offers; answers the lengths of the frames too.
+pub(crate) fn lend_frames(
+    rt: &impl Abort,
+    mut own: OwnSide,
+    alloc: Global,
+    pending: &mut Vec<Buf>,
+) -> (LentOffers, Vec<u16>)
+    requires room { 2 ≤ vec_capacity pending.old }
+    requires empty { pending.old.items ≡ [] }
+    ensures lent { IsLentOffers own pending.new.items result.0 }
+    ensures capacity { vec_capacity pending.new ≡ vec_capacity pending.old }
+{
     assert!(rt; own.ring(PORT, Side::Tx).is_some());
     match own.check(PORT, Side::Tx) {
-        Ok(()) => own.offered(PORT),
+        Ok(()) => match own.offered_lengths(alloc, PORT) {
+            Ok(lengths) => {
+                assert!(rt; lengths.len() <= 2);
+                let notes = numbers(rt, alloc);
+                (own.lend_offered(PORT, pending, notes), lengths)
+            }
+            Err(_) => panic!(rt; "out of memory"),
+        },
         Err(fault) => panic!(rt; "{fault:?}"),
     }
-    assert!(rt; slot_at(own, 0).is_none() && slot_at(own, 1).is_some());
-    assert!(rt; slot_at(own, 2).is_some() && slot_at(own, 3).is_none());
+}
+
+/// None of the frames that are offered is taken: the peer is gone.
+fn take_none(rt: &impl Abort, own: OwnSide, alloc: Global) -> OwnSide {
+    let mut rest = room(rt, alloc, 2);
+    let (lent, _) = lend_frames(rt, own, alloc, &mut rest);
+    let own = lent.taken(&mut rest, Vec::new(alloc));
+    rest.destroy_empty();
+    own
+}
+
+/// A frame is offered to a peer that is gone: its slot stays pushed, and its buffer cannot be
+/// named. It is offered again with the next one.
+fn offer(rt: &impl Abort, mut own: OwnSide, alloc: Global) -> OwnSide {
+    own.put_frame(PORT, &FRAME);
+    let mut own = take_none(rt, own, alloc);
+    assert!(rt; slot_at(&own, 0).is_none() && slot_at(&own, 1).is_some());
+    assert!(rt; slot_at(&own, 2).is_some() && slot_at(&own, 3).is_none());
     assert!(rt; own.bytes(5).is_none() && own.bytes(3).is_some());
     own.reset(PORT, Side::Tx);
-    assert!(rt; slot_at(own, 0).is_none());
+    assert!(rt; slot_at(&own, 0).is_none());
     own.put_frame(PORT, &FRAME[..7]);
-    match offers(rt, own, alloc) {
+    match offers(rt, &mut own, alloc) {
         Some(batch) => {
             assert_eq!(rt; batch.len(), 2);
             assert!(rt; batch.frame(0) == FRAME.as_slice());
@@ -290,7 +333,8 @@ fn offer(rt: &impl Abort, own: &mut OwnSide, alloc: Global) {
         }
         None => panic!(rt; "no frames"),
     }
-    assert_eq!(rt; back_count(rt, own, alloc), Some(0));
+    assert_eq!(rt; back_count(rt, &mut own, alloc), Some(0));
+    own
 }
 
 /// Puts buffers into a vector, in order.
@@ -332,7 +376,6 @@ fn play(
     fill(rt, own, alloc);
     exchange(rt, own);
     link(rt, own);
-    offer(rt, own, alloc);
 }
 
 /// Closes the port, and then the own side. The port's buffers come in the order of its places.
@@ -412,6 +455,7 @@ fn port_of_four_slots(rt: HostRuntime) {
     assert!(rt; six.index() == 6);
     extra.push_reserved(six);
     play(&rt, &mut own, alloc, name, tx, extra);
+    let own = offer(&rt, own, alloc);
     let _back = close(&rt, own);
     panic!(rt; "the buffers stay out of the region");
 }

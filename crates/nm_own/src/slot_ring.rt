@@ -18,7 +18,6 @@ ghost use Rattle.nm_types.specs.OwnSyncs.{accepted, slots_after_push};
 ghost use Rattle.nm_own.specs.Exchanges.{CanPushOut, ring_pushed_out};
 ghost use Rattle.std.specs.VecDeque.{deque_capacity};
 ghost use Rattle.nm_own.specs.Receives.{has_free_slot};
-ghost use Rattle.nm_own.specs.Puts.{HasOffered, ring_taken};
 
 use crate::slots::{BLANK, clear_announcements, drop_front, framed, opened_slots};
 use nm_region::Buf;
@@ -146,7 +145,7 @@ impl SlotRing {
     }
 
     /// Writes the slot at a position; does nothing if it is no slot of the ring.
-    fn put_any_slot(&mut self, at: u32, slot: Slot)
+    pub(crate) fn put_any_slot(&mut self, at: u32, slot: Slot)
         ensures { self.new ≡ with_slot_at at slot self.old }
     {
         let index = self.index_of(at);
@@ -284,21 +283,6 @@ impl SlotRing {
     {
         let tail = (self.ring.tail() + taken) % self.ring.size();
         self.ring.advance(self.ring.head(), self.ring.cur(), tail);
-    }
-
-    /// The first slot that is still offered, behind the tail, names another buffer, and the tail of
-    /// the transmit ring goes on by one.
-    pub(crate) fn take_first(&mut self, buffer: u32)
-        requires { HasOffered self.old }
-        ensures { self.new ≡ ring_taken buffer self.old }
-    {
-        let at = self.next(self.ring.tail());
-        let slot = Slot {
-            buf_idx: buffer,
-            ..self.any_slot(at)
-        };
-        self.put_any_slot(at, slot);
-        self.move_tail(1);
     }
 
     /// Accepts the push of a transmit ring, of whose frames `taken` were taken.

@@ -1,11 +1,11 @@
-ghost use Rattle.std.specs.Prelude.{◌≡◌, ◌≤◌, ◌∷◌, [], ◌+◌, length};
+ghost use Rattle.std.specs.Prelude.{◌≡◌, ◌≤◌, ◌∷◌, []};
 ghost use Rattle.std.specs.Vec.{vec_capacity};
 ghost use Rattle.nm_types.specs.OwnPorts.{empty_own};
 ghost use Rattle.nm_own.specs.LentBack.{IsLentBack};
 ghost use Rattle.nm_own.specs.Regions.{SideState};
 ghost use Rattle.nm_region.specs.Buffers.{indices_of};
 
-use crate::own_tests::{FRAME, PORT, first_four, room, start, starts_with};
+use crate::own_tests::{FRAME, PORT, first_four, lend_frames, numbers, room, start, starts_with};
 use crate::{LentBack, OwnSide, SlotPlace};
 use nm_region::Buf;
 use nm_types::{Name, Side, Slot};
@@ -63,17 +63,6 @@ fn lend(rt: &impl Abort, mut own: OwnSide, alloc: Global, back: &mut Vec<Buf>) -
             Err(_) => panic!(rt; "out of memory"),
         },
         Err(fault) => panic!(rt; "{fault:?}"),
-    }
-}
-
-/// An empty vector for up to three numbers.
-fn numbers(rt: &impl Abort, alloc: Global) -> Vec<u32>
-    ensures empty { result.items ≡ [] }
-    ensures room { 3 ≤ vec_capacity result }
-{
-    match Vec::with_capacity(alloc, 3) {
-        Ok(notes) => notes,
-        Err(_) => panic!(rt; "out of memory"),
     }
 }
 
@@ -169,66 +158,49 @@ fn offers(rt: &impl Abort, own: &mut OwnSide, alloc: Global, first: &[u8]) -> us
     }
 }
 
-/// Lends the buffers of two frames that a put offers, which come back.
-fn lend_offers(
-    rt: &impl Abort,
-    mut own: OwnSide,
-    alloc: Global,
-    wanted: [(u32, u16); 2],
-) -> OwnSide {
-    assert!(rt; own.ring(PORT, Side::Tx).is_some());
-    match own.check(PORT, Side::Tx) {
-        Ok(()) => match own.offered_lengths(alloc, PORT) {
-            Ok(lengths) => {
-                assert!(rt; lengths.len() == 2);
-                assert!(rt; lengths[0] == wanted[0].1 && lengths[1] == wanted[1].1);
-                let mut pending = room(rt, alloc, 2);
-                let notes = numbers(rt, alloc);
-                let lent = own.lend_offered(PORT, &mut pending, notes);
-                assert!(rt; pending.len() == 2);
-                assert!(rt; pending[0].index() == wanted[0].0);
-                assert!(rt; pending[1].index() == wanted[1].0);
-                let own = lent.undo(&mut pending);
-                pending.destroy_empty();
-                own
-            }
-            Err(_) => panic!(rt; "out of memory"),
-        },
-        Err(fault) => panic!(rt; "{fault:?}"),
-    }
+/// Lends the buffers of two frames that a put offers, 8 and 3, which come back.
+fn lend_and_undo(rt: &impl Abort, own: OwnSide, alloc: Global) -> OwnSide {
+    let mut pending = room(rt, alloc, 2);
+    let (lent, lengths) = lend_frames(rt, own, alloc, &mut pending);
+    assert!(rt; lengths.len() == 2 && pending.len() == 2);
+    assert!(rt; lengths[0] == 14 && lengths[1] == 7);
+    assert!(rt; pending[0].index() == 8 && pending[1].index() == 3);
+    let own = lent.undo(&mut pending);
+    pending.destroy_empty();
+    own
 }
 
-/// The first frame that is still offered goes, in the buffer of an index.
-fn take(rt: &impl Abort, own: &mut OwnSide, buf: Buf, idx: u32) -> Buf {
+/// The first frame that is offered is taken, for which a buffer came; answers the one that went.
+fn take_one(rt: &impl Abort, own: OwnSide, alloc: Global, buf: Buf) -> (OwnSide, Buf) {
     assert!(rt; own.is_new(buf.index()));
-    assert!(rt; own.has_offered(PORT));
-    let went = own.taken(PORT, buf);
-    assert!(rt; went.index() == idx);
-    went
+    let mut came = room(rt, alloc, 1);
+    came.push_reserved(buf);
+    let mut rest = room(rt, alloc, 2);
+    let (lent, _) = lend_frames(rt, own, alloc, &mut rest);
+    assert!(rt; rest.len() > 0);
+    let went = rest.remove(0);
+    let own = lent.taken(&mut rest, came);
+    rest.destroy_empty();
+    (own, went)
 }
 
-/// Two frames are offered and taken one after the other. The slot of one that was taken keeps its
-/// length, and names a cleared buffer; it is the user's once the next one goes.
+/// Two frames are offered, and one of them taken, and then the other. The slot of one that was taken
+/// keeps its length, and names a cleared buffer; it is the user's once the next one goes.
 fn offer(rt: &impl Abort, mut own: OwnSide, alloc: Global, back: &mut Vec<Buf>) -> OwnSide
     requires room { 3 ≤ vec_capacity back.old }
     ensures { vec_capacity back.new ≡ vec_capacity back.old }
 {
     own.put_frame(PORT, &FRAME);
     own.put_frame(PORT, &FRAME[..7]);
-    let mut own = lend_offers(rt, own, alloc, [(8, 14), (3, 7)]);
+    let mut own = lend_and_undo(rt, own, alloc);
     assert_eq!(rt; offers(rt, &mut own, alloc, &FRAME), 2);
-    assert!(rt; own.ring(PORT, Side::Tx).is_some());
-    match own.check(PORT, Side::Tx) {
-        Ok(()) => own.offered(PORT),
-        Err(fault) => panic!(rt; "{fault:?}"),
-    }
-    let went = take(rt, &mut own, take_last(rt, back, 2), 8);
-    assert!(rt; went.bytes().starts_with(&FRAME));
+    let (mut own, went) = take_one(rt, own, alloc, take_last(rt, back, 2));
+    assert!(rt; went.index() == 8 && went.bytes().starts_with(&FRAME));
     assert!(rt; is_slot(&own, Side::Tx, 3, 5, 0, 0) && own.slot(PORT, Side::Tx, 0).is_none());
-    assert!(rt; own.bytes(2).is_none());
+    assert!(rt; own.bytes(2).is_none() && own.bytes(3).is_none() && own.bytes(5).is_some());
     assert_eq!(rt; offers(rt, &mut own, alloc, &FRAME[..7]), 1);
-    let other = take(rt, &mut own, went, 3);
-    assert!(rt; !own.has_offered(PORT));
+    let (own, other) = take_one(rt, own, alloc, went);
+    assert!(rt; other.index() == 3 && other.bytes().starts_with(&FRAME[..7]));
     assert!(rt; is_slot(&own, Side::Tx, 0, 2, 14, 0) && own.slot(PORT, Side::Tx, 1).is_none());
     assert!(rt; starts_with(&own, 2, &[0; 14]));
     assert!(rt; back.is_empty());

@@ -1,4 +1,4 @@
-use Rattle.std.proofs.Common.{◌∙◌, ap, refl}
+use Rattle.std.proofs.Common.{◌∙◌, ap}
 use Rattle.nm_own.specs.Regions.{SideState}
 use Rattle.nm_own.proofs.Forwarding.{forwards_on, forwards_no_more}
 use Rattle.nm_own.proofs.Regions.{same_as}

@@ -1,4 +1,4 @@
-use Rattle.std.proofs.Common.{◌≡◌, ◌∙◌, true, refl, sym, ap}
+use Rattle.std.proofs.Common.{◌≡◌, ◌∙◌, true, refl, sym}
 use Rattle.nm_types.specs.SyncChecks.{contains_index}
 use Rattle.nm_types.specs.OwnPorts.{OwnState, named_of}
 use Rattle.nm_own.specs.Own.{own_seen}
