@@ -25,13 +25,13 @@ Knowing = PassView Entry Fixed
 abbrev pub knowing : Pass Shared Entry Fixed → Knowing
 knowing pass = view_of pass
 
--- the pass is of this fabric, and has not the turn
-abbrev pub IsPassIn : Fabric → Pass Shared Entry Fixed → Type 0
-IsPassIn fabric pass = IsPassOf fixed_of fabric.turn pass × IsOutside pass
-
 -- what never changes of the fabric's book
 abbrev pub fixed_in : Fabric → Fixed
 fixed_in fabric = fixed_of (opened fabric.turn)
+
+-- the pass is of this fabric, has not the turn, and has seen a legal history
+abbrev pub IsPassIn : Fabric → Pass Shared Entry Fixed → Type 0
+IsPassIn fabric pass = IsPassOf fixed_of fabric.turn pass × IsOutside pass × IsLegal (fixed_in fabric).pool (knowing pass).seen
 
 -- the fabric's book with these entries
 abbrev pub record_in : Fixed → List Entry → Recorded

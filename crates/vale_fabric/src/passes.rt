@@ -33,9 +33,6 @@ impl Fabric {
             × Knows root_of (knowing pass.new).seen (knowing other).seen (knowing other).mine }
         ensures whole { IsWhole (knowing pass.new).part
             → HasAll (knowing pass.new).seen (knowing pass.new).seen (knowing pass.new).mine }
-        ensures legal { IsLegal (fixed_in self.now).pool (knowing pass.old).seen
-            → IsLegal (fixed_in self.now).pool (knowing other).seen
-            → IsLegal (fixed_in self.now).pool (knowing pass.new).seen }
     {
         self.turn.join(pass, other);
     }
