@@ -7,3 +7,14 @@ pub mod Opened
 pub mod Passing
 pub mod Settled
 pub mod Sends
+pub mod LeavingPorts
+pub mod ReceivesCome
+pub mod Receives
+pub mod ReceivesTold
+pub mod TransmitsReset
+pub mod Transmits
+pub mod ReceivesReset
+pub mod TransmitsPut
+pub mod TransmitsTold
+pub mod TransmitsLent
+pub mod TransmitsCome

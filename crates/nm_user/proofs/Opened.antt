@@ -14,7 +14,7 @@ use Rattle.nm_types.specs.Openings.{are_sizes}
 use Rattle.nm_types.specs.OwnPorts.{OwnPort, OwnState, port_with_id}
 use Rattle.nm_types.specs.OwnSyncs.{buffers_of_arrivals, own_after_open}
 use Rattle.nm_region.specs.Buffers.{Buffer, indices_of}
-use Rattle.nm_own.specs.Regions.{SideState}
+use Rattle.nm_own.specs.Regions.{SideState, AllOf, AreOf}
 use Rattle.nm_own.specs.NewPorts.{NewPortState, HasRoomFor}
 use Rattle.nm_own.specs.Opening.{IsNew, blank_arrivals}
 use Rattle.vale_entry.specs.declared.entry.Ask.{Ask}
@@ -86,7 +86,7 @@ none-same x (y ∷ ys) none =
     let all = count_of-cons x y ys in
     (ne_eqb x y (λ e. let here : (y == x) ≡ true = eq-eqb y x (sym e) in let one : one_if (y == x) ≡ one_if true = ap one_if here in omega (arith, all, one, none)), none-same x ys (omega (arith, all, none)))
 
-distinct-once : (xs : List ℕ) → ((b : ℕ) → count_of b xs ≤ 1) → IsDistinct nat_eq xs
+pub distinct-once : (xs : List ℕ) → ((b : ℕ) → count_of b xs ≤ 1) → IsDistinct nat_eq xs
 unfolding IsDistinct
 distinct-once [] once = tt
 distinct-once (x ∷ xs) once =
@@ -95,11 +95,11 @@ distinct-once (x ∷ xs) once =
     let one = once x in
     (none-same x xs (omega (arith, all, here, one)), distinct-once xs (λ b. let more = count_of-cons b x xs in let few = once b in omega (arith, more, few)))
 
-once-by : (n m : ℕ) (is : Bool) → n + m ≤ cond is 1 0 → m ≤ 1
+pub once-by : (n m : ℕ) (is : Bool) → n + m ≤ cond is 1 0 → m ≤ 1
 once-by n m true le = omega (arith, le)
 once-by n m false le = omega (arith, le)
 
-each-new : (pool : ℕ) (side : OwnState) (bs : List ℕ) → side.pool ≡ pool → Each (IsNewTo pool side) bs → Each (IsNew side) bs
+pub each-new : (pool : ℕ) (side : OwnState) (bs : List ℕ) → side.pool ≡ pool → Each (IsNewTo pool side) bs → Each (IsNew side) bs
 each-new pool side [] is all = tt
 each-new pool side (b ∷ bs) is all = ((rw is all.0.index, all.0.no_bytes), each-new pool side bs is all.1)
 
@@ -226,3 +226,10 @@ module _ (s : SessionState) (w : Knowing) (name : List ℕ) (tx rx extra : ℕ) 
   unopened (NoBuffers want have) a = said (NoBuffers want have) a
   unopened (RecordFull what used want) a = record { refused = inr a; same = refl }
   unopened NoMemory a = record { refused = inr a; same = refl }
+
+-- the buffers of a side that a port is added to are of the region of those that were there and those that came
+pub opened-region : (region : ℕ) (old new : Option SideState) (was now : SideState) (tx extra : List Buffer) → old ≡ Some was → new ≡ Some now → AllOf region was
+    → (IfSome old (AllOf region) → AreOf region tx → AreOf region extra → IfSome new (AllOf region)) → AreOf region tx × AreOf region extra → AllOf region now
+opened-region region old new was now tx extra had has all grows come =
+    let before : IfSome old (AllOf region) = subst (λ (o : Option SideState). IfSome o (AllOf region)) (sym had) all in
+    subst (λ (o : Option SideState). IfSome o (AllOf region)) has (grows before come.0 come.1)

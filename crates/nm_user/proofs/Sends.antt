@@ -25,7 +25,7 @@ use Rattle.vale_entry.specs.declared.entry.Ask.TheVariants.{Send, Put}
 use Rattle.vale_entry.specs.declared.entry.Dest.{Dest}
 use Rattle.vale_entry.specs.declared.entry.Entry.{Entry}
 use Rattle.vale_entry.specs.declared.entry.Reply.{Reply}
-use Rattle.vale_entry.specs.declared.entry.Reply.TheVariants.{Offered}
+use Rattle.vale_entry.specs.declared.entry.Reply.TheVariants.{Offered, Took}
 use Rattle.vale_entry.specs.World.{Port, Offer, open_port}
 use Rattle.vale_entry.specs.Offers.{dests_of}
 use Rattle.vale_entry.specs.Arrivals.{arrivals_of}
@@ -35,7 +35,7 @@ use Rattle.vale_entry.proofs.ListLaws.{place-of}
 use Rattle.vale_own.specs.Own.{Own, own_of, is_settled_own}
 use Rattle.vale_own.specs.OwnAsks.{may_ask, may_send}
 use Rattle.vale_own.specs.OwnEntries.{own_sent}
-use Rattle.vale_own.specs.Asker.{asks}
+use Rattle.vale_own.specs.Asker.{asks, is_enter}
 use Rattle.vale_own.specs.SideAsks.{MayAsk as MayBeAsked, RefusalFits}
 use Rattle.vale_own.proofs.Asking.{own-tells}
 use Rattle.vale_own.proofs.SideSyncing.{transmit-asked}
@@ -103,16 +103,20 @@ sends own port frames some named refused frames-are =
           ∙ (length-map (pushed_in Tx tx.ring) (λ (p : Pushed). frame_at (bytes_at own) p.slot) ∙ length-map (pushed_slots tx.ring.ring tx.ring.ring.head) (pushed_at Tx tx.ring));
     }
 
-pub send-asks : {s : SessionState} {port : PortId} {frames : List Frame} → IsThere None s → Sends s.own port frames → asks (standing_seen s.fixed s.knows) s.id (Send port frames) ≡ true
-send-asks {s} {port} {frames} t c =
+-- the call of a transmit sync, whose refusal has numbers that fit, is the session's to ask
+pub tx-asks : {s : SessionState} {port : PortId} (ask : Ask) → IsThere None s → (tx : HasTx s.own port.0) → tx.port.id ≡ port → RefusalFits (refusal_in Tx s.own tx.ring) → tx_call s.own tx.port tx.ring ≡ ask
+    → asks (standing_seen s.fixed s.knows) s.id ask ≡ true
+tx-asks {s} {port} ask t tx id_is fits is =
     let pool = s.fixed.pool in
-    let id : port.0 ≡ c.tx.port.id.0 = ap (λ (i : PortId). i.0) (sym c.id_is) in
-    let found : port_with_id s.own c.tx.port.id.0 ≡ Some c.tx.port = subst (λ (n : ℕ). port_with_id s.own n ≡ Some c.tx.port) id c.tx.found in
-    let fits : RefusalFits (refusal_in Tx s.own c.tx.ring) = subst RefusalFits (sym c.passes) refl in
-    let may = transmit-asked pool s.knows.seen s.id None s.own c.tx.port c.tx.ring (has-side t) t.settled (found, refl) c.tx.has fits in
-    asked (Send port frames) t (subst (MayBeAsked pool s.knows.seen s.id) c.is may)
+    let id : port.0 ≡ tx.port.id.0 = ap (λ (i : PortId). i.0) (sym id_is) in
+    let found : port_with_id s.own tx.port.id.0 ≡ Some tx.port = subst (λ (n : ℕ). port_with_id s.own n ≡ Some tx.port) id tx.found in
+    let may = transmit-asked pool s.knows.seen s.id None s.own tx.port tx.ring (has-side t) t.settled (found, refl) tx.has fits in
+    asked ask t (subst (MayBeAsked pool s.knows.seen s.id) is may)
 
-met : {X : Type 0} (test : X → Bool) (found : Option X) → is_met test found ≡ true → (x : X) × (test x ≡ true)
+pub send-asks : {s : SessionState} {port : PortId} {frames : List Frame} → IsThere None s → Sends s.own port frames → asks (standing_seen s.fixed s.knows) s.id (Send port frames) ≡ true
+send-asks {s} {port} {frames} t c = tx-asks (Send port frames) t c.tx c.id_is (subst RefusalFits (sym c.passes) refl) c.is
+
+pub met : {X : Type 0} (test : X → Bool) (found : Option X) → is_met test found ≡ true → (x : X) × (test x ≡ true)
 met test None e = absurd cc
 met test (Some x) e = (x, e)
 
@@ -126,20 +130,21 @@ send-fits {s} {port} {frames} t c =
 
 -- ---- what is offered of it is settled
 
-no-offers : (offers : List Offer) → dests_of offers ≡ [] → offers ≡ []
+pub no-offers : (offers : List Offer) → dests_of offers ≡ [] → offers ≡ []
 no-offers [] e = refl
 no-offers (o ∷ os) e = absurd cc
 
-still-settled : (own : Own) (more : List Offer) → more ≡ [] → is_settled_own own ≡ true → is_settled_own (record own { offers = own.offers ++ more }) ≡ true
+pub still-settled : (own : Own) (more : List Offer) → more ≡ [] → is_settled_own own ≡ true → is_settled_own (record own { offers = own.offers ++ more }) ≡ true
 still-settled own more none e =
     ap (λ (os : List Offer). is_settled_own (record own { offers = own.offers ++ os })) none
     ∙ (ap (λ (os : List Offer). is_settled_own (record own { offers = os })) (append-nil own.offers) ∙ e)
 
-abbrev dests-in : Reply → List Dest
+abbrev pub dests-in : Reply → List Dest
 dests-in (Offered short lone to) = to
+dests-in (Took items to) = to
 dests-in _ = []
 
-abbrev dests-made : Option (ℕ × Reply) → List Dest
+abbrev pub dests-made : Option (ℕ × Reply) → List Dest
 dests-made None = []
 dests-made (Some made) = dests-in made.1
 
@@ -158,40 +163,48 @@ pub record Ends (s : SessionState) (w x : Knowing) (shares : Shares) : Type 0 wh
   pub settling : Settling s.fixed w x s.id shares
   pub settled : is_settled_own (own_of s.id (standing_seen s.fixed x)) ≡ true
 
-pub send-ends : {s : SessionState} {w x : Knowing} {port : PortId} {frames : List Frame} {shares : Shares} (o : OffersState) → IsThere None s → Sends s.own port frames
-    → Answers s.fixed s.knows w (Send port frames) (Offered o.short o.lone (dests_wanted o.wants)) → IsOffered (seen_in s.fixed w) frames o
+pub ends : {s : SessionState} {w x : Knowing} {ask : Ask} {reply : Reply} {shares : Shares} (o : OffersState) → IsThere None s → asks (standing_seen s.fixed s.knows) s.id ask ≡ true → is_enter ask ≡ false
+    → Answers s.fixed s.knows w ask reply → OffersStand (standing (seen_in s.fixed w)) o → o.entry ≡ length w.seen
+    → (o.wants ≡ [] → is_settled_own (own_of s.id (standing_seen s.fixed w)) ≡ true)
     → (o.wants ≡ [] → (x ≡ w) × (shares ≡ record { given = 0; full = 0; gone = 0 })) → (1 ≤ length o.wants → Settles s.fixed w x o.session shares) → Ends s w x shares
-send-ends {s} {w} {x} {port} {frames} {shares} o t c a sent none some = by o.wants refl
+ends {s} {w} {x} {ask} {reply} {shares} o t may other a stand entry quiet none some = by o.wants refl
   where
     mine : a.makes.session ≡ s.id
-    mine = whose t a.makes refl (send-asks t c)
+    mine = whose t a.makes other may
 
     by : (wants : List Wanted) → o.wants ≡ wants → Ends s w x shares
     by [] is =
         let nothing = none is in
+        let here : Settling s.fixed w w s.id (record { given = 0; full = 0; gone = 0 }) = settling-none a.makes.told.picked a.makes.legal (λ is-whole. a.makes.whole (subst IsWhole a.makes.told.part is-whole)) in
+        record {
+          settling = subst (λ (z : Knowing). Settling s.fixed w z s.id shares) (sym nothing.0) (subst (Settling s.fixed w w s.id) (sym nothing.1) here);
+          settled = ap (λ (z : Knowing). is_settled_own (own_of s.id (standing_seen s.fixed z))) nothing.0 ∙ quiet is;
+        }
+    by (want ∷ wants) is =
+        let few : 1 ≤ length o.wants = subst (λ (ws : List Wanted). 1 ≤ length ws) (sym is) (omega arith) in
+        let e = entry_by a.makes.session ask a.makes.reply in
+        let l = last a.makes in
+        let h = earlier w.seen in
+        let of : o.session ≡ s.id =
+        last-by s.fixed.pool h e o (subst (IsLegal s.fixed.pool) a.makes.seen a.makes.legal) (subst (λ (z : List Entry). OffersStand (standing_of s.fixed.pool z) o) a.makes.seen stand) (entry ∙ l.count) few ∙ mine in
+        let settles = some few in
+        record {
+          settling = subst (λ (n : ℕ). Settling s.fixed w x n shares) of settles.settling;
+          settled = subst (λ (n : ℕ). is_settled_own (own_of n (standing_seen s.fixed x)) ≡ true) of settles.settled;
+        }
+
+pub send-ends : {s : SessionState} {w x : Knowing} {port : PortId} {frames : List Frame} {shares : Shares} (o : OffersState) → IsThere None s → Sends s.own port frames
+    → Answers s.fixed s.knows w (Send port frames) (Offered o.short o.lone (dests_wanted o.wants)) → IsOffered (seen_in s.fixed w) frames o
+    → (o.wants ≡ [] → (x ≡ w) × (shares ≡ record { given = 0; full = 0; gone = 0 })) → (1 ≤ length o.wants → Settles s.fixed w x o.session shares) → Ends s w x shares
+send-ends {s} {w} {x} {port} {frames} {shares} o t c a sent none some = ends o t (send-asks t c) refl a sent.stand sent.entry quiet none some
+  where
+    quiet : o.wants ≡ [] → is_settled_own (own_of s.id (standing_seen s.fixed w)) ≡ true
+    quiet is =
         let said : a.makes.reply ≡ Offered o.short o.lone [] = a.reply_is ∙ ap (λ (ws : List Wanted). Offered o.short o.lone (dests_wanted ws)) is in
         let now = standing_of s.fixed.pool (earlier w.seen) in
         let steps : option_map session_and_reply (step now (Send port frames)) ≡ Some (a.makes.session, Offered o.short o.lone []) = subst (λ (r : Reply). option_map session_and_reply (step now (Send port frames)) ≡ Some (a.makes.session, r)) said a.makes.steps in
         let own = own_of s.id (standing_of s.fixed.pool s.knows.seen) in
-        let settled : is_settled_own (own_of s.id (standing_of s.fixed.pool w.seen)) ≡ true =
-        ap is_settled_own (own-next t a.makes mine) ∙ sends-none now frames (open_port now.world.ports port.0) own a.makes.session o.short o.lone steps t.settled in
-        let here : Settling s.fixed w w s.id (record { given = 0; full = 0; gone = 0 }) = settling-none a.makes.told.picked a.makes.legal (λ is-whole. a.makes.whole (subst IsWhole a.makes.told.part is-whole)) in
-        record {
-          settling = subst (λ (z : Knowing). Settling s.fixed w z s.id shares) (sym nothing.0) (subst (Settling s.fixed w w s.id) (sym nothing.1) here);
-          settled = ap (λ (z : Knowing). is_settled_own (own_of s.id (standing_seen s.fixed z))) nothing.0 ∙ settled;
-        }
-    by (want ∷ wants) is =
-        let few : 1 ≤ length o.wants = subst (λ (ws : List Wanted). 1 ≤ length ws) (sym is) (omega arith) in
-        let e = entry_by a.makes.session (Send port frames) a.makes.reply in
-        let l = last a.makes in
-        let h = earlier w.seen in
-        let of : o.session ≡ s.id =
-        last-by s.fixed.pool h e o (subst (IsLegal s.fixed.pool) a.makes.seen a.makes.legal) (subst (λ (z : List Entry). OffersStand (standing_of s.fixed.pool z) o) a.makes.seen sent.stand) (sent.entry ∙ l.count) few ∙ mine in
-        let ends = some few in
-        record {
-          settling = subst (λ (n : ℕ). Settling s.fixed w x n shares) of ends.settling;
-          settled = subst (λ (n : ℕ). is_settled_own (own_of n (standing_seen s.fixed x)) ≡ true) of ends.settled;
-        }
+        ap is_settled_own (own-next t a.makes (whose t a.makes refl (send-asks t c))) ∙ sends-none now frames (open_port now.world.ports port.0) own a.makes.session o.short o.lone steps t.settled
 
 pub send-there : {s : SessionState} {w x : Knowing} {port : PortId} {frames : List Frame} {reply : Reply} {shares : Shares} → IsThere None s → Sends s.own port frames
     → Answers s.fixed s.knows w (Send port frames) reply → Ends s w x shares → IsThere None (record s { knows = x; own = own_after_send port.0 s.own })
@@ -202,9 +215,10 @@ send-there {s} {w} {x} {port} {frames} {reply} {shares} t c a ends =
 
 -- ---- what it tells
 
-pub synced : {s : SessionState} {w x : Knowing} {ask : Ask} {reply : Reply} {shares : Shares} (new : OwnState) (a : Answers s.fixed s.knows w ask reply) → a.makes.session ≡ s.id → Settling s.fixed w x s.id shares
+unfoldable pub synced : {s : SessionState} {w x : Knowing} {ask : Ask} {reply : Reply} {shares : Shares} (new : OwnState) (a : Answers s.fixed s.knows w ask reply) → a.makes.session ≡ s.id → Settling s.fixed w x s.id shares
+    → is_settled_own (own_of s.id (standing_seen s.fixed x)) ≡ true
     → new ≡ own_by (length w.seen) (kept_ask ask) reply (arrivals_of (standing (before_in s.fixed w)) (kept_ask ask) reply) s.own → Synced s (record s { knows = x; own = new }) ask reply shares
-synced {s} {w} {x} {ask} {reply} {shares} new a mine settling made =
+synced {s} {w} {x} {ask} {reply} {shares} new a mine settling settled made =
     let m = a.makes in
     let n = length w.seen in
     let early : earlier w.seen ≡ take (length w.seen - 1) x.seen = sym (take-append-le (length w.seen - 1) w.seen settling.told.begins.0 (omega arith)) ∙ ap (take (length w.seen - 1)) settling.told.begins.1 in
@@ -221,12 +235,14 @@ synced {s} {w} {x} {ask} {reply} {shares} new a mine settling made =
       shares_are = settling.shares_are;
       whole = λ is. settling.whole (subst IsWhole (sym m.told.part) is);
       own = made ∙ ap (λ (h : List Entry). own_by (length w.seen) (kept_ask ask) reply (arrivals_of (standing (record_in s.fixed h)) (kept_ask ask) reply) s.own) early;
+      fabric = refl;
       fixed = refl;
       id = refl;
+      settled = settled;
     }
 
 -- the entry of an ask, by the session, and what it makes of what the session has
-abbrev IsMadeBy : SessionState → Knowing → Ask → Reply → OwnState → Type 0
+abbrev pub IsMadeBy : SessionState → Knowing → Ask → Reply → OwnState → Type 0
 IsMadeBy s w ask reply new = (a : Answers s.fixed s.knows w ask reply) × (a.makes.session ≡ s.id) × (new ≡ own_by (length w.seen) (kept_ask ask) reply (arrivals_of (standing (before_in s.fixed w)) (kept_ask ask) reply) s.own)
 
 pub sent-tells : {s : SessionState} {w x : Knowing} {port : PortId} {frames : List Frame} {shares : Shares} (o : OffersState) (sent : Sent) → IsThere None s → Sends s.own port frames
@@ -245,7 +261,7 @@ sent-tells {s} {w} {x} {port} {frames} {shares} o sent t c a offered ends entry 
     record {
       tx = c.tx;
       to = to;
-      synced = synced new made.0 made.1 (subst (Settling s.fixed w x s.id) (sym shares-are) ends.settling) made.2;
+      synced = synced new made.0 made.1 (subst (Settling s.fixed w x s.id) (sym shares-are) ends.settling) ends.settled made.2;
       entry = entry ∙ offered.entry;
       pushed = pushed ∙ c.count;
     }

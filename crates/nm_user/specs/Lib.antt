@@ -3,3 +3,7 @@ pub mod Calls
 pub mod Ports
 pub mod Opening
 pub mod Syncs
+pub mod Receives
+pub mod Leaving
+pub mod Receiving
+pub mod Offering

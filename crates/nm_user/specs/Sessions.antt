@@ -2,7 +2,7 @@
 use Rattle.std.specs.Prelude.{ℕ, true, ◌≡◌, ◌≤◌, length, Option, Some, None}
 use Rattle.nm_turn.specs.Numbered.{Stands}
 use Rattle.nm_types.specs.OwnPorts.{OwnState, empty_own}
-use Rattle.nm_own.specs.Regions.{SideState}
+use Rattle.nm_own.specs.Regions.{SideState, AllOf}
 use Rattle.vale_entry.specs.Legal.{Standing, IsLegal}
 use Rattle.vale_own.specs.Own.{own_of, is_settled_own}
 use Rattle.vale_own.specs.Side.{IsSoundSideOf}
@@ -42,8 +42,10 @@ pub record IsThere (shut : Option ℕ) (s : SessionState) : Type 0 where
   pub side : IsSoundSideOf s.fixed.pool s.id shut (own_of s.id (standing_seen s.fixed s.knows)) s.own
   pub settled : is_settled_own (own_of s.id (standing_seen s.fixed s.knows)) ≡ true
 
+-- its own side is there between two calls, and its buffers are of the fabric's region
 pub record IsSession (s : Inside) : Type 0 where
   pub pass : IsPassIn s.fabric.now s.pass
   pub own : SideState
   pub own_is : s.own ≡ Some own
+  pub region : AllOf (fixed_in s.fabric.now).region own
   pub there : IsThere None (session_seen s)

@@ -1,13 +1,22 @@
 //! Sessions: users of netmap(4) on the switches and pipes of one fabric.
 #![tactic(auto)]
 
+mod acts;
+mod leaving;
 mod opening;
 mod passes;
+mod putting;
 mod reading;
+mod receiving;
 mod sending;
 mod session;
+#[cfg(test)]
+mod tests;
 mod watching;
 mod writing;
 
+pub use leaving::Detached;
+pub use nm_own::SlotPlace;
+pub use receiving::Received;
 pub use sending::Sent;
 pub use session::Session;

@@ -1,10 +1,11 @@
 //! Ports are opened, with all memory taken first.
-ghost use Rattle.std.specs.Prelude.{◌≡◌, ◌++◌, length, IfOk, IfErr, IfSome, OnOk, Some};
+ghost use Rattle.std.specs.Prelude.{ℕ, ◌≡◌, ◌++◌, length, IfOk, IfErr, IfSome, OnOk, Some};
 ghost use Rattle.nm_types.specs.Names.{IsName};
 ghost use Rattle.nm_types.specs.Openings.{are_sizes, is_ring_size};
 ghost use Rattle.nm_types.specs.OwnSyncs.{own_after_open};
 ghost use Rattle.nm_region.specs.Buffers.{indices_of};
 ghost use Rattle.nm_own.specs.Opening.{blank_arrivals};
+ghost use Rattle.nm_own.specs.Regions.{AllOf, AreOf};
 ghost use Rattle.vale_entry.specs.declared.entry.Ask.TheVariants as asks;
 ghost use Rattle.vale_entry.specs.declared.entry.Reply.TheVariants as replies;
 ghost use Rattle.nm_user.specs.Calls.{Made};
@@ -65,6 +66,8 @@ fn add(own: &mut Option<OwnSide>, new: Option<NewPort>, opened: Opened) -> PortI
         (own_after_open opened.port.0 port.name port.sizes.tx port.sizes.rx
         (blank_arrivals (indices_of opened.tx.items ++ indices_of opened.extra.items))
         side.own))) }
+    ensures region { (region : ℕ) → IfSome own.old (AllOf region) → AreOf region opened.tx.items
+        → AreOf region opened.extra.items → IfSome own.new (AllOf region) }
 {
     let Opened {
         port,

@@ -2,7 +2,6 @@
 ghost use Rattle.std.specs.Prelude.{◌≡◌};
 ghost use Rattle.nm_turn.specs.Passes.{HasAll, Knows, forked_view, joined_view, kept_view};
 ghost use Rattle.nm_turn.specs.Shares.{IsWhole};
-ghost use Rattle.vale_entry.specs.Legal.{IsLegal};
 ghost use Rattle.vale_fabric.specs.Roots.{root_of};
 ghost use Rattle.vale_fabric.specs.Fabrics.{IsPassIn, knowing};
 
@@ -23,7 +22,6 @@ impl<'f> Session<'f> {
     /// Takes another pass into the session's, with its share and the sessions for which it speaks.
     pub fn join(&mut self, other: Pass)
         requires other { IsPassIn self.old.fabric other }
-        requires legal { IsLegal self.old.fixed.pool (knowing other).seen }
         ensures joined { self.new
             ≡ record self.old { knows = joined_view self.old.knows (knowing other) } }
         ensures known { Knows root_of self.new.knows.seen self.old.knows.seen self.old.knows.mine

@@ -1,16 +1,37 @@
 //! What a user reads of its own side.
-ghost use Rattle.std.specs.Prelude.{◌≡◌, option_map, option_and_then};
+ghost use Rattle.std.specs.Prelude.{◌≡◌, None, option_map, option_and_then};
 ghost use Rattle.std.specs.Option.{option_copied};
-ghost use Rattle.nm_types.specs.OwnPorts.{ring_at, port_with_id};
+ghost use Rattle.nm_types.specs.OwnPorts.{OwnPort, ring_at, port_with_id, port_with_name};
 ghost use Rattle.nm_types.specs.OwnEdits.{user_slot_at};
 ghost use Rattle.nm_own.specs.Own.{ring_of};
 ghost use Rattle.nm_own.specs.ExtraChain.{head_of_extras, extra_at, named_bytes};
+ghost use Rattle.nm_user.specs.Sessions.{IsThere};
 
 use crate::session::Session;
 use nm_ring::Ring;
-use nm_types::{PortId, Side, Slot};
+use nm_types::{Name, PortId, SessionId, Side, Slot};
 
 impl<'f> Session<'f> {
+    /// The number of the session's first entry. By what its pass has seen it has just what is on
+    /// its own side.
+    pub fn id(&self) -> SessionId
+        ensures id { result.0 ≡ self.now.id }
+        ensures there { IsThere None self.now }
+    {
+        self.id
+    }
+
+    /// The port of a name, if the session has it open.
+    pub fn port_named(&self, name: &Name) -> Option<PortId>
+        ensures { result
+            ≡ option_map (λ (p : OwnPort). p.id) (port_with_name self.now.own name.now) }
+    {
+        match &self.own {
+            Some(own) => own.port_named(name),
+            None => None,
+        }
+    }
+
     /// The positions of a port's ring, if the session has that port and the port that ring.
     pub fn ring(&self, port: PortId, side: Side) -> Option<&Ring>
         ensures { option_copied result ≡ option_map ring_of (ring_at side self.now.own port.0) }

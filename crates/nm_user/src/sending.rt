@@ -1,14 +1,20 @@
-//! A transmit sync of a switch's port: what was pushed is sent, and what it offers is settled.
-ghost use Rattle.std.specs.Prelude.{false, ◌≡◌, IsSome, IfSome, IfOk, IfErr, None};
+//! A transmit sync: what was pushed is sent, or put to a pipe's other end, and what it offers is
+//! settled.
+ghost use Rattle.std.specs.Prelude.{false, true, ◌≡◌, IsSome, IfSome, IfOk, IfErr, OnOk, None, Some};
 ghost use Rattle.nm_types.specs.declared.id.Side.TheVariants.{Tx};
 ghost use Rattle.nm_types.specs.Names.{is_pipe_name};
 ghost use Rattle.nm_types.specs.OwnPorts.{port_with_id, ring_at};
 ghost use Rattle.nm_own.specs.Own.{refusal_at};
-ghost use Rattle.nm_user.specs.Syncs.{IsSent, IsUnsent};
+ghost use Rattle.nm_own.specs.Sides.{TellsRefusal};
+ghost use Rattle.vale_entry.specs.declared.entry.Ask.TheVariants as asks;
+ghost use Rattle.vale_entry.specs.declared.entry.Reply.TheVariants as replies;
+ghost use Rattle.vale_entry.specs.Legal.{fits_fault};
+ghost use Rattle.nm_user.specs.Calls.{Made, MadeNone};
+ghost use Rattle.nm_user.specs.Syncs.{IsSent, IsTransmitted, IsUnsent, TransmitsNot};
 
 use crate::session::Session;
 use nm_io::Gate;
-use nm_types::{PortId, StepFault};
+use nm_types::{PortId, Side, StepFault, SyncFault};
 use std::sync::Wait;
 use vale_fabric::Shares;
 
@@ -17,7 +23,8 @@ use vale_fabric::Shares;
 pub struct Sent {
     /// The number of its entry.
     pub entry: u32,
-    /// The frames that were pushed, which are all sent.
+    /// The frames that were sent: all that were pushed, or at a pipe's end those that the other end
+    /// took.
     pub pushed: u32,
     /// Those of them that were too short to have addresses.
     pub short: u32,
@@ -25,6 +32,34 @@ pub struct Sent {
     pub lone: u32,
     /// What the ports that wanted them were granted.
     pub shares: Shares,
+}
+
+/// Whether the numbers of a refusal fit their fields.
+fn fits(fault: &SyncFault) -> bool
+    ensures { fits_fault fault.now ≡ true }
+{
+    match fault {
+        SyncFault::HeadOut { head, from, to } => {
+            (*head <= u32::MAX) & (*from <= u32::MAX) & (*to <= u32::MAX)
+        }
+        SyncFault::CurOut { cur, from, to } => {
+            (*cur <= u32::MAX) & (*from <= u32::MAX) & (*to <= u32::MAX)
+        }
+        SyncFault::Indirect { slot } | SyncFault::Fragment { slot } => *slot <= u32::MAX,
+        SyncFault::IndexOut { slot, idx }
+        | SyncFault::NotHeld { slot, idx }
+        | SyncFault::Doubled { slot, idx } => (*slot <= u32::MAX) & (*idx <= u32::MAX),
+        SyncFault::Unannounced { slot, idx, was } => {
+            (*slot <= u32::MAX) & (*idx <= u32::MAX) & (*was <= u32::MAX)
+        }
+        SyncFault::LongLen { slot, len } => (*slot <= u32::MAX) & (*len <= u16::MAX),
+        SyncFault::RecordFull {
+            what: _,
+            used,
+            want,
+        } => { (*used <= u64::MAX) & (*want <= u64::MAX) }
+        SyncFault::PeerGone | SyncFault::NoMemory => true,
+    }
 }
 
 impl<'f> Session<'f> {
@@ -66,5 +101,101 @@ impl<'f> Session<'f> {
             lone,
             shares,
         })
+    }
+
+    /// The first check that refuses a sync of a port's ring.
+    pub(crate) fn check(&mut self, port: PortId, side: Side) -> Result<(), SyncFault>
+        requires { IsSome (ring_at side self.old.own port.0) }
+        ensures refusal { TellsRefusal result (refusal_at side port.0 self.old.own) }
+        ensures same { self.new ≡ self.old }
+    {
+        match &mut self.own {
+            Some(own) => own.check(port, side),
+            None => unreachable!(),
+        }
+    }
+
+    /// Records that a check refused a sync of a port's ring, and resets the ring.
+    pub(crate) fn reset<R: Wait>(
+        &mut self,
+        rt: &R,
+        port: PortId,
+        side: Side,
+        fault: SyncFault,
+    ) -> Result<(), StepFault>
+        requires { refusal_at side port.0 self.old.own ≡ Some fault }
+        ensures made { OnOk result (Made self.old self.new (asks.Reset port side fault)
+            replies.Made) }
+        ensures full { IfErr result (MadeNone self.old self.new (asks.Reset port side fault)) }
+    {
+        fits(&fault);
+        self.fabric.reset(rt, &mut self.pass, port, side, &fault)?;
+        match &mut self.own {
+            Some(own) => own.reset(port, side),
+            None => unreachable!(),
+        }
+        Ok(())
+    }
+
+    /// Records that a check refused a transmit sync, and resets the ring. Answers with that
+    /// refusal, or with what the record has no room for, which leaves the ring as it is.
+    fn refuse_transmit<R: Wait>(&mut self, rt: &R, port: PortId, fault: SyncFault) -> SyncFault
+        requires { refusal_at Tx port.0 self.old.own ≡ Some fault }
+        ensures { TransmitsNot self.old self.new port.0 result }
+    {
+        match self.reset(rt, port, Side::Tx, fault) {
+            Ok(()) => fault,
+            Err(full) => full.into(),
+        }
+    }
+
+    /// Syncs a port's transmit ring. First `head` and `cur` are checked, then each pushed slot, in
+    /// order from the accepted head to before `head`. If no check refuses, `head` is the accepted
+    /// head, and the frames go on in their order:
+    ///
+    /// At a port that is no pipe's end all frames that were pushed are sent, with their bytes, and the
+    /// tail goes on by as many slots. A frame is not kept for a port that has no space for it.
+    ///
+    /// At an end of a pipe the frames that are still pushed from earlier syncs are offered to the
+    /// other end, and then those pushed now. It takes the first ones, as many as it has space for,
+    /// with their buffers. For each of them one of its idle buffers comes, with all bytes cleared,
+    /// and stands in the slot, and the tail goes on by as many slots. The frames that were not taken
+    /// stay pushed.
+    ///
+    /// What the ports and the monitors that want frames are granted is filled and completed before
+    /// the call returns. The gate is passed after each grant that gave a lease, after its filling and
+    /// after its completion.
+    ///
+    /// The error tells the first check that refused. `HeadOut` and `CurOut`: `head` or `cur` is out
+    /// of its range. `Indirect`: a slot asks for bytes that stand elsewhere. `IndexOut`: it names no
+    /// buffer of the pool. `NotHeld`: it names none of the session's named buffers. `Doubled`: an
+    /// earlier one names the same. `Unannounced`: it names another buffer than the one in its place,
+    /// and is not marked as changed. `LongLen`: its length passes a buffer's. `Fragment`: its
+    /// frame goes on in the next slot. The refusal is recorded and the ring is reset: `head` and
+    /// `cur` are the accepted head again, each of the user's slots names the buffer in its place, and
+    /// no frame went.
+    ///
+    /// `PeerGone` is no refusal of a check: the other end of the pipe is not open. This is recorded
+    /// too. `head` is the accepted head then, and the frames stay pushed.
+    ///
+    /// `RecordFull` and `NoMemory`: nothing is recorded, and the ring stays as it was, pushed slots
+    /// and all.
+    pub fn tx_sync<R: Wait, G: Gate>(
+        &mut self,
+        rt: &R,
+        port: PortId,
+        gate: &G,
+    ) -> Result<Sent, SyncFault>
+        requires { IsSome (ring_at Tx self.old.own port.0) }
+        ensures sent { IfOk result (IsTransmitted self.old self.new port.0) }
+        ensures refused { IfErr result (TransmitsNot self.old self.new port.0) }
+    {
+        if let Err(fault) = self.check(port, Side::Tx) {
+            return Err(self.refuse_transmit(rt, port, fault));
+        }
+        if self.is_pipe(port) {
+            return self.put_sync(rt, port, gate);
+        }
+        Ok(self.send_sync(rt, port, gate)?)
     }
 }

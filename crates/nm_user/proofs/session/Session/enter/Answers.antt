@@ -1,7 +1,7 @@
 use Rattle.std.proofs.Common.{◌≡◌, None, refl, subst, sym, ◌∙◌, ap, ℕ}
 use Rattle.nm_types.specs.OwnPorts.{OwnState, empty_own}
 use Rattle.vale_fabric.specs.Fabrics.{fixed_in, knowing}
-use Rattle.nm_own.specs.Regions.{SideState}
+use Rattle.nm_own.specs.Regions.{SideState, AllOf}
 use Rattle.nm_user.specs.Sessions.{IsThere}
 use Rattle.nm_user.proofs.After.{there-come}
 use Rattle.nm_user.proofs.session.Session.enter.Goals as goal
@@ -17,6 +17,7 @@ invariant_of-result g c =
       pass = c.enter.ensures.pass;
       own = c.in-Ok.own;
       own_is = refl;
+      region = subst (AllOf fixed.region) (sym c.in-Ok.ensures) tt;
       there = subst (λ (o : OwnState). IsThere None (record { fabric = c.args.fabric.now; fixed = fixed; knows = knowing c.enter.new.pass; id = c.in-Ok-enter.id.0; own = o })) own
           (subst (λ (n : ℕ). IsThere None (record { fabric = c.args.fabric.now; fixed = fixed; knows = knowing c.enter.new.pass; id = n; own = empty_own fixed.pool })) (sym c.in-Ok-enter.ensures.id) (there-come c.in-Ok-enter.ensures.made.makes));
     }

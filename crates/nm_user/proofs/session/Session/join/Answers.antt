@@ -1,16 +1,13 @@
-use Rattle.std.proofs.Common.{sym, subst}
-use Rattle.vale_entry.specs.Legal.{IsLegal}
 use Rattle.vale_fabric.specs.Fabrics.{knowing}
-use Rattle.nm_user.specs.Sessions.{SessionState}
 use Rattle.nm_user.proofs.Passing.{there-joined}
 use Rattle.nm_user.proofs.session.Session.join.Goals as goal
 
 pub invariant_of-self : goal.invariant_of-self
 invariant_of-self c =
-    let legal = subst (λ (s : SessionState). IsLegal s.fixed.pool (knowing c.args.other).seen) (sym c.self.view_is) c.requires.legal in
     record {
       pass = c.join.ensures.pass;
       own = c.self.invariant.own;
       own_is = c.self.invariant.own_is;
-      there = there-joined (knowing c.args.other) (knowing c.join.new.pass) c.self.invariant.there c.join.ensures.joined c.join.ensures.known.0 (c.join.ensures.legal c.self.invariant.there.legal legal);
+      region = c.self.invariant.region;
+      there = there-joined (knowing c.args.other) (knowing c.join.new.pass) c.self.invariant.there c.join.ensures.joined c.join.ensures.known.0 c.join.ensures.pass.2;
     }

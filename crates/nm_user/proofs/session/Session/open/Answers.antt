@@ -3,13 +3,13 @@ use Rattle.std.proofs.lemmas.Result.{err_from_is_err_and}
 use Rattle.nm_types.specs.declared.fault.OpenFault.{OpenFault}
 use Rattle.nm_types.specs.declared.id.PortId.{PortId}
 use Rattle.vale_entry.specs.declared.entry.Reply.TheVariants.{Opened}
-use Rattle.vale_fabric.specs.Fabrics.{knowing}
+use Rattle.vale_fabric.specs.Fabrics.{fixed_in, knowing}
 use Rattle.nm_user.specs.Sessions.{SessionState, session_seen, own_in}
 use Rattle.nm_user.specs.Calls.{Made}
 use Rattle.nm_user.specs.Ports.{OpensNot}
 use Rattle.nm_user.specs.Opening.{IsReady}
 use Rattle.nm_user.proofs.Plain.{may}
-use Rattle.nm_user.proofs.Opened.{opening, open-asks, can-add, own-added, side-there, opened-there, opened-made, unopened-there, unopened}
+use Rattle.nm_user.proofs.Opened.{opening, open-asks, can-add, own-added, side-there, opened-region, opened-there, opened-made, unopened-there, unopened}
 use Rattle.nm_user.proofs.session.Session.open.Goals as goal
 
 pub open-requires-clause-may : goal.open-requires-clause-may
@@ -26,6 +26,7 @@ invariant_of-self g c =
       pass = c.open.ensures.pass;
       own = c.self.invariant.own;
       own_is = c.self.invariant.own_is;
+      region = c.self.invariant.region;
       there = unopened-there s (knowing c.open.new.pass) c.args.name.now c.args.tx c.args.rx c.args.extra c.self.invariant.there asks c.in_err-opened.field-0.0 c.in_err-opened.ensures.unopened;
     }
 
@@ -62,6 +63,8 @@ invariant_of-self-2 g c =
       pass = c.open.ensures.pass;
       own = there.0;
       own_is = there.1;
+      region = opened-region (fixed_in c.self.inside.fabric.now).region c.self.inside.own c.add.new.own c.self.invariant.own there.0 c.in_ok-opened.opened.tx.items c.in_ok-opened.opened.extra.items c.self.invariant.own_is there.1 c.self.invariant.region
+          (c.add.ensures.region (fixed_in c.self.inside.fabric.now).region) c.in_ok-opened.ensures.hands.region_is;
       there = opened-there s w c.args.name.now c.args.tx c.args.rx c.args.extra c.self.invariant.there asks c.add.new.own added c.in_ok-opened.ensures.made;
     }
 

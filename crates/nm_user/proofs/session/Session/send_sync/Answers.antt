@@ -1,7 +1,9 @@
 use Rattle.std.proofs.Common.{refl, ap, arith}
+use Rattle.nm_types.specs.OwnSyncs.{own_after_send}
 use Rattle.nm_own.specs.Regions.{SideState}
 use Rattle.nm_user.specs.Sessions.{own_in, session_seen}
 use Rattle.nm_user.proofs.After.{there-still}
+use Rattle.nm_user.proofs.Written.{region-of, region-kept}
 use Rattle.nm_user.proofs.Sends.{ready, few-frames, may-send, unsent-at, send-ends, there-at, sent-at}
 use Rattle.nm_user.proofs.session.Session.send_sync.Goals as goal
 
@@ -16,7 +18,13 @@ send-requires-clause-may g c = may-send (ready c.args.port c.in_ok-batch.batch c
 pub invariant_of-self-in-Err : goal.invariant_of-self-in-Err
 invariant_of-self-in-Err g c =
     let k = ready c.args.port c.in_ok-batch.batch c.self.view_is (ap own_in c.in-Some.is) c.self.invariant.there c.requires.ring c.requires.name c.requires.passes c.in_ok-batch.ensures in
-    record { pass = c.send.ensures.pass; own = c.in-Some.own; own_is = refl; there = there-still k.there c.in-Err.ensures.full.none }
+    record {
+      pass = c.send.ensures.pass;
+      own = c.in-Some.own;
+      own_is = refl;
+      region = region-of c.self.inside c.in-Some.own c.self.invariant c.in-Some.is;
+      there = there-still k.there c.in-Err.ensures.full.none;
+    }
 
 pub returns-in-Err-clause-full : goal.returns-in-Err-clause-full
 returns-in-Err-clause-full g c =
@@ -31,6 +39,7 @@ invariant_of-self-2 g c =
       pass = c.settle_batch-shares.ensures.pass;
       own = c.sent.new.self;
       own_is = refl;
+      region = region-kept c.self.inside c.in-Some.own c.sent.new.self (own_after_send c.args.port.0 c.in-Some.own.own) c.self.invariant c.in-Some.is c.sent.ensures;
       there = there-at (session_seen c.self.inside) c.in-Ok.offers k (ap (λ (side : SideState). side.own) c.sent.ensures) c.in-Ok.ensures.made ends;
     }
 

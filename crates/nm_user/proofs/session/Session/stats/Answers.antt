@@ -14,5 +14,6 @@ invariant_of-self g c =
       pass = c.stats.ensures.pass;
       own = c.self.invariant.own;
       own_is = c.self.invariant.own_is;
+      region = c.self.invariant.region;
       there = stat-there c.args.port c.stats.result c.self.invariant.there (subst (λ (s : SessionState). IsSome (port_with_id s.own c.args.port.0)) (sym c.self.view_is) c.requires) c.stats.ensures.made c.stats.ensures.full;
     }

@@ -19,5 +19,6 @@ invariant_of-self g c =
       pass = c.watch.ensures.pass;
       own = c.self.invariant.own;
       own_is = c.self.invariant.own_is;
+      region = c.self.invariant.region;
       there = watch-there (session_seen c.self.inside) (knowing c.watch.new.pass) c.args.monitor c.args.target.now c.args.sides c.watch.result c.self.invariant.there asks c.watch.ensures.watched c.watch.ensures.unwatched;
     }

@@ -1,0 +1,14 @@
+use Rattle.std.proofs.Common.{sym, subst}
+use Rattle.nm_types.specs.OwnEdits.{with_all_back}
+use Rattle.vale_own.proofs.SideEditing.{edits-keep}
+use Rattle.nm_user.specs.Sessions.{IsSession}
+use Rattle.nm_user.proofs.Written.{session-edited}
+use Rattle.nm_user.proofs.session.Session.give_all_back.Goals as goal
+use Rattle.nm_user.proofs.session.Session.give_all_back.Goals.{in-Some, in_default}
+
+pub invariant_of-self : goal.invariant_of-self
+invariant_of-self c = elim c.match-self.branch [
+  | in-Some w ↦ subst IsSession (sym w.self-inside-is)
+      (session-edited c.self.inside w.in-Some.own w.give_all_back.new.self (with_all_back c.args.port.0) (edits-keep.all_back c.args.port.0) c.self.invariant w.in-Some.is w.give_all_back.ensures)
+  | in_default w ↦ subst IsSession (sym w.self-inside-is) c.self.invariant
+]

@@ -1,0 +1,107 @@
+//! A session's ports are closed, and it leaves.
+ghost use Rattle.std.specs.Prelude.{◌≡◌, IsSome, option_map, slice_get, map, nat_eq};
+ghost use Rattle.std.specs.List.{IsDistinct};
+ghost use Rattle.nm_types.specs.OwnPorts.{OwnPort, port_with_id};
+ghost use Rattle.nm_region.specs.Buffers.{indices_of};
+ghost use Rattle.vale_entry.specs.declared.entry.Ask.TheVariants as asks;
+ghost use Rattle.vale_entry.specs.declared.entry.Reply.TheVariants as replies;
+ghost use Rattle.vale_own.specs.Side.{id_of};
+ghost use Rattle.vale_core.specs.BookView.{AreOf};
+ghost use Rattle.vale_fabric.specs.Fabrics.{IsPassIn, fixed_in, knowing, AnswersIn};
+ghost use Rattle.nm_user.specs.Leaving.{MayWait, IsDetached, IsLeft};
+
+use crate::session::Session;
+use nm_region::Buf;
+use nm_types::{Chain, PortId};
+use std::sync::Wait;
+use vale_core::LeasesOut;
+use vale_fabric::{Fabric, Pass};
+
+/// What closing a port told.
+#[derive(Clone, Copy, Debug, PartialEq, Eq)]
+pub struct Detached {
+    /// The frames that were granted to the port and not read.
+    pub unread: u32,
+    /// What was found of the list of its extra buffers.
+    pub chain: Chain,
+}
+
+/// Finishes a port that is shut, once no lease of it is out. Answers how many frames nobody read.
+fn finish<R: Wait>(
+    rt: &R,
+    fabric: &Fabric,
+    pass: &mut Pass,
+    port: PortId,
+    bufs: Vec<Buf>,
+    chain: Chain,
+) -> u32
+    requires pass { IsPassIn fabric.now pass.old }
+    requires may { MayWait (fixed_in fabric.now) (knowing pass.old)
+        (asks.Finish port (indices_of bufs.items) chain) }
+    requires region { AreOf (fixed_in fabric.now).region bufs.items }
+    ensures pass { IsPassIn fabric.now pass.new }
+    ensures made { AnswersIn fabric.now pass.old pass.new
+        (asks.Finish port (indices_of bufs.items) chain) (replies.Unread result) }
+{
+    let mut bufs = bufs;
+    for _ in rt.forever() {
+        match fabric.finish(rt, pass, port, bufs, chain) {
+            Ok(unread) => return unread,
+            Err(LeasesOut { n: _, bufs: back }) => bufs = back,
+        }
+    }
+    unreachable!()
+}
+
+impl<'f> Session<'f> {
+    /// Closes a port: it is shut, and finished once no lease of it is out.
+    pub fn detach<R: Wait>(&mut self, rt: &R, port: PortId) -> Detached
+        requires { IsSome (port_with_id self.old.own port.0) }
+        ensures { IsDetached self.old self.new port.0 result }
+    {
+        self.fabric.shut(rt, &mut self.pass, port);
+        let (bufs, chain) = match &mut self.own {
+            Some(own) => own.close_port(port),
+            None => unreachable!(),
+        };
+        let unread = finish(rt, self.fabric, &mut self.pass, port, bufs, chain);
+        Detached { unread, chain }
+    }
+
+    /// The port that was opened first of those that the session has.
+    fn first_port(&self) -> Option<PortId>
+        ensures first { result
+            ≡ option_map (λ (p : OwnPort). p.id) (slice_get self.now.own.ports 0) }
+        ensures apart { IsDistinct nat_eq (map id_of self.now.own.ports) }
+    {
+        match &self.own {
+            Some(own) => own.first_port(),
+            None => None,
+        }
+    }
+
+    /// Closes the ports in the order in which they were opened, and leaves.
+    pub fn leave<R: Wait>(self, rt: &R) -> Pass
+        ensures pass { IsPassIn self.entry.fabric result }
+        ensures left { IsLeft self.entry (knowing result) }
+    {
+        let mut session = self;
+        while let Some(port) = session.first_port() {
+            session.detach(rt, port);
+        }
+        let Session {
+            fabric,
+            mut pass,
+            id,
+            user: _,
+            own,
+            alloc: _,
+        } = session;
+        fabric.leave(rt, &mut pass, id);
+        match own {
+            Some(own) => own.close(),
+            None => unreachable!(),
+        }
+        pass
+    }
+}

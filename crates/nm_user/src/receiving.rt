@@ -1,0 +1,308 @@
+//! A receive sync: the buffers of the pushed slots go back, and what was granted to the port is
+//! published in its ring.
+ghost use Rattle.std.specs.Prelude.{ℕ, true, ◌≡◌, ◌≤◌, ◌<◌, ◌^◌, [], length, fold};
+ghost use Rattle.std.specs.Prelude.{IsSome, IfSome, IfOk, IfErr, Some, None};
+ghost use Rattle.std.specs.Vec.{vec_capacity};
+ghost use Rattle.nm_types.specs.declared.id.Side.TheVariants.{Rx};
+ghost use Rattle.nm_types.specs.Faults.{sync_fault_of};
+ghost use Rattle.nm_types.specs.Names.{is_pipe_name};
+ghost use Rattle.nm_types.specs.OwnPorts.{port_with_id, ring_at};
+ghost use Rattle.nm_types.specs.OwnSyncs.{back_on, own_after_receive};
+ghost use Rattle.nm_region.specs.Buffers.{indices_of};
+ghost use Rattle.nm_own.specs.Opening.{IsNew};
+ghost use Rattle.nm_own.specs.Own.{refusal_at};
+ghost use Rattle.nm_own.specs.Receives.{can_receive, own_with_arrival};
+ghost use Rattle.nm_own.specs.Regions.{AllOf, AreOf, IsBufferOf};
+ghost use Rattle.vale_line.specs.Gots.{buffers_of};
+ghost use Rattle.vale_core.specs.Reading.{read_ask};
+ghost use Rattle.vale_fabric.specs.Fabrics.{IsPassIn, fixed_in, knowing, MayIn, RefusesIn};
+ghost use Rattle.nm_user.specs.Receives.{IsReceived, ReceivesNot};
+ghost use Rattle.nm_user.specs.Receiving.{arrival_in, arrivals_in, CanCome, IsRead};
+
+use crate::session::Session;
+use nm_io::Gate;
+use nm_own::OwnSide;
+use nm_region::Buf;
+use nm_types::{PortId, Side, StepFault, SyncFault};
+use std::alloc::{AllocError, Global};
+use std::sync::Wait;
+use vale_core::Synced;
+use vale_fabric::{Fabric, Pass};
+use vale_line::Got;
+
+/// What a receive sync told.
+#[derive(Clone, Copy, Debug, PartialEq, Eq)]
+pub struct Received {
+    /// The number of its entry.
+    pub entry: u32,
+    /// The frames that came.
+    pub gave: u32,
+    /// The buffers that went back.
+    pub returned: u32,
+}
+
+/// Memory for the buffers that a receive sync gives back, and for those in whose places they stand.
+struct BackRoom {
+    back: Vec<Buf>,
+    notes: Vec<u32>,
+}
+
+impl BackRoom {
+    /// Room for `count` buffers.
+    fn new(alloc: Global, count: usize) -> Result<BackRoom, AllocError>
+        ensures back { IfOk result (λ room. room.back.items ≡ []) }
+        ensures notes { IfOk result (λ room. room.notes.items ≡ []) }
+        ensures back_room { IfOk result (λ room. count ≤ vec_capacity room.back) }
+        ensures notes_room { IfOk result (λ room. count ≤ vec_capacity room.notes) }
+    {
+        let notes = Vec::with_capacity(alloc, count)?;
+        let back = Vec::with_capacity(alloc, count)?;
+        Ok(BackRoom { back, notes })
+    }
+}
+
+/// Gives buffers back at a port, and takes what is ready there.
+fn read<R: Wait>(
+    fabric: &Fabric,
+    rt: &R,
+    pass: &mut Pass,
+    port: PortId,
+    is_pipe: bool,
+    back: Vec<Buf>,
+) -> Result<Synced, (StepFault, Vec<Buf>)>
+    requires pass { IsPassIn fabric.now pass.old }
+    requires may { MayIn fabric.now pass.old (read_ask is_pipe port (indices_of back.items)) }
+    requires region { AreOf (fixed_in fabric.now).region back.items }
+    ensures pass { IsPassIn fabric.now pass.new }
+    ensures read { IfOk result (IsRead (fixed_in fabric.now) (knowing pass.old)
+        (knowing pass.new) (read_ask is_pipe port (indices_of back.items)) port) }
+    ensures full { IfErr result (λ refused. RefusesIn fabric.now pass.old pass.new
+        (read_ask is_pipe port (indices_of back.items)) refused.0) }
+    ensures back { IfErr result (λ refused. refused.1 ≡ back) }
+{
+    if is_pipe {
+        fabric.pipe_get(rt, pass, port, back)
+    } else {
+        fabric.sync(rt, pass, port, back)
+    }
+}
+
+/// Gives back the buffers that the pushed slots of a port's receive ring name, and takes what is
+/// ready there. Answers with the own side and the number of those buffers. Where that is refused, the
+/// own side stays as it was.
+fn give_and_take<R: Wait>(
+    fabric: &Fabric,
+    rt: &R,
+    pass: &mut Pass,
+    own: OwnSide,
+    port: PortId,
+    is_pipe: bool,
+    room: BackRoom,
+) -> (OwnSide, u32, Result<Synced, StepFault>)
+    requires pass { IsPassIn fabric.now pass.old }
+    requires may { MayIn fabric.now pass.old
+        (read_ask is_pipe port (back_on port.0 own.own)) }
+    requires region { AllOf (fixed_in fabric.now).region own }
+    requires ring { IsSome (ring_at Rx own.own port.0) }
+    requires passes { refusal_at Rx port.0 own.own ≡ None }
+    requires few { length (back_on port.0 own.own) < 2 ^ 32 }
+    requires back { room.back.items ≡ [] }
+    requires notes { room.notes.items ≡ [] }
+    requires back_room { length (back_on port.0 own.own) ≤ vec_capacity room.back }
+    requires notes_room { length (back_on port.0 own.own) ≤ vec_capacity room.notes }
+    ensures pass { IsPassIn fabric.now pass.new }
+    ensures returned { result.1 ≡ length (back_on port.0 own.own) }
+    ensures own { IfOk result.2 (λ synced.
+        result.0.own ≡ own_after_receive port.0 [] own.own) }
+    ensures region { IfOk result.2 (λ synced. AllOf (fixed_in fabric.now).region result.0) }
+    ensures read { IfOk result.2 (IsRead (fixed_in fabric.now) (knowing pass.old)
+        (knowing pass.new) (read_ask is_pipe port (back_on port.0 own.own)) port) }
+    ensures same { IfErr result.2 (λ fault. result.0 ≡ own) }
+    ensures full { IfErr result.2 (RefusesIn fabric.now pass.old pass.new
+        (read_ask is_pipe port (back_on port.0 own.own))) }
+{
+    let BackRoom { mut back, notes } = room;
+    let lent = own.lend_back(port, &mut back, notes);
+    let returned = back.len() as u32;
+    match read(fabric, rt, pass, port, is_pipe, back) {
+        Ok(synced) => (lent.received(), returned, Ok(synced)),
+        Err((fault, mut back)) => {
+            let own = lent.undo(&mut back);
+            back.destroy_empty();
+            (own, returned, Err(fault))
+        }
+    }
+}
+
+/// Publishes a frame in the next slot of a port's receive ring.
+fn publish(own: &mut OwnSide, port: PortId, got: Got)
+    requires room { can_receive port.0 own.old.own ≡ true }
+    requires new { IsNew own.old.own got.buf.index }
+    ensures own { own.new.own ≡ own_with_arrival port.0 own.old.own (arrival_in got) }
+    ensures region { (region : ℕ) → AllOf region own.old → IsBufferOf region got.buf
+        → AllOf region own.new }
+{
+    let Got { buf, len, rest: _ } = got;
+    let frame = buf.bytes().len().min(len as usize) as u16;
+    own.receive(port, buf, frame);
+}
+
+/// Publishes frames in their order.
+fn publish_all(own: &mut OwnSide, port: PortId, mut gots: Vec<Got>)
+    requires come { CanCome port.0 own.old.own (arrivals_in gots.items) }
+    ensures own { own.new.own
+        ≡ fold (own_with_arrival port.0) own.old.own (arrivals_in gots.items) }
+    ensures region { (region : ℕ) → AllOf region own.old → AreOf region (buffers_of gots.items)
+        → AllOf region own.new }
+{
+    gots.reverse();
+    while let Some(got) = gots.pop() {
+        publish(own, port, got);
+    }
+    gots.destroy_empty();
+}
+
+/// Puts an own side back that was away.
+pub(crate) fn put_back(away: &mut Option<OwnSide>, own: OwnSide)
+    requires { away.old ≡ None }
+    ensures { away.new ≡ Some own }
+{
+    match away.replace(own) {
+        None => {}
+        Some(_other) => unreachable!(),
+    }
+}
+
+impl<'f> Session<'f> {
+    /// Memory for a receive sync that no check refuses.
+    fn back_room(&self, port: PortId) -> Result<BackRoom, AllocError>
+        requires there { IsSome (ring_at Rx self.now.own port.0) }
+        requires passes { refusal_at Rx port.0 self.now.own ≡ None }
+        ensures back { IfOk result (λ room. room.back.items ≡ []) }
+        ensures notes { IfOk result (λ room. room.notes.items ≡ []) }
+        ensures back_room { IfOk result (λ room.
+            length (back_on port.0 self.now.own) ≤ vec_capacity room.back) }
+        ensures notes_room { IfOk result (λ room.
+            length (back_on port.0 self.now.own) ≤ vec_capacity room.notes) }
+    {
+        match self.ring(port, Side::Rx) {
+            Some(ring) => BackRoom::new(self.alloc, ring.user_range().1 as usize),
+            None => unreachable!(),
+        }
+    }
+
+    /// Makes a receive sync that no check refuses, of a pipe end or of another port. The gate is
+    /// passed as frames go to the port's monitor: after each grant that gave a lease, after its
+    /// filling and after its completion. If it is refused nothing has changed.
+    pub(crate) fn receive<R: Wait, G: Gate>(
+        &mut self,
+        rt: &R,
+        port: PortId,
+        is_pipe: bool,
+        gate: &G,
+    ) -> Result<Received, StepFault>
+        requires there { IsSome (port_with_id self.old.own port.0) }
+        requires kind { IfSome (port_with_id self.old.own port.0)
+            (λ p. is_pipe_name p.name ≡ is_pipe) }
+        requires passes { refusal_at Rx port.0 self.old.own ≡ None }
+        ensures received { IfOk result (IsReceived self.old self.new port.0) }
+        ensures full { IfErr result (λ fault.
+            ReceivesNot self.old self.new port.0 (sync_fault_of fault)) }
+    {
+        let room = self.back_room(port)?;
+        let own = match self.own.take() {
+            Some(own) => own,
+            None => unreachable!(),
+        };
+        let (mut own, returned, read) = give_and_take(
+            self.fabric,
+            rt,
+            &mut self.pass,
+            own,
+            port,
+            is_pipe,
+            room,
+        );
+        let Synced { got, offers } = match read {
+            Ok(synced) => synced,
+            Err(fault) => {
+                put_back(&mut self.own, own);
+                return Err(fault);
+            }
+        };
+        let (entry, gave) = (offers.entry(), got.len() as u32);
+        self.fabric
+            .settle_gots(rt, &mut self.pass, gate, self.user, offers, &got);
+        publish_all(&mut own, port, got);
+        put_back(&mut self.own, own);
+        Ok(Received {
+            entry,
+            gave,
+            returned,
+        })
+    }
+
+    /// Whether a port is an end of a pipe.
+    pub(crate) fn is_pipe(&self, port: PortId) -> bool
+        requires { IsSome (port_with_id self.now.own port.0) }
+        ensures { IfSome (port_with_id self.now.own port.0)
+            (λ p. is_pipe_name p.name ≡ result) }
+    {
+        let name = match &self.own {
+            Some(own) => own.name(port),
+            None => unreachable!(),
+        };
+        match name {
+            Some(name) => name.is_pipe(),
+            None => unreachable!(),
+        }
+    }
+
+    /// Records that a check refused a receive sync, and resets the ring. Answers with that refusal,
+    /// or with what the record has no room for, which leaves the ring as it is.
+    fn refuse_receive<R: Wait>(&mut self, rt: &R, port: PortId, fault: SyncFault) -> SyncFault
+        requires { refusal_at Rx port.0 self.old.own ≡ Some fault }
+        ensures { ReceivesNot self.old self.new port.0 result }
+    {
+        match self.reset(rt, port, Side::Rx, fault) {
+            Ok(()) => fault,
+            Err(full) => full.into(),
+        }
+    }
+
+    /// Syncs a port's receive ring. First `head` and `cur` are checked, then each pushed slot, in
+    /// order from the accepted head to before `head`. If no check refuses, the buffers that the
+    /// pushed slots name go back to the port's line, `head` is the accepted head, and the frames that
+    /// are ready there are published from the tail on: of a switch's port, a pipe's end or a monitor
+    /// alike. What the port's own monitor wants of them is granted, filled and completed before the
+    /// call returns.
+    ///
+    /// The gate is passed as frames go to the monitor: after each grant that gave a lease, after its
+    /// filling and after its completion.
+    ///
+    /// The error tells the first check that refused. `HeadOut` and `CurOut`: `head` or `cur` is out
+    /// of its range. `IndexOut`: a slot names no buffer of the pool. `NotHeld`: it names none of the
+    /// session's named buffers. `Doubled`: an earlier one names the same. `Unannounced`: it names
+    /// another buffer than the one in its place, and is not marked as changed. The refusal is
+    /// recorded and the ring is reset: `head` and `cur` are the accepted head again, each of the
+    /// user's slots names the buffer in its place, nothing went back and no frame came.
+    ///
+    /// `RecordFull` and `NoMemory` are no refusals of a check. Nothing is recorded then, and the
+    /// ring stays as it was, pushed slots and all.
+    pub fn rx_sync<R: Wait, G: Gate>(
+        &mut self,
+        rt: &R,
+        port: PortId,
+        gate: &G,
+    ) -> Result<Received, SyncFault>
+        requires { IsSome (port_with_id self.old.own port.0) }
+        ensures received { IfOk result (IsReceived self.old self.new port.0) }
+        ensures refused { IfErr result (ReceivesNot self.old self.new port.0) }
+    {
+        if let Err(fault) = self.check(port, Side::Rx) {
+            return Err(self.refuse_receive(rt, port, fault));
+        }
+        let is_pipe = self.is_pipe(port);
+        Ok(self.receive(rt, port, is_pipe, gate)?)
+    }
+}
