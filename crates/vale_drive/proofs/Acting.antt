@@ -119,7 +119,7 @@ own-same b own old new same is =
     let wants = ap wants_left same.sent in
     let room = is.lease_room in
     let more = same.lease_room in
-    let enough = is.rooms_enough in
+    let enough = is.room_each in
     let rooms = ap length same.rooms in
     record {
       offers = subst (HasOffers own.offers) (sym same.sent) is.offers;
@@ -129,7 +129,7 @@ own-same b own old new same is =
       region_is = subst (λ (bufs : List Buffer). AreOf b.region bufs) (sym same.bufs) is.region_is;
       lease_room = omega (arith, leases, wants, room, more);
       rooms = subst (Each IsRoom) (sym same.rooms) is.rooms;
-      rooms_enough = omega (arith, enough, rooms);
+      room_each = omega (arith, enough, rooms);
     }
 
 pub user-same : (b : Recorded) (old new : User) → SameUser old new → IsUser b old → IsUser b new

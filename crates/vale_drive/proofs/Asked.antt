@@ -1,5 +1,6 @@
 -- A session at a place acts, and the drive's sessions have what is their own.
 use Rattle.std.proofs.Common.{ℕ, zero, suc, get_or, ◌≡◌, ◌==◌, Bool, true, false, List, [], ◌∷◌, ◌||◌, arith, map, slice_get, slice_set, position, Option, Some, None, option_map, Result, Ok, Err, is_some, refl, sym, ◌∙◌, ap, subst}
+use Rattle.std.specs.Prelude.{find}
 use Rattle.std.specs.List.{list_any}
 use Rattle.std.proofs.lemmas.Bool.{eqb-true}
 use Rattle.std.proofs.lemmas.List.{length-map}
@@ -10,7 +11,7 @@ use Rattle.nm_types.specs.declared.id.SessionId.{SessionId}
 use Rattle.vale_entry.specs.declared.entry.Ask.{Ask}
 use Rattle.vale_entry.specs.declared.entry.Ask.TheVariants.{Shut}
 use Rattle.vale_entry.specs.declared.entry.Reply.{Reply}
-use Rattle.vale_entry.specs.World.{Port, open_port, is_open_at, is_settled, changed_if}
+use Rattle.vale_entry.specs.World.{Port, open_port, is_settled, changed_if}
 use Rattle.vale_entry.specs.Closing.{shut}
 use Rattle.vale_entry.specs.Laws.{IsPortOf}
 use Rattle.vale_entry.specs.Legal.{Standing, Outcome, step, kept_ask, is_enabled, is_met, can_shut, world_of, IsLegal}
@@ -93,22 +94,22 @@ acted b after users place old new ask (Ok reply) k here id is served other no-en
 acted b after users place old new ask (Err fault) k here id is served other no-enter asker =
     subst (λ (r : Recorded). AreUsersOf r (slice_set users place new)) (sym served.1) (set-same users place b old new k here id (subst (λ (r : Recorded). IsUser r new) served.1 is))
 
--- the session of an open port stands among those of the drive
+-- the session of a port stands among those of the drive
 pub any-user : (users : List User) (session : ℕ) → list_any (λ s. s == session) (map id_of_user users) ≡ list_any (is_user session) users
 any-user [] session = refl
 any-user (u ∷ us) session = ap (λ (t : Bool). (u.id.0 == session) || t) (any-user us session)
 
-pub owner-there : (b : Recorded) (users : List User) (port : Port) (id : ℕ) → AreUsersOf b users → open_port (standing b).world.ports id ≡ Some port → position (is_user port.session) users ≡ None → ⊥
-owner-there b users port id k here none =
-    let owned = each-find (IsPortOf (world_of b.pool b.entries).sessions) (is_open_at id) (world_of b.pool b.entries).ports port (world-numbered b.pool b.entries).ports_owned here in
+pub owner-there : (b : Recorded) (users : List User) (test : Port → Bool) (port : Port) → AreUsersOf b users → find test (standing b).world.ports ≡ Some port → position (is_user port.session) users ≡ None → ⊥
+owner-there b users test port k here none =
+    let owned = each-find (IsPortOf (world_of b.pool b.entries).sessions) test (world_of b.pool b.entries).ports port (world-numbered b.pool b.entries).ports_owned here in
     let off = none-passes (is_user port.session) users none in
     let on = sym (any-user users port.session) ∙ (ap (list_any (λ s. s == port.session)) k.ids ∙ owned) in
     absurd cc
 
-seen_by : (b : Recorded) (users : List User) (at : PortId) (seen : PortSeen) (place : ℕ) (found : Option Port) → open_port (standing b).world.ports at.0 ≡ found → IsSeenAs found (Some seen)
-    → position (is_user seen.session.0) users ≡ Some place → IsOwner b users at seen place
-seen_by b users at seen place None e is here = absurd is
-seen_by b users at seen place (Some port) e is here =
+seen_by : (users : List User) (seen : PortSeen) (place : ℕ) (whole found : Option Port) → whole ≡ found → IsSeenAs found (Some seen)
+    → position (is_user seen.session.0) users ≡ Some place → IsOwner users whole seen place
+seen_by users seen place whole None e is here = absurd is
+seen_by users seen place whole (Some port) e is here =
     let f = found-at (is_user seen.session.0) users place here in
     record {
       user = f.it;
@@ -117,25 +118,21 @@ seen_by b users at seen place (Some port) e is here =
       asker = record { port = port; found_is = e; is_seen = is; mine = sym is.session ∙ sym (eqb-true f.it.id.0 seen.session.0 f.passes) };
     }
 
-pub owner-is : (b : Recorded) (users : List User) (at : PortId) (seen : PortSeen) (place : ℕ) → IsSeenAs (open_port (standing b).world.ports at.0) (Some seen)
-    → position (is_user seen.session.0) users ≡ Some place → IsOwner b users at seen place
-owner-is b users at seen place is here = seen_by b users at seen place (open_port (standing b).world.ports at.0) refl is here
+pub owner-is : (users : List User) (found : Option Port) (seen : PortSeen) (place : ℕ) → IsSeenAs found (Some seen) → position (is_user seen.session.0) users ≡ Some place → IsOwner users found seen place
+owner-is users found seen place is here = seen_by users seen place found found refl is here
 
-unseen_by : (found : Option Port) → IsSeenAs found None → found ≡ None
-unseen_by None is = refl
-unseen_by (Some port) is = absurd is
+pub not-there : (found : Option Port) → IsSeenAs found None → found ≡ None
+not-there None is = refl
+not-there (Some port) is = absurd is
 
-pub not-open : (b : Recorded) (at : PortId) → IsSeenAs (open_port (standing b).world.ports at.0) None → open_port (standing b).world.ports at.0 ≡ None
-not-open b at is = unseen_by (open_port (standing b).world.ports at.0) is
-
-missing_by : (b : Recorded) (users : List User) (at : PortId) (seen : PortSeen) (found : Option Port) → AreUsersOf b users → open_port (standing b).world.ports at.0 ≡ found → IsSeenAs found (Some seen)
+missing_by : (b : Recorded) (users : List User) (test : Port → Bool) (seen : PortSeen) (found : Option Port) → AreUsersOf b users → find test (standing b).world.ports ≡ found → IsSeenAs found (Some seen)
     → position (is_user seen.session.0) users ≡ None → ⊥
-missing_by b users at seen None k e is none = absurd is
-missing_by b users at seen (Some port) k e is none = owner-there b users port at.0 k e (subst (λ (n : ℕ). position (is_user n) users ≡ None) is.session none)
+missing_by b users test seen None k e is none = absurd is
+missing_by b users test seen (Some port) k e is none = owner-there b users test port k e (subst (λ (n : ℕ). position (is_user n) users ≡ None) is.session none)
 
-pub never-missing : (b : Recorded) (users : List User) (at : PortId) (seen : PortSeen) → AreUsersOf b users → IsSeenAs (open_port (standing b).world.ports at.0) (Some seen)
+pub never-missing : (b : Recorded) (users : List User) (test : Port → Bool) (seen : PortSeen) → AreUsersOf b users → IsSeenAs (find test (standing b).world.ports) (Some seen)
     → position (is_user seen.session.0) users ≡ None → ⊥
-never-missing b users at seen k is none = missing_by b users at seen (open_port (standing b).world.ports at.0) k refl is none
+never-missing b users test seen k is none = missing_by b users test seen (find test (standing b).world.ports) k refl is none
 
 -- ---- the steps of these
 
@@ -148,22 +145,24 @@ pub mine-of : (b : Recorded) (user : User) (ask : Ask) (steps : Steps b ask) (at
     → asker_of (standing b) ask ≡ option_map owner_of_port (open_port (standing b).world.ports at.0) → user.id.0 ≡ steps.makes.session
 mine-of b user ask steps at m other whose = sym m.mine ∙ mine-by b ask steps.makes (open_port (standing b).world.ports at.0) m.port steps.is other whose m.found_is
 
-pub asker-at : (b : Recorded) (user : User) (found : Option Port) (seen : PortSeen) → IsAsker user found seen → option_map owner_of_port found ≡ Some user.id.0
-asker-at b user found seen asker = ap (option_map owner_of_port) asker.found_is ∙ ap (λ (n : ℕ). Some n) asker.mine
+asker-at : (user : User) (found : Option Port) (seen : PortSeen) → IsAsker user found seen → option_map owner_of_port found ≡ Some user.id.0
+asker-at user found seen asker = ap (option_map owner_of_port) asker.found_is ∙ ap (λ (n : ℕ). Some n) asker.mine
 
 -- the session at the place is that of the port
-pub record OwnerAt (b : Recorded) (users : List User) (at : PortId) (place : ℕ) (user : User) : Type 0 where
+pub record OwnerAt (users : List User) (found : Option Port) (seen : PortSeen) (place : ℕ) (user : User) : Type 0 where
   pub here : slice_get users place ≡ Some user
-  pub asker : option_map owner_of_port (open_port (standing b).world.ports at.0) ≡ Some user.id.0
-  pub mine : IsMine user (open_port (standing b).world.ports at.0)
+  pub asker : option_map owner_of_port found ≡ Some user.id.0
+  pub seen_so : IsAsker user found seen
+  pub mine : IsMine user found
 
-pub owner-at : (b : Recorded) (users : List User) (at : PortId) (seen : PortSeen) (place : ℕ) (user : User) → IsOwner b users at seen place → user ≡ get_or users place user
-    → OwnerAt b users at place user
-owner-at b users at seen place user o is =
+pub owner-at : (users : List User) (found : Option Port) (seen : PortSeen) (place : ℕ) (user : User) → IsOwner users found seen place → user ≡ get_or users place user
+    → OwnerAt users found seen place user
+owner-at users found seen place user o is =
     let same : o.user ≡ user = sym (get_or_from_slice_get users place o.user user o.here) ∙ sym is in
-    subst (OwnerAt b users at place) same (record {
+    subst (OwnerAt users found seen place) same (record {
       here = o.here;
-      asker = asker-at b o.user (open_port (standing b).world.ports at.0) seen o.asker;
+      asker = asker-at o.user found seen o.asker;
+      seen_so = o.asker;
       mine = record { port = o.asker.port; found_is = o.asker.found_is; mine = o.asker.mine };
     })
 

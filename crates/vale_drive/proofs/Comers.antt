@@ -1,5 +1,5 @@
 -- A session comes, and has nothing.
-use Rattle.std.proofs.Common.{ℕ, ◌≡◌, ◌<◌, ◌≤◌, ◌+◌, ◌^◌, true, List, [], ◌∷◌, ◌++◌, length, Option, Some, None, option_map, refl, sym, ◌∙◌, ap, subst, arith, length-append}
+use Rattle.std.proofs.Common.{ℕ, ◌≡◌, ◌<◌, ◌≤◌, ◌+◌, ◌^◌, true, List, [], ◌∷◌, ◌++◌, length, Option, Some, option_map, refl, sym, ◌∙◌, ap, subst, arith, length-append}
 use Rattle.std.specs.List.{AllByRecursion as Each}
 use Rattle.std.proofs.lemmas.List.{map-append}
 use Rattle.nm_types.specs.declared.fault.StepFault.TheVariants as steps
@@ -16,16 +16,8 @@ use Rattle.vale_core.specs.Recorded.{Recorded, standing, entry_of, after_ask, Is
 use Rattle.vale_core.proofs.Comings.{enter-made}
 use Rattle.vale_drive.specs.declared.users.User.{User}
 use Rattle.vale_drive.specs.DriveView.{AreUsersOf}
-use Rattle.vale_drive.specs.Users.{id_of_user, wants_left, HasOwn, IsUser}
+use Rattle.vale_drive.specs.Users.{id_of_user, wants_left, HasNothing, HasOwn, IsUser}
 use Rattle.vale_drive.proofs.Keeping.{grown, user-own, user-other, step-follows, stepped, legal-after, rising}
-
--- a session that has nothing
-pub record HasNothing (user : User) (id : ℕ) : Type 0 where
-  pub id_is : user.id.0 ≡ id
-  pub bufs : user.bufs.items ≡ []
-  pub leases : user.leases.items ≡ []
-  pub sent : user.sent ≡ None
-  pub rooms : user.rooms.items ≡ []
 
 abbrev made : Recorded → Outcome
 made b = enter_step (standing b)
@@ -33,8 +25,8 @@ made b = enter_step (standing b)
 abbrev entry : Recorded → ℕ → Entry
 entry b user = entry_of (Enter user) (made b)
 
-has-nothing : (b : Recorded) (user : User) (id : ℕ) → HasNothing user id → HasOwn b (record nothing_own { there = true }) user
-has-nothing b user id is = record {
+has-nothing : (b : Recorded) (user : User) → HasNothing user → HasOwn b (record nothing_own { there = true }) user
+has-nothing b user is = record {
   offers = rw is.sent refl;
   leases = rw is.leases tt;
   rise = omega arith;
@@ -42,7 +34,7 @@ has-nothing b user id is = record {
   region_is = rw is.bufs tt;
   lease_room = let none : length user.leases.items ≡ 0 = ap (λ (ls : List Leased). length ls) is.leases in let left : wants_left user.sent ≡ 0 = ap wants_left is.sent in omega (arith, none, left);
   rooms = rw is.rooms tt;
-  rooms_enough = omega arith;
+  room_each = let none = ap length is.rooms in omega (arith, none);
 }
 
 module _ (b : Recorded) (users : List User) (k : AreUsersOf b users) (user : ℕ) (fits : user < 2 ^ 64) where
@@ -64,17 +56,17 @@ module _ (b : Recorded) (users : List User) (k : AreUsersOf b users) (user : ℕ
       ∙ ap (λ (o : Option Outcome). (standing_after (standing b) (entry b user) o).world.sessions) is
 
   pub came : (after : Recorded) (users' : List User) (new : User) → after ≡ after_ask b (Enter user) → users' ≡ users ++ new ∷ []
-      → HasNothing new (length after.entries) → AreUsersOf after users'
-  came after users' new made' more has =
+      → new.id.0 ≡ length after.entries → HasNothing new → AreUsersOf after users'
+  came after users' new made' more id_is nothing =
       let count = count-world_of b.pool b.entries in
       let long = ap (λ (r : Recorded). length r.entries) (made' ∙ stepped b users k (Enter user) (made b) is) ∙ length-append b.entries (entry b user ∷ []) in
-      let id : new.id.0 ≡ (standing b).world.entry_count + 1 = let i = has.id_is in omega (arith, i, count, long) in
+      let id : new.id.0 ≡ (standing b).world.entry_count + 1 = omega (arith, id_is, count, long) in
       let whole : AreUsersOf (grown b (entry b user)) (users ++ new ∷ []) = record {
         legal = legal-after b users k (Enter user) (made b) is;
         ids = map-append id_of_user users (new ∷ []) ∙ (ap (λ (ns : List ℕ). ns ++ new.id.0 ∷ []) k.ids ∙ (ap (λ (n : ℕ). (standing b).world.sessions ++ n ∷ []) id ∙ sym sessions));
         each = each-append (IsUser (grown b (entry b user))) users (new ∷ [])
             (earlier users (rise-within id_of_user 0 users (length b.entries) (rising b users k (Enter user) (made b) is)) k.each)
-            (user-own b (entry b user) k.legal follows new id (has-nothing (grown b (entry b user)) new (length after.entries) has), tt);
+            (user-own b (entry b user) k.legal follows new id (has-nothing (grown b (entry b user)) new nothing), tt);
       } in
       subst (λ (r : Recorded). AreUsersOf r users') (sym (made' ∙ stepped b users k (Enter user) (made b) is)) (subst (AreUsersOf (grown b (entry b user))) (sym more) whole)
 

@@ -176,7 +176,7 @@ module _ (b : Recorded) (user : User) (id : LeaseId) (place : ℕ) (lease : Leas
         let wants = ap wants_left sent in
         let room = is.lease_room in
         let count = ap (λ v. length v.items) rooms in
-        let enough = is.rooms_enough in
+        let enough = is.room_each in
         let has : HasOwn after (own_done id.0 own) new = record {
           offers = subst (λ x. HasOffers own.offers x) (sym sent) is.offers;
           leases = subst (λ (ls : List Leased). AreHeldAs after (filter (stays id.0) own.leases) ls) (sym less)
@@ -186,7 +186,7 @@ module _ (b : Recorded) (user : User) (id : LeaseId) (place : ℕ) (lease : Leas
           region_is = of-later b after l new.bufs.items (subst (λ v. AreOf b.region v.items) (sym bufs) is.region_is);
           lease_room = omega (arith, few, long, wants, room, capacity);
           rooms = subst (λ v. Each IsRoom v.items) (sym rooms) is.rooms;
-          rooms_enough = omega (arith, count, enough);
+          room_each = omega (arith, count, enough);
         } in
         acts b after (Done id) steps.makes new legal grew steps.is (ap (λ (i : SessionId). i.0) same ∙ whose)
         (subst (λ (n : ℕ). HasOwn after (own_after_entry (standing b) (Done id) steps.makes.reply (own_of n (standing b))) new) whose has)

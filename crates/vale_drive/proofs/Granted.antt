@@ -410,7 +410,7 @@ module _ (b after : Recorded) (user mid new : User) (sent left : Sent) (reply : 
 
   own-granted : HasOwn after target new
   own-granted =
-      let enough = is.rooms_enough in
+      let enough = is.room_each in
       let rooms = ap (λ v. length v.items) (has.rooms ∙ adds.rooms) in
       let items : new.leases.items ≡ user.leases.items ++ listed lease = ap (λ v. v.items) has.leases ∙ adds.leases in
       let long = ap (λ (ls : List Leased). length ls) items ∙ length-append user.leases.items (listed lease) in
@@ -435,7 +435,7 @@ module _ (b after : Recorded) (user mid new : User) (sent left : Sent) (reply : 
         region_is = of-later b after l new.bufs.items (subst (AreOf b.region) (ap (λ v. v.items) (sym (has.bufs ∙ adds.bufs))) is.region_is);
         lease_room = omega (arith, long, few, capacity, wants, fewer, less, room);
         rooms = subst (Each IsRoom) (ap (λ v. v.items) (sym (has.rooms ∙ adds.rooms))) is.rooms;
-        rooms_enough = omega (arith, enough, rooms);
+        room_each = omega (arith, enough, rooms);
       }
 
   pub granted-kept : IsUser after new

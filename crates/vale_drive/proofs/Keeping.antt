@@ -85,7 +85,7 @@ module _ (b after : Recorded) (later : IsLater b after) where
     region_is = of-later user.bufs.items is.region_is;
     lease_room = is.lease_room;
     rooms = is.rooms;
-    rooms_enough = is.rooms_enough;
+    room_each = is.room_each;
   }
 
 abbrev pub own-grown : (b : Recorded) (e : Entry) (own : Own) (user : User) → HasOwn b own user → HasOwn (grown b e) own user
@@ -98,12 +98,12 @@ pub record SameHands (own own' : Own) : Type 0 where
   pub offers : own'.offers ≡ own.offers
   pub leases : own'.leases ≡ own.leases
   pub buffers : own'.buffers ≡ own.buffers
-  pub ports : length own'.ports ≤ length own.ports
+  pub ports : length own'.ports ≡ length own.ports
 
 pub hands-same : (b : Recorded) (own own' : Own) (user : User) → SameHands own own' → HasOwn b own user → HasOwn b own' user
 hands-same b own own' user same is =
     let ports = same.ports in
-    let enough = is.rooms_enough in
+    let enough = is.room_each in
     record {
       offers = rw same.offers is.offers;
       leases = rw same.leases is.leases;
@@ -112,7 +112,7 @@ hands-same b own own' user same is =
       region_is = is.region_is;
       lease_room = is.lease_room;
       rooms = is.rooms;
-      rooms_enough = omega (arith, ports, enough);
+      room_each = omega (arith, ports, enough);
     }
 
 module _ (b : Recorded) (e : Entry) (legal : IsLegal b.pool b.entries) (follows : Follows (standing b) e) where

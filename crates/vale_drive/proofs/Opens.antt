@@ -68,7 +68,7 @@ module _ (b after : Recorded) (old new : User) (name : List ℕ) (tx rx extra : 
 
   has : HasOwn after (own_opened (standing b) old.id.0 name tx rx extra own) new
   has =
-      let enough = user.rooms_enough in
+      let enough = user.room_each in
       let rooms = ap length taken.rooms ∙ length-append old.rooms.items (room ∷ []) in
       let ports = length-append own.ports (opened_port ((standing b).world.entry_count + 1) old.id.0 name tx rx extra ∷ []) in
       let came : indices_of (opened.tx.items ++ opened.extra.items) ≡ take tx (standing b).holdings.free ++ take extra (drop (tx + rx) (standing b).holdings.free) =
@@ -85,7 +85,7 @@ module _ (b after : Recorded) (old new : User) (name : List ℕ) (tx rx extra : 
             (each-append _ old.bufs.items (opened.tx.items ++ opened.extra.items) user.region_is (each-append _ opened.tx.items opened.extra.items region.0 region.1)));
         lease_room = lease_room;
         rooms = subst (Each IsRoom) (sym taken.rooms) (each-append IsRoom old.rooms.items (room ∷ []) user.rooms (is_room, tt));
-        rooms_enough = omega (arith, enough, rooms, ports);
+        room_each = omega (arith, enough, rooms, ports);
       }
 
   pub opened-kept : IsUser after new

@@ -190,7 +190,7 @@ module _ (b after : Recorded) (user : User) (at : PortId) (port : Port) (frames 
     own-target : HasOwn after target new
     own-target =
         let l : IsLater b after = later b after (Send at frames) grew in
-        let enough = is.rooms_enough in
+        let enough = is.room_each in
         let rooms = ap (λ v. length v.items) has.rooms in
         let leases = ap (λ v. length v.items) has.leases in
         let capacity = ap (λ v. vec_capacity v) has.leases in
@@ -207,7 +207,7 @@ module _ (b after : Recorded) (user : User) (at : PortId) (port : Port) (frames 
           region_is = of-later b after l new.bufs.items (subst (AreOf b.region) (ap (λ v. v.items) (sym has.bufs)) is.region_is);
           lease_room = omega (arith, room, leases, capacity, wants, few);
           rooms = subst (Each IsRoom) (ap (λ v. v.items) (sym has.rooms)) is.rooms;
-          rooms_enough = omega (arith, enough, rooms);
+          room_each = omega (arith, enough, rooms);
         }
 
     pub sent-kept : IsUser after new

@@ -9,24 +9,28 @@ use Rattle.vale_entry.specs.Opening.{is_ring_size, are_sizes, name_refusal, open
 use Rattle.vale_entry.specs.Legal.{Standing, Outcome, can_open, open_step_by}
 use Rattle.vale_core.proofs.RingSizes.{none-first}
 use Rattle.vale_entry.specs.World.{Port}
+use Rattle.vale_drive.specs.Opening.{most_given}
 
 -- a name that is not refused has sizes in range
-sizes_by : (b : Bool) (rest : Option OpenFault) → cond (not b) (Some BadSize) rest ≡ None → b ≡ true
+pub sizes_by : (b : Bool) (rest : Option OpenFault) → cond (not b) (Some BadSize) rest ≡ None → b ≡ true
 sizes_by true rest e = refl
 sizes_by false rest e = absurd cc
 
-tx_small : (tx : ℕ) (monitor : Bool) → cond monitor (tx == 0) (is_ring_size tx) ≡ true → tx ≤ 1024
-tx_small tx true e = let none = eqb-true tx 0 e in omega (arith, none)
-tx_small tx false e = leb-true tx 1024 (and_parts (nat_le 2 tx) (nat_le tx 1024) e).1
+tx_few : (n tx : ℕ) (monitor : Bool) → n ≤ tx → cond monitor (tx == 0) (is_ring_size tx) ≡ true → n ≤ cond monitor 0 (min tx 1024)
+tx_few n tx true low e = let none = eqb-true tx 0 e in omega (arith, none, low)
+tx_few n tx false low e = let most = leb-true tx 1024 (and_parts (nat_le 2 tx) (nat_le tx 1024) e).1 in omega (arith, low, most)
 
-pub sizes-fit : (ports : List Port) (name : List ℕ) (tx rx extra : ℕ) → None ≡ name_refusal ports name tx rx extra
-    → (tx ≤ 1024) × (2 ≤ rx) × (rx ≤ 1024) × (extra ≤ 1024)
-sizes-fit ports name tx rx extra e =
+extra_few : (n extra : ℕ) → n ≤ extra → nat_le extra 1024 ≡ true → n ≤ min extra 1024
+extra_few n extra low e = let most = leb-true extra 1024 e in omega (arith, low, most)
+
+sizes-fit : (ports : List Port) (name : List ℕ) (tx rx extra n m : ℕ) → None ≡ name_refusal ports name tx rx extra → n ≤ tx → m ≤ extra
+    → n + m ≤ most_given name tx extra
+sizes-fit ports name tx rx extra n m e low small =
     let sizes = sizes_by (are_sizes name tx rx extra) _ (sym e) in
     let rings = and_parts _ (is_ring_size rx && nat_le extra 1024) sizes in
-    let ring = and_parts (is_ring_size rx) (nat_le extra 1024) rings.1 in
-    let bounds = and_parts (nat_le 2 rx) (nat_le rx 1024) ring.0 in
-    (tx_small tx (is_monitor_name name) rings.0, leb-true 2 rx bounds.0, leb-true rx 1024 bounds.1, leb-true extra 1024 ring.1)
+    let one = tx_few n tx (is_monitor_name name) low rings.0 in
+    let two = extra_few m extra small (and_parts (is_ring_size rx) (nat_le extra 1024) rings.1).1 in
+    omega (arith, one, two)
 
 -- what was answered so was not refused
 opened_by : (s : Standing) (session : ℕ) (name : List ℕ) (tx rx extra : ℕ) (here : Bool) (refusal : Option OpenFault)
@@ -38,10 +42,10 @@ opened_by s session name tx rx extra true None e = refl
 -- no more buffers are given than a ring and a list of extra buffers may have
 pub opened-few : (s : Standing) (session : ℕ) (name : List ℕ) (tx rx extra : ℕ) (ring others : List ℕ)
     → option_map (λ (made : Outcome). made.reply) (cond (can_open s.world session name tx rx extra) (Some (open_step_by (open_refusal s.world name tx rx extra) s session name tx rx extra)) None) ≡ Some Opened
-    → length (take tx ring) + length (take extra others) ≤ min tx 1024 + min extra 1024
+    → length (take tx ring) + length (take extra others) ≤ most_given name tx extra
 opened-few s session name tx rx extra ring others e =
     let none = opened_by s session name tx rx extra (can_open s.world session name tx rx extra) (open_refusal s.world name tx rx extra) e in
-    let sizes = sizes-fit s.world.ports name tx rx extra (sym (none-first (name_refusal s.world.ports name tx rx extra) _ _ none)) in
     let one = length-take tx ring in
     let two = length-take extra others in
-    omega (arith, one, two, sizes.0, sizes.3)
+    sizes-fit s.world.ports name tx rx extra (length (take tx ring)) (length (take extra others)) (sym (none-first (name_refusal s.world.ports name tx rx extra) _ _ none))
+    (omega (arith, one)) (omega (arith, two))

@@ -1,6 +1,8 @@
 pub mod Users
+pub mod Buffers
 pub mod DriveView
 pub mod Serving
+pub mod Finishing
 pub mod Opening
 pub mod Replies
 pub mod Filling

@@ -1,6 +1,7 @@
 -- What an opening is answered, and what it gives to its session.
-use Rattle.std.specs.Prelude.{ℕ, ◌≡◌, ◌≤◌, ◌+◌, ◌++◌, ◌∷◌, [], length, min, vec_len, vec_capacity, Vec, Result, Ok, Err}
+use Rattle.std.specs.Prelude.{ℕ, ◌≡◌, ◌≤◌, ◌+◌, ◌++◌, ◌∷◌, [], if◌then◌else◌, List, length, min, vec_len, vec_capacity, Vec, Result, Ok, Err}
 use Rattle.std.specs.declared.alloc.Global.{Global}
+use Rattle.nm_types.specs.Names.{is_monitor_name}
 use Rattle.nm_types.specs.declared.fault.StepFault.TheVariants as steps
 use Rattle.nm_types.specs.declared.fault.StepFault.{StepFault}
 use Rattle.nm_types.specs.declared.fault.OpenFault.{OpenFault}
@@ -21,9 +22,13 @@ unopened (NoBuffers want have) = Ok (Refused (NoBuffers want have))
 unopened (RecordFull what used want) = Err (steps.RecordFull what used want)
 unopened NoMemory = Err steps.NoMemory
 
--- there is room for the buffers of an opening of these sizes, and for its port's room
-pub record CanTake (tx extra : ℕ) (user : User) : Type 0 where
-  pub bufs : vec_len user.bufs + (min tx 1024 + min extra 1024) ≤ vec_capacity user.bufs
+-- the most buffers that an opening gives to its session; a monitor has no transmit ring
+abbrev pub most_given : List ℕ → ℕ → ℕ → ℕ
+most_given name tx extra = (if is_monitor_name name then 0 else min tx 1024) + min extra 1024
+
+-- there is room for the buffers of an opening of this name and these sizes, and for its port's room
+pub record CanTake (name : List ℕ) (tx extra : ℕ) (user : User) : Type 0 where
+  pub bufs : vec_len user.bufs + most_given name tx extra ≤ vec_capacity user.bufs
   pub rooms : vec_len user.rooms + 1 ≤ vec_capacity user.rooms
 
 -- there is room for what was opened

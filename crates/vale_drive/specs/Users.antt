@@ -100,7 +100,7 @@ pub record HasOwn (b : Recorded) (own : Own) (user : User) : Type 0 where
   pub region_is : AreOf b.region user.bufs.items
   pub lease_room : length user.leases.items + wants_left user.sent ≤ vec_capacity user.leases
   pub rooms : AllByRecursion IsRoom user.rooms.items
-  pub rooms_enough : length own.ports ≤ length user.rooms.items
+  pub room_each : length own.ports ≡ length user.rooms.items
 
 abbrev pub IsUser : Recorded → User → Type 0
 IsUser b user = HasOwn b (own_of user.id.0 (standing b)) user
@@ -113,6 +113,13 @@ pub record SameUser (old new : User) : Type 0 where
   pub sent : new.sent ≡ old.sent
   pub rooms : new.rooms.items ≡ old.rooms.items
   pub lease_room : vec_capacity old.leases ≤ vec_capacity new.leases
+
+-- it has nothing
+pub record HasNothing (user : User) : Type 0 where
+  pub bufs : user.bufs.items ≡ []
+  pub leases : user.leases.items ≡ []
+  pub sent : user.sent ≡ None
+  pub rooms : user.rooms.items ≡ []
 
 -- it has neither an offer nor a lease
 abbrev pub is_settled_user : User → Bool

@@ -1,18 +1,22 @@
 ghost use Rattle.std.specs.Prelude.{◌≡◌, None, Ok, IfSome, IfNone};
 ghost use Rattle.vale_entry.specs.declared.entry.Ask.TheVariants as asks;
 ghost use Rattle.vale_entry.specs.World.{open_port};
+ghost use Rattle.vale_entry.specs.Closing.{shutting_port};
 ghost use Rattle.vale_core.specs.Recorded.{standing};
 ghost use Rattle.vale_drive.specs.DriveView.{AreUsersOf, IsOwner};
 ghost use Rattle.vale_drive.specs.Serving.{IsServed};
 
 use crate::completing::{done, place_of_lease};
+use crate::finishing::finish;
 use crate::granting::{grant, place_of_origin};
 use crate::noting::stats;
 use crate::opening::open;
+use crate::resetting::reset;
 use crate::sending::send;
 use crate::shutting::shut;
 use crate::users::{User, place_of};
-use nm_types::{Batch, LeaseId, Name, PortId, SessionId, StepFault};
+use crate::watching::watch;
+use nm_types::{Batch, Chain, LeaseId, Name, PortId, SessionId, Side, Sides, StepFault, SyncFault};
 use std::alloc::Global;
 use vale_core::{Book, PortSeen};
 use vale_entry::Reply;
@@ -20,10 +24,25 @@ use vale_entry::Reply;
 /// What stands of an open port, and the place of its session.
 fn owner_of(book: &Book, users: &[User], port: PortId) -> Option<(PortSeen, usize)>
     requires { AreUsersOf book.now users.now }
-    ensures some { IfSome result (λ found. IsOwner book.now users.now port found.0 found.1) }
+    ensures some { IfSome result (λ owner.
+        IsOwner users.now (open_port (standing book.now).world.ports port.0) owner.0 owner.1) }
     ensures none { IfNone result (open_port (standing book.now).world.ports port.0 ≡ None) }
 {
     let seen = book.open_port(port)?;
+    match place_of(users, seen.session) {
+        Some(place) => Some((seen, place)),
+        None => unreachable!(),
+    }
+}
+
+/// What stands of a port that is shut and not gone, and the place of its session.
+fn owner_of_shut(book: &Book, users: &[User], port: PortId) -> Option<(PortSeen, usize)>
+    requires { AreUsersOf book.now users.now }
+    ensures some { IfSome result (λ owner.
+        IsOwner users.now (shutting_port (standing book.now).world.ports port.0) owner.0 owner.1) }
+    ensures none { IfNone result (shutting_port (standing book.now).world.ports port.0 ≡ None) }
+{
+    let seen = book.shutting_port(port)?;
     match place_of(users, seen.session) {
         Some(place) => Some((seen, place)),
         None => unreachable!(),
@@ -79,6 +98,22 @@ pub(crate) fn shut_at(book: &mut Book, users: &[User], port: PortId) -> Option<R
     shut(book, &users[place], port)
 }
 
+/// A port that was shut goes, if it may.
+pub(crate) fn finish_at(
+    book: &mut Book,
+    users: &mut Vec<User>,
+    port: PortId,
+    bufs: &[u32],
+    chain: Chain,
+) -> Option<Reply>
+    requires { AreUsersOf book.old users.old.items }
+    ensures served { IsServed book.old book.new (asks.Finish port bufs.now chain) (Ok result) }
+    ensures kept { AreUsersOf book.new users.new.items }
+{
+    let (seen, place) = owner_of_shut(book, users, port)?;
+    finish(book, &mut users[place], port, seen, bufs, chain)
+}
+
 /// The counters of a port are read, if it is open.
 pub(crate) fn stats_at(
     book: &mut Book,
@@ -91,6 +126,42 @@ pub(crate) fn stats_at(
 {
     match owner_of(book, users, port) {
         Some((_, place)) => stats(book, &users[place], port),
+        None => Ok(None),
+    }
+}
+
+/// A monitor watches the port of a name, if the monitor is open.
+pub(crate) fn watch_at(
+    book: &mut Book,
+    users: &[User],
+    monitor: PortId,
+    target: &Name,
+    sides: Sides,
+) -> Result<Option<Reply>, StepFault>
+    requires { AreUsersOf book.old users.now }
+    ensures served { IsServed book.old book.new (asks.Watch monitor target.now sides) result }
+    ensures kept { AreUsersOf book.new users.now }
+{
+    match owner_of(book, users, monitor) {
+        Some((seen, place)) => watch(book, &users[place], monitor, seen, target, sides),
+        None => Ok(None),
+    }
+}
+
+/// A ring of a port is reset after a refused sync, if the port is open.
+pub(crate) fn reset_at(
+    book: &mut Book,
+    users: &[User],
+    port: PortId,
+    side: Side,
+    fault: &SyncFault,
+) -> Result<Option<Reply>, StepFault>
+    requires { AreUsersOf book.old users.now }
+    ensures served { IsServed book.old book.new (asks.Reset port side fault.now) result }
+    ensures kept { AreUsersOf book.new users.now }
+{
+    match owner_of(book, users, port) {
+        Some((seen, place)) => reset(book, &users[place], port, seen, side, fault),
         None => Ok(None),
     }
 }

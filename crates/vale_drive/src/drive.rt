@@ -1,4 +1,4 @@
-ghost use Rattle.std.specs.Prelude.{◌≡◌, ◌<◌, ◌^◌, [], length, IfOk};
+ghost use Rattle.std.specs.Prelude.{◌≡◌, ◌<◌, ◌≤◌, ◌^◌, [], length, IfOk, IfErr, OnOk, OnErr};
 ghost use Rattle.nm_types.specs.Buffers.{IsPoolSize};
 ghost use Rattle.vale_entry.specs.Legal.{IsLegal};
 ghost use Rattle.vale_entry.specs.Room.{promised_of};
@@ -59,5 +59,26 @@ impl Drive {
         ensures legal { IsLegal self.now.pool self.now.entries }
     {
         self.book.history()
+    }
+
+    /// Ends the drive once each session has left, and frees its region: its record is left. While a
+    /// session is there the drive is handed back.
+    pub fn close(self) -> Result<History, Drive>
+        ensures entries { IfOk result (λ history. history.entries ≡ self.entries) }
+        ensures limits { IfOk result (λ history. history.limits ≡ self.limits) }
+        ensures left { OnOk result ((standing self).world.sessions ≡ []) }
+        ensures same { IfErr result (λ drive. drive ≡ self) }
+        ensures there { OnErr result (1 ≤ length (standing self).world.sessions) }
+    {
+        if !self.users.is_empty() {
+            return Err(self);
+        }
+        let Drive {
+            book,
+            users,
+            alloc: _,
+        } = self;
+        users.destroy_empty();
+        Ok(book.close())
     }
 }

@@ -7,11 +7,15 @@ mod buffers;
 mod coming;
 mod completing;
 mod drive;
+mod finishing;
 mod granting;
+mod leaving;
 mod noting;
 mod opening;
+mod resetting;
 mod sending;
 mod shutting;
 mod users;
+mod watching;
 
 pub use drive::Drive;

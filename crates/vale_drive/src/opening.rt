@@ -1,16 +1,17 @@
 ghost use Rattle.std.specs.Prelude.{◌≡◌, ◌≤◌, [], true, vec_capacity, IfOk};
+ghost use Rattle.nm_types.specs.Names.{is_name};
 ghost use Rattle.vale_entry.specs.declared.entry.Ask.TheVariants as asks;
 ghost use Rattle.vale_entry.specs.World.{is_session};
 ghost use Rattle.vale_entry.specs.Legal.{IsLegal};
 ghost use Rattle.vale_core.specs.Recorded.{standing};
-ghost use Rattle.vale_drive.specs.Opening.{unopened, CanTake, TakesIn, HasTaken};
+ghost use Rattle.vale_drive.specs.Opening.{unopened, most_given, CanTake, TakesIn, HasTaken};
 ghost use Rattle.vale_drive.specs.Serving.{IsServed};
 ghost use Rattle.vale_drive.specs.Users.{IsUser, SameUser, IsRoom};
 
 use crate::buffers::move_all;
 use crate::users::User;
 use nm_region::Buf;
-use nm_types::{MAX_EXTRA, MAX_RING, Name, NoMemory, OpenFault, StepFault};
+use nm_types::{Kind, MAX_EXTRA, MAX_RING, Name, NoMemory, OpenFault, StepFault};
 use std::alloc::Global;
 use vale_core::{Book, Opened};
 use vale_entry::Reply;
@@ -31,14 +32,33 @@ fn unopened(fault: OpenFault) -> Result<Reply, StepFault>
     }
 }
 
+/// The most buffers that an opening gives to its session: a monitor has no transmit ring.
+#[tactic(auto, unfolding(nm_types::specs::Names::is_name, nm_types::specs::Names::is_monitor_name))]
+fn most_given(name: &Name, tx: u32, extra: u32) -> usize
+    ensures given { result ≡ most_given name.now tx extra }
+    ensures named { is_name name.now ≡ true }
+{
+    let sent = match name.kind() {
+        Kind::Monitor => 0,
+        _ => tx.min(MAX_RING),
+    };
+    sent as usize + extra.min(MAX_EXTRA) as usize
+}
+
 /// Makes room for what an opening gives, and for the buffers with which its port goes.
-fn room_to_open(alloc: Global, user: &mut User, tx: u32, extra: u32) -> Result<Vec<Buf>, NoMemory>
+fn room_to_open(
+    alloc: Global,
+    user: &mut User,
+    name: &Name,
+    tx: u32,
+    extra: u32,
+) -> Result<Vec<Buf>, NoMemory>
     ensures same { SameUser user.old user.new }
     ensures room { IfOk result IsRoom }
-    ensures takes { IfOk result (λ _. CanTake tx extra user.new) }
+    ensures takes { IfOk result (λ _. CanTake name.now tx extra user.new) }
+    ensures named { is_name name.now ≡ true }
 {
-    user.bufs
-        .reserve(tx.min(MAX_RING) as usize + extra.min(MAX_EXTRA) as usize)?;
+    user.bufs.reserve(most_given(name, tx, extra))?;
     user.rooms.reserve(1)?;
     Ok(Vec::with_capacity(alloc, MOST_DUE)?)
 }
@@ -78,9 +98,7 @@ pub(crate) fn open(
     ensures kept { IsUser book.new user.new }
     ensures id { user.new.id ≡ user.old.id }
 {
-    // A `Name` holds a name.
-    name.as_bytes();
-    let room = room_to_open(alloc, user, tx, extra)?;
+    let room = room_to_open(alloc, user, name, tx, extra)?;
     match book.open(user.id, name, tx, rx, extra) {
         Ok(opened) => {
             take_in(user, opened, room);

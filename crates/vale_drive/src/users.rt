@@ -1,6 +1,6 @@
-ghost use Rattle.std.specs.Prelude.{◌≡◌, ◌≤◌, ◌+◌, [], None, length, position, vec_capacity, OnOk};
+ghost use Rattle.std.specs.Prelude.{◌≡◌, ◌==◌, ◌≤◌, ◌+◌, ◌&&◌, length, position, vec_capacity, OnOk};
 ghost use Rattle.vale_drive.specs.Users.{SameUser, is_user, is_settled_user, is_offered, next_is};
-ghost use Rattle.vale_drive.specs.Users.{is_next_to};
+ghost use Rattle.vale_drive.specs.Users.{is_next_to, HasNothing};
 
 use nm_region::Buf;
 use nm_types::{PortId, SessionId};
@@ -31,10 +31,7 @@ impl User {
     /// A session that has nothing.
     pub(crate) fn new(alloc: Global, id: SessionId) -> User
         ensures id { result.id ≡ id }
-        ensures bufs { result.bufs.items ≡ [] }
-        ensures leases { result.leases.items ≡ [] }
-        ensures sent { result.sent ≡ None }
-        ensures rooms { result.rooms.items ≡ [] }
+        ensures nothing { HasNothing result }
     {
         User {
             id,
@@ -50,6 +47,33 @@ impl User {
         ensures { result ≡ is_settled_user self.now }
     {
         self.sent.is_none() && self.leases.is_empty()
+    }
+
+    /// Tells whether it is settled and has no port.
+    pub(crate) fn can_leave(&self) -> bool
+        ensures { result ≡ (length self.now.rooms.items == 0 && is_settled_user self.now) }
+    {
+        self.rooms.is_empty() && self.is_settled()
+    }
+
+    /// Ends a session that has nothing any more.
+    pub(crate) fn end(self)
+        requires { HasNothing self }
+    {
+        let User {
+            id: _,
+            bufs,
+            leases,
+            sent,
+            rooms,
+        } = self;
+        bufs.destroy_empty();
+        leases.destroy_empty();
+        rooms.destroy_empty();
+        match sent {
+            None => {}
+            Some(_sent) => unreachable!(),
+        }
     }
 
     /// Makes room for so many leases more.

@@ -6,4 +6,4 @@ pub returns-clause-kept : goal.returns-clause-kept
 returns-clause-kept c =
     came c.args.book.now c.args.users.now.items c.requires c.args.user c.in_ok-id.ensures.fits c.enter.new.self c.push_reserved.new.self.items c.new.result c.in_ok-id.ensures.made
     (c.push_reserved.ensures.items ∙ ap (λ us. us ++ c.new.result ∷ []) c.in_ok-reserve.ensures.items)
-    (record { id_is = ap (λ id. id.0) c.new.ensures.id ∙ c.in_ok-id.ensures.id; bufs = c.new.ensures.bufs; leases = c.new.ensures.leases; sent = c.new.ensures.sent; rooms = c.new.ensures.rooms })
+    (ap (λ id. id.0) c.new.ensures.id ∙ c.in_ok-id.ensures.id) c.new.ensures.nothing

@@ -1,4 +1,4 @@
-use Rattle.std.proofs.Common.{◌≡◌, true, is_some, arith, refl, sym, ap, subst}
+use Rattle.std.proofs.Common.{◌≡◌, true, is_some, refl, sym, ap, subst}
 use Rattle.vale_entry.specs.declared.entry.Ask.TheVariants.{Stat}
 use Rattle.vale_entry.specs.Legal.{is_enabled}
 use Rattle.vale_core.specs.Recorded.{Recorded, standing}
@@ -19,4 +19,4 @@ returns-clause-kept c =
     let steps = steps-of b (Stat c.args.port) (λ s. refl) enabled in
     quiet-kept b c.stats.new.self c.args.user.now (Stat c.args.port) steps.makes c.requires.legal c.requires.user c.in_ok-counts.ensures.made steps.is
     (mine-of b c.args.user.now (Stat c.args.port) steps c.args.port c.requires.mine refl refl)
-    (record { offers = refl; leases = refl; buffers = refl; ports = omega arith })
+    (record { offers = refl; leases = refl; buffers = refl; ports = refl })
