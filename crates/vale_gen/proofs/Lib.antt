@@ -1,0 +1,4 @@
+mod Adding
+mod Frames
+pub mod Soundness
+mod Users
