@@ -101,13 +101,13 @@ settling-enters number w session =
     or-enters number (option_map done_call (owed_lot w session.0)) (option_map grant_call (next_offer w session.0))
     (map-enters number done_call (owed_lot w session.0) (λ lot n e. absurd cc)) (map-enters number grant_call (next_offer w session.0) (λ offer n e. absurd cc))
 
-call-enters : (w : World) (user : Machine) → EntersAs user.number (next_call w user)
+pub call-enters : (w : World) (user : Machine) → EntersAs user.number (next_call w user)
 call-enters w user =
     or-enters user.number (option_and_then (settling_call w) user.session) (call_of_tasks user user.tasks)
     (then-enters user.number (settling_call w) user.session (settling-enters user.number w)) (tasks-enter user user.tasks)
 
 -- the ask of an entry is the one that made it, as it is kept
-ask-by : (ask : Ask) (entry : Entry) (made : Option Outcome)
+pub ask-by : (ask : Ask) (entry : Entry) (made : Option Outcome)
     → option_map (entry_by ask) made ≡ Some entry → entry.ask ≡ kept_ask ask
 ask-by ask entry None e = absurd cc
 ask-by ask entry (Some made) e = ap (λ (x : Entry). x.ask) (sym (some-same (entry_by ask made) entry e))

@@ -197,11 +197,11 @@ or-first : (x y : Option Ask) → option_or x y ≡ None → x ≡ None
 or-first None y e = refl
 or-first (Some a) y e = absurd cc
 
-needs-owes : (pool : ℕ) (h : List Entry) (user : Machine) → NeedsNoCall pool h user
+pub needs-owes : (pool : ℕ) (h : List Entry) (user : Machine) → NeedsNoCall pool h user
     → OwesNothing pool h user.session
 needs-owes pool h user e = or-first (option_and_then (settling_call (standing_of pool h).world) user.session) (call_of_tasks user user.tasks) e
 
-owes-needs : (pool : ℕ) (h : List Entry) (user : Machine) → user.tasks ≡ []
+pub owes-needs : (pool : ℕ) (h : List Entry) (user : Machine) → user.tasks ≡ []
     → OwesNothing pool h user.session → NeedsNoCall pool h user
 owes-needs pool h user none owes =
     ap (λ (ask : Option Ask). option_or ask (call_of_tasks user user.tasks)) owes ∙ ap (call_of_tasks user) none

@@ -17,4 +17,9 @@ pub mod Walks
 pub mod TaskSides
 pub mod TurnSides
 pub mod Sides
+pub mod Comers
+pub mod Sums
+pub mod Owned
+pub mod Leaving
+pub mod Parts
 pub mod Promises

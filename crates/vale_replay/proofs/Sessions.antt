@@ -45,7 +45,7 @@ rest-by : (user : Machine) (task : Task) (tasks : List Task) (b : Bool)
 rest-by user task tasks true rest = record { session = refl; number = refl }
 rest-by user task tasks false rest = same-then user (after_task task user) (at_rest (after_task task user) tasks) (after-same task user) rest
 
-rest-same : (user : Machine) (tasks : List Task) → IsSame user (at_rest user tasks)
+pub rest-same : (user : Machine) (tasks : List Task) → IsSame user (at_rest user tasks)
 rest-same user [] = record { session = refl; number = refl }
 rest-same user (task ∷ tasks) = rest-by user task tasks (is_some (call_of_task user task)) (rest-same (after_task task user) tasks)
 

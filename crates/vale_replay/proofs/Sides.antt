@@ -25,7 +25,7 @@ use Rattle.vale_script.specs.declared.script.Unit.TheVariants as parts
 use Rattle.vale_script.specs.Script.{Program}
 use Rattle.vale_replay.specs.Tasks.{Captures, Task, Arrive, OpenPort, PutFrame, SendFrames, TakeFrames, ChangeOwn, SaveFrames, WatchPort, ReadCounts, ShutPort, FinishPort, Depart, EndLine, records_of}
 use Rattle.vale_replay.specs.Machine.{Machine, new_machine, settling_call, call_of_task, call_of_tasks}
-use Rattle.vale_replay.specs.Replay.{UnitShare, ScriptUnit, TakesTurn, TakesTurns, EachShare, ReplaysShare, ReplaysUnit, ReplaysUnits, AreSplit, NeedsNoCall, HasPlayed, Reaches, times_among, acts_of, has_line, share_of, shares_of, closing_unit, starting, user_count, units_of, users_of, with_afters}
+use Rattle.vale_replay.specs.Replay.{UnitShare, ScriptUnit, TakesTurn, TakesTurns, EachShare, ReplaysShare, ReplaysUnit, ReplaysUnits, AreSplit, NeedsNoCall, HasPlayed, Reaches, IsUnderWay, times_among, acts_of, has_line, share_of, shares_of, closing_unit, starting, user_count, units_of, users_of, with_afters}
 use Rattle.vale_replay.specs.Owners.{HoldsItsOwn, UsersHoldTheirOwn, times_in}
 use Rattle.vale_replay.proofs.Numbers.{rise-low, rise-above}
 use Rattle.vale_replay.proofs.Turns.{some-same}
@@ -59,7 +59,7 @@ keeps-on pool h from last user up legal others keeps =
     record { shut = keeps.shut; side = side-on pool h from last user.session keeps.shut user.own up legal others keeps.side; order = keeps.order }
 
 -- the entries of the range that have none of a user's numbers are of none of its sessions
-abbrev AreForeign : List Entry → List ℕ → ℕ → ℕ → Option SessionId → Type 0
+abbrev pub AreForeign : List Entry → List ℕ → ℕ → ℕ → Option SessionId → Type 0
 AreForeign h ns from last session =
     (x : SessionId) (k : ℕ) (e : Entry) → IsOwnSession session ns x → from ≤ k → k < last → count_of (k + 1) ns ≡ 0 → slice_get h k ≡ Some e → IsOfOther x.0 e
 
@@ -123,7 +123,7 @@ with-both pool h Q users (share ∷ shares) (ns ∷ lists) [] paired qs each = a
 abbrev HaveSides : ℕ → Standing → List Machine → Type 0
 HaveSides pool s users = (i : ℕ) (u : Machine) → slice_get users i ≡ Some u → SideOf pool s u.session None u.own
 
-foreign-at : (pool : ℕ) (h : List Entry) (users : List Machine) (first : ℕ) (unit : ScriptUnit) (lists : List (List ℕ)) (afters : List Machine) (last i : ℕ) (before : Machine)
+pub foreign-at : (pool : ℕ) (h : List Entry) (users : List Machine) (first : ℕ) (unit : ScriptUnit) (lists : List (List ℕ)) (afters : List Machine) (last i : ℕ) (before : Machine)
     → AreApart unit → EachShare (ReplaysShare pool h) users unit lists afters → AreSplit first last lists
     → Cast first users → slice_get users i ≡ Some before → AreForeign h (numbers_at i unit lists) first last before.session
 foreign-at pool h users first unit lists afters last i before apart each split cast here x k e own low high none there same =
@@ -183,7 +183,7 @@ unit-sides pool h Q users first unit lists afters last i u apart paired qs each 
           some.1.1.1,
         )
 
-or-second : (x y : Option Ask) → option_or x y ≡ None → y ≡ None
+pub or-second : (x y : Option Ask) → option_or x y ≡ None → y ≡ None
 or-second None y e = e
 or-second (Some a) y e = absurd cc
 
@@ -309,7 +309,7 @@ first-sides program h = record {
 
 -- What a user holds.
 
-holds-by : (pool : ℕ) (s : Standing) (user : Machine) (session : Option SessionId) (shut : Option ℕ)
+pub holds-by : (pool : ℕ) (s : Standing) (user : Machine) (session : Option SessionId) (shut : Option ℕ)
     → user.session ≡ session → SideOf pool s session shut user.own → HoldsItsOwn s user
 holds-by pool s user None shut is side b =
     ap (λ (o : OwnState). times_in b (buffers_on o)) side.0
@@ -317,7 +317,7 @@ holds-by pool s user None shut is side b =
 holds-by pool s user (Some x) shut is side b =
     sym (side.of.buffers b) ∙ ap (λ (y : Option SessionId). times_in b (option_map_or (λ (z : SessionId). buffers_of_session s.holdings.sessions z.0) y [])) (sym is)
 
-each-from : (P : Machine → Type 0) (users : List Machine)
+pub each-from : (P : Machine → Type 0) (users : List Machine)
     → ((i : ℕ) (u : Machine) → slice_get users i ≡ Some u → P u) → AllByRecursion P users
 each-from P [] f = tt
 each-from P (u ∷ users) f = (f 0 u refl, each-from P users (λ i v at. f (suc i) v at))
@@ -326,8 +326,16 @@ nothing-more : (users : List Machine) → AllByRecursion (λ (u : Machine). Unit
 nothing-more [] = tt
 nothing-more (u ∷ users) = (tt, nothing-more users)
 
-pub users-hold : UsersHoldTheirOwn
-users-hold program captures h nows way = each-from (HoldsItsOwn (standing_of program.pool h)) nows (λ i u at. by_way way i u at)
+-- what each user of a history under way has on its side, with the port of it that is shut, and that
+-- no session is that of two
+pub record StandsOnSides (pool : ℕ) (h : List Entry) (users : List Machine) : Type 0 where
+  pub sides : (i : ℕ) (u : Machine) → slice_get users i ≡ Some u
+      → (shut : Option ℕ) × SideOf pool (standing_of pool h) u.session shut u.own
+  pub cast : Cast (length h) users
+
+pub users-sides : (program : Program) (captures : Captures) (h : List Entry) (nows : List Machine)
+    → IsUnderWay program captures h nows → StandsOnSides program.pool h nows
+users-sides program captures h nows way = by_way way
   where
     legal : (n : ℕ) → n ≤ length h → IsLegal program.pool (take n h)
     legal n within = (legal-split program.pool (take n h) (drop n h) (subst (IsLegal program.pool) (sym (take-append-drop n h)) (played-legal program captures h nows way))).0
@@ -335,30 +343,38 @@ users-hold program captures h nows way = each-from (HoldsItsOwn (standing_of pro
     whole : take (length h) h ≡ h
     whole = take_all (length h) h (omega arith)
 
-    played : HasPlayed program captures h nows → (i : ℕ) (u : Machine) → slice_get nows i ≡ Some u
-        → HoldsItsOwn (standing_of program.pool h) u
-    played p i u at =
+    played : HasPlayed program captures h nows → StandsOnSides program.pool h nows
+    played p =
         let on = units-sides program.pool h (users_of program) 0 (units_of program captures) nows (length h) (units-apart program captures) (units-paired program captures) legal (omega arith) (first-sides program h) p.units in
-        holds-by program.pool (standing_of program.pool h) u u.session None refl (subst (λ (es : List Entry). SideOf program.pool (standing_of program.pool es) u.session None u.own) whole (on.sides i u at))
+        record { sides = λ i u at. (None, subst (λ (es : List Entry). SideOf program.pool (standing_of program.pool es) u.session None u.own) whole (on.sides i u at)); cast = on.cast }
 
     by_side : (u : Machine)
         → SideOf program.pool (standing_of program.pool (take (length h) h)) u.session None u.own ⊎ (KeepsSide program.pool (standing_of program.pool (take (length h) h)) u × Unit {0})
-        → HoldsItsOwn (standing_of program.pool h) u
-    by_side u (inl side) = holds-by program.pool (standing_of program.pool h) u u.session None refl (subst (λ (es : List Entry). SideOf program.pool (standing_of program.pool es) u.session None u.own) whole side)
+        → (shut : Option ℕ) × SideOf program.pool (standing_of program.pool h) u.session shut u.own
+    by_side u (inl side) = (None, subst (λ (es : List Entry). SideOf program.pool (standing_of program.pool es) u.session None u.own) whole side)
     by_side u (inr both) =
         let keeps = both.0 in
-        holds-by program.pool (standing_of program.pool h) u u.session keeps.shut refl (subst (λ (es : List Entry). SideOf program.pool (standing_of program.pool es) u.session keeps.shut u.own) whole keeps.side)
+        (keeps.shut, subst (λ (es : List Entry). SideOf program.pool (standing_of program.pool es) u.session keeps.shut u.own) whole keeps.side)
 
-    reached : Reaches program captures h nows → (i : ℕ) (u : Machine) → slice_get nows i ≡ Some u
-        → HoldsItsOwn (standing_of program.pool h) u
-    reached r i u at =
+    reached : Reaches program captures h nows → StandsOnSides program.pool h nows
+    reached r =
+        let apart = apart-at r.count (units_of program captures) r.unit (units-apart program captures) r.there in
         let on = units-sides program.pool h (users_of program) 0 (take r.count (units_of program captures)) r.users r.first (take-apart r.count (units_of program captures) (units-apart program captures))
         (take-all (AllByRecursion IsPairedShare) r.count (units_of program captures) (units-paired program captures)) legal r.forward (first-sides program h) r.units in
-        by_side u (unit-sides program.pool h (λ (m : Machine). Unit {0}) r.users r.first r.unit r.lists r.afters (length h) i u (apart-at r.count (units_of program captures) r.unit (units-apart program captures) r.there)
-        (all-at (AllByRecursion IsPairedShare) r.count (units_of program captures) r.unit (units-paired program captures) r.there) (nothing-more r.afters) r.replays r.split r.forward (omega arith) legal on.cast on.sides
-        (ap (λ (us : List Machine). slice_get us i) (sym r.nows_are) ∙ at))
+        record {
+          sides = λ i u at. by_side u (unit-sides program.pool h (λ (m : Machine). Unit {0}) r.users r.first r.unit r.lists r.afters (length h) i u apart
+              (all-at (AllByRecursion IsPairedShare) r.count (units_of program captures) r.unit (units-paired program captures) r.there) (nothing-more r.afters) r.replays r.split r.forward (omega arith) legal on.cast on.sides
+              (ap (λ (us : List Machine). slice_get us i) (sym r.nows_are) ∙ at));
+          cast = subst (Cast (length h)) (sym r.nows_are) (cast-next program.pool h r.users r.first r.unit r.lists r.afters (length h) apart r.replays r.split r.forward on.cast);
+        }
 
-    by_way : HasPlayed program captures h nows ⊎ Reaches program captures h nows → (i : ℕ) (u : Machine)
-        → slice_get nows i ≡ Some u → HoldsItsOwn (standing_of program.pool h) u
-    by_way (inl p) i u at = played p i u at
-    by_way (inr r) i u at = reached r i u at
+    by_way : HasPlayed program captures h nows ⊎ Reaches program captures h nows
+        → StandsOnSides program.pool h nows
+    by_way (inl p) = played p
+    by_way (inr r) = reached r
+
+pub users-hold : UsersHoldTheirOwn
+users-hold program captures h nows way =
+    let stands = users-sides program captures h nows way in
+    each-from (HoldsItsOwn (standing_of program.pool h)) nows
+    (λ i u at. let side = stands.sides i u at in holds-by program.pool (standing_of program.pool h) u u.session side.0 refl side.1)

@@ -65,3 +65,11 @@ JoinsUsers =
     (program : Program) (captures : Captures) (history : List Entry) (lists : List (List (List ℕ))) (users : List Machine)
     → HasTurns program captures history lists users
     → AreSplit 0 (length history) (lists_in lists) → HasPlayed program captures history users
+
+-- and a history that plays the script is put together of such turns
+abbrev pub PlayedIsOfTurns : Type 0
+PlayedIsOfTurns =
+    (program : Program) (captures : Captures) (history : List Entry) (users : List Machine)
+    → HasPlayed program captures history users
+    → (lists : List (List (List ℕ)))
+    × (HasTurns program captures history lists users × AreSplit 0 (length history) (lists_in lists))

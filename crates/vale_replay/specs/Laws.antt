@@ -1,5 +1,5 @@
 -- Laws of the histories that play a script, as statements.
-use Rattle.std.specs.Prelude.{ℕ, ◌≡◌, ◌≤◌, ◌↔◌, ◌⊎◌, List, ◌∷◌, ◌++◌, take, Some, length, All}
+use Rattle.std.specs.Prelude.{ℕ, ◌≡◌, ◌≤◌, ◌↔◌, ◌⊎◌, List, [], ◌∷◌, ◌++◌, take, Some, None, length, All}
 use Rattle.std.specs.List.{AllByRecursion}
 use Rattle.vale_entry.specs.declared.entry.Ask.{Ask}
 use Rattle.vale_entry.specs.declared.entry.Entry.{Entry}
@@ -135,3 +135,18 @@ abbrev pub PlayedComesToNone : Type 0
 PlayedComesToNone =
     (program : Program) (captures : Captures) (history : List Entry) (users : List Machine) (user : ℕ) (call : Ask)
     → HasPlayed program captures history users → ¬ ComesTo program captures history user call
+
+-- Behind the closing of each user none has a session, so no session is there, and no port.
+
+abbrev pub HasNoSession : Machine → Type 0
+HasNoSession user = user.session ≡ None
+
+pub record HaveLeft (pool : ℕ) (history : List Entry) (users : List Machine) : Type 0 where
+  pub each : AllByRecursion HasNoSession users
+  pub no_session : (world_of pool history).sessions ≡ []
+  pub no_port : (world_of pool history).ports ≡ []
+
+abbrev pub UsersLeave : Type 0
+UsersLeave =
+    (program : Program) (captures : Captures) (history : List Entry) (users : List Machine)
+    → HasPlayed program captures history users → HaveLeft program.pool history users

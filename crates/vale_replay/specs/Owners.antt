@@ -1,6 +1,6 @@
 -- The five owners of a buffer while a script is played: the pool, a lease, the kernel side of a
 -- ring, a slot of a user, the list of a port's extra buffers.
-use Rattle.std.specs.Prelude.{ℕ, not, ◌==◌, ◌≡◌, ◌≤◌, if◌then◌else◌, List, [], ◌∷◌, ◌++◌, length, map, filter, flat_map, replicate, count_by, take, Option, Some, None}
+use Rattle.std.specs.Prelude.{ℕ, not, ◌==◌, ◌≡◌, if◌then◌else◌, List, [], ◌∷◌, ◌++◌, length, map, filter, flat_map, replicate, count_by, take, Option, Some, None}
 use Rattle.std.specs.List.{range_with_len, AllByRecursion}
 use Rattle.std.specs.Option.{option_map_or}
 use Rattle.nm_types.specs.declared.id.SessionId.{SessionId}
@@ -14,7 +14,7 @@ use Rattle.vale_entry.specs.Legal.{Standing, standing_of}
 use Rattle.vale_own.specs.Side.{buffers_on}
 use Rattle.vale_script.specs.Script.{Program}
 use Rattle.vale_replay.specs.Machine.{Machine}
-use Rattle.vale_replay.specs.Replay.{IsUnderWay}
+use Rattle.vale_replay.specs.Replay.{HasPlayed, IsUnderWay}
 use Rattle.vale_replay.specs.Tasks.{Captures}
 
 pub data Owner : Type 0 where
@@ -80,22 +80,43 @@ abbrev pub HoldsItsOwn : Standing → Machine → Type 0
 HoldsItsOwn s user =
     (b : ℕ) → times_in b (buffers_on user.own) ≡ times_in b (buffers_of_user s user)
 
--- each buffer of the pool has just one owner, and no other index has any
-pub record AreOwnedOnce (pool : ℕ) (s : Standing) (users : List Machine) : Type 0 where
-  pub once : (b : ℕ) → length (owners_of s users b) ≡ (if is_buffer_index pool b then 1 else 0)
-  pub own : AllByRecursion (HoldsItsOwn s) users
-
--- before each entry of a history that plays a script, and after the last one, wherever its users
--- are on their way
-abbrev pub AreAlwaysOwnedOnce : Program → Captures → List Entry → Type 0
-AreAlwaysOwnedOnce program captures history =
-    (count : ℕ) (nows : List Machine) → count ≤ length history
-    → IsUnderWay program captures (take count history) nows
-    → AreOwnedOnce program.pool (standing_of program.pool (take count history)) nows
-
 -- each user of a history under way holds what its session does
 abbrev pub UsersHoldTheirOwn : Type 0
 UsersHoldTheirOwn =
     (program : Program) (captures : Captures) (history : List Entry) (nows : List Machine)
     → IsUnderWay program captures history nows
     → AllByRecursion (HoldsItsOwn (standing_of program.pool history)) nows
+
+-- each buffer of the pool has just one owner, and no other index has any
+abbrev pub AreOwnedOnce : ℕ → Standing → List Machine → Type 0
+AreOwnedOnce pool s users =
+    (b : ℕ) → length (owners_of s users b) ≡ (if is_buffer_index pool b then 1 else 0)
+
+-- so it is wherever the users of a history are on their way
+abbrev pub BuffersHaveOneOwner : Type 0
+BuffersHaveOneOwner =
+    (program : Program) (captures : Captures) (history : List Entry) (nows : List Machine)
+    → IsUnderWay program captures history nows
+    → AreOwnedOnce program.pool (standing_of program.pool history) nows
+
+-- Before each entry of the history, and after the last one, it has brought the users to states in
+-- which each buffer has one owner.
+abbrev pub AreAlwaysOwnedOnce : Program → Captures → List Entry → Type 0
+AreAlwaysOwnedOnce program captures history =
+    (count : ℕ)
+    → (nows : List Machine)
+    × (IsUnderWay program captures (take count history) nows
+    × AreOwnedOnce program.pool (standing_of program.pool (take count history)) nows)
+
+abbrev pub BuffersAlwaysHaveOneOwner : Type 0
+BuffersAlwaysHaveOneOwner =
+    (program : Program) (captures : Captures) (history : List Entry) (nows : List Machine)
+    → IsUnderWay program captures history nows → AreAlwaysOwnedOnce program captures history
+
+-- once a script is played to its end the pool owns all its buffers
+abbrev pub BuffersComeBack : Type 0
+BuffersComeBack =
+    (program : Program) (captures : Captures) (history : List Entry) (users : List Machine) (b : ℕ)
+    → HasPlayed program captures history users
+    → owners_of (standing_of program.pool history) users b
+    ≡ (if is_buffer_index program.pool b then Pool ∷ [] else [])

@@ -5,11 +5,12 @@ ghost use Rattle.vale_replay.specs.Laws.{PlaysOneHistory, UnderWayIsBeginning, U
 ghost use Rattle.vale_replay.specs.Laws.{PlayedIsLegal, PiecesAreOne, ReadsToItsLast, StatesAreOne};
 ghost use Rattle.vale_replay.specs.Laws.{OthersChangeNoCall, PrefixIsUnderWay};
 ghost use Rattle.vale_replay.specs.Laws.{PlayedStatesAreOne, ReachedStatesAreOne};
-ghost use Rattle.vale_replay.specs.Laws.{CallsAreAtOnce, PlayedComesToNone};
+ghost use Rattle.vale_replay.specs.Laws.{CallsAreAtOnce, PlayedComesToNone, UsersLeave};
 ghost use Rattle.vale_replay.specs.Walk.{WalksPlay};
-ghost use Rattle.vale_replay.specs.Joined.{JoinsUsers, TurnsReadToTheirLast, TurnsGoOn};
+ghost use Rattle.vale_replay.specs.Joined.{JoinsUsers, PlayedIsOfTurns, TurnsReadToTheirLast, TurnsGoOn};
 ghost use Rattle.vale_replay.specs.Stops.{UsersStop};
-ghost use Rattle.vale_replay.specs.Owners.{UsersHoldTheirOwn};
+ghost use Rattle.vale_replay.specs.Owners.{UsersHoldTheirOwn, BuffersHaveOneOwner, BuffersAlwaysHaveOneOwner};
+ghost use Rattle.vale_replay.specs.Owners.{BuffersComeBack};
 
 /// At most one history plays a script without blocks.
 pub fn plays_one_history()
@@ -85,6 +86,12 @@ pub fn joins_users()
     ensures { JoinsUsers }
 {}
 
+/// A history that plays a script is put together so: its users play each unit, each by entries of
+/// its own, and these are all entries of the history.
+pub fn played_is_of_turns()
+    ensures { PlayedIsOfTurns }
+{}
+
 /// Where a user of a unit is refused its call, and the other users play or stop, the history up to
 /// that refusal comes to the call.
 pub fn users_stop()
@@ -114,8 +121,29 @@ pub fn played_comes_to_none()
     ensures { PlayedComesToNone }
 {}
 
+/// Once a script is played to its end each user has left, and no session and no port is there.
+pub fn users_leave()
+    ensures { UsersLeave }
+{}
+
 /// Each user of a history that plays a script, or is under way, has in its places just the buffers
 /// that its session holds.
 pub fn users_hold_their_own()
     ensures { UsersHoldTheirOwn }
+{}
+
+/// Each buffer of the pool has just one owner in a history that plays a script or is under way: the
+/// pool, a lease, the kernel side of a ring, a slot of a user or a list of extra buffers.
+pub fn buffers_have_one_owner()
+    ensures { BuffersHaveOneOwner }
+{}
+
+/// So it is before each entry of such a history, and after the last one.
+pub fn buffers_always_have_one_owner()
+    ensures { BuffersAlwaysHaveOneOwner }
+{}
+
+/// Once a script is played to its end the one owner of each buffer is the pool.
+pub fn buffers_come_back()
+    ensures { BuffersComeBack }
 {}
