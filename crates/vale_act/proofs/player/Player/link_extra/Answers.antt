@@ -1,0 +1,10 @@
+use Rattle.std.proofs.Common.{None, sym, subst}
+use Rattle.nm_types.specs.OwnEdits.{with_extra_link}
+use Rattle.vale_own.proofs.SideEditing.{edits-keep}
+use Rattle.nm_user.specs.Sessions.{IsThere}
+use Rattle.nm_user.proofs.Written.{there-edited}
+use Rattle.vale_act.proofs.player.Player.link_extra.Goals as goal
+
+pub invariant_of-self : goal.invariant_of-self
+invariant_of-self c =
+    subst (IsThere None) (sym c.link_extra.ensures) (there-edited (with_extra_link c.in-Some.port.0 c.args.from c.args.to) (edits-keep.extra_link c.in-Some.port.0 c.args.from c.args.to) c.self.invariant)
