@@ -1,3 +1,5 @@
 pub mod Opened
 pub mod Ports
 pub mod Rounds
+mod Comers
+mod Coming

@@ -1,10 +1,11 @@
 //! Measures parts of vale: `bench capture`, `bench pool`, `bench turn`, `bench line`, `bench batch`,
-//! `bench text`.
+//! `bench text`, `bench fabric`.
 //! Without a word each part runs small and prints counts alone.
 #![tactic(auto)]
 
 mod batch;
 mod capture;
+mod fabric;
 mod line;
 mod look;
 mod pool;
@@ -25,6 +26,7 @@ fn main(rt: HostRuntime) -> Result<()> {
             "line" => line::run(&rt, rt.alloc(), true)?,
             "batch" => batch::run(&rt, rt.alloc(), true)?,
             "text" => text::run(&rt, rt.alloc(), true)?,
+            "fabric" => fabric::run(&rt, rt.alloc(), true)?,
             other => println!(&rt; "{other}: no such measurement")?,
         }
     }
@@ -35,6 +37,7 @@ fn main(rt: HostRuntime) -> Result<()> {
         line::run(&rt, rt.alloc(), false)?;
         batch::run(&rt, rt.alloc(), false)?;
         text::run(&rt, rt.alloc(), false)?;
+        fabric::run(&rt, rt.alloc(), false)?;
     }
     Ok(())
 }

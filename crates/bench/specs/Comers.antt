@@ -1,0 +1,20 @@
+-- Users who come through a pass and leave again, and the shares of passes that are cut and joined.
+use Rattle.std.specs.Prelude.{ℕ, true, ◌≡◌, ◌+◌, ◌*◌, ◌^◌, List}
+use Rattle.std.specs.List.{AllByRecursion}
+use Rattle.nm_turn.specs.declared.view.Share.{Share}
+use Rattle.nm_turn.specs.Numbered.{values}
+use Rattle.nm_turn.specs.Shares.{share_of}
+use Rattle.vale_entry.specs.declared.entry.Entry.{Entry}
+use Rattle.vale_own.specs.There.{is_coming, has_left}
+
+-- a user that came as this entry has left by these
+abbrev pub LeavesBy : List Entry → ℕ × Entry → Type 0
+LeavesBy entries made = is_coming made.1 ≡ true → has_left entries made.0 ≡ true
+
+-- who came as one of these entries has left by one of them
+abbrev pub HaveLeft : List (ℕ × Entry) → Type 0
+HaveLeft mine = AllByRecursion (LeavesBy (values mine)) mine
+
+-- the same share, counted at a greater depth
+abbrev pub IsWorth : Share → Share → Type 0
+IsWorth old new = (k : ℕ) × (new ≡ share_of (old.share * 2 ^ k) (old.depth + k))
