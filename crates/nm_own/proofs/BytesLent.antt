@@ -1,5 +1,5 @@
 -- A session all of whose bytes of a buffer are written.
-use Rattle.std.proofs.Common.{ℕ, zero, suc, ◌≡◌, ◌≤◌, true, List, [], ◌∷◌, ◌++◌, length, take, drop, set, Option, Some, None, refl, sym, ◌∙◌, ap, arith}
+use Rattle.std.proofs.Common.{ℕ, zero, suc, ◌≡◌, ◌≤◌, Bool, true, false, List, [], ◌∷◌, ◌++◌, length, take, drop, set, Option, Some, None, refl, sym, ◌∙◌, ap, arith}
 use Rattle.std.proofs.lemmas.List.{length-set, length-take}
 use Rattle.nm_types.specs.declared.place.Place.{Place}
 use Rattle.nm_types.specs.Places.{Held, held_at}
@@ -9,11 +9,11 @@ use Rattle.nm_region.specs.Buffers.{written_over}
 use Rattle.nm_hold.specs.declared.standing.Home.{Home}
 use Rattle.nm_hold.specs.declared.standing.Standing.{Standing}
 use Rattle.nm_hold.specs.Offsets.{has_place}
-use Rattle.nm_hold.specs.Standings.{cell_fronted, cell_written}
-use Rattle.nm_hold.specs.Holds.{HoldState, standing_at, cell_at, places_in, places_of, stands_at, with_cell, with_written as hold_written, is_named_at, IsHold, SamePlaces}
+use Rattle.nm_hold.specs.Standings.{bytes_if, named_bytes_in, cell_fronted, cell_written}
+use Rattle.nm_hold.specs.Holds.{HoldState, standing_at, cell_at, places_in, places_of, stands_at, with_cell, with_written as hold_written, is_named_at, named_bytes_at, IsHold, SamePlaces}
 use Rattle.nm_hold.proofs.Shown.{named_stands}
 use Rattle.nm_own.specs.declared.own.OwnSide.TheInside.{Inside}
-use Rattle.nm_own.specs.Own.{own_seen}
+use Rattle.nm_own.specs.Own.{own_seen, AreWhole}
 use Rattle.nm_own.specs.Kept.{IsKept}
 use Rattle.nm_own.specs.WrittenBytes.{with_all_written}
 use Rattle.nm_own.proofs.Filled.{is_named_seen}
@@ -21,6 +21,18 @@ use Rattle.nm_own.proofs.Written.{fronted_is_seen, fronted_keeps, flagged_kept, 
 
 some_is : {X : Type 0} (x y : X) → Some x ≡ Some y → x ≡ y
 some_is x y e = cc
+
+-- the bytes of a named buffer are all that a buffer has
+pub lent_size : (h : HoldState) (idx : ℕ) (bytes : List ℕ) → AreWhole h → named_bytes_at h idx ≡ Some bytes → length bytes ≡ 2048
+lent_size h idx bytes whole e = by_cell (standing_at h idx) refl e
+  where
+    by_flag : (s : Standing) (named : Bool) → standing_at h idx ≡ Some s → bytes_if named s.buf.bytes ≡ Some bytes → length bytes ≡ 2048
+    by_flag s false there is = absurd cc
+    by_flag s true there is = ap (λ (bs : List ℕ). length bs) (sym (some_is s.buf.bytes bytes is)) ∙ whole idx s there
+
+    by_cell : (cell : Option Standing) → standing_at h idx ≡ cell → named_bytes_in cell ≡ Some bytes → length bytes ≡ 2048
+    by_cell None there is = absurd cc
+    by_cell (Some s) there is = by_flag s s.home.named there is
 
 -- bytes that are written over others are as many
 over_is_front : (new old : List ℕ) → written_over old new ≡ take (length old) new ++ drop (length (take (length old) new)) old

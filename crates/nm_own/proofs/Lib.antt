@@ -41,3 +41,4 @@ pub mod Refilled
 pub mod TakenTx
 pub mod TakenLent
 pub mod PortNames
+pub mod SlotsLent

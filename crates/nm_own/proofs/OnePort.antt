@@ -60,7 +60,7 @@ module _ (id : ℕ) (change : UserPort → UserPort) where
   abbrev pub changed_if : UserPort → UserPort
   changed_if p = if nat_eq p.id.0 id then change p else p
 
-  others_stay : (ports : List UserPort) → AllByRecursion (IsOther id) ports → map changed_if ports ≡ ports
+  pub others_stay : (ports : List UserPort) → AllByRecursion (IsOther id) ports → map changed_if ports ≡ ports
   others_stay [] other = refl
   others_stay (p ∷ ports) other = rw other.0 (ap (λ (xs : List UserPort). p ∷ xs) (others_stay ports other.1))
 

@@ -39,13 +39,13 @@ one_more : (n : ℕ) → 1 + n ≡ suc n
 one_more n = omega arith
 
 module _ (id : ℕ) where
-  abbrev first : List UserPort → ℕ
+  abbrev pub first : List UserPort → ℕ
   first ports = position_or_len (has_id id) ports
 
-  first_here : (p : UserPort) (ports : List UserPort) → nat_eq p.id.0 id ≡ true → first (p ∷ ports) ≡ 0
+  pub first_here : (p : UserPort) (ports : List UserPort) → nat_eq p.id.0 id ≡ true → first (p ∷ ports) ≡ 0
   first_here p ports here = rw here refl
 
-  first_next : (p : UserPort) (ports : List UserPort) → nat_eq p.id.0 id ≡ false → first (p ∷ ports) ≡ suc (first ports)
+  pub first_next : (p : UserPort) (ports : List UserPort) → nat_eq p.id.0 id ≡ false → first (p ∷ ports) ≡ suc (first ports)
   first_next p ports other = rw other (one_more (first ports))
 
   found_out : (ports : List UserPort) (own : UserPort) → first ports < length ports → own ≡ slice_index_or ports (first ports) own → port_at ports id ≡ Some own
@@ -85,6 +85,23 @@ module _ (id : ℕ) where
   others_are_left ports at found once =
       let w = found_by (nat_lt (first ports) (length ports)) (first ports) (length ports) at refl found in
       ap (remove ports) (sym w.0) ∙ others_out ports w.1 once
+
+  -- where the first port of the id stands, and that there is none
+  pub found_at : (ports : List UserPort) (at : ℕ) → position (has_id id) ports ≡ Some at → at ≡ first ports
+  found_at ports at found = sym (found_by (nat_lt (first ports) (length ports)) (first ports) (length ports) at refl found).0
+
+  within_all : (ports : List UserPort) → first ports ≤ length ports
+  within_all [] = omega arith
+  within_all (p ∷ ports) = elim (cases_Bool (nat_eq p.id.0 id)) [
+    | inl here ↦ (let e = first_here p ports here in omega (arith, e))
+    | inr other ↦ (let next = first_next p ports other in let rest = within_all ports in omega (arith, next, rest))
+  ]
+
+  pub missed_at : (ports : List UserPort) → position (has_id id) ports ≡ None → length ports ≡ first ports
+  missed_at ports none =
+      let beyond = missed_by (nat_lt (first ports) (length ports)) (first ports) (length ports) refl none in
+      let within = within_all ports in
+      omega (arith, beyond, within)
 
   pub none_there : (ports : List UserPort) → position (has_id id) ports ≡ None → IsSome (port_at ports id) → ⊥
   none_there ports none some = no_some (rw (none_out ports (missed_by (nat_lt (first ports) (length ports)) (first ports) (length ports) refl none)) at some)

@@ -23,3 +23,4 @@ pub mod Lending
 pub mod LentBack
 pub mod LentOffers
 pub mod PortNames
+pub mod LentSlots

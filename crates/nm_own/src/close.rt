@@ -73,7 +73,7 @@ impl OwnSide {
 }
 
 /// The place of a port in a list.
-fn place_of_port(ports: &[UserPort], port: PortId) -> Option<usize>
+pub(crate) fn place_of_port(ports: &[UserPort], port: PortId) -> Option<usize>
     ensures { result ≡ position (has_id port.0) ports.now }
 {
     ports.iter().position(|own| own.id.0 == port.0)

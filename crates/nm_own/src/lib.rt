@@ -21,6 +21,7 @@ mod own_tests;
 mod port;
 mod receive;
 mod reset;
+mod slot_lent;
 mod slot_ring;
 mod slots;
 #[cfg(test)]

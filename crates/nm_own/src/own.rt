@@ -43,6 +43,7 @@ use crate::open::{NewPort, add_last};
 use crate::port::UserPort;
 use crate::receive::{clear_behind, publish_at};
 use crate::reset::reset_rings;
+use crate::slot_lent::{index_of_port, slot_in};
 use crate::slot_ring::SlotRing;
 use nm_extra::relink;
 use nm_hold::Hold;
@@ -112,6 +113,7 @@ fn slot_at_head(ring: &SlotRing) -> Option<Slot>
 
 impl OwnSide {
     ghost use Rattle.nm_own.specs.LentBytes.{LendsBytesAt, LendsNamedAt};
+    ghost use Rattle.nm_own.specs.LentSlots.{LendsSlotAt};
 
     /// An own side without ports, for a pool of `buffers` buffers.
     pub fn new(alloc: Global, buffers: u32) -> Result<OwnSide, NoMemory>
@@ -289,11 +291,12 @@ impl OwnSide {
         self.hold.named(idx)
     }
 
-    /// The bytes, to be written, of a buffer that the user may name.
-    fn lend(&mut self, idx: u32) -> &mut [u8]
+    /// The bytes, to be written, of a buffer that the user may name; its index is one of those.
+    pub fn lend(&mut self, idx: u32) -> &mut [u8]
         requires { contains_index (named_of self.old.own) idx ≡ true }
         ensures* writes_back { sem 𝓛 (LendsBytesAt self.entry idx result) }
         ensures bytes { named_bytes self.old.own idx ≡ Some result.now }
+        ensures size { length result.now ≡ 2048 }
     {
         self.hold.lend(idx)
     }
@@ -360,6 +363,16 @@ impl OwnSide {
             Some(ring) => ring.slot(at),
             None => None,
         }
+    }
+
+    /// One of the user's slots, to be written; none if it is not the user's. The own side then has
+    /// what was written there, and is otherwise unchanged.
+    pub fn slot_mut(&mut self, port: PortId, side: Side, at: u32) -> Option<&mut Slot>
+        ensures* writes_back { sem 𝓛 (LendsSlotAt self.entry side port.0 at result) }
+        ensures slot { option_copied_mut result ≡ user_slot_at side self.old.own port.0 at }
+    {
+        let index = index_of_port(&self.ports, port);
+        slot_in(&mut self.ports, index, side, at)
     }
 
     /// Writes one of the user's slots; does nothing if it is not the user's.

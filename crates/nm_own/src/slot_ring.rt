@@ -1,6 +1,7 @@
 ghost use Rattle.std.specs.Prelude.{ℕ, ◌≡◌, ◌<◌, ◌≤◌, ◌++◌, ◌∷◌, [], None, Some, IfSome, IfOk};
-ghost use Rattle.std.specs.Prelude.{option_map, drop, length, map, true, ◌+◌};
-ghost use Rattle.std.specs.Option.{option_copied};
+ghost use Rattle.std.specs.Prelude.{option_map, drop, length, map, false, true, ◌+◌};
+ghost use Rattle.std.specs.Borrow.{sem};
+ghost use Rattle.std.specs.Option.{option_copied, option_copied_mut};
 ghost use Rattle.nm_types.specs.Positions.{IsRing, IsRingSize, is_user_slot, opened_tx};
 ghost use Rattle.nm_types.specs.Positions.{opened_rx};
 ghost use Rattle.nm_types.specs.Slots.{published_slot};
@@ -61,6 +62,8 @@ fn dist(size: u32, from: u32, to: u32) -> u32
 }
 
 impl SlotRing {
+    ghost use Rattle.nm_own.specs.LentSlots.{LendsUserSlot};
+
     /// The positions of the ring.
     pub(crate) fn ring(&self) -> &Ring
         ensures ring { result.now ≡ self.now.ring }
@@ -208,6 +211,32 @@ impl SlotRing {
         } else {
             None
         }
+    }
+
+    /// Where the slot of a position is in the list of slots, if it is one of the user's, and else
+    /// behind the list.
+    fn user_index(&self, at: u32) -> usize
+        ensures user { is_user_slot self.now.ring at ≡ true
+            → result ≡ index_of self.now.side self.now.ring at }
+        ensures within { is_user_slot self.now.ring at ≡ true
+            → result < length self.now.slots }
+        ensures other { is_user_slot self.now.ring at ≡ false
+            → length self.now.slots ≤ result }
+    {
+        if self.is_user_slot(at) {
+            self.index_of(at)
+        } else {
+            self.slots.len()
+        }
+    }
+
+    /// The slot at a position, to be written, if it is one of the user's.
+    pub(crate) fn slot_mut(&mut self, at: u32) -> Option<&mut Slot>
+        ensures* writes_back { sem 𝓛 (LendsUserSlot self.entry at result) }
+        ensures slot { option_copied_mut result ≡ slot_of_user self.old at }
+    {
+        let index = self.user_index(at);
+        self.slots.get_mut(index)
     }
 
     /// Writes the slot at a position, if it is one of the user's.

@@ -14,7 +14,7 @@ pub use bytes::Bytes;
 pub use fault::PcapFault;
 pub use reading::read;
 pub use record::Record;
-pub use writing::{write_header, write_record};
+pub use writing::{header, record_head, write_header, write_record};
 
 /// The most captured bytes of a record.
 pub const MAX_CAPTURED: u32 = 262_144;

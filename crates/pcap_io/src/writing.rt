@@ -13,6 +13,13 @@ const HEADER: [u8; 24] = [
     0xd4, 0xc3, 0xb2, 0xa1, 2, 0, 4, 0, 0, 0, 0, 0, 0, 0, 0, 0, 0, 0, 4, 0, 1, 0, 0, 0,
 ];
 
+/// The header of a capture, as it is written.
+pub fn header() -> [u8; 24]
+    ensures { result ≡ header_text }
+{
+    HEADER
+}
+
 /// Writes the header of a capture. If it fails, a prefix of the header was written.
 pub fn write_header<K: Sink>(out: &mut K) -> Result<(), Failed>
     ensures writes { Writes (K.holds out.old) (K.holds out.new) result header_text }
@@ -41,9 +48,10 @@ pub fn write_record<K: Sink>(
     put_all(out, bytes)
 }
 
-/// The four numbers before a record's captured bytes.
+/// The four numbers before a record's captured bytes, of which there are `len`: all that the frame
+/// has. `fraction` is in microseconds.
 #[tactic(auto, unfolding(crate::specs::Written::head_text))]
-fn record_head(seconds: u32, fraction: u32, len: u32) -> [u8; 16]
+pub fn record_head(seconds: u32, fraction: u32, len: u32) -> [u8; 16]
     ensures { result ≡ head_text seconds fraction len }
 {
     let mut head = [0; 16];

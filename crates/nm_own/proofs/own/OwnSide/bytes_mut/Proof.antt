@@ -112,7 +112,7 @@ bytes_mut_spec 𝓤 𝓛 𝓜 𝓡 wired =
     (and_then ! (get ! refl) (and_then ! (get ! refl) (no_more !))) (λ v'.
     let Lent = MutSlice (named 0) κ u8 in
     use1 𝓛 (later (some (λ (s : MutBor (List ℕ)). ((‵ (flft κ q) ⊛ ‵ ftrue) ⊛ ‵ (Lent.own_val s (v' ∷ []))) ⊛
-    some (λ (ws : Unit {0} × (Unit {0} × Unit {0})). ‵ (lasts k.ended κs a ws) ⊛ (‵ (LendsBytesAt r i s) ⊛ raw (fact 𝓤 (named_bytes r.now.own i ≡ Some s.now))))))) (id⊢ 𝓤 _) $
+    some (λ (ws : Unit {0} × (Unit {0} × Unit {0})). ‵ (lasts k.ended κs a ws) ⊛ (‵ (LendsBytesAt r i s) ⊛ (raw (fact 𝓤 (named_bytes r.now.own i ≡ Some s.now)) ⊛ raw (fact 𝓤 (length s.now ≡ 2048)))))))) (id⊢ 𝓤 _) $
     await ! tt $ pick ! (λ s. split ! $ split ! $ split ! $ move ! (2 ∷ []) $
     peeks ! Lent _ (shows 𝓛 Lent) s (v' ∷ []) (λ is.
     let told' : v' ∷ [] ≡ mut_slice_vals s = mut_slice_Tells (named 0) κ u8 s (v' ∷ []) is in
@@ -120,13 +120,13 @@ bytes_mut_spec 𝓤 𝓛 𝓜 𝓡 wired =
     lands_as ! (ap only told') refl (tt, (tt, (record { fits = is.0.1.0 }, tt))) $
     rewrite ! 0 (λ (us : List Val). ‵ (Lent.own_val s us)) told' refl $
     sets_last ! (agg ! (and_then ! (lit ! tt) (and_then ! (get ! refl) (no_more !)))) refl (tt, (record { fits = lit< tt }, ((tt, (record { fits = is.0.1.0 }, tt)), tt))) $
-    move ! (3 ∷ []) $ pick ! (λ ws'. split ! $ move ! (1 ∷ []) $ split ! $ move ! (1 ∷ []) $ heard ! _ (λ bytes.
+    move ! (3 ∷ []) $ pick ! (λ ws'. split ! $ move ! (1 ∷ []) $ split ! $ move ! (1 ∷ []) $ split ! $ heard ! _ (λ bytes. heard ! _ (λ size.
     exec ! 𝓣.C 𝓣.Λ (env code.Mir.locals l) code.Mir.t-4 (at_ret _ (W.post y)) $
     sets ! (of_opd ! (get ! refl)) refl (tt, (record { fits = lit< tt }, ((tt, (record { fits = is.0.1.0 }, tt)), tt))) $
     returns ! (look_at ! 0 refl) $ free_all ! refl $ keep ! (2 ∷ 3 ∷ 0 ∷ []) $
     use1 𝓛 (‵ ((OP.the_row Lent).own_val (Some s) (live 1 (of_list (w ∷ [])) ∷ []))) (Some-of 𝓛 Lent s w) $
     suffices ! _ (ends_at 𝓛 f.ended stayed c y (live 1 (of_list (w ∷ []))) (Some s) (tt, (tt, tt)) (tt, (tt, tt))) $
-    nothing ! $ nothing ! $ fjoin ! $ nothing ! $ fjoin ! $ join ! $ nothing ! $ move ! (2 ∷ 0 ∷ []) $ join ! $ join ! $ frame ! $ says ! (sym bytes) $ done !))))))
+    nothing ! $ nothing ! $ fjoin ! $ nothing ! $ fjoin ! $ join ! $ nothing ! $ move ! (2 ∷ 0 ∷ []) $ join ! $ join ! $ frame ! $ says ! (sym bytes) $ done !)))))))
     -- no named one: the own side ends as it is
     (λ t. sets_last ! (agg ! (and_then ! (lit ! tt) (no_more !))) refl (tt, (record { fits = lit< tt }, tt)) $
     exec ! 𝓣.C 𝓣.Λ (env code.Mir.locals l) code.Mir.t-4 (at_ret _ (W.post y)) $

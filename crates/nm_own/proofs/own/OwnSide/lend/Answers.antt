@@ -5,7 +5,7 @@ use Rattle.nm_own.specs.Own.{own_seen}
 use Rattle.nm_own.proofs.Filled.{is_named_seen}
 use Rattle.nm_own.proofs.Linking.{named_bytes_seen}
 use Rattle.nm_own.specs.WrittenBytes.{with_all_written}
-use Rattle.nm_own.proofs.BytesLent.{kept_written, written_is_seen}
+use Rattle.nm_own.proofs.BytesLent.{kept_written, written_is_seen, lent_size}
 use Rattle.nm_hold.specs.Holds.{with_written as hold_written}
 use Rattle.nm_own.proofs.Regions.{same_side, regions_written}
 use Rattle.nm_own.proofs.own.OwnSide.lend.Goals as goal
@@ -29,6 +29,7 @@ returns c =
       (refl, λ w. same_side h (hold_written h c.args.idx w) ports ports c.args.self.now (λ (s : OwnState). with_all_written s c.args.idx w) c.self.view_is (regions_written h c.args.idx w) (written_is_seen c.self.inside kept c.args.idx w named)),
       record {
         writes_back = tt;
+        size = lent_size h c.args.idx c.lend.result.now kept.whole c.lend.ensures.bytes;
         bytes = rw (← c.self.view_is) (sym (named_bytes_seen h ports c.args.idx kept.hold kept.sided kept.rings kept.flagged kept.filled) ∙ c.lend.ensures.bytes);
       },
     )
