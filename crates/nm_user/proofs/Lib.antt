@@ -18,3 +18,9 @@ pub mod TransmitsPut
 pub mod TransmitsTold
 pub mod TransmitsLent
 pub mod TransmitsCome
+pub mod SavingRing
+pub mod SavingRead
+pub mod SavingCopies
+pub mod SavingHistory
+pub mod SavingSights
+pub mod SavingReads

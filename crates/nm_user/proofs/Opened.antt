@@ -228,8 +228,8 @@ module _ (s : SessionState) (w : Knowing) (name : List ℕ) (tx rx extra : ℕ) 
   unopened NoMemory a = record { refused = inr a; same = refl }
 
 -- the buffers of a side that a port is added to are of the region of those that were there and those that came
-pub opened-region : (region : ℕ) (old new : Option SideState) (was now : SideState) (tx extra : List Buffer) → old ≡ Some was → new ≡ Some now → AllOf region was
-    → (IfSome old (AllOf region) → AreOf region tx → AreOf region extra → IfSome new (AllOf region)) → AreOf region tx × AreOf region extra → AllOf region now
-opened-region region old new was now tx extra had has all grows come =
+pub opened-region : (region : ℕ) (old new : Option SideState) (was grown : SideState) (tx extra : List Buffer) → old ≡ Some was → new ≡ Some grown → AllOf region was
+    → (IfSome old (AllOf region) → AreOf region tx → AreOf region extra → IfSome new (AllOf region)) → AreOf region tx × AreOf region extra → AllOf region grown
+opened-region region old new was grown tx extra had has all grows come =
     let before : IfSome old (AllOf region) = subst (λ (o : Option SideState). IfSome o (AllOf region)) (sym had) all in
     subst (λ (o : Option SideState). IfSome o (AllOf region)) has (grows before come.0 come.1)

@@ -61,7 +61,7 @@ use Rattle.nm_user.proofs.ReceivesCome.{arrivals-are, can-come}
 
 -- ---- the call
 
-call-of : (pipe : Bool) (id : PortId) (back : List ℕ) → (let get : Ask = Get id back in let sync : Ask = Sync id back in if pipe then get else sync) ≡ read_ask pipe id back
+pub call-of : (pipe : Bool) (id : PortId) (back : List ℕ) → (let get : Ask = Get id back in let sync : Ask = Sync id back in if pipe then get else sync) ≡ read_ask pipe id back
 call-of true id back = refl
 call-of false id back = refl
 
@@ -165,7 +165,7 @@ stepped-at now port back test (Some p) session reply there e = by (test p) e
     by true is = record { at = p; found = there; session_is = ap made-by is; reply_is = ap made-reply is }
     by false is = absurd cc
 
-stepped : (pipe : Bool) (now : Standing) (port : PortId) (back : List ℕ) (session : ℕ) (reply : Reply) → option_map session_and_reply (step now (read_ask pipe port back)) ≡ Some (session, reply) → Stepped now port back session reply
+pub stepped : (pipe : Bool) (now : Standing) (port : PortId) (back : List ℕ) (session : ℕ) (reply : Reply) → option_map session_and_reply (step now (read_ask pipe port back)) ≡ Some (session, reply) → Stepped now port back session reply
 stepped true now port back session reply e = stepped-at now port back (can_get now back) (open_port now.world.ports port.0) session reply refl e
 stepped false now port back session reply e = stepped-at now port back (can_sync now back) (open_port now.world.ports port.0) session reply refl e
 

@@ -78,7 +78,7 @@ side-past pool past (e ∷ es) session shut side legal each of =
         (subst (λ (o : Option ℕ). IsSoundSideOf pool e.session.0 o (own_of e.session.0 (standing_of pool (past ++ e ∷ []))) (own_by (length past + 1) e.ask e.reply came side)) (still.same shut) kept))
 
 -- whether a number is among those of some entries, and where
-stands-or : (n : ℕ) (xs : List (ℕ × Entry)) → ((k : ℕ) × (e : Entry) × (slice_get xs k ≡ Some (n, e))) ⊎ (Stands n xs → ⊥)
+pub stands-or : (n : ℕ) (xs : List (ℕ × Entry)) → ((k : ℕ) × (e : Entry) × (slice_get xs k ≡ Some (n, e))) ⊎ (Stands n xs → ⊥)
 stands-or n [] = inr (λ s. s)
 stands-or n (x ∷ xs) = dite (ℕ_discrete n x.0)
     (λ e. let is : slice_get (x ∷ xs) 0 ≡ Some (n, x.1) = ap (λ (m : ℕ). Some (m, x.1)) (sym e) in inl (0, x.1, is))

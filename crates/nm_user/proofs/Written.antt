@@ -1,9 +1,15 @@
 -- What a user writes on its own side between its calls.
-use Rattle.std.proofs.Common.{ℕ, ◌≡◌, Option, Some, None, refl, sym, ap, subst, ◌∙◌}
+use Rattle.std.proofs.Common.{ℕ, ◌≡◌, List, take, Option, Some, None, option_map, refl, sym, ap, subst, ◌∙◌}
 use Rattle.nm_types.specs.OwnPorts.{OwnState}
+use Rattle.nm_types.specs.declared.id.Side.{Side}
+use Rattle.nm_types.specs.Slots.{SlotState}
+use Rattle.nm_types.specs.OwnEdits.{with_user_slot, with_written}
+use Rattle.nm_own.specs.LentSlots.{side_with_slot}
 use Rattle.nm_own.specs.Regions.{SideState, AllOf}
+use Rattle.nm_own.specs.WrittenBytes.{side_written}
 use Rattle.vale_own.specs.Own.{own_of}
 use Rattle.vale_own.specs.SideEdits.{KeepsSides}
+use Rattle.vale_own.proofs.SideEditing.{edits-keep}
 use Rattle.vale_fabric.specs.Fabrics.{fixed_in}
 use Rattle.nm_user.specs.declared.session.Session.TheInside.{Inside}
 use Rattle.nm_user.specs.Sessions.{SessionState, IsThere, IsSession, standing_seen, session_seen, own_in}
@@ -37,3 +43,15 @@ session-edited i was new edit keeps is had made = record {
   region = region-kept i was new (edit was.own) is had made;
   there = subst (λ (o : OwnState). IsThere None (record (session_seen i) { own = o })) (ap (λ (o : Option SideState). edit (own_in o)) had ∙ sym (ap (λ (side : SideState). side.own) made)) (there-edited edit keeps is.there);
 }
+
+-- the same of a session whose own side is there, and was lent to be edited
+pub session-by : (i : Inside) → IsSession i → (change : SideState → SideState) (edit : OwnState → OwnState) → KeepsSides edit → ((side : SideState) → change side ≡ record side { own = edit side.own })
+    → IsSession (record i { own = option_map change i.own })
+session-by i is change edit keeps made =
+    subst (λ (o : Option SideState). IsSession (record i { own = o })) (sym (ap (option_map change) is.own_is)) (session-edited i is.own (change is.own) edit keeps is is.own_is (made is.own))
+
+pub session-lent : (i : Inside) → IsSession i → (idx : ℕ) (bytes : List ℕ) → IsSession (record i { own = option_map (λ (s : SideState). side_written s idx bytes) i.own })
+session-lent i is idx bytes = session-by i is (λ (s : SideState). side_written s idx bytes) (with_written idx (take 2048 bytes)) (edits-keep.written idx (take 2048 bytes)) (λ side. refl)
+
+pub session-slot-lent : (i : Inside) → IsSession i → (side : Side) (id at : ℕ) (slot : SlotState) → IsSession (record i { own = option_map (λ (s : SideState). side_with_slot s side id at slot) i.own })
+session-slot-lent i is side id at slot = session-by i is (λ (s : SideState). side_with_slot s side id at slot) (with_user_slot side id at slot) (edits-keep.user_slot side id at slot) (λ side. refl)

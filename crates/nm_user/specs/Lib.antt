@@ -7,3 +7,7 @@ pub mod Receives
 pub mod Leaving
 pub mod Receiving
 pub mod Offering
+pub mod Saving
+pub mod PortReads
+pub mod LentSides
+pub mod LentBytes

@@ -2,12 +2,14 @@
 #![tactic(auto)]
 
 mod acts;
+pub mod laws;
 mod leaving;
 mod opening;
 mod passes;
 mod putting;
 mod reading;
 mod receiving;
+mod saving;
 mod sending;
 mod session;
 #[cfg(test)]

@@ -1,6 +1,7 @@
 //! What a user reads of its own side.
-ghost use Rattle.std.specs.Prelude.{◌≡◌, None, option_map, option_and_then};
-ghost use Rattle.std.specs.Option.{option_copied};
+ghost use Rattle.std.specs.Prelude.{◌≡◌, false, None, is_some, option_map, option_and_then};
+ghost use Rattle.std.specs.Option.{option_copied, option_map_or};
+ghost use Rattle.nm_types.specs.Names.{is_monitor_name};
 ghost use Rattle.nm_types.specs.OwnPorts.{OwnPort, ring_at, port_with_id, port_with_name};
 ghost use Rattle.nm_types.specs.OwnEdits.{user_slot_at};
 ghost use Rattle.nm_own.specs.Own.{ring_of};
@@ -29,6 +30,32 @@ impl<'f> Session<'f> {
         match &self.own {
             Some(own) => own.port_named(name),
             None => None,
+        }
+    }
+
+    /// Whether the session has a port.
+    pub fn has_port(&self, port: PortId) -> bool
+        ensures { result ≡ is_some (port_with_id self.now.own port.0) }
+    {
+        match &self.own {
+            Some(own) => own.has_port(port),
+            None => false,
+        }
+    }
+
+    /// Whether a port is one of the session's, and a monitor: `watch` asks for one.
+    pub fn is_monitor(&self, port: PortId) -> bool
+        ensures { result
+            ≡ option_map_or (λ (p : OwnPort). is_monitor_name p.name)
+            (port_with_id self.now.own port.0) false }
+    {
+        let name = match &self.own {
+            Some(own) => own.name(port),
+            None => None,
+        };
+        match name {
+            Some(name) => name.is_monitor(),
+            None => false,
         }
     }
 

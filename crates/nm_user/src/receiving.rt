@@ -13,6 +13,7 @@ ghost use Rattle.nm_own.specs.Opening.{IsNew};
 ghost use Rattle.nm_own.specs.Own.{refusal_at};
 ghost use Rattle.nm_own.specs.Receives.{can_receive, own_with_arrival};
 ghost use Rattle.nm_own.specs.Regions.{AllOf, AreOf, IsBufferOf};
+ghost use Rattle.vale_entry.specs.Legal.{fits_fault};
 ghost use Rattle.vale_line.specs.Gots.{buffers_of};
 ghost use Rattle.vale_core.specs.Reading.{read_ask};
 ghost use Rattle.vale_fabric.specs.Fabrics.{IsPassIn, fixed_in, knowing, MayIn, RefusesIn};
@@ -261,7 +262,8 @@ impl<'f> Session<'f> {
     /// Records that a check refused a receive sync, and resets the ring. Answers with that refusal,
     /// or with what the record has no room for, which leaves the ring as it is.
     fn refuse_receive<R: Wait>(&mut self, rt: &R, port: PortId, fault: SyncFault) -> SyncFault
-        requires { refusal_at Rx port.0 self.old.own ≡ Some fault }
+        requires refused { refusal_at Rx port.0 self.old.own ≡ Some fault }
+        requires fits { fits_fault fault ≡ true }
         ensures { ReceivesNot self.old self.new port.0 result }
     {
         match self.reset(rt, port, Side::Rx, fault) {

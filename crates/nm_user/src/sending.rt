@@ -34,34 +34,6 @@ pub struct Sent {
     pub shares: Shares,
 }
 
-/// Whether the numbers of a refusal fit their fields.
-fn fits(fault: &SyncFault) -> bool
-    ensures { fits_fault fault.now ≡ true }
-{
-    match fault {
-        SyncFault::HeadOut { head, from, to } => {
-            (*head <= u32::MAX) & (*from <= u32::MAX) & (*to <= u32::MAX)
-        }
-        SyncFault::CurOut { cur, from, to } => {
-            (*cur <= u32::MAX) & (*from <= u32::MAX) & (*to <= u32::MAX)
-        }
-        SyncFault::Indirect { slot } | SyncFault::Fragment { slot } => *slot <= u32::MAX,
-        SyncFault::IndexOut { slot, idx }
-        | SyncFault::NotHeld { slot, idx }
-        | SyncFault::Doubled { slot, idx } => (*slot <= u32::MAX) & (*idx <= u32::MAX),
-        SyncFault::Unannounced { slot, idx, was } => {
-            (*slot <= u32::MAX) & (*idx <= u32::MAX) & (*was <= u32::MAX)
-        }
-        SyncFault::LongLen { slot, len } => (*slot <= u32::MAX) & (*len <= u16::MAX),
-        SyncFault::RecordFull {
-            what: _,
-            used,
-            want,
-        } => { (*used <= u64::MAX) & (*want <= u64::MAX) }
-        SyncFault::PeerGone | SyncFault::NoMemory => true,
-    }
-}
-
 impl<'f> Session<'f> {
     /// Sends what is pushed at a port's transmit ring, and settles what it offers. The gate is
     /// passed after each grant that gave a lease, after its filling and after its completion. A
@@ -107,6 +79,7 @@ impl<'f> Session<'f> {
     pub(crate) fn check(&mut self, port: PortId, side: Side) -> Result<(), SyncFault>
         requires { IsSome (ring_at side self.old.own port.0) }
         ensures refusal { TellsRefusal result (refusal_at side port.0 self.old.own) }
+        ensures fits { IfErr result (λ fault. fits_fault fault ≡ true) }
         ensures same { self.new ≡ self.old }
     {
         match &mut self.own {
@@ -123,12 +96,12 @@ impl<'f> Session<'f> {
         side: Side,
         fault: SyncFault,
     ) -> Result<(), StepFault>
-        requires { refusal_at side port.0 self.old.own ≡ Some fault }
+        requires refused { refusal_at side port.0 self.old.own ≡ Some fault }
+        requires fits { fits_fault fault ≡ true }
         ensures made { OnOk result (Made self.old self.new (asks.Reset port side fault)
             replies.Made) }
         ensures full { IfErr result (MadeNone self.old self.new (asks.Reset port side fault)) }
     {
-        fits(&fault);
         self.fabric.reset(rt, &mut self.pass, port, side, &fault)?;
         match &mut self.own {
             Some(own) => own.reset(port, side),
@@ -140,7 +113,8 @@ impl<'f> Session<'f> {
     /// Records that a check refused a transmit sync, and resets the ring. Answers with that
     /// refusal, or with what the record has no room for, which leaves the ring as it is.
     fn refuse_transmit<R: Wait>(&mut self, rt: &R, port: PortId, fault: SyncFault) -> SyncFault
-        requires { refusal_at Tx port.0 self.old.own ≡ Some fault }
+        requires refused { refusal_at Tx port.0 self.old.own ≡ Some fault }
+        requires fits { fits_fault fault ≡ true }
         ensures { TransmitsNot self.old self.new port.0 result }
     {
         match self.reset(rt, port, Side::Tx, fault) {

@@ -3,7 +3,6 @@ use Rattle.nm_types.specs.OwnPorts.{OwnState}
 use Rattle.nm_types.specs.OwnSyncs.{own_after_reset}
 use Rattle.nm_own.specs.Own.{refusal_at}
 use Rattle.nm_own.specs.Regions.{SideState}
-use Rattle.vale_entry.specs.Legal.{fits_fault}
 use Rattle.vale_fabric.specs.Fabrics.{knowing}
 use Rattle.nm_user.specs.Sessions.{SessionState, IsThere, own_in, session_seen}
 use Rattle.nm_user.proofs.After.{there-still}
@@ -14,8 +13,8 @@ use Rattle.nm_user.proofs.session.Session.reset.Goals as goal
 
 pub reset-requires-clause-may : goal.reset-requires-clause-may
 reset-requires-clause-may g c =
-    let refused = subst (λ (s : SessionState). refusal_at c.args.side c.args.port.0 s.own ≡ Some c.args.fault) (sym c.self.view_is) c.requires in
-    let fits : fits_fault c.args.fault ≡ true = c.fits.ensures in
+    let refused = subst (λ (s : SessionState). refusal_at c.args.side c.args.port.0 s.own ≡ Some c.args.fault) (sym c.self.view_is) c.requires.refused in
+    let fits = c.requires.fits in
     may c.self.invariant.there (reset-asks c.args.side c.args.port c.args.fault c.self.invariant.there refused fits)
 
 pub invariant_of-self : goal.invariant_of-self
@@ -30,8 +29,8 @@ invariant_of-self g c = record {
 pub invariant_of-self-2 : goal.invariant_of-self-2
 invariant_of-self-2 g c =
     let s = session_seen c.self.inside in
-    let refused = subst (λ (s : SessionState). refusal_at c.args.side c.args.port.0 s.own ≡ Some c.args.fault) (sym c.self.view_is) c.requires in
-    let fits : fits_fault c.args.fault ≡ true = c.fits.ensures in
+    let refused = subst (λ (s : SessionState). refusal_at c.args.side c.args.port.0 s.own ≡ Some c.args.fault) (sym c.self.view_is) c.requires.refused in
+    let fits = c.requires.fits in
     let asks = reset-asks {s = s} c.args.side c.args.port c.args.fault c.self.invariant.there refused fits in
     let own : c.reset-in-Some.new.self.own ≡ own_after_reset c.args.port.0 c.args.side s.own =
     ap (λ (side : SideState). side.own) c.reset-in-Some.ensures ∙ ap (own_after_reset c.args.port.0 c.args.side) (sym (ap own_in c.in-Some.is)) in
