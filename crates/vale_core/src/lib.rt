@@ -27,7 +27,7 @@ mod tests;
 mod wanting;
 mod watching;
 
-pub use asking::PortSeen;
+pub use asking::{PortSeen, Ready};
 pub use book::Book;
 pub use fault::PutFault;
 pub use finishing::LeasesOut;

@@ -18,3 +18,11 @@ pub mod Granted
 pub mod Completed
 pub mod Asked
 pub mod Sought
+pub mod Exchanges
+pub mod Copied
+pub mod Framing
+pub mod PortReads
+pub mod PortPuts
+pub mod Continuing
+pub mod NextAsks
+pub mod NextPorts

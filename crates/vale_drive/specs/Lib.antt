@@ -7,3 +7,10 @@ pub mod Opening
 pub mod Replies
 pub mod Filling
 pub mod Granting
+pub mod Copies
+pub mod Exchange
+pub mod Reading
+pub mod Putting
+pub mod Running
+pub mod Winding
+pub mod Turns

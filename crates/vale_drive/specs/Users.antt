@@ -181,3 +181,15 @@ is_lease id lease = lease.id == id
 -- it has this lease
 abbrev pub has_lease : ℕ → User → Bool
 has_lease id user = list_any (is_lease id) user.leases.items
+
+-- it has offers, and one of them is next
+abbrev pub is_sent_some : Option Sent → Bool
+is_sent_some None = false
+is_sent_some (Some sent) = not (length sent.offers.wants == 0)
+
+abbrev pub has_next : User → Bool
+has_next user = is_sent_some user.sent
+
+-- it has leases
+abbrev pub has_some_lease : User → Bool
+has_some_lease user = not (length user.leases.items == 0)

@@ -11,6 +11,8 @@ use crate::finishing::finish;
 use crate::granting::{grant, place_of_origin};
 use crate::noting::stats;
 use crate::opening::open;
+use crate::putting::put;
+use crate::reading::read;
 use crate::resetting::reset;
 use crate::sending::send;
 use crate::shutting::shut;
@@ -19,7 +21,7 @@ use crate::watching::watch;
 use nm_types::{Batch, Chain, LeaseId, Name, PortId, SessionId, Side, Sides, StepFault, SyncFault};
 use std::alloc::Global;
 use vale_core::{Book, PortSeen};
-use vale_entry::Reply;
+use vale_entry::{Item, Reply};
 
 /// What stands of an open port, and the place of its session.
 fn owner_of(book: &Book, users: &[User], port: PortId) -> Option<(PortSeen, usize)>
@@ -36,7 +38,7 @@ fn owner_of(book: &Book, users: &[User], port: PortId) -> Option<(PortSeen, usiz
 }
 
 /// What stands of a port that is shut and not gone, and the place of its session.
-fn owner_of_shut(book: &Book, users: &[User], port: PortId) -> Option<(PortSeen, usize)>
+pub(crate) fn owner_of_shut(book: &Book, users: &[User], port: PortId) -> Option<(PortSeen, usize)>
     requires { AreUsersOf book.now users.now }
     ensures some { IfSome result (λ owner.
         IsOwner users.now (shutting_port (standing book.now).world.ports port.0) owner.0 owner.1) }
@@ -192,5 +194,59 @@ pub(crate) fn done_at(book: &mut Book, users: &mut Vec<User>, lease: LeaseId) ->
     match place_of_lease(users, lease) {
         Some(place) => done(book, &mut users[place], lease),
         None => None,
+    }
+}
+
+/// Buffers come back to a switch port or a monitor, and what is ready is given, if its session may.
+pub(crate) fn sync_at(
+    alloc: Global,
+    book: &mut Book,
+    users: &mut Vec<User>,
+    port: PortId,
+    back: &[u32],
+) -> Result<Option<Reply>, StepFault>
+    requires { AreUsersOf book.old users.old.items }
+    ensures served { IsServed book.old book.new (asks.Sync port back.now) result }
+    ensures kept { AreUsersOf book.new users.new.items }
+{
+    match owner_of(book, users, port) {
+        Some((seen, place)) => read(alloc, book, &mut users[place], port, seen, false, back),
+        None => Ok(None),
+    }
+}
+
+/// `sync_at` of a pipe end.
+pub(crate) fn get_at(
+    alloc: Global,
+    book: &mut Book,
+    users: &mut Vec<User>,
+    port: PortId,
+    back: &[u32],
+) -> Result<Option<Reply>, StepFault>
+    requires { AreUsersOf book.old users.old.items }
+    ensures served { IsServed book.old book.new (asks.Get port back.now) result }
+    ensures kept { AreUsersOf book.new users.new.items }
+{
+    match owner_of(book, users, port) {
+        Some((seen, place)) => read(alloc, book, &mut users[place], port, seen, true, back),
+        None => Ok(None),
+    }
+}
+
+/// Frames are offered to the other end of a pipe, if the session of this end may.
+pub(crate) fn put_at(
+    alloc: Global,
+    book: &mut Book,
+    users: &mut Vec<User>,
+    port: PortId,
+    offered: &[Item],
+) -> Result<Option<Reply>, StepFault>
+    requires { AreUsersOf book.old users.old.items }
+    ensures served { IsServed book.old book.new (asks.Put port offered.now) result }
+    ensures kept { AreUsersOf book.new users.new.items }
+{
+    match owner_of(book, users, port) {
+        Some((seen, place)) => put(alloc, book, &mut users[place], port, seen, offered),
+        None => Ok(None),
     }
 }

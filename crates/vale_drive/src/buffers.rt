@@ -1,9 +1,11 @@
 ghost use Rattle.std.specs.Prelude.{◌≡◌, ◌≤◌, ◌+◌, ◌++◌, [], length, vec_len, vec_capacity, position, true};
 ghost use Rattle.std.specs.List.{list_all};
+ghost use Rattle.vale_line.specs.Gots.{buffers_of};
 ghost use Rattle.vale_entry.specs.Holdings.{contains, are_distinct};
 ghost use Rattle.vale_drive.specs.Buffers.{is_buffer, holds, holds_all, IsTaken, AreTaken};
 
 use nm_region::Buf;
+use vale_line::Got;
 
 /// Moves all buffers to the end of others, for which there is room.
 pub(crate) fn move_all(mut from: Vec<Buf>, to: &mut Vec<Buf>)
@@ -18,8 +20,26 @@ pub(crate) fn move_all(mut from: Vec<Buf>, to: &mut Vec<Buf>)
     from.destroy_empty();
 }
 
+/// Moves the buffers of all frames to the end of others, for which there is room.
+pub(crate) fn unwrap_all(mut from: Vec<Got>, to: &mut Vec<Buf>)
+    requires { vec_len to.old + length from.items ≤ vec_capacity to.old }
+    ensures items { to.new.items ≡ to.old.items ++ buffers_of from.items }
+    ensures capacity { vec_capacity to.new ≡ vec_capacity to.old }
+{
+    from.reverse();
+    while let Some(got) = from.pop() {
+        let Got {
+            buf,
+            len: _,
+            rest: _,
+        } = got;
+        to.push_reserved(buf);
+    }
+    from.destroy_empty();
+}
+
 /// Tells whether a buffer of this index is there.
-fn holds(bufs: &[Buf], index: u32) -> bool
+pub(crate) fn holds(bufs: &[Buf], index: u32) -> bool
     ensures { result ≡ holds bufs.now index }
 {
     bufs.iter().any(|buf| buf.index() == index)

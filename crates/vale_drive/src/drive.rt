@@ -3,13 +3,18 @@ ghost use Rattle.nm_types.specs.Buffers.{IsPoolSize};
 ghost use Rattle.vale_entry.specs.Legal.{IsLegal};
 ghost use Rattle.vale_entry.specs.Room.{promised_of};
 ghost use Rattle.vale_core.specs.Recorded.{standing, HadRoom};
+ghost use Rattle.vale_drive.specs.Running.{after_asks, IsStopped};
+ghost use Rattle.vale_drive.specs.Serving.{IsServed};
+ghost use Rattle.vale_drive.specs.Winding.{IsEnded};
 
+use crate::serving::serve;
 use crate::users::User;
-use nm_types::{Limits, NoMemory};
+use crate::winding::wind_up;
+use nm_types::{Limits, NoMemory, StepFault};
 use std::alloc::Global;
 use std::marker::Model;
 use vale_core::Book;
-use vale_entry::History;
+use vale_entry::{Ask, History, Reply};
 
 /// A book joined with what is outside it: the buffers of the sessions, their leases, and what of
 /// their frames is not granted yet. It cannot be dropped.
@@ -61,8 +66,56 @@ impl Drive {
         self.book.history()
     }
 
-    /// Ends the drive once each session has left, and frees its region: its record is left. While a
-    /// session is there the drive is handed back.
+    /// Makes one ask: its reply, or `None` where it is not enabled, and then nothing changes. Nor
+    /// does anything where a port cannot go yet, as leases of it are not done.
+    ///
+    /// A full record and want of memory change nothing.
+    pub fn apply(&mut self, ask: &Ask) -> Result<Option<Reply>, StepFault>
+        ensures served { IsServed self.old self.new ask.now result }
+    {
+        serve(self.alloc, &mut self.book, &mut self.users, ask)
+    }
+
+    fn run_each(&mut self, asks: &[Ask]) -> Result<(), StepFault>
+        ensures made { OnOk result (self.new ≡ after_asks self.old asks.now) }
+        ensures stopped { IfErr result (IsStopped self.old self.new asks.now) }
+    {
+        for ask in asks {
+            self.apply(ask)?;
+        }
+        Ok(())
+    }
+
+    /// Makes asks one after another, passing over those that are not enabled. Where the record is
+    /// full or memory is wanting it stops, and those before are made.
+    pub fn run(&mut self, asks: &[Ask]) -> Result<(), StepFault>
+        ensures made { OnOk result (self.new ≡ after_asks self.old asks.now) }
+        ensures stopped { IfErr result (IsStopped self.old self.new asks.now) }
+        ensures legal { IsLegal self.new.pool self.new.entries }
+        ensures roomy { HadRoom self.new }
+    {
+        let made = self.run_each(asks);
+        // Its entries are a legal history, made or refused.
+        self.book.history();
+        made
+    }
+
+    /// Makes what was promised and is wanting still, until each session has left. First the
+    /// sessions, one after another, grant what they offer; then they complete their leases; then
+    /// each port, by rising id, is shut and goes with buffers of its session; and then the sessions
+    /// leave. Room and memory were kept for all of it.
+    pub fn wind_up(&mut self)
+        ensures ended { IsEnded self.old self.new }
+        ensures legal { IsLegal self.new.pool self.new.entries }
+        ensures roomy { HadRoom self.new }
+    {
+        wind_up(&mut self.book, &mut self.users);
+        // Its entries are a legal history.
+        self.book.history();
+    }
+
+    /// Ends the drive once each session has left, as after `wind_up`, and frees its region: its
+    /// record is left. While a session is there the drive is handed back.
     pub fn close(self) -> Result<History, Drive>
         ensures entries { IfOk result (λ history. history.entries ≡ self.entries) }
         ensures limits { IfOk result (λ history. history.limits ≡ self.limits) }

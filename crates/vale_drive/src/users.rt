@@ -1,9 +1,11 @@
 ghost use Rattle.std.specs.Prelude.{◌≡◌, ◌==◌, ◌≤◌, ◌+◌, ◌&&◌, length, position, vec_capacity, OnOk};
+ghost use Rattle.std.specs.Prelude.{true, slice_get, Some};
+ghost use Rattle.vale_line.specs.Leased.{Leased};
 ghost use Rattle.vale_drive.specs.Users.{SameUser, is_user, is_settled_user, is_offered, next_is};
-ghost use Rattle.vale_drive.specs.Users.{is_next_to, HasNothing};
+ghost use Rattle.vale_drive.specs.Users.{is_next_to, has_next, has_some_lease, HasNothing};
 
 use nm_region::Buf;
-use nm_types::{PortId, SessionId};
+use nm_types::{LeaseId, PortId, SessionId};
 use std::alloc::{AllocError, Global};
 use vale_core::Offers;
 use vale_line::Lease;
@@ -93,6 +95,30 @@ impl User {
             Some(sent) => sent.offers.entry() == origin,
             None => false,
         }
+    }
+
+    /// The entry that its offers are of, and the port of the next one.
+    pub(crate) fn next_offer(&self) -> (u32, PortId)
+        requires { has_next self.now ≡ true }
+        ensures entry { is_offered result.0 self.now ≡ true }
+        ensures port { is_next_to result.1.0 self.now ≡ true }
+    {
+        let Some(sent) = &self.sent else {
+            unreachable!()
+        };
+        match sent.offers.next() {
+            Some(want) => (sent.offers.entry(), want.to),
+            None => unreachable!(),
+        }
+    }
+
+    /// The first of its leases.
+    pub(crate) fn first_lease(&self) -> LeaseId
+        requires { has_some_lease self.now ≡ true }
+        ensures { (lease : Leased) → slice_get self.now.leases.items 0 ≡ Some lease
+            → lease.id ≡ result.0 }
+    {
+        self.leases[0].id()
     }
 
     /// Tells whether its next offer is to this port.

@@ -1,10 +1,12 @@
 //! Users on threads of their own, through passes of one fabric.
 ghost use Rattle.std.specs.Prelude.{◌≡◌, ◌+◌, length, IfOk, OnOk};
-ghost use Rattle.vale_fabric.specs.Fabrics.{IsPassIn, knowing};
+ghost use Rattle.nm_turn.specs.Passes.{first_view};
+ghost use Rattle.vale_fabric.specs.Fabrics.{IsPassIn, fixed_in, knowing};
 
 use crate::{Book, Fabric, Pass};
-use nm_types::{Limits, NoMemory, StepFault};
+use nm_types::{Limits, NoMemory, Part, StepFault};
 use std::alloc::Global;
+use std::process::Abort;
 use std::sync::Wait;
 use std::test::Fail;
 use std::thread::{Threads, join};
@@ -96,5 +98,46 @@ fn two_users_come_and_leave(rt: HostRuntime) -> Result<(), Fail> {
     let history = book.close();
     said?;
     assert_eq!(rt; history.len(), 4);
+    Ok(())
+}
+
+/// A record with room for one user that comes and leaves, and for no other.
+const SMALL: Limits = Limits {
+    entries: 3,
+    bytes: 0,
+};
+
+/// One entry is stored and one promised when the second user comes, which wants two.
+const FULL: StepFault = StepFault::RecordFull {
+    what: Part::Entries,
+    used: 2,
+    want: 2,
+};
+
+/// A user comes, another finds the record full, and the first one leaves.
+fn one_alone<R: Abort + Wait>(rt: &R, fabric: &Fabric, mut pass: Pass) -> Pass
+    requires pass { IsPassIn fabric.now pass }
+    requires first { knowing pass ≡ first_view (fixed_in fabric.now) }
+    ensures { IsPassIn fabric.now result }
+{
+    let session = match fabric.enter(rt, &mut pass, 1000) {
+        Ok(session) => session,
+        Err(fault) => panic!(rt; "{fault:?}"),
+    };
+    match fabric.enter(rt, &mut pass, 1001) {
+        Ok(_) => panic!(rt; "a second user comes"),
+        Err(fault) => assert_eq!(rt; fault, FULL),
+    }
+    fabric.leave(rt, &mut pass, session);
+    pass
+}
+
+#[test]
+fn a_full_record_refuses_a_user(rt: HostRuntime) -> Result<(), Fail> {
+    let (fabric, pass) = Fabric::new(rt.alloc(), 8, SMALL)?;
+    let pass = one_alone(&rt, &fabric, pass);
+    let book = fabric.close(&rt, pass);
+    assert!(rt; book.free() == book.buffers());
+    assert_eq!(rt; book.close().len(), 2);
     Ok(())
 }
