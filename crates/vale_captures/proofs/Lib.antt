@@ -1,0 +1,5 @@
+pub mod Few
+pub mod FewLines
+pub mod Pages
+pub mod Reading
+pub mod Sums

@@ -1,0 +1,33 @@
+-- Sums over the lines of a script, one line after another, and that they are few.
+use Rattle.std.proofs.Common.{ℕ, ◌+◌, ◌≤◌, ◌≡◌, List, [], ◌∷◌, ◌++◌, map, take, drop, flat_map, sum_by, Some, slice_get, sym, ◌∙◌, ap, arith}
+use Rattle.std.proofs.lemmas.Grind.{flat_map-append}
+use Rattle.std.proofs.lemmas.List.{map-append, append-nil}
+use Rattle.std.proofs.lemmas.List.Sums.{sum_by-append, sum_by-cons}
+use Rattle.vale_captures.proofs.Pages.{taken-next, cut-at}
+
+module _ {X A : Type 0} (g : X → List A) (f : A → ℕ) where
+  pub flat-next : (xs : List X) (k : ℕ) (x : X) → slice_get xs k ≡ Some x → sum_by f (flat_map g (take (k + 1) xs)) ≡ sum_by f (flat_map g (take k xs)) + sum_by f (g x)
+  flat-next xs k x there =
+      ap (λ (ys : List X). sum_by f (flat_map g ys)) (taken-next xs k x there)
+      ∙ (ap (λ (ys : List A). sum_by f ys) (flat_map-append g (take k xs) (x ∷ []) ∙ ap (λ (ys : List A). flat_map g (take k xs) ++ ys) (append-nil (g x)))
+      ∙ sum_by-append f (flat_map g (take k xs)) (g x))
+
+  pub flat-within : (xs : List X) (k : ℕ) → sum_by f (flat_map g (take k xs)) ≤ sum_by f (flat_map g xs)
+  flat-within xs k =
+      let all : sum_by f (flat_map g (take k xs)) + sum_by f (flat_map g (drop k xs)) ≡ sum_by f (flat_map g xs) =
+      sym (sum_by-append f (flat_map g (take k xs)) (flat_map g (drop k xs))) ∙ (ap (λ (ys : List A). sum_by f ys) (sym (flat_map-append g (take k xs) (drop k xs))) ∙ ap (λ (ys : List X). sum_by f (flat_map g ys)) (cut-at xs k)) in
+      omega (arith, all)
+
+module _ {X A : Type 0} (g : X → A) (f : A → ℕ) where
+  pub map-next : (xs : List X) (k : ℕ) (x : X) → slice_get xs k ≡ Some x → sum_by f (map g (take (k + 1) xs)) ≡ sum_by f (map g (take k xs)) + f (g x)
+  map-next xs k x there =
+      let one = sum_by-cons f (g x) [] in
+      let sum = ap (λ (ys : List X). sum_by f (map g ys)) (taken-next xs k x there)
+      ∙ (ap (λ (ys : List A). sum_by f ys) (map-append g (take k xs) (x ∷ [])) ∙ sum_by-append f (map g (take k xs)) (g x ∷ [])) in
+      omega (arith, one, sum)
+
+  pub map-within : (xs : List X) (k : ℕ) → sum_by f (map g (take k xs)) ≤ sum_by f (map g xs)
+  map-within xs k =
+      let all : sum_by f (map g (take k xs)) + sum_by f (map g (drop k xs)) ≡ sum_by f (map g xs) =
+      sym (sum_by-append f (map g (take k xs)) (map g (drop k xs))) ∙ (ap (λ (ys : List A). sum_by f ys) (sym (map-append g (take k xs) (drop k xs))) ∙ ap (λ (ys : List X). sum_by f (map g ys)) (cut-at xs k)) in
+      omega (arith, all)

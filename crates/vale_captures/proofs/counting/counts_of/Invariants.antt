@@ -1,0 +1,7 @@
+use Rattle.std.proofs.Common.{◌≡◌, flat_map, take, sum_by}
+use Rattle.vale_replay.specs.Saved.{acts_of_unit}
+use Rattle.vale_captures.specs.Counting.{count_of}
+use Rattle.vale_captures.proofs.counting.counts_of.Given as goal
+
+abbrev pub invariant-loop-unit : goal.invariant-loop-unit
+invariant-loop-unit l = l.count ≡ sum_by count_of (flat_map acts_of_unit (take l.unit-index l.unit-items))
