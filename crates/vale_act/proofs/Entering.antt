@@ -63,6 +63,7 @@ user-enters began s user rest here a id own none empty has =
         added = (n, entry_by m.session ask m.reply) ∷ [];
         mine = m.told.mine;
         begins = m.told.begins;
+        part = m.told.part;
         rise = added-rise began s.knows ((n, entry_by m.session ask m.reply) ∷ []) m.told;
         turns = subst (λ (x : Machine). TakesTurns pool h x (n ∷ []) (resting next)) (sym (rests user ask call)) (resting next, (turn, refl));
       };

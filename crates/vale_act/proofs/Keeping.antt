@@ -1,4 +1,4 @@
--- What a user has worked in every longer history.
+-- What a user has worked in every longer history, and where it has stopped.
 use Rattle.std.proofs.Common.{ℕ, ◌≤◌, ◌≡◌, List, [], ◌∷◌, length, take, sym, ◌∙◌, ap, arith, le_refl}
 use Rattle.std.specs.List.{AllByRecursion}
 use Rattle.std.proofs.lemmas.List.{take-append-le}
@@ -11,11 +11,11 @@ use Rattle.vale_replay.specs.Machine.{next_call}
 use Rattle.vale_replay.specs.Joined.{IsWithin}
 use Rattle.vale_replay.specs.Replay.{last_of}
 use Rattle.vale_replay.proofs.Numbers.{rise-low}
-use Rattle.vale_act.specs.Laws.{WorkIsKept, StopIsKept, WorkIsWithin}
+use Rattle.vale_act.specs.Laws.{WorkIsKept, StopIsKept, StoppedCallIsKept, WorkIsWithin}
 use Rattle.vale_act.proofs.Working.{last-within, longer-replays, replays-of}
 
 -- the beginning of a history is one of every longer one
-take-longer : (h k : List Entry) (n : ℕ) → IsPrefix h k → n ≤ length h → take n k ≡ take n h
+pub take-longer : (h k : List Entry) (n : ℕ) → IsPrefix h k → n ≤ length h → take n k ≡ take n h
 take-longer h k n begins within = ap (take n) (sym begins.1) ∙ take-append-le n h begins.0 within
 
 pub work-kept : WorkIsKept
@@ -30,17 +30,17 @@ work-kept pool began knows first after history begins worked =
     }
 
 pub stop-kept : StopIsKept
-stop-kept pool began knows first call after history begins stopped =
-    let works = stopped.works in
-    let stops = stopped.stops in
-    let ns = numbers works.added in
-    let n = length knows.seen in (
-      longer-replays pool knows.seen history first ns after begins (replays-of works),
-      record {
-        seen = stops.seen;
-        called = ap (λ (es : List Entry). next_call (standing_of pool es).world after) (take-longer knows.seen history n begins (le_refl n)) ∙ stops.called;
-      },
-    )
+stop-kept fixed began knows first fault history begins stopped =
+    longer-replays fixed.pool knows.seen history first (numbers stopped.works.added) stopped.after begins (replays-of stopped.works)
+
+pub call-kept : StoppedCallIsKept
+call-kept fixed knows ns after fault history begins refused =
+    let stops = refused.stops in
+    let n = length knows.seen in
+    record {
+      seen = stops.seen;
+      called = ap (λ (es : List Entry). next_call (standing_of fixed.pool es).world after) (take-longer knows.seen history n begins (le_refl n)) ∙ stops.called;
+    }
 
 rise-inside : (first low : ℕ) (ns : List ℕ) (last : ℕ) → first ≤ low → Rise low ns last → AllByRecursion (IsWithin first last) ns
 rise-inside first low [] last up r = tt

@@ -41,6 +41,7 @@ pub record FoundPort (own : OwnState) (name : List ℕ) (port : PortId) : Type 0
   pub at : OwnPort
   pub id_is : at.id ≡ port
   pub found : port_with_id own port.0 ≡ Some at
+  pub named : port_with_name own name ≡ Some at
   pub name_is : at.name ≡ name
 
 pub found-port : (own : OwnState) (name : List ℕ) (port : PortId) → IsSound own → option_map id-of (port_with_name own name) ≡ Some port → FoundPort own name port
@@ -55,6 +56,7 @@ found-port own name port sound e = by (port_with_name own name) refl e
           at = p;
           id_is = id;
           found = subst (λ (x : PortId). port_with_id own x.0 ≡ Some p) id (by-id own name p sound named);
+          named = named;
           name_is = sym ((bytes_eq-Decides name p.name).0 place.passes);
         }
 

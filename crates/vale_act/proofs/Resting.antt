@@ -16,7 +16,7 @@ rests-at user (task ∷ tasks) ask e =
 pub rests : (user : Machine) (ask : Ask) → call_of_tasks user user.tasks ≡ Some ask → resting user ≡ user
 rests user ask e = rests-at user user.tasks ask e
 
-passes-at : (user : Machine) (task : Task) (rest : List Task) → call_of_task user task ≡ None
+pub passes-at : (user : Machine) (task : Task) (rest : List Task) → call_of_task user task ≡ None
     → at_rest user (task ∷ rest) ≡ at_rest (after_task task user) rest
 passes-at user task rest e =
     let none : is_some (call_of_task user task) ≡ false = ap is_some e in

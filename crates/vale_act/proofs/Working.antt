@@ -106,6 +106,7 @@ works-then {pool} {began} {v} {first} {between} w added after works told turns =
         added = works.added ++ added;
         mine = told.mine ∙ (ap (λ (l : List (ℕ × Entry)). l ++ added) works.mine ∙ append_assoc began.mine works.added added);
         begins = prefix_trans began.seen v.seen w.seen works.begins told.begins;
+        part = told.part ∙ works.part;
         rise = subst (λ (l : List ℕ). Rise (length began.seen) l (length w.seen)) (sym both) rise;
         turns = subst (λ (l : List ℕ). TakesTurns pool w.seen first l after) (sym both) joined.turns;
       };

@@ -4,6 +4,7 @@ use Rattle.std.specs.List.{AllByRecursion}
 use mathlib.Core.List.{IsPrefix}
 use Rattle.nm_turn.specs.Numbered.{numbers}
 use Rattle.nm_types.specs.declared.fault.StepFault.{StepFault}
+use Rattle.nm_types.specs.declared.fault.StepFault.TheVariants.{NoMemory}
 use Rattle.nm_types.specs.OwnPorts.{empty_own, port_with_name}
 use Rattle.vale_entry.specs.declared.entry.Ask.{Ask}
 use Rattle.vale_entry.specs.declared.entry.Ask.TheVariants.{Enter}
@@ -12,11 +13,12 @@ use Rattle.vale_entry.specs.declared.entry.Reply.{Reply}
 use Rattle.vale_entry.specs.declared.entry.Reply.TheVariants as replies
 use Rattle.vale_entry.specs.Legal.{standing_of, world_of, IsLegal}
 use Rattle.vale_own.specs.Own.{own_of}
+use Rattle.vale_fabric.specs.declared.kept.Fixed.{Fixed}
 use Rattle.vale_fabric.specs.declared.settling.Shares.{Shares}
 use Rattle.vale_fabric.specs.Fabrics.{Knowing, Answers}
 use Rattle.vale_fabric.specs.Settling.{settling_ask}
 use Rattle.nm_user.specs.Sessions.{SessionState, IsThere}
-use Rattle.nm_user.specs.Calls.{Made, MadeNone}
+use Rattle.nm_user.specs.Calls.{Made, MadeNone, IsRefused}
 use Rattle.nm_user.specs.Syncs.{Synced}
 use Rattle.nm_user.specs.declared.leaving.Detached.{Detached}
 use Rattle.nm_user.specs.Leaving.{IsDetached, IsLeft}
@@ -25,7 +27,7 @@ use Rattle.vale_replay.specs.Machine.{Machine, closing_tasks, settling_call, cal
 use Rattle.vale_replay.specs.Joined.{IsWithin}
 use Rattle.vale_replay.specs.Replay.{PlaysUser, ReplaysUser}
 use Rattle.vale_replay.specs.Stops.{StopsUser}
-use Rattle.vale_act.specs.Users.{IsUserOf, Works, HasCome, HasWorked, HasStopped, behind_call, behind_entry, does_sync}
+use Rattle.vale_act.specs.Users.{IsUserOf, Works, HasCome, HasWorked, HasStopped, IsRefusedCall, behind_call, behind_entry, does_sync}
 
 -- what settles a user's session next is told by what is the session's own, as the fabric tells it
 abbrev pub SettlingIsOwn : Type 0
@@ -96,7 +98,7 @@ TaskIsDone =
 abbrev pub SeesMore : Type 0
 SeesMore =
     (s : SessionState) (more began : Knowing) (first now : Machine)
-    → IsPrefix s.knows.seen more.seen → more.mine ≡ s.knows.mine → HasCome began first s now
+    → IsPrefix s.knows.seen more.seen → more.mine ≡ s.knows.mine → more.part ≡ s.knows.part → HasCome began first s now
     → HasCome began first (record s { knows = more }) now
 
 -- and so where its call made no entry
@@ -105,12 +107,16 @@ RefusedStays =
     (s t : SessionState) (began : Knowing) (first now : Machine) (ask : Ask) (fault : StepFault)
     → HasCome began first s now → MadeNone s t ask fault → HasCome began first t now
 
--- one whose next task needs a call comes to that call in all that it has seen, and may stop there
-abbrev pub StopsThere : Type 0
-StopsThere =
-    (s : SessionState) (began : Knowing) (first now : Machine) (ask : Ask)
-    → IsThere None s → HasCome began first s now → call_of_tasks now now.tasks ≡ Some ask
-    → HasStopped s.fixed.pool began s.knows first ask (resting now)
+-- one whose next call made no entry has stopped by that fault
+abbrev pub RefusedStops : Type 0
+RefusedStops =
+    (s t : SessionState) (began : Knowing) (first now : Machine) (ask : Ask) (fault : StepFault)
+    → IsThere None s → HasCome began first s now → call_of_tasks now now.tasks ≡ Some ask → MadeNone s t ask fault
+    → HasStopped t.fixed began t.knows first fault
+
+-- and want of memory stops one anywhere
+abbrev pub MemoryStops : Type 0
+MemoryStops = (s : SessionState) (began : Knowing) (first now : Machine) → HasCome began first s now → HasStopped s.fixed began s.knows first NoMemory
 
 -- and one that has nothing more to do has played its lines
 abbrev pub UserHasPlayed : Type 0
@@ -128,13 +134,40 @@ WorkIsKept =
 
 abbrev pub StopIsKept : Type 0
 StopIsKept =
-    (pool : ℕ) (began knows : Knowing) (first : Machine) (call : Ask) (after : Machine) (history : List Entry)
-    → IsPrefix knows.seen history → (stopped : HasStopped pool began knows first call after)
-    → ReplaysUser pool history first (numbers stopped.works.added) after
-    × StopsUser pool history (length knows.seen) call (numbers stopped.works.added) after
+    (fixed : Fixed) (began knows : Knowing) (first : Machine) (fault : StepFault) (history : List Entry)
+    → IsPrefix knows.seen history → (stopped : HasStopped fixed began knows first fault)
+    → ReplaysUser fixed.pool history first (numbers stopped.works.added) stopped.after
+
+-- the call at which a full record stopped it is the one that it comes to in every longer history
+abbrev pub StoppedCallIsKept : Type 0
+StoppedCallIsKept =
+    (fixed : Fixed) (knows : Knowing) (numbers : List ℕ) (after : Machine) (fault : StepFault) (history : List Entry)
+    → IsPrefix knows.seen history → (refused : IsRefusedCall fixed knows numbers after fault)
+    → StopsUser fixed.pool history (length knows.seen) refused.call numbers after
 
 -- and all its entries are behind those that its pass had seen when it began
 abbrev pub WorkIsWithin : Type 0
 WorkIsWithin =
     (pool : ℕ) (began knows : Knowing) (first after : Machine) → (works : Works pool began knows first after)
     → AllByRecursion (IsWithin (length began.seen) (length knows.seen)) (numbers works.added)
+
+-- A user that has no session.
+
+-- one for whose Enter there is no room, or no memory, stops before it has made an entry
+abbrev pub EnterStops : Type 0
+EnterStops =
+    (fixed : Fixed) (began knows : Knowing) (user : Machine) (rest : List Task) (fault : StepFault)
+    → user.session ≡ None → user.tasks ≡ Arrive ∷ rest → IsRefused fixed began knows (Enter user.number) fault
+    → HasStopped fixed began knows (resting user) fault
+
+-- a task of a user that has come
+abbrev pub NeedsSession : Task → Type 0
+NeedsSession Arrive = ⊥
+NeedsSession _ = Unit {0}
+
+-- whatever one that does not come has to do, it does nothing
+abbrev pub AbsentPasses : Type 0
+AbsentPasses =
+    (pool : ℕ) (knows : Knowing) (user : Machine)
+    → user.session ≡ None → user.own ≡ empty_own pool → AllByRecursion NeedsSession user.tasks
+    → HasWorked pool knows knows (resting user) (record user { tasks = [] })

@@ -4,3 +4,16 @@ pub mod Lines
 pub mod Acts
 pub mod Players
 pub mod Stopping
+pub mod Units
+pub mod Seats
+pub mod Inputs
+pub mod Deeds
+pub mod Syncing
+pub mod Saving
+pub mod Fitting
+pub mod Leaving
+pub mod Outputs
+pub mod Kept
+pub mod SavedActs
+pub mod Completeness
+pub mod Plays

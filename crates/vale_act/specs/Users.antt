@@ -2,13 +2,17 @@
 use Rattle.std.specs.Prelude.{ℕ, Bool, true, false, ◌≡◌, List, ◌∷◌, ◌++◌, length, take, Some}
 use mathlib.Core.List.{IsPrefix}
 use Rattle.nm_turn.specs.Numbered.{numbers}
+use Rattle.nm_types.specs.declared.fault.StepFault.{StepFault}
+use Rattle.nm_types.specs.declared.fault.StepFault.TheVariants.{RecordFull, NoMemory}
 use Rattle.vale_entry.specs.declared.entry.Ask.{Ask}
 use Rattle.vale_entry.specs.declared.entry.Entry.{Entry}
 use Rattle.vale_entry.specs.declared.entry.Reply.{Reply}
 use Rattle.vale_entry.specs.Laws.{Rise}
 use Rattle.vale_entry.specs.Legal.{standing_of}
 use Rattle.vale_own.specs.Own.{own_of, is_settled_own}
-use Rattle.vale_fabric.specs.Fabrics.{Knowing, entry_by}
+use Rattle.vale_core.specs.Recorded.{IsRefusal}
+use Rattle.vale_fabric.specs.declared.kept.Fixed.{Fixed}
+use Rattle.vale_fabric.specs.Fabrics.{Knowing, entry_by, seen_in}
 use Rattle.nm_user.specs.Sessions.{SessionState}
 use Rattle.vale_replay.specs.Tasks.{Task, PutFrame, SendFrames, TakeFrames}
 use Rattle.vale_replay.specs.Machine.{Machine, resting, with_tasks}
@@ -25,6 +29,7 @@ pub record Works (pool : ℕ) (began knows : Knowing) (first after : Machine) : 
   pub added : List (ℕ × Entry)
   pub mine : knows.mine ≡ began.mine ++ added
   pub begins : IsPrefix began.seen knows.seen
+  pub part : knows.part ≡ began.part
   pub rise : Rise (length began.seen) (numbers added) (length knows.seen)
   pub turns : TakesTurns pool knows.seen first (numbers added) after
 
@@ -41,10 +46,22 @@ pub record HasWorked (pool : ℕ) (began knows : Knowing) (first after : Machine
   pub works : Works pool began knows first after
   pub plays : PlaysUser pool knows.seen first (numbers works.added) after
 
--- or has stopped at this call, in all that its pass has seen
-pub record HasStopped (pool : ℕ) (began knows : Knowing) (first : Machine) (call : Ask) (after : Machine) : Type 0 where
-  pub works : Works pool began knows first after
-  pub stops : StopsUser pool knows.seen (length knows.seen) call (numbers works.added) after
+-- the record has no room for the user's next call, in all that its pass has seen
+pub record IsRefusedCall (fixed : Fixed) (knows : Knowing) (numbers : List ℕ) (after : Machine) (fault : StepFault) : Type 0 where
+  pub call : Ask
+  pub stops : StopsUser fixed.pool knows.seen (length knows.seen) call numbers after
+  pub refusal : IsRefusal (seen_in fixed knows) call fault
+
+-- a full record stops a user at its next call; want of memory may stop it anywhere
+abbrev pub IsStopBy : Fixed → Knowing → List ℕ → Machine → StepFault → Type 0
+IsStopBy fixed knows numbers after (RecordFull what used want) = IsRefusedCall fixed knows numbers after (RecordFull what used want)
+IsStopBy fixed knows numbers after NoMemory = Unit {0}
+
+-- or has stopped by this fault
+pub record HasStopped (fixed : Fixed) (began knows : Knowing) (first : Machine) (fault : StepFault) : Type 0 where
+  pub after : Machine
+  pub works : Works fixed.pool began knows first after
+  pub stop : IsStopBy fixed knows (numbers works.added) after fault
 
 -- the user behind the entry of its task's call, of this number, which made this of its session
 abbrev pub behind_entry : SessionState → ℕ → Ask → Reply → Machine → Machine

@@ -4,9 +4,10 @@ ghost use Rattle.std.specs.Prelude.{◌≡◌, [], ◌∷◌, true, OnOk, IfErr}
 ghost use Rattle.nm_types.specs.Names.{is_monitor_name};
 ghost use Rattle.nm_user.specs.Ports.{IsWatchable};
 ghost use Rattle.vale_replay.specs.Tasks.{OpenPort, WatchPort, ReadCounts};
-ghost use Rattle.vale_act.specs.Players.{Does, StopsAt};
+ghost use Rattle.vale_act.specs.Players.{Does, IsStill, StopsAt};
 ghost use Rattle.vale_act.specs.Stopping.{open_stop_of, watch_stop_of};
 
+use crate::kept::keep_opened;
 use crate::player::Player;
 use nm_types::{Name, OpenFault, Sides, StepFault, WatchFault};
 use std::sync::Wait;
@@ -51,8 +52,11 @@ impl<'f> Player<'f> {
     ) -> Result<(), StepFault>
         ensures does { OnOk result (Does self.old self.new (OpenPort name.now tx rx extra ∷ [])) }
         ensures stops { IfErr result (StopsAt self.old self.new (OpenPort name.now tx rx extra)) }
+        ensures still { IsStill self.old self.new }
     {
-        match self.session.open(rt, name, tx, rx, extra) {
+        let opened = self.session.open(rt, name, tx, rx, extra);
+        keep_opened(&self.session, self.names, name, &opened, &mut self.kept);
+        match opened {
             Ok(_) => Ok(()),
             Err(fault) => unless_refused(fault),
         }
@@ -73,6 +77,7 @@ impl<'f> Player<'f> {
             (Does self.old self.new (WatchPort monitor.now target.now sides ∷ [])) }
         ensures stops { IfErr result
             (StopsAt self.old self.new (WatchPort monitor.now target.now sides)) }
+        ensures still { IsStill self.old self.new }
     {
         let Some(port) = self.session.port_named(monitor) else {
             return Ok(());
@@ -87,6 +92,7 @@ impl<'f> Player<'f> {
     pub fn stat<R: Wait>(&mut self, rt: &R, name: &Name) -> Result<(), StepFault>
         ensures does { OnOk result (Does self.old self.new (ReadCounts name.now ∷ [])) }
         ensures stops { IfErr result (StopsAt self.old self.new (ReadCounts name.now)) }
+        ensures still { IsStill self.old self.new }
     {
         let Some(port) = self.session.port_named(name) else {
             return Ok(());

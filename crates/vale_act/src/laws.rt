@@ -3,8 +3,9 @@
 
 ghost use Rattle.vale_act.specs.Laws.{SettlingIsOwn, UserBegins, UserEnters, CallIsTurn};
 ghost use Rattle.vale_act.specs.Laws.{SyncIsTurns, TaskIsDone, SeesMore, RefusedStays};
-ghost use Rattle.vale_act.specs.Laws.{StopsThere, UserHasPlayed, DetachIsTurns, LeaveIsTurn};
-ghost use Rattle.vale_act.specs.Laws.{WorkIsKept, StopIsKept, WorkIsWithin, ClosingIsPlayed};
+ghost use Rattle.vale_act.specs.Laws.{RefusedStops, MemoryStops, UserHasPlayed, DetachIsTurns};
+ghost use Rattle.vale_act.specs.Laws.{LeaveIsTurn, ClosingIsPlayed, WorkIsKept, StopIsKept};
+ghost use Rattle.vale_act.specs.Laws.{StoppedCallIsKept, WorkIsWithin, EnterStops, AbsentPasses};
 
 /// After a legal history the call that settles a user's session is the one that what is the
 /// session's own tells.
@@ -66,10 +67,14 @@ pub fn refused_stays()
     ensures { RefusedStays }
 {}
 
-/// A user whose next task needs a call comes to that call in all that its session has seen, so a
-/// refusal stops it there.
-pub fn stops_there()
-    ensures { StopsThere }
+/// A user whose next call made no entry has stopped: at that call where the record is full.
+pub fn refused_stops()
+    ensures { RefusedStops }
+{}
+
+/// Want of memory stops a user anywhere.
+pub fn memory_stops()
+    ensures { MemoryStops }
 {}
 
 /// A user that has nothing more to do has played its lines.
@@ -82,12 +87,28 @@ pub fn work_is_kept()
     ensures { WorkIsKept }
 {}
 
-/// A user that has stopped at a call has stopped there in every longer history.
+/// The entries of a user that has stopped are its own calls in every longer history.
 pub fn stop_is_kept()
     ensures { StopIsKept }
+{}
+
+/// The call at which a full record stopped a user is the one that it comes to, after so many
+/// entries, in every longer history.
+pub fn stopped_call_is_kept()
+    ensures { StoppedCallIsKept }
 {}
 
 /// The entries of a user's turns are behind those that its pass had seen when it began.
 pub fn work_is_within()
     ensures { WorkIsWithin }
+{}
+
+/// A user that has to come stops before its first entry where its Enter is refused.
+pub fn enter_stops()
+    ensures { EnterStops }
+{}
+
+/// A user that is not there, and does not come, plays whatever it has to do without an entry.
+pub fn absent_passes()
+    ensures { AbsentPasses }
 {}

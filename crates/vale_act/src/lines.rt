@@ -2,6 +2,7 @@
 //! law about the definitions, which the check proves.
 
 ghost use Rattle.vale_act.specs.Acts.{NamedActsEdit, ActsBetweenEdit, UnnamedActsChangeNothing};
+ghost use Rattle.vale_act.specs.Deeds.{SoundScriptsAreDoable};
 ghost use Rattle.vale_act.specs.Lines.{OwnActsAreDone, FramesArePut, CallsAreDone};
 ghost use Rattle.vale_act.specs.Lines.{ReceivesAreDone, SendsAreDone, FailedSendsEnd};
 ghost use Rattle.vale_act.specs.Lines.{PutsSync, PutsCall, DetachesAreDone, PortlessTasksPass};
@@ -83,4 +84,9 @@ pub fn acts_between_edit()
 /// A line that names a port which its user does not have changes nothing.
 pub fn unnamed_acts_change_nothing()
     ensures { UnnamedActsChangeNothing }
+{}
+
+/// The users of a script that was accepted can do all its lines.
+pub fn sound_scripts_are_doable()
+    ensures { SoundScriptsAreDoable }
 {}

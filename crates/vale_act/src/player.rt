@@ -1,4 +1,5 @@
-use nm_types::PortId;
+use crate::kept::KeptPort;
+use nm_types::{Name, PortId};
 use nm_user::Session;
 use std::marker::Model;
 use vale_script::ScriptWord;
@@ -25,6 +26,10 @@ pub struct Player<'f> {
     pub(crate) session: Session<'f>,
     /// The files into which its ports' frames go, in the order of the lines that say so.
     pub(crate) saves: Vec<SaveFile>,
+    /// The names of the ports whose frames are kept.
+    pub(crate) names: &'f [Name],
+    /// Such ports, with all that they have given.
+    pub(crate) kept: Vec<KeptPort>,
 }
 
 impl<'f> Model for Player<'f> {
@@ -34,8 +39,7 @@ impl<'f> Model for Player<'f> {
 
     ghost view = { λ p. record { number = p.number; session = p.session; saves = p.saves.items } };
 
-    ghost use Rattle.std.specs.Prelude.{None};
-    ghost use Rattle.nm_user.specs.Sessions.{IsThere};
+    ghost use Rattle.vale_act.specs.Kept.{IsKeeping};
 
-    ghost invariant = { λ p. IsThere None p.session };
+    ghost invariant = { λ p. IsKeeping p.session p.kept.items };
 }

@@ -6,11 +6,12 @@ use Rattle.nm_user.proofs.Written.{there-edited}
 use Rattle.vale_script.specs.declared.script.Act.TheVariants as acts
 use Rattle.vale_act.specs.Players.{PlayerState, with_act}
 use Rattle.vale_act.proofs.Changes.{changed-at, acted}
+use Rattle.vale_act.proofs.KeptPorts.{edited-keeping}
 use Rattle.vale_act.proofs.player.Player.give_all_back.Goals as goal
 
 pub invariant_of-self : goal.invariant_of-self
 invariant_of-self c =
-    subst (IsThere None) (sym c.give_all_back.ensures) (there-edited (with_all_back c.in-Some.port.0) (edits-keep.all_back c.in-Some.port.0) c.self.invariant)
+    edited-keeping c.self.inside.session c.give_all_back.new.self _ c.self.inside.kept.items c.give_all_back.ensures (subst (IsThere None) (sym c.give_all_back.ensures) (there-edited (with_all_back c.in-Some.port.0) (edits-keep.all_back c.in-Some.port.0) c.self.invariant.there)) c.self.invariant
 
 pub returns-in-Some : goal.returns-in-Some
 returns-in-Some c =

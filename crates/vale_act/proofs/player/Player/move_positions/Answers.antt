@@ -6,11 +6,12 @@ use Rattle.nm_user.proofs.Written.{there-edited}
 use Rattle.vale_script.specs.declared.script.Act.TheVariants as acts
 use Rattle.vale_act.specs.Players.{PlayerState, with_act}
 use Rattle.vale_act.proofs.Changes.{changed-at, acted}
+use Rattle.vale_act.proofs.KeptPorts.{edited-keeping}
 use Rattle.vale_act.proofs.player.Player.move_positions.Goals as goal
 
 pub invariant_of-self : goal.invariant_of-self
 invariant_of-self c =
-    subst (IsThere None) (sym c.put_positions.ensures) (there-edited (with_positions c.args.side c.in-Some.port.0 c.args.head c.args.cur) (edits-keep.positions c.args.side c.in-Some.port.0 c.args.head c.args.cur) c.self.invariant)
+    edited-keeping c.self.inside.session c.put_positions.new.self _ c.self.inside.kept.items c.put_positions.ensures (subst (IsThere None) (sym c.put_positions.ensures) (there-edited (with_positions c.args.side c.in-Some.port.0 c.args.head c.args.cur) (edits-keep.positions c.args.side c.in-Some.port.0 c.args.head c.args.cur) c.self.invariant.there)) c.self.invariant
 
 pub returns-in-Some : goal.returns-in-Some
 returns-in-Some c =

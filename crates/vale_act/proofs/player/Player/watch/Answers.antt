@@ -6,6 +6,7 @@ use Rattle.vale_replay.specs.Tasks.{Task, WatchPort}
 use Rattle.vale_act.specs.Players.{PlayerState, Does}
 use Rattle.vale_act.proofs.Changes.{id-of}
 use Rattle.vale_act.proofs.PortCalls.{found-port, is-monitor, passes-on, watches-ok, watches-err, watches-there}
+use Rattle.vale_act.proofs.KeptPorts.{keeping, watch-saves}
 use Rattle.vale_act.proofs.player.Player.watch.Goals as goal
 use Rattle.vale_act.proofs.player.Player.watch.Goals.{in-Ok, in-Err}
 
@@ -18,13 +19,15 @@ returns-in_default-clause-does g c =
 pub watch-requires-clause-monitor : goal.watch-requires-clause-monitor
 watch-requires-clause-monitor g c =
     let own = c.self.inside.session.own in
-    is-monitor own c.args.monitor.now c.in-Some.port (found-port own c.args.monitor.now c.in-Some.port c.self.invariant.side.sound (sym c.port_named.ensures ∙ c.in-Some.is)) c.requires.monitor
+    is-monitor own c.args.monitor.now c.in-Some.port (found-port own c.args.monitor.now c.in-Some.port c.self.invariant.there.side.sound (sym c.port_named.ensures ∙ c.in-Some.is)) c.requires.monitor
 
 pub invariant_of-self : goal.invariant_of-self
 invariant_of-self g c =
     let p : PlayerState = record { number = c.self.inside.number; session = c.self.inside.session; saves = c.self.inside.saves.items } in
     let q : PlayerState = record p { session = c.watch.new.self } in
-    watches-there p q c.self.invariant refl c.args.monitor.now c.in-Some.port (sym c.port_named.ensures ∙ c.in-Some.is) c.args.target.now c.args.sides c.watch.result c.watch.ensures.watched c.watch.ensures.unwatched
+    keeping p.session q.session c.self.inside.kept.items
+    (watches-there p q c.self.invariant.there refl c.args.monitor.now c.in-Some.port (sym c.port_named.ensures ∙ c.in-Some.is) c.args.target.now c.args.sides c.watch.result c.watch.ensures.watched c.watch.ensures.unwatched)
+    (watch-saves p.session q.session c.self.invariant.there c.in-Some.port c.args.target.now c.args.sides c.watch.result c.watch.ensures.watched c.watch.ensures.unwatched) c.self.invariant
 
 pub returns-clause-does : goal.returns-clause-does
 returns-clause-does g c =
@@ -33,8 +36,8 @@ returns-clause-does g c =
     let tasks : List Task = WatchPort c.args.monitor.now c.args.target.now c.args.sides ∷ [] in
     let does : OnOk c.match-watch.result (Does p q tasks) = elim c.match-watch.branch [
       | in-Ok w ↦ subst (λ (r : Result (Unit {0}) StepFault). OnOk r (Does p q tasks)) (sym w.result-is)
-          (watches-ok p q c.self.invariant refl c.args.monitor.now c.in-Some.port (sym c.port_named.ensures ∙ c.in-Some.is) c.args.target.now c.args.sides c.watch.result c.watch.ensures.watched c.watch.ensures.unwatched w.in-Ok.is)
+          (watches-ok p q c.self.invariant.there refl c.args.monitor.now c.in-Some.port (sym c.port_named.ensures ∙ c.in-Some.is) c.args.target.now c.args.sides c.watch.result c.watch.ensures.watched c.watch.ensures.unwatched w.in-Ok.is)
       | in-Err w ↦ subst (λ (r : Result (Unit {0}) StepFault). OnOk r (Does p q tasks)) (sym (w.result-is ∙ w.unless_told.ensures))
-          (watches-err p q c.self.invariant refl c.args.monitor.now c.in-Some.port (sym c.port_named.ensures ∙ c.in-Some.is) c.args.target.now c.args.sides c.watch.result c.watch.ensures.watched c.watch.ensures.unwatched w.in-Err.is)
+          (watches-err p q c.self.invariant.there refl c.args.monitor.now c.in-Some.port (sym c.port_named.ensures ∙ c.in-Some.is) c.args.target.now c.args.sides c.watch.result c.watch.ensures.watched c.watch.ensures.unwatched w.in-Err.is)
     ] in
     subst (λ (x : PlayerState). OnOk c.match-watch.result (Does x q tasks)) c.self.view_is does

@@ -1,0 +1,241 @@
+-- A user that does not come brings no session by its turns.
+use Rattle.std.proofs.Common.{ℕ, zero, suc, ◌-◌, ◌≡◌, ◌⊎◌, inl, inr, Bool, true, false, cond, List, [], ◌∷◌, ◌++◌, filter, replicate, Some, is_some, refl, sym, ◌∙◌, ap, subst, arith}
+use Rattle.std.specs.Prelude.{◌==◌, ◌||◌, not, option_and_then}
+use Rattle.std.specs.Option.{option_or}
+use Rattle.std.specs.List.{AllByRecursion}
+use Rattle.std.proofs.lemmas.Bool.{cases_Bool}
+use Rattle.nm_types.specs.declared.id.SessionId.{SessionId}
+use Rattle.nm_types.specs.OwnPorts.{OwnState, Arrival}
+use Rattle.nm_turn.specs.Numbered.{Stands, numbers}
+use Rattle.vale_entry.specs.declared.entry.Ask.{Ask}
+use Rattle.vale_entry.specs.declared.entry.Ask.TheVariants.{Enter, Open, Send, Grant, Done, Sync, Reset, Shut, Finish, Leave, Put, PutKept, Get, Watch, Stat}
+use Rattle.vale_entry.specs.declared.entry.Entry.{Entry}
+use Rattle.vale_entry.specs.Arrivals.{arrivals_of}
+use Rattle.vale_entry.specs.World.{World}
+use Rattle.vale_entry.specs.OwnCalls.{own_after}
+use Rattle.vale_entry.specs.Legal.{kept_ask, step}
+use Rattle.vale_own.specs.Asker.{is_enter}
+use Rattle.vale_own.specs.There.{is_coming}
+use Rattle.vale_script.specs.declared.script.Act.{Act}
+use Rattle.vale_script.specs.declared.script.Act.TheVariants as acts
+use Rattle.vale_replay.specs.Tasks.{Task, Arrive, OpenPort, PutFrame, SendFrames, TakeFrames, ChangeOwn, SaveFrames, WatchPort, ReadCounts, ShutPort, FinishPort, Depart, EndLine, fits_a_buffer, frame_of_put, lines_left, played_before_sync, tasks_of, tasks_of_line, tasks_of_lines}
+use Rattle.vale_replay.specs.Machine.{Machine, answered, at_rest, after_task, call_of_task, call_of_tasks, enter_call, has_room_at, is_peer_gone, is_reset, is_settling, next_call, resting, settling_call, with_tasks}
+use Rattle.vale_replay.specs.Replay.{TakesTurn, standing_before}
+use Rattle.vale_replay.proofs.Enters.{ask-by, call-enters}
+use Rattle.vale_replay.proofs.Sessions.{rest-same}
+use Rattle.vale_act.specs.Laws.{NeedsSession}
+use Rattle.vale_act.specs.Leaving.{ComesNoMore, IsNoEnter, KeepsSession, LinesKeepSession, TurnsEnterNot}
+
+-- ---- what holds of all that a user has to do holds of what is left of it
+
+module _ (P : Task → Type 0) where
+  rest-all : (user : Machine) (tasks : List Task) → AllByRecursion P tasks → AllByRecursion P (at_rest user tasks).tasks
+  rest-all user [] all = tt
+  rest-all user (task ∷ tasks) all = by (is_some (call_of_task user task)) (rest-all (after_task task user) tasks all.1)
+    where
+      by : (b : Bool) → AllByRecursion P (at_rest (after_task task user) tasks).tasks
+          → AllByRecursion P (cond b (record user { tasks = task ∷ tasks }) (at_rest (after_task task user) tasks)).tasks
+      by true rest = all
+      by false rest = rest
+
+  left-all : (tasks : List Task) → AllByRecursion P tasks → AllByRecursion P (lines_left tasks)
+  left-all [] all = tt
+  left-all (EndLine ∷ tasks) all = all
+  left-all (Arrive ∷ tasks) all = left-all tasks all.1
+  left-all (OpenPort name tx rx extra ∷ tasks) all = left-all tasks all.1
+  left-all (PutFrame name bytes ∷ tasks) all = left-all tasks all.1
+  left-all (SendFrames name ∷ tasks) all = left-all tasks all.1
+  left-all (TakeFrames name ∷ tasks) all = left-all tasks all.1
+  left-all (ChangeOwn act ∷ tasks) all = left-all tasks all.1
+  left-all (SaveFrames name file ∷ tasks) all = left-all tasks all.1
+  left-all (WatchPort monitor target sides ∷ tasks) all = left-all tasks all.1
+  left-all (ReadCounts name ∷ tasks) all = left-all tasks all.1
+  left-all (ShutPort name ∷ tasks) all = left-all tasks all.1
+  left-all (FinishPort name ∷ tasks) all = left-all tasks all.1
+  left-all (Depart ∷ tasks) all = left-all tasks all.1
+
+  either-all : (b : Bool) (one other : List Task) → AllByRecursion P one → AllByRecursion P other → AllByRecursion P (cond b one other)
+  either-all true one other front back = front
+  either-all false one other front back = back
+
+  behind-all : (n : ℕ) (e : Entry) (user : Machine) (tasks : List Task) → AllByRecursion P user.tasks → AllByRecursion P tasks → AllByRecursion P (with_tasks n e user tasks).tasks
+  behind-all n e user [] old all = old
+  behind-all n e user (Arrive ∷ rest) old all = all.1
+  behind-all n e user (OpenPort name tx rx extra ∷ rest) old all = all.1
+  behind-all n e user (PutFrame name bytes ∷ rest) old all =
+      either-all (is_reset e.ask || not (has_room_at user.own name)) (lines_left rest) (PutFrame name bytes ∷ rest) (left-all rest all.1) all
+  behind-all n e user (SendFrames name ∷ rest) old all =
+      either-all (is_reset e.ask || is_peer_gone e.reply) (lines_left rest) rest (left-all rest all.1) all.1
+  behind-all n e user (TakeFrames name ∷ rest) old all = all.1
+  behind-all n e user (ChangeOwn act ∷ rest) old all = all.1
+  behind-all n e user (SaveFrames name file ∷ rest) old all = all.1
+  behind-all n e user (WatchPort monitor target sides ∷ rest) old all = all.1
+  behind-all n e user (ReadCounts name ∷ rest) old all = all.1
+  behind-all n e user (ShutPort name ∷ rest) old all = all.1
+  behind-all n e user (FinishPort name ∷ rest) old all = all.1
+  behind-all n e user (Depart ∷ rest) old all = all.1
+  behind-all n e user (EndLine ∷ rest) old all = all.1
+
+-- ---- a user that comes no more goes on so
+
+abbrev HasSession : Machine → Type 0
+HasSession user = (session : SessionId) × (user.session ≡ Some session)
+
+session-kept : (n : ℕ) (e : Entry) (user : Machine) (tasks : List Task) → HasSession user → AllByRecursion KeepsSession tasks → HasSession (with_tasks n e user tasks)
+session-kept n e user [] has all = has
+session-kept n e user (Arrive ∷ rest) has all = (record { 0 = n }, refl)
+session-kept n e user (OpenPort name tx rx extra ∷ rest) has all = has
+session-kept n e user (PutFrame name bytes ∷ rest) has all = has
+session-kept n e user (SendFrames name ∷ rest) has all = has
+session-kept n e user (TakeFrames name ∷ rest) has all = has
+session-kept n e user (ChangeOwn act ∷ rest) has all = has
+session-kept n e user (SaveFrames name file ∷ rest) has all = has
+session-kept n e user (WatchPort monitor target sides ∷ rest) has all = has
+session-kept n e user (ReadCounts name ∷ rest) has all = has
+session-kept n e user (ShutPort name ∷ rest) has all = has
+session-kept n e user (FinishPort name ∷ rest) has all = has
+session-kept n e user (Depart ∷ rest) has all = absurd all.0
+session-kept n e user (EndLine ∷ rest) has all = has
+
+pub rests-no-more : (user : Machine) → ComesNoMore user → ComesNoMore (resting user)
+rests-no-more user (inl all) = inl (rest-all NeedsSession user user.tasks all)
+rests-no-more user (inr has) = inr (has.0, ((rest-same user user.tasks).session ∙ has.1.0, rest-all KeepsSession user user.tasks has.1.1))
+
+behind-no-more : (n : ℕ) (e : Entry) (user : Machine) → ComesNoMore user → ComesNoMore (with_tasks n e user user.tasks)
+behind-no-more n e user (inl all) = inl (behind-all NeedsSession n e user user.tasks all all)
+behind-no-more n e user (inr has) =
+    let kept = session-kept n e user user.tasks (has.0, has.1.0) has.1.1 in
+    inr (kept.0, (kept.1, behind-all KeepsSession n e user user.tasks has.1.1 has.1.1))
+
+answered-no-more : (n : ℕ) (e : Entry) (own : OwnState) (user : Machine) (b : Bool) → ComesNoMore user
+    → ComesNoMore (cond b user (with_tasks n e (record user { own = own }) user.tasks))
+answered-no-more n e own user true never = never
+answered-no-more n e own user false never = behind-no-more n e (record user { own = own }) never
+
+turn-no-more : (pool : ℕ) (h : List Entry) (before : Machine) (n : ℕ) (after : Machine) → TakesTurn pool h before n after → ComesNoMore before → ComesNoMore after
+turn-no-more pool h before n after turn never =
+    let came : List Arrival = arrivals_of (standing_before pool h n) turn.entry.ask turn.entry.reply in
+    subst ComesNoMore (sym turn.goes_on)
+    (rests-no-more (answered n turn.entry came before) (answered-no-more n turn.entry (own_after n turn.entry came before.own) before (is_settling turn.entry.ask) never))
+
+-- ---- and makes no Enter
+
+-- its number tells none of its calls
+call-unnumbered : (user : Machine) (k : ℕ) (task : Task) → NeedsSession task ⊎ HasSession user → call_of_task (record user { number = k }) task ≡ call_of_task user task
+call-unnumbered user k Arrive (inl needs) = absurd needs
+call-unnumbered user k Arrive (inr has) = ap (enter_call k) has.1 ∙ sym (ap (enter_call user.number) has.1)
+call-unnumbered user k (OpenPort name tx rx extra) never = refl
+call-unnumbered user k (PutFrame name bytes) never = refl
+call-unnumbered user k (SendFrames name) never = refl
+call-unnumbered user k (TakeFrames name) never = refl
+call-unnumbered user k (ChangeOwn act) never = refl
+call-unnumbered user k (SaveFrames name file) never = refl
+call-unnumbered user k (WatchPort monitor target sides) never = refl
+call-unnumbered user k (ReadCounts name) never = refl
+call-unnumbered user k (ShutPort name) never = refl
+call-unnumbered user k (FinishPort name) never = refl
+call-unnumbered user k Depart never = refl
+call-unnumbered user k EndLine never = refl
+
+calls-unnumbered : (user : Machine) (k : ℕ) (tasks : List Task) → AllByRecursion NeedsSession tasks ⊎ HasSession user → call_of_tasks (record user { number = k }) tasks ≡ call_of_tasks user tasks
+calls-unnumbered user k [] never = refl
+calls-unnumbered user k (task ∷ tasks) (inl all) = call-unnumbered user k task (inl all.0)
+calls-unnumbered user k (task ∷ tasks) (inr has) = call-unnumbered user k task (inr has)
+
+calls-no-more : (user : Machine) → ComesNoMore user → AllByRecursion NeedsSession user.tasks ⊎ HasSession user
+calls-no-more user (inl all) = inl all
+calls-no-more user (inr has) = inr (has.0, has.1.0)
+
+no-enter : (w : World) (user : Machine) (name : ℕ) → ComesNoMore user → next_call w user ≡ Some (Enter name) → ⊥
+no-enter w user name never call =
+    let same = calls-unnumbered user (suc name) user.tasks (calls-no-more user never) in
+    let next : next_call w (record user { number = suc name }) ≡ Some (Enter name) =
+    ap (option_or (option_and_then (settling_call w) user.session)) same ∙ call in
+    let clash : name ≡ suc name = call-enters w (record user { number = suc name }) name next in
+    absurd (omega (arith, clash))
+
+enter-of : (ask : Ask) → is_enter (kept_ask ask) ≡ true → (name : ℕ) × (ask ≡ Enter name)
+enter-of (Enter name) e = (name, refl)
+enter-of (Open session name tx rx extra) e = absurd cc
+enter-of (Send port frames) e = absurd cc
+enter-of (Grant origin to) e = absurd cc
+enter-of (Done lease) e = absurd cc
+enter-of (Sync port back) e = absurd cc
+enter-of (Reset port side fault) e = absurd cc
+enter-of (Shut port) e = absurd cc
+enter-of (Finish port bufs chain) e = absurd cc
+enter-of (Leave session) e = absurd cc
+enter-of (Put port offered) e = absurd cc
+enter-of (PutKept port offered) e = absurd cc
+enter-of (Get port back) e = absurd cc
+enter-of (Watch monitor target sides) e = absurd cc
+enter-of (Stat port) e = absurd cc
+
+turn-enters-not : (pool : ℕ) (h : List Entry) (before : Machine) (n : ℕ) (after : Machine) → ComesNoMore before → TakesTurn pool h before n after → IsNoEnter h n
+turn-enters-not pool h before n after never turn = record { entry = turn.entry; there = turn.there; enters_not = by (cases_Bool (is_coming turn.entry)) }
+  where
+    kept : turn.entry.ask ≡ kept_ask turn.ask
+    kept = ask-by turn.ask turn.entry (step (standing_before pool h n) turn.ask) turn.made
+
+    by : (is_coming turn.entry ≡ true) ⊎ (is_coming turn.entry ≡ false) → is_coming turn.entry ≡ false
+    by (inr e) = e
+    by (inl e) =
+        let named = enter-of turn.ask (ap is_enter (sym kept) ∙ e) in
+        absurd (no-enter (standing_before pool h n).world before named.0 never (turn.asked ∙ ap (λ (a : Ask). Some a) named.1))
+
+pub turns-enter-not : TurnsEnterNot
+turns-enter-not pool h first [] after turns never = tt
+turns-enter-not pool h first (n ∷ ns) after turns never =
+    (turn-enters-not pool h first n turns.0 never turns.1.0, turns-enter-not pool h turns.0 ns after turns.1.1 (turn-no-more pool h first n turns.0 turns.1.0 never))
+
+pub stands-each : (P : ℕ → Type 0) (xs : List (ℕ × Entry)) (n : ℕ) → AllByRecursion P (numbers xs) → Stands n xs → P n
+stands-each P [] n all st = absurd st
+stands-each P (x ∷ xs) n all (inl e) = subst P (sym e) all.0
+stands-each P (x ∷ xs) n all (inr st) = stands-each P xs n all.1 st
+
+-- ---- tasks
+
+pub all-then : (P : Task → Type 0) (one other : List Task) → AllByRecursion P one → AllByRecursion P other → AllByRecursion P (one ++ other)
+all-then P [] other front back = back
+all-then P (task ∷ tasks) other front back = (front.0, all-then P tasks other front.1 back)
+
+puts-keep : (count : ℕ) (name bytes : List ℕ) → AllByRecursion KeepsSession (replicate count (PutFrame name bytes))
+puts-keep zero name bytes = tt
+puts-keep (suc count) name bytes = (tt, puts-keep count name bytes)
+
+plays-keep : (name : List ℕ) (batch left : ℕ) (frames : List (List ℕ)) → AllByRecursion KeepsSession (played_before_sync name batch left frames)
+plays-keep name batch left [] = either-all KeepsSession (left == batch) [] (SendFrames name ∷ []) tt (tt, tt)
+plays-keep name batch left (bytes ∷ frames) =
+    let whole = plays-keep name batch batch frames in
+    let fewer = plays-keep name batch (left - 1) frames in
+    either-all KeepsSession (left == 1) (PutFrame name bytes ∷ SendFrames name ∷ played_before_sync name batch batch frames) (PutFrame name bytes ∷ played_before_sync name batch (left - 1) frames) (tt, (tt, whole)) (tt, fewer)
+
+act-keeps : (records : List ℕ → List (List ℕ)) (act : Act) → AllByRecursion KeepsSession (tasks_of records act)
+act-keeps records acts.Enter = (tt, tt)
+act-keeps records (acts.Open name tx rx extra) = (tt, tt)
+act-keeps records (acts.Put name count to from len fill) = puts-keep count name (frame_of_put to from len fill)
+act-keeps records (acts.Hex name frame) = (tt, tt)
+act-keeps records (acts.Play name file batch) = plays-keep name batch batch (filter fits_a_buffer (records file))
+act-keeps records (acts.Tx name) = (tt, tt)
+act-keeps records (acts.Rx name keep) =
+    either-all KeepsSession keep (TakeFrames name ∷ []) (ChangeOwn (acts.Rx name keep) ∷ TakeFrames name ∷ []) (tt, tt) (tt, (tt, tt))
+act-keeps records (acts.Fwd from to count) = (tt, tt)
+act-keeps records (acts.Poke name side slot field value) = (tt, tt)
+act-keeps records (acts.Move name side head cur) = (tt, tt)
+act-keeps records (acts.Swap name side slot other other_side other_slot quiet) = (tt, tt)
+act-keeps records (acts.Extra name i j) = (tt, tt)
+act-keeps records (acts.Watch monitor target sides) = (tt, tt)
+act-keeps records (acts.Stat name) = (tt, tt)
+act-keeps records (acts.Save name file) = (tt, tt)
+act-keeps records (acts.Close name) = (tt, (tt, tt))
+
+line-keeps : (records : List ℕ → List (List ℕ)) (act : Act) → AllByRecursion KeepsSession (tasks_of_line records act)
+line-keeps records act = all-then KeepsSession (tasks_of records act) (EndLine ∷ []) (act-keeps records act) (tt, tt)
+
+lines-keep-all : (records : List ℕ → List (List ℕ)) (acts : List Act) → AllByRecursion KeepsSession (tasks_of_lines records acts)
+lines-keep-all records [] = tt
+lines-keep-all records (act ∷ acts) =
+    all-then KeepsSession (tasks_of_line records act) (tasks_of_lines records acts) (line-keeps records act) (lines-keep-all records acts)
+
+pub lines-keep : LinesKeepSession
+lines-keep records = record { act = act-keeps records; line = line-keeps records; lines = lines-keep-all records }

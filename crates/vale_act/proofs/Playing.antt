@@ -1,0 +1,92 @@
+-- The tasks of a line that puts frames, one frame after another.
+use Rattle.std.proofs.Common.{ℕ, zero, suc, ◌≡◌, ◌≤◌, ◌<◌, ◌+◌, ◌-◌, Bool, true, false, cond, List, [], ◌∷◌, ◌++◌, length, map, drop, get_or, replicate, refl, sym, ◌∙◌, ap, arith}
+use Rattle.std.specs.Prelude.{filter, ◌==◌}
+use Rattle.std.proofs.lemmas.Bool.{le-leb, lt-leb, eq-eqb, ne_eqb}
+use Rattle.std.proofs.lemmas.List.{at_drop_more, at_drop_all}
+use Rattle.pcap_io.specs.declared.record.Record.{Record}
+use Rattle.vale_replay.specs.Tasks.{Task, PutFrame, SendFrames, played_before_sync, fits_a_buffer, lines_left}
+use Rattle.vale_captures.specs.Inputs.{captured}
+use Rattle.vale_act.specs.Syncing.{playing}
+use Rattle.vale_act.proofs.Doing.{HasNoEnd}
+
+-- ---- one frame many times
+
+pub same-none : (name bytes : List ℕ) (count : ℕ) → HasNoEnd (replicate count (PutFrame name bytes))
+same-none name bytes zero rest = refl
+same-none name bytes (suc n) rest = same-none name bytes n rest
+
+pub same-next : (task : Task) (left : ℕ) → 0 < left → replicate left task ≡ task ∷ replicate (left - 1) task
+same-next task left more =
+    let next : left ≡ suc (left - 1) = omega (arith, more) in
+    ap (λ (n : ℕ). replicate n task) next
+
+-- ---- frames one after another
+
+module _ (name : List ℕ) (batch : ℕ) where
+  abbrev played-from : ℕ → List (List ℕ) → List Task
+  played-from left frames = played_before_sync name batch left frames
+
+  last-none : (b : Bool) → HasNoEnd (cond b [] (SendFrames name ∷ []))
+  last-none true rest = refl
+  last-none false rest = refl
+
+  -- what comes behind a frame that is put
+  abbrev pub behind_put : ℕ → List (List ℕ) → List Task
+  behind_put left frames = cond (left == 1) (SendFrames name ∷ played-from batch frames) (played-from (left - 1) frames)
+
+  either-none : (b : Bool) (one other : List Task) → HasNoEnd one → HasNoEnd other → HasNoEnd (cond b (SendFrames name ∷ one) other)
+  either-none true one other first second rest = first rest
+  either-none false one other first second rest = second rest
+
+  put-out : (bytes : List ℕ) (b : Bool) (one other : List Task) → cond b (PutFrame name bytes ∷ one) (PutFrame name bytes ∷ other) ≡ PutFrame name bytes ∷ cond b one other
+  put-out bytes true one other = refl
+  put-out bytes false one other = refl
+
+  pub played-none : (left : ℕ) (frames : List (List ℕ)) → HasNoEnd (played-from left frames)
+  played-none left [] rest = last-none (left == batch) rest
+  played-none left (bytes ∷ frames) rest =
+      ap (λ (tasks : List Task). lines_left (tasks ++ rest)) (put-out bytes (left == 1) (SendFrames name ∷ played-from batch frames) (played-from (left - 1) frames))
+      ∙ either-none (left == 1) (played-from batch frames) (played-from (left - 1) frames) (played-none batch frames) (played-none (left - 1) frames) rest
+
+  pub behind-none : (left : ℕ) (frames : List (List ℕ)) → HasNoEnd (behind_put left frames)
+  behind-none left frames = either-none (left == 1) (played-from batch frames) (played-from (left - 1) frames) (played-none batch frames) (played-none (left - 1) frames)
+
+  -- a record that fits a buffer is put, and one that does not is passed over
+  pub plays-short : (left : ℕ) (bytes : List ℕ) (frames : List (List ℕ)) → length bytes ≤ 2048
+      → playing name batch left (bytes ∷ frames) ≡ PutFrame name bytes ∷ behind_put left (filter fits_a_buffer frames)
+  plays-short left bytes frames short =
+      ap (λ (b : Bool). played-from left (cond b (bytes ∷ filter fits_a_buffer frames) (filter fits_a_buffer frames))) (le-leb (length bytes) 2048 short)
+      ∙ put-out bytes (left == 1) (SendFrames name ∷ playing name batch batch frames) (playing name batch (left - 1) frames)
+
+  pub plays-long : (left : ℕ) (bytes : List ℕ) (frames : List (List ℕ)) → 2048 < length bytes → playing name batch left (bytes ∷ frames) ≡ playing name batch left frames
+  plays-long left bytes frames long =
+      ap (λ (b : Bool). played-from left (cond b (bytes ∷ filter fits_a_buffer frames) (filter fits_a_buffer frames))) (lt-leb (length bytes) 2048 long)
+
+  -- behind the last one before a sync that sync comes
+  pub behind-last : (left : ℕ) (frames : List (List ℕ)) → left ≡ 1 → behind_put left (filter fits_a_buffer frames) ≡ SendFrames name ∷ playing name batch batch frames
+  behind-last left frames last =
+      ap (λ (b : Bool). cond b (SendFrames name ∷ playing name batch batch frames) (playing name batch (left - 1) frames)) (eq-eqb left 1 last)
+
+  pub behind-more : (left : ℕ) (frames : List (List ℕ)) → (left ≡ 1 → ⊥) → behind_put left (filter fits_a_buffer frames) ≡ playing name batch (left - 1) frames
+  behind-more left frames more =
+      ap (λ (b : Bool). cond b (SendFrames name ∷ playing name batch batch frames) (playing name batch (left - 1) frames)) (ne_eqb left 1 more)
+
+  -- behind all of them too, if it does not stand there yet
+  pub plays-last : (left : ℕ) → (left ≡ batch → ⊥) → playing name batch left [] ≡ SendFrames name ∷ []
+  plays-last left more = ap (λ (b : Bool). cond b [] (SendFrames name ∷ [])) (ne_eqb left batch more)
+
+  pub plays-all : (left : ℕ) → left ≡ batch → playing name batch left [] ≡ []
+  plays-all left all = ap (λ (b : Bool). cond b [] (SendFrames name ∷ [])) (eq-eqb left batch all)
+
+-- ---- the records of a capture
+
+-- the one at a place comes before those behind it
+pub next-record : (records : List Record) (at : ℕ) (item : Record) (bytes : List ℕ) → at < length records → item ≡ get_or records at item → bytes ≡ item.bytes
+    → map captured (drop at records) ≡ bytes ∷ map captured (drop (at + 1) records)
+next-record records at item bytes within is same =
+    let rest : List (List ℕ) = map captured (drop (at + 1) records) in
+    at_drop_more (map captured) records at item within
+    ∙ (ap (λ (r : Record). captured r ∷ rest) (sym is) ∙ ap (λ (bs : List ℕ). bs ∷ rest) (sym same))
+
+pub no-record : (records : List Record) (at : ℕ) → length records ≤ at → map captured (drop at records) ≡ []
+no-record records at end = at_drop_all (map captured) records at end

@@ -1,0 +1,108 @@
+-- The turns of one user, one after another.
+use Rattle.std.proofs.Common.{ℕ, ◌-◌, ◌<◌, ◌≤◌, ◌≡◌, Bool, true, false, cond, List, [], ◌∷◌, map, take, drop, Option, Some, sym, ap, subst, arith, take-append-drop}
+use Rattle.std.specs.Prelude.{◌||◌, not}
+use Rattle.std.specs.Option.{option_map_or}
+use Rattle.std.specs.List.{AllByRecursion as Each}
+use Rattle.std.proofs.lemmas.List.Sums.{sum_by-cons}
+use Rattle.nm_types.specs.OwnPorts.{OwnPort, OwnState}
+use Rattle.vale_entry.specs.declared.entry.Entry.{Entry}
+use Rattle.vale_entry.specs.Arrivals.{arrivals_of}
+use Rattle.vale_entry.specs.Laws.{Rise}
+use Rattle.vale_entry.specs.OwnCalls.{own_after}
+use Rattle.vale_entry.specs.Legal.{Outcome, IsLegal, standing_of, step, kept_ask}
+use Rattle.vale_own.proofs.OwnKept.{legal-split}
+use Rattle.vale_replay.specs.Tasks.{Task, Arrive, OpenPort, PutFrame, SendFrames, TakeFrames, ChangeOwn, SaveFrames, WatchPort, ReadCounts, ShutPort, FinishPort, Depart, EndLine, lines_left}
+use Rattle.vale_replay.specs.Machine.{Machine, answered, has_room_at, is_peer_gone, is_reset, is_settling, resting, with_tasks}
+use Rattle.vale_replay.specs.Replay.{TakesTurn, TakesTurns, entry_by}
+use Rattle.vale_act.specs.Completeness.{taken_by, call_of, taken_at, call_at, IsOpenedBy, SpendsAll, UsersSpend}
+use Rattle.vale_act.proofs.RoomViews.{View, AreBelow, below-later, seen, views, tidy-of}
+use Rattle.vale_act.proofs.RoomRests.{ArePlain, lines-left}
+use Rattle.vale_act.proofs.RoomSpends.{tidy-spends, outcome-of}
+use Rattle.vale_act.proofs.RoomChains.{made-below}
+
+either : (b : Bool) (one other : List Task) → ArePlain one → ArePlain other → ArePlain (cond b one other)
+either true one other front back = front
+either false one other front back = back
+
+plain-with : (n : ℕ) (e : Entry) (u : Machine) (tasks : List Task) → ArePlain u.tasks → ArePlain tasks → ArePlain (with_tasks n e u tasks).tasks
+plain-with n e u [] old plain = old
+plain-with n e u (PutFrame name bytes ∷ rest) old plain =
+    either (is_reset e.ask || not (has_room_at u.own name)) (lines_left rest) (PutFrame name bytes ∷ rest) ((lines-left rest).plain plain.1) plain
+plain-with n e u (SendFrames name ∷ rest) old plain = either (is_reset e.ask || is_peer_gone e.reply) (lines_left rest) rest ((lines-left rest).plain plain.1) plain.1
+plain-with n e u (Arrive ∷ rest) old plain = plain.1
+plain-with n e u (OpenPort name tx rx extra ∷ rest) old plain = plain.1
+plain-with n e u (TakeFrames name ∷ rest) old plain = plain.1
+plain-with n e u (ChangeOwn act ∷ rest) old plain = plain.1
+plain-with n e u (SaveFrames name file ∷ rest) old plain = plain.1
+plain-with n e u (WatchPort monitor target sides ∷ rest) old plain = plain.1
+plain-with n e u (ReadCounts name ∷ rest) old plain = plain.1
+plain-with n e u (ShutPort name ∷ rest) old plain = plain.1
+plain-with n e u (FinishPort name ∷ rest) old plain = plain.1
+plain-with n e u (Depart ∷ rest) old plain = plain.1
+plain-with n e u (EndLine ∷ rest) old plain = plain.1
+
+pub plain-answered : (n : ℕ) (e : Entry) (own : OwnState) (u : Machine) (b : Bool) → ArePlain u.tasks → ArePlain (cond b u (with_tasks n e (record u { own = own }) u.tasks)).tasks
+plain-answered n e own u true plain = plain
+plain-answered n e own u false plain = plain-with n e (record u { own = own }) u.tasks plain plain
+
+abbrev BelowAt : ℕ → List Entry → ℕ → Machine → Machine → Entry → Type 0
+BelowAt pool past number user after e =
+    after ≡ resting (answered number e (arrivals_of (standing_of pool past) e.ask e.reply) user) → AreBelow number (views after.own)
+
+turn-below : (pool : ℕ) (h : List Entry) (k : ℕ) (user : Machine) (n : ℕ) (after : Machine) → AreBelow k (views user.own) → k < n → ArePlain user.tasks
+    → TakesTurn pool h user n after → AreBelow n (views after.own)
+turn-below pool h k user n after below above plain turn =
+    subst (BelowAt pool (take (n - 1) h) n user after) out.2 here turn.goes_on
+  where
+    out : (o : Outcome) × (step (standing_of pool (take (n - 1) h)) turn.ask ≡ Some o) × (entry_by turn.ask o ≡ turn.entry)
+    out = outcome-of turn.ask turn.entry (step (standing_of pool (take (n - 1) h)) turn.ask) turn.made
+
+    here : BelowAt pool (take (n - 1) h) n user after (entry_by turn.ask out.0)
+    here goes =
+        subst (λ (m : Machine). AreBelow n (views m.own)) (sym goes)
+        (made-below pool (take (n - 1) h) k n user below above out.0 turn.ask
+        (plain-answered n (entry_by turn.ask out.0) (own_after n (entry_by turn.ask out.0) (arrivals_of (standing_of pool (take (n - 1) h)) (kept_ask turn.ask) out.0.reply) user.own) user (is_settling (kept_ask turn.ask)) plain)
+        turn.asked out.1)
+
+pub record Chain (h : List Entry) (user : Machine) (ns : List ℕ) (after : Machine) (high : ℕ) : Type 0 where
+  pub spends : SpendsAll h user after ns
+  pub below : AreBelow high (views after.own)
+
+rise-up : (low : ℕ) (ns : List ℕ) (high : ℕ) → Rise low ns high → low ≤ high
+rise-up low [] high rise = rise
+rise-up low (n ∷ ns) high rise = let here = rise.0 in let rest = rise-up n ns high rise.1 in omega (arith, here, rest)
+
+pub chain : (pool : ℕ) (h : List Entry) (low high : ℕ) (user : Machine) (ns : List ℕ) (after : Machine) → ((n : ℕ) → IsLegal pool (take n h)) → Rise low ns high
+    → AreBelow low (views user.own) → ArePlain user.tasks → TakesTurns pool h user ns after → Chain h user ns after high
+chain pool h low high user [] after legal rise below plain turns =
+    subst (λ (m : Machine). Chain h user [] m high) (sym turns)
+    (record { spends = record { frames = omega arith; calls = omega arith; plain = plain }; below = below-later low high (views user.own) (rise-up low [] high rise) below })
+chain pool h low high user (n ∷ ns) after legal rise below plain turns =
+    let next = turns.0 in
+    let turn = turns.1.0 in
+    let there = turn-below pool h low user n next below rise.0 plain turn in
+    let one = tidy-spends pool h user n next (legal (n - 1)) below.tidy there.tidy plain turn in
+    let rest = chain pool h n high next ns after legal rise.1 there one.plain turns.1.1 in
+    let taken : taken_at h n ≡ taken_by turn.entry = ap (λ (o : Option Entry). option_map_or taken_by o 0) turn.there in
+    let cost : call_at h n ≡ call_of turn.entry = ap (λ (o : Option Entry). option_map_or call_of o 0) turn.there in
+    let frames = sum_by-cons (taken_at h) n ns in
+    let calls = sum_by-cons (call_at h) n ns in
+    let f = one.frames in
+    let c = one.calls in
+    let rf = rest.spends.frames in
+    let rc = rest.spends.calls in
+    record {
+      spends = record { frames = omega (arith, taken, frames, f, rf); calls = omega (arith, cost, calls, c, rc); plain = rest.spends.plain };
+      below = rest.below;
+    }
+
+pub legal-take : (pool : ℕ) (h : List Entry) → IsLegal pool h → (n : ℕ) → IsLegal pool (take n h)
+legal-take pool h legal n = (legal-split pool (take n h) (drop n h) (subst (IsLegal pool) (sym (take-append-drop n h)) legal)).0
+
+opened-ids : (low : ℕ) (ports : List OwnPort) → Each (IsOpenedBy low) ports → Each (λ (v : View). v.id ≤ low) (map seen ports)
+opened-ids low [] all = tt
+opened-ids low (p ∷ ports) all = (all.0, opened-ids low ports all.1)
+
+pub users-spend : UsersSpend
+users-spend pool h low high user ns after legal rise sound opened plain turns =
+    (chain pool h low high user ns after (legal-take pool h legal) rise (record { tidy = tidy-of user.own sound; ids = opened-ids low user.own.ports opened }) plain turns).spends

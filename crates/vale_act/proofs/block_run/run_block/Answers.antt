@@ -1,0 +1,42 @@
+use Rattle.vale_fabric.specs.Fabrics.{knowing}
+use Rattle.vale_act.specs.Inputs.{records_in}
+use Rattle.vale_act.proofs.BlockParts.{block-held, ran-on}
+use Rattle.vale_act.proofs.BlockRuns.{block-begins, block-length, block-plays, block-seated, block-stopped, if-ok, if-err}
+use Rattle.vale_act.proofs.DepartingScript.{block-leaving}
+use Rattle.vale_act.proofs.block_run.run_block.Goals as goal
+
+pub tell_all-requires-clause-on : goal.tell_all-requires-clause-on
+tell_all-requires-clause-on g c = ran-on (records_in c.args.inputs.now) c.args.lines.now c.args.fabric.now c.meet_all.new.seats c.run_all.new.seats c.meet_all.ensures.on c.run_all.ensures
+
+pub returns-clause-runs : goal.returns-clause-runs
+returns-clause-runs g c =
+    let fabric = c.args.fabric.now in
+    let records = records_in c.args.inputs.now in
+    let lines = c.args.lines.now in
+    let v = knowing c.args.main.now in
+    let m = knowing c.meet_all.new.main in
+    let w = knowing c.tell_all.new.main in
+    let befores = c.args.seats.now in
+    let mets = c.meet_all.new.seats in
+    let rans = c.run_all.new.seats in
+    let afters = c.tell_all.new.seats in
+    let met = c.meet_all.ensures.meets in
+    let ran = c.run_all.ensures in
+    let told = c.tell_all.ensures.tells in
+    let on = c.requires.on in
+    let seated = c.requires.seated in
+    let deeds = c.requires.deeds in
+    record {
+      len = block-length fabric records lines v m w befores mets rans afters met ran told on seated deeds;
+      seated = block-seated fabric records lines v m w befores mets rans afters met ran told on seated deeds;
+      begins = block-begins fabric records lines v m w befores mets rans afters met ran told on seated deeds;
+      held = block-held records lines v m w befores mets rans afters met ran told;
+      plays = if-ok c.first_fault.result c.first_fault.ensures.none (block-plays fabric records lines v m w befores mets rans afters met ran told on seated deeds);
+      stops = if-err c.first_fault.result c.first_fault.ensures.first (block-stopped fabric records lines v m w befores mets rans afters met ran told on seated deeds);
+    }
+
+pub returns-clause-leaves : goal.returns-clause-leaves
+returns-clause-leaves g c =
+    block-leaving (records_in c.args.inputs.now) c.args.lines.now (knowing c.args.main.now) (knowing c.meet_all.new.main) (knowing c.tell_all.new.main)
+    c.args.seats.now c.meet_all.new.seats c.run_all.new.seats c.tell_all.new.seats
+    c.meet_all.ensures.meets c.run_all.ensures c.tell_all.ensures.tells

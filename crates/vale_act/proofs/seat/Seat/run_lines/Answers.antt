@@ -1,0 +1,8 @@
+use Rattle.vale_act.specs.Inputs.{records_in}
+use Rattle.vale_act.proofs.LinesRun.{has-run}
+use Rattle.vale_act.proofs.seat.Seat.run_lines.Goals as goal
+
+pub returns-in-There-self : goal.returns-in-There-self
+returns-in-There-self g c =
+    has-run (records_in c.args.inputs.now) c.args.lines.now c.args.self.now c.in-There.player c.run_own-stop.new.self c.in-There-self.player c.in-There.fault c.in-There-self.fault c.run_own-stop.result
+    c.in-There.is c.in-There-self.is c.run_own-stop.ensures

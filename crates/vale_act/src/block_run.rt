@@ -1,0 +1,182 @@
+//! The lines of a block: each user does its own on a thread.
+ghost use Rattle.std.specs.Prelude.{◌≡◌, None, OnOk, IfErr, length};
+ghost use Rattle.std.specs.List.{AllByRecursion};
+ghost use Rattle.nm_user.specs.Sessions.{IsThere};
+ghost use Rattle.vale_script.specs.declared.script.Unit.TheVariants as parts;
+ghost use Rattle.vale_replay.specs.Replay.{has_line, shares_of};
+ghost use Rattle.vale_fabric.specs.Fabrics.{IsPassIn, fixed_in, knowing};
+ghost use Rattle.vale_act.specs.Deeds.{AreDoable};
+ghost use Rattle.vale_act.specs.Inputs.{records_in};
+ghost use Rattle.vale_act.specs.Leaving.{CanStillLeave};
+ghost use Rattle.vale_act.specs.Seats.{AllOn, MeetAll, TellAll, HasRun, RunsLines, AreEach, AllAre};
+ghost use Rattle.vale_act.specs.Seats.{AreSeated, IsDeedLine, UnitAt};
+ghost use Rattle.vale_act.specs.Seats.{fault_at, HasNoFault, IsFirstFault};
+
+use crate::player::Player;
+use crate::seat::Seat;
+use nm_io::Gate;
+use nm_types::StepFault;
+use std::sync::Wait;
+use std::thread;
+use std::thread::Threads;
+use vale_captures::Inputs;
+use vale_fabric::{Fabric, Pass};
+use vale_script::Line;
+
+/// The block has a line of this user.
+fn has_line(lines: &[Line], number: u64) -> bool
+    ensures { result ≡ has_line lines.now number }
+{
+    lines.iter().any(|line| line.user as u64 == number)
+}
+
+impl<'f> Player<'f> {
+    /// Between two calls a user's session is there, and has just what is on its own side.
+    pub(crate) fn is_there(&self)
+        ensures { IsThere None self.now.session }
+    {
+        let _number = self.number;
+    }
+
+    /// The user does its own lines, if it has any. Answers the fault that stops it.
+    fn run_own<R: Wait, G: Gate>(
+        &mut self,
+        rt: &R,
+        lines: &[Line],
+        inputs: &Inputs,
+        gate: &G,
+    ) -> Option<StepFault>
+        requires { AreDoable lines.now }
+        ensures { RunsLines (records_in inputs.now) lines.now self.old self.new result }
+    {
+        if !has_line(lines, self.number) {
+            self.is_there();
+            return None;
+        }
+        let done = self.run_lines(rt, lines, inputs, gate);
+        self.is_there();
+        match done {
+            Ok(()) => None,
+            Err(fault) => Some(fault),
+        }
+    }
+}
+
+impl<'f> Seat<'f> {
+    /// The user does its own lines, and keeps the fault that stops it.
+    fn run_lines<R: Wait, G: Gate>(&mut self, rt: &R, lines: &[Line], inputs: &Inputs, gate: &G)
+        requires { AreDoable lines.now }
+        ensures { HasRun (records_in inputs.now) lines.now self.old self.new }
+    {
+        if let Seat::There { player, fault: _ } = self {
+            let stop = player.run_own(rt, lines, inputs, gate);
+            if let Seat::There { player: _, fault } = self {
+                *fault = stop;
+            }
+        }
+    }
+
+    /// The fault that has stopped the user in the last block.
+    fn fault(&self) -> Option<StepFault>
+        ensures { result ≡ fault_at self.now }
+    {
+        match self {
+            Seat::There { player: _, fault } => *fault,
+            _ => None,
+        }
+    }
+}
+
+/// All users learn of what the main pass has seen.
+fn meet_all(fabric: &Fabric, main: &mut Pass, seats: &mut [Seat])
+    requires pass { IsPassIn fabric.now main.old }
+    requires on { AllOn fabric.now seats.old }
+    ensures pass { IsPassIn fabric.now main.new }
+    ensures on { AllOn fabric.now seats.new }
+    ensures meets { MeetAll (knowing main.old) (knowing main.new) seats.old seats.new }
+{
+    for place in 0..seats.len() {
+        seats[place].meet(fabric, main);
+    }
+}
+
+/// The main pass learns of what all users have seen.
+fn tell_all(fabric: &Fabric, main: &mut Pass, seats: &mut [Seat])
+    requires pass { IsPassIn fabric.now main.old }
+    requires on { AllOn fabric.now seats.old }
+    ensures pass { IsPassIn fabric.now main.new }
+    ensures on { AllOn fabric.now seats.new }
+    ensures tells { TellAll (knowing main.old) (knowing main.new) seats.old seats.new }
+{
+    for place in 0..seats.len() {
+        seats[place].tell(fabric, main);
+    }
+}
+
+/// The fault of the first user that one has stopped.
+fn first_fault(seats: &[Seat]) -> Result<(), StepFault>
+    ensures none { OnOk result (AllAre (λ place. HasNoFault) seats.now) }
+    ensures first { IfErr result (IsFirstFault seats.now) }
+{
+    for seat in seats {
+        if let Some(fault) = seat.fault() {
+            return Err(fault);
+        }
+    }
+    Ok(())
+}
+
+/// Each user does its own lines on a thread.
+fn run_all<R: Threads + Wait + Sync, G: Gate>(
+    rt: &R,
+    seats: &mut [Seat],
+    lines: &[Line],
+    inputs: &Inputs,
+    gate: &G,
+)
+    requires { AreDoable lines.now }
+    ensures { AreEach (λ place. HasRun (records_in inputs.now) lines.now) seats.old seats.new }
+{
+    if seats.is_empty() {
+        return;
+    }
+    let threads = seats.len();
+    thread::for_each_mut(
+        rt,
+        seats,
+        threads,
+        &|_: usize, seat: &mut Seat|
+            requires { AreDoable lines.now }
+            ensures { HasRun (records_in inputs.entry.now) lines.entry.now seat.old seat.new }
+        { seat.run_lines(rt, lines, inputs, gate) },
+    );
+}
+
+/// The users do the lines of a block. Of those that a fault stops, the one of the smallest number
+/// counts.
+pub(crate) fn run_block<'f, R: Threads + Wait + Sync, G: Gate>(
+    rt: &R,
+    fabric: &'f Fabric,
+    main: &mut Pass,
+    seats: &mut [Seat<'f>],
+    lines: &[Line],
+    inputs: &Inputs,
+    gate: &G,
+) -> Result<(), StepFault>
+    requires pass { IsPassIn fabric.now main.old }
+    requires on { AllOn fabric.now seats.old }
+    requires seated { AreSeated seats.old }
+    requires doable { AreDoable lines.now }
+    requires deeds { AllByRecursion IsDeedLine lines.now }
+    ensures pass { IsPassIn fabric.now main.new }
+    ensures on { AllOn fabric.now seats.new }
+    ensures runs { UnitAt (fixed_in fabric.now)
+        (shares_of (records_in inputs.now) (length seats.old) (parts.Block lines.now))
+        (knowing main.old) (knowing main.new) seats.old seats.new result }
+    ensures leaves { CanStillLeave (knowing main.old) (knowing main.new) seats.old seats.new }
+{
+    meet_all(fabric, main, seats);
+    run_all(rt, seats, lines, inputs, gate);
+    tell_all(fabric, main, seats);
+    first_fault(seats)
+}

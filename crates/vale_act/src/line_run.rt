@@ -1,0 +1,175 @@
+//! A line outside the blocks, at the seat of its user.
+ghost use Rattle.std.specs.Prelude.{◌≡◌, ◌≤◌, ℕ, true, false, List, length, IfOk, IfErr};
+ghost use Rattle.vale_script.specs.declared.script.Act.TheVariants as acts;
+ghost use Rattle.vale_fabric.specs.Fabrics.{IsPassIn, fixed_in, knowing};
+ghost use Rattle.vale_replay.specs.Replay.{shares_of};
+ghost use Rattle.vale_script.specs.declared.script.Unit.TheVariants as parts;
+ghost use Rattle.vale_act.specs.declared.seat.Seat.TheVariants.{Away};
+ghost use Rattle.vale_act.specs.Deeds.{IsDoable};
+ghost use Rattle.vale_act.specs.Inputs.{records_in};
+ghost use Rattle.vale_act.specs.Leaving.{CanStillLeave, SeatStillLeaves};
+ghost use Rattle.vale_act.specs.Units.{IsOn};
+ghost use Rattle.vale_act.specs.Seats.{Comes, ComesNot, HasActed, LineAt, UnitAt, line_tasks};
+ghost use Rattle.vale_act.specs.Seats.{AllOn, AreSeated, IsDeed, IsSeated};
+
+use crate::player::Player;
+use crate::seat::Seat;
+use nm_io::Gate;
+use nm_types::{Name, StepFault};
+use std::alloc::Global;
+use std::mem;
+use std::sync::Wait;
+use vale_captures::Inputs;
+use vale_fabric::{Fabric, Pass};
+use vale_script::{Act, Line};
+
+/// A user comes through a pass of its own. If it cannot, the pass goes back to the main one.
+fn come<'f, R: Wait>(
+    alloc: Global,
+    rt: &R,
+    fabric: &'f Fabric,
+    main: &mut Pass,
+    number: u64,
+    names: &'f [Name],
+) -> Result<Player<'f>, StepFault>
+    requires { IsPassIn fabric.now main.old }
+    ensures pass { IsPassIn fabric.now main.new }
+    ensures comes { IfOk result (Comes fabric.now number (knowing main.old) (knowing main.new)) }
+    ensures not { IfErr result (ComesNot (fixed_in fabric.now) number (knowing main.old) (knowing main.new)) }
+{
+    let pass = fabric.fork(main);
+    match Player::enter_keeping(alloc, rt, fabric, pass, number, names) {
+        Ok(player) => Ok(player),
+        Err((fault, pass)) => {
+            fabric.join(main, pass);
+            Err(fault)
+        }
+    }
+}
+
+impl<'f> Seat<'f> {
+    /// The line is the one with which the seat's user comes.
+    fn comes_by(&self, act: &Act) -> bool
+        ensures yes { result ≡ true → (self.now ≡ Away) × (act.now ≡ acts.Enter) }
+        ensures no { result ≡ false → self.now ≡ Away → IsDeed act.now }
+    {
+        match self {
+            Seat::Away => matches!(act, Act::Enter),
+            _ => false,
+        }
+    }
+
+    /// The user of this number comes, and takes its seat.
+    fn enter<R: Wait>(
+        &mut self,
+        alloc: Global,
+        rt: &R,
+        fabric: &'f Fabric,
+        main: &mut Pass,
+        number: u64,
+        names: &'f [Name],
+    ) -> Result<(), StepFault>
+        requires pass { IsPassIn fabric.now main.old }
+        requires away { self.old ≡ Away }
+        ensures pass { IsPassIn fabric.now main.new }
+        ensures on { IsOn fabric.now self.new }
+        ensures line { (records : List ℕ → List (List ℕ)) → LineAt (fixed_in fabric.now) number
+            (line_tasks records acts.Enter) (knowing main.old) (knowing main.new)
+            self.old self.new result }
+        ensures leaves { SeatStillLeaves (knowing main.old) (knowing main.new) self.old self.new }
+    {
+        match come(alloc, rt, fabric, main, number, names) {
+            Ok(player) => {
+                player.is_there();
+                let seat = Seat::There {
+                    player,
+                    fault: None,
+                };
+                mem::replace(self, seat).end();
+                self.tell(fabric, main);
+                Ok(())
+            }
+            Err(fault) => Err(fault),
+        }
+    }
+
+    /// The user does what a line says; it does nothing where it is not there.
+    fn act<R: Wait, G: Gate>(
+        &mut self,
+        rt: &R,
+        act: &Act,
+        inputs: &Inputs,
+        gate: &G,
+    ) -> Result<(), StepFault>
+        requires { IsDoable act.now }
+        ensures { HasActed (records_in inputs.now) act.now result self.old self.new }
+    {
+        if let Seat::There { player, fault: _ } = self {
+            let done = player.act(rt, act, inputs, gate);
+            player.is_there();
+            return done;
+        }
+        Ok(())
+    }
+
+    /// The user does what a line says that stands outside the blocks.
+    fn run_line<R: Wait, G: Gate>(
+        &mut self,
+        alloc: Global,
+        rt: &R,
+        fabric: &'f Fabric,
+        main: &mut Pass,
+        names: &'f [Name],
+        line: &Line,
+        inputs: &Inputs,
+        gate: &G,
+    ) -> Result<(), StepFault>
+        requires pass { IsPassIn fabric.now main.old }
+        requires on { IsOn fabric.now self.old }
+        requires seated { IsSeated line.now.user self.old }
+        requires doable { IsDoable line.now.act }
+        ensures pass { IsPassIn fabric.now main.new }
+        ensures on { IsOn fabric.now self.new }
+        ensures line { LineAt (fixed_in fabric.now) line.now.user
+            (line_tasks (records_in inputs.now) line.now.act)
+            (knowing main.old) (knowing main.new) self.old self.new result }
+        ensures leaves { SeatStillLeaves (knowing main.old) (knowing main.new) self.old self.new }
+    {
+        if self.comes_by(&line.act) {
+            return self.enter(alloc, rt, fabric, main, line.user as u64, names);
+        }
+        self.meet(fabric, main);
+        let done = self.act(rt, &line.act, inputs, gate);
+        self.tell(fabric, main);
+        done
+    }
+}
+
+/// The user of a line that stands outside the blocks does what it says.
+pub(crate) fn run_single<'f, R: Wait, G: Gate>(
+    alloc: Global,
+    rt: &R,
+    fabric: &'f Fabric,
+    main: &mut Pass,
+    seats: &mut [Seat<'f>],
+    names: &'f [Name],
+    line: &Line,
+    inputs: &Inputs,
+    gate: &G,
+) -> Result<(), StepFault>
+    requires pass { IsPassIn fabric.now main.old }
+    requires on { AllOn fabric.now seats.old }
+    requires seated { AreSeated seats.old }
+    requires least { 1 ≤ line.now.user }
+    requires most { line.now.user ≤ length seats.old }
+    requires doable { IsDoable line.now.act }
+    ensures pass { IsPassIn fabric.now main.new }
+    ensures on { AllOn fabric.now seats.new }
+    ensures runs { UnitAt (fixed_in fabric.now)
+        (shares_of (records_in inputs.now) (length seats.old) (parts.Single line.now))
+        (knowing main.old) (knowing main.new) seats.old seats.new result }
+    ensures leaves { CanStillLeave (knowing main.old) (knowing main.new) seats.old seats.new }
+{
+    let place = line.user as usize - 1;
+    seats[place].run_line(alloc, rt, fabric, main, names, line, inputs, gate)
+}

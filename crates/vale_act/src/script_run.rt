@@ -1,0 +1,322 @@
+//! A whole script over a fabric.
+ghost use Rattle.std.specs.Prelude.{◌≡◌, ◌≤◌, ◌++◌, [], List, length, map, flat_map, OnOk, IfOk, IfErr};
+ghost use Rattle.std.specs.List.{AllByRecursion};
+ghost use Rattle.std.specs.Vec.{vec_capacity};
+ghost use Rattle.nm_turn.specs.Numbered.{numbered};
+ghost use Rattle.nm_turn.specs.Shares.{IsWhole};
+ghost use Rattle.vale_captures.specs.Inputs.{name_of, frames_of};
+ghost use Rattle.vale_captures.specs.Outputs.{IsWritable};
+ghost use Rattle.vale_entry.specs.declared.entry.Entry.{Entry};
+ghost use Rattle.vale_replay.specs.Machine.{Machine};
+ghost use Rattle.vale_replay.specs.Replay.{shares_of, user_count};
+ghost use Rattle.vale_replay.specs.Saved.{saves_of};
+ghost use Rattle.vale_fabric.specs.Fabrics.{IsPassIn, fixed_in, knowing};
+ghost use Rattle.vale_script.specs.Sound.{IsSound};
+ghost use Rattle.vale_act.specs.Inputs.{captures_of, names_of, records_in};
+ghost use Rattle.vale_act.specs.Leaving.{AllHaveLeft, CanAllLeave, CanStillLeave};
+ghost use Rattle.vale_act.specs.Kept.{AreWhole};
+ghost use Rattle.vale_act.specs.Outputs.{outputs_of};
+ghost use Rattle.vale_act.specs.Plays.{HasWhole, PlaysScript, IsStoppedBy};
+ghost use Rattle.vale_act.specs.Units.{knows_at};
+ghost use Rattle.vale_act.specs.Seats.{AllOn, AreSeated, IsRunnable, UnitAt};
+ghost use Rattle.vale_act.specs.Seats.{AllAre, AreSaves, IsEmpty, ScriptDone, files_in, saves_at};
+ghost use Rattle.vale_act.specs.Seats.{AreBetween, AreNew, AreStopped, IsScriptStopped, ScriptPlayed};
+
+use crate::block_run::run_block;
+use crate::ending::close_all;
+use crate::kept::KeptPort;
+use crate::line_run::run_single;
+use crate::outputs::{names_saved, outputs};
+use crate::player::SaveFile;
+use crate::seat::Seat;
+use nm_io::Gate;
+use nm_types::{Name, NoMemory, StepFault};
+use std::alloc::Global;
+use std::mem;
+use std::sync::Wait;
+use std::thread::Threads;
+use vale_captures::{Inputs, Outputs};
+use vale_fabric::{Fabric, Pass};
+use vale_script::{Script, Unit};
+
+/// The users do a line or a block.
+fn run_unit<'f, R: Threads + Wait + Sync, G: Gate>(
+    alloc: Global,
+    rt: &R,
+    fabric: &'f Fabric,
+    main: &mut Pass,
+    seats: &mut [Seat<'f>],
+    names: &'f [Name],
+    unit: &Unit,
+    inputs: &Inputs,
+    gate: &G,
+) -> Result<(), StepFault>
+    requires pass { IsPassIn fabric.now main.old }
+    requires on { AllOn fabric.now seats.old }
+    requires seated { AreSeated seats.old }
+    requires runnable { IsRunnable (length seats.old) unit.now }
+    ensures pass { IsPassIn fabric.now main.new }
+    ensures on { AllOn fabric.now seats.new }
+    ensures runs { UnitAt (fixed_in fabric.now)
+        (shares_of (records_in inputs.now) (length seats.old) unit.now)
+        (knowing main.old) (knowing main.new) seats.old seats.new result }
+    ensures leaves { CanStillLeave (knowing main.old) (knowing main.new) seats.old seats.new }
+{
+    match unit {
+        Unit::Single { line } => {
+            run_single(alloc, rt, fabric, main, seats, names, line, inputs, gate)
+        }
+        Unit::Block { lines } => {
+            run_block(rt, fabric, main, seats, lines.as_slice(), inputs, gate)
+        }
+    }
+}
+
+/// The users do the units of a script, one after another, up to its end or to a fault that stops
+/// one.
+fn run_units<'f, R: Threads + Wait + Sync, G: Gate>(
+    alloc: Global,
+    rt: &R,
+    fabric: &'f Fabric,
+    main: &mut Pass,
+    seats: &mut [Seat<'f>],
+    names: &'f [Name],
+    script: &Script,
+    inputs: &Inputs,
+    gate: &G,
+) -> Result<(), StepFault>
+    requires pass { IsPassIn fabric.now main.old }
+    requires on { AllOn fabric.now seats.old }
+    requires between { AreBetween script.now (captures_of inputs.now) 0 (knowing main.old)
+        seats.old }
+    requires runnable { AllByRecursion (IsRunnable (user_count script.now)) script.now.units }
+    requires files { names_of inputs.now ≡ script.now.files }
+    requires pool { script.now.pool ≡ (fixed_in fabric.now).pool }
+    ensures pass { IsPassIn fabric.now main.new }
+    ensures on { AllOn fabric.now seats.new }
+    ensures plays { OnOk result (AreBetween script.now (captures_of inputs.now)
+        (length script.now.units) (knowing main.new) seats.new) }
+    ensures stops { IfErr result (AreStopped (fixed_in fabric.now) script.now
+        (captures_of inputs.now) (knowing main.new) seats.new) }
+    ensures leaves { CanStillLeave (knowing main.old) (knowing main.new) seats.old seats.new }
+{
+    let all = script.units();
+    for unit in all {
+        match run_unit(alloc, rt, fabric, main, seats, names, unit, inputs, gate) {
+            Ok(()) => {}
+            Err(fault) => return Err(fault),
+        }
+    }
+    Ok(())
+}
+
+/// The users do a script up to its end, or to a fault that stops one, and then all leave. The pass
+/// has the whole then, and all entries are its own.
+fn run_script<'f, R: Threads + Wait + Sync, G: Gate>(
+    alloc: Global,
+    rt: &R,
+    fabric: &'f Fabric,
+    main: &mut Pass,
+    seats: &mut [Seat<'f>],
+    names: &'f [Name],
+    kept: &mut Vec<KeptPort>,
+    script: &Script,
+    inputs: &Inputs,
+    gate: &G,
+) -> Result<(), StepFault>
+    requires pass { IsPassIn fabric.now main.old }
+    requires on { AllOn fabric.now seats.old }
+    requires between { AreBetween script.now (captures_of inputs.now) 0 (knowing main.old)
+        seats.old }
+    requires runnable { AllByRecursion (IsRunnable (user_count script.now)) script.now.units }
+    requires files { names_of inputs.now ≡ script.now.files }
+    requires pool { script.now.pool ≡ (fixed_in fabric.now).pool }
+    ensures pass { IsPassIn fabric.now main.new }
+    ensures gone { flat_map knows_at seats.new ≡ [] }
+    ensures whole { IsWhole (knowing main.new).part }
+    ensures mine { (knowing main.new).mine ≡ numbered 1 (knowing main.new).seen }
+    ensures kept { kept.old.items ≡ [] → AreWhole (fixed_in fabric.now).pool (knowing main.new).seen
+        kept.new.items }
+    ensures plays { OnOk result (ScriptPlayed script.now (captures_of inputs.now)
+        (knowing main.new) seats.new) }
+    ensures stops { IfErr result (IsScriptStopped (fixed_in fabric.now) script.now
+        (captures_of inputs.now) (knowing main.new).seen) }
+    ensures empty { CanAllLeave (knowing main.old) seats.old
+        → AllHaveLeft script.now.pool (knowing main.new).seen }
+{
+    let done = run_units(alloc, rt, fabric, main, seats, names, script, inputs, gate);
+    close_all(rt, fabric, main, seats, kept);
+    done
+}
+
+/// A seat for each user, none of whom has come.
+fn new_seats<'f>(alloc: Global, count: usize) -> Result<Vec<Seat<'f>>, NoMemory>
+    ensures { IfOk result (λ seats. AreNew count seats.items) }
+{
+    let mut seats = Vec::with_capacity(alloc, count)?;
+    for at in 0..count {
+        seats.push_reserved(Seat::Away);
+    }
+    Ok(seats)
+}
+
+impl<'f> Seat<'f> {
+    /// The files that get the frames of the user's ports, taken from a seat that nobody has.
+    fn take_saves(&mut self, alloc: Global) -> Vec<SaveFile>
+        requires { IsEmpty 0 self.old }
+        ensures saves { result.items ≡ saves_at self.old }
+        ensures left { IsEmpty 0 self.new }
+    {
+        match self {
+            Seat::Gone { saves } => mem::replace(saves, Vec::new(alloc)),
+            _ => Vec::new(alloc),
+        }
+    }
+}
+
+/// The files of all users, once they have left.
+fn take_all_saves(
+    alloc: Global,
+    seats: &mut [Seat],
+    mut saves: Vec<Vec<SaveFile>>,
+) -> Vec<Vec<SaveFile>>
+    requires empty { AllAre IsEmpty seats.old }
+    requires none { saves.items ≡ [] }
+    requires room { length seats.old ≤ vec_capacity saves }
+    ensures empty { AllAre IsEmpty seats.new }
+    ensures saves { AreSaves seats.old result.items }
+{
+    for place in 0..seats.len() {
+        saves.push_reserved(seats[place].take_saves(alloc));
+    }
+    saves
+}
+
+/// Ends seats that nobody has.
+fn end_all(seats: Vec<Seat>)
+    requires { AllAre IsEmpty seats.items }
+{
+    let mut seats = seats;
+    while let Some(seat) = seats.pop() {
+        seat.end();
+    }
+    seats.destroy_empty();
+}
+
+/// Plays a script, and keeps the frames of the ports that it saves. The files that get them come
+/// back with what was kept.
+fn play_keeping<R: Threads + Wait + Sync, G: Gate>(
+    alloc: Global,
+    rt: &R,
+    fabric: &Fabric,
+    pass: Pass,
+    script: &Script,
+    inputs: &Inputs,
+    gate: &G,
+) -> (Pass, Result<(Vec<Vec<SaveFile>>, Vec<KeptPort>), StepFault>)
+    requires pass { IsPassIn fabric.now pass }
+    requires whole { IsWhole (knowing pass).part }
+    requires seen { (knowing pass).seen ≡ [] }
+    requires mine { (knowing pass).mine ≡ [] }
+    requires sound { IsSound script.now }
+    requires pool { script.now.pool ≡ (fixed_in fabric.now).pool }
+    requires files { names_of inputs.now ≡ script.now.files }
+    ensures pass { IsPassIn fabric.now result.0 }
+    ensures whole { IsWhole (knowing result.0).part }
+    ensures mine { (knowing result.0).mine ≡ numbered 1 (knowing result.0).seen }
+    ensures plays { IfOk result.1 (λ left. ScriptDone script.now (captures_of inputs.now)
+        (knowing result.0) left.0.items) }
+    ensures kept { IfOk result.1 (λ left. AreWhole (fixed_in fabric.now).pool
+        (knowing result.0).seen left.1.items) }
+    ensures stops { IfErr result.1 (IsScriptStopped (fixed_in fabric.now) script.now
+        (captures_of inputs.now) (knowing result.0).seen) }
+    ensures empty { AllHaveLeft script.now.pool (knowing result.0).seen }
+{
+    let mut main = pass;
+    let count = script.users().len();
+    let Ok(names) = names_saved(alloc, script) else {
+        return (main, Err(StepFault::NoMemory));
+    };
+    let Ok(saves) = Vec::with_capacity(alloc, count) else {
+        return (main, Err(StepFault::NoMemory));
+    };
+    let Ok(mut seats) = new_seats(alloc, count) else {
+        return (main, Err(StepFault::NoMemory));
+    };
+    let mut kept = Vec::new(alloc);
+    let done = run_script(
+        alloc, rt, fabric, &mut main, &mut seats, &names, &mut kept, script, inputs, gate,
+    );
+    let saved = take_all_saves(alloc, &mut seats, saves);
+    end_all(seats);
+    match done {
+        Ok(()) => (main, Ok((saved, kept))),
+        Err(fault) => (main, Err(fault)),
+    }
+}
+
+/// Moves the files of all users behind others.
+fn gather_saves(lists: &mut [Vec<SaveFile>], saves: &mut Vec<SaveFile>) -> Result<(), NoMemory>
+    ensures { OnOk result (saves.new.items ≡ saves.old.items ++ flat_map files_in lists.old) }
+{
+    for place in 0..lists.len() {
+        saves.append(&mut lists[place])?;
+    }
+    Ok(())
+}
+
+/// The files that a script saves, from the notes of each user and what was kept.
+fn gathered_outputs(
+    alloc: Global,
+    script: &Script,
+    lists: &mut [Vec<SaveFile>],
+    kept: &[KeptPort],
+) -> Result<Outputs, NoMemory>
+    ensures made { IfOk result (λ made. (history : List Entry) (users : List Machine)
+        → saves_of users ≡ flat_map files_in lists.old
+        → AreWhole script.now.pool history kept.now
+        → made ≡ outputs_of script.now history users) }
+    ensures writable { IfOk result (λ made. AllByRecursion IsWritable made) }
+{
+    let mut saves = Vec::new(alloc);
+    gather_saves(lists, &mut saves)?;
+    outputs(alloc, script, &saves, kept)
+}
+
+/// Plays a script: its lines one after another, those of a block on threads, and then all users
+/// leave. The pass that comes back has the whole history, and the files to be saved have the frames
+/// that it gave their ports.
+pub fn play<R: Threads + Wait + Sync, G: Gate>(
+    alloc: Global,
+    rt: &R,
+    fabric: &Fabric,
+    pass: Pass,
+    script: &Script,
+    inputs: &Inputs,
+    gate: &G,
+) -> (Pass, Result<Outputs, StepFault>)
+    requires pass { IsPassIn fabric.now pass }
+    requires whole { IsWhole (knowing pass).part }
+    requires seen { (knowing pass).seen ≡ [] }
+    requires mine { (knowing pass).mine ≡ [] }
+    requires sound { IsSound script.now }
+    requires pool { (fixed_in fabric.now).pool ≡ script.now.pool }
+    requires files { map name_of inputs.now ≡ script.now.files }
+    ensures pass { IsPassIn fabric.now result.0 }
+    ensures whole { HasWhole (knowing result.0) }
+    ensures played { IfOk result.1 (PlaysScript script.now (map frames_of inputs.now)
+        (knowing result.0).seen) }
+    ensures stopped { IfErr result.1 (IsStoppedBy (fixed_in fabric.now) script.now
+        (map frames_of inputs.now) (knowing result.0).seen) }
+    ensures empty { AllHaveLeft script.now.pool (knowing result.0).seen }
+{
+    let (main, done) = play_keeping(alloc, rt, fabric, pass, script, inputs, gate);
+    let (mut lists, kept) = match done {
+        Ok(left) => left,
+        Err(fault) => return (main, Err(fault)),
+    };
+    match gathered_outputs(alloc, script, &mut lists, &kept) {
+        Ok(files) => (main, Ok(files)),
+        Err(_) => (main, Err(StepFault::NoMemory)),
+    }
+}
