@@ -1,0 +1,4 @@
+pub mod Deliveries
+pub mod Endings
+pub mod Histories
+pub mod Since

@@ -1,0 +1,4 @@
+pub mod Delivery
+pub mod Run
+pub mod Status
+pub mod Writing

@@ -1,0 +1,441 @@
+//! Runs a command.
+ghost use Rattle.std.specs.Prelude.{ℕ, List, ◌≡◌, ◌≤◌, ◌<◌, ◌^◌, length, map, string_bytes};
+ghost use Rattle.std.specs.Prelude.{option_map, Ok};
+ghost use Rattle.vale_entry.specs.World.{free_count};
+ghost use Rattle.vale_core.specs.Recorded.{standing};
+ghost use Rattle.vale_script.specs.Sound.{IsSound};
+ghost use Rattle.vale_captures.specs.Counting.{frames_played};
+ghost use Rattle.vale_captures.specs.Inputs.{HasContents, name_of};
+ghost use Rattle.std.specs.List.{AllByRecursion};
+ghost use Rattle.vale_entry.specs.Transcript.{transcript_text};
+ghost use Rattle.vale_captures.specs.Inputs.{AreInputs};
+ghost use Rattle.vale_captures.specs.Outputs.{IsWritable};
+ghost use Rattle.vale_run.specs.Run.{script_name, Runs, Ends, IsScript, IsAccepted, IsCounted};
+ghost use Rattle.vale_run.specs.Run.{HasInputs, IsReady};
+ghost use Rattle.vale_run.specs.Writing.{IsFewUsed, stopped, NamesFile, BlamesFile, Saves, Written};
+ghost use Rattle.vale_run.specs.Writing.{IsSaid, NamesInput, BlamesInput};
+
+use crate::status::{Status, What, offset_of};
+use nm_io::{Gate, ReadError, Shelf, Sink, read_all};
+use nm_types::{Limits, Part, StepFault};
+use pcap_io::PcapFault;
+use std::alloc::Global;
+use std::sync::Wait;
+use std::thread::Threads;
+use vale_act::play;
+use vale_captures::{
+    InputFault, Inputs, Outputs, SaveFault, counts_of, frames_played, read_inputs, write_outputs,
+};
+use vale_core::Book;
+use vale_fabric::Fabric;
+use vale_script::{Script, ScriptFault, line_count, parse};
+use vale_text::{PutError, write_transcript};
+
+/// The most bytes of a script.
+pub const MAX_SCRIPT: u64 = 1_048_576;
+
+/// The most lines of a script, silent ones too.
+pub const MAX_LINES: u64 = 10_000;
+
+/// The most frames that the lines of a script put and forward.
+pub const MAX_COUNTS: u64 = 1_000_000;
+
+/// The most bytes of all captures together that a script plays.
+pub const MAX_INPUTS: u64 = 67_108_864;
+
+/// The most frames of captures that its lines play.
+pub const MAX_FRAMES: u64 = 1_000_000;
+
+fn script_name(words: &[String]) -> Option<&str>
+    ensures { option_map (λ name. name.now) result ≡ script_name (map string_bytes words.now) }
+{
+    let [verb, name] = words else {
+        return None;
+    };
+    if verb.as_str() == "run" {
+        Some(name.as_str())
+    } else {
+        None
+    }
+}
+
+/// A file was not read.
+fn read_fault(alloc: Global, name: &str) -> Status
+    ensures { NamesFile name.now result }
+{
+    match String::from_str(alloc, name) {
+        Ok(name) => Status::ReadFault { name },
+        Err(_) => Status::NoMemory,
+    }
+}
+
+/// A file is no capture.
+fn bad_capture(alloc: Global, name: &str, cause: PcapFault) -> Status
+    ensures { BlamesFile name.now cause result }
+{
+    match String::from_str(alloc, name) {
+        Ok(name) => Status::BadPcap {
+            name,
+            offset: offset_of(cause),
+            cause,
+        },
+        Err(_) => Status::NoMemory,
+    }
+}
+
+/// How a run ends that met a fault of the record.
+fn stopped(fault: StepFault) -> Status
+    requires { IsFewUsed fault }
+    ensures { result ≡ stopped Limits.VERSION_1 fault }
+{
+    match fault {
+        StepFault::RecordFull {
+            what: Part::Entries,
+            used,
+            want,
+        } => Status::Over {
+            what: What::Entries,
+            count: used + want,
+            limit: Limits::VERSION_1.entries,
+        },
+        StepFault::RecordFull {
+            what: Part::Bytes,
+            used,
+            want,
+        } => Status::Over {
+            what: What::Bytes,
+            count: used + want,
+            limit: Limits::VERSION_1.bytes,
+        },
+        StepFault::NoMemory => Status::NoMemory,
+    }
+}
+
+/// Writes the captures that a run has saved.
+fn write_saved<S: Shelf>(alloc: Global, outputs: &Outputs, shelf: &mut S) -> Status
+    requires { AllByRecursion IsWritable outputs.now }
+    ensures saves { Saves (S.files shelf.old) (S.files shelf.new) outputs.now
+        (λ name. (S.append_faults shelf.old name, S.append_faults shelf.new name)) result }
+    ensures reads_later { (other : List ℕ) →
+        S.read_faults shelf.old other ≤ S.read_faults shelf.new other }
+    ensures appends_later { (other : List ℕ) →
+        S.append_faults shelf.old other ≤ S.append_faults shelf.new other }
+{
+    match write_outputs(alloc, shelf, outputs) {
+        Ok(()) => Status::Done,
+        Err(SaveFault::Failed) => Status::WriteFault,
+        Err(SaveFault::NoMemory) => Status::NoMemory,
+    }
+}
+
+/// Writes the transcript of a run that has ended, and then the captures that it has saved.
+fn write<S: Shelf, K: Sink>(
+    alloc: Global,
+    book: Book,
+    outputs: &Outputs,
+    shelf: &mut S,
+    out: &mut K,
+) -> Status
+    requires limits { book.limits ≡ Limits.VERSION_1 }
+    requires whole { free_count (standing book).world ≡ book.pool }
+    requires writable { AllByRecursion IsWritable outputs.now }
+    ensures small { book.pool < 2 ^ 32 }
+    ensures written { Written (transcript_text book.pool book.entries) outputs.now (record {
+      files = S.files shelf.old;
+      new_files = S.files shelf.new;
+      reads = λ name. (S.read_faults shelf.old name, S.read_faults shelf.new name);
+      appends = λ name. (S.append_faults shelf.old name, S.append_faults shelf.new name);
+      holds = K.holds out.old;
+      new_holds = K.holds out.new;
+      writes = (K.faults out.old, K.faults out.new);
+    }) result }
+    ensures reads_later { (other : List ℕ) →
+        S.read_faults shelf.old other ≤ S.read_faults shelf.new other }
+    ensures appends_later { (other : List ℕ) →
+        S.append_faults shelf.old other ≤ S.append_faults shelf.new other }
+    ensures later { K.faults out.old ≤ K.faults out.new }
+{
+    let (pool, free) = (book.buffers(), book.free());
+    let history = book.close();
+    match write_transcript(alloc, out, pool, history.entries(), free) {
+        Ok(()) => write_saved(alloc, outputs, shelf),
+        Err(PutError::Failed) => Status::WriteFault,
+        Err(PutError::NoMemory) => Status::NoMemory,
+    }
+}
+
+/// Plays a script with its captures, and writes what came of it.
+fn run_ready<R: AllocGlobal + Threads + Wait + Sync, S: Shelf, K: Sink, G: Gate>(
+    rt: &R,
+    script: &Script,
+    inputs: &Inputs,
+    shelf: &mut S,
+    out: &mut K,
+    gate: &G,
+) -> Status
+    requires sound { IsSound script.now }
+    requires files { map name_of inputs.now ≡ script.now.files }
+    ensures ends { (name : List ℕ) → IsReady (S.files shelf.old) name script.now inputs.now
+        → Ends Limits.VERSION_1 (record {
+          files = S.files shelf.old;
+          new_files = S.files shelf.new;
+          reads = λ name. (S.read_faults shelf.old name, S.read_faults shelf.new name);
+          appends = λ name. (S.append_faults shelf.old name, S.append_faults shelf.new name);
+          holds = K.holds out.old;
+          new_holds = K.holds out.new;
+          writes = (K.faults out.old, K.faults out.new);
+        }) name result }
+    ensures reads_later { (other : List ℕ) →
+        S.read_faults shelf.old other ≤ S.read_faults shelf.new other }
+    ensures appends_later { (other : List ℕ) →
+        S.append_faults shelf.old other ≤ S.append_faults shelf.new other }
+    ensures later { K.faults out.old ≤ K.faults out.new }
+{
+    let alloc = rt.alloc();
+    let Ok((fabric, pass)) = Fabric::new(alloc, script.pool(), Limits::VERSION_1) else {
+        return Status::NoMemory;
+    };
+    let (pass, played) = play(alloc, rt, &fabric, pass, script, inputs, gate);
+    let book = fabric.close(rt, pass);
+    // What is recorded is within its limits.
+    let _history = book.history();
+    match played {
+        Ok(outputs) => write(alloc, book, &outputs, shelf, out),
+        Err(fault) => {
+            drop(book.close());
+            stopped(fault)
+        }
+    }
+}
+
+/// How a run ends that did not read all captures that its script plays.
+fn input_fault(alloc: Global, script: &Script, at: usize, fault: InputFault) -> Status
+    requires { NamesInput fault at script.now.files }
+    ensures { BlamesInput script.now.files at fault result }
+{
+    match fault {
+        InputFault::Failed => read_fault(alloc, script.files()[at].as_str()),
+        InputFault::TooLong => Status::Over {
+            what: What::Inputs,
+            count: MAX_INPUTS + 1,
+            limit: MAX_INPUTS,
+        },
+        InputFault::BadPcap { fault } => bad_capture(alloc, script.files()[at].as_str(), fault),
+        InputFault::NoMemory => Status::NoMemory,
+    }
+}
+
+/// Runs a script with its captures, if few of their frames are played.
+fn run_inputs<R: AllocGlobal + Threads + Wait + Sync, S: Shelf, K: Sink, G: Gate>(
+    rt: &R,
+    script: &Script,
+    inputs: &Inputs,
+    shelf: &mut S,
+    out: &mut K,
+    gate: &G,
+) -> Status
+    requires sound { IsSound script.now }
+    requires files { map name_of inputs.now ≡ script.now.files }
+    requires few { frames_played script.now inputs.now < 2 ^ 64 }
+    ensures ends { (name : List ℕ) → HasInputs (S.files shelf.old) name script.now inputs.now
+        → Ends Limits.VERSION_1 (record {
+          files = S.files shelf.old;
+          new_files = S.files shelf.new;
+          reads = λ name. (S.read_faults shelf.old name, S.read_faults shelf.new name);
+          appends = λ name. (S.append_faults shelf.old name, S.append_faults shelf.new name);
+          holds = K.holds out.old;
+          new_holds = K.holds out.new;
+          writes = (K.faults out.old, K.faults out.new);
+        }) name result }
+    ensures reads_later { (other : List ℕ) →
+        S.read_faults shelf.old other ≤ S.read_faults shelf.new other }
+    ensures appends_later { (other : List ℕ) →
+        S.append_faults shelf.old other ≤ S.append_faults shelf.new other }
+    ensures later { K.faults out.old ≤ K.faults out.new }
+{
+    let count = frames_played(script, inputs);
+    if count > MAX_FRAMES {
+        return Status::Over {
+            what: What::Frames,
+            count,
+            limit: MAX_FRAMES,
+        };
+    }
+    run_ready(rt, script, inputs, shelf, out, gate)
+}
+
+/// Reads the captures that a script plays, and runs it with them.
+fn run_counted<R: AllocGlobal + Threads + Wait + Sync, S: Shelf, K: Sink, G: Gate>(
+    rt: &R,
+    script: &Script,
+    shelf: &mut S,
+    out: &mut K,
+    gate: &G,
+) -> Status
+    requires sound { IsSound script.now }
+    requires said { IsSaid script.now }
+    ensures ends { (name : List ℕ) → IsCounted (S.files shelf.old) name script.now
+        → Ends Limits.VERSION_1 (record {
+          files = S.files shelf.old;
+          new_files = S.files shelf.new;
+          reads = λ name. (S.read_faults shelf.old name, S.read_faults shelf.new name);
+          appends = λ name. (S.append_faults shelf.old name, S.append_faults shelf.new name);
+          holds = K.holds out.old;
+          new_holds = K.holds out.new;
+          writes = (K.faults out.old, K.faults out.new);
+        }) name result }
+    ensures reads_later { (other : List ℕ) →
+        S.read_faults shelf.old other ≤ S.read_faults shelf.new other }
+    ensures appends_later { (other : List ℕ) →
+        S.append_faults shelf.old other ≤ S.append_faults shelf.new other }
+    ensures later { K.faults out.old ≤ K.faults out.new }
+{
+    match read_inputs(rt.alloc(), shelf, script.files(), MAX_INPUTS) {
+        Ok(inputs) => run_inputs(rt, script, &inputs, shelf, out, gate),
+        Err((at, fault)) => input_fault(rt.alloc(), script, at, fault),
+    }
+}
+
+/// Runs a script that was accepted, if its lines put few frames.
+fn run_accepted<R: AllocGlobal + Threads + Wait + Sync, S: Shelf, K: Sink, G: Gate>(
+    rt: &R,
+    script: &Script,
+    shelf: &mut S,
+    out: &mut K,
+    gate: &G,
+) -> Status
+    requires sound { IsSound script.now }
+    requires said { IsSaid script.now }
+    ensures ends { (name : List ℕ) → IsAccepted (S.files shelf.old) name script.now
+        → Ends Limits.VERSION_1 (record {
+          files = S.files shelf.old;
+          new_files = S.files shelf.new;
+          reads = λ name. (S.read_faults shelf.old name, S.read_faults shelf.new name);
+          appends = λ name. (S.append_faults shelf.old name, S.append_faults shelf.new name);
+          holds = K.holds out.old;
+          new_holds = K.holds out.new;
+          writes = (K.faults out.old, K.faults out.new);
+        }) name result }
+    ensures reads_later { (other : List ℕ) →
+        S.read_faults shelf.old other ≤ S.read_faults shelf.new other }
+    ensures appends_later { (other : List ℕ) →
+        S.append_faults shelf.old other ≤ S.append_faults shelf.new other }
+    ensures later { K.faults out.old ≤ K.faults out.new }
+{
+    let count = counts_of(script);
+    if count > MAX_COUNTS {
+        return Status::Over {
+            what: What::Counts,
+            count,
+            limit: MAX_COUNTS,
+        };
+    }
+    run_counted(rt, script, shelf, out, gate)
+}
+
+/// Runs the script that these bytes are.
+fn run_script<R: AllocGlobal + Threads + Wait + Sync, S: Shelf, K: Sink, G: Gate>(
+    rt: &R,
+    bytes: &[u8],
+    shelf: &mut S,
+    out: &mut K,
+    gate: &G,
+) -> Status
+    requires { length bytes.now ≤ MAX_SCRIPT }
+    ensures ends { (name : List ℕ) → HasContents (S.files shelf.old) name bytes.now
+        → Ends Limits.VERSION_1 (record {
+          files = S.files shelf.old;
+          new_files = S.files shelf.new;
+          reads = λ name. (S.read_faults shelf.old name, S.read_faults shelf.new name);
+          appends = λ name. (S.append_faults shelf.old name, S.append_faults shelf.new name);
+          holds = K.holds out.old;
+          new_holds = K.holds out.new;
+          writes = (K.faults out.old, K.faults out.new);
+        }) name result }
+    ensures reads_later { (other : List ℕ) →
+        S.read_faults shelf.old other ≤ S.read_faults shelf.new other }
+    ensures appends_later { (other : List ℕ) →
+        S.append_faults shelf.old other ≤ S.append_faults shelf.new other }
+    ensures later { K.faults out.old ≤ K.faults out.new }
+{
+    let count = line_count(bytes) as u64;
+    if count > MAX_LINES {
+        return Status::Over {
+            what: What::Lines,
+            count,
+            limit: MAX_LINES,
+        };
+    }
+    match parse(rt.alloc(), bytes) {
+        Ok(script) => run_accepted(rt, &script, shelf, out, gate),
+        Err(ScriptFault::BadLine { line, cause }) => Status::BadScript { line, cause },
+        Err(ScriptFault::NoMemory) => Status::NoMemory,
+    }
+}
+
+/// Runs the script of this name.
+fn run_file<R: AllocGlobal + Threads + Wait + Sync, S: Shelf, K: Sink, G: Gate>(
+    rt: &R,
+    name: &str,
+    shelf: &mut S,
+    out: &mut K,
+    gate: &G,
+) -> Status
+    ensures ends { Ends Limits.VERSION_1 (record {
+      files = S.files shelf.old;
+      new_files = S.files shelf.new;
+      reads = λ name. (S.read_faults shelf.old name, S.read_faults shelf.new name);
+      appends = λ name. (S.append_faults shelf.old name, S.append_faults shelf.new name);
+      holds = K.holds out.old;
+      new_holds = K.holds out.new;
+      writes = (K.faults out.old, K.faults out.new);
+    }) name.now result }
+    ensures reads_later { (other : List ℕ) →
+        S.read_faults shelf.old other ≤ S.read_faults shelf.new other }
+    ensures appends_later { (other : List ℕ) →
+        S.append_faults shelf.old other ≤ S.append_faults shelf.new other }
+    ensures later { K.faults out.old ≤ K.faults out.new }
+{
+    match read_all(rt.alloc(), shelf, name, MAX_SCRIPT) {
+        Ok(bytes) => run_script(rt, &bytes, shelf, out, gate),
+        Err(ReadError::TooLong) => Status::Over {
+            what: What::Script,
+            count: MAX_SCRIPT + 1,
+            limit: MAX_SCRIPT,
+        },
+        Err(ReadError::Failed) => read_fault(rt.alloc(), name),
+        Err(ReadError::NoMemory) => Status::NoMemory,
+    }
+}
+
+/// Runs a command: the words `run SCRIPT`, where SCRIPT names a file of the shelf. The script's
+/// users play their lines as sessions of one fabric, side by side on threads where the script says
+/// so; the gate is passed as frames go to ports. Once all have left, the transcript of what
+/// happened goes to the output, and then each capture that the script saves to the end of its file.
+pub fn run<R: AllocGlobal + Threads + Wait + Sync, S: Shelf, K: Sink, G: Gate>(
+    rt: &R,
+    words: &[String],
+    shelf: &mut S,
+    out: &mut K,
+    gate: &G,
+) -> Status
+    ensures runs { Runs Limits.VERSION_1 (script_name (map string_bytes words.now)) (record {
+      files = S.files shelf.old;
+      new_files = S.files shelf.new;
+      reads = λ name. (S.read_faults shelf.old name, S.read_faults shelf.new name);
+      appends = λ name. (S.append_faults shelf.old name, S.append_faults shelf.new name);
+      holds = K.holds out.old;
+      new_holds = K.holds out.new;
+      writes = (K.faults out.old, K.faults out.new);
+    }) result }
+    ensures reads_later { (other : List ℕ) →
+        S.read_faults shelf.old other ≤ S.read_faults shelf.new other }
+    ensures appends_later { (other : List ℕ) →
+        S.append_faults shelf.old other ≤ S.append_faults shelf.new other }
+    ensures later { K.faults out.old ≤ K.faults out.new }
+{
+    match script_name(words) {
+        Some(name) => run_file(rt, name, shelf, out, gate),
+        None => Status::Usage,
+    }
+}

@@ -1,0 +1,8 @@
+//! Runs a command: a script with its captures, from a shelf and to an output.
+#![tactic(auto)]
+
+mod command;
+mod status;
+
+pub use command::{MAX_COUNTS, MAX_FRAMES, MAX_INPUTS, MAX_LINES, MAX_SCRIPT, run};
+pub use status::{Status, What, report};
