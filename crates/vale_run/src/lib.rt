@@ -3,6 +3,8 @@
 
 mod command;
 mod status;
+#[cfg(test)]
+mod tests;
 
 pub use command::{MAX_COUNTS, MAX_FRAMES, MAX_INPUTS, MAX_LINES, MAX_SCRIPT, run};
 pub use status::{Status, What, report};
