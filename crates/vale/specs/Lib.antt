@@ -1,11 +1,1 @@
 pub mod Command
-pub mod Delivery
-pub mod Laws
-pub mod Machine
-pub mod Owned
-pub mod Plan
-pub mod Replay
-pub mod Run
-pub mod Sound
-pub mod Status
-pub mod Steps

@@ -1,42 +1,49 @@
-//! Runs a script of netmap rings and VALE ports, and writes the transcript of what the switch did.
+//! Runs a script of netmap rings, VALE switches, pipes and monitors, and writes the transcript of
+//! what they did.
 #![tactic(auto)]
 
-pub mod laws;
-mod plan;
-mod play;
-mod port;
-mod run;
-mod settling;
-mod status;
 #[cfg(test)]
 mod tests;
-mod user;
 
-ghost use Rattle.std.specs.Prelude.{◌≡◌, ◌≤◌, ℕ, List, map, string_bytes, option_map};
+ghost use Rattle.std.specs.Prelude.{◌≡◌, map, string_bytes, option_map};
 ghost use Rattle.vale.specs.Command.{help_text, version_text, answer_to, Answers};
-ghost use Rattle.vale.specs.Run.{script_name};
+ghost use Rattle.vale_run.specs.Run.{script_name};
 
-use crate::run::{MAX_SCRIPT, run};
-use crate::status::{Status, report};
 use nm_io::{FileShelf, NoGate, Shelf, Sink, StdSink, put_all};
 use nm_types::Limits;
 use std::alloc::AllocError;
 use std::process::ExitCode;
+use std::sync::Wait;
+use std::thread::Threads;
 use std::{env, io};
+use vale_run::{Status, report, run};
 
 const HELP: &str = "usage: vale run SCRIPT
 
-Runs a script of netmap rings and VALE ports, and writes the transcript of what the switch did.
+Runs a script of netmap rings, VALE switches, pipes and monitors, and writes the transcript of what
+they did.
 
-Lines of a script:
-  pool N                          the pool has N buffers (the first line)
-  user U                          a user enters
-  open U NAME TX RX               opens a port with rings of TX and RX slots
-  put U NAME N DST SRC LEN FILL   puts N frames of LEN bytes into the transmit ring
-  tx U NAME                       sends what lies in the transmit ring
-  rx U NAME                       reads what is ready in the receive ring
-  close U NAME                    closes the port
-  # ..                            a comment
+Lines of a script (a SIDE is tx or rx, a MAC as 02:00:00:00:00:0a):
+  pool N                             the pool has N buffers (the first line)
+  user U                             a user enters
+  open U NAME TX RX [EXTRA]          opens a port, with rings of TX and RX slots and extra buffers
+  put U NAME N MAC MAC LEN FILL      puts N frames of LEN bytes, to and from these addresses
+  hex U NAME HEX                     puts one frame of these bytes
+  play U NAME FILE BATCH             puts the frames of a capture, with a tx after each BATCH
+  tx U NAME                          syncs the transmit ring
+  rx U NAME [keep]                   gives all received frames back, and syncs the receive ring
+  fwd U NAME NAME N                  forwards up to N frames without a copy
+  poke U NAME SIDE SLOT FIELD VALUE  writes idx, len, flags or ptr of a slot
+  move U NAME SIDE HEAD CUR          sets head and cur of a ring
+  swap U NAME SIDE SLOT NAME SIDE SLOT [quiet]
+                                     exchanges the buffers of two slots
+  extra U NAME I J                   links extra buffer I to J
+  watch U MON NAME SIDES             has a monitor watch a port (t, r or tr)
+  stat U NAME                        reads a port's counters
+  save U NAME FILE                   saves the frames that the port gives, as a capture
+  close U NAME                       closes the port
+  par .. end                         the lines between run side by side, user by user
+  # ..                               a comment
 ";
 
 const VERSION: &str = "vale 0.1.0\n";
@@ -77,18 +84,22 @@ fn answer(words: &[String]) -> Option<&'static str>
 }
 
 /// Writes what `--help` or `--version` answers, or runs the command.
-fn run_command<S: Shelf, K: Sink>(
-    rt: &HostRuntime,
+fn run_command<R: AllocGlobal + Threads + Wait + Sync, S: Shelf, K: Sink>(
+    rt: &R,
     words: &[String],
     shelf: &mut S,
     out: &mut K,
 ) -> Status
-    ensures answers { Answers MAX_SCRIPT Limits.VERSION_1 (answer_to (map string_bytes words.now)) (script_name (map string_bytes words.now)) (S.files shelf.old) (λ name. (S.read_faults shelf.old name, S.read_faults shelf.new name))
-        (K.faults out.old, K.faults out.new) (K.holds out.old) (K.holds out.new) result }
-    ensures files { S.files shelf.new ≡ S.files shelf.old }
-    ensures reads_later { (other : List ℕ) → S.read_faults shelf.old other ≤ S.read_faults shelf.new other }
-    ensures appends_later { (other : List ℕ) → S.append_faults shelf.old other ≤ S.append_faults shelf.new other }
-    ensures later { K.faults out.old ≤ K.faults out.new }
+    ensures answers { Answers Limits.VERSION_1 (answer_to (map string_bytes words.now))
+        (script_name (map string_bytes words.now)) (record {
+          files = S.files shelf.old;
+          new_files = S.files shelf.new;
+          reads = λ name. (S.read_faults shelf.old name, S.read_faults shelf.new name);
+          appends = λ name. (S.append_faults shelf.old name, S.append_faults shelf.new name);
+          holds = K.holds out.old;
+          new_holds = K.holds out.new;
+          writes = (K.faults out.old, K.faults out.new);
+        }) result }
 {
     let Some(text) = answer(words) else {
         return run(rt, words, shelf, out, &NoGate);

@@ -1,9 +1,0 @@
-pub mod Recorded
-pub mod Parts
-pub mod BookView
-pub mod DriveView
-pub mod Syncing
-pub mod OpenAnswers
-pub mod Sending
-pub mod Ending
-pub mod Winding

@@ -1,9 +1,0 @@
-pub mod Seat
-pub mod Queue
-pub mod PortView
-pub mod Named
-pub mod Offering
-pub mod Enabled
-pub mod Sessions
-pub mod Climbing
-pub mod Leases
