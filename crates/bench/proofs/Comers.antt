@@ -17,7 +17,7 @@ use Rattle.vale_entry.proofs.HistoryLaws.{history-stands}
 use Rattle.vale_entry.proofs.Numbered.{world-numbered}
 use Rattle.vale_own.specs.There.{is_coming, is_leaving, has_come, has_left}
 use Rattle.vale_own.proofs.Coming.{there-come}
-use Rattle.vale_core.specs.Recorded.{Recorded, standing}
+use Rattle.vale_book.specs.Recorded.{Recorded, standing}
 use Rattle.bench.specs.Comers.{LeavesBy, HaveLeft, IsWorth}
 
 -- Entries of two passes in one.

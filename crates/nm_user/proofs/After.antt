@@ -25,7 +25,7 @@ use Rattle.vale_own.proofs.OwnEntry.{own-entries}
 use Rattle.vale_own.proofs.SideKept.{side-kept, side-begins}
 use Rattle.vale_own.proofs.Asking.{asks-stay}
 use Rattle.vale_own.proofs.Askers.{askers-make-steps}
-use Rattle.vale_core.specs.Recorded.{standing}
+use Rattle.vale_book.specs.Recorded.{standing}
 use Rattle.vale_fabric.specs.declared.fabric.Fabric.{Fabric}
 use Rattle.vale_fabric.specs.declared.kept.Fixed.{Fixed}
 use Rattle.vale_fabric.specs.Fabrics.{Knowing, Makes, MakesNone, before_in, earlier, entry_by}

@@ -28,7 +28,7 @@ use Rattle.vale_own.specs.Side.{IsFinishCall, is_shut, id_of}
 use Rattle.vale_own.specs.SideAsks.{HasSide, IsSettled, MayAsk as MayBeAsked}
 use Rattle.vale_own.proofs.Asking.{asks-stay}
 use Rattle.vale_own.proofs.SideAsking.{shut-asked, finish-asked, leave-asked}
-use Rattle.vale_core.specs.Recorded.{standing, HasRoom}
+use Rattle.vale_book.specs.Recorded.{standing, HasRoom}
 use Rattle.vale_fabric.specs.declared.kept.Fixed.{Fixed}
 use Rattle.vale_fabric.specs.Roots.{root_of}
 use Rattle.vale_fabric.specs.Fabrics.{Knowing, MayAsk, Answers, MakesNone, entry_by, earlier, record_in}

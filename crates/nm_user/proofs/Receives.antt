@@ -43,9 +43,9 @@ use Rattle.vale_own.proofs.SideArrivals.{arrivals-many}
 use Rattle.vale_own.proofs.SideSyncing.{receive-asked}
 use Rattle.vale_parts.specs.Batches.{dests_wanted}
 use Rattle.vale_batch.specs.Wants.{Wanted}
-use Rattle.vale_core.specs.Offering.{OffersState}
-use Rattle.vale_core.specs.Reading.{IsGiven, IsOffered, read_ask}
-use Rattle.vale_core.specs.Recorded.{standing}
+use Rattle.vale_book.specs.Offering.{OffersState}
+use Rattle.vale_book.specs.Reading.{IsGiven, IsOffered, read_ask}
+use Rattle.vale_book.specs.Recorded.{standing}
 use Rattle.vale_fabric.specs.declared.settling.Shares.{Shares}
 use Rattle.vale_fabric.specs.Fabrics.{Knowing, Answers, MayAsk, seen_in, before_in, earlier, entry_by}
 use Rattle.vale_fabric.specs.Settling.{Settling, Settles}

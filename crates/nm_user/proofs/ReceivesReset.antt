@@ -14,7 +14,7 @@ use Rattle.vale_entry.specs.declared.entry.Ask.TheVariants.{Reset, Sync, Get}
 use Rattle.vale_entry.specs.declared.entry.Reply.TheVariants as replies
 use Rattle.vale_entry.specs.OwnCalls.{or_reset, rx_call, back_in}
 use Rattle.vale_entry.specs.World.{open_port}
-use Rattle.vale_core.specs.Recorded.{standing}
+use Rattle.vale_book.specs.Recorded.{standing}
 use Rattle.vale_fabric.specs.Fabrics.{before_in}
 use Rattle.nm_user.specs.Sessions.{SessionState}
 use Rattle.nm_user.specs.Calls.{Made, MadeNone}

@@ -24,10 +24,10 @@ use Rattle.vale_entry.specs.Arrivals.{given_at}
 use Rattle.vale_entry.specs.OwnCalls.{rx_call}
 use Rattle.vale_entry.specs.Legal.{standing_of}
 use Rattle.vale_parts.specs.Batches.{dests_wanted}
-use Rattle.vale_core.specs.BookView.{AreOf}
-use Rattle.vale_core.specs.declared.reading.Synced.{Synced as AsSynced}
-use Rattle.vale_core.specs.Offering.{OffersState}
-use Rattle.vale_core.specs.Reading.{IsOffered}
+use Rattle.vale_book.specs.BookView.{AreOf}
+use Rattle.vale_book.specs.declared.reading.Synced.{Synced as AsSynced}
+use Rattle.vale_book.specs.Offering.{OffersState}
+use Rattle.vale_book.specs.Reading.{IsOffered}
 use Rattle.vale_fabric.specs.declared.settling.Shares.{Shares}
 use Rattle.vale_fabric.specs.Fabrics.{Knowing, Answers, Refuses, seen_in, before_in, earlier}
 use Rattle.vale_fabric.specs.Settling.{Settles}

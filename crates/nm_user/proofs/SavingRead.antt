@@ -38,7 +38,7 @@ use Rattle.vale_own.proofs.Buffers.{buffers-apart, came-length}
 use Rattle.vale_own.proofs.OwnKept.{legal-split}
 use Rattle.vale_own.proofs.SideArrivals.{given-count}
 use Rattle.vale_own.proofs.SidePlaces.{in-port, in-ports}
-use Rattle.vale_core.specs.Reading.{read_ask}
+use Rattle.vale_book.specs.Reading.{read_ask}
 use Rattle.vale_fabric.specs.Fabrics.{entry_by}
 use Rattle.nm_user.specs.declared.receiving.Received.{Received}
 use Rattle.nm_user.specs.Sessions.{SessionState, IsThere}

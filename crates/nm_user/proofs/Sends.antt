@@ -41,9 +41,9 @@ use Rattle.vale_own.proofs.Asking.{own-tells}
 use Rattle.vale_own.proofs.SideSyncing.{transmit-asked}
 use Rattle.vale_parts.specs.Batches.{dests_wanted}
 use Rattle.vale_batch.specs.Wants.{Wanted}
-use Rattle.vale_core.specs.Offering.{OffersState, OffersStand}
-use Rattle.vale_core.specs.Sending.{IsSent as IsOffered}
-use Rattle.vale_core.specs.Recorded.{standing, HasRoom}
+use Rattle.vale_book.specs.Offering.{OffersState, OffersStand}
+use Rattle.vale_book.specs.Sending.{IsSent as IsOffered}
+use Rattle.vale_book.specs.Recorded.{standing, HasRoom}
 use Rattle.vale_fabric.specs.declared.settling.Shares.{Shares}
 use Rattle.vale_fabric.specs.Roots.{root_of}
 use Rattle.vale_fabric.specs.Fabrics.{Knowing, Answers, MayAsk, Refuses, record_in, seen_in, before_in, earlier, entry_by}

@@ -22,7 +22,7 @@ use Rattle.vale_entry.specs.declared.entry.Reply.TheVariants as replies
 use Rattle.vale_entry.specs.OwnCalls.{or_reset, offered_items, tx_call}
 use Rattle.vale_entry.specs.World.{Port, open_port}
 use Rattle.vale_entry.specs.Legal.{Standing, session_and_reply, has_ring, can_reset, reset_step, made_at, fits_fault}
-use Rattle.vale_core.specs.Recorded.{standing}
+use Rattle.vale_book.specs.Recorded.{standing}
 use Rattle.vale_fabric.specs.Fabrics.{before_in}
 use Rattle.nm_user.specs.Sessions.{SessionState}
 use Rattle.nm_user.specs.Calls.{Made, MadeNone}

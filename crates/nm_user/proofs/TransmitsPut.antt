@@ -48,9 +48,9 @@ use Rattle.vale_own.proofs.SideAsking.{once-side}
 use Rattle.vale_own.proofs.SideEntries.{transmits-of}
 use Rattle.vale_batch.specs.Wants.{Wanted}
 use Rattle.vale_parts.specs.Batches.{dests_wanted}
-use Rattle.vale_core.specs.declared.putting.Put.{Put as GivenPut}
-use Rattle.vale_core.specs.Putting.{item_of, items_of, IsPut}
-use Rattle.vale_core.specs.Recorded.{standing}
+use Rattle.vale_book.specs.declared.putting.Put.{Put as GivenPut}
+use Rattle.vale_book.specs.Putting.{item_of, items_of, IsPut}
+use Rattle.vale_book.specs.Recorded.{standing}
 use Rattle.vale_fabric.specs.declared.settling.Shares.{Shares}
 use Rattle.vale_fabric.specs.Fabrics.{Knowing, Answers, before_in, seen_in, earlier}
 use Rattle.vale_fabric.specs.Settling.{Settles}

@@ -20,11 +20,11 @@ use Rattle.vale_entry.specs.declared.entry.Reply.TheVariants.{Took}
 use Rattle.vale_entry.specs.Arrivals.{arrivals_of, blank_arrival}
 use Rattle.vale_entry.specs.OwnCalls.{tx_call}
 use Rattle.vale_parts.specs.Batches.{dests_wanted}
-use Rattle.vale_core.specs.declared.fault.PutFault.{PutFault}
-use Rattle.vale_core.specs.declared.fault.PutFault.TheVariants.{PeerGone, RecordFull, NoMemory}
-use Rattle.vale_core.specs.declared.putting.Put.{Put as GivenPut}
-use Rattle.vale_core.specs.Putting.{items_of, IsPut as IsPutOfBook}
-use Rattle.vale_core.specs.Recorded.{standing}
+use Rattle.vale_book.specs.declared.fault.PutFault.{PutFault}
+use Rattle.vale_book.specs.declared.fault.PutFault.TheVariants.{PeerGone, RecordFull, NoMemory}
+use Rattle.vale_book.specs.declared.putting.Put.{Put as GivenPut}
+use Rattle.vale_book.specs.Putting.{items_of, IsPut as IsPutOfBook}
+use Rattle.vale_book.specs.Recorded.{standing}
 use Rattle.vale_fabric.specs.declared.settling.Shares.{Shares}
 use Rattle.vale_fabric.specs.Fabrics.{Knowing, Answers, MayAsk, before_in, seen_in}
 use Rattle.vale_fabric.specs.Puts.{PutsNot}

@@ -7,7 +7,7 @@ use Rattle.vale_entry.specs.declared.entry.Reply.{Reply}
 use Rattle.vale_entry.specs.Arrivals.{arrivals_of}
 use Rattle.vale_entry.specs.Legal.{kept_ask}
 use Rattle.vale_entry.specs.OwnCalls.{own_by}
-use Rattle.vale_core.specs.Recorded.{standing}
+use Rattle.vale_book.specs.Recorded.{standing}
 use Rattle.vale_fabric.specs.declared.kept.Fixed.{Fixed}
 use Rattle.vale_fabric.specs.Fabrics.{Knowing, Answers, Refuses, before_in}
 use Rattle.nm_user.specs.Sessions.{SessionState}

@@ -11,7 +11,7 @@ use Rattle.vale_entry.specs.declared.entry.Reply.TheVariants.{Made, Unread}
 use Rattle.vale_entry.specs.Legal.{session_and_reply, step}
 use Rattle.vale_entry.specs.OwnCalls.{finish_call}
 use Rattle.vale_own.specs.Asker.{asks}
-use Rattle.vale_core.specs.Recorded.{standing, HasRoom}
+use Rattle.vale_book.specs.Recorded.{standing, HasRoom}
 use Rattle.vale_fabric.specs.declared.kept.Fixed.{Fixed}
 use Rattle.vale_fabric.specs.Roots.{root_of}
 use Rattle.vale_fabric.specs.Fabrics.{Knowing, Answers, entry_by, seen_in}

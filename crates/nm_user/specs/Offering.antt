@@ -9,8 +9,8 @@ use Rattle.nm_own.specs.LentOffers.{IsLentOffers, CanBeTaken}
 use Rattle.nm_own.specs.Regions.{SideState}
 use Rattle.vale_line.specs.declared.got.Got.{Got}
 use Rattle.vale_line.specs.Gots.{buffers_of}
-use Rattle.vale_core.specs.declared.fault.PutFault.{PutFault}
-use Rattle.vale_core.specs.declared.fault.PutFault.TheVariants.{PeerGone, RecordFull, NoMemory}
+use Rattle.vale_book.specs.declared.fault.PutFault.{PutFault}
+use Rattle.vale_book.specs.declared.fault.PutFault.TheVariants.{PeerGone, RecordFull, NoMemory}
 use Rattle.nm_user.specs.declared.putting.OfferRoom.TheInside.{Inside}
 use Rattle.nm_user.specs.declared.putting.Offering.{Offering}
 

@@ -9,7 +9,7 @@ use Rattle.nm_types.specs.Names.{is_switch_port_name, is_pipe_name, is_monitor_n
 use Rattle.nm_types.specs.OwnPorts.{OwnPort, OwnState, port_with_id}
 use Rattle.vale_entry.specs.declared.entry.Ask.{Ask}
 use Rattle.vale_entry.specs.declared.entry.Reply.TheVariants as replies
-use Rattle.vale_core.specs.OpenAnswers.{ByFault}
+use Rattle.vale_book.specs.OpenAnswers.{ByFault}
 use Rattle.nm_user.specs.Sessions.{SessionState}
 use Rattle.nm_user.specs.Calls.{Made, MadeNone}
 

@@ -6,7 +6,7 @@ use Rattle.nm_own.specs.Regions.{SideState, AllOf}
 use Rattle.vale_entry.specs.Legal.{Standing, IsLegal}
 use Rattle.vale_own.specs.Own.{own_of, is_settled_own}
 use Rattle.vale_own.specs.Side.{IsSoundSideOf}
-use Rattle.vale_core.specs.Recorded.{standing}
+use Rattle.vale_book.specs.Recorded.{standing}
 use Rattle.vale_fabric.specs.declared.fabric.Fabric.{Fabric}
 use Rattle.vale_fabric.specs.declared.kept.Fixed.{Fixed}
 use Rattle.vale_fabric.specs.Fabrics.{Knowing, IsPassIn, fixed_in, knowing, seen_in}

@@ -21,7 +21,7 @@ use Rattle.vale_entry.specs.Arrivals.{arrivals_of}
 use Rattle.vale_entry.specs.OwnCalls.{own_by, tx_call}
 use Rattle.vale_entry.specs.Legal.{kept_ask, session_and_reply, step}
 use Rattle.vale_own.specs.Own.{own_of, is_settled_own}
-use Rattle.vale_core.specs.Recorded.{Recorded, standing, HasRoom}
+use Rattle.vale_book.specs.Recorded.{Recorded, standing, HasRoom}
 use Rattle.vale_fabric.specs.declared.settling.Shares.{Shares}
 use Rattle.vale_fabric.specs.Roots.{root_of}
 use Rattle.vale_fabric.specs.Fabrics.{record_in, entry_by}

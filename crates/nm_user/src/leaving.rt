@@ -6,7 +6,7 @@ ghost use Rattle.nm_region.specs.Buffers.{indices_of};
 ghost use Rattle.vale_entry.specs.declared.entry.Ask.TheVariants as asks;
 ghost use Rattle.vale_entry.specs.declared.entry.Reply.TheVariants as replies;
 ghost use Rattle.vale_own.specs.Side.{id_of};
-ghost use Rattle.vale_core.specs.BookView.{AreOf};
+ghost use Rattle.vale_book.specs.BookView.{AreOf};
 ghost use Rattle.vale_fabric.specs.Fabrics.{IsPassIn, fixed_in, knowing, AnswersIn};
 ghost use Rattle.nm_user.specs.Leaving.{MayWait, IsDetached, IsLeft};
 
@@ -14,7 +14,7 @@ use crate::session::Session;
 use nm_region::Buf;
 use nm_types::{Chain, PortId};
 use std::sync::Wait;
-use vale_core::LeasesOut;
+use vale_book::LeasesOut;
 use vale_fabric::{Fabric, Pass};
 
 /// What closing a port told.

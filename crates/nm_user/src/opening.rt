@@ -17,7 +17,7 @@ use nm_own::{NewPort, OwnSide};
 use nm_types::{Kind, MAX_EXTRA, MAX_RING, MIN_RING, Name, NoMemory, OpenFault, PortId};
 use std::alloc::Global;
 use std::sync::Wait;
-use vale_core::Opened;
+use vale_book::Opened;
 
 /// Whether a ring may have `size` slots.
 fn is_ring_size(size: u32) -> bool

@@ -29,7 +29,7 @@ use nm_types::{NoMemory, PortId, SyncFault};
 use std::alloc::Global;
 use std::marker::Model;
 use std::sync::Wait;
-use vale_core::{Put, PutFault};
+use vale_book::{Put, PutFault};
 use vale_line::Got;
 
 /// Memory for the frames that a put offers, and how many bytes each of them has.

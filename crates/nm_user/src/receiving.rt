@@ -15,7 +15,7 @@ ghost use Rattle.nm_own.specs.Receives.{can_receive, own_with_arrival};
 ghost use Rattle.nm_own.specs.Regions.{AllOf, AreOf, IsBufferOf};
 ghost use Rattle.vale_entry.specs.Legal.{fits_fault};
 ghost use Rattle.vale_line.specs.Gots.{buffers_of};
-ghost use Rattle.vale_core.specs.Reading.{read_ask};
+ghost use Rattle.vale_book.specs.Reading.{read_ask};
 ghost use Rattle.vale_fabric.specs.Fabrics.{IsPassIn, fixed_in, knowing, MayIn, RefusesIn};
 ghost use Rattle.nm_user.specs.Receives.{IsReceived, ReceivesNot};
 ghost use Rattle.nm_user.specs.Receiving.{arrival_in, arrivals_in, CanCome, IsRead};
@@ -27,7 +27,7 @@ use nm_region::Buf;
 use nm_types::{PortId, Side, StepFault, SyncFault};
 use std::alloc::{AllocError, Global};
 use std::sync::Wait;
-use vale_core::Synced;
+use vale_book::Synced;
 use vale_fabric::{Fabric, Pass};
 use vale_line::Got;
 

@@ -10,7 +10,7 @@ use nm_user::Session;
 use std::alloc::Global;
 use std::sync::Wait;
 use std::thread::{Threads, join};
-use vale_core::Book;
+use vale_book::Book;
 use vale_fabric::{Fabric, Pass};
 
 /// A frame to all, from 02:00:00:00:00:01, of the type 88b5, with a letter behind that.

@@ -9,7 +9,7 @@ use Rattle.nm_turn.specs.declared.view.Share.{Share}
 use Rattle.nm_turn.specs.Shares.{IsWhole, AddUp}
 use Rattle.nm_types.specs.declared.fault.StepFault.{StepFault}
 use Rattle.nm_types.specs.declared.fault.StepFault.TheVariants.{RecordFull, NoMemory}
-use Rattle.vale_core.specs.Recorded.{IsRefusal}
+use Rattle.vale_book.specs.Recorded.{IsRefusal}
 use Rattle.vale_entry.specs.declared.entry.Entry.{Entry}
 use Rattle.vale_fabric.specs.declared.fabric.Fabric.{Fabric}
 use Rattle.vale_fabric.specs.declared.kept.Fixed.{Fixed}

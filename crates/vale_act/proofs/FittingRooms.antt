@@ -3,8 +3,8 @@ use Rattle.std.proofs.Common.{ℕ, zero, suc, List, [], ◌∷◌, ◌++◌, tak
 use Rattle.vale_entry.specs.declared.entry.Entry.{Entry}
 use Rattle.vale_entry.specs.Legal.{IsLegal}
 use Rattle.vale_own.proofs.OwnKept.{legal-split}
-use Rattle.vale_core.specs.Recorded.{Recorded, HadRoomFrom}
-use Rattle.vale_core.proofs.Rooms.{within-had}
+use Rattle.vale_book.specs.Recorded.{Recorded, HadRoomFrom}
+use Rattle.vale_book.proofs.Rooms.{within-had}
 use Rattle.vale_act.specs.Fitting.{HadRoomIsWithin, PrefixHadRoom, PrefixIsWithin}
 
 pub had-within : HadRoomIsWithin

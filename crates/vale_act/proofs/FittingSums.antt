@@ -5,8 +5,8 @@ use Rattle.nm_types.specs.declared.fault.Part.TheVariants.{Entries, Bytes}
 use Rattle.nm_types.specs.declared.fault.StepFault.TheVariants.{RecordFull}
 use Rattle.vale_entry.specs.declared.entry.Ask.{Ask}
 use Rattle.vale_entry.specs.Legal.{Outcome, step}
-use Rattle.vale_core.specs.Recorded.{Recorded, standing, IsWithinLimits, refused_by}
-use Rattle.vale_core.proofs.Rooms.{within-had}
+use Rattle.vale_book.specs.Recorded.{Recorded, standing, IsWithinLimits, refused_by}
+use Rattle.vale_book.proofs.Rooms.{within-had}
 use Rattle.vale_act.specs.Fitting.{RefusalsFit}
 use Rattle.vale_act.proofs.FittingWants.{Little, ports-few, step-little}
 

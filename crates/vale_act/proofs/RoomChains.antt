@@ -14,7 +14,7 @@ use Rattle.vale_entry.specs.Arrivals.{arrivals_of}
 use Rattle.vale_entry.specs.OwnCalls.{tx_call, rx_call, finish_call, own_by}
 use Rattle.vale_entry.specs.Legal.{Standing, Outcome, standing_of, step, kept_ask, session_and_reply, unchanged, sync_step}
 use Rattle.vale_entry.proofs.Follows.{EachKind, IsQuiet, Receives, by_sync, by_get, refused_open, resets, finds_no_peer, finds_no_target, finds_watched, counts, IfMade, recorded-by}
-use Rattle.vale_core.proofs.Rooms.{step-recorded}
+use Rattle.vale_book.proofs.Rooms.{step-recorded}
 use Rattle.vale_own.specs.Side.{IsOfSide}
 use Rattle.vale_own.proofs.SideOpens.{opened-sizes}
 use Rattle.vale_own.proofs.SideEntries.{transmits-of, receives-of, finishes-of}

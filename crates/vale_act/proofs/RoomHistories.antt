@@ -15,7 +15,7 @@ use Rattle.vale_entry.specs.Legal.{Standing, Outcome, IsLegal, IsLegalFrom, Foll
 use Rattle.vale_entry.proofs.Follows.{IfMade, recorded-by}
 use Rattle.vale_entry.proofs.HistoryLaws.{room-used}
 use Rattle.vale_entry.proofs.Worlds.{standing-push, legal-push}
-use Rattle.vale_core.specs.Recorded.{Recorded, room_by, refused_by, standing}
+use Rattle.vale_book.specs.Recorded.{Recorded, room_by, refused_by, standing}
 use Rattle.vale_act.specs.Completeness.{CostsLittle, frames_taken, taken_by, call_of, IsCheap, HistoriesAreCheap, FramesThatFitHaveRoom, RoomIsNotRefused}
 use Rattle.vale_act.proofs.RoomWants.{little-kinds, entries-little}
 

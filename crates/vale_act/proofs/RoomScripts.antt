@@ -7,7 +7,7 @@ use Rattle.vale_entry.specs.declared.entry.Entry.{Entry}
 use Rattle.vale_entry.specs.Arrivals.{arrivals_of}
 use Rattle.vale_entry.specs.OwnCalls.{own_after}
 use Rattle.vale_entry.specs.Legal.{Outcome, IsLegal, standing_of, step, kept_ask}
-use Rattle.vale_core.specs.Recorded.{HasRoom, room_by}
+use Rattle.vale_book.specs.Recorded.{HasRoom, room_by}
 use Rattle.vale_script.specs.Script.{Program}
 use Rattle.vale_replay.specs.Machine.{Machine, new_machine, is_settling}
 use Rattle.vale_replay.specs.Tasks.{Captures}

@@ -20,7 +20,7 @@ use Rattle.vale_entry.specs.Legal.{Standing, Outcome, IsLegal, standing_of, step
 use Rattle.vale_entry.proofs.Each.{each-find}
 use Rattle.vale_entry.proofs.Follows.{EachKind, IsQuiet, Receives, by_sync, by_get, refused_open, resets, finds_no_peer, finds_no_target, finds_watched, counts, IfMade, recorded-by}
 use Rattle.vale_entry.proofs.HistoryLaws.{history-stands}
-use Rattle.vale_core.proofs.Rooms.{step-recorded}
+use Rattle.vale_book.proofs.Rooms.{step-recorded}
 use Rattle.vale_own.proofs.SideArrivals.{lent-count}
 use Rattle.vale_own.proofs.SideSound.{each-found}
 use Rattle.vale_replay.specs.Machine.{has_room_at, is_settling, put_call, room_call, send_call}

@@ -19,7 +19,7 @@ use Rattle.vale_entry.specs.Pipe.{frames_of_items, is_pipe_item}
 use Rattle.vale_entry.specs.Legal.{Standing, standing_of, kept_ask, can_send, sync_step, unchanged}
 use Rattle.vale_entry.proofs.Follows.{EachKind, IsQuiet, Receives, by_sync, by_get, refused_open, resets, finds_no_peer, finds_no_target, finds_watched, counts, IfMade, recorded-by}
 use Rattle.vale_entry.proofs.Numbered.{world-numbered}
-use Rattle.vale_core.proofs.Rooms.{step-recorded}
+use Rattle.vale_book.proofs.Rooms.{step-recorded}
 use Rattle.vale_act.specs.Completeness.{CostsLittle, EntriesCostLittle}
 use Rattle.vale_act.proofs.RoomSwitches.{one_if}
 use Rattle.vale_act.proofs.RoomSends.{send-wants, one-watches, watching}

@@ -18,7 +18,7 @@ use Rattle.vale_entry.specs.declared.entry.Reply.TheVariants as replies
 use Rattle.vale_entry.specs.OwnCalls.{or_reset, back_in, rx_call, tx_call}
 use Rattle.vale_entry.specs.Legal.{Standing, standing_of, step, session_and_reply}
 use Rattle.vale_entry.proofs.ListLaws.{place-of}
-use Rattle.vale_core.specs.Reading.{read_ask}
+use Rattle.vale_book.specs.Reading.{read_ask}
 use Rattle.vale_fabric.specs.Fabrics.{earlier}
 use Rattle.nm_user.specs.Sessions.{SessionState, IsThere}
 use Rattle.nm_user.specs.Calls.{Made}

@@ -8,7 +8,7 @@ use Rattle.nm_types.specs.declared.fault.Part.{Part}
 use Rattle.nm_turn.specs.Numbered.{numbers}
 use Rattle.nm_turn.proofs.Prefixes.{prefix_length, prefix_self}
 use Rattle.vale_entry.specs.declared.entry.Entry.{Entry}
-use Rattle.vale_core.specs.Recorded.{IsRefusal}
+use Rattle.vale_book.specs.Recorded.{IsRefusal}
 use Rattle.vale_fabric.specs.declared.kept.Fixed.{Fixed}
 use Rattle.vale_fabric.specs.Fabrics.{Knowing, fixed_in, record_in}
 use Rattle.vale_replay.specs.Tasks.{Task, Arrive, EndLine}

@@ -13,7 +13,7 @@ use Rattle.vale_entry.specs.Laws.{Rise}
 use Rattle.vale_entry.specs.Legal.{IsLegal, standing_of}
 use Rattle.vale_own.specs.Own.{own_of, is_settled_own}
 use Rattle.vale_own.proofs.OwnKept.{legal-split}
-use Rattle.vale_core.specs.Recorded.{IsRefusal}
+use Rattle.vale_book.specs.Recorded.{IsRefusal}
 use Rattle.vale_fabric.specs.declared.kept.Fixed.{Fixed}
 use Rattle.vale_fabric.specs.Fabrics.{Knowing, seen_in}
 use Rattle.nm_user.specs.Sessions.{SessionState, IsThere}

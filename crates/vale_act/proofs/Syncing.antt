@@ -20,7 +20,7 @@ use Rattle.vale_entry.specs.declared.entry.Reply.TheVariants as replies
 use Rattle.vale_entry.specs.World.{Port, open_port}
 use Rattle.vale_entry.specs.Legal.{Standing, kept_ask, step, session_and_reply, made_at, can_reset, reset_step}
 use Rattle.vale_entry.specs.OwnCalls.{or_reset, offered_items, back_in, tx_call, rx_call}
-use Rattle.vale_core.specs.Recorded.{standing}
+use Rattle.vale_book.specs.Recorded.{standing}
 use Rattle.vale_fabric.specs.declared.settling.Shares.{Shares}
 use Rattle.nm_user.specs.declared.sending.Sent.{Sent}
 use Rattle.nm_user.specs.declared.receiving.Received.{Received}

@@ -12,7 +12,7 @@ use Rattle.nm_types.specs.declared.id.PortId.{PortId}
 use Rattle.vale_entry.specs.declared.entry.Ask.{Ask}
 use Rattle.vale_entry.specs.declared.entry.Reply.{Reply}
 use Rattle.vale_entry.specs.Room.{bytes_of, frame_bytes, room_used}
-use Rattle.vale_core.specs.Recorded.{Recorded, standing, HasRoom, IsRefusal}
+use Rattle.vale_book.specs.Recorded.{Recorded, standing, HasRoom, IsRefusal}
 use Rattle.nm_types.specs.declared.fault.Part.{Part}
 use Rattle.nm_types.specs.declared.fault.StepFault.TheVariants.{RecordFull}
 use Rattle.vale_entry.specs.declared.entry.Ask.TheVariants.{Send, PutKept, Grant, Done, Shut, Finish, Leave}

@@ -5,7 +5,7 @@ use Rattle.nm_types.specs.declared.fault.Part.{Part}
 use Rattle.nm_types.specs.declared.fault.StepFault.TheVariants.{RecordFull}
 use Rattle.vale_entry.specs.declared.entry.Ask.{Ask}
 use Rattle.vale_entry.specs.Legal.{IsLegal}
-use Rattle.vale_core.specs.Recorded.{Recorded, HadRoom, IsRefusal, IsWithinLimits}
+use Rattle.vale_book.specs.Recorded.{Recorded, HadRoom, IsRefusal, IsWithinLimits}
 
 -- a record each of whose entries had room is within its limits
 abbrev pub HadRoomIsWithin : Type 0

@@ -20,7 +20,7 @@ use Rattle.vale_act.specs.Deeds.{AreDoable, IsDoable}
 use Rattle.vale_entry.specs.declared.entry.Ask.{Ask}
 use Rattle.vale_entry.specs.declared.entry.Entry.{Entry}
 use Rattle.vale_entry.specs.declared.entry.Ask.TheVariants.{Enter}
-use Rattle.vale_core.specs.Recorded.{IsRefusal}
+use Rattle.vale_book.specs.Recorded.{IsRefusal}
 use Rattle.nm_user.specs.Calls.{IsRefused}
 use Rattle.vale_fabric.specs.declared.kept.Fixed.{Fixed}
 use Rattle.vale_replay.specs.Machine.{Machine, Save, closing_tasks}

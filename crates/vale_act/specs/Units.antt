@@ -12,7 +12,7 @@ use Rattle.nm_types.specs.declared.fault.Part.{Part}
 use Rattle.vale_entry.specs.declared.entry.Ask.{Ask}
 use Rattle.vale_entry.specs.declared.entry.Ask.TheVariants.{Enter}
 use Rattle.vale_entry.specs.declared.entry.Entry.{Entry}
-use Rattle.vale_core.specs.Recorded.{IsRefusal}
+use Rattle.vale_book.specs.Recorded.{IsRefusal}
 use Rattle.vale_fabric.specs.declared.fabric.Fabric.{Fabric}
 use Rattle.vale_fabric.specs.declared.kept.Fixed.{Fixed}
 use Rattle.vale_fabric.specs.Fabrics.{Knowing, fixed_in, record_in}

@@ -10,7 +10,7 @@ use Rattle.vale_entry.specs.declared.entry.Reply.{Reply}
 use Rattle.vale_entry.specs.Laws.{Rise}
 use Rattle.vale_entry.specs.Legal.{standing_of}
 use Rattle.vale_own.specs.Own.{own_of, is_settled_own}
-use Rattle.vale_core.specs.Recorded.{IsRefusal}
+use Rattle.vale_book.specs.Recorded.{IsRefusal}
 use Rattle.vale_fabric.specs.declared.kept.Fixed.{Fixed}
 use Rattle.vale_fabric.specs.Fabrics.{Knowing, entry_by, seen_in}
 use Rattle.nm_user.specs.Sessions.{SessionState}

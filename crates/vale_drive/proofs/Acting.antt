@@ -20,9 +20,9 @@ use Rattle.vale_own.specs.OwnEntries.{own_after_entry}
 use Rattle.vale_own.proofs.Askers.{askers-make-steps}
 use Rattle.vale_own.proofs.Reading.{settled-own}
 use Rattle.vale_parts.specs.Batches.{AreOffersOf}
-use Rattle.vale_core.specs.BookView.{AreOf}
+use Rattle.vale_book.specs.BookView.{AreOf}
 use Rattle.nm_types.specs.declared.id.SessionId.{SessionId}
-use Rattle.vale_core.specs.Recorded.{Recorded, standing, entry_of, after_outcome, after_ask, IsRefusal, room_by}
+use Rattle.vale_book.specs.Recorded.{Recorded, standing, entry_of, after_outcome, after_ask, IsRefusal, room_by}
 use Rattle.vale_fabric.proofs.Placed.{get-last}
 use Rattle.vale_drive.specs.declared.users.Sent.{Sent}
 use Rattle.vale_drive.specs.declared.users.User.{User}

@@ -22,9 +22,9 @@ use Rattle.vale_own.specs.Asker.{asker_of, is_enter, owner_of_port}
 use Rattle.vale_own.specs.Own.{Own, own_of}
 use Rattle.vale_own.specs.OwnEntries.{own_after_entry}
 use Rattle.vale_own.proofs.Askers.{askers-make-steps}
-use Rattle.vale_core.specs.Asking.{IsSeenAs}
-use Rattle.vale_core.specs.Recorded.{Recorded, standing, entry_of, after_ask, after_outcome}
-use Rattle.vale_core.specs.declared.asking.PortSeen.{PortSeen}
+use Rattle.vale_book.specs.Asking.{IsSeenAs}
+use Rattle.vale_book.specs.Recorded.{Recorded, standing, entry_of, after_ask, after_outcome}
+use Rattle.vale_book.specs.declared.asking.PortSeen.{PortSeen}
 use Rattle.vale_drive.specs.declared.users.User.{User}
 use Rattle.vale_drive.specs.DriveView.{AreUsersOf, IsOwner}
 use Rattle.vale_drive.specs.Serving.{IsServed}

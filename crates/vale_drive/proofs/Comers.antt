@@ -12,8 +12,8 @@ use Rattle.vale_entry.proofs.Each.{each-append}
 use Rattle.vale_entry.proofs.Rising.{rise-within}
 use Rattle.vale_entry.proofs.Worlds.{standing-push, count-world_of}
 use Rattle.vale_own.specs.OwnEntries.{nothing_own}
-use Rattle.vale_core.specs.Recorded.{Recorded, standing, entry_of, after_ask, IsRefusal}
-use Rattle.vale_core.proofs.Comings.{enter-made}
+use Rattle.vale_book.specs.Recorded.{Recorded, standing, entry_of, after_ask, IsRefusal}
+use Rattle.vale_book.proofs.Comings.{enter-made}
 use Rattle.vale_drive.specs.declared.users.User.{User}
 use Rattle.vale_drive.specs.DriveView.{AreUsersOf}
 use Rattle.vale_drive.specs.Users.{id_of_user, wants_left, HasNothing, HasOwn, IsUser}

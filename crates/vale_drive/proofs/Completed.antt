@@ -24,9 +24,9 @@ use Rattle.vale_own.specs.OwnEntries.{own_done, own_after_entry}
 use Rattle.vale_own.proofs.Asking.{own-tells}
 use Rattle.vale_own.proofs.Askers.{askers-make-steps}
 use Rattle.vale_own.proofs.Lists.{filter-every}
-use Rattle.vale_core.specs.BookView.{AreOf}
-use Rattle.vale_core.specs.Offering.{IsFilledIn}
-use Rattle.vale_core.specs.Recorded.{Recorded, standing, after_ask}
+use Rattle.vale_book.specs.BookView.{AreOf}
+use Rattle.vale_book.specs.Offering.{IsFilledIn}
+use Rattle.vale_book.specs.Recorded.{Recorded, standing, after_ask}
 use Rattle.vale_fabric.specs.Leases.{is_held_as}
 use Rattle.vale_fabric.proofs.FilledNow.{filled-in}
 use Rattle.vale_fabric.proofs.Making.{Steps, and-first, and-second}

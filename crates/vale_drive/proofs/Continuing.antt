@@ -10,8 +10,8 @@ use Rattle.vale_entry.specs.Room.{promised_of}
 use Rattle.vale_entry.proofs.HistoryLaws.{room-promised}
 use Rattle.vale_entry.proofs.Wants.{is_owed, want-owed}
 use Rattle.vale_own.specs.Own.{HeldLot}
-use Rattle.vale_core.specs.Recorded.{Recorded, standing, entry_of}
-use Rattle.vale_core.proofs.Rooms.{step-recorded}
+use Rattle.vale_book.specs.Recorded.{Recorded, standing, entry_of}
+use Rattle.vale_book.proofs.Rooms.{step-recorded}
 use Rattle.vale_drive.specs.Winding.{no_chain, first_among, offers_by, leases_by, sessions_ending, ports_ending, leases_ending, offers_ending, ComesNext, GoesToEnd, IsContinued, IsNextMade}
 use Rattle.vale_drive.proofs.Keeping.{step-follows}
 

@@ -6,7 +6,7 @@ use Rattle.vale_entry.specs.World.{Port, buffers_of, free_count}
 use Rattle.vale_entry.specs.Laws.{IsPortOf}
 use Rattle.vale_entry.proofs.HistoryLaws.{history-stands}
 use Rattle.vale_entry.proofs.Numbered.{world-numbered}
-use Rattle.vale_core.specs.Recorded.{Recorded, standing}
+use Rattle.vale_book.specs.Recorded.{Recorded, standing}
 use Rattle.vale_drive.specs.declared.users.User.{User}
 use Rattle.vale_drive.specs.DriveView.{AreUsersOf}
 use Rattle.vale_drive.specs.Users.{id_of_user}

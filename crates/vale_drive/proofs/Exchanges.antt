@@ -25,9 +25,9 @@ use Rattle.vale_parts.specs.Batches.{AreOffersOf, wants_monitored, dests_wanted,
 use Rattle.vale_parts.specs.Offering.{offers_at, offers_started}
 use Rattle.vale_parts.proofs.OffersKept.{offers_start}
 use Rattle.vale_port.specs.Kept.{bytes_of}
-use Rattle.vale_core.specs.BookView.{AreOf, IsBufferOf}
-use Rattle.vale_core.specs.Offering.{OffersState, OffersStand}
-use Rattle.vale_core.specs.Recorded.{Recorded, standing, entry_of, after_ask, after_outcome}
+use Rattle.vale_book.specs.BookView.{AreOf, IsBufferOf}
+use Rattle.vale_book.specs.Offering.{OffersState, OffersStand}
+use Rattle.vale_book.specs.Recorded.{Recorded, standing, entry_of, after_ask, after_outcome}
 use Rattle.vale_drive.specs.declared.users.Sent.{Sent}
 use Rattle.vale_drive.specs.declared.users.User.{User}
 use Rattle.vale_drive.specs.Buffers.{times}

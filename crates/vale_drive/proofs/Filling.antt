@@ -12,8 +12,8 @@ use Rattle.nm_region.specs.Buffers.{Buffer, indices_of}
 use Rattle.vale_line.specs.declared.got.Got.{Got}
 use Rattle.vale_line.specs.Gots.{got_of, gots_of_parts, gots_with, buffers_of}
 use Rattle.vale_line.specs.Leased.{first_size}
-use Rattle.vale_core.specs.BookView.{AreOf, IsBufferOf}
-use Rattle.vale_core.proofs.Standing.{each-left, each-right}
+use Rattle.vale_book.specs.BookView.{AreOf, IsBufferOf}
+use Rattle.vale_book.proofs.Standing.{each-left, each-right}
 use Rattle.vale_entry.proofs.Each.{each-append}
 use Rattle.vale_entry.proofs.ListLaws.{each-at}
 use Rattle.vale_drive.specs.Filling.{placed, IsPlaceIn}

@@ -23,8 +23,8 @@ use Rattle.vale_entry.proofs.Rising.{rise-slice_get}
 use Rattle.vale_own.specs.Own.{Own, own_of, port_alone, buffers_of_lease, all_buffers_of}
 use Rattle.vale_own.specs.OwnEntries.{own_after_entry}
 use Rattle.vale_own.proofs.Buffers.{buffers-apart}
-use Rattle.vale_core.specs.Recorded.{Recorded, standing, after_ask, after_outcome, room_by}
-use Rattle.vale_core.specs.declared.asking.PortSeen.{PortSeen}
+use Rattle.vale_book.specs.Recorded.{Recorded, standing, after_ask, after_outcome, room_by}
+use Rattle.vale_book.specs.declared.asking.PortSeen.{PortSeen}
 use Rattle.vale_fabric.proofs.Making.{gone-said}
 use Rattle.vale_drive.specs.declared.users.Sent.{Sent}
 use Rattle.vale_drive.specs.declared.users.User.{User}

@@ -15,8 +15,8 @@ use Rattle.vale_entry.specs.Holdings.{contains}
 use Rattle.vale_entry.specs.Pipe.{is_pipe_item}
 use Rattle.vale_entry.specs.Pipe.{indices_of as item_indices}
 use Rattle.vale_entry.proofs.Each.{each-append}
-use Rattle.vale_core.specs.BookView.{AreOf, IsBufferOf}
-use Rattle.vale_core.specs.Putting.{item_of, items_of}
+use Rattle.vale_book.specs.BookView.{AreOf, IsBufferOf}
+use Rattle.vale_book.specs.Putting.{item_of, items_of}
 use Rattle.vale_drive.specs.Buffers.{holds}
 use Rattle.vale_drive.specs.Putting.{is_in, is_held, bytes_in, AreFramed}
 use Rattle.vale_drive.specs.Users.{contents}

@@ -37,9 +37,9 @@ use Rattle.vale_parts.specs.Batches.{IsOfferOf, AreOffersOf}
 use Rattle.vale_parts.specs.Offering.{offers_at, OffersAre}
 use Rattle.vale_parts.proofs.OffersKept.{first_next}
 use Rattle.vale_port.specs.Kept.{KeptFrames, bytes_of, kept_gots, world_frames}
-use Rattle.vale_core.specs.BookView.{AreOf}
-use Rattle.vale_core.specs.Offering.{OffersState, IsOfferBy, IsLeaseOf}
-use Rattle.vale_core.specs.Recorded.{Recorded, standing, after_outcome, entry_of}
+use Rattle.vale_book.specs.BookView.{AreOf}
+use Rattle.vale_book.specs.Offering.{OffersState, IsOfferBy, IsLeaseOf}
+use Rattle.vale_book.specs.Recorded.{Recorded, standing, after_outcome, entry_of}
 use Rattle.vale_fabric.specs.Leases.{WasGranted, is_held_as}
 use Rattle.vale_drive.specs.declared.users.Sent.{Sent}
 use Rattle.vale_drive.specs.declared.users.User.{User}

@@ -17,9 +17,9 @@ use Rattle.vale_own.specs.Own.{Own, HeldLot, own_of}
 use Rattle.vale_own.specs.OwnEntries.{own_after_entry}
 use Rattle.vale_own.proofs.OwnKept.{own-entry}
 use Rattle.vale_own.proofs.OwnEntry.{own-entries}
-use Rattle.vale_core.specs.BookView.{AreOf}
-use Rattle.vale_core.specs.Recorded.{Recorded, standing, entry_of, after_outcome, after_ask}
-use Rattle.vale_core.proofs.Rooms.{step-recorded}
+use Rattle.vale_book.specs.BookView.{AreOf}
+use Rattle.vale_book.specs.Recorded.{Recorded, standing, entry_of, after_outcome, after_ask}
+use Rattle.vale_book.proofs.Rooms.{step-recorded}
 use Rattle.vale_fabric.specs.Leases.{WasGranted, is_grant_to}
 use Rattle.vale_fabric.proofs.Placed.{met-there}
 use Rattle.vale_drive.specs.declared.users.User.{User}

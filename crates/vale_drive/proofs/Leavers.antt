@@ -17,7 +17,7 @@ use Rattle.vale_own.specs.Own.{Own, own_of, is_empty, is_settled_own}
 use Rattle.vale_own.specs.OwnAsks.{may_leave}
 use Rattle.vale_own.proofs.Asking.{own-tells}
 use Rattle.vale_own.proofs.Reading.{settled-own, buffers-due}
-use Rattle.vale_core.specs.Recorded.{Recorded, standing, after_ask, entry_of}
+use Rattle.vale_book.specs.Recorded.{Recorded, standing, after_ask, entry_of}
 use Rattle.vale_drive.specs.declared.users.User.{User}
 use Rattle.vale_drive.specs.Buffers.{times}
 use Rattle.vale_drive.specs.DriveView.{AreUsersOf}

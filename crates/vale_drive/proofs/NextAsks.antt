@@ -13,7 +13,7 @@ use Rattle.vale_entry.specs.World.{Offer}
 use Rattle.vale_entry.specs.Legal.{is_enabled, is_met, is_offer_next, IsLegal}
 use Rattle.vale_parts.specs.Batches.{AreOffersOf}
 use Rattle.vale_own.specs.Own.{own_of}
-use Rattle.vale_core.specs.Recorded.{Recorded, standing, after_outcome}
+use Rattle.vale_book.specs.Recorded.{Recorded, standing, after_outcome}
 use Rattle.vale_drive.specs.declared.users.User.{User}
 use Rattle.vale_drive.specs.declared.users.Sent.{Sent}
 use Rattle.vale_drive.specs.DriveView.{AreUsersOf}

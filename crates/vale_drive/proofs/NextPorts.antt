@@ -26,9 +26,9 @@ use Rattle.vale_entry.proofs.Numbered.{world-numbered}
 use Rattle.vale_entry.proofs.Rising.{rise-slice_get}
 use Rattle.vale_own.specs.Own.{HeldLot, own_of, port_alone}
 use Rattle.vale_own.proofs.Reading.{buffers-due}
-use Rattle.vale_core.specs.Asking.{IsSeenAs}
-use Rattle.vale_core.specs.Recorded.{Recorded, standing, after_outcome}
-use Rattle.vale_core.specs.declared.asking.PortSeen.{PortSeen}
+use Rattle.vale_book.specs.Asking.{IsSeenAs}
+use Rattle.vale_book.specs.Recorded.{Recorded, standing, after_outcome}
+use Rattle.vale_book.specs.declared.asking.PortSeen.{PortSeen}
 use Rattle.vale_drive.specs.declared.users.User.{User}
 use Rattle.vale_drive.specs.declared.users.Sent.{Sent}
 use Rattle.vale_drive.specs.Buffers.{holds, holds_all, times}

@@ -19,10 +19,10 @@ use Rattle.vale_entry.proofs.Each.{each-append}
 use Rattle.vale_own.specs.Own.{Own, own_of}
 use Rattle.vale_own.specs.OwnEntries.{own_opened, own_after_entry}
 use Rattle.vale_own.proofs.Askers.{askers-make-steps}
-use Rattle.vale_core.specs.declared.opening.Opened.{Opened as Handed}
-use Rattle.vale_core.specs.BookView.{AreOf}
-use Rattle.vale_core.specs.OpenAnswers.{IsUnopened}
-use Rattle.vale_core.specs.Recorded.{Recorded, standing, IsRecordedAs}
+use Rattle.vale_book.specs.declared.opening.Opened.{Opened as Handed}
+use Rattle.vale_book.specs.BookView.{AreOf}
+use Rattle.vale_book.specs.OpenAnswers.{IsUnopened}
+use Rattle.vale_book.specs.Recorded.{Recorded, standing, IsRecordedAs}
 use Rattle.vale_drive.specs.declared.users.User.{User}
 use Rattle.vale_drive.specs.Opening.{HasTaken}
 use Rattle.vale_drive.specs.Users.{AreHeldAs, HasOffers, AreSame, IsRoom, HasOwn, IsUser, number_of, wants_left}

@@ -32,17 +32,17 @@ use Rattle.vale_own.specs.OwnEntries.{own_put, own_put_at, own_after_entry}
 use Rattle.vale_parts.specs.Batches.{dests_wanted}
 use Rattle.vale_parts.specs.Offering.{offers_at, offers_started}
 use Rattle.vale_port.specs.Kept.{bytes_of}
-use Rattle.vale_core.specs.BookView.{AreOf, IsBufferOf}
-use Rattle.vale_core.specs.Monitored.{IsOfferedTo}
-use Rattle.vale_core.specs.Putting.{item_of, items_of, IsPut}
-use Rattle.vale_core.specs.PutFaults.{IfMade, IfNotMade, IsPutRefusal}
-use Rattle.vale_core.specs.Recorded.{Recorded, standing, after_ask, IsRefusal, HasRoom}
-use Rattle.vale_core.specs.declared.asking.PortSeen.{PortSeen}
-use Rattle.vale_core.specs.declared.fault.PutFault.{PutFault}
-use Rattle.vale_core.specs.declared.fault.PutFault.TheVariants as gone
-use Rattle.vale_core.specs.declared.putting.Put.{Put as Given}
-use Rattle.vale_core.proofs.PutLists.{items-first, indices-items}
-use Rattle.vale_core.proofs.Standing.{each-take}
+use Rattle.vale_book.specs.BookView.{AreOf, IsBufferOf}
+use Rattle.vale_book.specs.Monitored.{IsOfferedTo}
+use Rattle.vale_book.specs.Putting.{item_of, items_of, IsPut}
+use Rattle.vale_book.specs.PutFaults.{IfMade, IfNotMade, IsPutRefusal}
+use Rattle.vale_book.specs.Recorded.{Recorded, standing, after_ask, IsRefusal, HasRoom}
+use Rattle.vale_book.specs.declared.asking.PortSeen.{PortSeen}
+use Rattle.vale_book.specs.declared.fault.PutFault.{PutFault}
+use Rattle.vale_book.specs.declared.fault.PutFault.TheVariants as gone
+use Rattle.vale_book.specs.declared.putting.Put.{Put as Given}
+use Rattle.vale_book.proofs.PutLists.{items-first, indices-items}
+use Rattle.vale_book.proofs.Standing.{each-take}
 use Rattle.vale_fabric.proofs.Making.{Steps}
 use Rattle.vale_fabric.proofs.PutsTold.{put-said, gone-said}
 use Rattle.vale_drive.specs.declared.users.User.{User}

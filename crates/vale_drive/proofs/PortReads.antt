@@ -25,13 +25,13 @@ use Rattle.vale_own.specs.OwnEntries.{own_received, own_after_entry}
 use Rattle.vale_parts.specs.Batches.{dests_wanted}
 use Rattle.vale_parts.specs.Offering.{offers_at, offers_started}
 use Rattle.vale_port.specs.Kept.{bytes_of}
-use Rattle.vale_core.specs.Asking.{IsReady}
-use Rattle.vale_core.specs.Offering.{OffersState}
-use Rattle.vale_core.specs.Monitored.{IsOfferedTo}
-use Rattle.vale_core.specs.Reading.{read_ask, IsGiven, IsGivenOf, IsOffered}
-use Rattle.vale_core.specs.Recorded.{Recorded, standing, after_ask, IsRefusal, HasRoom}
-use Rattle.vale_core.specs.declared.asking.PortSeen.{PortSeen}
-use Rattle.vale_core.specs.declared.asking.Ready.{Ready}
+use Rattle.vale_book.specs.Asking.{IsReady}
+use Rattle.vale_book.specs.Offering.{OffersState}
+use Rattle.vale_book.specs.Monitored.{IsOfferedTo}
+use Rattle.vale_book.specs.Reading.{read_ask, IsGiven, IsGivenOf, IsOffered}
+use Rattle.vale_book.specs.Recorded.{Recorded, standing, after_ask, IsRefusal, HasRoom}
+use Rattle.vale_book.specs.declared.asking.PortSeen.{PortSeen}
+use Rattle.vale_book.specs.declared.asking.Ready.{Ready}
 use Rattle.vale_drive.specs.declared.users.User.{User}
 use Rattle.vale_drive.specs.Buffers.{holds_all}
 use Rattle.vale_drive.specs.Copies.{parts_in}

@@ -16,7 +16,7 @@ use Rattle.vale_entry.proofs.Follows.{EachKind, after-by}
 use Rattle.vale_entry.proofs.HistoryLaws.{history-stands}
 use Rattle.vale_entry.proofs.Removals.{each-filter}
 use Rattle.vale_entry.proofs.Steps.{legal-by}
-use Rattle.vale_core.proofs.RingSizes.{none-first}
+use Rattle.vale_book.proofs.RingSizes.{none-first}
 use Rattle.vale_drive.specs.Users.{most_due}
 use Rattle.vale_drive.proofs.Sizes.{sizes_by}
 

@@ -30,11 +30,11 @@ use Rattle.vale_parts.specs.Batches.{AreOffersOf, dests_wanted}
 use Rattle.vale_parts.specs.Offering.{offers_at}
 use Rattle.vale_parts.proofs.OffersKept.{offers_start}
 use Rattle.vale_port.specs.Kept.{bytes_of}
-use Rattle.vale_core.specs.BookView.{AreOf}
-use Rattle.vale_core.specs.Offering.{OffersState, OffersStand}
-use Rattle.vale_core.specs.Recorded.{Recorded, standing, entry_of, after_ask, after_outcome, IsRefusal}
-use Rattle.vale_core.specs.Sending.{IsSent}
-use Rattle.vale_core.specs.declared.asking.PortSeen.{PortSeen}
+use Rattle.vale_book.specs.BookView.{AreOf}
+use Rattle.vale_book.specs.Offering.{OffersState, OffersStand}
+use Rattle.vale_book.specs.Recorded.{Recorded, standing, entry_of, after_ask, after_outcome, IsRefusal}
+use Rattle.vale_book.specs.Sending.{IsSent}
+use Rattle.vale_book.specs.declared.asking.PortSeen.{PortSeen}
 use Rattle.vale_drive.specs.declared.users.Sent.{Sent}
 use Rattle.vale_drive.specs.declared.users.User.{User}
 use Rattle.vale_drive.specs.Users.{FitsBuffer, HasOffers, AreHeldAs, AreSame, IsRoom, HasOwn, IsUser, IsAsker, HasSent, contents, sent_of, wants_left, number_of, is_settled_user}

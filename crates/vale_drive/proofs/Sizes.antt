@@ -7,7 +7,7 @@ use Rattle.nm_types.specs.declared.fault.OpenFault.TheVariants.{BadSize}
 use Rattle.vale_entry.specs.declared.entry.Reply.TheVariants.{Opened}
 use Rattle.vale_entry.specs.Opening.{is_ring_size, are_sizes, name_refusal, open_refusal}
 use Rattle.vale_entry.specs.Legal.{Standing, Outcome, can_open, open_step_by}
-use Rattle.vale_core.proofs.RingSizes.{none-first}
+use Rattle.vale_book.proofs.RingSizes.{none-first}
 use Rattle.vale_entry.specs.World.{Port}
 use Rattle.vale_drive.specs.Opening.{most_given}
 

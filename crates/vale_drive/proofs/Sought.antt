@@ -23,7 +23,7 @@ use Rattle.vale_own.specs.Asker.{asks, asker_of, is_asker, owner_of_lot, owner_o
 use Rattle.vale_own.specs.Own.{HeldLot, own_of, lot_of_lease, is_offer_by}
 use Rattle.vale_own.proofs.Asking.{own-tells}
 use Rattle.vale_own.proofs.Reading.{offers-left}
-use Rattle.vale_core.specs.Recorded.{Recorded, standing}
+use Rattle.vale_book.specs.Recorded.{Recorded, standing}
 use Rattle.vale_drive.specs.declared.users.Sent.{Sent}
 use Rattle.vale_drive.specs.declared.users.User.{User}
 use Rattle.vale_drive.specs.DriveView.{AreUsersOf}

@@ -10,7 +10,7 @@ use Rattle.vale_entry.proofs.Counting.{count_of-cons, count_of-append, contains-
 use Rattle.vale_entry.proofs.Each.{each-append}
 use Rattle.vale_entry.proofs.ListLaws.{each-at}
 use Rattle.vale_entry.proofs.Removals.{length-remove_at}
-use Rattle.vale_core.specs.BookView.{IsBufferOf, AreOf}
+use Rattle.vale_book.specs.BookView.{IsBufferOf, AreOf}
 use Rattle.vale_drive.specs.Buffers.{is_buffer, holds, holds_all, IsTaken, times, AreTaken}
 use Rattle.vale_drive.specs.Users.{AreSame}
 use Rattle.vale_drive.proofs.Places.{found-at}

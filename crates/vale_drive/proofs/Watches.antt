@@ -18,9 +18,9 @@ use Rattle.vale_entry.specs.Monitors.{can_watch}
 use Rattle.nm_types.specs.declared.fault.SyncFault.{SyncFault}
 use Rattle.nm_types.specs.declared.id.Side.{Side}
 use Rattle.vale_fabric.proofs.Making.{Steps}
-use Rattle.vale_core.specs.Recorded.{Recorded, standing, after_ask, IsRefusal, IsRecordedAs}
-use Rattle.vale_core.specs.WatchAnswers.{IsUnwatched}
-use Rattle.vale_core.specs.declared.asking.PortSeen.{PortSeen}
+use Rattle.vale_book.specs.Recorded.{Recorded, standing, after_ask, IsRefusal, IsRecordedAs}
+use Rattle.vale_book.specs.WatchAnswers.{IsUnwatched}
+use Rattle.vale_book.specs.declared.asking.PortSeen.{PortSeen}
 use Rattle.vale_drive.specs.declared.users.User.{User}
 use Rattle.vale_drive.specs.Replies.{watch_answer}
 use Rattle.vale_drive.specs.Users.{IsUser, IsAsker}

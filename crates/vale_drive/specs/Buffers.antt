@@ -3,7 +3,7 @@ use Rattle.std.specs.Prelude.{ℕ, Bool, ◌≡◌, ◌+◌, ◌==◌, ◌&&◌,
 use Rattle.std.specs.List.{list_any, list_all, remove}
 use Rattle.nm_region.specs.Buffers.{Buffer, indices_of}
 use Rattle.vale_entry.specs.Holdings.{are_distinct}
-use Rattle.vale_core.specs.BookView.{AreOf}
+use Rattle.vale_book.specs.BookView.{AreOf}
 
 abbrev pub is_buffer : ℕ → Buffer → Bool
 is_buffer index buf = buf.index == index

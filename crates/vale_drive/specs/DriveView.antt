@@ -1,10 +1,10 @@
 -- What a drive keeps: each session of its book has outside the book what is its own.
 use Rattle.std.specs.Prelude.{ℕ, ◌≡◌, ◌<◌, List, Some, length, map, slice_get, Option}
 use Rattle.std.specs.List.{AllByRecursion}
-use Rattle.vale_core.specs.declared.asking.PortSeen.{PortSeen}
+use Rattle.vale_book.specs.declared.asking.PortSeen.{PortSeen}
 use Rattle.vale_entry.specs.World.{Port}
 use Rattle.vale_entry.specs.Legal.{IsLegal}
-use Rattle.vale_core.specs.Recorded.{Recorded, standing}
+use Rattle.vale_book.specs.Recorded.{Recorded, standing}
 use Rattle.vale_drive.specs.declared.drive.Drive.TheInside.{Inside}
 use Rattle.vale_drive.specs.declared.users.User.{User}
 use Rattle.vale_drive.specs.Users.{id_of_user, IsUser, IsAsker}

@@ -5,7 +5,7 @@ use Rattle.std.specs.declared.alloc.Global.{Global}
 use Rattle.nm_region.specs.Buffers.{Buffer}
 use Rattle.vale_line.specs.declared.got.Got.{Got}
 use Rattle.vale_line.specs.Gots.{buffers_of}
-use Rattle.vale_core.specs.Offering.{OffersState}
+use Rattle.vale_book.specs.Offering.{OffersState}
 use Rattle.vale_drive.specs.declared.users.User.{User}
 use Rattle.vale_drive.specs.Buffers.{AreTaken}
 use Rattle.vale_drive.specs.Copies.{parts_in}

@@ -4,7 +4,7 @@ use Rattle.std.specs.List.{AllByRecursion}
 use Rattle.nm_region.specs.Buffers.{indices_of}
 use Rattle.vale_line.specs.Leased.{Leased}
 use Rattle.vale_port.specs.Kept.{kept_gots}
-use Rattle.vale_core.specs.BookView.{AreOf}
+use Rattle.vale_book.specs.BookView.{AreOf}
 use Rattle.vale_line.specs.Gots.{buffers_of}
 use Rattle.vale_drive.specs.Users.{FitsBuffer}
 

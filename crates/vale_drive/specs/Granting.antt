@@ -9,8 +9,8 @@ use Rattle.vale_entry.specs.declared.entry.Reply.{Reply}
 use Rattle.vale_entry.specs.declared.entry.Reply.TheVariants.{Shared}
 use Rattle.vale_entry.specs.Legal.{step, reply_of}
 use Rattle.vale_port.specs.Kept.{bytes_of}
-use Rattle.vale_core.specs.Offering.{OffersStand}
-use Rattle.vale_core.specs.Recorded.{Recorded, standing, after_ask, HasRoom}
+use Rattle.vale_book.specs.Offering.{OffersStand}
+use Rattle.vale_book.specs.Recorded.{Recorded, standing, after_ask, HasRoom}
 use Rattle.vale_fabric.specs.Leases.{IsLeaseBy}
 use Rattle.vale_drive.specs.declared.users.Sent.{Sent}
 use Rattle.vale_drive.specs.declared.users.User.{User}

@@ -14,12 +14,12 @@ use Rattle.vale_entry.specs.declared.entry.Reply.{Reply}
 use Rattle.vale_entry.specs.declared.entry.Reply.TheVariants as replies
 use Rattle.vale_entry.specs.Pipe.{indices_of, frames_of_items, is_pipe_item}
 use Rattle.vale_port.specs.Kept.{bytes_of}
-use Rattle.vale_core.specs.BookView.{AreOf}
-use Rattle.vale_core.specs.Offering.{OffersState}
-use Rattle.vale_core.specs.Putting.{items_of}
-use Rattle.vale_core.specs.declared.asking.PortSeen.{PortSeen}
-use Rattle.vale_core.specs.declared.fault.PutFault.{PutFault}
-use Rattle.vale_core.specs.declared.fault.PutFault.TheVariants.{PeerGone, RecordFull, NoMemory}
+use Rattle.vale_book.specs.BookView.{AreOf}
+use Rattle.vale_book.specs.Offering.{OffersState}
+use Rattle.vale_book.specs.Putting.{items_of}
+use Rattle.vale_book.specs.declared.asking.PortSeen.{PortSeen}
+use Rattle.vale_book.specs.declared.fault.PutFault.{PutFault}
+use Rattle.vale_book.specs.declared.fault.PutFault.TheVariants.{PeerGone, RecordFull, NoMemory}
 use Rattle.vale_drive.specs.declared.users.User.{User}
 use Rattle.vale_drive.specs.declared.putting.PutRoom.{PutRoom}
 use Rattle.vale_drive.specs.Buffers.{holds, holds_all}

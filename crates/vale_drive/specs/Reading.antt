@@ -1,8 +1,8 @@
 -- A sync, or a get, of a session.
 use Rattle.std.specs.Prelude.{ℕ, Bool, true, false, ◌≡◌, ◌≤◌, ◌&&◌, ◌||◌, nat_le, if◌then◌else◌, List, [], length, vec_capacity}
 use Rattle.nm_types.specs.Names.{is_switch_port_name, is_pipe_name, is_monitor_name}
-use Rattle.vale_core.specs.declared.asking.PortSeen.{PortSeen}
-use Rattle.vale_core.specs.declared.asking.Ready.{Ready}
+use Rattle.vale_book.specs.declared.asking.PortSeen.{PortSeen}
+use Rattle.vale_book.specs.declared.asking.Ready.{Ready}
 use Rattle.vale_drive.specs.declared.users.User.{User}
 use Rattle.vale_drive.specs.declared.reading.ReadRoom.{ReadRoom}
 use Rattle.vale_drive.specs.Buffers.{holds_all}

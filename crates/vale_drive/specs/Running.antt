@@ -2,7 +2,7 @@
 use Rattle.std.specs.Prelude.{ℕ, ◌≡◌, List, fold, take, slice_get, Some}
 use Rattle.nm_types.specs.declared.fault.StepFault.{StepFault}
 use Rattle.vale_entry.specs.declared.entry.Ask.{Ask}
-use Rattle.vale_core.specs.Recorded.{Recorded, after_ask, IsRefusal}
+use Rattle.vale_book.specs.Recorded.{Recorded, after_ask, IsRefusal}
 
 -- the record after asks one after another, those passed over that are not enabled
 abbrev pub after_asks : Recorded → List Ask → Recorded

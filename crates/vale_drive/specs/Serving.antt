@@ -4,7 +4,7 @@ use Rattle.nm_types.specs.declared.fault.StepFault.{StepFault}
 use Rattle.vale_entry.specs.declared.entry.Ask.{Ask}
 use Rattle.vale_entry.specs.declared.entry.Reply.{Reply}
 use Rattle.vale_entry.specs.Legal.{reply_to}
-use Rattle.vale_core.specs.Recorded.{Recorded, standing, after_ask, IsRefusal, HasRoom}
+use Rattle.vale_book.specs.Recorded.{Recorded, standing, after_ask, IsRefusal, HasRoom}
 
 -- the definitions' reply, none where it is not enabled, and its entry, for which there was room; or
 -- what is full, and no entry

@@ -3,7 +3,7 @@ use Rattle.std.specs.Prelude.{ℕ, Bool, true, false, ◌≡◌, ◌||◌, is_so
 use Rattle.std.specs.List.{AllByRecursion}
 use Rattle.vale_entry.specs.World.{Port, open_port}
 use Rattle.vale_entry.specs.Closing.{shutting_port}
-use Rattle.vale_core.specs.Recorded.{Recorded, standing}
+use Rattle.vale_book.specs.Recorded.{Recorded, standing}
 use Rattle.vale_drive.specs.declared.users.User.{User}
 use Rattle.vale_drive.specs.Users.{is_settled_user}
 use Rattle.vale_drive.specs.Winding.{IsNextMade}

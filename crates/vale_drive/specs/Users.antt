@@ -12,12 +12,12 @@ use Rattle.vale_entry.specs.Legal.{is_met}
 use Rattle.vale_own.specs.Own.{Own, HeldLot, own_of}
 use Rattle.vale_parts.specs.Batches.{AreOffersOf}
 use Rattle.vale_port.specs.Kept.{kept_gots, world_frames, bytes_of}
-use Rattle.vale_core.specs.Asking.{IsSeen}
-use Rattle.vale_core.specs.Offering.{OffersState, IsOfferBy}
-use Rattle.vale_core.specs.declared.asking.PortSeen.{PortSeen}
+use Rattle.vale_book.specs.Asking.{IsSeen}
+use Rattle.vale_book.specs.Offering.{OffersState, IsOfferBy}
+use Rattle.vale_book.specs.declared.asking.PortSeen.{PortSeen}
 use Rattle.vale_batch.specs.Wants.{Wanted}
-use Rattle.vale_core.specs.BookView.{AreOf}
-use Rattle.vale_core.specs.Recorded.{Recorded, standing}
+use Rattle.vale_book.specs.BookView.{AreOf}
+use Rattle.vale_book.specs.Recorded.{Recorded, standing}
 use Rattle.vale_fabric.specs.Leases.{WasGranted}
 use Rattle.vale_drive.specs.declared.users.User.{User}
 use Rattle.vale_drive.specs.declared.users.Sent.{Sent}

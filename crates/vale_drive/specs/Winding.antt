@@ -9,7 +9,7 @@ use Rattle.vale_entry.specs.declared.entry.Entry.{Entry}
 use Rattle.vale_entry.specs.World.{Port, Offer}
 use Rattle.vale_entry.specs.Legal.{Standing, Outcome, standing_of, step}
 use Rattle.vale_own.specs.Own.{HeldLot, own_of}
-use Rattle.vale_core.specs.Recorded.{Recorded, standing, with_step}
+use Rattle.vale_book.specs.Recorded.{Recorded, standing, with_step}
 
 -- a drive has no ring in which a chain of buffers could be found
 abbrev pub no_chain : Chain

@@ -2,7 +2,7 @@ ghost use Rattle.std.specs.Prelude.{◌≡◌, None, Ok, IfSome, IfNone};
 ghost use Rattle.vale_entry.specs.declared.entry.Ask.TheVariants as asks;
 ghost use Rattle.vale_entry.specs.World.{open_port};
 ghost use Rattle.vale_entry.specs.Closing.{shutting_port};
-ghost use Rattle.vale_core.specs.Recorded.{standing};
+ghost use Rattle.vale_book.specs.Recorded.{standing};
 ghost use Rattle.vale_drive.specs.DriveView.{AreUsersOf, IsOwner};
 ghost use Rattle.vale_drive.specs.Serving.{IsServed};
 
@@ -20,7 +20,7 @@ use crate::users::{User, place_of};
 use crate::watching::watch;
 use nm_types::{Batch, Chain, LeaseId, Name, PortId, SessionId, Side, Sides, StepFault, SyncFault};
 use std::alloc::Global;
-use vale_core::{Book, PortSeen};
+use vale_book::{Book, PortSeen};
 use vale_entry::{Item, Reply};
 
 /// What stands of an open port, and the place of its session.

@@ -5,7 +5,7 @@ ghost use Rattle.vale_drive.specs.Serving.{IsServed};
 use crate::users::User;
 use nm_types::StepFault;
 use std::alloc::Global;
-use vale_core::Book;
+use vale_book::Book;
 use vale_entry::Reply;
 
 /// A user comes.

@@ -6,7 +6,7 @@ ghost use Rattle.vale_drive.specs.Users.{IsUser, has_lease, is_lease};
 
 use crate::users::User;
 use nm_types::LeaseId;
-use vale_core::Book;
+use vale_book::Book;
 use vale_entry::Reply;
 use vale_line::Lease;
 

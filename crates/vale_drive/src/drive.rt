@@ -2,7 +2,7 @@ ghost use Rattle.std.specs.Prelude.{◌≡◌, ◌<◌, ◌≤◌, ◌^◌, [], 
 ghost use Rattle.nm_types.specs.Buffers.{IsPoolSize};
 ghost use Rattle.vale_entry.specs.Legal.{IsLegal};
 ghost use Rattle.vale_entry.specs.Room.{promised_of};
-ghost use Rattle.vale_core.specs.Recorded.{standing, HadRoom};
+ghost use Rattle.vale_book.specs.Recorded.{standing, HadRoom};
 ghost use Rattle.vale_drive.specs.Running.{after_asks, IsStopped};
 ghost use Rattle.vale_drive.specs.Serving.{IsServed};
 ghost use Rattle.vale_drive.specs.Winding.{IsEnded};
@@ -13,7 +13,7 @@ use crate::winding::wind_up;
 use nm_types::{Limits, NoMemory, StepFault};
 use std::alloc::Global;
 use std::marker::Model;
-use vale_core::Book;
+use vale_book::Book;
 use vale_entry::{Ask, History, Reply};
 
 /// A book joined with what is outside it: the buffers of the sessions, their leases, and what of
@@ -27,7 +27,7 @@ pub struct Drive {
 }
 
 impl Model for Drive {
-    ghost use Rattle.vale_core.specs.Recorded.{Recorded};
+    ghost use Rattle.vale_book.specs.Recorded.{Recorded};
 
     ghost Value = { Recorded };
 

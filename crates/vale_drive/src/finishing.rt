@@ -3,7 +3,7 @@ ghost use Rattle.vale_entry.specs.declared.entry.Ask.TheVariants as asks;
 ghost use Rattle.vale_entry.specs.declared.entry.Reply.TheVariants as replies;
 ghost use Rattle.vale_entry.specs.Closing.{shutting_port};
 ghost use Rattle.vale_entry.specs.Legal.{IsLegal};
-ghost use Rattle.vale_core.specs.Recorded.{standing};
+ghost use Rattle.vale_book.specs.Recorded.{standing};
 ghost use Rattle.vale_drive.specs.Buffers.{holds_all};
 ghost use Rattle.vale_drive.specs.Finishing.{HasRoomForPort, HasTakenForPort};
 ghost use Rattle.vale_drive.specs.Serving.{IsServed};
@@ -13,7 +13,7 @@ use crate::buffers::{holds_all, take_out};
 use crate::users::User;
 use nm_region::Buf;
 use nm_types::{Chain, PortId};
-use vale_core::{Book, PortSeen};
+use vale_book::{Book, PortSeen};
 use vale_entry::Reply;
 
 /// Tells whether a port may go with these buffers of its session: as many as that is due for it.

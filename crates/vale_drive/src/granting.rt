@@ -2,7 +2,7 @@ ghost use Rattle.std.specs.Prelude.{ℕ, ◌≡◌, ◌≤◌, ◌+◌, length, 
 ghost use Rattle.std.specs.Prelude.{position};
 ghost use Rattle.vale_entry.specs.declared.entry.Ask.TheVariants as asks;
 ghost use Rattle.vale_entry.specs.Legal.{IsLegal};
-ghost use Rattle.vale_core.specs.Recorded.{standing};
+ghost use Rattle.vale_book.specs.Recorded.{standing};
 ghost use Rattle.vale_drive.specs.Filling.{IsFillable, IsFilledWith};
 ghost use Rattle.vale_drive.specs.Granting.{CanGrant, HasGranted, AddsLease};
 ghost use Rattle.vale_drive.specs.Serving.{IsServed};
@@ -12,7 +12,7 @@ use crate::sending::keep;
 use crate::users::{Sent, User};
 use nm_types::PortId;
 use vale_batch::Want;
-use vale_core::{Book, Granted};
+use vale_book::{Book, Granted};
 use vale_entry::Reply;
 use vale_line::Lease;
 

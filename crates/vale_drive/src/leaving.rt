@@ -5,7 +5,7 @@ ghost use Rattle.vale_drive.specs.Serving.{IsServed};
 
 use crate::users::{User, place_of};
 use nm_types::SessionId;
-use vale_core::Book;
+use vale_book::Book;
 use vale_entry::Reply;
 
 /// A session leaves, if it is there, is settled and has no port.

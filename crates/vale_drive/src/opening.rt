@@ -3,7 +3,7 @@ ghost use Rattle.nm_types.specs.Names.{is_name};
 ghost use Rattle.vale_entry.specs.declared.entry.Ask.TheVariants as asks;
 ghost use Rattle.vale_entry.specs.World.{is_session};
 ghost use Rattle.vale_entry.specs.Legal.{IsLegal};
-ghost use Rattle.vale_core.specs.Recorded.{standing};
+ghost use Rattle.vale_book.specs.Recorded.{standing};
 ghost use Rattle.vale_drive.specs.Opening.{unopened, most_given, CanTake, TakesIn, HasTaken};
 ghost use Rattle.vale_drive.specs.Serving.{IsServed};
 ghost use Rattle.vale_drive.specs.Users.{IsUser, SameUser, IsRoom};
@@ -13,7 +13,7 @@ use crate::users::User;
 use nm_region::Buf;
 use nm_types::{Kind, MAX_EXTRA, MAX_RING, Name, NoMemory, OpenFault, StepFault};
 use std::alloc::Global;
-use vale_core::{Book, Opened};
+use vale_book::{Book, Opened};
 use vale_entry::Reply;
 
 /// The most buffers that a session holds for one port: for two rings, and extra ones.

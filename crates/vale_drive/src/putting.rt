@@ -9,7 +9,7 @@ ghost use Rattle.vale_entry.specs.World.{open_port};
 ghost use Rattle.vale_entry.specs.Holdings.{contains, are_distinct};
 ghost use Rattle.vale_entry.specs.Legal.{IsLegal};
 ghost use Rattle.vale_entry.specs.Pipe.{indices_of as item_indices, is_pipe_item};
-ghost use Rattle.vale_core.specs.Recorded.{standing};
+ghost use Rattle.vale_book.specs.Recorded.{standing};
 ghost use Rattle.vale_drive.specs.Buffers.{holds, holds_all};
 ghost use Rattle.vale_drive.specs.Putting.{is_in, is_held, bytes_in, can_put, unput};
 ghost use Rattle.vale_drive.specs.Putting.{AreFramed, IsPutRoom, HasPut};
@@ -24,7 +24,7 @@ use crate::users::User;
 use nm_region::Buf;
 use nm_types::{BUFFER_BYTES, MAX_BATCH, NoMemory, PortId, StepFault};
 use std::alloc::{AllocError, Global};
-use vale_core::{Book, PortSeen, Put, PutFault};
+use vale_book::{Book, PortSeen, Put, PutFault};
 use vale_entry::{Dest, History, Item, Items, Reply};
 use vale_line::Got;
 

@@ -7,9 +7,9 @@ ghost use Rattle.vale_entry.specs.declared.entry.Reply.TheVariants as replies;
 ghost use Rattle.vale_entry.specs.World.{open_port};
 ghost use Rattle.vale_entry.specs.Legal.{IsLegal, IsEnabled, reply_to};
 ghost use Rattle.vale_parts.specs.Batches.{dests_wanted};
-ghost use Rattle.vale_core.specs.BookView.{AreOf};
-ghost use Rattle.vale_core.specs.Reading.{read_ask, IsGiven, IsOffered};
-ghost use Rattle.vale_core.specs.Recorded.{standing, after_ask, IsRefusal, HasRoom};
+ghost use Rattle.vale_book.specs.BookView.{AreOf};
+ghost use Rattle.vale_book.specs.Reading.{read_ask, IsGiven, IsOffered};
+ghost use Rattle.vale_book.specs.Recorded.{standing, after_ask, IsRefusal, HasRoom};
 ghost use Rattle.vale_drive.specs.Exchange.{HasRead, HasRoomFor};
 ghost use Rattle.vale_drive.specs.Reading.{is_read_so, can_read, copies_of, IsReadRoom};
 ghost use Rattle.vale_drive.specs.Replies.{last_dests};
@@ -24,7 +24,7 @@ use crate::users::User;
 use nm_region::Buf;
 use nm_types::{Name, PortId, StepFault};
 use std::alloc::{AllocError, Global};
-use vale_core::{Book, PortSeen, Ready, Synced};
+use vale_book::{Book, PortSeen, Ready, Synced};
 use vale_entry::{Dest, History, Reply};
 
 /// Memory for the buffers that come back, and for what a monitor is offered.

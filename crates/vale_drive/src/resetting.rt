@@ -3,14 +3,14 @@ ghost use Rattle.nm_types.specs.SyncFaults.{is_check_fault};
 ghost use Rattle.vale_entry.specs.declared.entry.Ask.TheVariants as asks;
 ghost use Rattle.vale_entry.specs.World.{Port, open_port};
 ghost use Rattle.vale_entry.specs.Legal.{IsLegal, has_ring, can_reset, fits_fault};
-ghost use Rattle.vale_core.specs.Asking.{IsSeen};
-ghost use Rattle.vale_core.specs.Recorded.{standing};
+ghost use Rattle.vale_book.specs.Asking.{IsSeen};
+ghost use Rattle.vale_book.specs.Recorded.{standing};
 ghost use Rattle.vale_drive.specs.Serving.{IsServed};
 ghost use Rattle.vale_drive.specs.Users.{IsUser, IsAsker};
 
 use crate::users::User;
 use nm_types::{PortId, Side, StepFault, SyncFault};
-use vale_core::{Book, PortSeen};
+use vale_book::{Book, PortSeen};
 use vale_entry::Reply;
 
 /// Tells whether a port has a ring on this side: a monitor has no transmit ring.

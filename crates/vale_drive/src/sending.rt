@@ -5,7 +5,7 @@ ghost use Rattle.vale_entry.specs.declared.entry.Ask.TheVariants as asks;
 ghost use Rattle.vale_entry.specs.World.{open_port};
 ghost use Rattle.vale_entry.specs.Legal.{IsLegal};
 ghost use Rattle.vale_port.specs.Kept.{bytes_of};
-ghost use Rattle.vale_core.specs.Recorded.{standing};
+ghost use Rattle.vale_book.specs.Recorded.{standing};
 ghost use Rattle.vale_drive.specs.Replies.{dests_in, last_dests};
 ghost use Rattle.vale_drive.specs.Serving.{IsServed};
 ghost use Rattle.vale_drive.specs.Users.{IsUser, IsAsker, contents, is_settled_user, HasSent};
@@ -13,7 +13,7 @@ ghost use Rattle.vale_drive.specs.Users.{IsUser, IsAsker, contents, is_settled_u
 use crate::users::{Sent, User};
 use nm_types::{Batch, NoMemory, PortId, StepFault};
 use std::alloc::{AllocError, Global};
-use vale_core::{Book, Offers, PortSeen};
+use vale_book::{Book, Offers, PortSeen};
 use vale_entry::{Dest, Dests, History, Reply};
 
 /// The destinations that a reply tells.

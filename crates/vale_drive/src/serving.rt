@@ -10,7 +10,7 @@ use crate::leaving::leave;
 use crate::users::User;
 use nm_types::StepFault;
 use std::alloc::Global;
-use vale_core::Book;
+use vale_book::Book;
 use vale_entry::{Ask, Reply};
 
 /// Makes one ask, if it is enabled.

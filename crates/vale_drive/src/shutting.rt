@@ -2,13 +2,13 @@ ghost use Rattle.std.specs.Prelude.{Ok};
 ghost use Rattle.vale_entry.specs.declared.entry.Ask.TheVariants as asks;
 ghost use Rattle.vale_entry.specs.World.{open_port};
 ghost use Rattle.vale_entry.specs.Legal.{IsLegal};
-ghost use Rattle.vale_core.specs.Recorded.{standing};
+ghost use Rattle.vale_book.specs.Recorded.{standing};
 ghost use Rattle.vale_drive.specs.Serving.{IsServed};
 ghost use Rattle.vale_drive.specs.Users.{IsUser, IsMine};
 
 use crate::users::User;
 use nm_types::PortId;
-use vale_core::Book;
+use vale_book::Book;
 use vale_entry::Reply;
 
 /// A settled session shuts its port.

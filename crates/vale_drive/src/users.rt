@@ -7,7 +7,7 @@ ghost use Rattle.vale_drive.specs.Users.{is_next_to, has_next, has_some_lease, H
 use nm_region::Buf;
 use nm_types::{LeaseId, PortId, SessionId};
 use std::alloc::{AllocError, Global};
-use vale_core::Offers;
+use vale_book::Offers;
 use vale_line::Lease;
 
 /// A session with what it has outside the book.

@@ -3,14 +3,14 @@ ghost use Rattle.nm_types.specs.Names.{is_name, is_monitor_name};
 ghost use Rattle.vale_entry.specs.declared.entry.Ask.TheVariants as asks;
 ghost use Rattle.vale_entry.specs.World.{open_port};
 ghost use Rattle.vale_entry.specs.Legal.{IsLegal};
-ghost use Rattle.vale_core.specs.Recorded.{standing};
+ghost use Rattle.vale_book.specs.Recorded.{standing};
 ghost use Rattle.vale_drive.specs.Replies.{watch_answer};
 ghost use Rattle.vale_drive.specs.Serving.{IsServed};
 ghost use Rattle.vale_drive.specs.Users.{IsUser, IsAsker};
 
 use crate::users::User;
 use nm_types::{Kind, Name, PortId, Sides, StepFault, WatchFault};
-use vale_core::{Book, PortSeen};
+use vale_book::{Book, PortSeen};
 use vale_entry::Reply;
 
 /// What is answered of a watch.

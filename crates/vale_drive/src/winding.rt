@@ -4,7 +4,7 @@ ghost use Rattle.std.specs.List.{AllByRecursion};
 ghost use Rattle.nm_region.specs.Buffers.{indices_of};
 ghost use Rattle.vale_entry.specs.World.{open_port};
 ghost use Rattle.vale_entry.specs.Closing.{shutting_port};
-ghost use Rattle.vale_core.specs.Recorded.{standing};
+ghost use Rattle.vale_book.specs.Recorded.{standing};
 ghost use Rattle.vale_drive.specs.DriveView.{AreUsersOf, IsOwner};
 ghost use Rattle.vale_drive.specs.Turns.{has_offer, HasGranted, IsQuiet, first_id, is_there};
 ghost use Rattle.vale_drive.specs.Turns.{IsGrantTurn, IsDoneTurn, IsPortTurn, IsLeaveTurn};
@@ -16,7 +16,7 @@ use crate::leaving::leave;
 use crate::users::User;
 use nm_region::Buf;
 use nm_types::{Chain, PortId};
-use vale_core::{Book, PortSeen};
+use vale_book::{Book, PortSeen};
 
 /// The most buffers that a session holds for one port.
 const MOST_DUE: usize = 3072;

@@ -6,7 +6,7 @@ use Rattle.nm_turn.proofs.Joining.{values-numbered}
 use Rattle.vale_entry.specs.declared.entry.Ask.{Ask}
 use Rattle.vale_entry.specs.declared.entry.Entry.{Entry}
 use Rattle.vale_own.specs.Asker.{asks}
-use Rattle.vale_core.specs.Recorded.{standing}
+use Rattle.vale_book.specs.Recorded.{standing}
 use Rattle.vale_fabric.specs.declared.kept.Fixed.{Fixed}
 use Rattle.vale_fabric.specs.Fabrics.{Knowing, record_in, MakesNone, MayAsk}
 

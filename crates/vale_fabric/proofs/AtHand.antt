@@ -28,10 +28,10 @@ use Rattle.vale_own.proofs.Reading.{offers-left}
 use Rattle.vale_parts.specs.Batches.{AreOffersOf}
 use Rattle.vale_parts.specs.Offering.{offers_at}
 use Rattle.vale_port.specs.Kept.{bytes_of}
-use Rattle.vale_core.specs.Monitored.{IsOfferedTo}
-use Rattle.vale_core.specs.Putting.{copied}
-use Rattle.vale_core.specs.Offering.{OffersState}
-use Rattle.vale_core.specs.Recorded.{Recorded, standing, after_ask, entry_of}
+use Rattle.vale_book.specs.Monitored.{IsOfferedTo}
+use Rattle.vale_book.specs.Putting.{copied}
+use Rattle.vale_book.specs.Offering.{OffersState}
+use Rattle.vale_book.specs.Recorded.{Recorded, standing, after_ask, entry_of}
 use Rattle.vale_fabric.specs.declared.kept.Fixed.{Fixed}
 use Rattle.vale_fabric.specs.Fabrics.{Knowing, MayAsk}
 use Rattle.vale_fabric.specs.Settling.{HasBytes, IsAtHand}

@@ -16,7 +16,7 @@ use Rattle.vale_own.specs.OwnEntries.{nothing_own}
 use Rattle.vale_own.proofs.Asking.{own-tells}
 use Rattle.vale_own.proofs.OwnEntry.{own-entries}
 use Rattle.vale_own.proofs.OwnKept.{legal-split}
-use Rattle.vale_core.specs.Recorded.{standing}
+use Rattle.vale_book.specs.Recorded.{standing}
 use Rattle.vale_fabric.specs.declared.kept.Fixed.{Fixed}
 use Rattle.vale_fabric.specs.Fabrics.{Knowing, before_in, earlier, entry_by, Makes, MayAsk}
 

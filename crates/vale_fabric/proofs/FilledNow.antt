@@ -25,9 +25,9 @@ use Rattle.vale_own.proofs.Single.{only-lots}
 use Rattle.vale_line.specs.Leased.{Leased}
 use Rattle.vale_port.specs.Ports.{frames_of_seat}
 use Rattle.vale_port.specs.Seat.{LotSeat, lease_among}
-use Rattle.vale_core.specs.Granting.{lease_id}
-use Rattle.vale_core.specs.Offering.{IsFilledIn}
-use Rattle.vale_core.specs.Recorded.{Recorded, standing}
+use Rattle.vale_book.specs.Granting.{lease_id}
+use Rattle.vale_book.specs.Offering.{IsFilledIn}
+use Rattle.vale_book.specs.Recorded.{Recorded, standing}
 use Rattle.vale_fabric.specs.declared.kept.Fixed.{Fixed}
 use Rattle.vale_fabric.specs.Fabrics.{Knowing, seen_in, MayAsk}
 use Rattle.vale_fabric.specs.Leases.{WasGranted, IsFilledBy, MayFill, grants_to, is_grant_to, is_held_as}

@@ -31,9 +31,9 @@ use Rattle.vale_line.specs.Leased.{Leased, contents}
 use Rattle.vale_line.specs.declared.got.Got.{Got}
 use Rattle.vale_line.specs.Gots.{frames_in}
 use Rattle.vale_port.specs.Kept.{bytes_of}
-use Rattle.vale_core.specs.Granting.{given_by, lease_id}
-use Rattle.vale_core.specs.Offering.{OffersState}
-use Rattle.vale_core.specs.Recorded.{Recorded, standing, room_by}
+use Rattle.vale_book.specs.Granting.{given_by, lease_id}
+use Rattle.vale_book.specs.Offering.{OffersState}
+use Rattle.vale_book.specs.Recorded.{Recorded, standing, room_by}
 use Rattle.vale_fabric.specs.declared.kept.Fixed.{Fixed}
 use Rattle.vale_fabric.specs.declared.settling.Shares.{Shares}
 use Rattle.vale_fabric.specs.Fabrics.{Knowing, record_in, seen_in, before_in, earlier, entry_by, Makes, Answers}

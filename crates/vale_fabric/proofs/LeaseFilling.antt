@@ -18,8 +18,8 @@ use Rattle.vale_line.specs.Leased.{Leased, contents, first_size, next_of, with_f
 use Rattle.vale_own.specs.Own.{own_of}
 use Rattle.vale_port.specs.Kept.{KeptFrames, bytes_of}
 use Rattle.vale_port.specs.Ports.{sizes_of}
-use Rattle.vale_core.specs.BookView.{AreOf}
-use Rattle.vale_core.specs.Recorded.{Recorded, standing}
+use Rattle.vale_book.specs.BookView.{AreOf}
+use Rattle.vale_book.specs.Recorded.{Recorded, standing}
 use Rattle.vale_fabric.specs.Filling.{IsFilling}
 use Rattle.vale_fabric.specs.Leases.{IsHeldFor, IsToFill, IsFilledBy, WasGranted, is_held_as}
 

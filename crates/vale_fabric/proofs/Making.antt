@@ -30,8 +30,8 @@ use Rattle.vale_entry.proofs.Worlds.{count-world_of}
 use Rattle.vale_own.specs.Asker.{asks, asker_of, is_asker, is_enter}
 use Rattle.vale_own.proofs.Asking.{asks-stay}
 use Rattle.vale_own.proofs.Askers.{askers-make-steps}
-use Rattle.vale_core.specs.Recorded.{Recorded, standing, after_outcome, after_ask, entry_of, with_step, HasRoom, IsRefusal}
-use Rattle.vale_core.proofs.Comings.{enter-made}
+use Rattle.vale_book.specs.Recorded.{Recorded, standing, after_outcome, after_ask, entry_of, with_step, HasRoom, IsRefusal}
+use Rattle.vale_book.proofs.Comings.{enter-made}
 use Rattle.vale_fabric.specs.declared.kept.Fixed.{Fixed}
 use Rattle.vale_fabric.specs.Roots.{root_of}
 use Rattle.vale_fabric.specs.Fabrics.{Knowing, record_in, seen_in, before_in, earlier, MayAsk, Makes, Answers, MakesNone, Refuses}

@@ -24,7 +24,7 @@ use Rattle.vale_own.proofs.Reading.{offers-left}
 use Rattle.vale_parts.specs.Batches.{AreOffersOf}
 use Rattle.vale_parts.specs.Offering.{OffersAre, offers_at, wants_after}
 use Rattle.vale_parts.proofs.OffersKept.{first_next, offers_follow}
-use Rattle.vale_core.specs.Offering.{OffersState, OffersStand, IsOfferBy}
+use Rattle.vale_book.specs.Offering.{OffersState, OffersStand, IsOfferBy}
 use Rattle.vale_fabric.specs.Leases.{StandOf}
 use Rattle.vale_fabric.proofs.Making.{and-first, and-second}
 

@@ -16,9 +16,9 @@ use Rattle.vale_entry.proofs.Numbered.{world-numbered}
 use Rattle.vale_entry.proofs.Worlds.{count-world_of}
 use Rattle.vale_own.specs.Own.{Own, own_of}
 use Rattle.vale_own.proofs.OwnKept.{own-kept, legal-split}
-use Rattle.vale_core.specs.Offering.{OffersState, OffersStand}
+use Rattle.vale_book.specs.Offering.{OffersState, OffersStand}
 use Rattle.vale_fabric.specs.Leases.{StandOf}
-use Rattle.vale_core.specs.Recorded.{Recorded, standing, after_ask, entry_of}
+use Rattle.vale_book.specs.Recorded.{Recorded, standing, after_ask, entry_of}
 use Rattle.vale_fabric.specs.declared.kept.Fixed.{Fixed}
 use Rattle.vale_fabric.specs.Fabrics.{Knowing, seen_in}
 use Rattle.vale_fabric.specs.Steps.{IsTaken}

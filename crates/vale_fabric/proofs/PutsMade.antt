@@ -5,11 +5,11 @@ use Rattle.nm_types.specs.declared.id.PortId.{PortId}
 use Rattle.nm_types.specs.declared.fault.StepFault.TheVariants as steps
 use Rattle.vale_entry.specs.declared.entry.Ask.TheVariants.{Put}
 use Rattle.vale_entry.specs.declared.entry.Item.{Item}
-use Rattle.vale_core.specs.declared.fault.PutFault.{PutFault}
-use Rattle.vale_core.specs.declared.fault.PutFault.TheVariants.{PeerGone, RecordFull, NoMemory}
-use Rattle.vale_core.specs.declared.putting.Put.{Put as Given}
-use Rattle.vale_core.specs.PutFaults.{IfMade, IfNotMade, IsPutRefusal}
-use Rattle.vale_core.specs.Recorded.{Recorded, IsRefusal, refused_by}
+use Rattle.vale_book.specs.declared.fault.PutFault.{PutFault}
+use Rattle.vale_book.specs.declared.fault.PutFault.TheVariants.{PeerGone, RecordFull, NoMemory}
+use Rattle.vale_book.specs.declared.putting.Put.{Put as Given}
+use Rattle.vale_book.specs.PutFaults.{IfMade, IfNotMade, IsPutRefusal}
+use Rattle.vale_book.specs.Recorded.{Recorded, IsRefusal, refused_by}
 use Rattle.vale_fabric.specs.declared.kept.Fixed.{Fixed}
 use Rattle.vale_fabric.specs.Fabrics.{Knowing}
 use Rattle.vale_fabric.specs.Puts.{PutsNot, is_put_said}

@@ -8,9 +8,9 @@ use Rattle.vale_entry.specs.declared.entry.Ask.{Ask}
 use Rattle.vale_entry.specs.declared.entry.Reply.{Reply}
 use Rattle.vale_entry.specs.declared.entry.Reply.TheVariants as replies
 use Rattle.vale_entry.specs.Transcript.{is_refusal}
-use Rattle.vale_core.specs.Recorded.{Recorded, IsRecordedAs}
-use Rattle.vale_core.specs.OpenAnswers.{IsUnopened}
-use Rattle.vale_core.specs.WatchAnswers.{IsUnwatched}
+use Rattle.vale_book.specs.Recorded.{Recorded, IsRecordedAs}
+use Rattle.vale_book.specs.OpenAnswers.{IsUnopened}
+use Rattle.vale_book.specs.WatchAnswers.{IsUnwatched}
 use Rattle.vale_fabric.specs.declared.kept.Fixed.{Fixed}
 use Rattle.vale_fabric.specs.Fabrics.{Knowing, Answers}
 use Rattle.vale_fabric.specs.Ports.{OpensNot, WatchesNot, is_said}

@@ -18,7 +18,7 @@ use Rattle.vale_own.specs.Own.{own_of}
 use Rattle.vale_own.specs.OwnEntries.{own_after_entry}
 use Rattle.vale_own.proofs.OwnKept.{own-kept, legal-split}
 use Rattle.vale_own.proofs.OwnEntry.{own-entries}
-use Rattle.vale_core.specs.Recorded.{standing}
+use Rattle.vale_book.specs.Recorded.{standing}
 use Rattle.vale_fabric.specs.declared.kept.Fixed.{Fixed}
 use Rattle.vale_fabric.specs.declared.settling.Shares.{Shares}
 use Rattle.vale_fabric.specs.Roots.{root_of}

@@ -19,8 +19,8 @@ use Rattle.vale_own.specs.Own.{Own, own_of, is_offer_by}
 use Rattle.vale_own.specs.Asker.{is_enter}
 use Rattle.vale_own.proofs.OwnKept.{own-entry, legal-split}
 use Rattle.vale_own.proofs.Reading.{offers-left}
-use Rattle.vale_core.specs.Offering.{OffersState, OffersStand}
-use Rattle.vale_core.specs.Recorded.{Recorded, standing, after_ask, entry_of}
+use Rattle.vale_book.specs.Offering.{OffersState, OffersStand}
+use Rattle.vale_book.specs.Recorded.{Recorded, standing, after_ask, entry_of}
 use Rattle.vale_fabric.specs.declared.kept.Fixed.{Fixed}
 use Rattle.vale_fabric.specs.Fabrics.{Knowing, MayAsk}
 use Rattle.vale_fabric.specs.Steps.{IsTaken}

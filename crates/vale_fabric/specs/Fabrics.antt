@@ -12,7 +12,7 @@ use Rattle.vale_entry.specs.declared.entry.Reply.{Reply}
 use Rattle.vale_entry.specs.declared.entry.Entry.{Entry}
 use Rattle.vale_entry.specs.Legal.{kept_ask, session_and_reply, step, IsLegal}
 use Rattle.vale_own.specs.Asker.{asks}
-use Rattle.vale_core.specs.Recorded.{Recorded, standing, IsRefusal, HasRoom}
+use Rattle.vale_book.specs.Recorded.{Recorded, standing, IsRefusal, HasRoom}
 use Rattle.vale_fabric.specs.declared.kept.Fixed.{Fixed}
 use Rattle.vale_fabric.specs.declared.kept.Shared.{Shared}
 use Rattle.vale_fabric.specs.declared.fabric.Fabric.{Fabric}

@@ -14,9 +14,9 @@ use Rattle.vale_entry.specs.Legal.{Standing, is_met}
 use Rattle.vale_own.specs.Own.{HeldLot, own_of}
 use Rattle.vale_port.specs.Ports.{sizes_of}
 use Rattle.vale_port.specs.Kept.{bytes_of, kept_gots, world_frames}
-use Rattle.vale_core.specs.BookView.{AreOf}
-use Rattle.vale_core.specs.Offering.{OffersState, OffersStand, IsLeaseOf}
-use Rattle.vale_core.specs.Recorded.{Recorded, standing}
+use Rattle.vale_book.specs.BookView.{AreOf}
+use Rattle.vale_book.specs.Offering.{OffersState, OffersStand, IsLeaseOf}
+use Rattle.vale_book.specs.Recorded.{Recorded, standing}
 use Rattle.vale_fabric.specs.declared.kept.Fixed.{Fixed}
 use Rattle.vale_fabric.specs.Fabrics.{Knowing, seen_in}
 

@@ -8,10 +8,10 @@ use Rattle.nm_types.specs.declared.fault.WatchFault.TheVariants.{NoTarget, Watch
 use Rattle.vale_entry.specs.declared.entry.Ask.{Ask}
 use Rattle.vale_entry.specs.declared.entry.Reply.TheVariants as replies
 use Rattle.vale_entry.specs.Legal.{reply_to}
-use Rattle.vale_core.specs.declared.opening.Opened.{Opened}
-use Rattle.vale_core.specs.BookView.{AreOf}
-use Rattle.vale_core.specs.OpenAnswers.{ByFault}
-use Rattle.vale_core.specs.Recorded.{Recorded, standing}
+use Rattle.vale_book.specs.declared.opening.Opened.{Opened}
+use Rattle.vale_book.specs.BookView.{AreOf}
+use Rattle.vale_book.specs.OpenAnswers.{ByFault}
+use Rattle.vale_book.specs.Recorded.{Recorded, standing}
 use Rattle.vale_fabric.specs.declared.kept.Fixed.{Fixed}
 use Rattle.vale_fabric.specs.Fabrics.{Knowing, seen_in, Answers, MakesNone, Refuses}
 

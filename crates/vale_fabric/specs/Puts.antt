@@ -5,8 +5,8 @@ use Rattle.nm_types.specs.declared.fault.StepFault.TheVariants as steps
 use Rattle.vale_entry.specs.declared.entry.Ask.TheVariants.{Put}
 use Rattle.vale_entry.specs.declared.entry.Item.{Item}
 use Rattle.vale_entry.specs.declared.entry.Reply.TheVariants as replies
-use Rattle.vale_core.specs.declared.fault.PutFault.{PutFault}
-use Rattle.vale_core.specs.declared.fault.PutFault.TheVariants.{PeerGone, RecordFull, NoMemory}
+use Rattle.vale_book.specs.declared.fault.PutFault.{PutFault}
+use Rattle.vale_book.specs.declared.fault.PutFault.TheVariants.{PeerGone, RecordFull, NoMemory}
 use Rattle.vale_fabric.specs.declared.kept.Fixed.{Fixed}
 use Rattle.vale_fabric.specs.Fabrics.{Knowing, Answers, Refuses}
 

@@ -14,9 +14,9 @@ use Rattle.vale_entry.specs.World.{Offer}
 use Rattle.vale_entry.specs.Legal.{Standing, step, session_and_reply, IsLegal}
 use Rattle.vale_own.specs.Own.{Own, HeldLot, own_of, is_settled_own}
 use Rattle.vale_port.specs.Kept.{bytes_of}
-use Rattle.vale_core.specs.Granting.{lease_id}
-use Rattle.vale_core.specs.Offering.{OffersState}
-use Rattle.vale_core.specs.Recorded.{standing, HasRoom}
+use Rattle.vale_book.specs.Granting.{lease_id}
+use Rattle.vale_book.specs.Offering.{OffersState}
+use Rattle.vale_book.specs.Recorded.{standing, HasRoom}
 use Rattle.vale_fabric.specs.declared.kept.Fixed.{Fixed}
 use Rattle.vale_fabric.specs.declared.settling.Shares.{Shares}
 use Rattle.vale_fabric.specs.Roots.{root_of}

@@ -4,7 +4,7 @@ use Rattle.nm_turn.specs.declared.view.TurnStage.TheVariants.{Out}
 use Rattle.nm_turn.specs.Shares.{IsWhole}
 use Rattle.nm_turn.specs.Passes.{HasAll, Knows, Told, at_stage, listed, new_since}
 use Rattle.vale_entry.specs.Legal.{IsLegal}
-use Rattle.vale_core.specs.Recorded.{Recorded}
+use Rattle.vale_book.specs.Recorded.{Recorded}
 use Rattle.vale_fabric.specs.declared.kept.Fixed.{Fixed}
 use Rattle.vale_fabric.specs.Roots.{root_of}
 use Rattle.vale_fabric.specs.Fabrics.{Knowing, record_in}

@@ -9,7 +9,7 @@ use nm_turn::Turn;
 use nm_types::{Limits, NoMemory};
 use std::alloc::Global;
 use std::sync::Wait;
-use vale_core::Book;
+use vale_book::Book;
 
 /// A book behind a turn. It must be closed, so that the book is not lost.
 pub struct Fabric {

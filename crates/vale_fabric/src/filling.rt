@@ -6,8 +6,8 @@ ghost use Rattle.nm_types.specs.Sendable.{fits_buffer};
 ghost use Rattle.vale_line.specs.Gots.{buffers_of, frames_in, IsSingle};
 ghost use Rattle.vale_line.specs.Leased.{contents, next_of, with_frame};
 ghost use Rattle.vale_port.specs.Kept.{bytes_of};
-ghost use Rattle.vale_core.specs.BookView.{AreOf};
-ghost use Rattle.vale_core.specs.Recorded.{Recorded};
+ghost use Rattle.vale_book.specs.BookView.{AreOf};
+ghost use Rattle.vale_book.specs.Recorded.{Recorded};
 ghost use Rattle.vale_fabric.specs.Filling.{IsFilling};
 ghost use Rattle.vale_fabric.specs.Leases.{IsFilledBy, IsHeldFor, IsToFill};
 

@@ -1,7 +1,7 @@
 //! The book as what a turn keeps.
 use nm_turn::Kept;
 use nm_types::Limits;
-use vale_core::Book;
+use vale_book::Book;
 use vale_entry::Entry;
 
 /// A book that a turn keeps.

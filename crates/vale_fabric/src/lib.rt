@@ -20,4 +20,4 @@ pub use fabric::Fabric;
 pub use filling::{fill_from_batch, fill_from_gots};
 pub use kept::{Fixed, Pass, Shared};
 pub use settling::Shares;
-pub use vale_core::{Book, Granted, LeasesOut, Offers, Opened, Put, PutFault, Synced};
+pub use vale_book::{Book, Granted, LeasesOut, Offers, Opened, Put, PutFault, Synced};

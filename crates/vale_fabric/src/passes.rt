@@ -9,7 +9,7 @@ ghost use Rattle.vale_fabric.specs.Fabrics.{IsPassIn, fixed_in, knowing, record_
 use crate::fabric::Fabric;
 use crate::kept::{Pass, Shared};
 use std::sync::Wait;
-use vale_core::Book;
+use vale_book::Book;
 
 impl Fabric {
     /// Cuts the pass's share in two. The new pass has seen as much, and speaks for no session.

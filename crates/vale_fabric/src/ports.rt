@@ -4,7 +4,7 @@ ghost use Rattle.nm_region.specs.Buffers.{indices_of};
 ghost use Rattle.vale_entry.specs.declared.entry.Ask.TheVariants as asks;
 ghost use Rattle.vale_entry.specs.declared.entry.Reply.TheVariants as replies;
 ghost use Rattle.vale_entry.specs.Transcript.{is_refusal};
-ghost use Rattle.vale_core.specs.BookView.{AreOf};
+ghost use Rattle.vale_book.specs.BookView.{AreOf};
 ghost use Rattle.vale_fabric.specs.Fabrics.{IsPassIn, fixed_in, knowing, before};
 ghost use Rattle.vale_fabric.specs.Fabrics.{AnswersIn, MayIn, RefusesIn};
 ghost use Rattle.vale_fabric.specs.Ports.{Hands, OpensNot, Waits, WatchesNot, is_said};
@@ -17,7 +17,7 @@ use nm_types::{
     WatchFault,
 };
 use std::sync::Wait;
-use vale_core::{LeasesOut, Opened};
+use vale_book::{LeasesOut, Opened};
 
 /// Whether an opening that is refused so is an entry.
 fn is_recorded(fault: OpenFault) -> bool

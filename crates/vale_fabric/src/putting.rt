@@ -9,8 +9,8 @@ ghost use Rattle.vale_entry.specs.declared.entry.Ask.TheVariants as asks;
 ghost use Rattle.vale_entry.specs.declared.entry.Reply.TheVariants as replies;
 ghost use Rattle.vale_parts.specs.Batches.{dests_wanted};
 ghost use Rattle.vale_port.specs.Kept.{bytes_of};
-ghost use Rattle.vale_core.specs.BookView.{AreOf};
-ghost use Rattle.vale_core.specs.Putting.{items_of, IsPut};
+ghost use Rattle.vale_book.specs.BookView.{AreOf};
+ghost use Rattle.vale_book.specs.Putting.{items_of, IsPut};
 ghost use Rattle.vale_fabric.specs.Fabrics.{IsPassIn, fixed_in, knowing, before, seen_by};
 ghost use Rattle.vale_fabric.specs.Fabrics.{AnswersIn, MayIn};
 ghost use Rattle.vale_fabric.specs.Settling.{IsAtHand};
@@ -20,7 +20,7 @@ use crate::fabric::Fabric;
 use crate::kept::Pass;
 use nm_types::PortId;
 use std::sync::Wait;
-use vale_core::{Put, PutFault};
+use vale_book::{Put, PutFault};
 use vale_line::Got;
 
 /// Whether a put that is refused so is an entry.

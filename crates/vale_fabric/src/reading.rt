@@ -7,8 +7,8 @@ ghost use Rattle.vale_entry.specs.declared.entry.Ask.TheVariants as asks;
 ghost use Rattle.vale_entry.specs.declared.entry.Reply.TheVariants as replies;
 ghost use Rattle.vale_line.specs.Gots.{frames_in, IsSingle};
 ghost use Rattle.vale_parts.specs.Batches.{dests_wanted};
-ghost use Rattle.vale_core.specs.BookView.{AreOf};
-ghost use Rattle.vale_core.specs.Reading.{IsGiven, IsOffered};
+ghost use Rattle.vale_book.specs.BookView.{AreOf};
+ghost use Rattle.vale_book.specs.Reading.{IsGiven, IsOffered};
 ghost use Rattle.vale_fabric.specs.Fabrics.{IsPassIn, fixed_in, knowing, before, seen_by};
 ghost use Rattle.vale_fabric.specs.Fabrics.{AnswersIn, MayIn, RefusesIn};
 ghost use Rattle.vale_fabric.specs.Settling.{IsAtHand};
@@ -18,7 +18,7 @@ use crate::kept::Pass;
 use nm_region::Buf;
 use nm_types::{PortId, StepFault};
 use std::sync::Wait;
-use vale_core::Synced;
+use vale_book::Synced;
 
 impl Fabric {
     /// Buffers come back to the receive ring of a switch port or a monitor, and those of its frames

@@ -7,13 +7,13 @@ ghost use Rattle.vale_entry.specs.declared.entry.Ask.TheVariants as asks;
 ghost use Rattle.vale_entry.specs.declared.entry.Reply.TheVariants as replies;
 ghost use Rattle.vale_parts.specs.Batches.{dests_wanted};
 ghost use Rattle.vale_line.specs.Gots.{buffers_of};
-ghost use Rattle.vale_core.specs.BookView.{AreOf};
+ghost use Rattle.vale_book.specs.BookView.{AreOf};
 ghost use Rattle.vale_batch.specs.Wants.{wanted};
 ghost use Rattle.vale_port.specs.Kept.{bytes_of};
-ghost use Rattle.vale_core.specs.Granting.{given_by, lease_id};
-ghost use Rattle.vale_core.specs.Offering.{OffersStand};
-ghost use Rattle.vale_core.specs.Recorded.{standing};
-ghost use Rattle.vale_core.specs.Sending.{IsSent};
+ghost use Rattle.vale_book.specs.Granting.{given_by, lease_id};
+ghost use Rattle.vale_book.specs.Offering.{OffersStand};
+ghost use Rattle.vale_book.specs.Recorded.{standing};
+ghost use Rattle.vale_book.specs.Sending.{IsSent};
 ghost use Rattle.vale_fabric.specs.Fabrics.{IsPassIn, before, fixed_in, knowing, seen_by};
 ghost use Rattle.vale_fabric.specs.Fabrics.{AnswersIn, MayIn, RefusesIn};
 ghost use Rattle.vale_fabric.specs.Leases.{IsHeldBy, IsHeldFor, IsLeaseBy, MayFill, StandOf};
@@ -23,7 +23,7 @@ use crate::fabric::Fabric;
 use crate::kept::Pass;
 use nm_types::{Batch, PortId, StepFault};
 use std::sync::Wait;
-use vale_core::{Granted, Offers};
+use vale_book::{Granted, Offers};
 use vale_line::Lease;
 
 impl Fabric {

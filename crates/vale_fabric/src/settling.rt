@@ -7,7 +7,7 @@ ghost use Rattle.vale_line.specs.Gots.{frames_in, IsSingle};
 ghost use Rattle.vale_entry.specs.declared.entry.Ask.TheVariants as asks;
 ghost use Rattle.vale_entry.specs.declared.entry.Reply.TheVariants as replies;
 ghost use Rattle.vale_port.specs.Kept.{bytes_of};
-ghost use Rattle.vale_core.specs.Granting.{lease_id};
+ghost use Rattle.vale_book.specs.Granting.{lease_id};
 ghost use Rattle.vale_fabric.specs.Fabrics.{IsPassIn, fixed_in, knowing, AnswersIn};
 ghost use Rattle.vale_fabric.specs.Leases.{MayFillFrom};
 ghost use Rattle.vale_fabric.specs.Settling.{IsAtHand, Settling, Settles, both};
@@ -18,7 +18,7 @@ use crate::kept::Pass;
 use nm_io::{Gate, Stage};
 use nm_types::Batch;
 use std::sync::Wait;
-use vale_core::{Granted, Offers};
+use vale_book::{Granted, Offers};
 use vale_line::{Got, Lease};
 
 /// What grants gave, in frames.

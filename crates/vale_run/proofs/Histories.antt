@@ -15,7 +15,7 @@ use Rattle.vale_entry.proofs.Printable.{legal-printable}
 use Rattle.vale_entry.proofs.Fitting.{legal-fits}
 use Rattle.vale_text.specs.Written.{text_of}
 use Rattle.vale_text.proofs.Transcripts.{transcripts-tell}
-use Rattle.vale_core.specs.Recorded.{Recorded, standing, IsRefusal, HadRoom}
+use Rattle.vale_book.specs.Recorded.{Recorded, standing, IsRefusal, HadRoom}
 use Rattle.vale_fabric.specs.declared.kept.Fixed.{Fixed}
 use Rattle.vale_fabric.specs.Fabrics.{record_in}
 use Rattle.vale_script.specs.Script.{Program}
@@ -163,12 +163,13 @@ module _ (limits : Limits) (fixed : Fixed) (program : Program) (played : List In
         program = program;
         played = played;
         ready = ready;
-        history = take s.count history;
+        history = history;
         region = fixed.region;
-        roomy = roomy-of s.count;
+        roomy = roomy;
+        before = s.count;
         user = s.user;
         call = s.call;
-        comes = (stop-of (RecordFull part used want) s).comes;
+        stopped = s.stopped;
         used = used;
         want = want;
         refused = refusal-of (RecordFull part used want) s;

@@ -1,5 +1,5 @@
 -- What a run promises, by the status with which it ends.
-use Rattle.std.specs.Prelude.{ℕ, Bool, true, false, ◌≡◌, ◌+◌, ◌<◌, ◌≤◌, ◌^◌, ◌⊎◌, if◌then◌else◌, List, [], ◌∷◌, length, map, codes, string_bytes, Option, Some, None, IfSome, IsSomeAnd, Ok, Err, bytes_eq}
+use Rattle.std.specs.Prelude.{ℕ, Bool, true, false, ◌≡◌, ◌+◌, ◌<◌, ◌≤◌, ◌^◌, ◌⊎◌, if◌then◌else◌, List, [], ◌∷◌, length, map, take, codes, string_bytes, Option, Some, None, IfSome, IsSomeAnd, Ok, Err, bytes_eq}
 use Rattle.std.specs.Str.Lines.{lines}
 use Rattle.nm_io.specs.Counts.{Rose}
 use Rattle.nm_io.specs.Files.{Files}
@@ -13,7 +13,7 @@ use Rattle.vale_entry.specs.declared.entry.Entry.{Entry}
 use Rattle.vale_entry.specs.Holdings.{is_buffer_index}
 use Rattle.vale_entry.specs.Legal.{IsLegal, standing_of}
 use Rattle.vale_entry.specs.Transcript.{transcript_text}
-use Rattle.vale_core.specs.Recorded.{IsRefusal, HadRoom}
+use Rattle.vale_book.specs.Recorded.{IsRefusal, HadRoom}
 use Rattle.vale_script.specs.Grammar.{script_of}
 use Rattle.vale_script.specs.Script.{Program}
 use Rattle.vale_captures.specs.declared.inputs.InputFault.{InputFault}
@@ -21,7 +21,8 @@ use Rattle.vale_captures.specs.declared.inputs.InputFault.TheVariants as inputs
 use Rattle.vale_captures.specs.Inputs.{InputFile, HasContents, AreInputs, StopsAtFile, frames_of}
 use Rattle.vale_captures.specs.Outputs.{OutputFile, all_appended, StopsAtOutput}
 use Rattle.vale_replay.specs.Machine.{Machine}
-use Rattle.vale_replay.specs.Replay.{HasPlayed, ComesTo}
+use Rattle.vale_replay.specs.Replay.{HasPlayed}
+use Rattle.vale_replay.specs.Stops.{HasStopped}
 use Rattle.vale_replay.specs.Laws.{HaveLeft}
 use Rattle.vale_replay.specs.Owners.{AreAlwaysOwnedOnce, Pool, owners_of}
 use Rattle.vale_act.specs.Outputs.{outputs_of}
@@ -176,7 +177,9 @@ pub record WritesSaved (text : List ℕ) (saved : List OutputFile) (io : Io) (fa
 abbrev pub WritesPart : List ℕ → List OutputFile → Io → Bool → Type 0
 WritesPart text saved io failed = WritesText text io failed ⊎ WritesSaved text saved io failed
 
--- After some of the script, for which the record had room, it was full for a call that came next.
+-- In a history for which the record had room some users stopped, the one with the smallest number at this
+-- call: it comes next after so many entries, and the record was full for it. Each user of a smaller number
+-- has played its lines to the end of its block.
 pub record StopsFull (limits : Limits) (files : Option Files) (name : List ℕ) (part : Part) (count : ℕ) : Type 0 where
   pub program : Program
   pub played : List InputFile
@@ -184,12 +187,13 @@ pub record StopsFull (limits : Limits) (files : Option Files) (name : List ℕ) 
   pub history : List Entry
   pub region : ℕ
   pub roomy : HadRoom (record { pool = program.pool; region = region; limits = limits; entries = history })
+  pub before : ℕ
   pub user : ℕ
   pub call : Ask
-  pub comes : ComesTo program (map frames_of played) history user call
+  pub stopped : HasStopped program (map frames_of played) history before user call
   pub used : ℕ
   pub want : ℕ
-  pub refused : IsRefusal (record { pool = program.pool; region = region; limits = limits; entries = history }) call (RecordFull part used want)
+  pub refused : IsRefusal (record { pool = program.pool; region = region; limits = limits; entries = take before history }) call (RecordFull part used want)
   pub counted : count ≡ used + want
 
 -- The script of this name was run, and this is how the run ended. Want of memory is the one status that

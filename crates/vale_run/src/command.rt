@@ -2,7 +2,7 @@
 ghost use Rattle.std.specs.Prelude.{ℕ, List, ◌≡◌, ◌≤◌, ◌<◌, ◌^◌, length, map, string_bytes};
 ghost use Rattle.std.specs.Prelude.{option_map, Ok};
 ghost use Rattle.vale_entry.specs.World.{free_count};
-ghost use Rattle.vale_core.specs.Recorded.{standing};
+ghost use Rattle.vale_book.specs.Recorded.{standing};
 ghost use Rattle.vale_script.specs.Sound.{IsSound};
 ghost use Rattle.vale_captures.specs.Counting.{frames_played};
 ghost use Rattle.vale_captures.specs.Inputs.{HasContents, name_of};
@@ -23,10 +23,10 @@ use std::alloc::Global;
 use std::sync::Wait;
 use std::thread::Threads;
 use vale_act::play;
+use vale_book::Book;
 use vale_captures::{
     InputFault, Inputs, Outputs, SaveFault, counts_of, frames_played, read_inputs, write_outputs,
 };
-use vale_core::Book;
 use vale_fabric::Fabric;
 use vale_script::{Script, ScriptFault, line_count, parse};
 use vale_text::{PutError, write_transcript};

@@ -1,6 +1,6 @@
 use Rattle.std.proofs.Common.{sym, ◌∙◌}
 use Rattle.vale_entry.specs.World.{is_open_at, open_port}
-use Rattle.vale_core.specs.Recorded.{standing}
+use Rattle.vale_book.specs.Recorded.{standing}
 use Rattle.vale_drive.proofs.Asked.{owner-is, never-missing}
 use Rattle.vale_drive.proofs.asking.owner_of.Goals as goal
 

@@ -1,6 +1,6 @@
 use Rattle.std.proofs.Common.{sym, ◌∙◌}
 use Rattle.vale_entry.specs.Closing.{is_shutting_at, shutting_port}
-use Rattle.vale_core.specs.Recorded.{standing}
+use Rattle.vale_book.specs.Recorded.{standing}
 use Rattle.vale_drive.proofs.Asked.{owner-is, never-missing}
 use Rattle.vale_drive.proofs.asking.owner_of_shut.Goals as goal
 

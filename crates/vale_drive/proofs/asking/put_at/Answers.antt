@@ -2,7 +2,7 @@ use Rattle.std.proofs.Common.{refl}
 use Rattle.vale_entry.specs.declared.entry.Ask.TheVariants.{Put}
 use Rattle.vale_drive.specs.DriveView.{IsOwner}
 use Rattle.vale_entry.specs.World.{open_port}
-use Rattle.vale_core.specs.Recorded.{standing}
+use Rattle.vale_book.specs.Recorded.{standing}
 use Rattle.vale_drive.proofs.Asked.{OwnerAt, owner-at, acted}
 use Rattle.vale_drive.proofs.asking.put_at.Goals as goal
 

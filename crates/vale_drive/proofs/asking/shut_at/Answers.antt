@@ -2,7 +2,7 @@ use Rattle.std.proofs.Common.{◌≡◌, get_or, refl, rules}
 use Rattle.std.specs.Prelude.{Ok}
 use Rattle.vale_entry.specs.declared.entry.Ask.TheVariants.{Shut}
 use Rattle.vale_entry.specs.World.{open_port}
-use Rattle.vale_core.specs.Recorded.{standing}
+use Rattle.vale_book.specs.Recorded.{standing}
 use Rattle.vale_drive.proofs.Asked.{OwnerAt, owner-at, acted-still}
 use Rattle.vale_drive.proofs.asking.shut_at.Goals as goal
 

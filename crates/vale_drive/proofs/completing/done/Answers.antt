@@ -3,8 +3,8 @@ use Rattle.std.proofs.lemmas.Bool.{eqb-true}
 use Rattle.std.proofs.lemmas.Option.{get_or_from_slice_get}
 use Rattle.vale_line.specs.Leased.{Leased}
 use Rattle.vale_entry.specs.declared.entry.Ask.TheVariants.{Done}
-use Rattle.vale_core.specs.Granting.{lease_id}
-use Rattle.vale_core.specs.Recorded.{after_ask, HasRoom}
+use Rattle.vale_book.specs.Granting.{lease_id}
+use Rattle.vale_book.specs.Recorded.{after_ask, HasRoom}
 use Rattle.vale_fabric.proofs.Making.{done-said, said-by}
 use Rattle.vale_drive.specs.Users.{is_lease}
 use Rattle.vale_drive.proofs.Completed.{held-here, steps, lease-filled, completed-kept}

@@ -4,7 +4,7 @@ use Rattle.vale_entry.specs.declared.entry.Ask.TheVariants.{Finish}
 use Rattle.vale_entry.specs.declared.entry.Reply.{Reply}
 use Rattle.vale_entry.specs.declared.entry.Reply.TheVariants.{Unread}
 use Rattle.vale_entry.specs.Legal.{fits_chain, reply_to, IsEnabled}
-use Rattle.vale_core.specs.Recorded.{standing, after_ask}
+use Rattle.vale_book.specs.Recorded.{standing, after_ask}
 use Rattle.vale_drive.specs.Serving.{IsServed}
 use Rattle.vale_drive.proofs.Finishes.{chain-fits, unfinished, waits, enabled, has-room, gone-kept}
 use Rattle.vale_drive.proofs.finishing.finish.Goals as goal

@@ -2,8 +2,8 @@ use Rattle.std.proofs.Common.{ℕ, ◌≡◌, ◌≤◌, ◌<◌, ◌++◌, [], 
 use Rattle.nm_region.specs.Buffers.{Buffer, indices_of}
 use Rattle.vale_line.specs.Gots.{buffers_of, frames_in}
 use Rattle.vale_line.specs.Leased.{Leased, first_size}
-use Rattle.vale_core.specs.BookView.{AreOf, IsBufferOf}
-use Rattle.vale_core.proofs.Standing.{each-left}
+use Rattle.vale_book.specs.BookView.{AreOf, IsBufferOf}
+use Rattle.vale_book.proofs.Standing.{each-left}
 use Rattle.vale_drive.specs.Filling.{placed}
 use Rattle.vale_drive.specs.Users.{contents}
 use Rattle.vale_drive.proofs.Filling.{slots-one, first-one, drop-next, left-of, drop-all, no-buffers, placed-more, Next, next-frame, fill-indices, fill-left, fill-region, indices_in}

@@ -1,7 +1,7 @@
 use Rattle.std.proofs.Common.{ℕ, ◌≡◌, ◌++◌, take, drop, length}
 use Rattle.nm_region.specs.Buffers.{indices_of}
 use Rattle.vale_line.specs.Gots.{buffers_of, frames_in}
-use Rattle.vale_core.specs.BookView.{AreOf}
+use Rattle.vale_book.specs.BookView.{AreOf}
 use Rattle.vale_drive.specs.Filling.{placed}
 use Rattle.vale_drive.specs.Users.{contents}
 use Rattle.vale_drive.proofs.granting.filled.Given as goal

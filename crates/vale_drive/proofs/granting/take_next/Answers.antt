@@ -5,7 +5,7 @@ use Rattle.std.proofs.lemmas.Bool.{eq-eqb}
 use Rattle.nm_types.specs.declared.id.PortId.{PortId}
 use Rattle.vale_batch.specs.Wants.{wanted}
 use Rattle.vale_entry.specs.Legal.{is_met}
-use Rattle.vale_core.specs.Offering.{OffersState}
+use Rattle.vale_book.specs.Offering.{OffersState}
 use Rattle.vale_fabric.specs.Leases.{IsLeaseBy}
 use Rattle.vale_drive.specs.declared.users.Sent.{Sent}
 use Rattle.vale_drive.specs.Filling.{IsFillable, IsFilledWith}

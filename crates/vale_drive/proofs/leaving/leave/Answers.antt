@@ -2,7 +2,7 @@ use Rattle.std.proofs.Common.{◌≡◌, get_or, true, refl, sym, ◌∙◌, sub
 use Rattle.nm_types.specs.declared.id.SessionId.{SessionId}
 use Rattle.vale_entry.specs.declared.entry.Ask.TheVariants.{Leave}
 use Rattle.vale_entry.specs.Legal.{is_enabled}
-use Rattle.vale_core.specs.Recorded.{standing, after_ask}
+use Rattle.vale_book.specs.Recorded.{standing, after_ask}
 use Rattle.vale_fabric.proofs.Making.{said-by, leave-said}
 use Rattle.vale_drive.proofs.Acting.{unserved}
 use Rattle.vale_drive.proofs.Asked.{steps-of}

@@ -1,7 +1,7 @@
 use Rattle.std.proofs.Common.{◌≡◌, true, is_some, refl, sym, ap, subst}
 use Rattle.vale_entry.specs.declared.entry.Ask.TheVariants.{Stat}
 use Rattle.vale_entry.specs.Legal.{is_enabled}
-use Rattle.vale_core.specs.Recorded.{Recorded, standing}
+use Rattle.vale_book.specs.Recorded.{Recorded, standing}
 use Rattle.vale_drive.specs.Users.{IsUser}
 use Rattle.vale_drive.proofs.Asked.{steps-of, mine-of, quiet-kept}
 use Rattle.vale_drive.proofs.noting.stats.Goals as goal

@@ -1,7 +1,7 @@
 use Rattle.std.proofs.Common.{ℕ, ◌≡◌, ◌+◌, List, length, take, drop, sym, ◌∙◌, ap, arith}
 use Rattle.std.proofs.lemmas.List.{length-map}
 use Rattle.nm_region.specs.Buffers.{Buffer}
-use Rattle.vale_core.specs.Recorded.{standing}
+use Rattle.vale_book.specs.Recorded.{standing}
 use Rattle.vale_drive.proofs.Acting.{user-same}
 use Rattle.vale_drive.proofs.Opens.{opened-kept, unopened-kept}
 use Rattle.vale_drive.proofs.Sizes.{opened-few}

@@ -6,8 +6,8 @@ use Rattle.vale_entry.specs.declared.entry.Item.{Item}
 use Rattle.vale_entry.specs.Legal.{IsEnabled}
 use Rattle.vale_entry.specs.Pipe.{index_of_item}
 use Rattle.vale_entry.specs.Pipe.{indices_of as item_indices}
-use Rattle.vale_core.specs.Putting.{item_of, items_of, IsPut}
-use Rattle.vale_core.specs.Recorded.{standing}
+use Rattle.vale_book.specs.Putting.{item_of, items_of, IsPut}
+use Rattle.vale_book.specs.Recorded.{standing}
 use Rattle.vale_drive.specs.Exchange.{HasTakenOut}
 use Rattle.vale_drive.specs.Putting.{AreFramed, HasPut, bytes_in, unput}
 use Rattle.vale_drive.specs.Replies.{last_dests}

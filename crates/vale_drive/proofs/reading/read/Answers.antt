@@ -1,9 +1,9 @@
 use Rattle.std.proofs.Common.{ℕ, List, length, sym, ◌∙◌, ap, subst, arith, rules}
 use Rattle.nm_region.specs.Buffers.{Buffer, indices_of}
 use Rattle.vale_entry.specs.Legal.{IsEnabled}
-use Rattle.vale_core.specs.BookView.{AreOf}
-use Rattle.vale_core.specs.Reading.{read_ask}
-use Rattle.vale_core.specs.Recorded.{Recorded, standing}
+use Rattle.vale_book.specs.BookView.{AreOf}
+use Rattle.vale_book.specs.Reading.{read_ask}
+use Rattle.vale_book.specs.Recorded.{Recorded, standing}
 use Rattle.vale_drive.specs.Reading.{copies_of}
 use Rattle.vale_drive.specs.Exchange.{HasRead}
 use Rattle.vale_drive.specs.Replies.{last_dests}

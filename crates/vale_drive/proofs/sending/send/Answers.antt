@@ -6,7 +6,7 @@ use Rattle.vale_entry.specs.declared.entry.Reply.{Reply}
 use Rattle.vale_entry.specs.declared.entry.Reply.TheVariants.{Offered}
 use Rattle.nm_types.specs.declared.id.SessionId.{SessionId}
 use Rattle.vale_parts.specs.Batches.{dests_wanted, dest_wanted}
-use Rattle.vale_core.specs.Recorded.{Recorded}
+use Rattle.vale_book.specs.Recorded.{Recorded}
 use Rattle.vale_drive.specs.Replies.{dests_in, last_dests}
 use Rattle.vale_drive.specs.Users.{IsUser, is_settled_user}
 use Rattle.vale_drive.proofs.Acting.{unserved, user-same, settled-same, last-told}

@@ -2,7 +2,7 @@ use Rattle.std.proofs.Common.{refl, sym, ◌∙◌}
 use Rattle.vale_entry.specs.declared.entry.Ask.TheVariants.{Shut}
 use Rattle.vale_drive.proofs.Acting.{unserved}
 use Rattle.vale_own.specs.Own.{own_of}
-use Rattle.vale_core.specs.Recorded.{standing}
+use Rattle.vale_book.specs.Recorded.{standing}
 use Rattle.vale_fabric.proofs.Making.{said-by, shut-said}
 use Rattle.vale_drive.proofs.Asked.{can-shut-is, steps-of, mine-of, quiet-kept, shut-hands}
 use Rattle.vale_drive.proofs.shutting.shut.Goals as goal

@@ -1,6 +1,6 @@
 use Rattle.std.proofs.Common.{sym, ◌∙◌}
 use Rattle.vale_entry.specs.World.{open_port}
-use Rattle.vale_core.specs.Recorded.{standing}
+use Rattle.vale_book.specs.Recorded.{standing}
 use Rattle.vale_drive.proofs.NextPorts.{shuts-next, seen-some}
 use Rattle.vale_drive.proofs.winding.end_first.Goals as goal
 

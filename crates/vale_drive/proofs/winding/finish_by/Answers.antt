@@ -5,7 +5,7 @@ use Rattle.nm_region.specs.Buffers.{Buffer, indices_of}
 use Rattle.vale_entry.specs.declared.entry.Ask.TheVariants.{Finish}
 use Rattle.vale_entry.specs.Closing.{shutting_port}
 use Rattle.vale_entry.specs.Legal.{fits_chain}
-use Rattle.vale_core.specs.Recorded.{standing}
+use Rattle.vale_book.specs.Recorded.{standing}
 use Rattle.vale_drive.specs.Serving.{IsServed}
 use Rattle.vale_drive.specs.Winding.{no_chain}
 use Rattle.vale_drive.proofs.Asked.{OwnerAt, owner-at}

@@ -1,7 +1,7 @@
 use Rattle.std.proofs.Common.{◌<◌}
 use Rattle.std.specs.List.{AllByRecursion}
 use Rattle.vale_entry.specs.World.{Port}
-use Rattle.vale_core.specs.Recorded.{standing}
+use Rattle.vale_book.specs.Recorded.{standing}
 use Rattle.vale_drive.proofs.winding.first_port.Given as goal
 
 abbrev pub invariant-loop-i : goal.invariant-loop-i

@@ -1,6 +1,6 @@
 use Rattle.std.proofs.Common.{◌≡◌, get_or, refl, sym, ◌∙◌, rules}
 use Rattle.vale_entry.proofs.Each.{each-none}
-use Rattle.vale_core.specs.Recorded.{standing}
+use Rattle.vale_book.specs.Recorded.{standing}
 use Rattle.vale_own.specs.Own.{own_of}
 use Rattle.vale_drive.specs.Turns.{has_offer}
 use Rattle.vale_drive.proofs.NextAsks.{sends-next, grants-next}

@@ -1,7 +1,7 @@
 use Rattle.std.proofs.Common.{◌<◌, ◌^◌, ◌≡◌, List, length, map, IfOk, IfErr, refl, sym, ◌∙◌, subst, arith}
 use Rattle.nm_types.specs.declared.limits.TheConstants.Limits.{VERSION_1}
 use Rattle.vale_entry.specs.Transcript.{transcript_text}
-use Rattle.vale_core.specs.Recorded.{Recorded, HadRoom}
+use Rattle.vale_book.specs.Recorded.{Recorded, HadRoom}
 use Rattle.vale_fabric.specs.declared.kept.Fixed.{Fixed}
 use Rattle.vale_fabric.specs.Fabrics.{Knowing, fixed_in, knowing}
 use Rattle.vale_script.specs.Script.{Program}

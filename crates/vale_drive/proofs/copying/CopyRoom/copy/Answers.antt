@@ -1,6 +1,6 @@
 use Rattle.std.proofs.Common.{suc, ◌≤◌, ◌∷◌, [], length, subst, arith}
 use Rattle.std.specs.List.{AllByRecursion}
-use Rattle.vale_core.proofs.Standing.{each-left}
+use Rattle.vale_book.proofs.Standing.{each-left}
 use Rattle.vale_drive.specs.Copies.{IsFrameRoom}
 use Rattle.vale_drive.proofs.Copied.{copied-more, fits-more}
 use Rattle.vale_drive.proofs.copying.CopyRoom.copy.Goals as goal

@@ -1,7 +1,7 @@
 use Rattle.std.proofs.Common.{◌≡◌, [], sym, ◌∙◌, subst, arith}
 use Rattle.std.proofs.lemmas.Bool.{eqb-true}
 use Rattle.std.specs.Vec.{vec_len}
-use Rattle.vale_core.specs.Recorded.{Recorded, standing}
+use Rattle.vale_book.specs.Recorded.{Recorded, standing}
 use Rattle.vale_drive.proofs.Endings.{none-there, all-free}
 use Rattle.vale_drive.proofs.drive.Drive.close.Goals as goal
 

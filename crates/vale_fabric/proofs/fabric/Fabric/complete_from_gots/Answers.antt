@@ -3,7 +3,7 @@ use Rattle.vale_line.specs.Leased.{Leased}
 use Rattle.vale_line.specs.Gots.{frames_in}
 use Rattle.vale_entry.specs.declared.entry.Ask.TheVariants.{Done}
 use Rattle.vale_entry.specs.declared.entry.Reply.TheVariants.{Made}
-use Rattle.vale_core.specs.Granting.{lease_id}
+use Rattle.vale_book.specs.Granting.{lease_id}
 use Rattle.vale_fabric.specs.Fabrics.{fixed_in, knowing, AnswersIn}
 use Rattle.vale_fabric.specs.Leases.{MayFillFrom}
 use Rattle.vale_fabric.proofs.fabric.Fabric.complete_from_gots.Goals as goal

@@ -1,7 +1,7 @@
 use Rattle.std.proofs.Common.{refl}
 use Rattle.nm_region.specs.Buffers.{indices_of}
 use Rattle.vale_entry.specs.declared.entry.Reply.TheVariants.{Unread}
-use Rattle.vale_core.specs.Recorded.{standing}
+use Rattle.vale_book.specs.Recorded.{standing}
 use Rattle.vale_fabric.proofs.Making.{enabled-now, adds-now, steps-said, made, answered, gone-said, waits}
 use Rattle.vale_fabric.proofs.fabric.Fabric.finish.Goals as goal
 

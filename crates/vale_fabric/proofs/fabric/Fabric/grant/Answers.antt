@@ -7,8 +7,8 @@ use Rattle.vale_port.specs.Kept.{bytes_of}
 use Rattle.vale_port.proofs.Calls.{IfSome-weaker}
 use Rattle.vale_entry.specs.declared.entry.Ask.TheVariants.{Grant}
 use Rattle.vale_entry.specs.declared.entry.Reply.TheVariants.{Shared}
-use Rattle.vale_core.specs.Recorded.{Recorded, standing}
-use Rattle.vale_core.specs.Offering.{OffersState, OffersStand}
+use Rattle.vale_book.specs.Recorded.{Recorded, standing}
+use Rattle.vale_book.specs.Offering.{OffersState, OffersStand}
 use Rattle.vale_fabric.specs.Fabrics.{seen_by}
 use Rattle.vale_fabric.specs.Leases.{IsHeldBy, IsHeldFor, IsLeaseBy, StandOf}
 use Rattle.vale_fabric.proofs.Making.{Steps, adds-by, steps-said, made, answered}

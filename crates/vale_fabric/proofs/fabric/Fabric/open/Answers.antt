@@ -1,6 +1,6 @@
 use Rattle.std.proofs.Common.{sym, ◌∙◌, refl, subst}
 use Rattle.vale_entry.specs.declared.entry.Ask.TheVariants.{Open}
-use Rattle.vale_core.specs.Recorded.{Recorded}
+use Rattle.vale_book.specs.Recorded.{Recorded}
 use Rattle.vale_fabric.specs.Fabrics.{fixed_in, knowing}
 use Rattle.vale_fabric.specs.Ports.{Hands}
 use Rattle.vale_fabric.proofs.Making.{enabled-now, adds-now, step-now, fixed-kept, made, answered}

@@ -1,7 +1,7 @@
 use Rattle.std.proofs.Common.{◌≡◌, sym, ◌∙◌, refl, subst}
 use Rattle.vale_entry.specs.declared.entry.Ask.TheVariants.{Put}
-use Rattle.vale_core.specs.Putting.{items_of, IsPut}
-use Rattle.vale_core.specs.Recorded.{Recorded, standing, after_ask, HasRoom}
+use Rattle.vale_book.specs.Putting.{items_of, IsPut}
+use Rattle.vale_book.specs.Recorded.{Recorded, standing, after_ask, HasRoom}
 use Rattle.vale_fabric.specs.Fabrics.{fixed_in, knowing, before}
 use Rattle.vale_fabric.proofs.Making.{enabled-now, adds-now, step-now, made, answered, said-by}
 use Rattle.vale_fabric.proofs.PutsMade.{put-made, put-not, puts-gone, puts-none}

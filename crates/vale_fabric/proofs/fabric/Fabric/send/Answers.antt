@@ -1,6 +1,6 @@
 use Rattle.std.proofs.Common.{refl, sym, subst}
-use Rattle.vale_core.specs.Recorded.{Recorded, standing}
-use Rattle.vale_core.specs.Sending.{IsSent}
+use Rattle.vale_book.specs.Recorded.{Recorded, standing}
+use Rattle.vale_book.specs.Sending.{IsSent}
 use Rattle.vale_fabric.proofs.Making.{enabled-now, adds-now, step-now, made, answered, refused}
 use Rattle.vale_fabric.proofs.Speaking.{speaks-on}
 use Rattle.vale_port.specs.Kept.{bytes_of}

@@ -1,6 +1,6 @@
 use Rattle.std.proofs.Common.{◌≤◌, length, drop, sym, subst, arith}
 use Rattle.vale_line.specs.Gots.{frames_in}
-use Rattle.vale_core.specs.Offering.{OffersState}
+use Rattle.vale_book.specs.Offering.{OffersState}
 use Rattle.vale_fabric.specs.Fabrics.{fixed_in, knowing}
 use Rattle.vale_fabric.specs.Settling.{IsAtHand}
 use Rattle.vale_fabric.proofs.GrantsSettle.{Going, going-first, going-next}

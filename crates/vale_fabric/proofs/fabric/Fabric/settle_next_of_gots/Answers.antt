@@ -2,8 +2,8 @@ use Rattle.std.proofs.Common.{ℕ, ◌≡◌, List, IfSome, length, take, sym, �
 use Rattle.std.proofs.lemmas.List.{length-drop}
 use Rattle.nm_types.specs.Frames.{Frame}
 use Rattle.vale_line.specs.Gots.{frames_in}
-use Rattle.vale_core.specs.Offering.{OffersState}
-use Rattle.vale_core.specs.Recorded.{standing}
+use Rattle.vale_book.specs.Offering.{OffersState}
+use Rattle.vale_book.specs.Recorded.{standing}
 use Rattle.vale_fabric.specs.declared.settling.Shares.{Shares}
 use Rattle.vale_fabric.specs.Fabrics.{fixed_in, knowing, seen_by}
 use Rattle.vale_fabric.specs.Leases.{MayFillFrom, StandOf}

@@ -1,9 +1,9 @@
 use Rattle.std.proofs.Common.{refl, sym, subst}
-use Rattle.vale_core.specs.Reading.{IsGiven, IsOffered}
+use Rattle.vale_book.specs.Reading.{IsGiven, IsOffered}
 use Rattle.nm_region.specs.Buffers.{indices_of}
 use Rattle.vale_entry.specs.World.{open_port}
 use Rattle.vale_entry.specs.Legal.{can_sync, sync_step}
-use Rattle.vale_core.specs.Recorded.{Recorded, standing}
+use Rattle.vale_book.specs.Recorded.{Recorded, standing}
 use Rattle.vale_fabric.specs.Fabrics.{before}
 use Rattle.vale_fabric.proofs.Making.{enabled-now, adds-now, step-now, made, answered, refused}
 use Rattle.vale_fabric.proofs.Speaking.{speaks-on, sought}

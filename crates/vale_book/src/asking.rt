@@ -1,0 +1,107 @@
+ghost use Rattle.std.specs.Prelude.{◌≡◌, ◌<◌, length, Some};
+ghost use Rattle.nm_types.specs.Frames.{size_of_frames};
+ghost use Rattle.vale_entry.specs.World.{Port as Seen, open_port};
+ghost use Rattle.vale_entry.specs.Delivery.{delivered_frames};
+ghost use Rattle.vale_entry.specs.Closing.{shutting_port};
+ghost use Rattle.vale_port.specs.Lists.{OfSeat};
+ghost use Rattle.vale_book.specs.Asking.{IsSeen, IsSeenAs, IsReady};
+ghost use Rattle.vale_book.specs.Recorded.{standing};
+
+use crate::book::Book;
+use nm_types::{Name, PortId, SessionId, Side};
+use vale_port::{Port, open_port, shutting_port};
+
+/// What stands of a port.
+#[derive(Clone, Copy)]
+pub struct PortSeen {
+    pub session: SessionId,
+    pub name: Name,
+    /// The slots of its transmit ring.
+    pub tx: u32,
+    /// The buffers that its syncs gave and that have not come back.
+    pub out: u32,
+    /// The buffers that its session holds for it.
+    pub due: u64,
+    /// The leases that are not done.
+    pub leases_out: u32,
+}
+
+/// What a sync of a port, or a get, would give.
+#[derive(Clone, Copy)]
+pub struct Ready {
+    /// How many frames, each in a buffer.
+    pub count: u32,
+    /// Whether a monitor is offered them.
+    pub is_watched: bool,
+}
+
+/// What stands of the port at a place.
+fn seen_at(ports: &[Port], place: usize) -> PortSeen
+    requires { place < length ports.now }
+    ensures { OfSeat (λ seat. IsSeen seat.port result) ports.now place }
+{
+    let port = &ports[place];
+    PortSeen {
+        session: port.session(),
+        name: port.name(),
+        tx: port.tx(),
+        out: port.out(),
+        due: port.due(),
+        leases_out: port.leases_out(),
+    }
+}
+
+/// How many frames are ready at the port of a place.
+fn ready_at(ports: &[Port], place: usize) -> u32
+    requires { place < length ports.now }
+    ensures { OfSeat (λ seat. result ≡ size_of_frames (delivered_frames seat.port))
+        ports.now place }
+{
+    ports[place].ready()
+}
+
+impl Book {
+    /// What stands of the open port of this id.
+    pub fn open_port(&self, port: PortId) -> Option<PortSeen>
+        ensures { IsSeenAs (open_port (standing self.now).world.ports port.0) result }
+    {
+        match open_port(&self.ports, port) {
+            Some(place) => Some(seen_at(&self.ports, place)),
+            None => None,
+        }
+    }
+
+    /// What stands of the port of this id that is shut and not gone.
+    pub fn shutting_port(&self, port: PortId) -> Option<PortSeen>
+        ensures { IsSeenAs (shutting_port (standing self.now).world.ports port.0) result }
+    {
+        match shutting_port(&self.ports, port) {
+            Some(place) => Some(seen_at(&self.ports, place)),
+            None => None,
+        }
+    }
+
+    /// What a sync of the open port of this id, or a get, would give: nothing, where there is none.
+    pub fn ready(&self, port: PortId) -> Ready
+        ensures { (seen : Seen) → open_port (standing self.now).world.ports port.0 ≡ Some seen
+            → IsReady (standing self.now).world seen result }
+    {
+        match open_port(&self.ports, port) {
+            Some(place) => Ready {
+                count: ready_at(&self.ports, place),
+                is_watched: self.watches.of(port, Side::Rx).is_some(),
+            },
+            None => Ready {
+                count: 0,
+                is_watched: false,
+            },
+        }
+    }
+
+    /// The number of ports that are not gone.
+    pub fn ports(&self) -> usize
+        ensures { result ≡ length (standing self.now).world.ports }
+    {
+        self.ports.len()
+    }
+}
