@@ -13,7 +13,7 @@ use Rattle.nm_hold.specs.Standings.{bytes_if, named_bytes_in, cell_fronted, cell
 use Rattle.nm_hold.specs.Holds.{HoldState, standing_at, cell_at, places_in, places_of, stands_at, with_cell, with_written as hold_written, is_named_at, named_bytes_at, IsHold, SamePlaces}
 use Rattle.nm_hold.proofs.Shown.{named_stands}
 use Rattle.nm_own.specs.declared.own.OwnSide.TheInside.{Inside}
-use Rattle.nm_own.specs.Own.{own_seen, AreWhole}
+use Rattle.nm_port.specs.Own.{own_seen, AreWhole}
 use Rattle.nm_own.specs.Kept.{IsKept}
 use Rattle.nm_own.specs.WrittenBytes.{with_all_written}
 use Rattle.nm_own.proofs.Filled.{is_named_seen}

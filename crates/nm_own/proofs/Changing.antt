@@ -10,9 +10,9 @@ use Rattle.nm_types.specs.declared.place.Place.TheVariants as place
 use Rattle.nm_types.specs.Positions.{RingState, IsRing, is_user_slot}
 use Rattle.nm_types.specs.OwnPorts.{OwnRing, OwnPort, OwnState, port_if, with_ring, with_ring_on}
 use Rattle.nm_hold.specs.Holds.{HoldState, buffers_of}
-use Rattle.nm_own.specs.declared.port.UserPort.{UserPort}
-use Rattle.nm_own.specs.RingSlots.{RingSlots}
-use Rattle.nm_own.specs.Own.{bytes_in_cell, ring_seen, port_seen, own_seen, named_ring_places, named_tx_places, named_places_of, named_places, AreSided, AreRings, AreFlagged, AreFilled, HasPlaces, size_if, is_filled, is_filled_in, places_of_port, IsTxSide, IsRingIf, port_changed, port_changed_if, HasBackRoom, HaveBackRoom}
+use Rattle.nm_port.specs.declared.port.UserPort.{UserPort}
+use Rattle.nm_port.specs.RingSlots.{RingSlots}
+use Rattle.nm_port.specs.Own.{bytes_in_cell, ring_seen, port_seen, own_seen, named_ring_places, named_tx_places, named_places_of, named_places, AreSided, AreRings, AreFlagged, AreFilled, HasPlaces, size_if, is_filled, is_filled_in, places_of_port, IsTxSide, IsRingIf, port_changed, port_changed_if, HasBackRoom, HaveBackRoom}
 
 -- a ring that has the same slots, of which the same are the user's
 pub record SameUse (new ring : RingState) : Type 0 where

@@ -30,19 +30,20 @@ use Rattle.nm_hold.specs.Offsets.{has_port as has_id, ArePortsOnce, AreSizes}
 use Rattle.nm_hold.specs.Holds.{HoldState, buffers_of, index_at, standing_at, stands_at, buffer_at, cell_at, places_in, port_of, extra_of, HoldsNothing, IsHold}
 use Rattle.nm_hold.proofs.Spots.{nat_eq-is, same_place-is, same_place-refl}
 use Rattle.nm_extra.specs.Extras.{extras_of, link_at}
-use Rattle.nm_own.specs.declared.port.UserPort.{UserPort}
-use Rattle.nm_own.specs.RingSlots.{RingSlots}
-use Rattle.nm_own.specs.Sides.{place_on, number_at}
-use Rattle.nm_own.specs.Own.{number_on, extra_number_at, ring_seen, port_seen, own_seen, port_at, bytes_in_cell, bytes_in_hold, named_ring_places, named_tx_places, named_places_of, named_places, size_if, is_filled, is_filled_in, places_of_port, AreFilled, AreFlagged, AreSided, AreRings, AreWhole, HasPlaces, IsTxSide, HaveBackRoom}
+use Rattle.nm_port.specs.declared.port.UserPort.{UserPort}
+use Rattle.nm_port.specs.RingSlots.{RingSlots}
+use Rattle.nm_port.specs.Sides.{place_on, number_at}
+use Rattle.nm_port.specs.Own.{number_on, extra_number_at, ring_seen, port_seen, own_seen, port_at, bytes_in_cell, bytes_in_hold, named_ring_places, named_tx_places, named_places_of, named_places, size_if, is_filled, is_filled_in, places_of_port, AreFilled, AreFlagged, AreSided, AreRings, AreWhole, HasPlaces, IsTxSide, HaveBackRoom}
 use Rattle.nm_own.specs.Kept.{IsKept}
 use Rattle.nm_own.specs.declared.own.OwnSide.TheInside.{Inside}
-use Rattle.nm_own.specs.Closing.{user_count, place_count, held_place, held_places, others, buffers_with_id, bytes_of_buffers, AreTaken}
-use Rattle.nm_own.proofs.Judging.{false_true}
-use Rattle.nm_own.proofs.Checked.{bytes_are_seen, id_of_found}
+use Rattle.nm_port.specs.Closing.{user_count, place_count, held_place, held_places, others, buffers_with_id, bytes_of_buffers, AreTaken}
+use Rattle.nm_port.proofs.Judging.{false_true}
+use Rattle.nm_port.proofs.Checked.{bytes_are_seen, id_of_found}
 use Rattle.nm_own.proofs.Filled.{all_append, all_range, all_slots}
-use Rattle.nm_own.proofs.Written.{port_same}
-use Rattle.nm_own.proofs.Opening.{IsOther, unfilled_in, unfilled, none_if}
-use Rattle.nm_own.proofs.Taking.{held_apart, elsewhere_none, filled_taken, held_filled}
+use Rattle.nm_port.proofs.Seeing.{port_same}
+use Rattle.nm_port.proofs.PortOut.{IsOther, lacks_port, rest_other}
+use Rattle.nm_own.proofs.Opening.{unfilled_in, unfilled, none_if}
+use Rattle.nm_port.proofs.Taking.{held_apart, elsewhere_none, filled_taken, held_filled}
 
 others_are : (id : ℕ) (ports : List UserPort) → AllByRecursion (IsOther id) (others id ports)
 others_are id [] = tt
@@ -77,14 +78,6 @@ others_places id [] = refl
 others_places id (p ∷ ports) = elim (cases_Bool (nat_eq p.id.0 id)) [
   | inl here ↦ rw here (others_places id ports)
   | inr other ↦ rw other (ap (λ (xs : List PortPlaces). places_of_port p ∷ xs) (others_places id ports))
-]
-
--- no other port has the id of the one before them
-pub rest_other : (ports : List UserPort) (id : ℕ) → has_id (map places_of_port ports) id ≡ false → AllByRecursion (IsOther id) ports
-rest_other [] id none = tt
-rest_other (p ∷ ports) id none = elim (cases_Bool (nat_eq p.id.0 id)) [
-  | inl here ↦ absurd (let e = rw here at none in cc)
-  | inr other ↦ (other, rest_other ports id (rw other at none))
 ]
 
 some_is : {X : Type 0} (x y : X) → Some x ≡ Some y → x ≡ y
@@ -171,19 +164,6 @@ port_found h (x ∷ ports) id p found = elim (cases_Bool (nat_eq x.id.0 id)) [
   | inl here ↦ (let is : x ≡ p = some_is x p (rw here at found) in rw (here, is) refl)
   | inr other ↦ rw other (port_found h ports id p (rw other at found))
 ]
-
-pub lacks_port : (h : HoldState) (ports : List UserPort) (id : ℕ) → port_at ports id ≡ None → port_with_id (own_seen h ports) id ≡ None
-lacks_port h [] id e = refl
-lacks_port h (x ∷ ports) id e = elim (cases_Bool (nat_eq x.id.0 id)) [
-  | inl here ↦ absurd (let found = rw here at e in cc)
-  | inr other ↦ rw other (lacks_port h ports id (rw other at e))
-]
-
-pub port_not_found : (h : HoldState) (ports : List UserPort) (id : ℕ) → port_at ports id ≡ None → IsSome (port_with_id (own_seen h ports) id) → ⊥
-port_not_found h ports id none some = none_some (rw (lacks_port h ports id none) at some)
-  where
-    none_some : IsSome {T = OwnPort} None → ⊥
-    none_some some = cc
 
 -- the buffers in its places, in their order
 module _ {X : Type 0} where

@@ -10,20 +10,19 @@ use Rattle.nm_types.specs.declared.id.Side.{Side}
 use Rattle.nm_types.specs.declared.id.Side.TheVariants.{Tx, Rx}
 use Rattle.nm_types.specs.declared.place.Place.{Place}
 use Rattle.nm_types.specs.Places.{Held, held_at, is_same_place}
-use Rattle.nm_types.specs.Positions.{step_on}
+use Rattle.nm_types.specs.Positions.{step_on, dist}
 use Rattle.nm_types.specs.Buffers.{IsBufferIndex}
 use Rattle.nm_types.proofs.RingSteps.{dist-step_on}
-use Rattle.nm_types.specs.Positions.{dist}
 use Rattle.nm_region.specs.Buffers.{Buffer, indices_of}
 use Rattle.nm_hold.specs.declared.standing.Standing.{Standing}
 use Rattle.nm_hold.specs.Offsets.{has_place}
 use Rattle.nm_hold.specs.Holds.{HoldState, places_in, buffers_of, index_at, standing_at, stands_at, cell_at, with_cell, IsHold, StandsIn}
 use Rattle.nm_hold.proofs.Spots.{nat_eq-is, same_place-is, same_place-refl}
-use Rattle.nm_own.specs.Filling.{placed, IsAway}
-use Rattle.nm_own.specs.Sides.{place_on}
-use Rattle.nm_own.specs.Lending.{IsOut, Run, place_of_run, AreOut}
-use Rattle.nm_own.proofs.Judging.{false_true, same_eq}
-use Rattle.nm_own.proofs.Filling.{within_pool}
+use Rattle.nm_port.specs.Filling.{placed, IsAway}
+use Rattle.nm_port.specs.Sides.{place_on}
+use Rattle.nm_port.specs.Lending.{IsOut, Run, place_of_run, AreOut}
+use Rattle.nm_port.proofs.Judging.{false_true, same_eq}
+use Rattle.nm_port.proofs.Filling.{within_pool}
 use Rattle.nm_own.proofs.Filled.{all_append}
 use Rattle.nm_own.proofs.PutOne.{stands_here, stood_there}
 

@@ -10,9 +10,9 @@ use Rattle.nm_types.specs.OwnPorts.{OwnState, with_slot, with_port, with_ring_on
 use Rattle.nm_hold.specs.Holds.{HoldState}
 use Rattle.nm_own.specs.declared.edit.RingEdit.{RingEdit}
 use Rattle.nm_own.specs.declared.edit.RingEdit.TheVariants.{Head, Cur, Positions, AllBack, Slot, Forward, Frame}
-use Rattle.nm_own.specs.declared.port.UserPort.{UserPort}
-use Rattle.nm_own.specs.RingSlots.{RingSlots, with_held, at_positions, with_slot_of_user, slot_at, with_slot_at, both_stepped, head_stepped, slot_framed}
-use Rattle.nm_own.specs.Own.{named_ring_places, held_on, ring_seen, own_seen, AreSided, AreRings}
+use Rattle.nm_port.specs.declared.port.UserPort.{UserPort}
+use Rattle.nm_port.specs.RingSlots.{RingSlots, with_held, at_positions, with_slot_of_user, slot_at, with_slot_at, both_stepped, head_stepped, slot_framed}
+use Rattle.nm_port.specs.Own.{named_ring_places, held_on, ring_seen, own_seen, AreSided, AreRings}
 use Rattle.nm_own.proofs.Changing.{Keeps, SameUse, seen_changed}
 use Rattle.nm_own.specs.Edits.{edited, port_edited_if, own_edited, ring_edit}
 

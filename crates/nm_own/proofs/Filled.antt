@@ -16,11 +16,11 @@ use Rattle.nm_types.proofs.RingSteps.{dist-below, dist-step_on, step_on-below}
 use Rattle.nm_hold.specs.declared.standing.Standing.{Standing}
 use Rattle.nm_hold.specs.Holds.{HoldState, buffers_of, empty_hold, index_at, standing_at, cell_at, stands_at, places_in, is_named_at, is_named_in, IsHold}
 use Rattle.nm_hold.proofs.Spots.{nat_eq-is}
-use Rattle.nm_own.specs.declared.port.UserPort.{UserPort}
-use Rattle.nm_own.specs.RingSlots.{RingSlots}
-use Rattle.nm_own.specs.Sides.{place_on, number_at}
-use Rattle.nm_own.specs.Own.{own_seen, named_ring_places, named_tx_places, named_places_of, named_places, size_if, is_filled, is_filled_in, AreWhole, AreFilled, AreFlagged, AreRings, AreSided, IsTxSide, IsRingIf}
-use Rattle.nm_own.proofs.Judging.{same_eq, false_true}
+use Rattle.nm_port.specs.declared.port.UserPort.{UserPort}
+use Rattle.nm_port.specs.RingSlots.{RingSlots}
+use Rattle.nm_port.specs.Sides.{place_on, number_at}
+use Rattle.nm_port.specs.Own.{own_seen, named_ring_places, named_tx_places, named_places_of, named_places, size_if, is_filled, is_filled_in, AreWhole, AreFilled, AreFlagged, AreRings, AreSided, IsTxSide, IsRingIf}
+use Rattle.nm_port.proofs.Judging.{same_eq, false_true}
 use Rattle.nm_own.proofs.Naming.{are_named, named_is_seen}
 
 both_true : (a b : Bool) → a ≡ true → b ≡ true → (a && b) ≡ true

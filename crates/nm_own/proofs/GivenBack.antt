@@ -19,29 +19,26 @@ use Rattle.nm_types.proofs.RingSteps.{dist-below, dist-step_on, step_on-below, s
 use Rattle.nm_region.specs.Buffers.{Buffer, indices_of}
 use Rattle.nm_hold.specs.declared.standing.Standing.{Standing}
 use Rattle.nm_hold.specs.Holds.{HoldState, index_at, buffer_at, standing_at, port_of}
-use Rattle.nm_own.specs.declared.port.UserPort.{UserPort}
-use Rattle.nm_own.specs.RingSlots.{RingSlots}
-use Rattle.nm_own.specs.Sides.{place_on, number_at, name_at, names_pushed, pushed_seen}
-use Rattle.nm_own.specs.Own.{number_on, ring_seen, port_seen, own_seen, slots_at, bytes_in_cell, named_places_of, named_places, is_filled, is_filled_in, AreWhole}
-use Rattle.nm_own.specs.Closing.{AreTaken, bytes_of_buffers}
-use Rattle.nm_own.specs.Exchanges.{pushed_count_of, user_position, user_place, CanExchange, AreExchanged, is_among}
-use Rattle.nm_own.specs.Receives.{user_places, ring_given_back, CanGiveBack}
-use Rattle.nm_own.proofs.Judging.{false_true, same_eq}
-use Rattle.nm_own.proofs.Opening.{IsOther}
-use Rattle.nm_own.proofs.SlotLists.{accepted_ring, tail_stays}
-use Rattle.nm_own.proofs.Seeing.{map-slots, pushed_is_seen}
-use Rattle.nm_own.proofs.Pushes.{pushed_is_user}
-use Rattle.nm_own.proofs.Checked.{ring_found}
+use Rattle.nm_port.specs.declared.port.UserPort.{UserPort}
+use Rattle.nm_port.specs.RingSlots.{RingSlots}
+use Rattle.nm_port.specs.Sides.{place_on, number_at, name_at, names_pushed, pushed_seen}
+use Rattle.nm_port.specs.Own.{number_on, ring_seen, port_seen, own_seen, slots_at, bytes_in_cell, named_places_of, named_places, is_filled, is_filled_in, AreWhole}
+use Rattle.nm_port.specs.Closing.{AreTaken, bytes_of_buffers}
+use Rattle.nm_port.specs.Exchanges.{pushed_count_of, user_position, user_place, CanExchange, AreExchanged, is_among}
+use Rattle.nm_port.specs.Receives.{user_places, ring_given_back, CanGiveBack}
+use Rattle.nm_port.proofs.Judging.{false_true, same_eq}
+use Rattle.nm_port.proofs.PortOut.{IsOther}
+use Rattle.nm_port.proofs.SlotLists.{accepted_ring, tail_stays}
+use Rattle.nm_port.proofs.Seeing.{map-slots, pushed_is_seen, port_same}
+use Rattle.nm_port.proofs.Pushes.{pushed_is_user}
+use Rattle.nm_port.proofs.Checked.{ring_found}
 use Rattle.nm_own.proofs.Offered.{back_is_seen}
-use Rattle.nm_own.proofs.Written.{port_same}
 use Rattle.nm_own.proofs.Closing.{bytes_found}
-use Rattle.nm_own.proofs.Buffers.{buf_by_index, cells_by_bufs, count_by_bufs, whole_by_bufs}
+use Rattle.nm_port.proofs.Buffers.{buf_by_index, cells_by_bufs, count_by_bufs, whole_by_bufs}
 use Rattle.nm_own.proofs.Passing.{Passes, ring_is, own_side, positions_fit, ports_once, can_exchange_at}
-use Rattle.nm_own.proofs.Pushed.{is_slot_from}
-use Rattle.nm_own.proofs.Received.{among_slots}
-use Rattle.nm_own.proofs.OnePort.{Among, among, ChangesPort, filled_at, named_at, seen_with}
+use Rattle.nm_port.proofs.Ranges.{is_slot_from, among_slots}
+use Rattle.nm_own.proofs.OnePort.{Among, among, ChangesPort, filled_at, named_at, seen_with, tx_side_of, tx_ring_of}
 use Rattle.nm_own.proofs.RxPlaces.{rx_elsewhere, rx_not_tx, rx_not_extra, rx_named, named_alike, with_rx, user_left, seen_with_rx}
-use Rattle.nm_own.proofs.OnePort.{tx_side_of, tx_ring_of}
 
 some_is : {X : Type 0} (x y : X) → Some x ≡ Some y → x ≡ y
 some_is x y e = cc

@@ -8,16 +8,16 @@ use Rattle.nm_types.proofs.RingSteps.{dist-below}
 use Rattle.nm_region.specs.Buffers.{Buffer}
 use Rattle.nm_own.specs.declared.lend.LentBack.{LentBack}
 use Rattle.nm_own.specs.declared.own.OwnSide.TheInside.{Inside}
-use Rattle.nm_own.specs.declared.port.UserPort.{UserPort}
-use Rattle.nm_own.specs.RingSlots.{RingSlots}
-use Rattle.nm_own.specs.Regions.{SideState, AllOf, HoldsOf}
-use Rattle.nm_own.specs.Own.{own_seen, port_changed, port_changed_if}
-use Rattle.nm_own.specs.Exchanges.{pushed_count_of}
-use Rattle.nm_own.specs.Receives.{ring_given_back}
+use Rattle.nm_port.specs.declared.port.UserPort.{UserPort}
+use Rattle.nm_port.specs.RingSlots.{RingSlots}
+use Rattle.nm_port.specs.Regions.{SideState, AllOf, HoldsOf}
+use Rattle.nm_port.specs.Own.{own_seen, port_changed, port_changed_if}
+use Rattle.nm_port.specs.Exchanges.{pushed_count_of}
+use Rattle.nm_port.specs.Receives.{ring_given_back}
 use Rattle.nm_own.specs.LentBack.{IsLentBack}
 use Rattle.nm_own.proofs.OnePort.{Among, changed_are}
 use Rattle.nm_own.proofs.Passing.{Passes, passes_of}
-use Rattle.nm_own.proofs.Regions.{of_seen, holds_same, holds_taken}
+use Rattle.nm_port.proofs.Regions.{of_seen, holds_same, holds_taken}
 use Rattle.nm_own.proofs.GivenBack.{pushed_ring, pushed_fits, others, given_back, given_back_is_seen}
 
 -- a ring's push has fewer slots than the ring

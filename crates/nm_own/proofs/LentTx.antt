@@ -21,28 +21,30 @@ use Rattle.nm_region.specs.Buffers.{Buffer, indices_of}
 use Rattle.nm_hold.specs.declared.standing.Standing.{Standing}
 use Rattle.nm_hold.specs.Holds.{HoldState, index_at, buffer_at, standing_at, stands_at, is_named_in}
 use Rattle.nm_hold.proofs.Spots.{same_place-is}
-use Rattle.nm_own.specs.declared.port.UserPort.{UserPort}
+use Rattle.nm_port.specs.declared.port.UserPort.{UserPort}
 use Rattle.nm_own.specs.declared.lend_offers.LentOffers.{LentOffers}
 use Rattle.nm_own.specs.declared.own.OwnSide.TheInside.{Inside}
-use Rattle.nm_own.specs.RingSlots.{RingSlots}
-use Rattle.nm_own.specs.Regions.{SideState}
-use Rattle.nm_own.specs.Sides.{place_on, number_at, pushed_seen}
-use Rattle.nm_own.specs.Own.{number_on, ring_seen, port_seen, own_seen, port_at, slots_at, named_ring_places, named_places}
-use Rattle.nm_own.specs.Exchanges.{is_among, pushed_count_of, user_position, user_place, AreExchanged, CanPushOut}
-use Rattle.nm_own.specs.Puts.{offered_slot}
-use Rattle.nm_own.specs.Lending.{AreNamedAs}
-use Rattle.nm_own.specs.Closing.{AreTaken, bytes_of_buffers}
+use Rattle.nm_port.specs.RingSlots.{RingSlots}
+use Rattle.nm_port.specs.Regions.{SideState}
+use Rattle.nm_port.specs.Sides.{place_on, number_at, pushed_seen}
+use Rattle.nm_port.specs.Own.{number_on, ring_seen, port_seen, own_seen, port_at, slots_at, named_ring_places, named_places}
+use Rattle.nm_port.specs.Exchanges.{is_among, pushed_count_of, user_position, user_place, AreExchanged, CanPushOut}
+use Rattle.nm_port.specs.Puts.{offered_slot}
+use Rattle.nm_port.specs.Lending.{AreNamedAs}
+use Rattle.nm_port.specs.Closing.{AreTaken, bytes_of_buffers}
 use Rattle.nm_own.specs.LentOffers.{pending_count_of, offered_count_of, offered_count, offered_buffers, IsLentOffers}
 use Rattle.nm_own.proofs.Closing.{sided_one, bytes_found}
-use Rattle.nm_own.proofs.Buffers.{buf_by_index}
-use Rattle.nm_own.proofs.Checked.{ring_found}
-use Rattle.nm_own.proofs.Seeing.{pushed_is_seen}
-use Rattle.nm_own.specs.Offers.{length_seen}
-use Rattle.nm_own.proofs.Offered.{offered_are, lengths_are_seen}
+use Rattle.nm_port.proofs.Buffers.{buf_by_index}
+use Rattle.nm_port.proofs.Checked.{ring_found}
+use Rattle.nm_port.proofs.Seeing.{pushed_is_seen}
+use Rattle.nm_port.specs.Offers.{length_seen}
+use Rattle.nm_port.proofs.Pushes.{offered_are}
+use Rattle.nm_own.proofs.Offered.{lengths_are_seen}
 use Rattle.nm_own.proofs.Lent.{few_pushed}
 use Rattle.nm_own.proofs.OnePort.{Among, among, named_at}
 use Rattle.nm_own.proofs.Passing.{Passes, passes_of, ring_is, own_side, positions_fit, ports_once}
-use Rattle.nm_own.proofs.Pushed.{is_slot_from, among_tx, rest_not_tx, slots_held, can_exchange}
+use Rattle.nm_port.proofs.Ranges.{is_slot_from}
+use Rattle.nm_own.proofs.Pushed.{among_tx, rest_not_tx, slots_held, can_exchange}
 
 some_is : {X : Type 0} (x y : X) → Some x ≡ Some y → x ≡ y
 some_is x y e = cc

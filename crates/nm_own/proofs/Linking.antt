@@ -17,12 +17,12 @@ use Rattle.nm_types.specs.OwnEdits.{with_written, extra_number, with_head_of_cha
 use Rattle.nm_hold.specs.Standings.{named_bytes_in}
 use Rattle.nm_hold.specs.declared.standing.Standing.{Standing}
 use Rattle.nm_hold.specs.Holds.{HoldState, buffers_of, standing_at, named_bytes_at, is_named_at, IsHold}
-use Rattle.nm_own.specs.declared.port.UserPort.{UserPort}
-use Rattle.nm_own.specs.Sides.{number_at}
-use Rattle.nm_own.specs.Own.{extra_number_at, port_seen, own_seen, bytes_in_cell, bytes_in_hold, named_places, named_places_of, is_filled, is_filled_in, places_of_port, AreFilled, AreFlagged, AreSided, AreRings, HasPlaces, HaveBackRoom}
+use Rattle.nm_port.specs.declared.port.UserPort.{UserPort}
+use Rattle.nm_port.specs.Sides.{number_at}
+use Rattle.nm_port.specs.Own.{extra_number_at, port_seen, own_seen, bytes_in_cell, bytes_in_hold, named_places, named_places_of, is_filled, is_filled_in, places_of_port, AreFilled, AreFlagged, AreSided, AreRings, HasPlaces, HaveBackRoom}
 use Rattle.nm_own.specs.ExtraChain.{extra_at, extra_numbered, port_headed_if, named_bytes}
 use Rattle.nm_own.proofs.Filled.{is_named_seen}
-use Rattle.nm_own.proofs.Checked.{bytes_are_seen}
+use Rattle.nm_port.proofs.Checked.{bytes_are_seen}
 
 -- ports of which one has another head
 module _ (id idx : ℕ) where

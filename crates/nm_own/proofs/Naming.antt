@@ -15,12 +15,12 @@ use Rattle.nm_types.specs.OwnPorts.{buffer_in, named_in, named_of, user_buffers_
 use Rattle.nm_hold.specs.declared.standing.Standing.{Standing}
 use Rattle.nm_hold.specs.Holds.{HoldState, index_at, standing_at, stands_at, is_named_in, IsHold}
 use Rattle.nm_hold.proofs.Spots.{nat_eq-is, same_place-is}
-use Rattle.nm_own.specs.declared.port.UserPort.{UserPort}
-use Rattle.nm_own.specs.RingSlots.{RingSlots}
-use Rattle.nm_own.specs.Sides.{place_on, number_at, AreNamed}
-use Rattle.nm_own.specs.Own.{positions_of, number_on, extra_number_at, ring_seen, port_seen, own_seen, named_ring_places, named_tx_places, named_places_of, named_places, AreFlagged, IsTxSide, AreSided, IsRingIf, AreRings}
-use Rattle.nm_own.proofs.Judging.{same_eq, false_true}
-use Rattle.nm_own.proofs.Seeing.{map-slots, buffer_seen}
+use Rattle.nm_port.specs.declared.port.UserPort.{UserPort}
+use Rattle.nm_port.specs.RingSlots.{RingSlots}
+use Rattle.nm_port.specs.Sides.{place_on, number_at, AreNamed}
+use Rattle.nm_port.specs.Own.{positions_of, number_on, extra_number_at, ring_seen, port_seen, own_seen, named_ring_places, named_tx_places, named_places_of, named_places, AreFlagged, IsTxSide, AreSided, IsRingIf, AreRings}
+use Rattle.nm_port.proofs.Judging.{same_eq, false_true}
+use Rattle.nm_port.proofs.Seeing.{map-slots, buffer_seen}
 
 same_bool : (a b : Bool) → (a ≡ true → b ≡ true) → (b ≡ true → a ≡ true) → a ≡ b
 same_bool true b f g = sym (f refl)

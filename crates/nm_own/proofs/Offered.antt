@@ -9,27 +9,15 @@ use Rattle.nm_types.specs.OwnPorts.{bytes_at, slot_in}
 use Rattle.nm_types.specs.OwnSyncs.{back_on}
 use Rattle.nm_types.proofs.RingSteps.{step_on-below, step_on-dist, slots_from-add}
 use Rattle.nm_hold.specs.Holds.{HoldState}
-use Rattle.nm_own.specs.declared.port.UserPort.{UserPort}
-use Rattle.nm_own.specs.RingSlots.{RingSlots, slot_at}
-use Rattle.nm_own.specs.Sides.{names_pushed}
-use Rattle.nm_own.specs.Own.{ring_seen, own_seen, slots_at, AreSided, AreRings}
-use Rattle.nm_own.specs.Offers.{unmarked_frame, offer_seen, offers_seen, frames_offered, length_seen, lengths_seen, offered_lengths}
-use Rattle.nm_own.proofs.Checked.{bytes_are_seen, found, ring_found, side_found}
-use Rattle.nm_own.proofs.Seeing.{pushed_is_seen}
-use Rattle.nm_own.proofs.Pushes.{names-seen}
+use Rattle.nm_port.specs.declared.port.UserPort.{UserPort}
+use Rattle.nm_port.specs.RingSlots.{RingSlots, slot_at}
+use Rattle.nm_port.specs.Sides.{names_pushed}
+use Rattle.nm_port.specs.Own.{ring_seen, own_seen, slots_at, AreSided, AreRings}
+use Rattle.nm_port.specs.Offers.{unmarked_frame, offer_seen, offers_seen, frames_offered, length_seen, lengths_seen, offered_lengths}
+use Rattle.nm_port.proofs.Checked.{bytes_are_seen, found, ring_found, side_found}
+use Rattle.nm_port.proofs.Seeing.{pushed_is_seen}
+use Rattle.nm_port.proofs.Pushes.{names-seen}
 use Rattle.nm_own.proofs.Closing.{ring_one}
-
--- the slots still pushed, and behind them those pushed now
-pub offered_are : (ring : RingState) → IsRing ring → slots_from ring.size (step_on ring.size ring.last_tail 1) (dist ring.size (step_on ring.size ring.last_tail 1) ring.accepted_head + dist ring.size ring.accepted_head ring.head)
-    ≡ pending_slots ring ++ pushed_slots ring ring.head
-offered_are ring is =
-    let first = step_on ring.size ring.last_tail 1 in
-    let tail : ring.last_tail < ring.size = (let w = is.within in let o = is.one_tail in omega arith) in
-    let within = step_on-below ring.size ring.last_tail 1 tail in
-    let pending = dist ring.size first ring.accepted_head in
-    let pushed = dist ring.size ring.accepted_head ring.head in
-    slots_from-add ring.size first pending pushed
-    ∙ ap (λ (at : ℕ). slots_from ring.size first pending ++ slots_from ring.size at pushed) (step_on-dist ring.size first ring.accepted_head within is.accepted)
 
 pub offers_are_seen : (h : HoldState) (ports : List UserPort) (id : PortId) (r : RingSlots) → AreSided ports → slots_at Tx ports id.0 ≡ Some r → offers_seen h r ≡ frames_offered id.0 (own_seen h ports)
 offers_are_seen h ports id r sided at =

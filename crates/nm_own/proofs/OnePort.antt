@@ -17,13 +17,14 @@ use Rattle.nm_hold.specs.declared.table.PortPlaces.{PortPlaces}
 use Rattle.nm_hold.specs.Offsets.{count_of, ArePortsOnce}
 use Rattle.nm_hold.specs.Holds.{HoldState, buffers_of, index_at, standing_at, port_of, IsHold}
 use Rattle.nm_hold.proofs.Spots.{nat_eq-is}
-use Rattle.nm_own.specs.declared.port.UserPort.{UserPort}
+use Rattle.nm_port.specs.declared.port.UserPort.{UserPort}
 use Rattle.nm_own.specs.declared.own.OwnSide.TheInside.{Inside}
-use Rattle.nm_own.specs.Own.{port_seen, port_at, named_places_of, named_places, is_filled, is_filled_in, places_of_port, AreFlagged, AreSided, AreRings, AreWhole, IsTxSide, IsRingIf, HaveBackRoom}
+use Rattle.nm_port.specs.Own.{port_seen, port_at, named_places_of, named_places, is_filled, is_filled_in, places_of_port, AreFlagged, AreSided, AreRings, AreWhole, IsTxSide, IsRingIf, HaveBackRoom}
 use Rattle.nm_own.specs.Kept.{IsKept}
-use Rattle.nm_own.specs.Exchanges.{is_among}
-use Rattle.nm_own.proofs.Opening.{IsOther, unfilled_in, unfilled}
-use Rattle.nm_own.proofs.Closing.{rest_other, named_of_port, none_same}
+use Rattle.nm_port.specs.Exchanges.{is_among}
+use Rattle.nm_port.proofs.PortOut.{IsOther, rest_other}
+use Rattle.nm_own.proofs.Opening.{unfilled_in, unfilled}
+use Rattle.nm_own.proofs.Closing.{named_of_port, none_same}
 
 some_is : {X : Type 0} (x y : X) → Some x ≡ Some y → x ≡ y
 some_is x y e = cc

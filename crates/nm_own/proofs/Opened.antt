@@ -22,16 +22,17 @@ use Rattle.nm_hold.specs.declared.standing.Standing.{Standing}
 use Rattle.nm_hold.specs.declared.table.PortPlaces.{PortPlaces}
 use Rattle.nm_hold.specs.Holds.{HoldState, buffers_of, index_at, port_of, places_in, cell_at}
 use Rattle.nm_hold.proofs.Spots.{nat_eq-is, same_place-is}
-use Rattle.nm_own.specs.declared.fill.Row.TheVariants.{Slots, Extras}
-use Rattle.nm_own.specs.declared.port.UserPort.{UserPort}
-use Rattle.nm_own.specs.Sides.{place_on}
-use Rattle.nm_own.specs.Own.{number_on, held_on, extra_number_at, ring_seen, port_seen, own_seen, bytes_in_cell, named_ring_places, named_tx_places, named_places_of, named_places, size_if, is_filled, is_filled_in, places_of_port, AreFilled, AreFlagged, AreSided, AreRings, AreWhole, HasPlaces, IsTxSide, IsRingIf, HasBackRoom, HaveBackRoom}
-use Rattle.nm_own.specs.Filling.{place_in, index_with, named_with, bytes_with, AreFilledWith}
+use Rattle.nm_port.specs.declared.fill.Row.TheVariants.{Slots, Extras}
+use Rattle.nm_port.specs.declared.port.UserPort.{UserPort}
+use Rattle.nm_port.specs.Sides.{place_on}
+use Rattle.nm_port.specs.Own.{number_on, held_on, extra_number_at, ring_seen, port_seen, own_seen, bytes_in_cell, named_ring_places, named_tx_places, named_places_of, named_places, size_if, is_filled, is_filled_in, places_of_port, AreFilled, AreFlagged, AreSided, AreRings, AreWhole, HasPlaces, IsTxSide, IsRingIf, HasBackRoom, HaveBackRoom}
+use Rattle.nm_port.specs.Filling.{place_in, index_with, named_with, bytes_with, AreFilledWith}
 use Rattle.nm_own.specs.Opening.{IsTxSize, blank_arrivals, opened_slots, opened_user_port}
-use Rattle.nm_own.proofs.Judging.{false_true}
+use Rattle.nm_port.proofs.Judging.{false_true}
 use Rattle.nm_own.proofs.Filled.{named_are_filled}
-use Rattle.nm_own.proofs.Written.{port_same}
-use Rattle.nm_own.proofs.Opening.{IsOther, unfilled, opened_bytes, index_off, other_port, in_range, index_row, row_numbers, named_from, named_off}
+use Rattle.nm_port.proofs.Seeing.{port_same}
+use Rattle.nm_port.proofs.PortOut.{IsOther}
+use Rattle.nm_own.proofs.Opening.{unfilled, opened_bytes, index_off, other_port, in_range, index_row, row_numbers, named_from, named_off}
 
 pub indices_length : (bufs : List Buffer) → length (indices_of bufs) ≡ length bufs
 indices_length bufs = length-map bufs (λ (b : Buffer). b.index)

@@ -19,23 +19,21 @@ use Rattle.nm_hold.specs.declared.table.PortPlaces.{PortPlaces}
 use Rattle.nm_hold.specs.Offsets.{has_place, has_port, offset_of}
 use Rattle.nm_hold.specs.Holds.{HoldState, port_of}
 use Rattle.nm_hold.proofs.Spots.{nat_eq-is, same_place-is, same_place-refl}
-use Rattle.nm_own.specs.declared.fill.Row.{Row}
-use Rattle.nm_own.specs.declared.fill.Row.TheVariants.{Slots, Extras}
-use Rattle.nm_own.specs.declared.port.UserPort.{UserPort}
-use Rattle.nm_own.specs.Own.{port_seen, own_seen, is_filled, is_filled_in, places_of_port}
-use Rattle.nm_own.specs.Filling.{place_in, index_with, named_with, bytes_with}
+use Rattle.nm_port.specs.declared.fill.Row.{Row}
+use Rattle.nm_port.specs.declared.fill.Row.TheVariants.{Slots, Extras}
+use Rattle.nm_port.specs.declared.port.UserPort.{UserPort}
+use Rattle.nm_port.specs.Own.{port_seen, own_seen, is_filled, is_filled_in, places_of_port}
+use Rattle.nm_port.specs.Filling.{place_in, index_with, named_with, bytes_with}
 use Rattle.nm_own.specs.Opening.{blank_arrival, blank_arrivals}
-use Rattle.nm_own.proofs.Filling.{row_apart}
-use Rattle.nm_own.proofs.Judging.{false_true}
+use Rattle.nm_port.proofs.Filling.{row_apart}
+use Rattle.nm_port.proofs.Judging.{false_true}
+use Rattle.nm_port.proofs.PortOut.{IsOther}
 
 turned : (a b : ℕ) → nat_eq a b ≡ false → nat_eq b a ≡ false
 turned a b e = grind (arith, nat_tests)
 
 same_true : (a b : ℕ) → a ≡ b → nat_eq a b ≡ true
 same_true a b e = grind (arith, nat_tests)
-
-abbrev pub IsOther : ℕ → UserPort → Type 0
-IsOther id p = nat_eq p.id.0 id ≡ false
 
 -- no port has this id
 pub no_port : (h : HoldState) (ports : List UserPort) (id : ℕ) → port_with_id (own_seen h ports) id ≡ None → AllByRecursion (IsOther id) ports

@@ -14,9 +14,9 @@ use Rattle.nm_types.specs.OwnPorts.{OwnRing, OwnPort, OwnState, Arrival, ring_at
 use Rattle.nm_types.specs.OwnSyncs.{accepted, port_swapped, buffer_on, after_slot, after_exchange, published, buffers_of_arrivals, with_arrival, without_bytes_of, back_on, ring_after_receive, own_after_receive}
 use Rattle.nm_types.proofs.RingSteps.{dist-below, dist-add, dist_self, step_on-step_on}
 use Rattle.nm_slot.proofs.CheckLaws.{passed_positions_fit}
-use Rattle.nm_own.specs.Receives.{has_free_slot, ring_with_arrival, own_with_arrival}
+use Rattle.nm_port.specs.Receives.{has_free_slot, ring_with_arrival, own_with_arrival}
 use Rattle.nm_own.specs.Laws.{FramesComeOneByOne, RoomForFrames}
-use Rattle.nm_own.proofs.Judging.{same_eq}
+use Rattle.nm_port.proofs.Judging.{same_eq}
 
 -- one frame more
 module _ (done : List Arrival) (a : Arrival) where

@@ -18,18 +18,18 @@ use Rattle.nm_hold.specs.declared.standing.Standing.{Standing}
 use Rattle.nm_hold.specs.Offsets.{ArePortsOnce}
 use Rattle.nm_hold.specs.Holds.{HoldState, buffers_of, index_at, standing_at, is_named_at, is_named_in, stands_at, IsHold}
 use Rattle.nm_hold.proofs.Spots.{same_place-is}
-use Rattle.nm_own.specs.declared.port.UserPort.{UserPort}
+use Rattle.nm_port.specs.declared.port.UserPort.{UserPort}
 use Rattle.nm_own.specs.declared.own.OwnSide.TheInside.{Inside}
-use Rattle.nm_own.specs.RingSlots.{RingSlots}
-use Rattle.nm_own.specs.Sides.{place_on, name_at, names_pushed, pushed_seen, pushed_seen_at}
-use Rattle.nm_own.specs.Own.{own_seen, port_at, slots_on, slots_at, refusal_at, named_places, places_of_port, is_filled, AreFilled, AreFlagged, AreSided, AreRings, HasPlaces}
+use Rattle.nm_port.specs.RingSlots.{RingSlots}
+use Rattle.nm_port.specs.Sides.{place_on, name_at, names_pushed, pushed_seen, pushed_seen_at}
+use Rattle.nm_port.specs.Own.{own_seen, port_at, slots_on, slots_at, refusal_at, named_places, places_of_port, is_filled, AreFilled, AreFlagged, AreSided, AreRings, HasPlaces}
 use Rattle.nm_own.specs.Kept.{IsKept}
-use Rattle.nm_own.specs.Exchanges.{IsNamedThere, pushed_count_of, user_position, user_place, is_among, CanExchange}
-use Rattle.nm_own.proofs.Judging.{false_true, same_eq}
+use Rattle.nm_port.specs.Exchanges.{IsNamedThere, pushed_count_of, user_position, user_place, is_among, CanExchange}
+use Rattle.nm_port.proofs.Judging.{false_true, same_eq}
 use Rattle.nm_own.proofs.Naming.{are_named}
-use Rattle.nm_own.proofs.Seeing.{get-slots}
-use Rattle.nm_own.proofs.Pushes.{names-seen}
-use Rattle.nm_own.proofs.Checked.{found, side_found, refusal_is_seen, passed_fits, tx_ring_found}
+use Rattle.nm_port.proofs.Seeing.{get-slots}
+use Rattle.nm_port.proofs.Pushes.{names-seen}
+use Rattle.nm_port.proofs.Checked.{found, side_found, refusal_is_seen, passed_fits, tx_ring_found}
 use Rattle.nm_own.proofs.Offered.{rx_ring_found}
 
 -- what is asked of a ring whose push passes the checks

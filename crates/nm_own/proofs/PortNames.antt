@@ -4,8 +4,8 @@ use Rattle.std.specs.Str.{bytes_eq}
 use Rattle.std.proofs.lemmas.Bool.{cases_Bool}
 use Rattle.nm_types.specs.OwnPorts.{port_with_name}
 use Rattle.nm_hold.specs.Holds.{HoldState}
-use Rattle.nm_own.specs.declared.port.UserPort.{UserPort}
-use Rattle.nm_own.specs.Own.{port_seen, own_seen}
+use Rattle.nm_port.specs.declared.port.UserPort.{UserPort}
+use Rattle.nm_port.specs.Own.{port_seen, own_seen}
 use Rattle.nm_own.specs.PortNames.{port_named}
 
 some_is : {X : Type 0} (x y : X) → Some x ≡ Some y → x ≡ y

@@ -24,24 +24,24 @@ use Rattle.nm_hold.specs.declared.standing.Standing.{Standing}
 use Rattle.nm_hold.specs.Offsets.{has_place, offset_of}
 use Rattle.nm_hold.specs.Holds.{HoldState, buffers_of, index_at, standing_at, with_cell, port_of, IsHold}
 use Rattle.nm_hold.proofs.Spots.{nat_eq-is, same_place-is, same_place-refl}
-use Rattle.nm_own.specs.declared.port.UserPort.{UserPort}
+use Rattle.nm_port.specs.declared.port.UserPort.{UserPort}
 use Rattle.nm_own.specs.declared.own.OwnSide.TheInside.{Inside}
-use Rattle.nm_own.specs.RingSlots.{RingSlots}
-use Rattle.nm_own.specs.Sides.{number_at}
-use Rattle.nm_own.specs.Own.{number_on, ring_seen, port_seen, own_seen, port_at, slots_at, bytes_in_cell, named_places_of, named_places, places_of_port, is_filled, is_filled_in, AreFilled, AreFlagged, AreSided, AreRings, AreWhole, HasPlaces}
+use Rattle.nm_port.specs.RingSlots.{RingSlots}
+use Rattle.nm_port.specs.Sides.{number_at}
+use Rattle.nm_port.specs.Own.{number_on, ring_seen, port_seen, own_seen, port_at, slots_at, bytes_in_cell, named_places_of, named_places, places_of_port, is_filled, is_filled_in, AreFilled, AreFlagged, AreSided, AreRings, AreWhole, HasPlaces}
 use Rattle.nm_own.specs.Kept.{IsKept}
-use Rattle.nm_own.specs.Filling.{placed}
-use Rattle.nm_own.specs.Exchanges.{is_among}
-use Rattle.nm_own.specs.Receives.{has_free_slot, can_receive, ring_with_arrival, own_with_arrival, ring_published, HasRoom, CanPublish}
-use Rattle.nm_own.proofs.Judging.{false_true, same_eq}
-use Rattle.nm_own.proofs.Opening.{IsOther, none_if}
-use Rattle.nm_own.proofs.SlotLists.{accepted_ring}
-use Rattle.nm_own.proofs.Seeing.{map-slots}
-use Rattle.nm_own.proofs.Pushes.{seen_more}
-use Rattle.nm_own.proofs.Checked.{found, ring_found, ring_not_found, side_found}
+use Rattle.nm_port.specs.Filling.{placed}
+use Rattle.nm_port.specs.Exchanges.{is_among}
+use Rattle.nm_port.specs.Receives.{has_free_slot, can_receive, ring_with_arrival, own_with_arrival, ring_published, HasRoom, CanPublish}
+use Rattle.nm_port.proofs.Judging.{false_true, same_eq}
+use Rattle.nm_port.proofs.PortOut.{IsOther}
+use Rattle.nm_own.proofs.Opening.{none_if}
+use Rattle.nm_port.proofs.SlotLists.{accepted_ring}
+use Rattle.nm_port.proofs.Seeing.{map-slots, port_same}
+use Rattle.nm_port.proofs.Pushes.{seen_more}
+use Rattle.nm_port.proofs.Checked.{found, ring_found, ring_not_found, side_found}
 use Rattle.nm_own.proofs.Offered.{rx_ring_found}
-use Rattle.nm_own.proofs.Written.{port_same}
-use Rattle.nm_own.proofs.Pushed.{is_slot_from}
+use Rattle.nm_port.proofs.Ranges.{is_slot_from}
 use Rattle.nm_own.proofs.OnePort.{Among, among, ChangesPort, filled_at, named_at, seen_with, tx_side_of, tx_ring_of}
 use Rattle.nm_own.proofs.RxPlaces.{filled_named, named_alike, with_rx, seen_with_rx}
 use Rattle.nm_own.proofs.PutOne.{stands_here, stood_there, bytes_with_one, count_with_one, ports_with_one, whole_with_one}

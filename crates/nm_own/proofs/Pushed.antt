@@ -19,59 +19,25 @@ use Rattle.nm_types.proofs.RingSteps.{dist-below, dist-step_on, step_on-below, s
 use Rattle.nm_hold.specs.Offsets.{ArePortsOnce}
 use Rattle.nm_hold.specs.Holds.{HoldState, buffers_of, index_at, port_of}
 use Rattle.nm_hold.proofs.Spots.{nat_eq-is}
-use Rattle.nm_own.specs.declared.port.UserPort.{UserPort}
+use Rattle.nm_port.specs.declared.port.UserPort.{UserPort}
 use Rattle.nm_own.specs.declared.own.OwnSide.TheInside.{Inside}
-use Rattle.nm_own.specs.RingSlots.{RingSlots}
-use Rattle.nm_own.specs.Sides.{place_on, pushed_seen}
-use Rattle.nm_own.specs.Own.{ring_seen, port_seen, own_seen, port_at, slots_at, bytes_in_cell, named_ring_places, named_tx_places, named_places_of, named_places, size_if, is_filled, is_filled_in, places_of_port, AreFlagged, AreSided, AreRings, AreWhole, IsTxSide, IsRingIf, port_changed, port_changed_if, HaveBackRoom}
+use Rattle.nm_port.specs.RingSlots.{RingSlots}
+use Rattle.nm_port.specs.Sides.{place_on, pushed_seen}
+use Rattle.nm_port.specs.Own.{ring_seen, port_seen, own_seen, port_at, slots_at, bytes_in_cell, named_ring_places, named_tx_places, named_places_of, named_places, size_if, is_filled, is_filled_in, places_of_port, AreFlagged, AreSided, AreRings, AreWhole, IsTxSide, IsRingIf, port_changed, port_changed_if, HaveBackRoom}
 use Rattle.nm_own.specs.Kept.{IsKept}
-use Rattle.nm_own.specs.Exchanges.{pushed_count_of, user_position, CanExchange, ArePushedOut, is_among, named_after_push, tx_places, ring_pushed_out, CanPushOut, CanPushOutIf, CanAccept}
-use Rattle.nm_own.proofs.Judging.{false_true, same_eq}
-use Rattle.nm_own.proofs.Opening.{IsOther}
-use Rattle.nm_own.proofs.Closing.{rest_other, none_same, named_of_port, filled_in_one, filled_one}
-use Rattle.nm_own.proofs.SlotLists.{accepted_ring}
-use Rattle.nm_own.proofs.Seeing.{pushed_is_seen}
-use Rattle.nm_own.proofs.Checked.{ring_found}
-use Rattle.nm_own.proofs.Buffers.{cells_by_bufs, count_by_bufs, whole_by_bufs}
+use Rattle.nm_port.specs.Exchanges.{pushed_count_of, user_position, CanExchange, ArePushedOut, is_among, named_after_push, tx_places, ring_pushed_out, CanPushOut, CanPushOutIf, CanAccept}
+use Rattle.nm_port.proofs.Judging.{false_true, same_eq}
+use Rattle.nm_port.proofs.PortOut.{IsOther, rest_other}
+use Rattle.nm_own.proofs.Closing.{none_same, named_of_port, filled_in_one, filled_one}
+use Rattle.nm_port.proofs.SlotLists.{accepted_ring}
+use Rattle.nm_port.proofs.Seeing.{pushed_is_seen}
+use Rattle.nm_port.proofs.Checked.{ring_found}
+use Rattle.nm_port.proofs.Buffers.{cells_by_bufs, count_by_bufs, whole_by_bufs}
 use Rattle.nm_own.proofs.Passing.{Passes, ring_is, own_side, positions_fit, ports_once, can_exchange_at}
+use Rattle.nm_port.proofs.Ranges.{is_slot_from}
 
 some_is : {X : Type 0} (x y : X) → Some x ≡ Some y → x ≡ y
 some_is x y e = cc
-
--- positions among slots from one on
-abbrev in_range : ℕ → ℕ → ℕ → Bool
-in_range a n d = nat_lt a (d + 1) && nat_lt d (a + n)
-
-pub is_slot_from : (size first n at : ℕ) → first < size → n ≤ size → at < size → list_any (λ x. nat_eq x at) (slots_from size first n) ≡ nat_lt (dist size first at) n
-is_slot_from size first n at f few inside = over 0 n (omega arith) ∙ from_zero (dist size first at) n
-  where
-    one : (k : ℕ) → k < size → nat_eq (step_on size first k) at ≡ nat_eq k (dist size first at)
-    one k below = by_test (nat_eq k (dist size first at)) refl
-      where
-        by_test : (b : Bool) → nat_eq k (dist size first at) ≡ b → nat_eq (step_on size first k) at ≡ b
-        by_test true e =
-            let same : k ≡ dist size first at = nat_eq-is k (dist size first at) e in
-            let there : step_on size first k ≡ at = (ap (step_on size first) same ∙ step_on-dist size first at f inside) in
-            same_eq (step_on size first k) at there
-        by_test false e = elim (cases_Bool (nat_eq (step_on size first k) at)) [
-          | inl same ↦ (let is : step_on size first k ≡ at = nat_eq-is (step_on size first k) at same in
-              let k_is : k ≡ dist size first at = sym (dist-step_on size first k f below) ∙ ap (dist size first) is in
-              false_true (sym e ∙ same_eq k (dist size first at) k_is))
-          | inr other ↦ other
-        ]
-
-    from_zero : (d n : ℕ) → in_range 0 n d ≡ nat_lt d n
-    from_zero d n = grind (arith, nat_tests)
-
-    over : (a n : ℕ) → a + n ≤ size → list_any (λ x. nat_eq x at) (map (step_on size first) (range_with_len a n)) ≡ in_range a n (dist size first at)
-    over a zero room = none a (dist size first at)
-      where
-        none : (a d : ℕ) → false ≡ in_range a 0 d
-        none a d = grind (arith, nat_tests)
-    over a (suc n) room = rw (one a (omega arith), over (a + 1) n (omega arith)) (more a n (dist size first at))
-      where
-        more : (a n d : ℕ) → (nat_eq a d || in_range (a + 1) n d) ≡ in_range a (suc n) d
-        more a n d = grind (arith, nat_tests)
 
 -- where a slot stands, seen from three positions
 pub seen_from : (size a h x : ℕ) → a < size → h < size → x < size → (dist size h x + dist size a h ≡ dist size a x) ⊎ (dist size h x + dist size a h ≡ dist size a x + size)

@@ -11,14 +11,14 @@ use Rattle.nm_hold.specs.declared.standing.Standing.{Standing}
 use Rattle.nm_hold.specs.Holds.{HoldState, buffers_of, buffer_at, index_at, standing_at, with_cell, IsHold}
 use Rattle.nm_hold.specs.Standings.{buf_in}
 use Rattle.nm_hold.proofs.Spots.{nat_eq-is, same_place-is}
-use Rattle.nm_own.specs.declared.port.UserPort.{UserPort}
-use Rattle.nm_own.specs.Own.{own_seen, bytes_in_cell, AreWhole}
-use Rattle.nm_own.specs.Filling.{placed}
+use Rattle.nm_port.specs.declared.port.UserPort.{UserPort}
+use Rattle.nm_port.specs.Own.{own_seen, bytes_in_cell, AreWhole}
+use Rattle.nm_port.specs.Filling.{placed}
 use Rattle.nm_own.specs.Opening.{IsNew}
-use Rattle.nm_own.proofs.Judging.{false_true, same_eq}
-use Rattle.nm_own.proofs.Filling.{within_pool}
-use Rattle.nm_own.proofs.Written.{map-set}
-use Rattle.nm_own.proofs.Checked.{bytes_are_seen}
+use Rattle.nm_port.proofs.Judging.{false_true, same_eq}
+use Rattle.nm_port.proofs.Filling.{within_pool}
+use Rattle.nm_port.proofs.Seeing.{map-set}
+use Rattle.nm_port.proofs.Checked.{bytes_are_seen}
 use Rattle.nm_own.proofs.Readied.{away_of}
 
 some_same : {X : Type 0} (x y : X) → Some x ≡ Some y → x ≡ y

@@ -11,15 +11,16 @@ use Rattle.nm_hold.specs.declared.standing.Standing.{Standing}
 use Rattle.nm_hold.specs.declared.table.PortPlaces.{PortPlaces}
 use Rattle.nm_hold.specs.Offsets.{has_place, has_port}
 use Rattle.nm_hold.specs.Holds.{HoldState, buffers_of, index_at, standing_at, places_in, cell_at}
-use Rattle.nm_own.specs.declared.fill.Row.{Row}
-use Rattle.nm_own.specs.declared.fill.Row.TheVariants.{Slots, Extras}
-use Rattle.nm_own.specs.declared.port.UserPort.{UserPort}
-use Rattle.nm_own.specs.Own.{own_seen, bytes_in_cell, AreFilled, AreWhole, HasPlaces}
-use Rattle.nm_own.specs.Regions.{SideState, side_seen}
-use Rattle.nm_own.specs.Filling.{place_in, IsAway, AreFilledWith}
+use Rattle.nm_port.specs.declared.fill.Row.{Row}
+use Rattle.nm_port.specs.declared.fill.Row.TheVariants.{Slots, Extras}
+use Rattle.nm_port.specs.declared.port.UserPort.{UserPort}
+use Rattle.nm_port.specs.Own.{own_seen, bytes_in_cell, AreFilled, AreWhole, HasPlaces}
+use Rattle.nm_port.specs.Regions.{SideState, side_seen}
+use Rattle.nm_port.specs.Filling.{place_in, IsAway, AreFilledWith}
 use Rattle.nm_own.specs.Opening.{IsTxSize, IsNew}
-use Rattle.nm_own.proofs.Checked.{bytes_are_seen}
-use Rattle.nm_own.proofs.Opening.{IsOther, no_port, no_places_of, unfilled, row_port, none_if, has_row, index_off}
+use Rattle.nm_port.proofs.Checked.{bytes_are_seen}
+use Rattle.nm_port.proofs.PortOut.{IsOther}
+use Rattle.nm_own.proofs.Opening.{no_port, no_places_of, unfilled, row_port, none_if, has_row, index_off}
 use Rattle.nm_own.proofs.Opened.{Opens, indices_length}
 use Rattle.nm_region.specs.Buffers.{Buffer, indices_of}
 use Rattle.nm_own.specs.NewPorts.{NewPortState}

@@ -10,21 +10,14 @@ use Rattle.nm_types.specs.Positions.{IsRing, FitsRing, slots_from}
 use Rattle.nm_types.proofs.RingSteps.{dist-below, dist-step_on, step_on-below}
 use Rattle.nm_region.specs.Buffers.{Buffer}
 use Rattle.nm_hold.specs.Holds.{HoldState, index_at}
-use Rattle.nm_own.specs.RingSlots.{RingSlots}
-use Rattle.nm_own.specs.Sides.{place_on}
-use Rattle.nm_own.specs.Closing.{AreTaken}
-use Rattle.nm_own.specs.Exchanges.{pushed_count_of, user_position, user_place, is_among}
-use Rattle.nm_own.specs.Receives.{user_places}
-use Rattle.nm_own.proofs.Judging.{same_eq}
-use Rattle.nm_own.proofs.Pushes.{seen_more}
-use Rattle.nm_own.proofs.Pushed.{is_slot_from}
-
--- a place among slots of its side
-pub among_slots : (s : Side) (id : PortId) (ats : List ℕ) (at : ℕ) → is_among (map (place_on s id) ats) (place_on s id at) ≡ list_any (λ x. nat_eq x at) ats
-among_slots Tx id [] at = refl
-among_slots Tx id (x ∷ ats) at = rw (same_eq id.0 id.0 refl) (ap (λ (b : Bool). nat_eq x at || b) (among_slots Tx id ats at))
-among_slots Rx id [] at = refl
-among_slots Rx id (x ∷ ats) at = rw (same_eq id.0 id.0 refl) (ap (λ (b : Bool). nat_eq x at || b) (among_slots Rx id ats at))
+use Rattle.nm_port.specs.RingSlots.{RingSlots}
+use Rattle.nm_port.specs.Sides.{place_on}
+use Rattle.nm_port.specs.Closing.{AreTaken}
+use Rattle.nm_port.specs.Exchanges.{pushed_count_of, user_position, user_place, is_among}
+use Rattle.nm_port.specs.Receives.{user_places}
+use Rattle.nm_port.proofs.Judging.{same_eq}
+use Rattle.nm_port.proofs.Pushes.{seen_more}
+use Rattle.nm_port.proofs.Ranges.{is_slot_from, among_slots}
 
 pub user_more : (id : PortId) (r : RingSlots) (k : ℕ) → user_places id r (k + 1) ≡ user_places id r k ++ user_place id r k ∷ []
 user_more id r k = seen_more (place_on r.side id) r.ring.size r.ring.accepted_head k

@@ -15,22 +15,22 @@ use Rattle.nm_region.specs.Buffers.{Buffer, indices_of}
 use Rattle.nm_hold.specs.Standings.{buf_in}
 use Rattle.nm_hold.specs.Holds.{HoldState, index_at, standing_at, with_cell, IsHold}
 use Rattle.nm_hold.proofs.Spots.{same_place-is}
-use Rattle.nm_own.specs.Own.{bytes_in_cell, AreWhole}
-use Rattle.nm_own.specs.Regions.{AreOf, HoldsOf}
-use Rattle.nm_own.specs.Sides.{place_on}
-use Rattle.nm_own.specs.Filling.{placed, FlaggedBy, bytes_with}
-use Rattle.nm_own.specs.declared.fill.Row.TheVariants.{Slots}
+use Rattle.nm_port.specs.Own.{bytes_in_cell, AreWhole}
+use Rattle.nm_port.specs.Regions.{AreOf, HoldsOf}
+use Rattle.nm_port.specs.Sides.{place_on}
+use Rattle.nm_port.specs.Filling.{placed, FlaggedBy, bytes_with}
+use Rattle.nm_port.specs.declared.fill.Row.TheVariants.{Slots}
 use Rattle.nm_own.specs.Opening.{blank_arrivals}
-use Rattle.nm_own.specs.Closing.{AreTaken}
-use Rattle.nm_own.specs.Exchanges.{is_among}
-use Rattle.nm_own.specs.Lending.{IsOut, Run, place_of_run, AreOut}
+use Rattle.nm_port.specs.Closing.{AreTaken}
+use Rattle.nm_port.specs.Exchanges.{is_among}
+use Rattle.nm_port.specs.Lending.{IsOut, Run, place_of_run, AreOut}
 use Rattle.nm_own.proofs.ComingIn.{all_turned, indices_turned}
 use Rattle.nm_own.proofs.Opening.{cleared_all}
-use Rattle.nm_own.proofs.Pushes.{seen_more}
-use Rattle.nm_own.proofs.Taking.{emptied, none_taken, taken_next}
+use Rattle.nm_port.proofs.Pushes.{seen_more}
+use Rattle.nm_port.proofs.Taking.{emptied, none_taken, taken_next}
 use Rattle.nm_own.proofs.PutOne.{stands_here, stood_there, bytes_with_one, whole_with_one}
-use Rattle.nm_own.proofs.Regions.{holds_added}
-use Rattle.nm_own.proofs.Undoing.{run_not_yet, index_back, put_back}
+use Rattle.nm_port.proofs.Regions.{holds_added}
+use Rattle.nm_port.proofs.Undoing.{run_not_yet, index_back, put_back}
 
 -- one buffer went out
 module _ (mid now : HoldState) (q : Place) (named : Bool) (buf : Buffer) (out : IsOut mid now q named buf) where

@@ -9,20 +9,12 @@ use Rattle.nm_types.specs.Slots.{SlotState}
 use Rattle.nm_types.specs.Reset.{reset_positions}
 use Rattle.nm_types.specs.OwnSyncs.{with_slot_reset, ring_after_reset}
 use Rattle.nm_hold.specs.Holds.{HoldState}
-use Rattle.nm_own.specs.RingSlots.{RingSlots, with_slot_reset_at}
-use Rattle.nm_own.specs.Own.{number_on, held_on, ring_seen}
-use Rattle.nm_own.specs.Resets.{slots_reset_at, ring_reset}
+use Rattle.nm_port.specs.RingSlots.{RingSlots, with_slot_reset_at}
+use Rattle.nm_port.specs.Own.{number_on, held_on, ring_seen}
+use Rattle.nm_port.specs.Resets.{slots_reset_at, ring_reset}
 use Rattle.nm_own.proofs.Changing.{Keeps}
-use Rattle.nm_own.proofs.SlotLists.{fold-slots_from}
-use Rattle.nm_own.proofs.Seeing.{buffer_seen}
-
--- one slot more is reset
-pub reset_next : (h : HoldState) (port : PortId) (r now : RingSlots) (size first k was : ℕ) → now ≡ record r { slots = fold (slots_reset_at h port r) r.slots (slots_from size first k) }
-    → was ≡ number_on h r.side port (step_on size first k) → with_slot_reset_at (step_on size first k) was now ≡ record r { slots = fold (slots_reset_at h port r) r.slots (slots_from size first (k + 1)) }
-reset_next h port r now size first k was e number =
-    let at = step_on size first k in
-    let step : with_slot_reset_at at was now ≡ record r { slots = slots_reset_at h port r (fold (slots_reset_at h port r) r.slots (slots_from size first k)) at } = rw (e, number) refl in
-    step ∙ ap (λ (slots : List SlotState). record r { slots = slots }) (sym (fold-slots_from (slots_reset_at h port r) r.slots size first k))
+use Rattle.nm_port.proofs.SlotLists.{fold-slots_from}
+use Rattle.nm_port.proofs.Seeing.{buffer_seen}
 
 -- two ways to change slots that agree at the slots from one on
 fold-slots : {X : Type 0} (f g : X → ℕ → X) (x : X) (size first a n : ℕ) → ((y : X) (k : ℕ) → k < a + n → f y (step_on size first k) ≡ g y (step_on size first k))

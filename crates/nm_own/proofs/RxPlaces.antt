@@ -13,15 +13,15 @@ use Rattle.nm_types.specs.Positions.{RingState, IsRing, FitsRing, dist, step_on,
 use Rattle.nm_types.specs.OwnPorts.{OwnRing}
 use Rattle.nm_types.proofs.RingSteps.{dist-below, dist_split}
 use Rattle.nm_hold.specs.Holds.{HoldState, port_of}
-use Rattle.nm_own.specs.declared.port.UserPort.{UserPort}
-use Rattle.nm_own.specs.RingSlots.{RingSlots}
-use Rattle.nm_own.specs.Sides.{place_on, number_at}
-use Rattle.nm_own.specs.Own.{number_on, extra_number_at, ring_seen, port_seen, named_ring_places, named_tx_places, named_places_of, is_filled_in, IsTxSide}
-use Rattle.nm_own.specs.Exchanges.{is_among}
-use Rattle.nm_own.proofs.Written.{map-same}
-use Rattle.nm_own.proofs.SlotLists.{tail_stays}
-use Rattle.nm_own.proofs.Pushed.{is_slot_from, flag_is, seen_from}
-use Rattle.nm_own.proofs.Received.{among_slots}
+use Rattle.nm_port.specs.declared.port.UserPort.{UserPort}
+use Rattle.nm_port.specs.RingSlots.{RingSlots}
+use Rattle.nm_port.specs.Sides.{place_on, number_at}
+use Rattle.nm_port.specs.Own.{number_on, extra_number_at, ring_seen, port_seen, named_ring_places, named_tx_places, named_places_of, is_filled_in, IsTxSide}
+use Rattle.nm_port.specs.Exchanges.{is_among}
+use Rattle.nm_port.proofs.Seeing.{map-same}
+use Rattle.nm_port.proofs.SlotLists.{tail_stays}
+use Rattle.nm_port.proofs.Ranges.{is_slot_from, among_slots}
+use Rattle.nm_own.proofs.Pushed.{flag_is, seen_from}
 
 -- slots of a receive ring are no other places
 pub rx_elsewhere : (id : PortId) (ats : List ℕ) (q : Place) → nat_eq id.0 (port_of q) ≡ false → is_among (map (place_on Rx id) ats) q ≡ false

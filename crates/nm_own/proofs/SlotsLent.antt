@@ -24,18 +24,17 @@ use Rattle.nm_own.specs.declared.edit.RingEdit.{RingEdit}
 use Rattle.nm_own.specs.declared.edit.RingEdit.TheVariants.{Slot}
 use Rattle.nm_own.specs.declared.own.OwnSide.TheInside.{Inside}
 use Rattle.nm_own.specs.Kept.{IsKept}
-use Rattle.nm_own.specs.declared.port.UserPort.{UserPort}
-use Rattle.nm_own.specs.RingSlots.{RingSlots}
-use Rattle.nm_own.specs.Own.{own_seen, port_at, places_of_port, ring_seen, slots_on, AreSided, AreRings, AreFlagged, AreFilled, HasPlaces, HaveBackRoom}
+use Rattle.nm_port.specs.declared.port.UserPort.{UserPort}
+use Rattle.nm_port.specs.RingSlots.{RingSlots}
+use Rattle.nm_port.specs.Own.{own_seen, port_at, places_of_port, ring_seen, slots_on, AreSided, AreRings, AreFlagged, AreFilled, HasPlaces, HaveBackRoom}
 use Rattle.nm_own.specs.Edits.{edited, ring_edit, port_edited, port_edited_if}
 use Rattle.nm_own.specs.LentSlots.{with_port_in, index_of_port, slot_of_port}
 use Rattle.nm_own.proofs.Changing.{sided_changed, rings_changed, flagged_changed, places_changed, filled_changed, back_changed}
-use Rattle.nm_own.proofs.Checked.{slot_is_seen}
-use Rattle.nm_own.proofs.Closing.{rest_other}
+use Rattle.nm_port.proofs.Checked.{slot_is_seen}
+use Rattle.nm_port.proofs.PortOut.{rest_other, first_here, first_next}
 use Rattle.nm_own.proofs.Editing.{edits_keep}
 use Rattle.nm_own.proofs.OnePort.{changed_if, others_stay}
-use Rattle.nm_own.proofs.PortOut.{first_here, first_next}
-use Rattle.nm_own.proofs.Seeing.{ring_is_seen, side_of_found}
+use Rattle.nm_port.proofs.Seeing.{ring_is_seen, side_of_found}
 
 -- the port that is found is the one that is changed
 pub lends_in : (ports : Vec UserPort Global) (index : ℕ) (p : UserPort) (side : Side) (at : ℕ) (name : Maybe GName) → slice_get ports.items index ≡ Some p

@@ -16,30 +16,29 @@ use Rattle.nm_hold.specs.declared.standing.Standing.{Standing}
 use Rattle.nm_hold.specs.Standings.{buf_in}
 use Rattle.nm_hold.specs.Offsets.{has_place}
 use Rattle.nm_hold.specs.Holds.{HoldState, buffers_of, index_at, standing_at, IsHold}
-use Rattle.nm_own.specs.declared.port.UserPort.{UserPort}
+use Rattle.nm_port.specs.declared.port.UserPort.{UserPort}
 use Rattle.nm_own.specs.declared.lend_offers.LentOffers.{LentOffers}
 use Rattle.nm_own.specs.declared.own.OwnSide.TheInside.{Inside}
-use Rattle.nm_own.specs.RingSlots.{RingSlots}
-use Rattle.nm_own.specs.Regions.{SideState, IsBufferOf, AreOf, AllOf, HoldsOf, side_seen}
-use Rattle.nm_own.specs.Sides.{place_on}
-use Rattle.nm_own.specs.Own.{own_seen, slots_at, port_changed, port_changed_if}
+use Rattle.nm_port.specs.RingSlots.{RingSlots}
+use Rattle.nm_port.specs.Regions.{SideState, IsBufferOf, AreOf, AllOf, HoldsOf, side_seen}
+use Rattle.nm_port.specs.Sides.{place_on}
+use Rattle.nm_port.specs.Own.{own_seen, slots_at, port_changed, port_changed_if}
 use Rattle.nm_own.specs.Kept.{IsKept}
-use Rattle.nm_own.specs.Closing.{AreTaken}
+use Rattle.nm_port.specs.Closing.{AreTaken}
 use Rattle.nm_own.specs.Opening.{IsNew, blank_arrivals}
-use Rattle.nm_own.specs.Filling.{IsAway}
-use Rattle.nm_own.specs.Exchanges.{AreExchanged, AreRenamed, tx_places, pushed_count_of}
-use Rattle.nm_own.specs.Puts.{offered_slot, cleared, ring_taken}
-use Rattle.nm_own.specs.Lending.{Run, AreOut, place_of_run}
+use Rattle.nm_port.specs.Filling.{IsAway}
+use Rattle.nm_port.specs.Exchanges.{AreExchanged, AreRenamed, tx_places, pushed_count_of}
+use Rattle.nm_port.specs.Puts.{offered_slot, cleared, ring_taken}
+use Rattle.nm_port.specs.Lending.{Run, AreOut, place_of_run}
 use Rattle.nm_own.specs.LentOffers.{pending_count_of, offered_count_of, IsLentOffers}
-use Rattle.nm_own.proofs.Judging.{same_eq}
+use Rattle.nm_port.proofs.Judging.{same_eq}
 use Rattle.nm_own.proofs.OnePort.{Among, ChangesPort, changed_are, kept_with}
-use Rattle.nm_own.proofs.Buffers.{buf_by_index, count_by_bufs}
+use Rattle.nm_port.proofs.Buffers.{buf_by_index, count_by_bufs}
 use Rattle.nm_own.proofs.Passing.{Passes, ring_is, own_side}
 use Rattle.nm_own.proofs.Published.{has_place_of}
-use Rattle.nm_own.proofs.Pushed.{is_slot_from}
+use Rattle.nm_port.proofs.Ranges.{is_slot_from, among_slots}
 use Rattle.nm_own.proofs.Readied.{away_of}
-use Rattle.nm_own.proofs.Received.{among_slots}
-use Rattle.nm_own.proofs.Regions.{of_seen}
+use Rattle.nm_port.proofs.Regions.{of_seen}
 use Rattle.nm_own.proofs.LentTx.{lends, first_within, few_offered}
 use Rattle.nm_own.proofs.TakenTx.{offers_have_room, slots_filled, others, with_taken, changes, taken_is_seen, regions_now}
 use Rattle.nm_own.proofs.ComingIn.{CanCome, come_in, all_turned, away_turned, once_turned}

@@ -22,30 +22,30 @@ use Rattle.nm_hold.specs.declared.standing.Standing.{Standing}
 use Rattle.nm_hold.specs.Offsets.{ArePortsOnce}
 use Rattle.nm_hold.specs.Holds.{HoldState, buffers_of, index_at, standing_at, port_of, IsHold}
 use Rattle.nm_hold.proofs.Spots.{nat_eq-is}
-use Rattle.nm_own.specs.declared.port.UserPort.{UserPort}
-use Rattle.nm_own.specs.RingSlots.{RingSlots}
-use Rattle.nm_own.specs.Sides.{place_on, number_at}
-use Rattle.nm_own.specs.Own.{number_on, extra_number_at, ring_seen, port_seen, own_seen, bytes_in_cell, named_places_of, named_places, places_of_port, is_filled, is_filled_in, AreWhole, port_changed}
-use Rattle.nm_own.specs.Regions.{AreOf, HoldsOf}
-use Rattle.nm_own.specs.Closing.{AreTaken}
-use Rattle.nm_own.specs.Filling.{FlaggedBy}
+use Rattle.nm_port.specs.declared.port.UserPort.{UserPort}
+use Rattle.nm_port.specs.RingSlots.{RingSlots}
+use Rattle.nm_port.specs.Sides.{place_on, number_at}
+use Rattle.nm_port.specs.Own.{number_on, extra_number_at, ring_seen, port_seen, own_seen, bytes_in_cell, named_places_of, named_places, places_of_port, is_filled, is_filled_in, AreWhole, port_changed}
+use Rattle.nm_port.specs.Regions.{AreOf, HoldsOf}
+use Rattle.nm_port.specs.Closing.{AreTaken}
+use Rattle.nm_port.specs.Filling.{FlaggedBy}
 use Rattle.nm_own.specs.Opening.{blank_arrival, blank_arrivals}
-use Rattle.nm_own.specs.Exchanges.{is_among, named_after_push, AreExchanged, AreRenamed, CanPushOut, tx_places, pushed_count_of, ring_pushed_out}
-use Rattle.nm_own.specs.Puts.{offered_slot, with_slot_named, ring_taken}
-use Rattle.nm_own.specs.Lending.{Run, AreOut}
+use Rattle.nm_port.specs.Exchanges.{is_among, named_after_push, AreExchanged, AreRenamed, CanPushOut, tx_places, pushed_count_of, ring_pushed_out}
+use Rattle.nm_port.specs.Puts.{offered_slot, with_slot_named, ring_taken}
+use Rattle.nm_port.specs.Lending.{Run, AreOut}
 use Rattle.nm_own.specs.LentOffers.{pending_count_of, offered_count_of}
-use Rattle.nm_own.proofs.Judging.{same_eq}
-use Rattle.nm_own.proofs.Opening.{IsOther}
-use Rattle.nm_own.proofs.SlotLists.{accepted_ring}
-use Rattle.nm_own.proofs.Written.{map-same, port_same}
+use Rattle.nm_port.proofs.Judging.{same_eq}
+use Rattle.nm_port.proofs.PortOut.{IsOther}
+use Rattle.nm_port.proofs.SlotLists.{accepted_ring}
+use Rattle.nm_port.proofs.Seeing.{map-same, port_same}
 use Rattle.nm_own.proofs.Closing.{sided_one, ring_one}
-use Rattle.nm_own.proofs.Buffers.{cells_by_bufs, count_by_bufs, whole_by_bufs}
-use Rattle.nm_own.proofs.Offered.{offered_are}
+use Rattle.nm_port.proofs.Buffers.{cells_by_bufs, count_by_bufs, whole_by_bufs}
+use Rattle.nm_port.proofs.Pushes.{offered_are}
 use Rattle.nm_own.proofs.Passing.{Passes, ring_is, own_side, positions_fit, ports_once}
 use Rattle.nm_own.proofs.Pushed.{tx_elsewhere, among_tx, named_after, slots_held}
 use Rattle.nm_own.proofs.OnePort.{Among, among, changed_are, ChangesPort, filled_at, named_at, seen_with}
 use Rattle.nm_own.proofs.LentTx.{first_within, few_offered, exchanged_seen, taken_numbers}
-use Rattle.nm_own.proofs.Regions.{holds_same, holds_taken}
+use Rattle.nm_port.proofs.Regions.{holds_same, holds_taken}
 use Rattle.nm_own.proofs.ComingIn.{all_turned}
 use Rattle.nm_own.proofs.Refilled.{IsCleared, out_taken, out_there, flags_out, flags_in, whole_in, region_in, came_bytes, among_first}
 

@@ -18,41 +18,14 @@ use Rattle.nm_hold.specs.declared.standing.Standing.{Standing}
 use Rattle.nm_hold.specs.Standings.{cell_fronted}
 use Rattle.nm_hold.specs.Holds.{HoldState, port_of, buffers_of, standing_at, cell_at, places_of, with_cell, is_named_at, IsHold, SamePlaces}
 use Rattle.nm_hold.proofs.Shown.{named_stands}
-use Rattle.nm_own.specs.declared.port.UserPort.{UserPort}
-use Rattle.nm_own.specs.RingSlots.{RingSlots}
-use Rattle.nm_own.specs.Sides.{number_at}
-use Rattle.nm_own.specs.Own.{positions_of, number_on, extra_number_at, ring_seen, port_seen, own_seen, bytes_in_cell, AreSided, AreRings, AreFlagged, AreFilled, AreWhole}
+use Rattle.nm_port.specs.declared.port.UserPort.{UserPort}
+use Rattle.nm_port.specs.RingSlots.{RingSlots, slot_before_tail}
+use Rattle.nm_port.specs.Sides.{number_at}
+use Rattle.nm_port.specs.Own.{positions_of, number_on, extra_number_at, ring_seen, port_seen, own_seen, bytes_in_cell, AreSided, AreRings, AreFlagged, AreFilled, AreWhole}
 use Rattle.nm_own.proofs.Filled.{is_named_seen}
-use Rattle.nm_own.proofs.Checked.{bytes_are_seen}
-
-pub map-same : {X : Type 0} (f g : ℕ → X) (xs : List ℕ) → ((x : ℕ) → f x ≡ g x) → map f xs ≡ map g xs
-map-same f g [] same = refl
-map-same {X = X} f g (x ∷ xs) same = ap (λ (y : X). y ∷ map f xs) (same x) ∙ ap (λ (ys : List X). g x ∷ ys) (map-same f g xs same)
-
--- a port whose places hold the same buffers is seen the same
-module _ (h new : HoldState) (p : UserPort) (same : (q : Place) → port_of q ≡ p.id.0 → number_at new q ≡ number_at h q) where
-  number_same : (side : Side) (at : ℕ) → number_on new side p.id at ≡ number_on h side p.id at
-  number_same Tx at = same (place.Tx p.id at) refl
-  number_same Rx at = same (place.Rx p.id at) refl
-
-  ring_same : (r : RingSlots) → ring_seen new p.id r ≡ ring_seen h p.id r
-  ring_same r = rw (map-same (number_on new r.side p.id) (number_on h r.side p.id) (positions_of r.side r.ring) (number_same r.side)) refl
-
-  tx_same : (tx : Option RingSlots) → option_map (ring_seen new p.id) tx ≡ option_map (ring_seen h p.id) tx
-  tx_same None = refl
-  tx_same (Some r) = ap (λ (o : OwnRing). Some o) (ring_same r)
-
-  pub port_same : port_seen new p ≡ port_seen h p
-  port_same = rw (tx_same p.tx, ring_same p.rx, map-same (extra_number_at new p.id) (extra_number_at h p.id) (range_with_len 0 p.extra) (λ at. same (place.Extra p.id at) refl)) refl
-
-pub ports_same : (h new : HoldState) → ((q : Place) → number_at new q ≡ number_at h q) → (ports : List UserPort) → map (port_seen new) ports ≡ map (port_seen h) ports
-ports_same h new same [] = refl
-ports_same h new same (p ∷ ports) = rw (port_same h new p (λ q e. same q), ports_same h new same ports) refl
-
-pub map-set : {X Y : Type 0} (f : X → Y) (xs : List X) (at : ℕ) (x : X) → map f (set xs at x) ≡ set (map f xs) at (f x)
-map-set f [] at x = refl
-map-set f (y ∷ ys) zero x = refl
-map-set {Y = Y} f (y ∷ ys) (suc at) x = ap (λ (zs : List Y). f y ∷ zs) (map-set f ys at x)
+use Rattle.nm_port.proofs.Checked.{bytes_are_seen}
+use Rattle.nm_port.proofs.Seeing.{map-set, ports_same}
+use Rattle.nm_types.specs.declared.id.PortId.{PortId}
 
 -- a written cell
 fronted_bytes : (bytes : List ℕ) (cell : Option Standing) (s : Standing) → cell ≡ Some s → bytes_in_cell (cell_fronted bytes cell) ≡ bytes ++ drop (length bytes) (bytes_in_cell cell)
@@ -169,3 +142,7 @@ whole_fronted (cell ∷ cells) (suc idx) (suc i) bytes s few whole e = whole_fro
 
 pub whole_kept : (h new : HoldState) (idx : ℕ) (bytes : List ℕ) → length bytes ≤ 2048 → new ≡ with_cell h idx (cell_fronted bytes (standing_at h idx)) → AreWhole h → AreWhole new
 whole_kept h new idx bytes few cell whole i s e = whole_fronted h.cells idx i bytes s few whole (ap (λ (x : HoldState). standing_at x i) (sym cell) ∙ e)
+
+-- the slot at the head, as it is seen
+pub head_slot_seen : (h : HoldState) (port : PortId) (side : Side) (r : RingSlots) → r.side ≡ side → slot_before_tail r ≡ head_slot_in side (Some (ring_seen h port r))
+head_slot_seen h port side r e = rw e refl

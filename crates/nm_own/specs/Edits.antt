@@ -6,10 +6,10 @@ use Rattle.nm_types.specs.OwnPorts.{OwnRing, OwnState, with_ring, slot_in, with_
 use Rattle.nm_types.specs.OwnEdits.{ring_at_positions, with_head, with_cur, with_positions, with_user_slot, stepped, ring_forwarding}
 use Rattle.nm_own.specs.declared.edit.RingEdit.{RingEdit}
 use Rattle.nm_own.specs.declared.edit.RingEdit.TheVariants.{Head, Cur, Positions, AllBack, Slot, Forward, Frame}
-use Rattle.nm_own.specs.declared.port.UserPort.{UserPort}
+use Rattle.nm_port.specs.declared.port.UserPort.{UserPort}
 use Rattle.nm_types.specs.declared.id.PortId.{PortId}
-use Rattle.nm_own.specs.Own.{port_changed, port_changed_if}
-use Rattle.nm_own.specs.RingSlots.{RingSlots, at_positions, with_slot_of_user, slot_at, with_slot_at, both_stepped, head_stepped, slot_framed}
+use Rattle.nm_port.specs.Own.{port_changed, port_changed_if}
+use Rattle.nm_port.specs.RingSlots.{RingSlots, at_positions, with_slot_of_user, slot_at, with_slot_at, both_stepped, head_stepped, slot_framed}
 
 abbrev pub edited : RingEdit → RingSlots → RingSlots
 edited (Head head) r = at_positions head r.ring.cur r

@@ -3,7 +3,7 @@ use Rattle.std.specs.Prelude.{ℕ, nat_le, ◌==◌, if◌then◌else◌, List, 
 use Rattle.nm_types.specs.SyncChecks.{contains_index}
 use Rattle.nm_types.specs.OwnPorts.{OwnPort, OwnState, bytes_at, named_of}
 use Rattle.nm_types.specs.OwnEdits.{extra_number}
-use Rattle.nm_own.specs.declared.port.UserPort.{UserPort}
+use Rattle.nm_port.specs.declared.port.UserPort.{UserPort}
 
 abbrev pub head_of_extras : OwnPort → ℕ
 head_of_extras p = p.extra_head

@@ -1,7 +1,7 @@
 -- What holds of the fields of a session's own side.
 use Rattle.std.specs.Prelude.{◌≡◌, ◌+◌, false, replicate}
 use Rattle.nm_hold.specs.Holds.{buffers_of, IsHold}
-use Rattle.nm_own.specs.Own.{AreWhole, AreFilled, AreFlagged, AreRings, AreSided, HasPlaces, HaveBackRoom}
+use Rattle.nm_port.specs.Own.{AreWhole, AreFilled, AreFlagged, AreRings, AreSided, HasPlaces, HaveBackRoom}
 use Rattle.nm_own.specs.declared.own.OwnSide.TheInside.{Inside}
 
 pub record IsKept (o : Inside) : Type 0 where

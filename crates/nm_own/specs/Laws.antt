@@ -4,8 +4,8 @@ use Rattle.nm_types.specs.declared.id.Side.TheVariants.{Rx}
 use Rattle.nm_types.specs.Positions.{IsRing, kernel_count}
 use Rattle.nm_types.specs.OwnPorts.{OwnRing, OwnState, Arrival, ring_at}
 use Rattle.nm_types.specs.OwnSyncs.{own_after_receive}
-use Rattle.nm_own.specs.Own.{refusal_at}
-use Rattle.nm_own.specs.Receives.{can_receive, own_with_arrival}
+use Rattle.nm_port.specs.Own.{refusal_at}
+use Rattle.nm_port.specs.Receives.{can_receive, own_with_arrival}
 
 -- frames that are published one after another are those of a receive sync that brings all of them
 abbrev pub FramesComeOneByOne : Type 0

@@ -4,14 +4,14 @@ use Rattle.nm_types.specs.declared.id.Side.TheVariants.{Rx}
 use Rattle.nm_region.specs.Buffers.{Buffer}
 use Rattle.nm_hold.specs.Holds.{HoldState}
 use Rattle.nm_own.specs.declared.lend.LentBack.{LentBack}
-use Rattle.nm_own.specs.RingSlots.{RingSlots}
-use Rattle.nm_own.specs.Own.{own_seen, slots_at, refusal_at}
-use Rattle.nm_own.specs.Regions.{SideState, side_seen}
+use Rattle.nm_port.specs.RingSlots.{RingSlots}
+use Rattle.nm_port.specs.Own.{own_seen, slots_at, refusal_at}
+use Rattle.nm_port.specs.Regions.{SideState, side_seen}
 use Rattle.nm_own.specs.Kept.{IsKept}
-use Rattle.nm_own.specs.Closing.{AreTaken}
-use Rattle.nm_own.specs.Exchanges.{pushed_count_of, AreExchanged}
-use Rattle.nm_own.specs.Receives.{user_places}
-use Rattle.nm_own.specs.Lending.{Run, AreSwapped, AreOut}
+use Rattle.nm_port.specs.Closing.{AreTaken}
+use Rattle.nm_port.specs.Exchanges.{pushed_count_of, AreExchanged}
+use Rattle.nm_port.specs.Receives.{user_places}
+use Rattle.nm_port.specs.Lending.{Run, AreSwapped, AreOut}
 
 -- the places of the user's receive slots
 abbrev pub back_run : LentBack → RingSlots → Run

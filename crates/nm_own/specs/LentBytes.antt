@@ -1,7 +1,7 @@
 -- The bytes of a buffer that a session lends.
 use Rattle.std.specs.Prelude.{ℕ, List, Option}
 use Rattle.std.specs.Borrow.{Lends, LendsIf, MutBor, Fml, Array, u8}
-use Rattle.nm_own.specs.Regions.{SideState}
+use Rattle.nm_port.specs.Regions.{SideState}
 use Rattle.nm_own.specs.WrittenBytes.{side_written}
 use Rattle.nm_own.specs.contracts.own.OwnSide.{the_row}
 

@@ -8,15 +8,15 @@ use Rattle.nm_types.specs.OwnSyncs.{after_exchange, taken_on}
 use Rattle.nm_region.specs.Buffers.{Buffer, indices_of}
 use Rattle.nm_hold.specs.Holds.{HoldState}
 use Rattle.nm_own.specs.declared.lend_offers.LentOffers.{LentOffers}
-use Rattle.nm_own.specs.RingSlots.{RingSlots}
-use Rattle.nm_own.specs.Own.{own_seen, slots_at, refusal_at}
-use Rattle.nm_own.specs.Regions.{SideState, side_seen}
+use Rattle.nm_port.specs.RingSlots.{RingSlots}
+use Rattle.nm_port.specs.Own.{own_seen, slots_at, refusal_at}
+use Rattle.nm_port.specs.Regions.{SideState, side_seen}
 use Rattle.nm_own.specs.Kept.{IsKept}
-use Rattle.nm_own.specs.Exchanges.{pushed_count_of, AreExchanged}
+use Rattle.nm_port.specs.Exchanges.{pushed_count_of, AreExchanged}
 use Rattle.nm_own.specs.Opening.{IsNew}
-use Rattle.nm_own.specs.Offers.{offered_lengths}
-use Rattle.nm_own.specs.Puts.{offered_slot}
-use Rattle.nm_own.specs.Lending.{Run, AreSwapped, AreOut}
+use Rattle.nm_port.specs.Offers.{offered_lengths}
+use Rattle.nm_port.specs.Puts.{offered_slot}
+use Rattle.nm_port.specs.Lending.{Run, AreSwapped, AreOut}
 
 -- how many slots are still pushed, and how many a put offers
 abbrev pub pending_count_of : RingSlots → ℕ

@@ -7,8 +7,8 @@ use Rattle.nm_types.specs.Buffers.{IsBufferIndex}
 use Rattle.nm_types.specs.Chain.{chain_head}
 use Rattle.nm_types.specs.OwnPorts.{OwnState, Arrival, bytes_at}
 use Rattle.nm_types.specs.OwnSyncs.{opened_slot}
-use Rattle.nm_own.specs.declared.port.UserPort.{UserPort}
-use Rattle.nm_own.specs.RingSlots.{RingSlots}
+use Rattle.nm_port.specs.declared.port.UserPort.{UserPort}
+use Rattle.nm_port.specs.RingSlots.{RingSlots}
 
 -- a monitor has no transmit slots
 abbrev pub IsTxSize : ℕ → Type 0

@@ -3,7 +3,7 @@ use Rattle.std.specs.Prelude.{ℕ, List, take}
 use Rattle.nm_types.specs.Limits.{buffer_bytes}
 use Rattle.nm_types.specs.OwnPorts.{OwnState}
 use Rattle.nm_types.specs.OwnEdits.{with_written}
-use Rattle.nm_own.specs.Regions.{SideState}
+use Rattle.nm_port.specs.Regions.{SideState}
 
 -- all bytes of a named buffer are written; it has no more than there are in a buffer
 abbrev pub with_all_written : OwnState → ℕ → List ℕ → OwnState

@@ -1,8 +1,7 @@
 ghost use Rattle.std.specs.Prelude.{◌≡◌, map, option_map};
 ghost use Rattle.nm_own.specs.Edits.{edited, port_edited, port_edited_if};
 
-use crate::port::UserPort;
-use crate::slot_ring::SlotRing;
+use nm_port::{SlotRing, UserPort};
 use nm_types::{PortId, Side, Slot};
 
 /// What a user writes on a ring.

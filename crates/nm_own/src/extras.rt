@@ -1,12 +1,12 @@
 ghost use Rattle.std.specs.Prelude.{◌≡◌, map};
 ghost use Rattle.nm_types.specs.OwnEdits.{with_extra_link};
-ghost use Rattle.nm_own.specs.Own.{port_seen};
+ghost use Rattle.nm_port.specs.Own.{port_seen};
 ghost use Rattle.nm_own.specs.ExtraChain.{extra_at, extra_numbered, port_headed_if};
 
-use crate::checks::number_at;
 use crate::own::OwnSide;
-use crate::port::UserPort;
 use nm_hold::Hold;
+use nm_port::UserPort;
+use nm_port::checks::number_at;
 use nm_types::{Place, PortId};
 
 /// Stores the head of a port's list of extra buffers, if it is the port of this id.

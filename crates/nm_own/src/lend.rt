@@ -5,16 +5,16 @@ ghost use Rattle.nm_types.specs.declared.id.Side.TheVariants.{Rx};
 ghost use Rattle.nm_types.specs.OwnPorts.{bytes_at, ring_at};
 ghost use Rattle.nm_types.specs.OwnSyncs.{own_after_receive, back_on};
 ghost use Rattle.nm_region.specs.Buffers.{Buffer, indices_of};
-ghost use Rattle.nm_own.specs.Own.{refusal_at};
-ghost use Rattle.nm_own.specs.Closing.{bytes_of_buffers};
+ghost use Rattle.nm_port.specs.Own.{refusal_at};
+ghost use Rattle.nm_port.specs.Closing.{bytes_of_buffers};
 ghost use Rattle.nm_own.specs.LentBack.{IsLentBack};
-ghost use Rattle.nm_own.specs.Regions.{SideState, AllOf, AreOf};
+ghost use Rattle.nm_port.specs.Regions.{SideState, AllOf, AreOf};
 
 use crate::own::{OwnSide, ring_at};
-use crate::port::UserPort;
-use crate::receive::accept_backs;
-use crate::undo::{exchange_back, exchange_noted, put_slots, take_slots};
 use nm_hold::Hold;
+use nm_port::UserPort;
+use nm_port::receive::accept_backs;
+use nm_port::undo::{exchange_back, exchange_noted, put_slots, take_slots};
 use nm_region::Buf;
 use nm_types::{PortId, Side};
 

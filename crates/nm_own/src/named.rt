@@ -5,7 +5,7 @@ ghost use Rattle.nm_types.specs.OwnPorts.{OwnPort, port_with_name};
 ghost use Rattle.nm_own.specs.PortNames.{port_named};
 
 use crate::own::OwnSide;
-use crate::port::UserPort;
+use nm_port::UserPort;
 use nm_types::{Name, PortId};
 
 /// The first port of a name.

@@ -6,10 +6,8 @@ ghost use Rattle.nm_types.specs.Chain.{chain_head};
 ghost use Rattle.nm_region.specs.Buffers.{indices_of};
 ghost use Rattle.nm_own.specs.Opening.{IsTxSize, opened_slots, opened_user_port};
 
-use crate::buf_room::BufRoom;
-use crate::port::UserPort;
-use crate::slot_ring::SlotRing;
 use nm_hold::{Hold, PortRoom};
+use nm_port::{BufRoom, SlotRing, UserPort};
 use nm_region::Buf;
 use nm_types::{Name, NoMemory, PortId, Slot};
 use std::alloc::Global;

@@ -1,5 +1,5 @@
 ghost use Rattle.std.specs.Prelude.{◌≡◌, ◌≤◌, ◌++◌, length, nat_eq, IfOk, IsSome, None, Some};
-ghost use Rattle.std.specs.Prelude.{option_map};
+ghost use Rattle.std.specs.Prelude.{option_map, slice_get};
 ghost use Rattle.std.specs.Borrow.{sem};
 ghost use Rattle.std.specs.Option.{option_copied, option_copied_mut};
 ghost use Rattle.nm_types.specs.SyncChecks.{contains_index};
@@ -13,40 +13,39 @@ ghost use Rattle.nm_own.specs.Opening.{IsTxSize, IsNew, blank_arrivals};
 ghost use Rattle.nm_own.specs.NewPorts.{HasRoomFor};
 ghost use Rattle.nm_types.specs.OwnPorts.{OwnPort, empty_own, bytes_at, ring_at, pushed_on, port_with_id};
 ghost use Rattle.nm_types.specs.OwnPorts.{named_of};
-ghost use Rattle.nm_own.specs.Own.{refusal_at, port_at, slots_on, slots_at, ring_of};
+ghost use Rattle.nm_port.specs.Own.{refusal_at, port_at, slots_on, slots_at, ring_of};
 ghost use Rattle.nm_types.specs.OwnEdits.{user_slot_at, with_user_slot, with_head, with_cur};
 ghost use Rattle.nm_types.specs.OwnEdits.{with_written, with_head_of_chain};
 ghost use Rattle.nm_types.specs.Chain.{link_bytes};
-ghost use Rattle.nm_own.specs.Offers.{frames_offered};
+ghost use Rattle.nm_port.specs.Offers.{frames_offered};
 ghost use Rattle.nm_own.specs.ExtraChain.{head_of_extras, extra_at, extra_numbered, named_bytes};
-ghost use Rattle.nm_own.specs.Sides.{TellsRefusal};
+ghost use Rattle.nm_port.specs.Sides.{TellsRefusal};
 ghost use Rattle.nm_types.specs.OwnSyncs.{own_after_open, own_after_reset};
 ghost use Rattle.nm_types.specs.OwnSyncs.{own_after_finish, own_after_send};
 ghost use Rattle.nm_types.specs.OwnSyncs.{back_on, chain_in};
-ghost use Rattle.nm_own.specs.Closing.{buffers_with_id, bytes_of_buffers};
-ghost use Rattle.nm_own.specs.Regions.{AllOf, AreOf, IsBufferOf};
+ghost use Rattle.nm_port.specs.Closing.{buffers_with_id, bytes_of_buffers};
+ghost use Rattle.nm_port.specs.Regions.{AllOf, AreOf, IsBufferOf};
 ghost use Rattle.std.specs.Prelude.{ℕ, [], ◌+◌, ◌↔◌, IfSome, true, take, map, is_some};
 ghost use Rattle.std.specs.Prelude.{option_and_then};
 ghost use Rattle.nm_own.specs.Edits.{own_edited};
-ghost use Rattle.nm_own.specs.RingSlots.{slot_before_tail};
+ghost use Rattle.nm_port.specs.RingSlots.{slot_before_tail};
 ghost use Rattle.nm_own.specs.Acts.{head_slot_in};
-ghost use Rattle.nm_own.specs.Receives.{can_receive, own_with_arrival};
+ghost use Rattle.nm_port.specs.Receives.{can_receive, own_with_arrival};
 
-use crate::checks::check_ring;
-use crate::close::{empty_port, take_port};
 use crate::edit::{RingEdit, edit_rings};
-use crate::exchange::{accept_pushes, send_out};
 use crate::extras::{extra_at, extra_numbered, set_heads};
-use crate::fill::{Row, fill, put};
-use crate::gather::{gather, gather_names, gather_offered};
 use crate::open::{NewPort, add_last};
-use crate::port::UserPort;
-use crate::receive::{clear_behind, publish_at};
-use crate::reset::reset_rings;
 use crate::slot_lent::{index_of_port, slot_in};
-use crate::slot_ring::SlotRing;
 use nm_extra::relink;
 use nm_hold::Hold;
+use nm_port::{SlotRing, UserPort};
+use nm_port::checks::check_ring;
+use nm_port::close::{empty_port, take_port};
+use nm_port::exchange::{accept_pushes, send_out};
+use nm_port::fill::{Row, fill, put};
+use nm_port::gather::{gather, gather_names, gather_offered};
+use nm_port::receive::{clear_behind, publish_at};
+use nm_port::reset::reset_rings;
 use nm_region::Buf;
 use nm_ring::Ring;
 use nm_types::{Batch, Chain, Name, NoMemory, Place, PortId, Side, Slot, SyncFault};
@@ -62,7 +61,7 @@ pub struct OwnSide {
 }
 
 impl Model for OwnSide {
-    ghost use Rattle.nm_own.specs.Regions.{SideState, side_seen};
+    ghost use Rattle.nm_port.specs.Regions.{SideState, side_seen};
 
     ghost Value = { SideState };
 
@@ -180,6 +179,16 @@ impl OwnSide {
         ensures { (result ≡ true) ↔ (self.now.own.ports ≡ []) }
     {
         self.ports.is_empty()
+    }
+
+    /// The port that was opened first of those that the session has.
+    pub fn first_port(&self) -> Option<PortId>
+        ensures { result ≡ option_map (λ (p : OwnPort). p.id) (slice_get self.now.own.ports 0) }
+    {
+        match self.ports.first() {
+            Some(port) => Some(port.id),
+            None => None,
+        }
     }
 
     /// Whether the session has a port.

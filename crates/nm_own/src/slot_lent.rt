@@ -4,8 +4,8 @@ ghost use Rattle.std.specs.Option.{option_copied_mut};
 ghost use Rattle.nm_own.specs.LentSlots.{LendsPortSlot, LendsSlotIn, slot_of_port};
 ghost use Rattle.nm_own.specs.LentSlots.{index_of_port};
 
-use crate::close::place_of_port;
-use crate::port::UserPort;
+use nm_port::UserPort;
+use nm_port::close::place_of_port;
 use nm_types::{PortId, Side, Slot};
 
 /// One of the user's slots of a port, to be written.

@@ -12,7 +12,7 @@ use Rattle.nm_types.specs.declared.id.Chain.{Chain}
 use Rattle.nm_types.specs.declared.id.PortId.{PortId}
 use Rattle.nm_types.specs.OwnPorts.{OwnPort, OwnState, port_with_id, buffers_in}
 use Rattle.nm_types.specs.OwnSyncs.{chain_in, own_after_finish}
-use Rattle.nm_own.specs.Closing.{buffers_with_id}
+use Rattle.nm_port.specs.Closing.{buffers_with_id}
 use Rattle.nm_turn.specs.Numbered.{Stands}
 use Rattle.nm_turn.specs.Shares.{IsWhole}
 use Rattle.nm_turn.proofs.Telling.{told_then}

@@ -14,7 +14,7 @@ use Rattle.nm_types.specs.Openings.{are_sizes}
 use Rattle.nm_types.specs.OwnPorts.{OwnPort, OwnState, port_with_id}
 use Rattle.nm_types.specs.OwnSyncs.{buffers_of_arrivals, own_after_open}
 use Rattle.nm_region.specs.Buffers.{Buffer, indices_of}
-use Rattle.nm_own.specs.Regions.{SideState, AllOf, AreOf}
+use Rattle.nm_port.specs.Regions.{SideState, AllOf, AreOf}
 use Rattle.nm_own.specs.NewPorts.{NewPortState, HasRoomFor}
 use Rattle.nm_own.specs.Opening.{IsNew, blank_arrivals}
 use Rattle.vale_entry.specs.declared.entry.Ask.{Ask}

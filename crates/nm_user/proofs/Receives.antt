@@ -14,7 +14,7 @@ use Rattle.nm_types.specs.declared.id.Side.TheVariants.{Rx}
 use Rattle.nm_types.specs.OwnPorts.{OwnPort, OwnRing, OwnState, Arrival, port_with_id, ring_at, ring_on, refusal_in, pushed_at, pushed_in}
 use Rattle.nm_types.specs.OwnSyncs.{back_on, buffers_of_arrivals, own_after_receive}
 use Rattle.nm_types.proofs.RingSteps.{dist-below, length-slots_from}
-use Rattle.nm_own.specs.Own.{refusal_at, ring_of}
+use Rattle.nm_port.specs.Own.{refusal_at, ring_of}
 use Rattle.nm_turn.specs.Shares.{IsWhole}
 use Rattle.vale_line.specs.declared.got.Got.{Got}
 use Rattle.vale_line.specs.Gots.{IsSingle}

@@ -12,9 +12,9 @@ use Rattle.nm_types.specs.OwnPorts.{OwnPort, OwnState, Arrival, port_with_id, ri
 use Rattle.nm_types.specs.OwnSyncs.{back_on, buffers_of_arrivals, own_after_receive, without_bytes_of}
 use Rattle.nm_types.proofs.RingSteps.{dist_split}
 use Rattle.nm_region.specs.Buffers.{Buffer, indices_of}
-use Rattle.nm_own.specs.Own.{refusal_at}
+use Rattle.nm_port.specs.Own.{refusal_at}
 use Rattle.nm_own.specs.Opening.{IsNew}
-use Rattle.nm_own.specs.Receives.{own_with_arrival}
+use Rattle.nm_port.specs.Receives.{own_with_arrival}
 use Rattle.nm_own.proofs.OwnLaws.{frames_come, room_for_frames}
 use Rattle.vale_line.specs.declared.got.Got.{Got}
 use Rattle.vale_line.specs.Gots.{buffers_of, frames_in, part_in, IsSingle}

@@ -8,7 +8,7 @@ use Rattle.nm_types.specs.declared.fault.SyncFault.{SyncFault}
 use Rattle.nm_types.specs.declared.id.PortId.{PortId}
 use Rattle.nm_types.specs.declared.id.Side.TheVariants.{Rx}
 use Rattle.nm_types.specs.OwnPorts.{OwnPort, OwnRing, OwnState, port_with_id, ring_at, ring_on, refusal_in}
-use Rattle.nm_own.specs.Own.{refusal_at}
+use Rattle.nm_port.specs.Own.{refusal_at}
 use Rattle.vale_entry.specs.declared.entry.Ask.{Ask}
 use Rattle.vale_entry.specs.declared.entry.Ask.TheVariants.{Reset, Sync, Get}
 use Rattle.vale_entry.specs.declared.entry.Reply.TheVariants as replies

@@ -13,7 +13,7 @@ use Rattle.nm_types.specs.declared.id.PortId.{PortId}
 use Rattle.nm_types.specs.declared.id.Side.TheVariants.{Rx}
 use Rattle.nm_types.specs.OwnPorts.{OwnRing, OwnState, Arrival, ring_at, pushed_at, pushed_in, pushed_count, port_with_id, refusal_in}
 use Rattle.nm_types.specs.OwnSyncs.{back_on, own_after_receive}
-use Rattle.nm_own.specs.Receives.{own_with_arrival}
+use Rattle.nm_port.specs.Receives.{own_with_arrival}
 use Rattle.nm_own.proofs.OwnLaws.{frames_come}
 use Rattle.vale_line.specs.declared.got.Got.{Got}
 use Rattle.vale_line.specs.Gots.{buffers_of}

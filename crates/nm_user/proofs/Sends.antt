@@ -16,7 +16,7 @@ use Rattle.nm_types.specs.declared.fault.StepFault.{StepFault}
 use Rattle.nm_types.specs.declared.fault.SyncFault.{SyncFault}
 use Rattle.nm_types.specs.OwnPorts.{OwnPort, OwnRing, OwnState, bytes_at, port_with_id, ring_at, ring_on, refusal_in, pushed_in, pushed_on, pushed_at, pushed_count}
 use Rattle.nm_types.specs.OwnSyncs.{own_after_send}
-use Rattle.nm_own.specs.Own.{refusal_at}
+use Rattle.nm_port.specs.Own.{refusal_at}
 use Rattle.nm_turn.specs.Shares.{IsWhole}
 use Rattle.nm_turn.proofs.Telling.{told_then}
 use Rattle.nm_turn.specs.Passes.{Told}

@@ -14,7 +14,7 @@ use Rattle.nm_types.specs.declared.id.PortId.{PortId}
 use Rattle.nm_types.specs.declared.id.Side.{Side}
 use Rattle.nm_types.specs.declared.id.Side.TheVariants.{Tx}
 use Rattle.nm_types.specs.OwnPorts.{bytes_at, pushed_in, refusal_in}
-use Rattle.nm_own.specs.Own.{refusal_at}
+use Rattle.nm_port.specs.Own.{refusal_at}
 use Rattle.vale_entry.specs.declared.entry.Ask.{Ask}
 use Rattle.vale_entry.specs.declared.entry.Ask.TheVariants.{Reset, Send, Put}
 use Rattle.vale_entry.specs.declared.entry.Reply.{Reply}

@@ -11,7 +11,7 @@ use Rattle.nm_types.specs.OwnSyncs.{buffers_of_arrivals}
 use Rattle.nm_region.specs.Buffers.{Buffer, indices_of}
 use Rattle.nm_own.specs.Opening.{IsNew}
 use Rattle.nm_own.specs.LentOffers.{IsLentOffers}
-use Rattle.nm_own.specs.Regions.{SideState}
+use Rattle.nm_port.specs.Regions.{SideState}
 use Rattle.vale_line.specs.declared.got.Got.{Got}
 use Rattle.vale_line.specs.Gots.{buffer_of, buffers_of}
 use Rattle.vale_entry.specs.declared.entry.Ask.TheVariants.{Put, PutKept}

@@ -5,9 +5,9 @@ use Rattle.std.specs.List.{IsDistinct}
 use Rattle.nm_types.specs.declared.id.PortId.{PortId}
 use Rattle.nm_region.specs.Buffers.{Buffer}
 use Rattle.nm_own.specs.declared.lend_offers.LentOffers.{LentOffers}
-use Rattle.nm_own.specs.Offers.{offered_lengths}
+use Rattle.nm_port.specs.Offers.{offered_lengths}
 use Rattle.nm_own.specs.LentOffers.{IsLentOffers}
-use Rattle.nm_own.specs.Regions.{SideState}
+use Rattle.nm_port.specs.Regions.{SideState}
 use Rattle.nm_own.proofs.LentTx.{lends, offered_number}
 use Rattle.vale_line.specs.declared.got.Got.{Got}
 use Rattle.vale_line.specs.Gots.{buffers_of}

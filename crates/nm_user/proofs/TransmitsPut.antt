@@ -14,9 +14,9 @@ use Rattle.nm_types.specs.declared.id.Side.TheVariants.{Tx}
 use Rattle.nm_types.specs.OwnPorts.{Arrival, OwnPort, OwnRing, OwnState, bytes_at, buffer_in, slot_in, port_with_id, pushed_in, ring_at, ring_on, refusal_in}
 use Rattle.nm_types.specs.OwnSyncs.{own_after_put, after_exchange, offered_slots, taken_from, taken_on}
 use Rattle.nm_region.specs.Buffers.{Buffer, indices_of}
-use Rattle.nm_own.specs.Own.{refusal_at}
-use Rattle.nm_own.specs.Closing.{bytes_of_buffers}
-use Rattle.nm_own.specs.Offers.{lengths_in, offered_lengths}
+use Rattle.nm_port.specs.Own.{refusal_at}
+use Rattle.nm_port.specs.Closing.{bytes_of_buffers}
+use Rattle.nm_port.specs.Offers.{lengths_in, offered_lengths}
 use Rattle.nm_own.specs.LentOffers.{offered_buffers, offered_count}
 use Rattle.vale_line.specs.declared.got.Got.{Got}
 use Rattle.vale_line.specs.Gots.{buffers_of, IsSingle}

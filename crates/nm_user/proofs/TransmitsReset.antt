@@ -10,7 +10,7 @@ use Rattle.nm_types.specs.declared.id.Side.{Side}
 use Rattle.nm_types.specs.declared.id.Side.TheVariants.{Tx, Rx}
 use Rattle.nm_types.specs.OwnPorts.{OwnPort, OwnRing, OwnState, bytes_at, port_with_id, ring_on, refusal_in, pushed_in}
 use Rattle.nm_types.specs.OwnSyncs.{own_after_reset}
-use Rattle.nm_own.specs.Own.{refusal_at}
+use Rattle.nm_port.specs.Own.{refusal_at}
 use Rattle.vale_entry.specs.declared.entry.Ask.{Ask}
 use Rattle.vale_entry.specs.declared.entry.Ask.TheVariants.{Reset, Send, Sync, Put, Get}
 use Rattle.vale_entry.specs.declared.entry.Reply.TheVariants as replies

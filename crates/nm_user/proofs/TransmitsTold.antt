@@ -10,8 +10,8 @@ use Rattle.nm_types.specs.declared.id.Side.TheVariants.{Tx}
 use Rattle.nm_types.specs.OwnPorts.{Arrival, OwnPort, OwnState, port_with_id, ring_at, refusal_in}
 use Rattle.nm_types.specs.OwnSyncs.{own_after_put}
 use Rattle.nm_region.specs.Buffers.{indices_of}
-use Rattle.nm_own.specs.Own.{refusal_at}
-use Rattle.nm_own.specs.Regions.{SideState}
+use Rattle.nm_port.specs.Own.{refusal_at}
+use Rattle.nm_port.specs.Regions.{SideState}
 use Rattle.vale_line.specs.declared.got.Got.{Got}
 use Rattle.vale_entry.specs.declared.entry.Ask.{Ask}
 use Rattle.vale_entry.specs.declared.entry.Ask.TheVariants.{Put, PutKept}

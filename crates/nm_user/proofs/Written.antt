@@ -5,7 +5,7 @@ use Rattle.nm_types.specs.declared.id.Side.{Side}
 use Rattle.nm_types.specs.Slots.{SlotState}
 use Rattle.nm_types.specs.OwnEdits.{with_user_slot, with_written}
 use Rattle.nm_own.specs.LentSlots.{side_with_slot}
-use Rattle.nm_own.specs.Regions.{SideState, AllOf}
+use Rattle.nm_port.specs.Regions.{SideState, AllOf}
 use Rattle.nm_own.specs.WrittenBytes.{side_written}
 use Rattle.vale_own.specs.Own.{own_of}
 use Rattle.vale_own.specs.SideEdits.{KeepsSides}

@@ -8,7 +8,7 @@ use Rattle.nm_types.specs.OwnEdits.{user_slot_at}
 use Rattle.nm_types.specs.contracts.slot.Slot.{the_row as slot_row}
 use Rattle.nm_own.specs.ExtraChain.{named_bytes}
 use Rattle.nm_own.specs.LentSlots.{side_with_slot}
-use Rattle.nm_own.specs.Regions.{SideState}
+use Rattle.nm_port.specs.Regions.{SideState}
 use Rattle.nm_own.specs.WrittenBytes.{side_written}
 use Rattle.nm_own.specs.contracts.own.OwnSide.{the_row as side_row}
 

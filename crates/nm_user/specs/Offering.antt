@@ -6,7 +6,7 @@ use Rattle.nm_types.specs.declared.fault.SyncFault.{SyncFault}
 use Rattle.nm_types.specs.declared.fault.SyncFault.TheVariants as sync
 use Rattle.nm_types.specs.OwnSyncs.{own_after_put}
 use Rattle.nm_own.specs.LentOffers.{IsLentOffers, CanBeTaken}
-use Rattle.nm_own.specs.Regions.{SideState}
+use Rattle.nm_port.specs.Regions.{SideState}
 use Rattle.vale_line.specs.declared.got.Got.{Got}
 use Rattle.vale_line.specs.Gots.{buffers_of}
 use Rattle.vale_book.specs.declared.fault.PutFault.{PutFault}

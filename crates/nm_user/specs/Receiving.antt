@@ -4,7 +4,7 @@ use Rattle.nm_types.specs.declared.id.PortId.{PortId}
 use Rattle.nm_types.specs.Limits.{most_ring}
 use Rattle.nm_types.specs.OwnPorts.{OwnState, Arrival}
 use Rattle.nm_own.specs.Opening.{IsNew}
-use Rattle.nm_own.specs.Receives.{can_receive, own_with_arrival}
+use Rattle.nm_port.specs.Receives.{can_receive, own_with_arrival}
 use Rattle.vale_line.specs.declared.got.Got.{Got}
 use Rattle.vale_line.specs.Gots.{frames_in, part_in, IsSingle}
 use Rattle.vale_entry.specs.declared.entry.Ask.{Ask}

@@ -2,7 +2,7 @@
 use Rattle.std.specs.Prelude.{ℕ, true, ◌≡◌, ◌≤◌, length, Option, Some, None}
 use Rattle.nm_turn.specs.Numbered.{Stands}
 use Rattle.nm_types.specs.OwnPorts.{OwnState, empty_own}
-use Rattle.nm_own.specs.Regions.{SideState, AllOf}
+use Rattle.nm_port.specs.Regions.{SideState, AllOf}
 use Rattle.vale_entry.specs.Legal.{Standing, IsLegal}
 use Rattle.vale_own.specs.Own.{own_of, is_settled_own}
 use Rattle.vale_own.specs.Side.{IsSoundSideOf}

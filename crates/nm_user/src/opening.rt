@@ -5,7 +5,7 @@ ghost use Rattle.nm_types.specs.Openings.{are_sizes, is_ring_size};
 ghost use Rattle.nm_types.specs.OwnSyncs.{own_after_open};
 ghost use Rattle.nm_region.specs.Buffers.{indices_of};
 ghost use Rattle.nm_own.specs.Opening.{blank_arrivals};
-ghost use Rattle.nm_own.specs.Regions.{AllOf, AreOf};
+ghost use Rattle.nm_port.specs.Regions.{AllOf, AreOf};
 ghost use Rattle.vale_entry.specs.declared.entry.Ask.TheVariants as asks;
 ghost use Rattle.vale_entry.specs.declared.entry.Reply.TheVariants as replies;
 ghost use Rattle.nm_user.specs.Calls.{Made};

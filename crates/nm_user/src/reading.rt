@@ -4,7 +4,7 @@ ghost use Rattle.std.specs.Option.{option_copied, option_map_or};
 ghost use Rattle.nm_types.specs.Names.{is_monitor_name};
 ghost use Rattle.nm_types.specs.OwnPorts.{OwnPort, ring_at, port_with_id, port_with_name};
 ghost use Rattle.nm_types.specs.OwnEdits.{user_slot_at};
-ghost use Rattle.nm_own.specs.Own.{ring_of};
+ghost use Rattle.nm_port.specs.Own.{ring_of};
 ghost use Rattle.nm_own.specs.ExtraChain.{head_of_extras, extra_at, named_bytes};
 ghost use Rattle.nm_user.specs.Sessions.{IsThere};
 

@@ -4,8 +4,8 @@ ghost use Rattle.std.specs.Prelude.{false, true, ◌≡◌, IsSome, IfSome, IfOk
 ghost use Rattle.nm_types.specs.declared.id.Side.TheVariants.{Tx};
 ghost use Rattle.nm_types.specs.Names.{is_pipe_name};
 ghost use Rattle.nm_types.specs.OwnPorts.{port_with_id, ring_at};
-ghost use Rattle.nm_own.specs.Own.{refusal_at};
-ghost use Rattle.nm_own.specs.Sides.{TellsRefusal};
+ghost use Rattle.nm_port.specs.Own.{refusal_at};
+ghost use Rattle.nm_port.specs.Sides.{TellsRefusal};
 ghost use Rattle.vale_entry.specs.declared.entry.Ask.TheVariants as asks;
 ghost use Rattle.vale_entry.specs.declared.entry.Reply.TheVariants as replies;
 ghost use Rattle.vale_entry.specs.Legal.{fits_fault};

@@ -1,9 +1,9 @@
 use Rattle.std.proofs.Common.{ℕ, zero, suc, ◌≡◌, ◌<◌, ◌≤◌, ◌-◌, ◌∙◌, Some, ap, arith}
 use Rattle.nm_types.specs.declared.place.Place.TheVariants as place
 use Rattle.nm_hold.specs.Holds.{HoldState}
-use Rattle.nm_own.specs.declared.port.UserPort.{UserPort}
-use Rattle.nm_own.specs.Sides.{number_at}
-use Rattle.nm_own.specs.Own.{port_seen}
+use Rattle.nm_port.specs.declared.port.UserPort.{UserPort}
+use Rattle.nm_port.specs.Sides.{number_at}
+use Rattle.nm_port.specs.Own.{port_seen}
 use Rattle.nm_own.specs.ExtraChain.{extra_numbered}
 use Rattle.nm_own.proofs.Linking.{no_number, number_seen}
 use Rattle.nm_own.proofs.extras.extra_numbered.Goals as goal

@@ -1,6 +1,6 @@
 use Rattle.std.proofs.Common.{◌<◌, length}
 use Rattle.std.proofs.lemmas.List.Edits.{map_over_more}
-use Rattle.nm_own.specs.Puts.{cleared}
+use Rattle.nm_port.specs.Puts.{cleared}
 use Rattle.nm_own.proofs.lend_offers.clear_all.Goals as goal
 
 pub loop-buf-preserved : goal.loop-buf-preserved

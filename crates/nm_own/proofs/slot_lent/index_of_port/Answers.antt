@@ -1,5 +1,5 @@
 use Rattle.std.proofs.Common.{◌∙◌, sym}
-use Rattle.nm_own.proofs.PortOut.{found_at, missed_at}
+use Rattle.nm_port.proofs.PortOut.{found_at, missed_at}
 use Rattle.nm_own.proofs.slot_lent.index_of_port.Goals as goal
 
 pub returns-in-Some : goal.returns-in-Some

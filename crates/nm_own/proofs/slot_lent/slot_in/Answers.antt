@@ -2,7 +2,7 @@ use Rattle.std.proofs.Common.{◌≡◌, Some, None, refl, sym, ap, inr}
 use Rattle.std.specs.Prelude.{slice_get}
 use Rattle.std.specs.declared.vec.Vec.{Vec}
 use Rattle.std.specs.declared.alloc.Global.{Global}
-use Rattle.nm_own.specs.declared.port.UserPort.{UserPort}
+use Rattle.nm_port.specs.declared.port.UserPort.{UserPort}
 use Rattle.nm_own.proofs.SlotsLent.{lends_in, lends_not, found_there, none_found}
 use Rattle.nm_own.proofs.slot_lent.slot_in.Goals as goal
 

@@ -1,5 +1,5 @@
 use Rattle.std.proofs.Common.{subst, Option, IfSome}
-use Rattle.nm_own.specs.Regions.{SideState, AllOf}
+use Rattle.nm_port.specs.Regions.{SideState, AllOf}
 use Rattle.nm_user.proofs.opening.add.Goals as goal
 
 pub returns-clause-region : goal.returns-clause-region

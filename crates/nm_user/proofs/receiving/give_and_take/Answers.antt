@@ -3,7 +3,7 @@ use Rattle.nm_types.specs.declared.id.PortId.{PortId}
 use Rattle.nm_types.specs.OwnSyncs.{own_after_receive}
 use Rattle.nm_region.specs.Buffers.{Buffer}
 use Rattle.nm_own.specs.LentBack.{IsLentBack}
-use Rattle.nm_own.specs.Regions.{AreOf}
+use Rattle.nm_port.specs.Regions.{AreOf}
 use Rattle.vale_fabric.specs.Fabrics.{fixed_in}
 use Rattle.nm_user.proofs.ReceivesCome.{all-added}
 use Rattle.nm_user.proofs.receiving.give_and_take.Goals as goal

@@ -1,7 +1,7 @@
 use Rattle.std.proofs.Common.{rules, ◌≡◌, ◌∙◌, List, [], ◌∷◌, ◌++◌, fold, reverse, sym, ap, subst}
 use Rattle.nm_types.specs.OwnPorts.{OwnState}
-use Rattle.nm_own.specs.Receives.{own_with_arrival}
-use Rattle.nm_own.specs.Regions.{AreOf}
+use Rattle.nm_port.specs.Receives.{own_with_arrival}
+use Rattle.nm_port.specs.Regions.{AreOf}
 use Rattle.vale_line.specs.declared.got.Got.{Got}
 use Rattle.vale_line.specs.Gots.{buffers_of}
 use Rattle.nm_user.specs.Receiving.{arrivals_in, CanCome}

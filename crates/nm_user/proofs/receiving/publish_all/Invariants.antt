@@ -1,7 +1,7 @@
 use Rattle.std.proofs.Common.{ℕ, ◌≡◌, fold, reverse}
 use Rattle.std.specs.Vec.{vec_len}
-use Rattle.nm_own.specs.Receives.{own_with_arrival}
-use Rattle.nm_own.specs.Regions.{AllOf, AreOf}
+use Rattle.nm_port.specs.Receives.{own_with_arrival}
+use Rattle.nm_port.specs.Regions.{AllOf, AreOf}
 use Rattle.vale_line.specs.Gots.{buffers_of}
 use Rattle.nm_user.specs.Receiving.{arrivals_in, CanCome}
 use Rattle.nm_user.proofs.receiving.publish_all.Given as goal

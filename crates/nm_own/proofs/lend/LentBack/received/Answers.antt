@@ -3,9 +3,9 @@ use Rattle.std.proofs.lemmas.List.{with_items_is, length-map}
 use Rattle.std.specs.Vec.{with_items}
 use Rattle.nm_types.specs.declared.id.PortId.{PortId}
 use Rattle.nm_types.specs.declared.id.Side.TheVariants.{Rx}
-use Rattle.nm_own.specs.declared.port.UserPort.{UserPort}
-use Rattle.nm_own.specs.Own.{own_seen, port_changed_if}
-use Rattle.nm_own.specs.Receives.{ring_given_back}
+use Rattle.nm_port.specs.declared.port.UserPort.{UserPort}
+use Rattle.nm_port.specs.Own.{own_seen, port_changed_if}
+use Rattle.nm_port.specs.Receives.{ring_given_back}
 use Rattle.nm_own.proofs.OnePort.{kept_with}
 use Rattle.nm_own.proofs.GivenBack.{can_give_back, changes}
 use Rattle.nm_own.proofs.Lent.{before_lending, lends, around, now_back, ports_accepted, received_is_seen, received_of}

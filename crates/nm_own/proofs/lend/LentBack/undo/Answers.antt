@@ -1,6 +1,6 @@
 use Rattle.std.proofs.Common.{◌≡◌, ◌∙◌, Some, None}
 use Rattle.nm_types.specs.declared.id.Side.TheVariants.{Rx}
-use Rattle.nm_own.specs.Own.{slots_at}
+use Rattle.nm_port.specs.Own.{slots_at}
 use Rattle.nm_own.proofs.Lent.{fits_lent, few_lent, few_replaced}
 use Rattle.nm_own.proofs.lend.LentBack.undo.Goals as goal
 

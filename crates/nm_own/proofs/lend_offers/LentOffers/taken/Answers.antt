@@ -7,11 +7,11 @@ use Rattle.nm_types.specs.declared.place.Place.TheVariants as place
 use Rattle.nm_region.specs.Buffers.{Buffer}
 use Rattle.nm_types.specs.Positions.{RingState, step_on}
 use Rattle.nm_hold.specs.Holds.{HoldState, IsHold}
-use Rattle.nm_own.specs.declared.port.UserPort.{UserPort}
-use Rattle.nm_own.specs.Own.{own_seen, slots_at, port_changed_if}
-use Rattle.nm_own.specs.Puts.{offered_slot, cleared, ring_taken}
-use Rattle.nm_own.specs.Exchanges.{AreRenamed, pushed_count_of, tx_places}
-use Rattle.nm_own.specs.Lending.{AreOut}
+use Rattle.nm_port.specs.declared.port.UserPort.{UserPort}
+use Rattle.nm_port.specs.Own.{own_seen, slots_at, port_changed_if}
+use Rattle.nm_port.specs.Puts.{offered_slot, cleared, ring_taken}
+use Rattle.nm_port.specs.Exchanges.{AreRenamed, pushed_count_of, tx_places}
+use Rattle.nm_port.specs.Lending.{AreOut}
 use Rattle.nm_own.specs.LentOffers.{pending_count_of, offered_count_of}
 use Rattle.nm_own.proofs.Passing.{positions_fit}
 use Rattle.nm_own.proofs.Pushed.{can_accept}

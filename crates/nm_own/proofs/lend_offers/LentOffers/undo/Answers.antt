@@ -1,6 +1,6 @@
 use Rattle.std.proofs.Common.{◌≡◌, ◌∙◌, Some}
 use Rattle.nm_types.specs.declared.id.Side.TheVariants.{Tx}
-use Rattle.nm_own.specs.Own.{slots_at}
+use Rattle.nm_port.specs.Own.{slots_at}
 use Rattle.nm_own.proofs.LentTx.{fits_lent, few_lent, few_replaced}
 use Rattle.nm_own.proofs.lend_offers.LentOffers.undo.Goals as goal
 

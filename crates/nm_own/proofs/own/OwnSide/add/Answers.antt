@@ -1,14 +1,14 @@
 use Rattle.std.proofs.Common.{ℕ, ◌≡◌, ◌∙◌, ◌-◌, ◌++◌, ◌∷◌, [], List, length, ap, sym, subst}
 use Rattle.nm_region.specs.Buffers.{Buffer, indices_of}
-use Rattle.nm_own.specs.declared.fill.Row.TheVariants.{Slots, Extras}
-use Rattle.nm_own.specs.declared.port.UserPort.{UserPort}
-use Rattle.nm_own.specs.Filling.{AreFilledWith}
+use Rattle.nm_port.specs.declared.fill.Row.TheVariants.{Slots, Extras}
+use Rattle.nm_port.specs.declared.port.UserPort.{UserPort}
+use Rattle.nm_port.specs.Filling.{AreFilledWith}
 use Rattle.nm_own.specs.Opening.{opened_user_port}
 use Rattle.nm_own.proofs.Opened.{Opens, indices_length, filled_now, places_now, count_now, whole_now, sided_now, rings_now, back_now, flagged_now, opened_is_seen}
 use Rattle.nm_own.proofs.Readied.{no_places_yet, is_ready_for, slots_belong, slots_away, extras_belong, extras_empty, extras_away, opens, distinct_left, distinct_right}
 use Rattle.nm_hold.specs.Holds.{bufs_of}
-use Rattle.nm_own.specs.Regions.{HoldsOf}
-use Rattle.nm_own.proofs.Regions.{of_seen, holds_same}
+use Rattle.nm_port.specs.Regions.{HoldsOf}
+use Rattle.nm_port.proofs.Regions.{of_seen, holds_same}
 use Rattle.nm_own.proofs.own.OwnSide.add.Goals as goal
 
 pub set_port-requires-clause-new : goal.set_port-requires-clause-new

@@ -1,7 +1,7 @@
 use Rattle.std.proofs.Common.{◌≡◌, Some, None, sym}
 use Rattle.nm_types.specs.declared.id.Side.TheVariants.{Rx}
-use Rattle.nm_own.specs.Own.{slots_at}
-use Rattle.nm_own.proofs.Checked.{no_ring, passed_fits}
+use Rattle.nm_port.specs.Own.{slots_at}
+use Rattle.nm_port.proofs.Checked.{no_ring, passed_fits}
 use Rattle.nm_own.proofs.Offered.{rx_ring_found, back_is_seen}
 use Rattle.nm_own.proofs.own.OwnSide.back.Goals as goal
 

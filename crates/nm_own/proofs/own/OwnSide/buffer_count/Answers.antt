@@ -1,5 +1,5 @@
 use Rattle.std.proofs.Common.{◌≡◌, ◌∙◌, Some, None, sym}
-use Rattle.nm_own.specs.Own.{port_at}
+use Rattle.nm_port.specs.Own.{port_at}
 use Rattle.nm_own.proofs.Closing.{has_port, extra_small, buffers_count, no_buffers, buffers_once, none_once}
 use Rattle.nm_own.proofs.own.OwnSide.buffer_count.Goals as goal
 

@@ -37,7 +37,7 @@ use Rattle.std.specs.Prelude.{Some, None}
 use Rattle.std.specs.contracts.option.Option as OP
 use Rattle.nm_types.specs.SyncChecks.{contains_index}
 use Rattle.nm_types.specs.OwnPorts.{OwnState, named_of}
-use Rattle.nm_own.specs.Regions.{SideState}
+use Rattle.nm_port.specs.Regions.{SideState}
 use Rattle.nm_own.specs.ExtraChain.{named_bytes}
 use Rattle.nm_own.specs.LentBytes.{LendsBytesAt}
 use Rattle.nm_own.specs.contracts.own.OwnSide.{the_row as R}

@@ -1,7 +1,7 @@
 use Rattle.std.proofs.Common.{◌≡◌, Some, None, refl, sym}
 use Rattle.nm_types.specs.declared.id.Side.TheVariants.{Rx}
-use Rattle.nm_own.specs.Own.{slots_at}
-use Rattle.nm_own.proofs.Checked.{ring_found, ring_not_found}
+use Rattle.nm_port.specs.Own.{slots_at}
+use Rattle.nm_port.proofs.Checked.{ring_found, ring_not_found}
 use Rattle.nm_own.proofs.own.OwnSide.can_receive.Goals as goal
 
 pub returns-in-Some : goal.returns-in-Some

@@ -1,7 +1,7 @@
 use Rattle.std.proofs.Common.{◌≡◌, Some, None, sym}
 use Rattle.nm_types.specs.OwnPorts.{named_of}
-use Rattle.nm_own.specs.Own.{own_seen, slots_at}
-use Rattle.nm_own.proofs.Checked.{no_ring, refusal_is_seen}
+use Rattle.nm_port.specs.Own.{own_seen, slots_at}
+use Rattle.nm_port.proofs.Checked.{no_ring, refusal_is_seen}
 use Rattle.nm_own.proofs.Naming.{are_named}
 use Rattle.nm_own.proofs.own.OwnSide.check.Goals as goal
 

@@ -1,12 +1,12 @@
 use Rattle.std.proofs.Common.{◌∙◌, [], List, ap, sym, subst}
 use Rattle.nm_region.specs.Buffers.{Buffer, indices_of}
 use Rattle.nm_types.specs.OwnSyncs.{own_after_finish}
-use Rattle.nm_own.specs.Own.{own_seen}
-use Rattle.nm_own.specs.Closing.{buffers_with_id, bytes_of_buffers}
-use Rattle.nm_own.proofs.PortOut.{some_there, back_one, drop_none}
+use Rattle.nm_port.specs.Own.{own_seen}
+use Rattle.nm_port.specs.Closing.{buffers_with_id, bytes_of_buffers}
+use Rattle.nm_port.proofs.PortOut.{some_there, back_one, drop_none}
 use Rattle.nm_own.proofs.Closing.{others_sided, others_rings, others_back, port_found, has_port, extra_small, is_held, chain_is, indices_come, bytes_come, holds_nothing, places_left, filled_left, flagged_left, whole_left, count_left, closed_is_seen}
-use Rattle.nm_own.specs.Regions.{SideState, AreOf}
-use Rattle.nm_own.proofs.Regions.{of_seen, holds_same, holds_taken, taken_of}
+use Rattle.nm_port.specs.Regions.{SideState, AreOf}
+use Rattle.nm_port.proofs.Regions.{of_seen, holds_same, holds_taken, taken_of}
 use Rattle.nm_hold.specs.Holds.{bufs_of}
 use Rattle.nm_own.proofs.own.OwnSide.close_port.Goals as goal
 

@@ -1,13 +1,13 @@
 use Rattle.std.proofs.Common.{◌≡◌, ◌∙◌, List, length, map, refl, sym, ap, subst}
 use Rattle.std.proofs.lemmas.List.{with_items_is, length-map}
 use Rattle.std.specs.Vec.{with_items}
-use Rattle.nm_own.specs.declared.port.UserPort.{UserPort}
+use Rattle.nm_port.specs.declared.port.UserPort.{UserPort}
 use Rattle.nm_own.specs.Edits.{edited, ring_edit, port_edited_if, own_edited}
 use Rattle.nm_types.specs.declared.id.PortId.{PortId}
 use Rattle.nm_own.proofs.Changing.{sided_changed, rings_changed, flagged_changed, places_changed, filled_changed, back_changed}
-use Rattle.nm_own.specs.Own.{own_seen, AreSided, AreRings, AreFlagged, AreFilled, HasPlaces, HaveBackRoom}
+use Rattle.nm_port.specs.Own.{own_seen, AreSided, AreRings, AreFlagged, AreFilled, HasPlaces, HaveBackRoom}
 use Rattle.nm_own.proofs.Editing.{edits_keep, seen_edited}
-use Rattle.nm_own.proofs.Regions.{same_side}
+use Rattle.nm_port.proofs.Regions.{same_side}
 use Rattle.nm_own.proofs.own.OwnSide.edit.Goals as goal
 
 -- the ports once the edit is made

@@ -1,6 +1,7 @@
 use Rattle.std.proofs.Common.{◌≡◌, Some, None, refl, sym}
-use Rattle.nm_own.specs.Own.{port_at}
-use Rattle.nm_own.proofs.Closing.{port_found, lacks_port}
+use Rattle.nm_port.specs.Own.{port_at}
+use Rattle.nm_own.proofs.Closing.{port_found}
+use Rattle.nm_port.proofs.PortOut.{lacks_port}
 use Rattle.nm_own.proofs.own.OwnSide.extra_at.Goals as goal
 
 pub returns-in-Some : goal.returns-in-Some

@@ -1,7 +1,7 @@
 use Rattle.std.proofs.Common.{◌∙◌, ap}
-use Rattle.nm_own.specs.Regions.{SideState}
+use Rattle.nm_port.specs.Regions.{SideState}
 use Rattle.nm_own.proofs.Forwarding.{forwards_on, forwards_no_more}
-use Rattle.nm_own.proofs.Regions.{same_as}
+use Rattle.nm_port.proofs.Regions.{same_as}
 use Rattle.nm_own.proofs.own.OwnSide.forward.Goals as goal
 
 pub returns-then-not-forward_one : goal.returns-then-not-forward_one

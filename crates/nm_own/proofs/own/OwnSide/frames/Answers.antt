@@ -1,7 +1,7 @@
 use Rattle.std.proofs.Common.{◌≡◌, Some, None, sym}
 use Rattle.nm_types.specs.declared.id.Side.TheVariants.{Tx}
-use Rattle.nm_own.specs.Own.{slots_at}
-use Rattle.nm_own.proofs.Checked.{no_ring, tx_ring_found, passed_fits, frames_are_seen}
+use Rattle.nm_port.specs.Own.{slots_at}
+use Rattle.nm_port.proofs.Checked.{no_ring, tx_ring_found, passed_fits, frames_are_seen}
 use Rattle.nm_own.proofs.own.OwnSide.frames.Goals as goal
 
 pub unreachable-requires : goal.unreachable-requires

@@ -2,7 +2,7 @@ use Rattle.std.proofs.Common.{◌≡◌, ◌∙◌, Option, Some, None, refl, ap
 use Rattle.std.specs.Prelude.{is_some}
 use Rattle.std.specs.Option.{option_copied}
 use Rattle.std.specs.Borrow.{Bor}
-use Rattle.nm_own.specs.Own.{port_at}
+use Rattle.nm_port.specs.Own.{port_at}
 use Rattle.nm_own.proofs.Closing.{port_is_there}
 use Rattle.nm_own.proofs.own.OwnSide.has_port.Goals as goal
 

@@ -1,6 +1,7 @@
 use Rattle.std.proofs.Common.{◌≡◌, Some, None, refl, sym}
-use Rattle.nm_own.specs.Own.{slots_at}
-use Rattle.nm_own.proofs.Checked.{ring_found, ring_not_found, head_slot_seen, side_found}
+use Rattle.nm_port.specs.Own.{slots_at}
+use Rattle.nm_port.proofs.Checked.{ring_found, ring_not_found, side_found}
+use Rattle.nm_own.proofs.Written.{head_slot_seen}
 use Rattle.nm_own.proofs.own.OwnSide.head_slot.Goals as goal
 
 pub returns-in-Some : goal.returns-in-Some

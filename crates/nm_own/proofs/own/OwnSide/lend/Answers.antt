@@ -1,13 +1,13 @@
 use Rattle.std.proofs.Common.{◌≡◌, ◌∙◌, true, refl, sym}
 use Rattle.nm_types.specs.SyncChecks.{contains_index}
 use Rattle.nm_types.specs.OwnPorts.{OwnState, named_of}
-use Rattle.nm_own.specs.Own.{own_seen}
+use Rattle.nm_port.specs.Own.{own_seen}
 use Rattle.nm_own.proofs.Filled.{is_named_seen}
 use Rattle.nm_own.proofs.Linking.{named_bytes_seen}
 use Rattle.nm_own.specs.WrittenBytes.{with_all_written}
 use Rattle.nm_own.proofs.BytesLent.{kept_written, written_is_seen, lent_size}
 use Rattle.nm_hold.specs.Holds.{with_written as hold_written}
-use Rattle.nm_own.proofs.Regions.{same_side, regions_written}
+use Rattle.nm_port.proofs.Regions.{same_side, regions_written}
 use Rattle.nm_own.proofs.own.OwnSide.lend.Goals as goal
 
 pub lend-requires : goal.lend-requires

@@ -1,16 +1,16 @@
 use Rattle.std.proofs.Common.{ℕ, nat_le, ◌≡◌, ◌<◌, Some, None, true, length, drop, reverse, sym, arith}
 use Rattle.std.proofs.lemmas.Bool.Decides.{nat_tests}
 use Rattle.nm_types.specs.declared.id.Side.TheVariants.{Rx}
-use Rattle.nm_own.specs.declared.port.UserPort.{UserPort}
-use Rattle.nm_own.specs.Own.{slots_at}
-use Rattle.nm_own.specs.Closing.{AreTaken}
-use Rattle.nm_own.specs.Exchanges.{pushed_count_of, user_place}
-use Rattle.nm_own.specs.Receives.{user_places}
-use Rattle.nm_own.specs.Lending.{Run, AreOut, AreNamedAs, place_of_run}
-use Rattle.nm_own.proofs.Checked.{no_ring}
+use Rattle.nm_port.specs.declared.port.UserPort.{UserPort}
+use Rattle.nm_port.specs.Own.{slots_at}
+use Rattle.nm_port.specs.Closing.{AreTaken}
+use Rattle.nm_port.specs.Exchanges.{pushed_count_of, user_place}
+use Rattle.nm_port.specs.Receives.{user_places}
+use Rattle.nm_port.specs.Lending.{Run, AreOut, AreNamedAs, place_of_run}
+use Rattle.nm_port.proofs.Checked.{no_ring}
 use Rattle.nm_own.proofs.Passing.{Passes, passes_of}
 use Rattle.nm_own.proofs.GivenBack.{can_exchange, pushed_ring, pushed_fits, back_count, before_stays, indices_come, bytes_come, lent_count}
-use Rattle.nm_own.proofs.Regions.{of_seen, holds_same, taken_of}
+use Rattle.nm_port.proofs.Regions.{of_seen, holds_same, taken_of}
 use Rattle.nm_own.proofs.own.OwnSide.lend_back.Goals as goal
 
 pub exchange_noted-requires-clause-can : goal.exchange_noted-requires-clause-can

@@ -1,19 +1,19 @@
 use Rattle.std.proofs.Common.{ℕ, nat_le, ◌≡◌, ◌<◌, ◌≤◌, map, Some, None, length, drop, reverse, sym, arith}
 use Rattle.nm_types.specs.declared.id.Side.TheVariants.{Tx}
-use Rattle.nm_own.specs.declared.port.UserPort.{UserPort}
-use Rattle.nm_own.specs.Own.{slots_at}
-use Rattle.nm_own.specs.Closing.{AreTaken}
-use Rattle.nm_own.specs.Sides.{place_on}
+use Rattle.nm_port.specs.declared.port.UserPort.{UserPort}
+use Rattle.nm_port.specs.Own.{slots_at}
+use Rattle.nm_port.specs.Closing.{AreTaken}
+use Rattle.nm_port.specs.Sides.{place_on}
 use Rattle.nm_types.specs.Positions.{slots_from}
 use Rattle.std.specs.Vec.{vec_capacity}
-use Rattle.nm_own.specs.Puts.{offered_slot}
+use Rattle.nm_port.specs.Puts.{offered_slot}
 use Rattle.nm_own.specs.LentOffers.{pending_count_of, offered_count_of}
-use Rattle.nm_own.specs.Lending.{Run, AreOut, AreNamedAs, place_of_run}
-use Rattle.nm_own.proofs.Checked.{no_ring}
+use Rattle.nm_port.specs.Lending.{Run, AreOut, AreNamedAs, place_of_run}
+use Rattle.nm_port.proofs.Checked.{no_ring}
 use Rattle.nm_own.proofs.Passing.{Passes, passes_of}
 use Rattle.nm_own.proofs.Pushed.{can_exchange}
 use Rattle.nm_own.proofs.LentTx.{ring_of_put, fits_of_put, first_within, few_offered, offered_held, offered_flags, offered_number, before_stays, indices_go, bytes_go, lent_number}
-use Rattle.nm_own.proofs.Regions.{of_seen, holds_same, taken_of}
+use Rattle.nm_port.proofs.Regions.{of_seen, holds_same, taken_of}
 use Rattle.nm_own.proofs.own.OwnSide.lend_offered.Goals as goal
 
 pub exchange_noted-requires-clause-can : goal.exchange_noted-requires-clause-can

@@ -1,6 +1,6 @@
 use Rattle.std.proofs.Common.{rules}
 use Rattle.nm_own.proofs.Filled.{fresh}
-use Rattle.nm_own.proofs.Regions.{made_side}
+use Rattle.nm_port.proofs.Regions.{made_side}
 use Rattle.nm_own.proofs.own.OwnSide.new.Goals as goal
 
 pub invariant_of-result : goal.invariant_of-result

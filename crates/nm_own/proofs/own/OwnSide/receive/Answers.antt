@@ -11,16 +11,16 @@ use Rattle.nm_types.specs.Buffers.{IsBufferIndex, cleared_but}
 use Rattle.nm_types.specs.OwnPorts.{Arrival}
 use Rattle.nm_region.specs.Buffers.{Buffer}
 use Rattle.nm_hold.specs.Holds.{buffers_of, index_at, with_cell}
-use Rattle.nm_own.specs.declared.port.UserPort.{UserPort}
-use Rattle.nm_own.specs.Own.{slots_at, own_seen, port_changed, port_changed_if}
-use Rattle.nm_own.specs.Filling.{placed}
+use Rattle.nm_port.specs.declared.port.UserPort.{UserPort}
+use Rattle.nm_port.specs.Own.{slots_at, own_seen, port_changed, port_changed_if}
+use Rattle.nm_port.specs.Filling.{placed}
 use Rattle.nm_own.specs.Opening.{IsNew}
-use Rattle.nm_own.specs.Receives.{ring_published, own_with_arrival}
+use Rattle.nm_port.specs.Receives.{ring_published, own_with_arrival}
 use Rattle.nm_own.proofs.Readied.{away_of}
 use Rattle.nm_own.proofs.OnePort.{changed_are, kept_with}
 use Rattle.nm_own.proofs.Published.{Receives, receives_of, cannot_receive, belongs, empty, can_publish, others, with_frame, changes, received_is_seen}
-use Rattle.nm_own.specs.Regions.{SideState}
-use Rattle.nm_own.proofs.Regions.{of_seen, holds_added}
+use Rattle.nm_port.specs.Regions.{SideState}
+use Rattle.nm_port.proofs.Regions.{of_seen, holds_added}
 use Rattle.nm_own.proofs.own.OwnSide.receive.Goals as goal
 
 pub unreachable-requires : goal.unreachable-requires

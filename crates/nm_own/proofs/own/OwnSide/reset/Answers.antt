@@ -1,13 +1,13 @@
 use Rattle.std.proofs.Common.{◌≡◌, ◌∙◌, List, length, map, refl, sym, ap, subst}
 use Rattle.std.proofs.lemmas.List.{with_items_is, length-map}
 use Rattle.std.specs.Vec.{with_items}
-use Rattle.nm_own.specs.declared.port.UserPort.{UserPort}
+use Rattle.nm_port.specs.declared.port.UserPort.{UserPort}
 use Rattle.nm_types.specs.OwnSyncs.{ring_after_reset, own_after_reset}
-use Rattle.nm_own.specs.Resets.{ring_reset, port_reset_if}
+use Rattle.nm_port.specs.Resets.{ring_reset, port_reset_if}
 use Rattle.nm_own.proofs.Changing.{seen_changed, sided_changed, rings_changed, flagged_changed, places_changed, filled_changed, back_changed}
-use Rattle.nm_own.specs.Own.{own_seen, AreSided, AreRings, AreFlagged, AreFilled, HasPlaces, HaveBackRoom}
+use Rattle.nm_port.specs.Own.{own_seen, AreSided, AreRings, AreFlagged, AreFilled, HasPlaces, HaveBackRoom}
 use Rattle.nm_own.proofs.Resetting.{resets_keep}
-use Rattle.nm_own.proofs.Regions.{same_side}
+use Rattle.nm_port.proofs.Regions.{same_side}
 use Rattle.nm_own.proofs.own.OwnSide.reset.Goals as goal
 
 -- the ports once the reset is made

@@ -1,6 +1,6 @@
 use Rattle.std.proofs.Common.{◌≡◌, Some, None, refl, sym}
-use Rattle.nm_own.specs.Own.{slots_at}
-use Rattle.nm_own.proofs.Checked.{ring_found, ring_not_found}
+use Rattle.nm_port.specs.Own.{slots_at}
+use Rattle.nm_port.proofs.Checked.{ring_found, ring_not_found}
 use Rattle.nm_own.proofs.own.OwnSide.ring.Goals as goal
 
 pub returns-in-Some : goal.returns-in-Some

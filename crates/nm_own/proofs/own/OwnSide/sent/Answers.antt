@@ -4,13 +4,13 @@ use Rattle.std.specs.Vec.{with_items}
 use Rattle.nm_types.specs.declared.id.PortId.{PortId}
 use Rattle.nm_types.specs.declared.id.Side.TheVariants.{Tx}
 use Rattle.nm_types.specs.OwnSyncs.{own_after_send}
-use Rattle.nm_own.specs.declared.port.UserPort.{UserPort}
-use Rattle.nm_own.specs.Own.{slots_at, own_seen, port_changed_if}
-use Rattle.nm_own.specs.Exchanges.{pushed_count_of, ring_pushed_out}
-use Rattle.nm_own.proofs.Checked.{no_ring}
+use Rattle.nm_port.specs.declared.port.UserPort.{UserPort}
+use Rattle.nm_port.specs.Own.{slots_at, own_seen, port_changed_if}
+use Rattle.nm_port.specs.Exchanges.{pushed_count_of, ring_pushed_out}
+use Rattle.nm_port.proofs.Checked.{no_ring}
 use Rattle.nm_own.proofs.Passing.{passes_of}
 use Rattle.nm_own.proofs.Pushed.{tx_side, can_exchange, slots_held, all_have_room, can_accept, kept_after, sent_is_seen}
-use Rattle.nm_own.proofs.Regions.{same_side, same_bufs}
+use Rattle.nm_port.proofs.Regions.{same_side, same_bufs}
 use Rattle.nm_own.proofs.own.OwnSide.sent.Goals as goal
 
 pub send_out-taken-requires-clause-can : goal.send_out-taken-requires-clause-can

@@ -2,11 +2,11 @@ use Rattle.std.proofs.Common.{◌≡◌, ◌∙◌, List, length, map, refl, sym
 use Rattle.std.proofs.lemmas.List.{with_items_is, length-map}
 use Rattle.std.specs.Vec.{with_items}
 use Rattle.nm_types.specs.OwnEdits.{with_head_of_chain}
-use Rattle.nm_own.specs.declared.port.UserPort.{UserPort}
+use Rattle.nm_port.specs.declared.port.UserPort.{UserPort}
 use Rattle.nm_own.specs.ExtraChain.{port_headed_if}
-use Rattle.nm_own.specs.Own.{own_seen, AreSided, AreRings, AreFlagged, AreFilled, HasPlaces, HaveBackRoom}
+use Rattle.nm_port.specs.Own.{own_seen, AreSided, AreRings, AreFlagged, AreFilled, HasPlaces, HaveBackRoom}
 use Rattle.nm_own.proofs.Linking.{sided_headed, rings_headed, flagged_headed, places_headed, filled_headed, back_headed, seen_headed}
-use Rattle.nm_own.proofs.Regions.{same_side}
+use Rattle.nm_port.proofs.Regions.{same_side}
 use Rattle.nm_own.proofs.own.OwnSide.set_extra_head.Goals as goal
 
 -- the ports once the head is stored

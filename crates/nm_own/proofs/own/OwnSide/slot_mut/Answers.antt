@@ -1,11 +1,11 @@
 use Rattle.std.proofs.Common.{◌≡◌, refl, ◌∙◌, ap}
 use Rattle.nm_types.specs.OwnPorts.{OwnState}
 use Rattle.nm_own.specs.declared.edit.RingEdit.TheVariants.{Slot}
-use Rattle.nm_own.specs.Own.{own_seen}
+use Rattle.nm_port.specs.Own.{own_seen}
 use Rattle.nm_own.specs.Edits.{own_edited}
 use Rattle.nm_own.specs.LentSlots.{index_of_port}
 use Rattle.nm_own.proofs.Editing.{seen_edited}
-use Rattle.nm_own.proofs.Regions.{same_side}
+use Rattle.nm_port.proofs.Regions.{same_side}
 use Rattle.nm_own.proofs.SlotsLent.{slot_edited, ports_same, kept_edited, kept_same, user_slot_found, ends_alike}
 use Rattle.nm_own.proofs.own.OwnSide.slot_mut.Goals as goal
 

@@ -2,7 +2,7 @@ use Rattle.std.proofs.Common.{◌∙◌, ap, sym, refl}
 use Rattle.nm_hold.specs.Holds.{HoldState}
 use Rattle.nm_own.proofs.Written.{fronted_is_seen, not_written, fronted_keeps, flagged_kept, filled_kept, whole_kept}
 use Rattle.nm_types.specs.OwnEdits.{with_written}
-use Rattle.nm_own.proofs.Regions.{same_side, regions_fronted}
+use Rattle.nm_port.proofs.Regions.{same_side, regions_fronted}
 use Rattle.nm_own.proofs.own.OwnSide.write_front.Goals as goal
 
 pub invariant_of-self : goal.invariant_of-self

@@ -2,9 +2,9 @@ use Rattle.std.proofs.Common.{ℕ, ◌≡◌, ◌≤◌, ◌∙◌, List, length
 use Rattle.std.proofs.lemmas.List.{length-map}
 use Rattle.std.specs.Vec.{vec_capacity}
 use Rattle.nm_region.specs.Buffers.{Buffer, indices_of}
-use Rattle.nm_own.specs.Closing.{bytes_of_buffers}
+use Rattle.nm_port.specs.Closing.{bytes_of_buffers}
 use Rattle.nm_own.specs.LentOffers.{IsLentOffers}
-use Rattle.nm_own.specs.Regions.{AreOf}
+use Rattle.nm_port.specs.Regions.{AreOf}
 use Rattle.vale_line.specs.Gots.{buffer_of, buffers_of}
 use Rattle.nm_user.specs.Offering.{gots_of}
 use Rattle.nm_user.proofs.ReceivesCome.{all-added}

@@ -2,7 +2,7 @@ use Rattle.std.proofs.Common.{rules, ◌≡◌, ◌∙◌, [], List, ap}
 use Rattle.nm_region.specs.Buffers.{Buffer, indices_of}
 use Rattle.nm_types.specs.OwnSyncs.{own_after_put}
 use Rattle.nm_own.specs.Opening.{blank_arrivals}
-use Rattle.nm_own.specs.Regions.{SideState}
+use Rattle.nm_port.specs.Regions.{SideState}
 use Rattle.nm_user.proofs.TransmitsLent.{take-none}
 use Rattle.nm_user.proofs.putting.Offering.refused.Goals as goal
 

@@ -1,7 +1,7 @@
 use Rattle.std.proofs.Common.{◌≡◌, None, refl, subst, sym, ◌∙◌, ap, ℕ}
 use Rattle.nm_types.specs.OwnPorts.{OwnState, empty_own}
 use Rattle.vale_fabric.specs.Fabrics.{fixed_in, knowing}
-use Rattle.nm_own.specs.Regions.{SideState, AllOf}
+use Rattle.nm_port.specs.Regions.{SideState, AllOf}
 use Rattle.nm_user.specs.Sessions.{IsThere}
 use Rattle.nm_user.proofs.After.{there-come}
 use Rattle.nm_user.proofs.session.Session.enter.Goals as goal

@@ -1,6 +1,6 @@
 use Rattle.std.proofs.Common.{refl, ap, arith}
 use Rattle.nm_types.specs.OwnSyncs.{own_after_send}
-use Rattle.nm_own.specs.Regions.{SideState}
+use Rattle.nm_port.specs.Regions.{SideState}
 use Rattle.nm_user.specs.Sessions.{own_in, session_seen}
 use Rattle.nm_user.proofs.After.{there-still}
 use Rattle.nm_user.proofs.Written.{region-of, region-kept}

@@ -3,7 +3,7 @@ use Rattle.std.specs.Option.{option_copied}
 use Rattle.nm_types.specs.declared.id.PortId.{PortId}
 use Rattle.nm_types.specs.declared.id.Side.TheVariants.{Tx}
 use Rattle.nm_types.specs.OwnPorts.{ring_at}
-use Rattle.nm_own.specs.Own.{ring_of}
+use Rattle.nm_port.specs.Own.{ring_of}
 use Rattle.vale_act.specs.Players.{PlayerState}
 use Rattle.vale_act.specs.Syncing.{sender_named}
 use Rattle.vale_act.proofs.Leading.{port-at, sender-some, sender-none}

@@ -1,5 +1,0 @@
-use Rattle.nm_own.specs.Exchanges.{AreExchanged}
-use Rattle.nm_own.proofs.exchange.exchange_pushed.Given as goal
-
-abbrev pub invariant-loop-k : goal.invariant-loop-k
-invariant-loop-k l = AreExchanged l.fn.hold l.hold l.port l.ring l.k

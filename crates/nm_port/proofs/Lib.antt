@@ -1,0 +1,14 @@
+pub mod SlotLists
+pub mod Judging
+pub mod Pushes
+pub mod Seeing
+pub mod Checked
+pub mod Renaming
+pub mod Filling
+pub mod Taking
+pub mod PortOut
+pub mod Exchanged
+pub mod Buffers
+pub mod Undoing
+pub mod Regions
+pub mod Ranges

@@ -1,0 +1,13 @@
+use Rattle.std.proofs.Common.{true, false}
+use Rattle.nm_port.specs.Exchanges.{AreRenamed, pushed_count_of, tx_places}
+use Rattle.nm_port.proofs.Exchanged.{pushed_out}
+use Rattle.nm_port.proofs.exchange.push_out.Goals as goal
+
+pub returns : goal.returns
+returns c =
+    let r = c.args.ring.now in
+    let pushed : AreRenamed c.exchange_pushed.new.hold c.name_slots.new.hold false (tx_places c.args.port r.ring.size r.ring.accepted_head (pushed_count_of r)) =
+    rw (c.pushed-first.ensures.count, c.pushed-first.ensures.first, c.size.ensures.size, c.ring-positions.ensures.ring) at c.name_slots.ensures in
+    let freed : AreRenamed c.name_slots.new.hold c.name_slots-2.new.hold true (tx_places c.args.port r.ring.size r.ring.last_tail c.args.taken) =
+    rw (c.size-2.ensures.size, c.tail.ensures.tail, c.ring-positions.ensures.ring, c.ring-positions.ensures.slots.ring.one_tail) at c.name_slots-2.ensures in
+    pushed_out c.args.hold.now c.exchange_pushed.new.hold c.name_slots.new.hold c.name_slots-2.new.hold c.args.port r c.args.taken c.exchange_pushed.ensures pushed freed

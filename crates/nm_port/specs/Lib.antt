@@ -1,0 +1,13 @@
+pub mod RingSlots
+pub mod Sides
+pub mod Own
+pub mod Regions
+pub mod Resets
+pub mod Filling
+pub mod Closing
+pub mod Exchanges
+pub mod Offers
+pub mod Receives
+pub mod Puts
+pub mod Lending
+pub mod LentSlots

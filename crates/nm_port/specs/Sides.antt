@@ -1,0 +1,73 @@
+-- How the rings, the hold and the list of ports of a session's own side are seen: each place has the
+-- number of the buffer in it, 0 if it holds none.
+use Rattle.std.specs.Prelude.{ℕ, Bool, true, false, ◌≡◌, ◌≤◌, ◌<◌, List, length, map, take, if◌then◌else◌, unwrap_or, slice_index_or, slice_set, ⊤, Result, Ok, Err, Option, Some, None}
+use Rattle.nm_types.specs.declared.id.PortId.{PortId}
+use Rattle.nm_types.specs.declared.id.Side.{Side}
+use Rattle.nm_types.specs.declared.id.Side.TheVariants.{Tx, Rx}
+use Rattle.nm_types.specs.declared.place.Place.{Place}
+use Rattle.nm_types.specs.declared.place.Place.TheVariants as place
+use Rattle.nm_types.specs.Positions.{pushed_slots}
+use Rattle.nm_types.specs.Slots.{Pushed}
+use Rattle.nm_types.specs.SyncChecks.{contains_index, slot_refusal, seen_of}
+use Rattle.nm_types.specs.declared.refusal.SlotFault.{SlotFault}
+use Rattle.nm_types.specs.declared.fault.SyncFault.{SyncFault}
+use Rattle.nm_types.specs.SyncFaults.{slot_sync_fault}
+use Rattle.nm_hold.specs.Holds.{HoldState, index_at, is_named_at, IsHold}
+use Rattle.nm_port.specs.RingSlots.{RingSlots, slot_at}
+
+abbrev pub place_on : Side → PortId → ℕ → Place
+place_on Tx port at = place.Tx port at
+place_on Rx port at = place.Rx port at
+
+abbrev pub number_at : HoldState → Place → ℕ
+number_at h p = unwrap_or (index_at h p) 0
+
+-- what a sync finds pushed at a position
+abbrev pub pushed_seen_at : HoldState → PortId → RingSlots → ℕ → Pushed
+pushed_seen_at h port r at = record { at = at; slot = slot_at r at; was = number_at h (place_on r.side port at) }
+
+abbrev pub pushed_seen : HoldState → PortId → RingSlots → List Pushed
+pushed_seen h port r = map (pushed_seen_at h port r) (pushed_slots r.ring r.ring.head)
+
+-- the named buffers of a hold, for every index that a buffer can have
+abbrev pub AreNamed : HoldState → List ℕ → Type 0
+AreNamed h named = IsHold h → (idx : ℕ) → 2 ≤ idx → is_named_at h idx ≡ contains_index named idx
+
+-- of each index whether a slot names it
+abbrev pub AreMarked : List Bool → List ℕ → Type 0
+AreMarked marks names = (idx : ℕ) → idx < length marks → slice_index_or marks idx false ≡ contains_index names idx
+
+-- the marks after a slot was judged: of one that passes they have the buffer that it names
+abbrev pub marks_after : Result ⊤ SlotFault → List Bool → ℕ → List Bool
+marks_after (Ok _) marks idx = slice_set marks idx true
+marks_after (Err fault) marks idx = marks
+
+-- a slot behind slots that name the earlier buffers is judged as a sync judges it
+abbrev pub JudgesSlot : Result ⊤ SlotFault → Side → ℕ → List ℕ → List ℕ → Pushed → Type 0
+JudgesSlot (Ok _) side pool named earlier pushed = slot_refusal side (seen_of pool named earlier pushed) pushed.at pushed.slot ≡ None
+JudgesSlot (Err fault) side pool named earlier pushed = slot_refusal side (seen_of pool named earlier pushed) pushed.at pushed.slot ≡ Some fault
+
+-- slots that are judged in their order, and the first refusal of them
+abbrev pub JudgesAll : Result ⊤ SlotFault → Option SyncFault → Type 0
+JudgesAll (Ok _) refusal = refusal ≡ None
+JudgesAll (Err fault) refusal = refusal ≡ Some (slot_sync_fault fault)
+
+-- no index is marked but those of some first names
+abbrev pub AreMarkedOf : List Bool → List ℕ → Type 0
+AreMarkedOf marks names = (k : ℕ) × AreMarked marks (take k names)
+
+-- the buffers that pushed slots name
+abbrev pub name_at : RingSlots → ℕ → ℕ
+name_at r at = (slot_at r at).buf_idx
+
+abbrev pub names_pushed : RingSlots → List ℕ
+names_pushed r = map (name_at r) (pushed_slots r.ring r.ring.head)
+
+-- the marks of these names are cleared, and no others
+abbrev pub AreCleared : List Bool → List Bool → List ℕ → Type 0
+AreCleared marks now names = (idx : ℕ) → idx < length marks → slice_index_or now idx false ≡ (if contains_index names idx then false else slice_index_or marks idx false)
+
+-- a check answers what refuses the sync, if something does
+abbrev pub TellsRefusal : Result ⊤ SyncFault → Option SyncFault → Type 0
+TellsRefusal (Ok _) refusal = refusal ≡ None
+TellsRefusal (Err fault) refusal = refusal ≡ Some fault

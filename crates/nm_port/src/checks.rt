@@ -1,0 +1,193 @@
+ghost use Rattle.std.specs.Prelude.{ℕ, List, ◌≡◌, ◌<◌, ◌≤◌, ◌++◌, ◌∷◌, [], IfOk, IfErr, OnOk};
+ghost use Rattle.std.specs.Prelude.{OnErr, MatchResult};
+ghost use Rattle.std.specs.Prelude.{None, Some, true, false, length, replicate, slice_index_or};
+ghost use Rattle.std.specs.Prelude.{slice_set, ◌+◌};
+ghost use Rattle.nm_types.specs.Positions.{FitsRing, is_user_slot};
+ghost use Rattle.nm_types.specs.Slots.{pushed_names};
+ghost use Rattle.nm_types.specs.SyncFaults.{ring_sync_fault, slot_sync_fault};
+ghost use Rattle.nm_types.specs.SyncChecks.{slot_refusal, seen_of, slots_refusal, refusal_of};
+ghost use Rattle.nm_hold.specs.Holds.{buffers_of, is_named_at, IsHold};
+ghost use Rattle.nm_port.specs.Sides.{place_on, number_at, pushed_seen_at, pushed_seen};
+ghost use Rattle.nm_port.specs.Sides.{names_pushed, AreNamed, AreMarked, AreMarkedOf, AreCleared};
+ghost use Rattle.nm_port.specs.Sides.{JudgesSlot, JudgesAll, TellsRefusal, marks_after};
+ghost use Rattle.nm_port.specs.RingSlots.{IsRingSlots, slot_at};
+
+use crate::slot_ring::SlotRing;
+use nm_hold::Hold;
+use nm_slot::judge;
+use nm_types::{Place, PortId, RingFault, Seen, Side, SlotFault, SyncFault};
+
+/// The place of a slot.
+pub(crate) fn place_on(side: Side, port: PortId, slot: u32) -> Place
+    ensures { result ≡ place_on side port slot }
+{
+    match side {
+        Side::Tx => Place::Tx { port, slot },
+        Side::Rx => Place::Rx { port, slot },
+    }
+}
+
+/// The index of the buffer in a place, 0 if it holds none.
+pub fn number_at(hold: &Hold, place: Place) -> u32
+    ensures { result ≡ number_at hold.now place }
+{
+    hold.index(place).unwrap_or(0)
+}
+
+/// The refusal of positions, as a sync tells it.
+fn ring_sync_fault(fault: RingFault) -> SyncFault
+    ensures { result ≡ ring_sync_fault fault }
+{
+    match fault {
+        RingFault::HeadOut { head, from, to } => SyncFault::HeadOut { head, from, to },
+        RingFault::CurOut { cur, from, to } => SyncFault::CurOut { cur, from, to },
+    }
+}
+
+/// The refusal of a slot, as a sync tells it.
+fn slot_sync_fault(fault: SlotFault) -> SyncFault
+    ensures { result ≡ slot_sync_fault fault }
+{
+    match fault {
+        SlotFault::Indirect { slot } => SyncFault::Indirect { slot },
+        SlotFault::IndexOut { slot, idx } => SyncFault::IndexOut { slot, idx },
+        SlotFault::NotHeld { slot, idx } => SyncFault::NotHeld { slot, idx },
+        SlotFault::Doubled { slot, idx } => SyncFault::Doubled { slot, idx },
+        SlotFault::Unannounced { slot, idx, was } => SyncFault::Unannounced { slot, idx, was },
+        SlotFault::LongLen { slot, len } => SyncFault::LongLen { slot, len },
+        SlotFault::Fragment { slot } => SyncFault::Fragment { slot },
+    }
+}
+
+/// What a sync knows of a pushed slot. `marks` has each index that an earlier slot names.
+fn seen_at(hold: &Hold, place: Place, idx: u32, marks: &[bool]) -> Seen
+    requires { length marks.now ≡ buffers_of hold.now + 2 }
+    ensures was { result.was ≡ number_at hold.now place }
+    ensures top { result.top ≡ buffers_of hold.now + 1 }
+    ensures held { result.held ≡ is_named_at hold.now idx }
+    ensures doubled { result.doubled ≡ slice_index_or marks.now idx false }
+    ensures hold { IsHold hold.now }
+{
+    let held = hold.named(idx);
+    let top = marks.len() as u32 - 1;
+    Seen {
+        was: number_at(hold, place),
+        top,
+        held,
+        doubled: is_marked(marks, idx),
+    }
+}
+
+/// Whether an index is marked.
+fn is_marked(marks: &[bool], idx: u32) -> bool
+    ensures { result ≡ slice_index_or marks.now idx false }
+{
+    match marks.get(idx as usize) {
+        Some(mark) => *mark,
+        None => false,
+    }
+}
+
+/// Judges the pushed slot at a position, and marks the buffer that it names if it passes.
+fn judge_slot(
+    hold: &Hold,
+    port: PortId,
+    ring: &SlotRing,
+    at: u32,
+    marks: &mut [bool],
+) -> Result<(), SlotFault>
+    requires user { is_user_slot ring.now.ring at ≡ true }
+    requires marks { length marks.old ≡ buffers_of hold.now + 2 }
+    ensures refusal { (named earlier : List ℕ) → AreNamed hold.now named
+        → AreMarked marks.old earlier
+        → JudgesSlot result ring.now.side (buffers_of hold.now) named earlier
+        (pushed_seen_at hold.now port ring.now at) }
+    ensures marks { marks.new ≡ marks_after result marks.old (slot_at ring.now at).buf_idx }
+{
+    let slot = ring.user_slot(at);
+    let seen = seen_at(hold, place_on(ring.side(), port, at), slot.buf_idx, marks);
+    judge(at, &slot, &seen, ring.side())?;
+    mark(marks, slot.buf_idx);
+    Ok(())
+}
+
+/// Marks an index.
+fn mark(marks: &mut [bool], idx: u32)
+    ensures { marks.new ≡ slice_set marks.old idx true }
+{
+    if (idx as usize) < marks.len() {
+        marks[idx as usize] = true;
+    }
+}
+
+/// Judges the pushed slots in their order up to the first that does not pass, and marks the buffers
+/// that those before it name.
+fn judge_pushed(
+    hold: &Hold,
+    port: PortId,
+    ring: &SlotRing,
+    marks: &mut [bool],
+) -> Result<(), SlotFault>
+    requires fits { FitsRing ring.now.ring ring.now.ring.head ring.now.ring.cur }
+    requires blank { marks.old ≡ replicate (buffers_of hold.now + 2) false }
+    ensures refusal { (named : List ℕ) → AreNamed hold.now named
+        → JudgesAll result (slots_refusal ring.now.side (buffers_of hold.now) named []
+        (pushed_seen hold.now port ring.now)) }
+    ensures count { length marks.new ≡ length marks.old }
+    ensures marks { AreMarkedOf marks.new (pushed_names (pushed_seen hold.now port ring.now)) }
+{
+    let (first, count) = ring.pushed();
+    let size = ring.ring().size();
+    for k in 0..count {
+        judge_slot(hold, port, ring, (first + k) % size, marks)?;
+    }
+    Ok(())
+}
+
+/// Clears the mark of an index.
+fn unmark(marks: &mut [bool], idx: u32)
+    ensures { marks.new ≡ slice_set marks.old idx false }
+{
+    if (idx as usize) < marks.len() {
+        marks[idx as usize] = false;
+    }
+}
+
+/// Clears the marks of the buffers that the pushed slots name.
+fn clear_marks(ring: &SlotRing, marks: &mut [bool])
+    requires { FitsRing ring.now.ring ring.now.ring.head ring.now.ring.cur }
+    ensures count { length marks.new ≡ length marks.old }
+    ensures cleared { AreCleared marks.old marks.new (names_pushed ring.now) }
+{
+    let (first, count) = ring.pushed();
+    let size = ring.ring().size();
+    for k in 0..count {
+        unmark(marks, ring.user_slot((first + k) % size).buf_idx);
+    }
+}
+
+/// The first check that refuses a sync of a port's ring at its own head and cur. `marks` is blank.
+pub fn check_ring(
+    hold: &Hold,
+    port: PortId,
+    ring: &SlotRing,
+    marks: &mut [bool],
+) -> Result<(), SyncFault>
+    requires { marks.old ≡ replicate (buffers_of hold.now + 2) false }
+    ensures refusal { (named : List ℕ) → AreNamed hold.now named
+        → TellsRefusal result (refusal_of ring.now.side (buffers_of hold.now) named ring.now.ring
+        (pushed_seen hold.now port ring.now)) }
+    ensures same { marks.new ≡ marks.old }
+    ensures slots { IsRingSlots ring.now }
+{
+    let positions = ring.ring();
+    if let Err(fault) = positions.check(positions.head(), positions.cur()) {
+        return Err(ring_sync_fault(fault));
+    }
+    let judged = judge_pushed(hold, port, ring, marks);
+    clear_marks(ring, marks);
+    match judged {
+        Ok(()) => Ok(()),
+        Err(fault) => Err(slot_sync_fault(fault)),
+    }
+}

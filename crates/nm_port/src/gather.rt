@@ -1,0 +1,92 @@
+ghost use Rattle.std.specs.Prelude.{◌≡◌, IfOk, take};
+ghost use Rattle.nm_types.specs.Positions.{FitsRing};
+ghost use Rattle.nm_types.specs.Slots.{no_learn, has_flag};
+ghost use Rattle.nm_port.specs.Sides.{names_pushed};
+ghost use Rattle.nm_port.specs.Own.{bytes_in_hold, frames_seen};
+ghost use Rattle.nm_port.specs.Offers.{offers_seen, lengths_seen};
+
+use crate::slot_ring::SlotRing;
+use bitflags::Flags;
+use nm_hold::Hold;
+use nm_types::{Batch, NoMemory, Slot, SlotFlags};
+use std::alloc::Global;
+
+/// The first bytes of the buffer that a slot names, as many as its frame has.
+fn frame_bytes<'a>(hold: &'a Hold, slot: &Slot) -> &'a [u8]
+    ensures { result.now ≡ take slot.now.len (bytes_in_hold hold.now slot.now.buf_idx) }
+{
+    match hold.buffer(slot.buf_idx) {
+        Some(buf) => {
+            let bytes = buf.bytes();
+            &bytes[..bytes.len().min(slot.len as usize)]
+        }
+        None => &[],
+    }
+}
+
+/// Whether the switch is not to learn the source of a slot's frame.
+fn is_not_learned(slot: &Slot) -> bool
+    ensures { result ≡ has_flag no_learn slot.now }
+{
+    SlotFlags::from_bits_retain(slot.flags).contains(SlotFlags::NO_LEARN)
+}
+
+/// The frames of the pushed slots.
+pub fn gather(alloc: Global, hold: &Hold, ring: &SlotRing) -> Result<Batch, NoMemory>
+    requires { FitsRing ring.now.ring ring.now.ring.head ring.now.ring.cur }
+    ensures { IfOk result (λ batch. batch ≡ frames_seen hold.now ring.now) }
+{
+    let (first, count) = ring.pushed();
+    let size = ring.ring().size();
+    let mut batch = Batch::new(alloc);
+    for k in 0..count {
+        let slot = ring.user_slot((first + k) % size);
+        batch.push(frame_bytes(hold, &slot), is_not_learned(&slot))?;
+    }
+    Ok(batch)
+}
+
+/// The indices that the pushed slots name, in their order.
+pub fn gather_names(alloc: Global, ring: &SlotRing) -> Result<Vec<u32>, NoMemory>
+    requires { FitsRing ring.now.ring ring.now.ring.head ring.now.ring.cur }
+    ensures { IfOk result (λ names. names.items ≡ names_pushed ring.now) }
+{
+    let (first, count) = ring.pushed();
+    let size = ring.ring().size();
+    let mut names = Vec::with_capacity(alloc, count as usize)?;
+    for k in 0..count {
+        let slot = ring.user_slot((first + k) % size);
+        names.push_reserved(slot.buf_idx);
+    }
+    Ok(names)
+}
+
+/// The frames that a put offers: those of the slots still pushed, and then of those pushed now.
+/// None of them is marked.
+pub fn gather_offered(alloc: Global, hold: &Hold, ring: &SlotRing) -> Result<Batch, NoMemory>
+    requires { FitsRing ring.now.ring ring.now.ring.head ring.now.ring.cur }
+    ensures { IfOk result (λ batch. batch ≡ offers_seen hold.now ring.now) }
+{
+    let (first, count) = ring.offered();
+    let size = ring.ring().size();
+    let mut batch = Batch::new(alloc);
+    for k in 0..count {
+        let slot = ring.any_slot((first + k) % size);
+        batch.push(frame_bytes(hold, &slot), false)?;
+    }
+    Ok(batch)
+}
+
+/// The lengths of the slots that a put offers.
+pub fn gather_lengths(alloc: Global, ring: &SlotRing) -> Result<Vec<u16>, NoMemory>
+    requires { FitsRing ring.now.ring ring.now.ring.head ring.now.ring.cur }
+    ensures { IfOk result (λ lengths. lengths.items ≡ lengths_seen ring.now) }
+{
+    let (first, count) = ring.offered();
+    let size = ring.ring().size();
+    let mut lengths = Vec::with_capacity(alloc, count as usize)?;
+    for k in 0..count {
+        lengths.push_reserved(ring.any_slot((first + k) % size).len);
+    }
+    Ok(lengths)
+}

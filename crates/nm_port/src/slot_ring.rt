@@ -1,0 +1,434 @@
+ghost use Rattle.std.specs.Prelude.{ℕ, ◌≡◌, ◌<◌, ◌≤◌, ◌++◌, ◌∷◌, [], None, Some, IfSome, IfOk};
+ghost use Rattle.std.specs.Prelude.{option_map, drop, length, map, false, true, ◌+◌};
+ghost use Rattle.std.specs.Borrow.{sem};
+ghost use Rattle.std.specs.Option.{option_copied, option_copied_mut};
+ghost use Rattle.nm_types.specs.Positions.{IsRing, IsRingSize, is_user_slot, opened_tx};
+ghost use Rattle.nm_types.specs.Positions.{opened_rx};
+ghost use Rattle.nm_types.specs.Slots.{published_slot};
+ghost use Rattle.nm_types.specs.Reset.{reset_positions};
+ghost use Rattle.nm_types.specs.OwnSyncs.{opened_slot};
+ghost use Rattle.nm_region.specs.Buffers.{indices_of};
+ghost use Rattle.nm_port.specs.RingSlots.{RingSlots, IsRingSlots, slot_of_user};
+ghost use Rattle.nm_port.specs.RingSlots.{with_slot_of_user, with_slot_reset_at, at_positions};
+ghost use Rattle.nm_port.specs.RingSlots.{slot_at, with_slot_at, both_stepped, head_stepped};
+ghost use Rattle.nm_port.specs.RingSlots.{slot_framed, head_has_slot, count_behind_tail};
+ghost use Rattle.nm_types.specs.OwnPorts.{index_of};
+ghost use Rattle.nm_types.specs.declared.id.Side.TheVariants.{Tx, Rx};
+ghost use Rattle.nm_types.specs.Positions.{FitsRing, dist, step_on};
+ghost use Rattle.nm_types.specs.OwnSyncs.{accepted, slots_after_push};
+ghost use Rattle.nm_port.specs.Exchanges.{CanPushOut, ring_pushed_out};
+ghost use Rattle.std.specs.VecDeque.{deque_capacity};
+ghost use Rattle.nm_port.specs.Receives.{has_free_slot};
+
+use crate::slots::{BLANK, clear_announcements, drop_front, framed, opened_slots};
+use nm_region::Buf;
+use nm_ring::Ring;
+use nm_types::{Side, Slot};
+use std::alloc::{AllocError, Global};
+use std::collections::VecDeque;
+use std::marker::Model;
+
+/// A ring of a session's port with its slots: of a transmit ring all slots, by position, and of a
+/// receive ring the user's slots, from the accepted head on.
+#[derive(Drop)]
+pub struct SlotRing {
+    side: Side,
+    ring: Ring,
+    slots: VecDeque<Slot>,
+}
+
+impl Model for SlotRing {
+    ghost use Rattle.nm_port.specs.RingSlots.{RingSlots, IsRingSlots};
+
+    ghost Value = { RingSlots };
+
+    ghost view = { λ r. record { side = r.side; ring = r.ring; slots = r.slots.items } };
+
+    ghost use Rattle.std.specs.Prelude.{◌≤◌};
+    ghost use Rattle.std.specs.VecDeque.{deque_capacity};
+
+    ghost invariant = { λ r.
+        (IsRingSlots (record { side = r.side; ring = r.ring; slots = r.slots.items }))
+        × (r.ring.size ≤ deque_capacity r.slots) };
+}
+
+/// How many steps it is from one position of a ring to another, going round.
+fn dist(size: u32, from: u32, to: u32) -> u32
+    requires size { 0 < size }
+    requires from { from < size }
+    ensures { result ≡ dist size from to }
+{
+    ((to as u64 + (size - from) as u64) % size as u64) as u32
+}
+
+impl SlotRing {
+    ghost use Rattle.nm_port.specs.LentSlots.{LendsUserSlot};
+
+    /// The positions of the ring.
+    pub fn ring(&self) -> &Ring
+        ensures ring { result.now ≡ self.now.ring }
+        ensures slots { IsRingSlots self.now }
+    {
+        &self.ring
+    }
+
+    /// Stores a head, even one that no sync accepts.
+    pub fn put_head(&mut self, head: u32)
+        ensures { self.new ≡ at_positions head self.old.ring.cur self.old }
+    {
+        self.ring.put_head(head);
+    }
+
+    /// Stores a cur, even one that no sync accepts.
+    pub fn put_cur(&mut self, cur: u32)
+        ensures { self.new ≡ at_positions self.old.ring.head cur self.old }
+    {
+        self.ring.put_cur(cur);
+    }
+
+    /// Stores a head and a cur, even ones that no sync accepts.
+    pub fn put_positions(&mut self, head: u32, cur: u32)
+        ensures { self.new ≡ at_positions head cur self.old }
+    {
+        self.ring.put_head(head);
+        self.ring.put_cur(cur);
+    }
+
+    /// Stores the tail as head and as cur.
+    pub fn give_all_back(&mut self)
+        ensures { self.new ≡ at_positions self.old.ring.tail self.old.ring.tail self.old }
+    {
+        let tail = self.ring.tail();
+        self.put_positions(tail, tail);
+    }
+
+    /// Whether the positions fit and the head is before the tail.
+    pub fn has_slot(&self) -> bool
+        ensures { result ≡ head_has_slot self.now.ring }
+    {
+        match self.ring.check(self.ring.head(), self.ring.cur()) {
+            Ok(()) => self.ring.head() != self.ring.tail(),
+            Err(_) => false,
+        }
+    }
+
+    /// Whether the positions fit, the head is accepted, and a slot is left for a frame that comes.
+    pub fn has_free_slot(&self) -> bool
+        ensures { result ≡ has_free_slot self.now.ring }
+    {
+        let (accepted, user) = self.ring.user_range();
+        match self.ring.check(self.ring.head(), self.ring.cur()) {
+            Ok(()) => accepted == self.ring.head() && user < self.ring.size() - 1,
+            Err(_) => false,
+        }
+    }
+
+    /// The position after one that may be any number.
+    pub fn next(&self, at: u32) -> u32
+        ensures { result ≡ step_on self.now.ring.size at 1 }
+    {
+        ((at as u64 + 1) % self.ring.size() as u64) as u32
+    }
+
+    /// The slot at a position, a blank one if it is no slot of the ring.
+    pub(crate) fn any_slot(&self, at: u32) -> Slot
+        ensures { result ≡ slot_at self.now at }
+    {
+        match self.slots.get(self.index_of(at)) {
+            Some(slot) => *slot,
+            None => BLANK,
+        }
+    }
+
+    /// The slot at the head, a blank one if the head is no slot of the ring.
+    pub fn head_slot(&self) -> Slot
+        ensures { result ≡ slot_at self.now self.now.ring.head }
+    {
+        self.any_slot(self.ring.head())
+    }
+
+    /// Writes the slot at a position; does nothing if it is no slot of the ring.
+    pub(crate) fn put_any_slot(&mut self, at: u32, slot: Slot)
+        ensures { self.new ≡ with_slot_at at slot self.old }
+    {
+        let index = self.index_of(at);
+        if index < self.slots.len() {
+            self.slots[index] = slot;
+        }
+    }
+
+    /// Writes the slot at the head, and moves head and cur on by one.
+    pub fn forward(&mut self, slot: Slot)
+        ensures { self.new ≡ both_stepped (with_slot_at self.old.ring.head slot self.old) }
+    {
+        let at = self.ring.head();
+        self.put_any_slot(at, slot);
+        let (head, cur) = (self.next(self.ring.head()), self.next(self.ring.cur()));
+        self.put_positions(head, cur);
+    }
+
+    /// Writes the length of a frame to the slot at the head, clears the marks of a former frame
+    /// there, and moves head and cur to the next position.
+    pub fn put_frame(&mut self, len: u16)
+        ensures { self.new ≡ head_stepped (with_slot_at self.old.ring.head
+            (slot_framed len (slot_at self.old self.old.ring.head)) self.old) }
+    {
+        let slot = framed(self.head_slot(), len);
+        let at = self.ring.head();
+        self.put_any_slot(at, slot);
+        let next = self.next(self.ring.head());
+        self.put_positions(next, next);
+    }
+
+    /// Whether a position is one of the user's slots.
+    fn is_user_slot(&self, at: u32) -> bool
+        ensures user { result ≡ is_user_slot self.now.ring at }
+        ensures slots { IsRingSlots self.now }
+    {
+        let (first, count) = self.ring.user_range();
+        at < self.ring.size() && dist(self.ring.size(), first, at) < count
+    }
+
+    /// Where the slot of a position, which may be any number, would be in the list of slots.
+    fn index_of(&self, at: u32) -> usize
+        ensures { result ≡ index_of self.now.side self.now.ring at }
+    {
+        match self.side {
+            Side::Tx => at as usize,
+            Side::Rx => {
+                let (first, _) = self.ring.user_range();
+                dist(self.ring.size(), first, at) as usize
+            }
+        }
+    }
+
+    /// The slot at a position, if it is one of the user's.
+    pub fn slot(&self, at: u32) -> Option<&Slot>
+        ensures { option_copied result ≡ slot_of_user self.now at }
+    {
+        if self.is_user_slot(at) {
+            self.slots.get(self.index_of(at))
+        } else {
+            None
+        }
+    }
+
+    /// Where the slot of a position is in the list of slots, if it is one of the user's, and else
+    /// behind the list.
+    fn user_index(&self, at: u32) -> usize
+        ensures user { is_user_slot self.now.ring at ≡ true
+            → result ≡ index_of self.now.side self.now.ring at }
+        ensures within { is_user_slot self.now.ring at ≡ true
+            → result < length self.now.slots }
+        ensures other { is_user_slot self.now.ring at ≡ false
+            → length self.now.slots ≤ result }
+    {
+        if self.is_user_slot(at) {
+            self.index_of(at)
+        } else {
+            self.slots.len()
+        }
+    }
+
+    /// The slot at a position, to be written, if it is one of the user's.
+    pub fn slot_mut(&mut self, at: u32) -> Option<&mut Slot>
+        ensures* writes_back { sem 𝓛 (LendsUserSlot self.entry at result) }
+        ensures slot { option_copied_mut result ≡ slot_of_user self.old at }
+    {
+        let index = self.user_index(at);
+        self.slots.get_mut(index)
+    }
+
+    /// Writes the slot at a position, if it is one of the user's.
+    pub fn put_slot(&mut self, at: u32, slot: Slot)
+        ensures { self.new ≡ with_slot_of_user at slot self.old }
+    {
+        if self.is_user_slot(at) {
+            let index = self.index_of(at);
+            self.slots[index] = slot;
+        }
+    }
+
+    /// Accepts the push of a transmit ring whose positions fit, and clears the announcements of its
+    /// slots. The tail stays.
+    pub(crate) fn accept_push(&mut self)
+        requires side { self.old.side ≡ Tx }
+        requires fits { FitsRing self.old.ring self.old.ring.head self.old.ring.cur }
+        ensures { self.new ≡ record self.old {
+          ring = accepted 0 self.old.ring;
+          slots = slots_after_push self.old.ring self.old.slots;
+        } }
+    {
+        let (first, count) = self.pushed();
+        clear_announcements(&mut self.slots, self.ring.size(), first, count);
+        let (head, cur, tail) = (self.ring.head(), self.ring.cur(), self.ring.tail());
+        self.ring.advance(head, cur, tail);
+    }
+
+    /// The first of the slots that a sync at the ring's head pushes, and the number of them.
+    pub fn pushed(&self) -> (u32, u32)
+        requires { self.now.ring.head < self.now.ring.size }
+        ensures first { result.0 ≡ self.now.ring.accepted_head }
+        ensures count { result.1
+            ≡ dist self.now.ring.size self.now.ring.accepted_head self.now.ring.head }
+        ensures slots { IsRingSlots self.now }
+    {
+        let (first, _) = self.ring.user_range();
+        (first, dist(self.ring.size(), first, self.ring.head()))
+    }
+
+    /// The first of the slots that are still pushed behind the tail, and the number of them.
+    pub fn pending(&self) -> (u32, u32)
+        ensures first { result.0 ≡ step_on self.now.ring.size self.now.ring.last_tail 1 }
+        ensures count { result.1
+            ≡ dist self.now.ring.size result.0 self.now.ring.accepted_head }
+    {
+        let (accepted, _) = self.ring.user_range();
+        let first = self.next(self.ring.tail());
+        (first, dist(self.ring.size(), first, accepted))
+    }
+
+    /// The first of the slots that a put at the ring's head offers, and the number of them: those
+    /// behind the tail that are still pushed, and those pushed now.
+    pub fn offered(&self) -> (u32, u32)
+        requires { self.now.ring.head < self.now.ring.size }
+        ensures first { result.0 ≡ step_on self.now.ring.size self.now.ring.last_tail 1 }
+        ensures count { result.1
+            ≡ dist self.now.ring.size result.0 self.now.ring.accepted_head
+            + dist self.now.ring.size self.now.ring.accepted_head self.now.ring.head }
+        ensures slots { IsRingSlots self.now }
+    {
+        let (_, pushed) = self.pushed();
+        let (first, pending) = self.pending();
+        (first, pending + pushed)
+    }
+
+    /// Moves the tail of a transmit ring on, past slots of the kernel side.
+    pub(crate) fn move_tail(&mut self, taken: u32)
+        requires side { self.old.side ≡ Tx }
+        requires fits { FitsRing self.old.ring self.old.ring.head self.old.ring.cur }
+        requires taken { taken ≤ count_behind_tail self.old.ring }
+        ensures { self.new ≡ record self.old { ring = accepted taken self.old.ring } }
+    {
+        let tail = (self.ring.tail() + taken) % self.ring.size();
+        self.ring.advance(self.ring.head(), self.ring.cur(), tail);
+    }
+
+    /// Accepts the push of a transmit ring, of whose frames `taken` were taken.
+    pub(crate) fn push_out(&mut self, taken: u32)
+        requires { CanPushOut taken self.old }
+        ensures { self.new ≡ ring_pushed_out taken self.old }
+    {
+        self.accept_push();
+        self.move_tail(taken);
+    }
+
+    /// Accepts the push of a receive ring whose positions fit: the pushed slots are no longer the
+    /// user's. The tail stays.
+    pub(crate) fn accept_back(&mut self)
+        requires side { self.old.side ≡ Rx }
+        requires fits { FitsRing self.old.ring self.old.ring.head self.old.ring.cur }
+        ensures { self.new ≡ record self.old {
+          ring = accepted 0 self.old.ring;
+          slots = drop (dist self.old.ring.size self.old.ring.accepted_head self.old.ring.head)
+              self.old.slots;
+        } }
+    {
+        let (_, count) = self.pushed();
+        drop_front(&mut self.slots, count);
+        let (head, cur, tail) = (self.ring.head(), self.ring.cur(), self.ring.tail());
+        self.ring.advance(head, cur, tail);
+    }
+
+    /// Publishes a received frame in the slot at the tail of a receive ring whose head is accepted.
+    pub(crate) fn publish(&mut self, buffer: u32, len: u16)
+        requires side { self.old.side ≡ Rx }
+        requires fits { FitsRing self.old.ring self.old.ring.head self.old.ring.cur }
+        requires accepted { self.old.ring.accepted_head ≡ self.old.ring.head }
+        requires room { 0 < count_behind_tail self.old.ring }
+        ensures { self.new ≡ record self.old {
+          ring = accepted 1 self.old.ring;
+          slots = self.old.slots ++ published_slot buffer len ∷ [];
+        } }
+    {
+        let tail = (self.ring.tail() + 1) % self.ring.size();
+        self.ring.advance(self.ring.head(), self.ring.cur(), tail);
+        self.slots.push_back_reserved(Slot {
+            buf_idx: buffer,
+            len,
+            flags: 0,
+            ptr: 0,
+        });
+    }
+
+    /// Resets one of the user's slots: it names the buffer in its place.
+    pub(crate) fn reset_slot(&mut self, at: u32, was: u32)
+        requires { is_user_slot self.old.ring at ≡ true }
+        ensures { self.new ≡ with_slot_reset_at at was self.old }
+    {
+        let index = self.index_of(at);
+        let len = match self.side {
+            Side::Tx => 0,
+            Side::Rx => self.slots[index].len,
+        };
+        self.slots[index] = Slot {
+            buf_idx: was,
+            len,
+            flags: 0,
+            ptr: 0,
+        };
+    }
+
+    /// Resets the positions to those last accepted.
+    pub(crate) fn reset_positions(&mut self)
+        ensures { self.new ≡ record self.old { ring = reset_positions self.old.ring } }
+    {
+        self.ring.reset();
+    }
+
+    /// An opened transmit ring, each of whose slots names a buffer.
+    pub fn tx(slots: VecDeque<Slot>, bufs: &[Buf]) -> SlotRing
+        requires size { IsRingSize (length bufs.now) }
+        requires none { slots.items ≡ [] }
+        requires room { length bufs.now ≤ deque_capacity slots }
+        ensures { result ≡ record {
+          side = Tx;
+          ring = opened_tx (length bufs.now);
+          slots = map opened_slot (indices_of bufs.now);
+        } }
+    {
+        SlotRing {
+            side: Side::Tx,
+            ring: Ring::tx(bufs.len() as u32),
+            slots: opened_slots(slots, bufs),
+        }
+    }
+
+    /// An opened receive ring, none of whose slots is the user's.
+    pub fn rx(alloc: Global, size: u32) -> Result<SlotRing, AllocError>
+        requires { IsRingSize size }
+        ensures { IfOk result (λ r.
+            r ≡ record { side = Rx; ring = opened_rx size; slots = [] }) }
+    {
+        Ok(SlotRing {
+            side: Side::Rx,
+            ring: Ring::rx(size),
+            slots: VecDeque::with_capacity(alloc, size as usize)?,
+        })
+    }
+
+    /// The side of the ring.
+    pub fn side(&self) -> Side
+        ensures { result ≡ self.now.side }
+    {
+        self.side
+    }
+
+    /// The slot at a position, which is one of the user's.
+    pub(crate) fn user_slot(&self, at: u32) -> Slot
+        requires { is_user_slot self.now.ring at ≡ true }
+        ensures { result ≡ slot_at self.now at }
+    {
+        self.slots[self.index_of(at)]
+    }
+}

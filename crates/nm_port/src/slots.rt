@@ -1,0 +1,87 @@
+ghost use Rattle.std.specs.Prelude.{◌≡◌, ◌<◌, ◌≤◌, [], drop, fold, length, map};
+ghost use Rattle.std.specs.VecDeque.{deque_capacity};
+ghost use Rattle.nm_types.specs.Positions.{slots_from};
+ghost use Rattle.nm_types.specs.Slots.{slot_after_push};
+ghost use Rattle.nm_types.specs.OwnSyncs.{with_push_cleared, opened_slot};
+ghost use Rattle.nm_region.specs.Buffers.{indices_of};
+ghost use Rattle.nm_port.specs.RingSlots.{slot_framed};
+
+use bitflags::Flags;
+use nm_region::Buf;
+use nm_types::{Slot, SlotFlags};
+use std::collections::VecDeque;
+
+/// A slot that names no buffer.
+pub(crate) const BLANK: Slot = Slot {
+    buf_idx: 0,
+    len: 0,
+    flags: 0,
+    ptr: 0,
+};
+
+/// The marks of a frame: not to be learned, indirect, going on in the next slot.
+const FRAME_MARKS: SlotFlags = SlotFlags(
+    SlotFlags::NO_LEARN.0 | SlotFlags::INDIRECT.0 | SlotFlags::MORE_FRAGMENTS.0,
+);
+
+/// A slot with a frame of that length, and no mark of a former one.
+pub(crate) fn framed(slot: Slot, len: u16) -> Slot
+    ensures { result ≡ slot_framed len slot }
+{
+    let flags = SlotFlags::from_bits_retain(slot.flags);
+    Slot {
+        len,
+        flags: flags.difference(FRAME_MARKS).bits(),
+        ..slot
+    }
+}
+
+/// Clears the announcement of a pushed slot.
+fn clear_announcement(slot: &mut Slot)
+    ensures { slot.new ≡ slot_after_push slot.old }
+{
+    let flags = SlotFlags::from_bits_retain(slot.flags);
+    slot.flags = flags.difference(SlotFlags::BUF_CHANGED).bits();
+}
+
+/// Clears the announcements of `count` slots from a position on, going round.
+pub(crate) fn clear_announcements(slots: &mut VecDeque<Slot>, size: u32, first: u32, count: u32)
+    requires size { length slots.old.items ≡ size }
+    requires few { size ≤ 1024 }
+    requires first { first < size }
+    requires count { count < size }
+    ensures slots { slots.new.items
+        ≡ fold with_push_cleared slots.old.items (slots_from size first count) }
+    ensures room { deque_capacity slots.new ≡ deque_capacity slots.old }
+{
+    for k in 0..count {
+        let at = (first + k) % size;
+        clear_announcement(&mut slots[at as usize]);
+    }
+}
+
+/// Removes the first slots.
+pub(crate) fn drop_front(slots: &mut VecDeque<Slot>, count: u32)
+    ensures slots { slots.new.items ≡ drop count slots.old.items }
+    ensures room { deque_capacity slots.new ≡ deque_capacity slots.old }
+{
+    for _ in 0..count {
+        let _first = slots.pop_front();
+    }
+}
+
+/// The slots of an opened transmit ring, each of which names a buffer.
+pub(crate) fn opened_slots(mut slots: VecDeque<Slot>, bufs: &[Buf]) -> VecDeque<Slot>
+    requires none { slots.items ≡ [] }
+    requires room { length bufs.now ≤ deque_capacity slots }
+    ensures slots { result.items ≡ map opened_slot (indices_of bufs.now) }
+    ensures room { length bufs.now ≤ deque_capacity result }
+{
+    for buf in bufs {
+        slots.push_back_reserved(Slot {
+            buf_idx: buf.index(),
+            ..BLANK
+        });
+    }
+    slots
+}
