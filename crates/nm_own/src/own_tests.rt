@@ -195,8 +195,7 @@ fn send(rt: &impl Abort, own: &mut OwnSide) {
     }
 }
 
-/// Three frames are sent, and a fourth in a slot that changed its buffer with another one. The
-/// places have changed their buffers then, and the other slot is accepted as it is.
+/// Three frames are sent, and a fourth in a slot that changed its buffer with another one.
 fn exchange(rt: &impl Abort, own: &mut OwnSide) {
     send(rt, own);
     assert!(rt; own.has_room(PORT));
@@ -209,6 +208,10 @@ fn exchange(rt: &impl Abort, own: &mut OwnSide) {
     own.swap_slots(here, there, true);
     own.put_frame(PORT, &FRAME);
     send(rt, own);
+}
+
+/// The places have changed their buffers then, and the other slot is accepted as it is.
+fn accept_exchanged(rt: &impl Abort, own: &mut OwnSide) {
     assert!(rt; slot_at(own, 0) == slot(5, 14, 1) && slot_at(own, 3).is_none());
     own.put_positions(PORT, Side::Tx, 1, 1);
     assert!(rt; refusal(rt, own, Side::Tx).is_none());
@@ -224,27 +227,37 @@ pub(crate) fn starts_with(own: &OwnSide, idx: u32, bytes: &[u8]) -> bool {
     }
 }
 
-/// The only extra buffer is linked, and the head of the list stored. The buffer 2 stands in the
-/// slot of the kernel side.
+/// Links of the port's extra positions, of which there is one, and the head of the list and the first
+/// bytes of the extra buffer then.
+const LINKS: [(u32, u32, u32, [u8; 4]); 5] = [
+    (1, 1, 6, [6, 0, 0, 0]),
+    (1, 2, 6, [6, 0, 0, 0]),
+    (2, 0, 6, [6, 0, 0, 0]),
+    (1, 0, 6, [0, 0, 0, 0]),
+    (0, 0, 0, [0, 0, 0, 0]),
+];
+
+/// The only extra buffer is linked, and the head of the list stored.
 fn link(rt: &impl Abort, own: &mut OwnSide) {
     assert_eq!(rt; own.extra_head(PORT), Some(6));
-    assert!(rt; own.extra_head(PortId(3)).is_none());
-    assert_eq!(rt; own.extra_numbered(PORT, 0), Some(0));
-    assert_eq!(rt; own.extra_numbered(PORT, 1), Some(6));
-    assert!(rt; own.extra_numbered(PORT, 2).is_none());
-    own.link_extra(PORT, 1, 1);
-    assert!(rt; starts_with(own, 6, &[6, 0, 0, 0]));
-    own.link_extra(PORT, 1, 2);
-    own.link_extra(PORT, 2, 0);
-    assert!(rt; starts_with(own, 6, &[6, 0, 0, 0]));
-    own.link_extra(PORT, 1, 0);
-    assert!(rt; starts_with(own, 6, &[0, 0, 0, 0]));
-    own.link_extra(PORT, 0, 0);
-    assert_eq!(rt; own.extra_head(PORT), Some(0));
+    for (from, to, head, first) in LINKS {
+        own.link_extra(PORT, from, to);
+        assert_eq!(rt; own.extra_head(PORT), Some(head));
+        assert!(rt; starts_with(own, 6, &first), "{from} {to}");
+    }
     own.set_extra_head(PORT, 4294967295);
     assert_eq!(rt; own.extra_head(PORT), Some(4294967295));
     own.link_extra(PORT, 0, 1);
     assert_eq!(rt; own.extra_head(PORT), Some(6));
+}
+
+/// Extra positions are numbered from 1. The buffer 2 stands in the slot of the kernel side, and
+/// nothing is written to it.
+fn number(rt: &impl Abort, own: &mut OwnSide) {
+    assert!(rt; own.extra_head(PortId(3)).is_none());
+    assert_eq!(rt; own.extra_numbered(PORT, 0), Some(0));
+    assert_eq!(rt; own.extra_numbered(PORT, 1), Some(6));
+    assert!(rt; own.extra_numbered(PORT, 2).is_none());
     own.write_front(5, &[1, 2]);
     own.write_front(2, &[1, 2]);
     assert!(rt; starts_with(own, 5, &[1, 2]) && own.bytes(2).is_none());
@@ -375,7 +388,9 @@ fn play(
     swap(rt, own);
     fill(rt, own, alloc);
     exchange(rt, own);
+    accept_exchanged(rt, own);
     link(rt, own);
+    number(rt, own);
 }
 
 /// Closes the port, and then the own side. The port's buffers come in the order of its places.

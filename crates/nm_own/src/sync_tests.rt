@@ -184,28 +184,28 @@ fn take_one(rt: &impl Abort, own: OwnSide, alloc: Global, buf: Buf) -> (OwnSide,
     (own, went)
 }
 
-/// Two frames are offered, and one of them taken, and then the other. The slot of one that was taken
-/// keeps its length, and names a cleared buffer; it is the user's once the next one goes.
-fn offer(rt: &impl Abort, mut own: OwnSide, alloc: Global, back: &mut Vec<Buf>) -> OwnSide
-    requires room { 3 ≤ vec_capacity back.old }
-    ensures { vec_capacity back.new ≡ vec_capacity back.old }
-{
+/// Two frames are offered, and one of them is taken, whose buffer goes. The slot of one that was taken
+/// keeps its length, and names a cleared buffer once it is the user's.
+fn offer(rt: &impl Abort, mut own: OwnSide, alloc: Global, buf: Buf) -> (OwnSide, Buf) {
     own.put_frame(PORT, &FRAME);
     own.put_frame(PORT, &FRAME[..7]);
     let mut own = lend_and_undo(rt, own, alloc);
     assert_eq!(rt; offers(rt, &mut own, alloc, &FRAME), 2);
-    let (mut own, went) = take_one(rt, own, alloc, take_last(rt, back, 2));
+    let (own, went) = take_one(rt, own, alloc, buf);
     assert!(rt; went.index() == 8 && went.bytes().starts_with(&FRAME));
     assert!(rt; is_slot(&own, Side::Tx, 3, 5, 0, 0) && own.slot(PORT, Side::Tx, 0).is_none());
     assert!(rt; own.bytes(2).is_none() && own.bytes(3).is_none() && own.bytes(5).is_some());
+    (own, went)
+}
+
+/// The other one is offered again, and taken; answers its buffer.
+fn offer_rest(rt: &impl Abort, mut own: OwnSide, alloc: Global, buf: Buf) -> (OwnSide, Buf) {
     assert_eq!(rt; offers(rt, &mut own, alloc, &FRAME[..7]), 1);
-    let (own, other) = take_one(rt, own, alloc, went);
+    let (own, other) = take_one(rt, own, alloc, buf);
     assert!(rt; other.index() == 3 && other.bytes().starts_with(&FRAME[..7]));
     assert!(rt; is_slot(&own, Side::Tx, 0, 2, 14, 0) && own.slot(PORT, Side::Tx, 1).is_none());
     assert!(rt; starts_with(&own, 2, &[0; 14]));
-    assert!(rt; back.is_empty());
-    back.push_reserved(other);
-    own
+    (own, other)
 }
 
 /// Closes the port and the own side: the buffers come in the order of the places.
@@ -250,8 +250,11 @@ fn frames_come_and_go(rt: HostRuntime) {
     let own = cross(&rt, own, alloc, &mut back);
     assert!(rt; back.is_empty());
     let own = trade(&rt, own, alloc, &mut back);
-    let own = offer(&rt, own, alloc, &mut back);
-    assert!(rt; back.len() == 1 && back[0].index() == 3);
+    let two = take_last(&rt, &mut back, 2);
+    assert!(rt; back.is_empty());
+    back.destroy_empty();
+    let (own, went) = offer(&rt, own, alloc, two);
+    let (own, _other) = offer_rest(&rt, own, alloc, went);
     let _back = close(&rt, own);
     panic!(rt; "the buffers stay out of the region");
 }

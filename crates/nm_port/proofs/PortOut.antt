@@ -4,7 +4,7 @@ use Rattle.std.specs.Prelude.{IsSome, position, remove, drop}
 use Rattle.std.specs.List.{AllByRecursion, position_or_len}
 use Rattle.std.proofs.lemmas.Bool.{cases_Bool}
 use Rattle.std.proofs.lemmas.Bool.Decides.{nat_tests}
-use Rattle.nm_hold.specs.Offsets.{ArePortsOnce}
+use Rattle.nm_hold.specs.Offsets.{has_port, ArePortsOnce}
 use Rattle.nm_hold.specs.Holds.{HoldState}
 use Rattle.nm_hold.proofs.Spots.{nat_eq-is}
 use Rattle.nm_types.specs.OwnPorts.{port_with_id, OwnPort}
@@ -16,7 +16,7 @@ abbrev pub IsOther : ℕ → UserPort → Type 0
 IsOther id p = nat_eq p.id.0 id ≡ false
 
 -- no other port has the id of the one before them
-pub rest_other : (ports : List UserPort) (id : ℕ) → has_id (map places_of_port ports) id ≡ false → AllByRecursion (IsOther id) ports
+pub rest_other : (ports : List UserPort) (id : ℕ) → has_port (map places_of_port ports) id ≡ false → AllByRecursion (IsOther id) ports
 rest_other [] id none = tt
 rest_other (p ∷ ports) id none = elim (cases_Bool (nat_eq p.id.0 id)) [
   | inl here ↦ absurd (let e = rw here at none in cc)

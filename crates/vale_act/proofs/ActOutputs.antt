@@ -13,8 +13,9 @@ use Rattle.vale_captures.specs.Outputs.{OutputFile}
 use Rattle.vale_replay.specs.Machine.{Machine, Save}
 use Rattle.vale_replay.specs.Saved.{saved_file, saved_frames, file_of_save, acts_of_unit, saves_of}
 use Rattle.vale_script.specs.Script.{Program}
-use Rattle.vale_act.specs.Kept.{KeptFrames, AreWhole}
-use Rattle.vale_act.specs.Outputs.{record_of, output_of, outputs_of}
+use Rattle.vale_player.specs.Kept.{KeptFrames, AreWhole}
+use Rattle.vale_act.specs.Outputs.{output_of, outputs_of}
+use Rattle.vale_player.specs.Kept.{record_of}
 use Rattle.vale_act.specs.SavedActs.{note_of, outputs_of_acts, OutputsAre, name_of_save, names_of_acts}
 
 -- ---- one file

@@ -9,7 +9,7 @@ use Rattle.nm_types.specs.declared.fault.StepFault.{StepFault}
 use Rattle.vale_entry.specs.declared.entry.Entry.{Entry}
 use Rattle.vale_fabric.specs.declared.fabric.Fabric.{Fabric}
 use Rattle.vale_fabric.specs.Fabrics.{Knowing}
-use Rattle.vale_act.specs.Players.{PlayerState}
+use Rattle.vale_player.specs.Players.{PlayerState}
 use Rattle.vale_act.specs.Seats.{AllAre, AllOn, AreEach, IsHeld, HasMet, HasSaid, HasTold, Meets, MeetAll, Tells, TellAll}
 use Rattle.vale_act.specs.Units.{IsOn, knows_at}
 use Rattle.vale_act.specs.declared.seat.Seat.{Seat}

@@ -25,20 +25,20 @@ use Rattle.vale_script.specs.declared.script.Act.TheVariants as acts
 use Rattle.vale_replay.specs.Machine.{Machine, Save, closing_tasks, resting}
 use Rattle.vale_replay.specs.Replay.{times_among}
 use Rattle.vale_replay.specs.Tasks.{Task, Arrive, EndLine, tasks_of, tasks_of_lines}
-use Rattle.vale_act.specs.Players.{PlayerState, Does, DoesLine, HasEntered, IsStill, Stops, machine_of}
-use Rattle.vale_act.specs.Users.{HasCome, HasWorked}
+use Rattle.vale_player.specs.Players.{PlayerState, Does, DoesLine, HasEntered, IsStill, Stops, machine_of}
+use Rattle.vale_player.specs.Users.{HasCome, HasWorked}
 use Rattle.vale_act.specs.Units.{IsFullAt, IsOn, IsSame, PlaysAt, WorksAt, knows_at, times_made}
 use Rattle.vale_act.specs.Seats.{ActsLine, Closes, Comes, ComesNot, FullAlone, HasActed, HasLearned, HasMet, HasSaid, HasTold, IsDeed, IsSeated, KeepHeld, LineAt, Meets, PlaysAlone, StopsAlone, Tells, line_tasks, with_knows}
 use Rattle.vale_act.specs.declared.seat.Seat.{Seat}
 use Rattle.vale_act.specs.declared.seat.Seat.TheVariants.{Away, There, Gone}
 use Rattle.vale_act.proofs.BlockParts.{does-part, stops-part}
-use Rattle.vale_act.proofs.Closing.{closing-played}
+use Rattle.vale_player.proofs.Closing.{closing-played}
 use Rattle.vale_act.proofs.DeedTasks.{acts-need}
 use Rattle.vale_act.proofs.Held.{keep-as, keep-then}
 use Rattle.vale_act.proofs.Learning.{joined-mine}
 use Rattle.vale_act.proofs.SharesPasses.{joined-both, cut-whole, made-added, front-free}
 use Rattle.vale_act.proofs.SharesWork.{absent-at, coming-at, full-enter-stop-at, full-stop-at, leaving-at, work-at}
-use Rattle.vale_act.proofs.Stays.{user-begins}
+use Rattle.vale_player.proofs.Stays.{user-begins}
 use Rattle.vale_act.proofs.Weights.{add-forks, add-joins, half-not-whole}
 
 abbrev parts : List Knowing → List Share

@@ -12,7 +12,7 @@ use Rattle.vale_script.specs.declared.script.Unit.{Unit as Part}
 use Rattle.vale_replay.specs.Replay.{ScriptUnit, closing_unit, shares_of, units_of, user_count}
 use Rattle.vale_replay.specs.Tasks.{Captures, records_of}
 use Rattle.vale_captures.specs.Inputs.{InputFile}
-use Rattle.vale_act.specs.Inputs.{captures_of, names_of, records_in}
+use Rattle.vale_player.specs.Inputs.{captures_of, names_of, records_in}
 use Rattle.vale_act.specs.Units.{HavePlayed, PlaysUnit, knows_at}
 use Rattle.vale_act.specs.Seats.{AreBetween, AreStopped, IsRunnable, IsScriptStop, IsUnitStop, UnitAt}
 use Rattle.vale_act.specs.declared.seat.Seat.{Seat}

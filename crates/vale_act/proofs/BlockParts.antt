@@ -11,14 +11,14 @@ use Rattle.vale_replay.specs.Machine.{Machine, resting}
 use Rattle.vale_replay.specs.Tasks.{Task, tasks_of_lines}
 use Rattle.vale_replay.specs.Replay.{acts_of}
 use Rattle.nm_types.specs.declared.fault.StepFault.{StepFault}
-use Rattle.vale_act.specs.Players.{PlayerState, Does, Stops, machine_of}
-use Rattle.vale_act.specs.Users.{HasCome}
+use Rattle.vale_player.specs.Players.{PlayerState, Does, RunsLines, Stops, machine_of}
+use Rattle.vale_player.specs.Users.{HasCome}
 use Rattle.vale_act.specs.Units.{IsOn, knows_at}
-use Rattle.vale_act.specs.Seats.{AllOn, AreEach, HasRun, IsHeld, MeetAll, RunsLines, TellAll}
+use Rattle.vale_act.specs.Seats.{AllOn, AreEach, HasRun, IsHeld, MeetAll, TellAll}
 use Rattle.vale_act.specs.declared.seat.Seat.{Seat}
 use Rattle.vale_act.specs.declared.seat.Seat.TheVariants.{Away, There, Gone}
 use Rattle.vale_act.proofs.Held.{held-as}
-use Rattle.vale_act.proofs.Stays.{user-begins}
+use Rattle.vale_player.proofs.Stays.{user-begins}
 use Rattle.vale_act.proofs.BlockRuns.{there-too}
 
 -- where each seat's parts are the same, all are

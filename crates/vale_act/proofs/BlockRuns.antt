@@ -17,9 +17,9 @@ use Rattle.vale_script.specs.declared.script.Line.{Line}
 use Rattle.vale_script.specs.declared.script.Unit.TheVariants as parts
 use Rattle.vale_replay.specs.Tasks.{tasks_of_lines}
 use Rattle.vale_replay.specs.Replay.{acts_of, has_line, shares_of}
-use Rattle.vale_act.specs.Players.{PlayerState, Does, Stops}
+use Rattle.vale_player.specs.Players.{PlayerState, Does, RunsLines, Stops}
 use Rattle.vale_act.specs.Units.{IsOn, PlaysBlockAt, PlaysUnit, ReplaysBlockAt, StopsBlockAt, IsFullInLines, IsInBlock, IsSame, StaysAt}
-use Rattle.vale_act.specs.Seats.{AllAre, AllOn, AreEach, AreSeated, IsDeedLine, IsFirstFault, IsSeated, IsUnitStop, HasLearned, HasMet, HasNoFault, HasRun, HasSaid, HasTold, MeetAll, RunsLines, TellAll, fault_at, with_knows}
+use Rattle.vale_act.specs.Seats.{AllAre, AllOn, AreEach, AreSeated, IsDeedLine, IsFirstFault, IsSeated, IsUnitStop, HasLearned, HasMet, HasNoFault, HasRun, HasSaid, HasTold, MeetAll, TellAll, fault_at, with_knows}
 use Rattle.vale_act.specs.declared.seat.Seat.{Seat}
 use Rattle.vale_act.specs.declared.seat.Seat.TheVariants.{Away, There, Gone}
 use Rattle.vale_act.proofs.AllSeats.{some-is}

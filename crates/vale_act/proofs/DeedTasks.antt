@@ -1,20 +1,17 @@
 -- Lines with which nobody comes have tasks for a user that is there.
 use Rattle.std.proofs.Common.{◌≡◌, ℕ, zero, suc, Bool, true, false, ◌==◌, ◌-◌, if◌then◌else◌, List, [], ◌∷◌, ◌++◌, map, filter, replicate, refl, sym, subst}
 use Rattle.std.specs.List.{AllByRecursion}
+use Rattle.vale_entry.proofs.Each.{each-append}
 use Rattle.vale_script.specs.declared.script.Act.{Act}
 use Rattle.vale_script.specs.declared.script.Act.TheVariants as acts
 use Rattle.vale_script.specs.declared.script.Line.{Line}
 use Rattle.vale_replay.specs.Tasks.{Task, PutFrame, SendFrames, EndLine, fits_a_buffer, frame_of_put, played_before_sync, tasks_of, tasks_of_line, tasks_of_lines}
 use Rattle.vale_replay.specs.Replay.{acts_of, act_of, is_of_user}
-use Rattle.vale_act.specs.Laws.{NeedsSession}
+use Rattle.vale_player.specs.Laws.{NeedsSession}
 use Rattle.vale_act.specs.Seats.{IsDeed, IsDeedLine}
 
 abbrev All : List Task → Type 0
 All tasks = AllByRecursion NeedsSession tasks
-
-all-then : (xs ys : List Task) → All xs → All ys → All (xs ++ ys)
-all-then [] ys a b = b
-all-then (x ∷ xs) ys a b = (a.0, all-then xs ys a.1 b)
 
 all-same : (n : ℕ) (task : Task) → NeedsSession task → All (replicate n task)
 all-same zero task needs = tt
@@ -55,7 +52,7 @@ module _ (records : List ℕ → List (List ℕ)) where
 
   pub acts-need : (list : List Act) → AllByRecursion IsDeed list → All (tasks_of_lines records list)
   acts-need [] deeds = tt
-  acts-need (act ∷ list) deeds = all-then (tasks_of_line records act) (tasks_of_lines records list) (all-then (tasks_of records act) (EndLine ∷ []) (act-needs act deeds.0) (tt, tt)) (acts-need list deeds.1)
+  acts-need (act ∷ list) deeds = each-append NeedsSession (tasks_of_line records act) (tasks_of_lines records list) (each-append NeedsSession (tasks_of records act) (EndLine ∷ []) (act-needs act deeds.0) (tt, tt)) (acts-need list deeds.1)
 
   own-deeds : (lines : List Line) (number : ℕ) → AllByRecursion IsDeedLine lines → AllByRecursion IsDeed (acts_of lines number)
   own-deeds [] number deeds = tt

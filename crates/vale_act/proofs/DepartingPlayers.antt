@@ -14,6 +14,7 @@ use Rattle.vale_entry.specs.declared.entry.Reply.TheVariants as replies
 use Rattle.vale_entry.specs.Arrivals.{arrivals_of}
 use Rattle.vale_entry.specs.OwnCalls.{finish_call, own_after}
 use Rattle.vale_entry.specs.Legal.{kept_ask, step}
+use Rattle.vale_entry.proofs.Each.{each-append}
 use Rattle.vale_own.specs.There.{is_coming}
 use Rattle.vale_fabric.specs.declared.kept.Fixed.{Fixed}
 use Rattle.vale_fabric.specs.Fabrics.{Knowing, entry_by, fixed_in}
@@ -26,14 +27,14 @@ use Rattle.vale_replay.specs.Machine.{Machine, at_rest, is_settling, new_machine
 use Rattle.vale_replay.specs.Replay.{TakesTurn, TakesTurns, standing_before}
 use Rattle.vale_replay.proofs.Enters.{ask-by}
 use Rattle.vale_replay.proofs.Turns.{some-same}
-use Rattle.vale_act.specs.Users.{HasCome, Works}
-use Rattle.vale_act.specs.Laws.{NeedsSession}
-use Rattle.vale_act.specs.Players.{PlayerState, machine_of}
+use Rattle.vale_player.specs.Users.{HasCome, Works}
+use Rattle.vale_player.specs.Laws.{NeedsSession}
+use Rattle.vale_player.specs.Players.{PlayerState, machine_of}
 use Rattle.vale_act.specs.Leaving.{ComerIsThere, ComesNoMore, DoerComesAlone, EnteredComesAlone, EntersOnlyAt, HasMadeLeave, IsNoEnter, KeepsSession, LeaverEachLeaves, OnlyComes, RunnerComesAlone, StoppedComesAlone}
-use Rattle.vale_act.proofs.Stays.{user-begins}
+use Rattle.vale_player.proofs.Stays.{user-begins}
 use Rattle.vale_act.proofs.DepartingHistory.{Came, came}
 use Rattle.vale_act.proofs.DepartingPasses.{enters-later, takes-in}
-use Rattle.vale_act.proofs.DepartingTurns.{all-then, rests-no-more, stands-each, turns-enter-not}
+use Rattle.vale_act.proofs.DepartingTurns.{rests-no-more, stands-each, turns-enter-not}
 
 -- ---- the session for which the pass speaks
 
@@ -74,7 +75,7 @@ player-begins p tasks = user-begins p.session (machine_of p tasks) (record { ses
 
 player-no-more : (p : PlayerState) (tasks : List Task) → AllByRecursion KeepsSession tasks → ComesNoMore (resting (machine_of p (tasks ++ [])))
 player-no-more p tasks all =
-    rests-no-more (machine_of p (tasks ++ [])) (inr (record { 0 = p.session.id }, (refl, all-then KeepsSession tasks [] all tt)))
+    rests-no-more (machine_of p (tasks ++ [])) (inr (record { 0 = p.session.id }, (refl, each-append KeepsSession tasks [] all tt)))
 
 pub doer-alone : DoerComesAlone
 doer-alone p q tasks there all does only =

@@ -17,7 +17,7 @@ use Rattle.vale_script.specs.declared.script.Act.{Act}
 use Rattle.vale_script.specs.declared.script.Line.{Line}
 use Rattle.vale_act.specs.declared.seat.Seat.{Seat}
 use Rattle.vale_act.specs.declared.seat.Seat.TheVariants.{Away, There, Gone}
-use Rattle.vale_act.specs.Players.{PlayerState}
+use Rattle.vale_player.specs.Players.{PlayerState}
 use Rattle.vale_act.specs.Seats.{ActsLine, AreEach, AreNew, Comes, ComesNot, HasActed, HasMet, HasRun, HasTold, Meets, MeetAll, Tells, TellAll}
 use Rattle.vale_act.specs.Leaving.{AllHaveLeft, CanAllLeave, CanStillLeave, ComesAlone, ComesAloneAt, EachLeaves, SeatStillLeaves}
 use Rattle.vale_act.proofs.DepartingHistory.{all-leave}

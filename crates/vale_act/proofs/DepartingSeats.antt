@@ -8,7 +8,7 @@ use Rattle.nm_turn.proofs.Prefixes.{prefix_self}
 use Rattle.vale_fabric.specs.Fabrics.{Knowing}
 use Rattle.vale_act.specs.declared.seat.Seat.{Seat}
 use Rattle.vale_act.specs.declared.seat.Seat.TheVariants.{Away}
-use Rattle.vale_act.specs.Players.{PlayerState}
+use Rattle.vale_player.specs.Players.{PlayerState}
 use Rattle.vale_act.specs.Leaving.{BeginsToLeave, ComesAloneAt, ForkedComesAlone, LearnerComesAlone, MeetingComesAlone, OnlyComes, SeatCanLeave, SeatsCanLeave}
 use Rattle.vale_act.proofs.DepartingPasses.{learner-once, meeting-once, nobody-came}
 

@@ -14,6 +14,7 @@ use Rattle.vale_entry.specs.Arrivals.{arrivals_of}
 use Rattle.vale_entry.specs.World.{World}
 use Rattle.vale_entry.specs.OwnCalls.{own_after}
 use Rattle.vale_entry.specs.Legal.{kept_ask, step}
+use Rattle.vale_entry.proofs.Each.{each-append}
 use Rattle.vale_own.specs.Asker.{is_enter}
 use Rattle.vale_own.specs.There.{is_coming}
 use Rattle.vale_script.specs.declared.script.Act.{Act}
@@ -21,9 +22,10 @@ use Rattle.vale_script.specs.declared.script.Act.TheVariants as acts
 use Rattle.vale_replay.specs.Tasks.{Task, Arrive, OpenPort, PutFrame, SendFrames, TakeFrames, ChangeOwn, SaveFrames, WatchPort, ReadCounts, ShutPort, FinishPort, Depart, EndLine, fits_a_buffer, frame_of_put, lines_left, played_before_sync, tasks_of, tasks_of_line, tasks_of_lines}
 use Rattle.vale_replay.specs.Machine.{Machine, answered, at_rest, after_task, call_of_task, call_of_tasks, enter_call, has_room_at, is_peer_gone, is_reset, is_settling, next_call, resting, settling_call, with_tasks}
 use Rattle.vale_replay.specs.Replay.{TakesTurn, standing_before}
+use Rattle.vale_replay.proofs.Comers.{enter-of}
 use Rattle.vale_replay.proofs.Enters.{ask-by, call-enters}
 use Rattle.vale_replay.proofs.Sessions.{rest-same}
-use Rattle.vale_act.specs.Laws.{NeedsSession}
+use Rattle.vale_player.specs.Laws.{NeedsSession}
 use Rattle.vale_act.specs.Leaving.{ComesNoMore, IsNoEnter, KeepsSession, LinesKeepSession, TurnsEnterNot}
 
 -- ---- what holds of all that a user has to do holds of what is left of it
@@ -154,23 +156,6 @@ no-enter w user name never call =
     let clash : name ≡ suc name = call-enters w (record user { number = suc name }) name next in
     absurd (omega (arith, clash))
 
-enter-of : (ask : Ask) → is_enter (kept_ask ask) ≡ true → (name : ℕ) × (ask ≡ Enter name)
-enter-of (Enter name) e = (name, refl)
-enter-of (Open session name tx rx extra) e = absurd cc
-enter-of (Send port frames) e = absurd cc
-enter-of (Grant origin to) e = absurd cc
-enter-of (Done lease) e = absurd cc
-enter-of (Sync port back) e = absurd cc
-enter-of (Reset port side fault) e = absurd cc
-enter-of (Shut port) e = absurd cc
-enter-of (Finish port bufs chain) e = absurd cc
-enter-of (Leave session) e = absurd cc
-enter-of (Put port offered) e = absurd cc
-enter-of (PutKept port offered) e = absurd cc
-enter-of (Get port back) e = absurd cc
-enter-of (Watch monitor target sides) e = absurd cc
-enter-of (Stat port) e = absurd cc
-
 turn-enters-not : (pool : ℕ) (h : List Entry) (before : Machine) (n : ℕ) (after : Machine) → ComesNoMore before → TakesTurn pool h before n after → IsNoEnter h n
 turn-enters-not pool h before n after never turn = record { entry = turn.entry; there = turn.there; enters_not = by (cases_Bool (is_coming turn.entry)) }
   where
@@ -194,10 +179,6 @@ stands-each P (x ∷ xs) n all (inl e) = subst P (sym e) all.0
 stands-each P (x ∷ xs) n all (inr st) = stands-each P xs n all.1 st
 
 -- ---- tasks
-
-pub all-then : (P : Task → Type 0) (one other : List Task) → AllByRecursion P one → AllByRecursion P other → AllByRecursion P (one ++ other)
-all-then P [] other front back = back
-all-then P (task ∷ tasks) other front back = (front.0, all-then P tasks other front.1 back)
 
 puts-keep : (count : ℕ) (name bytes : List ℕ) → AllByRecursion KeepsSession (replicate count (PutFrame name bytes))
 puts-keep zero name bytes = tt
@@ -230,12 +211,12 @@ act-keeps records (acts.Save name file) = (tt, tt)
 act-keeps records (acts.Close name) = (tt, (tt, tt))
 
 line-keeps : (records : List ℕ → List (List ℕ)) (act : Act) → AllByRecursion KeepsSession (tasks_of_line records act)
-line-keeps records act = all-then KeepsSession (tasks_of records act) (EndLine ∷ []) (act-keeps records act) (tt, tt)
+line-keeps records act = each-append KeepsSession (tasks_of records act) (EndLine ∷ []) (act-keeps records act) (tt, tt)
 
 lines-keep-all : (records : List ℕ → List (List ℕ)) (acts : List Act) → AllByRecursion KeepsSession (tasks_of_lines records acts)
 lines-keep-all records [] = tt
 lines-keep-all records (act ∷ acts) =
-    all-then KeepsSession (tasks_of_line records act) (tasks_of_lines records acts) (line-keeps records act) (lines-keep-all records acts)
+    each-append KeepsSession (tasks_of_line records act) (tasks_of_lines records acts) (line-keeps records act) (lines-keep-all records acts)
 
 pub lines-keep : LinesKeepSession
 lines-keep records = record { act = act-keeps records; line = line-keeps records; lines = lines-keep-all records }

@@ -18,7 +18,7 @@ use Rattle.vale_script.specs.Script.{Program}
 use Rattle.vale_captures.specs.Inputs.{InputFile, name_of, frames_of}
 use Rattle.vale_replay.specs.Replay.{HasCaptures}
 use Rattle.vale_replay.specs.Tasks.{Captures}
-use Rattle.vale_act.specs.Inputs.{captures_of, names_of}
+use Rattle.vale_player.specs.Inputs.{captures_of, names_of}
 use Rattle.vale_act.specs.Units.{knows_at}
 use Rattle.vale_act.specs.Seats.{AreBetween, AreSeated, AreStopped, ClosesAll, IsHeld, IsScriptStop, IsScriptStopped, ScriptPlayed}
 use Rattle.vale_act.specs.declared.seat.Seat.{Seat}

@@ -21,11 +21,11 @@ use Rattle.vale_replay.specs.Tasks.{Captures}
 use Rattle.vale_act.specs.Outputs.{outputs_of}
 use Rattle.vale_act.specs.Plays.{PlaysScript, IsStoppedBy}
 use Rattle.vale_act.specs.Units.{AreUsersFrom}
-use Rattle.vale_act.specs.Kept.{KeptFrames, AreWhole, KeepsWhole}
+use Rattle.vale_player.specs.Kept.{KeptFrames, AreWhole, KeepsWhole}
 use Rattle.vale_act.specs.Seats.{AllAre, IsEmpty, IsScriptStopped, Meets, ScriptDone, files_in, saves_at}
 use Rattle.vale_act.specs.declared.seat.Seat.{Seat}
 use Rattle.vale_act.specs.declared.seat.Seat.TheVariants.{Away, There, Gone}
-use Rattle.vale_act.proofs.KeptPorts.{whole-stays}
+use Rattle.vale_player.proofs.KeptPorts.{whole-stays}
 
 -- all that was kept is all in a history that goes on
 pub whole-later : (pool : ℕ) (h k : List Entry) (kept : List KeptFrames) → IsPrefix h k → IsLegal pool k → AreWhole pool h kept → AreWhole pool k kept

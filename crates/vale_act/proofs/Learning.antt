@@ -11,7 +11,7 @@ use Rattle.std.specs.Prelude.{Option}
 use Rattle.vale_entry.specs.declared.entry.Entry.{Entry}
 use Rattle.vale_fabric.specs.Fabrics.{Knowing}
 use Rattle.vale_fabric.specs.Roots.{root_of}
-use Rattle.vale_act.specs.Players.{PlayerState}
+use Rattle.vale_player.specs.Players.{PlayerState}
 use Rattle.vale_act.specs.Seats.{IsHeld, KeepHeld, with_knows, HasLearned, HasSaid, Meets, Tells}
 use Rattle.vale_act.specs.declared.seat.Seat.TheVariants.{There}
 use Rattle.vale_act.proofs.Merging.{merged-none}

@@ -21,26 +21,12 @@ use Rattle.vale_own.proofs.SideEntries.{transmits-of, receives-of, finishes-of}
 use Rattle.vale_replay.specs.Tasks.{Task, Arrive, OpenPort, PutFrame, SendFrames, TakeFrames, ChangeOwn, SaveFrames, WatchPort, ReadCounts, ShutPort, FinishPort, Depart, EndLine}
 use Rattle.vale_replay.specs.Machine.{Machine, answered, call_of_tasks, done_call, enter_call, grant_call, is_settling, next_call, next_offer, owed_lot, resting, settling_call, with_tasks}
 use Rattle.vale_replay.specs.Replay.{entry_by}
+use Rattle.vale_replay.proofs.Turns.{some-same}
+use Rattle.vale_player.proofs.Turns.{own-on}
 use Rattle.vale_act.proofs.RoomViews.{AreBelow, below-later, views}
 use Rattle.vale_act.proofs.RoomTidy.{SizesFit, own-below}
 use Rattle.vale_act.proofs.RoomRests.{ArePlain, rests}
-use Rattle.vale_act.proofs.RoomTurns.{by-id, TxOf, put-of, send-of, mapped, some-same}
-
-with-own : (n : ℕ) (e : Entry) (u : Machine) (tasks : List Task) → (with_tasks n e u tasks).own ≡ u.own
-with-own n e u [] = refl
-with-own n e u (Arrive ∷ rest) = refl
-with-own n e u (OpenPort name tx rx extra ∷ rest) = refl
-with-own n e u (PutFrame name bytes ∷ rest) = refl
-with-own n e u (SendFrames name ∷ rest) = refl
-with-own n e u (TakeFrames name ∷ rest) = refl
-with-own n e u (ChangeOwn act ∷ rest) = refl
-with-own n e u (SaveFrames name file ∷ rest) = refl
-with-own n e u (WatchPort monitor target sides ∷ rest) = refl
-with-own n e u (ReadCounts name ∷ rest) = refl
-with-own n e u (ShutPort name ∷ rest) = refl
-with-own n e u (FinishPort name ∷ rest) = refl
-with-own n e u (Depart ∷ rest) = refl
-with-own n e u (EndLine ∷ rest) = refl
+use Rattle.vale_act.proofs.RoomTurns.{by-id, TxOf, put-of, send-of, mapped}
 
 module _ (pool : ℕ) (past : List Entry) where
   abbrev s : Standing
@@ -146,4 +132,4 @@ module _ (pool : ℕ) (past : List Entry) (k number : ℕ) (user : Machine) (bel
 
       by : (b : Bool) → AreBelow number (views (cond b user worked).own)
       by true = still
-      by false = subst (λ (o : OwnState). AreBelow number (views o)) (sym (with-own number (entry_by ask made) (record user { own = own_next ask }) user.tasks)) (of-call ask called is)
+      by false = subst (λ (o : OwnState). AreBelow number (views o)) (sym (own-on number (entry_by ask made) (record user { own = own_next ask }) user.tasks)) (of-call ask called is)

@@ -18,11 +18,12 @@ use Rattle.vale_own.proofs.SideEntries.{transmits-of, receives-of, finishes-of}
 use Rattle.vale_replay.specs.Tasks.{Task, Arrive, OpenPort, PutFrame, SendFrames, TakeFrames, ChangeOwn, SaveFrames, WatchPort, ReadCounts, ShutPort, FinishPort, Depart, EndLine, lines_left}
 use Rattle.vale_replay.specs.Machine.{Machine, after_task, answered, at_rest, call_of_task, call_of_tasks, done_call, enter_call, grant_call, has_room_at, is_peer_gone, is_reset, is_settling, next_call, next_offer, owed_lot, resting, settling_call, with_tasks}
 use Rattle.vale_replay.specs.Replay.{TakesTurn, entry_by}
+use Rattle.vale_replay.proofs.Turns.{some-same}
 use Rattle.vale_act.specs.Completeness.{waiting, frames_of_task, calls_of_task, frames_left, calls_left, frames_taken, calls_of_ask, Spends, TurnsSpend}
 use Rattle.vale_act.proofs.RoomViews.{AreTidy, views, tidy-of}
 use Rattle.vale_act.proofs.RoomOwn.{own-spends}
 use Rattle.vale_act.proofs.RoomRests.{frames_in, calls_in, ArePlain, rests, lines-left}
-use Rattle.vale_act.proofs.RoomTurns.{by-id, room-none, IsSync, tx-sync, rx-sync, TxOf, put-of, send-of, mapped, brings, some-same}
+use Rattle.vale_act.proofs.RoomTurns.{by-id, room-none, IsSync, tx-sync, rx-sync, TxOf, put-of, send-of, mapped, brings}
 
 record SpendsFrom (tasks : List Task) (own : OwnState) (after : Machine) (ask : Ask) (reply : Reply) : Type 0 where
   frames : frames_left after + frames_taken ask reply ≤ frames_in tasks + waiting own

@@ -24,6 +24,7 @@ use Rattle.vale_book.proofs.Rooms.{step-recorded}
 use Rattle.vale_own.proofs.SideArrivals.{lent-count}
 use Rattle.vale_own.proofs.SideSound.{each-found}
 use Rattle.vale_replay.specs.Machine.{has_room_at, is_settling, put_call, room_call, send_call}
+use Rattle.vale_replay.proofs.Turns.{some-same}
 use Rattle.vale_act.specs.Completeness.{calls_of_ask}
 use Rattle.vale_act.proofs.RoomViews.{AreTidy, views, ids-seen}
 use Rattle.vale_act.proofs.RoomOwn.{BringsAsMany}
@@ -73,9 +74,6 @@ pub record TxOf (own : OwnState) (name : List ℕ) (ask : Ask) : Type 0 where
   pub ring : OwnRing
   pub has : port.tx ≡ Some ring
   pub is : tx_call own port ring ≡ ask
-
-pub some-same : {X : Type 0} (x y : X) → Some x ≡ Some y → x ≡ y
-some-same x y e = cc
 
 tx-of : (own : OwnState) (name : List ℕ) (ask : Ask) (call : OwnPort → OwnRing → Option Ask) → ((p : OwnPort) (r : OwnRing) → call p r ≡ Some ask → tx_call own p r ≡ ask)
     → option_and_then (λ (p : OwnPort). option_and_then (call p) p.tx) (port_with_name own name) ≡ Some ask → TxOf own name ask

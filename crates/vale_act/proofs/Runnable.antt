@@ -12,9 +12,9 @@ use Rattle.vale_script.specs.Rules.{Draft, Opened, after, block_with, cause_of, 
 use Rattle.vale_script.specs.Script.{Program}
 use Rattle.vale_script.specs.Sound.{IsSound, IsSoundLine, IsSoundUnit}
 use Rattle.vale_script.specs.Statements.{Statement, Begin, End}
-use Rattle.vale_act.specs.Deeds.{AreDoable, IsDoableUnit}
+use Rattle.vale_player.specs.Deeds.{AreDoable, IsDoableUnit}
 use Rattle.vale_act.specs.Seats.{IsDeed, IsDeedLine, IsRunnable}
-use Rattle.vale_act.proofs.SoundScripts.{sound-doable}
+use Rattle.vale_player.proofs.SoundScripts.{sound-doable}
 
 front-of : (draft : Draft) (said more : List Statement) → MeetNoCause draft (said ++ more) → MeetNoCause draft said
 front-of draft [] more none = tt

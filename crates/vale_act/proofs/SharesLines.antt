@@ -16,7 +16,7 @@ use Rattle.vale_replay.specs.Machine.{Machine, call_of_tasks, next_call, resting
 use Rattle.vale_replay.specs.Replay.{PlaysUser, act_of, acts_of, has_line, is_of_user, times_among}
 use Rattle.vale_act.specs.declared.seat.Seat.{Seat}
 use Rattle.vale_act.specs.declared.seat.Seat.TheVariants.{Away, There, Gone}
-use Rattle.vale_act.specs.Players.{PlayerState, machine_of}
+use Rattle.vale_player.specs.Players.{PlayerState, machine_of}
 use Rattle.vale_act.specs.Units.{HasMade, IsFullAt, IsUserAt, StaysAt, StopsInWork, WorksAt, knows_at, lines_tasks, times_made, PlayerPlaysLines, PlayerStopsInLines, PlayerIsFullInLines, WorkIsOfBlock, StopIsOfBlock, FullStopIsOfBlock, IdleIsOfBlock, AbsentIsOfBlock, PlayIsReplay}
 use Rattle.vale_act.proofs.SharesPasses.{made-added}
 use Rattle.vale_act.proofs.SharesWork.{absent-at, full-stop-at, stop-at, work-at}

@@ -17,15 +17,15 @@ use Rattle.vale_replay.specs.Replay.{PlaysUser, ReplaysUser}
 use Rattle.vale_replay.specs.Joined.{IsWithin}
 use Rattle.vale_act.specs.declared.seat.Seat.{Seat}
 use Rattle.vale_act.specs.declared.seat.Seat.TheVariants.{Away, There, Gone}
-use Rattle.vale_act.specs.Players.{PlayerState, machine_of}
+use Rattle.vale_player.specs.Players.{PlayerState, machine_of}
 use Rattle.vale_act.specs.Units.{IsFullAt, IsSame, IsUserAt, StopsInWork, WorksAt, WorkIsAt, StopIsAt, FullStopIsAt, AbsentIsAt, EnteringIsAt, ComingIsAt, EnterStopIsAt, FullEnterStopIsAt, LeavingIsAt}
-use Rattle.vale_act.specs.Users.{HasCome, HasStopped, HasWorked, IsRefusedCall}
-use Rattle.vale_act.proofs.Working.{begins-cut}
-use Rattle.vale_act.proofs.Keeping.{work-kept, stop-kept, call-kept, work-within}
-use Rattle.vale_act.proofs.Stays.{user-begins, user-played}
-use Rattle.vale_act.proofs.LineLaws.{lines-end}
-use Rattle.vale_act.proofs.Closing.{closing-played}
-use Rattle.vale_act.proofs.Absent.{absent-passes, enter-stops}
+use Rattle.vale_player.specs.Users.{HasCome, HasStopped, HasWorked, IsRefusedCall}
+use Rattle.vale_player.proofs.Working.{begins-cut}
+use Rattle.vale_player.proofs.Keeping.{work-kept, stop-kept, call-kept, work-within}
+use Rattle.vale_player.proofs.Stays.{user-begins, user-played}
+use Rattle.vale_player.proofs.LineLaws.{lines-end}
+use Rattle.vale_player.proofs.Closing.{closing-played}
+use Rattle.vale_player.proofs.Absent.{absent-passes, enter-stops}
 
 -- ---- a seat's user at its beginning
 

@@ -14,8 +14,8 @@ use Rattle.vale_replay.proofs.Numbers.{rise-within}
 use Rattle.vale_replay.proofs.Members.{each-weaker}
 use Rattle.vale_replay.proofs.Joins.{among-append, outside-lists, outside-units, split-below, split-from, split-has}
 use Rattle.vale_act.specs.Units.{AreUsersFrom, StopIsWhole}
-use Rattle.vale_act.proofs.Working.{longer-replays}
-use Rattle.vale_act.proofs.Keeping.{take-longer}
+use Rattle.vale_player.proofs.Working.{longer-replays}
+use Rattle.vale_player.proofs.Keeping.{take-longer}
 use Rattle.vale_act.proofs.UnitTurns.{alone-made, turns-longer, whole-split}
 
 longer-plays : (pool : ℕ) (h k : List Entry) (before : Machine) (ns : List ℕ) (after : Machine) → IsPrefix h k → PlaysUser pool h before ns after → PlaysUser pool k before ns after

@@ -20,7 +20,7 @@ use Rattle.vale_replay.proofs.Promises.{turns-read, turns-go_on}
 use Rattle.vale_act.specs.declared.seat.Seat.{Seat}
 use Rattle.vale_act.specs.declared.seat.Seat.TheVariants.{Away}
 use Rattle.vale_act.specs.Units.{AreUsersFrom, PlayBegins, UnitIsPlayed, PlayIsWhole, knows_at, all_know, times_made}
-use Rattle.vale_act.proofs.Working.{begins-cut}
+use Rattle.vale_player.proofs.Working.{begins-cut}
 
 -- where no user's session is there, what was made is the main pass's own
 pub alone-made : (number : ℕ) (main : Knowing) (seats : List Seat) → flat_map knows_at seats ≡ [] → times_made number (all_know main seats) ≡ times_among number (numbers main.mine ∷ [])

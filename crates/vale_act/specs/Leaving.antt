@@ -24,8 +24,8 @@ use Rattle.vale_replay.specs.Machine.{Machine}
 use Rattle.vale_replay.specs.Replay.{TakesTurns}
 use Rattle.vale_act.specs.declared.seat.Seat.{Seat}
 use Rattle.vale_act.specs.declared.seat.Seat.TheVariants.{Away, There}
-use Rattle.vale_act.specs.Laws.{NeedsSession}
-use Rattle.vale_act.specs.Players.{PlayerState, Does, HasEntered, Stops}
+use Rattle.vale_player.specs.Laws.{NeedsSession}
+use Rattle.vale_player.specs.Players.{PlayerState, Does, HasEntered, Stops}
 use Rattle.vale_act.specs.Units.{IsSame}
 
 -- the pass has made the Leave of this session

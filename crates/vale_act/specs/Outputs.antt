@@ -1,15 +1,11 @@
 -- The files that a script saves, as captures that can be written.
-use Rattle.std.specs.Prelude.{List, length, map}
-use Rattle.pcap_io.specs.declared.record.Record.{Record}
+use Rattle.std.specs.Prelude.{List, map}
 use Rattle.vale_entry.specs.declared.entry.Entry.{Entry}
 use Rattle.vale_script.specs.Script.{Program}
 use Rattle.vale_captures.specs.Outputs.{OutputFile}
 use Rattle.vale_replay.specs.Machine.{Machine}
-use Rattle.vale_replay.specs.Saved.{SavedFrame, SavedFile, saved_files}
-
--- all of a saved frame is captured
-abbrev pub record_of : SavedFrame → Record
-record_of frame = record { seconds = frame.seconds; fraction = frame.fraction; original = length frame.bytes; bytes = frame.bytes }
+use Rattle.vale_replay.specs.Saved.{SavedFile, saved_files}
+use Rattle.vale_player.specs.Kept.{record_of}
 
 abbrev pub output_of : SavedFile → OutputFile
 output_of saved = record { file = saved.file; records = map record_of saved.frames }

@@ -7,7 +7,7 @@ use Rattle.vale_script.specs.Script.{Program}
 use Rattle.vale_captures.specs.Outputs.{OutputFile}
 use Rattle.vale_replay.specs.Machine.{Save}
 use Rattle.vale_replay.specs.Saved.{saved_file, file_of_save, acts_of_unit}
-use Rattle.vale_act.specs.Kept.{KeptFrames, AreWhole}
+use Rattle.vale_player.specs.Kept.{KeptFrames, AreWhole}
 use Rattle.vale_act.specs.Outputs.{output_of}
 
 -- the first note of a file

@@ -16,7 +16,7 @@ use Rattle.vale_script.specs.declared.script.Line.{Line}
 use Rattle.vale_script.specs.declared.script.Unit.{Unit as ReadUnit}
 use Rattle.vale_script.specs.declared.script.Unit.TheVariants as parts
 use Rattle.vale_script.specs.Script.{Program}
-use Rattle.vale_act.specs.Deeds.{AreDoable, IsDoable}
+use Rattle.vale_player.specs.Deeds.{AreDoable, IsDoable}
 use Rattle.vale_entry.specs.declared.entry.Ask.{Ask}
 use Rattle.vale_entry.specs.declared.entry.Entry.{Entry}
 use Rattle.vale_entry.specs.declared.entry.Ask.TheVariants.{Enter}
@@ -26,10 +26,10 @@ use Rattle.vale_fabric.specs.declared.kept.Fixed.{Fixed}
 use Rattle.vale_replay.specs.Machine.{Machine, Save, closing_tasks}
 use Rattle.vale_replay.specs.Tasks.{Captures, Task, tasks_of_lines}
 use Rattle.vale_replay.specs.Stops.{HasStopped as HaveStopped}
-use Rattle.vale_replay.specs.Replay.{HasPlayed, ScriptUnit, acts_of, has_line, times_among, units_of, user_count}
+use Rattle.vale_replay.specs.Replay.{HasPlayed, ScriptUnit, times_among, units_of, user_count}
 use Rattle.vale_fabric.specs.declared.fabric.Fabric.{Fabric}
 use Rattle.vale_fabric.specs.Fabrics.{Knowing, record_in}
-use Rattle.vale_act.specs.Players.{PlayerState, Does, HasEntered, IsStill, Stops}
+use Rattle.vale_player.specs.Players.{PlayerState, Does, HasEntered, IsStill, RunsLines, Stops}
 use Rattle.vale_act.specs.Units.{AreUsersFrom, HaveWhole, IsOn, HavePlayed, PlaysAt, PlaysUnit, StopsAtSeat, StopsUnit, all_know, knows_at, times_made}
 use Rattle.vale_act.specs.declared.seat.Seat.{Seat}
 use Rattle.vale_act.specs.declared.seat.Seat.TheVariants.{Away, There, Gone}
@@ -122,15 +122,6 @@ pub record TellAll (v w : Knowing) (befores afters : List Seat) : Type 0 where
   pub held : IsHeld v (flat_map knows_at befores) → IsHeld w (flat_map knows_at afters)
 
 -- The users of a block do their lines.
-
--- the user of a seat does its own lines of a block, and then this fault has stopped it, or none has;
--- one without lines stays as it is
-pub record RunsLines (records : List ℕ → List (List ℕ)) (lines : List Line) (p q : PlayerState) (stop : Option StepFault) : Type 0 where
-  pub still : IsStill p q
-  pub there : IsThere None q.session
-  pub does : stop ≡ None → Does p q (tasks_of_lines records (acts_of lines p.number))
-  pub stops : (fault : StepFault) → stop ≡ Some fault → Stops p q (tasks_of_lines records (acts_of lines p.number)) fault
-  pub idle : has_line lines p.number ≡ false → (q ≡ p) × (stop ≡ None)
 
 abbrev pub HasRun : (List ℕ → List (List ℕ)) → List Line → Seat → Seat → Type 0
 HasRun records lines (There p fault) after = (q : PlayerState) × ((stop : Option StepFault) × ((after ≡ There q stop) × RunsLines records lines p q stop))

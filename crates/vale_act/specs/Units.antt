@@ -30,8 +30,8 @@ use Rattle.vale_replay.specs.Stops.{PlaysOrStops, StopsUser}
 use Rattle.vale_replay.specs.Stops.{HasStopped as HaveStopped}
 use Rattle.vale_act.specs.declared.seat.Seat.{Seat}
 use Rattle.vale_act.specs.declared.seat.Seat.TheVariants.{Away, There, Gone}
-use Rattle.vale_act.specs.Laws.{NeedsSession}
-use Rattle.vale_act.specs.Players.{PlayerState, Does, HasEntered, IsStill, Stops, machine_of}
+use Rattle.vale_player.specs.Laws.{NeedsSession}
+use Rattle.vale_player.specs.Players.{PlayerState, Does, HasEntered, IsStill, Stops, machine_of}
 
 -- the user of a seat, of this number, which has nothing to do
 abbrev pub IsUserAt : ℕ → ℕ → Seat → Machine → Type 0

@@ -1,18 +1,16 @@
 //! The lines of a block: each user does its own on a thread.
-ghost use Rattle.std.specs.Prelude.{◌≡◌, None, OnOk, IfErr, length};
+ghost use Rattle.std.specs.Prelude.{◌≡◌, OnOk, IfErr, length};
 ghost use Rattle.std.specs.List.{AllByRecursion};
-ghost use Rattle.nm_user.specs.Sessions.{IsThere};
 ghost use Rattle.vale_script.specs.declared.script.Unit.TheVariants as parts;
-ghost use Rattle.vale_replay.specs.Replay.{has_line, shares_of};
+ghost use Rattle.vale_replay.specs.Replay.{shares_of};
 ghost use Rattle.vale_fabric.specs.Fabrics.{IsPassIn, fixed_in, knowing};
-ghost use Rattle.vale_act.specs.Deeds.{AreDoable};
-ghost use Rattle.vale_act.specs.Inputs.{records_in};
+ghost use Rattle.vale_player.specs.Deeds.{AreDoable};
+ghost use Rattle.vale_player.specs.Inputs.{records_in};
 ghost use Rattle.vale_act.specs.Leaving.{CanStillLeave};
-ghost use Rattle.vale_act.specs.Seats.{AllOn, MeetAll, TellAll, HasRun, RunsLines, AreEach, AllAre};
+ghost use Rattle.vale_act.specs.Seats.{AllOn, MeetAll, TellAll, HasRun, AreEach, AllAre};
 ghost use Rattle.vale_act.specs.Seats.{AreSeated, IsDeedLine, UnitAt};
 ghost use Rattle.vale_act.specs.Seats.{fault_at, HasNoFault, IsFirstFault};
 
-use crate::player::Player;
 use crate::seat::Seat;
 use nm_io::Gate;
 use nm_types::StepFault;
@@ -22,45 +20,6 @@ use std::thread::Threads;
 use vale_captures::Inputs;
 use vale_fabric::{Fabric, Pass};
 use vale_script::Line;
-
-/// The block has a line of this user.
-fn has_line(lines: &[Line], number: u64) -> bool
-    ensures { result ≡ has_line lines.now number }
-{
-    lines.iter().any(|line| line.user as u64 == number)
-}
-
-impl<'f> Player<'f> {
-    /// Between two calls a user's session is there, and has just what is on its own side.
-    pub(crate) fn is_there(&self)
-        ensures { IsThere None self.now.session }
-    {
-        let _number = self.number;
-    }
-
-    /// The user does its own lines, if it has any. Answers the fault that stops it.
-    fn run_own<R: Wait, G: Gate>(
-        &mut self,
-        rt: &R,
-        lines: &[Line],
-        inputs: &Inputs,
-        gate: &G,
-    ) -> Option<StepFault>
-        requires { AreDoable lines.now }
-        ensures { RunsLines (records_in inputs.now) lines.now self.old self.new result }
-    {
-        if !has_line(lines, self.number) {
-            self.is_there();
-            return None;
-        }
-        let done = self.run_lines(rt, lines, inputs, gate);
-        self.is_there();
-        match done {
-            Ok(()) => None,
-            Err(fault) => Some(fault),
-        }
-    }
-}
 
 impl<'f> Seat<'f> {
     /// The user does its own lines, and keeps the fault that stops it.

@@ -3,15 +3,15 @@ ghost use Rattle.std.specs.Prelude.{ℕ, List};
 ghost use Rattle.vale_entry.specs.declared.entry.Entry.{Entry};
 ghost use Rattle.vale_fabric.specs.Fabrics.{IsPassIn, fixed_in, knowing};
 ghost use Rattle.vale_act.specs.Leaving.{CanStillLeave, SeatStillLeaves};
-ghost use Rattle.vale_act.specs.Kept.{AreWhole, KeepsWhole};
+ghost use Rattle.vale_player.specs.Kept.{AreWhole, KeepsWhole};
 ghost use Rattle.vale_act.specs.Units.{IsOn};
 ghost use Rattle.vale_act.specs.Seats.{AllOn, AreSeated, Closes, ClosesAll};
 
-use crate::kept::KeptPort;
 use crate::seat::Seat;
 use std::mem;
 use std::sync::Wait;
 use vale_fabric::{Fabric, Pass};
+use vale_player::KeptPort;
 
 /// Puts what was kept of a user's ports behind that of others; it is let go where memory is wanting.
 fn keep_ports(kept: &mut Vec<KeptPort>, ports: Vec<KeptPort>)

@@ -5,14 +5,13 @@ ghost use Rattle.vale_fabric.specs.Fabrics.{IsPassIn, fixed_in, knowing};
 ghost use Rattle.vale_replay.specs.Replay.{shares_of};
 ghost use Rattle.vale_script.specs.declared.script.Unit.TheVariants as parts;
 ghost use Rattle.vale_act.specs.declared.seat.Seat.TheVariants.{Away};
-ghost use Rattle.vale_act.specs.Deeds.{IsDoable};
-ghost use Rattle.vale_act.specs.Inputs.{records_in};
+ghost use Rattle.vale_player.specs.Deeds.{IsDoable};
+ghost use Rattle.vale_player.specs.Inputs.{records_in};
 ghost use Rattle.vale_act.specs.Leaving.{CanStillLeave, SeatStillLeaves};
 ghost use Rattle.vale_act.specs.Units.{IsOn};
 ghost use Rattle.vale_act.specs.Seats.{Comes, ComesNot, HasActed, LineAt, UnitAt, line_tasks};
 ghost use Rattle.vale_act.specs.Seats.{AllOn, AreSeated, IsDeed, IsSeated};
 
-use crate::player::Player;
 use crate::seat::Seat;
 use nm_io::Gate;
 use nm_types::{Name, StepFault};
@@ -21,6 +20,7 @@ use std::mem;
 use std::sync::Wait;
 use vale_captures::Inputs;
 use vale_fabric::{Fabric, Pass};
+use vale_player::Player;
 use vale_script::{Act, Line};
 
 /// A user comes through a pass of its own. If it cannot, the pass goes back to the main one.

@@ -7,17 +7,16 @@ ghost use Rattle.vale_entry.specs.declared.entry.Entry.{Entry};
 ghost use Rattle.vale_replay.specs.Machine.{Machine};
 ghost use Rattle.vale_replay.specs.Replay.{act_of};
 ghost use Rattle.vale_replay.specs.Saved.{acts_of_unit, saved_file, saves_of};
-ghost use Rattle.vale_act.specs.Kept.{KeptFrames, AreWhole};
+ghost use Rattle.vale_player.specs.Kept.{KeptFrames, AreWhole};
 ghost use Rattle.vale_act.specs.Outputs.{output_of, outputs_of};
 ghost use Rattle.vale_act.specs.SavedActs.{note_of, OutputsAre};
 ghost use Rattle.vale_act.specs.SavedActs.{name_of_save, names_of_acts, names_saved};
 
-use crate::kept::KeptPort;
-use crate::player::SaveFile;
 use nm_types::{Name, NoMemory, PortId};
 use pcap_io::Record;
 use std::alloc::Global;
 use vale_captures::{Outputs, Saved};
+use vale_player::{KeptPort, SaveFile};
 use vale_script::{Act, Line, Script, ScriptWord, Unit};
 
 /// The first of these notes that names a file.
@@ -243,17 +242,4 @@ pub fn names_saved(alloc: Global, script: &Script) -> Result<Vec<Name>, NoMemory
         add_unit_names(unit, &mut names)?;
     }
     Ok(names)
-}
-
-/// Puts what was kept of a user's ports behind that of others. If memory is wanting, nothing is kept
-/// any more.
-pub fn gather(all: &mut Vec<KeptPort>, more: Vec<KeptPort>)
-    ensures { (pool : ℕ) (history : List Entry) → AreWhole pool history all.old.items
-        → AreWhole pool history more.items → AreWhole pool history all.new.items }
-{
-    let mut more = more;
-    match all.append(&mut more) {
-        Ok(()) => {}
-        Err(_) => all.clear(),
-    }
 }

@@ -12,9 +12,9 @@ ghost use Rattle.vale_replay.specs.Replay.{shares_of, user_count};
 ghost use Rattle.vale_replay.specs.Saved.{saves_of};
 ghost use Rattle.vale_fabric.specs.Fabrics.{IsPassIn, fixed_in, knowing};
 ghost use Rattle.vale_script.specs.Sound.{IsSound};
-ghost use Rattle.vale_act.specs.Inputs.{captures_of, names_of, records_in};
+ghost use Rattle.vale_player.specs.Inputs.{captures_of, names_of, records_in};
 ghost use Rattle.vale_act.specs.Leaving.{AllHaveLeft, CanAllLeave, CanStillLeave};
-ghost use Rattle.vale_act.specs.Kept.{AreWhole};
+ghost use Rattle.vale_player.specs.Kept.{AreWhole};
 ghost use Rattle.vale_act.specs.Outputs.{outputs_of};
 ghost use Rattle.vale_act.specs.Plays.{HasWhole, PlaysScript, IsStoppedBy};
 ghost use Rattle.vale_act.specs.Units.{knows_at};
@@ -24,10 +24,8 @@ ghost use Rattle.vale_act.specs.Seats.{AreBetween, AreNew, AreStopped, IsScriptS
 
 use crate::block_run::run_block;
 use crate::ending::close_all;
-use crate::kept::KeptPort;
 use crate::line_run::run_single;
 use crate::outputs::{names_saved, outputs};
-use crate::player::SaveFile;
 use crate::seat::Seat;
 use nm_io::Gate;
 use nm_types::{Name, NoMemory, StepFault};
@@ -37,6 +35,7 @@ use std::sync::Wait;
 use std::thread::Threads;
 use vale_captures::{Inputs, Outputs};
 use vale_fabric::{Fabric, Pass};
+use vale_player::{KeptPort, SaveFile};
 use vale_script::{Script, Unit};
 
 /// The users do a line or a block.

@@ -2,8 +2,8 @@
 ghost use Rattle.std.specs.Prelude.{◌≡◌, []};
 ghost use Rattle.vale_act.specs.Units.{knows_at};
 
-use crate::player::{Player, SaveFile};
 use nm_types::StepFault;
+use vale_player::{Player, SaveFile};
 
 /// A user of a script.
 pub enum Seat<'f> {

@@ -127,7 +127,7 @@ tasks-come n name entry w user next (FinishPort a ∷ rest) call = absurd (apart
 tasks-come n name entry w user next (Depart ∷ rest) call = absurd (apart-next name (call-enters w (record user { number = suc name; tasks = Depart ∷ rest }) name call))
 tasks-come n name entry w user next (EndLine ∷ rest) call = absurd (apart-next name (call-enters w (record user { number = suc name; tasks = EndLine ∷ rest }) name call))
 
-enter-of : (ask : Ask) → is_enter (kept_ask ask) ≡ true → (name : ℕ) × (ask ≡ Enter name)
+pub enter-of : (ask : Ask) → is_enter (kept_ask ask) ≡ true → (name : ℕ) × (ask ≡ Enter name)
 enter-of (Enter name) e = (name, refl)
 enter-of (Open session name tx rx extra) e = absurd cc
 enter-of (Send port frames) e = absurd cc

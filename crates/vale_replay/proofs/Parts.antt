@@ -26,7 +26,7 @@ use Rattle.vale_replay.proofs.Sides.{AreForeign, foreign-at, or-second}
 
 -- A user that has gone as far as it can has no task, or one that needs a call.
 
-call-same : (user : Machine) (tasks : List Task) (task : Task)
+pub call-same : (user : Machine) (tasks : List Task) (task : Task)
     → call_of_task (record user { tasks = tasks }) task ≡ call_of_task user task
 call-same user tasks Arrive = refl
 call-same user tasks (OpenPort name tx rx extra) = refl

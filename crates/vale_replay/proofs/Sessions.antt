@@ -21,7 +21,7 @@ pub record IsSame (user other : Machine) : Type 0 where
   pub session : other.session ≡ user.session
   pub number : other.number ≡ user.number
 
-after-same : (task : Task) (user : Machine) → IsSame user (after_task task user)
+pub after-same : (task : Task) (user : Machine) → IsSame user (after_task task user)
 after-same Arrive user = record { session = refl; number = refl }
 after-same (OpenPort name tx rx extra) user = record { session = refl; number = refl }
 after-same (PutFrame name bytes) user = record { session = refl; number = refl }

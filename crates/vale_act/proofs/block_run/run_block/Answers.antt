@@ -1,5 +1,5 @@
 use Rattle.vale_fabric.specs.Fabrics.{knowing}
-use Rattle.vale_act.specs.Inputs.{records_in}
+use Rattle.vale_player.specs.Inputs.{records_in}
 use Rattle.vale_act.proofs.BlockParts.{block-held, ran-on}
 use Rattle.vale_act.proofs.BlockRuns.{block-begins, block-length, block-plays, block-seated, block-stopped, if-ok, if-err}
 use Rattle.vale_act.proofs.DepartingScript.{block-leaving}

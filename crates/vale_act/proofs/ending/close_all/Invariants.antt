@@ -1,5 +1,5 @@
 use Rattle.vale_fabric.specs.Fabrics.{IsPassIn, fixed_in, knowing}
-use Rattle.vale_act.specs.Kept.{KeepsWhole}
+use Rattle.vale_player.specs.Kept.{KeepsWhole}
 use Rattle.vale_act.specs.Leaving.{CanStillLeave}
 use Rattle.vale_act.proofs.Closings.{Closing}
 use Rattle.vale_act.proofs.ending.close_all.Given as goal

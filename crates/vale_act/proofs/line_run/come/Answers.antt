@@ -2,7 +2,7 @@ use Rattle.std.proofs.Common.{Result, IfOk, IfErr, subst}
 use Rattle.vale_entry.specs.declared.entry.Ask.TheVariants.{Enter}
 use Rattle.vale_fabric.specs.Fabrics.{fixed_in, knowing}
 use Rattle.nm_user.specs.Calls.{IsRefused}
-use Rattle.vale_act.specs.Players.{HasEntered}
+use Rattle.vale_player.specs.Players.{HasEntered}
 use Rattle.vale_act.proofs.Alone.{comes-there, comes-not}
 use Rattle.vale_act.proofs.line_run.come.Goals as goal
 

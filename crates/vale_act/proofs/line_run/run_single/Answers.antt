@@ -1,7 +1,7 @@
 use Rattle.std.proofs.Common.{◌≡◌, ◌-◌, ◌<◌, length, slice_get, Some, refl, sym, subst, arith}
 use Rattle.std.proofs.lemmas.Option.{slice_get_read}
 use Rattle.vale_fabric.specs.Fabrics.{fixed_in, knowing}
-use Rattle.vale_act.specs.Inputs.{records_in}
+use Rattle.vale_player.specs.Inputs.{records_in}
 use Rattle.vale_act.specs.Seats.{LineAt, line_tasks}
 use Rattle.vale_act.specs.declared.seat.Seat.{Seat}
 use Rattle.vale_act.proofs.Closings.{single-at}

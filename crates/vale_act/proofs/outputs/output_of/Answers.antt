@@ -4,7 +4,7 @@ use Rattle.pcap_io.specs.declared.record.Record.{Record}
 use Rattle.vale_entry.specs.declared.entry.Entry.{Entry}
 use Rattle.vale_replay.specs.Machine.{Save}
 use Rattle.vale_replay.specs.Saved.{saved_file}
-use Rattle.vale_act.specs.Kept.{KeptFrames, AreWhole}
+use Rattle.vale_player.specs.Kept.{KeptFrames, AreWhole}
 use Rattle.vale_act.specs.Outputs.{output_of}
 use Rattle.vale_act.proofs.ActOutputs.{file-on}
 use Rattle.vale_act.proofs.outputs.output_of.Goals as goal

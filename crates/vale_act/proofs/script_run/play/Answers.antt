@@ -1,8 +1,8 @@
 use Rattle.std.proofs.Common.{◌≡◌, ◌∙◌, List, IfOk, sym, ap, subst}
 use Rattle.std.specs.Prelude.{flat_map}
 use Rattle.vale_fabric.specs.Fabrics.{fixed_in, knowing}
-use Rattle.vale_act.specs.Inputs.{captures_of}
-use Rattle.vale_act.specs.Kept.{KeptFrames, AreWhole}
+use Rattle.vale_player.specs.Inputs.{captures_of}
+use Rattle.vale_player.specs.Kept.{KeptFrames, AreWhole}
 use Rattle.vale_act.specs.Seats.{ScriptDone, files_in}
 use Rattle.vale_act.proofs.KeptPlays.{plays-script}
 use Rattle.vale_act.proofs.script_run.play.Goals as goal

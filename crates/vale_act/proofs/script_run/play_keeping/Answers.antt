@@ -2,7 +2,7 @@ use Rattle.std.proofs.Common.{◌≡◌, List, IfOk, length, sym, ap, ◌∙◌,
 use Rattle.std.proofs.lemmas.List.{with_items_is}
 use Rattle.vale_fabric.specs.Fabrics.{knowing}
 use Rattle.vale_replay.specs.Replay.{user_count}
-use Rattle.vale_act.specs.Inputs.{captures_of}
+use Rattle.vale_player.specs.Inputs.{captures_of}
 use Rattle.vale_act.specs.Seats.{AllAre, AreNew, AreSaves, IsEmpty}
 use Rattle.vale_act.specs.declared.seat.Seat.{Seat}
 use Rattle.vale_act.proofs.Begins.{begins-between}

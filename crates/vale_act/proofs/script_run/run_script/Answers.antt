@@ -1,6 +1,6 @@
 use Rattle.std.proofs.Common.{length}
 use Rattle.vale_fabric.specs.Fabrics.{fixed_in, knowing}
-use Rattle.vale_act.specs.Inputs.{captures_of}
+use Rattle.vale_player.specs.Inputs.{captures_of}
 use Rattle.vale_act.proofs.BlockRuns.{if-ok, if-err}
 use Rattle.vale_act.proofs.Ends.{either-held, either-seated, end-mine, end-whole, ends-played, ends-stopped}
 use Rattle.vale_act.proofs.DepartingScript.{ends-empty}

@@ -4,7 +4,7 @@ use Rattle.nm_types.specs.declared.fault.StepFault.{StepFault}
 use Rattle.vale_fabric.specs.Fabrics.{fixed_in, knowing}
 use Rattle.vale_script.specs.declared.script.Unit.{Unit as Part}
 use Rattle.vale_replay.specs.Replay.{shares_of}
-use Rattle.vale_act.specs.Inputs.{records_in}
+use Rattle.vale_player.specs.Inputs.{records_in}
 use Rattle.vale_act.specs.Seats.{UnitAt}
 use Rattle.vale_act.proofs.Between.{between-next, between-runs, between-stops}
 use Rattle.vale_act.proofs.script_run.run_units.Goals as goal

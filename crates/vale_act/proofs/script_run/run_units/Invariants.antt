@@ -1,5 +1,5 @@
 use Rattle.vale_fabric.specs.Fabrics.{IsPassIn, knowing}
-use Rattle.vale_act.specs.Inputs.{captures_of}
+use Rattle.vale_player.specs.Inputs.{captures_of}
 use Rattle.vale_act.specs.Leaving.{CanStillLeave}
 use Rattle.vale_act.specs.Seats.{AllOn, AreBetween}
 use Rattle.vale_act.proofs.script_run.run_units.Given as goal

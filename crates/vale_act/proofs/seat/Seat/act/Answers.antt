@@ -1,4 +1,4 @@
-use Rattle.vale_act.specs.Inputs.{records_in}
+use Rattle.vale_player.specs.Inputs.{records_in}
 use Rattle.vale_act.proofs.Alone.{has-acted}
 use Rattle.vale_act.proofs.seat.Seat.act.Goals as goal
 

@@ -1,7 +1,7 @@
 use Rattle.std.proofs.Common.{sym, subst}
 use Rattle.vale_script.specs.declared.script.Act.{Act}
 use Rattle.vale_fabric.specs.Fabrics.{fixed_in, knowing}
-use Rattle.vale_act.specs.Inputs.{records_in}
+use Rattle.vale_player.specs.Inputs.{records_in}
 use Rattle.vale_act.specs.Seats.{LineAt, line_tasks}
 use Rattle.vale_act.proofs.Alone.{line-acts}
 use Rattle.vale_act.proofs.DepartingScript.{line-leaving}

@@ -1,5 +1,5 @@
-use Rattle.vale_act.specs.Inputs.{records_in}
-use Rattle.vale_act.proofs.LinesRun.{has-run}
+use Rattle.vale_player.specs.Inputs.{records_in}
+use Rattle.vale_act.proofs.SeatRuns.{has-run}
 use Rattle.vale_act.proofs.seat.Seat.run_lines.Goals as goal
 
 pub returns-in-There-self : goal.returns-in-There-self

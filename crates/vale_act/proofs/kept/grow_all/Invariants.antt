@@ -1,6 +1,0 @@
-use Rattle.std.proofs.Common.{◌≡◌, ◌++◌, map, take, drop}
-use Rattle.vale_act.specs.Kept.{grown_if}
-use Rattle.vale_act.proofs.kept.grow_all.Given as goal
-
-abbrev pub invariant-loop-one : goal.invariant-loop-one
-invariant-loop-one l = l.kept ≡ map (grown_if l.session.own l.port.0 l.received) (take l.one-index l.fn.kept) ++ drop l.one-index l.fn.kept

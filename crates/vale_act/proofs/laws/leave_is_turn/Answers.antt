@@ -1,5 +1,0 @@
-use Rattle.vale_act.proofs.laws.leave_is_turn.Goals as goal
-use Rattle.vale_act.proofs.Leaving.{leave-turn}
-
-pub returns : goal.returns
-returns c = leave-turn

@@ -1,5 +1,0 @@
-use Rattle.vale_act.proofs.lines.detaches_are_done.Goals as goal
-use Rattle.vale_act.proofs.LineLaws.{detaches-done}
-
-pub returns : goal.returns
-returns c = detaches-done

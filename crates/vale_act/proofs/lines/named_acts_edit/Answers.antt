@@ -1,5 +1,0 @@
-use Rattle.vale_act.proofs.lines.named_acts_edit.Goals as goal
-use Rattle.vale_act.proofs.NamedActs.{named-acts}
-
-pub returns : goal.returns
-returns c = named-acts

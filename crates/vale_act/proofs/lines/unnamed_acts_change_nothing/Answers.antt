@@ -1,5 +1,0 @@
-use Rattle.vale_act.proofs.lines.unnamed_acts_change_nothing.Goals as goal
-use Rattle.vale_act.proofs.NamedActs.{unnamed-acts}
-
-pub returns : goal.returns
-returns c = unnamed-acts

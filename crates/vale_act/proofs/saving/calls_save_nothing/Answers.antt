@@ -1,5 +1,0 @@
-use Rattle.vale_act.proofs.SavingFrames.{calls-save-nothing}
-use Rattle.vale_act.proofs.saving.calls_save_nothing.Goals as goal
-
-pub returns : goal.returns
-returns c = calls-save-nothing

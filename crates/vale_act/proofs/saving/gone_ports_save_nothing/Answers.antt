@@ -1,5 +1,0 @@
-use Rattle.vale_act.proofs.SavingLeaving.{gone-save-nothing}
-use Rattle.vale_act.proofs.saving.gone_ports_save_nothing.Goals as goal
-
-pub returns : goal.returns
-returns c = gone-save-nothing

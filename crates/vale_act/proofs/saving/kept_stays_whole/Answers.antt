@@ -1,5 +1,0 @@
-use Rattle.vale_act.proofs.KeptPorts.{whole-stays}
-use Rattle.vale_act.proofs.saving.kept_stays_whole.Goals as goal
-
-pub returns : goal.returns
-returns c = whole-stays

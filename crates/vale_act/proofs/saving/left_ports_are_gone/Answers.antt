@@ -1,5 +1,0 @@
-use Rattle.vale_act.proofs.SavingLeaving.{left-ports-are-gone}
-use Rattle.vale_act.proofs.saving.left_ports_are_gone.Goals as goal
-
-pub returns : goal.returns
-returns c = left-ports-are-gone

@@ -1,5 +1,0 @@
-use Rattle.vale_act.proofs.SavingSyncs.{other-receives-save-nothing}
-use Rattle.vale_act.proofs.saving.other_receives_save_nothing.Goals as goal
-
-pub returns : goal.returns
-returns c = other-receives-save-nothing

@@ -1,5 +1,0 @@
-use Rattle.vale_act.proofs.SavingFrames.{refused-save-nothing}
-use Rattle.vale_act.proofs.saving.refused_calls_save_nothing.Goals as goal
-
-pub returns : goal.returns
-returns c = refused-save-nothing

@@ -1,5 +1,0 @@
-use Rattle.vale_act.proofs.SavingFrames.{saved-grow}
-use Rattle.vale_act.proofs.saving.saved_frames_grow.Goals as goal
-
-pub returns : goal.returns
-returns c = saved-grow

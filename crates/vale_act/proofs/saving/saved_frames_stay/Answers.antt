@@ -1,5 +1,0 @@
-use Rattle.vale_act.proofs.SavingFrames.{saved-stay}
-use Rattle.vale_act.proofs.saving.saved_frames_stay.Goals as goal
-
-pub returns : goal.returns
-returns c = saved-stay

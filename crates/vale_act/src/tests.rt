@@ -1,0 +1,111 @@
+//! Scripts that are played to their end, or until the record is full.
+ghost use Rattle.std.specs.Prelude.{◌<◌, ◌^◌};
+ghost use Rattle.vale_script.specs.Sound.{IsSound};
+
+use super::*;
+use nm_io::{MemoryShelf, NoGate};
+use nm_types::{Limits, Part, StepFault};
+use std::process::Abort;
+use std::sync::Wait;
+use std::test::Fail;
+use std::thread::Threads;
+use vale_captures::{Inputs, write_outputs};
+use vale_fabric::Fabric;
+use vale_script::{Script, parse};
+
+/// Two users send side by side, and a third one's frames are saved.
+const BLOCK: &[u8] =
+    b"pool 64\nuser a\nuser b\nuser c\nopen a vale0:a 4 4\nopen b vale0:b 4 4\nopen c vale0:c 4 8\nsave c vale0:c got.pcap\npar\nput a vale0:a 3 ff:ff:ff:ff:ff:ff 02:00:00:00:00:0a 14 00\ntx a vale0:a\nput b vale0:b 2 ff:ff:ff:ff:ff:ff 02:00:00:00:00:0b 14 00\ntx b vale0:b\nend\nrx c vale0:c\n";
+
+/// What the first user of the block puts.
+const FROM_A: &[u8] = b"\xff\xff\xff\xff\xff\xff\x02\x00\x00\x00\x00\n\x88\xb5";
+
+/// What the second one puts.
+const FROM_B: &[u8] = b"\xff\xff\xff\xff\xff\xff\x02\x00\x00\x00\x00\x0b\x88\xb5";
+
+/// The record of a frame of 14 bytes begins so: it came by the seventeenth entry.
+const RECORD: &[u8] = b"\x11\x00\x00\x00";
+
+/// A user comes, and another one.
+const TWO: &[u8] = b"user a\nuser b\n";
+
+const WIDE: Limits = Limits {
+    entries: 100,
+    bytes: 1_000,
+};
+
+/// Room for one user that comes and leaves, and for no other.
+const NARROW: Limits = Limits {
+    entries: 3,
+    bytes: 0,
+};
+
+/// One entry is stored and one promised when the second user comes, which wants two.
+const FULL: StepFault = StepFault::RecordFull {
+    what: Part::Entries,
+    used: 2,
+    want: 2,
+};
+
+/// The script that these bytes are, which plays no captures.
+fn script<R: AllocGlobal + Abort>(rt: &R, bytes: &[u8]) -> Script
+    ensures { IsSound result }
+{
+    assert!(rt; bytes.len() < 1_000_000);
+    match parse(rt.alloc(), bytes) {
+        Ok(script) => script,
+        Err(fault) => panic!(rt; "{fault:?}"),
+    }
+}
+
+/// Plays a script. Answers how many entries that made, and what was saved.
+fn played<R: AllocGlobal + Abort + Threads + Wait + Sync>(
+    rt: &R,
+    bytes: &[u8],
+    limits: Limits,
+    shelf: &mut MemoryShelf,
+) -> Result<(u32, Result<(), StepFault>), Fail>
+    requires { limits.entries < 2 ^ 32 }
+{
+    let script = script(rt, bytes);
+    assert!(rt; script.files().is_empty());
+    let alloc = rt.alloc();
+    let inputs = Inputs::from(Vec::new(alloc));
+    let (fabric, pass) = Fabric::new(alloc, script.pool(), limits)?;
+    let (pass, played) = play(alloc, rt, &fabric, pass, &script, &inputs, &NoGate);
+    let book = fabric.close(rt, pass);
+    assert!(rt; book.free() == book.buffers());
+    let entries = book.close().len();
+    match played {
+        Ok(outputs) => {
+            write_outputs(alloc, shelf, &outputs)?;
+            Ok((entries, Ok(())))
+        }
+        Err(fault) => Ok((entries, Err(fault))),
+    }
+}
+
+#[test]
+fn a_block_is_played(rt: HostRuntime) -> Result<(), Fail> {
+    let mut shelf = MemoryShelf::new(rt.alloc(), Vec::new(rt.alloc()));
+    assert_eq!(rt; played(&rt, BLOCK, WIDE, &mut shelf)?, (26, Ok(())));
+    let saved = shelf.file("got.pcap").ok_or("saved")?;
+    assert_eq!(rt; saved.len(), 174);
+    for (part, count) in [(FROM_A, 3), (FROM_B, 2), (RECORD, 5)] {
+        assert_eq!(rt;
+            saved
+                .windows(part.len())
+                .filter(|bytes| *bytes == part)
+                .count(),
+            count
+        );
+    }
+    Ok(())
+}
+
+#[test]
+fn a_full_record_stops_a_script(rt: HostRuntime) -> Result<(), Fail> {
+    let mut shelf = MemoryShelf::new(rt.alloc(), Vec::new(rt.alloc()));
+    assert_eq!(rt; played(&rt, TWO, NARROW, &mut shelf)?, (2, Err(FULL)));
+    Ok(())
+}

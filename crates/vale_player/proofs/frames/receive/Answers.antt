@@ -1,0 +1,31 @@
+use Rattle.std.proofs.Common.{Result, IfErr, sym, subst}
+use Rattle.std.specs.Prelude.{OnOk}
+use Rattle.nm_types.specs.declared.fault.StepFault.{StepFault}
+use Rattle.vale_player.specs.declared.frames.SyncEnd.TheVariants as ends
+use Rattle.vale_player.specs.Syncing.{sync_end_of, RxMadeNone}
+use Rattle.vale_player.specs.Kept.{CameRx}
+use Rattle.vale_player.proofs.Syncing.{got-ends, rx-ends, rx-none}
+use Rattle.vale_player.proofs.KeptPorts.{came-on, none-on}
+use Rattle.vale_player.proofs.frames.receive.Goals as goal
+
+pub returns-in-Ok-clause-came : goal.returns-in-Ok-clause-came
+returns-in-Ok-clause-came g c = record { end = ends.Passed; ends = got-ends c.args.session.now c.rx_sync-result.new.self c.args.port.0 c.in-Ok.received c.in-Ok.ensures.received }
+
+pub returns-in-Err-clause-saves : goal.returns-in-Err-clause-saves
+returns-in-Err-clause-saves g c = record { fault = c.in-Err.fault; not = c.in-Err.ensures.refused }
+
+pub returns-in-Err-clause-came : goal.returns-in-Err-clause-came
+returns-in-Err-clause-came g c =
+    let s = c.args.session.now in
+    let t = c.rx_sync-result.new.self in
+    let id = c.args.port.0 in
+    let end = sync_end_of c.in-Err.fault in
+    subst (λ (r : Result (Unit {0}) StepFault). OnOk r (CameRx s t id)) (sym c.stop_of.ensures) (came-on s t id end (rx-ends s t id c.in-Err.fault c.in-Err.ensures.refused))
+
+pub returns-in-Err-clause-none : goal.returns-in-Err-clause-none
+returns-in-Err-clause-none g c =
+    let s = c.args.session.now in
+    let t = c.rx_sync-result.new.self in
+    let id = c.args.port.0 in
+    let end = sync_end_of c.in-Err.fault in
+    subst (λ (r : Result (Unit {0}) StepFault). IfErr r (RxMadeNone s t id)) (sym c.stop_of.ensures) (none-on s t id end (rx-none s t id c.in-Err.fault c.in-Err.ensures.refused))

@@ -1,0 +1,14 @@
+use Rattle.std.proofs.Common.{◌++◌, ◌∙◌, ap}
+use Rattle.vale_player.specs.Kept.{record_at, new_records}
+use Rattle.vale_player.proofs.KeptPorts.{one-record-more}
+use Rattle.vale_player.proofs.kept.add_frames.Goals as goal
+
+pub loop-place-preserved : goal.loop-place-preserved
+loop-place-preserved c =
+    let own = c.args.session.now.own in
+    let id = c.args.port.0 in
+    let received = c.args.received in
+    let place = c.loop-place.place in
+    one-record-more own id received.entry received.gave place c.loop-place.records.items c.push.new.self.items c.in_ok-record_of_frame.field-0
+    (c.args.records.now.items ++ new_records own id received) c.loop-place-test.true
+    (c.in_ok-record_of_frame.ensures ∙ ap (record_at received.entry place) c.bytes_before_tail-frame.ensures) c.in_ok-push.ensures.items c.loop-place.invariant

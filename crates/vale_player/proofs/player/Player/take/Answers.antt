@@ -1,0 +1,59 @@
+use Rattle.std.proofs.Common.{◌≡◌, ◌∷◌, [], None, option_map, IfErr, refl, sym, subst, ◌∙◌}
+use Rattle.std.specs.Prelude.{OnOk}
+use Rattle.nm_types.specs.OwnPorts.{port_with_name}
+use Rattle.vale_replay.specs.Tasks.{TakeFrames}
+use Rattle.vale_player.specs.Players.{PlayerState, Does, StopsAt, IsStill}
+use Rattle.vale_player.proofs.Changes.{id-of}
+use Rattle.vale_player.proofs.Doing.{still-self}
+use Rattle.vale_player.proofs.PortCalls.{found-port, is-some, passes-on}
+use Rattle.vale_player.proofs.Leading.{port-at}
+use Rattle.vale_player.proofs.KeptPorts.{takes-on, stops-on, still-on}
+use Rattle.vale_player.proofs.player.Player.take.Goals as goal
+
+pub returns-in_default-clause-does : goal.returns-in_default-clause-does
+returns-in_default-clause-does g c =
+    let none : option_map id-of (port_with_name c.self.inside.session.own c.args.name.now) ≡ None = sym c.port_named.ensures ∙ c.in_default.is in
+    let gone = subst (λ (x : PlayerState). option_map id-of (port_with_name x.session.own c.args.name.now) ≡ None) c.self.view_is none in
+    passes-on c.args.self.now c.args.name.now (TakeFrames c.args.name.now) refl gone
+
+pub returns-in_default-clause-still : goal.returns-in_default-clause-still
+returns-in_default-clause-still g c = still-self c.args.self.now
+
+pub receive-ended-requires-clause-port : goal.receive-ended-requires-clause-port
+receive-ended-requires-clause-port g c _ _ =
+    let own = c.self.inside.session.own in
+    is-some own c.args.name.now c.in-Some.port (found-port own c.args.name.now c.in-Some.port c.self.invariant.there.side.sound (sym c.port_named.ensures ∙ c.in-Some.is))
+
+pub invariant_of-self : goal.invariant_of-self
+invariant_of-self g c =
+    record { there = c.receive-ended.ensures.there; all = c.keep_received.ensures c.self.inside.session c.self.invariant.there c.receive-ended.ensures.saves c.self.invariant.all }
+
+pub returns-clause-does : goal.returns-clause-does
+returns-clause-does g c =
+    let p : PlayerState = record { number = c.self.inside.number; session = c.self.inside.session; saves = c.self.inside.saves.items } in
+    let q : PlayerState = record p { session = c.receive-ended.new.session } in
+    let name = c.args.name.now in
+    let port = c.in-Some.port in
+    let at = port-at p.session.own name port c.self.invariant.there.side.sound (sym c.port_named.ensures ∙ c.in-Some.is) in
+    let does : OnOk c.receive-ended.result.1 (Does p q (TakeFrames name ∷ [])) = takes-on p q refl name port at c.self.invariant.there c.receive-ended.ensures.there c.receive-ended.result.1 c.receive-ended.ensures.came in
+    subst (λ (x : PlayerState). OnOk c.receive-ended.result.1 (Does x q (TakeFrames name ∷ []))) c.self.view_is does
+
+pub returns-clause-stops : goal.returns-clause-stops
+returns-clause-stops g c =
+    let p : PlayerState = record { number = c.self.inside.number; session = c.self.inside.session; saves = c.self.inside.saves.items } in
+    let q : PlayerState = record p { session = c.receive-ended.new.session } in
+    let name = c.args.name.now in
+    let port = c.in-Some.port in
+    let at = port-at p.session.own name port c.self.invariant.there.side.sound (sym c.port_named.ensures ∙ c.in-Some.is) in
+    let stops : IfErr c.receive-ended.result.1 (StopsAt p q (TakeFrames name)) = stops-on p q refl name port at c.receive-ended.result.1 c.receive-ended.ensures.none in
+    subst (λ (x : PlayerState). IfErr c.receive-ended.result.1 (StopsAt x q (TakeFrames name))) c.self.view_is stops
+
+pub returns-clause-still : goal.returns-clause-still
+returns-clause-still g c =
+    let p : PlayerState = record { number = c.self.inside.number; session = c.self.inside.session; saves = c.self.inside.saves.items } in
+    let q : PlayerState = record p { session = c.receive-ended.new.session } in
+    let name = c.args.name.now in
+    let port = c.in-Some.port in
+    let at = port-at p.session.own name port c.self.invariant.there.side.sound (sym c.port_named.ensures ∙ c.in-Some.is) in
+    let still : IsStill p q = still-on p q refl name port at c.receive-ended.result.1 c.receive-ended.ensures.came c.receive-ended.ensures.none in
+    subst (λ (x : PlayerState). IsStill x q) c.self.view_is still

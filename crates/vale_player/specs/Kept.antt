@@ -1,0 +1,102 @@
+-- The frames that are kept of a session's ports while it plays.
+use Rattle.std.specs.Prelude.{ℕ, ◌≡◌, ◌++◌, ◌==◌, if◌then◌else◌, List, length, map, Option, Some, None, Result, Ok, Err}
+use Rattle.std.specs.List.{AllByRecursion}
+use Rattle.nm_types.specs.declared.fault.StepFault.{StepFault}
+use Rattle.nm_types.specs.declared.fault.SyncFault.{SyncFault}
+use Rattle.nm_types.specs.OwnPorts.{OwnState}
+use Rattle.pcap_io.specs.declared.record.Record.{Record}
+use Rattle.vale_entry.specs.declared.entry.Entry.{Entry}
+use Rattle.vale_entry.specs.Legal.{IsLegal}
+use Rattle.vale_fabric.specs.Fabrics.{Knowing}
+use Rattle.nm_user.specs.declared.receiving.Received.{Received}
+use Rattle.nm_user.specs.Sessions.{SessionState, IsThere}
+use Rattle.nm_user.specs.PortReads.{IsPortOf}
+use Rattle.nm_user.specs.Receives.{IsReceived, ReceivesNot}
+use Rattle.nm_user.specs.Saving.{frames_before_tail}
+use Rattle.vale_replay.specs.Saved.{SavedFrame, saved_frames}
+use Rattle.vale_player.specs.declared.frames.SyncEnd.{SyncEnd}
+use Rattle.vale_player.specs.Syncing.{EndsRx, sync_end_of}
+use Rattle.vale_player.specs.Saving.{saved_bytes, HasGone}
+
+-- all of a saved frame is captured
+abbrev pub record_of : SavedFrame → Record
+record_of frame = record { seconds = frame.seconds; fraction = frame.fraction; original = length frame.bytes; bytes = frame.bytes }
+
+-- a port by its id, with the records that are kept of it
+pub record KeptFrames : Type 0 where
+  pub id : ℕ
+  pub records : List Record
+
+-- The port is the session's, and these are the records of all frames that it has given, by what the
+-- session has seen.
+pub record IsKept (s : SessionState) (k : KeptFrames) : Type 0 where
+  pub port : IsPortOf s.fixed.pool s.knows.seen s.id k.id
+  pub records : k.records ≡ map record_of (saved_frames s.fixed.pool s.knows.seen k.id)
+
+abbrev pub AreKept : SessionState → List KeptFrames → Type 0
+AreKept s kept = AllByRecursion (IsKept s) kept
+
+-- between two calls the session is there, and so is what is kept
+pub record IsKeeping (s : SessionState) (kept : List KeptFrames) : Type 0 where
+  pub there : IsThere None s
+  pub all : AreKept s kept
+
+-- the port of an id is the session's still, and no more is saved of it
+pub record SavesNot (s t : SessionState) (id : ℕ) : Type 0 where
+  pub port : IsPortOf t.fixed.pool t.knows.seen t.id id
+  pub saved : saved_frames t.fixed.pool t.knows.seen id ≡ saved_frames s.fixed.pool s.knows.seen id
+
+-- so it is with all ports of the session
+abbrev pub SaveNothing : SessionState → SessionState → Type 0
+SaveNothing s t = (id : ℕ) → IsPortOf s.fixed.pool s.knows.seen s.id id → SavesNot s t id
+
+-- what came of a receive sync of a port: it went through, or it failed
+pub record ReceivesNothing (s t : SessionState) (id : ℕ) : Type 0 where
+  pub fault : SyncFault
+  pub not : ReceivesNot s t id fault
+
+abbrev pub SavesBy : SessionState → SessionState → ℕ → Option Received → Type 0
+SavesBy s t id None = ReceivesNothing s t id
+SavesBy s t id (Some received) = IsReceived s t id received
+
+-- it made an entry
+pub record CameRx (s t : SessionState) (id : ℕ) : Type 0 where
+  pub end : SyncEnd
+  pub ends : EndsRx s t id end
+
+-- a full record and want of memory stop the user
+abbrev pub stop_of_end : Result SyncEnd StepFault → Result (Unit {0}) StepFault
+stop_of_end (Ok end) = Ok tt
+stop_of_end (Err fault) = Err fault
+
+abbrev pub sync_stop_of : SyncFault → Result (Unit {0}) StepFault
+sync_stop_of fault = stop_of_end (sync_end_of fault)
+
+-- the record of a frame of so many bytes, of the entry of a number and at a place in it
+abbrev pub record_at : ℕ → ℕ → List ℕ → Record
+record_at number place bytes = record_of (record { seconds = number; fraction = place; bytes = bytes })
+
+-- the records of the frames that a receive sync has brought to a port's ring
+abbrev pub new_records : OwnState → ℕ → Received → List Record
+new_records own id received = map record_of (saved_bytes received.entry 0 (frames_before_tail own id received.gave))
+
+-- which go behind those of the port
+abbrev pub grown_if : OwnState → ℕ → Received → KeptFrames → KeptFrames
+grown_if own id received k = if k.id == id then (record k { records = k.records ++ new_records own id received }) else k
+
+-- what is kept of a port that is gone is all that it has given
+pub record IsWhole (pool : ℕ) (history : List Entry) (k : KeptFrames) : Type 0 where
+  pub gone : HasGone pool history k.id
+  pub records : k.records ≡ map record_of (saved_frames pool history k.id)
+
+abbrev pub AreWhole : ℕ → List Entry → List KeptFrames → Type 0
+AreWhole pool history kept = AllByRecursion (IsWhole pool history) kept
+
+-- and so it is in every longer history
+abbrev pub KeptStaysWhole : Type 0
+KeptStaysWhole =
+    (pool : ℕ) (past more : List Entry) (kept : List KeptFrames) → IsLegal pool (past ++ more) → AreWhole pool past kept → AreWhole pool (past ++ more) kept
+
+-- A pass goes on, and what is kept stays all that its ports gave.
+abbrev pub KeepsWhole : ℕ → Knowing → Knowing → List KeptFrames → List KeptFrames → Type 0
+KeepsWhole pool v w befores afters = AreWhole pool v.seen befores → AreWhole pool w.seen afters

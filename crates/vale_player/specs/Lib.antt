@@ -1,0 +1,11 @@
+pub mod Users
+pub mod Laws
+pub mod Lines
+pub mod Acts
+pub mod Players
+pub mod Stopping
+pub mod Inputs
+pub mod Deeds
+pub mod Syncing
+pub mod Saving
+pub mod Kept

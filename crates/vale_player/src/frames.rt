@@ -1,0 +1,388 @@
+//! What a user does with frames, at its ports by their names: it puts them into a transmit ring,
+//! sends them and takes them, with the syncs that this wants. Nothing is done where it has not the
+//! port, or the port not the ring.
+ghost use Rattle.std.specs.Prelude.{ℕ, List, ◌≡◌, ◌≤◌, [], ◌∷◌, length, map, replicate};
+ghost use Rattle.std.specs.Prelude.{None, IsSome, IfSome, OnOk, IfOk, IfErr};
+ghost use Rattle.nm_types.specs.declared.id.Side.TheVariants.{Tx};
+ghost use Rattle.nm_types.specs.OwnPorts.{port_with_id, ring_at};
+ghost use Rattle.nm_user.specs.Sessions.{IsThere};
+ghost use Rattle.nm_user.specs.Syncs.{IsUnsent};
+ghost use Rattle.vale_replay.specs.Tasks.{PutFrame, SendFrames, TakeFrames, frame_of_put, played};
+ghost use Rattle.vale_replay.specs.Machine.{has_room_at};
+ghost use Rattle.vale_player.specs.Players.{Does, DoesOrEnds, DoesLine, Stops, StopsAt, IsStill};
+ghost use Rattle.vale_player.specs.Syncing.{sender_named, sync_end_of, EndsTx, RxMadeNone};
+ghost use Rattle.vale_player.specs.Kept.{SavesBy, CameRx, sync_stop_of};
+ghost use Rattle.vale_player.specs.Syncing.{has_passed, leaves_room, with_put, NeedsNoneOrEnds};
+ghost use Rattle.vale_player.specs.Syncing.{playing, PlaysOn};
+ghost use Rattle.vale_captures.specs.Inputs.{captured};
+
+use crate::kept::keep_received;
+use crate::player::Player;
+use nm_io::Gate;
+use nm_types::{Mac, Name, NoMemory, PortId, Side, StepFault, SyncFault};
+use nm_user::{Received, Session};
+use pcap_io::Record;
+use std::alloc::Global;
+use std::sync::Wait;
+
+/// What came of a sync that made an entry.
+#[derive(Clone, Copy)]
+enum SyncEnd {
+    /// It went through.
+    Passed,
+    /// The other end of the pipe is not open.
+    PeerGone,
+    /// A check refused it.
+    Refused,
+}
+
+impl SyncEnd {
+    /// Whether it went through.
+    fn has_passed(self) -> bool
+        ensures { result ≡ has_passed self }
+    {
+        match self {
+            SyncEnd::Passed => true,
+            SyncEnd::PeerGone => false,
+            SyncEnd::Refused => false,
+        }
+    }
+
+    /// Whether there is room behind a sync that no check refused.
+    fn leaves_room(self, room: bool) -> bool
+        ensures { result ≡ leaves_room self room }
+    {
+        match self {
+            SyncEnd::Passed => room,
+            SyncEnd::PeerGone => room,
+            SyncEnd::Refused => false,
+        }
+    }
+}
+
+/// What came of a sync that did not go through. A full record and want of memory stop the user.
+fn end_of(fault: SyncFault) -> Result<SyncEnd, StepFault>
+    ensures { result ≡ sync_end_of fault }
+{
+    match fault {
+        SyncFault::PeerGone => Ok(SyncEnd::PeerGone),
+        SyncFault::RecordFull { what, used, want } => {
+            Err(StepFault::RecordFull { what, used, want })
+        }
+        SyncFault::NoMemory => Err(StepFault::NoMemory),
+        _ => Ok(SyncEnd::Refused),
+    }
+}
+
+/// Syncs a transmit ring, with what settles it.
+fn transmit<'f, R: Wait, G: Gate>(
+    session: &mut Session<'f>,
+    rt: &R,
+    port: PortId,
+    gate: &G,
+) -> Result<SyncEnd, StepFault>
+    requires ring { IsSome (ring_at Tx session.old.own port.0) }
+    ensures came { IfOk result (EndsTx session.old session.new port.0) }
+    ensures none { IfErr result (IsUnsent session.old session.new port.0) }
+    ensures there { IsThere None session.new }
+{
+    let result = session.tx_sync(rt, port, gate);
+    session.id();
+    match result {
+        Ok(_) => Ok(SyncEnd::Passed),
+        Err(fault) => end_of(fault),
+    }
+}
+
+/// Why a user stops at a sync that did not go through, if it does.
+fn stop_of(fault: SyncFault) -> Result<(), StepFault>
+    ensures { result ≡ sync_stop_of fault }
+{
+    match end_of(fault) {
+        Ok(_) => Ok(()),
+        Err(fault) => Err(fault),
+    }
+}
+
+/// Syncs a receive ring, with what settles it. Answers what it brought, and why the user stops.
+fn receive<'f, R: Wait, G: Gate>(
+    session: &mut Session<'f>,
+    rt: &R,
+    port: PortId,
+    gate: &G,
+) -> (Option<Received>, Result<(), StepFault>)
+    requires port { IsSome (port_with_id session.old.own port.0) }
+    ensures saves { SavesBy session.old session.new port.0 result.0 }
+    ensures came { OnOk result.1 (CameRx session.old session.new port.0) }
+    ensures none { IfErr result.1 (RxMadeNone session.old session.new port.0) }
+    ensures there { IsThere None session.new }
+{
+    let result = session.rx_sync(rt, port, gate);
+    session.id();
+    match result {
+        Ok(received) => (Some(received), Ok(())),
+        Err(fault) => (None, stop_of(fault)),
+    }
+}
+
+impl<'f> Player<'f> {
+    /// The port of a name, if it has a transmit ring.
+    fn sender(&self, name: &Name) -> Option<PortId>
+        ensures { result ≡ sender_named self.now.session.own name.now }
+    {
+        let Some(port) = self.session.port_named(name) else {
+            return None;
+        };
+        match self.session.ring(port, Side::Tx) {
+            Some(_) => Some(port),
+            None => None,
+        }
+    }
+
+    /// Whether the transmit ring of a port has room for a frame.
+    fn has_room(&self, name: &Name) -> bool
+        ensures { result ≡ has_room_at self.now.session.own name.now }
+    {
+        match self.session.port_named(name) {
+            Some(port) => self.session.has_room(port),
+            None => false,
+        }
+    }
+
+    /// Puts a frame where there is room for it.
+    fn write_frame(&mut self, name: &Name, bytes: &[u8])
+        requires { length bytes.now ≤ 2048 }
+        ensures { self.new ≡ with_put name.now bytes.now self.old }
+    {
+        if let Some(port) = self.session.port_named(name) {
+            self.session.put_frame(port, bytes);
+        }
+    }
+
+    /// Syncs a transmit ring that has no room for a frame. The line ends where a check refused the
+    /// sync, and where there is no room behind it.
+    fn make_room<R: Wait, G: Gate>(
+        &mut self,
+        rt: &R,
+        name: &Name,
+        gate: &G,
+    ) -> Result<bool, StepFault>
+        ensures room { IfOk result (λ goes. (bytes : List ℕ)
+            → NeedsNoneOrEnds self.old self.new (PutFrame name.now bytes) goes) }
+        ensures stops { IfErr result (λ fault. (bytes : List ℕ)
+            → StopsAt self.old self.new (PutFrame name.now bytes) fault) }
+        ensures still { IsStill self.old self.new }
+        ensures there { IsThere None self.old.session }
+    {
+        let Some(port) = self.sender(name) else {
+            return Ok(true);
+        };
+        if self.has_room(name) {
+            return Ok(true);
+        }
+        match transmit(&mut self.session, rt, port, gate) {
+            Ok(end) => Ok(end.leaves_room(self.has_room(name))),
+            Err(fault) => Err(fault),
+        }
+    }
+
+    /// Puts a frame. Where the transmit ring has no room for it, it is synced first. Answers whether
+    /// the line goes on: it ends where a check refused the sync, and where there is no room behind
+    /// it.
+    pub(crate) fn put_frame<R: Wait, G: Gate>(
+        &mut self,
+        rt: &R,
+        name: &Name,
+        bytes: &[u8],
+        gate: &G,
+    ) -> Result<bool, StepFault>
+        requires { length bytes.now ≤ 2048 }
+        ensures does { IfOk result
+            (DoesOrEnds self.old self.new (PutFrame name.now bytes.now ∷ [])) }
+        ensures stops { IfErr result (StopsAt self.old self.new (PutFrame name.now bytes.now)) }
+        ensures still { IsStill self.old self.new }
+        ensures there { IsThere None self.old.session }
+    {
+        match self.make_room(rt, name, gate) {
+            Ok(true) => {
+                self.write_frame(name, bytes);
+                Ok(true)
+            }
+            Ok(false) => Ok(false),
+            Err(fault) => Err(fault),
+        }
+    }
+
+    /// Syncs a transmit ring. Answers whether the line goes on: it ends where a check refused the
+    /// sync, and where the other end of a pipe is not open.
+    pub(crate) fn send<R: Wait, G: Gate>(
+        &mut self,
+        rt: &R,
+        name: &Name,
+        gate: &G,
+    ) -> Result<bool, StepFault>
+        ensures does { IfOk result (DoesOrEnds self.old self.new (SendFrames name.now ∷ [])) }
+        ensures stops { IfErr result (StopsAt self.old self.new (SendFrames name.now)) }
+        ensures still { IsStill self.old self.new }
+        ensures there { IsThere None self.old.session }
+    {
+        let Some(port) = self.sender(name) else {
+            return Ok(true);
+        };
+        match transmit(&mut self.session, rt, port, gate) {
+            Ok(end) => Ok(end.has_passed()),
+            Err(fault) => Err(fault),
+        }
+    }
+
+    /// Syncs a receive ring: takes the frames that are ready. That a check refused the sync is an
+    /// entry too, and the user goes on.
+    pub fn take<R: Wait, G: Gate>(&mut self, rt: &R, name: &Name, gate: &G) -> Result<(), StepFault>
+        ensures does { OnOk result (Does self.old self.new (TakeFrames name.now ∷ [])) }
+        ensures stops { IfErr result (StopsAt self.old self.new (TakeFrames name.now)) }
+        ensures still { IsStill self.old self.new }
+    {
+        let Some(port) = self.session.port_named(name) else {
+            return Ok(());
+        };
+        let ended = receive(&mut self.session, rt, port, gate);
+        keep_received(&self.session, port, ended.0, &mut self.kept);
+        ended.1
+    }
+
+    /// A line that syncs a transmit ring.
+    pub fn tx<R: Wait, G: Gate>(&mut self, rt: &R, name: &Name, gate: &G) -> Result<(), StepFault>
+        ensures does { OnOk result (DoesLine self.old self.new (SendFrames name.now ∷ [])) }
+        ensures stops { IfErr result (Stops self.old self.new (SendFrames name.now ∷ [])) }
+        ensures still { IsStill self.old self.new }
+    {
+        match self.send(rt, name, gate) {
+            Ok(_) => Ok(()),
+            Err(fault) => Err(fault),
+        }
+    }
+
+    /// A line that puts a frame so many times.
+    pub fn put<R: Wait, G: Gate>(
+        &mut self,
+        rt: &R,
+        name: &Name,
+        count: u32,
+        frame: &[u8],
+        gate: &G,
+    ) -> Result<(), StepFault>
+        requires { length frame.now ≤ 2048 }
+        ensures does { OnOk result
+            (DoesLine self.old self.new (replicate count (PutFrame name.now frame.now))) }
+        ensures stops { IfErr result
+            (Stops self.old self.new (replicate count (PutFrame name.now frame.now))) }
+        ensures still { IsStill self.old self.new }
+    {
+        let mut left = count;
+        while left > 0 {
+            match self.put_frame(rt, name, frame, gate) {
+                Ok(true) => left -= 1,
+                Ok(false) => return Ok(()),
+                Err(fault) => return Err(fault),
+            }
+        }
+        Ok(())
+    }
+
+    /// Puts a record, and syncs behind it if it is the last one before a sync. One that is longer
+    /// than a buffer is passed over. Answers how many come then before the next sync; none where
+    /// the line has ended.
+    fn play_one<R: Wait, G: Gate>(
+        &mut self,
+        rt: &R,
+        name: &Name,
+        bytes: &[u8],
+        batch: u32,
+        left: u32,
+        gate: &G,
+    ) -> Result<Option<u32>, StepFault>
+        requires batch { 1 ≤ batch }
+        requires left { 1 ≤ left }
+        ensures plays { IfOk result (λ next. (frames : List (List ℕ))
+            → PlaysOn self.old self.new (playing name.now batch left (bytes.now ∷ frames))
+            name.now batch frames next) }
+        ensures left { IfOk result (λ next. IfSome next (λ n. 1 ≤ n)) }
+        ensures stops { IfErr result (λ fault. (frames : List (List ℕ))
+            → Stops self.old self.new (playing name.now batch left (bytes.now ∷ frames)) fault) }
+        ensures still { IsStill self.old self.new }
+    {
+        if bytes.len() > 2048 {
+            return Ok(Some(left));
+        }
+        match self.put_frame(rt, name, bytes, gate) {
+            Ok(true) => {}
+            Ok(false) => return Ok(None),
+            Err(fault) => return Err(fault),
+        }
+        if left != 1 {
+            return Ok(Some(left - 1));
+        }
+        match self.send(rt, name, gate) {
+            Ok(true) => Ok(Some(batch)),
+            Ok(false) => Ok(None),
+            Err(fault) => Err(fault),
+        }
+    }
+
+    /// A line that plays the records of a capture: puts them one after another, and syncs behind
+    /// each `batch` of them and behind the last one. Records longer than a buffer are passed over.
+    pub fn play<R: Wait, G: Gate>(
+        &mut self,
+        rt: &R,
+        name: &Name,
+        records: &[Record],
+        batch: u32,
+        gate: &G,
+    ) -> Result<(), StepFault>
+        requires { 1 ≤ batch }
+        ensures does { OnOk result
+            (DoesLine self.old self.new (played name.now batch (map captured records.now))) }
+        ensures stops { IfErr result
+            (Stops self.old self.new (played name.now batch (map captured records.now))) }
+        ensures still { IsStill self.old self.new }
+    {
+        let mut left = batch;
+        for record in records {
+            match self.play_one(rt, name, record.bytes.as_slice(), batch, left, gate) {
+                Ok(Some(next)) => left = next,
+                Ok(None) => return Ok(()),
+                Err(fault) => return Err(fault),
+            }
+        }
+        if left == batch {
+            return Ok(());
+        }
+        match self.send(rt, name, gate) {
+            Ok(_) => Ok(()),
+            Err(fault) => Err(fault),
+        }
+    }
+}
+
+/// The frame that a line asks for: the first `len` bytes of destination, source, 88 b5 and the fill
+/// byte repeated.
+pub(crate) fn frame_of_put(
+    alloc: Global,
+    to: Mac,
+    from: Mac,
+    len: u16,
+    fill: u8,
+) -> Result<Vec<u8>, NoMemory>
+    requires { len ≤ 2048 }
+    ensures { IfOk result (λ bytes. bytes.items ≡ frame_of_put to from len fill) }
+{
+    let len = len as usize;
+    let mut bytes = Vec::with_capacity(alloc, len + 14)?;
+    bytes.extend_from_slice(&to.0)?;
+    bytes.extend_from_slice(&from.0)?;
+    bytes.push(0x88)?;
+    bytes.push(0xb5)?;
+    bytes.resize(len + 14, fill)?;
+    bytes.truncate(len);
+    Ok(bytes)
+}
