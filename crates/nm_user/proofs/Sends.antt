@@ -53,7 +53,7 @@ use Rattle.vale_fabric.proofs.Settlements.{settling-none}
 use Rattle.nm_user.specs.Sessions.{SessionState, IsThere, standing_seen}
 use Rattle.nm_user.specs.declared.sending.Sent.{Sent}
 use Rattle.nm_user.specs.Calls.{MadeNone}
-use Rattle.nm_user.specs.Syncs.{HasTx, Synced, IsSent, IsUnsent}
+use Rattle.nm_user.specs.Syncs.{HasTx, Synced, IsSent, IsUnsent, shares_in}
 use Rattle.nm_user.proofs.After.{here-after, own-next, there-settled, last, whose}
 use Rattle.nm_user.proofs.Plain.{has-side, asked, may}
 use Rattle.nm_user.proofs.Settled.{here-settled}
@@ -247,7 +247,7 @@ IsMadeBy s w ask reply new = (a : Answers s.fixed s.knows w ask reply) × (a.mak
 
 pub sent-tells : {s : SessionState} {w x : Knowing} {port : PortId} {frames : List Frame} {shares : Shares} (o : OffersState) (sent : Sent) → IsThere None s → Sends s.own port frames
     → Answers s.fixed s.knows w (Send port frames) (Offered o.short o.lone (dests_wanted o.wants)) → IsOffered (seen_in s.fixed w) frames o → Ends s w x shares
-    → sent.entry ≡ o.entry → sent.pushed ≡ length frames → sent.short ≡ o.short → sent.lone ≡ o.lone → sent.shares ≡ shares
+    → sent.entry ≡ o.entry → sent.pushed ≡ length frames → sent.short ≡ o.short → sent.lone ≡ o.lone → shares_in sent ≡ shares
     → IsSent s (record s { knows = x; own = own_after_send port.0 s.own }) port.0 sent
 unfolding synced
 sent-tells {s} {w} {x} {port} {frames} {shares} o sent t c a offered ends entry pushed short lone shares-are =
@@ -318,7 +318,7 @@ there-at seen {own} {new} {w} {x} {port} {frames} {shares} o k made a ends =
 pub sent-at : {seen now : SessionState} {own new : OwnState} {w x : Knowing} {port : PortId} {frames : List Frame} {shares : Shares} (o : OffersState) (sent : Sent) → seen ≡ now → seen.own ≡ own
     → Ready (record seen { own = own }) port frames → new ≡ own_after_send port.0 own
     → Answers seen.fixed seen.knows w (Send port frames) (Offered o.short o.lone (dests_wanted o.wants)) → IsOffered (seen_in seen.fixed w) frames o → Ends (record seen { own = own }) w x shares
-    → sent.entry ≡ o.entry → sent.pushed ≡ length frames → sent.short ≡ o.short → sent.lone ≡ o.lone → sent.shares ≡ shares
+    → sent.entry ≡ o.entry → sent.pushed ≡ length frames → sent.short ≡ o.short → sent.lone ≡ o.lone → shares_in sent ≡ shares
     → IsSent now (record seen { knows = x; own = new }) port.0 sent
 sent-at {seen} {now} {own} {new} {w} {x} {port} {frames} {shares} o sent e f k made a offered ends entry pushed short lone shares-are =
     subst (λ (s : SessionState). IsSent s (record seen { knows = x; own = new }) port.0 sent) (sym (as-own e f))

@@ -33,7 +33,7 @@ use Rattle.nm_user.specs.declared.sending.Sent.{Sent}
 use Rattle.nm_user.specs.Sessions.{SessionState, IsThere}
 use Rattle.nm_user.specs.Calls.{Made, MadeNone}
 use Rattle.nm_user.specs.Offering.{side_after_fault, sync_fault_of_put}
-use Rattle.nm_user.specs.Syncs.{IsPut, SyncsNot, TransmitsNot}
+use Rattle.nm_user.specs.Syncs.{IsPut, SyncsNot, TransmitsNot, shares_in}
 use Rattle.nm_user.proofs.After.{there-still, whose}
 use Rattle.nm_user.proofs.Plain.{may}
 use Rattle.nm_user.proofs.Sends.{Ends, IsMadeBy, as-own, synced}
@@ -101,7 +101,7 @@ module _ {s : SessionState} {port : PortId} {gots : List Got} (k : CanPut s port
 
 pub put-told : {s : SessionState} {w x : Knowing} {port : PortId} {shares : Shares} (gots : List Got) (put : GivenPut) (sent : Sent) → (k : CanPut s port gots)
     → Answers s.fixed s.knows w (Put port (items_of gots)) (Took (items_of (take put.took gots)) (dests_wanted put.offers.wants)) → IsPutOfBook (before_in s.fixed w) (seen_in s.fixed w) port gots put → Ends s w x shares
-    → sent.entry ≡ put.offers.entry → sent.pushed ≡ put.took → sent.short ≡ 0 → sent.lone ≡ 0 → sent.shares ≡ shares
+    → sent.entry ≡ put.offers.entry → sent.pushed ≡ put.took → sent.short ≡ 0 → sent.lone ≡ 0 → shares_in sent ≡ shares
     → IsPut s (record s { knows = x; own = own_after_put port.0 (map blank_arrival (indices_of put.back.items)) s.own }) port.0 sent
 unfolding synced
 put-told {s} {w} {x} {port} {shares} gots put sent k a is ends entry pushed short lone shares-are =
@@ -136,7 +136,7 @@ not-at {seen} {now} {new} {w} {port} side fault said e f k not made is =
 
 pub put-at : {seen now : SessionState} {own new : OwnState} {w x : Knowing} {port : PortId} {shares : Shares} (gots : List Got) (put : GivenPut) (sent : Sent) → seen ≡ now → seen.own ≡ own → CanPut (record seen { own = own }) port gots
     → Answers seen.fixed seen.knows w (Put port (items_of gots)) (Took (items_of (take put.took gots)) (dests_wanted put.offers.wants)) → IsPutOfBook (before_in seen.fixed w) (seen_in seen.fixed w) port gots put → Ends (record seen { own = own }) w x shares
-    → new ≡ own_after_put port.0 (map blank_arrival (indices_of put.back.items)) own → sent.entry ≡ put.offers.entry → sent.pushed ≡ put.took → sent.short ≡ 0 → sent.lone ≡ 0 → sent.shares ≡ shares
+    → new ≡ own_after_put port.0 (map blank_arrival (indices_of put.back.items)) own → sent.entry ≡ put.offers.entry → sent.pushed ≡ put.took → sent.short ≡ 0 → sent.lone ≡ 0 → shares_in sent ≡ shares
     → IsPut now (record seen { knows = x; own = new }) port.0 sent
 put-at {seen} {now} {own} {new} {w} {x} {port} gots put sent e f k a is ends made entry pushed short lone shares-are =
     subst (λ (s : SessionState). IsPut s (record seen { knows = x; own = new }) port.0 sent) (sym (as-own e f))

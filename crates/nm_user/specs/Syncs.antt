@@ -58,11 +58,15 @@ pub record HasTx (own : OwnState) (id : ℕ) : Type 0 where
   pub found : port_with_id own id ≡ Some port
   pub has : port.tx ≡ Some ring
 
+-- what the grants gave of a sync's frames
+abbrev pub shares_in : Sent → Shares
+shares_in sent = record { given = sent.given; full = sent.full; gone = sent.gone }
+
 -- the frames pushed were sent, and what ports wanted of them was granted
 pub record IsSent (s t : SessionState) (id : ℕ) (sent : Sent) : Type 0 where
   pub tx : HasTx s.own id
   pub to : List Dest
-  pub synced : Synced s t (tx_call s.own tx.port tx.ring) (Offered sent.short sent.lone to) sent.shares
+  pub synced : Synced s t (tx_call s.own tx.port tx.ring) (Offered sent.short sent.lone to) (shares_in sent)
   pub entry : sent.entry ≡ synced.number
   pub pushed : sent.pushed ≡ pushed_count tx.ring
 
@@ -76,7 +80,7 @@ pub record IsPut (s t : SessionState) (id : ℕ) (sent : Sent) : Type 0 where
   pub tx : HasTx s.own id
   pub taken : List Item
   pub to : List Dest
-  pub synced : Synced s t (tx_call s.own tx.port tx.ring) (Took taken to) sent.shares
+  pub synced : Synced s t (tx_call s.own tx.port tx.ring) (Took taken to) (shares_in sent)
   pub entry : sent.entry ≡ synced.number
   pub pushed : sent.pushed ≡ length taken
   pub short : sent.short ≡ 0

@@ -30,6 +30,7 @@ use std::alloc::Global;
 use std::marker::Model;
 use std::sync::Wait;
 use vale_book::{Put, PutFault};
+use vale_fabric::Frames;
 use vale_line::Got;
 
 /// Memory for the frames that a put offers, and how many bytes each of them has.
@@ -289,13 +290,15 @@ impl<'f> Session<'f> {
         put_back(&mut self.own, offering.taken(back));
         let shares = self
             .fabric
-            .settle_batch(rt, &mut self.pass, gate, self.user, offers, &copies);
+            .settle(rt, &mut self.pass, gate, self.user, offers, Frames::Batch(&copies));
         Ok(Sent {
             entry,
             pushed: took,
             short: 0,
             lone: 0,
-            shares,
+            given: shares.given,
+            full: shares.full,
+            gone: shares.gone,
         })
     }
 }

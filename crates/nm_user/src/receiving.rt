@@ -28,7 +28,7 @@ use nm_types::{PortId, Side, StepFault, SyncFault};
 use std::alloc::{AllocError, Global};
 use std::sync::Wait;
 use vale_book::Synced;
-use vale_fabric::{Fabric, Pass};
+use vale_fabric::{Fabric, Frames, Pass};
 use vale_line::Got;
 
 /// What a receive sync told.
@@ -233,7 +233,7 @@ impl<'f> Session<'f> {
         };
         let (entry, gave) = (offers.entry(), got.len() as u32);
         self.fabric
-            .settle_gots(rt, &mut self.pass, gate, self.user, offers, &got);
+            .settle(rt, &mut self.pass, gate, self.user, offers, Frames::Gots(&got));
         publish_all(&mut own, port, got);
         put_back(&mut self.own, own);
         Ok(Received {

@@ -16,7 +16,7 @@ use crate::session::Session;
 use nm_io::Gate;
 use nm_types::{PortId, Side, StepFault, SyncFault};
 use std::sync::Wait;
-use vale_fabric::Shares;
+use vale_fabric::Frames;
 
 /// What a sync that sent frames told.
 #[derive(Clone, Copy, Debug, PartialEq, Eq)]
@@ -30,8 +30,12 @@ pub struct Sent {
     pub short: u32,
     /// Those of them, not short, that went to no port.
     pub lone: u32,
-    /// What the ports that wanted them were granted.
-    pub shares: Shares,
+    /// The frames for which the ports that wanted them had room, counted once for each such port.
+    pub given: u32,
+    /// Those for which they had none.
+    pub full: u32,
+    /// Those whose port was not open any more.
+    pub gone: u32,
 }
 
 impl<'f> Session<'f> {
@@ -65,13 +69,15 @@ impl<'f> Session<'f> {
         own.sent(port);
         let shares = self
             .fabric
-            .settle_batch(rt, &mut self.pass, gate, self.user, offers, &batch);
+            .settle(rt, &mut self.pass, gate, self.user, offers, Frames::Batch(&batch));
         Ok(Sent {
             entry,
             pushed,
             short,
             lone,
-            shares,
+            given: shares.given,
+            full: shares.full,
+            gone: shares.gone,
         })
     }
 

@@ -96,12 +96,12 @@ fn open_and_leave<R: Abort + Wait>(rt: &R, alloc: Global, fabric: &Fabric, pass:
 }
 
 /// A frame that was put goes on, and so many ports are granted it.
-fn send<R: Abort + Wait>(rt: &R, session: &mut Session, port: PortId, given: u64)
+fn send<R: Abort + Wait>(rt: &R, session: &mut Session, port: PortId, given: u32)
     ensures { session.new.fabric ≡ session.old.fabric }
 {
     assert!(rt; session.ring(port, Side::Tx).is_some());
     match session.tx_sync(rt, port, &NoGate) {
-        Ok(sent) => assert_eq!(rt; (sent.pushed, sent.shares.given), (1, given)),
+        Ok(sent) => assert_eq!(rt; (sent.pushed, sent.given), (1, given)),
         Err(fault) => panic!(rt; "{fault:?}"),
     }
 }

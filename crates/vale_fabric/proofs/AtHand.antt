@@ -1,6 +1,6 @@
 -- The offers of an entry that was just made are at hand: its session, which was settled before, has no
 -- others, and no lease.
-use Rattle.std.proofs.Common.{ℕ, ◌≤◌, ◌≡◌, Bool, true, false, ◌||◌, List, [], ◌∷◌, ◌++◌, length, Option, Some, None, refl, sym, ◌∙◌, ap, subst, arith, nat_le}
+use Rattle.std.proofs.Common.{ℕ, ◌+◌, ◌<◌, ◌≤◌, ◌≡◌, ◌^◌, Bool, true, false, ◌||◌, List, [], ◌∷◌, ◌++◌, length, sum_by, Option, Some, None, refl, sym, ◌∙◌, ap, subst, arith, nat_le, length-append}
 use Rattle.std.specs.Option.{option_map_or}
 use Rattle.std.proofs.lemmas.Bool.{and_parts}
 use Rattle.nm_types.specs.Frames.{Frame}
@@ -16,7 +16,8 @@ use Rattle.vale_entry.specs.declared.entry.Reply.{Reply}
 use Rattle.vale_entry.specs.declared.entry.Reply.TheVariants.{Took}
 use Rattle.vale_entry.specs.World.{Offer, open_port}
 use Rattle.vale_entry.specs.Pipe.{peer_of}
-use Rattle.vale_entry.specs.Legal.{Standing, standing_of, kept_ask, is_met, IsLegal}
+use Rattle.vale_entry.specs.Legal.{Standing, standing_of, world_of, kept_ask, is_met, IsLegal}
+use Rattle.vale_entry.proofs.Worlds.{count-world_of}
 use Rattle.vale_own.specs.Own.{Own, HeldLot, own_of, is_empty, is_settled_own}
 use Rattle.vale_own.specs.OwnAsks.{may_ask, may_send, may_sync, may_get, may_put, may_receive}
 use Rattle.vale_own.specs.OwnEntries.{own_after_entry, own_sent, own_received, own_put, own_put_at}
@@ -26,16 +27,19 @@ use Rattle.vale_own.proofs.OwnEntry.{own-entries}
 use Rattle.vale_own.proofs.OwnKept.{legal-split}
 use Rattle.vale_own.proofs.Reading.{offers-left}
 use Rattle.vale_parts.specs.Batches.{AreOffersOf}
-use Rattle.vale_parts.specs.Offering.{offers_at}
+use Rattle.vale_parts.specs.Offering.{offers_at, offers_started}
+use Rattle.vale_parts.proofs.OffersKept.{offers_start}
 use Rattle.vale_port.specs.Kept.{bytes_of}
 use Rattle.vale_book.specs.Monitored.{IsOfferedTo}
 use Rattle.vale_book.specs.Putting.{copied}
 use Rattle.vale_book.specs.Offering.{OffersState}
 use Rattle.vale_book.specs.Recorded.{Recorded, standing, after_ask, entry_of}
 use Rattle.vale_fabric.specs.declared.kept.Fixed.{Fixed}
-use Rattle.vale_fabric.specs.Fabrics.{Knowing, MayAsk}
-use Rattle.vale_fabric.specs.Settling.{HasBytes, IsAtHand}
+use Rattle.vale_fabric.specs.Fabrics.{Knowing, MayAsk, fixed_in}
+use Rattle.vale_fabric.specs.declared.fabric.Fabric.{Fabric}
+use Rattle.vale_fabric.specs.Settling.{HasBytes, IsAtHand, frames_wanted}
 use Rattle.vale_fabric.specs.Steps.{IsTaken}
+use Rattle.vale_fabric.proofs.FewWanted.{offered, few-started, wanted-sum}
 use Rattle.vale_fabric.proofs.Making.{Steps, Made, stored, whose-now, may-now}
 use Rattle.vale_fabric.proofs.OffersHeld.{Next, next-of}
 use Rattle.vale_fabric.proofs.Speaking.{speaks-on, offers-by}
@@ -109,10 +113,17 @@ offers-count frames [] (o ∷ os) are = absurd are
 offers-count frames (w ∷ ws) [] are = absurd are
 offers-count frames (w ∷ ws) (o ∷ os) are = let rest = offers-count frames ws os are.1 in omega (arith, rest)
 
-pub hand-on : {fixed : Fixed} {v entered w : Knowing} {b after : Recorded} {ask : Ask} (o : OffersState) (bytes : List (List ℕ)) (may : MayAsk fixed v ask) → IsTaken fixed v entered b → is_enter ask ≡ false
-    → (steps : Steps b ask) → after ≡ after_ask b ask → IsLegal after.pool after.entries → Made fixed v w b after ask → HasBytes (standing after) o bytes → o.entry ≡ length after.entries
+-- a pool has at most 65,536 buffers
+pub low-pool : (fabric : Fabric) → (fixed_in fabric).pool ≤ 65536
+low-pool fabric =
+    let is = fabric.pool in
+    let most = fabric.size.1 in
+    omega (arith, is, most)
+
+pub hand-on : {fixed : Fixed} {v entered w : Knowing} {b after : Recorded} {ask : Ask} (o : OffersState) (bytes : List (List ℕ)) (may : MayAsk fixed v ask) → fixed.pool ≤ 65536 → IsTaken fixed v entered b
+    → is_enter ask ≡ false → (steps : Steps b ask) → after ≡ after_ask b ask → IsLegal after.pool after.entries → Made fixed v w b after ask → HasBytes (standing after) o bytes → o.entry ≡ length after.entries
     → IsOfSettled may.session ask → KeepsLeases (standing b) ask steps.makes.reply → 1 ≤ length o.wants → IsAtHand fixed w o bytes
-hand-on {fixed} {v} {entered} {w} {b} {after} {ask} o bytes may taken other steps grown legal m has last settles keeps some =
+hand-on {fixed} {v} {entered} {w} {b} {after} {ask} o bytes may low taken other steps grown legal m has last settles keeps some =
     let session = may.session in
     let st = has.stand.stand in
     let s = standing b in
@@ -133,11 +144,22 @@ hand-on {fixed} {v} {entered} {w} {b} {after} {ask} o bytes may taken other step
     offers-left after.pool after.entries o.entry n.offer legal n.first ∙ ap (λ (k : ℕ). (own_of k (standing after)).offers) n.by in
     let many : length (own_of o.session (standing after)).offers ≡ length o.wants =
     ap length (sym left) ∙ offers-count st.frames o.wants (offers_at (standing after).world o.entry) st.are in
+    let pool : fixed.pool ≡ b.pool = ap (λ (r : Recorded). r.pool) taken.same in
+    let count = count-world_of b.pool b.entries in
+    let longer = length-append b.entries (e ∷ []) in
+    let grew = ap (λ (r : Recorded). length r.entries) is in
+    let number : o.entry ≡ (world_of b.pool b.entries).entry_count + 1 = omega (arith, last, grew, longer, count) in
+    let first : offers_at (standing after).world o.entry ≡ offers_started (world_of b.pool b.entries) e.ask e.reply =
+    ap (λ (r : Recorded). offers_at (standing r).world o.entry) is
+    ∙ (ap (λ (k : ℕ). offers_at (world_of b.pool (b.entries ++ e ∷ [])) k) number ∙ offers_start b.pool b.entries e follows) in
+    let sum = wanted-sum st.frames o.wants (offers_at (standing after).world o.entry) st.are ∙ ap (λ (os : List Offer). sum_by offered os) first in
+    let most = few-started b.pool b.entries e (omega (arith, pool, low)) taken.legal follows in
     record {
       stands = λ next. subst (λ (r : Recorded). HasBytes (standing r) o bytes) (sym m.now) has;
       speaks = speaks-on o may taken other steps grown legal m st last some;
       leases = subst (λ (r : Recorded). (own_of o.session (standing r)).leases ≡ []) (sym m.now) (subst (λ (k : ℕ). (own_of k (standing after)).leases ≡ []) (sym whose) leases);
       as_many = subst (λ (r : Recorded). length (own_of o.session (standing r)).offers ≡ length o.wants) (sym m.now) many;
+      few = omega (arith, sum, most);
       picked = m.makes.told.picked;
       legal = m.makes.legal;
       whole = λ is. m.makes.whole (subst IsWhole m.makes.told.part is);

@@ -21,6 +21,8 @@ use Rattle.vale_entry.specs.Delivery.{is_lease}
 use Rattle.vale_entry.specs.Holdings.{first_idle}
 use Rattle.vale_entry.specs.Legal.{Standing, Outcome, step, session_and_reply, is_enabled}
 use Rattle.vale_entry.proofs.ListLaws.{place-of}
+use Rattle.vale_batch.specs.Wants.{Wanted}
+use Rattle.vale_parts.specs.Offering.{offers_at}
 use Rattle.vale_own.specs.Own.{Own, HeldLot, own_of, is_empty, lot_of_lease}
 use Rattle.vale_own.specs.Asker.{asks, asker_of, is_asker}
 use Rattle.vale_own.specs.OwnEntries.{own_after_entry, own_granted, lease_of}
@@ -38,8 +40,9 @@ use Rattle.vale_fabric.specs.declared.kept.Fixed.{Fixed}
 use Rattle.vale_fabric.specs.declared.settling.Shares.{Shares}
 use Rattle.vale_fabric.specs.Fabrics.{Knowing, record_in, seen_in, before_in, earlier, entry_by, Makes, Answers}
 use Rattle.vale_fabric.specs.Leases.{StandOf, IsHeldBy, IsHeldFor, MayFillFrom, is_held_as}
-use Rattle.vale_fabric.specs.Settling.{settling_ask, settling_by, both, Settling, HasBytes, IsAtHand, Settles}
+use Rattle.vale_fabric.specs.Settling.{settling_ask, settling_by, both, frames_wanted, shared_in, Settling, HasBytes, IsAtHand, Settles}
 use Rattle.vale_fabric.proofs.Making.{and-second, asker-is}
+use Rattle.vale_fabric.proofs.FewWanted.{all-shared, wanted-first}
 use Rattle.vale_fabric.proofs.FilledNow.{find-mapped}
 use Rattle.vale_fabric.proofs.OffersHeld.{Next, next-of, granted-at, offers-stand}
 use Rattle.vale_fabric.proofs.Settlements.{Before, before-is, own-made, settling-one, settling-then, settling-none}
@@ -78,6 +81,7 @@ pub record Granting (fixed : Fixed) (v w : Knowing) (o : OffersState) (given ful
   pub settling : Settling fixed v w o.session (record { given = given; full = full; gone = gone })
   pub granted : IsGranted (own_of o.session (standing (seen_in fixed w))) given
   pub as_many : length (own_of o.session (standing (seen_in fixed w))).offers ≡ length (drop 1 o.wants)
+  pub all : given + full + gone + frames_wanted (drop 1 o.wants) ≡ frames_wanted o.wants
 
 pub granting : {fixed : Fixed} {v w : Knowing} (o : OffersState) (bytes : List (List ℕ)) (to : PortId) (given full gone : ℕ) → IsAtHand fixed v o bytes → 1 ≤ length o.wants
     → Answers fixed v w (Grant o.entry to) (Shared given full gone) → Granting fixed v w o given full gone
@@ -128,6 +132,10 @@ granting {fixed} {v} {w} o bytes to given full gone hand some answers =
         count = granted-count (open_port s.world.ports n.offer.to) n.offer.frames given full gone reply;
       };
       as_many = omega (arith, before_count, dropped, wanted, after_count);
+      all =
+          let shared = all-shared (open_port s.world.ports n.offer.to) n.offer.frames given full gone reply in
+          let others = wanted-first st.stand.frames o.wants n.offer (offers_at s.world o.entry) first.0 first.1 st.stand.are in
+          omega (arith, shared, others);
     }
 
 -- where nothing was given there is no lease
@@ -226,17 +234,21 @@ without_first o = record o { wants = drop 1 o.wants }
 pub record Rest (fixed : Fixed) (v x : Knowing) (o : OffersState) (bytes : List (List ℕ)) (shares : Shares) : Type 0 where
   pub settling : Settling fixed v x o.session shares
   pub hand : IsAtHand fixed x (without_first o) bytes
+  pub all : shared_in shares + frames_wanted (drop 1 o.wants) ≡ frames_wanted o.wants
 
 rest-of : {fixed : Fixed} {v x : Knowing} {o : OffersState} {bytes : List (List ℕ)} {shares : Shares} → IsAtHand fixed v o bytes → Settling fixed v x o.session shares
     → (own_of o.session (standing (seen_in fixed x))).leases ≡ [] → length (own_of o.session (standing (seen_in fixed x))).offers ≡ length (drop 1 o.wants)
+    → shared_in shares + frames_wanted (drop 1 o.wants) ≡ frames_wanted o.wants
     → (1 ≤ length (drop 1 o.wants) → HasBytes (standing (seen_in fixed x)) (without_first o) bytes) → Rest fixed v x o bytes shares
-rest-of {fixed} {v} {x} {o} {bytes} {shares} hand s leases as_many stands = record {
+rest-of {fixed} {v} {x} {o} {bytes} {shares} hand s leases as_many all stands = record {
   settling = s;
+  all = all;
   hand = record {
     stands = stands;
     speaks = subst (Stands o.session) (sym s.told.mine) (Stands-left o.session v.mine s.added hand.speaks);
     leases = leases;
     as_many = as_many;
+    few = (let few = hand.few in omega (arith, few, all));
     picked = s.told.picked;
     legal = s.legal;
     whole = λ is. s.whole (subst IsWhole s.told.part is);
@@ -261,7 +273,7 @@ settled-next {fixed} {v} {w} {x} o bytes to given full gone None hand some answe
     let g = granting o bytes to given full gone hand some answers in
     let has = hand.stands some in
     subst (λ (y : Knowing). Rest fixed v y o bytes (record { given = given; full = full; gone = gone })) (sym same)
-    (rest-of hand g.settling (none-granted g.granted is) g.as_many (λ more. record { frames = has.frames; stand = stands has.frames has.stand; bytes_are = has.bytes_are }))
+    (rest-of hand g.settling (none-granted g.granted is) g.as_many g.all (λ more. record { frames = has.frames; stand = stands has.frames has.stand; bytes_are = has.bytes_are }))
 settled-next {fixed} {v} {w} {x} o bytes to given full gone (Some lease) hand some answers is stands held same done =
     let g = granting o bytes to given full gone hand some answers in
     let has = hand.stands some in
@@ -269,44 +281,13 @@ settled-next {fixed} {v} {w} {x} o bytes to given full gone (Some lease) hand so
     let speaks = subst (Stands o.session) (sym s.told.mine) (Stands-left o.session v.mine s.added hand.speaks) in
     let c : Completing fixed w x o.session = completing o.session lease s.told.picked speaks (only-granted lease.id held.held g.granted held.own) held done in
     let all = subst (Settling fixed v x o.session) (and-none given full gone) (settling-then s c.settling) in
-    rest-of hand all c.leases (ap length c.offers ∙ g.as_many) (λ more. record {
+    rest-of hand all c.leases (ap length c.offers ∙ g.as_many) g.all (λ more. record {
       frames = has.frames;
       stand = offers-stand fixed.pool w.seen x.seen (without_first o) s.legal all.legal c.offers more has.frames (stands has.frames has.stand);
       bytes_are = has.bytes_are;
     })
 
--- ---- numbers
-
--- more was made, and no more than a book has room for
-pub record Grown (v w : Knowing) : Type 0 where
-  pub more : length v.seen < length w.seen
-  pub few : length w.seen ≤ 4294967296
-
-room-of : (fixed : Fixed) (h : List Entry) (ask : Ask) (found : Option Outcome) → fixed.limits.entries < 2 ^ 32 → room_by (record_in fixed h) ask found → (made : Outcome) → found ≡ Some made → length h < 4294967296
-room-of fixed h ask None small room made e = absurd cc
-room-of fixed h ask (Some outcome) small room made e = let used = room.0 in omega (arith, used, small)
-
-grown : {fixed : Fixed} {v w : Knowing} {ask : Ask} → fixed.limits.entries < 2 ^ 32 → Makes fixed v w ask → Grown v w
-grown {fixed} {v} {w} {ask} small m =
-    let h = earlier w.seen in
-    let e = entry_by m.session ask m.reply in
-    let count = ap length m.seen ∙ length-append h (e ∷ []) in
-    let there = mapped session_and_reply (step (standing (before_in fixed w)) ask) (m.session, m.reply) m.steps in
-    let few = room-of fixed h ask (step (standing (before_in fixed w)) ask) small m.room there.0 there.1 in
-    record { more = (m.told.stand 0 (length w.seen) e refl).0; few = omega (arith, count, few) }
-
-pub grown-next : {fixed : Fixed} {v w x : Knowing} {ask : Ask} (r : Option Leased) → fixed.limits.entries < 2 ^ 32 → Makes fixed v w ask → IfNone r (x ≡ w)
-    → IfSome r (λ (lease : Leased). Answers fixed w x (Done (lease_id lease.id)) Made) → Grown v x
-grown-next {fixed} {v} {w} {x} None small m same done = subst (Grown v) (sym same) (grown small m)
-grown-next {fixed} {v} {w} {x} (Some lease) small m same done =
-    let a = grown small m in
-    let b = grown small done.makes in
-    record { more = omega (arith, a.more, b.more); few = b.few }
-
 -- ---- all of them
-
-abbrev pub IsWithin : ℕ → Shares → Type 0
-IsWithin n s = (s.given ≤ n * 4294967295) × (s.full ≤ n * 4294967295) × (s.gone ≤ n * 4294967295)
 
 abbrev none_yet : Shares
 none_yet = record { given = 0; full = 0; gone = 0 }
@@ -317,7 +298,8 @@ pub record Going (fixed : Fixed) (v w : Knowing) (o now : OffersState) (bytes : 
   pub fewer : length now.wants ≤ length o.wants
   pub none : o.wants ≡ [] → (w ≡ v) × (all ≡ none_yet)
   pub some : 1 ≤ length o.wants → Settling fixed v w o.session all × IsAtHand fixed w now bytes
-  pub within : IsWithin (length w.seen) all
+  pub all_are : shared_in all + frames_wanted now.wants ≡ frames_wanted o.wants
+  pub few : frames_wanted o.wants < 2 ^ 32
 
 pub going-first : {fixed : Fixed} {v : Knowing} (o : OffersState) (bytes : List (List ℕ)) → (1 ≤ length o.wants → IsAtHand fixed v o bytes) → Going fixed v v o o bytes none_yet
 going-first {fixed} {v} o bytes hand = record {
@@ -325,31 +307,34 @@ going-first {fixed} {v} o bytes hand = record {
   fewer = omega arith;
   none = λ is. (refl, refl);
   some = λ some. let h = hand some in (settling-none h.picked h.legal h.whole, h);
-  within = (omega arith, omega arith, omega arith);
+  all_are = omega arith;
+  few = few o.wants (λ some. (hand some).few);
 }
+  where
+    few : (wants : List Wanted) → (1 ≤ length wants → frames_wanted wants < 2 ^ 32) → frames_wanted wants < 2 ^ 32
+    few [] all = omega arith
+    few (w ∷ ws) all = all (omega arith)
 
 pub going-hand : {fixed : Fixed} {v w : Knowing} {o now : OffersState} {bytes : List (List ℕ)} {all : Shares} → Going fixed v w o now bytes all → 1 ≤ length now.wants → IsAtHand fixed w now bytes
 going-hand g next = (g.some (omega (arith, next, g.fewer))).1
 
 -- the sums fit
 pub record Fit (all more : Shares) : Type 0 where
-  pub given : all.given + more.given < 2 ^ 64
-  pub full : all.full + more.full < 2 ^ 64
-  pub gone : all.gone + more.gone < 2 ^ 64
+  pub given : all.given + more.given < 2 ^ 32
+  pub full : all.full + more.full < 2 ^ 32
+  pub gone : all.gone + more.gone < 2 ^ 32
 
-pub sums-fit : {v w : Knowing} {all more : Shares} → IsWithin (length v.seen) all → IsWithin 1 more → Grown v w → Fit all more
-sums-fit {v} {w} {all} {more} a b g =
-    let given = fits all.given more.given (length v.seen) (length w.seen) in
-    let full = fits all.full more.full (length v.seen) (length w.seen) in
-    let gone = fits all.gone more.gone (length v.seen) (length w.seen) in
-    record { given = given a.0 b.0 g.more g.few; full = full a.1 b.1 g.more g.few; gone = gone a.2 b.2 g.more g.few }
-  where
-    fits : (x y n k : ℕ) → x ≤ n * 4294967295 → y ≤ 1 * 4294967295 → n < k → k ≤ 4294967296 → x + y < 2 ^ 64
-    fits x y n k a b more few = omega (arith, a, b, more, few)
+pub sums-fit : {fixed : Fixed} {v w : Knowing} {o now : OffersState} {bytes : List (List ℕ)} {all : Shares} (more : Shares) (left : ℕ) → Going fixed v w o now bytes all
+    → shared_in more + left ≡ frames_wanted now.wants → Fit all more
+sums-fit more left g one =
+    let sum = g.all_are in
+    let few = g.few in
+    record { given = omega (arith, sum, few, one); full = omega (arith, sum, few, one); gone = omega (arith, sum, few, one) }
 
 pub going-next : {fixed : Fixed} {v w x : Knowing} {o now : OffersState} {bytes : List (List ℕ)} {all more : Shares} → Going fixed v w o now bytes all → 1 ≤ length now.wants
-    → Settling fixed w x now.session more → IsAtHand fixed x (without_first now) bytes → IsWithin 1 more → Grown w x → Going fixed v x o (without_first now) bytes (both all more)
-going-next {fixed} {v} {w} {x} {o} {now} {bytes} {all} {more} g next s hand small grown =
+    → Settling fixed w x now.session more → IsAtHand fixed x (without_first now) bytes
+    → shared_in more + frames_wanted (drop 1 now.wants) ≡ frames_wanted now.wants → Going fixed v x o (without_first now) bytes (both all more)
+going-next {fixed} {v} {w} {x} {o} {now} {bytes} {all} {more} g next s hand one =
     let some : 1 ≤ length o.wants = omega (arith, next, g.fewer) in
     let dropped = length-drop 1 now.wants in
     record {
@@ -357,11 +342,9 @@ going-next {fixed} {v} {w} {x} {o} {now} {bytes} {all} {more} g next s hand smal
       fewer = omega (arith, g.fewer, dropped);
       none = λ is. let empty = ap length is in absurd (omega (arith, empty, some));
       some = λ some. (settling-then (g.some some).0 (subst (λ (n : ℕ). Settling fixed w x n more) g.session s), hand);
-      within = (up all.given more.given _ _ g.within.0 small.0 grown.more, up all.full more.full _ _ g.within.1 small.1 grown.more, up all.gone more.gone _ _ g.within.2 small.2 grown.more);
+      all_are = (let sum = g.all_are in omega (arith, sum, one));
+      few = g.few;
     }
-  where
-    up : (x y n k : ℕ) → x ≤ n * 4294967295 → y ≤ 1 * 4294967295 → n < k → x + y ≤ k * 4294967295
-    up x y n k a b more = omega (arith, a, b, more)
 
 no-wants : {X : Type 0} (xs : List X) → length xs ≡ 0 → xs ≡ []
 no-wants [] e = refl

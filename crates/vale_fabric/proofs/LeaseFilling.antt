@@ -144,18 +144,15 @@ next-there {start} {frames} {places} n p to at =
     let there = place-there frames places (bytes_of to.is.is.held.0.frames) n p to.is.frames_are at in
     slice_get_within frames p there.0 there.1
 
-pub got-there : {start : Leased} {places : List ℕ} (gots : List Got) (n p : ℕ) → IsToFill start (frames_in gots) places → All IsSingle gots → slice_get places n ≡ Some p → p < length gots
-got-there {start} {places} gots n p to all at =
-    subst (λ (k : ℕ). p < k) (count-single gots (recursion_from_All IsSingle gots all)) (next-there n p to at)
-  where
-    count-single : (gots : List Got) → Each IsSingle gots → length (frames_in gots) ≡ length gots
-    count-single [] all = refl
-    count-single (g ∷ gs) all =
-        let last : (g.rest == 0) ≡ true = eq-eqb g.rest 0 all.0 in
-        rw last (ap suc (count-single gs all.1))
+-- each buffer has one
+single-length : (gots : List Got) → Each IsSingle gots → length (frames_in gots) ≡ length gots
+single-length [] all = refl
+single-length (g ∷ gs) all =
+    let last : (g.rest == 0) ≡ true = eq-eqb g.rest 0 all.0 in
+    rw last (ap suc (single-length gs all.1))
 
-pub frame-there : {start : Leased} {places : List ℕ} (frames : List Frame) (n p : ℕ) → IsToFill start (bytes_of frames) places → slice_get places n ≡ Some p → p < length frames
-frame-there {start} {places} frames n p to at = subst (λ (k : ℕ). p < k) (length-map frames (λ (f : Frame). f.bytes)) (next-there n p to at)
+pub length-single : (gots : List Got) → All IsSingle gots → length (frames_in gots) ≡ length gots
+length-single gots all = single-length gots (recursion_from_All IsSingle gots all)
 
 one-slot : (bytes : List ℕ) → length bytes ≤ 2048 → slots_of_length (length bytes) ≡ 1
 one-slot bytes fits = ap (λ (b : Bool). cond b 1 (div_ceil (length bytes) 2048)) (le-leb (length bytes) 2048 fits)

@@ -9,6 +9,7 @@ pub mod PutsMade
 pub mod Placed
 pub mod FilledNow
 pub mod LeasesHeld
+pub mod FewWanted
 pub mod AtHand
 pub mod Comers
 pub mod LeaseFilling

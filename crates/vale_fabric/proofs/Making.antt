@@ -134,7 +134,7 @@ all-more before after e grown =
     let long : length after ≡ 1 + length before = ap length grown ∙ (length-append before (e ∷ []) ∙ omega arith) in
     ap (λ (n : ℕ). numbered 1 before ++ (n, e) ∷ []) long ∙ (sym (numbered-append 1 before (e ∷ [])) ∙ ap (numbered 1) (sym grown))
 
-earlier-is : (before after : List Entry) (e : Entry) → after ≡ before ++ e ∷ [] → earlier after ≡ before
+pub earlier-is : (before after : List Entry) (e : Entry) → after ≡ before ++ e ∷ [] → earlier after ≡ before
 earlier-is before after e grown =
     let long : length (before ++ e ∷ []) - 1 ≡ length before = let l = length-append before (e ∷ []) in omega (arith, l) in
     ap earlier grown ∙ (ap (λ (n : ℕ). take n (before ++ e ∷ [])) long ∙ take-append_seam before (e ∷ []))

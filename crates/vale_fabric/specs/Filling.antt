@@ -1,8 +1,21 @@
--- A lease that is filled frame by frame.
-use Rattle.std.specs.Prelude.{ℕ, ◌≡◌, List, drop, map, take, slice_get, Some}
+-- The frames with which leases are filled, and a lease that is filled frame by frame.
+use Rattle.std.specs.Prelude.{ℕ, true, ◌≡◌, All, List, drop, map, take, slice_get, Some}
+use Rattle.std.specs.List.{list_all}
+use Rattle.nm_types.specs.Sendable.{fits_buffer}
 use Rattle.nm_region.specs.Buffers.{names_of}
-use Rattle.vale_line.specs.Gots.{buffers_of}
+use Rattle.vale_line.specs.Gots.{buffers_of, frames_in, IsSingle}
 use Rattle.vale_line.specs.Leased.{Leased, contents}
+use Rattle.vale_port.specs.Kept.{bytes_of}
+use Rattle.vale_fabric.specs.declared.filling.Frames.{Frames}
+use Rattle.vale_fabric.specs.declared.filling.Frames.TheVariants.{Batch, Gots}
+
+abbrev pub bytes_from : Frames → List (List ℕ)
+bytes_from (Batch batch) = bytes_of batch.now
+bytes_from (Gots gots) = frames_in gots.now
+
+abbrev pub AreFitting : Frames → Type 0
+AreFitting (Batch batch) = list_all fits_buffer batch.now ≡ true
+AreFitting (Gots gots) = All IsSingle gots.now
 
 -- the frames at the first of these places are filled in, each in the next of the buffers
 pub record IsFilling (start : Leased) (frames : List (List ℕ)) (places : List ℕ) (count : ℕ) (lease : Leased) : Type 0 where

@@ -1,5 +1,5 @@
 -- How a session that has offers is settled.
-use Rattle.std.specs.Prelude.{ℕ, ◌≡◌, ◌+◌, ◌-◌, ◌≤◌, true, List, [], ◌∷◌, length, take, Option, Some, None, option_map}
+use Rattle.std.specs.Prelude.{ℕ, ◌≡◌, ◌+◌, ◌-◌, ◌<◌, ◌≤◌, ◌^◌, true, List, [], ◌∷◌, length, take, Option, Some, None, option_map}
 use Rattle.std.specs.List.{AllByRecursion, sum_by}
 use Rattle.nm_types.specs.Frames.{Frame}
 use Rattle.nm_turn.specs.Numbered.{Stands, IsPicked, numbered}
@@ -10,6 +10,7 @@ use Rattle.vale_entry.specs.declared.entry.Ask.TheVariants.{Grant, Done}
 use Rattle.vale_entry.specs.declared.entry.Reply.{Reply}
 use Rattle.vale_entry.specs.declared.entry.Reply.TheVariants.{Shared}
 use Rattle.vale_entry.specs.declared.entry.Entry.{Entry}
+use Rattle.vale_batch.specs.Wants.{Wanted}
 use Rattle.vale_entry.specs.World.{Offer}
 use Rattle.vale_entry.specs.Legal.{Standing, step, session_and_reply, IsLegal}
 use Rattle.vale_own.specs.Own.{Own, HeldLot, own_of, is_settled_own}
@@ -67,6 +68,14 @@ pub record AreShares (added : List (ℕ × Entry)) (shares : Shares) : Type 0 wh
 abbrev pub both : Shares → Shares → Shares
 both a b = record { given = a.given + b.given; full = a.full + b.full; gone = a.gone + b.gone }
 
+-- the frames that a grant, or several, shared out
+abbrev pub shared_in : Shares → ℕ
+shared_in shares = shares.given + shares.full + shares.gone
+
+-- how many frames are wanted still, counted once for each port that wants them
+abbrev pub frames_wanted : List Wanted → ℕ
+frames_wanted wants = sum_by (λ (want : Wanted). length want.places) wants
+
 -- the entries that were added, each with its number, went on to settle the session
 pub record Settling (fixed : Fixed) (v w : Knowing) (session : ℕ) (shares : Shares) : Type 0 where
   pub added : List (ℕ × Entry)
@@ -88,12 +97,13 @@ pub record HasBytes (s : Standing) (o : OffersState) (bytes : List (List ℕ)) :
   pub bytes_are : bytes_of frames ≡ bytes
 
 -- by what a pass has seen, its session has these offers and no others, of frames with these bytes, and no
--- lease
+-- lease; so many frames are wanted that their sum fits its field
 pub record IsAtHand (fixed : Fixed) (v : Knowing) (o : OffersState) (bytes : List (List ℕ)) : Type 0 where
   pub stands : 1 ≤ length o.wants → HasBytes (standing (seen_in fixed v)) o bytes
   pub speaks : Stands o.session v.mine
   pub leases : (own_of o.session (standing (seen_in fixed v))).leases ≡ []
   pub as_many : length (own_of o.session (standing (seen_in fixed v))).offers ≡ length o.wants
+  pub few : frames_wanted o.wants < 2 ^ 32
   pub picked : IsPicked v.mine (numbered 1 v.seen)
   pub legal : IsLegal fixed.pool v.seen
   pub whole : IsWhole v.part → v.mine ≡ numbered 1 v.seen

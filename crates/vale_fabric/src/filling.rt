@@ -1,18 +1,24 @@
 //! Leases are filled, outside the turn.
-ghost use Rattle.std.specs.Prelude.{ℕ, true, ◌≡◌, ◌≤◌, ◌<◌, ◌+◌, [], ◌∷◌, ◌++◌, All, length};
+ghost use Rattle.std.specs.Prelude.{ℕ, ◌≡◌, ◌≤◌, ◌<◌, ◌+◌, [], ◌∷◌, ◌++◌, All, length};
 ghost use Rattle.std.specs.Prelude.{slice_get, Some};
-ghost use Rattle.std.specs.List.{list_all};
-ghost use Rattle.nm_types.specs.Sendable.{fits_buffer};
 ghost use Rattle.vale_line.specs.Gots.{buffers_of, frames_in, IsSingle};
 ghost use Rattle.vale_line.specs.Leased.{contents, next_of, with_frame};
-ghost use Rattle.vale_port.specs.Kept.{bytes_of};
 ghost use Rattle.vale_book.specs.BookView.{AreOf};
 ghost use Rattle.vale_book.specs.Recorded.{Recorded};
-ghost use Rattle.vale_fabric.specs.Filling.{IsFilling};
+ghost use Rattle.vale_fabric.specs.Filling.{AreFitting, IsFilling, bytes_from};
 ghost use Rattle.vale_fabric.specs.Leases.{IsFilledBy, IsHeldFor, IsToFill};
 
 use nm_types::Batch;
 use vale_line::{Got, Lease};
+
+/// Frames of which each fits a buffer.
+#[derive(Clone, Copy)]
+pub enum Frames<'a> {
+    /// Those of a batch.
+    Batch(&'a Batch),
+    /// Those in received buffers, each of which has one.
+    Gots(&'a [Got]),
+}
 
 /// Copies a frame that fits a buffer into the next one.
 fn fill_next(lease: &mut Lease, bytes: &[u8])
@@ -22,16 +28,6 @@ fn fill_next(lease: &mut Lease, bytes: &[u8])
     ensures contents { contents lease.new ≡ contents lease.old ++ bytes.now ∷ [] }
 {
     lease.fill(bytes);
-}
-
-/// The frame at a place of a batch.
-fn frame_at(frames: &Batch, place: u32) -> &[u8]
-    requires there { place < length frames.now }
-    requires fit { list_all fits_buffer frames.now ≡ true }
-    ensures frame { slice_get (bytes_of frames.now) place ≡ Some result.now }
-    ensures fits { length result.now ≤ 2048 }
-{
-    frames.frame(place as usize)
 }
 
 /// The frame in the buffer at a place.
@@ -46,30 +42,27 @@ fn frame_in(gots: &[Got], place: u32) -> &[u8]
     &bytes[..bytes.len().min(got.len as usize)]
 }
 
-/// Fills a lease with the frames at these places of a batch, in their order.
-pub fn fill_from_batch(lease: &mut Lease, frames: &Batch, places: &[u32])
-    requires held { IsToFill lease.old (bytes_of frames.now) places.now }
-    requires fit { list_all fits_buffer frames.now ≡ true }
-    ensures filled { (b : Recorded) (session : ℕ)
-        → IsHeldFor b session lease.old (bytes_of frames.now) places.now
-        → IsFilledBy b session lease.new }
-    ensures id { lease.new.id ≡ lease.old.id }
-    ensures sizes { lease.new.sizes ≡ [] }
-    ensures empty { lease.new.empty ≡ [] }
-    ensures region { (region : ℕ) → AreOf region lease.old.empty
-        → AreOf region (buffers_of lease.new.filled) }
-{
-    for i in 0..places.len() {
-        fill_next(lease, frame_at(frames, places[i]));
+impl<'a> Frames<'a> {
+    /// The bytes of the frame at a place.
+    fn at(self, place: u32) -> &'a [u8]
+        requires there { place < length (bytes_from self) }
+        requires fit { AreFitting self }
+        ensures frame { slice_get (bytes_from self.entry) place ≡ Some result.now }
+        ensures fits { length result.now ≤ 2048 }
+    {
+        match self {
+            Frames::Batch(batch) => batch.frame(place as usize),
+            Frames::Gots(gots) => frame_in(gots, place),
+        }
     }
 }
 
-/// Fills a lease with the frames in the buffers at these places, in their order.
-pub fn fill_from_gots(lease: &mut Lease, gots: &[Got], places: &[u32])
-    requires held { IsToFill lease.old (frames_in gots.now) places.now }
-    requires single { All IsSingle gots.now }
+/// Fills a lease with the frames at these places, in their order.
+pub fn fill(lease: &mut Lease, frames: Frames, places: &[u32])
+    requires held { IsToFill lease.old (bytes_from frames) places.now }
+    requires fit { AreFitting frames }
     ensures filled { (b : Recorded) (session : ℕ)
-        → IsHeldFor b session lease.old (frames_in gots.now) places.now
+        → IsHeldFor b session lease.old (bytes_from frames.entry) places.now
         → IsFilledBy b session lease.new }
     ensures id { lease.new.id ≡ lease.old.id }
     ensures sizes { lease.new.sizes ≡ [] }
@@ -78,6 +71,6 @@ pub fn fill_from_gots(lease: &mut Lease, gots: &[Got], places: &[u32])
         → AreOf region (buffers_of lease.new.filled) }
 {
     for i in 0..places.len() {
-        fill_next(lease, frame_in(gots, places[i]));
+        fill_next(lease, frames.at(places[i]));
     }
 }

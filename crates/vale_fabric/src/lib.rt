@@ -17,7 +17,7 @@ mod settling;
 mod tests;
 
 pub use fabric::Fabric;
-pub use filling::{fill_from_batch, fill_from_gots};
+pub use filling::{Frames, fill};
 pub use kept::{Fixed, Pass, Shared};
 pub use settling::Shares;
 pub use vale_book::{Book, Granted, LeasesOut, Offers, Opened, Put, PutFault, Synced};

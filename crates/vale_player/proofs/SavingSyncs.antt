@@ -22,7 +22,7 @@ use Rattle.vale_book.specs.Reading.{read_ask}
 use Rattle.vale_fabric.specs.Fabrics.{earlier}
 use Rattle.nm_user.specs.Sessions.{SessionState, IsThere}
 use Rattle.nm_user.specs.Calls.{Made}
-use Rattle.nm_user.specs.Syncs.{SyncsNot, IsSent, IsPut}
+use Rattle.nm_user.specs.Syncs.{SyncsNot, IsSent, IsPut, shares_in}
 use Rattle.nm_user.specs.PortReads.{reads_at, IsPortOf}
 use Rattle.nm_user.proofs.Receives.{call-of, stepped}
 use Rattle.vale_replay.specs.Saved.{saved_frames}
@@ -99,8 +99,8 @@ other-receives-save-nothing s t id other received there after k apart is =
 
 pub transmits-save-nothing : TransmitsSaveNothing
 transmits-save-nothing s t id at sent there after k is =
-    ⊎_elim (λ (put : IsSent s t at sent). syncs-save-nothing s t id _ _ sent.shares there after k put.synced (transmits id s.own put.tx.port put.tx.ring))
-    (λ (put : IsPut s t at sent). syncs-save-nothing s t id _ _ sent.shares there after k put.synced (transmits id s.own put.tx.port put.tx.ring)) is
+    ⊎_elim (λ (put : IsSent s t at sent). syncs-save-nothing s t id _ _ (shares_in sent) there after k put.synced (transmits id s.own put.tx.port put.tx.ring))
+    (λ (put : IsPut s t at sent). syncs-save-nothing s t id _ _ (shares_in sent) there after k put.synced (transmits id s.own put.tx.port put.tx.ring)) is
 
 pub failed-receives-save-nothing : FailedReceivesSaveNothing
 failed-receives-save-nothing s t id at fault there k is =

@@ -26,7 +26,7 @@ use Rattle.nm_user.specs.declared.sending.Sent.{Sent}
 use Rattle.nm_user.specs.declared.receiving.Received.{Received}
 use Rattle.nm_user.specs.Sessions.{SessionState}
 use Rattle.nm_user.specs.Calls.{MadeNone}
-use Rattle.nm_user.specs.Syncs.{Synced, IsTransmitted, IsUnsent, SyncsNot, TransmitsNot, before_number}
+use Rattle.nm_user.specs.Syncs.{Synced, IsTransmitted, IsUnsent, SyncsNot, TransmitsNot, before_number, shares_in}
 use Rattle.nm_user.specs.Receives.{IsReceived, ReceivesNot}
 use Rattle.vale_replay.specs.Machine.{is_reset, is_peer_gone}
 use Rattle.vale_player.specs.declared.frames.SyncEnd.{SyncEnd}
@@ -131,8 +131,8 @@ module _ (s t : SessionState) (id : ℕ) where
       goes-through p.id Rx (is_pipe_name p.name) (Get p.id (back_in p)) (Sync p.id (back_in p)) refl refl s t (refusal_in Rx own p.rx) reply shares not there synced
 
   pub sent-ends : (sent : Sent) → IsTransmitted s t id sent → EndsTx s t id ends.Passed
-  sent-ends sent (inl is) = record { tx = is.tx; came = tx-through s.own is.tx.port is.tx.ring (replies.Offered sent.short sent.lone is.to) sent.shares (made-not sent.short sent.lone is.to) refl is.synced }
-  sent-ends sent (inr is) = record { tx = is.tx; came = tx-through s.own is.tx.port is.tx.ring (replies.Took is.taken is.to) sent.shares (took-not is.taken is.to) refl is.synced }
+  sent-ends sent (inl is) = record { tx = is.tx; came = tx-through s.own is.tx.port is.tx.ring (replies.Offered sent.short sent.lone is.to) (shares_in sent) (made-not sent.short sent.lone is.to) refl is.synced }
+  sent-ends sent (inr is) = record { tx = is.tx; came = tx-through s.own is.tx.port is.tx.ring (replies.Took is.taken is.to) (shares_in sent) (took-not is.taken is.to) refl is.synced }
 
   -- of one that failed
   pub tx-ends : (fault : SyncFault) → TransmitsNot s t id fault → IfOk (sync_end_of fault) (EndsTx s t id)

@@ -53,9 +53,9 @@ impl Told {
     /// Takes in what a send told.
     fn add_sent(&mut self, rt: &impl Abort, sent: Sent) {
         assert_eq!(rt; (sent.pushed, sent.short, sent.lone), (FRAMES, 0, 0));
-        assert_eq!(rt; sent.shares.gone, 0);
-        self.given = self.given.wrapping_add(sent.shares.given);
-        self.full = self.full.wrapping_add(sent.shares.full);
+        assert_eq!(rt; sent.gone, 0);
+        self.given = self.given.wrapping_add(u64::from(sent.given));
+        self.full = self.full.wrapping_add(u64::from(sent.full));
         self.entries.push(sent.entry).expect(rt, "memory");
     }
 

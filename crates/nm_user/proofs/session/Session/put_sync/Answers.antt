@@ -119,15 +119,15 @@ invariant_of-self-2 g c =
     let left : Offering = record { lent = off.result.lent; pending = c.pipe_put.new.pending; bufs = off.result.bufs } in
     let come = come-new {s = s} {w = w} gots put k.there k.puts_are e.made e.put in
     let taking = can-take {s = s} c.in-Some.own off.result left put refl off.ensures.offering refl refl e.pending come in
-    let ends = put-ends {s = s} {w = w} gots put k.there k.puts_are e.made e.put c.settle_batch-shares.ensures.none c.settle_batch-shares.ensures.settles in
+    let ends = put-ends {s = s} {w = w} gots put k.there k.puts_are e.made e.put c.settle-shares.ensures.none c.settle-shares.ensures.settles in
     let own-now : own_in c.put_back-2.new.away ≡ own_after_put c.args.port.0 (map blank_arrival (indices_of put.back.items)) c.in-Some.own.own =
     ap own_in c.put_back-2.ensures ∙ (c.taken.ensures.own c.in-Some.own gots taking ∙ ap (λ (p : PortId). own_after_put p.0 (blank_arrivals (indices_of put.back.items)) c.in-Some.own.own) off.ensures.port) in
     record {
-      pass = c.settle_batch-shares.ensures.pass;
+      pass = c.settle-shares.ensures.pass;
       own = c.taken.result;
       own_is = c.put_back-2.ensures;
       region = c.taken.ensures.region c.in-Some.own gots taking (fixed_in c.self.inside.fabric.now).region (region-of c.self.inside c.in-Some.own c.self.invariant had) e.put.is.back_of;
-      there = subst (λ (o : OwnState). IsThere None (record seen { knows = knowing c.settle_batch-shares.new.pass; own = o })) (sym own-now) (took-there {s = s} {w = w} gots put k.there k.puts_are e.made e.put ends);
+      there = subst (λ (o : OwnState). IsThere None (record seen { knows = knowing c.settle-shares.new.pass; own = o })) (sym own-now) (took-there {s = s} {w = w} gots put k.there k.puts_are e.made e.put ends);
     }
 
 pub returns-clause-put : goal.returns-clause-put
@@ -145,8 +145,8 @@ returns-clause-put g c =
     let left : Offering = record { lent = off.result.lent; pending = c.pipe_put.new.pending; bufs = off.result.bufs } in
     let come = come-new {s = s} {w = w} gots put k.there k.puts_are e.made e.put in
     let taking = can-take {s = s} c.in-Some.own off.result left put refl off.ensures.offering refl refl e.pending come in
-    let ends = put-ends {s = s} {w = w} gots put k.there k.puts_are e.made e.put c.settle_batch-shares.ensures.none c.settle_batch-shares.ensures.settles in
+    let ends = put-ends {s = s} {w = w} gots put k.there k.puts_are e.made e.put c.settle-shares.ensures.none c.settle-shares.ensures.settles in
     let own-now : own_in c.put_back-2.new.away ≡ own_after_put c.args.port.0 (map blank_arrival (indices_of put.back.items)) c.in-Some.own.own =
     ap own_in c.put_back-2.ensures ∙ (c.taken.ensures.own c.in-Some.own gots taking ∙ ap (λ (p : PortId). own_after_put p.0 (blank_arrivals (indices_of put.back.items)) c.in-Some.own.own) off.ensures.port) in
-    let sent : Sent = record { entry = c.entry-entry.result; pushed = put.took; short = 0; lone = 0; shares = c.settle_batch-shares.result } in
+    let sent : Sent = record { entry = c.entry-entry.result; pushed = put.took; short = 0; lone = 0; given = c.settle-shares.result.given; full = c.settle-shares.result.full; gone = c.settle-shares.result.gone } in
     put-at gots put sent c.self.view_is (ap own_in had) k e.made e.put ends own-now c.entry-entry.ensures refl refl refl refl

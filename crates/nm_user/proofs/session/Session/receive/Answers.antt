@@ -81,13 +81,13 @@ invariant_of-self-2 g c =
     let mid-is = subst (λ (r : Result Synced StepFault). IfOk r (λ synced. c.give_and_take-own.result.0.own ≡ own_after_receive c.args.port.0 [] own)) c.in-Ok.is c.give_and_take-own.ensures.own in
     let mid-region = subst (λ (r : Result Synced StepFault). IfOk r (λ synced. AllOf region c.give_and_take-own.result.0)) c.in-Ok.is c.give_and_take-own.ensures.region in
     let read = subst (λ (r : Result Synced StepFault). IfOk r (IsRead seen.fixed seen.knows w (reading own c.args.port c.args.is_pipe) c.args.port)) c.in-Ok.is c.give_and_take-own.ensures.read in
-    let ends = ends-so s w c.args.port c.args.is_pipe c.in-Ok.synced k read c.settle_gots.ensures.none c.settle_gots.ensures.settles in
+    let ends = ends-so s w c.args.port c.args.is_pipe c.in-Ok.synced k read c.settle.ensures.none c.settle.ensures.settles in
     record {
-      pass = c.settle_gots.ensures.pass;
+      pass = c.settle.ensures.pass;
       own = c.publish_all.new.own;
       own_is = c.put_back-2.ensures;
       region = c.publish_all.ensures.region region mid-region (gots-region s w c.args.port c.args.is_pipe c.in-Ok.synced k read);
-      there = subst (λ (o : OwnState). IsThere None (record seen { knows = knowing c.settle_gots.new.pass; own = o })) (sym (ap own_in c.put_back-2.ensures))
+      there = subst (λ (o : OwnState). IsThere None (record seen { knows = knowing c.settle.new.pass; own = o })) (sym (ap own_in c.put_back-2.ensures))
           (there-so s w c.args.port c.args.is_pipe c.in-Ok.synced k read mid-is c.publish_all.ensures.own ends);
     }
 
@@ -99,11 +99,11 @@ returns-clause-received g c =
     let own = c.in-Some.own.own in
     let s : SessionState = record seen { own = own } in
     let w = knowing c.give_and_take-own.new.pass in
-    let x = knowing c.settle_gots.new.pass in
+    let x = knowing c.settle.new.pass in
     let received : Received = record { entry = c.entry-entry.result; gave = c.len.result; returned = c.give_and_take-own.result.1 } in
     let mid-is = subst (λ (r : Result Synced StepFault). IfOk r (λ synced. c.give_and_take-own.result.0.own ≡ own_after_receive c.args.port.0 [] own)) c.in-Ok.is c.give_and_take-own.ensures.own in
     let read = subst (λ (r : Result Synced StepFault). IfOk r (IsRead seen.fixed seen.knows w (reading own c.args.port c.args.is_pipe) c.args.port)) c.in-Ok.is c.give_and_take-own.ensures.read in
-    let ends = ends-so s w c.args.port c.args.is_pipe c.in-Ok.synced k read c.settle_gots.ensures.none c.settle_gots.ensures.settles in
+    let ends = ends-so s w c.args.port c.args.is_pipe c.in-Ok.synced k read c.settle.ensures.none c.settle.ensures.settles in
     received-at c.args.port received c.self.view_is (ap own_in had)
     (subst (λ (o : OwnState). IsReceived s (record seen { knows = x; own = o }) c.args.port.0 received) (sym (ap own_in c.put_back-2.ensures))
     (received-so s w c.args.port c.args.is_pipe c.in-Ok.synced k read mid-is c.publish_all.ensures.own received ends c.entry-entry.ensures (c.len.ensures ∙ c.in-Ok.synced.got.ok.0) c.give_and_take-own.ensures.returned))

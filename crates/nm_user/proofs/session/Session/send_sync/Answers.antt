@@ -34,9 +34,9 @@ returns-in-Err-clause-full g c =
 pub invariant_of-self-2 : goal.invariant_of-self-2
 invariant_of-self-2 g c =
     let k = ready c.args.port c.in_ok-batch.batch c.self.view_is (ap own_in c.in-Some.is) c.self.invariant.there c.requires.ring c.requires.name c.requires.passes c.in_ok-batch.ensures in
-    let ends = send-ends c.in-Ok.offers k.there k.sends c.in-Ok.ensures.made c.in-Ok.ensures.offers c.settle_batch-shares.ensures.none c.settle_batch-shares.ensures.settles in
+    let ends = send-ends c.in-Ok.offers k.there k.sends c.in-Ok.ensures.made c.in-Ok.ensures.offers c.settle-shares.ensures.none c.settle-shares.ensures.settles in
     record {
-      pass = c.settle_batch-shares.ensures.pass;
+      pass = c.settle-shares.ensures.pass;
       own = c.sent.new.self;
       own_is = refl;
       region = region-kept c.self.inside c.in-Some.own c.sent.new.self (own_after_send c.args.port.0 c.in-Some.own.own) c.self.invariant c.in-Some.is c.sent.ensures;
@@ -46,6 +46,6 @@ invariant_of-self-2 g c =
 pub returns-clause-sent : goal.returns-clause-sent
 returns-clause-sent g c =
     let k = ready c.args.port c.in_ok-batch.batch c.self.view_is (ap own_in c.in-Some.is) c.self.invariant.there c.requires.ring c.requires.name c.requires.passes c.in_ok-batch.ensures in
-    let ends = send-ends c.in-Ok.offers k.there k.sends c.in-Ok.ensures.made c.in-Ok.ensures.offers c.settle_batch-shares.ensures.none c.settle_batch-shares.ensures.settles in
-    sent-at c.in-Ok.offers (record { entry = c.entry-entry.result; pushed = c.len-pushed.result; short = c.short-short.result; lone = c.lone-lone.result; shares = c.settle_batch-shares.result })
+    let ends = send-ends c.in-Ok.offers k.there k.sends c.in-Ok.ensures.made c.in-Ok.ensures.offers c.settle-shares.ensures.none c.settle-shares.ensures.settles in
+    sent-at c.in-Ok.offers (record { entry = c.entry-entry.result; pushed = c.len-pushed.result; short = c.short-short.result; lone = c.lone-lone.result; given = c.settle-shares.result.given; full = c.settle-shares.result.full; gone = c.settle-shares.result.gone })
     c.self.view_is (ap own_in c.in-Some.is) k (ap (λ (side : SideState). side.own) c.sent.ensures) c.in-Ok.ensures.made c.in-Ok.ensures.offers ends c.entry-entry.ensures c.len-pushed.ensures c.short-short.ensures c.lone-lone.ensures refl

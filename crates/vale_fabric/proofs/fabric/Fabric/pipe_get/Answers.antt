@@ -9,7 +9,7 @@ use Rattle.vale_fabric.proofs.Making.{enabled-now, adds-now, step-now, made, ans
 use Rattle.vale_fabric.proofs.Speaking.{speaks-on, sought}
 use Rattle.vale_line.specs.Gots.{frames_in}
 use Rattle.vale_entry.specs.Delivery.{delivered_frames}
-use Rattle.vale_fabric.proofs.AtHand.{hand-on, gets-settled, gets-keep}
+use Rattle.vale_fabric.proofs.AtHand.{hand-on, low-pool, gets-settled, gets-keep}
 use Rattle.vale_fabric.proofs.fabric.Fabric.pipe_get.Goals as goal
 
 pub pipe_get-requires-clause-enabled : goal.pipe_get-requires-clause-enabled
@@ -57,6 +57,6 @@ returns-in-Ok-clause-hand g c some =
     let port = sought (can_get s back) (sync_step s back) (open_port s.world.ports c.args.port.0) steps.makes steps.is in
     let given = c.in-Ok.ensures.offers port.0 port.1 in
     let got = c.in-Ok.ensures.got port.0 port.1 in
-    hand-on c.in-Ok.synced.offers (frames_in c.in-Ok.synced.got.items) c.requires.may c.take-shared.ensures.taken refl steps c.in-Ok.ensures.made c.give.ensures.back.legal m
+    hand-on c.in-Ok.synced.offers (frames_in c.in-Ok.synced.got.items) c.requires.may (low-pool c.args.self.now) c.take-shared.ensures.taken refl steps c.in-Ok.ensures.made c.give.ensures.back.legal m
     (record { frames = delivered_frames port.0; stand = record { stand = given.stand; frames_are = given.frames_are }; bytes_are = sym got.frames }) given.entry
     (gets-settled c.requires.may.session c.args.port back) (gets-keep s c.args.port back steps.makes.reply) some

@@ -8,7 +8,7 @@ use Rattle.vale_fabric.proofs.PutsMade.{put-made, put-not, puts-gone, puts-none}
 use Rattle.vale_fabric.proofs.PutsTold.{put-said, copies-fit}
 use Rattle.vale_fabric.proofs.Speaking.{speaks-on}
 use Rattle.vale_port.specs.Kept.{bytes_of}
-use Rattle.vale_fabric.proofs.AtHand.{hand-on, copies-are, puts-settled, puts-keep}
+use Rattle.vale_fabric.proofs.AtHand.{hand-on, low-pool, copies-are, puts-settled, puts-keep}
 use Rattle.vale_fabric.proofs.fabric.Fabric.pipe_put.Goals as goal
 
 pub pipe_put-requires-clause-enabled : goal.pipe_put-requires-clause-enabled
@@ -76,5 +76,5 @@ returns-in-Ok-clause-hand g c some =
     let given = put.is.offers in
     let has = copies-are c.pipe_put.new.self put.port.session _ _ c.in-Ok.put.copies c.in-Ok.put.offers given put.is.copies some in
     let said = put-said steps c.take-shared.ensures.taken.legal put in
-    hand-on c.in-Ok.put.offers (bytes_of c.in-Ok.put.copies) c.requires.may c.take-shared.ensures.taken refl steps c.in-Ok.ensures.made c.give.ensures.back.legal m has given.entry
+    hand-on c.in-Ok.put.offers (bytes_of c.in-Ok.put.copies) c.requires.may (low-pool c.args.self.now) c.take-shared.ensures.taken refl steps c.in-Ok.ensures.made c.give.ensures.back.legal m has given.entry
     (puts-settled c.requires.may.session c.args.port items) (puts-keep s c.args.port items _ steps.makes.reply _ said) some

@@ -4,7 +4,7 @@ use Rattle.vale_book.specs.Sending.{IsSent}
 use Rattle.vale_fabric.proofs.Making.{enabled-now, adds-now, step-now, made, answered, refused}
 use Rattle.vale_fabric.proofs.Speaking.{speaks-on}
 use Rattle.vale_port.specs.Kept.{bytes_of}
-use Rattle.vale_fabric.proofs.AtHand.{hand-on, sends-settled, sends-keep}
+use Rattle.vale_fabric.proofs.AtHand.{hand-on, low-pool, sends-settled, sends-keep}
 use Rattle.vale_fabric.proofs.fabric.Fabric.send.Goals as goal
 
 pub send-requires : goal.send-requires
@@ -38,6 +38,6 @@ returns-in-Ok-clause-hand g c some =
     let steps = step-now c.requires.may c.take-shared.ensures.taken tt in
     let m = made c.take-shared.ensures.taken steps c.in-Ok.ensures.made c.in-Ok.ensures.room c.give.ensures.back in
     let sent = c.in-Ok.ensures.offers in
-    hand-on c.in-Ok.offers (bytes_of c.args.batch.now) c.requires.may c.take-shared.ensures.taken refl steps c.in-Ok.ensures.made c.give.ensures.back.legal m
+    hand-on c.in-Ok.offers (bytes_of c.args.batch.now) c.requires.may (low-pool c.args.self.now) c.take-shared.ensures.taken refl steps c.in-Ok.ensures.made c.give.ensures.back.legal m
     (record { frames = c.args.batch.now; stand = record { stand = sent.stand; frames_are = sent.frames_are }; bytes_are = refl }) sent.entry
     (sends-settled c.requires.may.session c.args.port c.args.batch.now) (sends-keep (standing c.take-shared.result.book) c.args.port c.args.batch.now steps.makes.reply) some

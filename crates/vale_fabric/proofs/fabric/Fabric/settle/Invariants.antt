@@ -1,13 +1,13 @@
 use Rattle.std.proofs.Common.{length}
-use Rattle.vale_port.specs.Kept.{bytes_of}
+use Rattle.vale_fabric.specs.Filling.{bytes_from}
 use Rattle.vale_fabric.specs.Fabrics.{IsPassIn, fixed_in, knowing}
 use Rattle.vale_fabric.proofs.GrantsSettle.{Going}
-use Rattle.vale_fabric.proofs.fabric.Fabric.settle_batch.Given as goal
+use Rattle.vale_fabric.proofs.fabric.Fabric.settle.Given as goal
 
 abbrev pub invariant-loop-pass : goal.invariant-loop-pass
 invariant-loop-pass g l = record {
   pass : IsPassIn l.self l.pass;
-  going : Going (fixed_in l.self) (knowing l.fn.pass) (knowing l.pass) l.fn.offers l.offers (bytes_of l.frames) l.all;
+  going : Going (fixed_in l.self) (knowing l.fn.pass) (knowing l.pass) l.fn.offers l.offers (bytes_from l.frames) l.all;
 }
 
 abbrev pub decreases-loop-pass : goal.decreases-loop-pass
