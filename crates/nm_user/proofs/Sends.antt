@@ -53,7 +53,7 @@ use Rattle.vale_fabric.proofs.Settlements.{settling-none}
 use Rattle.nm_user.specs.Sessions.{SessionState, IsThere, standing_seen}
 use Rattle.nm_user.specs.declared.sending.Sent.{Sent}
 use Rattle.nm_user.specs.Calls.{MadeNone}
-use Rattle.nm_user.specs.Syncs.{HasTx, Synced, IsSent, IsUnsent, shares_in}
+use Rattle.nm_user.specs.Syncs.{HasTx, PassesTx, Synced, IsSent, IsUnsent, shares_in}
 use Rattle.nm_user.proofs.After.{here-after, own-next, there-settled, last, whose}
 use Rattle.nm_user.proofs.Plain.{has-side, asked, may}
 use Rattle.nm_user.proofs.Settled.{here-settled}
@@ -281,18 +281,13 @@ pub record Ready (s : SessionState) (port : PortId) (frames : List Frame) : Type
   pub there : IsThere None s
   pub sends : Sends s.own port frames
 
-pub ready : {seen now : SessionState} {own : OwnState} (port : PortId) (frames : List Frame) → seen ≡ now → seen.own ≡ own → IsThere None seen → IsSome (ring_at Tx now.own port.0)
-    → IfSome (port_with_id now.own port.0) (λ (p : OwnPort). is_pipe_name p.name ≡ false) → refusal_at Tx port.0 now.own ≡ None → frames ≡ pushed_frames (bytes_at own) (pushed_on Tx port.0 own)
-    → Ready (record seen { own = own }) port frames
-ready {seen} {now} {own} port frames e f there some named refused are =
+pub ready : {seen now : SessionState} {own : OwnState} (port : PortId) (frames : List Frame) → seen ≡ now → seen.own ≡ own → IsThere None seen → PassesTx false now.own port.0
+    → frames ≡ pushed_frames (bytes_at own) (pushed_on Tx port.0 own) → Ready (record seen { own = own }) port frames
+ready {seen} {now} {own} port frames e f there passes are =
     let at = as-own e f in
     let same : now.own ≡ own = ap (λ (s : SessionState). s.own) at in
-    record {
-      there = subst (IsThere None) (e ∙ at) there;
-      sends = sends own port frames (subst (λ (o : OwnState). IsSome (ring_at Tx o port.0)) same some)
-          (subst (λ (o : OwnState). IfSome (port_with_id o port.0) (λ (p : OwnPort). is_pipe_name p.name ≡ false)) same named)
-          (subst (λ (o : OwnState). refusal_at Tx port.0 o ≡ None) same refused) are;
-    }
+    let here : PassesTx false own port.0 = subst (λ (o : OwnState). PassesTx false o port.0) same passes in
+    record { there = subst (IsThere None) (e ∙ at) there; sends = sends own port frames here.ring here.name here.passes are }
 
 pub few-frames : {s : SessionState} {port : PortId} {frames : List Frame} → Ready s port frames → (n : ℕ) → n ≡ length frames → n < 2 ^ 32
 few-frames {s} {port} {frames} k n is =

@@ -48,9 +48,24 @@ lend-count s old new l port lens none lent at are =
     let x : IsLentOffers s new l = subst (λ (bufs : List Buffer). IsLentOffers s bufs l) (all-added old new none) lent in
     lent-length s new l x ∙ (ap (λ (p : PortId). length (offered_lengths p.0 s.own)) at ∙ sym (ap (λ (ls : List ℕ). length ls) are))
 
+-- and they are those of the frames that were made of them
+pub lent-are : (s : SideState) (old new : List Buffer) (l : LentOffers) (port : PortId) (lens : List ℕ) (gots : List Got) → old ≡ [] → IsLentOffers s (drop (length old) new) l → l.port ≡ port → lens ≡ offered_lengths port.0 s.own
+    → gots ≡ gots_of new lens → drop (length old) new ≡ buffers_of gots
+lent-are s old new l port lens gots none lent at are made =
+    all-added old new none ∙ sym (ap buffers_of made ∙ buffers-wrapped new lens (lend-count s old new l port lens none lent at are))
+
 -- no buffer came, and none of the frames was taken
 pub take-none : (s : SideState) (o : Offering) (came : List Buffer) → came ≡ [] → IsOffering s o → CanTake s o.pending.items o came
 unfolding IsDistinct
 take-none s o came none k =
     let few : 0 ≤ length (buffers_of o.pending.items) = omega arith in
     subst (CanTake s o.pending.items o) (sym none) (record { lent = record { lends = k.lent; back = refl; few = few; new = tt; once = tt }; empty = k.empty; room = k.room })
+
+-- frames that none took are offered still
+pub offers-still : (s : SideState) (o left : Offering) → IsOffering s o → left.lent ≡ o.lent → left.bufs ≡ o.bufs → left.pending.items ≡ o.pending.items → IsOffering s left
+offers-still s o left is lent bufs kept =
+    record {
+      lent = subst (λ (gs : List Got). IsLentOffers s (buffers_of gs) left.lent) (sym kept) (subst (IsLentOffers s (buffers_of o.pending.items)) (sym lent) is.lent);
+      empty = rw bufs is.empty;
+      room = rw (bufs, kept) is.room;
+    }

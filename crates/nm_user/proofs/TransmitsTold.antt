@@ -1,18 +1,19 @@
 -- What a put tells, as the caller of the sync sees it.
-use Rattle.std.proofs.Common.{◌≡◌, true, List, [], length, map, take, sym, ap, subst, refl, ◌∙◌, None, IsSome, inr}
-use Rattle.std.specs.Prelude.{IfSome}
-use Rattle.nm_types.specs.Names.{is_pipe_name}
+use Rattle.std.proofs.Common.{◌≡◌, true, List, [], length, map, take, sym, ap, subst, refl, ◌∙◌, None, inr}
 use Rattle.nm_types.specs.declared.fault.StepFault.{StepFault}
 use Rattle.nm_types.specs.declared.fault.StepFault.TheVariants as steps
 use Rattle.nm_types.specs.declared.fault.SyncFault.{SyncFault}
 use Rattle.nm_types.specs.declared.id.PortId.{PortId}
 use Rattle.nm_types.specs.declared.id.Side.TheVariants.{Tx}
-use Rattle.nm_types.specs.OwnPorts.{Arrival, OwnPort, OwnState, port_with_id, ring_at, refusal_in}
+use Rattle.nm_types.specs.OwnPorts.{Arrival, OwnState, bytes_at, refusal_in}
 use Rattle.nm_types.specs.OwnSyncs.{own_after_put}
 use Rattle.nm_region.specs.Buffers.{indices_of}
-use Rattle.nm_port.specs.Own.{refusal_at}
+use Rattle.nm_port.specs.Closing.{bytes_of_buffers}
+use Rattle.nm_own.specs.LentOffers.{offered_buffers}
+use Rattle.nm_port.specs.Offers.{offered_lengths}
 use Rattle.nm_port.specs.Regions.{SideState}
 use Rattle.vale_line.specs.declared.got.Got.{Got}
+use Rattle.vale_line.specs.Gots.{buffers_of}
 use Rattle.vale_entry.specs.declared.entry.Ask.{Ask}
 use Rattle.vale_entry.specs.declared.entry.Ask.TheVariants.{Put, PutKept}
 use Rattle.vale_entry.specs.declared.entry.Reply.TheVariants as replies
@@ -32,29 +33,29 @@ use Rattle.vale_fabric.specs.Settling.{Settling}
 use Rattle.nm_user.specs.declared.sending.Sent.{Sent}
 use Rattle.nm_user.specs.Sessions.{SessionState, IsThere}
 use Rattle.nm_user.specs.Calls.{Made, MadeNone}
-use Rattle.nm_user.specs.Offering.{side_after_fault, sync_fault_of_put}
-use Rattle.nm_user.specs.Syncs.{IsPut, SyncsNot, TransmitsNot, shares_in}
+use Rattle.nm_user.specs.Offering.{gots_of, side_after_fault, sync_fault_of_put}
+use Rattle.nm_user.specs.Syncs.{IsPut, PassesTx, SyncsNot, TransmitsNot, shares_in}
 use Rattle.nm_user.proofs.After.{there-still, whose}
 use Rattle.nm_user.proofs.Plain.{may}
 use Rattle.nm_user.proofs.Sends.{Ends, IsMadeBy, as-own, synced}
-use Rattle.nm_user.proofs.TransmitsPut.{AreOffered, Puts, came-is, gone-there, put-asks, puts, taken-length}
+use Rattle.nm_user.proofs.TransmitsPut.{Puts, came-is, gone-there, put-asks, puts, taken-length}
 
 -- the session, with the frames that its put offers
 pub record CanPut (s : SessionState) (port : PortId) (gots : List Got) : Type 0 where
   pub there : IsThere None s
   pub puts_are : Puts s.own port (items_of gots)
 
-pub can-put : {seen now : SessionState} {own : OwnState} (port : PortId) (gots : List Got) → seen ≡ now → seen.own ≡ own → IsThere None seen → IsSome (ring_at Tx now.own port.0)
-    → IfSome (port_with_id now.own port.0) (λ (p : OwnPort). is_pipe_name p.name ≡ true) → refusal_at Tx port.0 now.own ≡ None → AreOffered own port gots → CanPut (record seen { own = own }) port gots
-can-put {seen} {now} {own} port gots e f there some named refused are =
+pub can-put : {seen now : SessionState} {own : OwnState} (port : PortId) (gots : List Got) → seen ≡ now → seen.own ≡ own → IsThere None seen → PassesTx true now.own port.0
+    → gots ≡ gots_of (buffers_of gots) (offered_lengths port.0 own) → indices_of (buffers_of gots) ≡ offered_buffers port.0 own → bytes_of_buffers (buffers_of gots) ≡ map (bytes_at own) (offered_buffers port.0 own)
+    → CanPut (record seen { own = own }) port gots
+can-put {seen} {now} {own} port gots e f there passes are indices bytes =
     let at = as-own e f in
     let same : now.own ≡ own = ap (λ (s : SessionState). s.own) at in
     let here : IsThere None (record seen { own = own }) = subst (IsThere None) (e ∙ at) there in
+    let tx : PassesTx true own port.0 = subst (λ (o : OwnState). PassesTx true o port.0) same passes in
     record {
       there = here;
-      puts_are = puts {s = record seen { own = own }} port gots here (subst (λ (o : OwnState). IsSome (ring_at Tx o port.0)) same some)
-          (subst (λ (o : OwnState). IfSome (port_with_id o port.0) (λ (p : OwnPort). is_pipe_name p.name ≡ true)) same named)
-          (subst (λ (o : OwnState). refusal_at Tx port.0 o ≡ None) same refused) are;
+      puts_are = puts {s = record seen { own = own }} port gots here tx.ring tx.name tx.passes (record { gots_are = are; indices = indices; bytes = bytes });
     }
 
 pub may-put : {s : SessionState} {port : PortId} {gots : List Got} → CanPut s port gots → MayAsk s.fixed s.knows (Put port (items_of gots))

@@ -1,12 +1,14 @@
 -- What a sync of a session does.
-use Rattle.std.specs.Prelude.{ℕ, true, ◌≡◌, ◌⊎◌, ◌-◌, List, ◌∷◌, length, take, Option, Some, None, option_map}
+use Rattle.std.specs.Prelude.{ℕ, Bool, true, ◌≡◌, ◌⊎◌, ◌-◌, List, ◌∷◌, length, take, Option, Some, None, option_map, IsSome, IfSome}
 use Rattle.std.specs.List.{AllByRecursion}
 use Rattle.nm_types.specs.declared.fault.StepFault.{StepFault}
 use Rattle.nm_types.specs.declared.fault.StepFault.TheVariants as steps
 use Rattle.nm_types.specs.declared.fault.SyncFault.{SyncFault}
 use Rattle.nm_types.specs.declared.fault.SyncFault.TheVariants.{PeerGone, RecordFull, NoMemory}
 use Rattle.nm_types.specs.declared.id.Side.TheVariants.{Tx}
-use Rattle.nm_types.specs.OwnPorts.{OwnRing, OwnPort, OwnState, port_with_id, pushed_count, refusal_in}
+use Rattle.nm_types.specs.Names.{is_pipe_name}
+use Rattle.nm_types.specs.OwnPorts.{OwnRing, OwnPort, OwnState, port_with_id, ring_at, pushed_count, refusal_in}
+use Rattle.nm_port.specs.Own.{refusal_at}
 use Rattle.nm_turn.specs.Numbered.{numbered}
 use Rattle.nm_turn.specs.Passes.{Told}
 use Rattle.nm_turn.specs.Shares.{IsWhole}
@@ -57,6 +59,12 @@ pub record HasTx (own : OwnState) (id : ℕ) : Type 0 where
   pub ring : OwnRing
   pub found : port_with_id own id ≡ Some port
   pub has : port.tx ≡ Some ring
+
+-- the port has a transmit ring whose push no check refuses, and is a pipe's end or none
+pub record PassesTx (is_pipe : Bool) (own : OwnState) (id : ℕ) : Type 0 where
+  pub ring : IsSome (ring_at Tx own id)
+  pub name : IfSome (port_with_id own id) (λ (p : OwnPort). is_pipe_name p.name ≡ is_pipe)
+  pub passes : refusal_at Tx id own ≡ None
 
 -- what the grants gave of a sync's frames
 abbrev pub shares_in : Sent → Shares

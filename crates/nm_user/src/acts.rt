@@ -10,7 +10,8 @@ use nm_own::SlotPlace;
 use nm_types::{PortId, Side, SlotWrite};
 
 impl<'f> Session<'f> {
-    /// Stores a ring's head and cur, any numbers; does nothing if there is no such ring.
+    /// Stores a ring's head and cur, any numbers, which the next sync judges; does nothing if there is
+    /// no such ring.
     pub fn put_positions(&mut self, port: PortId, side: Side, head: u32, cur: u32)
         ensures { self.new
             ≡ record self.old { own = with_positions side port.0 head cur self.old.own } }

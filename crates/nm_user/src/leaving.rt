@@ -20,9 +20,11 @@ use vale_fabric::{Fabric, Pass};
 /// What closing a port told.
 #[derive(Clone, Copy, Debug, PartialEq, Eq)]
 pub struct Detached {
-    /// The frames that were granted to the port and not read.
+    /// The frames in the port's line when it went: what was granted to it, or put to a pipe's end,
+    /// and no sync of it had read. They are lost.
     pub unread: u32,
-    /// What was found of the list of its extra buffers.
+    /// How many extra buffers its list reached, from its head on, before it ended, met an index that is
+    /// in no extra position of the port, or came to one again; and how many it did not reach.
     pub chain: Chain,
 }
 
@@ -54,7 +56,10 @@ fn finish<R: Wait>(
 }
 
 impl<'f> Session<'f> {
-    /// Closes a port: it is shut, and finished once no lease of it is out.
+    /// Closes a port: it is shut, so that nothing more is sent from it or granted to it, and finished
+    /// once no lease of it is out. Until then the call waits for those who have the leases; that they
+    /// complete them is not claimed. All of the port's buffers go back to the pool, those named in its
+    /// slots and those that its chain does not reach too. Its monitor watches it no more.
     pub fn detach<R: Wait>(&mut self, rt: &R, port: PortId) -> Detached
         requires { IsSome (port_with_id self.old.own port.0) }
         ensures { IsDetached self.old self.new port.0 result }
@@ -80,7 +85,8 @@ impl<'f> Session<'f> {
         }
     }
 
-    /// Closes the ports in the order in which they were opened, and leaves.
+    /// Closes the ports in the order in which they were opened, as `detach` does and with its wait,
+    /// and leaves: netmap(4) closes its descriptor. The pass speaks for the session no more.
     pub fn leave<R: Wait>(self, rt: &R) -> Pass
         ensures pass { IsPassIn self.entry.fabric result }
         ensures left { IsLeft self.entry (knowing result) }

@@ -9,8 +9,8 @@ use crate::session::Session;
 use vale_fabric::Pass;
 
 impl<'f> Session<'f> {
-    /// Cuts the share of the session's pass in two. The new pass has seen as much, and speaks for
-    /// no session.
+    /// Cuts the share of the session's pass in two, so that another user may come on another thread.
+    /// The new pass has seen as much, and speaks for no session.
     pub fn fork(&mut self) -> Pass
         ensures pass { IsPassIn self.old.fabric result }
         ensures kept { self.new ≡ record self.old { knows = kept_view self.old.knows } }
@@ -19,7 +19,8 @@ impl<'f> Session<'f> {
         self.fabric.fork(&mut self.pass)
     }
 
-    /// Takes another pass into the session's, with its share and the sessions for which it speaks.
+    /// Takes another pass of the fabric into the session's, with its share and the sessions for which
+    /// it speaks.
     pub fn join(&mut self, other: Pass)
         requires other { IsPassIn self.old.fabric other }
         ensures joined { self.new

@@ -1,10 +1,9 @@
 //! A transmit sync of a pipe end: what is pushed is offered to the other end.
 ghost use Rattle.std.specs.Prelude.{ℕ, true, ◌≡◌, ◌≤◌, List, [], length, map, None};
-ghost use Rattle.std.specs.Prelude.{IsSome, IfSome, IfOk, IfErr};
+ghost use Rattle.std.specs.Prelude.{IsSome, IfOk, IfErr};
 ghost use Rattle.std.specs.Vec.{vec_capacity};
 ghost use Rattle.nm_types.specs.declared.id.Side.TheVariants.{Tx};
-ghost use Rattle.nm_types.specs.Names.{is_pipe_name};
-ghost use Rattle.nm_types.specs.OwnPorts.{bytes_at, port_with_id, ring_at};
+ghost use Rattle.nm_types.specs.OwnPorts.{bytes_at, ring_at};
 ghost use Rattle.nm_types.specs.OwnSyncs.{own_after_put};
 ghost use Rattle.nm_region.specs.Buffers.{indices_of};
 ghost use Rattle.nm_port.specs.Own.{refusal_at};
@@ -17,7 +16,7 @@ ghost use Rattle.vale_line.specs.declared.got.Got.{Got};
 ghost use Rattle.vale_line.specs.Gots.{buffers_of};
 ghost use Rattle.nm_user.specs.Offering.{gots_of, side_after_fault, sync_fault_of_put};
 ghost use Rattle.nm_user.specs.Offering.{IsOffering, CanTake};
-ghost use Rattle.nm_user.specs.Syncs.{IsPut, TransmitsNot};
+ghost use Rattle.nm_user.specs.Syncs.{IsPut, PassesTx, TransmitsNot};
 
 use crate::receiving::put_back;
 use crate::sending::Sent;
@@ -258,10 +257,7 @@ impl<'f> Session<'f> {
         port: PortId,
         gate: &G,
     ) -> Result<Sent, SyncFault>
-        requires ring { IsSome (ring_at Tx self.old.own port.0) }
-        requires name { IfSome (port_with_id self.old.own port.0)
-            (λ p. is_pipe_name p.name ≡ true) }
-        requires passes { refusal_at Tx port.0 self.old.own ≡ None }
+        requires { PassesTx true self.old.own port.0 }
         ensures put { IfOk result (IsPut self.old self.new port.0) }
         ensures refused { IfErr result (TransmitsNot self.old self.new port.0) }
     {
@@ -288,9 +284,14 @@ impl<'f> Session<'f> {
         };
         let entry = offers.entry();
         put_back(&mut self.own, offering.taken(back));
-        let shares = self
-            .fabric
-            .settle(rt, &mut self.pass, gate, self.user, offers, Frames::Batch(&copies));
+        let shares = self.fabric.settle(
+            rt,
+            &mut self.pass,
+            gate,
+            self.user,
+            offers,
+            Frames::Batch(&copies),
+        );
         Ok(Sent {
             entry,
             pushed: took,

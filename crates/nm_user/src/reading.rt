@@ -59,7 +59,8 @@ impl<'f> Session<'f> {
         }
     }
 
-    /// The positions of a port's ring, if the session has that port and the port that ring.
+    /// The positions of a port's ring, if the session has that port and the port that ring: a monitor
+    /// has no transmit ring.
     pub fn ring(&self, port: PortId, side: Side) -> Option<&Ring>
         ensures { option_copied result ≡ option_map ring_of (ring_at side self.now.own port.0) }
     {
@@ -69,7 +70,8 @@ impl<'f> Session<'f> {
         }
     }
 
-    /// One of the user's slots; none if it is not the user's.
+    /// One of the user's slots, those from the accepted head to before the tail (`Ring::user_range`);
+    /// none if it is not the user's.
     pub fn slot(&self, port: PortId, side: Side, at: u32) -> Option<&Slot>
         ensures { option_copied result ≡ user_slot_at side self.now.own port.0 at }
     {
@@ -79,7 +81,8 @@ impl<'f> Session<'f> {
         }
     }
 
-    /// The 2,048 bytes of a buffer that the user may name.
+    /// The 2,048 bytes of a buffer that the user may name: one in a user slot's place or an extra
+    /// position of any of its ports. None for any other index.
     pub fn bytes(&self, idx: u32) -> Option<&[u8]>
         ensures { option_copied result ≡ named_bytes self.now.own idx }
     {
@@ -89,8 +92,8 @@ impl<'f> Session<'f> {
         }
     }
 
-    /// The index that a port's list of extra buffers begins with, any number; none if the session
-    /// has no such port.
+    /// The index that a port's list of extra buffers begins with, any number, where 0 is the empty list;
+    /// none if the session has no such port. netmap(4) calls this `ni_bufs_head`.
     pub fn extra_head(&self, port: PortId) -> Option<u32>
         ensures { result ≡ option_map head_of_extras (port_with_id self.now.own port.0) }
     {

@@ -31,14 +31,14 @@ use vale_book::Synced;
 use vale_fabric::{Fabric, Frames, Pass};
 use vale_line::Got;
 
-/// What a receive sync told.
+/// What a receive sync told. The frames that it brought stand in the last slots before the tail.
 #[derive(Clone, Copy, Debug, PartialEq, Eq)]
 pub struct Received {
-    /// The number of its entry.
+    /// The number of its entry: that of a sync, or at a pipe's end of a get.
     pub entry: u32,
-    /// The frames that came.
+    /// How many frames came, each in a slot of its own.
     pub gave: u32,
-    /// The buffers that went back.
+    /// How many buffers went back: one for each slot that was pushed.
     pub returned: u32,
 }
 
@@ -232,8 +232,14 @@ impl<'f> Session<'f> {
             }
         };
         let (entry, gave) = (offers.entry(), got.len() as u32);
-        self.fabric
-            .settle(rt, &mut self.pass, gate, self.user, offers, Frames::Gots(&got));
+        self.fabric.settle(
+            rt,
+            &mut self.pass,
+            gate,
+            self.user,
+            offers,
+            Frames::Gots(&got),
+        );
         publish_all(&mut own, port, got);
         put_back(&mut self.own, own);
         Ok(Received {
@@ -272,12 +278,12 @@ impl<'f> Session<'f> {
         }
     }
 
-    /// Syncs a port's receive ring. First `head` and `cur` are checked, then each pushed slot, in
-    /// order from the accepted head to before `head`. If no check refuses, the buffers that the
-    /// pushed slots name go back to the port's line, `head` is the accepted head, and the frames that
-    /// are ready there are published from the tail on: of a switch's port, a pipe's end or a monitor
-    /// alike. What the port's own monitor wants of them is granted, filled and completed before the
-    /// call returns.
+    /// Syncs a port's receive ring: netmap(4) calls this NIOCRXSYNC. First `head` and `cur` are
+    /// checked, then each pushed slot, in order from the accepted head to before `head`. If no check
+    /// refuses, the buffers that the pushed slots name go back to the port's line, `head` is the
+    /// accepted head, and the frames that are ready there are published from the tail on, each in a
+    /// slot with its buffer and its length: of a switch's port, a pipe's end or a monitor alike. What
+    /// the port's own monitor wants of them is granted, filled and completed before the call returns.
     ///
     /// The gate is passed as frames go to the monitor: after each grant that gave a lease, after its
     /// filling and after its completion.

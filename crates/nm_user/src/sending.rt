@@ -1,16 +1,15 @@
 //! A transmit sync: what was pushed is sent, or put to a pipe's other end, and what it offers is
 //! settled.
-ghost use Rattle.std.specs.Prelude.{false, true, ◌≡◌, IsSome, IfSome, IfOk, IfErr, OnOk, None, Some};
+ghost use Rattle.std.specs.Prelude.{false, true, ◌≡◌, IsSome, IfOk, IfErr, OnOk, Some};
 ghost use Rattle.nm_types.specs.declared.id.Side.TheVariants.{Tx};
-ghost use Rattle.nm_types.specs.Names.{is_pipe_name};
-ghost use Rattle.nm_types.specs.OwnPorts.{port_with_id, ring_at};
+ghost use Rattle.nm_types.specs.OwnPorts.{ring_at};
 ghost use Rattle.nm_port.specs.Own.{refusal_at};
 ghost use Rattle.nm_port.specs.Sides.{TellsRefusal};
 ghost use Rattle.vale_entry.specs.declared.entry.Ask.TheVariants as asks;
 ghost use Rattle.vale_entry.specs.declared.entry.Reply.TheVariants as replies;
 ghost use Rattle.vale_entry.specs.Legal.{fits_fault};
 ghost use Rattle.nm_user.specs.Calls.{Made, MadeNone};
-ghost use Rattle.nm_user.specs.Syncs.{IsSent, IsTransmitted, IsUnsent, TransmitsNot};
+ghost use Rattle.nm_user.specs.Syncs.{IsSent, IsTransmitted, IsUnsent, PassesTx, TransmitsNot};
 
 use crate::session::Session;
 use nm_io::Gate;
@@ -18,21 +17,24 @@ use nm_types::{PortId, Side, StepFault, SyncFault};
 use std::sync::Wait;
 use vale_fabric::Frames;
 
-/// What a sync that sent frames told.
+/// What a transmit sync told, in frames. The last three count a frame once for each port that wants
+/// it: the ports of the switch to which it goes, and the sender's monitor. At a pipe's end that is the
+/// monitor alone, as the other end has what it took at once.
 #[derive(Clone, Copy, Debug, PartialEq, Eq)]
 pub struct Sent {
-    /// The number of its entry.
+    /// The number of its entry: that of a send, or at a pipe's end of a put.
     pub entry: u32,
-    /// The frames that were sent: all that were pushed, or at a pipe's end those that the other end
-    /// took.
+    /// The frames that went: at a port of a switch all that were pushed, at a pipe's end the first
+    /// ones, as many as the other end took. Those that it did not take stay pushed.
     pub pushed: u32,
-    /// Those of them that were too short to have addresses.
+    /// Those of them with fewer than 14 bytes, which go to no port of the switch. 0 at a pipe's end.
     pub short: u32,
-    /// Those of them, not short, that went to no port.
+    /// Those of them, not short, that went to no port of the switch: the destination is behind the
+    /// sender, or no other port is open. 0 at a pipe's end.
     pub lone: u32,
-    /// The frames for which the ports that wanted them had room, counted once for each such port.
+    /// Those for which there was room, so that they were copied there.
     pub given: u32,
-    /// Those for which they had none.
+    /// Those for which there was none.
     pub full: u32,
     /// Those whose port was not open any more.
     pub gone: u32,
@@ -48,10 +50,7 @@ impl<'f> Session<'f> {
         port: PortId,
         gate: &G,
     ) -> Result<Sent, StepFault>
-        requires ring { IsSome (ring_at Tx self.old.own port.0) }
-        requires name { IfSome (port_with_id self.old.own port.0)
-            (λ p. is_pipe_name p.name ≡ false) }
-        requires passes { refusal_at Tx port.0 self.old.own ≡ None }
+        requires { PassesTx false self.old.own port.0 }
         ensures sent { IfOk result (IsSent self.old self.new port.0) }
         ensures full { IfErr result (IsUnsent self.old self.new port.0) }
     {
@@ -67,9 +66,14 @@ impl<'f> Session<'f> {
         };
         let (entry, short, lone) = (offers.entry(), offers.short(), offers.lone());
         own.sent(port);
-        let shares = self
-            .fabric
-            .settle(rt, &mut self.pass, gate, self.user, offers, Frames::Batch(&batch));
+        let shares = self.fabric.settle(
+            rt,
+            &mut self.pass,
+            gate,
+            self.user,
+            offers,
+            Frames::Batch(&batch),
+        );
         Ok(Sent {
             entry,
             pushed,
@@ -129,9 +133,9 @@ impl<'f> Session<'f> {
         }
     }
 
-    /// Syncs a port's transmit ring. First `head` and `cur` are checked, then each pushed slot, in
-    /// order from the accepted head to before `head`. If no check refuses, `head` is the accepted
-    /// head, and the frames go on in their order:
+    /// Syncs a port's transmit ring: netmap(4) calls this NIOCTXSYNC. First `head` and `cur` are
+    /// checked, then each pushed slot, in order from the accepted head to before `head`. If no check
+    /// refuses, `head` is the accepted head, and the frames go on in their order:
     ///
     /// At a port that is no pipe's end all frames that were pushed are sent, with their bytes, and the
     /// tail goes on by as many slots. A frame is not kept for a port that has no space for it.

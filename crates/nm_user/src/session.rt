@@ -12,7 +12,8 @@ use std::marker::Model;
 use std::sync::Wait;
 use vale_fabric::{Fabric, Pass};
 
-/// A user's session on a fabric, which it borrows, with the rings, slots and buffers of its ports.
+/// A user's session on a fabric, which it borrows, with the rings, slots and buffers of its ports. It
+/// cannot be dropped, and ends by `leave`.
 pub struct Session<'f> {
     pub(crate) fabric: &'f Fabric,
     pub(crate) pass: Pass,
@@ -36,8 +37,12 @@ impl<'f> Model for Session<'f> {
 }
 
 impl<'f> Session<'f> {
-    /// A user comes, as a session for which the pass speaks. If the record is full or memory is
-    /// wanting, the pass is handed back.
+    /// A user comes, as a session for which the pass speaks from then on: netmap(4) opens
+    /// /dev/netmap. The pass is one of this fabric; `user` is any number, which the entry and the gates
+    /// of the session's syncs are told.
+    ///
+    /// `RecordFull`: the record has no room for the entry and for that of the session's leaving.
+    /// `NoMemory`: memory is wanting. Then no entry was made, and the pass is handed back.
     pub fn enter<R: Wait>(
         alloc: Global,
         rt: &R,
@@ -77,7 +82,8 @@ impl<'f> Session<'f> {
         }
     }
 
-    /// What a port has counted.
+    /// What a port has counted since it was opened, in frames. `RecordFull` and `NoMemory`: no entry
+    /// was made.
     pub fn stats<R: Wait>(&mut self, rt: &R, port: PortId) -> Result<Counts, StepFault>
         requires { IsSome (port_with_id self.old.own port.0) }
         ensures made { IfOk result (λ counts. Made self.old self.new (asks.Stat port)

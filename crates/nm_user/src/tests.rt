@@ -11,7 +11,12 @@ use std::sync::Wait;
 use std::test::Fail;
 use vale_fabric::{Fabric, Pass};
 
+mod extras;
+mod gates;
+mod lines;
+mod refusals;
 mod threads;
+mod waiting;
 
 const LIMITS: Limits = Limits {
     entries: 100,

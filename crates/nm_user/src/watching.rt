@@ -10,8 +10,13 @@ use nm_types::{Name, PortId, Sides, WatchFault};
 use std::sync::Wait;
 
 impl<'f> Session<'f> {
-    /// A monitor watches these sides of the port of this name. Answers which port that is. That no
-    /// open port has the name, and that the port has a monitor, are entries.
+    /// A monitor watches these sides of the port of this name, which is a switch's port or a pipe's
+    /// end of any session. Answers which port that is. From then on the monitor is granted a copy of
+    /// each frame that the port sends (`T`), that its syncs bring (`R`), or both (`TR`), as far as it
+    /// has space. A monitor may watch several ports, until it or they are closed.
+    ///
+    /// `NoTarget`: no open port has the name. `Watched`: the port has a monitor, which may be this one.
+    /// Both are entries. `RecordFull` and `NoMemory` are none, and nothing has changed.
     pub fn watch<R: Wait>(
         &mut self,
         rt: &R,

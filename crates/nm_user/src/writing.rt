@@ -39,7 +39,8 @@ fn lend_slot_in(own: &mut Option<OwnSide>, port: PortId, side: Side, at: u32) ->
 impl<'f> Session<'f> {
     ghost use Rattle.nm_user.specs.LentBytes.{LendsBytes, LendsNamed, LendsSlot};
 
-    /// Stores a ring's head, any number. Answers whether there is such a ring.
+    /// Stores a ring's head, any number, which the next sync judges. Answers whether there is such a
+    /// ring.
     pub fn set_head(&mut self, port: PortId, side: Side, head: u32) -> bool
         ensures there { result ≡ is_some (ring_at side self.old.own port.0) }
         ensures own { self.new
@@ -52,7 +53,8 @@ impl<'f> Session<'f> {
         there
     }
 
-    /// Stores a ring's cur, any number. Answers whether there is such a ring.
+    /// Stores a ring's cur, any number, which the next sync judges. Answers whether there is such a
+    /// ring.
     pub fn set_cur(&mut self, port: PortId, side: Side, cur: u32) -> bool
         ensures there { result ≡ is_some (ring_at side self.old.own port.0) }
         ensures own { self.new
@@ -65,8 +67,8 @@ impl<'f> Session<'f> {
         there
     }
 
-    /// Stores the index that a port's list of extra buffers begins with, any number. Answers
-    /// whether there is such a port.
+    /// Stores the index that a port's list of extra buffers begins with, any number: no call judges it,
+    /// and `detach` tells how far the list led. Answers whether there is such a port.
     pub fn set_extra_head(&mut self, port: PortId, idx: u32) -> bool
         ensures there { result ≡ is_some (port_with_id self.old.own port.0) }
         ensures own { self.new
@@ -80,7 +82,8 @@ impl<'f> Session<'f> {
     }
 
     /// One of the user's slots, to be written; none if it is not the user's. The session then has
-    /// what was written there, and is otherwise unchanged.
+    /// what was written there, and is otherwise unchanged. A slot that names another buffer than the
+    /// one in its place is to be marked with `NS_BUF_CHANGED`, or its sync is refused.
     pub fn slot_mut(&mut self, port: PortId, side: Side, at: u32) -> Option<&mut Slot>
         ensures* writes_back { sem 𝓛 (LendsSlot self.entry side port.0 at result) }
         ensures slot { option_copied_mut result ≡ user_slot_at side self.old.own port.0 at }

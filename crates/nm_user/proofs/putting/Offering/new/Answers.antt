@@ -8,7 +8,7 @@ use Rattle.nm_port.specs.Regions.{AreOf}
 use Rattle.vale_line.specs.Gots.{buffer_of, buffers_of}
 use Rattle.nm_user.specs.Offering.{gots_of}
 use Rattle.nm_user.proofs.ReceivesCome.{all-added}
-use Rattle.nm_user.proofs.TransmitsLent.{buffers-wrapped, lend-count}
+use Rattle.nm_user.proofs.TransmitsLent.{lend-count, lent-are}
 use Rattle.nm_user.proofs.putting.Offering.new.Goals as goal
 
 pub wrap-requires-clause-count : goal.wrap-requires-clause-count
@@ -19,20 +19,21 @@ wrap-requires-clause-count c =
 pub returns-clause-offering : goal.returns-clause-offering
 returns-clause-offering c =
     let v = c.into_vecs-lengths in
-    let new = c.lend_offered-lent.new.pending.items in
-    let all = all-added v.result.2.items new v.ensures.bufs in
-    let count = lend-count c.args.own v.result.2.items new c.lend_offered-lent.result c.args.port c.deref.result.now v.ensures.bufs c.lend_offered-lent.ensures.lent c.lend_offered-lent.ensures.port (c.deref.ensures.value ∙ (v.ensures.lengths ∙ c.requires.room)) in
+    let l = c.lend_offered-lent in
+    let new = l.new.pending.items in
+    let are = c.deref.ensures.value ∙ (v.ensures.lengths ∙ c.requires.room) in
     let gots = c.wrap.new.pending.items in
-    let bufs : buffers_of gots ≡ new = ap buffers_of c.wrap.ensures.pending ∙ buffers-wrapped new c.deref.result.now count in
+    let lent = lent-are c.args.own v.result.2.items new l.result c.args.port c.deref.result.now gots v.ensures.bufs l.ensures.lent l.ensures.port are c.wrap.ensures.pending in
     let a : length (buffers_of gots) ≡ length gots = length-map gots buffer_of in
-    let b : length (buffers_of gots) ≡ length new = ap (λ (bs : List Buffer). length bs) bufs in
+    let b : length new ≡ length (buffers_of gots) = ap (λ (bs : List Buffer). length bs) (sym (all-added v.result.2.items new v.ensures.bufs) ∙ lent) in
+    let count : length new ≡ length c.deref.result.now = lend-count c.args.own v.result.2.items new l.result c.args.port c.deref.result.now v.ensures.bufs l.ensures.lent l.ensures.port are in
     let d : length c.deref.result.now ≡ length c.args.room = ap (λ (ls : List ℕ). length ls) (c.deref.ensures.value ∙ v.ensures.lengths) in
     let e : length c.args.room ≤ vec_capacity v.result.2 = v.ensures.bufs_room in
-    let f : vec_capacity c.lend_offered-lent.new.pending ≡ vec_capacity v.result.2 = c.lend_offered-lent.ensures.capacity in
-    let h : vec_capacity c.wrap.new.bufs ≡ vec_capacity c.lend_offered-lent.new.pending = c.wrap.ensures.capacity in
+    let f : vec_capacity l.new.pending ≡ vec_capacity v.result.2 = l.ensures.capacity in
+    let h : vec_capacity c.wrap.new.bufs ≡ vec_capacity l.new.pending = c.wrap.ensures.capacity in
     let fits : length gots ≤ vec_capacity c.wrap.new.bufs = omega (arith, a, b, count, d, e, f, h) in
     record {
-      lent = subst (λ (bs : List Buffer). IsLentOffers c.args.own bs c.lend_offered-lent.result) (all ∙ sym bufs) c.lend_offered-lent.ensures.lent;
+      lent = subst (λ (bs : List Buffer). IsLentOffers c.args.own bs l.result) lent l.ensures.lent;
       empty = c.wrap.ensures.bufs;
       room = fits;
     }
@@ -40,35 +41,32 @@ returns-clause-offering c =
 pub returns-clause-pending : goal.returns-clause-pending
 returns-clause-pending c =
     let v = c.into_vecs-lengths in
-    let new = c.lend_offered-lent.new.pending.items in
+    let l = c.lend_offered-lent in
+    let new = l.new.pending.items in
     let are = c.deref.ensures.value ∙ (v.ensures.lengths ∙ c.requires.room) in
-    let count = lend-count c.args.own v.result.2.items new c.lend_offered-lent.result c.args.port c.deref.result.now v.ensures.bufs c.lend_offered-lent.ensures.lent c.lend_offered-lent.ensures.port are in
-    let bufs : buffers_of c.wrap.new.pending.items ≡ new = ap buffers_of c.wrap.ensures.pending ∙ buffers-wrapped new c.deref.result.now count in
-    c.wrap.ensures.pending ∙ ap₂ (λ (bs : List Buffer) (ls : List ℕ). gots_of bs ls) (sym bufs) are
+    let lent = lent-are c.args.own v.result.2.items new l.result c.args.port c.deref.result.now c.wrap.new.pending.items v.ensures.bufs l.ensures.lent l.ensures.port are c.wrap.ensures.pending in
+    c.wrap.ensures.pending ∙ ap₂ (λ (bs : List Buffer) (ls : List ℕ). gots_of bs ls) (sym (all-added v.result.2.items new v.ensures.bufs) ∙ lent) are
 
 pub returns-clause-buffers : goal.returns-clause-buffers
 returns-clause-buffers c =
     let v = c.into_vecs-lengths in
-    let new = c.lend_offered-lent.new.pending.items in
-    let all = all-added v.result.2.items new v.ensures.bufs in
-    let count = lend-count c.args.own v.result.2.items new c.lend_offered-lent.result c.args.port c.deref.result.now v.ensures.bufs c.lend_offered-lent.ensures.lent c.lend_offered-lent.ensures.port (c.deref.ensures.value ∙ (v.ensures.lengths ∙ c.requires.room)) in
-    let bufs : buffers_of c.wrap.new.pending.items ≡ new = ap buffers_of c.wrap.ensures.pending ∙ buffers-wrapped new c.deref.result.now count in
-    ap indices_of (bufs ∙ sym all) ∙ c.lend_offered-lent.ensures.buffers
+    let l = c.lend_offered-lent in
+    let are = c.deref.ensures.value ∙ (v.ensures.lengths ∙ c.requires.room) in
+    let lent = lent-are c.args.own v.result.2.items l.new.pending.items l.result c.args.port c.deref.result.now c.wrap.new.pending.items v.ensures.bufs l.ensures.lent l.ensures.port are c.wrap.ensures.pending in
+    ap indices_of (sym lent) ∙ l.ensures.buffers
 
 pub returns-clause-bytes : goal.returns-clause-bytes
 returns-clause-bytes c =
     let v = c.into_vecs-lengths in
-    let new = c.lend_offered-lent.new.pending.items in
-    let all = all-added v.result.2.items new v.ensures.bufs in
-    let count = lend-count c.args.own v.result.2.items new c.lend_offered-lent.result c.args.port c.deref.result.now v.ensures.bufs c.lend_offered-lent.ensures.lent c.lend_offered-lent.ensures.port (c.deref.ensures.value ∙ (v.ensures.lengths ∙ c.requires.room)) in
-    let bufs : buffers_of c.wrap.new.pending.items ≡ new = ap buffers_of c.wrap.ensures.pending ∙ buffers-wrapped new c.deref.result.now count in
-    ap bytes_of_buffers (bufs ∙ sym all) ∙ c.lend_offered-lent.ensures.bytes
+    let l = c.lend_offered-lent in
+    let are = c.deref.ensures.value ∙ (v.ensures.lengths ∙ c.requires.room) in
+    let lent = lent-are c.args.own v.result.2.items l.new.pending.items l.result c.args.port c.deref.result.now c.wrap.new.pending.items v.ensures.bufs l.ensures.lent l.ensures.port are c.wrap.ensures.pending in
+    ap bytes_of_buffers (sym lent) ∙ l.ensures.bytes
 
 pub returns-clause-out : goal.returns-clause-out
 returns-clause-out c region of =
     let v = c.into_vecs-lengths in
-    let new = c.lend_offered-lent.new.pending.items in
-    let all = all-added v.result.2.items new v.ensures.bufs in
-    let count = lend-count c.args.own v.result.2.items new c.lend_offered-lent.result c.args.port c.deref.result.now v.ensures.bufs c.lend_offered-lent.ensures.lent c.lend_offered-lent.ensures.port (c.deref.ensures.value ∙ (v.ensures.lengths ∙ c.requires.room)) in
-    let bufs : buffers_of c.wrap.new.pending.items ≡ new = ap buffers_of c.wrap.ensures.pending ∙ buffers-wrapped new c.deref.result.now count in
-    subst (AreOf region) (all ∙ sym bufs) (c.lend_offered-lent.ensures.out region of)
+    let l = c.lend_offered-lent in
+    let are = c.deref.ensures.value ∙ (v.ensures.lengths ∙ c.requires.room) in
+    let lent = lent-are c.args.own v.result.2.items l.new.pending.items l.result c.args.port c.deref.result.now c.wrap.new.pending.items v.ensures.bufs l.ensures.lent l.ensures.port are c.wrap.ensures.pending in
+    subst (AreOf region) lent (l.ensures.out region of)

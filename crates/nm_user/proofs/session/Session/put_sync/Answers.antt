@@ -17,7 +17,8 @@ use Rattle.nm_user.specs.declared.sending.Sent.{Sent}
 use Rattle.nm_user.specs.Sessions.{SessionState, IsThere, own_in, session_seen}
 use Rattle.nm_user.specs.Offering.{IsOffering, side_after_fault}
 use Rattle.nm_user.proofs.Written.{region-of}
-use Rattle.nm_user.proofs.TransmitsPut.{AreOffered, single-wrapped, put-ends, took-there}
+use Rattle.nm_user.proofs.TransmitsLent.{offers-still}
+use Rattle.nm_user.proofs.TransmitsPut.{single-wrapped, put-ends, took-there}
 use Rattle.nm_user.proofs.TransmitsTold.{can-put, may-put, fault-there, not-at, put-at}
 use Rattle.nm_user.proofs.TransmitsCome.{come-new, can-take}
 use Rattle.nm_user.proofs.session.Session.put_sync.Goals as goal
@@ -27,8 +28,7 @@ pipe_put-requires-clause-may g c =
     let had : c.self.inside.own ≡ Some c.in-Some.own = search rules in
     let off = c.new-offering in
     let gots = off.result.pending.items in
-    let are : AreOffered c.in-Some.own.own c.args.port gots = record { gots_are = off.ensures.pending; indices = off.ensures.buffers; bytes = off.ensures.bytes } in
-    let k = can-put c.args.port gots c.self.view_is (ap own_in had) c.self.invariant.there c.requires.ring c.requires.name c.requires.passes are in
+    let k = can-put c.args.port gots c.self.view_is (ap own_in had) c.self.invariant.there c.requires off.ensures.pending off.ensures.buffers off.ensures.bytes in
     may-put k
 
 pub pipe_put-requires-clause-region : goal.pipe_put-requires-clause-region
@@ -46,17 +46,11 @@ invariant_of-self g c =
     let had : c.self.inside.own ≡ Some c.in-Some.own = search rules in
     let off = c.new-offering in
     let gots = off.result.pending.items in
-    let are : AreOffered c.in-Some.own.own c.args.port gots = record { gots_are = off.ensures.pending; indices = off.ensures.buffers; bytes = off.ensures.bytes } in
-    let k = can-put c.args.port gots c.self.view_is (ap own_in had) c.self.invariant.there c.requires.ring c.requires.name c.requires.passes are in
+    let k = can-put c.args.port gots c.self.view_is (ap own_in had) c.self.invariant.there c.requires off.ensures.pending off.ensures.buffers off.ensures.bytes in
     let seen = session_seen c.self.inside in
     let w = knowing c.pipe_put.new.pass in
-    let kept : c.pipe_put.new.pending.items ≡ gots = c.in-Err.ensures.kept in
     let left : Offering = record { lent = off.result.lent; pending = c.pipe_put.new.pending; bufs = off.result.bufs } in
-    let is : IsOffering c.in-Some.own left = record {
-      lent = subst (λ (gs : List Got). IsLentOffers c.in-Some.own (buffers_of gs) off.result.lent) (sym kept) off.ensures.offering.lent;
-      empty = off.ensures.offering.empty;
-      room = subst (λ (gs : List Got). length gs ≤ vec_capacity off.result.bufs) (sym kept) off.ensures.offering.room;
-    } in
+    let is = offers-still c.in-Some.own off.result left off.ensures.offering refl refl c.in-Err.ensures.kept in
     let own-now : own_in c.put_back.new.away ≡ (side_after_fault c.in-Err.fault c.args.port.0 c.in-Some.own).own =
     ap own_in c.put_back.ensures ∙ (c.refused.ensures.own c.in-Some.own is ∙ ap (λ (p : PortId). (side_after_fault c.in-Err.fault p.0 c.in-Some.own).own) off.ensures.port) in
     record {
@@ -72,17 +66,11 @@ returns-in-Err-clause-refused g c =
     let had : c.self.inside.own ≡ Some c.in-Some.own = search rules in
     let off = c.new-offering in
     let gots = off.result.pending.items in
-    let are : AreOffered c.in-Some.own.own c.args.port gots = record { gots_are = off.ensures.pending; indices = off.ensures.buffers; bytes = off.ensures.bytes } in
-    let k = can-put c.args.port gots c.self.view_is (ap own_in had) c.self.invariant.there c.requires.ring c.requires.name c.requires.passes are in
+    let k = can-put c.args.port gots c.self.view_is (ap own_in had) c.self.invariant.there c.requires off.ensures.pending off.ensures.buffers off.ensures.bytes in
     let seen = session_seen c.self.inside in
     let w = knowing c.pipe_put.new.pass in
-    let kept : c.pipe_put.new.pending.items ≡ gots = c.in-Err.ensures.kept in
     let left : Offering = record { lent = off.result.lent; pending = c.pipe_put.new.pending; bufs = off.result.bufs } in
-    let is : IsOffering c.in-Some.own left = record {
-      lent = subst (λ (gs : List Got). IsLentOffers c.in-Some.own (buffers_of gs) off.result.lent) (sym kept) off.ensures.offering.lent;
-      empty = off.ensures.offering.empty;
-      room = subst (λ (gs : List Got). length gs ≤ vec_capacity off.result.bufs) (sym kept) off.ensures.offering.room;
-    } in
+    let is = offers-still c.in-Some.own off.result left off.ensures.offering refl refl c.in-Err.ensures.kept in
     let own-now : own_in c.put_back.new.away ≡ (side_after_fault c.in-Err.fault c.args.port.0 c.in-Some.own).own =
     ap own_in c.put_back.ensures ∙ (c.refused.ensures.own c.in-Some.own is ∙ ap (λ (p : PortId). (side_after_fault c.in-Err.fault p.0 c.in-Some.own).own) off.ensures.port) in
     not-at c.in-Some.own c.in-Err.fault c.sync_fault_of.result c.self.view_is (ap own_in had) k c.in-Err.ensures.refused own-now c.sync_fault_of.ensures
@@ -92,8 +80,7 @@ taken-requires g c =
     let had : c.self.inside.own ≡ Some c.in-Some.own = search rules in
     let off = c.new-offering in
     let gots = off.result.pending.items in
-    let are : AreOffered c.in-Some.own.own c.args.port gots = record { gots_are = off.ensures.pending; indices = off.ensures.buffers; bytes = off.ensures.bytes } in
-    let k = can-put c.args.port gots c.self.view_is (ap own_in had) c.self.invariant.there c.requires.ring c.requires.name c.requires.passes are in
+    let k = can-put c.args.port gots c.self.view_is (ap own_in had) c.self.invariant.there c.requires off.ensures.pending off.ensures.buffers off.ensures.bytes in
     let seen = session_seen c.self.inside in
     let w = knowing c.pipe_put.new.pass in
     let s : SessionState = record seen { own = c.in-Some.own.own } in
@@ -109,8 +96,7 @@ invariant_of-self-2 g c =
     let had : c.self.inside.own ≡ Some c.in-Some.own = search rules in
     let off = c.new-offering in
     let gots = off.result.pending.items in
-    let are : AreOffered c.in-Some.own.own c.args.port gots = record { gots_are = off.ensures.pending; indices = off.ensures.buffers; bytes = off.ensures.bytes } in
-    let k = can-put c.args.port gots c.self.view_is (ap own_in had) c.self.invariant.there c.requires.ring c.requires.name c.requires.passes are in
+    let k = can-put c.args.port gots c.self.view_is (ap own_in had) c.self.invariant.there c.requires off.ensures.pending off.ensures.buffers off.ensures.bytes in
     let seen = session_seen c.self.inside in
     let w = knowing c.pipe_put.new.pass in
     let s : SessionState = record seen { own = c.in-Some.own.own } in
@@ -135,8 +121,7 @@ returns-clause-put g c =
     let had : c.self.inside.own ≡ Some c.in-Some.own = search rules in
     let off = c.new-offering in
     let gots = off.result.pending.items in
-    let are : AreOffered c.in-Some.own.own c.args.port gots = record { gots_are = off.ensures.pending; indices = off.ensures.buffers; bytes = off.ensures.bytes } in
-    let k = can-put c.args.port gots c.self.view_is (ap own_in had) c.self.invariant.there c.requires.ring c.requires.name c.requires.passes are in
+    let k = can-put c.args.port gots c.self.view_is (ap own_in had) c.self.invariant.there c.requires off.ensures.pending off.ensures.buffers off.ensures.bytes in
     let seen = session_seen c.self.inside in
     let w = knowing c.pipe_put.new.pass in
     let s : SessionState = record seen { own = c.in-Some.own.own } in

@@ -9,15 +9,15 @@ use Rattle.nm_user.proofs.session.Session.send_sync.Goals as goal
 
 pub overflow_cast-pushed : goal.overflow_cast-pushed
 overflow_cast-pushed g c =
-    let few = few-frames (ready c.args.port c.in_ok-batch.batch c.self.view_is (ap own_in c.in-Some.is) c.self.invariant.there c.requires.ring c.requires.name c.requires.passes c.in_ok-batch.ensures) c.len-pushed.result c.len-pushed.ensures in
+    let few = few-frames (ready c.args.port c.in_ok-batch.batch c.self.view_is (ap own_in c.in-Some.is) c.self.invariant.there c.requires c.in_ok-batch.ensures) c.len-pushed.result c.len-pushed.ensures in
     omega (arith, few)
 
 pub send-requires-clause-may : goal.send-requires-clause-may
-send-requires-clause-may g c = may-send (ready c.args.port c.in_ok-batch.batch c.self.view_is (ap own_in c.in-Some.is) c.self.invariant.there c.requires.ring c.requires.name c.requires.passes c.in_ok-batch.ensures)
+send-requires-clause-may g c = may-send (ready c.args.port c.in_ok-batch.batch c.self.view_is (ap own_in c.in-Some.is) c.self.invariant.there c.requires c.in_ok-batch.ensures)
 
 pub invariant_of-self-in-Err : goal.invariant_of-self-in-Err
 invariant_of-self-in-Err g c =
-    let k = ready c.args.port c.in_ok-batch.batch c.self.view_is (ap own_in c.in-Some.is) c.self.invariant.there c.requires.ring c.requires.name c.requires.passes c.in_ok-batch.ensures in
+    let k = ready c.args.port c.in_ok-batch.batch c.self.view_is (ap own_in c.in-Some.is) c.self.invariant.there c.requires c.in_ok-batch.ensures in
     record {
       pass = c.send.ensures.pass;
       own = c.in-Some.own;
@@ -28,12 +28,12 @@ invariant_of-self-in-Err g c =
 
 pub returns-in-Err-clause-full : goal.returns-in-Err-clause-full
 returns-in-Err-clause-full g c =
-    let k = ready c.args.port c.in_ok-batch.batch c.self.view_is (ap own_in c.in-Some.is) c.self.invariant.there c.requires.ring c.requires.name c.requires.passes c.in_ok-batch.ensures in
+    let k = ready c.args.port c.in_ok-batch.batch c.self.view_is (ap own_in c.in-Some.is) c.self.invariant.there c.requires c.in_ok-batch.ensures in
     unsent-at c.self.view_is (ap own_in c.in-Some.is) k c.in-Err.ensures.full
 
 pub invariant_of-self-2 : goal.invariant_of-self-2
 invariant_of-self-2 g c =
-    let k = ready c.args.port c.in_ok-batch.batch c.self.view_is (ap own_in c.in-Some.is) c.self.invariant.there c.requires.ring c.requires.name c.requires.passes c.in_ok-batch.ensures in
+    let k = ready c.args.port c.in_ok-batch.batch c.self.view_is (ap own_in c.in-Some.is) c.self.invariant.there c.requires c.in_ok-batch.ensures in
     let ends = send-ends c.in-Ok.offers k.there k.sends c.in-Ok.ensures.made c.in-Ok.ensures.offers c.settle-shares.ensures.none c.settle-shares.ensures.settles in
     record {
       pass = c.settle-shares.ensures.pass;
@@ -45,7 +45,7 @@ invariant_of-self-2 g c =
 
 pub returns-clause-sent : goal.returns-clause-sent
 returns-clause-sent g c =
-    let k = ready c.args.port c.in_ok-batch.batch c.self.view_is (ap own_in c.in-Some.is) c.self.invariant.there c.requires.ring c.requires.name c.requires.passes c.in_ok-batch.ensures in
+    let k = ready c.args.port c.in_ok-batch.batch c.self.view_is (ap own_in c.in-Some.is) c.self.invariant.there c.requires c.in_ok-batch.ensures in
     let ends = send-ends c.in-Ok.offers k.there k.sends c.in-Ok.ensures.made c.in-Ok.ensures.offers c.settle-shares.ensures.none c.settle-shares.ensures.settles in
     sent-at c.in-Ok.offers (record { entry = c.entry-entry.result; pushed = c.len-pushed.result; short = c.short-short.result; lone = c.lone-lone.result; given = c.settle-shares.result.given; full = c.settle-shares.result.full; gone = c.settle-shares.result.gone })
     c.self.view_is (ap own_in c.in-Some.is) k (ap (λ (side : SideState). side.own) c.sent.ensures) c.in-Ok.ensures.made c.in-Ok.ensures.offers ends c.entry-entry.ensures c.len-pushed.ensures c.short-short.ensures c.lone-lone.ensures refl

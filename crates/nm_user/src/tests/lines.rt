@@ -1,0 +1,91 @@
+//! What a history has, entry by entry, and the history of users who have left.
+ghost use Rattle.vale_fabric.specs.Fabrics.{IsPassIn};
+
+use nm_types::{Chain, Limits, Side, SyncFault};
+use std::process::Abort;
+use std::sync::Wait;
+use vale_entry::{Ask, Entry, History, Reply};
+use vale_fabric::{Fabric, Pass};
+
+/// Room for any life here.
+pub(super) const LIMITS: Limits = Limits {
+    entries: 10_000,
+    bytes: 100_000,
+};
+
+/// No extra buffers.
+pub(super) const NONE: Chain = Chain {
+    found: 0,
+    astray: 0,
+};
+
+/// What an entry asked and was answered, as far as a test looks at it.
+#[derive(Clone, Copy, Debug, PartialEq, Eq)]
+pub(super) enum Line {
+    /// A send: the port, and how many frames were short and lone.
+    Send(u32, u32, u32),
+    /// A grant: of which entry, to which port, and how many frames were given, full and gone.
+    Grant(u32, u32, u32, u32, u32),
+    /// A completion: of which grant.
+    Done(u32),
+    /// A sync: the port, and how many frames came.
+    Sync(u32, u32),
+    /// A refused sync.
+    Reset(u32, Side, SyncFault),
+    /// A port that is shut.
+    Shut(u32),
+    /// A port that goes: its chain of extra buffers, and how many frames nobody read.
+    Finish(u32, Chain, u32),
+    /// What users ask as they come and leave, and of a monitor.
+    Other,
+}
+
+fn line_of(entry: &Entry) -> Line {
+    match (&entry.ask, &entry.reply) {
+        (Ask::Send { port, .. }, Reply::Offered { short, lone, .. }) => {
+            Line::Send(port.0, *short, *lone)
+        }
+        (Ask::Grant { origin, to }, Reply::Shared { given, full, gone }) => {
+            Line::Grant(*origin, to.0, *given, *full, *gone)
+        }
+        (Ask::Done { lease }, Reply::Made) => Line::Done(lease.0),
+        (Ask::Sync { port, .. }, Reply::Gave { count, .. }) => Line::Sync(port.0, *count),
+        (Ask::Reset { port, side, fault }, Reply::Made) => Line::Reset(port.0, *side, *fault),
+        (Ask::Shut { port }, Reply::Made) => Line::Shut(port.0),
+        (Ask::Finish { port, chain, .. }, Reply::Unread { count }) => {
+            Line::Finish(port.0, *chain, *count)
+        }
+        _ => Line::Other,
+    }
+}
+
+/// The entries of these kinds are first these, each with its session.
+pub(super) fn are_lines(rt: &impl Abort, history: &History, wanted: &[(u32, Line)]) {
+    let mut at = 0;
+    for entry in history.entries() {
+        let line = line_of(entry);
+        if line != Line::Other && at < wanted.len() {
+            assert_eq!(rt; (entry.session.0, line), wanted[at]);
+            at += 1;
+        }
+    }
+    assert_eq!(rt; at, wanted.len());
+}
+
+/// Passes for three users. The fabric's first one is kept.
+pub(super) fn three_passes(fabric: &Fabric, pass: &mut Pass) -> (Pass, Pass, Pass)
+    requires { IsPassIn fabric.now pass.old }
+    ensures first { IsPassIn fabric.now pass.new × IsPassIn fabric.now result.0 }
+    ensures others { IsPassIn fabric.now result.1 × IsPassIn fabric.now result.2 }
+{
+    (fabric.fork(pass), fabric.fork(pass), fabric.fork(pass))
+}
+
+/// What was recorded once all have left: every buffer is free again.
+pub(super) fn recorded<R: Abort + Wait>(rt: &R, fabric: Fabric, pass: Pass) -> History
+    requires { IsPassIn fabric pass }
+{
+    let book = fabric.close(rt, pass);
+    assert!(rt; book.free() == book.buffers());
+    book.close()
+}
