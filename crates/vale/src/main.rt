@@ -1,5 +1,5 @@
 //! Runs a script of netmap rings, VALE switches, pipes and monitors, and writes the transcript of
-//! what they did.
+//! what they did; or runs the load of a number.
 #![tactic(auto)]
 
 #[cfg(test)]
@@ -8,6 +8,7 @@ mod tests;
 ghost use Rattle.std.specs.Prelude.{◌≡◌, map, string_bytes, option_map};
 ghost use Rattle.vale.specs.Command.{help_text, version_text, answer_to, Answers};
 ghost use Rattle.vale_run.specs.Run.{script_name};
+ghost use Rattle.vale_run.specs.Load.{load_number};
 
 use nm_io::{FileShelf, NoGate, Shelf, Sink, StdSink, put_all};
 use nm_types::Limits;
@@ -18,10 +19,12 @@ use std::thread::Threads;
 use std::{env, io};
 use vale_run::{Status, report, run};
 
-const HELP: &str = "usage: vale run SCRIPT
+const HELP: &str = "usage: vale run SCRIPT | vale load N
 
-Runs a script of netmap rings, VALE switches, pipes and monitors, and writes the transcript of what
-they did.
+  run SCRIPT  runs a script of netmap rings, VALE switches, pipes and monitors, and writes the
+              transcript of what they did
+  load N      runs four users of one switch side by side, who send 8,000 frames that hang on the
+              number N, and writes one line of what was sent
 
 Lines of a script (a SIDE is tx or rx, a MAC as 02:00:00:00:00:0a):
   pool N                             the pool has N buffers (the first line)
@@ -91,7 +94,8 @@ fn run_command<R: AllocGlobal + Threads + Wait + Sync, S: Shelf, K: Sink>(
     out: &mut K,
 ) -> Status
     ensures answers { Answers Limits.VERSION_1 (answer_to (map string_bytes words.now))
-        (script_name (map string_bytes words.now)) (record {
+        (script_name (map string_bytes words.now)) (load_number (map string_bytes words.now))
+        (record {
           files = S.files shelf.old;
           new_files = S.files shelf.new;
           reads = λ name. (S.read_faults shelf.old name, S.read_faults shelf.new name);

@@ -1,5 +1,5 @@
 -- How what a run promises of its history comes from the play of its script.
-use Rattle.std.proofs.Common.{ℕ, ◌+◌, ◌<◌, ◌≤◌, ◌^◌, ◌≡◌, inl, inr, List, [], ◌∷◌, ◌++◌, length, map, take, Option, refl, sym, ◌∙◌, ap, subst, arith}
+use Rattle.std.proofs.Common.{ℕ, ◌+◌, ◌<◌, ◌≤◌, ◌^◌, ◌≡◌, inl, inr, List, [], ◌∷◌, ◌++◌, length, map, take, Option, Result, refl, sym, ◌∙◌, ap, subst, arith}
 use Rattle.nm_io.specs.Files.{Files}
 use Rattle.nm_types.specs.declared.limits.Limits.{Limits}
 use Rattle.nm_types.specs.declared.fault.Part.{Part}
@@ -20,6 +20,7 @@ use Rattle.vale_fabric.specs.declared.kept.Fixed.{Fixed}
 use Rattle.vale_fabric.specs.Fabrics.{record_in}
 use Rattle.vale_script.specs.Script.{Program}
 use Rattle.vale_captures.specs.Inputs.{InputFile, AreInputs, name_of, frames_of}
+use Rattle.vale_captures.specs.Outputs.{OutputFile}
 use Rattle.vale_replay.specs.Machine.{Machine}
 use Rattle.vale_replay.specs.Replay.{HasPlayed}
 use Rattle.vale_replay.specs.Laws.{HaveLeft}
@@ -32,7 +33,7 @@ use Rattle.vale_act.specs.Plays.{StopsScript, IsStoppedBy}
 use Rattle.vale_act.proofs.FittingRooms.{had-take}
 use Rattle.vale_act.proofs.FittingSums.{refusals-fit}
 use Rattle.vale_run.specs.Run.{Io, IsReady, IsHistoryOf, HistoryOf, TellsHistory, StopsFull, WritesNothing, Ends, text_in, saved_in}
-use Rattle.vale_run.specs.Writing.{IsFewUsed, stopped, Written}
+use Rattle.vale_run.specs.Writing.{IsFewUsed, IsPlayOf, stopped, Written}
 use Rattle.vale_run.specs.declared.status.Status.{Status}
 use Rattle.vale_run.specs.declared.status.Status.TheVariants.{Done, Usage, BadScript, ReadFault, WriteFault, BadPcap, Over, NoMemory}
 use Rattle.vale_run.proofs.Deliveries.{delivers}
@@ -89,12 +90,12 @@ record-is program limits fixed history pool are =
     ap (λ (p : ℕ). record_in (record fixed { pool = p }) history) pool
     ∙ ap (λ (l : Limits). run_record program fixed.region l history) are
 
-pub book-is : (program : Program) (limits : Limits) (fixed : Fixed) (book : Recorded)
-    (history : List Entry) → record_in fixed book.entries ≡ book → history ≡ book.entries
-    → fixed.pool ≡ program.pool → fixed.limits ≡ limits
-    → book ≡ run_record program fixed.region limits history
-book-is program limits fixed book history is same pool are =
-    sym is ∙ ap (record_in fixed) (sym same) ∙ record-is program limits fixed history pool are
+pub book-is : (limits : Limits) (program : Program) (played : List InputFile) (book : Recorded)
+    (ended : Result (List OutputFile) StepFault)
+    (p : IsPlayOf limits program played book ended)
+    → book ≡ run_record program p.fixed.region limits book.entries
+book-is limits program played book ended p =
+    sym p.book_is ∙ record-is program limits p.fixed book.entries p.pool p.limits_are
 
 -- a history that plays the script
 pub is-history : (limits : Limits) (region : ℕ) (program : Program) (played : List InputFile)
@@ -140,12 +141,12 @@ module _ (limits : Limits) (fixed : Fixed) (program : Program) (played : List In
     (history : List Entry)
     (pool : fixed.pool ≡ program.pool) (are : fixed.limits ≡ limits)
     (roomy : HadRoom (run_record program fixed.region limits history)) where
-  stop-of : (fault : StepFault) (s : StopsScript fixed program (map frames_of played) history fault)
+  pub stop-of : (fault : StepFault) (s : StopsScript fixed program (map frames_of played) history fault)
       → StopsAt program (map frames_of played) history s.count s.user s.call
   stop-of fault s = users-stop program (map frames_of played) history s.count s.user s.call
       s.stopped
 
-  refusal-of : (fault : StepFault) (s : StopsScript fixed program (map frames_of played) history
+  pub refusal-of : (fault : StepFault) (s : StopsScript fixed program (map frames_of played) history
       fault) → IsRefusal (run_record program fixed.region limits (take s.count history)) s.call
       fault
   refusal-of fault s = subst (λ (b : Recorded). IsRefusal b s.call fault)

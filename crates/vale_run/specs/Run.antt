@@ -222,8 +222,3 @@ Ends limits io name (Over Bytes count limit) = StopsFull limits io.files name pa
 Ends limits io name WriteFault = (run : HistoryOf limits io.files name) × WritesPart (text_in run) (saved_in run) io true
 Ends limits io name NoMemory = WritesNothing io ⊎ ((run : HistoryOf limits io.files name) × WritesPart (text_in run) (saved_in run) io false)
 Ends limits io name Done = (run : HistoryOf limits io.files name) × WritesWhole (text_in run) (saved_in run) io
-
--- the words are no command exactly where the status is Usage
-abbrev pub Runs : Limits → Option (List ℕ) → Io → Status → Type 0
-Runs limits None io status = (status ≡ Usage) × WritesNothing io
-Runs limits (Some name) io status = Ends limits io name status

@@ -58,7 +58,7 @@ what_text Entries = codes "entries"
 what_text Bytes = codes "bytes"
 
 unfoldable pub usage_line : List ℕ
-usage_line = codes "usage: vale run SCRIPT\n"
+usage_line = codes "usage: vale run SCRIPT | vale load N\n"
 
 unfoldable pub bad_script_line : ℕ → List ℕ → List ℕ
 bad_script_line line cause = codes "vale: script line " ++ decimal line ++ codes ": " ++ cause ++ codes "\n"
@@ -92,3 +92,10 @@ status_text NoMemory = no_memory_line
 -- the line was written, or by a failure a prefix of it; `faults` are the stream's before and after
 abbrev pub Reports : ℕ × ℕ → Option (List ℕ) → Option (List ℕ) → List ℕ → Type 0
 Reports faults old new line = (new ≡ grown old line) ⊎ (GrowsByPrefix old new line × Rose faults.0 faults.1)
+
+-- A text was written whole, or by a failure a prefix of it, and nothing else happened; `faults` are the
+-- output's before and after.
+abbrev pub WritesAnswer : List ℕ → ℕ × ℕ → Option (List ℕ) → Option (List ℕ) → Status → Type 0
+WritesAnswer text faults old new Done = new ≡ grown old text
+WritesAnswer text faults old new WriteFault = GrowsByPrefix old new text × Rose faults.0 faults.1
+WritesAnswer text faults old new _ = ⊥

@@ -1,5 +1,5 @@
 -- What the parts of a run promise one another. A reader of the run's own promise may pass over this.
-use Rattle.std.specs.Prelude.{ℕ, true, false, ◌≡◌, ◌+◌, ◌<◌, ◌≤◌, ◌^◌, List, length, slice_get, string_bytes, Option, Some, Ok}
+use Rattle.std.specs.Prelude.{ℕ, true, false, ◌≡◌, ◌+◌, ◌<◌, ◌≤◌, ◌^◌, List, length, map, slice_get, string_bytes, Option, Some, Result, Ok, IfOk, IfErr}
 use Rattle.std.specs.Str.Lines.{lines}
 use Rattle.nm_io.specs.Files.{Files}
 use Rattle.nm_types.specs.declared.limits.Limits.{Limits}
@@ -8,11 +8,17 @@ use Rattle.nm_types.specs.declared.fault.StepFault.{StepFault}
 use Rattle.nm_types.specs.declared.fault.StepFault.TheVariants.{RecordFull}
 use Rattle.nm_types.specs.declared.fault.StepFault.TheVariants as faults
 use Rattle.pcap_io.specs.declared.fault.PcapFault.{PcapFault}
+use Rattle.vale_entry.specs.World.{free_count}
+use Rattle.vale_book.specs.Recorded.{Recorded, standing, HadRoom}
+use Rattle.vale_fabric.specs.declared.kept.Fixed.{Fixed}
+use Rattle.vale_fabric.specs.Fabrics.{record_in}
 use Rattle.vale_script.specs.Grammar.{script_of}
 use Rattle.vale_script.specs.Script.{Program}
 use Rattle.vale_captures.specs.declared.inputs.InputFault.{InputFault}
 use Rattle.vale_captures.specs.declared.inputs.InputFault.TheVariants as inputs
+use Rattle.vale_captures.specs.Inputs.{InputFile, frames_of}
 use Rattle.vale_captures.specs.Outputs.{OutputFile, all_appended, StopsAtOutput}
+use Rattle.vale_act.specs.Plays.{PlaysScript, IsStoppedBy}
 use Rattle.vale_run.specs.Run.{Io, WritesWhole, WritesPart, most_lines, most_inputs}
 use Rattle.vale_run.specs.declared.status.What.TheVariants.{Inputs, Entries, Bytes}
 use Rattle.vale_run.specs.declared.status.Status.{Status}
@@ -55,6 +61,19 @@ Written text saved io Done = WritesWhole text saved io
 Written text saved io WriteFault = WritesPart text saved io true
 Written text saved io NoMemory = WritesPart text saved io false
 Written text saved io _ = ⊥
+
+-- A script was played with its captures over a book of its own, up to its end or to a fault that stops it.
+-- All buffers are the pool's again.
+pub record IsPlayOf (limits : Limits) (program : Program) (played : List InputFile) (book : Recorded) (ended : Result (List OutputFile) StepFault) : Type 0 where
+  pub fixed : Fixed
+  pub book_is : record_in fixed book.entries ≡ book
+  pub pool : fixed.pool ≡ program.pool
+  pub limits_are : fixed.limits ≡ limits
+  pub roomy : HadRoom book
+  pub few : length book.entries < 2 ^ 32
+  pub back : free_count (standing book).world ≡ book.pool
+  pub plays : IfOk ended (PlaysScript program (map frames_of played) book.entries)
+  pub stops : IfErr ended (IsStoppedBy fixed program (map frames_of played) book.entries)
 
 -- a script of few lines says so
 pub record IsSaid (program : Program) : Type 0 where

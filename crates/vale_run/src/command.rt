@@ -10,11 +10,15 @@ ghost use Rattle.std.specs.List.{AllByRecursion};
 ghost use Rattle.vale_entry.specs.Transcript.{transcript_text};
 ghost use Rattle.vale_captures.specs.Inputs.{AreInputs};
 ghost use Rattle.vale_captures.specs.Outputs.{IsWritable};
-ghost use Rattle.vale_run.specs.Run.{script_name, Runs, Ends, IsScript, IsAccepted, IsCounted};
+ghost use Rattle.vale_run.specs.Run.{script_name, Ends, IsScript, IsAccepted, IsCounted};
+ghost use Rattle.vale_run.specs.Load.{load_number};
+ghost use Rattle.vale_run.specs.Commands.{Runs};
 ghost use Rattle.vale_run.specs.Run.{HasInputs, IsReady};
 ghost use Rattle.vale_run.specs.Writing.{IsFewUsed, stopped, NamesFile, BlamesFile, Saves, Written};
 ghost use Rattle.vale_run.specs.Writing.{IsSaid, NamesInput, BlamesInput};
 
+use crate::load::{load_number, run_load};
+use crate::playing::play_recorded;
 use crate::status::{Status, What, offset_of};
 use nm_io::{Gate, ReadError, Shelf, Sink, read_all};
 use nm_types::{Limits, Part, StepFault};
@@ -22,12 +26,10 @@ use pcap_io::PcapFault;
 use std::alloc::Global;
 use std::sync::Wait;
 use std::thread::Threads;
-use vale_act::play;
 use vale_book::Book;
 use vale_captures::{
     InputFault, Inputs, Outputs, SaveFault, counts_of, frames_played, read_inputs, write_outputs,
 };
-use vale_fabric::Fabric;
 use vale_script::{Script, ScriptFault, line_count, parse};
 use vale_text::{PutError, write_transcript};
 
@@ -191,16 +193,11 @@ fn run_ready<R: AllocGlobal + Threads + Wait + Sync, S: Shelf, K: Sink, G: Gate>
         S.append_faults shelf.old other ≤ S.append_faults shelf.new other }
     ensures later { K.faults out.old ≤ K.faults out.new }
 {
-    let alloc = rt.alloc();
-    let Ok((fabric, pass)) = Fabric::new(alloc, script.pool(), Limits::VERSION_1) else {
+    let Ok((book, played)) = play_recorded(rt, script, inputs, gate) else {
         return Status::NoMemory;
     };
-    let (pass, played) = play(alloc, rt, &fabric, pass, script, inputs, gate);
-    let book = fabric.close(rt, pass);
-    // What is recorded is within its limits.
-    let _history = book.history();
     match played {
-        Ok(outputs) => write(alloc, book, &outputs, shelf, out),
+        Ok(outputs) => write(rt.alloc(), book, &outputs, shelf, out),
         Err(fault) => {
             drop(book.close());
             stopped(fault)
@@ -408,10 +405,11 @@ fn run_file<R: AllocGlobal + Threads + Wait + Sync, S: Shelf, K: Sink, G: Gate>(
     }
 }
 
-/// Runs a command: the words `run SCRIPT`, where SCRIPT names a file of the shelf. The script's
-/// users play their lines as sessions of one fabric, side by side on threads where the script says
-/// so; the gate is passed as frames go to ports. Once all have left, the transcript of what
-/// happened goes to the output, and then each capture that the script saves to the end of its file.
+/// Runs a command: the words `run SCRIPT`, where SCRIPT names a file of the shelf, or `load N`. The
+/// script's users play their lines as sessions of one fabric, side by side on threads where the
+/// script says so; the gate is passed as frames go to ports. Once all have left, the transcript of
+/// what happened goes to the output, and then each capture that the script saves to the end of its
+/// file. `load N` plays the script that `vale_gen` makes of N, and writes one line of what was sent.
 pub fn run<R: AllocGlobal + Threads + Wait + Sync, S: Shelf, K: Sink, G: Gate>(
     rt: &R,
     words: &[String],
@@ -419,7 +417,8 @@ pub fn run<R: AllocGlobal + Threads + Wait + Sync, S: Shelf, K: Sink, G: Gate>(
     out: &mut K,
     gate: &G,
 ) -> Status
-    ensures runs { Runs Limits.VERSION_1 (script_name (map string_bytes words.now)) (record {
+    ensures runs { Runs Limits.VERSION_1 (script_name (map string_bytes words.now))
+        (load_number (map string_bytes words.now)) (record {
       files = S.files shelf.old;
       new_files = S.files shelf.new;
       reads = λ name. (S.read_faults shelf.old name, S.read_faults shelf.new name);
@@ -436,6 +435,9 @@ pub fn run<R: AllocGlobal + Threads + Wait + Sync, S: Shelf, K: Sink, G: Gate>(
 {
     match script_name(words) {
         Some(name) => run_file(rt, name, shelf, out, gate),
-        None => Status::Usage,
+        None => match load_number(words) {
+            Some(n) => run_load(rt, n, out, gate),
+            None => Status::Usage,
+        },
     }
 }

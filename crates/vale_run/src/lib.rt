@@ -1,7 +1,9 @@
-//! Runs a command: a script with its captures, from a shelf and to an output.
+//! Runs a command: a script with its captures, from a shelf and to an output, or a load.
 #![tactic(auto)]
 
 mod command;
+mod load;
+mod playing;
 mod status;
 #[cfg(test)]
 mod tests;

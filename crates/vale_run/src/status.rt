@@ -192,7 +192,7 @@ fn put_status<K: Sink>(out: &mut K, status: &Status) -> Result<(), Failed>
 {
     match status {
         Status::Done => put_all(out, b""),
-        Status::Usage => put_all(out, b"usage: vale run SCRIPT\n"),
+        Status::Usage => put_all(out, b"usage: vale run SCRIPT | vale load N\n"),
         Status::BadScript { line, cause } => put_parts(
             out,
             &[

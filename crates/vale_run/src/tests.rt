@@ -6,6 +6,7 @@ use std::test::Fail;
 use std::thread::Threads;
 
 mod captures;
+mod load;
 mod scripts;
 
 use captures::*;
@@ -222,11 +223,11 @@ fn bad_scripts_are_told(rt: HostRuntime) -> Result<(), Fail> {
 fn other_words_are_refused(rt: HostRuntime) -> Result<(), Fail> {
     for words in [
         ["run"].as_slice(),
-        ["load", "7"].as_slice(),
+        ["ran", "s"].as_slice(),
         ["run", "s", "s"].as_slice(),
     ] {
         let left = ran(&rt, words, EMPTY, EMPTY, 99, 99)?;
-        assert_eq!(rt; left.line.bytes(), "usage: vale run SCRIPT\n".as_bytes());
+        assert_eq!(rt; left.line.bytes(), load::USAGE);
         assert_eq!(rt; left.out.bytes(), EMPTY);
     }
     Ok(())

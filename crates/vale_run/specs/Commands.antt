@@ -1,0 +1,14 @@
+-- What a run promises, by its words.
+use Rattle.std.specs.Prelude.{ℕ, ◌≡◌, List, Option, Some, None}
+use Rattle.nm_types.specs.declared.limits.Limits.{Limits}
+use Rattle.vale_run.specs.declared.status.Status.{Status}
+use Rattle.vale_run.specs.declared.status.Status.TheVariants.{Usage}
+use Rattle.vale_run.specs.Run.{Io, WritesNothing, Ends}
+use Rattle.vale_run.specs.Load.{LoadEnds}
+
+-- The words name a script, or else a load's number; where they do neither the status is Usage, and nowhere
+-- else.
+abbrev pub Runs : Limits → Option (List ℕ) → Option ℕ → Io → Status → Type 0
+Runs limits (Some name) load io status = Ends limits io name status
+Runs limits None (Some n) io status = LoadEnds limits n io.writes io.holds io.new_holds status × (io.new_files ≡ io.files)
+Runs limits None None io status = (status ≡ Usage) × WritesNothing io
