@@ -49,4 +49,5 @@ pub mod RoomUsers
 pub mod RoomScripts
 pub mod RoomUnits
 pub mod RoomCosts
+pub mod RoomLines
 pub mod KeptPlays

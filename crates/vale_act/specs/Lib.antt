@@ -5,4 +5,5 @@ pub mod Leaving
 pub mod Outputs
 pub mod SavedActs
 pub mod Completeness
+pub mod FewFrames
 pub mod Plays

@@ -3,6 +3,7 @@
 
 ghost use Rattle.vale_act.specs.Completeness.{HistoriesAreCheap, FramesThatFitHaveRoom, RoomIsNotRefused, UsersSpend};
 ghost use Rattle.vale_act.specs.Completeness.{FewTasksFit, LinesCostLittle};
+ghost use Rattle.vale_act.specs.FewFrames.{LightScriptsFit};
 ghost use Rattle.vale_act.specs.Completeness.{SwitchesHaveFewPorts, SendsWantLittle, EntriesCostLittle, TurnsSpend};
 
 /// A switch has at most 16 ports, open ones and shutting ones.
@@ -60,4 +61,10 @@ pub fn few_tasks_fit()
 /// A line has its user put no more frames than it names, and make few calls for each of them.
 pub fn lines_cost_little()
     ensures { LinesCostLittle }
+{}
+
+/// So the tasks of a script that puts and plays few frames, and neither forwards frames nor moves
+/// positions, are few for the limits of version 1.
+pub fn light_scripts_fit()
+    ensures { LightScriptsFit }
 {}

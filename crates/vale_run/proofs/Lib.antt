@@ -1,3 +1,4 @@
+pub mod Completing
 pub mod Deliveries
 pub mod Digits
 pub mod Endings

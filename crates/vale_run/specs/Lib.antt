@@ -1,4 +1,5 @@
 pub mod Commands
+pub mod Complete
 pub mod Delivery
 pub mod Load
 pub mod Run

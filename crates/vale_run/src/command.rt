@@ -14,6 +14,7 @@ ghost use Rattle.vale_run.specs.Run.{script_name, Ends, IsScript, IsAccepted, Is
 ghost use Rattle.vale_run.specs.Load.{load_number};
 ghost use Rattle.vale_run.specs.Commands.{Runs};
 ghost use Rattle.vale_run.specs.Run.{HasInputs, IsReady};
+ghost use Rattle.vale_run.specs.Complete.{Completes};
 ghost use Rattle.vale_run.specs.Writing.{IsFewUsed, stopped, NamesFile, BlamesFile, Saves, Written};
 ghost use Rattle.vale_run.specs.Writing.{IsSaid, NamesInput, BlamesInput};
 
@@ -419,6 +420,15 @@ pub fn run<R: AllocGlobal + Threads + Wait + Sync, S: Shelf, K: Sink, G: Gate>(
 ) -> Status
     ensures runs { Runs Limits.VERSION_1 (script_name (map string_bytes words.now))
         (load_number (map string_bytes words.now)) (record {
+      files = S.files shelf.old;
+      new_files = S.files shelf.new;
+      reads = λ name. (S.read_faults shelf.old name, S.read_faults shelf.new name);
+      appends = λ name. (S.append_faults shelf.old name, S.append_faults shelf.new name);
+      holds = K.holds out.old;
+      new_holds = K.holds out.new;
+      writes = (K.faults out.old, K.faults out.new);
+    }) result }
+    ensures completes { Completes (script_name (map string_bytes words.now)) (record {
       files = S.files shelf.old;
       new_files = S.files shelf.new;
       reads = λ name. (S.read_faults shelf.old name, S.read_faults shelf.new name);
