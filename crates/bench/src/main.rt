@@ -1,8 +1,10 @@
 //! Measures parts of vale: `bench capture`, `bench pool`, `bench turn`, `bench line`, `bench batch`,
 //! `bench text`, `bench fabric`.
 //! Without a word each part runs small and prints counts alone.
+//! `bench asks FILE POOL` serves the asks of a file by a drive.
 #![tactic(auto)]
 
+mod asks;
 mod batch;
 mod capture;
 mod fabric;
@@ -17,7 +19,8 @@ use std::env;
 
 fn main(rt: HostRuntime) -> Result<()> {
     let mut is_small = true;
-    for word in env::args(&rt)?.skip(1) {
+    let mut words = env::args(&rt)?.skip(1);
+    while let Some(word) = words.next() {
         is_small = false;
         match word.as_str() {
             "capture" => capture::run(&rt, rt.alloc(), true)?,
@@ -27,6 +30,7 @@ fn main(rt: HostRuntime) -> Result<()> {
             "batch" => batch::run(&rt, rt.alloc(), true)?,
             "text" => text::run(&rt, rt.alloc(), true)?,
             "fabric" => fabric::run(&rt, rt.alloc(), true)?,
+            "asks" => asks::run(&rt, rt.alloc(), words.next(), words.next())?,
             other => println!(&rt; "{other}: no such measurement")?,
         }
     }

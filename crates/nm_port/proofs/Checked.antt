@@ -143,4 +143,3 @@ tx_ring_found ports port r rings e = let f = found ports Tx port r e in over por
         tx_ring : (o : Option RingSlots) → o ≡ Some r → IsRingIf o → IsRing r.ring
         tx_ring None e is = absurd cc
         tx_ring (Some t) e is = let same : t ≡ r = cc in rw (← same) is
-

@@ -30,14 +30,7 @@ pub(crate) fn exchange_pushed(hold: &mut Hold, port: PortId, ring: &SlotRing)
 }
 
 /// Makes the buffers in the places of some transmit slots named ones, or ones that are not named.
-pub fn name_slots(
-    hold: &mut Hold,
-    port: PortId,
-    size: u32,
-    first: u32,
-    count: u32,
-    named: bool,
-)
+pub fn name_slots(hold: &mut Hold, port: PortId, size: u32, first: u32, count: u32, named: bool)
     requires hold { IsHold hold.old }
     requires size { size ≤ 1024 }
     requires first { first < size }

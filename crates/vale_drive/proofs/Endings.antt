@@ -1,15 +1,14 @@
 -- Where each session has left, all buffers are free.
-use Rattle.std.proofs.Common.{ℕ, ◌≡◌, ◌≤◌, List, [], ◌∷◌, length, map, sum_by, refl, sym, ◌∙◌, ap, subst, arith}
+use Rattle.std.proofs.Common.{ℕ, ◌≡◌, List, [], ◌∷◌, length, map, sum_by, refl, sym, ◌∙◌, ap, subst, arith}
 use Rattle.std.specs.List.{AllByRecursion as Each}
-use Rattle.std.proofs.lemmas.List.{length-map}
 use Rattle.vale_entry.specs.World.{Port, buffers_of, free_count}
 use Rattle.vale_entry.specs.Laws.{IsPortOf}
 use Rattle.vale_entry.proofs.HistoryLaws.{history-stands}
 use Rattle.vale_entry.proofs.Numbered.{world-numbered}
 use Rattle.vale_book.specs.Recorded.{Recorded, standing}
-use Rattle.vale_drive.specs.declared.users.User.{User}
-use Rattle.vale_drive.specs.DriveView.{AreUsersOf}
-use Rattle.vale_drive.specs.Users.{id_of_user}
+use Rattle.vale_serve.specs.declared.users.User.{User}
+use Rattle.vale_serve.specs.Joined.{AreUsersOf}
+use Rattle.vale_serve.specs.Users.{id_of_user}
 
 none-owned : (sessions : List ℕ) (ports : List Port) → sessions ≡ [] → Each (IsPortOf sessions) ports → ports ≡ []
 none-owned sessions [] none owned = refl
@@ -30,8 +29,9 @@ all-free b users k none =
     let sum = ap (λ (ps : List Port). sum_by buffers_of ps) ports in
     omega (arith, sum, pool)
 
-pub some-there : (b : Recorded) (users : List User) → AreUsersOf b users → 1 ≤ length users → 1 ≤ length (standing b).world.sessions
-some-there b users k some =
-    let size = length-map users id_of_user in
-    let same = ap (λ (ns : List ℕ). length ns) k.ids in
-    omega (arith, size, same, some)
+none-mapped : (users : List User) → map id_of_user users ≡ [] → users ≡ []
+none-mapped [] e = refl
+none-mapped (u ∷ us) e = absurd cc
+
+pub all-left : (b : Recorded) (users : List User) → AreUsersOf b users → (standing b).world.sessions ≡ [] → users ≡ []
+all-left b users k left = none-mapped users (k.ids ∙ left)

@@ -1,135 +1,58 @@
 -- A port is shut and goes, in its turn, and then the sessions leave.
-use Rattle.std.proofs.Common.{ℕ, zero, suc, ◌≡◌, ◌≤◌, ◌<◌, ◌+◌, ◌==◌, ◌&&◌, ◌||◌, not, Bool, true, false, cond, List, [], ◌∷◌, ◌++◌, length, map, filter, find, take, drop, flat_map, count_by, sum_by, slice_get, slice_set, get_or, position, Option, Some, None, is_some, refl, sym, ◌∙◌, ap, ap₂, arith}
+use Rattle.std.proofs.Common.{ℕ, zero, suc, ◌≡◌, ◌≤◌, ◌<◌, ◌+◌, ◌==◌, ◌&&◌, ◌||◌, not, Bool, true, false, cond, List, [], ◌∷◌, ◌++◌, length, map, filter, find, take, drop, flat_map, count_by, sum_by, slice_get, slice_set, position, Option, Some, None, is_some, option_map, refl, sym, ◌∙◌, ap, arith}
 use Rattle.std.specs.Prelude.{Ok}
 use Rattle.std.specs.List.{AllByRecursion as Each, list_all, list_any}
-use Rattle.std.proofs.lemmas.Bool.{and_parts, or_parts, eqb-true, eqb-false, eq-eqb, ne_eqb}
+use Rattle.std.specs.List.Sorted.{IsNonDecreasingBy}
+use Rattle.std.proofs.lemmas.Bool.{and_parts, eqb-true, eq-eqb, ne_eqb}
 use Rattle.std.proofs.lemmas.List.{length-map, length-take-le}
 use Rattle.std.proofs.lemmas.List.Sums.{sum_by-cons}
 use Rattle.nm_types.specs.declared.id.PortId.{PortId}
-use Rattle.nm_types.specs.declared.id.LeaseId.{LeaseId}
 use Rattle.nm_region.specs.Buffers.{Buffer, indices_of}
 use Rattle.vale_line.specs.Leased.{Leased}
-use Rattle.vale_entry.specs.declared.entry.Ask.{Ask}
-use Rattle.vale_entry.specs.declared.entry.Ask.TheVariants.{Done, Shut, Finish, Leave}
+use Rattle.vale_entry.specs.declared.entry.Ask.TheVariants.{Shut, Finish, Leave}
 use Rattle.vale_entry.specs.declared.entry.Reply.{Reply}
-use Rattle.vale_entry.specs.World.{Port, Lot, is_undone, is_open_at, open_port, due_of}
+use Rattle.vale_entry.specs.World.{Port, Lot, is_undone, is_open_at, is_session, open_port, due_of}
 use Rattle.vale_entry.specs.Closing.{is_shutting_at, shutting_port, leases_out, is_port_of}
 use Rattle.vale_entry.specs.Delivery.{is_lease as is_lease_lot, line_of}
-use Rattle.vale_entry.specs.Holdings.{contains, are_distinct}
+use Rattle.vale_entry.specs.Holdings.{contains, are_distinct, buffers_of_session}
 use Rattle.vale_entry.specs.Laws.{Rise, id_of_port, IsPortOf}
 use Rattle.vale_entry.specs.Legal.{step, is_met, fits_chain, can_finish, finish_step, finish_step_at, world_of, IsLegal}
 use Rattle.vale_entry.proofs.Counting.{count_of-cons, count_of-append, contains-count, contains-none}
-use Rattle.vale_entry.proofs.Each.{each-find, each-none}
+use Rattle.vale_entry.proofs.Each.{each-find}
 use Rattle.vale_entry.proofs.HistoryLaws.{numbers-rise}
-use Rattle.vale_entry.proofs.ListLaws.{each-at, front-rest}
+use Rattle.vale_entry.proofs.ListLaws.{each-at, front-rest, place-of}
 use Rattle.vale_entry.proofs.Numbered.{world-numbered}
 use Rattle.vale_entry.proofs.Rising.{rise-slice_get}
-use Rattle.vale_own.specs.Own.{HeldLot, own_of, port_alone}
+use Rattle.vale_own.specs.Own.{own_of, port_alone}
 use Rattle.vale_own.proofs.Reading.{buffers-due}
 use Rattle.vale_book.specs.Asking.{IsSeenAs}
 use Rattle.vale_book.specs.Recorded.{Recorded, standing, after_outcome}
 use Rattle.vale_book.specs.declared.asking.PortSeen.{PortSeen}
-use Rattle.vale_drive.specs.declared.users.User.{User}
-use Rattle.vale_drive.specs.declared.users.Sent.{Sent}
-use Rattle.vale_drive.specs.Buffers.{holds, holds_all, times}
-use Rattle.vale_drive.specs.DriveView.{AreUsersOf}
-use Rattle.vale_drive.specs.Serving.{IsServed}
-use Rattle.vale_drive.specs.Users.{id_of_user, has_some_lease, AreSame, AreHeldAs, IsUser, IsAsker, IsMine, has_lease, is_lease, is_settled_user, most_due}
-use Rattle.vale_drive.specs.Turns.{HasGranted, IsQuiet, first_id, is_there}
-use Rattle.vale_drive.specs.Winding.{no_chain, first_among, leases_by, sessions_ending, leases_ending, offers_ending, ports_ending, next_ending, IsNextMade}
-use Rattle.vale_drive.proofs.Acting.{settled-parts}
-use Rattle.vale_drive.proofs.Asked.{can-shut-is}
-use Rattle.vale_drive.proofs.Completed.{may-complete}
-use Rattle.vale_drive.proofs.Finishes.{own-once, enabled}
-use Rattle.vale_drive.proofs.Leavers.{leaves}
-use Rattle.vale_drive.proofs.NextAsks.{first-none, first-at, next-made, granted-all}
-use Rattle.vale_drive.proofs.Places.{none-passes, found-at}
-use Rattle.vale_drive.proofs.PortSizes.{due-few}
-use Rattle.vale_drive.proofs.Sought.{user-of, none-done, session-there}
-use Rattle.vale_drive.proofs.Taking.{holds-contains, take-next}
+use Rattle.vale_serve.specs.declared.users.User.{User}
+use Rattle.vale_serve.specs.declared.users.Room.{Room}
+use Rattle.vale_serve.specs.Buffers.{holds, holds_all, times}
+use Rattle.vale_serve.specs.Joined.{AreUsersOf}
+use Rattle.vale_serve.specs.Serving.{IsServed}
+use Rattle.vale_serve.specs.Users.{id_of_user, AreSame, IsUser, IsAsker, IsMine, has_lease, is_lease, is_settled_user, most_due, port_in_room, port_of_room}
+use Rattle.vale_drive.specs.Turns.{IsQuiet, IsPortsTurn}
+use Rattle.vale_serve.specs.Exchange.{index_of}
+use Rattle.vale_drive.specs.Winding.{no_chain, rising, bufs_ending, port_ending, session_ending, sessions_ending, next_ending, IsNextMade}
+use Rattle.vale_serve.proofs.Acting.{settled-parts}
+use Rattle.vale_serve.proofs.Asked.{can-shut-is}
+use Rattle.vale_serve.proofs.Finishes.{own-once, enabled}
+use Rattle.vale_serve.proofs.Leavers.{leaves}
+use Rattle.vale_drive.proofs.NextOffers.{next-made}
+use Rattle.vale_drive.proofs.NextLeases.{quiet-next}
+use Rattle.vale_drive.proofs.Rising.{rising-is}
+use Rattle.vale_serve.proofs.Places.{found-at}
+use Rattle.vale_serve.proofs.PortSizes.{due-few}
+use Rattle.vale_serve.proofs.Sought.{user-of, none-done, session-there}
+use Rattle.vale_serve.proofs.Taking.{holds-contains, take-next}
 
 abbrev one_if : Bool → ℕ
 one_if t = cond t 1 0
 
--- ---- leases
-
-record FirstHeld (helds : List HeldLot) (lease : Leased) : Type 0 where
-  held : HeldLot
-  rest : List HeldLot
-  are : helds ≡ held ∷ rest
-  number : held.0.number ≡ lease.id
-
-first_held : (b : Recorded) (helds : List HeldLot) (leases : List Leased) (lease : Leased) → AreHeldAs b helds leases → slice_get leases 0 ≡ Some lease → FirstHeld helds lease
-first_held b [] [] lease are here = absurd cc
-first_held b [] (l ∷ ls) lease are here = absurd are
-first_held b (h ∷ hs) [] lease are here = absurd are
-first_held b (h ∷ hs) (l ∷ ls) lease are here =
-    let same : l ≡ lease = cc in record { held = h; rest = hs; are = refl; number = are.0.number ∙ ap (λ (x : Leased). x.id) same }
-
-no-leases : (b : Recorded) (helds : List HeldLot) (leases : List Leased) → AreHeldAs b helds leases → leases ≡ [] → helds ≡ []
-no-leases b [] leases are e = refl
-no-leases b (h ∷ hs) [] are e = absurd are
-no-leases b (h ∷ hs) (l ∷ ls) are e = absurd cc
-
-none-items : {X : Type 0} (xs : List X) → not (length xs == 0) ≡ false → xs ≡ []
-none-items [] e = refl
-none-items (x ∷ xs) e = absurd (let off = ne_eqb (length (x ∷ xs)) 0 (λ none. absurd (omega (arith, none))) in let on = sym (ap not off) ∙ e in cc)
-
-leases-none : (b : Recorded) (user : User) → IsUser b user → has_some_lease user ≡ false → leases_by (standing b) user.id.0 ≡ []
-leases-none b user is e = no-leases b (own_of user.id.0 (standing b)).leases user.leases.items is.leases (none-items user.leases.items e)
-
-each-to : {X : Type 0} (P Q : X → Type 0) (xs : List X) → ((x : X) → P x → Q x) → Each P xs → Each Q xs
-each-to P Q [] f all = tt
-each-to P Q (x ∷ xs) f all = (f x all.0, each-to P Q xs f all.1)
-
-each-and : {X : Type 0} (P Q R : X → Type 0) (xs : List X) → ((x : X) → P x → Q x → R x) → Each P xs → Each Q xs → Each R xs
-each-and P Q R [] f one two = tt
-each-and P Q R (x ∷ xs) f one two = (f x one.0 two.0, each-and P Q R xs f one.1 two.1)
-
-some_item : {X : Type 0} (xs : List X) → not (length xs == 0) ≡ true → (x : X) × (slice_get xs 0 ≡ Some x)
-some_item [] e = absurd cc
-some_item (x ∷ xs) e = (x, refl)
-
-pub some-lease : (user : User) → has_some_lease user ≡ true → (lease : Leased) × (slice_get user.leases.items 0 ≡ Some lease)
-some-lease user e = some_item user.leases.items e
-
-pub completes-next : (b after : Recorded) (users : List User) (place : ℕ) (user : User) (id : LeaseId) (lease : Leased) (reply : Option Reply) → AreUsersOf b users → Each HasGranted users
-    → position has_some_lease users ≡ Some place → slice_get users place ≡ Some user → IsUser b user → slice_get user.leases.items 0 ≡ Some lease → lease.id ≡ id.0
-    → IsServed b after (Done id) (Ok reply) → IsNextMade b after
-completes-next b after users place user id lease reply k granted e here is first number served =
-    let f = first_held b (own_of user.id.0 (standing b)).leases user.leases.items lease is.leases first in
-    let found : first_among (leases_by (standing b)) (standing b).world.sessions ≡ Some f.held =
-    ap (first_among (leases_by (standing b))) (sym k.ids)
-    ∙ first-at (leases_by (standing b)) has_some_lease users place user f.held f.rest (each-to (IsUser b) (λ (u : User). has_some_lease u ≡ false → leases_by (standing b) u.id.0 ≡ []) users (leases-none b) k.each) e here f.are in
-    let asked : Done (record { 0 = f.held.0.number }) ≡ Done id = ap (λ (n : ℕ). Done (record { 0 = n })) (f.number ∙ number) in
-    next-made b after (Done id) [] reply served (λ s. refl) (may-complete b user id 0 lease k.legal is first number)
-    (ap (offers_ending [] (standing b)) (granted-all b users k granted) ∙ (ap (leases_ending [] (standing b)) found ∙ ap (λ (a : Ask). Some a) asked))
-
-quiet_by : (s t : Bool) → s ≡ false → not t ≡ false → (not s && t) ≡ true
-quiet_by true t a b' = absurd cc
-quiet_by false true a b' = refl
-quiet_by false false a b' = absurd cc
-
-pub all-quiet : (users : List User) → Each HasGranted users → position has_some_lease users ≡ None → Each IsQuiet users
-all-quiet users granted none =
-    each-and HasGranted (λ (u : User). has_some_lease u ≡ false) IsQuiet users (λ u a b'. quiet_by (is_some u.sent) (length u.leases.items == 0) a b') granted
-    (each-none has_some_lease users (none-passes has_some_lease users none))
-
-none_sent : (user : User) → IsQuiet user → HasGranted user
-none_sent user e = let parts = settled-parts user e in ap (λ (x : Option Sent). is_some x) parts.0
-
-none_lease : (user : User) → IsQuiet user → has_some_lease user ≡ false
-none_lease user e = let parts = settled-parts user e in ap (λ (ls : List Leased). not (length ls == 0)) parts.1
-
-pub quiet-next : (b : Recorded) (users : List User) (bufs : List ℕ) → AreUsersOf b users → Each IsQuiet users
-    → next_ending bufs (standing b) ≡ ports_ending bufs (standing b).world.sessions (standing b).world.ports
-quiet-next b users bufs k quiet =
-    let none : first_among (leases_by (standing b)) (standing b).world.sessions ≡ None =
-    ap (first_among (leases_by (standing b))) (sym k.ids)
-    ∙ first-none (leases_by (standing b)) users (each-and (IsUser b) IsQuiet (λ (u : User). leases_by (standing b) u.id.0 ≡ []) users (λ u is e. leases-none b u is (none_lease u e)) k.each quiet) in
-    ap (offers_ending bufs (standing b)) (granted-all b users k (each-to IsQuiet HasGranted users none_sent quiet)) ∙ ap (leases_ending bufs (standing b)) none
-
--- ---- the first port
+-- ---- the first port of the first session
 
 none-above : (test : Port → Bool) (id low high : ℕ) (ports : List Port) → ((p : Port) → test p ≡ true → p.id ≡ id) → id ≤ low → Rise low (map id_of_port ports) high → find test ports ≡ None
 none-above test id low high [] named below rise = refl
@@ -141,53 +64,87 @@ none-above test id low high (p ∷ ps) named below rise =
     by true is rest = absurd (let same = named p is in let up = rise.0 in omega (arith, same, up, below))
     by false is rest = rest
 
-record FirstPort (ports : List Port) (id : ℕ) : Type 0 where
-  port : Port
-  rest : List Port
-  are : ports ≡ port ∷ rest
-  number : port.id ≡ id
-  above : (test : Port → Bool) → ((p : Port) → test p ≡ true → p.id ≡ id) → find test rest ≡ None
-
-first_port_by : (ports : List Port) (id high : ℕ) → Rise 0 (map id_of_port ports) high → first_id ports ≡ Some id → FirstPort ports id
-first_port_by [] id high rise e = absurd cc
-first_port_by (p ∷ ps) id high rise e =
-    let same : p.id ≡ id = cc in
-    record { port = p; rest = ps; are = refl; number = same; above = λ test named. none-above test id p.id high ps named (omega (arith, same)) rise.1 }
-
-first_port : (b : Recorded) (id : ℕ) → first_id (standing b).world.ports ≡ Some id → FirstPort (standing b).world.ports id
-first_port b id e = first_port_by (standing b).world.ports id (length b.entries) (numbers-rise b.pool b.entries).ports_rise e
-
-open-first : (id : ℕ) (p : Port) (ps : List Port) → p.id ≡ id → find (is_open_at id) ps ≡ None → is_some (find (is_open_at id) (p ∷ ps)) ≡ not p.shutting
-open-first id p ps number none =
-    ap (λ (t : Bool). is_some (cond (t && not p.shutting) (Some p) (find (is_open_at id) ps))) (eq-eqb p.id id number)
-    ∙ (ap (λ (f : Option Port). is_some (cond (not p.shutting) (Some p) f)) none ∙ by (not p.shutting))
-  where
-    by : (t : Bool) → is_some (cond t (Some p) None) ≡ t
-    by true = refl
-    by false = refl
-
 open-named : (id : ℕ) (p : Port) → is_open_at id p ≡ true → p.id ≡ id
 open-named id p e = eqb-true p.id id (and_parts (p.id == id) (not p.shutting) e).0
 
-not-is : (t u : Bool) → t ≡ not u → u ≡ not t
-not-is t true e = ap not (sym e)
-not-is t false e = ap not (sym e)
+shut-named : (id : ℕ) (p : Port) → is_shutting_at id p ≡ true → p.id ≡ id
+shut-named id p e = eqb-true p.id id (and_parts (p.id == id) p.shutting e).0
 
--- whether it is shut
-shutting-is : (b : Recorded) (id : ℕ) (f : FirstPort (standing b).world.ports id) → f.port.shutting ≡ not (is_some (open_port (standing b).world.ports id))
-shutting-is b id f =
-    not-is (is_some (open_port (standing b).world.ports id)) f.port.shutting
-    (ap (λ (ps : List Port). is_some (open_port ps id)) f.are ∙ open-first id f.port f.rest f.number (f.above (is_open_at id) (open-named id)))
+record FirstOf (ports : List Port) (session id : ℕ) : Type 0 where
+  port : Port
+  found : find (is_port_of session) ports ≡ Some port
+  number : port.id ≡ id
 
-abbrev port_ask : List ℕ → ℕ → Bool → Ask
-port_ask bufs id t = cond t (Finish (record { 0 = id }) bufs no_chain) (Shut (record { 0 = id }))
+first-of : (ports : List Port) (session id : ℕ) → option_map id_of_port (find (is_port_of session) ports) ≡ Some id → FirstOf ports session id
+first-of ports session id e = by (find (is_port_of session) ports) refl e
+  where
+    by : (found : Option Port) → find (is_port_of session) ports ≡ found → option_map id_of_port found ≡ Some id → FirstOf ports session id
+    by None is e' = absurd cc
+    by (Some port) is e' = let same : port.id ≡ id = cc in record { port = port; found = is; number = same }
 
-port-next : (b : Recorded) (users : List User) (bufs : List ℕ) (at : PortId) → AreUsersOf b users → Each IsQuiet users → (f : FirstPort (standing b).world.ports at.0) (t : Bool) → f.port.shutting ≡ t
-    → next_ending bufs (standing b) ≡ Some (port_ask bufs at.0 t)
-port-next b users bufs at k quiet f t is =
-    quiet-next b users bufs k quiet
-    ∙ (ap (ports_ending bufs (standing b).world.sessions) f.are
-    ∙ (ap (λ (n : ℕ). Some (port_ask bufs n f.port.shutting)) f.number ∙ ap (λ (u : Bool). Some (port_ask bufs at.0 u)) is))
+-- a port that is found is the one of its number
+record ByNumber (ports : List Port) (id : ℕ) (port : Port) : Type 0 where
+  opened : is_some (find (is_open_at id) ports) ≡ not port.shutting
+  shuts : find (is_shutting_at id) ports ≡ cond port.shutting (Some port) None
+
+by-number : (test : Port → Bool) (id low high : ℕ) (ports : List Port) (port : Port) → Rise low (map id_of_port ports) high → find test ports ≡ Some port → port.id ≡ id → ByNumber ports id port
+by-number test id low high [] port rise found number = absurd cc
+by-number test id low high (p ∷ ps) port rise found number = by (test p) found (λ later. by-number test id p.id high ps port rise.1 later number)
+  where
+    here : (t u : Bool) → (p.id == id) ≡ t → t ≡ true → p.shutting ≡ u → p ≡ port → ByNumber (p ∷ ps) id port
+    here t u is on shuts same =
+        let hit = is ∙ on in
+        let up = eqb-true p.id id hit in
+        let opened-rest = none-above (is_open_at id) id p.id high ps (open-named id) (omega (arith, up)) rise.1 in
+        let shut-rest = none-above (is_shutting_at id) id p.id high ps (shut-named id) (omega (arith, up)) rise.1 in
+        record {
+          opened =
+              ap (λ (x : Bool). is_some (cond (x && not p.shutting) (Some p) (find (is_open_at id) ps))) hit
+              ∙ (ap (λ (x : Option Port). is_some (cond (not p.shutting) (Some p) x)) opened-rest
+              ∙ (some-if (not p.shutting) ∙ ap (λ (q : Port). not q.shutting) same));
+          shuts =
+              ap (λ (x : Bool). cond (x && p.shutting) (Some p) (find (is_shutting_at id) ps)) hit
+              ∙ (ap (λ (x : Option Port). cond p.shutting (Some p) x) shut-rest
+              ∙ ap (λ (q : Port). cond q.shutting (Some q) None) same);
+        }
+      where
+        some-if : (t : Bool) → is_some (cond t (Some p) None) ≡ t
+        some-if true = refl
+        some-if false = refl
+
+    by : (t : Bool) → cond t (Some p) (find test ps) ≡ Some port → (find test ps ≡ Some port → ByNumber ps id port) → ByNumber (p ∷ ps) id port
+    by true found' rest = let same : p ≡ port = cc in here (p.id == id) p.shutting refl (eq-eqb p.id id (ap id_of_port same ∙ number)) refl same
+    by false found' rest =
+        let place = place-of test ps port found' in
+        let up = (rise-slice_get id_of_port p.id ps high place.place port rise.1 place.here).0 in
+        let miss : (p.id == id) ≡ false = ne_eqb p.id id (λ same. absurd (omega (arith, up, number, same))) in
+        let r = rest found' in
+        record {
+          opened = ap (λ (x : Bool). is_some (cond (x && not p.shutting) (Some p) (find (is_open_at id) ps))) miss ∙ r.opened;
+          shuts = ap (λ (x : Bool). cond (x && p.shutting) (Some p) (find (is_shutting_at id) ps)) miss ∙ r.shuts;
+        }
+
+first-user : (users : List User) (user : User) → slice_get users 0 ≡ Some user → (rest : List User) × (users ≡ user ∷ rest)
+first-user [] user here = absurd cc
+first-user (u ∷ us) user here = let same : u ≡ user = cc in (us, ap (λ (v : User). v ∷ us) same)
+
+-- the first session is next
+session-next : (b : Recorded) (users : List User) (user : User) → AreUsersOf b users → Each IsQuiet users → slice_get users 0 ≡ Some user
+    → next_ending (standing b) ≡ Some (session_ending (standing b) user.id.0 (find (is_port_of user.id.0) (standing b).world.ports))
+session-next b users user k quiet first =
+    let f = first-user users user first in
+    let sessions : (standing b).world.sessions ≡ user.id.0 ∷ map id_of_user f.0 = sym k.ids ∙ ap (λ (us : List User). map id_of_user us) f.1 in
+    quiet-next b users k quiet ∙ ap (sessions_ending (standing b)) sessions
+
+module _ (b : Recorded) (users : List User) (at : PortId) (k : AreUsersOf b users) (quiet : Each IsQuiet users) (turn : IsPortsTurn b users at.0) where
+  abbrev first : FirstOf (standing b).world.ports turn.user.id.0 at.0
+  first = first-of (standing b).world.ports turn.user.id.0 at.0 turn.port
+
+  port-next : next_ending (standing b) ≡ Some (port_ending (standing b) (first-of (standing b).world.ports turn.user.id.0 at.0 turn.port).port)
+  port-next = session-next b users turn.user k quiet turn.first ∙ ap (λ (found : Option Port). Some (session_ending (standing b) turn.user.id.0 found)) first.found
+
+  first-number : ByNumber (standing b).world.ports at.0 (first-of (standing b).world.ports turn.user.id.0 at.0 turn.port).port
+  first-number = by-number (is_port_of turn.user.id.0) at.0 0 (length b.entries) (standing b).world.ports first.port (numbers-rise b.pool b.entries).ports_rise first.found first.number
 
 some-of : {X : Type 0} (found : Option X) → is_some found ≡ true → (x : X) × (found ≡ Some x)
 some-of None e = absurd cc
@@ -198,18 +155,39 @@ seen-some (Some port) seen is e = refl
 seen-some None None is e = absurd cc
 seen-some None (Some seen) is e = absurd is
 
-pub shuts-next : (b after : Recorded) (users : List User) (at : PortId) (reply : Option Reply) → AreUsersOf b users → Each IsQuiet users → first_id (standing b).world.ports ≡ Some at.0
+not-is : (t u : Bool) → t ≡ not u → u ≡ not t
+not-is t true e = ap not (sym e)
+not-is t false e = ap not (sym e)
+
+pub shuts-next : (b after : Recorded) (users : List User) (at : PortId) (reply : Option Reply) → AreUsersOf b users → Each IsQuiet users → IsPortsTurn b users at.0
     → is_some (open_port (standing b).world.ports at.0) ≡ true → IsServed b after (Shut at) (Ok reply) → IsNextMade b after
-shuts-next b after users at reply k quiet first there served =
-    let f = first_port b at.0 first in
+shuts-next b after users at reply k quiet turn there served =
     let p = some-of (open_port (standing b).world.ports at.0) there in
     let owned = each-find (IsPortOf (world_of b.pool b.entries).sessions) (is_open_at at.0) (world_of b.pool b.entries).ports p.0 (world-numbered b.pool b.entries).ports_owned p.1 in
     let u = user-of b users (p.0).session k owned in
     let is = each-at (IsUser b) users u.place u.user k.each u.here in
     let settled = each-at IsQuiet users u.place u.user quiet u.here in
     let mine : IsMine u.user (open_port (standing b).world.ports at.0) = record { port = p.0; found_is = p.1; mine = sym u.id_is } in
-    next-made b after (Shut at) [] reply served (λ s. refl) (can-shut-is b u.user at k.legal is mine ∙ settled)
-    (port-next b users [] at k quiet f false (shutting-is b at.0 f ∙ ap not there))
+    let f = first-of (standing b).world.ports turn.user.id.0 at.0 turn.port in
+    let opens : f.port.shutting ≡ false = not-is true f.port.shutting (sym there ∙ (first-number b users at k quiet turn).opened) in
+    next-made b after (Shut at) reply served (λ s. refl) (can-shut-is b u.user at k.legal is mine ∙ settled)
+    (port-next b users at k quiet turn
+    ∙ (ap (λ (t : Bool). Some (cond t (Finish (record { 0 = f.port.id }) (bufs_ending (standing b) f.port) no_chain) (Shut (record { 0 = f.port.id })))) opens
+    ∙ ap (λ (n : ℕ). Some (Shut (record { 0 = n }))) f.number))
+
+pub seen-none : (found : Option Port) (seen : Option PortSeen) → IsSeenAs found seen → is_some seen ≡ false → found ≡ None
+seen-none None seen is e = refl
+seen-none (Some port) (Some seen) is e = absurd cc
+seen-none (Some port) None is e = absurd is
+
+-- it is open, or shut
+pub some-port : (b : Recorded) (users : List User) (at : PortId) → AreUsersOf b users → Each IsQuiet users → IsPortsTurn b users at.0
+    → open_port (standing b).world.ports at.0 ≡ None → shutting_port (standing b).world.ports at.0 ≡ None → ⊥
+some-port b users at k quiet turn closed gone =
+    let f = first-of (standing b).world.ports turn.user.id.0 at.0 turn.port in
+    let by = first-number b users at k quiet turn in
+    let shuts : f.port.shutting ≡ true = not-is false f.port.shutting (sym (ap (λ (x : Option Port). is_some x) closed) ∙ by.opened) in
+    absurd (let there : None ≡ Some f.port = sym gone ∙ (by.shuts ∙ ap (λ (t : Bool). cond t (Some f.port) None) shuts) in cc)
 
 -- ---- the buffers with which it goes
 
@@ -333,12 +311,11 @@ due-among test session (p ∷ ps) port found mine = by (test p) (p.session == se
         omega (arith, sum, more)
     by false false whose found' rest = rest found' mine
 
-pub due-held : (b : Recorded) (users : List User) (place : ℕ) (user : User) (at : PortId) (seen : PortSeen) → AreUsersOf b users → slice_get users place ≡ Some user
+pub due-held : (b : Recorded) (user : User) (at : PortId) (seen : PortSeen) → IsLegal b.pool b.entries → IsUser b user → is_session (standing b).world user.id.0 ≡ true
     → IsAsker user (shutting_port (standing b).world.ports at.0) seen → seen.due ≤ length user.bufs.items
-due-held b users place user at seen k here asker =
-    let is = each-at (IsUser b) users place user k.each here in
+due-held b user at seen legal is there asker =
     let own = own_of user.id.0 (standing b) in
-    let due = buffers-due b.pool b.entries user.id.0 k.legal (session-there b users place user k here) in
+    let due = buffers-due b.pool b.entries user.id.0 legal there in
     let among = due-among (is_shutting_at at.0) user.id.0 (standing b).world.ports asker.port asker.found_is asker.mine in
     let size = same-length (indices_of user.bufs.items) own.buffers is.buffers in
     let long = length-map user.bufs.items (λ (x : Buffer). x.index) in
@@ -407,8 +384,8 @@ none-out (l ∷ ls) all =
 
 -- ---- the port goes
 
-module _ (b : Recorded) (users : List User) (place : ℕ) (user : User) (at : PortId) (seen : PortSeen) (k : AreUsersOf b users) (quiet : Each IsQuiet users)
-    (here : slice_get users place ≡ Some user) (asker : IsAsker user (shutting_port (standing b).world.ports at.0) seen) (fits : fits_chain no_chain ≡ true) where
+module _ (b : Recorded) (users : List User) (user : User) (at : PortId) (seen : PortSeen) (k : AreUsersOf b users) (quiet : Each IsQuiet users)
+    (is : IsUser b user) (there : is_session (standing b).world user.id.0 ≡ true) (asker : IsAsker user (shutting_port (standing b).world.ports at.0) seen) (fits : fits_chain no_chain ≡ true) where
   abbrev bufs : List ℕ
   bufs = take seen.due (indices_of user.bufs.items)
 
@@ -419,15 +396,13 @@ module _ (b : Recorded) (users : List User) (place : ℕ) (user : User) (at : Po
 
   can : ((length (take seen.due (indices_of user.bufs.items)) == seen.due) && holds_all user.bufs.items (take seen.due (indices_of user.bufs.items))) ≡ true
   can =
-      let is = each-at (IsUser b) users place user k.each here in
-      let due = due-held b users place user at seen k here asker in
+      let due = due-held b user at seen k.legal is there asker in
       let long = length-map user.bufs.items (λ (x : Buffer). x.index) in
       let size = length-take-le seen.due (indices_of user.bufs.items) (omega (arith, due, long)) in
       ap (λ (t : Bool). t && holds_all user.bufs.items bufs) (eq-eqb (length bufs) seen.due size) ∙ first-held b user seen.due k.legal is
 
   goes : can_finish (standing b) (take seen.due (indices_of user.bufs.items)) asker.port ≡ true
   goes =
-      let is = each-at (IsUser b) users place user k.each here in
       sym (ap (is_met (can_finish (standing b) bufs)) asker.found_is)
       ∙ (and_parts (fits_chain no_chain) (is_met (can_finish (standing b) bufs) (shutting_port (standing b).world.ports at.0))
       (enabled b user at seen bufs no_chain k.legal is asker fits can)).1
@@ -439,106 +414,78 @@ module _ (b : Recorded) (users : List User) (place : ℕ) (user : User) (at : Po
       ap (λ (t : Bool). cond t (finish_step_at (standing b) bufs (shutting_port (standing b).world.ports at.0)) None) fits
       ∙ (ap (finish_step_at (standing b) bufs) asker.found_is ∙ ap (λ (t : Bool). cond t (Some (finish_step (standing b) bufs asker.port)) None) go)
 
-  pub finishes-next : (after : Recorded) (reply : Option Reply) → first_id (standing b).world.ports ≡ Some at.0 → open_port (standing b).world.ports at.0 ≡ None
+  -- its session's smallest buffers are those that it has first
+  smallest : IsNonDecreasingBy index_of user.bufs.items → bufs_ending (standing b) asker.port ≡ take seen.due (indices_of user.bufs.items)
+  smallest rise =
+      ap (λ (n : ℕ). take (due_of asker.port) (rising (buffers_of_session (standing b).holdings.sessions n))) asker.mine
+      ∙ (ap (λ (ns : List ℕ). take (due_of asker.port) ns) (sym (rising-is user.bufs.items (own_of user.id.0 (standing b)).buffers rise is.buffers))
+      ∙ ap (λ (n : ℕ). take n (indices_of user.bufs.items)) (sym asker.is_seen.due))
+
+  pub finishes-next : (after : Recorded) (reply : Option Reply) → IsPortsTurn b users at.0 → IsNonDecreasingBy index_of user.bufs.items → open_port (standing b).world.ports at.0 ≡ None
       → IsServed b after (Finish at (take seen.due (indices_of user.bufs.items)) no_chain) (Ok reply) → IsNextMade b after
-  finishes-next after reply first shut served =
-      let f = first_port b at.0 first in
+  finishes-next after reply turn rise closed served =
+      let f = first-of (standing b).world.ports turn.user.id.0 at.0 turn.port in
+      let by = first-number b users at k quiet turn in
+      let shuts : f.port.shutting ≡ true = not-is false f.port.shutting (sym (ap (λ (x : Option Port). is_some x) closed) ∙ by.opened) in
+      let same : f.port ≡ asker.port = same-port f.port asker.port (sym (by.shuts ∙ ap (λ (t : Bool). cond t (Some f.port) None) shuts) ∙ asker.found_is) in
       record {
         ask = Finish at bufs no_chain;
-        comes = record {
-          bufs = bufs;
-          next = port-next b users bufs at k quiet f true (shutting-is b at.0 f ∙ ap (λ (x : Option Port). not (is_some x)) shut);
-        };
+        comes = port-next b users at k quiet turn
+            ∙ (ap (λ (t : Bool). Some (cond t (Finish (record { 0 = f.port.id }) (bufs_ending (standing b) f.port) no_chain) (Shut (record { 0 = f.port.id })))) shuts
+            ∙ (ap (λ (n : ℕ). Some (Finish (record { 0 = n }) (bufs_ending (standing b) f.port) no_chain)) f.number
+            ∙ ap (λ (bs : List ℕ). Some (Finish at bs no_chain)) (ap (bufs_ending (standing b)) same ∙ smallest rise)));
         made = finish_step (standing b) bufs asker.port;
         steps = made;
         is = served.1 ∙ ap (after_outcome b (Finish at bufs no_chain)) made;
       }
+    where
+      same-port : (p q : Port) → Some p ≡ Some q → p ≡ q
+      same-port p q e = cc
+
+-- ---- whose turn it is
+
+own-first : (session : ℕ) (ports : List Port) → option_map id_of_port (find (is_port_of session) ports) ≡ slice_get (map id_of_port (filter (is_port_of session) (map port_alone ports))) 0
+own-first session [] = refl
+own-first session (p ∷ ps) = by (p.session == session) (own-first session ps)
+  where
+    by : (t : Bool) → option_map id_of_port (find (is_port_of session) ps) ≡ slice_get (map id_of_port (filter (is_port_of session) (map port_alone ps))) 0
+        → option_map id_of_port (cond t (Some p) (find (is_port_of session) ps)) ≡ slice_get (map id_of_port (cond t (port_alone p ∷ filter (is_port_of session) (map port_alone ps)) (filter (is_port_of session) (map port_alone ps)))) 0
+    by true rest = refl
+    by false rest = rest
+
+rooms-first : (rooms : List Room) (first : Option PortId) → first ≡ option_map port_in_room (slice_get rooms 0) → slice_get (map port_of_room rooms) 0 ≡ option_map (λ (p : PortId). p.0) first
+rooms-first [] found e = sym (ap (option_map (λ (p : PortId). p.0)) e)
+rooms-first (r ∷ rs) found e = sym (ap (option_map (λ (p : PortId). p.0)) e)
+
+pub first-port : (b : Recorded) (user : User) (first : Option PortId) → IsUser b user → first ≡ option_map port_in_room (slice_get user.rooms.items 0)
+    → option_map id_of_port (find (is_port_of user.id.0) (standing b).world.ports) ≡ option_map (λ (p : PortId). p.0) first
+first-port b user first is e =
+    own-first user.id.0 (standing b).world.ports
+    ∙ (ap (λ (ns : List ℕ). slice_get ns 0) (sym is.room_each) ∙ rooms-first user.rooms.items first e)
 
 -- ---- a session leaves
 
-first-user : (users : List User) (user : User) → 1 ≤ length users → user ≡ get_or users 0 user → (rest : List User) × (users ≡ user ∷ rest)
-first-user [] user some' is = absurd (omega (arith, some'))
-first-user (u ∷ us) user some' is = (us, ap (λ (v : User). v ∷ us) (sym is))
+none-found-port : (found : Option Port) → option_map id_of_port found ≡ None → found ≡ None
+none-found-port None e = refl
+none-found-port (Some p) e = absurd cc
 
-pub leaves-next : (b after : Recorded) (users : List User) (user : User) (reply : Option Reply) → AreUsersOf b users → Each IsQuiet users → (standing b).world.ports ≡ [] → 1 ≤ length users
-    → user ≡ get_or users 0 user → IsServed b after (Leave user.id) (Ok reply) → IsNextMade b after
-leaves-next b after users user reply k quiet gone some' is-first served =
-    let f = first-user users user some' is-first in
-    let here : slice_get users 0 ≡ Some user = ap (λ (us : List User). slice_get us 0) f.1 in
-    let is = each-at (IsUser b) users 0 user k.each here in
-    let settled = each-at IsQuiet users 0 user quiet here in
-    let each = is.room_each in
-    let none = ap (λ (ps : List Port). length (filter (is_port_of user.id.0) (map port_alone ps))) gone in
-    let rooms : (length user.rooms.items == 0) ≡ true = eq-eqb (length user.rooms.items) 0 (omega (arith, each, none)) in
-    let can = leaves b user k.legal is (session-there b users 0 user k here) ∙ (ap (λ (t : Bool). t && is_settled_user user) rooms ∙ settled) in
-    let sessions : (standing b).world.sessions ≡ user.id.0 ∷ map id_of_user f.0 = sym k.ids ∙ ap (λ (us : List User). map id_of_user us) f.1 in
-    next-made b after (Leave user.id) [] reply served (λ s. refl) can
-    (quiet-next b users [] k quiet ∙ (ap (ports_ending [] (standing b).world.sessions) gone ∙ ap sessions_ending sessions))
+no-rooms : (rooms : List Room) → None ≡ option_map port_in_room (slice_get rooms 0) → (length rooms == 0) ≡ true
+no-rooms [] e = refl
+no-rooms (r ∷ rs) e = absurd cc
 
--- ---- the search for the first port
+pub leaves-next : (b after : Recorded) (users : List User) (user : User) (reply : Option Reply) → AreUsersOf b users → Each IsQuiet users → slice_get users 0 ≡ Some user
+    → None ≡ option_map port_in_room (slice_get user.rooms.items 0) → IsServed b after (Leave user.id) (Ok reply) → IsNextMade b after
+leaves-next b after users user reply k quiet first none served =
+    let is = each-at (IsUser b) users 0 user k.each first in
+    let settled = each-at IsQuiet users 0 user quiet first in
+    let can = leaves b user k.legal is (session-there b users 0 user k first) ∙ (ap (λ (t : Bool). t && is_settled_user user) (no-rooms user.rooms.items none) ∙ settled) in
+    let gone = none-found-port (find (is_port_of user.id.0) (standing b).world.ports) (first-port b user None is none) in
+    next-made b after (Leave user.id) reply served (λ s. refl) can
+    (session-next b users user k quiet first ∙ ap (λ (found : Option Port). Some (session_ending (standing b) user.id.0 found)) gone)
 
-shut-named : (id : ℕ) (p : Port) → is_shutting_at id p ≡ true → p.id ≡ id
-shut-named id p e = eqb-true p.id id (and_parts (p.id == id) p.shutting e).0
-
-there_first : (ports : List Port) (id low high : ℕ) → id ≡ low + 1 → Rise 0 (map id_of_port ports) high → Each (λ (p : Port). low < p.id) ports → is_there ports id ≡ true → first_id ports ≡ Some id
-there_first [] id low high next rise above e = absurd cc
-there_first (p ∷ ps) id low high next rise above e = by (p.id == id) refl
-  where
-    by : (t : Bool) → (p.id == id) ≡ t → Some p.id ≡ Some id
-    by true t = ap (λ (n : ℕ). Some n) (eqb-true p.id id t)
-    by false t =
-        let up = above.0 in
-        let past : id < p.id = other p.id id t (omega (arith, up, next)) in
-        let whole : Rise id (map id_of_port (p ∷ ps)) high = (past, rise.1) in
-        let one = none-above (is_open_at id) id id high (p ∷ ps) (open-named id) (omega arith) whole in
-        let two = none-above (is_shutting_at id) id id high (p ∷ ps) (shut-named id) (omega arith) whole in
-        absurd (let off = ap₂ (λ (x y : Option Port). is_some x || is_some y) one two in let on = sym e ∙ off in cc)
-      where
-        other : (m n : ℕ) → (m == n) ≡ false → n ≤ m → n < m
-        other m n off most = let apart = eqb-false m n off in omega (arith, apart, most)
-
-pub there-first : (b : Recorded) (i : ℕ) → Each (λ (p : Port). i < p.id) (standing b).world.ports → is_there (standing b).world.ports (i + 1) ≡ true → first_id (standing b).world.ports ≡ Some (i + 1)
-there-first b i above e = there_first (standing b).world.ports (i + 1) i (length b.entries) refl (numbers-rise b.pool b.entries).ports_rise above e
-
-each-above : (low high : ℕ) (ports : List Port) → Rise low (map id_of_port ports) high → Each (λ (p : Port). low < p.id) ports
-each-above low high [] rise = tt
-each-above low high (p ∷ ps) rise =
-    let up = rise.0 in
-    (up, each-to (λ (q : Port). p.id < q.id) (λ (q : Port). low < q.id) ps (λ q more. omega (arith, more, up)) (each-above p.id high ps rise.1))
-
-past_first : (ports : List Port) (id low high : ℕ) → id ≡ low + 1 → Rise 0 (map id_of_port ports) high → Each (λ (p : Port). low < p.id) ports → is_there ports id ≡ false → Each (λ (p : Port). id < p.id) ports
-past_first [] id low high next rise above e = tt
-past_first (p ∷ ps) id low high next rise above e =
-    let up = above.0 in
-    let past : id < p.id = by (p.id == id) refl p.shutting refl in
-    (past, each-to (λ (q : Port). p.id < q.id) (λ (q : Port). id < q.id) ps (λ q more. omega (arith, more, past)) (each-above p.id high ps rise.1))
-  where
-    by : (t : Bool) → (p.id == id) ≡ t → (u : Bool) → p.shutting ≡ u → id < p.id
-    by false t u is = let apart = eqb-false p.id id t in let up = above.0 in omega (arith, apart, up, next)
-    by true t true is =
-        let hit : is_shutting_at id p ≡ true = ap (λ (x : Bool). x && p.shutting) t ∙ is in
-        let on : is_some (shutting_port (p ∷ ps) id) ≡ true = ap (λ (x : Bool). is_some (cond x (Some p) (find (is_shutting_at id) ps))) hit in
-        absurd (let off = (or_parts (is_some (open_port (p ∷ ps) id)) (is_some (shutting_port (p ∷ ps) id)) e).1 in let wrong = sym on ∙ off in cc)
-    by true t false is =
-        let hit : is_open_at id p ≡ true = ap (λ (x : Bool). x && not p.shutting) t ∙ ap not is in
-        let on : is_some (open_port (p ∷ ps) id) ≡ true = ap (λ (x : Bool). is_some (cond x (Some p) (find (is_open_at id) ps))) hit in
-        absurd (let off = (or_parts (is_some (open_port (p ∷ ps) id)) (is_some (shutting_port (p ∷ ps) id)) e).0 in let wrong = sym on ∙ off in cc)
-
-pub past-first : (b : Recorded) (i : ℕ) → Each (λ (p : Port). i < p.id) (standing b).world.ports → is_there (standing b).world.ports (i + 1) ≡ false → Each (λ (p : Port). i + 1 < p.id) (standing b).world.ports
-past-first b i above e = past_first (standing b).world.ports (i + 1) i (length b.entries) refl (numbers-rise b.pool b.entries).ports_rise above e
-
-pub none-before : (b : Recorded) → Each (λ (p : Port). 0 < p.id) (standing b).world.ports
-none-before b = each-above 0 (length b.entries) (standing b).world.ports (numbers-rise b.pool b.entries).ports_rise
-
-none_left : (ports : List Port) (i high : ℕ) → high ≤ i → Rise 0 (map id_of_port ports) high → Each (λ (p : Port). i < p.id) ports → ports ≡ []
-none_left [] i high most rise above = refl
-none_left (p ∷ ps) i high most rise above =
-    let within = (rise-slice_get id_of_port 0 (p ∷ ps) high 0 p rise refl).1 in
-    let up = above.0 in
-    absurd (omega (arith, within, up, most))
-
-pub none-left : (b : Recorded) (i : ℕ) → length b.entries ≤ i → Each (λ (p : Port). i < p.id) (standing b).world.ports → (standing b).world.ports ≡ []
-none-left b i most above = none_left (standing b).world.ports i (length b.entries) most (numbers-rise b.pool b.entries).ports_rise above
+-- where none is left, nothing is left to do
+pub none-next : (b : Recorded) (users : List User) → AreUsersOf b users → Each IsQuiet users → (standing b).world.sessions ≡ [] → next_ending (standing b) ≡ None
+none-next b users k quiet none = quiet-next b users k quiet ∙ ap (sessions_ending (standing b)) none
 
 -- ---- numbers that are written one after another
 

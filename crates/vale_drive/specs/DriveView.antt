@@ -1,25 +1,6 @@
 -- What a drive keeps: each session of its book has outside the book what is its own.
-use Rattle.std.specs.Prelude.{ℕ, ◌≡◌, ◌<◌, List, Some, length, map, slice_get, Option}
-use Rattle.std.specs.List.{AllByRecursion}
-use Rattle.vale_book.specs.declared.asking.PortSeen.{PortSeen}
-use Rattle.vale_entry.specs.World.{Port}
-use Rattle.vale_entry.specs.Legal.{IsLegal}
-use Rattle.vale_book.specs.Recorded.{Recorded, standing}
 use Rattle.vale_drive.specs.declared.drive.Drive.TheInside.{Inside}
-use Rattle.vale_drive.specs.declared.users.User.{User}
-use Rattle.vale_drive.specs.Users.{id_of_user, IsUser, IsAsker}
-
-pub record AreUsersOf (b : Recorded) (users : List User) : Type 0 where
-  pub legal : IsLegal b.pool b.entries
-  pub ids : map id_of_user users ≡ (standing b).world.sessions
-  pub each : AllByRecursion (IsUser b) users
+use Rattle.vale_serve.specs.Joined.{AreUsersOf}
 
 abbrev pub IsDrive : Inside → Type 0
 IsDrive d = AreUsersOf d.book d.users.items
-
--- the port that is looked for is there, seen so, and its session stands at the place
-pub record IsOwner (users : List User) (found : Option Port) (seen : PortSeen) (place : ℕ) : Type 0 where
-  pub user : User
-  pub here : slice_get users place ≡ Some user
-  pub within : place < length users
-  pub asker : IsAsker user found seen

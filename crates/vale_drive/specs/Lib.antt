@@ -1,16 +1,4 @@
-pub mod Users
-pub mod Buffers
 pub mod DriveView
-pub mod Serving
-pub mod Finishing
-pub mod Opening
-pub mod Replies
-pub mod Filling
-pub mod Granting
-pub mod Copies
-pub mod Exchange
-pub mod Reading
-pub mod Putting
 pub mod Running
 pub mod Winding
 pub mod Turns

@@ -1,12 +1,12 @@
 -- One turn on the way to the end: the entry that comes next is made, or it is another kind's turn.
-use Rattle.std.specs.Prelude.{ℕ, Bool, true, false, ◌≡◌, ◌||◌, is_some, List, [], ◌∷◌, Option, Some, None}
+use Rattle.std.specs.Prelude.{ℕ, Bool, true, false, ◌≡◌, is_some, List, [], Some, None, find, option_map, slice_get}
 use Rattle.std.specs.List.{AllByRecursion}
-use Rattle.vale_entry.specs.World.{Port, open_port}
-use Rattle.vale_entry.specs.Closing.{shutting_port}
+use Rattle.vale_entry.specs.Closing.{is_port_of}
+use Rattle.vale_entry.specs.Laws.{id_of_port}
 use Rattle.vale_book.specs.Recorded.{Recorded, standing}
-use Rattle.vale_drive.specs.declared.users.User.{User}
-use Rattle.vale_drive.specs.Users.{is_settled_user}
-use Rattle.vale_drive.specs.Winding.{IsNextMade}
+use Rattle.vale_serve.specs.declared.users.User.{User}
+use Rattle.vale_serve.specs.Users.{is_settled_user}
+use Rattle.vale_drive.specs.Winding.{IsNextMade, next_ending}
 
 abbrev pub has_offer : User → Bool
 has_offer user = is_some user.sent
@@ -19,9 +19,15 @@ HasGranted user = has_offer user ≡ false
 abbrev pub IsQuiet : User → Type 0
 IsQuiet user = is_settled_user user ≡ true
 
-abbrev pub first_id : List Port → Option ℕ
-first_id [] = None
-first_id (port ∷ ports) = Some port.id
+-- the first port of a session
+abbrev pub IsFirstPort : Recorded → ℕ → ℕ → Type 0
+IsFirstPort b session id = option_map id_of_port (find (is_port_of session) (standing b).world.ports) ≡ Some id
+
+-- the session of this port comes first
+pub record IsPortsTurn (b : Recorded) (users : List User) (id : ℕ) : Type 0 where
+  pub user : User
+  pub first : slice_get users 0 ≡ Some user
+  pub port : IsFirstPort b user.id.0 id
 
 abbrev pub IsGrantTurn : Bool → Recorded → Recorded → List User → Type 0
 IsGrantTurn true old new users = IsNextMade old new
@@ -31,13 +37,6 @@ abbrev pub IsDoneTurn : Bool → Recorded → Recorded → List User → Type 0
 IsDoneTurn true old new users = IsNextMade old new
 IsDoneTurn false old new users = (new ≡ old) × AllByRecursion IsQuiet users
 
-abbrev pub IsPortTurn : Bool → Recorded → Recorded → List User → Type 0
-IsPortTurn true old new users = IsNextMade old new
-IsPortTurn false old new users = (new ≡ old) × AllByRecursion IsQuiet users × ((standing new).world.ports ≡ [])
-
-abbrev pub IsLeaveTurn : Bool → Recorded → Recorded → Type 0
-IsLeaveTurn true old new = IsNextMade old new
-IsLeaveTurn false old new = (new ≡ old) × ((standing new).world.sessions ≡ [])
-
-abbrev pub is_there : List Port → ℕ → Bool
-is_there ports id = is_some (open_port ports id) || is_some (shutting_port ports id)
+abbrev pub IsLastTurn : Bool → Recorded → Recorded → Type 0
+IsLastTurn true old new = IsNextMade old new
+IsLastTurn false old new = (new ≡ old) × (next_ending (standing new) ≡ None) × ((standing new).world.sessions ≡ [])

@@ -1,20 +1,20 @@
-ghost use Rattle.std.specs.Prelude.{◌≡◌, ◌<◌, ◌≤◌, ◌^◌, [], length, IfOk, IfErr, OnOk, OnErr};
+ghost use Rattle.std.specs.Prelude.{◌≡◌, ◌<◌, ◌^◌, [], IfOk, IfErr, OnOk};
 ghost use Rattle.nm_types.specs.Buffers.{IsPoolSize};
-ghost use Rattle.vale_entry.specs.Legal.{IsLegal};
+ghost use Rattle.vale_entry.specs.Legal.{IsLegal, world_of};
+ghost use Rattle.vale_entry.specs.World.{free_count};
 ghost use Rattle.vale_entry.specs.Room.{promised_of};
 ghost use Rattle.vale_book.specs.Recorded.{standing, HadRoom};
 ghost use Rattle.vale_drive.specs.Running.{after_asks, IsStopped};
-ghost use Rattle.vale_drive.specs.Serving.{IsServed};
+ghost use Rattle.vale_serve.specs.Serving.{IsServed};
 ghost use Rattle.vale_drive.specs.Winding.{IsEnded};
 
-use crate::serving::serve;
-use crate::users::User;
 use crate::winding::wind_up;
 use nm_types::{Limits, NoMemory, StepFault};
 use std::alloc::Global;
 use std::marker::Model;
 use vale_book::Book;
 use vale_entry::{Ask, History, Reply};
+use vale_serve::{User, serve};
 
 /// A book joined with what is outside it: the buffers of the sessions, their leases, and what of
 /// their frames is not granted yet. It cannot be dropped.
@@ -100,38 +100,27 @@ impl Drive {
         made
     }
 
-    /// Makes what was promised and is wanting still, until each session has left. First the
-    /// sessions, one after another, grant what they offer; then they complete their leases; then
-    /// each port, by rising id, is shut and goes with buffers of its session; and then the sessions
-    /// leave. Room and memory were kept for all of it.
-    pub fn wind_up(&mut self)
-        ensures ended { IsEnded self.old self.new }
-        ensures legal { IsLegal self.new.pool self.new.entries }
-        ensures roomy { HadRoom self.new }
+    /// Ends the drive, and frees its region: its record is left. First it makes what was promised
+    /// and is wanting still, until each session has left: all offers are granted, those of the
+    /// oldest entry first; then all leases are completed, by rising number; then each session, by
+    /// rising id, shuts and finishes its ports, by rising id too, and leaves. A port goes with the
+    /// smallest buffers of its session. Room and memory were kept for all of it.
+    pub fn close(self) -> History
+        ensures ended { IsEnded self (record self { entries = result.entries }) }
+        ensures limits { result.limits ≡ self.limits }
+        ensures legal { IsLegal self.pool result.entries }
+        ensures roomy { HadRoom (record self { entries = result.entries }) }
+        ensures free { free_count (world_of self.pool result.entries) ≡ self.pool }
     {
-        wind_up(&mut self.book, &mut self.users);
-        // Its entries are a legal history.
-        self.book.history();
-    }
-
-    /// Ends the drive once each session has left, as after `wind_up`, and frees its region: its
-    /// record is left. While a session is there the drive is handed back.
-    pub fn close(self) -> Result<History, Drive>
-        ensures entries { IfOk result (λ history. history.entries ≡ self.entries) }
-        ensures limits { IfOk result (λ history. history.limits ≡ self.limits) }
-        ensures left { OnOk result ((standing self).world.sessions ≡ []) }
-        ensures same { IfErr result (λ drive. drive ≡ self) }
-        ensures there { OnErr result (1 ≤ length (standing self).world.sessions) }
-    {
-        if !self.users.is_empty() {
-            return Err(self);
-        }
         let Drive {
-            book,
-            users,
+            mut book,
+            mut users,
             alloc: _,
         } = self;
+        wind_up(&mut book, &mut users);
         users.destroy_empty();
-        Ok(book.close())
+        // Its entries are a legal history.
+        book.history();
+        book.close()
     }
 }

@@ -1,11 +1,8 @@
 -- A user does its own lines of a block, or has none in it.
-use Rattle.std.proofs.Common.{◌≡◌, ℕ, Bool, true, false, List, [], ◌∷◌, ◌++◌, Option, Some, None, ◌==◌, ◌||◌, cond, filter, map, refl, sym, ap, ◌∙◌, subst}
+use Rattle.std.proofs.Common.{◌≡◌, ℕ, Bool, true, false, List, [], ◌∷◌, ◌++◌, Some, None, ◌==◌, ◌||◌, cond, filter, map, refl, sym, ap, ◌∙◌, subst}
 use Rattle.nm_types.specs.declared.fault.StepFault.{StepFault}
 use Rattle.nm_user.specs.Sessions.{IsThere}
-use Rattle.vale_fabric.specs.Fabrics.{Knowing}
-use Rattle.vale_script.specs.declared.script.Act.{Act}
 use Rattle.vale_script.specs.declared.script.Line.{Line}
-use Rattle.vale_replay.specs.Machine.{Machine}
 use Rattle.vale_replay.specs.Tasks.{Task, tasks_of_lines}
 use Rattle.vale_replay.specs.Replay.{act_of, acts_of, has_line, is_of_user}
 use Rattle.vale_player.specs.Players.{PlayerState, Does, IsStill, RunsLines, Stops, machine_of}

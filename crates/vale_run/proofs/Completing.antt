@@ -23,7 +23,7 @@ use Rattle.vale_act.specs.FewFrames.{IsLight}
 use Rattle.vale_act.proofs.RoomLines.{light-fit}
 use Rattle.vale_act.proofs.RoomScripts.{few-fit}
 use Rattle.vale_act.proofs.RoomHistories.{not-refused}
-use Rattle.vale_run.specs.Run.{Io, HasRisen, IsScript, IsAccepted, HasInputs, IsReady, StopsAtInput, WritesPart, StopsFull, Ends, Runs, most_script, most_inputs, text_in, saved_in}
+use Rattle.vale_run.specs.Run.{Io, HasRisen, IsScript, IsAccepted, HasInputs, IsReady, StopsAtInput, WritesPart, StopsFull, Ends, most_script, most_inputs, text_in, saved_in}
 use Rattle.vale_run.specs.Complete.{NothingHinders, Completes}
 use Rattle.vale_run.specs.declared.status.What.TheVariants.{Script, Lines, Counts, Inputs, Frames, Entries, Bytes}
 use Rattle.vale_run.specs.declared.status.Status.{Status}
@@ -215,7 +215,6 @@ module _ (limits : Limits) (entries : most_entries ≤ limits.entries) (bytes : 
   end-complete (Over Bytes count limit) e = absurd (not-full io.files n.told name n.program n.played n.ready limits parts.Bytes count entries bytes n.light e.0)
   end-complete WriteFault e = absurd (not-unwritten (text_in e.0) (saved_in e.0) e.1)
 
-pub runs-complete : (limits : Limits) → most_entries ≤ limits.entries → most_bytes ≤ limits.bytes → (script : Option (List ℕ)) (io : Io) (status : Status)
-    → Runs limits script io status → Completes script io status
-runs-complete limits entries bytes None io status runs = tt
-runs-complete limits entries bytes (Some name) io status runs = λ n. end-complete limits entries bytes io name n status runs
+pub named-complete : (limits : Limits) → most_entries ≤ limits.entries → most_bytes ≤ limits.bytes → (name : List ℕ) (io : Io) (status : Status)
+    → Ends limits io name status → Completes (Some name) io status
+named-complete limits entries bytes name io status ends = λ n. end-complete limits entries bytes io name n status ends

@@ -1,5 +1,5 @@
 -- What the lines of a load cost is little: the record has room for each call to which its users come.
-use Rattle.std.proofs.Common.{ℕ, zero, suc, ◌+◌, ◌*◌, ◌%◌, ◌≤◌, ◌≡◌, ◌==◌, Bool, true, false, cond, List, [], ◌∷◌, ◌++◌, length, map, filter, flat_map, sum_by, refl, arith}
+use Rattle.std.proofs.Common.{ℕ, suc, ◌+◌, ◌*◌, ◌%◌, ◌≤◌, ◌==◌, Bool, true, false, cond, List, [], ◌∷◌, ◌++◌, length, map, filter, flat_map, sum_by, arith}
 use Rattle.std.specs.List.{range_with_len, AllByRecursion as Each}
 use Rattle.std.proofs.lemmas.List.FromFn.{length-range_with_len}
 use Rattle.std.proofs.lemmas.List.{length-append}
@@ -11,9 +11,9 @@ use Rattle.vale_script.specs.declared.script.Act.{Act}
 use Rattle.vale_script.specs.declared.script.Act.TheVariants.{Put, Tx, Rx}
 use Rattle.vale_script.specs.declared.script.Line.{Line}
 use Rattle.vale_script.specs.declared.script.Unit.TheVariants as parts
-use Rattle.vale_gen.specs.Load.{Deed, syncs, is_followed, puts, frame_deeds, user_deeds, numbered, users, opening, block_deeds, load_program, port_name, destination, number_behind, station, enters, opens}
-use Rattle.vale_replay.specs.Tasks.{Task, ShutPort, FinishPort, Depart, records_of, tasks_of_line, tasks_of_lines}
-use Rattle.vale_replay.specs.Machine.{Machine, closing_of, new_machine}
+use Rattle.vale_gen.specs.Load.{Deed, syncs, is_followed, frame_deeds, user_deeds, numbered, users, opening, block_deeds, load_program, port_name, destination, number_behind, station, enters, opens}
+use Rattle.vale_replay.specs.Tasks.{Task, Depart, records_of, tasks_of_line, tasks_of_lines}
+use Rattle.vale_replay.specs.Machine.{closing_of}
 use Rattle.vale_replay.specs.Replay.{UnitShare, ScriptUnit, share_of, acts_of, act_of, is_of_user, has_line, shares_of, closing_unit, units_of}
 use Rattle.vale_act.specs.Completeness.{frames_of_task, calls_of_task, IsPlainTask, IsCosted, frames_of_share, calls_of_share, frames_of_unit, calls_of_unit, frames_of_units, calls_of_units, TasksFit}
 
@@ -155,8 +155,14 @@ frame-light : (n user j : ℕ) → Deeds (frame_deeds n user j) 3
 frame-light n user j =
     let rest = syncs-light user (is_followed j) in
     let few = rest.few in
-    record { few = omega (arith, few); light = (put-light (port_name user) (destination (number_behind n user (j + 1))) (station user)
-          (60 + (n + user + j) % 64) (j % 256), rest.light) }
+    record {
+      few = omega (arith, few);
+      light = (
+        put-light (port_name user) (destination (number_behind n user (j + 1))) (station user)
+            (60 + (n + user + j) % 64) (j % 256),
+        rest.light,
+      );
+    }
 
 user-light : (n user frames : ℕ) → Deeds (user_deeds n user frames) (frames * 3)
 unfolding user_deeds

@@ -1,6 +1,6 @@
 -- What the Sends of a legal history send fits 64 bits: there are fewer than 2^32 entries, and each sends at
 -- most 1,023 frames of at most 2,048 bytes.
-use Rattle.std.proofs.Common.{ℕ, ◌+◌, ◌*◌, ◌<◌, ◌≤◌, ◌^◌, ◌≡◌, ◌&&◌, Bool, true, false, cond, nat_le, List, [], ◌∷◌, ◌++◌, length, take, slice_get, sum_by, Option, Some, None, option_map, refl, ◌∙◌, ap, arith}
+use Rattle.std.proofs.Common.{ℕ, ◌+◌, ◌*◌, ◌<◌, ◌≤◌, ◌^◌, ◌≡◌, ◌&&◌, Bool, true, false, cond, nat_le, List, [], ◌∷◌, length, take, slice_get, sum_by, Option, Some, None, option_map, refl, ◌∙◌, ap, arith}
 use Rattle.std.specs.List.{list_all}
 use Rattle.std.proofs.lemmas.Bool.{leb-true, and_parts}
 use Rattle.std.proofs.lemmas.List.Sums.{sum_by-cons, sum_by_push, sum_by-take-le}

@@ -1,6 +1,6 @@
 -- The words `load N`, and what a run of them promises: the load of N was played as a script is, and one line
 -- says what was sent.
-use Rattle.std.specs.Prelude.{ℕ, ◌≡◌, if◌then◌else◌, List, [], ◌∷◌, ◌++◌, length, sum_by, codes, decimal, bytes_eq, Option, Some, None}
+use Rattle.std.specs.Prelude.{ℕ, ◌≡◌, if◌then◌else◌, List, [], ◌∷◌, ◌++◌, length, sum_by, codes, decimal, bytes_eq, Option, None}
 use Rattle.nm_types.specs.Frames.{Frame, bytes_of_frames}
 use Rattle.nm_types.specs.declared.limits.Limits.{Limits}
 use Rattle.vale_entry.specs.declared.entry.Ask.{Ask}

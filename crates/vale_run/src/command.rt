@@ -87,7 +87,7 @@ fn bad_capture(alloc: Global, name: &str, cause: PcapFault) -> Status
 }
 
 /// How a run ends that met a fault of the record.
-fn stopped(fault: StepFault) -> Status
+pub(crate) fn stopped(fault: StepFault) -> Status
     requires { IsFewUsed fault }
     ensures { result ≡ stopped Limits.VERSION_1 fault }
 {
@@ -420,14 +420,14 @@ pub fn run<R: AllocGlobal + Threads + Wait + Sync, S: Shelf, K: Sink, G: Gate>(
 ) -> Status
     ensures runs { Runs Limits.VERSION_1 (script_name (map string_bytes words.now))
         (load_number (map string_bytes words.now)) (record {
-      files = S.files shelf.old;
-      new_files = S.files shelf.new;
-      reads = λ name. (S.read_faults shelf.old name, S.read_faults shelf.new name);
-      appends = λ name. (S.append_faults shelf.old name, S.append_faults shelf.new name);
-      holds = K.holds out.old;
-      new_holds = K.holds out.new;
-      writes = (K.faults out.old, K.faults out.new);
-    }) result }
+          files = S.files shelf.old;
+          new_files = S.files shelf.new;
+          reads = λ name. (S.read_faults shelf.old name, S.read_faults shelf.new name);
+          appends = λ name. (S.append_faults shelf.old name, S.append_faults shelf.new name);
+          holds = K.holds out.old;
+          new_holds = K.holds out.new;
+          writes = (K.faults out.old, K.faults out.new);
+        }) result }
     ensures completes { Completes (script_name (map string_bytes words.now)) (record {
       files = S.files shelf.old;
       new_files = S.files shelf.new;

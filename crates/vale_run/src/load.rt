@@ -9,10 +9,11 @@ ghost use Rattle.vale_run.specs.Load.{most_load, load_number, count_sent, bytes_
 ghost use Rattle.vale_run.specs.Load.{load_text, LoadEnds};
 ghost use Rattle.vale_run.specs.Status.{WritesAnswer};
 
+use crate::command::stopped;
 use crate::playing::play_recorded;
 use crate::status::Status;
 use nm_io::{Failed, Gate, Sink};
-use nm_types::{Limits, StepFault};
+use nm_types::Limits;
 use std::sync::Wait;
 use std::thread::Threads;
 use vale_book::Book;
@@ -91,13 +92,7 @@ fn sent(entries: &[Entry]) -> (u64, u64)
 }
 
 #[tactic(auto, unfolding(crate::specs::Load::load_line))]
-fn put_line<K: Sink>(
-    out: &mut K,
-    n: u64,
-    frames: u64,
-    bytes: u64,
-    free: u32,
-) -> Result<(), Failed>
+fn put_line<K: Sink>(out: &mut K, n: u64, frames: u64, bytes: u64, free: u32) -> Result<(), Failed>
     ensures writes { Writes (K.holds out.old) (K.holds out.new) result
         (load_line n frames bytes free) }
     ensures later { K.faults out.old ≤ K.faults out.new }
@@ -155,11 +150,10 @@ pub(crate) fn run_load<R: AllocGlobal + Threads + Wait + Sync, K: Sink, G: Gate>
     };
     match played {
         Ok(_) => write(out, n, book),
-        Err(StepFault::NoMemory) => {
+        // A load sends so few frames that its record is never full: memory was wanting.
+        Err(fault) => {
             drop(book.close());
-            Status::NoMemory
+            stopped(fault)
         }
-        // A load sends so few frames that its record is never full.
-        Err(StepFault::RecordFull { .. }) => unreachable!(),
     }
 }

@@ -39,8 +39,8 @@ struct Others<'f> {
 }
 
 /// Holds a user once, while the others do what they do.
-struct Holding<'f, R> {
-    rt: &'f R,
+struct Holding<'r, 'f, R> {
+    rt: &'r R,
     others: Mutex<Others<'f>>,
 }
 
@@ -69,7 +69,7 @@ impl<'f> Others<'f> {
     }
 }
 
-impl<'f, R: Abort + Wait + Sync> Gate for Holding<'f, R> {
+impl<'r, 'f, R: Abort + Wait + Sync> Gate for Holding<'r, 'f, R> {
     fn pass(&self, _user: u64, _stage: Stage) {
         self.others.lock(self.rt).pass(self.rt);
     }

@@ -23,9 +23,9 @@ struct Watcher<'f> {
 }
 
 /// Holds a user at its first grant, lets another thread close the port, and waits until it is shut.
-struct UntilShut<'f, 'b, R> {
-    rt: &'f R,
-    go: &'b Barrier,
+struct UntilShut<'r, 'f, R> {
+    rt: &'r R,
+    go: Barrier,
     watcher: Mutex<Watcher<'f>>,
 }
 
@@ -53,7 +53,7 @@ impl<'f> Watcher<'f> {
     }
 }
 
-impl<'f, 'b, R: Abort + Wait + Clock + Sync> Gate for UntilShut<'f, 'b, R> {
+impl<'r, 'f, R: Abort + Wait + Clock + Sync> Gate for UntilShut<'r, 'f, R> {
     fn pass(&self, _user: u64, stage: Stage) {
         if stage == Stage::Granted {
             self.go.wait(self.rt);
@@ -74,6 +74,24 @@ fn close_at<R: Abort + Wait>(
     session.detach(rt, port)
 }
 
+/// A frame is sent past the gate, and on another thread the port to which it goes is closed. Answers
+/// what that told.
+fn send_and_close<R: Threads + Abort + Wait + Clock + Sync>(
+    rt: &R,
+    gate: &UntilShut<R>,
+    first: &mut Session,
+    port: PortId,
+    third: &mut Session,
+    to: PortId,
+) -> Detached {
+    let (_, detached) = join_mut(
+        rt,
+        &mut || send(rt, first, port, &FRAME, gate),
+        &mut || close_at(rt, &gate.go, third, to),
+    );
+    detached
+}
+
 /// The first user sends a frame to the third, which closes its port on another thread before the
 /// frame is copied. Answers what that told.
 fn close_while_held<R: Threads + Abort + Wait + Clock + Sync>(
@@ -92,17 +110,12 @@ fn close_while_held<R: Threads + Abort + Wait + Clock + Sync>(
     let port = open(rt, &mut first, "vale0:a", 4);
     let monitor = open(rt, &mut session, "mon0", 0);
     let to = open(rt, &mut third, "vale0:c", 4);
-    let go = Barrier::new(2);
     let gate = UntilShut {
         rt,
-        go: &go,
+        go: Barrier::new(2),
         watcher: Mutex::new(Watcher { session, monitor }),
     };
-    let (_, detached) = join_mut(
-        rt,
-        &mut || send(rt, &mut first, port, &FRAME, &gate),
-        &mut || close_at(rt, &go, &mut third, to),
-    );
+    let detached = send_and_close(rt, &gate, &mut first, port, &mut third, to);
     let UntilShut {
         rt: _,
         go: _,

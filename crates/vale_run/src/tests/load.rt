@@ -5,8 +5,7 @@ use super::*;
 /// times and then on for 16 frames, from 68, 69, 70 and 71 bytes on.
 const SEVEN: &[u8] = b"load 7 users 4 frames 8000 bytes 731072 free 8192\n";
 
-const GREATEST: &[u8] =
-    b"load 18446744073709551615 users 4 frames 8000 bytes 730560 free 8192\n";
+const GREATEST: &[u8] = b"load 18446744073709551615 users 4 frames 8000 bytes 730560 free 8192\n";
 
 pub(super) const USAGE: &[u8] = b"usage: vale run SCRIPT | vale load N\n";
 

@@ -1,12 +1,52 @@
-use Rattle.std.proofs.Common.{sym, ◌∙◌}
-use Rattle.vale_entry.specs.World.{open_port}
-use Rattle.vale_book.specs.Recorded.{standing}
-use Rattle.vale_drive.proofs.NextPorts.{shuts-next, seen-some}
+use Rattle.std.proofs.Common.{◌≡◌, Some, slice_get, get_or, refl, sym, ◌∙◌, ap, subst, arith, rules}
+use Rattle.std.specs.Prelude.{Ok}
+use Rattle.std.specs.Vec.{vec_len}
+use Rattle.std.proofs.lemmas.Bool.{eqb-true, eqb-false}
+use Rattle.std.proofs.lemmas.Option.{slice_get-get_or}
+use Rattle.vale_entry.specs.declared.entry.Ask.TheVariants.{Leave}
+use Rattle.vale_entry.proofs.ListLaws.{each-at}
+use Rattle.vale_serve.specs.declared.users.User.{User}
+use Rattle.vale_serve.specs.Serving.{IsServed}
+use Rattle.vale_serve.specs.Users.{IsUser}
+use Rattle.vale_drive.proofs.Endings.{none-there}
+use Rattle.vale_drive.proofs.NextPorts.{first-port, leaves-next, none-next}
 use Rattle.vale_drive.proofs.winding.end_first.Goals as goal
 
-pub returns-then-is_some-clause-turn : goal.returns-then-is_some-clause-turn
-returns-then-is_some-clause-turn c =
+pub returns-then-is_empty-clause-turn : goal.returns-then-is_empty-clause-turn
+returns-then-is_empty-clause-turn c =
     let b = c.args.book.now in
-    shuts-next b c.shut_at.new.book c.args.users.now.items c.in-Some.port c.shut_at.result c.requires.users c.requires.quiet c.in-Some.ensures.some
-    (seen-some (open_port (standing b).world.ports c.in-Some.port.0) c.open_port.result c.open_port.ensures (sym c.is_some.ensures ∙ c.if-is_some.true))
-    c.shut_at.ensures.served
+    let users = c.args.users.now.items in
+    let none = eqb-true (vec_len c.args.users.now) 0 (sym c.is_empty.ensures ∙ c.if-is_empty.true) in
+    let size = c.args.users.now.ok.0 in
+    let left = none-there b users c.requires.users (omega (arith, none, size)) in
+    (refl, none-next b users c.requires.users c.requires.quiet left, left)
+
+pub end_port-requires-clause-first : goal.end_port-requires-clause-first
+end_port-requires-clause-first c =
+    let b = c.args.book.now in
+    let users = c.args.users.now.items in
+    let user = c.index-2.result.now in
+    let is : user ≡ get_or users 0 user = search rules in
+    let apart = eqb-false (vec_len c.args.users.now) 0 (sym c.is_empty.ensures ∙ c.if-is_empty.false) in
+    let size = c.args.users.now.ok.0 in
+    let here : slice_get users 0 ≡ Some user = slice_get-get_or users 0 user (omega (arith, apart, size)) ∙ ap (λ (u : User). Some u) (sym is) in
+    record {
+      user = user;
+      first = here;
+      port = first-port b user (Some c.in-Some.port) (each-at (IsUser b) users 0 user c.requires.users.each here) (sym c.in-Some.is ∙ c.first_port.ensures);
+    }
+
+pub returns-in-None-clause-turn : goal.returns-in-None-clause-turn
+returns-in-None-clause-turn c =
+    let b = c.args.book.now in
+    let users = c.args.users.now.items in
+    let user = c.index-2.result.now in
+    let is : user ≡ get_or users 0 user = search rules in
+    let apart = eqb-false (vec_len c.args.users.now) 0 (sym c.is_empty.ensures ∙ c.if-is_empty.false) in
+    let size = c.args.users.now.ok.0 in
+    let here : slice_get users 0 ≡ Some user = slice_get-get_or users 0 user (omega (arith, apart, size)) ∙ ap (λ (u : User). Some u) (sym is) in
+    let other : c.index.result.now ≡ get_or users 0 c.index.result.now = search rules in
+    let there : slice_get users 0 ≡ Some c.index.result.now = slice_get-get_or users 0 c.index.result.now (omega (arith, apart, size)) ∙ ap (λ (u : User). Some u) (sym other) in
+    let same : c.index.result.now ≡ user = let both = sym there ∙ here in cc in
+    leaves-next b c.leave.new.book users user c.leave.result c.requires.users c.requires.quiet here (sym c.in-None.is ∙ c.first_port.ensures)
+    (subst (λ (u : User). IsServed b c.leave.new.book (Leave u.id) (Ok c.leave.result)) same c.leave.ensures.served)

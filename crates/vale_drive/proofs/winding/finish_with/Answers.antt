@@ -1,5 +1,5 @@
 use Rattle.std.proofs.Common.{◌≤◌}
-use Rattle.vale_drive.specs.Users.{most_due}
+use Rattle.vale_serve.specs.Users.{most_due}
 use Rattle.vale_drive.proofs.NextPorts.{due-small}
 use Rattle.vale_drive.proofs.winding.finish_with.Goals as goal
 

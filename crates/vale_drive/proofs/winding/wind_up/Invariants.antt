@@ -1,6 +1,6 @@
 use Rattle.vale_entry.specs.Room.{promised_of}
 use Rattle.vale_book.specs.Recorded.{standing}
-use Rattle.vale_drive.specs.DriveView.{AreUsersOf}
+use Rattle.vale_serve.specs.Joined.{AreUsersOf}
 use Rattle.vale_drive.specs.Winding.{IsContinued}
 use Rattle.vale_drive.proofs.winding.wind_up.Given as goal
 

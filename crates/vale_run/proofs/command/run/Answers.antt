@@ -1,7 +1,8 @@
 use Rattle.std.proofs.Common.{List, ℕ, ◌≡◌, map, string_bytes, Option, Some, option_map, sym, ◌∙◌, ap, subst, arith}
 use Rattle.nm_types.specs.declared.limits.TheConstants.Limits.{VERSION_1}
-use Rattle.vale_run.specs.Run.{Io, Runs, script_name}
-use Rattle.vale_run.proofs.Completing.{runs-complete}
+use Rattle.vale_run.specs.Run.{Io, script_name}
+use Rattle.vale_run.specs.Complete.{Completes}
+use Rattle.vale_run.proofs.Completing.{named-complete}
 use Rattle.vale_run.proofs.Since.{io_of}
 use Rattle.vale_run.proofs.command.run.Goals as goal
 
@@ -14,7 +15,6 @@ returns-in-Some-clause-completes g c =
     (g.K.Sink.faults c.args.out.now, g.K.Sink.faults c.run_file.new.out) in
     let is : Some c.in-Some.name.now ≡ script_name (map string_bytes c.args.words.now) =
     sym (ap (option_map (λ name. name.now)) c.in-Some.is) ∙ c.script_name.ensures in
-    runs-complete VERSION_1 (omega arith) (omega arith)
-    (script_name (map string_bytes c.args.words.now)) io c.run_file.result
-    (subst (λ (script : Option (List ℕ)). Runs VERSION_1 script io c.run_file.result) is
+    subst (λ (script : Option (List ℕ)). Completes script io c.run_file.result) is
+    (named-complete VERSION_1 (omega arith) (omega arith) c.in-Some.name.now io c.run_file.result
     c.run_file.ensures.ends)

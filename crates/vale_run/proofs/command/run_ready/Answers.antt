@@ -1,4 +1,4 @@
-use Rattle.std.proofs.Common.{◌<◌, ◌^◌, ◌≡◌, List, length, map, IfOk, IfErr, refl, sym, subst, arith}
+use Rattle.std.proofs.Common.{◌<◌, ◌^◌, List, map, IfOk, IfErr, refl, sym, subst, arith}
 use Rattle.nm_types.specs.declared.limits.TheConstants.Limits.{VERSION_1}
 use Rattle.vale_entry.specs.Transcript.{transcript_text}
 use Rattle.vale_book.specs.Recorded.{Recorded, HadRoom}

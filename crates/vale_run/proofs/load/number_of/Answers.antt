@@ -1,4 +1,4 @@
-use Rattle.std.proofs.Common.{◌≡◌, true, false, sym, ◌∙◌, ap}
+use Rattle.std.proofs.Common.{◌≡◌, true, sym, ◌∙◌, ap}
 use Rattle.vale_script.specs.Words.{are_digits}
 use Rattle.vale_run.proofs.Digits.{parsed-is, long-is, other-is}
 use Rattle.vale_run.proofs.load.number_of.Goals.{else-word-le-MAX_DIGITS-via-then-word-le-MAX_DIGITS+else-are_digits, else-word-le-MAX_DIGITS-via-else-word-le-MAX_DIGITS}
@@ -14,9 +14,9 @@ returns-then-are_digits c =
 
 pub returns-else-word-le-MAX_DIGITS : goal.returns-else-word-le-MAX_DIGITS
 returns-else-word-le-MAX_DIGITS c = elim c.else-word-le-MAX_DIGITS.branch [
-    else-word-le-MAX_DIGITS-via-then-word-le-MAX_DIGITS+else-are_digits w ↦ sym
+  | else-word-le-MAX_DIGITS-via-then-word-le-MAX_DIGITS+else-are_digits w ↦ sym
       (other-is c.args.word.now (ap are_digits (sym w.as_bytes.ensures.value)
       ∙ (sym w.are_digits.ensures ∙ w.if-are_digits.false)))
   | else-word-le-MAX_DIGITS-via-else-word-le-MAX_DIGITS w ↦ sym
       (long-is c.args.word.now w.if-word-le-MAX_DIGITS.false)
-  ]
+]

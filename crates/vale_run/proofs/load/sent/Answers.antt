@@ -1,7 +1,7 @@
-use Rattle.std.proofs.Common.{◌+◌, length, refl, arith}
+use Rattle.std.proofs.Common.{length, refl, arith}
 use Rattle.std.proofs.lemmas.Option.{slice_get_read}
-use Rattle.vale_run.specs.Load.{count_sent, bytes_sent}
-use Rattle.vale_run.proofs.Sending.{sum-next, sum-within}
+use Rattle.vale_run.specs.Load.{count_sent}
+use Rattle.vale_run.proofs.Sending.{sum-within}
 use Rattle.vale_run.proofs.load.sent.Goals as goal
 
 pub overflow_add-frames : goal.overflow_add-frames

@@ -1,9 +1,8 @@
-use Rattle.std.proofs.Common.{◌≡◌, Bool, false, Some, None, refl, sym, subst, ◌∙◌}
+use Rattle.std.proofs.Common.{Bool, None, refl, sym, subst, ◌∙◌}
 use Rattle.nm_user.specs.Sessions.{IsThere}
 use Rattle.vale_replay.specs.Tasks.{PutFrame}
-use Rattle.vale_replay.specs.Machine.{has_room_at}
 use Rattle.vale_player.specs.Players.{PlayerState, StopsAt, IsStill}
-use Rattle.vale_player.specs.Syncing.{sender_named, NeedsNoneOrEnds}
+use Rattle.vale_player.specs.Syncing.{NeedsNoneOrEnds}
 use Rattle.vale_player.proofs.Doing.{still-self}
 use Rattle.vale_player.proofs.Leading.{sender-read, sender-ring, ringless-needs, room-needs, room-read, needs-by, still-tx, still-unsent, put-stops}
 use Rattle.vale_player.proofs.KeptPorts.{keeping, sync-saves}

@@ -2,7 +2,7 @@ use Rattle.std.proofs.Common.{Bool, List, [], ◌∷◌, subst}
 use Rattle.std.specs.Prelude.{filter}
 use Rattle.vale_replay.specs.Tasks.{Task, SendFrames, fits_a_buffer}
 use Rattle.vale_player.specs.Players.{DoesOrEnds}
-use Rattle.vale_player.specs.Syncing.{Leads, playing}
+use Rattle.vale_player.specs.Syncing.{playing}
 use Rattle.vale_player.proofs.Leading.{leads-self, leads-as, leads-does, leads-ends, leads-stops}
 use Rattle.vale_player.proofs.Playing.{played-none, plays-long, put-ends, put-goes, put-sends, put-stops-play}
 use Rattle.vale_player.proofs.player.Player.play_one.Goals as goal

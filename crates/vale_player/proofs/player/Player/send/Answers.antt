@@ -1,9 +1,8 @@
-use Rattle.std.proofs.Common.{◌≡◌, ◌∷◌, [], Bool, Some, None, Result, IfOk, IfErr, refl, sym, subst, ◌∙◌}
+use Rattle.std.proofs.Common.{◌∷◌, [], Bool, None, Result, IfOk, IfErr, refl, sym, subst, ◌∙◌}
 use Rattle.nm_types.specs.declared.fault.StepFault.{StepFault}
 use Rattle.nm_user.specs.Sessions.{IsThere}
 use Rattle.vale_replay.specs.Tasks.{SendFrames}
 use Rattle.vale_player.specs.Players.{PlayerState, DoesOrEnds, StopsAt, IsStill}
-use Rattle.vale_player.specs.Syncing.{sender_named}
 use Rattle.vale_player.proofs.Doing.{still-self}
 use Rattle.vale_player.proofs.Leading.{sender-read, sender-ring, passes-send, sends-by, still-tx, still-unsent, send-stops}
 use Rattle.vale_player.proofs.KeptPorts.{keeping, sync-saves}

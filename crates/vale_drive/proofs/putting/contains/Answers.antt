@@ -1,6 +1,0 @@
-use Rattle.std.proofs.Common.{◌∙◌}
-use Rattle.vale_drive.proofs.Framing.{named-items}
-use Rattle.vale_drive.proofs.putting.contains.Goals as goal
-
-pub returns : goal.returns
-returns c = c.is_any_in.ensures ∙ named-items c.args.index c.args.items.now

@@ -1,0 +1,12 @@
+use Rattle.std.proofs.Common.{sym, ◌∙◌, rules, tests}
+use Rattle.std.proofs.lemmas.Iterator.{YieldsList-from_slice}
+use Rattle.std.proofs.lemmas.Iterator.Consumers.{YieldsList-from_filter_map, min_from_yields_List}
+use Rattle.std.proofs.lemmas.Iterator.Adapters.{option_map_id}
+use Rattle.vale_serve.specs.Users.{leased_by}
+use Rattle.vale_drive.proofs.winding.oldest_lease.Goals as goal
+
+pub returns : goal.returns
+returns c =
+    sym (option_map_id _)
+    ∙ min_from_yields_List _ _ c.min.ensures.ran
+    (YieldsList-from_filter_map _ leased_by (YieldsList-from_slice c.args.users.now (cc)) c.filter_map.ensures.closure (λ x r q k. search (rules, tests)))

@@ -1,0 +1,39 @@
+use Rattle.std.proofs.Common.{List, sym, ◌∙◌, ap, subst}
+use Rattle.std.specs.Prelude.{Vec}
+use Rattle.std.specs.declared.alloc.Global.{Global}
+use Rattle.std.proofs.lemmas.Bool.{eq-eqb}
+use Rattle.nm_types.specs.declared.id.PortId.{PortId}
+use Rattle.vale_batch.specs.Wants.{wanted}
+use Rattle.vale_entry.specs.Legal.{is_met}
+use Rattle.vale_book.specs.Offering.{OffersState}
+use Rattle.vale_fabric.specs.Leases.{IsLeaseBy}
+use Rattle.vale_serve.specs.declared.users.Sent.{Sent}
+use Rattle.vale_serve.specs.Filling.{IsFillable, IsFilledWith}
+use Rattle.vale_serve.specs.Users.{contents, is_want_of}
+use Rattle.vale_serve.proofs.Granted.{fillable}
+use Rattle.vale_serve.proofs.granting.take_next.Goals as goal
+
+pub filled-requires : goal.filled-requires
+filled-requires c =
+    let e = c.grant-given.ensures in
+    let gives : IsLeaseBy c.args.book.now c.args.sent.now.offers.entry _ c.in-Some.lease = rw c.in-Some.is at e.lease in
+    subst (λ (fs : List (Vec _ Global)). IsFillable c.in-Some.lease c.grant-given.result.want.places.items (contents fs)) (sym c.deref.ensures.value)
+    (fillable c.args.book.now c.args.sent.now c.requires (wanted c.grant-given.result.want) _ c.in-Some.lease e.want gives)
+
+pub returns-in-Some : goal.returns-in-Some
+returns-in-Some c =
+    let e = c.grant-given.ensures in
+    let want = wanted c.grant-given.result.want in
+    let gives : IsLeaseBy c.args.book.now c.args.sent.now.offers.entry _ c.in-Some.lease = rw c.in-Some.is at e.lease in
+    let filled = subst (λ (fs : List (Vec _ Global)). IsFilledWith c.in-Some.lease c.grant-given.result.want.places.items (contents fs) c.filled.result) c.deref.ensures.value
+    (record { id = c.filled.ensures.id; to = c.filled.ensures.to; full = c.filled.ensures.full; empty = c.filled.ensures.empty; kept = c.filled.ensures.kept; region_is = c.filled.ensures.region_is }) in
+    record {
+      to = c.grant-given.result.to;
+      first = ap (is_met (is_want_of c.grant-given.result.to.0)) e.want ∙ eq-eqb c.grant-given.result.want.to.0 c.grant-given.result.to.0 (ap (λ (p : PortId). p.0) (sym e.to));
+      made = e.made;
+      said = e.said;
+      room = e.room;
+      left_is = ap (λ (o : OffersState). let left : Sent = record { offers = o; frames = c.args.sent.now.frames } in left) e.offers;
+      leased = record { given = c.in-Some.lease; want = want; first = e.want; gives = gives; filled = filled };
+      none = tt;
+    }

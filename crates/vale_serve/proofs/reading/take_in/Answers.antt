@@ -1,0 +1,11 @@
+use Rattle.vale_serve.proofs.reading.take_in.Goals as goal
+
+pub returns-clause-taken : goal.returns-clause-taken
+returns-clause-taken c = record {
+  between = c.give_all.new.user;
+  more = c.give_all.ensures.more;
+  frames = c.copy-frames.result;
+  copied = rw c.deref.ensures.value at c.copy-frames.ensures.copies;
+  few = c.copy-frames.ensures.few;
+  sent = c.keep.ensures;
+}

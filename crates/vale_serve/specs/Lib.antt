@@ -1,0 +1,13 @@
+pub mod Users
+pub mod Buffers
+pub mod Joined
+pub mod Serving
+pub mod Finishing
+pub mod Opening
+pub mod Replies
+pub mod Filling
+pub mod Granting
+pub mod Copies
+pub mod Exchange
+pub mod Reading
+pub mod Putting

@@ -1,0 +1,183 @@
+ghost use Rattle.std.specs.Prelude.{◌≡◌, ◌≤◌, ◌<◌, ◌+◌, [], All, length, vec_capacity, None, Some};
+ghost use Rattle.std.specs.Prelude.{OnOk, OnErr, IfOk, IfErr};
+ghost use Rattle.nm_types.specs.Limits.{most_ring};
+ghost use Rattle.nm_region.specs.Buffers.{indices_of};
+ghost use Rattle.vale_line.specs.Gots.{IsSingle};
+ghost use Rattle.vale_entry.specs.declared.entry.Reply.TheVariants as replies;
+ghost use Rattle.vale_entry.specs.World.{open_port};
+ghost use Rattle.vale_entry.specs.Legal.{IsLegal, IsEnabled, reply_to};
+ghost use Rattle.vale_parts.specs.Batches.{dests_wanted};
+ghost use Rattle.vale_book.specs.BookView.{AreOf};
+ghost use Rattle.vale_book.specs.Reading.{read_ask, IsGiven, IsOffered};
+ghost use Rattle.vale_book.specs.Recorded.{standing, after_ask, IsRefusal, HasRoom};
+ghost use Rattle.vale_serve.specs.Exchange.{HasRead, HasRoomFor};
+ghost use Rattle.vale_serve.specs.Reading.{is_read_so, can_read, copies_of, IsReadRoom};
+ghost use Rattle.vale_serve.specs.Replies.{last_dests};
+ghost use Rattle.vale_serve.specs.Serving.{IsServed};
+ghost use Rattle.vale_serve.specs.Users.{IsUser, IsAsker, SameUser};
+
+use crate::buffers::holds_all;
+use crate::copying::CopyRoom;
+use crate::exchanging::{give, give_all, take_from};
+use crate::sending::{keep, last_dests};
+use crate::users::User;
+use nm_region::Buf;
+use nm_types::{Name, PortId, StepFault};
+use std::alloc::{AllocError, Global};
+use vale_book::{Book, PortSeen, Ready, Synced};
+use vale_entry::{Dest, History, Reply};
+
+/// Memory for the buffers that come back, and for what a monitor is offered.
+struct ReadRoom {
+    back: Vec<Buf>,
+    copies: CopyRoom,
+    to: Vec<Dest>,
+}
+
+/// Tells whether a port of this name is read by a get, or by a sync.
+fn is_read_so(is_pipe: bool, name: &Name) -> bool
+    ensures { result ≡ is_read_so is_pipe name.now }
+{
+    if is_pipe {
+        name.is_pipe()
+    } else {
+        name.is_switch_port() || name.is_monitor()
+    }
+}
+
+/// Tells whether a session may read a port, and give these buffers back.
+fn can_read(user: &User, seen: &PortSeen, is_pipe: bool, back: &[u32]) -> bool
+    ensures { result ≡ can_read is_pipe back.now user.now seen.now }
+{
+    is_read_so(is_pipe, &seen.name)
+        && user.is_settled()
+        && back.len() as u64 <= seen.out as u64
+        && holds_all(&user.bufs, back)
+}
+
+/// How many frames have to be copied: those of which a monitor is offered.
+fn copies_of(ready: Ready) -> u32
+    ensures { result ≡ copies_of ready }
+{
+    if ready.is_watched { ready.count } else { 0 }
+}
+
+/// Makes room for what is ready at a port, and for so many buffers that come back.
+fn room_to_read(
+    alloc: Global,
+    user: &mut User,
+    ready: Ready,
+    back: &[u32],
+) -> Result<ReadRoom, AllocError>
+    ensures same { SameUser user.old user.new }
+    ensures room { IfOk result (IsReadRoom ready back.now) }
+    ensures fits { OnOk result (HasRoomFor ready.count user.new) }
+{
+    user.reserve_leases(1)?;
+    user.bufs.reserve(ready.count as usize)?;
+    let copies = CopyRoom::new(alloc, copies_of(ready))?;
+    let to = Vec::with_capacity(alloc, 1)?;
+    Ok(ReadRoom {
+        back: Vec::with_capacity(alloc, back.len())?,
+        copies,
+        to,
+    })
+}
+
+/// A get of a pipe end, or a sync of another port.
+fn sync(
+    book: &mut Book,
+    port: PortId,
+    is_pipe: bool,
+    back: Vec<Buf>,
+) -> Result<Synced, (StepFault, Vec<Buf>)>
+    requires enabled { IsEnabled (standing book.old) (read_ask is_pipe port
+        (indices_of back.items)) }
+    requires of { AreOf book.old.region back.items }
+    ensures made { OnOk result (book.new ≡ after_ask book.old (read_ask is_pipe port
+        (indices_of back.items))) }
+    ensures said { IfOk result (λ synced. reply_to (standing book.old) (read_ask is_pipe port
+        (indices_of back.items))
+        ≡ Some (replies.Gave (length synced.got.items) (dests_wanted synced.offers.wants))) }
+    ensures got { IfOk result (λ synced. IsGiven book.old port synced.got.items) }
+    ensures single { IfOk result (λ synced. All IsSingle synced.got.items) }
+    ensures few { IfOk result (λ synced. length synced.got.items < most_ring) }
+    ensures offers { IfOk result (λ synced. IsOffered book.old book.new port synced.offers) }
+    ensures room { OnOk result (HasRoom book.old (read_ask is_pipe port
+        (indices_of back.items))) }
+    ensures full { IfErr result (λ refused. IsRefusal book.old (read_ask is_pipe port
+        (indices_of back.items)) refused.0) }
+    ensures back { IfErr result (λ refused. refused.1 ≡ back) }
+    ensures err { OnErr result (book.new ≡ book.old) }
+{
+    if is_pipe {
+        book.pipe_get(port, back)
+    } else {
+        book.sync(port, back)
+    }
+}
+
+/// Gives a session what was given and offered, and answers it.
+fn take_in(
+    history: &History,
+    user: &mut User,
+    synced: Synced,
+    copies: CopyRoom,
+    to: Vec<Dest>,
+) -> Reply
+    requires copies { copies ≤ length synced.got.items }
+    requires few { length synced.got.items < most_ring }
+    requires room { length user.old.bufs.items + length synced.got.items
+        ≤ vec_capacity user.old.bufs }
+    requires settled { user.old.sent ≡ None }
+    requires none { to.items ≡ [] }
+    requires dests { length (last_dests history.now.entries) ≤ vec_capacity to }
+    ensures reply { result
+        ≡ replies.Gave (length synced.got.items) (last_dests history.now.entries) }
+    ensures taken { HasRead user.old synced.got.items synced.offers copies user.new }
+{
+    let Synced { got, offers } = synced;
+    let frames = copies.copy(&got);
+    let reply = Reply::Gave {
+        count: got.len() as u32,
+        to: last_dests(history, to),
+    };
+    give_all(user, got);
+    keep(user, offers, frames);
+    reply
+}
+
+/// A session reads a port by a sync, or a pipe end by a get, and gives buffers back to it.
+pub(crate) fn read(
+    alloc: Global,
+    book: &mut Book,
+    user: &mut User,
+    port: PortId,
+    seen: PortSeen,
+    is_pipe: bool,
+    back: &[u32],
+) -> Result<Option<Reply>, StepFault>
+    requires legal { IsLegal book.old.pool book.old.entries }
+    requires user { IsUser book.old user.old }
+    requires asker { IsAsker user.old (open_port (standing book.old).world.ports port.0) seen }
+    ensures served { IsServed book.old book.new (read_ask is_pipe port back.now) result }
+    ensures kept { IsUser book.new user.new }
+    ensures id { user.new.id ≡ user.old.id }
+{
+    if !can_read(user, &seen, is_pipe, back) {
+        return Ok(None);
+    }
+    let room = room_to_read(alloc, user, book.ready(port), back)?;
+    let ReadRoom {
+        back: empty,
+        copies,
+        to,
+    } = room;
+    match sync(book, port, is_pipe, take_from(user, back, empty)) {
+        Ok(synced) => Ok(Some(take_in(book.history(), user, synced, copies, to))),
+        Err((fault, bufs)) => {
+            give(user, bufs);
+            Err(fault)
+        }
+    }
+}
