@@ -1,6 +1,6 @@
 -- The offers of an entry that was just made are at hand: its session, which was settled before, has no
 -- others, and no lease.
-use Rattle.std.proofs.Common.{ℕ, ◌+◌, ◌<◌, ◌≤◌, ◌≡◌, ◌^◌, Bool, true, false, ◌||◌, List, [], ◌∷◌, ◌++◌, length, sum_by, Option, Some, None, refl, sym, ◌∙◌, ap, subst, arith, nat_le, length-append}
+use Rattle.std.proofs.Common.{ℕ, ◌+◌, ◌≤◌, ◌≡◌, Bool, true, false, ◌||◌, List, [], ◌∷◌, ◌++◌, length, sum_by, Option, Some, None, refl, sym, ◌∙◌, ap, subst, arith, nat_le, length-append}
 use Rattle.std.specs.Option.{option_map_or}
 use Rattle.std.proofs.lemmas.Bool.{and_parts}
 use Rattle.nm_types.specs.Frames.{Frame}
@@ -37,7 +37,7 @@ use Rattle.vale_book.specs.Recorded.{Recorded, standing, after_ask, entry_of}
 use Rattle.vale_fabric.specs.declared.kept.Fixed.{Fixed}
 use Rattle.vale_fabric.specs.Fabrics.{Knowing, MayAsk, fixed_in}
 use Rattle.vale_fabric.specs.declared.fabric.Fabric.{Fabric}
-use Rattle.vale_fabric.specs.Settling.{HasBytes, IsAtHand, frames_wanted}
+use Rattle.vale_fabric.specs.Settling.{HasBytes, IsAtHand}
 use Rattle.vale_fabric.specs.Steps.{IsTaken}
 use Rattle.vale_fabric.proofs.FewWanted.{offered, few-started, wanted-sum}
 use Rattle.vale_fabric.proofs.Making.{Steps, Made, stored, whose-now, may-now}

@@ -1,5 +1,5 @@
 -- The frames that ports want of one entry are fewer than 2^32, though each is counted once for each port.
-use Rattle.std.proofs.Common.{ℕ, ◌+◌, ◌*◌, ◌≤◌, ◌≡◌, true, List, [], ◌∷◌, drop, length, map, sum_by, Option, Some, None, refl, sym, ◌∙◌, ap, subst, arith, slice_get}
+use Rattle.std.proofs.Common.{ℕ, ◌+◌, ◌*◌, ◌≤◌, ◌≡◌, true, List, [], ◌∷◌, drop, length, sum_by, Option, Some, None, refl, sym, ◌∙◌, ap, subst, arith, slice_get}
 use Rattle.std.specs.List.{AllByRecursion as Each, cons_option}
 use Rattle.std.specs.Option.{option_map_or}
 use Rattle.std.proofs.lemmas.List.{length-map}
@@ -14,7 +14,7 @@ use Rattle.vale_entry.specs.declared.entry.Reply.TheVariants.{Shared}
 use Rattle.vale_entry.specs.declared.entry.Entry.{Entry}
 use Rattle.vale_entry.specs.World.{World, Port, Offer, open_port, is_open_at, buffers_of, space_of, transmit_monitor, receive_monitor}
 use Rattle.vale_entry.specs.Offers.{offers_of, offer_to, wanted_frames, monitored_frames}
-use Rattle.vale_entry.specs.Grant.{grant_reply_at, longest_fitting}
+use Rattle.vale_entry.specs.Grant.{grant_reply_at}
 use Rattle.vale_entry.specs.Delivery.{delivered_frames}
 use Rattle.vale_entry.specs.Pipe.{frame_of_item, frames_of_items, peer_of}
 use Rattle.vale_entry.specs.Laws.{HasRoom}

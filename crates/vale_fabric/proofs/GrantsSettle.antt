@@ -1,5 +1,5 @@
 -- What a grant, and the Done of its lease, make of a session that has offers and no lease.
-use Rattle.std.proofs.Common.{ℕ, ◌+◌, ◌<◌, ◌≤◌, ◌≡◌, Bool, true, false, cond, not, ◌&&◌, ◌==◌, List, [], ◌∷◌, ◌++◌, length, filter, find, take, drop, Option, Some, None, refl, sym, ◌∙◌, ap, subst, arith, slice_get, IfSome, IfNone, length-append, ◌*◌, ◌^◌}
+use Rattle.std.proofs.Common.{ℕ, ◌+◌, ◌<◌, ◌≤◌, ◌≡◌, Bool, true, false, cond, not, ◌&&◌, ◌==◌, List, [], ◌∷◌, ◌++◌, length, filter, find, take, drop, Option, Some, None, refl, sym, ◌∙◌, ap, subst, arith, slice_get, IfSome, IfNone, ◌^◌}
 use Rattle.std.specs.Prelude.{option_map}
 use Rattle.std.specs.Option.{option_map_or}
 use Rattle.std.proofs.lemmas.Bool.{eqb-true, eq-eqb, and_parts}
@@ -11,7 +11,6 @@ use Rattle.nm_turn.specs.Shares.{IsWhole}
 use Rattle.nm_turn.proofs.Numbered.{Stands-left}
 use Rattle.vale_entry.specs.declared.entry.Ask.{Ask}
 use Rattle.vale_entry.specs.declared.entry.Ask.TheVariants.{Grant, Done}
-use Rattle.vale_entry.specs.declared.entry.Entry.{Entry}
 use Rattle.vale_entry.specs.declared.entry.Reply.{Reply}
 use Rattle.vale_entry.specs.declared.entry.Reply.TheVariants.{Shared, Made}
 use Rattle.vale_entry.specs.World.{Port, Offer, open_port}
@@ -35,10 +34,10 @@ use Rattle.vale_line.specs.Gots.{frames_in}
 use Rattle.vale_port.specs.Kept.{bytes_of}
 use Rattle.vale_book.specs.Granting.{given_by, lease_id}
 use Rattle.vale_book.specs.Offering.{OffersState}
-use Rattle.vale_book.specs.Recorded.{Recorded, standing, room_by}
+use Rattle.vale_book.specs.Recorded.{Recorded, standing}
 use Rattle.vale_fabric.specs.declared.kept.Fixed.{Fixed}
 use Rattle.vale_fabric.specs.declared.settling.Shares.{Shares}
-use Rattle.vale_fabric.specs.Fabrics.{Knowing, record_in, seen_in, before_in, earlier, entry_by, Makes, Answers}
+use Rattle.vale_fabric.specs.Fabrics.{Knowing, seen_in, before_in, earlier, Makes, Answers}
 use Rattle.vale_fabric.specs.Leases.{StandOf, IsHeldBy, IsHeldFor, MayFillFrom, is_held_as}
 use Rattle.vale_fabric.specs.Settling.{settling_ask, settling_by, both, frames_wanted, shared_in, Settling, HasBytes, IsAtHand, Settles}
 use Rattle.vale_fabric.proofs.Making.{and-second, asker-is}

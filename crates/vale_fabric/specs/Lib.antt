@@ -6,3 +6,4 @@ pub mod Puts
 pub mod Leases
 pub mod Filling
 pub mod Settling
+pub mod Alone

@@ -11,6 +11,9 @@ use std::sync::Wait;
 use std::test::Fail;
 use std::thread::{Threads, join};
 
+mod calls;
+mod rows;
+
 const LIMITS: Limits = Limits {
     entries: 100,
     bytes: 0,
