@@ -19,8 +19,7 @@ use std::env;
 
 fn main(rt: HostRuntime) -> Result<()> {
     let mut is_small = true;
-    let mut words = env::args(&rt)?.skip(1);
-    while let Some(word) = words.next() {
+    for word in env::args(&rt)?.skip(1) {
         is_small = false;
         match word.as_str() {
             "capture" => capture::run(&rt, rt.alloc(), true)?,
@@ -30,7 +29,10 @@ fn main(rt: HostRuntime) -> Result<()> {
             "batch" => batch::run(&rt, rt.alloc(), true)?,
             "text" => text::run(&rt, rt.alloc(), true)?,
             "fabric" => fabric::run(&rt, rt.alloc(), true)?,
-            "asks" => asks::run(&rt, rt.alloc(), words.next(), words.next())?,
+            "asks" => {
+                let mut said = env::args(&rt)?.skip(2);
+                return asks::run(&rt, rt.alloc(), said.next(), said.next());
+            }
             other => println!(&rt; "{other}: no such measurement")?,
         }
     }
