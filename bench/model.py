@@ -10,50 +10,70 @@ import re
 import sys
 
 MOST = {"lines": 10_000, "counts": 1_000_000, "users": 64, "switches": 4, "ports": 16}
-# the words of a line behind its first one
-WORDS = {b"pool": 1, b"user": 1, b"open": 4, b"put": 7, b"tx": 2, b"rx": 2, b"close": 2}
+# how many words a line may have behind its first one
+WORDS = {b"pool": [1], b"user": [1], b"open": [4, 5], b"put": [7], b"tx": [2], b"rx": [2, 3], b"close": [2]}
 
 
 class BadLine(Exception):
-    """A line that is no line of a script."""
+    """A line that is no line of a script, and its cause."""
 
 
-def matched(pattern, word):
-    if not re.fullmatch(pattern, word):
-        raise BadLine()
-    return word
+def check(holds, cause):
+    if not holds:
+        raise BadLine(cause)
 
 
-def number(word, low, high):
-    value = int(matched(rb"[0-9]{1,20}", word))
-    if not low <= value <= high:
-        raise BadLine()
-    return value
+def is_number(word, low, high):
+    return bool(re.fullmatch(rb"[0-9]{1,20}", word)) and low <= int(word) <= high
 
 
-def user_name(word):
-    return matched(rb"[A-Za-z0-9_-]{1,16}", word)
+def is_user_name(word):
+    return bool(re.fullmatch(rb"[A-Za-z0-9_-]{1,16}", word))
 
 
-def port_name(word):
-    if len(word) > 16:
-        raise BadLine()
-    return matched(rb"vale[A-Za-z0-9_-]*:[A-Za-z0-9_-]+", word)
+def is_port_name(word):
+    return len(word) <= 16 and bool(re.fullmatch(rb"vale[A-Za-z0-9_-]*:[A-Za-z0-9_-]+", word))
+
+
+def is_address(word):
+    return bool(re.fullmatch(rb"[0-9a-fA-F]{2}(:[0-9a-fA-F]{2}){5}", word))
 
 
 def address(word):
-    return bytes(int(pair, 16) for pair in matched(rb"[0-9a-fA-F]{2}(:[0-9a-fA-F]{2}){5}", word).split(b":"))
+    return bytes(int(pair, 16) for pair in word.split(b":"))
 
 
-def numbers_of(kind, words):
-    """What an `open` and a `put` say behind the user and the port."""
+def are_numbers(kind, words):
+    """Whether the numbers and the digits of a line are such, and in range."""
+    if kind == b"pool":
+        return is_number(words[0], 1, 65536)
     if kind == b"open":
-        return tuple(number(word, 0, 2**32 - 1) for word in words)
+        return all(is_number(word, 0, 2**32 - 1) for word in words[2:])
+    if kind == b"put":
+        _, _, count, _, _, length, fill = words
+        is_fill = re.fullmatch(rb"[0-9a-fA-F]{2}", fill)
+        return is_number(count, 0, 1_000_000) and is_number(length, 0, 2048) and bool(is_fill)
+    return True
+
+
+def are_names(kind, words):
+    """Whether the names and addresses of a line are such."""
+    if kind == b"pool":
+        return True
+    if kind == b"user":
+        return is_user_name(words[0])
+    addresses = words[3:5] if kind == b"put" else []
+    return is_user_name(words[0]) and is_port_name(words[1]) and all(map(is_address, addresses))
+
+
+def said_of(kind, words):
+    """What a line says behind the user and the port."""
+    if kind == b"open":
+        return (*map(int, words), 0)[:3]
     if kind == b"put":
         count, to, source, length, fill = words
-        fill = int(matched(rb"[0-9a-fA-F]{2}", fill), 16)
-        return number(count, 0, 1_000_000), address(to), address(source), number(length, 0, 2048), fill
-    return ()
+        return int(count), address(to), address(source), int(length), int(fill, 16)
+    return (bool(words),) if kind == b"rx" else ()
 
 
 class Reader:
@@ -63,38 +83,37 @@ class Reader:
         self.pool, self.said, self.users, self.opened, self.lines = 8192, False, [], [], []
 
     def read(self, words):
-        if not all(33 <= byte <= 126 for word in words for byte in word):
-            raise BadLine()
+        check(all(33 <= byte <= 126 for word in words for byte in word), "word")
         kind, words = words[0], words[1:]
-        if WORDS.get(kind) != len(words):
-            raise BadLine()
+        check(kind in WORDS, "word")
+        check(kind != b"rx" or words[2:3] in ([], [b"keep"]), "word")
+        check(len(words) in WORDS[kind], "count")
+        check(are_numbers(kind, words), "number")
+        check(are_names(kind, words), "name")
         if kind == b"pool":
-            if self.said:
-                raise BadLine()
-            self.pool = number(words[0], 1, 65536)
+            check(not self.said, "order")
+            self.pool = int(words[0])
         elif kind == b"user":
-            name = user_name(words[0])
-            if name in self.users or len(self.users) == MOST["users"]:
-                raise BadLine()
-            self.users.append(name)
+            check(words[0] not in self.users and len(self.users) < MOST["users"], "twice")
+            self.users.append(words[0])
             self.opened.append(set())
             self.lines.append((kind, len(self.users) - 1))
         else:
-            self.read_of_port(kind, user_name(words[0]), port_name(words[1]), words[2:])
+            self.read_of_port(kind, *words)
         self.said = True
 
-    def read_of_port(self, kind, user, name, words):
-        said = numbers_of(kind, words)
-        if user not in self.users:
-            raise BadLine()
+    def read_of_port(self, kind, user, name, *words):
+        check(user in self.users, "user")
         user = self.users.index(user)
-        if (kind == b"open") == (name in self.opened[user]):
-            raise BadLine()
+        is_open = name in self.opened[user]
         if kind == b"open":
+            check(not is_open, "twice")
             self.opened[user].add(name)
+        else:
+            check(is_open, "port")
         if kind == b"close":
             self.opened[user].remove(name)
-        self.lines.append((kind, user, name, *said))
+        self.lines.append((kind, user, name, *said_of(kind, words)))
 
 
 def lines_of(script):
@@ -104,9 +123,10 @@ def lines_of(script):
 
 
 class Port:
-    def __init__(self, number, session, name, buffers, slots):
+    def __init__(self, number, session, name, buffers, transmit, receive):
         self.number, self.session, self.name = number, session, name
-        self.transmit, self.idle = buffers[:slots], buffers[slots:]
+        self.transmit, self.idle = buffers[:transmit], buffers[transmit : transmit + receive]
+        self.extra = buffers[transmit + receive :]
         self.put, self.queue, self.received = [], [], []
 
     def switch(self):
@@ -129,9 +149,9 @@ class Switches:
     def enter(self, user):
         self.sessions[user] = self.entry(f"enter {user + 1}")
 
-    def refusal(self, name, transmit, receive):
+    def refusal(self, name, transmit, receive, extra):
         switch, there = name.split(b":")[0], [port.switch() for port in self.ports.values()]
-        if not all(2 <= slots <= 1024 for slots in (transmit, receive)):
+        if not all(2 <= slots <= 1024 for slots in (transmit, receive)) or extra > 1024:
             return "badsize"
         if switch not in there and len(set(there)) == MOST["switches"]:
             return "switchesfull"
@@ -139,17 +159,17 @@ class Switches:
             return "portsfull"
         if name in [port.name for port in self.ports.values()]:
             return "nametaken"
-        if transmit + receive > len(self.free):
-            return f"nobuffers {transmit + receive} {len(self.free)}"
+        if transmit + receive + extra > len(self.free):
+            return f"nobuffers {transmit + receive + extra} {len(self.free)}"
         return None
 
-    def open(self, user, name, transmit, receive):
-        session, refusal = self.sessions[user], self.refusal(name, transmit, receive)
-        number = self.entry(f"{session} open {name.decode()} {transmit} {receive} 0 = {refusal or 'ok'}")
+    def open(self, user, name, transmit, receive, extra):
+        session, refusal = self.sessions[user], self.refusal(name, transmit, receive, extra)
+        number = self.entry(f"{session} open {name.decode()} {transmit} {receive} {extra} = {refusal or 'ok'}")
         if refusal is None:
-            buffers = sorted(self.free)[: transmit + receive]
+            buffers = sorted(self.free)[: transmit + receive + extra]
             self.free.difference_update(buffers)
-            self.ports[number] = self.own[user][name] = Port(number, session, name, buffers, transmit)
+            self.ports[number] = self.own[user][name] = Port(number, session, name, buffers, transmit, receive)
 
     def named(self, port, frame, others):
         """The ports for which a frame is, once its source is learned."""
@@ -193,18 +213,19 @@ class Switches:
                 self.tx(port)
             port.put.append(frame)
 
-    def rx(self, port):
-        back, port.received, port.queue = port.received, port.queue, []
+    def rx(self, port, keeps):
+        held, came, port.queue = port.received, port.queue, []
+        back, port.received = ([], held + came) if keeps else (held, came)
         port.idle += back
-        self.entry(f"{port.session} sync {port.number} {','.join(map(str, back)) or '-'} = gave {len(port.received)} to -")
+        self.entry(f"{port.session} sync {port.number} {','.join(map(str, back)) or '-'} = gave {len(came)} to -")
 
     def close(self, user, name):
         port = self.own[user].pop(name)
         self.entry(f"{port.session} shut {port.number}")
         self.learned = {place: held for place, held in self.learned.items() if held[1] != port.number}
-        buffers = port.transmit + port.received
+        buffers = port.transmit + port.received + port.extra
         listed = ",".join(map(str, buffers))
-        self.entry(f"{port.session} finish {port.number} {listed} found 0 astray 0 = unread {len(port.queue)}")
+        self.entry(f"{port.session} finish {port.number} {listed} found {len(port.extra)} astray 0 = unread {len(port.queue)}")
         del self.ports[port.number]
         self.free.update(buffers, port.idle, port.queue)
 
@@ -220,8 +241,10 @@ class Switches:
                 self.close(user, said[0])
             elif kind == b"put":
                 self.put(port, *said[1:])
+            elif kind == b"rx":
+                self.rx(port, *said[1:])
             else:
-                {b"tx": self.tx, b"rx": self.rx}[kind](port)
+                self.tx(port)
 
     def end(self):
         for user, session in enumerate(self.sessions):
@@ -241,8 +264,8 @@ def play(script):
             continue
         try:
             reader.read(words)
-        except BadLine:
-            return b"", f"vale: script line {at}: word\n".encode(), 3
+        except BadLine as bad:
+            return b"", f"vale: script line {at}: {bad}\n".encode(), 3
     counts = sum(line[3] for line in reader.lines if line[0] == b"put")
     if counts > MOST["counts"]:
         return b"", f"vale: counts {counts} over {MOST['counts']}\n".encode(), 7
