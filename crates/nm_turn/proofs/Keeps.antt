@@ -8,7 +8,7 @@ use native.Mathlib.Decide.{ℕ_discrete}
 use lib.ListN.{get_elem?, length-map}
 use lib.Seq.{set-get_or, map-set}
 use prog.Atomic.{either}
-use Rattle.atomic_table.specs.Table.{State, step, Act, keeps, takes, gives, stepped, homes_after, carried_after, rest, Valid, Allows, Splits, Joins, opening}
+use Rattle.atomic_table.specs.Table.{State, Step, step, Act, keeps, takes, gives, stepped, homes_after, carried_after, rest, Valid, Allows, Splits, Joins, opening}
 use Rattle.atomic_table.proofs.Lists.{at_set, set_here, set_else, set_again, at_map, exchanged}
 use Rattle.std.proofs.lemmas.Option.{slice_get_within}
 use Rattle.nm_turn.specs.declared.view.Share.{Share}
@@ -20,7 +20,7 @@ use Rattle.nm_turn.specs.Numbered.{numbered, owned, merged, Stands, IsPicked}
 use Rattle.nm_turn.specs.Shares.{IsWhole, AddUp, nothing, half, both_parts}
 use Rattle.nm_turn.specs.Passes.{NoRootPast, AreTogether, AreWithin, Knows, HasAll, listed, at_stage, first_view, spent_view, committed_view, released_view, kept_view, forked_view, joining_view, new_since}
 use Rattle.nm_turn.specs.Rule.{Each, part_of, IsHolderAt, HoldsAt, Learns, TurnRule}
-use Rattle.nm_turn.specs.Plays.{Hand, in_hand, AreKnown, IsGiven, takes_turn, takes_value, commits, puts_value, releases, learns}
+use Rattle.nm_turn.specs.Plays.{Hand, in_hand, AreKnown, IsGiven, takes_turn, awaits, takes_value, commits, puts_value, releases, learns}
 use Rattle.nm_turn.proofs.Shares.{AddUp-same, AddUp-fork, AddUp-join, IsWhole-alone, both_parts-live}
 use Rattle.nm_turn.proofs.Numbered.{owned-push_mine, owned-push_other, owned-none, Stands-append, Stands-owned, owned-Stands, owned-all, Stands-merged, Stands-left, Stands-right, merged-Stands_left, merged-Stands_right, owned-picked, renamed, owned-renamed_both, owned-renamed_gone, owned-renamed_other, renamed-below}
 use Rattle.nm_turn.proofs.Prefixes.{prefix_self, prefix_push, prefix_whole, prefix_length, get_joined, longer-begins, no_root-later, no_root-whole, no_root-push, numbered-Stands, new_since-more}
@@ -116,7 +116,7 @@ module _ {B E F : Type 0} (entries : B → List E) (fixed_of : B → F) (root : 
 
   -- a step of one view that leaves the history, its part and its entries
   moved : (s : S) (r : Rule s) (id : ℕ) (v : V) (seen' : List E) (stage' : TurnStage E) (words' : List ℕ) (homes' : List (maybe.Option (Option B))) (holder' : Option ℕ) (out' : Bool)
-      → get_elem? s.views id ≡ some v → Live v → length words' ≡ 2
+      → get_elem? s.views id ≡ some v → Live v → length words' ≡ 3
       → MatchOption holder' (get_or words' 0 0 ≡ 0) (λ j. (get_or words' 0 0 ≡ 1) × (j < length s.views)) → get_or words' 1 0 ≡ get_or s.words 1 0
       → ((b : B) → get_elem? homes' 0 ≡ some (some (Some b)) → (entries b ≡ r.history) × (fixed_of b ≡ same))
       → (holder' ≡ None → out' ≡ false) → (out' ≡ false → (b : B) × (get_elem? homes' 0 ≡ some (some (Some b)))) → (out' ≡ true → get_elem? homes' 0 ≡ some none)
@@ -131,7 +131,7 @@ module _ {B E F : Type 0} (entries : B → List E) (fixed_of : B → F) (root : 
         holder = holder';
         out = out';
         owners = r.owners;
-        two_words = wide;
+        three_words = wide;
         one_holder = (
           subst (λ (n : ℕ). MatchOption holder' (get_or words' 0 0 ≡ 0) (λ j. (get_or words' 0 0 ≡ 1) × (j < n))) (sym longs) held,
           each_set (λ j u. IsHolderAt r.holder j u.stage) (λ j u. IsHolderAt holder' j u.stage) s.views id w r.one_holder.1 turn.0
@@ -192,12 +192,12 @@ module _ {B E F : Type 0} (entries : B → List E) (fixed_of : B → F) (root : 
       (λ zero_found.
       let none' = free_turn s r zero_found in
       let w : V = at_stage (Inside r.history) me.0 in
-      let here : 0 < length s.words = let t = r.two_words in omega arith in
+      let here : 0 < length s.words = let t = r.three_words in omega arith in
       let out : r.out ≡ false = r.holder_only.0 none' in (
         w,
         keeps,
         tt,
-        moved s r id me.0 me.0.seen (Inside r.history) (set s.words 0 1) s.homes (Some id) r.out at live (length-set s.words 0 1 ∙ r.two_words)
+        moved s r id me.0 me.0.seen (Inside r.history) (set s.words 0 1) s.homes (Some id) r.out at live (length-set s.words 0 1 ∙ r.three_words)
             (get_or-set_same s.words 0 1 0 here, at_within s.views id me.0 at) (get_or-set_other s.words 0 1 1 0 (λ e. omega arith)) (value_there s r) (λ e. out) r.holder_only.1 r.holder_only.2
             (refl, (out, refl)) (λ j u ne a. others_take r.holder r.out r.history id j u none' ne a) (r.seen_prefix id me.0 at) (omega arith) tt,
         ((λ _. (r.history, refl)), (λ ne. absurd (ne zero_found))),
@@ -209,6 +209,47 @@ module _ {B E F : Type 0} (entries : B → List E) (fixed_of : B → F) (root : 
         loaded s 0 s.homes (set s.views id me.0) (subst (λ (vs : List V). Rule record { words = s.words; homes = s.homes; views = vs }) (sym (set_again s.views id me.0 at)) r),
         ((λ e. absurd (busy e)), (λ _. refl)),
       ))
+
+  -- word 2 may be any number
+  waiting : (s : S) (r : Rule s) (n : ℕ) → Rule record { words = set s.words 2 n; homes = s.homes; views = s.views }
+  waiting s r n =
+      let first : get_or (set s.words 2 n) 0 0 ≡ get_or s.words 0 0 = get_or-set_other s.words 2 0 n 0 (λ e. omega arith) in
+      let second : get_or (set s.words 2 n) 1 0 ≡ get_or s.words 1 0 = get_or-set_other s.words 2 1 n 0 (λ e. omega arith) in record {
+        history = r.history;
+        holder = r.holder;
+        out = r.out;
+        owners = r.owners;
+        three_words = length-set s.words 2 n ∙ r.three_words;
+        one_holder = (
+          subst (λ (m : ℕ). MatchOption r.holder (m ≡ 0) (λ j. (m ≡ 1) × (j < length s.views))) (sym first) r.one_holder.0,
+          r.one_holder.1,
+        );
+        counted = second ∙ r.counted;
+        stands_for = r.stands_for;
+        holder_only = r.holder_only;
+        seen_prefix = r.seen_prefix;
+        owned_once = r.owned_once;
+        mine_seen = r.mine_seen;
+        fixed = r.fixed;
+        shares = r.shares;
+        spent = r.spent;
+      }
+
+  awaits_by : (slots id : ℕ) (f : ℕ → ℕ) (st : Step (Option B)) (me : H) → Allows Rule slots id me 2 f (awaits st me)
+  awaits_by slots id f st me s r sized at small = (
+    me.0,
+    keeps,
+    tt,
+    waiting record { words = s.words; homes = s.homes; views = set s.views id me.0 }
+        (subst (λ (vs : List V). Rule record { words = s.words; homes = s.homes; views = vs }) (sym (set_again s.views id me.0 at)) r) (f (get_or s.words 2 0)),
+    refl,
+  )
+
+  pub awaits_keeps : (slots id : ℕ) (me : H) → Allows Rule slots id me 2 (λ n. (n + 1) % 2 ^ 64) (awaits (step slots 2 1 0 none) me)
+  awaits_keeps slots id me = awaits_by slots id (λ n. (n + 1) % 2 ^ 64) (step slots 2 1 0 none) me
+
+  pub awaited_keeps : (slots id : ℕ) (me : H) → Allows Rule slots id me 2 (λ n. (n + (2 ^ 64 - 1)) % 2 ^ 64) (awaits (step slots 2 1 0 none) me)
+  awaited_keeps slots id me = awaits_by slots id (λ n. (n + (2 ^ 64 - 1)) % 2 ^ 64) (step slots 2 1 0 none) me
 
   -- the entries that are kept with their owners, where one view has the whole
   pub whole_has_all : (s : S) (r : Rule s) (id : ℕ) (v : V) → get_elem? s.views id ≡ some v → IsWhole v.part → HasAll r.history v.seen v.mine
@@ -264,7 +305,7 @@ module _ {B E F : Type 0} (entries : B → List E) (fixed_of : B → F) (root : 
         takes 0 (Some b),
         home.1,
         loaded s 0 (set s.homes 0 none) (set s.views id (at_stage (Out (listed me.0.stage)) me.0))
-            (moved s r id me.0 me.0.seen (Out (listed me.0.stage)) s.words (set s.homes 0 none) r.holder true at live r.two_words r.one_holder.0 refl
+            (moved s r id me.0 me.0.seen (Out (listed me.0.stage)) s.words (set s.homes 0 none) r.holder true at live r.three_words r.one_holder.0 refl
             (λ c q. absurd (some-ne-none (Some c) (sym (some-injective none (some (Some c)) (sym gone ∙ q)))))
             (λ e. not_none r.holder id e turn.0) (λ e. absurd (cc e)) (λ e. gone) (turn.0, (refl, l))
             (λ j u ne a. others_keep r.holder r.out true r.history r.history id j u turn.0 ne a) (r.seen_prefix id me.0 at) (omega arith) tt),
@@ -284,7 +325,7 @@ module _ {B E F : Type 0} (entries : B → List E) (fixed_of : B → F) (root : 
         gives,
         tt,
         loaded s 0 homes' (set s.views id w)
-            (moved s r id me.0 me.0.seen (Inside (listed me.0.stage)) s.words homes' r.holder false at live r.two_words r.one_holder.0 refl
+            (moved s r id me.0 me.0.seen (Inside (listed me.0.stage)) s.words homes' r.holder false at live r.three_words r.one_holder.0 refl
             (λ c q. let e : b ≡ c = cc (some-injective (some (Some b)) (some (Some c)) (sym back ∙ q)) in subst (λ (x : B). (entries x ≡ r.history) × (fixed_of x ≡ same)) e (now ∙ turn.1.1, fix))
             (λ e. refl) (λ e. (b, back)) (λ e. absurd (cc e)) (turn.0, (refl, l))
             (λ j u ne a. others_keep r.holder r.out false r.history r.history id j u turn.0 ne a) (r.seen_prefix id me.0 at) (omega arith) tt),
@@ -296,13 +337,13 @@ module _ {B E F : Type 0} (entries : B → List E) (fixed_of : B → F) (root : 
   releases_keeps slots id me h is live s r sized at small =
       let turn = holds_turn s r id me.0 (Inside h) at is in
       let l : listed me.0.stage ≡ r.history = ap listed is ∙ turn.1.1 in
-      let here : 0 < length s.words = let t = r.two_words in omega arith in
+      let here : 0 < length s.words = let t = r.three_words in omega arith in
       let le = prefix_length me.0.seen r.history (r.seen_prefix id me.0 at) in
       let same_length : length (listed me.0.stage) ≡ length r.history = ap length l in (
         released_view me.0,
         keeps,
         tt,
-        moved s r id me.0 (listed me.0.stage) Outside (set s.words 0 0) s.homes None r.out at live (length-set s.words 0 0 ∙ r.two_words) (get_or-set_same s.words 0 0 0 here) (get_or-set_other s.words 0 1 0 0 (λ e. omega arith))
+        moved s r id me.0 (listed me.0.stage) Outside (set s.words 0 0) s.homes None r.out at live (length-set s.words 0 0 ∙ r.three_words) (get_or-set_same s.words 0 0 0 here) (get_or-set_other s.words 0 1 0 0 (λ e. omega arith))
             (value_there s r) (λ e. turn.1.0) r.holder_only.1 r.holder_only.2 ((λ e. cc e), tt) (λ j u ne a. others_release r.holder r.out r.out r.history id j u turn.0 ne a)
             (subst (λ (k : List E). IsPrefix k r.history) (sym l) (prefix_self r.history)) (omega arith) tt,
         refl,
@@ -364,7 +405,7 @@ module _ {B E F : Type 0} (entries : B → List E) (fixed_of : B → F) (root : 
   -- the holder commits an entry
   committed : (s : S) (r : Rule s) (id : ℕ) (v : V) (e : E) (words' : List ℕ) → ((x : E) (n : ℕ) → root x n ≤ n) → get_elem? s.views id ≡ some v → Live v → v.stage ≡ Out r.history
       → (root e (length r.history + 1) ≡ length r.history + 1) ⊎ Stands (root e (length r.history + 1)) v.mine
-      → length words' ≡ 2 → get_or words' 0 0 ≡ get_or s.words 0 0 → get_or words' 1 0 ≡ length r.history + 1
+      → length words' ≡ 3 → get_or words' 0 0 ≡ get_or s.words 0 0 → get_or words' 1 0 ≡ length r.history + 1
       → Rule record { words = words'; homes = s.homes; views = set s.views id (record v { seen = r.history ++ e ∷ []; mine = v.mine ++ (1 + length r.history, e) ∷ []; stage = Out (r.history ++ e ∷ []) }) }
   committed s r id v e words' early at live is rooted wide first count =
       let new : List E = r.history ++ e ∷ [] in
@@ -379,7 +420,7 @@ module _ {B E F : Type 0} (entries : B → List E) (fixed_of : B → F) (root : 
         holder = r.holder;
         out = r.out;
         owners = r.owners ++ id ∷ [];
-        two_words = wide;
+        three_words = wide;
         one_holder = (
           subst (λ (n : ℕ × ℕ). MatchOption r.holder (n.0 ≡ 0) (λ j. (n.0 ≡ 1) × (j < n.1))) (λ i. (sym first i, sym longs i)) r.one_holder.0,
           each_set (λ j u. IsHolderAt r.holder j u.stage) (λ j u. IsHolderAt r.holder j u.stage) s.views id w r.one_holder.1 turn.0 (λ j u ne there old. old),
@@ -430,7 +471,7 @@ module _ {B E F : Type 0} (entries : B → List E) (fixed_of : B → F) (root : 
       let counts : n ≡ length r.history = r.counted in
       let same_length : length h ≡ length r.history = ap length turn.1.1 in
       let sum : length (entries b) ≡ length h + 1 = ap length now ∙ length-append h (e ∷ []) in
-      let here : 1 < length s.words = let t = r.two_words in omega arith in
+      let here : 1 < length s.words = let t = r.three_words in omega arith in
       let one : (n + 1) % 2 ^ 64 ≡ length r.history + 1 = omega arith in
       let is_new : in_hand entries me.1 ≡ new = ap (in_hand entries) has ∙ (now ∙ ap (λ (k : List E). k ++ e ∷ []) turn.1.1) in
       let w : V = committed_view (in_hand entries me.1) v in
@@ -442,7 +483,7 @@ module _ {B E F : Type 0} (entries : B → List E) (fixed_of : B → F) (root : 
         keeps,
         tt,
         subst (λ (x : V). Rule record { words = set s.words 1 ((n + 1) % 2 ^ 64); homes = s.homes; views = set s.views id x }) same_view
-            (committed s r id v e (set s.words 1 ((n + 1) % 2 ^ 64)) early at live (is ∙ ap (λ (k : List E). Out k) turn.1.1) rooted' (length-set s.words 1 ((n + 1) % 2 ^ 64) ∙ r.two_words)
+            (committed s r id v e (set s.words 1 ((n + 1) % 2 ^ 64)) early at live (is ∙ ap (λ (k : List E). Out k) turn.1.1) rooted' (length-set s.words 1 ((n + 1) % 2 ^ 64) ∙ r.three_words)
             (get_or-set_other s.words 1 0 ((n + 1) % 2 ^ 64) 0 (λ q. omega arith)) (get_or-set_same s.words 1 ((n + 1) % 2 ^ 64) 0 here ∙ one)),
         (refl, subst (λ (k : List E). Knows root k v.seen v.mine) (sym l) (knows_of s r id v at)),
       )
@@ -463,7 +504,7 @@ module _ {B E F : Type 0} (entries : B → List E) (fixed_of : B → F) (root : 
         holder = r.holder;
         out = r.out;
         owners = r.owners;
-        two_words = r.two_words;
+        three_words = r.three_words;
         one_holder = (
           held_among r.holder (get_or s.words 0 0 ≡ 0) (get_or s.words 0 0 ≡ 1) n (length (vs ++ x ∷ [])) (omega arith) r.one_holder.0,
           both (λ j u. IsHolderAt r.holder j u.stage) r.one_holder.1 (r.one_holder.1 id v at) (not_held r.holder (get_or s.words 0 0 ≡ 0) (get_or s.words 0 0 ≡ 1) n r.one_holder.0),
@@ -505,7 +546,7 @@ module _ {B E F : Type 0} (entries : B → List E) (fixed_of : B → F) (root : 
         holder = r.holder;
         out = r.out;
         owners = os;
-        two_words = r.two_words;
+        three_words = r.three_words;
         one_holder = (
           held_among r.holder (get_or s.words 0 0 ≡ 0) (get_or s.words 0 0 ≡ 1) n (length vs) (omega arith) r.one_holder.0,
           both (λ j u. IsHolderAt r.holder j u.stage) r.one_holder.1 not not',
@@ -551,12 +592,12 @@ module _ {B E F : Type 0} (entries : B → List E) (fixed_of : B → F) (root : 
         keeps,
         tt,
         loaded s 0 s.homes (set s.views id (at_stage Outside me.0))
-            (moved s r id me.0 me.0.seen Outside s.words s.homes r.holder r.out at live r.two_words r.one_holder.0 refl (value_there s r) r.holder_only.0 r.holder_only.1 r.holder_only.2 (turn.0, tt) (λ j u ne a. a)
+            (moved s r id me.0 me.0.seen Outside s.words s.homes r.holder r.out at live r.three_words r.one_holder.0 refl (value_there s r) r.holder_only.0 r.holder_only.1 r.holder_only.2 (turn.0, tt) (λ j u ne a. a)
             (r.seen_prefix id me.0 at) (omega arith) tt),
         (refl, (r.history, subst (λ (st : TurnStage E). AreKnown root r.history st) (sym is) (told.0, told.1), whole_has_all s r id me.0 at)),
       )
 
-  pub opens_keeps : (b : B) → entries b ≡ [] → fixed_of b ≡ same → Rule (opening (0 ∷ 0 ∷ []) (Some b ∷ []) (first_view same))
+  pub opens_keeps : (b : B) → entries b ≡ [] → fixed_of b ≡ same → Rule (opening (0 ∷ 0 ∷ 0 ∷ []) (Some b ∷ []) (first_view same))
   opens_keeps b empty is_same =
       let v : V = first_view same in
       let only : (c : B) → get_elem? (some (Some b) ∷ []) 0 ≡ some (some (Some c)) → b ≡ c = λ c h. let e : some (Some b) ≡ some (Some c) = some-injective (some (Some b)) (some (Some c)) h in cc e in record {
@@ -564,7 +605,7 @@ module _ {B E F : Type 0} (entries : B → List E) (fixed_of : B → F) (root : 
         holder = None;
         out = false;
         owners = [];
-        two_words = refl;
+        three_words = refl;
         one_holder = (refl, each_one (λ j u. IsHolderAt None j u.stage) v (λ e. cc e));
         counted = refl;
         stands_for = λ c h. subst (λ (x : B). entries x ≡ []) (only c h) empty;

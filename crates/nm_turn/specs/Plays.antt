@@ -40,6 +40,9 @@ module _ {B E F : Type 0} where
       (found ≡ 0 → (history : List E) × (m' ≡ (at_stage (Inside history) m.0, m.1)))
       × (found ≢ 0 → m' ≡ m)
 
+  abbrev pub awaits : Step (Option B) → Hand B E F → ℕ → Hand B E F → Type 0
+  awaits st m found m' = m' ≡ m
+
   abbrev pub takes_value : (B → List E) → (B → F) → (E → ℕ → ℕ)
       → Step (Option B) → Hand B E F → ℕ → Hand B E F → Type 0
   takes_value entries fixed_of root st m found m' = (b : B)

@@ -1,4 +1,5 @@
--- The rule of the table: word 0 is the turn, word 1 counts the history, slot 0 has the value.
+-- The rule of the table: word 0 is the turn, word 1 counts the history, word 2 those who wait, of which
+-- nothing is known; slot 0 has the value.
 use Rattle.std.specs.Prelude.{◌≡◌, ℕ, ◌<◌, ◌⊎◌, Bool, true, false, List, map, length, slice_get, slice_index, Option, Some, None, MatchOption}
 use mathlib.Core.Option.{none, some}
 use mathlib.Core.List.{IsPrefix}
@@ -52,7 +53,7 @@ pub record TurnRule {B E F : Type 0} (entries : B → List E) (fixed_of : B → 
   pub out : Bool
   -- for each entry, the view that has it as its own
   pub owners : List ℕ
-  pub two_words : length s.words ≡ 2
+  pub three_words : length s.words ≡ 3
   -- word 0 is 1 exactly while one view has the turn
   pub one_holder :
       MatchOption holder (slice_index s.words 0 ≡ 0)

@@ -1,8 +1,8 @@
-//! The rule of the table, and the names of its steps. There are eight kinds of step, and no other
-//! touches the table: the turn is taken or missed (`TakeTurn`), the value is taken out
-//! (`TakeValue`), an entry is counted (`Commit`), the value is put back (`PutValue`), the turn is
-//! given up (`Release`), a pass is cut in two (`Halve`), and two passes are made one (`Add`, and
-//! `Learn`, which tells what the rule knows of both).
+//! The rule of the table, and the names of its steps. There are nine kinds of step, and no other
+//! touches the table: the turn is taken or missed (`TakeTurn`), a pass begins or ends to wait
+//! (`Awaits`), the value is taken out (`TakeValue`), an entry is counted (`Commit`), the value is
+//! put back (`PutValue`), the turn is given up (`Release`), a pass is cut in two (`Halve`), and two
+//! passes are made one (`Add`, and `Learn`, which tells what the rule knows of both).
 use crate::kept::Kept;
 use crate::view::PassView;
 use atomic_table::{Join, Play, Split, TableRule};
@@ -33,6 +33,15 @@ impl<B: Kept> Play<Option<B>, View<B>> for TakeTurn {
     ghost use Rattle.nm_turn.specs.Plays.{takes_turn};
 
     ghost then = { takes_turn };
+}
+
+/// Changes word 2, which counts the passes that wait, and tells nothing.
+pub(crate) struct Awaits;
+
+impl<B: Kept> Play<Option<B>, View<B>> for Awaits {
+    ghost use Rattle.nm_turn.specs.Plays.{awaits};
+
+    ghost then = { awaits };
 }
 
 /// Takes the value out of its place. It is the one that stands for the history.

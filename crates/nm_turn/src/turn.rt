@@ -4,7 +4,9 @@ ghost use Rattle.std.specs.Prelude.{IfOk, IfErr, Some};
 
 use crate::kept::Kept;
 use crate::pass::Pass;
-use crate::rule::{Add, Commit, Halve, Law, Learn, PutValue, Release, TakeTurn, TakeValue, View};
+use crate::rule::{
+    Add, Awaits, Commit, Halve, Law, Learn, PutValue, Release, TakeTurn, TakeValue, View,
+};
 use atomic_table::{Refused, Table};
 use nm_types::NoMemory;
 use std::alloc::Global;
@@ -17,6 +19,9 @@ const TURN: usize = 0;
 /// The word that counts the history.
 const COUNT: usize = 1;
 
+/// The word that counts the passes that wait for the turn.
+const WAITING: usize = 2;
+
 /// The place of the value.
 const VALUE: usize = 0;
 
@@ -24,7 +29,7 @@ const VALUE: usize = 0;
 /// the value is not lost.
 pub struct Turn<B: Kept> {
     table: Table<Option<B>, View<B>, Snapshot<B>, Law<B>, Global>,
-    ghost sized: { (table.shared.table_id.words ≡ 2) × (table.shared.table_id.slots ≡ 1) },
+    ghost sized: { (table.shared.table_id.words ≡ 3) × (table.shared.table_id.slots ≡ 1) },
 }
 
 /// Returns the one value of a table that was not made.
@@ -60,13 +65,15 @@ impl<B: Kept> Turn<B> {
             return Err((NoMemory, value));
         };
         slots.push_reserved(Some(value));
-        match Table::new(alloc, &[0, 0], slots, &about) {
+        match Table::new(alloc, &[0, 0, 0], slots, &about) {
             Ok((table, seat)) => Ok((Turn { table }, Pass { seat })),
             Err(Refused { slots }) => Err((NoMemory, only(slots))),
         }
     }
 
-    /// Waits until the turn is free, and takes it.
+    /// Waits until the turn is free, and takes it. A pass that finds it taken is counted while it
+    /// waits; since it is counted before it looks at the turn for the last time, whoever gives the
+    /// turn up after that look sees that it waits.
     fn take<R: Wait>(&self, rt: &R, pass: &mut Pass<B>)
         requires pass { IsPassOf B.fixed self.now pass.old }
         requires outside { IsOutside pass.old }
@@ -77,7 +84,9 @@ impl<B: Kept> Turn<B> {
             if shared.compare_exchange::<TakeTurn>(&mut pass.seat, TURN, 0, 1) == 0 {
                 return;
             }
+            shared.fetch_add::<Awaits>(&mut pass.seat, WAITING, 1);
             shared.park(rt, TURN, 1);
+            shared.fetch_sub::<Awaits>(&mut pass.seat, WAITING, 1);
         }
         unreachable!()
     }
@@ -119,7 +128,15 @@ impl<B: Kept> Turn<B> {
         }
     }
 
-    /// Gives the value back, gives the turn up, and wakes one thread that waits for it. `made` says
+    /// Wakes one thread that waits for the turn, if some do.
+    fn wake(&self) {
+        let shared = &self.table.shared;
+        if shared.peek(WAITING) > 0 {
+            shared.wake_one(TURN);
+        }
+    }
+
+    /// Gives the value back, gives the turn up, and wakes one thread if some wait for it. `made` says
     /// whether the value has one entry more than when `enter` returned it.
     pub fn leave(&self, pass: &mut Pass<B>, value: B, made: bool)
         requires pass { IsPassOf B.fixed self.now pass.old }
@@ -138,7 +155,7 @@ impl<B: Kept> Turn<B> {
         let shared = &self.table.shared;
         shared.load::<PutValue<B>>(&mut pass.seat, TURN);
         shared.store::<Release>(&mut pass.seat, TURN, 0);
-        shared.wake_one(TURN);
+        self.wake();
     }
 
     /// Halves the pass's share. The new pass has seen as much, has made nothing and has not
