@@ -4,6 +4,7 @@ pub mod Finding
 pub mod Naming
 pub mod Numbers
 pub mod Shown
+pub mod Slotted
 pub mod Spots
 pub mod Steps
 pub mod Tied

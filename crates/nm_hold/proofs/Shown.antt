@@ -57,7 +57,7 @@ IsHold-stored cells tables low high all once tied = record {
   held = λ p idx e. (let n = number_if-is (number_at tables p) idx (sym (held-number cells tables p tied) ∙ e) in rw (← n.0) (tied.numbered p n.1));
 }
 
-find-places : (port : ℕ) (tables : List PortTable) → find (λ (p : PortPlaces). nat_eq p.port.0 port) (ports_of tables) ≡ option_map (λ (t : PortTable). t.places) (find (λ (t : PortTable). nat_eq t.places.port.0 port) tables)
+pub find-places : (port : ℕ) (tables : List PortTable) → find (λ (p : PortPlaces). nat_eq p.port.0 port) (ports_of tables) ≡ option_map (λ (t : PortTable). t.places) (find (λ (t : PortTable). nat_eq t.places.port.0 port) tables)
 find-places port [] = refl
 find-places port (t ∷ tables) = elim (cases_Bool (nat_eq t.places.port.0 port)) [
   | inl e ↦ rw e refl

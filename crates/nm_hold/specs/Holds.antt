@@ -1,7 +1,11 @@
 -- A session's places as contracts see them: at each index where the buffer of that index stands, the
 -- ports with their sizes.
-use Rattle.std.specs.Prelude.{ℕ, Bool, false, true, All, find, ◌==◌, ◌≡◌, ◌+◌, ◌-◌, ◌≤◌, List, [], ◌∷◌, length, map, replicate, slice_index_or, slice_set, Option, Some, None, option_map}
+use Rattle.std.specs.Prelude.{ℕ, Bool, false, true, All, find, ◌==◌, ◌≡◌, ◌+◌, ◌-◌, ◌≤◌, List, [], ◌∷◌, length, map, replicate, slice_get, slice_index_or, slice_set, unwrap_or, Option, Some, None, option_map}
 use Rattle.std.specs.Option.{option_map_or}
+use Rattle.nm_types.specs.declared.id.PortId.{PortId}
+use Rattle.nm_types.specs.declared.id.PortSizes.{PortSizes}
+use Rattle.nm_types.specs.declared.id.Side.{Side}
+use Rattle.nm_types.specs.declared.id.Side.TheVariants as side
 use Rattle.nm_types.specs.declared.place.Place.{Place}
 use Rattle.nm_types.specs.declared.place.Place.TheVariants.{Tx, Rx, Extra}
 use Rattle.nm_types.specs.Places.{Held, held_at, is_same_place}
@@ -66,6 +70,19 @@ places_of h = places_in h.cells
 -- the index of the buffer in a place
 abbrev pub index_at : HoldState → Place → Option ℕ
 index_at h place = held_at (places_of h) place
+
+-- a slot of a port's ring, and the number of them
+abbrev pub slot_on : Side → PortId → ℕ → Place
+slot_on side.Tx port at = Tx port at
+slot_on side.Rx port at = Rx port at
+
+abbrev pub size_on : Side → PortSizes → ℕ
+size_on side.Tx sizes = sizes.tx
+size_on side.Rx sizes = sizes.rx
+
+-- at each position the index of the buffer in that slot, 0 where there is none
+abbrev pub AreNumbers : HoldState → Side → PortId → List ℕ → Type 0
+AreNumbers h side port numbers = (at idx : ℕ) → slice_get numbers at ≡ Some idx → unwrap_or (index_at h (slot_on side port at)) 0 ≡ idx
 
 abbrev pub with_cell : HoldState → ℕ → Option Standing → HoldState
 with_cell h idx cell = record h { cells = slice_set h.cells idx cell }

@@ -1,7 +1,9 @@
 -- The table of a port's places: at each, the index of the buffer there, or 0.
-use Rattle.std.specs.Prelude.{ℕ, ◌≡◌, List, [], ◌∷◌, length, map, slice_index}
+use Rattle.std.specs.Prelude.{ℕ, ◌≡◌, ◌+◌, List, [], ◌∷◌, length, map, slice_index, slice_range}
 use Rattle.std.specs.Option.{option_map_or}
 use Rattle.std.specs.Vec.{with_item}
+use Rattle.nm_types.specs.declared.id.Side.{Side}
+use Rattle.nm_types.specs.declared.id.Side.TheVariants.{Tx, Rx}
 use Rattle.nm_types.specs.declared.place.Place.{Place}
 use Rattle.nm_hold.specs.declared.table.PortPlaces.{PortPlaces}
 use Rattle.nm_hold.specs.declared.table.PortTable.{PortTable}
@@ -25,3 +27,8 @@ number_at (t ∷ tables) place = option_map_or (λ at. slice_index t.numbers.ite
 
 abbrev pub put_in : Place → ℕ → PortTable → PortTable
 put_in place number t = option_map_or (λ at. record t { numbers = with_item t.numbers at number }) (offset_of t.places place) t
+
+-- the numbers at the slots of a side
+abbrev pub slots_in : PortTable → Side → List ℕ
+slots_in t Tx = slice_range t.numbers.items 0 t.places.sizes.tx
+slots_in t Rx = slice_range t.numbers.items t.places.sizes.tx (t.places.sizes.tx + t.places.sizes.rx)

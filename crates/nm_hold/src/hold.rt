@@ -1,6 +1,6 @@
 ghost use Rattle.std.specs.Prelude.{ℕ, ◌≡◌, ◌≢◌, ◌≤◌, ◌++◌, ◌∷◌, ◌==◌, ◌↔◌, [], true, false};
 ghost use Rattle.std.specs.Prelude.{None, Some, IsSome, IsTrue, IfOk, IfSome, filter, not};
-ghost use Rattle.std.specs.Prelude.{◌<◌, length, option_map, if◌then◌else◌};
+ghost use Rattle.std.specs.Prelude.{List, ◌<◌, find, length, option_map, if◌then◌else◌};
 ghost use Rattle.std.specs.Borrow.{sem};
 ghost use Rattle.std.specs.Option.{option_copied, option_copied_mut};
 ghost use Rattle.nm_types.specs.Buffers.{IsPoolSize, IsBufferIndex};
@@ -14,6 +14,7 @@ ghost use Rattle.nm_hold.specs.Standings.{home_in, cell_named, cell_fronted};
 ghost use Rattle.nm_hold.specs.Holds.{empty_hold, buffers_of, extra_of, place_at, IsHold};
 ghost use Rattle.nm_hold.specs.Holds.{standing_at, buffer_at, is_named_at, named_bytes_at, index_at};
 ghost use Rattle.nm_hold.specs.Holds.{places_of, bufs_of, with_cell, SamePlaces, HoldsNothing};
+ghost use Rattle.nm_hold.specs.Holds.{size_on, AreNumbers};
 
 use crate::ports::Ports;
 use crate::standing::{
@@ -21,7 +22,7 @@ use crate::standing::{
 };
 use crate::table::{PortPlaces, PortTable};
 use nm_region::Buf;
-use nm_types::{NoMemory, Place, PortId, PortSizes};
+use nm_types::{NoMemory, Place, PortId, PortSizes, Side};
 use std::alloc::Global;
 use std::marker::Model;
 use std::mem::replace;
@@ -50,8 +51,8 @@ impl Model for PortRoom {
 /// once it holds no buffer.
 ///
 /// Finds the place of a buffer at the buffer's index in a list, and the buffer in a place at its
-/// offset in the table of the place's port, which a hash map finds: in constant time for any number
-/// of ports and buffers.
+/// offset in the table of the place's port, which is the first one or which a hash map finds: in
+/// constant time for any number of ports and buffers.
 pub struct Hold {
     cells: Vec<Option<Standing>>,
     ports: Ports,
@@ -153,6 +154,21 @@ impl Hold {
     {
         let idx = self.ports.number(place);
         if idx == 0 { None } else { Some(idx) }
+    }
+
+    /// The indices of the buffers in the slots of a port's ring, by position, 0 where there is
+    /// none; none of them if there is no such port.
+    pub fn numbers(&self, port: PortId, side: Side) -> Option<&[u32]>
+        ensures count { option_map (λ (ns : List ℕ). length ns) (option_copied result)
+            ≡ option_map (λ (p : PortPlaces). size_on side p.sizes)
+            (find (λ (p : PortPlaces). p.port.0 == port.0) self.now.ports) }
+        ensures numbers { IfSome (option_copied result) (AreNumbers self.now side port) }
+        ensures hold { IsHold self.now }
+    {
+        match self.ports.table(port) {
+            Some(table) => Some(table.slots(side)),
+            None => None,
+        }
     }
 
     /// Where the buffer of an index stands.

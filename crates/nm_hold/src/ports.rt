@@ -1,11 +1,13 @@
 ghost use Rattle.std.specs.Prelude.{◌≡◌, ◌==◌, ◌≤◌, ◌<◌, ◌+◌, ◌++◌, ◌∷◌, [], All, IfOk, IfSome};
-ghost use Rattle.std.specs.Prelude.{false, length, not, filter, find, map, option_map};
+ghost use Rattle.std.specs.Prelude.{false, true, length, not, filter, find, map, nat_eq, option_map};
+ghost use Rattle.std.specs.Prelude.{Some};
+ghost use Rattle.std.specs.HashMap.{get};
 ghost use Rattle.std.specs.Option.{option_copied};
 ghost use Rattle.nm_hold.specs.declared.table.PortTable.{PortTable};
 ghost use Rattle.nm_hold.specs.Offsets.{has_port, ArePortsOnce};
 ghost use Rattle.nm_hold.specs.Holds.{port_of};
 ghost use Rattle.nm_hold.specs.Tables.{number_at, ports_of, put_in, IsTable};
-ghost use Rattle.nm_hold.specs.Indexed.{tables_present};
+ghost use Rattle.nm_hold.specs.Indexed.{tables_present, port_in, port_at, IsIndexed};
 
 use crate::table::PortTable;
 use nm_types::{Place, PortId};
@@ -13,8 +15,8 @@ use std::alloc::{AllocError, Global};
 use std::collections::HashMap;
 use std::marker::Model;
 
-/// The tables of a session's ports, in the order in which the ports were added. A hash map finds the
-/// table of a port by its number.
+/// The tables of a session's ports, in the order in which the ports were added. The table of a port
+/// is found by its number: it is in the first row, or a hash map finds its row.
 #[derive(Drop)]
 pub(crate) struct Ports {
     // a removed port leaves its row empty until other ports take over
@@ -57,8 +59,8 @@ impl Ports {
             ≡ find (λ (t : PortTable). t.places.port.0 == port.0) self.now.tables }
         ensures once { ArePortsOnce (ports_of self.now.tables) }
     {
-        match self.indices.get(&port.0) {
-            Some(at) => self.rows[*at].as_ref(),
+        match row_of(&self.rows, &self.indices, port) {
+            Some(at) => self.rows[at].as_ref(),
             None => None,
         }
     }
@@ -80,7 +82,7 @@ impl Ports {
         ensures tables { self.new.tables ≡ map (put_in place number) self.old.tables }
         ensures spare { self.new.spare ≡ self.old.spare }
     {
-        if let Some(&at) = self.indices.get(&port_of(place).0) {
+        if let Some(at) = row_of(&self.rows, &self.indices, port_of(place)) {
             put_at(&mut self.rows[at], place, number);
         }
     }
@@ -153,6 +155,40 @@ impl Ports {
         if let Some(table) = row {
             self.push(table);
         }
+    }
+}
+
+/// Whether a row has the table of a port.
+fn is_of(row: &Option<PortTable>, port: PortId) -> bool
+    ensures { result ≡ true → port_in row.now ≡ Some port.0 }
+{
+    match row {
+        Some(table) => table.places.port.0 == port.0,
+        None => false,
+    }
+}
+
+/// Whether the first row has the table of a port.
+fn is_first(rows: &[Option<PortTable>], port: PortId) -> bool
+    ensures { result ≡ true → port_at rows.now 0 ≡ Some port.0 }
+{
+    match rows.first() {
+        Some(row) => is_of(row, port),
+        None => false,
+    }
+}
+
+/// The row of a port's table. The first row is tried before the map.
+fn row_of(rows: &[Option<PortTable>], indices: &HashMap<u32, usize>, port: PortId) -> Option<usize>
+    requires { IsIndexed rows.now (get nat_eq indices.now) }
+    ensures { result ≡ get nat_eq indices.now port.0 }
+{
+    if is_first(rows, port) {
+        return Some(0);
+    }
+    match indices.get(&port.0) {
+        Some(at) => Some(*at),
+        None => None,
     }
 }
 

@@ -1,8 +1,9 @@
-ghost use Rattle.std.specs.Prelude.{◌≡◌, IfOk};
+ghost use Rattle.std.specs.Prelude.{◌≡◌, IfOk, length};
 ghost use Rattle.nm_hold.specs.Offsets.{count_of, offset_of, AreSizes};
-ghost use Rattle.nm_hold.specs.Tables.{number_in, put_in, IsTable};
+ghost use Rattle.nm_hold.specs.Holds.{size_on};
+ghost use Rattle.nm_hold.specs.Tables.{number_in, put_in, slots_in, IsTable};
 
-use nm_types::{Place, PortId, PortSizes};
+use nm_types::{Place, PortId, PortSizes, Side};
 use std::alloc::{AllocError, Global};
 
 /// The number of places of a port of these sizes: transmit slots, receive slots, extra positions.
@@ -83,6 +84,19 @@ impl PortTable {
     {
         if let Some(at) = self.places.offset(place) {
             self.numbers[at] = number;
+        }
+    }
+
+    /// The numbers at the slots of a side, by position.
+    pub(crate) fn slots(&self, side: Side) -> &[u32]
+        requires { IsTable self.now }
+        ensures slots { result.now ≡ slots_in self.now side }
+        ensures count { length result.now ≡ size_on side self.now.places.sizes }
+    {
+        let (tx, rx) = (self.places.sizes.tx as usize, self.places.sizes.rx as usize);
+        match side {
+            Side::Tx => &self.numbers[..tx],
+            Side::Rx => &self.numbers[tx..tx + rx],
         }
     }
 }

@@ -1,3 +1,4 @@
+mod Marked
 pub mod Keeping
 pub mod Out
 pub mod Taken

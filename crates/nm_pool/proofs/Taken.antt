@@ -1,7 +1,7 @@
 -- Taking buffers out of their places, from the front.
-use Rattle.std.proofs.Common.{ℕ, ◌≡◌, ◌+◌, ◌<◌, List, [], ◌∷◌, ◌++◌, length, take, drop, slice_set, get_or, Option, Some, None, refl, sym, ◌∙◌, ap, arith}
+use Rattle.std.proofs.Common.{ℕ, ◌≡◌, ◌+◌, ◌<◌, ◌≤◌, List, [], ◌∷◌, ◌++◌, length, take, drop, slice_set, get_or, Option, Some, None, refl, sym, ◌∙◌, ap, arith}
 use Rattle.std.specs.Option.{option_to_list}
-use Rattle.std.proofs.lemmas.List.{take_more_set, drop-set-lt, drop_more, take-append-drop}
+use Rattle.std.proofs.lemmas.List.{append_assoc, length-append, get_or_default, take_more_set, drop-set-lt, drop_more, take-append-drop}
 use Rattle.nm_region.specs.Buffers.{Buffer}
 use Rattle.nm_pool.specs.Kept.{buffers_in}
 use Rattle.nm_pool.proofs.Keeping.{buffers_in-append}
@@ -20,3 +20,21 @@ kept_behind places i x h e = rw (drop_more places i x h, ← e, drop-set-lt (i +
 
 pub kept_left : (places : List (Option Buffer)) (i : ℕ) → buffers_in (take i places) ≡ [] → buffers_in places ≡ buffers_in (drop i places)
 kept_left places i e = ap buffers_in (sym (take-append-drop i places)) ∙ (buffers_in-append (take i places) (drop i places) ∙ ap (λ (front : List Buffer). front ++ buffers_in (drop i places)) e)
+
+one_at_most : (o : Option Buffer) → length (option_to_list o) ≤ 1
+one_at_most None = omega arith
+one_at_most (Some b) = omega arith
+
+pub few_more : (taken : List Buffer) (o : Option Buffer) (n : ℕ) → length taken < n → length (taken ++ option_to_list o) ≤ n
+few_more taken o n h = omega (arith, h, length-append taken (option_to_list o), one_at_most o)
+
+-- the next buffer goes from its place behind those that were taken
+pub next-split : (taken : List Buffer) (places : List (Option Buffer)) (at found : ℕ) (all : List Buffer) → found < length places
+    → buffers_in (take at places) ≡ [] → buffers_in (take found places) ≡ [] → taken ++ buffers_in (drop at places) ≡ all
+    → (taken ++ option_to_list (get_or places found None)) ++ buffers_in (drop (found + 1) (slice_set places found None)) ≡ all
+next-split taken places at found all within before between split =
+    let x = get_or places found None in
+    let rest = buffers_in (drop (found + 1) (slice_set places found None)) in
+    let here : x ≡ get_or places found x = get_or_default places found None x within in
+    let behind : option_to_list x ++ rest ≡ buffers_in (drop at places) = sym (kept_behind places found x within here) ∙ (sym (kept_left places found between) ∙ kept_left places at before) in
+    append_assoc taken (option_to_list x) rest ∙ (ap (λ (others : List Buffer). taken ++ others) behind ∙ split)

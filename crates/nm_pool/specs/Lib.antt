@@ -1,3 +1,4 @@
+pub mod Bits
 pub mod Free
 pub mod Kept
 pub mod Laws

@@ -1,6 +1,7 @@
 //! The free buffers of a pool, the smallest first.
 #![tactic(auto)]
 
+mod bits;
 pub mod laws;
 mod pool;
 #[cfg(test)]

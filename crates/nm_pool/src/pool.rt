@@ -1,10 +1,13 @@
-ghost use Rattle.std.specs.Prelude.{◌≡◌, ◌≢◌, ◌≤◌, ◌<◌, length, take, drop, All, IfOk, IfErr, OnOk, OnErr, ℕ, []};
+ghost use Rattle.std.specs.Prelude.{◌≡◌, ◌≢◌, ◌≤◌, ◌<◌, ◌*◌, length, take, drop, All, IfOk, IfErr, OnOk, OnErr, ℕ, [], ◌++◌, None, get_or, slice_set};
+ghost use Rattle.std.specs.Option.{option_to_list};
 ghost use Rattle.nm_types.specs.Buffers.{IsPoolSize, IsBufferIndex};
 ghost use Rattle.nm_region.specs.Buffers.{indices_of};
 ghost use Rattle.std.specs.Vec.{vec_capacity};
 ghost use Rattle.nm_pool.specs.Free.{with_buffer, AreWhole, IsPool};
+ghost use Rattle.nm_pool.specs.Bits.{AreBits};
 ghost use Rattle.nm_pool.specs.Kept.{buffers_in, ArePlaced};
 
+use crate::bits::{clear_bit, first_bit, full_words, set_bit};
 use nm_region::Buf;
 use nm_types::NoMemory;
 use std::alloc::{AllocError, Global};
@@ -32,6 +35,8 @@ impl From<AllocError> for TakeFault {
 /// The free buffers of a region. It cannot be dropped: `close` gives the buffers back.
 pub struct Pool {
     places: Vec<Option<Buf>>,
+    /// A bit for each place, which is set where the place has a buffer.
+    words: Vec<u64>,
     free: u32,
     room: Vec<Buf>,
 }
@@ -66,6 +71,9 @@ impl Pool {
         ensures err { IfErr result (λ fault. fault.1.items ≡ bufs.items) }
     {
         let count = bufs.len();
+        let Ok(words) = full_words(alloc, count) else {
+            return Err((NoMemory, bufs));
+        };
         let Ok(mut places) = Vec::with_capacity(alloc, count) else {
             return Err((NoMemory, bufs));
         };
@@ -75,6 +83,7 @@ impl Pool {
         }
         Ok(Pool {
             places,
+            words,
             free: count as u32,
             room: bufs,
         })
@@ -104,7 +113,7 @@ impl Pool {
             });
         }
         let mut taken = Vec::with_capacity(alloc, n as usize)?;
-        take_first(&mut self.places, &mut taken, n as usize);
+        take_first(&mut self.places, &mut self.words, &mut taken, n as usize);
         self.free -= n;
         Ok(taken)
     }
@@ -118,7 +127,10 @@ impl Pool {
         let at = (buf.index() - 2) as usize;
         let place = &mut self.places[at];
         match place.replace(buf) {
-            None => self.free += 1,
+            None => {
+                set_bit(&mut self.words, at);
+                self.free += 1;
+            }
             Some(_other) => unreachable!(),
         }
     }
@@ -131,6 +143,7 @@ impl Pool {
     {
         let Pool {
             mut places,
+            words: _,
             free: _,
             mut room,
         } = self;
@@ -146,22 +159,45 @@ impl Pool {
 }
 
 /// Moves the first `n` buffers out of their places.
-fn take_first(places: &mut Vec<Option<Buf>>, taken: &mut Vec<Buf>, n: usize)
+fn take_first(places: &mut Vec<Option<Buf>>, words: &mut Vec<u64>, taken: &mut Vec<Buf>, n: usize)
     requires enough { n ≤ length (buffers_in places.old.items) }
     requires room { n ≤ vec_capacity taken.old }
     requires none { taken.old.items ≡ [] }
+    requires bits { AreBits words.old.items places.old.items }
+    requires words { length places.old.items ≤ length words.old.items * 64 }
+    requires few { length words.old.items ≤ 1024 }
     ensures taken { taken.new.items ≡ take n (buffers_in places.old.items) }
     ensures left { buffers_in places.new.items ≡ drop n (buffers_in places.old.items) }
     ensures placed { (index : ℕ)
         → ArePlaced index places.old.items → ArePlaced index places.new.items }
     ensures count { length places.new.items ≡ length places.old.items }
+    ensures bits { AreBits words.new.items places.new.items }
+    ensures words { length words.new.items ≡ length words.old.items }
 {
     let mut at = 0;
     while taken.len() < n {
-        let place = &mut places[at];
-        if let Some(buf) = place.take() {
-            taken.push_reserved(buf);
+        match first_bit(words, at) {
+            Some(found) => {
+                clear_bit(words, found);
+                take_at(places, taken, found);
+                at = found + 1;
+            }
+            None => unreachable!(),
         }
-        at += 1;
+    }
+}
+
+/// Moves the buffer out of a place, if it has one.
+fn take_at(places: &mut Vec<Option<Buf>>, taken: &mut Vec<Buf>, at: usize)
+    requires within { at < length places.old.items }
+    requires room { length taken.old.items < vec_capacity taken.old }
+    ensures taken { taken.new.items
+        ≡ taken.old.items ++ option_to_list (get_or places.old.items at None) }
+    ensures capacity { vec_capacity taken.new ≡ vec_capacity taken.old }
+    ensures places { places.new.items ≡ slice_set places.old.items at None }
+{
+    let place = &mut places[at];
+    if let Some(buf) = place.take() {
+        taken.push_reserved(buf);
     }
 }

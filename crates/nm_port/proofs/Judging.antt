@@ -59,7 +59,7 @@ same_eq a b e = grind (arith, nat_tests)
 pub false_true : {X : Type 0} → false ≡ true → X
 false_true e = cc
 
-contains_more : (names : List ℕ) (name idx : ℕ) → contains_index (names ++ name ∷ []) idx ≡ (contains_index names idx || nat_eq name idx)
+pub contains_more : (names : List ℕ) (name idx : ℕ) → contains_index (names ++ name ∷ []) idx ≡ (contains_index names idx || nat_eq name idx)
 contains_more names name idx = list_any-append (λ (b : ℕ). nat_eq b idx) names (name ∷ []) ∙ ap (λ (b : Bool). contains_index names idx || b) (or_false (nat_eq name idx))
   where
     or_false : (b : Bool) → (b || false) ≡ b

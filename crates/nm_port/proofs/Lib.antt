@@ -1,5 +1,6 @@
 pub mod SlotLists
 pub mod Judging
+pub mod Keeping
 pub mod Pushes
 pub mod Seeing
 pub mod Checked

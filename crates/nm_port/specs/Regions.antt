@@ -4,6 +4,7 @@ use Rattle.std.specs.Prelude.{ℕ, ◌≡◌, List, [], ◌∷◌, Option, Some,
 use Rattle.std.specs.List.{AllByRecursion}
 use Rattle.nm_types.specs.OwnPorts.{OwnState}
 use Rattle.nm_region.specs.Buffers.{Buffer}
+pub use Rattle.nm_region.specs.Regions.{IsBufferOf, AreOf}
 use Rattle.nm_hold.specs.Holds.{HoldState, bufs_of}
 use Rattle.nm_port.specs.declared.port.UserPort.{UserPort}
 use Rattle.nm_port.specs.Own.{own_seen}
@@ -19,13 +20,6 @@ IsRegion region r = r ≡ region
 -- all buffers of a session are of a region
 abbrev pub AllOf : ℕ → SideState → Type 0
 AllOf region s = AllByRecursion (IsRegion region) s.regions
-
-abbrev pub IsBufferOf : ℕ → Buffer → Type 0
-IsBufferOf region b = b.region ≡ region
-
--- buffers of a region
-abbrev pub AreOf : ℕ → List Buffer → Type 0
-AreOf region bufs = AllByRecursion (IsBufferOf region) bufs
 
 -- the regions of the buffers in a hold
 abbrev pub regions_in : List (Option Buffer) → List ℕ

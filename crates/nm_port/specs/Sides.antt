@@ -8,6 +8,7 @@ use Rattle.nm_types.specs.declared.place.Place.{Place}
 use Rattle.nm_types.specs.declared.place.Place.TheVariants as place
 use Rattle.nm_types.specs.Positions.{pushed_slots}
 use Rattle.nm_types.specs.Slots.{Pushed}
+use Rattle.nm_types.specs.declared.slot.Seen.{Seen}
 use Rattle.nm_types.specs.SyncChecks.{contains_index, slot_refusal, seen_of}
 use Rattle.nm_types.specs.declared.refusal.SlotFault.{SlotFault}
 use Rattle.nm_types.specs.declared.fault.SyncFault.{SyncFault}
@@ -71,3 +72,14 @@ AreCleared marks now names = (idx : ℕ) → idx < length marks → slice_index_
 abbrev pub TellsRefusal : Result ⊤ SyncFault → Option SyncFault → Type 0
 TellsRefusal (Ok _) refusal = refusal ≡ None
 TellsRefusal (Err fault) refusal = refusal ≡ Some fault
+
+-- what a sync knows of a slot that names the buffer in its place, and which no other slot names; `top` is
+-- the greatest index of a buffer
+abbrev pub seen_alone : HoldState → ℕ → ℕ → Seen
+seen_alone h top idx = record { was = idx; top = top; held = is_named_at h idx; doubled = false }
+
+-- a slot that names the buffer in its place, as these numbers of all places tell, and passes all checks
+-- that do not ask for other slots
+pub record KeepsBuffer (h : HoldState) (top : ℕ) (r : RingSlots) (numbers : List ℕ) (at : ℕ) : Type 0 where
+  pub own : slice_index_or numbers at 0 ≡ name_at r at
+  pub passes : slot_refusal r.side (seen_alone h top (name_at r at)) at (slot_at r at) ≡ None

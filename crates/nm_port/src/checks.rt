@@ -10,12 +10,14 @@ ghost use Rattle.nm_hold.specs.Holds.{buffers_of, is_named_at, IsHold};
 ghost use Rattle.nm_port.specs.Sides.{place_on, number_at, pushed_seen_at, pushed_seen};
 ghost use Rattle.nm_port.specs.Sides.{names_pushed, AreNamed, AreMarked, AreMarkedOf, AreCleared};
 ghost use Rattle.nm_port.specs.Sides.{JudgesSlot, JudgesAll, TellsRefusal, marks_after};
+ghost use Rattle.nm_port.specs.Sides.{KeepsBuffer, seen_alone};
+ghost use Rattle.nm_port.specs.Exchanges.{pushed_count_of, user_position};
 ghost use Rattle.nm_port.specs.RingSlots.{IsRingSlots, slot_at};
 
 use crate::slot_ring::SlotRing;
 use nm_hold::Hold;
 use nm_slot::judge;
-use nm_types::{Place, PortId, RingFault, Seen, Side, SlotFault, SyncFault};
+use nm_types::{Place, PortId, RingFault, Seen, Side, Slot, SlotFault, SyncFault};
 
 /// The place of a slot.
 pub(crate) fn place_on(side: Side, port: PortId, slot: u32) -> Place
@@ -144,6 +146,82 @@ fn judge_pushed(
     Ok(())
 }
 
+/// The number at a position, 0 if there is none.
+fn number_in(numbers: &[u32], at: u32) -> u32
+    ensures { result ≡ slice_index_or numbers.now at 0 }
+{
+    match numbers.get(at as usize) {
+        Some(number) => *number,
+        None => 0,
+    }
+}
+
+/// Whether a slot at a position passes the checks if it names the buffer in its place, and no other
+/// slot names that one. `top` is the greatest index of a buffer.
+fn passes_alone(hold: &Hold, side: Side, at: u32, slot: &Slot, top: u32) -> bool
+    ensures { result ≡ true
+        → slot_refusal side (seen_alone hold.now top slot.now.buf_idx) at slot.now ≡ None }
+{
+    let seen = Seen {
+        was: slot.buf_idx,
+        top,
+        held: hold.named(slot.buf_idx),
+        doubled: false,
+    };
+    match judge(at, slot, &seen, side) {
+        Ok(()) => true,
+        Err(_) => false,
+    }
+}
+
+/// Whether the pushed slot at a position names the buffer in its place, a named one, and passes the
+/// other checks. `numbers` has the index of the buffer in each place of the ring, and `top` is the
+/// greatest index of a buffer.
+fn keeps_buffer(hold: &Hold, ring: &SlotRing, numbers: &[u32], at: u32, top: u32) -> bool
+    requires { is_user_slot ring.now.ring at ≡ true }
+    ensures { result ≡ true → KeepsBuffer hold.now top ring.now numbers.now at }
+{
+    let slot = ring.user_slot(at);
+    let own = number_in(numbers, at);
+    if own == slot.buf_idx {
+        passes_alone(hold, ring.side(), at, &slot, top)
+    } else {
+        false
+    }
+}
+
+/// Whether each pushed slot names the buffer in its place, a named one, and passes the other checks.
+fn each_keeps(hold: &Hold, ring: &SlotRing, numbers: &[u32], top: u32) -> bool
+    requires { FitsRing ring.now.ring ring.now.ring.head ring.now.ring.cur }
+    ensures keeps { result ≡ true → (k : ℕ) → k < pushed_count_of ring.now
+        → KeepsBuffer hold.now top ring.now numbers.now (user_position ring.now k) }
+    ensures ring { IsRingSlots ring.now }
+{
+    let (first, count) = ring.pushed();
+    let size = ring.ring().size();
+    for k in 0..count {
+        if !keeps_buffer(hold, ring, numbers, (first + k) % size, top) {
+            return false;
+        }
+    }
+    true
+}
+
+/// Whether each pushed slot keeps the buffer in its place and passes the other checks: no two of
+/// them then name one buffer, and none of them is refused.
+fn all_keep(hold: &Hold, port: PortId, ring: &SlotRing, marks: &[bool]) -> bool
+    requires fits { FitsRing ring.now.ring ring.now.ring.head ring.now.ring.cur }
+    requires marks { length marks.now ≡ buffers_of hold.now + 2 }
+    ensures { result ≡ true → (named : List ℕ) → AreNamed hold.now named
+        → slots_refusal ring.now.side (buffers_of hold.now) named []
+        (pushed_seen hold.now port ring.now) ≡ None }
+{
+    match hold.numbers(port, ring.side()) {
+        Some(numbers) => each_keeps(hold, ring, numbers, marks.len() as u32 - 1),
+        None => false,
+    }
+}
+
 /// Clears the mark of an index.
 fn unmark(marks: &mut [bool], idx: u32)
     ensures { marks.new ≡ slice_set marks.old idx false }
@@ -183,6 +261,9 @@ pub fn check_ring(
     let positions = ring.ring();
     if let Err(fault) = positions.check(positions.head(), positions.cur()) {
         return Err(ring_sync_fault(fault));
+    }
+    if all_keep(hold, port, ring, marks) {
+        return Ok(());
     }
     let judged = judge_pushed(hold, port, ring, marks);
     clear_marks(ring, marks);

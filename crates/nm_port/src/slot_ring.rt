@@ -52,13 +52,21 @@ impl Model for SlotRing {
         × (r.ring.size ≤ deque_capacity r.slots) };
 }
 
-/// How many steps it is from one position of a ring to another, going round.
+/// How many steps it is from one position of a ring to another, which may be any number, going
+/// round.
+#[tactic(auto, using(nm_ring::proofs::Distances::distances))]
 fn dist(size: u32, from: u32, to: u32) -> u32
     requires size { 0 < size }
     requires from { from < size }
     ensures { result ≡ dist size from to }
 {
-    ((to as u64 + (size - from) as u64) % size as u64) as u32
+    if to < from {
+        size - (from - to)
+    } else if to < size {
+        to - from
+    } else {
+        ((to as u64 + (size - from) as u64) % size as u64) as u32
+    }
 }
 
 impl SlotRing {
@@ -124,10 +132,16 @@ impl SlotRing {
     }
 
     /// The position after one that may be any number.
+    #[tactic(auto, using(nm_ring::proofs::Distances::distances))]
     pub fn next(&self, at: u32) -> u32
         ensures { result ≡ step_on self.now.ring.size at 1 }
     {
-        ((at as u64 + 1) % self.ring.size() as u64) as u32
+        let size = self.ring.size();
+        if at < size - 1 {
+            at + 1
+        } else {
+            ((at as u64 + 1) % size as u64) as u32
+        }
     }
 
     /// The slot at a position, a blank one if it is no slot of the ring.

@@ -1,45 +1,77 @@
-ghost use Rattle.std.specs.Prelude.{◌≡◌, ◌≤◌, length, take, IfOk};
+ghost use Rattle.std.specs.Prelude.{◌≡◌, ◌≤◌, [], length, take};
 ghost use Rattle.std.specs.Borrow.{sem};
+ghost use Rattle.std.specs.Vec.{vec_capacity, vec_ptr};
+ghost use denote.RawPtr.{block_of};
 ghost use Rattle.nm_types.specs.Buffers.{cleared, cleared_but};
-ghost use Rattle.nm_region.specs.Buffers.{region_of};
-ghost use Rattle.nm_region.specs.Marked.{written_front, with_front, cleared_between};
+ghost use Rattle.nm_region.specs.Marked.{written_front, with_front, cleared_between, AreAllOrNone, place_of};
 
 use nm_types::BUFFER_BYTES;
-use std::alloc::{AllocError, Global};
-use std::boxed::BoxedSlice;
 use std::marker::Model;
+use std::mem::replace;
+use std_alloc::vec::Lodged;
+
+/// What a buffer is seen as while nothing was written there.
+const ZEROS: [u8; BUFFER_BYTES] = [0; BUFFER_BYTES];
 
 /// A buffer of a region: 2048 bytes that hold a frame or a part of one, as in netmap(4). It cannot
 /// be dropped: it goes back to its region. It may be sent to another thread.
 pub struct Buf {
-    /// Points to the region's block, by which regions are told apart. Nothing is read through it.
-    block: *const u8,
+    /// Lies in the region's block, by which regions are told apart. Empty until the first write:
+    /// then all bytes count as zero, and the memory is not touched.
+    bytes: Vec<u8, Lodged>,
     index: u32,
     /// All bytes from here on are zero.
     used: u16,
-    bytes: BoxedSlice<u8>,
 }
 
 impl Model for Buf {
     ghost use Rattle.std.specs.Prelude.{◌≡◌};
-    ghost use Rattle.std.specs.Box.{boxed_slice_items};
+    ghost use Rattle.std.specs.Vec.{vec_capacity, vec_ptr};
+    ghost use Rattle.nm_types.specs.Buffers.{cleared_but};
     ghost use Rattle.nm_region.specs.Buffers.{Buffer, region_of};
 
     ghost Value = { Buffer };
 
     ghost view = { λ b. record {
-      region = region_of b.block;
+      region = region_of (vec_ptr b.bytes);
       index = b.index;
-      bytes = boxed_slice_items b.bytes;
+      bytes = cleared_but b.bytes.items;
     } };
 
-    ghost use Rattle.nm_region.specs.Marked.{IsMarked};
+    ghost use Rattle.nm_region.specs.Marked.{IsKept};
 
-    ghost invariant = { λ b. IsMarked b.used (boxed_slice_items b.bytes) };
+    ghost invariant = { λ b.
+        IsKept b.used b.index b.bytes.items (vec_capacity b.bytes) (vec_ptr b.bytes) };
 }
 
-/// Nothing is read or written through the pointer to the block.
-unsafe impl Send for Buf {}
+/// Writes zeros to a part that has none of its bytes.
+fn zeroed(mut part: Vec<u8, Lodged>) -> Vec<u8, Lodged>
+    requires none { part.items ≡ [] }
+    requires room { vec_capacity part ≡ 2048 }
+    ensures bytes { result.items ≡ cleared }
+    ensures room { vec_capacity result ≡ 2048 }
+    ensures place { vec_ptr result ≡ vec_ptr part }
+{
+    for _ in 0..BUFFER_BYTES {
+        part.push_reserved(0);
+    }
+    part
+}
+
+/// Has all bytes of a part in memory.
+fn fill(part: &mut Vec<u8, Lodged>)
+    requires whole { AreAllOrNone part.old.items }
+    requires room { vec_capacity part.old ≡ 2048 }
+    ensures bytes { part.new.items ≡ cleared_but part.old.items }
+    ensures size { length part.new.items ≡ 2048 }
+    ensures room { vec_capacity part.new ≡ 2048 }
+    ensures place { vec_ptr part.new ≡ vec_ptr part.old }
+{
+    if part.is_empty() {
+        let empty = replace(part, Vec::new(Lodged));
+        *part = zeroed(empty);
+    }
+}
 
 /// Writes `bytes` over the first ones of `room`.
 fn put_front(room: &mut [u8], bytes: &[u8])
@@ -61,28 +93,36 @@ fn clear_between(bytes: &mut [u8], from: usize, to: usize)
 impl Buf {
     ghost use Rattle.nm_region.specs.Lending.{LendsBytes};
 
-    /// A buffer whose bytes are all zero.
-    pub(crate) fn new(alloc: Global, block: *const u8, index: u32) -> Result<Buf, AllocError>
-        ensures { IfOk result (λ buf.
-            buf ≡ record { region = region_of block; index = index; bytes = cleared }) }
+    /// The buffer of a part, whose bytes are all zero.
+    pub(crate) fn new(bytes: Vec<u8, Lodged>, index: u32) -> Buf
+        requires none { bytes.items ≡ [] }
+        requires room { vec_capacity bytes ≡ 2048 }
+        requires place { vec_ptr bytes ≡ place_of (block_of (vec_ptr bytes)) index }
+        ensures { result ≡ record {
+          region = block_of (vec_ptr bytes);
+          index = index;
+          bytes = cleared;
+        } }
     {
-        let bytes = vec![in alloc; 0; BUFFER_BYTES]?;
-        Ok(Buf {
-            block,
+        Buf {
+            bytes,
             index,
             used: 0,
-            bytes: bytes.into_boxed_slice(),
-        })
+        }
     }
 
-    /// Frees the buffer's memory.
-    pub(crate) fn free(self) {
+    /// The buffer's part and its index.
+    pub(crate) fn into_part(self) -> (Vec<u8, Lodged>, u32)
+        ensures room { vec_capacity result.0 ≡ 2048 }
+        ensures place { vec_ptr result.0 ≡ place_of self.region self.index }
+        ensures index { result.1 ≡ self.index }
+    {
         let Buf {
-            block: _,
-            index: _,
+            bytes,
+            index,
             used: _,
-            bytes: _,
         } = self;
+        (bytes, index)
     }
 
     /// The buffer's index: 2 or more.
@@ -97,7 +137,11 @@ impl Buf {
         ensures bytes { result.now ≡ self.now.bytes }
         ensures size { length result.now ≡ 2048 }
     {
-        self.bytes.as_slice()
+        if self.bytes.is_empty() {
+            &ZEROS
+        } else {
+            self.bytes.as_slice()
+        }
     }
 
     /// Lends the buffer's 2048 bytes for writing. The next `clear_behind` then takes all bytes for
@@ -108,6 +152,7 @@ impl Buf {
         ensures size { length result.now ≡ 2048 }
     {
         self.used = BUFFER_BYTES as u16;
+        fill(&mut self.bytes);
         self.bytes.as_mut_slice()
     }
 
@@ -117,6 +162,7 @@ impl Buf {
         requires { length bytes.now ≤ 2048 }
         ensures { self.new ≡ with_front bytes.now self.old }
     {
+        fill(&mut self.bytes);
         put_front(self.bytes.as_mut_slice(), bytes);
         self.used = self.used.max(bytes.len() as u16);
     }
@@ -129,6 +175,7 @@ impl Buf {
         ensures { self.new ≡ record self.old { bytes = cleared_but (take len self.old.bytes) } }
     {
         if len < self.used as usize {
+            fill(&mut self.bytes);
             clear_between(self.bytes.as_mut_slice(), len, self.used as usize);
             self.used = len as u16;
         }

@@ -1,6 +1,7 @@
 //! The buffers of a pool: 2048 bytes each, owned by whoever has them.
 #![tactic(auto)]
 
+mod block;
 mod buf;
 mod region;
 #[cfg(test)]

@@ -52,13 +52,19 @@ impl Model for Ring {
     } };
 }
 
+/// How many steps it is from one position to another, going round.
+#[tactic(auto, using(crate::proofs::Distances::distances))]
 fn dist(size: u32, from: u32, to: u32) -> u32
     requires size { IsRingSize size }
     requires from { from < size }
     requires to { to < size }
     ensures { result ≡ dist size from to }
 {
-    (to + size - from) % size
+    if to < from {
+        size - (from - to)
+    } else {
+        to - from
+    }
 }
 
 impl Ring {

@@ -1,5 +1,6 @@
 pub mod Places
 pub mod PipeNames
+pub mod SwitchNames
 pub mod PeerNames
 pub mod Lists
 pub mod Sizes

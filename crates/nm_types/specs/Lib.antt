@@ -6,6 +6,7 @@ pub mod Cuts
 pub mod Exchange
 pub mod Faults
 pub mod Frames
+pub mod Ids
 pub mod Limits
 pub mod Names
 pub mod Openings

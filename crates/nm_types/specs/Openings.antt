@@ -45,8 +45,11 @@ finds_switches_full names name =
 abbrev pub finds_ports_full : List (List ℕ) → List ℕ → Bool
 finds_ports_full names name = nat_le (most_beside name) (count_by (is_beside name) names)
 
+abbrev pub is_same_name : List ℕ → List ℕ → Bool
+is_same_name name other = bytes_eq other name
+
 abbrev pub finds_name_taken : List (List ℕ) → List ℕ → Bool
-finds_name_taken names name = list_any (λ other. bytes_eq other name) names
+finds_name_taken names name = list_any (is_same_name name) names
 
 abbrev pub name_refusal : List (List ℕ) → List ℕ → Option OpenFault
 name_refusal names name =

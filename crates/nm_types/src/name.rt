@@ -171,11 +171,15 @@ impl Name {
     }
 
     /// What the name names.
-    #[tactic(auto, unfolding(crate::specs::Names::is_name))]
+    #[tactic(auto, unfolding(crate::specs::Names::is_name), using(crate::proofs::SwitchNames::switch_names))]
     pub fn kind(&self) -> Kind
         ensures { kind_of self.now ≡ Some result }
     {
-        match kind_of(self.as_bytes()) {
+        let text = self.as_bytes();
+        if text.starts_with(b"vale") {
+            return Kind::Vale;
+        }
+        match kind_of(text) {
             Some(kind) => kind,
             None => unreachable!(),
         }

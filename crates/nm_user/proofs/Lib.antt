@@ -2,6 +2,7 @@ pub mod Later
 pub mod After
 pub mod Plain
 pub mod Written
+pub mod CopiesPut
 pub mod Watched
 pub mod Opened
 pub mod Passing

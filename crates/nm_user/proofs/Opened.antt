@@ -39,7 +39,7 @@ use Rattle.vale_own.proofs.SideKept.{OpensWith, opens-with, ids-older}
 use Rattle.vale_own.proofs.SideMoves.{one_if}
 use Rattle.vale_own.proofs.SideOpens.{opened-allowed}
 use Rattle.vale_own.proofs.Sounds.{sound-of}
-use Rattle.vale_book.specs.declared.opening.Opened.{Opened as OpenedPort}
+use Rattle.vale_steps.specs.declared.opening.Opened.{Opened as OpenedPort}
 use Rattle.vale_fabric.specs.Fabrics.{Knowing, Answers, before_in, earlier, entry_by}
 use Rattle.vale_fabric.specs.Ports.{Hands, OpensNot as FabricOpensNot}
 use Rattle.nm_user.specs.Sessions.{SessionState, IsThere, standing_seen, own_in}

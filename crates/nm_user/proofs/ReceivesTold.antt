@@ -25,7 +25,7 @@ use Rattle.vale_entry.specs.OwnCalls.{rx_call}
 use Rattle.vale_entry.specs.Legal.{standing_of}
 use Rattle.vale_parts.specs.Batches.{dests_wanted}
 use Rattle.vale_book.specs.BookView.{AreOf}
-use Rattle.vale_book.specs.declared.reading.Synced.{Synced as AsSynced}
+use Rattle.vale_steps.specs.declared.reading.Synced.{Synced as AsSynced}
 use Rattle.vale_book.specs.Offering.{OffersState}
 use Rattle.vale_book.specs.Reading.{IsOffered}
 use Rattle.vale_fabric.specs.declared.settling.Shares.{Shares}

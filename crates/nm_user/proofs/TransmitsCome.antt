@@ -28,7 +28,7 @@ use Rattle.vale_own.proofs.Arriving.{arrivals-apart, buffers-come-new}
 use Rattle.vale_own.proofs.Buffers.{blank-buffers}
 use Rattle.vale_own.proofs.SideArrivals.{arrivals-many}
 use Rattle.vale_parts.specs.Batches.{dests_wanted}
-use Rattle.vale_book.specs.declared.putting.Put.{Put as GivenPut}
+use Rattle.vale_steps.specs.declared.putting.Put.{Put as GivenPut}
 use Rattle.vale_book.specs.Putting.{items_of, IsPut}
 use Rattle.vale_fabric.specs.Fabrics.{Knowing, Answers, before_in, earlier, entry_by, seen_in}
 use Rattle.nm_user.specs.Sessions.{SessionState, IsThere}

@@ -48,7 +48,7 @@ use Rattle.vale_own.proofs.SideAsking.{once-side}
 use Rattle.vale_own.proofs.SideEntries.{transmits-of}
 use Rattle.vale_batch.specs.Wants.{Wanted}
 use Rattle.vale_parts.specs.Batches.{dests_wanted}
-use Rattle.vale_book.specs.declared.putting.Put.{Put as GivenPut}
+use Rattle.vale_steps.specs.declared.putting.Put.{Put as GivenPut}
 use Rattle.vale_book.specs.Putting.{item_of, items_of, IsPut}
 use Rattle.vale_book.specs.Recorded.{standing}
 use Rattle.vale_fabric.specs.declared.settling.Shares.{Shares}

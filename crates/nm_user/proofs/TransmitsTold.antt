@@ -23,7 +23,7 @@ use Rattle.vale_entry.specs.OwnCalls.{tx_call}
 use Rattle.vale_parts.specs.Batches.{dests_wanted}
 use Rattle.vale_book.specs.declared.fault.PutFault.{PutFault}
 use Rattle.vale_book.specs.declared.fault.PutFault.TheVariants.{PeerGone, RecordFull, NoMemory}
-use Rattle.vale_book.specs.declared.putting.Put.{Put as GivenPut}
+use Rattle.vale_steps.specs.declared.putting.Put.{Put as GivenPut}
 use Rattle.vale_book.specs.Putting.{items_of, IsPut as IsPutOfBook}
 use Rattle.vale_book.specs.Recorded.{standing}
 use Rattle.vale_fabric.specs.declared.settling.Shares.{Shares}

@@ -7,7 +7,7 @@ use Rattle.nm_region.specs.Buffers.{indices_of}
 use Rattle.nm_own.specs.NewPorts.{NewPortState, HasRoomFor}
 use Rattle.nm_own.specs.Opening.{IsNew}
 use Rattle.nm_port.specs.Regions.{SideState}
-use Rattle.vale_book.specs.declared.opening.Opened.{Opened}
+use Rattle.vale_steps.specs.declared.opening.Opened.{Opened}
 
 -- all memory for such a port is there; for sizes that its name does not allow none is wanted
 abbrev pub IsReady : OwnState → List ℕ → ℕ → ℕ → ℕ → Option NewPortState → Type 0

@@ -10,7 +10,7 @@ use Rattle.vale_line.specs.Gots.{frames_in, part_in, IsSingle}
 use Rattle.vale_entry.specs.declared.entry.Ask.{Ask}
 use Rattle.vale_entry.specs.declared.entry.Reply.TheVariants.{Gave}
 use Rattle.vale_parts.specs.Batches.{dests_wanted}
-use Rattle.vale_book.specs.declared.reading.Synced.{Synced}
+use Rattle.vale_steps.specs.declared.reading.Synced.{Synced}
 use Rattle.vale_book.specs.Reading.{IsGiven, IsOffered}
 use Rattle.vale_fabric.specs.declared.kept.Fixed.{Fixed}
 use Rattle.vale_fabric.specs.Fabrics.{Knowing, Answers, seen_in, before_in}

@@ -49,6 +49,7 @@
 #![tactic(auto)]
 
 mod acts;
+mod copies;
 pub mod laws;
 mod leaving;
 mod opening;

@@ -26,6 +26,7 @@ use nm_own::OwnSide;
 use nm_region::Buf;
 use nm_types::{PortId, Side, StepFault, SyncFault};
 use std::alloc::{AllocError, Global};
+use std::collections::VecDeque;
 use std::sync::Wait;
 use vale_book::Synced;
 use vale_fabric::{Fabric, Frames, Pass};
@@ -149,18 +150,18 @@ fn publish(own: &mut OwnSide, port: PortId, got: Got)
 }
 
 /// Publishes frames in their order.
-fn publish_all(own: &mut OwnSide, port: PortId, mut gots: Vec<Got>)
+fn publish_all(own: &mut OwnSide, port: PortId, gots: Vec<Got>)
     requires come { CanCome port.0 own.old.own (arrivals_in gots.items) }
     ensures own { own.new.own
         ≡ fold (own_with_arrival port.0) own.old.own (arrivals_in gots.items) }
     ensures region { (region : ℕ) → AllOf region own.old → AreOf region (buffers_of gots.items)
         → AllOf region own.new }
 {
-    gots.reverse();
-    while let Some(got) = gots.pop() {
+    let mut rest = VecDeque::from_vec(gots);
+    while let Some(got) = rest.pop_front() {
         publish(own, port, got);
     }
-    gots.destroy_empty();
+    rest.destroy_empty();
 }
 
 /// Puts an own side back that was away.

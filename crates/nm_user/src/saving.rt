@@ -1,5 +1,6 @@
 //! The frames that a receive sync brought, read from the ring.
-ghost use Rattle.std.specs.Prelude.{◌≡◌, map, take, IfOk, option_and_then};
+ghost use Rattle.std.specs.Prelude.{◌≡◌, ◌<◌, ◌^◌, length, map, take, IfOk, IfSome};
+ghost use Rattle.std.specs.Prelude.{option_and_then};
 ghost use Rattle.std.specs.Option.{option_copied};
 ghost use Rattle.nm_types.specs.declared.id.Side.TheVariants.{Rx};
 ghost use Rattle.nm_types.specs.OwnPorts.{ring_at};
@@ -21,7 +22,8 @@ fn before_tail(ring: &Ring, back: u32) -> u32
 
 /// The first of these bytes, as many as a slot's length says.
 fn frame_in<'a>(bytes: &'a [u8], slot: &Slot) -> &'a [u8]
-    ensures { result.now ≡ take slot.now.len bytes.now }
+    ensures bytes { result.now ≡ take slot.now.len bytes.now }
+    ensures size { length result.now < 2 ^ 16 }
 {
     &bytes[..bytes.len().min(slot.len as usize)]
 }
@@ -40,7 +42,8 @@ impl<'f> Session<'f> {
 
     /// The frame of a slot, if the user may name the buffer that the slot names.
     fn frame_of_slot(&self, slot: &Slot) -> Option<&[u8]>
-        ensures { option_copied result ≡ frame_of_slot self.now.own slot.now }
+        ensures frame { option_copied result ≡ frame_of_slot self.now.own slot.now }
+        ensures size { IfSome result (λ bytes. length bytes.now < 2 ^ 16) }
     {
         match self.bytes(slot.buf_idx) {
             Some(bytes) => Some(frame_in(bytes, slot)),
@@ -50,9 +53,10 @@ impl<'f> Session<'f> {
 
     /// The frame in the slot so many steps before the tail of a port's receive ring: 1 is the
     /// last that came. None if that slot is not the user's, or names a buffer that the user may
-    /// not name.
+    /// not name. A frame has no more bytes than a slot's length can say.
     pub fn frame_before_tail(&self, port: PortId, back: u32) -> Option<&[u8]>
-        ensures { option_copied result ≡ frame_before_tail self.now.own port.0 back }
+        ensures frame { option_copied result ≡ frame_before_tail self.now.own port.0 back }
+        ensures size { IfSome result (λ bytes. length bytes.now < 2 ^ 16) }
     {
         match self.slot_before_tail(port, back) {
             Some(slot) => self.frame_of_slot(slot),

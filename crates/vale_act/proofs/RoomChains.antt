@@ -20,7 +20,7 @@ use Rattle.vale_own.proofs.SideOpens.{opened-sizes}
 use Rattle.vale_own.proofs.SideEntries.{transmits-of, receives-of, finishes-of}
 use Rattle.vale_replay.specs.Tasks.{Task, Arrive, OpenPort, PutFrame, SendFrames, TakeFrames, ChangeOwn, SaveFrames, WatchPort, ReadCounts, ShutPort, FinishPort, Depart, EndLine}
 use Rattle.vale_replay.specs.Machine.{Machine, answered, call_of_tasks, done_call, enter_call, grant_call, is_settling, next_call, next_offer, owed_lot, resting, settling_call, with_tasks}
-use Rattle.vale_replay.specs.Replay.{entry_by}
+use Rattle.vale_replay.specs.Replay.{entry_of}
 use Rattle.vale_replay.proofs.Turns.{some-same}
 use Rattle.vale_player.proofs.Turns.{own-on}
 use Rattle.vale_act.proofs.RoomViews.{AreBelow, below-later, views}
@@ -118,18 +118,18 @@ module _ (pool : ℕ) (past : List Entry) (k number : ℕ) (user : Machine) (bel
       by None e = of-head user.tasks ask e
       by (Some x) e = by-offer (owed_lot (standing_of pool past).world x.0) (next_offer (standing_of pool past).world x.0) e
 
-  pub made-below : (ask : Ask) → ArePlain (answered number (entry_by ask made) (arrivals_of (standing_of pool past) (kept_ask ask) made.reply) user).tasks
+  pub made-below : (ask : Ask) → ArePlain (answered number (entry_of ask made) (arrivals_of (standing_of pool past) (kept_ask ask) made.reply) user).tasks
       → next_call (standing_of pool past).world user ≡ Some ask → step (standing_of pool past) ask ≡ Some made
-      → AreBelow number (views (resting (answered number (entry_by ask made) (arrivals_of (standing_of pool past) (kept_ask ask) made.reply) user)).own)
+      → AreBelow number (views (resting (answered number (entry_of ask made) (arrivals_of (standing_of pool past) (kept_ask ask) made.reply) user)).own)
   made-below ask plain called is =
       (rests next next.tasks plain).below number (by (is_settling (kept_ask ask)))
     where
       next : Machine
-      next = answered number (entry_by ask made) (arrivals_of (standing_of pool past) (kept_ask ask) made.reply) user
+      next = answered number (entry_of ask made) (arrivals_of (standing_of pool past) (kept_ask ask) made.reply) user
 
       worked : Machine
-      worked = with_tasks number (entry_by ask made) (record user { own = own_next ask }) user.tasks
+      worked = with_tasks number (entry_of ask made) (record user { own = own_next ask }) user.tasks
 
       by : (b : Bool) → AreBelow number (views (cond b user worked).own)
       by true = still
-      by false = subst (λ (o : OwnState). AreBelow number (views o)) (sym (own-on number (entry_by ask made) (record user { own = own_next ask }) user.tasks)) (of-call ask called is)
+      by false = subst (λ (o : OwnState). AreBelow number (views o)) (sym (own-on number (entry_of ask made) (record user { own = own_next ask }) user.tasks)) (of-call ask called is)

@@ -11,7 +11,7 @@ use Rattle.vale_book.specs.Recorded.{HasRoom, room_by}
 use Rattle.vale_script.specs.Script.{Program}
 use Rattle.vale_replay.specs.Machine.{Machine, new_machine, is_settling}
 use Rattle.vale_replay.specs.Tasks.{Captures}
-use Rattle.vale_replay.specs.Replay.{ScriptUnit, Reaches, entry_by, units_of, user_count, users_of}
+use Rattle.vale_replay.specs.Replay.{ScriptUnit, Reaches, entry_of, units_of, user_count, users_of}
 use Rattle.vale_replay.proofs.Legal.{played-legal}
 use Rattle.vale_replay.proofs.Joins.{units-apart, take-apart, apart-at}
 use Rattle.vale_act.specs.Completeness.{frames_left, calls_left, frames_of, calls_of, taken_by, call_of, taken_at, call_at, frames_of_unit, calls_of_unit, frames_of_units, calls_of_units, IsCosted, FewTasksFit}
@@ -135,7 +135,7 @@ few-fit program captures region limits h user call fit comes = by (step (standin
     by (Some made) is =
         let n = length h + 1 in
         let after-below = made-below program.pool h (length h) n comes.now up.below (omega arith) made call
-        (plain-answered n (entry_by call made) (own_after n (entry_by call made) (arrivals_of (standing_of program.pool h) (kept_ask call) made.reply) comes.now.own) comes.now (is_settling (kept_ask call)) up.plain)
+        (plain-answered n (entry_of call made) (own_after n (entry_of call made) (arrivals_of (standing_of program.pool h) (kept_ask call) made.reply) comes.now.own) comes.now (is_settling (kept_ask call)) up.plain)
         comes.called is in
         let turn = made-spends program.pool h legal n comes.now up.below.tidy made call up.plain comes.called is after-below.tidy in
         let f = turn.frames in

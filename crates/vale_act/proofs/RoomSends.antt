@@ -1,5 +1,5 @@
 -- A Send is offered at few ports: those of its switch, and its monitor's.
-use Rattle.std.proofs.Common.{ℕ, suc, ◌+◌, ◌*◌, ◌≤◌, ◌≡◌, Bool, true, false, cond, not, ◌&&◌, ◌==◌, List, [], ◌∷◌, map, length, Option, Some, None, refl, sym, ◌∙◌, ap, subst, arith}
+use Rattle.std.proofs.Common.{ℕ, suc, ◌+◌, ◌*◌, ◌≤◌, ◌≡◌, Bool, true, false, cond, not, ◌&&◌, ◌||◌, ◌==◌, List, [], ◌∷◌, map, length, Option, Some, None, refl, sym, ◌∙◌, ap, subst, arith}
 use Rattle.std.specs.Prelude.{count_by, bytes_eq, find}
 use Rattle.std.specs.List.{cons_option, AllByRecursion as Each}
 use Rattle.std.proofs.lemmas.Bool.{and_parts, eqb-true, eqb-false}
@@ -9,12 +9,10 @@ use Rattle.std.proofs.lemmas.Slice.Eq.{bytes_eq-Decides}
 use Rattle.nm_types.specs.Frames.{Frame}
 use Rattle.nm_types.specs.Names.{switch_of}
 use Rattle.vale_entry.specs.declared.entry.Entry.{Entry}
-use Rattle.vale_entry.specs.declared.entry.Destination.{Destination}
-use Rattle.vale_entry.specs.declared.entry.Destination.TheVariants.{Nobody, Only, Others}
 use Rattle.vale_entry.specs.World.{Port, Pair, is_open, open_port, transmit_monitor}
 use Rattle.vale_entry.specs.Opening.{is_on_switch}
 use Rattle.vale_entry.specs.Learning.{is_short, is_group, is_learnable, destination_address, source_address, learned, port_of_pair, port_of_address, is_in_bucket, bucket_of}
-use Rattle.vale_entry.specs.Lookup.{Named, named_frames, destination_of, destination_found, is_named}
+use Rattle.vale_entry.specs.Lookup.{Destination, These, Others, Named, named_frames, destination_of, destination_found, is_named}
 use Rattle.vale_entry.specs.Offers.{offers_of, offer_to, dest_of, dests_of, wanted_frames, is_monitor}
 use Rattle.vale_entry.specs.Laws.{Rise, id_of_port, IsPairOf}
 use Rattle.vale_entry.specs.Legal.{Outcome, standing_of, world_of, send_step, can_send, named_of, offers_of_send, made_at}
@@ -40,7 +38,7 @@ find-each {X} P test (y ∷ ys) x all e = by (test y) refl e (find-each P test y
 abbrev OnSwitch : Port → Destination → Port → Type 0
 OnSwitch sender destination p = is_named sender destination p ≡ true → is_on_switch (switch_of sender.name) p ≡ true
 
-nobody-on : (sender : Port) (ports : List Port) → Each (OnSwitch sender Nobody) ports
+nobody-on : (sender : Port) (ports : List Port) → Each (OnSwitch sender (These [])) ports
 nobody-on sender [] = tt
 nobody-on sender (p ∷ ports) = ((λ e. absurd cc), nobody-on sender ports)
 
@@ -57,9 +55,13 @@ others-on sender (p ∷ ports) = (
     and_second false y z e = absurd cc
 
 only-on : (sender : Port) (id : ℕ) (ports : List Port) → Each (λ (p : Port). p.id ≡ id → is_on_switch (switch_of sender.name) p ≡ true) ports
-    → Each (OnSwitch sender (Only (record { 0 = id }))) ports
+    → Each (OnSwitch sender (These (id ∷ []))) ports
 only-on sender id [] all = tt
-only-on sender id (p ∷ ports) all = ((λ e. all.0 (eqb-true p.id id e)), only-on sender id ports all.1)
+only-on sender id (p ∷ ports) all = ((λ e. all.0 (eqb-true p.id id (only_one (p.id == id) e))), only-on sender id ports all.1)
+  where
+    only_one : (b : Bool) → (b || false) ≡ true → b ≡ true
+    only_one true e = refl
+    only_one false e = absurd cc
 
 pair-on : (sender : Port) (ports : List Port) (address : List ℕ) (found : Option Pair)
     → ((pair : Pair) → found ≡ Some pair → IsOfSwitch sender ports pair × (pair.switch ≡ switch_of sender.name))
@@ -67,7 +69,7 @@ pair-on : (sender : Port) (ports : List Port) (address : List ℕ) (found : Opti
 pair-on sender ports address None of = others-on sender ports
 pair-on sender ports address (Some pair) of = by_open (bytes_eq pair.address address && is_open ports pair.port)
   where
-    by_own : (b : Bool) → (pair.port == sender.id) ≡ b → Each (OnSwitch sender (cond b Nobody (Only (record { 0 = pair.port })))) ports
+    by_own : (b : Bool) → (pair.port == sender.id) ≡ b → Each (OnSwitch sender (cond b (These []) (These (pair.port ∷ [])))) ports
     by_own true is = nobody-on sender ports
     by_own false is =
         let both = of pair refl in
@@ -100,7 +102,7 @@ destination-on sender ports pairs frame all = by_short (is_short frame)
     by_group true = others-on sender ports
     by_group false = address-on sender ports pairs (destination_address frame) all
 
-    by_short : (b : Bool) → Each (OnSwitch sender (cond b Nobody (cond (is_group (destination_address frame)) Others (destination_found sender (port_of_address ports pairs (switch_of sender.name) (destination_address frame)))))) ports
+    by_short : (b : Bool) → Each (OnSwitch sender (cond b (These []) (cond (is_group (destination_address frame)) Others (destination_found sender (port_of_address ports pairs (switch_of sender.name) (destination_address frame)))))) ports
     by_short true = nobody-on sender ports
     by_short false = by_group (is_group (destination_address frame))
 

@@ -17,7 +17,7 @@ use Rattle.vale_own.specs.Side.{IsOfSide}
 use Rattle.vale_own.proofs.SideEntries.{transmits-of, receives-of, finishes-of}
 use Rattle.vale_replay.specs.Tasks.{Task, Arrive, OpenPort, PutFrame, SendFrames, TakeFrames, ChangeOwn, SaveFrames, WatchPort, ReadCounts, ShutPort, FinishPort, Depart, EndLine, lines_left}
 use Rattle.vale_replay.specs.Machine.{Machine, after_task, answered, at_rest, call_of_task, call_of_tasks, done_call, enter_call, grant_call, has_room_at, is_peer_gone, is_reset, is_settling, next_call, next_offer, owed_lot, resting, settling_call, with_tasks}
-use Rattle.vale_replay.specs.Replay.{TakesTurn, entry_by}
+use Rattle.vale_replay.specs.Replay.{TakesTurn, entry_of}
 use Rattle.vale_replay.proofs.Turns.{some-same}
 use Rattle.vale_act.specs.Completeness.{waiting, frames_of_task, calls_of_task, frames_left, calls_left, frames_taken, calls_of_ask, Spends, TurnsSpend}
 use Rattle.vale_act.proofs.RoomViews.{AreTidy, views, tidy-of}
@@ -53,7 +53,7 @@ module _ (pool : ℕ) (past : List Entry) (legal : IsLegal pool past) (number : 
   own_next a = own_by number (kept_ask a) made.reply (arrivals_of s (kept_ask a) made.reply) user.own
 
   abbrev worked : List Task → Ask → Machine
-  worked tasks a = with_tasks number (entry_by a made) (record user { own = own_next a }) tasks
+  worked tasks a = with_tasks number (entry_of a made) (record user { own = own_next a }) tasks
 
   abbrev next_at : List Task → Ask → Machine
   next_at tasks a = cond (is_settling (kept_ask a)) user (worked tasks a)
@@ -203,8 +203,8 @@ module _ (pool : ℕ) (past : List Entry) (legal : IsLegal pool past) (number : 
   grant-turn offer plain = finish user user.tasks (grant_call offer) plain (omega arith) (omega arith) (omega arith)
 
   pub made-spends : (ask : Ask) → ArePlain user.tasks → next_call s.world user ≡ Some ask → step s ask ≡ Some made
-      → AreTidy (views (resting (answered number (entry_by ask made) (arrivals_of s (kept_ask ask) made.reply) user)).own)
-      → Spends user (resting (answered number (entry_by ask made) (arrivals_of s (kept_ask ask) made.reply) user)) (kept_ask ask) made.reply
+      → AreTidy (views (resting (answered number (entry_of ask made) (arrivals_of s (kept_ask ask) made.reply) user)).own)
+      → Spends user (resting (answered number (entry_of ask made) (arrivals_of s (kept_ask ask) made.reply) user)) (kept_ask ask) made.reply
   made-spends ask plain called is tidy =
       let goal = by user.session called tidy in
       record { frames = goal.frames; calls = goal.calls; plain = goal.plain }
@@ -220,10 +220,10 @@ module _ (pool : ℕ) (past : List Entry) (legal : IsLegal pool past) (number : 
 
 -- ---- turns
 
-pub outcome-of : (ask : Ask) (entry : Entry) (made : Option Outcome) → option_map (entry_by ask) made ≡ Some entry
-    → (out : Outcome) × (made ≡ Some out) × (entry_by ask out ≡ entry)
+pub outcome-of : (ask : Ask) (entry : Entry) (made : Option Outcome) → option_map (entry_of ask) made ≡ Some entry
+    → (out : Outcome) × (made ≡ Some out) × (entry_of ask out ≡ entry)
 outcome-of ask entry None e = absurd cc
-outcome-of ask entry (Some out) e = (out, refl, some-same (entry_by ask out) entry e)
+outcome-of ask entry (Some out) e = (out, refl, some-same (entry_of ask out) entry e)
 
 abbrev SpendsAt : ℕ → List Entry → ℕ → Machine → Machine → Entry → Type 0
 SpendsAt pool past number user after e =
@@ -234,10 +234,10 @@ pub tidy-spends : (pool : ℕ) (h : List Entry) (user : Machine) (n : ℕ) (afte
 tidy-spends pool h user n after legal tidy tidy-after plain turn =
     subst (SpendsAt pool (take (n - 1) h) n user after) out.2 here turn.goes_on
   where
-    out : (o : Outcome) × (step (standing_of pool (take (n - 1) h)) turn.ask ≡ Some o) × (entry_by turn.ask o ≡ turn.entry)
+    out : (o : Outcome) × (step (standing_of pool (take (n - 1) h)) turn.ask ≡ Some o) × (entry_of turn.ask o ≡ turn.entry)
     out = outcome-of turn.ask turn.entry (step (standing_of pool (take (n - 1) h)) turn.ask) turn.made
 
-    here : SpendsAt pool (take (n - 1) h) n user after (entry_by turn.ask out.0)
+    here : SpendsAt pool (take (n - 1) h) n user after (entry_of turn.ask out.0)
     here goes =
         subst (λ (m : Machine). Spends user m (kept_ask turn.ask) out.0.reply) (sym goes)
         (made-spends pool (take (n - 1) h) legal n user tidy out.0 turn.ask plain turn.asked out.1

@@ -1,23 +1,23 @@
 -- A switch has few ports: an opening that would make them more is refused, and no other entry adds a
 -- port or names one anew.
-use Rattle.std.proofs.Common.{ℕ, ◌+◌, ◌≤◌, ◌≡◌, Bool, true, false, cond, not, ◌&&◌, ◌||◌, ◌==◌, nat_le, List, [], ◌∷◌, ◌++◌, map, filter, Option, Some, None, refl, ◌∙◌, ap, arith, length}
+use Rattle.std.proofs.Common.{ℕ, ◌+◌, ◌≤◌, ◌≡◌, Bool, true, false, cond, not, ◌&&◌, ◌==◌, nat_le, List, [], ◌∷◌, ◌++◌, map, filter, Option, Some, None, refl, sym, ◌∙◌, ap, arith, length}
 use Rattle.std.specs.Prelude.{count_by, bytes_eq}
-use Rattle.std.specs.List.{list_any}
 use Rattle.std.proofs.lemmas.Bool.{and_parts, leb-false}
 use Rattle.std.proofs.lemmas.List.Sums.{sum_by-cons, sum_by-append}
 use Rattle.std.proofs.lemmas.Slice.Eq.{bytes_eq-Decides}
 use Rattle.nm_types.specs.declared.fault.OpenFault.{OpenFault}
 use Rattle.nm_types.specs.declared.fault.OpenFault.TheVariants.{BadSize, SwitchesFull, PortsFull, NameTaken}
 use Rattle.nm_types.specs.Names.{switch_of, is_switch_port_name, is_pipe_name, is_monitor_name}
-use Rattle.nm_types.specs.Limits.{most_pipe_ends, most_monitors}
+use Rattle.nm_types.specs.Openings.{is_on_switch as is_name_on, finds_switches_full, finds_ports_full, finds_name_taken, open_refusal as names_refusal}
 use Rattle.vale_entry.specs.declared.entry.Entry.{Entry}
 use Rattle.vale_entry.specs.World.{World, Port, changed_if, changed_at, free_count}
-use Rattle.vale_entry.specs.Opening.{is_on_switch, opened_port, are_sizes, name_refusal, refusal_or_room, open_refusal, finds_ports_full, finds_switches_full, has_pipe_name, has_monitor_name, has_name}
+use Rattle.vale_entry.specs.Opening.{is_on_switch, name_of_port, names_of, opened_port, are_sizes, refusal_or_room, open_refusal}
 use Rattle.vale_entry.specs.Grant.{port_after_grant, granted_frames}
 use Rattle.vale_entry.specs.Delivery.{port_after_done, port_after_sync}
 use Rattle.vale_entry.specs.Closing.{shut}
 use Rattle.vale_entry.specs.Pipe.{frames_of_items, port_after_put}
 use Rattle.vale_entry.specs.Legal.{Standing, after, fresh_standing}
+use Rattle.vale_entry.proofs.ListLaws.{sum-map_same}
 use Rattle.vale_entry.proofs.Steps.{standing-by}
 use Rattle.vale_entry.proofs.Follows.{EachKind, after-by}
 use Rattle.vale_act.specs.Completeness.{SwitchesHaveFewPorts}
@@ -87,13 +87,12 @@ named-no true true true taken e = absurd cc
 named-no true false true taken e = absurd cc
 named-no false switches true taken e = absurd cc
 
-or-first : (x y : Bool) → (x || y) ≡ false → x ≡ false
-or-first false y e = refl
-or-first true y e = absurd cc
-
-room-on : (switch_port full : Bool) (rest : Bool) → ((switch_port && full) || rest) ≡ false → switch_port ≡ true → full ≡ false
-room-on true full rest e named = or-first full rest e
-room-on false full rest e named = absurd cc
+-- the names beside one of a switch's ports are those on its switch
+room-on : (ports : List Port) (name : List ℕ) → is_switch_port_name name ≡ true → finds_ports_full (names_of ports) name ≡ nat_le 16 (on (switch_of name) ports)
+room-on ports name named =
+    let names = names_of ports in
+    ap (λ (b : Bool). nat_le (cond b 16 (cond (is_pipe_name name) 32 32)) (count_by (λ other. cond b (is_name_on (switch_of name) other) (cond (is_pipe_name name) (is_pipe_name other) (is_monitor_name other))) names)) named
+    ∙ ap (nat_le 16) (sum-map_same (λ (other : List ℕ). one_if (is_name_on (switch_of name) other)) (λ (p : Port). one_if (is_on_switch (switch_of name) p)) name_of_port (λ p. refl) ports)
 
 few-opened : (w : World) (id session : ℕ) (name : List ℕ) (tx rx extra : ℕ) → open_refusal w name tx rx extra ≡ None → Few w.ports
     → Few (w.ports ++ opened_port id session name tx rx extra ∷ [])
@@ -106,9 +105,9 @@ few-opened w id session name tx rx extra none few switch = by_test (is_on_switch
     all = sum_by-append (λ (q : Port). one_if (is_on_switch switch q)) w.ports (new ∷ [])
         ∙ ap (λ (n : ℕ). on switch w.ports + n) (on-cons switch new [])
 
-    ports-full : finds_ports_full w.ports name ≡ false
-    ports-full = named-no (are_sizes name tx rx extra) (finds_switches_full w.ports name) (finds_ports_full w.ports name) (list_any (has_name name) w.ports)
-        (refused-no (name_refusal w.ports name tx rx extra) (tx + rx + extra) (free_count w) none)
+    ports-full : finds_ports_full (names_of w.ports) name ≡ false
+    ports-full = named-no (are_sizes name tx rx extra) (finds_switches_full (names_of w.ports) name) (finds_ports_full (names_of w.ports) name) (finds_name_taken (names_of w.ports) name)
+        (refused-no (names_refusal (names_of w.ports) name tx rx extra) (tx + rx + extra) (free_count w) none)
 
     by_test : (b : Bool) → is_on_switch switch new ≡ b → on switch (w.ports ++ new ∷ []) ≤ 16
     by_test false is =
@@ -118,9 +117,7 @@ few-opened w id session name tx rx extra none few switch = by_test (is_on_switch
     by_test true is =
         let parts = and_parts (is_switch_port_name name) (bytes_eq (switch_of name) switch) is in
         let same : switch_of name ≡ switch = (bytes_eq-Decides (switch_of name) switch).0 parts.1 in
-        let room : nat_le 16 (on (switch_of name) w.ports) ≡ false =
-        room-on (is_switch_port_name name) (nat_le 16 (on (switch_of name) w.ports))
-        ((is_pipe_name name && nat_le most_pipe_ends (count_by has_pipe_name w.ports)) || (is_monitor_name name && nat_le most_monitors (count_by has_monitor_name w.ports))) ports-full parts.0 in
+        let room : nat_le 16 (on (switch_of name) w.ports) ≡ false = sym (room-on w.ports name parts.0) ∙ ports-full in
         let less = leb-false 16 (on (switch_of name) w.ports) room in
         let at : on (switch_of name) w.ports ≡ on switch w.ports = ap (λ (s : List ℕ). on s w.ports) same in
         let here : one_if (is_on_switch switch new) ≡ 1 = ap (λ (b : Bool). one_if b) is in

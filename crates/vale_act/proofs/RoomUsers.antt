@@ -13,7 +13,7 @@ use Rattle.vale_entry.specs.Legal.{Outcome, IsLegal, standing_of, step, kept_ask
 use Rattle.vale_own.proofs.OwnKept.{legal-split}
 use Rattle.vale_replay.specs.Tasks.{Task, Arrive, OpenPort, PutFrame, SendFrames, TakeFrames, ChangeOwn, SaveFrames, WatchPort, ReadCounts, ShutPort, FinishPort, Depart, EndLine, lines_left}
 use Rattle.vale_replay.specs.Machine.{Machine, answered, has_room_at, is_peer_gone, is_reset, is_settling, resting, with_tasks}
-use Rattle.vale_replay.specs.Replay.{TakesTurn, TakesTurns, entry_by}
+use Rattle.vale_replay.specs.Replay.{TakesTurn, TakesTurns, entry_of}
 use Rattle.vale_act.specs.Completeness.{taken_by, call_of, taken_at, call_at, IsOpenedBy, SpendsAll, UsersSpend}
 use Rattle.vale_act.proofs.RoomViews.{View, AreBelow, below-later, seen, views, tidy-of}
 use Rattle.vale_act.proofs.RoomRests.{ArePlain, lines-left}
@@ -54,14 +54,14 @@ turn-below : (pool : ℕ) (h : List Entry) (k : ℕ) (user : Machine) (n : ℕ) 
 turn-below pool h k user n after below above plain turn =
     subst (BelowAt pool (take (n - 1) h) n user after) out.2 here turn.goes_on
   where
-    out : (o : Outcome) × (step (standing_of pool (take (n - 1) h)) turn.ask ≡ Some o) × (entry_by turn.ask o ≡ turn.entry)
+    out : (o : Outcome) × (step (standing_of pool (take (n - 1) h)) turn.ask ≡ Some o) × (entry_of turn.ask o ≡ turn.entry)
     out = outcome-of turn.ask turn.entry (step (standing_of pool (take (n - 1) h)) turn.ask) turn.made
 
-    here : BelowAt pool (take (n - 1) h) n user after (entry_by turn.ask out.0)
+    here : BelowAt pool (take (n - 1) h) n user after (entry_of turn.ask out.0)
     here goes =
         subst (λ (m : Machine). AreBelow n (views m.own)) (sym goes)
         (made-below pool (take (n - 1) h) k n user below above out.0 turn.ask
-        (plain-answered n (entry_by turn.ask out.0) (own_after n (entry_by turn.ask out.0) (arrivals_of (standing_of pool (take (n - 1) h)) (kept_ask turn.ask) out.0.reply) user.own) user (is_settling (kept_ask turn.ask)) plain)
+        (plain-answered n (entry_of turn.ask out.0) (own_after n (entry_of turn.ask out.0) (arrivals_of (standing_of pool (take (n - 1) h)) (kept_ask turn.ask) out.0.reply) user.own) user (is_settling (kept_ask turn.ask)) plain)
         turn.asked out.1)
 
 pub record Chain (h : List Entry) (user : Machine) (ns : List ℕ) (after : Machine) (high : ℕ) : Type 0 where

@@ -11,7 +11,22 @@ use Rattle.vale_batch.specs.declared.looking.Looked.{Looked}
 use Rattle.vale_batch.specs.declared.alone.Placed.{Placed}
 use Rattle.vale_batch.specs.declared.alone.Own.{Own}
 use Rattle.vale_batch.specs.declared.lists.Dest.{Dest}
-use Rattle.vale_batch.specs.Wants.{Wanted, Owned, owned, own_at, picked, placed_at, merged, merged_into, goes_alone, is_flooded, is_flooded_at, is_only, is_other, is_for, goes_to, places_from, sizes_for, place_of, slots_of, want_at, want_seen, wants_of, wants_some, flooded_to, dest_of, IsFew}
+use Rattle.vale_batch.specs.Wants.{Wanted, Owned, owned, own_at, picked, placed_at, merged, merged_into, goes_alone, is_flooded, is_flooded_at, is_only, is_other, is_for, goes_to, places_from, sizes_for, place_of, slots_of, want_of, want_at, want_seen, wants_of, wants_some, flooded_to, dest_of, IsFew}
+
+-- where nothing is flooded there are a port's own frames
+merged-none : (own : List Placed) → merged own [] ≡ own
+merged-none [] = refl
+merged-none (first ∷ rest) = ap (λ (ps : List Placed). first ∷ ps) (merged-none rest)
+
+abbrev made_of : PortId → List Placed → Wanted
+made_of to frames = record { to = to; places = map place_of frames; sizes = map slots_of frames }
+
+pub want-own : (to : PortId) (own : List Placed) → want_of to [] own ≡ want_of to own []
+want-own to own = ap (made_of to) (sym (merged-none own))
+
+pub none-there : (frames : List Placed) → length frames ≡ 0 → frames ≡ []
+none-there [] none = refl
+none-there (first ∷ rest) none = absurd (omega (arith, none))
 
 -- the first frame stands before all of a later place
 before-later : (test : Looked → Bool) (first : Placed) (rest : List Placed → List Placed) (next : ℕ) (all : List Looked) → first.place < next

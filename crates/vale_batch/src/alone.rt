@@ -58,42 +58,87 @@ fn place_of(all: &Vec<Own>, to: PortId) -> Option<usize>
     }
 }
 
+/// The place of a port, which is looked for at `near` first. The ports rise.
+fn place_near(all: &Vec<Own>, to: PortId, near: usize) -> Option<usize>
+    requires { IsRising (numbers_of all.now.items) }
+    ensures within { IfSome result (λ at. at < length all.now.items) }
+    ensures found { IfSome result (λ at.
+        IfSome (slice_get all.now.items at) (λ own. IsTrue (is_to to.0 own))) }
+    ensures none { IfNone result (All (λ own. is_to to.0 own ≡ false) all.now.items) }
+{
+    if stands_at(all, near, to) {
+        Some(near)
+    } else {
+        place_of(all, to)
+    }
+}
+
+/// How many frames there is room for once the first is there, if so many may follow.
+fn first_room(left: usize) -> usize {
+    left.min(64)
+}
+
 impl Own {
-    fn push(&mut self, placed: Placed) -> Result<(), AllocError>
+    /// Adds a frame, behind which at most `left` may follow.
+    fn push(&mut self, placed: Placed, left: usize) -> Result<(), AllocError>
         ensures { OnOk result (owned self.new ≡ with_placed placed (owned self.old)) }
     {
+        if self.frames.is_empty() {
+            self.frames.reserve(first_room(left))?;
+        }
         self.frames.push(placed)?;
         Ok(())
     }
 }
 
-/// Adds a frame that goes to one port to those of that port.
-fn add_to_one(all: &mut Vec<Own>, to: PortId, looked: Looked, place: u32) -> Result<(), AllocError>
+/// Adds a frame that goes to one port to those of that port, which is looked for at `near` first.
+/// Answers with its place.
+fn add_to_one(
+    all: &mut Vec<Own>,
+    to: PortId,
+    looked: Looked,
+    place: u32,
+    near: usize,
+    left: usize,
+) -> Result<usize, AllocError>
     requires rising { IsRising (numbers_of all.old.items) }
     requires only { looked.destination ≡ destinations.Only to }
     ensures { OnOk result (map owned all.new.items
         ≡ map (with_frame looked place) (map owned all.old.items)) }
 {
-    if let Some(at) = place_of(all, to) {
-        all[at].push(Placed {
-            place,
-            size: looked.size,
-        })?;
+    match place_near(all, to, near) {
+        Some(at) => {
+            all[at].push(
+                Placed {
+                    place,
+                    size: looked.size,
+                },
+                left,
+            )?;
+            Ok(at)
+        }
+        None => Ok(near),
     }
-    Ok(())
 }
 
-/// Adds a frame to those of its port, if it goes to one port alone.
-fn add(all: &mut Vec<Own>, looked: Looked, place: u32) -> Result<(), AllocError>
+/// Adds a frame to those of its port, if it goes to one port alone. That is looked for at `near`
+/// first. Answers with the place at which the next one is looked for first.
+fn add(
+    all: &mut Vec<Own>,
+    looked: Looked,
+    place: u32,
+    near: usize,
+    left: usize,
+) -> Result<usize, AllocError>
     requires { IsRising (numbers_of all.old.items) }
     ensures { OnOk result (map owned all.new.items
         ≡ map (with_frame looked place) (map owned all.old.items)) }
 {
     match looked.destination {
-        Destination::Short => Ok(()),
-        Destination::Nobody => Ok(()),
-        Destination::Only(to) => add_to_one(all, to, looked, place),
-        Destination::Others => Ok(()),
+        Destination::Short => Ok(near),
+        Destination::Nobody => Ok(near),
+        Destination::Only(to) => add_to_one(all, to, looked, place, near, left),
+        Destination::Others => Ok(near),
     }
 }
 
@@ -122,8 +167,10 @@ pub(crate) fn owns_of(
     ensures { IfOk result (λ all. map owned all.items ≡ map (own_at looked.now) ports.now) }
 {
     let mut all = empty_owns(alloc, ports)?;
+    let mut near = 0;
     for place in 0..looked.len() {
-        add(&mut all, looked[place], place as u32)?;
+        let left = looked.len() - place;
+        near = add(&mut all, looked[place], place as u32, near, left)?;
     }
     Ok(all)
 }
@@ -137,12 +184,20 @@ fn is_flooded(looked: Looked) -> bool
     }
 }
 
-/// Adds a frame, if it goes to all ports but its sender's.
-fn add_flooded(all: &mut Vec<Placed>, looked: Looked, place: u32) -> Result<(), AllocError>
+/// Adds a frame, if it goes to all ports but its sender's. At most `left` may follow.
+fn add_flooded(
+    all: &mut Vec<Placed>,
+    looked: Looked,
+    place: u32,
+    left: usize,
+) -> Result<(), AllocError>
     ensures { OnOk result (all.new.items ≡ all.old.items
         ++ (if is_flooded looked then placed_at place looked ∷ [] else [])) }
 {
     if is_flooded(looked) {
+        if all.is_empty() {
+            all.reserve(first_room(left))?;
+        }
         all.push(Placed {
             place,
             size: looked.size,
@@ -158,7 +213,7 @@ pub(crate) fn flooded_of(alloc: Global, looked: &[Looked]) -> Result<Vec<Placed>
 {
     let mut all = Vec::new(alloc);
     for place in 0..looked.len() {
-        add_flooded(&mut all, looked[place], place as u32)?;
+        add_flooded(&mut all, looked[place], place as u32, looked.len() - place)?;
     }
     Ok(all)
 }

@@ -101,6 +101,23 @@ fn merge(want: &mut Want, own: &[Placed], flooded: &[Placed])
     }
 }
 
+/// What a port wants that gets these frames.
+#[tactic(auto, using(crate::proofs::Merging::merges))]
+fn want_just(alloc: Global, to: PortId, frames: &[Placed]) -> Result<Want, AllocError>
+    ensures { IfOk result (λ want. wanted want ≡ want_of to [] frames.now) }
+{
+    let mut want = Want {
+        to,
+        places: Vec::with_capacity(alloc, frames.len())?,
+        sizes: Vec::with_capacity(alloc, frames.len())?,
+    };
+    for placed in frames {
+        want.places.push_reserved(placed.place);
+        want.sizes.push_reserved(placed.size);
+    }
+    Ok(want)
+}
+
 /// What a port wants of its own frames and the flooded ones.
 #[tactic(auto, using(crate::proofs::Merging::merges))]
 fn want_of(
@@ -112,6 +129,12 @@ fn want_of(
     requires { length own.now + length flooded.now < 2 ^ 32 }
     ensures { IfOk result (λ want. wanted want ≡ want_of to own.now flooded.now) }
 {
+    if flooded.is_empty() {
+        return want_just(alloc, to, own);
+    }
+    if own.is_empty() {
+        return want_just(alloc, to, flooded);
+    }
     let count = own.len() + flooded.len();
     let mut want = Want {
         to,

@@ -79,9 +79,8 @@ fn learn(table: &mut Table, taughts: &mut Vec<Taught>, from: PortId, bytes: &[u8
 {
     if is_learnable(bytes, no_learn) {
         let address = mac_at(bytes, 6);
-        let before = table.station(address);
+        let before = table.teach(address, from);
         taughts.push_reserved(Taught { address, before });
-        table.learn(address, from);
     }
 }
 

@@ -13,7 +13,8 @@ use Rattle.vale_parts.proofs.FreeKept.{free_counted}
 use Rattle.vale_port.specs.Lists.{ArePortsOf}
 use Rattle.vale_port.specs.Ports.{PortState}
 use Rattle.vale_book.specs.declared.book.Book.TheInside.{Inside}
-use Rattle.vale_book.specs.BookView.{AreOf, IsBook}
+use Rattle.nm_region.specs.Regions.{AreOf}
+use Rattle.vale_book.specs.BookView.{IsBook}
 use Rattle.vale_book.proofs.Moves.{before}
 
 -- the pool has them all

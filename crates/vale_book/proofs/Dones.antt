@@ -30,12 +30,14 @@ use Rattle.vale_port.specs.Seat.{Seat, LotSeat, seat_done, lease_among}
 use Rattle.vale_port.proofs.Lists.{done_is_done_among}
 use Rattle.vale_port.proofs.SeatTies.{filled_is_out}
 use Rattle.vale_book.specs.declared.book.Book.TheInside.{Inside}
-use Rattle.vale_book.specs.BookView.{parts_in, number_of_session, IsBufferOf, AreOf, HasBuffersOf, IsBook}
-use Rattle.vale_book.specs.Granting.{lease_id}
-use Rattle.vale_book.specs.Offering.{IsFilledIn}
+use Rattle.nm_region.specs.Regions.{IsBufferOf, AreOf}
+use Rattle.vale_book.specs.BookView.{parts_in, number_of_session, HasBuffersOf, IsBook}
+use Rattle.vale_steps.specs.Granting.{lease_id}
+use Rattle.vale_steps.specs.Offering.{IsFilledIn}
 use Rattle.vale_book.proofs.Moves.{Moves, before, owed-room, owed-promised, parts-stay, free-same}
 use Rattle.vale_book.proofs.PortLines.{IsLotOf, lots-of, of-lots, held-of}
-use Rattle.vale_book.proofs.Standing.{ports-rising, found-some, not-found, each-left}
+use Rattle.vale_steps.proofs.Lists.{each-left}
+use Rattle.vale_book.proofs.Standing.{ports-rising, found-some, not-found}
 
 -- ---- the port of a lease
 

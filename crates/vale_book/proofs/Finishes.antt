@@ -36,12 +36,14 @@ use Rattle.vale_port.specs.Ports.{PortState, due_of_state}
 use Rattle.vale_port.specs.Seat.{Seat, seats_of}
 use Rattle.vale_port.proofs.Lists.{seats-at, gone_is_gone}
 use Rattle.vale_book.specs.declared.book.Book.TheInside.{Inside}
-use Rattle.vale_book.specs.BookView.{recorded, parts_in, AreOf, HasBuffersOf, IsBook}
+use Rattle.nm_region.specs.Regions.{AreOf}
+use Rattle.vale_book.specs.BookView.{recorded, parts_in, HasBuffersOf, IsBook}
 use Rattle.vale_book.specs.Recorded.{entry_of, HasRoomFor}
 use Rattle.vale_book.proofs.Rooms.{step-recorded}
 use Rattle.vale_book.proofs.Moves.{Moves, before}
-use Rattle.vale_book.proofs.Standing.{IsHere, met, found-here, not-found, ports-rising, each-remove}
-use Rattle.vale_book.proofs.GivenBack.{with-both, are-with_all}
+use Rattle.vale_steps.proofs.Lists.{each-remove}
+use Rattle.vale_book.proofs.Standing.{IsHere, met, found-here, not-found, ports-rising}
+use Rattle.vale_steps.proofs.GivenBack.{with-both, are-with_all}
 
 abbrev pub shutting_at : ℕ → List Port → Option Port
 shutting_at id ports = shutting_port ports id

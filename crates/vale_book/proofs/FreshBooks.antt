@@ -13,8 +13,9 @@ use Rattle.vale_port.specs.Lists.{ArePortsOf}
 use Rattle.vale_entry.specs.declared.entry.Entry.{Entry}
 use Rattle.vale_entry.specs.Legal.{world_of, holdings_of}
 use Rattle.vale_book.specs.declared.book.Book.TheInside.{Inside}
-use Rattle.vale_book.specs.declared.tables.NamedTable.{NamedTable}
-use Rattle.vale_book.specs.BookView.{parts_in, number_of_session, AreOf, HasBuffersOf, StandsFor, IsBook}
+use Rattle.vale_steps.specs.declared.tables.NamedTable.{NamedTable}
+use Rattle.nm_region.specs.Regions.{AreOf}
+use Rattle.vale_book.specs.BookView.{parts_in, number_of_session, HasBuffersOf, StandsFor, IsBook}
 use Rattle.vale_book.specs.Recorded.{HadRoom}
 
 pub length-opened : (r : RegionState) → length (opened_buffers r) ≡ r.buffers

@@ -48,13 +48,14 @@ use Rattle.vale_parts.proofs.CountsKept.{nothing_added, open_counted}
 use Rattle.vale_parts.proofs.Additions.{additions_fit}
 use Rattle.vale_parts.specs.Adding.{FitsIn}
 use Rattle.vale_book.specs.declared.book.Book.TheInside.{Inside}
-use Rattle.vale_book.specs.BookView.{recorded, parts_in, number_of_session, IsBufferOf, AreOf, HasBuffersOf, IsBook}
-use Rattle.vale_book.specs.declared.offers.Offers.TheInside.{Inside as OffersInside}
+use Rattle.nm_region.specs.Regions.{IsBufferOf, AreOf}
+use Rattle.vale_book.specs.BookView.{recorded, parts_in, number_of_session, HasBuffersOf, IsBook}
 use Rattle.vale_book.specs.Recorded.{Recorded, standing, entry_of}
-use Rattle.vale_book.specs.Granting.{given_by, grant_entry, lease_id}
-use Rattle.vale_book.specs.Offering.{OffersState, OffersStand, offers_seen, IsOfferBy, IsLeaseOf}
+use Rattle.vale_steps.specs.Granting.{given_by, grant_entry, lease_id}
+use Rattle.vale_steps.specs.Offering.{OffersState, OffersStand, IsOfferBy, IsLeaseOf}
 use Rattle.vale_book.proofs.Moves.{Moves, before, owed-room, entries-few}
-use Rattle.vale_book.proofs.Standing.{IsHere, ports-rising, each-take, each-left, each-right}
+use Rattle.vale_steps.proofs.Lists.{each-take, each-left, each-right}
+use Rattle.vale_book.proofs.Standing.{IsHere, ports-rising}
 
 -- ---- the offer that is next
 
@@ -447,16 +448,31 @@ abbrev with_want : Wanted → OffersState → OffersState
 with_want want v = record v { wants = want ∷ v.wants }
 
 -- the offers, as the call found them, and the want that it took out
-pub grant-by : (b : Inside) (r : Recorded) (o rest : OffersState) (i : OffersInside) (want : Wanted) → IsBook b → recorded b ≡ r → OffersStand (standing r) o
-    → o ≡ record rest { wants = want ∷ rest.wants } → offers_seen i ≡ rest → IsGrant b i.entry i.session.0 want
+-- what a grant knows of its offers once the next want is taken out
+pub record Known : Type 0 where
+  pub entry : ℕ
+  pub session : SessionId
+  pub rest : OffersState
+
+abbrev pub known_seen : Known → OffersState
+known_seen i = record i.rest { entry = i.entry; session = i.session.0 }
+
+abbrev pub known : ℕ → SessionId → OffersState → Known
+known entry session rest = record { entry = entry; session = session; rest = rest }
+
+pub known-is : (entry : ℕ) (session : SessionId) (rest : OffersState) → entry ≡ rest.entry → session.0 ≡ rest.session → known_seen (known entry session rest) ≡ rest
+known-is entry session rest one two = rw (one, two) refl
+
+pub grant-by : (b : Inside) (r : Recorded) (o rest : OffersState) (i : Known) (want : Wanted) → IsBook b → recorded b ≡ r → OffersStand (standing r) o
+    → o ≡ record rest { wants = want ∷ rest.wants } → known_seen i ≡ rest → IsGrant b i.entry i.session.0 want
 grant-by b r o rest i want k view stand out seen =
     let now : OffersStand (before b) o = subst (λ (v : Recorded). OffersStand (standing v) o) (sym view) stand in
-    let found : OffersState = record (offers_seen i) { wants = want ∷ (offers_seen i).wants } in
+    let found : OffersState = record (known_seen i) { wants = want ∷ (known_seen i).wants } in
     let same : o ≡ found = out ∙ ap (λ (v : OffersState). with_want want v) (sym seen) in
     let all : OffersStand (before b) found = subst (OffersStand (before b)) same now in
-    next-grant b i.entry i.session.0 want (offers_seen i).wants all.frames k all.are all.by
+    next-grant b i.entry i.session.0 want (known_seen i).wants all.frames k all.are all.by
 
-pub entry-is : (o rest : OffersState) (i : OffersInside) (want : Wanted) → o ≡ record rest { wants = want ∷ rest.wants } → offers_seen i ≡ rest → o.entry ≡ i.entry
+pub entry-is : (o rest : OffersState) (i : Known) (want : Wanted) → o ≡ record rest { wants = want ∷ rest.wants } → known_seen i ≡ rest → o.entry ≡ i.entry
 entry-is o rest i want out seen = ap (λ (v : OffersState). v.entry) out ∙ ap (λ (v : OffersState). v.entry) (sym seen)
 
 -- ---- what the calls ask for
@@ -499,7 +515,7 @@ pub reply-told : (b next : Inside) (entry : ℕ) (to : PortId) (given full gone 
 reply-told b next entry to given full gone lease made = ap (option_map reply_of) made.moves.step_is ∙ ap (λ (r : Reply). Some r) made.reply
 
 -- the offers without the want that was taken out
-pub offers-taken : (o rest : OffersState) (i : OffersInside) (want : Wanted) → o ≡ record rest { wants = want ∷ rest.wants } → offers_seen i ≡ rest
+pub offers-taken : (o rest : OffersState) (i : Known) (want : Wanted) → o ≡ record rest { wants = want ∷ rest.wants } → known_seen i ≡ rest
     → rest ≡ record { entry = i.entry; session = o.session; short = o.short; lone = o.lone; wants = drop 1 o.wants }
 offers-taken o rest i want out seen = rw (out, ← seen) refl
 
@@ -524,15 +540,15 @@ each-less P test granted (o ∷ os) all =
     less-is P test granted o os (is_offer_of granted o) refl (less-by P test granted o os (is_offer_of granted o) (test o) all (each-less P test granted os))
 
 -- the offers without the one that was granted stand once it is
-pub left-stand : (b next : Inside) (r : Recorded) (o rest : OffersState) (i : OffersInside) (want : Wanted) (given full gone : ℕ) (lease : Option Leased) → IsBook b → recorded b ≡ r → OffersStand (standing r) o
-    → o ≡ record rest { wants = want ∷ rest.wants } → offers_seen i ≡ rest → IsGranted b next i.entry want.to given full gone lease → next.pool ≡ b.pool
+pub left-stand : (b next : Inside) (r : Recorded) (o rest : OffersState) (i : Known) (want : Wanted) (given full gone : ℕ) (lease : Option Leased) → IsBook b → recorded b ≡ r → OffersStand (standing r) o
+    → o ≡ record rest { wants = want ∷ rest.wants } → known_seen i ≡ rest → IsGranted b next i.entry want.to given full gone lease → next.pool ≡ b.pool
     → OffersStand (standing (recorded next)) rest
 left-stand b next r o rest i want given full gone lease k view stand out seen made pool =
     let n = b.pool.buffers in
     let h = b.history.entries in
     let w = (before b).world in
     let now : OffersStand (before b) o = subst (λ (v : Recorded). OffersStand (standing v) o) (sym view) stand in
-    let found : OffersState = record (offers_seen i) { wants = want ∷ (offers_seen i).wants } in
+    let found : OffersState = record (known_seen i) { wants = want ∷ (known_seen i).wants } in
     let all : OffersStand (before b) found = subst (OffersStand (before b)) (out ∙ ap (λ (v : OffersState). with_want want v) (sym seen)) now in
     let entry : Entry = entry_of (Grant i.entry want.to) (grant_step (before b) made.offer) in
     let follows : Follows (before b) entry = ap (option_map session_and_reply) made.moves.step_is in
@@ -541,7 +557,7 @@ left-stand b next r o rest i want given full gone lease k view stand out seen ma
     let count = count-world_of n h in
     let are = offers_follow n h entry i.entry all.frames found.wants follows (omega (arith, origin, within, count)) all.are in
     let same : (i.entry == i.entry) ≡ true = eq-eqb i.entry i.entry refl in
-    let left : OffersAre (world_of n (h ++ entry ∷ [])) i.entry all.frames (offers_seen i).wants =
+    let left : OffersAre (world_of n (h ++ entry ∷ [])) i.entry all.frames (known_seen i).wants =
     subst (λ (t : Bool). OffersAre (world_of n (h ++ entry ∷ [])) i.entry all.frames (cond t (drop 1 found.wants) found.wants)) same are in
     let after : standing_of n (h ++ entry ∷ []) ≡ standing_after (before b) entry (Some (grant_step (before b) made.offer)) =
     standing-push n h entry ∙ ap (standing_after (before b) entry) made.moves.step_is in
@@ -550,8 +566,8 @@ left-stand b next r o rest i want given full gone lease k view stand out seen ma
     (each-less (IsOfferBy i.session.0) (is_offer_of i.entry) made.offer.origin w.offers all.by) in
     let size : next.pool.buffers ≡ n = ap (λ (p : PoolState). p.buffers) pool in
     let here : standing (recorded next) ≡ standing_of n (h ++ entry ∷ []) = rw (made.moves.entries, size) refl in
-    let stands : OffersStand (standing_of n (h ++ entry ∷ [])) (offers_seen i) = record { frames = all.frames; are = left; by = by } in
-    subst (OffersStand (standing (recorded next))) seen (subst (λ (s : Standing). OffersStand s (offers_seen i)) (sym here) stands)
+    let stands : OffersStand (standing_of n (h ++ entry ∷ [])) (known_seen i) = record { frames = all.frames; are = left; by = by } in
+    subst (OffersStand (standing (recorded next))) seen (subst (λ (s : Standing). OffersStand s (known_seen i)) (sym here) stands)
 
 -- the want that was taken out was the first
 pub first-want : (o rest : OffersState) (want : Wanted) → o ≡ record rest { wants = want ∷ rest.wants } → slice_get o.wants 0 ≡ Some want

@@ -33,9 +33,9 @@ use Rattle.vale_parts.specs.Batches.{dest_wanted, dests_wanted}
 use Rattle.vale_port.specs.Kept.{KeptFrames, kept_gots}
 use Rattle.vale_port.specs.Ports.{sizes_of}
 use Rattle.vale_port.specs.Seat.{Seat, given_frames}
-use Rattle.vale_book.specs.BookView.{AreOf}
+use Rattle.nm_region.specs.Regions.{AreOf}
 use Rattle.vale_book.specs.Lives.{life, name_a, name_b, came, one_port, shut_port, first_bufs, gone_port, left_alone, shut_first, gone_first, shut_second, second_bufs, gone_second, left_both, name_m, name_x, monitored, watched, watched_again, watched_nobody, told, reset, two_ports, sent_one, granted_one, filled_one, read_one}
-use Rattle.vale_book.specs.Offering.{OffersState, IsLeaseOf, IsFilledIn}
+use Rattle.vale_steps.specs.Offering.{OffersState, IsLeaseOf, IsFilledIn}
 use Rattle.vale_book.specs.Reading.{IsGiven, IsOffered}
 use Rattle.vale_book.specs.Recorded.{Recorded, standing, after_ask}
 use Rattle.vale_book.specs.WatchAnswers.{IsUnwatched}

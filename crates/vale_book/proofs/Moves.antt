@@ -26,8 +26,10 @@ use Rattle.vale_parts.specs.SwitchTables.{SwitchTable, table_with}
 use Rattle.vale_parts.proofs.AllParts.{parts_follow, tables_stay}
 use Rattle.vale_parts.proofs.FreeKept.{size_kept}
 use Rattle.vale_book.specs.declared.book.Book.TheInside.{Inside}
-use Rattle.vale_book.specs.declared.tables.NamedTable.{NamedTable}
-use Rattle.vale_book.specs.BookView.{recorded, table_seen, parts_in, number_of_session, AreOf, HasBuffersOf, StandsFor, IsBook}
+use Rattle.vale_steps.specs.declared.tables.NamedTable.{NamedTable}
+use Rattle.vale_steps.specs.NamedTables.{table_seen}
+use Rattle.nm_region.specs.Regions.{AreOf}
+use Rattle.vale_book.specs.BookView.{recorded, parts_in, number_of_session, HasBuffersOf, StandsFor, IsBook}
 use Rattle.vale_book.specs.Recorded.{entry_of, after_ask, IsFullFor, refused_by, IsRefusal, HasRoomFor, HasRoom, room_by}
 use Rattle.vale_book.proofs.Rooms.{step-recorded, had-after, room-owed, within-had}
 

@@ -12,8 +12,9 @@ use Rattle.vale_parts.specs.Batches.{wants_monitored}
 use Rattle.vale_parts.specs.Offering.{OffersAre, offers_at}
 use Rattle.vale_book.specs.declared.book.Book.TheInside.{Inside}
 use Rattle.vale_book.specs.BookView.{recorded}
-use Rattle.vale_book.specs.Monitored.{offers_to, IsOfferedTo}
-use Rattle.vale_book.specs.Offering.{OffersState, IsOfferBy}
+use Rattle.vale_steps.specs.Monitored.{offers_to}
+use Rattle.vale_book.specs.Monitored.{IsOfferedTo}
+use Rattle.vale_steps.specs.Offering.{OffersState, IsOfferBy}
 use Rattle.vale_book.specs.Recorded.{standing}
 
 pub by-session : (origin session : ℕ) (wanted : Port → List Frame) (ports : List Port) → Each (IsOfferBy session) (offers_of origin session wanted ports)

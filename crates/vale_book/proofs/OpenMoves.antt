@@ -1,10 +1,8 @@
 -- A port is opened.
 use Rattle.std.proofs.Common.{ℕ, Bool, true, false, not, ◌≡◌, ◌+◌, ◌≤◌, ◌<◌, List, [], ◌∷◌, ◌++◌, length, map, take, drop, cond, Option, Some, None, refl, sym, ◌∙◌, ap, subst, arith}
-use Rattle.std.proofs.lemmas.Bool.{and_parts}
 use Rattle.std.proofs.lemmas.List.{length-take-le, length-drop}
 use Rattle.nm_types.specs.Limits.{most_ports, most_switches}
-use Rattle.nm_types.specs.Names.{is_name}
-use Rattle.nm_types.specs.Openings.{open_refusal as names_refusal}
+use Rattle.nm_types.specs.Openings.{finds_switches_full, open_refusal as names_refusal}
 use Rattle.nm_types.specs.declared.id.SessionId.{SessionId}
 use Rattle.nm_types.specs.declared.fault.OpenFault.{OpenFault}
 use Rattle.nm_types.specs.declared.fault.OpenFault.TheVariants.{BadSize, SwitchesFull}
@@ -18,8 +16,8 @@ use Rattle.vale_names.specs.PortNames.{IsNames}
 use Rattle.vale_line.specs.Lines.{new_line, out_of}
 use Rattle.vale_entry.specs.declared.entry.Ask.TheVariants.{Open}
 use Rattle.vale_entry.specs.declared.entry.Reply.TheVariants.{Opened}
-use Rattle.vale_entry.specs.World.{World, is_session, free_count}
-use Rattle.vale_entry.specs.Opening.{are_sizes, finds_switches_full, name_refusal, open_refusal, opened_port, refusal_or_room}
+use Rattle.vale_entry.specs.World.{World, free_count}
+use Rattle.vale_entry.specs.Opening.{are_sizes, names_of as port_names, open_refusal, opened_port, refusal_or_room}
 use Rattle.vale_entry.specs.Legal.{Standing, open_step, open_step_by, step, can_open}
 use Rattle.vale_entry.specs.Stored.{Fits}
 use Rattle.vale_entry.proofs.Each.{each-append, each-drop}
@@ -40,11 +38,14 @@ use Rattle.vale_parts.proofs.NameAnswers.{openings_answered}
 use Rattle.vale_parts.proofs.NameRoom.{openings_undone, openings_room}
 use Rattle.vale_parts.proofs.CountsKept.{next_not, as_many}
 use Rattle.vale_book.specs.declared.book.Book.TheInside.{Inside}
-use Rattle.vale_book.specs.BookView.{table_seen, AreOf, HasBuffersOf, IsBook}
-use Rattle.vale_book.specs.OpenParts.{HasTableFor, name_of_state, name_of_port, StillTables, StillFew, ComesOut, refusal_for, entry_for, state_for}
+use Rattle.vale_steps.specs.NamedTables.{table_seen}
+use Rattle.nm_region.specs.Regions.{AreOf}
+use Rattle.vale_book.specs.BookView.{HasBuffersOf, IsBook}
+use Rattle.vale_steps.specs.OpenParts.{HasTableFor, name_of_state, name_of_port, StillTables, StillFew, ComesOut, refusal_for, entry_for, state_for}
 use Rattle.vale_book.proofs.Moves.{Moves, before, fits-step}
 use Rattle.vale_book.proofs.RingSizes.{none-first}
-use Rattle.vale_book.proofs.Standing.{each-take, ports-rising}
+use Rattle.vale_steps.proofs.Lists.{each-take}
+use Rattle.vale_book.proofs.Standing.{ports-rising}
 
 -- an opening, as the entry that comes after so many makes it
 abbrev pub opening_of : ℕ → SessionId → List ℕ → ℕ → ℕ → Opening
@@ -77,17 +78,13 @@ room-to-count b port names k joins are =
 
 -- ---- What it is answered.
 
-named-right : (w : World) (session : ℕ) (name : List ℕ) (tx rx extra : ℕ) → can_open w session name tx rx extra ≡ true → is_name name ≡ true
-named-right w session name tx rx extra can =
-    (and_parts (is_name name) _ (and_parts (is_session w session) _ can).1).0
-
-pub refusal-is : (b : Inside) (n : ℕ) (session : SessionId) (name : List ℕ) (tx rx extra : ℕ) → IsBook b → can_open (before b).world session.0 name tx rx extra ≡ true
+pub refusal-is : (b : Inside) (n : ℕ) (session : SessionId) (name : List ℕ) (tx rx extra : ℕ) → IsBook b
     → open_refusal (before b).world name tx rx extra ≡ refusal_for b.names b.pool.free (opening_of n session name tx extra) rx
-refusal-is b n session name tx rx extra k can =
+refusal-is b n session name tx rx extra k =
     let w = (before b).world in
     let parts = k.stands.parts_are in
     let count : length b.pool.free ≡ free_count w = free_counted b.pool.buffers b.history.entries b.pool k.stands.legal parts.free_are in
-    openings_answered w b.names name tx rx extra parts.names_are (named-right w session.0 name tx rx extra can)
+    openings_answered w b.names name tx rx extra parts.names_are
     ∙ ap (λ (have : ℕ). refusal_or_room (names_refusal (names_of b.names) name tx rx extra) (tx + rx + extra) have) (sym count)
 
 pub open-made : (s : Standing) (session : SessionId) (name : List ℕ) (tx rx extra : ℕ) (refusal : Option OpenFault)
@@ -117,22 +114,22 @@ abbrev pub with_tables : Inside → Inside → Inside
 with_tables b next = record b { tables = next.tables }
 
 -- an opening that is not refused does not find as many switches as there may be
-switches-left : (w : World) (name : List ℕ) (tx rx extra : ℕ) → open_refusal w name tx rx extra ≡ None → finds_switches_full w.ports name ≡ false
+switches-left : (w : World) (name : List ℕ) (tx rx extra : ℕ) → open_refusal w name tx rx extra ≡ None → finds_switches_full (port_names w.ports) name ≡ false
 switches-left w name tx rx extra none =
-    let refusal = none-first (name_refusal w.ports name tx rx extra) (tx + rx + extra) (free_count w) none in
-    by_full (are_sizes name tx rx extra) (finds_switches_full w.ports name) _ refusal
+    let refusal = none-first (names_refusal (port_names w.ports) name tx rx extra) (tx + rx + extra) (free_count w) none in
+    by_full (are_sizes name tx rx extra) (finds_switches_full (port_names w.ports) name) _ refusal
   where
     by_full : (sizes full : Bool) (rest : Option OpenFault) → cond (not sizes) (Some BadSize) (cond full (Some SwitchesFull) rest) ≡ None → full ≡ false
     by_full true true rest is = absurd cc
     by_full true false rest is = refl
     by_full false full rest is = absurd cc
 
-pub tables-few : (b next : Inside) (n : ℕ) (session : SessionId) (name : List ℕ) (tx rx extra : ℕ) → IsBook b → can_open (before b).world session.0 name tx rx extra ≡ true
+pub tables-few : (b next : Inside) (n : ℕ) (session : SessionId) (name : List ℕ) (tx rx extra : ℕ) → IsBook b
     → refusal_for b.names b.pool.free (opening_of n session name tx extra) rx ≡ None → StillFew name b.ports.items b.tables.items next.tables.items
     → length next.tables.items ≤ most_switches
-tables-few b next n session name tx rx extra k can none few =
+tables-few b next n session name tx rx extra k none few =
     few b.pool.buffers b.history.entries (names-agree b k) k.stands.parts_are.tables_are
-    (switches-left (before b).world name tx rx extra (refusal-is b n session name tx rx extra k can ∙ none)) k.tables_few
+    (switches-left (before b).world name tx rx extra (refusal-is b n session name tx rx extra k ∙ none)) k.tables_few
 
 pub tables-kept : (b next : Inside) → IsBook b → StillTables b.ports.items b.tables.items next.tables.items → length next.tables.items ≤ most_switches → IsBook (with_tables b next)
 tables-kept b next k kept few =
@@ -209,11 +206,11 @@ open-moves b next n session name tx rx extra k can is none joins entries promise
     let ask = Open session name tx rx extra in
     let free = b.pool.free in
     let number : s.world.entry_count + 1 ≡ n + 1 = next-number b n is in
-    let refused : open_refusal s.world name tx rx extra ≡ None = refusal-is b n session name tx rx extra k can ∙ none in
+    let refused : open_refusal s.world name tx rx extra ≡ None = refusal-is b n session name tx rx extra k ∙ none in
     let count : length free ≡ free_count s.world = free_counted b.pool.buffers b.history.entries b.pool k.stands.legal k.stands.parts_are.free_are in
     let room = (opened-room s.world name tx rx extra refused).0 in
     let enough : tx + rx + extra ≤ length free = omega (arith, room, count) in
-    let whole = tables-kept b next k kept (tables-few b next n session name tx rx extra k can none few) in
+    let whole = tables-kept b next k kept (tables-few b next n session name tx rx extra k none few) in
     let state = state_for (opening_of n session name tx extra) rx free in
     let taken : AreOf b.region.region (take rx (drop tx free)) = each-take (λ (buf : Buffer). buf.region ≡ b.region.region) rx (drop tx free) (each-drop (λ (buf : Buffer). buf.region ≡ b.region.region) tx free k.free_are) in
     record {

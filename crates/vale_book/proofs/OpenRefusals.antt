@@ -1,6 +1,5 @@
 -- An opening is refused.
 use Rattle.std.proofs.Common.{ℕ, Bool, true, false, ◌≡◌, ◌+◌, nat_lt, List, [], ◌∷◌, ◌++◌, cond, not, Option, Some, None, option_map, refl, sym, ◌∙◌, ap, subst, arith}
-use Rattle.std.specs.List.{list_any}
 use Rattle.nm_types.specs.declared.id.SessionId.{SessionId}
 use Rattle.nm_types.specs.declared.fault.StepFault.{StepFault}
 use Rattle.nm_types.specs.declared.fault.StepFault.TheVariants as steps
@@ -11,7 +10,8 @@ use Rattle.vale_entry.specs.declared.entry.Ask.{Ask}
 use Rattle.vale_entry.specs.declared.entry.Ask.TheVariants.{Open}
 use Rattle.vale_entry.specs.declared.entry.Reply.TheVariants.{Refused}
 use Rattle.vale_entry.specs.World.{World, free_count}
-use Rattle.vale_entry.specs.Opening.{are_sizes, finds_switches_full, finds_ports_full, has_name, name_refusal, refusal_or_room, open_refusal}
+use Rattle.nm_types.specs.Openings.{finds_switches_full, finds_ports_full, finds_name_taken, open_refusal as names_refusal}
+use Rattle.vale_entry.specs.Opening.{are_sizes, names_of, refusal_or_room, open_refusal}
 use Rattle.vale_entry.specs.Legal.{Outcome, open_step_by, can_open}
 use Rattle.vale_entry.specs.Stored.{Fits, IsFull}
 use Rattle.vale_port.specs.declared.port.Opening.{Opening}
@@ -19,8 +19,9 @@ use Rattle.vale_parts.proofs.AllParts.{tables_stay}
 use Rattle.vale_book.specs.declared.book.Book.TheInside.{Inside}
 use Rattle.vale_book.specs.BookView.{recorded, parts_in, IsBook}
 use Rattle.vale_book.specs.Recorded.{IsRefusal, IsRecordedAs}
-use Rattle.vale_book.specs.OpenAnswers.{ByFault, IsRecordedFault, IsUnopened}
-use Rattle.vale_book.specs.OpenParts.{refusal_for, entry_for}
+use Rattle.vale_steps.specs.OpenFaults.{ByFault, IsRecordedFault}
+use Rattle.vale_book.specs.OpenAnswers.{IsUnopened}
+use Rattle.vale_steps.specs.OpenParts.{refusal_for, entry_for}
 use Rattle.vale_book.proofs.Moves.{Moves, Stays, before, fits-step, full-step, free-same, moved, stayed, record-moved, record-stayed, had-room}
 use Rattle.vale_book.proofs.OpenMoves.{opening_of, open-made, refusal-is}
 
@@ -64,16 +65,16 @@ recorded-or None want have one = recorded-if (nat_lt have want) (NoBuffers want 
 
 refusal-recorded : (w : World) (name : List ℕ) (tx rx extra : ℕ) → IsRecordedIf (open_refusal w name tx rx extra)
 refusal-recorded w name tx rx extra =
-    let taken = recorded-if (list_any (has_name name) w.ports) NameTaken None tt tt in
-    let ports = recorded-if (finds_ports_full w.ports name) PortsFull (cond (list_any (has_name name) w.ports) (Some NameTaken) None) tt taken in
-    let switches = recorded-if (finds_switches_full w.ports name) SwitchesFull (cond (finds_ports_full w.ports name) (Some PortsFull) (cond (list_any (has_name name) w.ports) (Some NameTaken) None)) tt ports in
-    recorded-or (name_refusal w.ports name tx rx extra) (tx + rx + extra) (free_count w)
-    (recorded-if (not (are_sizes name tx rx extra)) BadSize (cond (finds_switches_full w.ports name) (Some SwitchesFull) (cond (finds_ports_full w.ports name) (Some PortsFull) (cond (list_any (has_name name) w.ports) (Some NameTaken) None))) tt switches)
+    let taken = recorded-if (finds_name_taken (names_of w.ports) name) NameTaken None tt tt in
+    let ports = recorded-if (finds_ports_full (names_of w.ports) name) PortsFull (cond (finds_name_taken (names_of w.ports) name) (Some NameTaken) None) tt taken in
+    let switches = recorded-if (finds_switches_full (names_of w.ports) name) SwitchesFull (cond (finds_ports_full (names_of w.ports) name) (Some PortsFull) (cond (finds_name_taken (names_of w.ports) name) (Some NameTaken) None)) tt ports in
+    recorded-or (names_refusal (names_of w.ports) name tx rx extra) (tx + rx + extra) (free_count w)
+    (recorded-if (not (are_sizes name tx rx extra)) BadSize (cond (finds_switches_full (names_of w.ports) name) (Some SwitchesFull) (cond (finds_ports_full (names_of w.ports) name) (Some PortsFull) (cond (finds_name_taken (names_of w.ports) name) (Some NameTaken) None))) tt switches)
 
-pub refused-recorded : (b : Inside) (n : ℕ) (session : SessionId) (name : List ℕ) (tx rx extra : ℕ) (fault : OpenFault) → IsBook b → can_open (before b).world session.0 name tx rx extra ≡ true
+pub refused-recorded : (b : Inside) (n : ℕ) (session : SessionId) (name : List ℕ) (tx rx extra : ℕ) (fault : OpenFault) → IsBook b
     → refusal_for b.names b.pool.free (opening_of n session name tx extra) rx ≡ Some fault → IsRecordedFault fault
-refused-recorded b n session name tx rx extra fault k can is =
-    subst IsRecordedIf (refusal-is b n session name tx rx extra k can ∙ is) (refusal-recorded (before b).world name tx rx extra)
+refused-recorded b n session name tx rx extra fault k is =
+    subst IsRecordedIf (refusal-is b n session name tx rx extra k ∙ is) (refusal-recorded (before b).world name tx rx extra)
 
 -- ---- An entry of a refusal.
 
@@ -104,7 +105,7 @@ refused-moves b next n session name tx rx extra fault k can is beside entries fi
     let ask = Open session name tx rx extra in
     let same = beside.promised in
     record {
-      step_is = open-made s session name tx rx extra (Some fault) can (refusal-is b n session name tx rx extra k can ∙ is);
+      step_is = open-made s session name tx rx extra (Some fault) can (refusal-is b n session name tx rx extra k ∙ is);
       entries = entries;
       limits = beside.limits;
       promised = omega (arith, same);
@@ -159,7 +160,7 @@ refused-said b next n session name tx rx extra fault answer k can is beside said
     (recorded-as b next ask made (refused-moves b next n session name tx rx extra fault k can is beside here.1 here.2)))
     (λ full none. (
       record-stayed b next (beside-stays b next beside none.0),
-      full-step b ask made full k (open-made s session name tx rx extra (Some fault) can (refusal-is b n session name tx rx extra k can ∙ is)) none.1,
+      full-step b ask made full k (open-made s session name tx rx extra (Some fault) can (refusal-is b n session name tx rx extra k ∙ is)) none.1,
     )) answer said
 
 -- ---- No room or memory for an opening.
@@ -170,4 +171,4 @@ pub full-said : (b next : Inside) (n : ℕ) (session : SessionId) (name : List �
 full-said b next n session name tx rx extra full k can is same why =
     let s = before b in
     by-full (λ told. IsRecordedAs (recorded b) (recorded next) (Open session name tx rx extra) (Refused told)) (λ f. (recorded next ≡ recorded b) × IsRefusal (recorded b) (Open session name tx rx extra) f) full
-    (same, full-step b (Open session name tx rx extra) (open_step_by None s session.0 name tx rx extra) full k (open-made s session name tx rx extra None can (refusal-is b n session name tx rx extra k can ∙ is)) why)
+    (same, full-step b (Open session name tx rx extra) (open_step_by None s session.0 name tx rx extra) full k (open-made s session name tx rx extra None can (refusal-is b n session name tx rx extra k ∙ is)) why)

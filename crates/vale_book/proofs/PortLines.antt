@@ -12,8 +12,9 @@ use Rattle.vale_entry.proofs.Each.{each-append, each-drop}
 use Rattle.vale_entry.proofs.ListLaws.{each-at}
 use Rattle.vale_port.specs.Laws.{with_line, line_after_put}
 use Rattle.vale_port.specs.Ports.{PortState}
-use Rattle.vale_book.specs.BookView.{AreOf, HasBuffersOf}
-use Rattle.vale_book.proofs.Standing.{each-left, each-right, each-take}
+use Rattle.nm_region.specs.Regions.{AreOf}
+use Rattle.vale_book.specs.BookView.{HasBuffersOf}
+use Rattle.vale_steps.proofs.Lists.{each-left, each-right, each-take}
 
 -- the buffers of each lot
 abbrev pub IsLotOf : ℕ → HeldLot → Type 0

@@ -65,22 +65,26 @@ use Rattle.vale_parts.proofs.CountsKept.{open_counted, nothing_added}
 use Rattle.vale_parts.proofs.NameAnswers.{names_find_peers}
 use Rattle.vale_parts.proofs.OffersKept.{puts_start, offers_start}
 use Rattle.vale_book.specs.declared.book.Book.TheInside.{Inside}
-use Rattle.vale_book.specs.declared.putting.Putting.{Putting}
-use Rattle.vale_book.specs.declared.putting.Put.{Put as PutGiven}
-use Rattle.vale_book.specs.BookView.{recorded, parts_in, AreOf, HasBuffersOf, IsBook}
+use Rattle.vale_steps.specs.declared.putting.Putting.{Putting}
+use Rattle.vale_steps.specs.declared.putting.Put.{Put as PutGiven}
+use Rattle.nm_region.specs.Regions.{AreOf}
+use Rattle.vale_book.specs.BookView.{recorded, parts_in, HasBuffersOf, IsBook}
 use Rattle.vale_book.specs.Monitored.{IsOfferedTo}
-use Rattle.vale_book.specs.Offering.{IsOfferBy}
-use Rattle.vale_book.specs.Putting.{items_of, wants_put, dests_put, room_of_put, put_entry, gone_entry, count_sent, count_given, lot_id, copied, IfPut, IsPutBy, IsPut}
+use Rattle.vale_steps.specs.Offering.{IsOfferBy}
+use Rattle.vale_steps.specs.Putting.{items_of, wants_put, dests_put, room_of_put, put_entry, gone_entry, count_sent, count_given, copied, IfPut, IsPutBy}
+use Rattle.vale_book.specs.Putting.{IsPut}
+use Rattle.nm_types.specs.Ids.{lease_id}
 use Rattle.vale_book.specs.Recorded.{entry_of, IsRefusal}
 use Rattle.vale_book.proofs.Found.{open_at, open-here, never-missing as never-closed}
-use Rattle.vale_book.proofs.MonitoredWants.{wants-monitored}
+use Rattle.vale_steps.proofs.MonitoredWants.{wants-monitored}
 use Rattle.vale_book.proofs.Moves.{Moves, Stays, before, fits-step, full-step, entries-few}
 use Rattle.vale_book.proofs.OfferedTo.{by-session, StandOffered, offered-to}
 use Rattle.vale_book.proofs.PortLines.{of-first, of-put}
-use Rattle.vale_book.proofs.PutLists.{items-first, indices-items, frames-items}
+use Rattle.vale_steps.proofs.PutLists.{items-first, indices-items, frames-items}
 use Rattle.vale_book.proofs.ReadMoves.{IsRest}
 use Rattle.vale_book.proofs.Rooms.{step-recorded}
-use Rattle.vale_book.proofs.Standing.{IsHere, found-here, not-found, ports-rising, each-take, each-left}
+use Rattle.vale_steps.proofs.Lists.{each-take, each-left}
+use Rattle.vale_book.proofs.Standing.{IsHere, found-here, not-found, ports-rising}
 
 -- ---- the port that puts, at its place
 
@@ -451,7 +455,7 @@ pub put-moves : {A E : Type 0} (made : Result A E) (b next : Inside) (p : Puttin
     → next.history.limits ≡ b.history.limits → OnOk made (Fits b.history (room_of_put p) (bytes_of_frames (taken_frames p gots)))
     → OnOk made ((session : ℕ) (frames : List Frame) → bytes_of frames ≡ frames_in (taken_gots p gots)
     → ChangesSeat (seat_put (length b.history.entries + 1) session frames (indices_of (buffers_of (taken_gots p gots)))) b.ports.items p.place next.ports.items)
-    → OnOk made (OfState (λ (q : PortState). next.ports.items ≡ slice_set b.ports.items p.place (with_line (line_after_put (lot_id (length b.history.entries + 1)) (taken_gots p gots) q.line) q)) b.ports.items p.place)
+    → OnOk made (OfState (λ (q : PortState). next.ports.items ≡ slice_set b.ports.items p.place (with_line (line_after_put (lease_id (length b.history.entries + 1)) (taken_gots p gots) q.line) q)) b.ports.items p.place)
     → OnOk made (next.tally ≡ tally_after_add p.peer.0 (count_given p.took) (tally_after_add p.at.0 (count_sent p.took) b.tally)) → IsRest b next
     → OnOk made (Moves b next (Put p.at (items_of gots)) (put_made b p gots is))
 put-moves (Err e) b next p gots k is of single entries promised limits fits seats line tally rest = tt
@@ -488,8 +492,8 @@ put-moves (Ok a) b next p gots k is of single entries promised limits fits seats
       buffers = rest.buffers;
       free_are = subst (λ (x : Parts). AreOf b.region.region x.free.free) (sym rest.parts) k.free_are;
       lines_are = subst (Each (HasBuffersOf b.region.region)) (sym (line here.state here.state_here))
-          (each-set (HasBuffersOf b.region.region) b.ports.items p.place (with_line (line_after_put (lot_id (length h + 1)) (taken_gots p gots) here.state.line) here.state) k.lines_are
-          (of-put b.region.region (lot_id (length h + 1)) (taken_gots p gots) here.state (of-first b.region.region p.took gots of)
+          (each-set (HasBuffersOf b.region.region) b.ports.items p.place (with_line (line_after_put (lease_id (length h + 1)) (taken_gots p gots) here.state.line) here.state) k.lines_are
+          (of-put b.region.region (lease_id (length h + 1)) (taken_gots p gots) here.state (of-first b.region.region p.took gots of)
           (each-at (HasBuffersOf b.region.region) b.ports.items p.place here.state k.lines_are here.state_here)));
     }
 

@@ -53,15 +53,18 @@ use Rattle.vale_parts.proofs.BatchWants.{reads_replied}
 use Rattle.vale_parts.proofs.CountsKept.{open_counted}
 use Rattle.vale_parts.proofs.OffersKept.{reads_start, offers_start}
 use Rattle.vale_book.specs.declared.book.Book.TheInside.{Inside}
-use Rattle.vale_book.specs.declared.reading.Reading.{Reading}
-use Rattle.vale_book.specs.declared.reading.Synced.{Synced}
-use Rattle.vale_book.specs.BookView.{recorded, parts_in, AreOf, HasBuffersOf, IsBook}
-use Rattle.vale_book.specs.Monitored.{offers_to}
-use Rattle.vale_book.specs.Offering.{OffersState, IsOfferBy}
-use Rattle.vale_book.specs.Reading.{read_ask, wants_read, dests_read, room_of_read, read_entry, count_read, IsGivenOf, IsOfferedOf}
+use Rattle.vale_steps.specs.declared.reading.Reading.{Reading}
+use Rattle.vale_steps.specs.declared.reading.Synced.{Synced}
+use Rattle.nm_region.specs.Regions.{AreOf}
+use Rattle.vale_book.specs.BookView.{recorded, parts_in, HasBuffersOf, IsBook}
+use Rattle.vale_steps.specs.Monitored.{offers_to}
+use Rattle.vale_steps.specs.Offering.{OffersState, IsOfferBy}
+use Rattle.vale_steps.specs.Reading.{read_ask, wants_read, dests_read, room_of_read, read_entry, count_read}
+use Rattle.vale_book.specs.Reading.{IsGivenOf, IsOfferedOf}
 use Rattle.vale_book.specs.Recorded.{entry_of, IsRefusal}
+use Rattle.vale_steps.proofs.ReadBytes.{no-bytes}
 use Rattle.vale_book.proofs.Found.{open_at, open-here, never-missing as never-closed}
-use Rattle.vale_book.proofs.MonitoredWants.{wants-monitored}
+use Rattle.vale_steps.proofs.MonitoredWants.{wants-monitored}
 use Rattle.vale_book.proofs.Moves.{Moves, Stays, before, fits-step, full-step, entries-few}
 use Rattle.vale_book.proofs.OfferedTo.{by-session, StandOffered, offered-to}
 use Rattle.vale_book.proofs.Rooms.{step-recorded}
@@ -69,10 +72,6 @@ use Rattle.vale_book.proofs.Standing.{IsHere, ports-rising}
 use Rattle.vale_book.proofs.PortLines.{of-synced, of-given}
 
 -- ---- the two asks
-
-pub no-bytes : (pipe : Bool) (at : PortId) (back : List ℕ) (reply : Reply) → bytes_of (read_ask pipe at back) reply ≡ 0
-no-bytes true at back reply = refl
-no-bytes false at back reply = refl
 
 kept-read : (pipe : Bool) (at : PortId) (back : List ℕ) → kept_ask (read_ask pipe at back) ≡ read_ask pipe at back
 kept-read true at back = refl
@@ -360,5 +359,3 @@ pub offered-on : {E : Type 0} (made : Result Synced E) (b next : Inside) (r : Re
     → IfOk made (λ (x : Synced). (p : Port) → open_port (before b).world.ports r.at.0 ≡ Some p → IsOfferedOf (recorded b) (recorded next) p x.offers)
 offered-on (Err e) b next r back k is pool entries offered = tt
 offered-on (Ok x) b next r back k is pool entries offered = read-offered b next r back x.offers k is pool entries offered
-
-pub ruleset reads = (no-bytes)

@@ -24,12 +24,12 @@ use Rattle.vale_port.specs.Seat.{Seat, seats_of}
 use Rattle.vale_port.proofs.Lists.{seats-at}
 use Rattle.vale_parts.specs.Batches.{dests_wanted}
 use Rattle.vale_book.specs.declared.book.Book.TheInside.{Inside}
-use Rattle.vale_book.specs.declared.reading.Reading.{Reading}
-use Rattle.vale_book.specs.declared.reading.Synced.{Synced}
+use Rattle.vale_steps.specs.declared.reading.Reading.{Reading}
+use Rattle.vale_steps.specs.declared.reading.Synced.{Synced}
 use Rattle.vale_book.specs.BookView.{IsBook}
-use Rattle.vale_book.specs.Monitored.{offers_to}
-use Rattle.vale_book.specs.Offering.{OffersState}
-use Rattle.vale_book.specs.Reading.{read_ask, wants_read, dests_read}
+use Rattle.vale_steps.specs.Monitored.{offers_to}
+use Rattle.vale_steps.specs.Offering.{OffersState}
+use Rattle.vale_steps.specs.Reading.{read_ask, wants_read, dests_read}
 use Rattle.vale_book.proofs.Moves.{before}
 use Rattle.vale_book.proofs.ReadMoves.{IsReading, read_made, entry-is}
 use Rattle.vale_book.proofs.RingSizes.{delivered-few}

@@ -8,7 +8,8 @@ use Rattle.nm_types.specs.declared.fault.OpenFault.TheVariants.{BadSize}
 use Rattle.nm_types.proofs.Sizes.{size_of_frames-length}
 use Rattle.vale_entry.specs.declared.entry.Entry.{Entry}
 use Rattle.vale_entry.specs.World.{World, Port, free_count}
-use Rattle.vale_entry.specs.Opening.{is_ring_size, are_sizes, name_refusal, refusal_or_room, open_refusal}
+use Rattle.nm_types.specs.Openings.{open_refusal as names_refusal}
+use Rattle.vale_entry.specs.Opening.{is_ring_size, are_sizes, names_of, refusal_or_room, open_refusal}
 use Rattle.vale_entry.specs.Delivery.{delivered_frames, port_after_done, port_after_sync}
 use Rattle.vale_entry.specs.Closing.{shut}
 use Rattle.vale_entry.specs.Laws.{HasRoom}
@@ -37,7 +38,7 @@ sizes-first false rest none = absurd cc
 
 opened-ring : (w : World) (name : List ℕ) (tx rx extra : ℕ) → open_refusal w name tx rx extra ≡ None → rx ≤ most_ring
 opened-ring w name tx rx extra none =
-    let sizes = sizes-first (are_sizes name tx rx extra) _ (none-first (name_refusal w.ports name tx rx extra) (tx + rx + extra) (free_count w) none) in
+    let sizes = sizes-first (are_sizes name tx rx extra) _ (none-first (names_refusal (names_of w.ports) name tx rx extra) (tx + rx + extra) (free_count w) none) in
     let ring = (and_parts (is_ring_size rx) (nat_le extra 1024) (and_parts _ (is_ring_size rx && nat_le extra 1024) sizes).1).0 in
     leb-true rx 1024 (and_parts (nat_le 2 rx) (nat_le rx 1024) ring).1
 

@@ -43,12 +43,15 @@ use Rattle.vale_parts.proofs.CountsKept.{open_counted}
 use Rattle.vale_parts.proofs.Additions.{additions_fit}
 use Rattle.vale_parts.proofs.OffersKept.{offers_start, sends_start}
 use Rattle.vale_book.specs.declared.book.Book.TheInside.{Inside}
-use Rattle.vale_book.specs.declared.tables.NamedTable.{NamedTable}
-use Rattle.vale_book.specs.NamedTables.{is_for_switch}
-use Rattle.vale_book.specs.BookView.{recorded, parts_in, table_seen, number_of_session, AreOf, IsBook}
+use Rattle.vale_steps.specs.declared.tables.NamedTable.{NamedTable}
+use Rattle.vale_steps.specs.NamedTables.{is_for_switch}
+use Rattle.vale_steps.specs.NamedTables.{table_seen}
+use Rattle.nm_region.specs.Regions.{AreOf}
+use Rattle.vale_book.specs.BookView.{recorded, parts_in, number_of_session, IsBook}
 use Rattle.vale_book.specs.Recorded.{entry_of, standing, IsRefusal}
-use Rattle.vale_book.specs.Offering.{OffersState, IsOfferBy}
-use Rattle.vale_book.specs.Sending.{all_wants, classed, send_entry, send_room, send_offers, sent_counts, IsSent}
+use Rattle.vale_steps.specs.Offering.{OffersState, IsOfferBy}
+use Rattle.vale_steps.specs.Sending.{all_wants, classed, send_entry, send_room, send_offers, sent_counts}
+use Rattle.vale_book.specs.Sending.{IsSent}
 use Rattle.vale_book.proofs.Moves.{Moves, before, full-step, fits-step, entries-few}
 use Rattle.vale_book.proofs.Standing.{ports-rising}
 use Rattle.vale_book.proofs.Found.{IsOpenHere, open_at, open-here, session-here}

@@ -19,10 +19,10 @@ use Rattle.vale_parts.specs.Tables.{Finds}
 use Rattle.vale_parts.specs.SwitchTables.{TablesAre, IsTableIn, HasTable, has_table, is_table_of, tables_after}
 use Rattle.vale_parts.specs.BatchLaws.{IsSender}
 use Rattle.vale_parts.proofs.AllParts.{sends_teach}
-use Rattle.vale_book.specs.declared.tables.NamedTable.{NamedTable}
-use Rattle.vale_book.specs.NamedTables.{is_for_switch}
-use Rattle.vale_book.specs.BookView.{table_seen}
-use Rattle.vale_book.proofs.NamedTables.{found-table, table-none}
+use Rattle.vale_steps.specs.declared.tables.NamedTable.{NamedTable}
+use Rattle.vale_steps.specs.NamedTables.{is_for_switch}
+use Rattle.vale_steps.specs.NamedTables.{table_seen}
+use Rattle.vale_steps.proofs.NamedTables.{found-table, table-none}
 
 -- what is put back in its place
 pub set-back : {X : Type 0} (xs : List X) (at : ℕ) (x other : X) → slice_get xs at ≡ Some x → slice_set (slice_set xs at other) at x ≡ xs

@@ -20,14 +20,15 @@ use Rattle.vale_port.specs.Ports.{PortState}
 use Rattle.vale_port.specs.Seat.{seat_shut}
 use Rattle.vale_port.proofs.Lists.{shut_is_shut}
 use Rattle.vale_book.specs.declared.book.Book.TheInside.{Inside}
-use Rattle.vale_book.specs.declared.tables.NamedTable.{NamedTable}
-use Rattle.vale_book.specs.BookView.{recorded, table_seen, HasBuffersOf, IsBook}
+use Rattle.vale_steps.specs.declared.tables.NamedTable.{NamedTable}
+use Rattle.vale_steps.specs.NamedTables.{table_seen}
+use Rattle.vale_book.specs.BookView.{recorded, HasBuffersOf, IsBook}
 use Rattle.vale_book.specs.Recorded.{HasRoomFor}
-use Rattle.vale_book.specs.NamedTables.{is_for_switch, without_port, IsForgottenOn}
+use Rattle.vale_steps.specs.NamedTables.{is_for_switch, without_port, IsForgottenOn}
 use Rattle.vale_book.proofs.Moves.{Moves, before}
 use Rattle.vale_book.proofs.Standing.{ports-rising}
 use Rattle.vale_book.proofs.Found.{IsOpenHere, session-here}
-use Rattle.vale_book.proofs.NamedTables.{table-none}
+use Rattle.vale_steps.proofs.NamedTables.{table-none}
 
 -- the open port that is to be shut
 abbrev pub ShutsAt : Inside → PortId → ℕ → Type 0

@@ -1,6 +1,5 @@
 -- What a book's ports say of the world, and whose buffers they have.
-use Rattle.std.proofs.Common.{ℕ, zero, suc, Bool, true, ◌≡◌, ◌<◌, List, [], ◌∷◌, ◌++◌, take, length, slice_get, map, Option, Some, None, option_map, arith, refl, sym, ◌∙◌, ap, subst}
-use Rattle.std.specs.List.{AllByRecursion as Each, remove}
+use Rattle.std.proofs.Common.{ℕ, zero, suc, Bool, true, ◌≡◌, ◌<◌, List, [], ◌∷◌, ◌++◌, length, slice_get, map, Option, Some, None, option_map, arith, refl, sym, ◌∙◌, ap, subst}
 use Rattle.std.proofs.lemmas.Option.{slice_get-map}
 use Rattle.vale_entry.specs.declared.entry.Entry.{Entry}
 use Rattle.vale_entry.specs.World.{Port}
@@ -9,29 +8,9 @@ use Rattle.vale_entry.proofs.HistoryLaws.{numbers-rise, holdings-agree}
 use Rattle.vale_port.specs.Seat.{port_of, seats_of}
 use Rattle.vale_port.specs.Lists.{IsFoundAt, IsNotFound, AreRising, StandsAt}
 use Rattle.vale_port.proofs.Lists.{are-length, seats-ports, each_port_stands, found_is_found, not_found_is_none}
+pub use Rattle.vale_steps.proofs.Lists.{each-left, each-right, each-take}
 use Rattle.vale_book.specs.declared.book.Book.TheInside.{Inside}
 use Rattle.vale_book.specs.BookView.{StandsFor}
-
--- ---- lists
-
-pub each-remove : {X : Type 0} (P : X → Type 0) (xs : List X) (place : ℕ) → Each P xs → Each P (remove xs place)
-each-remove P [] zero all = tt
-each-remove P [] (suc place) all = tt
-each-remove P (x ∷ xs) zero all = all.1
-each-remove P (x ∷ xs) (suc place) all = (all.0, each-remove P xs place all.1)
-
-pub each-left : {X : Type 0} (P : X → Type 0) (xs ys : List X) → Each P (xs ++ ys) → Each P xs
-each-left P [] ys all = tt
-each-left P (x ∷ xs) ys all = (all.0, each-left P xs ys all.1)
-
-pub each-right : {X : Type 0} (P : X → Type 0) (xs ys : List X) → Each P (xs ++ ys) → Each P ys
-each-right P [] ys all = all
-each-right P (x ∷ xs) ys all = each-right P xs ys all.1
-
-pub each-take : {X : Type 0} (P : X → Type 0) (n : ℕ) (xs : List X) → Each P xs → Each P (take n xs)
-each-take P zero xs all = tt
-each-take P (suc n) [] all = tt
-each-take P (suc n) (x ∷ xs) all = (all.0, each-take P n xs all.1)
 
 -- ---- ports
 

@@ -2,10 +2,10 @@
 use Rattle.std.specs.Prelude.{ℕ, ◌≡◌, ◌<◌, ◌≤◌, ◌^◌, ◌++◌, List, length, map}
 use Rattle.std.specs.List.{AllByRecursion}
 use Rattle.nm_types.specs.Limits.{most_switches}
-use Rattle.nm_types.specs.Names.{switch_of}
 use Rattle.nm_types.specs.Buffers.{IsPoolSize}
 use Rattle.nm_types.specs.declared.id.SessionId.{SessionId}
 use Rattle.nm_region.specs.Buffers.{Buffer}
+pub use Rattle.nm_region.specs.Regions.{IsBufferOf, AreOf}
 use Rattle.vale_line.specs.Gots.{buffers_of}
 use Rattle.vale_line.specs.Lines.{held_gots}
 use Rattle.vale_entry.specs.declared.entry.Entry.{Entry}
@@ -13,31 +13,19 @@ use Rattle.vale_entry.specs.Legal.{world_of, holdings_of, IsLegal}
 use Rattle.vale_entry.specs.Room.{promised_of}
 use Rattle.vale_port.specs.Ports.{PortState}
 use Rattle.vale_port.specs.Lists.{ArePortsOf}
-use Rattle.vale_parts.specs.SwitchTables.{SwitchTable}
 use Rattle.vale_parts.specs.Parts.{Parts, PartsAre}
+use Rattle.vale_steps.specs.NamedTables.{table_seen}
 use Rattle.vale_book.specs.declared.book.Book.TheInside.{Inside}
-use Rattle.vale_book.specs.declared.tables.NamedTable.{NamedTable}
 use Rattle.vale_book.specs.Recorded.{Recorded, HadRoom}
 
 abbrev pub recorded : Inside → Recorded
 recorded b = record { pool = b.pool.buffers; region = b.region.region; limits = b.history.limits; entries = b.history.entries }
-
--- a switch's table is kept under a name on that switch
-abbrev pub table_seen : NamedTable → SwitchTable
-table_seen table = record { switch = switch_of table.label; entries = table.table }
 
 abbrev pub parts_in : Inside → Parts
 parts_in b = record { names = b.names; tables = map table_seen b.tables.items; watches = b.watches; tally = b.tally; free = b.pool }
 
 abbrev pub number_of_session : SessionId → ℕ
 number_of_session session = session.0
-
--- buffers of a region
-abbrev pub IsBufferOf : ℕ → Buffer → Type 0
-IsBufferOf region b = b.region ≡ region
-
-abbrev pub AreOf : ℕ → List Buffer → Type 0
-AreOf region bufs = AllByRecursion (IsBufferOf region) bufs
 
 abbrev pub buffers_in_port : PortState → List Buffer
 buffers_in_port p = p.line.idle ++ buffers_of (held_gots p.line.lots)

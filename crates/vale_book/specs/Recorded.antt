@@ -7,7 +7,8 @@ use Rattle.nm_types.specs.declared.fault.StepFault.TheVariants.{RecordFull, NoMe
 use Rattle.vale_entry.specs.declared.entry.Ask.{Ask}
 use Rattle.vale_entry.specs.declared.entry.Entry.{Entry}
 use Rattle.vale_entry.specs.declared.entry.Reply.{Reply}
-use Rattle.vale_entry.specs.Legal.{Standing, Outcome, step, recorded_step, standing_of, kept_ask}
+pub use Rattle.vale_entry.specs.Legal.{entry_of}
+use Rattle.vale_entry.specs.Legal.{Standing, Outcome, step, recorded_step, standing_of}
 use Rattle.vale_entry.specs.Room.{room_used, bytes_of, frame_bytes}
 
 -- the pool's size, the number of the region whose buffers it has, the limits, and the entries
@@ -19,10 +20,6 @@ pub record Recorded : Type 0 where
 
 abbrev pub standing : Recorded → Standing
 standing b = standing_of b.pool b.entries
-
--- the entry of a step, as it is stored
-abbrev pub entry_of : Ask → Outcome → Entry
-entry_of ask made = record { session = record { 0 = made.session }; ask = kept_ask ask; reply = made.reply }
 
 -- the record with the entry of a step more
 abbrev pub with_step : Recorded → Ask → Outcome → Recorded

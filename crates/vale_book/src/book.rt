@@ -5,7 +5,6 @@ ghost use Rattle.vale_entry.specs.Legal.{IsLegal};
 ghost use Rattle.vale_entry.specs.Room.{promised_of};
 ghost use Rattle.vale_book.specs.Recorded.{standing, HadRoom, IsWithinLimits};
 
-use crate::tables::NamedTable;
 use nm_count::Tally;
 use nm_pool::Pool;
 use nm_region::Region;
@@ -16,6 +15,7 @@ use std::marker::Model;
 use vale_entry::History;
 use vale_names::Names;
 use vale_port::Port;
+use vale_steps::tables::NamedTable;
 
 /// The switches, pipes and monitors with all their parts, and the record of every step. It cannot be
 /// dropped: `close` frees its region.

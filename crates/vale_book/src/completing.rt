@@ -9,9 +9,9 @@ ghost use Rattle.vale_port.specs.Laws.{with_line};
 ghost use Rattle.vale_port.specs.Lists.{ChangesSeatIf, OfState};
 ghost use Rattle.vale_port.specs.Ports.{IsFilledFor};
 ghost use Rattle.vale_port.specs.Seat.{seat_done};
-ghost use Rattle.vale_book.specs.BookView.{AreOf};
-ghost use Rattle.vale_book.specs.Granting.{lease_id};
-ghost use Rattle.vale_book.specs.Offering.{IsFilledIn};
+ghost use Rattle.nm_region.specs.Regions.{AreOf};
+ghost use Rattle.vale_steps.specs.Granting.{lease_id};
+ghost use Rattle.vale_steps.specs.Offering.{IsFilledIn};
 ghost use Rattle.vale_book.specs.Recorded.{standing, after_ask, HasRoom};
 
 use crate::book::Book;

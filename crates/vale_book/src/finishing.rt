@@ -8,16 +8,16 @@ ghost use Rattle.vale_entry.specs.declared.entry.Reply.TheVariants as replies;
 ghost use Rattle.vale_entry.specs.Closing.{leases_out};
 ghost use Rattle.vale_entry.specs.Legal.{IsEnabled, reply_to};
 ghost use Rattle.vale_port.specs.Lists.{OfSeat, OfState};
-ghost use Rattle.vale_book.specs.BookView.{AreOf};
+ghost use Rattle.nm_region.specs.Regions.{AreOf};
 ghost use Rattle.vale_book.specs.Recorded.{standing, after_ask, HasRoom};
 
 use crate::book::Book;
-use crate::buffers::{give_back, indices_into};
 use crate::noting::session_at;
 use nm_region::Buf;
 use nm_types::{Chain, PortId};
 use vale_entry::{Ask, Entry, Numbers, Reply};
 use vale_port::{Port, close_at, shutting_port};
+use vale_steps::buffers::{give_back, indices_into};
 
 /// Why a port cannot go yet, and the buffers that were handed over.
 pub struct LeasesOut {

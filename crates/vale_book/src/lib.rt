@@ -5,7 +5,6 @@
 
 mod asking;
 mod book;
-mod buffers;
 mod closing;
 mod coming;
 mod completing;
@@ -13,26 +12,22 @@ mod fault;
 mod finishing;
 mod granting;
 mod leaving;
-mod monitored;
 mod noting;
-mod offers;
 mod opening;
 mod putting;
 mod reading;
 mod sending;
 mod shutting;
-mod tables;
 #[cfg(test)]
 mod tests;
-mod wanting;
 mod watching;
 
 pub use asking::{PortSeen, Ready};
 pub use book::Book;
 pub use fault::PutFault;
 pub use finishing::LeasesOut;
-pub use granting::Granted;
-pub use offers::Offers;
-pub use opening::Opened;
-pub use putting::Put;
-pub use reading::Synced;
+pub use vale_steps::granting::Granted;
+pub use vale_steps::offers::Offers;
+pub use vale_steps::opening::Opened;
+pub use vale_steps::putting::Put;
+pub use vale_steps::reading::Synced;

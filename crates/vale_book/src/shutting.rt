@@ -4,14 +4,14 @@ ghost use Rattle.vale_entry.specs.declared.entry.Ask.TheVariants as asks;
 ghost use Rattle.vale_entry.specs.Legal.{IsEnabled};
 ghost use Rattle.vale_port.specs.Lists.{OfState};
 ghost use Rattle.vale_book.specs.Recorded.{standing, after_ask, HasRoom};
-ghost use Rattle.vale_book.specs.NamedTables.{is_for_switch, IsForgottenAt, IsForgottenOn};
+ghost use Rattle.vale_steps.specs.NamedTables.{is_for_switch, IsForgottenAt, IsForgottenOn};
 
 use crate::book::Book;
 use crate::noting::session_at;
-use crate::tables::{NamedTable, table_of};
 use nm_types::{Name, PortId};
 use vale_entry::{Ask, Entry, Reply};
 use vale_port::{Port, open_port, shut_at};
+use vale_steps::tables::{NamedTable, table_of};
 
 /// Returns the name of the port at a place.
 pub(crate) fn name_at(ports: &[Port], place: usize) -> Name

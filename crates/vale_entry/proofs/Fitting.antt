@@ -1,6 +1,6 @@
 -- Each entry of a legal history fits its fields: its numbers are those of entries, of buffers of
 -- the pool, of counters, or such as an ask may bear.
-use Rattle.std.specs.List.{AllByRecursion as Each, list_all, list_any}
+use Rattle.std.specs.List.{AllByRecursion as Each, list_all}
 use Rattle.std.proofs.Common.{ℕ, ◌+◌, ◌*◌, ◌^◌, ◌<◌, ◌≤◌, ◌≡◌, Bool, true, false, cond, not, ◌&&◌, ◌==◌, nat_lt, List, [], ◌∷◌, ◌++◌, find, length, flat_map, sum_by, Option, Some, None, sym, subst, arith, length-append}
 use Rattle.std.proofs.lemmas.Bool.{and_parts, leb-true, ltb-true, eqb-true, not-true}
 use Rattle.std.proofs.lemmas.List.{length-map}
@@ -25,7 +25,8 @@ use Rattle.vale_entry.specs.World.{World, Port, Offer, PortCounts, transmit_moni
 use Rattle.vale_entry.specs.Learning.{is_short}
 use Rattle.vale_entry.specs.Lookup.{is_lone}
 use Rattle.vale_entry.specs.Offers.{offers_of, dest_of, dests_of, is_offer_of, wanted_frames, monitored_frames}
-use Rattle.vale_entry.specs.Opening.{are_sizes, finds_switches_full, finds_ports_full, has_name, name_refusal, refusal_or_room, open_refusal}
+use Rattle.nm_types.specs.Openings.{finds_switches_full, finds_ports_full, finds_name_taken, open_refusal as names_refusal}
+use Rattle.vale_entry.specs.Opening.{are_sizes, names_of, refusal_or_room, open_refusal}
 use Rattle.vale_entry.specs.Grant.{grant_reply_at}
 use Rattle.vale_entry.specs.Delivery.{is_lease, line_of, frames_of_lot, delivered_frames}
 use Rattle.vale_entry.specs.Closing.{is_shutting_at, unread_count}
@@ -94,10 +95,10 @@ refusal-fits w name tx rx extra fault e one two three pool =
     let c = small-fits extra three in
     let have : free_count w ≤ w.pool = omega arith in
     let all : FitsRefused (open_refusal w name tx rx extra) = room-fits
-    (name_refusal w.ports name tx rx extra) (tx + rx + extra) (free_count w)
+    (names_refusal (names_of w.ports) name tx rx extra) (tx + rx + extra) (free_count w)
     (omega (arith, a, b, c)) (omega (arith, pool, have))
-    (name-fits (are_sizes name tx rx extra) (finds_switches_full w.ports name)
-    (finds_ports_full w.ports name) (list_any (has_name name) w.ports)) in
+    (name-fits (are_sizes name tx rx extra) (finds_switches_full (names_of w.ports) name)
+    (finds_ports_full (names_of w.ports) name) (finds_name_taken (names_of w.ports) name)) in
     subst FitsRefused e all
 
 pair-fits : (a b : ℕ) → (fits_u32 a && fits_u32 b) ≡ true → FitsU64 a × FitsU64 b

@@ -4,11 +4,9 @@ use Rattle.std.proofs.Common.{ℕ, ◌≡◌, ◌≤◌, inl, inr, length, arith
 use Rattle.std.specs.List.{AllByRecursion as Each, list_any}
 use Rattle.std.proofs.lemmas.Bool.{eqb-true, eq-eqb, not-true}
 use Rattle.nm_types.specs.Frames.{Frame}
-use Rattle.vale_entry.specs.declared.entry.Destination.{Destination}
-use Rattle.vale_entry.specs.declared.entry.Destination.TheVariants.{Nobody, Only, Others}
 use Rattle.vale_entry.specs.World.{Port, Pair}
 use Rattle.vale_entry.specs.Learning.{is_short, learned}
-use Rattle.vale_entry.specs.Lookup.{destination_of, is_named, is_other_port, names_some_port}
+use Rattle.vale_entry.specs.Lookup.{Destination, These, Others, destination_of, is_named, is_other_port, names_some_port}
 use Rattle.vale_entry.specs.Delivered.{Brought, frames_brought, grants_to, puts_to, brought_to}
 use Rattle.vale_entry.specs.Fate.{wanted_at, Share, shares_at, is_brought_of, granted_at, puts_at}
 use Rattle.vale_entry.specs.DeliveryLaws.{IsPrefixOfWanted, IsTaken, IsBroughtFor, GivenOnlyByWanted, ShortAndLoneAreForNobody}
@@ -115,8 +113,8 @@ for_nobody :
     (ports : List Port) (sender : Port) (destination : Destination)
     → not (names_some_port ports sender destination) ≡ true
     → Each (λ (port : Port). is_named sender destination port ≡ false) ports
-for_nobody ports sender Nobody e = each-all (λ (port : Port). false ≡ false) (λ port. refl) ports
-for_nobody ports sender (Only id) e = absurd cc
+for_nobody ports sender (These []) e = each-all (λ (port : Port). false ≡ false) (λ port. refl) ports
+for_nobody ports sender (These (id ∷ ids)) e = absurd cc
 for_nobody ports sender Others e =
     each-none (is_other_port sender) ports (not-true (list_any (is_other_port sender) ports) e)
 

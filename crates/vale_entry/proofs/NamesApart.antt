@@ -1,10 +1,11 @@
 -- No two ports that are there bear one name: a name that is taken is refused.
-use Rattle.std.proofs.Common.{ℕ, ◌+◌, ◌≡◌, Bool, true, false, cond, not, ◌==◌, List, [], ◌∷◌, ◌++◌, map, filter, length, Option, Some, None, refl, sym, subst}
-use Rattle.std.specs.List.{AllByRecursion as Each, list_any}
+use Rattle.std.proofs.Common.{ℕ, ◌+◌, ◌≡◌, Bool, true, false, cond, not, ◌==◌, List, [], ◌∷◌, ◌++◌, map, filter, length, Option, Some, None, refl, sym, subst, bytes_eq}
+use Rattle.std.specs.List.{AllByRecursion as Each}
 use Rattle.nm_types.specs.declared.fault.OpenFault.{OpenFault}
 use Rattle.nm_types.specs.declared.fault.OpenFault.TheVariants.{BadSize, SwitchesFull, PortsFull, NameTaken}
+use Rattle.nm_types.specs.Openings.{finds_switches_full, finds_ports_full, is_same_name, finds_name_taken, open_refusal as names_refusal}
 use Rattle.vale_entry.specs.World.{World, Port, free_count, changed_if, changed_at}
-use Rattle.vale_entry.specs.Opening.{are_sizes, finds_switches_full, finds_ports_full, has_name, name_refusal, refusal_or_room, open_refusal, opened_port}
+use Rattle.vale_entry.specs.Opening.{are_sizes, name_of_port, names_of, refusal_or_room, open_refusal, opened_port}
 use Rattle.vale_entry.specs.Grant.{port_after_grant, granted_frames}
 use Rattle.vale_entry.specs.Delivery.{port_after_done, port_after_sync}
 use Rattle.vale_entry.specs.Closing.{shut}
@@ -12,7 +13,7 @@ use Rattle.vale_entry.specs.Pipe.{frames_of_items, port_after_put}
 use Rattle.vale_entry.specs.Legal.{Standing, standing_of, world_of, IsLegal, Follows}
 use Rattle.vale_entry.specs.declared.entry.Entry.{Entry}
 use Rattle.vale_entry.specs.Laws.{IsNamedApart, AreNamedApart, NamesDiffer}
-use Rattle.vale_entry.proofs.Each.{each-none, each-append, each-map}
+use Rattle.vale_entry.proofs.Each.{each-none, each-append, each-map, each-unmap}
 use Rattle.vale_entry.proofs.Removals.{each-filter}
 use Rattle.vale_entry.proofs.Worlds.{standing-push}
 use Rattle.vale_entry.proofs.Told.{history-by}
@@ -39,15 +40,19 @@ unrefused-name None want have e = refl
 
 free-name :
     (w : World) (name : List ℕ) (tx rx extra : ℕ) → open_refusal w name tx rx extra ≡ None
-    → list_any (has_name name) w.ports ≡ false
+    → Each (λ (p : Port). bytes_eq p.name name ≡ false) w.ports
 free-name w name tx rx extra e =
-    free-name_by (are_sizes name tx rx extra) (finds_switches_full w.ports name)
-    (finds_ports_full w.ports name) (list_any (has_name name) w.ports)
-    (unrefused-name (name_refusal w.ports name tx rx extra) (tx + rx + extra) (free_count w) e)
+    let names = names_of w.ports in
+    let free =
+    free-name_by (are_sizes name tx rx extra) (finds_switches_full names name)
+    (finds_ports_full names name) (finds_name_taken names name)
+    (unrefused-name (names_refusal names name tx rx extra) (tx + rx + extra) (free_count w) e) in
+    each-unmap (λ (other : List ℕ). is_same_name name other ≡ false) name_of_port w.ports
+    (each-none (is_same_name name) names free)
 
 apart-push :
     (ports : List Port) (new : Port) → AreNamedApart ports
-    → Each (λ (p : Port). has_name new.name p ≡ false) ports → AreNamedApart (ports ++ new ∷ [])
+    → Each (λ (p : Port). bytes_eq p.name new.name ≡ false) ports → AreNamedApart (ports ++ new ∷ [])
 apart-push [] new k free = (tt, tt)
 apart-push (p ∷ ps) new k free =
     (each-append (IsNamedApart p) ps (new ∷ []) k.0 (free.0, tt), apart-push ps new k.1 free.1)
@@ -98,7 +103,7 @@ apart_kinds s k = record {
   quiet = λ ask session reply quiet. k;
   opens = λ session name tx rx extra can refusal.
       apart-push s.world.ports (opened_port (s.world.entry_count + 1) session.0 name tx rx extra) k
-      (each-none (has_name name) s.world.ports (free-name s.world name tx rx extra refusal));
+      (free-name s.world name tx rx extra refusal);
   sends = λ from frames port e can settled. k;
   grants =
       λ origin to offer first same.

@@ -1,7 +1,6 @@
 -- Each entry of a legal history is printable at its number.
 use Rattle.std.specs.List.{cons_option, list_all}
 use Rattle.std.proofs.Common.{ℕ, ◌+◌, ◌<◌, ◌≡◌, ◌==◌, ◌&&◌, not, Bool, true, false, cond, nat_lt, List, [], ◌∷◌, map, length, IsTrue, Option, Some, None, refl, subst, arith}
-use Rattle.std.specs.List.{list_any}
 use Rattle.std.proofs.lemmas.Bool.{eq-eqb, lt-ltb, and_parts}
 use Rattle.nm_types.specs.Frames.{Frame}
 use Rattle.nm_types.specs.Names.{is_name, IsName, is_monitor_name}
@@ -17,7 +16,8 @@ use Rattle.vale_entry.specs.declared.entry.Dest.{Dest}
 use Rattle.vale_entry.specs.declared.entry.Entry.{Entry}
 use Rattle.vale_entry.specs.World.{World, Port, Offer, open_port, free_count, transmit_monitor, receive_monitor}
 use Rattle.vale_entry.specs.Offers.{offers_of, offer_to, dests_of, wanted_frames, monitored_frames}
-use Rattle.vale_entry.specs.Opening.{are_sizes, finds_switches_full, finds_ports_full, has_name, name_refusal, refusal_or_room, open_refusal}
+use Rattle.nm_types.specs.Openings.{finds_switches_full, finds_ports_full, finds_name_taken, open_refusal as names_refusal}
+use Rattle.vale_entry.specs.Opening.{are_sizes, names_of, refusal_or_room, open_refusal}
 use Rattle.vale_entry.specs.Grant.{grant_reply_at}
 use Rattle.vale_entry.specs.Delivery.{delivered_frames}
 use Rattle.nm_types.specs.SyncFaults.{is_check_fault}
@@ -125,9 +125,9 @@ printed-refused :
     → ((asked.0 == asked.0) && (is_name name && is_refusal fault)) ≡ true
 printed-refused w asked name tx rx extra fault e named =
     let well : IsRefusedWell (open_refusal w name tx rx extra) = room-well
-    (name_refusal w.ports name tx rx extra) (tx + rx + extra) (free_count w)
-    (name-refusal-well (are_sizes name tx rx extra) (finds_switches_full w.ports name)
-    (finds_ports_full w.ports name) (list_any (has_name name) w.ports)) in
+    (names_refusal (names_of w.ports) name tx rx extra) (tx + rx + extra) (free_count w)
+    (name-refusal-well (are_sizes name tx rx extra) (finds_switches_full (names_of w.ports) name)
+    (finds_ports_full (names_of w.ports) name) (finds_name_taken (names_of w.ports) name)) in
     both (asked.0 == asked.0) (is_name name && is_refusal fault) (eq-eqb asked.0 asked.0 refl)
     (both (is_name name) (is_refusal fault) named (subst IsRefusedWell e well))
 

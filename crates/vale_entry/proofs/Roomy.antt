@@ -9,7 +9,8 @@ use Rattle.nm_types.specs.declared.fault.OpenFault.{OpenFault}
 use Rattle.nm_types.specs.declared.fault.OpenFault.TheVariants.{BadSize, NoBuffers}
 use Rattle.vale_entry.specs.declared.entry.Entry.{Entry}
 use Rattle.vale_entry.specs.World.{World, Port, Lot, Offer, open_port, changed_at, size_of_line, space_of, buffers_of, free_count}
-use Rattle.vale_entry.specs.Opening.{is_ring_size, are_sizes, name_refusal, refusal_or_room, open_refusal, opened_port}
+use Rattle.nm_types.specs.Openings.{open_refusal as names_refusal}
+use Rattle.vale_entry.specs.Opening.{is_ring_size, are_sizes, names_of, refusal_or_room, open_refusal, opened_port}
 use Rattle.vale_entry.specs.Grant.{longest_fitting, given_at, with_lot, port_after_grant}
 use Rattle.vale_entry.specs.Delivery.{is_done_lot, ready_lots, frames_of_lot, delivered_frames, done_if, lot_after_done, port_after_done, port_after_sync}
 use Rattle.vale_entry.specs.Closing.{shut}
@@ -45,7 +46,7 @@ pub opened-room :
     → (tx + rx + extra ≤ free_count w) × (2 ≤ rx)
 opened-room w name tx rx extra e =
     let parts =
-    room-none (name_refusal w.ports name tx rx extra) (tx + rx + extra) (free_count w) e in
+    room-none (names_refusal (names_of w.ports) name tx rx extra) (tx + rx + extra) (free_count w) e in
     let sizes = sizes_by (are_sizes name tx rx extra) _ parts.0 in
     let rings = and_parts _ (is_ring_size rx && nat_le extra 1024) sizes in
     let ring = and_parts (is_ring_size rx) (nat_le extra 1024) rings.1 in

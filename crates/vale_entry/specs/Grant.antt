@@ -31,6 +31,19 @@ grant_reply_at (Some port) frames =
 abbrev pub grant_reply : World → Offer → Reply
 grant_reply w offer = grant_reply_at (open_port w.ports offer.to) offer.frames
 
+-- how many frames a reply tells as given, as refused for want of room, and for a port that is gone
+abbrev pub given_in : Reply → ℕ
+given_in (Shared given full gone) = given
+given_in _ = 0
+
+abbrev pub full_in : Reply → ℕ
+full_in (Shared given full gone) = full
+full_in _ = 0
+
+abbrev pub gone_in : Reply → ℕ
+gone_in (Shared given full gone) = gone
+gone_in _ = 0
+
 -- the line of a port with one more lot, if that has frames
 abbrev pub with_lot : ℕ → ℕ → Bool → List Frame → List Lot → List Lot
 with_lot number session done [] line = line

@@ -1,29 +1,11 @@
 -- What a switch learns: pairs of an address and the port behind which it was seen, newest first. A
 -- pair is never removed. A newer pair hides all older ones of its bucket, also where its port is no
 -- longer open, so nothing older comes back.
-use Rattle.std.specs.Prelude.{ℕ, Bool, not, ◌&&◌, ◌==◌, ◌%◌, nat_lt, if◌then◌else◌, List, ◌∷◌, length, take, drop, find, fold, Option, Some, None, slice_index, bytes_eq}
-pub use Rattle.nm_types.specs.Addresses.{bucket_of}
+use Rattle.std.specs.Prelude.{ℕ, Bool, ◌&&◌, ◌==◌, if◌then◌else◌, List, ◌∷◌, find, fold, Option, Some, None, bytes_eq}
+pub use Rattle.nm_types.specs.Addresses.{is_short, destination_address, source_address, is_group, is_learnable, bucket_of}
 use Rattle.nm_types.specs.Frames.{Frame}
 use Rattle.nm_types.specs.Names.{switch_of}
 use Rattle.vale_entry.specs.World.{Port, Pair, is_open}
-
--- the frame is too short to have addresses and a type
-abbrev pub is_short : Frame → Bool
-is_short frame = nat_lt (length frame.bytes) 14
-
-abbrev pub destination_address : Frame → List ℕ
-destination_address frame = take 6 frame.bytes
-
-abbrev pub source_address : Frame → List ℕ
-source_address frame = take 6 (drop 6 frame.bytes)
-
--- the lowest bit of the first byte tells a group address
-abbrev pub is_group : List ℕ → Bool
-is_group address = slice_index address 0 % 2 == 1
-
-abbrev pub is_learnable : Frame → Bool
-is_learnable frame =
-    not (is_short frame) && (not (is_group (source_address frame)) && not frame.no_learn)
 
 -- the pairs after a frame that the port sends
 abbrev pub learned : Port → List Pair → Frame → List Pair

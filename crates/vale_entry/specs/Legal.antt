@@ -449,6 +449,15 @@ abbrev pub kept_ask : Ask → Ask
 kept_ask (Put port offered) = PutKept port (length offered)
 kept_ask ask = ask
 
+-- the entry of an ask, as it is stored
+abbrev pub entry_by : ℕ → Ask → Reply → Entry
+entry_by session ask reply =
+    record { session = record { 0 = session }; ask = kept_ask ask; reply = reply }
+
+-- the entry of a step
+abbrev pub entry_of : Ask → Outcome → Entry
+entry_of ask made = entry_by made.session ask made.reply
+
 abbrev pub kept_items : Reply → List Item
 kept_items (Took items to) = items
 kept_items _ = []

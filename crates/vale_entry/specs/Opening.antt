@@ -1,55 +1,21 @@
--- Opening a port, and why it is refused: the first of these that holds.
-use Rattle.std.specs.Prelude.{ℕ, Bool, false, not, ◌&&◌, ◌||◌, ◌+◌, nat_le, nat_lt, if◌then◌else◌, List, [], ◌∷◌, ◌++◌, length, count_by, Option, Some, None, bytes_eq}
-use Rattle.std.specs.List.{list_any}
+-- Opening a port, and why it is refused: for its sizes or its name, or else for want of buffers.
+use Rattle.std.specs.Prelude.{ℕ, Bool, false, ◌+◌, nat_lt, if◌then◌else◌, List, [], ◌∷◌, ◌++◌, map, Option, Some, None}
 pub use Rattle.nm_types.specs.Openings.{is_ring_size, are_sizes}
-use Rattle.nm_types.specs.Limits.{most_switches, most_switch_ports, most_pipe_ends, most_monitors}
-use Rattle.nm_types.specs.Names.{switch_of, is_switch_port_name, is_pipe_name, is_monitor_name}
+use Rattle.nm_types.specs.Openings.{is_on_switch as is_name_on, open_refusal as names_refusal}
 use Rattle.nm_types.specs.declared.fault.OpenFault.{OpenFault}
-use Rattle.nm_types.specs.declared.fault.OpenFault.TheVariants.{BadSize, SwitchesFull, PortsFull, NameTaken, NoBuffers}
+use Rattle.nm_types.specs.declared.fault.OpenFault.TheVariants.{NoBuffers}
 use Rattle.vale_entry.specs.World.{Port, World, free_count}
 
--- a port of the same switch; open ports and shutting ones count
+-- the names of the ports that are there, open or shutting
+abbrev pub name_of_port : Port → List ℕ
+name_of_port port = port.name
+
+abbrev pub names_of : List Port → List (List ℕ)
+names_of ports = map name_of_port ports
+
+-- a port of this switch
 abbrev pub is_on_switch : List ℕ → Port → Bool
-is_on_switch switch port = is_switch_port_name port.name && bytes_eq (switch_of port.name) switch
-
--- one port of each switch
-abbrev pub switches_of : List Port → List Port
-switches_of [] = []
-switches_of (port ∷ ports) =
-    if is_switch_port_name port.name && not (list_any (is_on_switch (switch_of port.name)) ports)
-    then port ∷ switches_of ports
-    else switches_of ports
-
--- the name is on a switch that has no port, while four switches have one
-abbrev pub finds_switches_full : List Port → List ℕ → Bool
-finds_switches_full ports name =
-    is_switch_port_name name
-    && (not (list_any (is_on_switch (switch_of name)) ports)
-    && nat_le most_switches (length (switches_of ports)))
-
-abbrev pub has_pipe_name : Port → Bool
-has_pipe_name port = is_pipe_name port.name
-
-abbrev pub has_monitor_name : Port → Bool
-has_monitor_name port = is_monitor_name port.name
-
-abbrev pub finds_ports_full : List Port → List ℕ → Bool
-finds_ports_full ports name =
-    (is_switch_port_name name
-    && nat_le most_switch_ports (count_by (is_on_switch (switch_of name)) ports))
-    || ((is_pipe_name name && nat_le most_pipe_ends (count_by has_pipe_name ports))
-    || (is_monitor_name name && nat_le most_monitors (count_by has_monitor_name ports)))
-
-abbrev pub has_name : List ℕ → Port → Bool
-has_name name port = bytes_eq port.name name
-
-abbrev pub name_refusal : List Port → List ℕ → ℕ → ℕ → ℕ → Option OpenFault
-name_refusal ports name tx rx extra =
-    if not (are_sizes name tx rx extra) then Some BadSize
-    else (if finds_switches_full ports name then Some SwitchesFull
-    else (if finds_ports_full ports name then Some PortsFull
-    else (if list_any (has_name name) ports then Some NameTaken
-    else None)))
+is_on_switch switch port = is_name_on switch port.name
 
 abbrev pub refusal_or_room : Option OpenFault → ℕ → ℕ → Option OpenFault
 refusal_or_room (Some fault) want have = Some fault
@@ -57,7 +23,8 @@ refusal_or_room None want have = if nat_lt have want then Some (NoBuffers want h
 
 abbrev pub open_refusal : World → List ℕ → ℕ → ℕ → ℕ → Option OpenFault
 open_refusal w name tx rx extra =
-    refusal_or_room (name_refusal w.ports name tx rx extra) (tx + rx + extra) (free_count w)
+    refusal_or_room (names_refusal (names_of w.ports) name tx rx extra) (tx + rx + extra)
+    (free_count w)
 
 abbrev pub opened_port : ℕ → ℕ → List ℕ → ℕ → ℕ → ℕ → Port
 opened_port id session name tx rx extra =

@@ -1,9 +1,10 @@
 -- Worked examples of pipes, monitors, counters and resets, of what an opening is refused for, and
 -- of asks that are not enabled.
-use Rattle.std.specs.Prelude.{ℕ, ◌≡◌, ◌+◌, ◌∷◌, ◌++◌, List, [], Some, None, map, take, codes, refl, option_map}
+use Rattle.std.specs.Prelude.{ℕ, ◌≡◌, ◌+◌, ◌∷◌, ◌++◌, List, [], Option, Some, None, map, take, codes, refl, option_map}
 use Rattle.std.specs.List.{range_with_len}
 use Rattle.nm_types.specs.Names.{is_name, is_switch_port_name, is_pipe_name, is_monitor_name, switch_of, peer_name}
 use Rattle.nm_types.specs.OwnPorts.{Arrival}
+use Rattle.nm_types.specs.declared.fault.OpenFault.{OpenFault}
 use Rattle.nm_types.specs.declared.fault.OpenFault.TheVariants.{BadSize, SwitchesFull, PortsFull}
 use Rattle.nm_types.specs.declared.fault.SyncFault.TheVariants as faults
 use Rattle.nm_types.specs.declared.id.Side.TheVariants.{Tx, Rx}
@@ -12,7 +13,8 @@ use Rattle.vale_entry.specs.declared.entry.Ask.TheVariants.{Enter, Open, Send, G
 use Rattle.vale_entry.specs.declared.entry.Entry.{Entry}
 use Rattle.vale_entry.specs.declared.entry.Reply.TheVariants.{Made, Opened, Refused, Offered, Shared, Gave, Took, PeerGone, Unread, Watching, NoTarget, Watched, Counted}
 use Rattle.vale_entry.specs.World.{Port, empty_world}
-use Rattle.vale_entry.specs.Opening.{opened_port, name_refusal, open_refusal}
+use Rattle.nm_types.specs.Openings.{open_refusal as names_refusal}
+use Rattle.vale_entry.specs.Opening.{opened_port, names_of, open_refusal}
 use Rattle.vale_entry.specs.Closing.{shut}
 use Rattle.vale_entry.specs.Arrivals.{arrivals_of}
 use Rattle.vale_entry.specs.Legal.{Standing, IsLegal, standing_of, world_of, holdings_of, reply_of, reply_to, recorded_step}
@@ -418,6 +420,10 @@ all_named id before (b ∷ bs) = named id (before ++ b ∷ []) ∷ all_named (id
 
 abbrev letters : List ℕ
 letters = range_with_len 65 16
+
+-- why an opening is refused for its sizes or its name, where these ports are there
+abbrev name_refusal : List Port → List ℕ → ℕ → ℕ → ℕ → Option OpenFault
+name_refusal ports name tx rx extra = names_refusal (names_of ports) name tx rx extra
 
 fifteen_ports :
     name_refusal (all_named 2 (codes "vale0:") (take 15 letters)) (codes "vale0:zz") 2 2 0

@@ -99,17 +99,6 @@ pub struct Dest {
     pub count: u32,
 }
 
-/// Where a switch sends a frame.
-#[derive(Clone, Copy, Debug, PartialEq, Eq)]
-pub enum Destination {
-    /// To no port of the switch.
-    Nobody,
-    /// To this port alone.
-    Only(PortId),
-    /// To all other open ports of the switch.
-    Others,
-}
-
 /// What an ask is answered.
 #[derive(Clone, Drop)]
 pub enum Reply {

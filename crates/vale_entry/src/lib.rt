@@ -9,6 +9,6 @@ mod lists;
 #[cfg(test)]
 mod tests;
 
-pub use entry::{Ask, Dest, Destination, Entry, Item, Reply};
+pub use entry::{Ask, Dest, Entry, Item, Reply};
 pub use history::History;
 pub use lists::{Dests, Items, Numbers};

@@ -7,7 +7,7 @@ use Rattle.vale_entry.specs.declared.entry.Ask.TheVariants.{Put}
 use Rattle.vale_entry.specs.declared.entry.Item.{Item}
 use Rattle.vale_book.specs.declared.fault.PutFault.{PutFault}
 use Rattle.vale_book.specs.declared.fault.PutFault.TheVariants.{PeerGone, RecordFull, NoMemory}
-use Rattle.vale_book.specs.declared.putting.Put.{Put as Given}
+use Rattle.vale_steps.specs.declared.putting.Put.{Put as Given}
 use Rattle.vale_book.specs.PutFaults.{IfMade, IfNotMade, IsPutRefusal}
 use Rattle.vale_book.specs.Recorded.{Recorded, IsRefusal, refused_by}
 use Rattle.vale_fabric.specs.declared.kept.Fixed.{Fixed}

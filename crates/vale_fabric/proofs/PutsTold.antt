@@ -21,7 +21,7 @@ use Rattle.vale_entry.specs.Legal.{Outcome, IsLegal, made_at, can_put, can_offer
 use Rattle.nm_types.specs.Names.{is_pipe_name}
 use Rattle.vale_parts.specs.Batches.{dests_wanted}
 use Rattle.vale_parts.proofs.BatchWants.{puts_replied}
-use Rattle.vale_book.specs.declared.putting.Put.{Put as Given}
+use Rattle.vale_steps.specs.declared.putting.Put.{Put as Given}
 use Rattle.vale_book.specs.Putting.{item_of, items_of, copied, IsPut}
 use Rattle.vale_book.specs.Recorded.{Recorded, standing}
 use Rattle.vale_fabric.proofs.Making.{Steps}

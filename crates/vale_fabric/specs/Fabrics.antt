@@ -10,7 +10,8 @@ use Rattle.nm_types.specs.declared.fault.StepFault.{StepFault}
 use Rattle.vale_entry.specs.declared.entry.Ask.{Ask}
 use Rattle.vale_entry.specs.declared.entry.Reply.{Reply}
 use Rattle.vale_entry.specs.declared.entry.Entry.{Entry}
-use Rattle.vale_entry.specs.Legal.{kept_ask, session_and_reply, step, IsLegal}
+pub use Rattle.vale_entry.specs.Legal.{entry_by}
+use Rattle.vale_entry.specs.Legal.{session_and_reply, step, IsLegal}
 use Rattle.vale_own.specs.Asker.{asks}
 use Rattle.vale_book.specs.Recorded.{Recorded, standing, IsRefusal, HasRoom}
 use Rattle.vale_fabric.specs.declared.kept.Fixed.{Fixed}
@@ -53,9 +54,6 @@ pub record MayAsk (fixed : Fixed) (v : Knowing) (ask : Ask) : Type 0 where
   pub session : ℕ
   pub may : asks (standing (seen_in fixed v)) session ask ≡ true
   pub speaks : Stands session v.mine
-
-abbrev pub entry_by : ℕ → Ask → Reply → Entry
-entry_by session ask reply = record { session = record { 0 = session }; ask = kept_ask ask; reply = reply }
 
 -- the call made just the entry of this ask, the last of what is seen and of the pass's own
 pub record Makes (fixed : Fixed) (v w : Knowing) (ask : Ask) : Type 0 where

@@ -8,7 +8,7 @@ use Rattle.nm_types.specs.declared.fault.WatchFault.TheVariants.{NoTarget, Watch
 use Rattle.vale_entry.specs.declared.entry.Ask.{Ask}
 use Rattle.vale_entry.specs.declared.entry.Reply.TheVariants as replies
 use Rattle.vale_entry.specs.Legal.{reply_to}
-use Rattle.vale_book.specs.declared.opening.Opened.{Opened}
+use Rattle.vale_steps.specs.declared.opening.Opened.{Opened}
 use Rattle.vale_book.specs.BookView.{AreOf}
 use Rattle.vale_book.specs.OpenAnswers.{ByFault}
 use Rattle.vale_book.specs.Recorded.{Recorded, standing}

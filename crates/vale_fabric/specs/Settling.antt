@@ -8,10 +8,10 @@ use Rattle.nm_turn.specs.Shares.{IsWhole}
 use Rattle.vale_entry.specs.declared.entry.Ask.{Ask}
 use Rattle.vale_entry.specs.declared.entry.Ask.TheVariants.{Grant, Done}
 use Rattle.vale_entry.specs.declared.entry.Reply.{Reply}
-use Rattle.vale_entry.specs.declared.entry.Reply.TheVariants.{Shared}
 use Rattle.vale_entry.specs.declared.entry.Entry.{Entry}
 use Rattle.vale_batch.specs.Wants.{Wanted}
 use Rattle.vale_entry.specs.World.{Offer}
+pub use Rattle.vale_entry.specs.Grant.{given_in, full_in, gone_in}
 use Rattle.vale_entry.specs.Legal.{Standing, step, session_and_reply, IsLegal}
 use Rattle.vale_own.specs.Own.{Own, HeldLot, own_of, is_settled_own}
 use Rattle.vale_port.specs.Kept.{bytes_of}
@@ -46,18 +46,6 @@ abbrev pub IsSettlingIn : Fixed → ℕ → List Entry → ℕ × Entry → Type
 IsSettlingIn fixed session history made = IsSettling fixed session (take (made.0 - 1) history) made.1
 
 -- what entries granted
-
-abbrev pub given_in : Reply → ℕ
-given_in (Shared given full gone) = given
-given_in _ = 0
-
-abbrev pub full_in : Reply → ℕ
-full_in (Shared given full gone) = full
-full_in _ = 0
-
-abbrev pub gone_in : Reply → ℕ
-gone_in (Shared given full gone) = gone
-gone_in _ = 0
 
 -- the sums over these entries' Grants
 pub record AreShares (added : List (ℕ × Entry)) (shares : Shares) : Type 0 where

@@ -1,10 +1,11 @@
-ghost use Rattle.std.specs.Prelude.{◌≡◌, ◌+◌, ◌<◌, length, map, IfOk};
+ghost use Rattle.std.specs.Prelude.{◌≡◌, ◌+◌, ◌<◌, length, map, bytes_eq, IfOk};
 ghost use Rattle.nm_types.specs.Addresses.{word_at};
 ghost use Rattle.vale_learn.specs.AddressTable.{bucket_of, no_stations, entry_of, port_of_address, port_if_address, learned, restored, without_port, forgotten};
 
 use nm_types::{Mac, NoMemory, PortId};
 use std::alloc::Global;
 use std::marker::Model;
+use std::mem::replace;
 
 /// The number of a table's entries.
 pub const BUCKETS: usize = 1024;
@@ -35,26 +36,38 @@ impl Model for Table {
     ghost invariant = { λ t. length t.entries.value ≡ 1024 };
 }
 
-fn half_at(address: Mac, i: usize) -> u32
+fn half_at(address: &Mac, i: usize) -> u32
     requires { i + 1 < 6 }
-    ensures { result ≡ word_at address.0 i }
+    ensures { result ≡ word_at address.now.0 i }
 {
     256 * u32::from(address.0[i]) + u32::from(address.0[i + 1])
 }
 
-fn bucket_of(address: Mac) -> usize
-    ensures value { result ≡ bucket_of address.0 }
+fn bucket_of(address: &Mac) -> usize
+    ensures value { result ≡ bucket_of address.now.0 }
     ensures within { result < 1024 }
 {
     let halves = half_at(address, 0) ^ half_at(address, 2) ^ half_at(address, 4);
     halves as usize % BUCKETS
 }
 
-fn port_if_address(entry: Option<Station>, address: Mac) -> Option<PortId>
-    ensures { result ≡ port_if_address address.0 entry }
+/// Whether two addresses are the same, byte by byte.
+fn is_same(address: &Mac, other: &Mac) -> bool
+    ensures { result ≡ bytes_eq address.now.0 other.now.0 }
+{
+    for i in 0..6 {
+        if address.0[i] != other.0[i] {
+            return false;
+        }
+    }
+    true
+}
+
+fn port_if_address(entry: &Option<Station>, address: &Mac) -> Option<PortId>
+    ensures { result ≡ port_if_address address.now.0 entry.now }
 {
     match entry {
-        Some(station) if station.address == address => Some(station.port),
+        Some(station) if is_same(&station.address, address) => Some(station.port),
         _ => None,
     }
 }
@@ -92,7 +105,18 @@ impl Table {
     pub fn learn(&mut self, address: Mac, port: PortId)
         ensures { self.new ≡ learned self.old address port }
     {
-        self.entries[bucket_of(address)] = Some(Station { address, port });
+        self.entries[bucket_of(&address)] = Some(Station { address, port });
+    }
+
+    /// Learns that `address` was seen behind `port`, as `learn` does, and tells what its entry held
+    /// before, of whatever address that was.
+    pub fn teach(&mut self, address: Mac, port: PortId) -> Option<Station>
+        ensures table { self.new ≡ learned self.old address port }
+        ensures before { result ≡ entry_of self.old address.0 }
+        ensures entries { length self.old ≡ 1024 }
+    {
+        let at = bucket_of(&address);
+        replace(&mut self.entries[at], Some(Station { address, port }))
     }
 
     /// The port behind which `address` was seen, if its entry still holds the address.
@@ -100,7 +124,7 @@ impl Table {
         ensures found { result ≡ port_of_address self.now address.0 }
         ensures entries { length self.now ≡ 1024 }
     {
-        port_if_address(self.entries[bucket_of(address)], address)
+        port_if_address(&self.entries[bucket_of(&address)], &address)
     }
 
     /// Empties all entries that hold `port`.
@@ -115,14 +139,14 @@ impl Table {
         ensures held { result ≡ entry_of self.now address.0 }
         ensures entries { length self.now ≡ 1024 }
     {
-        self.entries[bucket_of(address)]
+        self.entries[bucket_of(&address)]
     }
 
     /// Puts back what the entry of `address` held before, to undo a `learn`.
     pub fn restore(&mut self, address: Mac, station: Option<Station>)
         ensures { self.new ≡ restored self.old address station }
     {
-        self.entries[bucket_of(address)] = station;
+        self.entries[bucket_of(&address)] = station;
     }
 
     /// Makes the table equal to `other`.

@@ -69,6 +69,10 @@ fn fill_parts(gots: &mut Vec<Got>, at: usize, bytes: &[u8])
     ensures { gots.new.items ≡ take at gots.old.items
         ++ written_parts (parts_of bytes.now) (drop at gots.old.items) }
 {
+    if bytes.len() <= BUFFER_BYTES {
+        gots[at].fill(bytes, 0);
+        return;
+    }
     let count = slots(bytes.len());
     let mut rest = bytes;
     for k in 0..count {

@@ -64,18 +64,19 @@ fn lease_front(idle: &mut VecDeque<Buf>, mut gots: Vec<Got>, count: u32) -> Vec<
     gots
 }
 
-/// Moves buffers to the end.
-fn push_all(idle: &mut VecDeque<Buf>, back: &mut Vec<Buf>)
-    requires { length idle.old.items + length back.old.items ≤ deque_capacity idle.old }
-    ensures items { idle.new.items ≡ idle.old.items ++ back.old.items }
+/// Moves buffers to the end. Gives the vector in which they came back, empty.
+fn push_all(idle: &mut VecDeque<Buf>, back: Vec<Buf>) -> Vec<Buf>
+    requires { length idle.old.items + length back.items ≤ deque_capacity idle.old }
+    ensures items { idle.new.items ≡ idle.old.items ++ back.items }
     ensures capacity { deque_capacity idle.new ≡ deque_capacity idle.old }
-    ensures none { back.new.items ≡ [] }
-    ensures kept { vec_capacity back.new ≡ vec_capacity back.old }
+    ensures none { result.items ≡ [] }
+    ensures kept { vec_capacity result ≡ vec_capacity back }
 {
-    back.reverse();
-    while let Some(buf) = back.pop() {
+    let mut rest = VecDeque::from_vec(back);
+    while let Some(buf) = rest.pop_front() {
         idle.push_back_reserved(buf);
     }
+    rest.into_vec()
 }
 
 /// Moves the first buffers into an empty vector that has room for them.
@@ -257,7 +258,7 @@ fn take_fitting(sizes: &mut Vec<u8>, want: &[u32], room: u32) -> u32
 impl Line {
     /// A line of these buffers, which are idle. `clear` gives them back in the vector that is
     /// passed here, and so does `NoMemory` at once. No other call takes memory.
-    pub fn new(alloc: Global, mut bufs: Vec<Buf>) -> Result<Line, (NoMemory, Vec<Buf>)>
+    pub fn new(alloc: Global, bufs: Vec<Buf>) -> Result<Line, (NoMemory, Vec<Buf>)>
         requires size { (1 ≤ length bufs.items) × (length bufs.items ≤ 1024) }
         ensures ok { IfOk result (λ line. line ≡ new_line bufs.items) }
         ensures err { IfErr result (λ fault. fault.1.items ≡ bufs.items) }
@@ -273,13 +274,13 @@ impl Line {
             idle.destroy_empty();
             return Err((NoMemory, bufs));
         };
-        push_all(&mut idle, &mut bufs);
+        let room = push_all(&mut idle, bufs);
         Ok(Line {
             size: size as u32,
             idle,
             lots,
             leases,
-            room: bufs,
+            room,
             alloc,
         })
     }
@@ -364,7 +365,7 @@ impl Line {
     /// Takes buffers back, and hands out those of the longest prefix of done lots, with their
     /// frames, in `room`.
     #[tactic(auto, using(crate::proofs::LotLemmas::lots))]
-    pub fn sync(&mut self, mut back: Vec<Buf>, mut room: Vec<Got>) -> Vec<Got>
+    pub fn sync(&mut self, back: Vec<Buf>, mut room: Vec<Got>) -> Vec<Got>
         requires returned { length back.items ≤ out_of self.old }
         requires none { room.items ≡ [] }
         requires room { length (ready_gots self.old.lots) ≤ vec_capacity room }
@@ -376,8 +377,7 @@ impl Line {
     {
         self.leases.take();
         give_done(&mut self.lots, &mut room);
-        push_all(&mut self.idle, &mut back);
-        back.destroy_empty();
+        push_all(&mut self.idle, back).destroy_empty();
         room
     }
 

@@ -1,6 +1,6 @@
 -- The rules of opening, over ports in place of their names.
 use Rattle.std.proofs.Common.{ℕ, Bool, cond, not, ◌&&◌, ◌||◌, List, [], ◌∷◌, ◌≡◌, Option, Some, None, length, refl, ◌∙◌, ap, arith, inl, inr}
-use Rattle.std.specs.Prelude.{if◌then◌else◌, nat_le, count_by, bytes_eq}
+use Rattle.std.specs.Prelude.{if◌then◌else◌, nat_le, count_by}
 use Rattle.std.specs.List.{list_any}
 use Rattle.std.proofs.lemmas.Bool.{cases_Bool}
 use Rattle.std.proofs.lemmas.List.Sums.{sum_by-cons}
@@ -91,4 +91,4 @@ refusal_of switches ports taken = cond switches (Some SwitchesFull) (cond ports 
 
 pub refusal_of_names : (ports : List NamedPort) (name : List ℕ) → rules.name_refusal (names_of ports) name ≡ name_refusal ports name
 refusal_of_names ports name =
-    rw (full_of_names ports name, count_of_names (rules.is_beside name) ports, any_of_names (λ other. bytes_eq other name) ports) refl
+    rw (full_of_names ports name, count_of_names (rules.is_beside name) ports, any_of_names (rules.is_same_name name) ports) refl

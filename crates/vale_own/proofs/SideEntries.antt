@@ -14,7 +14,7 @@ use Rattle.vale_entry.specs.declared.entry.Reply.{Reply}
 use Rattle.vale_entry.specs.World.{Port, open_port}
 use Rattle.vale_entry.specs.Pipe.{peer_of, taken_count}
 use Rattle.vale_entry.specs.OwnCalls.{or_reset, offered_items, back_in}
-use Rattle.vale_entry.specs.Legal.{Standing, Outcome, standing_of, step, recorded_step, session_and_reply, Follows, is_enabled, kept_ask, kept_items, made_at, can_put, put_step_at, put_step_by}
+use Rattle.vale_entry.specs.Legal.{Standing, Outcome, standing_of, step, recorded_step, session_and_reply, Follows, is_enabled, kept_ask, entry_by, kept_items, made_at, can_put, put_step_at, put_step_by}
 use Rattle.vale_entry.proofs.KeptPuts.{puts-kept}
 use Rattle.vale_entry.proofs.Worlds.{legal-push}
 use Rattle.vale_own.specs.Own.{Own, own_of}
@@ -22,7 +22,7 @@ use Rattle.vale_own.specs.Asker.{asker_of, asks, is_asker, is_enter}
 use Rattle.vale_own.specs.OwnAsks.{may_ask}
 use Rattle.vale_own.specs.Side.{IsSoundSideOf, IsOfSide}
 use Rattle.vale_own.specs.SideLaws.{OthersKeepSide}
-use Rattle.vale_own.specs.SideAsks.{entry_of, CallsAreOwn, CallsKeepSide, TransmitsAreOfSide, ReceivesAreOfSide, FinishesAreOfSide}
+use Rattle.vale_own.specs.SideAsks.{CallsAreOwn, CallsKeepSide, TransmitsAreOfSide, ReceivesAreOfSide, FinishesAreOfSide}
 use Rattle.vale_own.proofs.OwnKept.{own-kept}
 use Rattle.vale_own.proofs.Asking.{own-tells}
 use Rattle.vale_own.proofs.Askers.{askers-make-steps}
@@ -68,7 +68,7 @@ made-as (Some made) session reply e =
     record { made = made; is = refl; session_is = ap (λ (x : ℕ × Reply). x.0) same; reply_is = ap (λ (x : ℕ × Reply). x.1) same }
 
 -- its entry follows
-follows-as : (s : Standing) (ask : Ask) (session : ℕ) (reply : Reply) → option_map session_and_reply (step s ask) ≡ Some (session, reply) → Follows s (entry_of session ask reply)
+follows-as : (s : Standing) (ask : Ask) (session : ℕ) (reply : Reply) → option_map session_and_reply (step s ask) ≡ Some (session, reply) → Follows s (entry_by session ask reply)
 follows-as s (Enter user) session reply e = e
 follows-as s (Open by name tx rx extra) session reply e = e
 follows-as s (Send port frames) session reply e = e
@@ -119,8 +119,8 @@ pub calls-keep : CallsKeepSide
 calls-keep pool past session shut side ask reply k e call =
     let follows = follows-as (standing_of pool past) ask session reply e in
     record {
-      legal = legal-push pool past (entry_of session ask reply) k.legal follows;
-      of = side-kept pool past (entry_of session ask reply) shut side k.legal follows k.of call;
+      legal = legal-push pool past (entry_by session ask reply) k.legal follows;
+      of = side-kept pool past (entry_by session ask reply) shut side k.legal follows k.of call;
     }
 
 pub transmits-of : TransmitsAreOfSide

@@ -13,7 +13,8 @@ use Rattle.nm_types.specs.OwnPorts.{OwnPort, OwnState, Arrival, buffers_in, held
 use Rattle.nm_types.specs.OwnSyncs.{opened_tx_ring, opened_port, opened_slot, with_link, with_arrival, buffers_of_arrivals, own_after_open}
 use Rattle.nm_types.proofs.RingSteps.{dist-below, dist-cases, dist_self, dist_behind}
 use Rattle.vale_entry.specs.World.{World, Port, free_count}
-use Rattle.vale_entry.specs.Opening.{is_ring_size, are_sizes, name_refusal, refusal_or_room, open_refusal}
+use Rattle.nm_types.specs.Openings.{open_refusal as names_refusal}
+use Rattle.vale_entry.specs.Opening.{is_ring_size, are_sizes, names_of, refusal_or_room, open_refusal}
 use Rattle.vale_entry.proofs.Counting.{count_of, count_of-cons, count_of-append}
 use Rattle.vale_entry.proofs.Each.{each-append}
 use Rattle.vale_own.specs.Side.{buffers_on, size_if, id_of, port_of_side, IsPending, IsTxRing, IsTxRingIf, IsRxRing, IsSoundPort, IsSound}
@@ -38,7 +39,7 @@ ring-size : (size : ℕ) → is_ring_size size ≡ true → IsRingSize size
 ring-size size e = let parts = and_parts (nat_le 2 size) (nat_le size 1024) e in (leb-true 2 size parts.0, leb-true size 1024 parts.1)
 
 pub opened-allowed : (w : World) (name : List ℕ) (tx rx extra : ℕ) → open_refusal w name tx rx extra ≡ None → are_sizes name tx rx extra ≡ true
-opened-allowed w name tx rx extra e = sizes-by (are_sizes name tx rx extra) _ (refusal-none (name_refusal w.ports name tx rx extra) (tx + rx + extra) (free_count w) e)
+opened-allowed w name tx rx extra e = sizes-by (are_sizes name tx rx extra) _ (refusal-none (names_refusal (names_of w.ports) name tx rx extra) (tx + rx + extra) (free_count w) e)
 
 pub opened-sizes : (w : World) (name : List ℕ) (tx rx extra : ℕ) → open_refusal w name tx rx extra ≡ None → Sized tx rx
 opened-sizes w name tx rx extra e =

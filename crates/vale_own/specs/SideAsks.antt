@@ -18,7 +18,7 @@ use Rattle.vale_entry.specs.declared.entry.Entry.{Entry}
 use Rattle.vale_entry.specs.declared.entry.Reply.{Reply}
 use Rattle.vale_entry.specs.Arrivals.{arrivals_of}
 use Rattle.vale_entry.specs.OwnCalls.{tx_call, rx_call, finish_call, own_after}
-use Rattle.vale_entry.specs.Legal.{standing_of, step, session_and_reply, kept_ask, IsLegal, fits_u32, fits_fault}
+use Rattle.vale_entry.specs.Legal.{standing_of, step, session_and_reply, kept_ask, entry_by, IsLegal, fits_u32, fits_fault}
 use Rattle.vale_own.specs.Own.{own_of, is_settled_own}
 use Rattle.vale_own.specs.OwnAsks.{may_ask}
 use Rattle.vale_own.specs.Side.{is_shut, IsSoundSideOf, IsOfSide, shut_after}
@@ -96,10 +96,6 @@ LeaveMayBeAsked = (pool : ℕ) (past : List Entry) (session : SessionId) (shut :
 
 -- What such a call makes.
 
--- the entry of a call, as it is recorded
-abbrev pub entry_of : ℕ → Ask → Reply → Entry
-entry_of session ask reply = record { session = record { 0 = session }; ask = kept_ask ask; reply = reply }
-
 -- the call makes an entry, of this session and with this reply
 abbrev pub IsMade : ℕ → List Entry → ℕ → Ask → Reply → Type 0
 IsMade pool past session ask reply = option_map session_and_reply (step (standing_of pool past) ask) ≡ Some (session, reply)
@@ -112,8 +108,8 @@ CallsAreOwn = (pool : ℕ) (past : List Entry) (session by : ℕ) (ask : Ask) (r
 abbrev pub CallsKeepSide : Type 0
 CallsKeepSide = (pool : ℕ) (past : List Entry) (session : ℕ) (shut : Option ℕ) (side : OwnState) (ask : Ask) (reply : Reply) → HasSide pool past session shut side → IsMade pool past session ask reply
     → IsOfSide shut side (kept_ask ask) reply
-    → HasSide pool (past ++ entry_of session ask reply ∷ []) session (shut_after (kept_ask ask) shut)
-    (own_after (length past + 1) (entry_of session ask reply) (arrivals_of (standing_of pool past) (kept_ask ask) reply) side)
+    → HasSide pool (past ++ entry_by session ask reply ∷ []) session (shut_after (kept_ask ask) shut)
+    (own_after (length past + 1) (entry_by session ask reply) (arrivals_of (standing_of pool past) (kept_ask ask) reply) side)
 
 -- The entry of a call that the side makes is of the side.
 

@@ -17,11 +17,9 @@ use Rattle.vale_batch.specs.Looking.{looked_up, looked_up_batch, learned_from}
 use Rattle.vale_batch.specs.Looking.{destination_found as lookup_found}
 use Rattle.vale_batch.specs.Wants.{is_short_at, is_lone_destination, is_other}
 use Rattle.vale_batch.specs.Wants.{is_lone as is_lone_looked}
-use Rattle.vale_entry.specs.declared.entry.Destination.{Destination}
-use Rattle.vale_entry.specs.declared.entry.Destination.TheVariants.{Nobody, Only, Others}
 use Rattle.vale_entry.specs.World.{Port, Pair, is_open, open_port}
 use Rattle.vale_entry.specs.Learning.{is_short, is_group, destination_address, learned, port_of_address}
-use Rattle.vale_entry.specs.Lookup.{Named, named_frames, destination_of, destination_found, names_some_port, is_lone, is_named, is_other_port}
+use Rattle.vale_entry.specs.Lookup.{Destination, These, Others, Named, named_frames, destination_of, destination_found, names_some_port, is_lone, is_named, is_other_port}
 use Rattle.vale_entry.specs.Offers.{frame_of}
 use Rattle.vale_entry.specs.Laws.{Rise, id_of_port as number_of, IsPairOf}
 use Rattle.vale_entry.proofs.Each.{each-all, each-weaker}
@@ -31,7 +29,7 @@ use Rattle.vale_parts.specs.Ids.{id_of, port_id, id_of_port}
 use Rattle.vale_parts.specs.SwitchPorts.{is_open_on, open_ports_on}
 use Rattle.vale_parts.specs.Tables.{FindsPairs}
 use Rattle.vale_parts.specs.Batches.{named_as, IsLookedAs, AreLookedAs}
-use Rattle.vale_parts.specs.BatchLaws.{SlotsAreOne, ShortFramesAreCounted}
+use Rattle.vale_parts.specs.BatchLaws.{SlotsAreOne}
 use Rattle.vale_parts.proofs.SwitchPairs.{PortFound, found-port}
 use Rattle.vale_parts.proofs.TableFinds.{IsTable, frame-finds, frame-size}
 use Rattle.vale_parts.proofs.PairsKept.{learned-paired}
@@ -42,13 +40,14 @@ slots_are_one frame fits = ap (λ (b : Bool). cond b 1 (slots_long frame)) fits
     slots_long : Frame → ℕ
     slots_long frame = div_ceil (length frame.bytes) 2048
 
-pub short_counted : ShortFramesAreCounted
-short_counted frames = refl
+pub or_none : (b : Bool) → (b || false) ≡ b
+or_none true = refl
+or_none false = refl
 
 -- ---- one frame
 
 module _ (sender : Port) where
-  found_test : (to : PortId) (b : Bool) → named_as (cond b lookups.Nobody (lookups.Only to)) ≡ cond b Nobody (Only to)
+  found_test : (to : PortId) (b : Bool) → named_as (cond b lookups.Nobody (lookups.Only to)) ≡ cond b (These []) (These (to.0 ∷ []))
   found_test to true = refl
   found_test to false = refl
 
@@ -60,7 +59,7 @@ module _ (sender : Port) where
       own (Some to) = found_test to (to.0 == sender.id)
 
   same_by : (short group : Bool) (found : Option PortId) (other : Option ℕ) → id_of found ≡ other
-      → named_as (cond short lookups.Short (cond group lookups.Others (lookup_found (port_id sender.id) found))) ≡ cond short Nobody (cond group Others (destination_found sender other))
+      → named_as (cond short lookups.Short (cond group lookups.Others (lookup_found (port_id sender.id) found))) ≡ cond short (These []) (cond group Others (destination_found sender other))
   same_by true group found other e = refl
   same_by false true found other e = refl
   same_by false false found other e = found_same found other e
@@ -106,26 +105,26 @@ module _ (sender : Port) where
   abbrev pub NamesOpen : Destination → Port → Type 0
   NamesOpen destination port = is_named sender destination port ≡ true → is_open_on (switch_of sender.name) port ≡ true
 
-  nobody_open : (port : Port) → NamesOpen Nobody port
+  nobody_open : (port : Port) → NamesOpen (These []) port
   nobody_open port is = absurd cc
 
   others_open : (port : Port) → NamesOpen Others port
   others_open port is = (and_parts (not (port.id == sender.id)) (is_open_on (switch_of sender.name) port) is).1
 
-  only_open : (ports : List Port) (high id : ℕ) → Rise 0 (map number_of ports) high → PortFound ports (switch_of sender.name) id → Each (NamesOpen (Only (port_id id))) ports
+  only_open : (ports : List Port) (high id : ℕ) → Rise 0 (map number_of ports) high → PortFound ports (switch_of sender.name) id → Each (NamesOpen (These (id ∷ []))) ports
   only_open ports high id r found =
       let place = open-place ports high id found.port r found.here in
-      each-weaker (λ (p : Port). p.id ≡ found.port.id → p ≡ found.port) (NamesOpen (Only (port_id id)))
-      (λ p same is. ap (is_open_on (switch_of sender.name)) (same (eqb-true p.id id is ∙ sym found.id_is)) ∙ found.on) ports (only-place ports high place.place found.port r place.here)
+      each-weaker (λ (p : Port). p.id ≡ found.port.id → p ≡ found.port) (NamesOpen (These (id ∷ [])))
+      (λ p same is. ap (is_open_on (switch_of sender.name)) (same (eqb-true p.id id (sym (or_none (p.id == id)) ∙ is) ∙ sym found.id_is)) ∙ found.on) ports (only-place ports high place.place found.port r place.here)
 
-  found_open : (ports : List Port) (high id : ℕ) (b : Bool) → Rise 0 (map number_of ports) high → PortFound ports (switch_of sender.name) id → Each (NamesOpen (cond b Nobody (Only (port_id id)))) ports
-  found_open ports high id true r found = each-all (NamesOpen Nobody) nobody_open ports
+  found_open : (ports : List Port) (high id : ℕ) (b : Bool) → Rise 0 (map number_of ports) high → PortFound ports (switch_of sender.name) id → Each (NamesOpen (cond b (These []) (These (id ∷ [])))) ports
+  found_open ports high id true r found = each-all (NamesOpen (These [])) nobody_open ports
   found_open ports high id false r found = only_open ports high id r found
 
   open_by : (count high : ℕ) (ports : List Port) (pairs : List Pair) (address : List ℕ) → Rise 0 (map number_of ports) high → Each (IsPairOf count ports) pairs
       → (short group : Bool) (found : Option ℕ) → port_of_address ports pairs (switch_of sender.name) address ≡ found
-      → Each (NamesOpen (cond short Nobody (cond group Others (destination_found sender found)))) ports
-  open_by count high ports pairs address r all true group found e = each-all (NamesOpen Nobody) nobody_open ports
+      → Each (NamesOpen (cond short (These []) (cond group Others (destination_found sender found)))) ports
+  open_by count high ports pairs address r all true group found e = each-all (NamesOpen (These [])) nobody_open ports
   open_by count high ports pairs address r all false true found e = each-all (NamesOpen Others) others_open ports
   open_by count high ports pairs address r all false false None e = each-all (NamesOpen Others) others_open ports
   open_by count high ports pairs address r all false false (Some id) e =

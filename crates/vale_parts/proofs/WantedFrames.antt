@@ -8,14 +8,13 @@ use Rattle.vale_batch.specs.declared.looking.Destination.{Destination as Lookup}
 use Rattle.vale_batch.specs.declared.looking.Destination.TheVariants as lookups
 use Rattle.vale_batch.specs.declared.looking.Looked.{Looked}
 use Rattle.vale_batch.specs.Wants.{is_for, goes_to, places_from, size_of}
-use Rattle.vale_entry.specs.declared.entry.Destination.{Destination}
 use Rattle.vale_entry.specs.World.{Port}
-use Rattle.vale_entry.specs.Lookup.{Named, is_named}
+use Rattle.vale_entry.specs.Lookup.{Destination, Named, is_named}
 use Rattle.vale_entry.specs.Offers.{is_monitor, is_wanted_at, frame_of, wanted_frames}
 use Rattle.vale_parts.specs.Ids.{port_id, id_of_port}
 use Rattle.vale_parts.specs.SwitchPorts.{is_open_on}
 use Rattle.vale_parts.specs.Batches.{named_as, IsLookedAs, AreLookedAs}
-use Rattle.vale_parts.proofs.Lookups.{NamesOpen}
+use Rattle.vale_parts.proofs.Lookups.{or_none, NamesOpen}
 
 -- what stands at a place, and what is behind it
 pub record IsFront {X : Type 0} (xs : List X) (n : ℕ) (x : X) (rest : List X) : Type 0 where
@@ -50,7 +49,7 @@ module _ (sender : Port) where
   goes_by : (port : Port) (d : Lookup) → is_open_on (switch_of sender.name) port ≡ true → is_for (port_id sender.id) d (id_of_port port) ≡ is_named sender (named_as d) port
   goes_by port lookups.Short up = refl
   goes_by port lookups.Nobody up = refl
-  goes_by port (lookups.Only to) up = refl
+  goes_by port (lookups.Only to) up = sym (or_none (port.id == to.0))
   goes_by port lookups.Others up = sym (one_more (not (port.id == sender.id)) (is_open_on (switch_of sender.name) port) up)
     where
       one_more : (a b : Bool) → b ≡ true → (a && b) ≡ a

@@ -1,18 +1,17 @@
 -- Laws of the look-up of a batch: it names what the world names, and what it wants is what is offered.
 use Rattle.std.specs.Prelude.{ℕ, ◌≡◌, true, List, [], map, count_by, length, Some, ◌≤◌, All}
+use Rattle.nm_types.specs.Addresses.{is_short}
 use Rattle.nm_types.specs.Frames.{Frame, slots_of}
 use Rattle.nm_types.specs.Names.{switch_of}
 use Rattle.nm_types.specs.Sendable.{fits_buffer, is_sendable}
 use Rattle.nm_types.specs.declared.id.PortId.{PortId}
 use Rattle.nm_frag.specs.Parts.{slots_of_length}
 use Rattle.vale_learn.specs.AddressTable.{Entries}
-use Rattle.vale_batch.specs.Addresses.{is_short as is_short_frame}
 use Rattle.vale_batch.specs.Looking.{looked_up_batch, IsFrame}
 use Rattle.vale_batch.specs.Wants.{Wanted, wants_of, is_lone as is_lone_looked, IsRising, port_number}
 use Rattle.vale_entry.specs.declared.entry.Entry.{Entry}
 use Rattle.vale_entry.specs.declared.entry.Reply.TheVariants.{Offered}
 use Rattle.vale_entry.specs.World.{World, Port, Offer, open_port, transmit_monitor, receive_monitor}
-use Rattle.vale_entry.specs.Learning.{is_short}
 use Rattle.vale_entry.specs.Lookup.{is_lone}
 use Rattle.vale_entry.specs.Offers.{dests_of}
 use Rattle.vale_entry.specs.Delivery.{delivered_frames}
@@ -42,9 +41,6 @@ OpenPortsRise = (pool : ℕ) (history : List Entry) (switch : List ℕ) → IsRi
 abbrev pub BatchesAreNamed : Type 0
 BatchesAreNamed = (pool : ℕ) (history : List Entry) (from : PortId) (frames : List Frame) (port : Port) (entries : Entries) → IsSender (world_of pool history) from frames port entries
     → AreLookedAs (looked_up_batch from entries frames) (named_of (world_of pool history) port frames)
-
-abbrev pub ShortFramesAreCounted : Type 0
-ShortFramesAreCounted = (frames : List Frame) → count_by is_short_frame frames ≡ count_by is_short frames
 
 abbrev pub LoneFramesAreCounted : Type 0
 LoneFramesAreCounted = (pool : ℕ) (history : List Entry) (from : PortId) (frames : List Frame) (port : Port) (entries : Entries) → IsSender (world_of pool history) from frames port entries
@@ -83,7 +79,7 @@ abbrev pub SendsAreReplied : Type 0
 SendsAreReplied = (pool : ℕ) (history : List Entry) (from : PortId) (frames : List Frame) (port : Port) (entries : Entries) → IsLegal pool history
     → IsSender (world_of pool history) from frames port entries
     → (send_step (standing_of pool history) frames port).reply
-    ≡ Offered (count_by is_short_frame frames)
+    ≡ Offered (count_by is_short frames)
     (count_by (is_lone_looked from (open_ports_on (switch_of port.name) (world_of pool history).ports)) (looked_up_batch from entries frames))
     (dests_wanted (wants_monitored (transmit_monitor (world_of pool history) port.id) frames (wants_at (world_of pool history) from frames port entries)))
 

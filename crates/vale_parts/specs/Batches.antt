@@ -6,19 +6,17 @@ use Rattle.vale_batch.specs.declared.looking.Destination.{Destination as Lookup}
 use Rattle.vale_batch.specs.declared.looking.Destination.TheVariants as lookups
 use Rattle.vale_batch.specs.declared.looking.Looked.{Looked}
 use Rattle.vale_batch.specs.Wants.{Wanted, is_short_destination}
-use Rattle.vale_entry.specs.declared.entry.Destination.{Destination}
-use Rattle.vale_entry.specs.declared.entry.Destination.TheVariants.{Nobody, Only, Others}
 use Rattle.vale_entry.specs.declared.entry.Dest.{Dest}
 use Rattle.vale_entry.specs.World.{Offer}
 use Rattle.vale_entry.specs.Learning.{is_short}
-use Rattle.vale_entry.specs.Lookup.{Named}
+use Rattle.vale_entry.specs.Lookup.{Destination, These, Others, Named}
 use Rattle.vale_parts.specs.Ids.{port_id}
 
 -- a short frame goes to nobody
 abbrev pub named_as : Lookup → Destination
-named_as lookups.Short = Nobody
-named_as lookups.Nobody = Nobody
-named_as (lookups.Only port) = Only port
+named_as lookups.Short = These []
+named_as lookups.Nobody = These []
+named_as (lookups.Only port) = These (port.0 ∷ [])
 named_as lookups.Others = Others
 
 -- a frame as it was looked up is the frame as it is named, in so many slots

@@ -1,7 +1,7 @@
 -- Laws of the names of the ports.
 use Rattle.std.specs.Prelude.{ℕ, ◌≡◌, ◌<◌, ◌+◌, true, List, [], ◌∷◌, ◌++◌, length, option_map}
 use Rattle.nm_types.specs.Limits.{most_ports}
-use Rattle.nm_types.specs.Names.{is_name, is_pipe_name, peer_name}
+use Rattle.nm_types.specs.Names.{is_pipe_name, peer_name}
 use Rattle.nm_types.specs.Openings.{open_refusal as names_refusal}
 use Rattle.vale_names.specs.declared.port.NamedPort.{NamedPort}
 use Rattle.vale_names.specs.Ports.{names_of, open_port_of, fresh_port, Joins, ports_without}
@@ -24,7 +24,7 @@ NamesFollow = (pool : ℕ) (history : List Entry) (entry : Entry) (names next : 
 
 -- an opening is refused for its name as the names say, and else for want of buffers
 abbrev pub OpeningsAreAnswered : Type 0
-OpeningsAreAnswered = (w : World) (names : List NamedPort) (name : List ℕ) (tx rx extra : ℕ) → NamesAre w names → is_name name ≡ true
+OpeningsAreAnswered = (w : World) (names : List NamedPort) (name : List ℕ) (tx rx extra : ℕ) → NamesAre w names
     → open_refusal w name tx rx extra ≡ refusal_or_room (names_refusal (names_of names) name tx rx extra) (tx + rx + extra) (free_count w)
 
 -- a name finds the open port that has it

@@ -2,8 +2,8 @@
 //! definitions, which the check proves.
 #![tactic(auto)]
 
-ghost use Rattle.vale_parts.specs.BatchLaws.{BatchesAreNamed, ShortFramesAreCounted};
-ghost use Rattle.vale_parts.specs.BatchLaws.{LoneFramesAreCounted, SlotsAreOne};
+ghost use Rattle.vale_parts.specs.BatchLaws.{BatchesAreNamed, LoneFramesAreCounted};
+ghost use Rattle.vale_parts.specs.BatchLaws.{SlotsAreOne};
 ghost use Rattle.vale_parts.specs.BatchLaws.{SendableCanBeLookedUp, OpenPortsRise};
 ghost use Rattle.vale_parts.specs.BatchLaws.{SentWantsAreOffers, GivenWantsAreOffers};
 ghost use Rattle.vale_parts.specs.BatchLaws.{PutWantsAreOffers, DestsAreWanted, SendsAreReplied};
@@ -43,10 +43,9 @@ pub fn empty_tables_serve()
 {}
 
 /// A batch that is looked up in the table of its sender's switch is named as the world names it, in
-/// slots of one for each frame, with as many short frames and as many for no port.
+/// slots of one for each frame, with as many frames for no port.
 pub fn batches_are_named()
     ensures named { BatchesAreNamed }
-    ensures short { ShortFramesAreCounted }
     ensures lone { LoneFramesAreCounted }
     ensures slots { SlotsAreOne }
     ensures sendable { SendableCanBeLookedUp }

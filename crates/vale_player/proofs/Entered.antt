@@ -38,8 +38,8 @@ module _ (fabric : Fabric) (began : Knowing) (number : ℕ) (s : SessionState) (
       subst (λ (o : OwnState). HasCome began first s (record { number = number; session = Some (record { 0 = s.id }); own = o; saves = []; tasks = rest })) (sym own) enters in
       subst (λ (f : Fixed). HasCome began (resting (record (new_machine f.pool number) { tasks = Arrive ∷ rest })) s (user_with number [] s rest)) fixed has
 
-  pub has-entered : (saves : List Save) → saves ≡ [] → HasEntered fabric began number (record { number = number; session = s; saves = saves })
-  has-entered saves none = record {
+  pub has-entered : (saves : List Save) (names : List (List ℕ)) → saves ≡ [] → HasEntered fabric began number (record { number = number; session = s; saves = saves; names = names })
+  has-entered saves names none = record {
     number_is = refl;
     fabric_is = of;
     fixed_is = fixed;

@@ -119,14 +119,10 @@ sender-found own name port sound e = by (port_with_name own name) refl e
     by None named is = absurd cc
     by (Some p) named is = with-ring p p.tx named refl is
 
--- as a user has read it of its own side
-pub sender-read : (inside now : PlayerState) (name : List ℕ) (port : PortId) (found : Option PortId) → inside ≡ now → IsThere None inside.session
-    → found ≡ sender_named now.session.own name → found ≡ Some port → Sender inside.session.own name port
-sender-read inside now name port found same here named is =
-    sender-found inside.session.own name port here.side.sound (subst (λ (p : PlayerState). sender_named p.session.own name ≡ Some port) (sym same) (sym named ∙ is))
-
-pub room-read : (inside now : PlayerState) (name : List ℕ) (room : Bool) → inside ≡ now → room ≡ has_room_at now.session.own name → room ≡ false → has_room_at inside.session.own name ≡ false
-room-read inside now name room same said full = subst (λ (p : PlayerState). has_room_at p.session.own name ≡ false) (sym same) (sym said ∙ full)
+-- as it is known of a user that goes on
+pub sender-asked : (inside now : PlayerState) (name : List ℕ) (port : PortId) → inside ≡ now → IsThere None inside.session → sender_named now.session.own name ≡ Some port → Sender inside.session.own name port
+sender-asked inside now name port same here named =
+    sender-found inside.session.own name port here.side.sound (subst (λ (p : PlayerState). sender_named p.session.own name ≡ Some port) (sym same) named)
 
 pub sender-ring : (own : OwnState) (name : List ℕ) (port : PortId) → Sender own name port → IsSome (ring_at Tx own port.0)
 sender-ring own name port f = subst IsSome (sym (ap (option_and_then (ring_on Tx)) f.of.found ∙ f.has)) refl
@@ -312,6 +308,19 @@ module _ (p q : PlayerState) (here : IsThere None p.session) (there : IsThere No
         → NeedsNoneOrEnds p q (PutFrame name bytes) (leaves_room end room)
     needs-by bytes end room full is e =
         needs name bytes (tx_call p.session.own e.tx.port e.tx.ring) (put-calls p.number p.saves p.session name port at bytes e.tx full) end room is e.came
+
+-- where the sync leaves its ring, the name tells the port's room behind it
+pub needs-at : (p q : PlayerState) → IsThere None p.session → IsThere None q.session → q ≡ record p { session = q.session } → (name : List ℕ) (port : PortId) → Sender p.session.own name port → sender_named q.session.own name ≡ Some port
+    → (bytes : List ℕ) (end : SyncEnd) (room : Bool) → has_room p.session.own port.0 ≡ false → has_room q.session.own port.0 ≡ room → EndsTx p.session q.session port.0 end
+    → NeedsNoneOrEnds p q (PutFrame name bytes) (leaves_room end room)
+needs-at p q here there same name port sender named bytes end room full is e =
+    let behind = sender-found q.session.own name port there.side.sound named in
+    needs-by p q here there same name port sender.of bytes end room (room-by p.session.own name port sender.of ∙ full) (room-by q.session.own name port behind.of ∙ is) e
+
+pub room-behind : (end : SyncEnd) (room : Bool) → leaves_room end room ≡ true → room ≡ true
+room-behind ends.Passed room e = e
+room-behind ends.PeerGone room e = e
+room-behind ends.Refused room e = absurd cc
 
 module _ (p q : PlayerState) (same : q ≡ record p { session = q.session }) (name : List ℕ) (port : PortId) (at : PortAt p.session.own name port) where
   pub take-stops : (fault : StepFault) → RxMadeNone p.session q.session port.0 fault → StopsAt p q (TakeFrames name) fault

@@ -20,7 +20,9 @@ pub mod PortCalls
 pub mod Doing
 pub mod Syncing
 pub mod Leading
+pub mod SenderNames
 pub mod Playing
+pub mod PutCopies
 pub mod SoundScripts
 pub mod Entered
 pub mod PortsShut

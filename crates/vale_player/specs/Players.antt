@@ -16,11 +16,13 @@ use Rattle.vale_replay.specs.Machine.{Machine, Save, new_machine, resting, saves
 use Rattle.vale_player.specs.Users.{HasCome, HasStopped}
 use Rattle.vale_player.specs.Lines.{user_with, TaskCalls}
 
--- its number, its session, and the files into which its ports' frames go
+-- its number, its session, the files into which its ports' frames go, and the names of the ports whose
+-- frames are kept
 pub record PlayerState : Type 0 where
   pub number : ℕ
   pub session : SessionState
   pub saves : List Save
+  pub names : List (List ℕ)
 
 -- what it has on its own side is changed by a line that makes no call
 abbrev pub with_act : Act → PlayerState → PlayerState

@@ -38,6 +38,7 @@ impl<'f> Player<'f> {
     ) -> Result<Player<'f>, (StepFault, Pass)>
         requires { IsPassIn fabric.now pass }
         ensures entered { IfOk result (HasEntered fabric.now (knowing pass) number) }
+        ensures names { IfOk result (λ player. player.names ≡ []) }
         ensures pass { IfErr result (λ refused. IsPassIn fabric.now refused.1) }
         ensures stops { IfErr result (λ refused. IsRefused (fixed_in fabric.now) (knowing pass)
             (knowing refused.1) (asks.Enter number) refused.0) }
@@ -56,6 +57,7 @@ impl<'f> Player<'f> {
     ) -> Result<Player<'f>, (StepFault, Pass)>
         requires { IsPassIn fabric.now pass }
         ensures entered { IfOk result (HasEntered fabric.now (knowing pass) number) }
+        ensures names { IfOk result (λ player. player.names ≡ names.now) }
         ensures pass { IfErr result (λ refused. IsPassIn fabric.now refused.1) }
         ensures stops { IfErr result (λ refused. IsRefused (fixed_in fabric.now) (knowing pass)
             (knowing refused.1) (asks.Enter number) refused.0) }

@@ -1,14 +1,14 @@
 //! What a user does with frames, at its ports by their names: it puts them into a transmit ring,
 //! sends them and takes them, with the syncs that this wants. Nothing is done where it has not the
 //! port, or the port not the ring.
-ghost use Rattle.std.specs.Prelude.{ℕ, List, ◌≡◌, ◌≤◌, [], ◌∷◌, length, map, replicate};
-ghost use Rattle.std.specs.Prelude.{None, IsSome, IfSome, OnOk, IfOk, IfErr};
+ghost use Rattle.std.specs.Prelude.{ℕ, List, ◌≡◌, ◌≤◌, [], ◌∷◌, length, map, replicate, true};
+ghost use Rattle.std.specs.Prelude.{None, Some, IsSome, IfSome, OnOk, IfOk, IfErr};
 ghost use Rattle.nm_types.specs.declared.id.Side.TheVariants.{Tx};
 ghost use Rattle.nm_types.specs.OwnPorts.{port_with_id, ring_at};
+ghost use Rattle.nm_types.specs.OwnEdits.{has_room};
 ghost use Rattle.nm_user.specs.Sessions.{IsThere};
 ghost use Rattle.nm_user.specs.Syncs.{IsUnsent};
 ghost use Rattle.vale_replay.specs.Tasks.{PutFrame, SendFrames, TakeFrames, frame_of_put, played};
-ghost use Rattle.vale_replay.specs.Machine.{has_room_at};
 ghost use Rattle.vale_player.specs.Players.{Does, DoesOrEnds, DoesLine, Stops, StopsAt, IsStill};
 ghost use Rattle.vale_player.specs.Syncing.{sender_named, sync_end_of, EndsTx, RxMadeNone};
 ghost use Rattle.vale_player.specs.Kept.{SavesBy, CameRx, sync_stop_of};
@@ -128,7 +128,8 @@ fn receive<'f, R: Wait, G: Gate>(
 impl<'f> Player<'f> {
     /// The port of a name, if it has a transmit ring.
     fn sender(&self, name: &Name) -> Option<PortId>
-        ensures { result ≡ sender_named self.now.session.own name.now }
+        ensures sender { result ≡ sender_named self.now.session.own name.now }
+        ensures there { IsThere None self.now.session }
     {
         let Some(port) = self.session.port_named(name) else {
             return None;
@@ -139,73 +140,84 @@ impl<'f> Player<'f> {
         }
     }
 
-    /// Whether the transmit ring of a port has room for a frame.
-    fn has_room(&self, name: &Name) -> bool
-        ensures { result ≡ has_room_at self.now.session.own name.now }
+    /// Puts a frame at the port of a name, if there is room for it.
+    fn write_frame(&mut self, name: &Name, port: PortId, bytes: &[u8])
+        requires size { length bytes.now ≤ 2048 }
+        requires named { sender_named self.old.session.own name.now ≡ Some port }
+        ensures put { self.new ≡ with_put name.now bytes.now self.old }
+        ensures named { sender_named self.new.session.own name.now ≡ Some port }
     {
-        match self.session.port_named(name) {
-            Some(port) => self.session.has_room(port),
-            None => false,
-        }
+        self.session.put_frame(port, bytes);
     }
 
-    /// Puts a frame where there is room for it.
-    fn write_frame(&mut self, name: &Name, bytes: &[u8])
-        requires { length bytes.now ≤ 2048 }
-        ensures { self.new ≡ with_put name.now bytes.now self.old }
+    /// Puts copies of a frame at the port of a name, where there is room for one of them. Answers how
+    /// many.
+    fn write_copies(&mut self, name: &Name, port: PortId, bytes: &[u8], count: u32) -> u32
+        requires size { length bytes.now ≤ 2048 }
+        requires named { sender_named self.old.session.own name.now ≡ Some port }
+        requires room { has_room self.old.session.own port.0 ≡ true }
+        requires some { 1 ≤ count }
+        ensures does { Does self.old self.new (replicate result (PutFrame name.now bytes.now)) }
+        ensures named { sender_named self.new.session.own name.now ≡ Some port }
+        ensures some { 1 ≤ result }
+        ensures most { result ≤ count }
+        ensures still { IsStill self.old self.new }
     {
-        if let Some(port) = self.session.port_named(name) {
-            self.session.put_frame(port, bytes);
-        }
+        self.session.put_copies(port, bytes, count)
     }
 
-    /// Syncs a transmit ring that has no room for a frame. The line ends where a check refused the
-    /// sync, and where there is no room behind it.
+    /// Syncs the transmit ring of a name's port if it has no room for a frame. The line ends where a
+    /// check refused the sync, and where there is no room behind it.
     fn make_room<R: Wait, G: Gate>(
         &mut self,
         rt: &R,
         name: &Name,
+        port: PortId,
         gate: &G,
     ) -> Result<bool, StepFault>
+        requires { sender_named self.old.session.own name.now ≡ Some port }
         ensures room { IfOk result (λ goes. (bytes : List ℕ)
             → NeedsNoneOrEnds self.old self.new (PutFrame name.now bytes) goes) }
+        ensures ready { IfOk result (λ goes.
+            goes ≡ true → has_room self.new.session.own port.0 ≡ true) }
+        ensures named { sender_named self.new.session.own name.now ≡ Some port }
         ensures stops { IfErr result (λ fault. (bytes : List ℕ)
             → StopsAt self.old self.new (PutFrame name.now bytes) fault) }
         ensures still { IsStill self.old self.new }
         ensures there { IsThere None self.old.session }
     {
-        let Some(port) = self.sender(name) else {
-            return Ok(true);
-        };
-        if self.has_room(name) {
+        if self.session.has_room(port) {
             return Ok(true);
         }
         match transmit(&mut self.session, rt, port, gate) {
-            Ok(end) => Ok(end.leaves_room(self.has_room(name))),
+            Ok(end) => Ok(end.leaves_room(self.session.has_room(port))),
             Err(fault) => Err(fault),
         }
     }
 
-    /// Puts a frame. Where the transmit ring has no room for it, it is synced first. Answers whether
-    /// the line goes on: it ends where a check refused the sync, and where there is no room behind
-    /// it.
-    pub(crate) fn put_frame<R: Wait, G: Gate>(
+    /// Puts a frame at the port of a name. Where the transmit ring has no room for it, it is synced
+    /// first. Answers whether the line goes on: it ends where a check refused the sync, and where
+    /// there is no room behind it.
+    fn put_frame<R: Wait, G: Gate>(
         &mut self,
         rt: &R,
         name: &Name,
+        port: PortId,
         bytes: &[u8],
         gate: &G,
     ) -> Result<bool, StepFault>
-        requires { length bytes.now ≤ 2048 }
+        requires size { length bytes.now ≤ 2048 }
+        requires named { sender_named self.old.session.own name.now ≡ Some port }
         ensures does { IfOk result
             (DoesOrEnds self.old self.new (PutFrame name.now bytes.now ∷ [])) }
+        ensures named { sender_named self.new.session.own name.now ≡ Some port }
         ensures stops { IfErr result (StopsAt self.old self.new (PutFrame name.now bytes.now)) }
         ensures still { IsStill self.old self.new }
         ensures there { IsThere None self.old.session }
     {
-        match self.make_room(rt, name, gate) {
+        match self.make_room(rt, name, port, gate) {
             Ok(true) => {
-                self.write_frame(name, bytes);
+                self.write_frame(name, port, bytes);
                 Ok(true)
             }
             Ok(false) => Ok(false),
@@ -213,22 +225,22 @@ impl<'f> Player<'f> {
         }
     }
 
-    /// Syncs a transmit ring. Answers whether the line goes on: it ends where a check refused the
-    /// sync, and where the other end of a pipe is not open.
-    pub(crate) fn send<R: Wait, G: Gate>(
+    /// Syncs the transmit ring of a name's port. Answers whether the line goes on: it ends where a
+    /// check refused the sync, and where the other end of a pipe is not open.
+    fn send<R: Wait, G: Gate>(
         &mut self,
         rt: &R,
         name: &Name,
+        port: PortId,
         gate: &G,
     ) -> Result<bool, StepFault>
+        requires { sender_named self.old.session.own name.now ≡ Some port }
         ensures does { IfOk result (DoesOrEnds self.old self.new (SendFrames name.now ∷ [])) }
+        ensures named { sender_named self.new.session.own name.now ≡ Some port }
         ensures stops { IfErr result (StopsAt self.old self.new (SendFrames name.now)) }
         ensures still { IsStill self.old self.new }
         ensures there { IsThere None self.old.session }
     {
-        let Some(port) = self.sender(name) else {
-            return Ok(true);
-        };
         match transmit(&mut self.session, rt, port, gate) {
             Ok(end) => Ok(end.has_passed()),
             Err(fault) => Err(fault),
@@ -256,7 +268,10 @@ impl<'f> Player<'f> {
         ensures stops { IfErr result (Stops self.old self.new (SendFrames name.now ∷ [])) }
         ensures still { IsStill self.old self.new }
     {
-        match self.send(rt, name, gate) {
+        let Some(port) = self.sender(name) else {
+            return Ok(());
+        };
+        match self.send(rt, name, port, gate) {
             Ok(_) => Ok(()),
             Err(fault) => Err(fault),
         }
@@ -278,10 +293,13 @@ impl<'f> Player<'f> {
             (Stops self.old self.new (replicate count (PutFrame name.now frame.now))) }
         ensures still { IsStill self.old self.new }
     {
+        let Some(port) = self.sender(name) else {
+            return Ok(());
+        };
         let mut left = count;
         while left > 0 {
-            match self.put_frame(rt, name, frame, gate) {
-                Ok(true) => left -= 1,
+            match self.make_room(rt, name, port, gate) {
+                Ok(true) => left -= self.write_copies(name, port, frame, left),
                 Ok(false) => return Ok(()),
                 Err(fault) => return Err(fault),
             }
@@ -289,24 +307,27 @@ impl<'f> Player<'f> {
         Ok(())
     }
 
-    /// Puts a record, and syncs behind it if it is the last one before a sync. One that is longer
-    /// than a buffer is passed over. Answers how many come then before the next sync; none where
-    /// the line has ended.
+    /// Puts a record at the port of a name, and syncs behind it if it is the last one before a sync.
+    /// One that is longer than a buffer is passed over. Answers how many come then before the next
+    /// sync; none where the line has ended.
     fn play_one<R: Wait, G: Gate>(
         &mut self,
         rt: &R,
         name: &Name,
+        port: PortId,
         bytes: &[u8],
         batch: u32,
         left: u32,
         gate: &G,
     ) -> Result<Option<u32>, StepFault>
+        requires named { sender_named self.old.session.own name.now ≡ Some port }
         requires batch { 1 ≤ batch }
         requires left { 1 ≤ left }
         ensures plays { IfOk result (λ next. (frames : List (List ℕ))
             → PlaysOn self.old self.new (playing name.now batch left (bytes.now ∷ frames))
             name.now batch frames next) }
         ensures left { IfOk result (λ next. IfSome next (λ n. 1 ≤ n)) }
+        ensures named { sender_named self.new.session.own name.now ≡ Some port }
         ensures stops { IfErr result (λ fault. (frames : List (List ℕ))
             → Stops self.old self.new (playing name.now batch left (bytes.now ∷ frames)) fault) }
         ensures still { IsStill self.old self.new }
@@ -314,7 +335,7 @@ impl<'f> Player<'f> {
         if bytes.len() > 2048 {
             return Ok(Some(left));
         }
-        match self.put_frame(rt, name, bytes, gate) {
+        match self.put_frame(rt, name, port, bytes, gate) {
             Ok(true) => {}
             Ok(false) => return Ok(None),
             Err(fault) => return Err(fault),
@@ -322,7 +343,7 @@ impl<'f> Player<'f> {
         if left != 1 {
             return Ok(Some(left - 1));
         }
-        match self.send(rt, name, gate) {
+        match self.send(rt, name, port, gate) {
             Ok(true) => Ok(Some(batch)),
             Ok(false) => Ok(None),
             Err(fault) => Err(fault),
@@ -346,9 +367,13 @@ impl<'f> Player<'f> {
             (Stops self.old self.new (played name.now batch (map captured records.now))) }
         ensures still { IsStill self.old self.new }
     {
+        let Some(port) = self.sender(name) else {
+            return Ok(());
+        };
         let mut left = batch;
         for record in records {
-            match self.play_one(rt, name, record.bytes.as_slice(), batch, left, gate) {
+            let bytes = record.bytes.as_slice();
+            match self.play_one(rt, name, port, bytes, batch, left, gate) {
                 Ok(Some(next)) => left = next,
                 Ok(None) => return Ok(()),
                 Err(fault) => return Err(fault),
@@ -357,7 +382,7 @@ impl<'f> Player<'f> {
         if left == batch {
             return Ok(());
         }
-        match self.send(rt, name, gate) {
+        match self.send(rt, name, port, gate) {
             Ok(_) => Ok(()),
             Err(fault) => Err(fault),
         }

@@ -1,5 +1,6 @@
 //! The frames that are kept of a user's ports, for the files into which they go.
-ghost use Rattle.std.specs.Prelude.{◌≡◌, ◌++◌, [], ◌∷◌, map, length, None, OnOk, OnErr, IfOk};
+ghost use Rattle.std.specs.Prelude.{◌≡◌, ◌<◌, ◌^◌, ◌++◌, [], ◌∷◌, map, length, None};
+ghost use Rattle.std.specs.Prelude.{OnOk, OnErr, IfOk};
 ghost use Rattle.nm_user.specs.Saving.{frame_before_tail, bytes_or_none};
 ghost use Rattle.nm_user.specs.Sessions.{SessionState, IsThere};
 ghost use Rattle.vale_player.specs.Kept.{AreKept, SavesBy, record_at, new_records, grown_if};
@@ -27,7 +28,8 @@ impl Model for KeptPort {
 
 /// The bytes of the frame so many steps before the tail of a port's receive ring.
 fn bytes_before_tail<'a>(session: &'a Session, port: PortId, back: u32) -> &'a [u8]
-    ensures { result.now ≡ bytes_or_none (frame_before_tail session.now.own port.0 back) }
+    ensures bytes { result.now ≡ bytes_or_none (frame_before_tail session.now.own port.0 back) }
+    ensures size { length result.now < 2 ^ 16 }
 {
     match session.frame_before_tail(port, back) {
         Some(bytes) => bytes,
@@ -35,13 +37,11 @@ fn bytes_before_tail<'a>(session: &'a Session, port: PortId, back: u32) -> &'a [
     }
 }
 
-/// The record of a frame, which is no longer than a buffer.
+/// The record of a frame.
 fn record_of_frame(alloc: Global, entry: u32, place: u32, frame: &[u8]) -> Result<Record, NoMemory>
+    requires { length frame.now < 2 ^ 16 }
     ensures { IfOk result (λ made. made ≡ record_at entry place frame.now) }
 {
-    if frame.len() > 2048 {
-        return Err(NoMemory);
-    }
     let mut bytes = Vec::new(alloc);
     bytes.extend_from_slice(frame)?;
     Ok(Record {
@@ -136,16 +136,6 @@ pub(crate) fn keep_received(
     }
 }
 
-/// Whether a name is among others.
-fn is_among(names: &[Name], name: &Name) -> bool {
-    for other in names {
-        if other.as_bytes() == name.as_bytes() {
-            return true;
-        }
-    }
-    false
-}
-
 /// A port is kept, which has given nothing so far. If memory is wanting, it is not kept.
 fn begin(kept: &mut Vec<KeptPort>, port: PortId) -> Result<(), NoMemory>
     ensures begun { OnOk result (kept.new.items
@@ -177,7 +167,7 @@ pub(crate) fn keep_opened(
     let Some(_) = session.ring(*port, Side::Rx) else {
         return;
     };
-    if !is_among(names, name) {
+    if !names.contains(name) {
         return;
     }
     match begin(kept, *port) {

@@ -37,7 +37,12 @@ impl<'f> Model for Player<'f> {
 
     ghost Value = { PlayerState };
 
-    ghost view = { λ p. record { number = p.number; session = p.session; saves = p.saves.items } };
+    ghost view = { λ p. record {
+      number = p.number;
+      session = p.session;
+      saves = p.saves.items;
+      names = p.names.now;
+    } };
 
     ghost use Rattle.vale_player.specs.Kept.{IsKeeping};
 

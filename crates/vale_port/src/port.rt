@@ -1,6 +1,5 @@
 ghost use Rattle.std.specs.Prelude.{List, ℕ, true, ◌≡◌, ◌≤◌, ◌+◌, ◌-◌, not, [], ◌++◌, All, length, take, drop, map, min, sum, false, Some, vec_capacity, IfOk, IfErr, IfSome, IfNone};
 ghost use Rattle.nm_types.specs.Frames.{Frame, size_of_frames};
-ghost use Rattle.nm_types.specs.Names.{switch_of};
 ghost use Rattle.nm_region.specs.Buffers.{indices_of};
 ghost use Rattle.vale_lease.specs.Leases.{is_there, out_count};
 ghost use Rattle.vale_line.specs.Fitting.{IsFrameSize};
@@ -145,10 +144,11 @@ impl Port {
         self.id == id && self.shutting
     }
 
-    pub(crate) fn is_open_on(&self, name: &Name) -> bool
-        ensures { result ≡ is_open_state_on (switch_of name.now) self.now }
+    /// Tells whether the port is open on this switch.
+    pub(crate) fn is_open_on(&self, switch: &[u8]) -> bool
+        ensures { result ≡ is_open_state_on switch.now self.now }
     {
-        !self.shutting && self.name.is_switch_port() && self.name.switch() == name.switch()
+        !self.shutting && self.name.is_switch_port() && self.name.switch() == switch
     }
 
     /// Returns the number of slots of the transmit ring: 0 for a monitor, which has none.

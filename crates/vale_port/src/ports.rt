@@ -71,11 +71,13 @@ fn ids_on(alloc: Global, ports: &[Port], name: &Name) -> Result<Vec<PortId>, NoM
     ensures { IfOk result (λ ids. ids.items
         ≡ map id_of_state (filter (is_open_state_on (switch_of name.now)) ports.now)) }
 {
-    let ids = ports
-        .iter()
-        .filter(|port| port.is_open_on(name))
-        .map(|port| port.id())
-        .collect(alloc)?;
+    let switch = name.switch();
+    let mut ids = Vec::with_capacity(alloc, ports.len())?;
+    for port in ports {
+        if port.is_open_on(switch) {
+            ids.push_reserved(port.id());
+        }
+    }
     Ok(ids)
 }
 

@@ -19,7 +19,7 @@ use Rattle.vale_entry.specs.Legal.{Outcome, kept_ask, step}
 use Rattle.vale_entry.specs.OwnCalls.{or_reset, offered_items, back_in, tx_call, rx_call, finish_call}
 use Rattle.vale_replay.specs.Tasks.{Task, Arrive, OpenPort, PutFrame, SendFrames, TakeFrames, ChangeOwn, SaveFrames, WatchPort, ReadCounts, ShutPort, FinishPort, Depart, EndLine}
 use Rattle.vale_replay.specs.Machine.{Machine, enter_call, room_call, put_call, send_call, call_of_task, call_of_tasks, settling_call, owed_lot, next_offer, done_call, grant_call, next_call}
-use Rattle.vale_replay.specs.Replay.{TakesTurn, caller_of, entry_by, standing_before}
+use Rattle.vale_replay.specs.Replay.{TakesTurn, caller_of, entry_of, standing_before}
 use Rattle.vale_replay.proofs.Turns.{some-same}
 
 -- where a call is an Enter, it names this user
@@ -108,9 +108,9 @@ call-enters w user =
 
 -- the ask of an entry is the one that made it, as it is kept
 pub ask-by : (ask : Ask) (entry : Entry) (made : Option Outcome)
-    → option_map (entry_by ask) made ≡ Some entry → entry.ask ≡ kept_ask ask
+    → option_map (entry_of ask) made ≡ Some entry → entry.ask ≡ kept_ask ask
 ask-by ask entry None e = absurd cc
-ask-by ask entry (Some made) e = ap (λ (x : Entry). x.ask) (sym (some-same (entry_by ask made) entry e))
+ask-by ask entry (Some made) e = ap (λ (x : Entry). x.ask) (sym (some-same (entry_of ask made) entry e))
 
 -- Whose an entry is: its user's session's, or it is the Enter of the user.
 pub record Enters (n : ℕ) (user : Machine) (entry : Entry) : Type 0 where

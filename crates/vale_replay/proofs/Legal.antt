@@ -13,7 +13,7 @@ use Rattle.vale_entry.proofs.KeptPuts.{puts-kept}
 use Rattle.vale_entry.proofs.Worlds.{legal-push}
 use Rattle.vale_script.specs.Script.{Program}
 use Rattle.vale_replay.specs.Machine.{Machine}
-use Rattle.vale_replay.specs.Replay.{TakesTurn, TakesTurns, ReplaysShare, ReplaysUnit, ReplaysUnits, EachShare, AreSplit, HasPlayed, Reaches, ScriptUnit, times_among, entry_by, entry_made, standing_before, starting, units_of, users_of}
+use Rattle.vale_replay.specs.Replay.{TakesTurn, TakesTurns, ReplaysShare, ReplaysUnit, ReplaysUnits, EachShare, AreSplit, HasPlayed, Reaches, ScriptUnit, times_among, entry_of, entry_made, standing_before, starting, units_of, users_of}
 use Rattle.vale_replay.specs.Laws.{PlayedIsLegal}
 use Rattle.vale_replay.specs.Tasks.{Captures}
 
@@ -37,11 +37,11 @@ recorded s (Watch monitor target sides) made e = e
 recorded s (Stat port) made e = e
 
 made-by : (s : Standing) (ask : Ask) (entry : Entry) (made : Option Outcome) → step s ask ≡ made
-    → option_map (entry_by ask) made ≡ Some entry → Follows s entry
+    → option_map (entry_of ask) made ≡ Some entry → Follows s entry
 made-by s ask entry None e is = absurd cc
 made-by s ask entry (Some made) e is =
-    let same : entry_by ask made ≡ entry = cc in
-    let here : Follows s (entry_by ask made) = ap (option_map session_and_reply) (recorded s ask made e) in
+    let same : entry_of ask made ≡ entry = cc in
+    let here : Follows s (entry_of ask made) = ap (option_map session_and_reply) (recorded s ask made e) in
     subst (λ (x : Entry). Follows s x) same here
 
 pub made-follows : (s : Standing) (ask : Ask) (entry : Entry) → entry_made s ask ≡ Some entry

@@ -31,7 +31,7 @@ use Rattle.vale_own.proofs.SideEntries.{transmits-of, receives-of, finishes-of}
 use Rattle.vale_own.proofs.SideSound.{each-found}
 use Rattle.vale_replay.specs.Tasks.{Task, Arrive, OpenPort, PutFrame, SendFrames, TakeFrames, ChangeOwn, SaveFrames, WatchPort, ReadCounts, ShutPort, FinishPort, Depart, EndLine, lines_left}
 use Rattle.vale_replay.specs.Machine.{Machine, room_call, put_call, send_call, call_of_task, call_of_tasks, settling_call, owed_lot, next_offer, done_call, grant_call, next_call, is_reset, is_peer_gone, has_room_at, with_tasks, answered, resting, is_settling}
-use Rattle.vale_replay.specs.Replay.{TakesTurn, caller_of, entry_by, entry_made, standing_before}
+use Rattle.vale_replay.specs.Replay.{TakesTurn, caller_of, entry_of, entry_made, standing_before}
 use Rattle.vale_replay.proofs.Legal.{made-follows, take-one_more}
 use Rattle.vale_replay.proofs.Enters.{Enters, turn-enters}
 use Rattle.vale_replay.proofs.Turns.{some-same}
@@ -117,25 +117,25 @@ rx-shut own p shut = tx-shut_by (refusal_in Rx own p.rx) p.id (is_pipe_name p.na
 -- An entry of the user's session.
 
 abbrev made_entry : Ask → Outcome → Entry
-made_entry ask made = entry_by ask made
+made_entry ask made = entry_of ask made
 
 abbrev came_by : Standing → Ask → Outcome → OwnState → ℕ → OwnState
-came_by s ask made own n = own_after n (entry_by ask made) (arrivals_of s (kept_ask ask) made.reply) own
+came_by s ask made own n = own_after n (entry_of ask made) (arrivals_of s (kept_ask ask) made.reply) own
 
 -- the entry of a call, in a legal history
 record IsMade (pool : ℕ) (past : List Entry) (ask : Ask) (made : Outcome) : Type 0 where
   legal : IsLegal pool past
   step_is : step (standing_of pool past) ask ≡ Some made
-  follows : Follows (standing_of pool past) (entry_by ask made)
+  follows : Follows (standing_of pool past) (entry_of ask made)
 
 abbrev standing_next : ℕ → List Entry → Ask → Outcome → Standing
-standing_next pool past ask made = standing_of pool (past ++ entry_by ask made ∷ [])
+standing_next pool past ask made = standing_of pool (past ++ entry_of ask made ∷ [])
 
 session-side : (pool : ℕ) (past : List Entry) (ask : Ask) (made : Outcome) (shut : Option ℕ) (own : OwnState)
     → IsMade pool past ask made → IsOfSide shut own (kept_ask ask) made.reply
     → IsSoundSideOf pool made.session shut (own_of made.session (standing_of pool past)) own
     → IsSoundSideOf pool made.session (shut_after (kept_ask ask) shut) (own_of made.session (standing_next pool past ask made)) (came_by (standing_of pool past) ask made own (length past + 1))
-session-side pool past ask made shut own m of side = side-kept pool past (entry_by ask made) shut own m.legal m.follows side of
+session-side pool past ask made shut own m of side = side-kept pool past (entry_of ask made) shut own m.legal m.follows side of
 
 -- a user whose session that is
 abbrev IsOwn : Option SessionId → Outcome → Type 0
@@ -216,7 +216,7 @@ left-empty pool s session shut own side can =
 
 abbrev next_of : ℕ → List Entry → Machine → Ask → Outcome → List Task → Machine
 next_of pool past user ask made tasks =
-    with_tasks (length past + 1) (entry_by ask made) (record user { own = came_by (standing_of pool past) ask made user.own (length past + 1) }) tasks
+    with_tasks (length past + 1) (entry_of ask made) (record user { own = came_by (standing_of pool past) ask made user.own (length past + 1) }) tasks
 
 abbrev Steps : ℕ → List Entry → Machine → Ask → Outcome → List Task → Type 0
 Steps pool past user ask made tasks = KeepsSide pool (standing_next pool past ask made) (next_of pool past user ask made tasks)
@@ -440,7 +440,7 @@ enter-side : (pool : ℕ) (past : List Entry) (user : Machine) (rest : List Task
 enter-side pool past user rest ask made number m same own new paired = record {
   shut = None;
   side = subst (λ (n : ℕ). IsSoundSideOf pool n None (own_of n (standing_next pool past ask made)) (came_by (standing_of pool past) ask made user.own (length past + 1))) new
-      (subst (IsSoundSideOf pool made.session None (own_of made.session (standing_next pool past ask made))) (sym stays) (side-begins pool past (entry_by ask made) number m.legal m.follows (ap kept_ask (sym same))));
+      (subst (IsSoundSideOf pool made.session None (own_of made.session (standing_next pool past ask made))) (sym stays) (side-begins pool past (entry_of ask made) number m.legal m.follows (ap kept_ask (sym same))));
   order = paired;
 }
   where
@@ -481,7 +481,7 @@ settled-turn pool past user shut ask made m is of shuts stays side order = recor
 
 abbrev answer_of : ℕ → List Entry → Machine → Ask → Outcome → Machine
 answer_of pool past user ask made =
-    answered (length past + 1) (entry_by ask made) (arrivals_of (standing_of pool past) (kept_ask ask) made.reply) user
+    answered (length past + 1) (entry_of ask made) (arrivals_of (standing_of pool past) (kept_ask ask) made.reply) user
 
 lot-turn : (pool : ℕ) (past : List Entry) (user : Machine) (keeps : KeepsSide pool (standing_of pool past) user) (lot : Lot) (ask : Ask) (made : Outcome)
     → IsMade pool past ask made → IsOwn user.session made → done_call lot ≡ ask → KeepsSide pool (standing_next pool past ask made) (answer_of pool past user ask made)
@@ -595,7 +595,7 @@ call-plain user x ask None None is call = (tasks-plain user x user.tasks ask is 
 
 none-turn : (pool : ℕ) (past : List Entry) (user : Machine) (keeps : KeepsSide pool (standing_of pool past) user) (ask : Ask) (made : Outcome)
     → IsMade pool past ask made → user.session ≡ None → call_of_tasks user user.tasks ≡ Some ask
-    → Enters (length past + 1) user (entry_by ask made)
+    → Enters (length past + 1) user (entry_of ask made)
     → KeepsSide pool (standing_next pool past ask made) (answer_of pool past user ask made)
 none-turn pool past user keeps ask made m is call enters =
     let side : (user.own ≡ empty_own pool) × (keeps.shut ≡ None) = subst (λ (x : Option SessionId). SideOf pool (standing_of pool past) x keeps.shut user.own) is keeps.side in
@@ -608,7 +608,7 @@ clash e = absurd cc
 made-turn : (pool : ℕ) (past : List Entry) (user : Machine) (keeps : KeepsSide pool (standing_of pool past) user) (ask : Ask) (made : Outcome) (session : Option SessionId)
     → IsMade pool past ask made → user.session ≡ session → next_call (standing_of pool past).world user ≡ Some ask
     → caller_of (length past + 1) user ask ≡ Some (record { 0 = made.session })
-    → (user.session ≡ Some (record { 0 = made.session })) ⊎ Enters (length past + 1) user (entry_by ask made)
+    → (user.session ≡ Some (record { 0 = made.session })) ⊎ Enters (length past + 1) user (entry_of ask made)
     → KeepsSide pool (standing_next pool past ask made) (answer_of pool past user ask made)
 made-turn pool past user keeps ask made None m is called caller (inl own) = absurd (clash (sym is ∙ own))
 made-turn pool past user keeps ask made None m is called caller (inr enters) =
@@ -619,10 +619,10 @@ made-turn pool past user keeps ask made (Some x) m is called caller either =
     let own = own-caller (length past + 1) user ask (record { 0 = made.session }) (call-plain user x ask (owed_lot w x.0) (next_offer w x.0) is call) caller in
     session-turn pool past user keeps ask made (owed_lot w x.0) (next_offer w x.0) m own call
 
-outcome-of : (ask : Ask) (entry : Entry) (made : Option Outcome) → option_map (entry_by ask) made ≡ Some entry
-    → (out : Outcome) × (made ≡ Some out) × (entry_by ask out ≡ entry)
+outcome-of : (ask : Ask) (entry : Entry) (made : Option Outcome) → option_map (entry_of ask) made ≡ Some entry
+    → (out : Outcome) × (made ≡ Some out) × (entry_of ask out ≡ entry)
 outcome-of ask entry None e = absurd cc
-outcome-of ask entry (Some out) e = (out, refl, some-same (entry_by ask out) entry e)
+outcome-of ask entry (Some out) e = (out, refl, some-same (entry_of ask out) entry e)
 
 -- behind its turn a user has its session's side
 pub turn-side : (pool : ℕ) (h : List Entry) (user : Machine) (n : ℕ) (after : Machine)
@@ -639,7 +639,7 @@ turn-side pool h user n after legal within keeps turn = subst (KeepsSide pool (s
     stands : standing_before pool h (n + 1) ≡ standing_of pool past
     stands = ap (λ k. standing_of pool (take k h)) at
 
-    out : (o : Outcome) × (step (standing_of pool past) turn.ask ≡ Some o) × (entry_by turn.ask o ≡ turn.entry)
+    out : (o : Outcome) × (step (standing_of pool past) turn.ask ≡ Some o) × (entry_of turn.ask o ≡ turn.entry)
     out = outcome-of turn.ask turn.entry (step (standing_of pool past) turn.ask) (ap (λ (s : Standing). entry_made s turn.ask) (sym stands) ∙ turn.made)
 
     made : IsMade pool past turn.ask out.0
@@ -658,22 +658,22 @@ turn-side pool h user n after legal within keeps turn = subst (KeepsSide pool (s
     caller : caller_of (length past + 1) user turn.ask ≡ Some (record { 0 = out.0.session })
     caller = ap (λ k. caller_of k user turn.ask) (sym number) ∙ turn.caller ∙ ap (λ (e : Entry). Some e.session) (sym out.2)
 
-    either : (user.session ≡ Some (record { 0 = out.0.session })) ⊎ Enters (length past + 1) user (entry_by turn.ask out.0)
-    either = subst (λ (k : ℕ). (user.session ≡ Some (record { 0 = out.0.session })) ⊎ Enters k user (entry_by turn.ask out.0)) number
+    either : (user.session ≡ Some (record { 0 = out.0.session })) ⊎ Enters (length past + 1) user (entry_of turn.ask out.0)
+    either = subst (λ (k : ℕ). (user.session ≡ Some (record { 0 = out.0.session })) ⊎ Enters k user (entry_of turn.ask out.0)) number
         (subst (λ (e : Entry). (user.session ≡ Some e.session) ⊎ Enters (n + 1) user e) (sym out.2) (turn-enters pool h user (n + 1) after turn))
 
     behind : KeepsSide pool (standing_next pool past turn.ask out.0) next
     behind = made-turn pool past user keeps turn.ask out.0 user.session made refl (ap (λ (s : Standing). next_call s.world user) (sym stands) ∙ turn.asked) caller either
 
-    there : slice_get h n ≡ Some (entry_by turn.ask out.0)
+    there : slice_get h n ≡ Some (entry_of turn.ask out.0)
     there = ap (slice_get h) (sym at) ∙ turn.there ∙ ap (λ (e : Entry). Some e) (sym out.2)
 
     stands' : standing_next pool past turn.ask out.0 ≡ standing_of pool (take (n + 1) h)
     stands' =
         let more : suc n ≡ n + 1 = omega arith in
-        ap (standing_of pool) (sym (take-one_more h n (entry_by turn.ask out.0) there)) ∙ ap (λ k. standing_of pool (take k h)) more
+        ap (standing_of pool) (sym (take-one_more h n (entry_of turn.ask out.0) there)) ∙ ap (λ k. standing_of pool (take k h)) more
 
     goes : after ≡ resting next
     goes = turn.goes_on ∙ ap (λ (s : Standing). resting (answered (n + 1) turn.entry (arrivals_of s turn.entry.ask turn.entry.reply) user)) stands
         ∙ ap (λ (e : Entry). resting (answered (n + 1) e (arrivals_of (standing_of pool past) e.ask e.reply) user)) (sym out.2)
-        ∙ ap (λ k. resting (answered k (entry_by turn.ask out.0) (arrivals_of (standing_of pool past) (kept_ask turn.ask) out.0.reply) user)) number
+        ∙ ap (λ k. resting (answered k (entry_of turn.ask out.0) (arrivals_of (standing_of pool past) (kept_ask turn.ask) out.0.reply) user)) number

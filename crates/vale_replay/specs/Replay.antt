@@ -9,7 +9,8 @@ use Rattle.vale_entry.specs.declared.entry.Ask.TheVariants.{Enter}
 use Rattle.vale_entry.specs.declared.entry.Entry.{Entry}
 use Rattle.vale_entry.specs.Laws.{Rise}
 use Rattle.vale_entry.specs.Arrivals.{arrivals_of}
-use Rattle.vale_entry.specs.Legal.{Standing, Outcome, kept_ask, step, standing_of}
+pub use Rattle.vale_entry.specs.Legal.{entry_of}
+use Rattle.vale_entry.specs.Legal.{Standing, step, standing_of}
 use Rattle.vale_script.specs.declared.script.Act.{Act}
 use Rattle.vale_script.specs.declared.script.Line.{Line}
 use Rattle.vale_script.specs.declared.script.Unit.{Unit as ReadUnit}
@@ -29,13 +30,8 @@ abbrev pub caller_of : ℕ → Machine → Ask → Option SessionId
 caller_of number user (Enter name) = Some (record { 0 = number })
 caller_of number user _ = user.session
 
--- the entry that an ask makes; where a book records it, vale_book calls it `entry_of`
-abbrev pub entry_by : Ask → Outcome → Entry
-entry_by ask made =
-    record { session = record { 0 = made.session }; ask = kept_ask ask; reply = made.reply }
-
 abbrev pub entry_made : Standing → Ask → Option Entry
-entry_made s ask = option_map (entry_by ask) (step s ask)
+entry_made s ask = option_map (entry_of ask) (step s ask)
 
 -- the entry of this number is the one that the user's next call makes, and takes the user from one
 -- state to another

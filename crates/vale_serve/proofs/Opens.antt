@@ -19,7 +19,7 @@ use Rattle.vale_entry.proofs.Each.{each-append}
 use Rattle.vale_own.specs.Own.{Own, own_of}
 use Rattle.vale_own.specs.OwnEntries.{own_opened, own_after_entry}
 use Rattle.vale_own.proofs.Askers.{askers-make-steps}
-use Rattle.vale_book.specs.declared.opening.Opened.{Opened as Handed}
+use Rattle.vale_steps.specs.declared.opening.Opened.{Opened as Handed}
 use Rattle.vale_book.specs.BookView.{AreOf}
 use Rattle.vale_book.specs.OpenAnswers.{IsUnopened}
 use Rattle.vale_book.specs.Recorded.{Recorded, standing, IsRecordedAs, entry_of, after_outcome}

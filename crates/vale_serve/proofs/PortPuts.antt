@@ -40,8 +40,8 @@ use Rattle.vale_book.specs.Recorded.{Recorded, standing, after_ask, IsRefusal, H
 use Rattle.vale_book.specs.declared.asking.PortSeen.{PortSeen}
 use Rattle.vale_book.specs.declared.fault.PutFault.{PutFault}
 use Rattle.vale_book.specs.declared.fault.PutFault.TheVariants as gone
-use Rattle.vale_book.specs.declared.putting.Put.{Put as Given}
-use Rattle.vale_book.proofs.PutLists.{items-first, indices-items}
+use Rattle.vale_steps.specs.declared.putting.Put.{Put as Given}
+use Rattle.vale_steps.proofs.PutLists.{items-first, indices-items}
 use Rattle.vale_book.proofs.Standing.{each-take}
 use Rattle.vale_fabric.proofs.Making.{Steps}
 use Rattle.vale_fabric.proofs.PutsTold.{put-said, gone-said}

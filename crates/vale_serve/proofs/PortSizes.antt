@@ -5,7 +5,8 @@ use Rattle.std.specs.List.{AllByRecursion as Each}
 use Rattle.std.proofs.lemmas.Bool.{and_parts, leb-true, eqb-true}
 use Rattle.nm_types.specs.Names.{is_monitor_name}
 use Rattle.vale_entry.specs.World.{World, Port, due_of}
-use Rattle.vale_entry.specs.Opening.{is_ring_size, are_sizes, name_refusal, open_refusal}
+use Rattle.nm_types.specs.Openings.{open_refusal as names_refusal}
+use Rattle.vale_entry.specs.Opening.{is_ring_size, are_sizes, names_of, open_refusal}
 use Rattle.vale_entry.specs.Delivery.{port_after_done, port_after_sync}
 use Rattle.vale_entry.specs.Closing.{shut}
 use Rattle.vale_entry.specs.Laws.{HasRoom}
@@ -34,7 +35,7 @@ Sizes s = Each HasSizes s.world.ports
 
 opened-sizes : (w : World) (name : List ℕ) (tx rx extra : ℕ) → open_refusal w name tx rx extra ≡ None → (tx ≤ 1024) × (rx ≤ 1024) × (extra ≤ 1024)
 opened-sizes w name tx rx extra none =
-    let sizes = sizes_by (are_sizes name tx rx extra) _ (none-first (name_refusal w.ports name tx rx extra) _ _ none) in
+    let sizes = sizes_by (are_sizes name tx rx extra) _ (none-first (names_refusal (names_of w.ports) name tx rx extra) _ _ none) in
     let rings = and_parts _ (is_ring_size rx && nat_le extra 1024) sizes in
     let ring = and_parts (is_ring_size rx) (nat_le extra 1024) rings.1 in
     (tx-small tx (is_monitor_name name) rings.0, leb-true rx 1024 (and_parts (nat_le 2 rx) (nat_le rx 1024) ring.0).1, leb-true extra 1024 ring.1)

@@ -5,10 +5,10 @@ use Rattle.nm_types.specs.Names.{is_monitor_name}
 use Rattle.nm_types.specs.declared.fault.OpenFault.{OpenFault}
 use Rattle.nm_types.specs.declared.fault.OpenFault.TheVariants.{BadSize}
 use Rattle.vale_entry.specs.declared.entry.Reply.TheVariants.{Opened}
-use Rattle.vale_entry.specs.Opening.{is_ring_size, are_sizes, name_refusal, open_refusal}
+use Rattle.nm_types.specs.Openings.{open_refusal as names_refusal}
+use Rattle.vale_entry.specs.Opening.{is_ring_size, are_sizes, names_of, open_refusal}
 use Rattle.vale_entry.specs.Legal.{Standing, Outcome, can_open, open_step_by}
 use Rattle.vale_book.proofs.RingSizes.{none-first}
-use Rattle.vale_entry.specs.World.{Port}
 use Rattle.vale_serve.specs.Opening.{most_given}
 
 -- a name that is not refused has sizes in range
@@ -23,9 +23,9 @@ tx_few n tx false low e = let most = leb-true tx 1024 (and_parts (nat_le 2 tx) (
 extra_few : (n extra : ℕ) → n ≤ extra → nat_le extra 1024 ≡ true → n ≤ min extra 1024
 extra_few n extra low e = let most = leb-true extra 1024 e in omega (arith, low, most)
 
-sizes-fit : (ports : List Port) (name : List ℕ) (tx rx extra n m : ℕ) → None ≡ name_refusal ports name tx rx extra → n ≤ tx → m ≤ extra
+sizes-fit : (names : List (List ℕ)) (name : List ℕ) (tx rx extra n m : ℕ) → None ≡ names_refusal names name tx rx extra → n ≤ tx → m ≤ extra
     → n + m ≤ most_given name tx extra
-sizes-fit ports name tx rx extra n m e low small =
+sizes-fit names name tx rx extra n m e low small =
     let sizes = sizes_by (are_sizes name tx rx extra) _ (sym e) in
     let rings = and_parts _ (is_ring_size rx && nat_le extra 1024) sizes in
     let one = tx_few n tx (is_monitor_name name) low rings.0 in
@@ -47,5 +47,5 @@ opened-few s session name tx rx extra ring others e =
     let none = opened_by s session name tx rx extra (can_open s.world session name tx rx extra) (open_refusal s.world name tx rx extra) e in
     let one = length-take tx ring in
     let two = length-take extra others in
-    sizes-fit s.world.ports name tx rx extra (length (take tx ring)) (length (take extra others)) (sym (none-first (name_refusal s.world.ports name tx rx extra) _ _ none))
+    sizes-fit (names_of s.world.ports) name tx rx extra (length (take tx ring)) (length (take extra others)) (sym (none-first (names_refusal (names_of s.world.ports) name tx rx extra) _ _ none))
     (omega (arith, one)) (omega (arith, two))

@@ -1,12 +1,12 @@
 -- The grant of the next offer of a session, with its lease filled.
-use Rattle.std.specs.Prelude.{ℕ, true, ◌≡◌, ◌≤◌, List, [], ◌∷◌, ◌++◌, None, vec_capacity, length, drop, slice_get, Option, Some, IfSome, IfNone, option_map}
+use Rattle.std.specs.Prelude.{true, ◌≡◌, ◌≤◌, List, [], ◌∷◌, ◌++◌, None, vec_capacity, length, drop, slice_get, Option, Some, IfSome, IfNone, option_map}
 use Rattle.std.specs.List.{AllByRecursion}
 use Rattle.nm_types.specs.declared.id.PortId.{PortId}
 use Rattle.vale_batch.specs.Wants.{Wanted}
 use Rattle.vale_line.specs.Leased.{Leased}
 use Rattle.vale_entry.specs.declared.entry.Ask.TheVariants.{Grant}
 use Rattle.vale_entry.specs.declared.entry.Reply.{Reply}
-use Rattle.vale_entry.specs.declared.entry.Reply.TheVariants.{Shared}
+pub use Rattle.vale_entry.specs.Grant.{given_in}
 use Rattle.vale_entry.specs.Legal.{step, reply_of}
 use Rattle.vale_port.specs.Kept.{bytes_of}
 use Rattle.vale_book.specs.Offering.{OffersStand}
@@ -31,10 +31,6 @@ pub record IsLeased (old new : Recorded) (sent : Sent) (lease : Leased) : Type 0
   pub first : slice_get sent.offers.wants 0 ≡ Some want
   pub gives : IsLeaseBy old sent.offers.entry (length new.entries) given
   pub filled : IsFilledWith given want.places (contents sent.frames.items) lease
-
-abbrev pub given_in : Reply → ℕ
-given_in (Shared given full gone) = given
-given_in _ = 0
 
 -- the next offer was granted, and is an offer no more
 pub record HasGranted (old new : Recorded) (sent left : Sent) (reply : Reply) (lease : Option Leased) : Type 0 where

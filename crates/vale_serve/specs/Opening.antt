@@ -9,7 +9,7 @@ use Rattle.nm_types.specs.declared.fault.OpenFault.TheVariants.{BadSize, Switche
 use Rattle.nm_region.specs.Buffers.{Buffer}
 use Rattle.vale_entry.specs.declared.entry.Reply.{Reply}
 use Rattle.vale_entry.specs.declared.entry.Reply.TheVariants.{Refused}
-use Rattle.vale_book.specs.declared.opening.Opened.{Opened}
+use Rattle.vale_steps.specs.declared.opening.Opened.{Opened}
 use Rattle.vale_serve.specs.declared.users.User.{User}
 
 -- an opening that is refused is answered so, and a fault of the record is an error

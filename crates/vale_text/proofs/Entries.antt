@@ -1,10 +1,10 @@
 -- Writing the lines of entries by way of a page.
 use Rattle.std.proofs.Common.{◌≡◌, ℕ, ◌+◌, ◌<◌, List, [], ◌∷◌, ◌++◌, length, take, drop, get_or, Option, Result, Ok, Err, sym, ap, subst, ◌∙◌, arith, append_assoc, length-take-le, take_all}
 use Rattle.std.proofs.lemmas.List.{take_more, append-nil, take-append-drop}
-use Rattle.nm_io.specs.Held.{grown, GrowsByPrefix}
+use Rattle.nm_io.specs.Held.{grown, GrowsByPrefix, Writes}
 use Rattle.nm_io.proofs.Growth.{grown-grown, grown_nothing, grows_longer, grows_more}
 use Rattle.std.proofs.Math.Seq.{drop-length}
-use Rattle.nm_io.specs.Gathered.{Gathered, Gathers}
+use Rattle.nm_io.specs.Gathered.{Gathered}
 use Rattle.nm_io.proofs.Gathering.{gathered_more, gathered_fails, grows_past}
 use Rattle.vale_entry.specs.declared.entry.Entry.{Entry}
 use Rattle.vale_entry.specs.Transcript.{entry_line, entry_lines}
@@ -39,10 +39,10 @@ entries_fail old middle new p q es i e h same first second =
     subst (λ (text : List ℕ). GrowsByPrefix old new (p ++ text)) whole
     (grows_past old new p front rest (gathered_fails old middle new p q (entry_lines 1 (take i es)) (entry_line (i + 1) e) first second))
 
--- one text was gathered, and then another one, or by a failure a prefix of it
-pub gathers_after : {T E : Type 0} (old middle new : Option (List ℕ)) (p q r a b : List ℕ) (result : Result T E) → Gathered old middle p q a → Gathers middle new q r result b → Gathers old new p r result (a ++ b)
-gathers_after old middle new p q r a b (Ok x) first second = gathered_more old middle new p q r a b first second
-gathers_after old middle new p q r a b (Err e) first second = gathered_fails old middle new p q a b first second
+-- one part was written whole, and the next one whole or, by a failure, a prefix of it
+pub writes_after : {T E : Type 0} (old middle new : Option (List ℕ)) (a b : List ℕ) (result : Result T E) → middle ≡ grown old a → Writes middle new result b → Writes old new result (a ++ b)
+writes_after old middle new a b (Ok x) all part = part ∙ ap (λ held. grown held b) all ∙ grown-grown old a b
+writes_after old middle new a b (Err e) all part = grows_more old middle new a b all part
 
 -- a line is gathered, and nothing goes out yet
 pub gathered_behind : (held : Option (List ℕ)) (p q a : List ℕ) → q ≡ p ++ a → Gathered held held p q a

@@ -1,6 +1,7 @@
-mod Digits
+mod Blocks
 mod Entries
-mod Flat
+mod Places
+mod Strips
 mod Lines
 mod NameWords
 mod GivingBack

@@ -1,5 +1,6 @@
 pub mod Laws
 pub mod Lines
 pub mod Pieces
+pub mod Placed
 pub mod Reading
 pub mod Written

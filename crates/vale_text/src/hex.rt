@@ -1,17 +1,14 @@
-//! Bytes as hexadecimal digits.
-ghost use Rattle.std.specs.Prelude.{◌≡◌, ◌≤◌, ◌<◌, ◌*◌, ◌+◌, ℕ, length, take, drop, OnErr};
+//! Bytes as hexadecimal digits, sixteen at once. The last sixteen may overlap those before.
+ghost use Rattle.std.specs.Prelude.{◌≡◌, ◌≤◌, ◌<◌, ◌*◌, ◌+◌, ℕ, length, take, map};
 ghost use Rattle.std.specs.List.{flat_map};
-ghost use Rattle.nm_io.specs.Counts.{Rose};
-ghost use Rattle.nm_io.specs.Held.{Writes};
-ghost use Rattle.vale_entry.specs.Transcript.{hex_digit, hex_byte, hex_text};
+ghost use Rattle.std.specs.Simd.Lanes.{Each1};
+ghost use Rattle.vale_text.specs.Placed.{Placed};
+ghost use Rattle.vale_entry.specs.Transcript.{hex_digit, hex_byte};
 
-use nm_io::{Failed, Sink, put_all};
+use std::simd::prelude::*;
 
 /// How many bytes are spelled at once.
-const CHUNK: usize = 1024;
-
-/// How many digits they have.
-const DIGITS: usize = 2 * CHUNK;
+const BLOCK: usize = 16;
 
 /// The digit of a number below 16, in lower case.
 fn hex_digit(n: u8) -> u8
@@ -21,44 +18,67 @@ fn hex_digit(n: u8) -> u8
     b'0' + n + if n > 9 { 39 } else { 0 }
 }
 
-/// Spells bytes, two digits for each.
-#[tactic(auto, using(crate::proofs::Digits::spelling))]
-fn spell_digits(bytes: &[u8], digits: &mut [u8; DIGITS])
-    requires { length bytes.now ≤ CHUNK }
-    ensures { take (2 * length bytes.now) digits.new ≡ flat_map hex_byte bytes.now }
+/// The digits of numbers below 16, in lower case.
+#[inline(always)]
+fn digits_of(numbers: u8x16) -> u8x16
+    requires long { length numbers ≡ 16 }
+    requires low { Each1 (λ n. n < 16) numbers }
+    ensures { result ≡ map hex_digit numbers }
+{
+    let above = numbers
+        .simd_gt(u8x16::splat(9))
+        .select(u8x16::splat(39), u8x16::splat(0));
+    u8x16::splat(b'0') + numbers + above
+}
+
+/// Spells the first sixteen bytes.
+#[inline(always)]
+fn place_block(buf: &mut [u8], at: usize, bytes: &[u8])
+    requires { (16 ≤ length bytes.now) × (at + 32 ≤ length buf.old) }
+    ensures { Placed buf.old buf.new at (flat_map hex_byte (take 16 bytes.now)) (at + 32) }
+{
+    let block = u8x16::from_slice(bytes);
+    let high = digits_of(block / u8x16::splat(16));
+    let low = digits_of(block % u8x16::splat(16));
+    let (front, back) = high.interleave(low);
+    front.copy_to_slice(&mut buf[at..]);
+    back.copy_to_slice(&mut buf[at + BLOCK..]);
+}
+
+#[inline(always)]
+fn place_many(buf: &mut [u8], at: usize, bytes: &[u8])
+    requires { (16 ≤ length bytes.now) × (at + 2 * length bytes.now ≤ length buf.old) }
+    ensures { Placed buf.old buf.new at (flat_map hex_byte bytes.now) (at + 2 * length bytes.now) }
+{
+    let last = bytes.len() - BLOCK;
+    let mut done = 0;
+    while done < last {
+        place_block(buf, at + 2 * done, &bytes[done..]);
+        done += BLOCK;
+    }
+    place_block(buf, at + 2 * last, &bytes[last..]);
+}
+
+fn place_few(buf: &mut [u8], at: usize, bytes: &[u8])
+    requires { at + 2 * length bytes.now ≤ length buf.old }
+    ensures { Placed buf.old buf.new at (flat_map hex_byte bytes.now) (at + 2 * length bytes.now) }
 {
     for (i, byte) in bytes.iter().enumerate() {
-        digits[2 * i] = hex_digit(*byte / 16);
-        digits[2 * i + 1] = hex_digit(*byte % 16);
+        buf[at + 2 * i] = hex_digit(*byte / 16);
+        buf[at + 2 * i + 1] = hex_digit(*byte % 16);
     }
 }
 
-#[tactic(auto, using(crate::proofs::Flat::parts))]
-fn put_digits<K: Sink>(out: &mut K, bytes: &[u8]) -> Result<(), Failed>
-    ensures writes { Writes (K.holds out.old) (K.holds out.new) result (flat_map hex_byte bytes.now) }
-    ensures later { K.faults out.old ≤ K.faults out.new }
-    ensures cause { OnErr result (Rose (K.faults out.old) (K.faults out.new)) }
+/// Spells bytes, two digits for each, and returns where they end.
+#[inline(always)]
+pub(crate) fn place_digits(buf: &mut [u8], at: usize, bytes: &[u8]) -> usize
+    requires { at + 2 * length bytes.now ≤ length buf.old }
+    ensures { Placed buf.old buf.new at (flat_map hex_byte bytes.now) result }
 {
-    let mut digits = [0; DIGITS];
-    let mut done = 0;
-    while done < bytes.len() {
-        let end = bytes.len().min(done + CHUNK);
-        spell_digits(&bytes[done..end], &mut digits);
-        put_all(out, &digits[..2 * (end - done)])?;
-        done = end;
-    }
-    Ok(())
-}
-
-/// Writes bytes as digits, or a dot if there are none.
-pub(crate) fn put_hex<K: Sink>(out: &mut K, bytes: &[u8]) -> Result<(), Failed>
-    ensures writes { Writes (K.holds out.old) (K.holds out.new) result (hex_text bytes.now) }
-    ensures later { K.faults out.old ≤ K.faults out.new }
-    ensures cause { OnErr result (Rose (K.faults out.old) (K.faults out.new)) }
-{
-    if bytes.is_empty() {
-        put_all(out, b".")
+    if bytes.len() < BLOCK {
+        place_few(buf, at, bytes);
     } else {
-        put_digits(out, bytes)
+        place_many(buf, at, bytes);
     }
+    at + 2 * bytes.len()
 }

@@ -7,6 +7,7 @@ mod pieces;
 mod printable;
 mod reader;
 mod rows;
+mod strip;
 #[cfg(test)]
 mod tests;
 mod transcript;

@@ -1,14 +1,14 @@
 //! The words of a line, and the items of its lists.
-ghost use Rattle.std.specs.Prelude.{◌≡◌, ◌≤◌, ℕ, List, map, decimal, OnErr};
+ghost use Rattle.std.specs.Prelude.{◌≡◌, ◌≤◌, ℕ, List, [], ◌∷◌, map, decimal, OnErr, if◌then◌else◌};
 ghost use Rattle.std.specs.List.{flat_map};
 ghost use Rattle.nm_io.specs.Counts.{Rose};
+ghost use Rattle.nm_io.specs.Gathered.{Gathers};
 ghost use Rattle.nm_io.specs.Held.{Writes};
 ghost use Rattle.vale_entry.specs.Transcript.{frame_text, frames_text, dest_text, item_text, list_text};
 ghost use Rattle.vale_text.specs.Pieces.{behind, part_text, parts_text, piece_text, pieces_text};
 
-use crate::hex::put_hex;
-use itoa::Buffer;
-use nm_io::{Failed, Sink, put_all};
+use crate::strip::{Strip, put_byte, put_hex, put_number, put_strip, put_text};
+use nm_io::{Failed, Sink};
 use nm_types::Batch;
 use vale_entry::{Dest, Item};
 
@@ -17,8 +17,9 @@ pub trait Spelled {
     // its bytes in the line
     ghost text: { Self → List ℕ };
 
-    fn spell<K: Sink>(&self, out: &mut K) -> Result<(), Failed>
-        ensures writes { Writes (K.holds out.old) (K.holds out.new) result (text self.now) }
+    fn spell<K: Sink>(&self, out: &mut K, strip: &mut Strip) -> Result<(), Failed>
+        ensures gathers { Gathers (K.holds out.old) (K.holds out.new) strip.old strip.new
+            result (text self.now) }
         ensures later { K.faults out.old ≤ K.faults out.new }
         ensures cause { OnErr result (Rose (K.faults out.old) (K.faults out.new)) };
 }
@@ -45,63 +46,70 @@ pub(crate) enum Piece<'a> {
     Taken(&'a [Item]),
 }
 
-pub(crate) fn put_number<K: Sink>(out: &mut K, number: u64) -> Result<(), Failed>
-    ensures writes { Writes (K.holds out.old) (K.holds out.new) result (decimal number) }
-    ensures later { K.faults out.old ≤ K.faults out.new }
-    ensures cause { OnErr result (Rose (K.faults out.old) (K.faults out.new)) }
-{
-    put_all(out, Buffer::new().format(number).as_bytes())
-}
-
 impl Spelled for Part<'_> {
     ghost text = { part_text };
 
-    fn spell<K: Sink>(&self, out: &mut K) -> Result<(), Failed> {
+    fn spell<K: Sink>(&self, out: &mut K, strip: &mut Strip) -> Result<(), Failed> {
         match *self {
-            Part::Number(number) => put_number(out, number),
-            Part::Text(text) => put_all(out, text),
-            Part::Hex(bytes) => put_hex(out, bytes),
+            Part::Number(number) => put_number(out, strip, number),
+            Part::Text(text) => put_text(out, strip, text),
+            Part::Hex(bytes) => put_hex(out, strip, bytes),
         }
     }
 }
 
-#[tactic(auto, using(crate::proofs::Flat::flat))]
-fn put_each<T: Spelled, K: Sink>(out: &mut K, items: &[T]) -> Result<(), Failed>
-    ensures writes { Writes (K.holds out.old) (K.holds out.new) result (flat_map T.text items.now) }
+/// Writes items one after another.
+fn put_each<T: Spelled, K: Sink>(out: &mut K, strip: &mut Strip, items: &[T]) -> Result<(), Failed>
+    ensures gathers { Gathers (K.holds out.old) (K.holds out.new) strip.old strip.new
+        result (flat_map T.text items.now) }
     ensures later { K.faults out.old ≤ K.faults out.new }
     ensures cause { OnErr result (Rose (K.faults out.old) (K.faults out.new)) }
 {
     for item in items {
-        item.spell(out)?;
+        item.spell(out, strip)?;
     }
     Ok(())
 }
 
+/// Writes parts one after another, by way of a strip.
+#[tactic(auto, using(crate::proofs::Strips::parts_are))]
+fn put_parts_on<K: Sink>(out: &mut K, strip: &mut Strip, parts: &[Part<'_>]) -> Result<(), Failed>
+    ensures gathers { Gathers (K.holds out.old) (K.holds out.new) strip.old strip.new
+        result (parts_text parts.now) }
+    ensures later { K.faults out.old ≤ K.faults out.new }
+    ensures cause { OnErr result (Rose (K.faults out.old) (K.faults out.new)) }
+{
+    put_each(out, strip, parts)
+}
+
 /// Writes parts one after another.
-#[tactic(auto, using(crate::proofs::Flat::parts_are))]
+#[tactic(auto, using(crate::proofs::Strips::strips))]
 pub fn put_parts<K: Sink>(out: &mut K, parts: &[Part<'_>]) -> Result<(), Failed>
     ensures writes { Writes (K.holds out.old) (K.holds out.new) result (parts_text parts.now) }
     ensures later { K.faults out.old ≤ K.faults out.new }
     ensures cause { OnErr result (Rose (K.faults out.old) (K.faults out.new)) }
 {
-    put_each(out, parts)
+    let mut strip = Strip::new();
+    put_parts_on(out, &mut strip, parts)?;
+    put_strip(out, &mut strip)
 }
 
 impl Spelled for u32 {
     ghost text = { decimal };
 
-    fn spell<K: Sink>(&self, out: &mut K) -> Result<(), Failed> {
-        put_number(out, *self as u64)
+    fn spell<K: Sink>(&self, out: &mut K, strip: &mut Strip) -> Result<(), Failed> {
+        put_number(out, strip, *self as u64)
     }
 }
 
 impl Spelled for Dest {
     ghost text = { dest_text };
 
-    fn spell<K: Sink>(&self, out: &mut K) -> Result<(), Failed> {
+    fn spell<K: Sink>(&self, out: &mut K, strip: &mut Strip) -> Result<(), Failed> {
         let (to, count) = (self.to.0 as u64, self.count as u64);
-        put_parts(
+        put_parts_on(
             out,
+            strip,
             &[Part::Number(to), Part::Text(b"*"), Part::Number(count)],
         )
     }
@@ -110,95 +118,128 @@ impl Spelled for Dest {
 impl Spelled for Item {
     ghost text = { item_text };
 
-    fn spell<K: Sink>(&self, out: &mut K) -> Result<(), Failed> {
+    fn spell<K: Sink>(&self, out: &mut K, strip: &mut Strip) -> Result<(), Failed> {
         let (index, bytes) = (self.index as u64, self.bytes.bytes());
-        put_parts(
+        put_parts_on(
             out,
+            strip,
             &[Part::Number(index), Part::Text(b":"), Part::Hex(bytes)],
         )
     }
 }
 
 /// Writes an item behind a mark.
-#[tactic(auto, using(crate::proofs::Flat::flat))]
-fn put_after<T: Spelled, K: Sink>(out: &mut K, mark: u8, item: &T) -> Result<(), Failed>
-    ensures writes { Writes (K.holds out.old) (K.holds out.new) result (behind mark T.text item.now) }
+#[inline(always)]
+fn put_after<T: Spelled, K: Sink>(
+    out: &mut K,
+    strip: &mut Strip,
+    mark: u8,
+    item: &T,
+) -> Result<(), Failed>
+    ensures gathers { Gathers (K.holds out.old) (K.holds out.new) strip.old strip.new
+        result (behind mark T.text item.now) }
     ensures later { K.faults out.old ≤ K.faults out.new }
     ensures cause { OnErr result (Rose (K.faults out.old) (K.faults out.new)) }
 {
-    put_all(out, &[mark])?;
-    item.spell(out)
+    put_byte(out, strip, mark)?;
+    item.spell(out, strip)
 }
 
 /// Writes items, each behind a mark.
-#[tactic(auto, using(crate::proofs::Flat::flat))]
-fn put_each_after<T: Spelled, K: Sink>(out: &mut K, mark: u8, items: &[T]) -> Result<(), Failed>
-    ensures writes { Writes (K.holds out.old) (K.holds out.new) result (flat_map (behind mark T.text) items.now) }
+fn put_each_after<T: Spelled, K: Sink>(
+    out: &mut K,
+    strip: &mut Strip,
+    mark: u8,
+    items: &[T],
+) -> Result<(), Failed>
+    ensures gathers { Gathers (K.holds out.old) (K.holds out.new) strip.old strip.new
+        result (flat_map (behind mark T.text) items.now) }
     ensures later { K.faults out.old ≤ K.faults out.new }
     ensures cause { OnErr result (Rose (K.faults out.old) (K.faults out.new)) }
 {
     for item in items {
-        put_after(out, mark, item)?;
+        put_after(out, strip, mark, item)?;
     }
     Ok(())
 }
 
 /// Writes items with commas between them, or a dash if there are none.
-#[tactic(auto, using(crate::proofs::Flat::flat))]
-fn put_list<T: Spelled, K: Sink>(out: &mut K, items: &[T]) -> Result<(), Failed>
-    ensures writes { Writes (K.holds out.old) (K.holds out.new) result (list_text (map T.text items.now)) }
+#[tactic(auto, using(crate::proofs::Strips::strips))]
+fn put_list<T: Spelled, K: Sink>(out: &mut K, strip: &mut Strip, items: &[T]) -> Result<(), Failed>
+    ensures gathers { Gathers (K.holds out.old) (K.holds out.new) strip.old strip.new
+        result (list_text (map T.text items.now)) }
     ensures later { K.faults out.old ≤ K.faults out.new }
     ensures cause { OnErr result (Rose (K.faults out.old) (K.faults out.new)) }
 {
     let Some((first, others)) = items.split_first() else {
-        return put_all(out, b"-");
+        return put_byte(out, strip, b'-');
     };
-    first.spell(out)?;
-    put_each_after(out, b',', others)
+    first.spell(out, strip)?;
+    put_each_after(out, strip, b',', others)
 }
 
-fn put_frame<K: Sink>(out: &mut K, bytes: &[u8], no_learn: bool) -> Result<(), Failed>
-    ensures writes { Writes (K.holds out.old) (K.holds out.new) result
-        (frame_text (record { bytes = bytes.now; no_learn = no_learn })) }
+/// Writes the mark of a frame that teaches nothing.
+#[tactic(auto, using(crate::proofs::Strips::strips))]
+#[inline(always)]
+fn put_mark<K: Sink>(out: &mut K, strip: &mut Strip, no_learn: bool) -> Result<(), Failed>
+    ensures gathers { Gathers (K.holds out.old) (K.holds out.new) strip.old strip.new
+        result (if no_learn then 126 ∷ [] else []) }
     ensures later { K.faults out.old ≤ K.faults out.new }
     ensures cause { OnErr result (Rose (K.faults out.old) (K.faults out.new)) }
 {
-    let mark = if no_learn {
-        b"~".as_slice()
+    if no_learn {
+        put_byte(out, strip, b'~')
     } else {
-        b"".as_slice()
-    };
-    put_parts(out, &[Part::Text(mark), Part::Hex(bytes)])
+        Ok(())
+    }
 }
 
-fn put_next_frame<K: Sink>(out: &mut K, bytes: &[u8], no_learn: bool) -> Result<(), Failed>
-    ensures writes { Writes (K.holds out.old) (K.holds out.new) result
-        (behind 44 frame_text (record { bytes = bytes.now; no_learn = no_learn })) }
+#[tactic(auto, using(crate::proofs::Strips::strips))]
+fn put_frame<K: Sink>(
+    out: &mut K,
+    strip: &mut Strip,
+    bytes: &[u8],
+    no_learn: bool,
+) -> Result<(), Failed>
+    ensures gathers { Gathers (K.holds out.old) (K.holds out.new) strip.old strip.new
+        result (frame_text (record { bytes = bytes.now; no_learn = no_learn })) }
     ensures later { K.faults out.old ≤ K.faults out.new }
     ensures cause { OnErr result (Rose (K.faults out.old) (K.faults out.new)) }
 {
-    let mark = if no_learn {
-        b",~".as_slice()
-    } else {
-        b",".as_slice()
-    };
-    put_parts(out, &[Part::Text(mark), Part::Hex(bytes)])
+    put_mark(out, strip, no_learn)?;
+    put_hex(out, strip, bytes)
 }
 
-#[tactic(auto, using(crate::proofs::Flat::lists))]
-fn put_frames<K: Sink>(out: &mut K, frames: &Batch) -> Result<(), Failed>
-    ensures writes { Writes (K.holds out.old) (K.holds out.new) result (frames_text frames.now) }
+fn put_next_frame<K: Sink>(
+    out: &mut K,
+    strip: &mut Strip,
+    bytes: &[u8],
+    no_learn: bool,
+) -> Result<(), Failed>
+    ensures gathers { Gathers (K.holds out.old) (K.holds out.new) strip.old strip.new
+        result (behind 44 frame_text (record { bytes = bytes.now; no_learn = no_learn })) }
+    ensures later { K.faults out.old ≤ K.faults out.new }
+    ensures cause { OnErr result (Rose (K.faults out.old) (K.faults out.new)) }
+{
+    put_byte(out, strip, b',')?;
+    put_frame(out, strip, bytes, no_learn)
+}
+
+#[tactic(auto, using(crate::proofs::Strips::lists))]
+fn put_frames<K: Sink>(out: &mut K, strip: &mut Strip, frames: &Batch) -> Result<(), Failed>
+    ensures gathers { Gathers (K.holds out.old) (K.holds out.new) strip.old strip.new
+        result (frames_text frames.now) }
     ensures later { K.faults out.old ≤ K.faults out.new }
     ensures cause { OnErr result (Rose (K.faults out.old) (K.faults out.new)) }
 {
     if frames.is_empty() {
-        return put_all(out, b"-");
+        return put_byte(out, strip, b'-');
     }
     let (bytes, no_learn) = frames.get(0);
-    put_frame(out, bytes, no_learn)?;
+    put_frame(out, strip, bytes, no_learn)?;
     for i in 1..frames.len() {
         let (bytes, no_learn) = frames.get(i);
-        put_next_frame(out, bytes, no_learn)?;
+        put_next_frame(out, strip, bytes, no_learn)?;
     }
     Ok(())
 }
@@ -206,23 +247,28 @@ fn put_frames<K: Sink>(out: &mut K, frames: &Batch) -> Result<(), Failed>
 impl Spelled for Piece<'_> {
     ghost text = { piece_text };
 
-    fn spell<K: Sink>(&self, out: &mut K) -> Result<(), Failed> {
+    fn spell<K: Sink>(&self, out: &mut K, strip: &mut Strip) -> Result<(), Failed> {
         match *self {
-            Piece::Number(number) => put_number(out, number),
-            Piece::Word(word) => put_all(out, word),
-            Piece::Frames(frames) => put_frames(out, frames),
-            Piece::Buffers(numbers) => put_list(out, numbers),
-            Piece::Destinations(dests) => put_list(out, dests),
-            Piece::Taken(items) => put_list(out, items),
+            Piece::Number(number) => put_number(out, strip, number),
+            Piece::Word(word) => put_text(out, strip, word),
+            Piece::Frames(frames) => put_frames(out, strip, frames),
+            Piece::Buffers(numbers) => put_list(out, strip, numbers),
+            Piece::Destinations(dests) => put_list(out, strip, dests),
+            Piece::Taken(items) => put_list(out, strip, items),
         }
     }
 }
 
 /// Writes words, each behind a blank.
-pub(crate) fn put_words<K: Sink>(out: &mut K, pieces: &[Piece<'_>]) -> Result<(), Failed>
-    ensures writes { Writes (K.holds out.old) (K.holds out.new) result (pieces_text pieces.now) }
+pub(crate) fn put_words<K: Sink>(
+    out: &mut K,
+    strip: &mut Strip,
+    pieces: &[Piece<'_>],
+) -> Result<(), Failed>
+    ensures gathers { Gathers (K.holds out.old) (K.holds out.new) strip.old strip.new
+        result (pieces_text pieces.now) }
     ensures later { K.faults out.old ≤ K.faults out.new }
     ensures cause { OnErr result (Rose (K.faults out.old) (K.faults out.new)) }
 {
-    put_each_after(out, b' ', pieces)
+    put_each_after(out, strip, b' ', pieces)
 }

@@ -1,6 +1,7 @@
 //! The lines of a transcript, one row for each kind.
 ghost use Rattle.std.specs.Prelude.{◌≡◌, ◌≤◌, [], ◌∷◌, ◌++◌, codes, decimal, OnErr};
 ghost use Rattle.nm_io.specs.Counts.{Rose};
+ghost use Rattle.nm_io.specs.Gathered.{Gathers};
 ghost use Rattle.nm_io.specs.Held.{Writes};
 ghost use Rattle.vale_entry.specs.Transcript.{numbers_text, side_word, sides_word, fault_words, ask_words, reply_words, words_text, entry_line, start_line, end_line};
 ghost use Rattle.vale_entry.specs.declared.entry.Ask.TheVariants.{Reset, Finish, Watch};
@@ -8,8 +9,9 @@ ghost use Rattle.vale_entry.specs.declared.entry.Reply.TheVariants.{Refused, Off
 ghost use Rattle.vale_text.specs.declared.pieces.Piece.TheVariants.{Number as NumberPiece};
 
 use crate::pieces::Piece::{Buffers, Destinations, Frames, Number, Taken, Word};
-use crate::pieces::{Part, Piece, put_number, put_parts, put_words};
-use nm_io::{Failed, Sink, Text, put_all};
+use crate::pieces::{Part, Piece, put_parts, put_words};
+use crate::strip::{Strip, put_byte, put_number, put_strip};
+use nm_io::{Failed, Sink, Text};
 use nm_types::{Chain, Counts, Name, OpenFault, PortId, Side, Sides, SyncFault};
 use vale_entry::{Ask, Dests, Entry, Numbers, Reply};
 
@@ -85,120 +87,133 @@ impl Text for EndLine {
     }
 }
 
-fn put_opening<K: Sink>(out: &mut K, fault: &OpenFault) -> Result<(), Failed>
-    ensures writes { Writes (K.holds out.old) (K.holds out.new) result (words_text (reply_words (Refused fault.now))) }
+fn put_opening<K: Sink>(out: &mut K, strip: &mut Strip, fault: &OpenFault) -> Result<(), Failed>
+    ensures gathers { Gathers (K.holds out.old) (K.holds out.new) strip.old strip.new
+        result (words_text (reply_words (Refused fault.now))) }
     ensures later { K.faults out.old ≤ K.faults out.new }
     ensures cause { OnErr result (Rose (K.faults out.old) (K.faults out.new)) }
 {
     let is = Word(b"=");
     match *fault {
-        OpenFault::BadSize => put_words(out, &[is, Word(b"badsize")]),
-        OpenFault::SwitchesFull => put_words(out, &[is, Word(b"switchesfull")]),
-        OpenFault::PortsFull => put_words(out, &[is, Word(b"portsfull")]),
-        OpenFault::NameTaken => put_words(out, &[is, Word(b"nametaken")]),
+        OpenFault::BadSize => put_words(out, strip, &[is, Word(b"badsize")]),
+        OpenFault::SwitchesFull => put_words(out, strip, &[is, Word(b"switchesfull")]),
+        OpenFault::PortsFull => put_words(out, strip, &[is, Word(b"portsfull")]),
+        OpenFault::NameTaken => put_words(out, strip, &[is, Word(b"nametaken")]),
         OpenFault::NoBuffers { want, have } => {
             let (want, have) = (short(want), short(have));
-            put_words(out, &[is, Word(b"nobuffers"), want, have])
+            put_words(out, strip, &[is, Word(b"nobuffers"), want, have])
         }
-        OpenFault::RecordFull { .. } | OpenFault::NoMemory => put_words(out, &[is]),
+        OpenFault::RecordFull { .. } | OpenFault::NoMemory => put_words(out, strip, &[is]),
     }
 }
 
 /// Writes the port and the side of a ring that was reset.
 fn put_reset_ring<K: Sink>(
     out: &mut K,
+    strip: &mut Strip,
     session: u32,
     port: PortId,
     side: Side,
 ) -> Result<(), Failed>
-    ensures writes { Writes (K.holds out.old) (K.holds out.new) result
+    ensures gathers { Gathers (K.holds out.old) (K.holds out.new) strip.old strip.new result
         (words_text (decimal session ∷ codes "reset" ∷ decimal port.0 ∷ side_word side ∷ [])) }
     ensures later { K.faults out.old ≤ K.faults out.new }
     ensures cause { OnErr result (Rose (K.faults out.old) (K.faults out.new)) }
 {
     let (port, side) = (short(port.0), Word(side_word(side)));
-    put_words(out, &[short(session), Word(b"reset"), port, side])
+    put_words(out, strip, &[short(session), Word(b"reset"), port, side])
 }
 
 /// Writes a word and two numbers.
-fn put_two<K: Sink>(out: &mut K, word: &[u8], first: u32, second: u32) -> Result<(), Failed>
-    ensures writes { Writes (K.holds out.old) (K.holds out.new) result
+fn put_two<K: Sink>(
+    out: &mut K,
+    strip: &mut Strip,
+    word: &[u8],
+    first: u32,
+    second: u32,
+) -> Result<(), Failed>
+    ensures gathers { Gathers (K.holds out.old) (K.holds out.new) strip.old strip.new result
         (words_text (word.now ∷ decimal first ∷ decimal second ∷ [])) }
     ensures later { K.faults out.old ≤ K.faults out.new }
     ensures cause { OnErr result (Rose (K.faults out.old) (K.faults out.new)) }
 {
-    put_words(out, &[Word(word), short(first), short(second)])
+    put_words(out, strip, &[Word(word), short(first), short(second)])
 }
 
 /// Writes a word and three numbers.
 fn put_three<K: Sink>(
     out: &mut K,
+    strip: &mut Strip,
     word: &[u8],
     first: u32,
     second: u32,
     third: u32,
 ) -> Result<(), Failed>
-    ensures writes { Writes (K.holds out.old) (K.holds out.new) result
+    ensures gathers { Gathers (K.holds out.old) (K.holds out.new) strip.old strip.new result
         (words_text (word.now ∷ decimal first ∷ decimal second ∷ decimal third ∷ [])) }
     ensures later { K.faults out.old ≤ K.faults out.new }
     ensures cause { OnErr result (Rose (K.faults out.old) (K.faults out.new)) }
 {
     put_words(
         out,
+        strip,
         &[Word(word), short(first), short(second), short(third)],
     )
 }
 
 /// Writes why a sync was refused.
-fn put_fault<K: Sink>(out: &mut K, fault: &SyncFault) -> Result<(), Failed>
-    ensures writes { Writes (K.holds out.old) (K.holds out.new) result (words_text (fault_words fault.now)) }
+fn put_fault<K: Sink>(out: &mut K, strip: &mut Strip, fault: &SyncFault) -> Result<(), Failed>
+    ensures gathers { Gathers (K.holds out.old) (K.holds out.new) strip.old strip.new
+        result (words_text (fault_words fault.now)) }
     ensures later { K.faults out.old ≤ K.faults out.new }
     ensures cause { OnErr result (Rose (K.faults out.old) (K.faults out.new)) }
 {
     match *fault {
-        SyncFault::HeadOut { head, from, to } => put_three(out, b"headout", head, from, to),
-        SyncFault::CurOut { cur, from, to } => put_three(out, b"curout", cur, from, to),
-        SyncFault::Indirect { slot } => put_words(out, &[Word(b"indirect"), short(slot)]),
-        SyncFault::IndexOut { slot, idx } => put_two(out, b"indexout", slot, idx),
-        SyncFault::NotHeld { slot, idx } => put_two(out, b"notheld", slot, idx),
-        SyncFault::Doubled { slot, idx } => put_two(out, b"doubled", slot, idx),
+        SyncFault::HeadOut { head, from, to } => put_three(out, strip, b"headout", head, from, to),
+        SyncFault::CurOut { cur, from, to } => put_three(out, strip, b"curout", cur, from, to),
+        SyncFault::Indirect { slot } => put_words(out, strip, &[Word(b"indirect"), short(slot)]),
+        SyncFault::IndexOut { slot, idx } => put_two(out, strip, b"indexout", slot, idx),
+        SyncFault::NotHeld { slot, idx } => put_two(out, strip, b"notheld", slot, idx),
+        SyncFault::Doubled { slot, idx } => put_two(out, strip, b"doubled", slot, idx),
         SyncFault::Unannounced { slot, idx, was } => {
-            put_three(out, b"unannounced", slot, idx, was)
+            put_three(out, strip, b"unannounced", slot, idx, was)
         }
-        SyncFault::LongLen { slot, len } => put_two(out, b"longlen", slot, len as u32),
-        SyncFault::Fragment { slot } => put_words(out, &[Word(b"fragment"), short(slot)]),
+        SyncFault::LongLen { slot, len } => put_two(out, strip, b"longlen", slot, len as u32),
+        SyncFault::Fragment { slot } => put_words(out, strip, &[Word(b"fragment"), short(slot)]),
         SyncFault::PeerGone | SyncFault::RecordFull { .. } | SyncFault::NoMemory => {
-            put_words(out, &[])
+            put_words(out, strip, &[])
         }
     }
 }
 
-#[tactic(auto, using(crate::proofs::Flat::flat))]
+#[tactic(auto, using(crate::proofs::Strips::strips))]
 fn put_reset<K: Sink>(
     out: &mut K,
+    strip: &mut Strip,
     session: u32,
     port: PortId,
     side: Side,
     fault: &SyncFault,
 ) -> Result<(), Failed>
-    ensures writes { Writes (K.holds out.old) (K.holds out.new) result
+    ensures gathers { Gathers (K.holds out.old) (K.holds out.new) strip.old strip.new result
         (words_text (ask_words session (Reset port side fault.now))) }
     ensures later { K.faults out.old ≤ K.faults out.new }
     ensures cause { OnErr result (Rose (K.faults out.old) (K.faults out.new)) }
 {
-    put_reset_ring(out, session, port, side)?;
-    put_fault(out, fault)
+    put_reset_ring(out, strip, session, port, side)?;
+    put_fault(out, strip, fault)
 }
 
 fn put_open<K: Sink>(
     out: &mut K,
+    strip: &mut Strip,
     session: u32,
     name: &Name,
     tx: u32,
     rx: u32,
     extra: u32,
 ) -> Result<(), Failed>
-    ensures writes { Writes (K.holds out.old) (K.holds out.new) result
+    ensures gathers { Gathers (K.holds out.old) (K.holds out.new) strip.old strip.new result
         (words_text (decimal session ∷ codes "open" ∷ name.now ∷ decimal tx ∷ decimal rx
         ∷ decimal extra ∷ [])) }
     ensures later { K.faults out.old ≤ K.faults out.new }
@@ -206,24 +221,26 @@ fn put_open<K: Sink>(
 {
     let (s, name) = (short(session), Word(name.as_bytes()));
     let (tx, rx, extra) = (short(tx), short(rx), short(extra));
-    put_words(out, &[s, Word(b"open"), name, tx, rx, extra])
+    put_words(out, strip, &[s, Word(b"open"), name, tx, rx, extra])
 }
 
 /// Writes a word and two numbers, of a session.
 fn put_pair<K: Sink>(
     out: &mut K,
+    strip: &mut Strip,
     session: u32,
     word: &[u8],
     first: u32,
     second: u32,
 ) -> Result<(), Failed>
-    ensures writes { Writes (K.holds out.old) (K.holds out.new) result
+    ensures gathers { Gathers (K.holds out.old) (K.holds out.new) strip.old strip.new result
         (words_text (decimal session ∷ word.now ∷ decimal first ∷ decimal second ∷ [])) }
     ensures later { K.faults out.old ≤ K.faults out.new }
     ensures cause { OnErr result (Rose (K.faults out.old) (K.faults out.new)) }
 {
     put_words(
         out,
+        strip,
         &[short(session), Word(word), short(first), short(second)],
     )
 }
@@ -231,34 +248,37 @@ fn put_pair<K: Sink>(
 /// Writes a word, a port and buffers, of a session.
 fn put_buffers<K: Sink>(
     out: &mut K,
+    strip: &mut Strip,
     session: u32,
     word: &[u8],
     port: PortId,
     numbers: &Numbers,
 ) -> Result<(), Failed>
-    ensures writes { Writes (K.holds out.old) (K.holds out.new) result
+    ensures gathers { Gathers (K.holds out.old) (K.holds out.new) strip.old strip.new result
         (words_text (decimal session ∷ word.now ∷ decimal port.0 ∷ numbers_text numbers.now ∷ [])) }
     ensures later { K.faults out.old ≤ K.faults out.new }
     ensures cause { OnErr result (Rose (K.faults out.old) (K.faults out.new)) }
 {
     let (port, numbers) = (short(port.0), Buffers(numbers.as_slice()));
-    put_words(out, &[short(session), Word(word), port, numbers])
+    put_words(out, strip, &[short(session), Word(word), port, numbers])
 }
 
 fn put_finish<K: Sink>(
     out: &mut K,
+    strip: &mut Strip,
     session: u32,
     port: PortId,
     bufs: &Numbers,
     chain: Chain,
 ) -> Result<(), Failed>
-    ensures writes { Writes (K.holds out.old) (K.holds out.new) result
+    ensures gathers { Gathers (K.holds out.old) (K.holds out.new) strip.old strip.new result
         (words_text (ask_words session (Finish port bufs.now chain))) }
     ensures later { K.faults out.old ≤ K.faults out.new }
     ensures cause { OnErr result (Rose (K.faults out.old) (K.faults out.new)) }
 {
     put_words(
         out,
+        strip,
         &[
             short(session),
             Word(b"finish"),
@@ -274,12 +294,13 @@ fn put_finish<K: Sink>(
 
 fn put_watch<K: Sink>(
     out: &mut K,
+    strip: &mut Strip,
     session: u32,
     monitor: PortId,
     target: &Name,
     sides: Sides,
 ) -> Result<(), Failed>
-    ensures writes { Writes (K.holds out.old) (K.holds out.new) result
+    ensures gathers { Gathers (K.holds out.old) (K.holds out.new) strip.old strip.new result
         (words_text (ask_words session (Watch monitor target.now sides))) }
     ensures later { K.faults out.old ≤ K.faults out.new }
     ensures cause { OnErr result (Rose (K.faults out.old) (K.faults out.new)) }
@@ -287,6 +308,7 @@ fn put_watch<K: Sink>(
     let (target, sides) = (Word(target.as_bytes()), Word(sides_word(sides)));
     put_words(
         out,
+        strip,
         &[
             short(session),
             Word(b"watch"),
@@ -298,52 +320,57 @@ fn put_watch<K: Sink>(
 }
 
 /// Writes what was asked.
-fn put_ask<K: Sink>(out: &mut K, session: u32, ask: &Ask) -> Result<(), Failed>
-    ensures writes { Writes (K.holds out.old) (K.holds out.new) result
+fn put_ask<K: Sink>(out: &mut K, strip: &mut Strip, session: u32, ask: &Ask) -> Result<(), Failed>
+    ensures gathers { Gathers (K.holds out.old) (K.holds out.new) strip.old strip.new result
         (words_text (ask_words session ask.now)) }
     ensures later { K.faults out.old ≤ K.faults out.new }
     ensures cause { OnErr result (Rose (K.faults out.old) (K.faults out.new)) }
 {
     let s = short(session);
     match ask {
-        Ask::Enter { user } => put_words(out, &[Word(b"enter"), Number(*user)]),
+        Ask::Enter { user } => put_words(out, strip, &[Word(b"enter"), Number(*user)]),
         Ask::Open {
             name,
             tx,
             rx,
             extra,
             ..
-        } => put_open(out, session, name, *tx, *rx, *extra),
+        } => put_open(out, strip, session, name, *tx, *rx, *extra),
         Ask::Send { port, frames } => {
-            put_words(out, &[s, Word(b"send"), short(port.0), Frames(frames)])
+            put_words(
+                out,
+                strip,
+                &[s, Word(b"send"), short(port.0), Frames(frames)],
+            )
         }
-        Ask::Grant { origin, to } => put_pair(out, session, b"grant", *origin, to.0),
-        Ask::Done { lease } => put_words(out, &[s, Word(b"done"), short(lease.0)]),
-        Ask::Sync { port, back } => put_buffers(out, session, b"sync", *port, back),
-        Ask::Reset { port, side, fault } => put_reset(out, session, *port, *side, fault),
-        Ask::Shut { port } => put_words(out, &[s, Word(b"shut"), short(port.0)]),
-        Ask::Finish { port, bufs, chain } => put_finish(out, session, *port, bufs, *chain),
-        Ask::Leave { .. } => put_words(out, &[s, Word(b"leave")]),
-        Ask::PutKept { port, offered } => put_pair(out, session, b"put", port.0, *offered),
-        Ask::Get { port, back } => put_buffers(out, session, b"get", *port, back),
+        Ask::Grant { origin, to } => put_pair(out, strip, session, b"grant", *origin, to.0),
+        Ask::Done { lease } => put_words(out, strip, &[s, Word(b"done"), short(lease.0)]),
+        Ask::Sync { port, back } => put_buffers(out, strip, session, b"sync", *port, back),
+        Ask::Reset { port, side, fault } => put_reset(out, strip, session, *port, *side, fault),
+        Ask::Shut { port } => put_words(out, strip, &[s, Word(b"shut"), short(port.0)]),
+        Ask::Finish { port, bufs, chain } => put_finish(out, strip, session, *port, bufs, *chain),
+        Ask::Leave { .. } => put_words(out, strip, &[s, Word(b"leave")]),
+        Ask::PutKept { port, offered } => put_pair(out, strip, session, b"put", port.0, *offered),
+        Ask::Get { port, back } => put_buffers(out, strip, session, b"get", *port, back),
         Ask::Watch {
             monitor,
             target,
             sides,
-        } => put_watch(out, session, *monitor, target, *sides),
-        Ask::Stat { port } => put_words(out, &[s, Word(b"stat"), short(port.0)]),
-        Ask::Put { .. } => put_words(out, &[]),
+        } => put_watch(out, strip, session, *monitor, target, *sides),
+        Ask::Stat { port } => put_words(out, strip, &[s, Word(b"stat"), short(port.0)]),
+        Ask::Put { .. } => put_words(out, strip, &[]),
     }
 }
 
-fn put_counts<K: Sink>(out: &mut K, counts: &Counts) -> Result<(), Failed>
-    ensures writes { Writes (K.holds out.old) (K.holds out.new) result
+fn put_counts<K: Sink>(out: &mut K, strip: &mut Strip, counts: &Counts) -> Result<(), Failed>
+    ensures gathers { Gathers (K.holds out.old) (K.holds out.new) strip.old strip.new result
         (words_text (reply_words (Counted counts.now))) }
     ensures later { K.faults out.old ≤ K.faults out.new }
     ensures cause { OnErr result (Rose (K.faults out.old) (K.faults out.new)) }
 {
     put_words(
         out,
+        strip,
         &[
             Word(b"="),
             Word(b"sent"),
@@ -362,8 +389,14 @@ fn put_counts<K: Sink>(out: &mut K, counts: &Counts) -> Result<(), Failed>
     )
 }
 
-fn put_offered<K: Sink>(out: &mut K, lines: u32, lone: u32, to: &Dests) -> Result<(), Failed>
-    ensures writes { Writes (K.holds out.old) (K.holds out.new) result
+fn put_offered<K: Sink>(
+    out: &mut K,
+    strip: &mut Strip,
+    lines: u32,
+    lone: u32,
+    to: &Dests,
+) -> Result<(), Failed>
+    ensures gathers { Gathers (K.holds out.old) (K.holds out.new) strip.old strip.new result
         (words_text (reply_words (Offered lines lone to.now))) }
     ensures later { K.faults out.old ≤ K.faults out.new }
     ensures cause { OnErr result (Rose (K.faults out.old) (K.faults out.new)) }
@@ -371,6 +404,7 @@ fn put_offered<K: Sink>(out: &mut K, lines: u32, lone: u32, to: &Dests) -> Resul
     let (shorts, lone, to) = (short(lines), short(lone), Destinations(to.as_slice()));
     put_words(
         out,
+        strip,
         &[
             Word(b"="),
             Word(b"short"),
@@ -383,8 +417,14 @@ fn put_offered<K: Sink>(out: &mut K, lines: u32, lone: u32, to: &Dests) -> Resul
     )
 }
 
-fn put_shared<K: Sink>(out: &mut K, given: u32, full: u32, gone: u32) -> Result<(), Failed>
-    ensures writes { Writes (K.holds out.old) (K.holds out.new) result
+fn put_shared<K: Sink>(
+    out: &mut K,
+    strip: &mut Strip,
+    given: u32,
+    full: u32,
+    gone: u32,
+) -> Result<(), Failed>
+    ensures gathers { Gathers (K.holds out.old) (K.holds out.new) strip.old strip.new result
         (words_text (reply_words (Shared given full gone))) }
     ensures later { K.faults out.old ≤ K.faults out.new }
     ensures cause { OnErr result (Rose (K.faults out.old) (K.faults out.new)) }
@@ -392,6 +432,7 @@ fn put_shared<K: Sink>(out: &mut K, given: u32, full: u32, gone: u32) -> Result<
     let (given, full, gone) = (short(given), short(full), short(gone));
     put_words(
         out,
+        strip,
         &[
             Word(b"="),
             Word(b"given"),
@@ -405,44 +446,66 @@ fn put_shared<K: Sink>(out: &mut K, given: u32, full: u32, gone: u32) -> Result<
 }
 
 /// Writes the answer.
-fn put_reply<K: Sink>(out: &mut K, reply: &Reply) -> Result<(), Failed>
-    ensures writes { Writes (K.holds out.old) (K.holds out.new) result (words_text (reply_words reply.now)) }
+fn put_reply<K: Sink>(out: &mut K, strip: &mut Strip, reply: &Reply) -> Result<(), Failed>
+    ensures gathers { Gathers (K.holds out.old) (K.holds out.new) strip.old strip.new
+        result (words_text (reply_words reply.now)) }
     ensures later { K.faults out.old ≤ K.faults out.new }
     ensures cause { OnErr result (Rose (K.faults out.old) (K.faults out.new)) }
 {
     match reply {
-        Reply::Opened => put_words(out, &[Word(b"="), Word(b"ok")]),
-        Reply::Refused { fault } => put_opening(out, fault),
-        Reply::Offered { short, lone, to } => put_offered(out, *short, *lone, to),
-        Reply::Shared { given, full, gone } => put_shared(out, *given, *full, *gone),
+        Reply::Opened => put_words(out, strip, &[Word(b"="), Word(b"ok")]),
+        Reply::Refused { fault } => put_opening(out, strip, fault),
+        Reply::Offered { short, lone, to } => put_offered(out, strip, *short, *lone, to),
+        Reply::Shared { given, full, gone } => put_shared(out, strip, *given, *full, *gone),
         Reply::Gave { count, to } => {
             let (count, to) = (short(*count), Destinations(to.as_slice()));
-            put_words(out, &[Word(b"="), Word(b"gave"), count, Word(b"to"), to])
+            put_words(
+                out,
+                strip,
+                &[Word(b"="), Word(b"gave"), count, Word(b"to"), to],
+            )
         }
         Reply::Took { items, to } => {
             let (items, to) = (Taken(items.as_slice()), Destinations(to.as_slice()));
-            put_words(out, &[Word(b"="), Word(b"took"), items, Word(b"to"), to])
+            put_words(
+                out,
+                strip,
+                &[Word(b"="), Word(b"took"), items, Word(b"to"), to],
+            )
         }
-        Reply::PeerGone => put_words(out, &[Word(b"="), Word(b"peergone")]),
-        Reply::Unread { count } => put_words(out, &[Word(b"="), Word(b"unread"), short(*count)]),
-        Reply::Watching { target } => put_words(out, &[Word(b"="), Word(b"ok"), short(target.0)]),
-        Reply::NoTarget => put_words(out, &[Word(b"="), Word(b"notarget")]),
-        Reply::Watched { by } => put_words(out, &[Word(b"="), Word(b"watched"), short(by.0)]),
-        Reply::Counted { counts } => put_counts(out, counts),
-        Reply::Made | Reply::LeasesOut { .. } => put_words(out, &[]),
+        Reply::PeerGone => put_words(out, strip, &[Word(b"="), Word(b"peergone")]),
+        Reply::Unread { count } => put_words(
+            out,
+            strip,
+            &[Word(b"="), Word(b"unread"), short(*count)],
+        ),
+        Reply::Watching { target } => put_words(
+            out,
+            strip,
+            &[Word(b"="), Word(b"ok"), short(target.0)],
+        ),
+        Reply::NoTarget => put_words(out, strip, &[Word(b"="), Word(b"notarget")]),
+        Reply::Watched { by } => put_words(
+            out,
+            strip,
+            &[Word(b"="), Word(b"watched"), short(by.0)],
+        ),
+        Reply::Counted { counts } => put_counts(out, strip, counts),
+        Reply::Made | Reply::LeasesOut { .. } => put_words(out, strip, &[]),
     }
 }
 
 /// Writes what was asked, and the answer.
-#[tactic(auto, using(crate::proofs::Flat::flat))]
-fn put_entry<K: Sink>(out: &mut K, entry: &Entry) -> Result<(), Failed>
-    ensures writes { Writes (K.holds out.old) (K.holds out.new) result (words_text
+#[tactic(auto, using(crate::proofs::Strips::strips))]
+fn put_entry<K: Sink>(out: &mut K, strip: &mut Strip, entry: &Entry) -> Result<(), Failed>
+    ensures gathers { Gathers (K.holds out.old) (K.holds out.new) strip.old strip.new
+        result (words_text
         (ask_words entry.now.session.0 entry.now.ask ++ reply_words entry.now.reply)) }
     ensures later { K.faults out.old ≤ K.faults out.new }
     ensures cause { OnErr result (Rose (K.faults out.old) (K.faults out.new)) }
 {
-    put_ask(out, entry.session.0, &entry.ask)?;
-    put_reply(out, &entry.reply)
+    put_ask(out, strip, entry.session.0, &entry.ask)?;
+    put_reply(out, strip, &entry.reply)
 }
 
 /// The line of an entry under its number.
@@ -454,14 +517,31 @@ pub struct EntryLine<'a> {
     pub entry: &'a Entry,
 }
 
+/// Writes the line of an entry under its number.
+fn put_entry_line<K: Sink>(
+    out: &mut K,
+    strip: &mut Strip,
+    number: u32,
+    entry: &Entry,
+) -> Result<(), Failed>
+    ensures gathers { Gathers (K.holds out.old) (K.holds out.new) strip.old strip.new
+        result (entry_line number entry.now) }
+    ensures later { K.faults out.old ≤ K.faults out.new }
+    ensures cause { OnErr result (Rose (K.faults out.old) (K.faults out.new)) }
+{
+    put_number(out, strip, number as u64)?;
+    put_entry(out, strip, entry)?;
+    put_byte(out, strip, b'\n')
+}
+
 impl Text for EntryLine<'_> {
     ghost text = { λ line. entry_line line.number line.entry.now };
 
-    #[tactic(auto, using(crate::proofs::Flat::flat))]
+    #[tactic(auto, using(crate::proofs::Strips::strips))]
     fn write<K: Sink>(&self, out: &mut K) -> Result<(), Failed> {
-        put_number(out, self.number as u64)?;
-        put_entry(out, self.entry)?;
-        put_all(out, b"\n")
+        let mut strip = Strip::new();
+        put_entry_line(out, &mut strip, self.number, self.entry)?;
+        put_strip(out, &mut strip)
     }
 }
 

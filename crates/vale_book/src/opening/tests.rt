@@ -1,5 +1,6 @@
-use super::*;
-use nm_types::Limits;
+use crate::{Book, Opened};
+use nm_region::Buf;
+use nm_types::{Limits, Name, OpenFault};
 use std::process::Abort;
 
 const LIMITS: Limits = Limits {

@@ -6,7 +6,7 @@ ghost use Rattle.vale_entry.specs.declared.entry.Ask.TheVariants as asks;
 ghost use Rattle.vale_entry.specs.declared.entry.Reply.TheVariants as replies;
 ghost use Rattle.vale_entry.specs.Legal.{IsEnabled, reply_to, reply_of, step};
 ghost use Rattle.vale_parts.specs.Batches.{dests_wanted};
-ghost use Rattle.vale_book.specs.BookView.{AreOf};
+ghost use Rattle.nm_region.specs.Regions.{AreOf};
 ghost use Rattle.vale_book.specs.Reading.{IsGiven, IsOffered};
 ghost use Rattle.vale_book.specs.Recorded.{standing, after_ask};
 ghost use Rattle.vale_book.specs.Sending.{IsSent};

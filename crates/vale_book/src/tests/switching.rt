@@ -2,13 +2,12 @@ ghost use Rattle.std.specs.Prelude.{◌≡◌, [], ◌∷◌};
 ghost use Rattle.nm_region.specs.Buffers.{indices_of};
 ghost use Rattle.vale_entry.specs.RowWords.{session, port, dest, frame_h};
 ghost use Rattle.vale_parts.specs.Batches.{dests_wanted};
-ghost use Rattle.vale_book.specs.BookView.{AreOf};
+ghost use Rattle.nm_region.specs.Regions.{AreOf};
 ghost use Rattle.vale_book.specs.Lives.{life, first_bufs, second_bufs, two_ports, sent_one, filled_one, read_one};
 ghost use Rattle.vale_book.specs.Sending.{IsSent};
 
 use super::steps::{Held, batch, enter, finish, fresh, open, send, sync};
-use crate::granting::Granted;
-use crate::{Book, Offers, Synced};
+use crate::{Book, Granted, Offers, Synced};
 use nm_types::{PortId, SessionId};
 use std::alloc::Global;
 use std::process::Abort;

@@ -1,27 +1,25 @@
-use Rattle.std.proofs.Common.{rules, ◌≡◌, ◌∙◌, List, [], ◌∷◌, ◌++◌, fold, reverse, sym, ap, subst}
+use Rattle.std.proofs.Common.{rules, ◌≡◌, ◌∙◌, List, ◌∷◌, fold, sym, ap, subst}
 use Rattle.nm_types.specs.OwnPorts.{OwnState}
 use Rattle.nm_port.specs.Receives.{own_with_arrival}
 use Rattle.nm_port.specs.Regions.{AreOf}
 use Rattle.vale_line.specs.declared.got.Got.{Got}
 use Rattle.vale_line.specs.Gots.{buffers_of}
 use Rattle.nm_user.specs.Receiving.{arrivals_in, CanCome}
-use Rattle.nm_user.proofs.ReceivesCome.{last-first}
 use Rattle.nm_user.proofs.receiving.publish_all.Goals as goal
 
 pub loop-got-preserved : goal.loop-got-preserved
 loop-got-preserved c =
     let id = c.args.port.0 in
-    let rest = reverse c.pop.new.self.items in
-    let last : c.loop-got.gots.items ≡ c.pop.new.self.items ++ c.in-Some.got ∷ [] = search rules in
-    let turned = last-first c.loop-got.gots.items c.pop.new.self.items c.in-Some.got last in
-    let come = subst (λ (gs : List Got). CanCome id c.loop-got.own.own (arrivals_in gs)) turned c.loop-got.invariant.come in
+    let rest = c.pop_front.new.self.items in
+    let first : c.loop-got.rest.items ≡ c.in-Some.got ∷ rest = search rules in
+    let come = subst (λ (gs : List Got). CanCome id c.loop-got.own.own (arrivals_in gs)) first c.loop-got.invariant.come in
     record {
       come = subst (λ (o : OwnState). CanCome id o (arrivals_in rest)) (sym c.publish.ensures.own) come.1;
       rest = ap (λ (o : OwnState). fold (own_with_arrival id) o (arrivals_in rest)) c.publish.ensures.own
-          ∙ (sym (ap (λ (gs : List Got). fold (own_with_arrival id) c.loop-got.own.own (arrivals_in gs)) turned) ∙ c.loop-got.invariant.rest);
+          ∙ (sym (ap (λ (gs : List Got). fold (own_with_arrival id) c.loop-got.own.own (arrivals_in gs)) first) ∙ c.loop-got.invariant.rest);
       region = λ region all of.
           let was = c.loop-got.invariant.region region all of in
-          let both = subst (λ (gs : List Got). AreOf region (buffers_of gs)) turned was.1 in
+          let both = subst (λ (gs : List Got). AreOf region (buffers_of gs)) first was.1 in
           (c.publish.ensures.region region was.0 both.0, both.1);
     }
 

@@ -1,5 +1,5 @@
-use Rattle.std.proofs.Common.{ℕ, ◌≡◌, fold, reverse}
-use Rattle.std.specs.Vec.{vec_len}
+use Rattle.std.proofs.Common.{ℕ, ◌≡◌, fold}
+use Rattle.std.specs.VecDeque.{deque_len}
 use Rattle.nm_port.specs.Receives.{own_with_arrival}
 use Rattle.nm_port.specs.Regions.{AllOf, AreOf}
 use Rattle.vale_line.specs.Gots.{buffers_of}
@@ -8,10 +8,10 @@ use Rattle.nm_user.proofs.receiving.publish_all.Given as goal
 
 abbrev pub invariant-loop-got : goal.invariant-loop-got
 invariant-loop-got l = record {
-  come : CanCome l.port.0 l.own.own (arrivals_in (reverse l.gots.items));
-  rest : fold (own_with_arrival l.port.0) l.own.own (arrivals_in (reverse l.gots.items)) ≡ fold (own_with_arrival l.port.0) l.fn.own.own (arrivals_in l.fn.gots.items);
-  region : (region : ℕ) → AllOf region l.fn.own → AreOf region (buffers_of l.fn.gots.items) → AllOf region l.own × AreOf region (buffers_of (reverse l.gots.items));
+  come : CanCome l.port.0 l.own.own (arrivals_in l.rest.items);
+  rest : fold (own_with_arrival l.port.0) l.own.own (arrivals_in l.rest.items) ≡ fold (own_with_arrival l.port.0) l.fn.own.own (arrivals_in l.fn.gots.items);
+  region : (region : ℕ) → AllOf region l.fn.own → AreOf region (buffers_of l.fn.gots.items) → AllOf region l.own × AreOf region (buffers_of l.rest.items);
 }
 
 abbrev pub decreases-loop-got : goal.decreases-loop-got
-decreases-loop-got l = vec_len l.gots
+decreases-loop-got l = deque_len l.rest

@@ -1,6 +1,6 @@
 use Rattle.std.proofs.Common.{sym, ◌∙◌}
 use Rattle.nm_types.specs.Names.{switch_of}
-use Rattle.vale_book.proofs.NamedTables.{found-table}
+use Rattle.vale_steps.proofs.NamedTables.{found-table}
 use Rattle.vale_book.proofs.shutting.forget_on_switch.Goals as goal
 
 pub returns-in-Some-clause-switch : goal.returns-in-Some-clause-switch

@@ -1,12 +1,9 @@
 use Rattle.vale_parts.proofs.BatchWants.{batches_named, lone_frames, looked_up_sendable}
-use Rattle.vale_parts.proofs.Lookups.{short_counted, slots_are_one}
+use Rattle.vale_parts.proofs.Lookups.{slots_are_one}
 use Rattle.vale_parts.proofs.laws.batches_are_named.Goals as goal
 
 pub returns-clause-named : goal.returns-clause-named
 returns-clause-named c = batches_named
-
-pub returns-clause-short : goal.returns-clause-short
-returns-clause-short c = short_counted
 
 pub returns-clause-lone : goal.returns-clause-lone
 returns-clause-lone c = lone_frames

@@ -11,4 +11,4 @@ loop-place-preserved c =
     let place = c.loop-place.place in
     one-record-more own id received.entry received.gave place c.loop-place.records.items c.push.new.self.items c.in_ok-record_of_frame.field-0
     (c.args.records.now.items ++ new_records own id received) c.loop-place-test.true
-    (c.in_ok-record_of_frame.ensures ∙ ap (record_at received.entry place) c.bytes_before_tail-frame.ensures) c.in_ok-push.ensures.items c.loop-place.invariant
+    (c.in_ok-record_of_frame.ensures ∙ ap (record_at received.entry place) c.bytes_before_tail-frame.ensures.bytes) c.in_ok-push.ensures.items c.loop-place.invariant

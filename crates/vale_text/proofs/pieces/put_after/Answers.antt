@@ -1,7 +1,14 @@
 use Rattle.std.proofs.Common.{[], ◌∷◌}
-use Rattle.vale_text.proofs.Flat.{writes_after}
+use Rattle.std.proofs.lemmas.Result.{err_from_is_err_and}
+use Rattle.nm_io.proofs.Gathering.{grows_past}
+use Rattle.vale_text.proofs.Strips.{gathers_after}
 use Rattle.vale_text.proofs.pieces.put_after.Goals as goal
 
-pub returns-clause-writes : goal.returns-clause-writes
-returns-clause-writes g c =
-    writes_after (g.K.Sink.holds c.args.out.now) (g.K.Sink.holds c.put_all.new.out) (g.K.Sink.holds c.spell.new.out) (c.args.mark ∷ []) (g.T.Spelled.text c.args.item.now) c.spell.result c.in_ok-put_all.ensures.writes c.spell.ensures.writes
+pub returns-in_err-put_byte-clause-gathers : goal.returns-in_err-put_byte-clause-gathers
+returns-in_err-put_byte-clause-gathers g c =
+    let p = err_from_is_err_and c.from_residual.result c.from_residual.ensures.1 in
+    rw (p.1) (grows_past (g.K.Sink.holds c.args.out.now) (g.K.Sink.holds c.put_byte.new.out) c.args.strip.now (c.args.mark ∷ []) (g.T.Spelled.text c.args.item.now) c.in_err-put_byte.ensures.gathers)
+
+pub returns-clause-gathers : goal.returns-clause-gathers
+returns-clause-gathers g c =
+    gathers_after (g.K.Sink.holds c.args.out.now) (g.K.Sink.holds c.put_byte.new.out) (g.K.Sink.holds c.spell.new.out) c.args.strip.now c.put_byte.new.strip c.spell.new.strip (c.args.mark ∷ []) (g.T.Spelled.text c.args.item.now) c.spell.result c.in_ok-put_byte.ensures.gathers c.spell.ensures.gathers

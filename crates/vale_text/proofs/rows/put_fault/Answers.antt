@@ -1,4 +1,4 @@
 use Rattle.vale_text.proofs.rows.put_fault.Goals as goal
 
-pub returns-in-Unannounced-clause-writes : goal.returns-in-Unannounced-clause-writes
-returns-in-Unannounced-clause-writes g c = rw (c.in-Unannounced.is) (c.put_three-in-Unannounced.ensures.writes)
+pub returns-in-Unannounced-clause-gathers : goal.returns-in-Unannounced-clause-gathers
+returns-in-Unannounced-clause-gathers g c = rw (c.in-Unannounced.is) (c.put_three-in-Unannounced.ensures.gathers)

@@ -4,7 +4,7 @@ use Rattle.nm_io.specs.Held.{Writes}
 use Rattle.nm_io.proofs.Growth.{grows_longer}
 use Rattle.vale_entry.specs.Transcript.{start_line, entry_lines, end_line}
 use Rattle.vale_text.specs.Written.{text_of}
-use Rattle.vale_text.proofs.Flat.{writes_after}
+use Rattle.vale_text.proofs.Entries.{writes_after}
 use Rattle.vale_text.proofs.transcript.write_transcript.Goals as goal
 
 pub returns-in_err-put_start-clause-writes : goal.returns-in_err-put_start-clause-writes

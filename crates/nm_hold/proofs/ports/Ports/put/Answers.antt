@@ -6,14 +6,14 @@ use Rattle.nm_hold.proofs.ports.Ports.put.Goals as goal
 
 pub index_mut-requires : goal.index_mut-requires
 index_mut-requires c =
-    let index : get nat_eq c.self.inside.indices (port_of c.args.place) ≡ Some c.in-Some.field-0.now = search rules in
-    let within = within_rows c.self.inside.rows.items c.in-Some.field-0.now (port_of c.args.place) (c.self.invariant.there c.in-Some.field-0.now (port_of c.args.place) index) in
+    let index : get nat_eq c.self.inside.indices (port_of c.args.place) ≡ Some c.in-Some.at = search rules in
+    let within = within_rows c.self.inside.rows.items c.in-Some.at (port_of c.args.place) (c.self.invariant.there c.in-Some.at (port_of c.args.place) index) in
     omega (arith, within)
 
 pub put_at-requires : goal.put_at-requires
 put_at-requires c =
     let rows = c.self.inside.rows.items in
-    let at = c.in-Some.field-0.now in
+    let at = c.in-Some.at in
     let index : get nat_eq c.self.inside.indices (port_of c.args.place) ≡ Some at = search rules in
     let within = within_rows rows at (port_of c.args.place) (c.self.invariant.there at (port_of c.args.place) index) in
     rw (row_read rows at c.index_mut.result.now within c.index_mut.ensures.value) (row_is_table rows at (rw (← c.self.view_is) at c.requires))
@@ -21,7 +21,7 @@ put_at-requires c =
 pub invariant_of-self : goal.invariant_of-self
 invariant_of-self c =
     let rows = c.self.inside.rows.items in
-    let at = c.in-Some.field-0.now in
+    let at = c.in-Some.at in
     let index : get nat_eq c.self.inside.indices (port_of c.args.place) ≡ Some at = search rules in
     let within = within_rows rows at (port_of c.args.place) (c.self.invariant.there at (port_of c.args.place) index) in
     let read = row_read rows at c.index_mut.result.now within c.index_mut.ensures.value in
@@ -30,7 +30,7 @@ invariant_of-self c =
 pub returns-in-Some-clause-tables : goal.returns-in-Some-clause-tables
 returns-in-Some-clause-tables c =
     let rows = c.self.inside.rows.items in
-    let at = c.in-Some.field-0.now in
+    let at = c.in-Some.at in
     let index : get nat_eq c.self.inside.indices (port_of c.args.place) ≡ Some at = search rules in
     let there = c.self.invariant.there at (port_of c.args.place) index in
     let within = within_rows rows at (port_of c.args.place) there in

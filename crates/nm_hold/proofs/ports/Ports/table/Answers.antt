@@ -6,14 +6,14 @@ use Rattle.nm_hold.proofs.ports.Ports.table.Goals as goal
 
 pub index-requires : goal.index-requires
 index-requires c =
-    let index : get nat_eq c.self.inside.indices c.args.port.0 ≡ Some c.in-Some.at.now = search rules in
-    let within = within_rows c.self.inside.rows.items c.in-Some.at.now c.args.port.0 (c.self.invariant.there c.in-Some.at.now c.args.port.0 index) in
+    let index : get nat_eq c.self.inside.indices c.args.port.0 ≡ Some c.in-Some.at = search rules in
+    let within = within_rows c.self.inside.rows.items c.in-Some.at c.args.port.0 (c.self.invariant.there c.in-Some.at c.args.port.0 index) in
     omega (arith, within)
 
 pub returns-in-Some : goal.returns-in-Some
 returns-in-Some c =
     let rows = c.self.inside.rows.items in
-    let at = c.in-Some.at.now in
+    let at = c.in-Some.at in
     let port = c.args.port.0 in
     let index : get nat_eq c.self.inside.indices port ≡ Some at = search rules in
     let there : port_at rows at ≡ Some port = c.self.invariant.there at port index in

@@ -6,6 +6,7 @@ use Rattle.nm_region.specs.Buffers.{indices_of}
 use Rattle.nm_pool.specs.Free.{PoolState, with_buffer}
 use Rattle.nm_pool.specs.Kept.{buffers_in}
 use Rattle.nm_pool.proofs.Keeping.{buffers_in-set, length-buffers_in, length-with_buffer, ArePlaced-set, placed_apart}
+use Rattle.nm_pool.proofs.Marked.{bits-changed}
 use Rattle.nm_pool.proofs.pool.Pool.give.Goals as goal
 
 pub overflow_add-self : goal.overflow_add-self
@@ -32,6 +33,9 @@ invariant_of-self c =
       counted = rw (after, put, length-with_buffer buf (buffers_in places), c.self.invariant.counted) refl;
       emptied = c.self.invariant.emptied;
       room = rw (after, count) c.self.invariant.room;
+      bits = rw after (bits-changed c.self.inside.words.items c.set_bit.new.words.items places at (Some buf) within c.set_bit.ensures.same c.set_bit.ensures.other c.self.invariant.bits);
+      words = rw (after, count, c.set_bit.ensures.count) c.self.invariant.words;
+      few = rw c.set_bit.ensures.count c.self.invariant.few;
     }
 
 pub unreachable-requires : goal.unreachable-requires

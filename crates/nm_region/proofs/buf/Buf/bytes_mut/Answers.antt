@@ -1,9 +1,11 @@
-use Rattle.std.proofs.Common.{◌≡◌, length, ap, sym, ◌∙◌}
-use Rattle.nm_region.proofs.Marks.{marked-lent}
+use Rattle.std.proofs.Common.{length, take, drop, ◌++◌, ◌∙◌}
+use Rattle.nm_region.proofs.Marks.{marked-lent, kept-full, placed-still}
 use Rattle.nm_region.proofs.buf.Buf.bytes_mut.Goals as goal
 
 pub invariant_of-self-lent : goal.invariant_of-self-lent
 invariant_of-self-lent c = λ w.
-    let size = c.self.invariant.size in
-    let len : length c.self.inside.bytes.items.items ≡ c.self.inside.bytes.items.len = ap length (sym c.as_mut_slice.ensures.value) ∙ c.as_mut_slice.ensures.len in
-    marked-lent c.self.inside.bytes.items.items w c.self.inside.bytes.items.len (sym len ∙ size) size
+    let part = c.fill.new.part in
+    let size = c.fill.ensures.size in
+    let mark = marked-lent part.items w part.len (part.ok.0 ∙ size) size in
+    kept-full 2048 c.self.inside.index (take part.len (w ++ drop (length w) part.items)) part.cap part.ptr mark.size mark c.fill.ensures.room
+    (placed-still c.self.inside.index part.ptr c.self.inside.bytes.ptr c.fill.ensures.place c.self.invariant.place)

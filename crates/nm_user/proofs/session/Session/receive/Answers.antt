@@ -4,7 +4,7 @@ use Rattle.nm_types.specs.Faults.{sync_fault_of}
 use Rattle.nm_types.specs.OwnPorts.{OwnState}
 use Rattle.nm_types.specs.OwnSyncs.{own_after_receive}
 use Rattle.nm_port.specs.Regions.{SideState, AllOf}
-use Rattle.vale_book.specs.declared.reading.Synced.{Synced}
+use Rattle.vale_steps.specs.declared.reading.Synced.{Synced}
 use Rattle.vale_fabric.specs.Fabrics.{Refuses, fixed_in, knowing}
 use Rattle.nm_user.specs.declared.receiving.Received.{Received}
 use Rattle.nm_user.specs.Sessions.{SessionState, IsThere, own_in, session_seen}

@@ -2,7 +2,7 @@ use Rattle.std.proofs.Common.{◌≡◌, length, List, sym, subst, ap, ◌∙◌
 use Rattle.vale_entry.specs.World.{free_count}
 use Rattle.vale_port.specs.Ports.{PortState}
 use Rattle.nm_region.specs.Buffers.{Buffer}
-use Rattle.vale_book.specs.BookView.{AreOf}
+use Rattle.nm_region.specs.Regions.{AreOf}
 use Rattle.vale_book.specs.Recorded.{Recorded, standing}
 use Rattle.vale_book.proofs.Closes.{all-free, no-ports, all-back}
 use Rattle.vale_book.proofs.book.Book.close.Goals as goal

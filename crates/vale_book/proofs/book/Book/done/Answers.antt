@@ -4,9 +4,9 @@ use Rattle.vale_entry.specs.declared.entry.Ask.TheVariants.{Done}
 use Rattle.vale_entry.specs.Legal.{Outcome, done_step}
 use Rattle.vale_book.specs.declared.book.Book.TheInside.{Inside}
 use Rattle.vale_line.specs.Gots.{buffers_of}
-use Rattle.vale_book.specs.BookView.{AreOf}
-use Rattle.vale_book.specs.Granting.{lease_id}
-use Rattle.vale_book.specs.Offering.{IsFilledIn}
+use Rattle.nm_region.specs.Regions.{AreOf}
+use Rattle.vale_steps.specs.Granting.{lease_id}
+use Rattle.vale_steps.specs.Offering.{IsFilledIn}
 use Rattle.vale_book.specs.Recorded.{Recorded, standing}
 use Rattle.vale_book.proofs.Moves.{Moves, before, moved, record-moved, had-room}
 use Rattle.vale_book.proofs.Dones.{IsLeaseAt, IsOwed, lease-here, lease-owed, lot-out, lease-old, lease-there, done-moves, done-promised}

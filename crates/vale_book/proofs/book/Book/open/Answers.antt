@@ -47,8 +47,7 @@ moves c =
 
 few : (c : goal.After-open) → length c.add_port.new.tables.items ≤ most_switches
 few c =
-    let can : can_open (before c.self.inside).world c.args.session.0 c.args.name.now c.args.tx c.args.rx c.args.extra ≡ true = rw (← c.self.view_is) at c.requires in
-    tables-few c.self.inside (opened c) c.len.result c.args.session c.args.name.now c.args.tx c.args.rx c.args.extra c.self.invariant can c.in-Ok.ensures.refusal c.in-Ok-add_port.ensures.few
+    tables-few c.self.inside (opened c) c.len.result c.args.session c.args.name.now c.args.tx c.args.rx c.args.extra c.self.invariant c.in-Ok.ensures.refusal c.in-Ok-add_port.ensures.few
 
 pub invariant_of-self : goal.invariant_of-self
 invariant_of-self c =
@@ -106,9 +105,8 @@ stays c =
 
 pub invariant_of-self-in-Err-add_port : goal.invariant_of-self-in-Err-add_port
 invariant_of-self-in-Err-add_port c =
-    let can : can_open (before c.self.inside).world c.args.session.0 c.args.name.now c.args.tx c.args.rx c.args.extra ≡ true = rw (← c.self.view_is) at c.requires in
     let few =
-    tables-few c.self.inside (full c) c.len.result c.args.session c.args.name.now c.args.tx c.args.rx c.args.extra c.self.invariant can c.in-Ok.ensures.refusal c.in-Err-add_port.ensures.few in
+    tables-few c.self.inside (full c) c.len.result c.args.session c.args.name.now c.args.tx c.args.rx c.args.extra c.self.invariant c.in-Ok.ensures.refusal c.in-Err-add_port.ensures.few in
     stayed (with_tables c.self.inside (full c)) (full c) (tables-kept c.self.inside (full c) c.self.invariant c.in-Err-add_port.ensures.kept few) (stays c)
 
 pub returns-in-Err-add_port-clause-unopened : goal.returns-in-Err-add_port-clause-unopened
@@ -121,8 +119,7 @@ returns-in-Err-add_port-clause-unopened c =
 
 pub refuse-requires : goal.refuse-requires
 refuse-requires c =
-    let can : can_open (before c.self.inside).world c.args.session.0 c.args.name.now c.args.tx c.args.rx c.args.extra ≡ true = rw (← c.self.view_is) at c.requires in
-    refused-recorded c.self.inside c.len.result c.args.session c.args.name.now c.args.tx c.args.rx c.args.extra c.in-Err.fault c.self.invariant can c.in-Err.ensures.refusal
+    refused-recorded c.self.inside c.len.result c.args.session c.args.name.now c.args.tx c.args.rx c.args.extra c.in-Err.fault c.self.invariant c.in-Err.ensures.refusal
 
 abbrev refused : goal.After-refuse → Inside
 refused c = record c.self.inside { history = c.refuse.new.history; names = c.name_port.new.names }

@@ -4,8 +4,8 @@ use Rattle.vale_entry.specs.declared.entry.Ask.TheVariants.{Put}
 use Rattle.vale_entry.specs.declared.entry.Reply.TheVariants.{PeerGone}
 use Rattle.vale_entry.specs.Legal.{IsEnabled, unchanged}
 use Rattle.vale_book.specs.declared.book.Book.TheInside.{Inside}
-use Rattle.vale_book.specs.declared.putting.Putting.{Putting}
-use Rattle.vale_book.specs.Putting.{items_of}
+use Rattle.vale_steps.specs.declared.putting.Putting.{Putting}
+use Rattle.vale_steps.specs.Putting.{items_of}
 use Rattle.vale_book.specs.Recorded.{Recorded, standing}
 use Rattle.vale_book.proofs.Moves.{Moves, before, kept-on, after-on, room-on}
 use Rattle.vale_book.proofs.ReadMoves.{IsRest}

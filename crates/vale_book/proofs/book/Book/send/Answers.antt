@@ -6,8 +6,9 @@ use Rattle.vale_entry.specs.declared.entry.Ask.{Ask}
 use Rattle.vale_entry.specs.Legal.{IsEnabled, Outcome, can_send}
 use Rattle.vale_port.specs.Lists.{AreOpenOn}
 use Rattle.vale_book.specs.declared.book.Book.TheInside.{Inside}
-use Rattle.vale_book.specs.declared.tables.NamedTable.{NamedTable}
-use Rattle.vale_book.specs.BookView.{parts_in, table_seen}
+use Rattle.vale_steps.specs.declared.tables.NamedTable.{NamedTable}
+use Rattle.vale_steps.specs.NamedTables.{table_seen}
+use Rattle.vale_book.specs.BookView.{parts_in}
 use Rattle.vale_book.specs.Recorded.{Recorded, standing}
 use Rattle.vale_book.proofs.Moves.{Moves, before, moved, stayed, record-moved, had-room}
 use Rattle.vale_book.proofs.Found.{IsOpenHere, open-here, never-missing}

@@ -3,10 +3,10 @@ use Rattle.vale_entry.specs.declared.entry.Ask.TheVariants.{Done}
 use Rattle.vale_entry.specs.RowWords.{dest, completes}
 use Rattle.vale_line.specs.Leased.{Leased, first_size}
 use Rattle.vale_line.specs.Gots.{buffers_of}
-use Rattle.vale_book.specs.BookView.{AreOf}
-use Rattle.vale_book.specs.Granting.{lease_id}
+use Rattle.nm_region.specs.Regions.{AreOf}
+use Rattle.vale_steps.specs.Granting.{lease_id}
 use Rattle.vale_book.specs.Lives.{life, granted_one, filled_one}
-use Rattle.vale_book.specs.Offering.{OffersState, IsFilledIn}
+use Rattle.vale_steps.specs.Offering.{OffersState, IsFilledIn}
 use Rattle.vale_book.specs.Recorded.{Recorded, standing}
 use Rattle.vale_book.proofs.Lives.{stepped, filled, none-left, wanted-at, granted-at, one-of, filled-one, full-one, of-one}
 use Rattle.vale_book.proofs.tests.switching.deliver.Goals as goal

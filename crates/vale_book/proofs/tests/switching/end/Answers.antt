@@ -1,6 +1,6 @@
 use Rattle.std.proofs.Common.{◌∙◌, List, [], ◌∷◌, ◌++◌, ap, sym, subst}
 use Rattle.nm_region.specs.Buffers.{Buffer, indices_of}
-use Rattle.vale_book.specs.BookView.{AreOf}
+use Rattle.nm_region.specs.Regions.{AreOf}
 use Rattle.vale_book.specs.Lives.{first_bufs, second_bufs, read_one, shut_first, gone_first, shut_second, gone_second, left_both}
 use Rattle.vale_book.specs.Recorded.{Recorded}
 use Rattle.vale_book.proofs.Lives.{session-is, may-shut, shut-at, may-go, gone-at, may-leave, left-at, may-close, with-buffer, with-of, shut-first, gone-first, shut-second, gone-second, left-both, free-both}

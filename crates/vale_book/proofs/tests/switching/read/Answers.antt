@@ -5,7 +5,7 @@ use Rattle.vale_entry.specs.declared.entry.Ask.TheVariants.{Sync}
 use Rattle.vale_entry.specs.RowWords.{port}
 use Rattle.vale_line.specs.declared.got.Got.{Got}
 use Rattle.vale_line.specs.Gots.{buffers_of}
-use Rattle.vale_book.specs.BookView.{AreOf}
+use Rattle.nm_region.specs.Regions.{AreOf}
 use Rattle.vale_book.specs.Lives.{life, filled_one, read_one}
 use Rattle.vale_book.proofs.Lives.{enabled, stepped, synced, unwatched-one, gives-one, given-of, last-one}
 use Rattle.vale_book.proofs.tests.switching.read.Goals as goal

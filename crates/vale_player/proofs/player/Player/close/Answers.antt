@@ -15,7 +15,7 @@ detach-requires g c =
 
 pub returns-in-Some-clause-does : goal.returns-in-Some-clause-does
 returns-in-Some-clause-does g c =
-    let p : PlayerState = record { number = c.self.inside.number; session = c.self.inside.session; saves = c.self.inside.saves.items } in
+    let p : PlayerState = record { number = c.self.inside.number; session = c.self.inside.session; saves = c.self.inside.saves.items; names = c.self.inside.names.now } in
     let q : PlayerState = record p { session = c.detach.new.self } in
     subst (λ (x : PlayerState). Does x q (ShutPort c.args.name.now ∷ FinishPort c.args.name.now ∷ [])) c.self.view_is
     (closes-does p q refl c.args.name.now c.in-Some.port c.detach.result c.detach.ensures c.self.invariant.there c.is_there.ensures (sym c.port_named.ensures ∙ c.in-Some.is))

@@ -16,7 +16,7 @@ invariant_of-self c =
 pub returns-in-Some : goal.returns-in-Some
 returns-in-Some c =
     let s = c.self.inside.session in
-    let p : PlayerState = record { number = c.self.inside.number; session = s; saves = c.self.inside.saves.items } in
+    let p : PlayerState = record { number = c.self.inside.number; session = s; saves = c.self.inside.saves.items; names = c.self.inside.names.now } in
     let act = acts.Rx c.args.name.now false in
     subst (λ (x : PlayerState). record p { session = c.give_all_back.new.self } ≡ with_act act x) c.self.view_is
     (acted p c.give_all_back.new.self act (with_all_back c.in-Some.port.0 s.own) c.give_all_back.ensures (changed-at s.own c.args.name.now c.in-Some.port with_all_back (sym c.port_named.ensures ∙ c.in-Some.is)))

@@ -16,7 +16,7 @@ invariant_of-self c =
 pub returns-in-Some : goal.returns-in-Some
 returns-in-Some c =
     let s = c.self.inside.session in
-    let p : PlayerState = record { number = c.self.inside.number; session = s; saves = c.self.inside.saves.items } in
+    let p : PlayerState = record { number = c.self.inside.number; session = s; saves = c.self.inside.saves.items; names = c.self.inside.names.now } in
     let act = acts.Move c.args.name.now c.args.side c.args.head c.args.cur in
     subst (λ (x : PlayerState). record p { session = c.put_positions.new.self } ≡ with_act act x) c.self.view_is
     (acted p c.put_positions.new.self act (with_positions c.args.side c.in-Some.port.0 c.args.head c.args.cur s.own) c.put_positions.ensures

@@ -10,7 +10,7 @@ use Rattle.vale_player.proofs.player.Player.open.Goals.{in-Ok, in-Err}
 
 pub invariant_of-self : goal.invariant_of-self
 invariant_of-self g c =
-    let p : PlayerState = record { number = c.self.inside.number; session = c.self.inside.session; saves = c.self.inside.saves.items } in
+    let p : PlayerState = record { number = c.self.inside.number; session = c.self.inside.session; saves = c.self.inside.saves.items; names = c.self.inside.names.now } in
     let q : PlayerState = record p { session = c.open-opened.new.self } in
     let there = opens-there p q c.self.invariant.there refl c.args.name.now c.args.tx c.args.rx c.args.extra c.open-opened.result c.open-opened.ensures.made c.open-opened.ensures.unopened in
     record {
@@ -21,7 +21,7 @@ invariant_of-self g c =
 
 pub returns-clause-does : goal.returns-clause-does
 returns-clause-does g c =
-    let p : PlayerState = record { number = c.self.inside.number; session = c.self.inside.session; saves = c.self.inside.saves.items } in
+    let p : PlayerState = record { number = c.self.inside.number; session = c.self.inside.session; saves = c.self.inside.saves.items; names = c.self.inside.names.now } in
     let q : PlayerState = record p { session = c.open-opened.new.self } in
     let tasks : List Task = OpenPort c.args.name.now c.args.tx c.args.rx c.args.extra ∷ [] in
     let does : OnOk c.match-opened.result (Does p q tasks) = elim c.match-opened.branch [

@@ -12,7 +12,7 @@ returns-in-Ok-true-clause-does g c =
     let name = c.args.name.now in
     let bytes = c.args.bytes.now in
     let needs : NeedsNone p q (PutFrame name bytes) = subst (λ (b : Bool). NeedsNoneOrEnds p q (PutFrame name bytes) b) c.in-Ok-true.field-0-test (c.in-Ok-true.ensures.room bytes) in
-    subst (λ (x : PlayerState). Does p x (PutFrame name bytes ∷ [])) (sym c.write_frame.ensures) (puts p q name bytes needs)
+    subst (λ (x : PlayerState). Does p x (PutFrame name bytes ∷ [])) (sym c.write_frame.ensures.put) (puts p q name bytes needs)
 
 pub returns-in-Ok-false-clause-does : goal.returns-in-Ok-false-clause-does
 returns-in-Ok-false-clause-does g c =

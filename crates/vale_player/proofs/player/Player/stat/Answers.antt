@@ -23,7 +23,7 @@ stats-requires g c =
 
 pub invariant_of-self : goal.invariant_of-self
 invariant_of-self g c =
-    let p : PlayerState = record { number = c.self.inside.number; session = c.self.inside.session; saves = c.self.inside.saves.items } in
+    let p : PlayerState = record { number = c.self.inside.number; session = c.self.inside.session; saves = c.self.inside.saves.items; names = c.self.inside.names.now } in
     let q : PlayerState = record p { session = c.stats.new.self } in
     keeping p.session q.session c.self.inside.kept.items
     (reads-there p q c.self.invariant.there refl c.args.name.now c.in-Some.port (sym c.port_named.ensures ∙ c.in-Some.is) c.stats.result c.stats.ensures.made c.stats.ensures.full)
@@ -31,7 +31,7 @@ invariant_of-self g c =
 
 pub returns-clause-does : goal.returns-clause-does
 returns-clause-does g c =
-    let p : PlayerState = record { number = c.self.inside.number; session = c.self.inside.session; saves = c.self.inside.saves.items } in
+    let p : PlayerState = record { number = c.self.inside.number; session = c.self.inside.session; saves = c.self.inside.saves.items; names = c.self.inside.names.now } in
     let q : PlayerState = record p { session = c.stats.new.self } in
     let tasks : List Task = ReadCounts c.args.name.now ∷ [] in
     let does : OnOk c.match-stats.result (Does p q tasks) = elim c.match-stats.branch [

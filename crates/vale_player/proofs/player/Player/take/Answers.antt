@@ -30,7 +30,7 @@ invariant_of-self g c =
 
 pub returns-clause-does : goal.returns-clause-does
 returns-clause-does g c =
-    let p : PlayerState = record { number = c.self.inside.number; session = c.self.inside.session; saves = c.self.inside.saves.items } in
+    let p : PlayerState = record { number = c.self.inside.number; session = c.self.inside.session; saves = c.self.inside.saves.items; names = c.self.inside.names.now } in
     let q : PlayerState = record p { session = c.receive-ended.new.session } in
     let name = c.args.name.now in
     let port = c.in-Some.port in
@@ -40,7 +40,7 @@ returns-clause-does g c =
 
 pub returns-clause-stops : goal.returns-clause-stops
 returns-clause-stops g c =
-    let p : PlayerState = record { number = c.self.inside.number; session = c.self.inside.session; saves = c.self.inside.saves.items } in
+    let p : PlayerState = record { number = c.self.inside.number; session = c.self.inside.session; saves = c.self.inside.saves.items; names = c.self.inside.names.now } in
     let q : PlayerState = record p { session = c.receive-ended.new.session } in
     let name = c.args.name.now in
     let port = c.in-Some.port in
@@ -50,7 +50,7 @@ returns-clause-stops g c =
 
 pub returns-clause-still : goal.returns-clause-still
 returns-clause-still g c =
-    let p : PlayerState = record { number = c.self.inside.number; session = c.self.inside.session; saves = c.self.inside.saves.items } in
+    let p : PlayerState = record { number = c.self.inside.number; session = c.self.inside.session; saves = c.self.inside.saves.items; names = c.self.inside.names.now } in
     let q : PlayerState = record p { session = c.receive-ended.new.session } in
     let name = c.args.name.now in
     let port = c.in-Some.port in

@@ -23,7 +23,7 @@ watch-requires-clause-monitor g c =
 
 pub invariant_of-self : goal.invariant_of-self
 invariant_of-self g c =
-    let p : PlayerState = record { number = c.self.inside.number; session = c.self.inside.session; saves = c.self.inside.saves.items } in
+    let p : PlayerState = record { number = c.self.inside.number; session = c.self.inside.session; saves = c.self.inside.saves.items; names = c.self.inside.names.now } in
     let q : PlayerState = record p { session = c.watch.new.self } in
     keeping p.session q.session c.self.inside.kept.items
     (watches-there p q c.self.invariant.there refl c.args.monitor.now c.in-Some.port (sym c.port_named.ensures ∙ c.in-Some.is) c.args.target.now c.args.sides c.watch.result c.watch.ensures.watched c.watch.ensures.unwatched)
@@ -31,7 +31,7 @@ invariant_of-self g c =
 
 pub returns-clause-does : goal.returns-clause-does
 returns-clause-does g c =
-    let p : PlayerState = record { number = c.self.inside.number; session = c.self.inside.session; saves = c.self.inside.saves.items } in
+    let p : PlayerState = record { number = c.self.inside.number; session = c.self.inside.session; saves = c.self.inside.saves.items; names = c.self.inside.names.now } in
     let q : PlayerState = record p { session = c.watch.new.self } in
     let tasks : List Task = WatchPort c.args.monitor.now c.args.target.now c.args.sides ∷ [] in
     let does : OnOk c.match-watch.result (Does p q tasks) = elim c.match-watch.branch [

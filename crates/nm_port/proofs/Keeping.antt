@@ -1,0 +1,100 @@
+-- A push each of whose slots keeps the buffer in its place: no slot of it is refused.
+use Rattle.std.proofs.Common.{ℕ, zero, suc, ◌≡◌, ◌≢◌, ◌<◌, ◌≤◌, ◌+◌, Bool, true, false, nat_eq, List, [], ◌∷◌, ◌++◌, map, get_or, Option, Some, None, inl, inr, refl, sym, ◌∙◌, ap, subst, arith}
+use Rattle.std.specs.Prelude.{◌||◌, slice_get, unwrap_or}
+use Rattle.std.proofs.lemmas.Bool.{cases_Bool}
+use Rattle.std.proofs.lemmas.List.{map-append}
+use Rattle.std.proofs.lemmas.Option.{unwrap_or-slice_get}
+use Rattle.nm_types.specs.declared.id.PortId.{PortId}
+use Rattle.nm_types.specs.declared.id.Side.{Side}
+use Rattle.nm_types.specs.declared.id.Side.TheVariants.{Tx, Rx}
+use Rattle.nm_types.specs.Positions.{IsRing, FitsRing, step_on, slots_from}
+use Rattle.nm_types.specs.Slots.{Pushed, pushed_names}
+use Rattle.nm_types.specs.SyncChecks.{slots_refusal, slot_refusal, seen_of, contains_index, PassesSlot}
+use Rattle.nm_types.proofs.SlotChecks.{PassesSlot-from_none, slot_refusal-passes}
+use Rattle.nm_hold.specs.Holds.{HoldState, buffers_of, index_at, is_named_at, slot_on, IsHold, AreNumbers}
+use Rattle.nm_hold.proofs.Spots.{nat_eq-is}
+use Rattle.nm_port.specs.RingSlots.{RingSlots, slot_at}
+use Rattle.nm_port.specs.Sides.{place_on, number_at, name_at, pushed_seen_at, AreNamed, seen_alone, KeepsBuffer}
+use Rattle.nm_port.specs.Exchanges.{pushed_count_of, user_position, user_place}
+use Rattle.nm_port.proofs.Judging.{passed_more, contains_more, false_true}
+use Rattle.nm_port.proofs.Pushes.{seen_more}
+use Rattle.nm_port.proofs.Exchanged.{one_place, user_apart}
+
+slot_is_place : (side : Side) (id : PortId) (at : ℕ) → slot_on side id at ≡ place_on side id at
+slot_is_place Tx id at = refl
+slot_is_place Rx id at = refl
+
+index_from : (o : Option ℕ) (idx : ℕ) → unwrap_or o 0 ≡ idx → 2 ≤ idx → o ≡ Some idx
+index_from None idx e low = let none : 0 ≡ idx = e in absurd (omega (arith, none))
+index_from (Some i) idx e low = ap (λ (n : ℕ). Some n) e
+
+module _ (h : HoldState) (id : PortId) (r : RingSlots) (numbers : List ℕ) (is : IsRing r.ring) (fits : FitsRing r.ring r.ring.head r.ring.cur) (numbered : AreNumbers h r.side id numbers)
+    (kept : (k : ℕ) → k < pushed_count_of r → KeepsBuffer h (buffers_of h + 1) r numbers (user_position r k)) where
+  abbrev own_name : ℕ → ℕ
+  own_name k = name_at r (user_position r k)
+
+  passes_alone : (k : ℕ) → k < pushed_count_of r
+      → PassesSlot r.side (seen_alone h (buffers_of h + 1) (own_name k)) (slot_at r (user_position r k))
+  passes_alone k below = PassesSlot-from_none r.side (seen_alone h (buffers_of h + 1) (own_name k)) (user_position r k) (slot_at r (user_position r k)) (kept k below).passes
+
+  number_there : (k : ℕ) → k < pushed_count_of r → number_at h (user_place id r k) ≡ own_name k
+  number_there k below =
+      let at = user_position r k in
+      let there : slice_get numbers at ≡ Some (own_name k) = index_from (slice_get numbers at) (own_name k) (unwrap_or-slice_get numbers at 0 ∙ (kept k below).own) (passes_alone k below).least in
+      ap (number_at h) (sym (slot_is_place r.side id at)) ∙ numbered at (own_name k) there
+
+  -- the buffer that a slot names stands in the slot's place
+  stands_there : (k : ℕ) → k < pushed_count_of r → index_at h (user_place id r k) ≡ Some (own_name k)
+  stands_there k below = index_from (index_at h (user_place id r k)) (own_name k) (number_there k below) (passes_alone k below).least
+
+  abbrev pub seen : ℕ → List Pushed
+  seen n = map (pushed_seen_at h id r) (slots_from r.ring.size r.ring.accepted_head n)
+
+  -- a name of one of the first slots is not that of the next one
+  named_before : (idx n : ℕ) → contains_index (pushed_names (seen n)) idx ≡ true → (j : ℕ) × (j < n) × (own_name j ≡ idx)
+  named_before idx zero e = false_true e
+  named_before idx (suc n) e =
+      let next : suc n ≡ n + 1 = omega arith in
+      let more : pushed_names (seen (n + 1)) ≡ pushed_names (seen n) ++ own_name n ∷ [] =
+      ap pushed_names (seen_more (pushed_seen_at h id r) r.ring.size r.ring.accepted_head n) ∙ map-append (λ (p : Pushed). p.slot.buf_idx) (seen n) (pushed_seen_at h id r (user_position r n) ∷ []) in
+      let both : (contains_index (pushed_names (seen n)) idx || nat_eq (own_name n) idx) ≡ true =
+      sym (contains_more (pushed_names (seen n)) (own_name n) idx) ∙ (sym (ap (λ (names : List ℕ). contains_index names idx) more) ∙ (ap (λ (m : ℕ). contains_index (pushed_names (seen m)) idx) (sym next) ∙ e)) in
+      elim (cases_Bool (nat_eq (own_name n) idx)) [
+        | inl same ↦ (n, omega arith, nat_eq-is (own_name n) idx same)
+        | inr other ↦ (let before = named_before idx n (or_left (contains_index (pushed_names (seen n)) idx) (nat_eq (own_name n) idx) both other) in (before.0, omega (arith, before.1), before.2))
+      ]
+    where
+      or_left : (a b : Bool) → (a || b) ≡ true → b ≡ false → a ≡ true
+      or_left true b e f = refl
+      or_left false b e f = false_true (sym f ∙ e)
+
+  module _ (is_hold : IsHold h) where
+    names_apart : (n : ℕ) → n < pushed_count_of r → contains_index (pushed_names (seen n)) (own_name n) ≡ false
+    names_apart n below = elim (cases_Bool (contains_index (pushed_names (seen n)) (own_name n))) [
+      | inl there ↦ (let before = named_before (own_name n) n there in
+          let earlier : index_at h (user_place id r before.0) ≡ Some (own_name n) = stands_there before.0 (omega (arith, before.1)) ∙ ap (λ (m : ℕ). Some m) before.2 in
+          absurd (user_apart id r before.0 n is fits before.1 below (one_place h (user_place id r before.0) (user_place id r n) (own_name n) is_hold earlier (stands_there n below))))
+      | inr none ↦ none
+    ]
+
+    pub kept_passes : (named : List ℕ) → AreNamed h named → (n : ℕ) → n ≤ pushed_count_of r → slots_refusal r.side (buffers_of h) named [] (seen n) ≡ None
+    kept_passes named well zero few = refl
+    kept_passes named well (suc n) few =
+        let next : suc n ≡ n + 1 = omega arith in
+        let below : n < pushed_count_of r = omega (arith, few) in
+        let x = pushed_seen_at h id r (user_position r n) in
+        let passes = passes_alone n below in
+        let here : PassesSlot r.side (seen_of (buffers_of h) named (pushed_names (seen n)) x) x.slot = record {
+          direct = passes.direct;
+          least = passes.least;
+          most = passes.most;
+          held = sym (well is_hold (own_name n) passes.least) ∙ passes.held;
+          once = names_apart n below;
+          announced = λ differs. absurd (differs (sym (number_there n below)));
+          fits_buffer = passes.fits_buffer;
+          whole = passes.whole;
+        } in
+        let passed = passed_more r.side (buffers_of h) named (seen n) x (kept_passes named well n (omega (arith, few)))
+        (slot_refusal-passes r.side (seen_of (buffers_of h) named (pushed_names (seen n)) x) x.at x.slot here) in
+        subst (λ (m : ℕ). slots_refusal r.side (buffers_of h) named [] (seen m) ≡ None) (sym next)
+        (ap (slots_refusal r.side (buffers_of h) named []) (seen_more (pushed_seen_at h id r) r.ring.size r.ring.accepted_head n) ∙ passed)

@@ -1,0 +1,7 @@
+use Rattle.std.proofs.Common.{ℕ, ◌<◌}
+use Rattle.nm_types.specs.Positions.{step_on}
+use Rattle.nm_port.specs.Sides.{KeepsBuffer}
+use Rattle.nm_port.proofs.checks.each_keeps.Given as goal
+
+abbrev pub invariant-loop-k : goal.invariant-loop-k
+invariant-loop-k l = (j : ℕ) → j < l.k → KeepsBuffer l.hold l.top l.ring l.numbers (step_on l.size l.first j)

@@ -1,5 +1,0 @@
-use Rattle.vale_book.proofs.MonitoredWants.{reversed-seen}
-use Rattle.vale_book.proofs.wanting.reversed.Goals as goal
-
-pub returns-clause-wants : goal.returns-clause-wants
-returns-clause-wants c = reversed-seen c.args.wants.items c.reverse.new.self.items c.reverse.ensures.items

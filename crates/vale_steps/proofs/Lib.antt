@@ -1,0 +1,13 @@
+pub mod SentBatches
+pub mod SmallWants
+pub mod Lists
+pub mod TakenWants
+pub mod MonitoredWants
+pub mod GivenBack
+pub mod TakenParts
+pub mod NamedTables
+pub mod OpenTables
+pub mod TableCounts
+pub mod ReadBytes
+pub mod PutLists
+pub mod Leasing

@@ -1,0 +1,10 @@
+use Rattle.std.proofs.Common.{◌≡◌}
+use Rattle.nm_types.specs.Frames.{size_of_frames}
+use Rattle.vale_entry.specs.Delivery.{delivered_frames}
+use Rattle.vale_port.specs.Seat.{Seat}
+use Rattle.vale_port.proofs.Places.{of-seat}
+use Rattle.vale_steps.proofs.reading.reading_at.Goals as goal
+
+pub returns-clause-frames : goal.returns-clause-frames
+returns-clause-frames c =
+    of-seat (λ (seat : Seat). c.ready.result ≡ size_of_frames (delivered_frames seat.port)) c.args.ports.now c.args.place c.index-ports-place.result c.index-ports-place.is c.ready.ensures.seat

@@ -1,0 +1,10 @@
+pub mod NamedTables
+pub mod Offering
+pub mod Wanting
+pub mod Granting
+pub mod OpenFaults
+pub mod OpenParts
+pub mod Monitored
+pub mod Reading
+pub mod Sending
+pub mod Putting

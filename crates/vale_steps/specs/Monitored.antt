@@ -1,0 +1,26 @@
+-- What the monitor of a port is offered of an entry's frames: all of them, if there are some.
+use Rattle.std.specs.Prelude.{ℕ, ◌≡◌, ◌≤◌, ◌==◌, if◌then◌else◌, List, [], ◌∷◌, length, map, Option, Some, None}
+use Rattle.std.specs.List.{AllByRecursion}
+use Rattle.nm_types.specs.declared.id.PortId.{PortId}
+use Rattle.nm_types.specs.declared.id.SessionId.{SessionId}
+use Rattle.vale_batch.specs.Wants.{Wanted, wanted}
+use Rattle.vale_parts.specs.Batches.{dests_wanted}
+use Rattle.vale_steps.specs.declared.monitored.Monitored.TheInside.{Inside}
+use Rattle.vale_steps.specs.Offering.{OffersState, HasFewFrames, slots_in}
+use Rattle.vale_steps.specs.Wanting.{want_all}
+
+-- what a monitor, if there is one, wants of so many frames
+abbrev pub wants_by : Option PortId → ℕ → List Wanted
+wants_by None count = []
+wants_by (Some to) count = if count == 0 then [] else want_all to count ∷ []
+
+-- the monitor's want at most, with the room for its lease and the number of its frames
+pub record AreMonitored (m : Inside) : Type 0 where
+  pub rooms : m.rooms.items ≡ map slots_in m.wants.items
+  pub to : m.to.items ≡ dests_wanted (map wanted m.wants.items)
+  pub few : length m.wants.items ≤ 1
+  pub small : AllByRecursion HasFewFrames m.wants.items
+
+-- the offers of an entry that has nobody but a monitor to offer to
+abbrev pub offers_to : ℕ → SessionId → List Wanted → OffersState
+offers_to entry session wants = record { entry = entry; session = session.0; short = 0; lone = 0; wants = wants }

@@ -1,0 +1,245 @@
+//! Bytes gathered on a strip of a fixed size, on their way to a sink.
+ghost use Rattle.std.specs.Prelude.{◌≡◌, ◌≤◌, ◌<◌, ◌*◌, ◌+◌, ◌++◌, ◌∷◌, [], ℕ, List, length, take, decimal, OnOk, OnErr};
+ghost use Rattle.std.specs.List.{flat_map};
+ghost use Rattle.nm_io.specs.Counts.{Rose};
+ghost use Rattle.nm_io.specs.Gathered.{Gathers};
+ghost use Rattle.nm_io.specs.Held.{Writes};
+ghost use Rattle.vale_entry.specs.Transcript.{hex_byte, hex_text};
+ghost use Rattle.vale_text.specs.Placed.{Placed};
+
+use crate::hex::place_digits;
+use itoa::write_digits;
+use nm_io::{Failed, Sink, put_all};
+use std::marker::Model;
+use std::simd::prelude::*;
+
+/// How many bytes a strip has room for.
+pub(crate) const ROOM: usize = 1536;
+
+/// How many bytes are spelled at once.
+const PART: usize = 256;
+
+/// How many digits a number has at most.
+const DIGITS: usize = 20;
+
+/// Writes a number in decimal digits, and returns where they end. The bytes behind them may change.
+#[inline(always)]
+fn place_number(buf: &mut [u8], at: usize, number: u64) -> usize
+    requires { at + 20 ≤ length buf.old }
+    ensures { Placed buf.old buf.new at (decimal number) result }
+{
+    let mut digits = [0; 2 * DIGITS];
+    let start = write_digits(number, &mut digits, DIGITS);
+    u8x16::from_slice(&digits[start..]).copy_to_slice(&mut buf[at..]);
+    u8x4::from_slice(&digits[start + 16..]).copy_to_slice(&mut buf[at + 16..]);
+    at + (DIGITS - start)
+}
+
+/// Bytes on their way to a sink.
+#[derive(Drop)]
+pub struct Strip {
+    room: [u8; ROOM],
+    len: usize,
+}
+
+impl Model for Strip {
+    ghost Value = { List ℕ };
+
+    ghost view = { λ s. take s.len s.room };
+
+    ghost invariant = { λ s. (s.len ≤ 1536) × (length s.room ≡ 1536) };
+}
+
+impl Strip {
+    pub(crate) fn new() -> Strip
+        ensures { result ≡ [] }
+    {
+        Strip {
+            room: [0; ROOM],
+            len: 0,
+        }
+    }
+
+    pub(crate) fn len(&self) -> usize
+        ensures value { result ≡ length self.now }
+        ensures within { result ≤ ROOM }
+    {
+        self.len
+    }
+
+    pub(crate) fn bytes(&self) -> &[u8]
+        ensures { result.now ≡ self.now }
+    {
+        &self.room[..self.len]
+    }
+
+    pub(crate) fn clear(&mut self)
+        ensures { self.new ≡ [] }
+    {
+        self.len = 0;
+    }
+
+    #[inline(always)]
+    pub(crate) fn push(&mut self, byte: u8)
+        requires { length self.old < ROOM }
+        ensures { self.new ≡ self.old ++ byte ∷ [] }
+    {
+        self.room[self.len] = byte;
+        self.len += 1;
+    }
+
+    #[inline(always)]
+    pub(crate) fn add(&mut self, text: &[u8])
+        requires { length self.old + length text.now ≤ ROOM }
+        ensures { self.new ≡ self.old ++ text.now }
+    {
+        let end = self.len + text.len();
+        self.room[self.len..end].copy_from_slice(text);
+        self.len = end;
+    }
+
+    #[inline(always)]
+    pub(crate) fn number(&mut self, number: u64)
+        requires { length self.old + 20 ≤ ROOM }
+        ensures { self.new ≡ self.old ++ decimal number }
+    {
+        self.len = place_number(&mut self.room, self.len, number);
+    }
+
+    #[inline(always)]
+    pub(crate) fn digits(&mut self, bytes: &[u8])
+        requires { length self.old + 2 * length bytes.now ≤ ROOM }
+        ensures { self.new ≡ self.old ++ flat_map hex_byte bytes.now }
+    {
+        self.len = place_digits(&mut self.room, self.len, bytes);
+    }
+}
+
+/// Writes what a strip holds, and empties it.
+pub(crate) fn put_strip<K: Sink>(out: &mut K, strip: &mut Strip) -> Result<(), Failed>
+    ensures writes { Writes (K.holds out.old) (K.holds out.new) result strip.old }
+    ensures later { K.faults out.old ≤ K.faults out.new }
+    ensures cause { OnErr result (Rose (K.faults out.old) (K.faults out.new)) }
+    ensures emptied { OnOk result (strip.new ≡ []) }
+{
+    put_all(out, strip.bytes())?;
+    strip.clear();
+    Ok(())
+}
+
+/// Writes what a strip holds, if it has no room for so many bytes more.
+#[tactic(auto, using(crate::proofs::Strips::strips))]
+#[inline(always)]
+fn make_room<K: Sink>(out: &mut K, strip: &mut Strip, count: usize) -> Result<(), Failed>
+    requires { count ≤ ROOM }
+    ensures gathers { Gathers (K.holds out.old) (K.holds out.new) strip.old strip.new
+        result ([]) }
+    ensures later { K.faults out.old ≤ K.faults out.new }
+    ensures cause { OnErr result (Rose (K.faults out.old) (K.faults out.new)) }
+    ensures room { OnOk result (length strip.new + count ≤ ROOM) }
+{
+    if strip.len() + count > ROOM {
+        put_strip(out, strip)?;
+    }
+    Ok(())
+}
+
+/// Writes a byte.
+#[tactic(auto, using(crate::proofs::Strips::strips))]
+#[inline(always)]
+pub(crate) fn put_byte<K: Sink>(out: &mut K, strip: &mut Strip, byte: u8) -> Result<(), Failed>
+    ensures gathers { Gathers (K.holds out.old) (K.holds out.new) strip.old strip.new
+        result (byte ∷ []) }
+    ensures later { K.faults out.old ≤ K.faults out.new }
+    ensures cause { OnErr result (Rose (K.faults out.old) (K.faults out.new)) }
+{
+    make_room(out, strip, 1)?;
+    strip.push(byte);
+    Ok(())
+}
+
+/// Writes a text that is longer than a strip.
+#[tactic(auto, using(crate::proofs::Strips::strips))]
+fn put_long<K: Sink>(out: &mut K, strip: &mut Strip, text: &[u8]) -> Result<(), Failed>
+    ensures gathers { Gathers (K.holds out.old) (K.holds out.new) strip.old strip.new
+        result (text.now) }
+    ensures later { K.faults out.old ≤ K.faults out.new }
+    ensures cause { OnErr result (Rose (K.faults out.old) (K.faults out.new)) }
+{
+    put_strip(out, strip)?;
+    put_all(out, text)
+}
+
+/// Writes a text as it is.
+#[tactic(auto, using(crate::proofs::Strips::strips))]
+pub(crate) fn put_text<K: Sink>(out: &mut K, strip: &mut Strip, text: &[u8]) -> Result<(), Failed>
+    ensures gathers { Gathers (K.holds out.old) (K.holds out.new) strip.old strip.new
+        result (text.now) }
+    ensures later { K.faults out.old ≤ K.faults out.new }
+    ensures cause { OnErr result (Rose (K.faults out.old) (K.faults out.new)) }
+{
+    if text.len() > ROOM {
+        return put_long(out, strip, text);
+    }
+    make_room(out, strip, text.len())?;
+    strip.add(text);
+    Ok(())
+}
+
+/// Writes a number in decimal digits.
+#[tactic(auto, using(crate::proofs::Strips::strips))]
+pub(crate) fn put_number<K: Sink>(out: &mut K, strip: &mut Strip, number: u64) -> Result<(), Failed>
+    ensures gathers { Gathers (K.holds out.old) (K.holds out.new) strip.old strip.new
+        result (decimal number) }
+    ensures later { K.faults out.old ≤ K.faults out.new }
+    ensures cause { OnErr result (Rose (K.faults out.old) (K.faults out.new)) }
+{
+    make_room(out, strip, DIGITS)?;
+    strip.number(number);
+    Ok(())
+}
+
+/// Spells bytes that a strip has room for.
+#[tactic(auto, using(crate::proofs::Strips::strips))]
+#[inline(always)]
+fn put_part<K: Sink>(out: &mut K, strip: &mut Strip, bytes: &[u8]) -> Result<(), Failed>
+    requires { 2 * length bytes.now ≤ ROOM }
+    ensures gathers { Gathers (K.holds out.old) (K.holds out.new) strip.old strip.new
+        result (flat_map hex_byte bytes.now) }
+    ensures later { K.faults out.old ≤ K.faults out.new }
+    ensures cause { OnErr result (Rose (K.faults out.old) (K.faults out.new)) }
+{
+    make_room(out, strip, 2 * bytes.len())?;
+    strip.digits(bytes);
+    Ok(())
+}
+
+#[tactic(auto, using(crate::proofs::Strips::parts))]
+fn put_digits<K: Sink>(out: &mut K, strip: &mut Strip, bytes: &[u8]) -> Result<(), Failed>
+    ensures gathers { Gathers (K.holds out.old) (K.holds out.new) strip.old strip.new
+        result (flat_map hex_byte bytes.now) }
+    ensures later { K.faults out.old ≤ K.faults out.new }
+    ensures cause { OnErr result (Rose (K.faults out.old) (K.faults out.new)) }
+{
+    let mut done = 0;
+    while done < bytes.len() {
+        let end = bytes.len().min(done + PART);
+        put_part(out, strip, &bytes[done..end])?;
+        done = end;
+    }
+    Ok(())
+}
+
+/// Writes bytes as digits, or a dot if there are none.
+pub(crate) fn put_hex<K: Sink>(out: &mut K, strip: &mut Strip, bytes: &[u8]) -> Result<(), Failed>
+    ensures gathers { Gathers (K.holds out.old) (K.holds out.new) strip.old strip.new
+        result (hex_text bytes.now) }
+    ensures later { K.faults out.old ≤ K.faults out.new }
+    ensures cause { OnErr result (Rose (K.faults out.old) (K.faults out.new)) }
+{
+    if bytes.is_empty() {
+        put_byte(out, strip, b'.')
+    } else {
+        put_digits(out, strip, bytes)
+    }
+}
