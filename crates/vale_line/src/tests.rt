@@ -10,6 +10,7 @@ use nm_frag::slots;
 use nm_region::{Buf, Region};
 use nm_types::{LeaseId, PortId};
 use std::alloc::Global;
+use std::collections::VecDeque;
 use std::process::Abort;
 
 /// A frame of three slots.
@@ -115,21 +116,21 @@ fn frames_in_lease_order(rt: HostRuntime) {
 }
 
 /// A frame of 14 bytes in each buffer.
-fn frames_of(mut bufs: Vec<Buf>, mut gots: Vec<Got>) -> Vec<Got>
+fn frames_of(bufs: Vec<Buf>, mut gots: Vec<Got>) -> Vec<Got>
     requires none { gots.items ≡ [] }
     requires room { length bufs.items ≤ vec_capacity gots }
     ensures buffers { buffers_of result.items ≡ bufs.items }
     ensures single { All IsSingle result.items }
 {
-    bufs.reverse();
-    while let Some(buf) = bufs.pop() {
+    let mut rest = VecDeque::from_vec(bufs);
+    while let Some(buf) = rest.pop_front() {
         gots.push_reserved(Got {
             buf,
             len: 14,
             rest: 0,
         });
     }
-    bufs.destroy_empty();
+    rest.into_vec().destroy_empty();
     gots
 }
 
