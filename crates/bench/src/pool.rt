@@ -9,11 +9,14 @@ use nm_region::{Buf, Region};
 use nm_types::NoMemory;
 use std::alloc::Global;
 use std::io::{self, Print};
-use std::time::{Clock, Instant};
+use std::time::{Clock, Duration, Instant};
 
 const FEW: u32 = 64;
 
 const MANY: u32 = 65_536;
+
+/// How often a region is opened. The first time the memory is new to the process.
+const OPENINGS: u32 = 4;
 
 /// All free buffers, in one call.
 fn take_all(region: &Region, pool: &mut Pool, alloc: Global) -> Result<Vec<Buf>, TakeFault>
@@ -99,13 +102,31 @@ fn play_all(alloc: Global, buffers: u32) -> u32
     }
 }
 
+/// How long a region of so many buffers takes to open. Their memory is not touched.
+fn time_opening<R: Clock>(rt: &R, alloc: Global, buffers: u32) -> io::Result<Duration>
+    requires { IsPoolSize buffers }
+{
+    let start = Instant::now(rt)?;
+    let Ok((region, all)) = Region::new(alloc, buffers) else {
+        return Err(io::ErrorKind::OutOfMemory.into());
+    };
+    let time = start.elapsed(rt);
+    region.close(all);
+    time
+}
+
 /// Opens a small pool, takes all buffers and gives them back, and prints how many there were, or, if
-/// `is_timed`, one of 65,536 buffers with the milliseconds that it took, and those of 10 million
-/// look-ups of places in a hold with 1, 64 and 1,000 ports.
+/// `is_timed`, the microseconds that openings of a region of 65,536 buffers took, the milliseconds
+/// that a pool of as many took, and those of 10 million look-ups of places in a hold with 1, 64 and
+/// 1,000 ports.
 pub fn run<R: Print + Clock>(rt: &R, alloc: Global, is_timed: bool) -> io::Result<()> {
     if !is_timed {
         let free = play_all(alloc, FEW);
         return println!(rt; "pool: {free} buffers opened, taken and given back");
+    }
+    for turn in 1..=OPENINGS {
+        let micros = time_opening(rt, alloc, MANY)?.as_micros();
+        println!(rt; "region: opening {turn} of {MANY} buffers took {micros} us")?;
     }
     let start = Instant::now(rt)?;
     let free = play_all(alloc, MANY);

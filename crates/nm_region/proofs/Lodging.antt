@@ -1,14 +1,18 @@
--- `lodge` and `dislodge` at a call, for room of c bytes. Assumes `Logic`.
-use Rattle.std.proofs.Common.{◌≡◌, ℕ, ◌+◌, ◌-◌, ◌*◌, ◌^◌, ◌<◌, ◌≤◌, List, [], ◌∷◌, length, true, refl, sym, ap, ◌∙◌, arith, Vec}
-use Rattle.std.proofs.lemmas.Bool.{ne_eqb, not_from_false}
+-- `lodge` and `dislodge` at a call, for room of c bytes, and that two vectors that have room lie apart.
+-- Assumes `Logic`, and `apart` a `Model` too.
+use Rattle.std.proofs.Common.{◌≡◌, ◌≢◌, ℕ, ◌+◌, ◌-◌, ◌*◌, ◌^◌, ◌<◌, ◌≤◌, List, [], ◌∷◌, length, true, nat_eq, inl, inr, refl, sym, ap, ◌∙◌, arith, Vec}
+use Rattle.std.specs.Prelude.{◌⊎◌}
+use Rattle.std.proofs.lemmas.Bool.{cases_Bool, ne_eqb, not_from_false}
+use Rattle.std.proofs.lemmas.Bool.Decides.{nat_tests}
 use native.Mathlib.Nat.{add-zero}
 use seplogic.Ra.Ura.{Ura}
 use mir.Syntax.{w8, w64, ty_int}
 use mir.Val.{Val, vint, vptr}
 use base.Fraction.{full_share}
-use base.Logic.{SProp, ent, ex, guard, emp, id⊢}
-use base.Fml.{ftrue, fsep, feq, flft, fat, froom}
+use base.Logic.{SProp, ent, sep, ex, guard, emp, via, never, never_e, id⊢}
+use base.Fml.{Fml, ftrue, fsep, feq, flft, fat, froom}
 use prog.Memory.{Memory}
+use prog.Model.{Model}
 use prog.Routine.{Routine}
 use contract.Monad.{Fun, fact, fact_i}
 use contract.BorrowLft.{◌⊑◌, ⊑_refl}
@@ -25,7 +29,7 @@ use denote.Plain.{uint_out}
 use denote.Param.{param}
 use denote.Param.Laws.{Laws, of_field}
 use denote.Param.Shared.{copy_shared}
-use denote.RawPtr.{Ptr, block_ptr, lies_at, in_block}
+use denote.RawPtr.{Ptr, block_ptr, null_ptr, block_of, count_of, lies_at, in_block, in_a_block}
 use denote.RawPtr.Room.{past, past_bytes, room_glue}
 use denote.Steps.{only, nothing, heard}
 use denote.Struct.Field.{u8-field}
@@ -52,6 +56,10 @@ Housed = V.the_row u8 L.the_row ghosts
 
 abbrev pub housed-laws : Laws Housed
 housed-laws = vec_laws.the_row_laws u8 L.the_row ghosts byte_laws lodged-laws.the_row_laws
+
+-- the memory of a vector, which it has unless the capacity is 0
+abbrev memory : Ptr → ℕ → ℕ → List ℕ → Fml
+memory p n c xs = in_block p (owns_if (has_block c) (block_with_items (λ _ _. ftrue) u8 p n c xs))
 
 live : (c : ℕ) → 0 < c → has_block c ≡ true
 live c h = not_from_false _ (ne_eqb c 0 (λ e. omega arith))
@@ -83,6 +91,13 @@ module _ {M : Type 1} {𝓤 : Ura M} (𝓛 : Logic 𝓤) where
       rewrite ! 1 (λ (k : ℕ). ‵ (froom (bytes_of (c - n)) b k)) far refl $
       use2 𝓛 (‵ (froom (bytes_of (n + (c - n))) b o)) (room_glue 𝓛 (ty_int w8) n (c - n) b o) $
       rewrite ! 0 (λ (k : ℕ). ‵ (froom (bytes_of k) b o)) sum refl $ done !)
+
+  -- whatever is written there, a vector's memory is room
+  memory_room : (b o n c : ℕ) (xs : List ℕ) → n ≤ c → 0 < c → ent 𝓤 (sem 𝓛 (memory (block_ptr b o) n c xs)) (H.room (bytes_of c) b o)
+  memory_room b o n c xs le filled =
+      qed 𝓛 (‵ (memory (block_ptr b o) n c xs) ∷ []) ∵
+      rewrite ! 0 (λ y. ‵ (owns_if y (block_with_items (λ _ _. ftrue) u8 (block_ptr b o) n c xs))) (live c filled) refl $
+      fsplit3 ! $ keep ! (0 ∷ 1 ∷ []) $ fjoin ! $ by ! (all_room b o n c xs le)
 
 module _ {M : Type 1} {𝓤 : Ura M} (𝓛 : Logic 𝓤) (at_mem : Memory → SProp 𝓤) (run : Routine → Fun 𝓤) where
   open 𝓛 use {H}
@@ -136,14 +151,45 @@ module _ {M : Type 1} {𝓤 : Ura M} (𝓛 : Logic 𝓤) (at_mem : Memory → SP
     pub dislodge_gives : (b o c : ℕ) → d.cap ≡ c → 0 < c → d.ptr ≡ block_ptr b o → (v : Val)
         → ent 𝓤 (Dislodges.post at_dislodge v) (H.⇛ (guard 𝓤 ((v ≡ vint w64 d.len) × (d.len < 2 ^ 64)) (H.room (bytes_of c) b o)))
     dislodge_gives b o c is_c filled at v =
-        let Blk = λ (p : Ptr). block_with_items (λ _ _. ftrue) u8 p d.len d.cap d.items in
         let some_cap : 0 < d.cap = omega (arith, is_c) in
         qed 𝓛 (raw (Dislodges.post at_dislodge v) ∷ []) ∵ updating ! $
         use1 𝓛 (later (some (λ (r : ℕ). ((‵ (flft [] full_share) ⊛ ‵ ftrue) ⊛ ‵ (usize.own_val r (v ∷ [])))
         ⊛ some (λ (ws : Unit {0} × Unit {0}). ‵ (fsep (left ((V.the_row (param 0 u8) L.the_row ghosts).exit no) d ws.0) ftrue) ⊛ raw (fact 𝓤 (r ≡ d.len)) ⊛ ‵ (lodged u8 d.ptr d.len d.cap d.items))))) (id⊢ 𝓤 _) $ await ! tt $ pick ! (λ r.
         split ! $ move ! (1 ∷ []) $ pick ! (λ ws. split3 ! $ drop ! $ heard ! (r ≡ d.len) (λ is. move ! (1 ∷ []) $ split ! $ drop ! $ fsplit ! $ feq_l ! (λ e. flt_l ! (λ f. now ! $
         check ! (ap only e ∙ ap (vint w64) is, omega arith) $ fsplit ! $ drop ! $
-        rewrite ! 0 (λ (p : Ptr). ‵ (in_block p (owns_if (has_block d.cap) (Blk p)))) at refl $
-        rewrite ! 0 (λ y. ‵ (owns_if y (Blk (block_ptr b o)))) (live d.cap some_cap) refl $ fsplit3 ! $ keep ! (0 ∷ 1 ∷ []) $ fjoin ! $
-        use1 𝓛 (‵ (froom (bytes_of d.cap) b o)) (all_room 𝓛 b o d.len d.cap d.items d.ok.1) $
+        rewrite ! 0 (λ (p : Ptr). ‵ (memory p d.len d.cap d.items)) at refl $
+        use1 𝓛 (‵ (froom (bytes_of d.cap) b o)) (memory_room 𝓛 b o d.len d.cap d.items d.ok.1 some_cap) $
         rewrite ! 0 (λ (k : ℕ). ‵ (froom (bytes_of k) b o)) is_c refl $ done !)))))
+
+same_or_not : (p q : Ptr) → (p ≡ q) ⊎ (p ≢ q)
+same_or_not (block_ptr b o) (block_ptr b' o') = elim (cases_Bool (nat_eq b b')) [
+  | inl e ↦ elim (cases_Bool (nat_eq o o')) [
+    | inl f ↦ (let here : b ≡ b' = grind (arith, nat_tests) in let there : o ≡ o' = grind (arith, nat_tests) in inl (λ i. block_ptr (here i) (there i)))
+    | inr f ↦ (let there : o ≢ o' = grind (arith, nat_tests) in inr (λ s. there (ap count_of s)))
+  ]
+  | inr e ↦ (let here : b ≢ b' = grind (arith, nat_tests) in inr (λ s. here (ap block_of s)))
+]
+same_or_not (block_ptr b o) null_ptr = inr (λ s. cc)
+same_or_not null_ptr (block_ptr b o) = inr (λ s. cc)
+same_or_not null_ptr null_ptr = inl refl
+
+module _ {M : Type 1} {𝓤 : Ura M} (𝓛 : Logic 𝓤) (𝓜 : Model 𝓤 𝓛.H) (d e : Vec ℕ Lodged) (us vs : List Val) (filled : 0 < d.cap) (filled' : 0 < e.cap) where
+  abbrev Two : SProp 𝓤
+  Two = sep 𝓤 (sem 𝓛 (Housed.own_val d us)) (sem 𝓛 (Housed.own_val e vs))
+
+  -- no byte is room of two
+  clash : d.ptr ≡ e.ptr → ent 𝓤 Two (never 𝓤)
+  clash same =
+      qed 𝓛 (‵ (Housed.own_val d us) ∷ ‵ (Housed.own_val e vs) ∷ []) ∵ fsplit ! $ drop ! $ fsplit ! $ drop ! $
+      in_a_block ! d.ptr (λ p. memory p d.len d.cap d.items) (id⊢ 𝓤 (never 𝓤)) (λ b o at.
+      use1 𝓛 (‵ (froom (bytes_of d.cap) b o)) (memory_room 𝓛 b o d.len d.cap d.items d.ok.1 filled) $ move ! (1 ∷ []) $ fsplit ! $ drop ! $ fsplit ! $ drop ! $
+      rewrite ! 0 (λ (p : Ptr). ‵ (memory p e.len e.cap e.items)) (sym same ∙ at) refl $
+      use1 𝓛 (‵ (froom (bytes_of e.cap) b o)) (memory_room 𝓛 b o e.len e.cap e.items e.ok.1 filled') $
+      by ! (𝓜.room-room (bytes_of e.cap) (bytes_of d.cap) b o o o (omega arith, omega arith) (omega arith, omega arith)))
+
+  -- two vectors with room begin at two places
+  pub apart : ent 𝓤 Two (fact 𝓤 (d.ptr ≢ e.ptr))
+  apart = elim (same_or_not d.ptr e.ptr) [
+    | inl s ↦ via 𝓤 (never 𝓤) (clash s) (never_e 𝓤 _)
+    | inr n ↦ fact_i 𝓤 (d.ptr ≢ e.ptr) Two n
+  ]

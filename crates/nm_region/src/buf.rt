@@ -1,4 +1,4 @@
-ghost use Rattle.std.specs.Prelude.{◌≡◌, ◌≤◌, [], length, take};
+ghost use Rattle.std.specs.Prelude.{◌≡◌, ◌≢◌, ◌≤◌, [], length, take};
 ghost use Rattle.std.specs.Borrow.{sem};
 ghost use Rattle.std.specs.Vec.{vec_capacity, vec_ptr};
 ghost use denote.RawPtr.{block_of};
@@ -88,6 +88,22 @@ fn clear_between(bytes: &mut [u8], from: usize, to: usize)
     ensures { bytes.new ≡ cleared_between from to bytes.old }
 {
     bytes[from..to].fill(0);
+}
+
+/// Tells that two parts do not begin at one place, since each owns its memory.
+fn lie_apart(a: &mut Vec<u8, Lodged>, b: &mut Vec<u8, Lodged>)
+    requires room { (vec_capacity a.old ≡ 2048) × (vec_capacity b.old ≡ 2048) }
+    ensures apart { vec_ptr a.old ≢ vec_ptr b.old }
+    ensures kept { (a.new ≡ a.old) × (b.new ≡ b.old) }
+{}
+
+/// Tells that two buffers of one region have different indices, without a look at them: each owns a
+/// part of the region's block, and no byte has two owners. When it runs it does nothing.
+pub fn distinct(a: &mut Buf, b: &mut Buf)
+    ensures apart { a.old.region ≡ b.old.region → a.old.index ≢ b.old.index }
+    ensures kept { (a.new ≡ a.old) × (b.new ≡ b.old) }
+{
+    lie_apart(&mut a.bytes, &mut b.bytes);
 }
 
 impl Buf {

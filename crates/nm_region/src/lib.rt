@@ -7,5 +7,5 @@ mod region;
 #[cfg(test)]
 mod tests;
 
-pub use buf::Buf;
+pub use buf::{Buf, distinct};
 pub use region::Region;
