@@ -1,0 +1,7 @@
+mod Cells
+mod Crosses
+mod Husks
+mod Lists
+mod Lodging
+mod Rounds
+mod Walks

@@ -1,0 +1,26 @@
+-- The two sides of a run.
+use Rattle.std.proofs.Common.{◌≡◌, ℕ, ◌+◌, ◌-◌, ◌<◌, ◌≤◌, inl, inr, length, arith, length-append}
+use denote.RawPtr.{Ptr}
+use Rattle.nm_reach.specs.Sides.{values_of, IsOneRun, IsRound, IsRun}
+use Rattle.nm_reach.specs.declared.sides.Sides.{Sides}
+
+within_of : (size start m n : ℕ) → IsOneRun size start m n → m + n ≤ size
+within_of size start m n (inl e) = omega (arith, e.0, e.1)
+within_of size start m n (inr e) = omega (arith, e.0, e.1)
+
+module _ {T : Type 0} {base : Ptr} {size start : ℕ} (s : Sides T) (r : IsRound base size start s) where
+  pub run_within : length (values_of s) ≤ size
+  run_within = omega (arith, within_of size start (length s.front.values) (length s.back.values) r.one, length-append s.front.values s.back.values)
+
+past_front : (size start m n k room len : ℕ) → IsOneRun size start m n → start < size → room ≡ size - start → k ≤ m + n → room ≤ k → len ≡ m → k ≡ m + (k - len)
+past_front size start m n k room len (inl e) w r h l same = omega (arith, e.0, e.1, w, r, h, l, same)
+past_front size start m n k room len (inr e) w r h l same = omega (arith, e.0, e.1, w, r, h, l, same)
+
+-- a place that is not before the end of the field is not in front
+pub after_front : {T : Type 0} (s : Sides T) → IsRun s → (k room : ℕ) → room ≡ s.front.size - s.front.at → k ≤ length (values_of s) → room ≤ k
+    → (len : ℕ) → len ≡ length s.front.values → k ≡ length s.front.values + (k - len)
+after_front s r k room e h l len same =
+    let m = length s.front.values in
+    let n = length s.back.values in
+    let h' : k ≤ m + n = omega (arith, h, length-append s.front.values s.back.values) in
+    past_front s.front.size s.front.at m n k room len r.one r.within e h' l same

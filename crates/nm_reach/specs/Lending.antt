@@ -1,0 +1,10 @@
+-- What cells are once one of them has been lent.
+use Rattle.std.specs.Prelude.{ℕ, slice_set}
+use Rattle.std.specs.Borrow.{Lends, MutBor, Fml, RattleType}
+use Rattle.nm_reach.specs.Cells.{Side}
+use Rattle.nm_reach.specs.contracts.stretch.Stretch.{the_row as stretch_row}
+
+-- the cell i ends with the value last written
+abbrev pub LendsCell : (R : RattleType) → MutBor (Side R.Denot) → ℕ → MutBor R.Denot → Fml
+LendsCell R s i r =
+    Lends (stretch_row R) R s r (λ w. record s.now { values = slice_set s.now.values i w })

@@ -1,0 +1,7 @@
+pub mod Cells
+pub mod Fields
+pub mod Kept
+pub mod Lending
+pub mod LendingRun
+pub mod Placed
+pub mod Sides

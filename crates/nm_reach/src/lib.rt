@@ -1,0 +1,13 @@
+//! Raw cells, and rights to circular runs of them.
+#![tactic(auto)]
+
+mod field;
+mod parts;
+mod reach;
+mod sides;
+mod stretch;
+#[cfg(test)]
+mod tests;
+
+pub use field::Field;
+pub use reach::Reach;

@@ -1,0 +1,97 @@
+ghost use Rattle.std.specs.Prelude.{◌≡◌, ◌∷◌, [], IfOk};
+
+use crate::Field;
+use nm_types::NoMemory;
+use std::alloc::Global;
+use std::test::Fail;
+
+fn is_sendable<T: Send>(_: &T) -> bool {
+    true
+}
+
+/// The values 10, 11, 12 and 13.
+fn four(alloc: Global) -> Result<Vec<u32>, NoMemory>
+    ensures { IfOk result (λ v. v.items ≡ 10 ∷ 11 ∷ 12 ∷ 13 ∷ []) }
+{
+    let mut values = Vec::with_capacity(alloc, 4)?;
+    values.push_reserved(10);
+    values.push_reserved(11);
+    values.push_reserved(12);
+    values.push_reserved(13);
+    Ok(values)
+}
+
+#[test]
+fn a_run_goes_round(rt: HostRuntime) -> Result<(), Fail> {
+    let values = four(rt.alloc())?;
+    let Ok((field, mut all)) = Field::new(values) else {
+        unreachable!();
+    };
+    assert!(rt; is_sendable(&all));
+    assert!(rt; is_sendable(&field));
+    let first = all.split_front(3);
+    assert_eq!(rt; first.start(), 0);
+    assert_eq!(rt; first.len(), 3);
+    assert_eq!(rt; all.start(), 3);
+    assert_eq!(rt; all.len(), 1);
+    all.join(first);
+    assert_eq!(rt; all.start(), 3);
+    assert_eq!(rt; *all.get(0), 13);
+    assert_eq!(rt; *all.get(1), 10);
+    let values = field.close(all);
+    assert!(rt; values[..] == [10, 11, 12, 13]);
+    Ok(())
+}
+
+#[test]
+fn a_write_is_found_where_it_was(rt: HostRuntime) -> Result<(), Fail> {
+    let values = four(rt.alloc())?;
+    let Ok((field, mut all)) = Field::new(values) else {
+        unreachable!();
+    };
+    let mut first = all.split_front(1);
+    *first.get_mut(0) = 20;
+    all.join(first);
+    *all.get_mut(3) += 1;
+    assert_eq!(rt; *all.get(0), 11);
+    let values = field.close(all);
+    assert!(rt; values[..] == [21, 11, 12, 13]);
+    Ok(())
+}
+
+/// A value that must be spent.
+struct Coin {
+    worth: u32,
+}
+
+fn spend(coin: Coin) -> u32 {
+    let Coin { worth } = coin;
+    worth
+}
+
+/// What all coins are worth.
+fn spend_all(mut coins: Vec<Coin>) -> u32 {
+    let mut sum: u32 = 0;
+    while let Some(coin) = coins.pop() {
+        sum = sum.saturating_add(spend(coin));
+    }
+    coins.destroy_empty();
+    sum
+}
+
+#[test]
+fn values_that_must_be_spent_come_back(rt: HostRuntime) -> Result<(), Fail> {
+    let mut coins = Vec::with_capacity(rt.alloc(), 2)?;
+    coins.push_reserved(Coin { worth: 3 });
+    coins.push_reserved(Coin { worth: 4 });
+    let (field, mut all) = match Field::new(coins) {
+        Ok(made) => made,
+        Err(_kept) => unreachable!(),
+    };
+    let first = all.split_front(1);
+    assert_eq!(rt; first.get(0).worth, 3);
+    all.join(first);
+    assert_eq!(rt; all.get(1).worth, 3);
+    assert_eq!(rt; spend_all(field.close(all)), 7);
+    Ok(())
+}
