@@ -1,5 +1,5 @@
 -- Two buffers that have changed places.
-use Rattle.std.proofs.Common.{ℕ, zero, suc, ◌≡◌, ◌≢◌, ◌<◌, true, false, nat_eq, if◌then◌else◌, List, length, map, slice_set, Option, Some, None, option_map, inl, inr, refl, sym, ◌∙◌, ap, arith}
+use Rattle.std.proofs.Common.{ℕ, zero, suc, ◌≡◌, ◌≢◌, ◌<◌, true, false, nat_eq, if◌then◌else◌, List, length, map, slice_set, Option, Some, None, option_map, inl, inr, refl, sym, ◌∙◌, ap, subst, arith}
 use Rattle.std.proofs.lemmas.Bool.{cases_Bool}
 use Rattle.std.proofs.lemmas.Bool.Decides.{nat_tests}
 use Rattle.std.proofs.lemmas.List.{get_or-set_same, get_or-set_other, length-set}
@@ -8,6 +8,7 @@ use Rattle.nm_types.specs.declared.place.Place.{Place}
 use Rattle.nm_types.specs.Places.{Held, held_at, is_same_place}
 use Rattle.nm_types.specs.Exchange.{exchanged, swapped}
 use Rattle.nm_types.proofs.Exchanges.{swapped-first, swapped-second, swapped-other, held_at-exchanged}
+use Rattle.nm_hold.specs.declared.standing.Home.{Home}
 use Rattle.nm_hold.specs.declared.standing.Standing.{Standing}
 use Rattle.nm_hold.specs.declared.table.PortTable.{PortTable}
 use Rattle.nm_hold.specs.Standings.{buf_in}
@@ -212,6 +213,25 @@ put_both place idx other was tables = map (put_in other was) (map (put_in place 
 pub ports_of-put_both : (place : Place) (idx : ℕ) (other : Place) (was : ℕ) (tables : List PortTable) → ports_of (put_both place idx other was tables) ≡ ports_of tables
 ports_of-put_both place idx other was tables = ports_of-put other was (map (put_in place idx) tables) ∙ ports_of-put place idx tables
 
+-- a buffer that changes places with itself keeps each number
+pub numbers_stay : (cells : List (Option Standing)) (tables : List PortTable) (place : Place) (idx : ℕ) (t : Standing) → All IsTable tables → IsTied cells tables → number_at tables place ≡ idx
+    → cell_at cells idx ≡ Some t → (q : Place) → number_at (put_both place idx t.home.place idx tables) q ≡ number_at tables q
+numbers_stay cells tables place idx t all tied held there q =
+    let right = tied.standing idx t there in
+    let has_first = has_place-from_number tables place (omega (arith, held, right.low)) in
+    let has : has_place (ports_of (map (put_in place idx) tables)) t.home.place ≡ true = rw (ports_of-put place idx tables) (has_place-from_number tables t.home.place (omega (arith, right.number, right.low))) in
+    put_number t.home.place idx (map (put_in place idx) tables) (put_are_tables place idx tables all) has q
+    ∙ (ap (λ (n : ℕ). if is_same_place t.home.place q then idx else n) (put_number place idx tables all has_first q) ∙ chosen)
+  where
+    chosen : (if is_same_place t.home.place q then idx else if is_same_place place q then idx else number_at tables q) ≡ number_at tables q
+    chosen = elim (cases_Bool (is_same_place t.home.place q)) [
+      | inl e ↦ rw e (sym (ap (number_at tables) (sym (same_place-is t.home.place q e)) ∙ (tied.standing idx t there).number))
+      | inr e ↦ elim (cases_Bool (is_same_place place q)) [
+        | inl f ↦ rw (e, f) (sym (ap (number_at tables) (sym (same_place-is place q f)) ∙ held))
+        | inr f ↦ rw (e, f) refl
+      ]
+    ]
+
 pub exchange_made : (cells : List (Option Standing)) (tables : List PortTable) (place : Place) (idx : ℕ) (s t : Standing) → All IsTable tables → IsTied cells tables → 0 < number_at tables place
     → cell_at cells (number_at tables place) ≡ Some s → cell_at cells idx ≡ Some t → idx ≢ number_at tables place
     → Exchange cells tables (put_both place idx t.home.place (number_at tables place) tables) place idx s t
@@ -227,3 +247,48 @@ exchange_made cells tables place idx s t all tied held here there other =
       numbers = λ q. put_number t.home.place (number_at tables place) (map (put_in place idx) tables) (put_are_tables place idx tables all) has q
           ∙ ap (λ (n : ℕ). if is_same_place t.home.place q then number_at tables place else n) (put_number place idx tables all (has_place-from_number tables place held) q);
     }
+
+-- what an exchange makes of cells and tables
+pub record Done (cells : List (Option Standing)) (tables new : List PortTable) (after : List (Option Standing)) (place : Place) (idx : ℕ) : Type 0 where
+  pub count : length after ≡ length cells
+  pub all : All IsTable new
+  pub ports : ports_of new ≡ ports_of tables
+  pub tied : IsTied after new
+  pub places : (q : Place) → held_at (places_in after) q ≡ held_at (exchanged (places_in cells) place idx) q
+  pub bufs : (i : ℕ) → buf_in (cell_at after i) ≡ buf_in (cell_at cells i)
+  pub buffers : map buf_in after ≡ map buf_in cells
+  pub named : (i : ℕ) → is_named_in (cell_at after i) ≡ is_named_in (cell_at cells (swapped (number_at tables place) idx i))
+
+-- by the steps of the call: `two` is what stands at the index once the home at the other one is written
+pub done : (cells : List (Option Standing)) (tables new : List PortTable) (place : Place) (idx was : ℕ) (s t two : Standing) (first second : Home) → All IsTable tables → IsTied cells tables → was ≡ number_at tables place
+    → cell_at cells was ≡ Some s → cell_at cells idx ≡ Some t → first ≡ t.home → second ≡ s.home → cell_at (slice_set cells was (Some (record { home = first; buf = s.buf }))) idx ≡ Some two → (was ≡ idx → ⊥)
+    → new ≡ map (put_in t.home.place was) (map (put_in place idx) tables)
+    → Done cells tables new (slice_set (slice_set cells was (Some (record { home = first; buf = s.buf }))) idx (Some (record { home = second; buf = two.buf }))) place idx
+done cells tables new place idx was s t two first second all tied number s_there t_there to_there to_here read differs are =
+    let other : idx ≢ was = (λ e. differs (sym e)) in
+    let low = (tied.standing was s s_there).low in
+    let some : 0 < number_at tables place = omega (arith, number, low) in
+    let between : Standing = record { home = first; buf = s.buf } in
+    let still : cell_at (slice_set cells was (Some between)) idx ≡ Some t = get_or-set_other cells was idx (Some between) None other ∙ t_there in
+    let is_t : two ≡ t = some_is two t (sym read ∙ still) in
+    let made = exchange_made cells tables place idx s t all tied some (ap (cell_at cells) (sym number) ∙ s_there) t_there (λ e. other (e ∙ sym number)) in
+    let both = put_both place idx t.home.place (number_at tables place) tables in
+    let same : new ≡ both = are ∙ ap (λ (n : ℕ). map (put_in t.home.place n) (map (put_in place idx) tables)) number in
+    let after = moved cells tables both place idx s t made in
+    let cells_are : slice_set (slice_set cells was (Some (record { home = first; buf = s.buf }))) idx (Some (record { home = second; buf = two.buf })) ≡ after =
+    ap (λ (h : Home). slice_set (slice_set cells was (Some (record { home = h; buf = s.buf }))) idx (Some (record { home = second; buf = two.buf }))) to_there
+    ∙ (ap (λ (h : Home). slice_set (slice_set cells was (Some (record { home = t.home; buf = s.buf }))) idx (Some (record { home = h; buf = two.buf }))) to_here
+    ∙ (ap (λ (u : Standing). slice_set (slice_set cells was (Some (record { home = t.home; buf = s.buf }))) idx (Some (record { home = s.home; buf = u.buf }))) is_t
+    ∙ ap (λ (n : ℕ). slice_set (slice_set cells n (Some (record { home = t.home; buf = s.buf }))) idx (Some (record { home = s.home; buf = t.buf }))) number)) in
+    let tables_are : All IsTable both = put_are_tables t.home.place (number_at tables place) (map (put_in place idx) tables) (put_are_tables place idx tables all) in
+    let result : Done cells tables both after place idx = record {
+      count = count_moved cells tables both place idx s t made;
+      all = tables_are;
+      ports = ports_of-put_both place idx t.home.place (number_at tables place) tables;
+      tied = tied_moved cells tables both place idx s t made;
+      places = places_moved cells tables both place idx s t made;
+      bufs = bufs_moved cells tables both place idx s t made;
+      buffers = all_moved cells tables both place idx s t made;
+      named = named_moved cells tables both place idx s t made;
+    } in
+    subst (λ (cs : List (Option Standing)). Done cells tables new cs place idx) (sym cells_are) (subst (λ (ts : List PortTable). Done cells tables ts after place idx) (sym same) result)

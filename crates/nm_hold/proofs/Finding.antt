@@ -1,18 +1,18 @@
 -- The table of a port, found in its row.
-use Rattle.std.proofs.Common.{ℕ, zero, suc, ◌≡◌, ◌≢◌, ◌<◌, ◌≤◌, Bool, true, false, nat_eq, if◌then◌else◌, List, [], ◌∷◌, ◌++◌, length, map, find, get_or, slice_set, Option, Some, None, inl, inr, refl, sym, ◌∙◌, ap, arith}
+use Rattle.std.proofs.Common.{ℕ, zero, suc, ◌≡◌, ◌≢◌, ◌<◌, ◌≤◌, Bool, true, false, nat_eq, if◌then◌else◌, List, [], ◌∷◌, ◌++◌, length, map, find, get_or, slice_set, Option, Some, None, inl, inr, refl, sym, ◌∙◌, ap, subst, arith}
 use Rattle.std.specs.Prelude.{◌||◌, All, IfSome, option_map, is_some}
 use Rattle.std.specs.List.{AllByRecursion}
 use Rattle.std.specs.Option.{option_map_or}
 use Rattle.std.proofs.lemmas.Bool.{cases_Bool}
 use Rattle.std.proofs.lemmas.Bool.Decides.{nat_tests}
-use Rattle.std.proofs.lemmas.List.{get_or_read, get_or-set_same, get_or-set_other}
+use Rattle.std.proofs.lemmas.List.{get_or_read, get_or-set_same, get_or-set_other, set-set}
 use Rattle.std.proofs.lemmas.List.Elements.{recursion_from_All}
 use Rattle.nm_types.specs.declared.place.Place.{Place}
 use Rattle.nm_hold.specs.declared.table.PortTable.{PortTable}
 use Rattle.nm_hold.specs.Offsets.{offset_of, has_port, ArePortsOnce}
 use Rattle.nm_hold.specs.Holds.{port_of}
 use Rattle.nm_hold.specs.Tables.{IsTable, ports_of, number_in, number_at, put_in}
-use Rattle.nm_hold.specs.Indexed.{tables_present, row_at, port_in, port_at, IsIndexed, AreKeys}
+use Rattle.nm_hold.specs.Indexed.{tables_present, row_at, port_in, port_at, number_in_row, IsIndexed, AreKeys}
 use Rattle.nm_hold.proofs.Spots.{nat_eq-is, offset-port}
 use Rattle.nm_hold.proofs.Numbers.{without}
 
@@ -223,6 +223,42 @@ indexed-put rows index at place number is = indexed-same rows (slice_set rows at
     same (s ∷ rows) zero (suc other) = refl
     same (s ∷ rows) (suc at) zero = refl
     same (s ∷ rows) (suc at) (suc other) = same rows at other
+
+-- two numbers put at places of one port
+pub put-rows : (rows : List (Option PortTable)) (index : ℕ → Option ℕ) (at : ℕ) (place other : Place) (number was : ℕ) → IsIndexed rows index → index (port_of place) ≡ Some at → port_of place ≡ port_of other
+    → IsIndexed (slice_set rows at (option_map (put_in other was) (option_map (put_in place number) (row_at rows at)))) index
+    × (map (put_in other was) (map (put_in place number) (tables_present rows)) ≡ tables_present (slice_set rows at (option_map (put_in other was) (option_map (put_in place number) (row_at rows at)))))
+put-rows rows index at place other number was is found same =
+    let there : port_at rows at ≡ Some (port_of place) = is.there at (port_of place) found in
+    let within = within_rows rows at (port_of place) there in
+    let row = option_map (put_in place number) (row_at rows at) in
+    let between = slice_set rows at row in
+    let indexed : IsIndexed between index = indexed-put rows index at place number is in
+    let still : row_at between at ≡ row = get_or-set_same rows at row None within in
+    let one : slice_set between at (option_map (put_in other was) (row_at between at)) ≡ slice_set rows at (option_map (put_in other was) row) =
+    ap (λ (r : Option PortTable). slice_set between at (option_map (put_in other was) r)) still ∙ set-set rows at row (option_map (put_in other was) row) in
+    let first = put-row rows at place number (apart-indexed rows index is) there in
+    let second = put-row between at other was (apart-indexed between index indexed) (indexed.there at (port_of other) (ap index (sym same) ∙ found)) in (
+      subst (λ (new : List (Option PortTable)). IsIndexed new index) one (indexed-put between index at other was indexed),
+      ap (map (put_in other was)) first ∙ (second ∙ ap tables_present one),
+    )
+
+pub put-none : (rows : List (Option PortTable)) (index : ℕ → Option ℕ) (place other : Place) (number was : ℕ) → IsIndexed rows index → index (port_of place) ≡ None → port_of place ≡ port_of other
+    → map (put_in other was) (map (put_in place number) (tables_present rows)) ≡ tables_present rows
+put-none rows index place other number was is none same =
+    let first = put-absent rows place number (no_index rows index (port_of place) is none) in
+    let second = put-absent rows other was (no_index rows index (port_of other) is (ap index (sym same) ∙ none)) in
+    ap (map (put_in other was)) first ∙ second
+
+-- the number at a place, in the row of its port
+pub number-row : (rows : List (Option PortTable)) (index : ℕ → Option ℕ) (at : ℕ) (place : Place) → IsIndexed rows index → index (port_of place) ≡ Some at → number_in_row (row_at rows at) place ≡ number_at (tables_present rows) place
+number-row rows index at place is found =
+    let apart = apart-indexed rows index is in
+    let row = find-row rows at (port_of place) apart (is.there at (port_of place) found) in
+    ap (λ (o : Option PortTable). number_in_row o place) (sym row) ∙ sym (number-found (tables_present rows) place (once-apart rows apart))
+
+pub number-none : (rows : List (Option PortTable)) (index : ℕ → Option ℕ) (place : Place) → IsIndexed rows index → index (port_of place) ≡ None → number_at (tables_present rows) place ≡ 0
+number-none rows index place is none = number-absent (tables_present rows) place (no_index rows index (port_of place) is none)
 
 -- one more table, behind the others
 pub present-push : (rows : List (Option PortTable)) (t : PortTable) → tables_present (rows ++ Some t ∷ []) ≡ tables_present rows ++ t ∷ []

@@ -3,8 +3,11 @@ pub mod Exchanging
 pub mod Finding
 pub mod Naming
 pub mod Numbers
+pub mod Owning
+pub mod Renamed
 pub mod Shown
 pub mod Slotted
 pub mod Spots
 pub mod Steps
+pub mod Takes
 pub mod Tied

@@ -1,5 +1,6 @@
 -- The number at a place, after a change of the tables.
 use Rattle.std.proofs.Common.{ℕ, ◌≡◌, ◌≢◌, ◌<◌, true, false, not, nat_eq, if◌then◌else◌, List, [], ◌∷◌, ◌++◌, length, map, filter, Option, Some, None, inl, inr, refl, sym, ◌∙◌, ap, arith}
+use Rattle.std.specs.Prelude.{IfSome, option_map}
 use Rattle.std.specs.List.{AllByRecursion}
 use Rattle.std.proofs.lemmas.Bool.{cases_Bool}
 use Rattle.std.proofs.lemmas.Bool.Decides.{nat_tests}
@@ -31,6 +32,10 @@ ports_of-put place number (t ∷ tables) =
 IsTable-put_by : (place : Place) (number : ℕ) (t : PortTable) (o : Option ℕ) → offset_of t.places place ≡ o → IsTable t → IsTable (put_in place number t)
 IsTable-put_by place number t None e table = rw e table
 IsTable-put_by place number t (Some at) e table = rw e (record { sizes = table.sizes; full = length-set t.numbers.items at number ∙ table.full })
+
+pub row-put : (place : Place) (number : ℕ) (row : Option PortTable) → IfSome row IsTable → IfSome (option_map (put_in place number) row) IsTable
+row-put place number None table = tt
+row-put place number (Some t) table = IsTable-put_by place number t (offset_of t.places place) refl table
 
 pub tables-put : (place : Place) (number : ℕ) (tables : List PortTable) → AllByRecursion IsTable tables → AllByRecursion IsTable (map (put_in place number) tables)
 tables-put place number [] all = tt

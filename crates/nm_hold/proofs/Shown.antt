@@ -1,10 +1,9 @@
 -- What a hold shows of its cells and tables.
-use Rattle.std.proofs.Common.{Bool, filter, not, ℕ, zero, suc, ◌≡◌, ◌<◌, ◌≤◌, true, false, nat_eq, List, [], ◌∷◌, ◌++◌, length, find, get_or, Option, Some, None, inl, inr, refl, sym, ◌∙◌, ap, arith}
+use Rattle.std.proofs.Common.{Bool, filter, not, ℕ, zero, suc, ◌≡◌, ◌<◌, ◌≤◌, true, false, nat_eq, List, [], ◌∷◌, ◌++◌, length, find, Option, Some, None, inl, inr, refl, sym, ◌∙◌, ap, arith}
 use Rattle.std.specs.Prelude.{All, ◌||◌, IsSome, option_map}
 use Rattle.std.specs.List.{AllByRecursion}
 use Rattle.std.specs.Option.{option_map_or}
 use Rattle.std.proofs.lemmas.Bool.{cases_Bool}
-use Rattle.std.proofs.lemmas.List.{get_or_read}
 use Rattle.std.proofs.lemmas.List.Elements.{All-from_recursion, recursion_from_All}
 use Rattle.std.proofs.lemmas.Bool.Decides.{nat_tests}
 use Rattle.nm_types.specs.declared.id.PortId.{PortId}
@@ -17,14 +16,10 @@ use Rattle.nm_hold.specs.declared.table.PortPlaces.{PortPlaces}
 use Rattle.nm_hold.specs.declared.table.PortTable.{PortTable}
 use Rattle.nm_hold.specs.Offsets.{AreSizes, ArePortsOnce, has_port, has_place, offset_of}
 use Rattle.nm_hold.specs.Tables.{IsTable, ports_of, number_at}
-use Rattle.nm_hold.specs.Holds.{cell_at, places_in, extra_of, is_named_in, IsHold}
+use Rattle.nm_hold.specs.Holds.{places_in, extra_of, is_named_in, IsHold}
 use Rattle.nm_hold.specs.Ties.{IsTied}
 use Rattle.nm_hold.proofs.Numbers.{has_place-from_number}
 use Rattle.nm_hold.proofs.Tied.{number_if, number_if-some, held-number}
-
--- what is read at a place of the cells
-pub cell_read : (cells : List (Option Standing)) (idx : ℕ) (cell : Option Standing) → idx < length cells → cell ≡ get_or cells idx cell → cell ≡ cell_at cells idx
-cell_read cells idx cell h e = get_or_read cells idx cell h e None
 
 pub standing_of : (cell : Option Standing) → IsSome cell → (s : Standing) × (cell ≡ Some s)
 standing_of None h = cc
@@ -91,12 +86,6 @@ held_has_number cells tables p tied some = by_number (number_at tables p) (rw (h
 pub named_stands : (cell : Option Standing) → is_named_in cell ≡ true → (s : Standing) × (cell ≡ Some s)
 named_stands None e = cc
 named_stands (Some s) e = (s, refl)
-
--- cells that hold nothing, without the last
-pub empty_front : (cells : List (Option Standing)) (last : Option Standing) → ((idx : ℕ) → cell_at (cells ++ last ∷ []) idx ≡ None) → (idx : ℕ) → cell_at cells idx ≡ None
-empty_front [] last all idx = refl
-empty_front (c ∷ cells) last all zero = all 0
-empty_front (c ∷ cells) last all (suc idx) = empty_front cells last (λ i. all (suc i)) idx
 
 or_false : (a b : Bool) → (a || b) ≡ false → (a ≡ false) × (b ≡ false)
 or_false true b e = cc

@@ -1,10 +1,10 @@
 -- The numbers at the slots of a port's ring.
-use Rattle.std.proofs.Common.{ℕ, zero, suc, ◌≡◌, ◌<◌, ◌+◌, ◌-◌, true, nat_eq, nat_lt, List, [], ◌∷◌, length, find, take, drop, get_or, Option, Some, None, inl, inr, refl, sym, ◌∙◌, ap, arith}
+use Rattle.std.proofs.Common.{ℕ, zero, suc, ◌≡◌, ◌<◌, ◌≤◌, ◌+◌, ◌-◌, true, false, nat_eq, nat_lt, List, [], ◌∷◌, find, take, drop, get_or, Option, Some, None, inl, inr, refl, sym, ◌∙◌, ap, arith}
 use Rattle.std.specs.Prelude.{slice_get, slice_range, unwrap_or, option_map}
 use Rattle.std.specs.Option.{option_map_or}
 use Rattle.std.proofs.lemmas.Bool.{cases_Bool}
 use Rattle.std.proofs.lemmas.Bool.Decides.{nat_tests}
-use Rattle.std.proofs.lemmas.List.{get_or-take, get_or-drop, length-take}
+use Rattle.std.proofs.lemmas.List.{get_or-take, get_or-drop, length-take, get_or_past}
 use Rattle.std.proofs.lemmas.Option.{get_or_from_slice_get, slice_get_within}
 use Rattle.nm_types.specs.declared.id.PortId.{PortId}
 use Rattle.nm_types.specs.declared.id.Side.{Side}
@@ -53,7 +53,7 @@ found_port (u ∷ tables) port t e = elim (cases_Bool (nat_eq u.places.port.0 po
   | inr differs ↦ found_port tables port t (rw differs at e)
 ]
 
-port_on : (side : Side) (port : PortId) (at : ℕ) → port_of (slot_on side port at) ≡ port.0
+pub port_on : (side : Side) (port : PortId) (at : ℕ) → port_of (slot_on side port at) ≡ port.0
 port_on Tx port at = refl
 port_on Rx port at = refl
 
@@ -81,3 +81,41 @@ size_found tables side port o e = rw (find-places port tables, ← e) (by_cases 
     by_cases : (o : Option PortTable) → option_map (λ (t : PortTable). size_on side t.places.sizes) o ≡ option_map (λ (p : PortPlaces). size_on side p.sizes) (option_map (λ (t : PortTable). t.places) o)
     by_cases None = refl
     by_cases (Some t) = refl
+
+-- the number at a transmit slot of a table that is found, or 0 if it has no such slot
+number_in_tx : (t : PortTable) (at : ℕ) → number_in t (slot_on Tx t.places.port at) ≡ get_or (slots_in t Tx) at 0
+number_in_tx t at =
+    let tx : ℕ = t.places.sizes.tx in
+    let items : List ℕ = t.numbers.items in
+    let front : List ℕ = take (tx - 0) (drop 0 items) in
+    elim (cases_Bool (nat_lt at tx)) [
+      | inl few ↦ (let less = nat_lt-is at tx few in
+          let below : at < tx - 0 = omega (arith, less) in
+          let first : 0 + at ≡ at = omega arith in
+          let read : get_or front at 0 ≡ get_or items at 0 = get_or-take (tx - 0) (drop 0 items) at 0 below ∙ (get_or-drop 0 items at 0 ∙ ap (λ (n : ℕ). get_or items n 0) first) in
+          rw (same_port t, few) (sym read))
+      | inr out ↦ (let behind = nat_lt-not at tx out in
+          let count = length-take (tx - 0) (drop 0 items) in
+          let past : get_or front at 0 ≡ 0 = get_or_past front at 0 (omega (arith, behind, count)) in
+          rw (same_port t, out) (sym past))
+    ]
+  where
+    nat_lt-is : (a b : ℕ) → nat_lt a b ≡ true → a < b
+    nat_lt-is a b e = grind (arith, nat_tests)
+
+    nat_lt-not : (a b : ℕ) → nat_lt a b ≡ false → b ≤ a
+    nat_lt-not a b e = grind (arith, nat_tests)
+
+pub tx_numbers : (tables : List PortTable) (port : PortId) (t : PortTable) → ArePortsOnce (ports_of tables) → find (λ (t : PortTable). nat_eq t.places.port.0 port.0) tables ≡ Some t
+    → (at : ℕ) → number_at tables (slot_on Tx port at) ≡ get_or (slots_in t Tx) at 0
+tx_numbers tables port t once found at =
+    let place = slot_on Tx port at in
+    let there : t.places.port ≡ port = ap (λ (n : ℕ). let i : PortId = record { 0 = n } in i) (found_port tables port.0 t found) in
+    number-found tables place once ∙ (ap (λ (o : Option PortTable). option_map_or (λ (t : PortTable). number_in t place) o 0) found
+    ∙ (ap (λ (p : PortId). number_in t (slot_on Tx p at)) (sym there) ∙ number_in_tx t at))
+
+-- a port that is not found has no buffer
+pub none_numbered : (tables : List PortTable) (port : PortId) → ArePortsOnce (ports_of tables) → find (λ (t : PortTable). nat_eq t.places.port.0 port.0) tables ≡ None → (at : ℕ) → number_at tables (slot_on Tx port at) ≡ 0
+none_numbered tables port once found at =
+    let place = slot_on Tx port at in
+    number-found tables place once ∙ ap (λ (o : Option PortTable). option_map_or (λ (t : PortTable). number_in t place) o 0) found

@@ -1,5 +1,5 @@
 -- A buffer that comes to a place, leaves it, or gets another name there.
-use Rattle.std.proofs.Common.{ℕ, ◌≡◌, ◌<◌, ◌≤◌, Bool, true, false, if◌then◌else◌, List, length, map, slice_set, Option, Some, None, refl, sym, ◌∙◌, ap}
+use Rattle.std.proofs.Common.{ℕ, ◌≡◌, ◌<◌, ◌≤◌, Bool, true, false, if◌then◌else◌, List, length, map, slice_set, Option, Some, None, refl, sym, ◌∙◌, ap, arith}
 use Rattle.std.specs.Prelude.{All}
 use Rattle.std.proofs.lemmas.List.Elements.{All-from_recursion, recursion_from_All}
 use Rattle.nm_types.specs.declared.place.Place.{Place}
@@ -29,6 +29,19 @@ pub removed_tied : (cells : List (Option Standing)) (tables : List PortTable) (p
     → IsTied (slice_set cells (number_at tables p) None) (map (put_in p 0) tables)
 removed_tied cells tables p all tied some =
     tied-removed cells tables (map (put_in p 0) tables) p tied some (put_number p 0 tables all (has_place-from_number tables p some))
+
+-- a buffer that is taken out of its place
+pub record Removed (cells : List (Option Standing)) (tables : List PortTable) (p : Place) (idx : ℕ) (s : Standing) : Type 0 where
+  pub some : 0 < number_at tables p
+  pub index : s.buf.index ≡ idx
+  pub tied : IsTied (slice_set cells idx None) (map (put_in p 0) tables)
+
+pub removed : (cells : List (Option Standing)) (tables : List PortTable) (p : Place) (idx : ℕ) (s : Standing) → All IsTable tables → IsTied cells tables → idx ≡ number_at tables p → cell_at cells idx ≡ Some s
+    → Removed cells tables p idx s
+removed cells tables p idx s all tied number there =
+    let right = tied.standing idx s there in
+    let some : 0 < number_at tables p = omega (arith, number, right.low) in
+    record { some = some; index = right.index; tied = rw number (removed_tied cells tables p all tied some) }
 
 some_choice : (b : Bool) (idx n : ℕ) (o : Option ℕ) → 0 < idx → number_if n ≡ o → number_if (if b then idx else n) ≡ (if b then Some idx else o)
 some_choice true idx n o h e = number_if-some idx h

@@ -1,8 +1,10 @@
 -- The rows that keep the tables of ports, each found by its port's number.
 use Rattle.std.specs.Prelude.{ℕ, ◌≡◌, List, [], ◌∷◌, Option, Some, None, is_some, option_map, slice_index_or}
+use Rattle.std.specs.Option.{option_map_or}
+use Rattle.nm_types.specs.declared.place.Place.{Place}
 use Rattle.nm_hold.specs.declared.table.PortTable.{PortTable}
 use Rattle.nm_hold.specs.Offsets.{has_port, ArePortsOnce}
-use Rattle.nm_hold.specs.Tables.{ports_of}
+use Rattle.nm_hold.specs.Tables.{ports_of, number_in}
 
 -- the tables, without the rows of ports that have gone
 abbrev pub tables_present : List (Option PortTable) → List PortTable
@@ -16,6 +18,10 @@ row_at rows at = slice_index_or rows at None
 -- the port of a row
 abbrev pub port_in : Option PortTable → Option ℕ
 port_in row = option_map (λ (t : PortTable). t.places.port.0) row
+
+-- the number at a place of a row's port
+abbrev pub number_in_row : Option PortTable → Place → ℕ
+number_in_row found place = option_map_or (λ (t : PortTable). number_in t place) found 0
 
 abbrev pub port_at : List (Option PortTable) → ℕ → Option ℕ
 port_at rows at = port_in (row_at rows at)

@@ -1,3 +1,4 @@
+pub mod CellLends
 pub mod Holds
 pub mod Indexed
 pub mod Laws
@@ -5,8 +6,11 @@ pub mod Lending
 pub mod Names
 pub mod Offsets
 pub mod PortLists
+pub mod Renames
 pub mod Rooms
+pub mod Sparse
 pub mod Standings
 pub mod Stored
 pub mod Tables
+pub mod Takes
 pub mod Ties

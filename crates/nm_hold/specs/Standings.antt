@@ -1,7 +1,6 @@
 -- A buffer and where it stands: a cell has the buffer of its index, or none.
 use Rattle.std.specs.Prelude.{ℕ, Bool, true, false, List, Option, Some, None, option_map}
 use Rattle.std.specs.Borrow.{Lends, MutBor, Fml, Array, u8}
-use Rattle.std.specs.contracts.option.Option.{the_row as option_row}
 use Rattle.nm_region.specs.Buffers.{Buffer, with_bytes}
 use Rattle.nm_region.specs.Marked.{with_front}
 use Rattle.nm_hold.specs.declared.standing.Home.{Home}
@@ -10,9 +9,6 @@ use Rattle.nm_hold.specs.contracts.standing.Standing.{the_row}
 
 abbrev pub home_in : Option Standing → Option Home
 home_in cell = option_map (λ (s : Standing). s.home) cell
-
-abbrev pub cell_moved : Home → Option Standing → Option Standing
-cell_moved home cell = option_map (λ (s : Standing). record s { home = home }) cell
 
 -- the same home, named or not
 abbrev pub cell_named : Bool → Option Standing → Option Standing
@@ -40,12 +36,6 @@ cell_fronted bytes cell = option_map (λ (s : Standing). record s { buf = with_f
 abbrev pub bytes_in : Option Standing → Option (List ℕ)
 bytes_in cell = option_map (λ (s : Standing). s.buf.bytes) cell
 
--- a standing, and a cell, end with the bytes last written
+-- a standing ends with the bytes last written
 abbrev pub LendsBytes : MutBor Standing → MutBor (List ℕ) → Fml
 LendsBytes s r = Lends the_row (Array u8 0) s r (λ bytes. record (s.now) { buf = with_bytes s.now.buf bytes })
-
-abbrev pub LendsStanding : MutBor (Option Standing) → MutBor Standing → Fml
-LendsStanding cell r = Lends (option_row the_row) the_row cell r (λ s. Some s)
-
-abbrev pub LendsCell : MutBor (Option Standing) → MutBor (List ℕ) → Fml
-LendsCell cell r = Lends (option_row the_row) (Array u8 0) cell r (cell_written cell.now)

@@ -6,8 +6,8 @@ use Rattle.nm_hold.specs.Ties.{IsTied}
 use Rattle.nm_hold.specs.declared.hold.Hold.TheInside.{Inside}
 
 pub record IsStored (h : Inside) : Type 0 where
-  pub low : 3 ≤ length h.cells.items
-  pub high : length h.cells.items ≤ 65538
+  pub low : 3 ≤ length h.cells
+  pub high : length h.cells ≤ 65538
   pub tables : All IsTable h.ports.tables
   pub once : ArePortsOnce (ports_of h.ports.tables)
-  pub tied : IsTied h.cells.items h.ports.tables
+  pub tied : IsTied h.cells h.ports.tables

@@ -1,7 +1,8 @@
 ghost use Rattle.std.specs.Prelude.{ℕ, ◌≡◌, ◌≢◌, ◌≤◌, ◌++◌, ◌∷◌, ◌==◌, ◌↔◌, [], true, false};
 ghost use Rattle.std.specs.Prelude.{None, Some, IsSome, IsTrue, IfOk, IfSome, filter, not};
-ghost use Rattle.std.specs.Prelude.{List, ◌<◌, find, length, option_map, if◌then◌else◌};
+ghost use Rattle.std.specs.Prelude.{List, ◌<◌, ◌+◌, find, length, option_map, if◌then◌else◌};
 ghost use Rattle.std.specs.Borrow.{sem};
+ghost use Rattle.std.specs.Vec.{vec_capacity};
 ghost use Rattle.std.specs.Option.{option_copied, option_copied_mut};
 ghost use Rattle.nm_types.specs.Buffers.{IsPoolSize, IsBufferIndex};
 ghost use Rattle.nm_types.specs.declared.place.Place.{Place};
@@ -15,12 +16,16 @@ ghost use Rattle.nm_hold.specs.Holds.{empty_hold, buffers_of, extra_of, place_at
 ghost use Rattle.nm_hold.specs.Holds.{standing_at, buffer_at, is_named_at, named_bytes_at, index_at};
 ghost use Rattle.nm_hold.specs.Holds.{places_of, bufs_of, with_cell, SamePlaces, HoldsNothing};
 ghost use Rattle.nm_hold.specs.Holds.{size_on, AreNumbers};
+ghost use Rattle.nm_types.specs.declared.place.Place.TheVariants.{Tx};
+ghost use Rattle.nm_hold.specs.Renames.{with_places_named, tx_slots};
+ghost use Rattle.nm_hold.specs.Takes.{place_in, AreTakenBehind};
 
+use crate::cells::Cells;
 use crate::ports::Ports;
-use crate::standing::{
-    Home, Standing, buf_of, bytes_mut, home_of, move_to, named_bytes, rename, write_front,
-};
+use crate::renames::name_cells;
+use crate::standing::{Home, Standing};
 use crate::table::{PortPlaces, PortTable};
+use crate::taking::SlotRun;
 use nm_region::Buf;
 use nm_types::{NoMemory, Place, PortId, PortSizes, Side};
 use std::alloc::Global;
@@ -54,7 +59,7 @@ impl Model for PortRoom {
 /// offset in the table of the place's port, which is the first one or which a hash map finds: in
 /// constant time for any number of ports and buffers.
 pub struct Hold {
-    cells: Vec<Option<Standing>>,
+    cells: Cells,
     ports: Ports,
     alloc: Global,
 }
@@ -68,7 +73,7 @@ impl Model for Hold {
     ghost use Rattle.nm_hold.specs.Stored.{IsStored};
 
     ghost view = { λ h. record {
-      cells = h.cells.items;
+      cells = h.cells;
       ports = ports_of h.ports.tables;
     } };
 
@@ -83,13 +88,8 @@ impl Hold {
         requires { IsPoolSize buffers }
         ensures { IfOk result (λ hold. hold ≡ empty_hold buffers) }
     {
-        let count = buffers as usize + 2;
-        let mut cells = Vec::with_capacity(alloc, count)?;
-        for _ in 0..count {
-            cells.push_reserved(None);
-        }
         Ok(Hold {
-            cells,
+            cells: Cells::new(alloc, buffers as usize + 2)?,
             ports: Ports::new(alloc),
             alloc,
         })
@@ -176,10 +176,9 @@ impl Hold {
         ensures home { result ≡ home_in (standing_at self.now idx) }
         ensures hold { IsHold self.now }
     {
-        if (idx as usize) < self.cells.len() {
-            home_of(&self.cells[idx as usize])
-        } else {
-            None
+        match self.cells.get(idx) {
+            Some(standing) => Some(standing.home),
+            None => None,
         }
     }
 
@@ -210,10 +209,9 @@ impl Hold {
         ensures buffer { option_copied result ≡ buffer_at self.now idx }
         ensures hold { IsHold self.now }
     {
-        if (idx as usize) < self.cells.len() {
-            buf_of(&self.cells[idx as usize])
-        } else {
-            None
+        match self.cells.get(idx) {
+            Some(standing) => Some(&standing.buf),
+            None => None,
         }
     }
 
@@ -222,10 +220,9 @@ impl Hold {
         ensures bytes { option_copied result ≡ named_bytes_at self.now idx }
         ensures hold { IsHold self.now }
     {
-        if (idx as usize) < self.cells.len() {
-            named_bytes(&self.cells[idx as usize])
-        } else {
-            None
+        match self.cells.get(idx) {
+            Some(standing) if standing.home.named => Some(standing.buf.bytes()),
+            _ => None,
         }
     }
 
@@ -257,7 +254,7 @@ impl Hold {
         ensures* writes_back { sem 𝓛 (LendsBytesAt self.entry idx result) }
         ensures bytes { named_bytes_at self.old idx ≡ Some result.now }
     {
-        bytes_mut(&mut self.cells[idx as usize])
+        self.cells.bytes_mut(idx)
     }
 
     /// Writes bytes over the first ones of a named buffer.
@@ -269,7 +266,8 @@ impl Hold {
         ensures places { SamePlaces (places_of self.old) (places_of self.new) }
         ensures hold { IsHold self.new }
     {
-        write_front(&mut self.cells[idx as usize], bytes);
+        let standing = self.cells.standing_mut(idx);
+        standing.buf.write(bytes);
     }
 
     /// Puts a buffer into an empty place of one of the hold's ports. It is not a named buffer yet.
@@ -284,16 +282,25 @@ impl Hold {
             ≡ (if is_same_place place p then Some buf.index else index_at self.old p) }
         ensures hold { IsHold self.new }
     {
+        self.add_named(place, buf, false);
+    }
+
+    /// Puts a buffer into an empty place of one of the hold's ports, as a named one or not.
+    pub fn add_named(&mut self, place: Place, buf: Buf, named: bool)
+        requires belongs { has_place self.old.ports place ≡ true }
+        requires empty { index_at self.old place ≡ None }
+        requires index { IsBufferIndex (buffers_of self.old) buf.index }
+        requires apart { standing_at self.old buf.index ≡ None }
+        ensures cell { self.new ≡ with_cell self.old buf.index
+            (Some (record { home = record { place = place; named = named }; buf = buf })) }
+        ensures places { (p : Place) → index_at self.new p
+            ≡ (if is_same_place place p then Some buf.index else index_at self.old p) }
+        ensures hold { IsHold self.new }
+    {
         let idx = buf.index();
-        let home = Home {
-            place,
-            named: false,
-        };
-        let cell = &mut self.cells[idx as usize];
-        match cell.replace(Standing { home, buf }) {
-            None => self.ports.put(place, idx),
-            Some(_other) => unreachable!(),
-        }
+        let home = Home { place, named };
+        self.cells.put(idx, Standing { home, buf });
+        self.ports.replace(place, idx);
     }
 
     /// Takes the buffer out of a place.
@@ -306,13 +313,9 @@ impl Hold {
             ≡ (if is_same_place place p then None else index_at self.old p) }
         ensures hold { IsHold self.new }
     {
-        let idx = self.ports.number(place);
-        self.ports.put(place, 0);
-        let cell = &mut self.cells[idx as usize];
-        match cell.take() {
-            Some(Standing { home: _, buf }) => buf,
-            None => unreachable!(),
-        }
+        let idx = self.ports.replace(place, 0);
+        let Standing { home: _, buf } = self.cells.take(idx);
+        buf
     }
 
     /// Makes the buffer in a place a named one, or one that is not named.
@@ -324,7 +327,7 @@ impl Hold {
         ensures hold { IsHold self.new }
     {
         let idx = self.ports.number(place);
-        rename(&mut self.cells[idx as usize], named);
+        self.cells.rename(idx, named);
     }
 
     /// Exchanges the buffer in a place and a named buffer. Each keeps its bytes, and a place whose
@@ -340,17 +343,13 @@ impl Hold {
         ensures ports { self.new.ports ≡ self.old.ports }
         ensures hold { IsHold self.new }
     {
-        let was = self.ports.number(place);
+        let there = self.cells.standing(idx).home;
+        let was = self.ports.displace(place, idx, there.place);
         if was == idx {
             return;
         }
-        let (Some(here), Some(there)) = (self.home_at(was), self.home_at(idx)) else {
-            unreachable!()
-        };
-        move_to(&mut self.cells[was as usize], there);
-        move_to(&mut self.cells[idx as usize], here);
-        self.ports.put(place, idx);
-        self.ports.put(there.place, was);
+        let here = replace(&mut self.cells.standing_mut(was).home, there);
+        self.cells.standing_mut(idx).home = here;
     }
 
     /// Ends a hold that holds no buffer.
@@ -358,16 +357,45 @@ impl Hold {
         requires { (idx : ℕ) → standing_at self idx ≡ None }
     {
         let Hold {
-            mut cells,
+            cells,
             ports: _,
             alloc: _,
         } = self;
-        while let Some(cell) = cells.pop() {
-            match cell {
-                None => {}
-                Some(_held) => unreachable!(),
+        cells.destroy();
+    }
+
+    /// Makes the buffers in `count` transmit slots of a port, from the first one on and going round
+    /// at `size`, named ones, or ones that are not named.
+    pub fn name_slots(&mut self, port: PortId, size: u32, first: u32, count: u32, named: bool)
+        requires size { size ≤ 1024 }
+        requires first { first < size }
+        requires count { count ≤ size }
+        requires held { (at : ℕ) → at < size → IsSome (index_at self.old (Tx port at)) }
+        ensures cells { self.new
+            ≡ with_places_named named (tx_slots port size first count) self.old }
+        ensures hold { IsHold self.new }
+    {
+        match self.ports.table(port) {
+            Some(table) => {
+                let numbers = table.slots(Side::Tx);
+                name_cells(&mut self.cells, numbers, size, first, count, named);
             }
+            None => unreachable!(),
         }
-        cells.destroy_empty();
+    }
+
+    /// Takes the buffers out of the first `count` slots of a run, in their order.
+    pub fn take_slots(&mut self, run: SlotRun, count: u32, back: &mut Vec<Buf>)
+        requires size { run.size ≤ 1024 }
+        requires first { run.first < run.size }
+        requires count { count ≤ run.size }
+        requires held { (k : ℕ) → k < count → IsSome (index_at self.old (place_in run k)) }
+        requires room { length back.old.items + count ≤ vec_capacity back.old }
+        ensures taken { AreTakenBehind self.old run count self.new
+            back.old.items back.new.items }
+        ensures capacity { vec_capacity back.new ≡ vec_capacity back.old }
+        ensures hold { IsHold self.new }
+    {
+        self.ports.take_slots(&mut self.cells, run, count, back);
     }
 }

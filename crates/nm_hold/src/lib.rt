@@ -1,11 +1,14 @@
 //! A session's places and the buffers that stand in them.
 #![tactic(auto)]
 
+mod cells;
 mod hold;
 pub mod laws;
 mod ports;
+mod renames;
 mod standing;
 mod table;
+mod taking;
 #[cfg(test)]
 mod tests;
 
@@ -13,3 +16,4 @@ pub use hold::{Hold, PortRoom};
 pub use nm_types::PortSizes;
 pub use standing::{Home, Standing};
 pub use table::PortPlaces;
+pub use taking::SlotRun;

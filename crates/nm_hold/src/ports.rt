@@ -1,15 +1,20 @@
 ghost use Rattle.std.specs.Prelude.{◌≡◌, ◌==◌, ◌≤◌, ◌<◌, ◌+◌, ◌++◌, ◌∷◌, [], All, IfOk, IfSome};
 ghost use Rattle.std.specs.Prelude.{false, true, length, not, filter, find, map, nat_eq, option_map};
-ghost use Rattle.std.specs.Prelude.{Some};
+ghost use Rattle.std.specs.Prelude.{ℕ, Some};
 ghost use Rattle.std.specs.HashMap.{get};
+ghost use Rattle.std.specs.Vec.{vec_capacity};
 ghost use Rattle.std.specs.Option.{option_copied};
 ghost use Rattle.nm_hold.specs.declared.table.PortTable.{PortTable};
 ghost use Rattle.nm_hold.specs.Offsets.{has_port, ArePortsOnce};
 ghost use Rattle.nm_hold.specs.Holds.{port_of};
 ghost use Rattle.nm_hold.specs.Tables.{number_at, ports_of, put_in, IsTable};
-ghost use Rattle.nm_hold.specs.Indexed.{tables_present, port_in, port_at, IsIndexed};
+ghost use Rattle.nm_hold.specs.Indexed.{tables_present, port_in, port_at, number_in_row, IsIndexed};
+ghost use Rattle.nm_hold.specs.Takes.{place_in, AreTakenBehind, AreHeld};
 
+use crate::cells::Cells;
 use crate::table::PortTable;
+use crate::taking::{SlotRun, take_run};
+use nm_region::Buf;
 use nm_types::{Place, PortId};
 use std::alloc::{AllocError, Global};
 use std::collections::HashMap;
@@ -76,15 +81,61 @@ impl Ports {
         }
     }
 
-    /// Puts the index of a buffer at a place, if it is one of these ports'.
-    pub(crate) fn put(&mut self, place: Place, number: u32)
+    /// Puts the index of a buffer at a place, if it is one of these ports'. Returns the one that was
+    /// there, 0 if it held none.
+    pub(crate) fn replace(&mut self, place: Place, number: u32) -> u32
         requires { All IsTable self.old.tables }
+        ensures number { result ≡ number_at self.old.tables place }
         ensures tables { self.new.tables ≡ map (put_in place number) self.old.tables }
         ensures spare { self.new.spare ≡ self.old.spare }
     {
-        if let Some(at) = row_of(&self.rows, &self.indices, port_of(place)) {
-            put_at(&mut self.rows[at], place, number);
+        match row_of(&self.rows, &self.indices, port_of(place)) {
+            Some(at) => replace_at(&mut self.rows[at], place, number),
+            None => 0,
         }
+    }
+
+    /// Puts the index of a buffer at a place, and the one that was there at another place. Returns
+    /// the latter. If both places are of one port, its row is found once.
+    pub(crate) fn displace(&mut self, place: Place, number: u32, other: Place) -> u32
+        requires { All IsTable self.old.tables }
+        ensures number { result ≡ number_at self.old.tables place }
+        ensures tables { self.new.tables
+            ≡ map (put_in other result) (map (put_in place number) self.old.tables) }
+    {
+        if port_of(place) != port_of(other) {
+            let was = self.replace(place, number);
+            self.replace(other, was);
+            return was;
+        }
+        match row_of(&self.rows, &self.indices, port_of(place)) {
+            Some(at) => displace_at(&mut self.rows[at], place, number, other),
+            None => 0,
+        }
+    }
+
+    /// Takes the buffers out of the first `count` slots of a run, in their order.
+    pub(crate) fn take_slots(
+        &mut self,
+        cells: &mut Cells,
+        run: SlotRun,
+        count: u32,
+        back: &mut Vec<Buf>,
+    )
+        requires whole { AreHeld cells.old self.old.tables }
+        requires size { run.size ≤ 1024 }
+        requires first { run.first < run.size }
+        requires count { count ≤ run.size }
+        requires held { (k : ℕ) → k < count → 0 < number_at self.old.tables (place_in run k) }
+        requires room { length back.old.items + count ≤ vec_capacity back.old }
+        ensures whole { AreHeld cells.new self.new.tables }
+        ensures taken { AreTakenBehind
+            (record { cells = cells.old; ports = ports_of self.old.tables }) run count
+            (record { cells = cells.new; ports = ports_of self.new.tables })
+            back.old.items back.new.items }
+        ensures capacity { vec_capacity back.new ≡ vec_capacity back.old }
+    {
+        take_run(&mut self.rows, &self.indices, cells, run, count, back);
     }
 
     /// Adds the table of a new port, for which there is room.
@@ -179,7 +230,11 @@ fn is_first(rows: &[Option<PortTable>], port: PortId) -> bool
 }
 
 /// The row of a port's table. The first row is tried before the map.
-fn row_of(rows: &[Option<PortTable>], indices: &HashMap<u32, usize>, port: PortId) -> Option<usize>
+pub(crate) fn row_of(
+    rows: &[Option<PortTable>],
+    indices: &HashMap<u32, usize>,
+    port: PortId,
+) -> Option<usize>
     requires { IsIndexed rows.now (get nat_eq indices.now) }
     ensures { result ≡ get nat_eq indices.now port.0 }
 {
@@ -202,12 +257,27 @@ fn port_of(place: Place) -> PortId
     }
 }
 
-/// Stores a number at a place of the port of a row.
-fn put_at(row: &mut Option<PortTable>, place: Place, number: u32)
+/// Stores a number at a place of the port of a row. Returns the one that was there.
+pub(crate) fn replace_at(row: &mut Option<PortTable>, place: Place, number: u32) -> u32
     requires { IfSome row.old IsTable }
-    ensures { row.new ≡ option_map (put_in place number) row.old }
+    ensures number { result ≡ number_in_row row.old place }
+    ensures row { row.new ≡ option_map (put_in place number) row.old }
 {
-    if let Some(table) = row {
-        table.put(place, number);
+    match row {
+        Some(table) => table.replace(place, number),
+        None => 0,
     }
+}
+
+/// Stores a number at a place of the port of a row, and the one that was there at another place.
+/// Returns the latter.
+fn displace_at(row: &mut Option<PortTable>, place: Place, number: u32, other: Place) -> u32
+    requires { IfSome row.old IsTable }
+    ensures number { result ≡ number_in_row row.old place }
+    ensures row { row.new
+        ≡ option_map (put_in other result) (option_map (put_in place number) row.old) }
+{
+    let was = replace_at(row, place, number);
+    replace_at(row, other, was);
+    was
 }

@@ -5,6 +5,7 @@ ghost use Rattle.nm_hold.specs.Tables.{number_in, put_in, slots_in, IsTable};
 
 use nm_types::{Place, PortId, PortSizes, Side};
 use std::alloc::{AllocError, Global};
+use std::mem::replace;
 
 /// The number of places of a port of these sizes: transmit slots, receive slots, extra positions.
 fn count_of(sizes: PortSizes) -> usize
@@ -77,13 +78,15 @@ impl PortTable {
         }
     }
 
-    /// Stores a number at a place, if it is one of this port's.
-    pub(crate) fn put(&mut self, place: Place, number: u32)
+    /// Stores a number at a place, if it is one of this port's. Returns the one that was there, or 0.
+    pub(crate) fn replace(&mut self, place: Place, number: u32) -> u32
         requires { IsTable self.old }
-        ensures { self.new ≡ put_in place number self.old }
+        ensures number { result ≡ number_in self.old place }
+        ensures table { self.new ≡ put_in place number self.old }
     {
-        if let Some(at) = self.places.offset(place) {
-            self.numbers[at] = number;
+        match self.places.offset(place) {
+            Some(at) => replace(&mut self.numbers[at], number),
+            None => 0,
         }
     }
 

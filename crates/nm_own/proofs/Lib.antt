@@ -29,3 +29,7 @@ pub mod TakenTx
 pub mod TakenLent
 pub mod PortNames
 pub mod SlotsLent
+pub mod WrittenCopies
+pub mod PutCopies
+pub mod PortPlaces
+pub mod ReceivedAt

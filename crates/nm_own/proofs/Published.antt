@@ -2,7 +2,7 @@
 use Rattle.std.proofs.Common.{ℕ, ◌≡◌, ◌<◌, ◌≤◌, ◌+◌, ◌-◌, ◌&&◌, ◌||◌, Bool, true, false, nat_eq, nat_lt, if◌then◌else◌, List, [], ◌∷◌, ◌++◌, length, map, replicate, set, Option, Some, None, inl, inr, refl, sym, ◌∙◌, ap, arith, length-append}
 use Rattle.std.specs.Prelude.{is_some, is_none, unwrap_or}
 use Rattle.std.specs.Option.{option_map_or}
-use Rattle.std.specs.List.{AllByRecursion, list_any}
+use Rattle.std.specs.List.{list_any}
 use Rattle.std.proofs.lemmas.Bool.{cases_Bool}
 use Rattle.std.proofs.lemmas.Bool.Decides.{nat_tests}
 use Rattle.std.proofs.lemmas.List.{length-replicate}
@@ -32,7 +32,7 @@ use Rattle.nm_port.specs.Own.{number_on, ring_seen, port_seen, own_seen, port_at
 use Rattle.nm_own.specs.Kept.{IsKept}
 use Rattle.nm_port.specs.Filling.{placed}
 use Rattle.nm_port.specs.Exchanges.{is_among}
-use Rattle.nm_port.specs.Receives.{has_free_slot, can_receive, ring_with_arrival, own_with_arrival, ring_published, HasRoom, CanPublish}
+use Rattle.nm_port.specs.Receives.{has_free_slot, can_receive, ring_with_arrival, own_with_arrival, ring_published, HasRoom}
 use Rattle.nm_port.proofs.Judging.{false_true, same_eq}
 use Rattle.nm_port.proofs.PortOut.{IsOther}
 use Rattle.nm_own.proofs.Opening.{none_if}
@@ -170,17 +170,6 @@ module _ (h : HoldState) (ports : List UserPort) (id : PortId) (p : UserPort) (r
 
   pub empty : index_at h spot ≡ None
   empty = none_if (index_at h spot) (x.filled spot ∙ (filled_here spot refl ∙ rw (x.same_id, x.on, same_eq id.0 id.0 refl, less_true tail size tail_within, not_itself (dist size r.ring.accepted_head tail)) refl))
-
-  pub can_publish : AllByRecursion (CanPublish id.0) ports
-  can_publish = rw others.are (over others.before others.first)
-    where
-      none_of : (all : List UserPort) → AllByRecursion (IsOther id.0) all → AllByRecursion (CanPublish id.0) all
-      none_of [] other = tt
-      none_of (y ∷ all) other = ((λ e. false_true (sym other.0 ∙ same_eq y.id.0 id.0 e)), none_of all other.1)
-
-      over : (before : List UserPort) → AllByRecursion (IsOther id.0) before → AllByRecursion (CanPublish id.0) (before ++ p ∷ others.behind)
-      over [] first = ((λ e. rw x.on x.room), none_of others.behind others.rest)
-      over (y ∷ before) first = ((λ e. false_true (sym first.0 ∙ same_eq y.id.0 id.0 e)), over before first.1)
 
   -- one slot more is the user's
   farther : dist size first (step_on size tail 1) ≡ count + 1

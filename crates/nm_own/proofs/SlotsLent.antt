@@ -61,7 +61,7 @@ pub lends_not : (ports : Vec UserPort Global) (index : ℕ) → slice_get ports.
 lends_not ports index e = rw e refl
 
 -- a list whose element at a place is changed
-abbrev changed_at : List UserPort → ℕ → (UserPort → UserPort) → List UserPort
+abbrev pub changed_at : List UserPort → ℕ → (UserPort → UserPort) → List UserPort
 changed_at xs k change = option_map_or (λ (p : UserPort). set xs k (change p)) (slice_get xs k) xs
 
 items_are : (ports : Vec UserPort Global) (k : ℕ) (change : UserPort → UserPort) → (with_port_in ports k change).items ≡ changed_at ports.items k change
@@ -78,7 +78,7 @@ behind_one x xs k change = by_port (slice_get xs k)
     by_port None = refl
     by_port (Some p) = refl
 
-first_changed : (id : ℕ) (change : UserPort → UserPort) (xs : List UserPort) → ArePortsOnce (map places_of_port xs) → changed_at xs (index_of_port id xs) change ≡ map (changed_if id change) xs
+pub first_changed : (id : ℕ) (change : UserPort → UserPort) (xs : List UserPort) → ArePortsOnce (map places_of_port xs) → changed_at xs (index_of_port id xs) change ≡ map (changed_if id change) xs
 first_changed id change [] once = refl
 first_changed id change (x ∷ xs) once = elim (cases_Bool (nat_eq x.id.0 id)) [
   | inl here ↦ ap (λ (k : ℕ). changed_at (x ∷ xs) k change) (first_here id x xs here)
@@ -99,7 +99,7 @@ ports_same ports k = items_are ports k (λ (p : UserPort). p) ∙ by_port (slice
     by_port (Some p) e = ap (λ (q : UserPort). set ports.items k q) (sym (get_or_from_slice_get ports.items k p p e)) ∙ set-get_or ports.items k p
 
 -- and it is the port that is found
-first_is : (id : ℕ) (xs : List UserPort) → slice_get xs (index_of_port id xs) ≡ port_at xs id
+pub first_is : (id : ℕ) (xs : List UserPort) → slice_get xs (index_of_port id xs) ≡ port_at xs id
 first_is id [] = refl
 first_is id (x ∷ xs) = elim (cases_Bool (nat_eq x.id.0 id)) [
   | inl here ↦ ap (λ (k : ℕ). slice_get (x ∷ xs) k) (first_here id x xs here) ∙ rw here refl

@@ -12,3 +12,6 @@ pub mod LentBack
 pub mod LentOffers
 pub mod PortNames
 pub mod LentSlots
+pub mod Copies
+pub mod CopiesIn
+pub mod PortPlaces

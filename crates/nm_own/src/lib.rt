@@ -2,6 +2,7 @@
 #![tactic(auto)]
 
 mod acts;
+mod copies;
 mod edit;
 mod extras;
 pub mod laws;

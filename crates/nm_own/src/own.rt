@@ -11,6 +11,7 @@ ghost use Rattle.nm_types.specs.Positions.{IsRingSize};
 ghost use Rattle.nm_region.specs.Buffers.{indices_of};
 ghost use Rattle.nm_own.specs.Opening.{IsTxSize, IsNew, blank_arrivals};
 ghost use Rattle.nm_own.specs.NewPorts.{HasRoomFor};
+ghost use Rattle.nm_own.specs.PortPlaces.{place_with_id};
 ghost use Rattle.nm_types.specs.OwnPorts.{OwnPort, empty_own, bytes_at, ring_at, pushed_on, port_with_id};
 ghost use Rattle.nm_types.specs.OwnPorts.{named_of};
 ghost use Rattle.nm_port.specs.Own.{refusal_at, port_at, slots_on, slots_at, ring_of};
@@ -43,7 +44,7 @@ use nm_port::close::{empty_port, take_port};
 use nm_port::exchange::{accept_pushes, send_out};
 use nm_port::fill::{Row, fill, put};
 use nm_port::gather::{gather, gather_names, gather_offered};
-use nm_port::receive::{clear_behind, publish_at};
+use nm_port::receive::clear_behind;
 use nm_port::reset::reset_rings;
 use nm_port::{SlotRing, UserPort};
 use nm_region::Buf;
@@ -196,6 +197,13 @@ impl OwnSide {
         ensures { result ≡ is_some (port_with_id self.now.own port.0) }
     {
         port_at(&self.ports, port).is_some()
+    }
+
+    /// Where a port stands in the order of the ports; behind them all, if there is no such port.
+    pub fn place_of(&self, port: PortId) -> usize
+        ensures { result ≡ place_with_id self.now.own port.0 }
+    {
+        index_of_port(&self.ports, port)
     }
 
     /// The name of a port, if the session has it.
@@ -505,15 +513,27 @@ impl OwnSide {
         ensures region { (region : ℕ) → AllOf region self.old → IsBufferOf region buf
             → AllOf region self.new }
     {
-        let slot = match ring_at(&self.ports, port, Side::Rx) {
-            Some(ring) => ring.ring().tail(),
-            None => unreachable!(),
-        };
+        let at = self.place_of(port);
+        self.receive_at(at, port, buf, len);
+    }
+
+    /// Does what `receive` does, at the place that `place_of` tells of the port.
+    pub fn receive_at(&mut self, at: usize, port: PortId, buf: Buf, len: u16)
+        requires place { at ≡ place_with_id self.old.own port.0 }
+        requires room { can_receive port.0 self.old.own ≡ true }
+        requires len { len ≤ 2048 }
+        requires new { IsNew self.old.own buf.index }
+        ensures own { self.new.own ≡ own_with_arrival port.0 self.old.own
+            (record { buffer = buf.index; bytes = take len buf.bytes }) }
+        ensures region { (region : ℕ) → AllOf region self.old → IsBufferOf region buf
+            → AllOf region self.new }
+    {
+        let slot = self.ports[at].rx.ring().tail();
         let mut buf = buf;
         clear_behind(&mut buf, len);
         let idx = buf.index();
         put(&mut self.hold, Place::Rx { port, slot }, buf, true);
-        publish_at(&mut self.ports, port, idx, len);
+        self.ports[at].rx.publish(idx, len);
     }
 
     /// What stands after a send, for a push that no check refuses: the buffers that the pushed

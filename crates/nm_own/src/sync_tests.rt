@@ -162,8 +162,9 @@ fn offers(rt: &impl Abort, own: &mut OwnSide, alloc: Global, first: &[u8]) -> us
 fn lend_and_undo(rt: &impl Abort, own: OwnSide, alloc: Global) -> OwnSide {
     let mut pending = room(rt, alloc, 2);
     let (lent, lengths) = lend_frames(rt, own, alloc, &mut pending);
-    assert!(rt; lengths.len() == 2 && pending.len() == 2);
+    assert!(rt; lengths.len() == 2);
     assert!(rt; lengths[0] == 14 && lengths[1] == 7);
+    assert!(rt; pending.len() == 2);
     assert!(rt; pending[0].index() == 8 && pending[1].index() == 3);
     let own = lent.undo(&mut pending);
     pending.destroy_empty();

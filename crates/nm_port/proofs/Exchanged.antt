@@ -14,7 +14,7 @@ use Rattle.nm_types.specs.declared.id.Side.{Side}
 use Rattle.nm_types.specs.declared.id.Side.TheVariants.{Tx, Rx}
 use Rattle.nm_types.specs.declared.place.Place.{Place}
 use Rattle.nm_types.specs.declared.place.Place.TheVariants as place
-use Rattle.nm_types.specs.Places.{is_same_place}
+use Rattle.nm_types.specs.Places.{Held, held_at, is_same_place}
 use Rattle.nm_types.specs.Positions.{IsRing, FitsRing, dist, step_on, slots_from}
 use Rattle.nm_types.specs.Exchange.{swapped, exchanged}
 use Rattle.nm_types.specs.OwnPorts.{OwnRing, OwnPort, ring_on}
@@ -22,8 +22,11 @@ use Rattle.nm_types.specs.OwnSyncs.{ring_swapped, port_swapped, buffer_on, after
 use Rattle.nm_types.proofs.Exchanges.{held_at-exchanged, swapped-first, swapped-other}
 use Rattle.nm_types.proofs.RingSteps.{dist-below, dist-step_on}
 use Rattle.nm_hold.specs.declared.standing.Standing.{Standing}
-use Rattle.nm_hold.specs.Standings.{buf_in, cell_named}
-use Rattle.nm_hold.specs.Holds.{HoldState, places_of, bufs_of, index_at, standing_at, stands_at, is_named_at, is_named_in, with_cell, IsHold, SamePlaces}
+use Rattle.nm_region.specs.Buffers.{Buffer}
+use Rattle.nm_hold.specs.Standings.{buf_in}
+use Rattle.nm_hold.specs.Renames.{cell_named_in, with_places_named}
+use Rattle.nm_hold.proofs.Renamed.{named_at}
+use Rattle.nm_hold.specs.Holds.{HoldState, places_in, places_of, bufs_of, index_at, standing_at, stands_at, is_named_at, is_named_in, with_cell, IsHold, SamePlaces}
 use Rattle.nm_hold.proofs.Spots.{nat_eq-is, same_place-is}
 use Rattle.nm_hold.proofs.Shown.{named_stands}
 use Rattle.nm_hold.proofs.Tied.{within_cells}
@@ -258,85 +261,32 @@ module _ (h now new : HoldState) (id : PortId) (r : RingSlots) (k : ℕ) (is : I
 pub none_exchanged : (h : HoldState) (id : PortId) (r : RingSlots) → IsHold h → AreExchanged h h id r 0
 none_exchanged h id r is = record { seen = λ ports sided e. refl; names = λ k below. absurd (omega arith); held = λ q. refl; there = λ q there. there; named = λ i. refl; flags = λ f flagged. flagged; bufs = refl; ports = refl; is_hold = is }
 
--- one buffer more is a named one, or is not
-module _ (h now new : HoldState) (named : Bool) (places : List Place) (q : Place) (so_far : AreRenamed h now named places) where
-  module _ (same : SamePlaces (places_of now) (places_of new)) (is_new : IsHold new) (idx : ℕ) (there : index_at now q ≡ Some idx) (cell : new ≡ with_cell now idx (cell_named named (standing_at now idx))) where
-    bufs_new : bufs_of new ≡ bufs_of now
-    bufs_new = ap (λ (x : HoldState). bufs_of x) cell ∙ map-set_same buf_in now.cells idx (cell_named named (standing_at now idx)) None (by_cell (standing_at now idx))
-      where
-        by_cell : (o : Option Standing) → buf_in (cell_named named o) ≡ buf_in o
-        by_cell None = refl
-        by_cell (Some s) = refl
+-- the buffers in some places become named ones, or are no longer
+pub renamed : (h : HoldState) (named : Bool) (places : List Place) → IsHold (with_places_named named places h) → AreRenamed h (with_places_named named places h) named places
+renamed h named places is = record {
+  same = λ q. ap (λ (held : List Held). held_at held q) (places_kept h.cells);
+  flags = λ f flagged i s e. by_cell f i s (standing_at h i) refl (sym (named_at named places h.cells i) ∙ e) flagged;
+  bufs = bufs_kept h.cells;
+  ports = refl;
+  is_hold = is;
+}
+  where
+    places_kept : (cells : List (Option Standing)) → places_in (map (cell_named_in named places) cells) ≡ places_in cells
+    places_kept [] = refl
+    places_kept (None ∷ cells) = places_kept cells
+    places_kept (Some s ∷ cells) = ap (λ (held : List Held). record { place = s.home.place; buffer = s.buf.index } ∷ held) (places_kept cells)
 
-    among_more : (p : Place) → is_among (places ++ q ∷ []) p ≡ (is_among places p || (is_same_place q p || false))
-    among_more p = list_any-append (λ x. is_same_place x p) places (q ∷ [])
+    bufs_kept : (cells : List (Option Standing)) → map buf_in (map (cell_named_in named places) cells) ≡ map buf_in cells
+    bufs_kept [] = refl
+    bufs_kept (None ∷ cells) = ap (λ (bufs : List (Option Buffer)). None ∷ bufs) (bufs_kept cells)
+    bufs_kept (Some s ∷ cells) = ap (λ (bufs : List (Option Buffer)). Some s.buf ∷ bufs) (bufs_kept cells)
 
-    or_here : (a b : Bool) → b ≡ true → (a || (b || false)) ≡ true
-    or_here true b e = refl
-    or_here false b e = rw e refl
-
-    or_elsewhere : (a b : Bool) → b ≡ false → (a || (b || false)) ≡ a
-    or_elsewhere true b e = refl
-    or_elsewhere false b e = rw e refl
-
-    flags_here : (f : Place → Bool) (i : ℕ) (s : Standing) → standing_at new i ≡ Some s → nat_eq i idx ≡ true → s.home.named ≡ named_if named (places ++ q ∷ []) f s.home.place
-    flags_here f i s e here =
-        let at : i ≡ idx = nat_eq-is i idx here in
-        let stood : stands_at q (standing_at now idx) ≡ true = so_far.is_hold.held q idx there in
-        by_cell (standing_at now idx) refl stood (ap (λ (n : ℕ). standing_at new n) (sym at) ∙ e)
-      where
-        by_cell : (o : Option Standing) → standing_at now idx ≡ o → stands_at q (standing_at now idx) ≡ true → standing_at new idx ≡ Some s → s.home.named ≡ named_if named (places ++ q ∷ []) f s.home.place
-        by_cell None e stood stands = false_true (ap (stands_at q) (sym e) ∙ stood)
-        by_cell (Some t) e stood stands =
-            let here_q : is_same_place q t.home.place ≡ true = sym (ap (stands_at q) e) ∙ stood in
-            let within = within_cells now.cells idx t e in
-            let is : cell_named named (Some t) ≡ Some s = sym (ap (λ (x : HoldState). standing_at x idx) cell ∙ (get_or-set_same now.cells idx (cell_named named (standing_at now idx)) None within ∙ ap (cell_named named) e)) ∙ stands in
-            let parts = named_parts t s is in
-            let in_all : is_among (places ++ q ∷ []) s.home.place ≡ true = among_more s.home.place ∙ or_here (is_among places s.home.place) (is_same_place q s.home.place) (ap (is_same_place q) parts.0 ∙ here_q) in
-            rw in_all parts.1
-          where
-            named_parts : (t s : Standing) → cell_named named (Some t) ≡ Some s → (s.home.place ≡ t.home.place) × (s.home.named ≡ named)
-            named_parts t s e = (ap (λ (o : Option Standing). option_map_or (λ (x : Standing). x.home.place) o t.home.place) (sym e), ap (λ (o : Option Standing). option_map_or (λ (x : Standing). x.home.named) o named) (sym e))
-
-    flags_elsewhere : (f : Place → Bool) → FlaggedBy now (named_if named places f) → (i : ℕ) (s : Standing) → standing_at new i ≡ Some s → nat_eq i idx ≡ false → s.home.named ≡ named_if named (places ++ q ∷ []) f s.home.place
-    flags_elsewhere f flagged i s e differs =
-        let other : i ≢ idx = (λ (same : i ≡ idx). false_true (sym differs ∙ same_eq i idx same)) in
-        let stood : standing_at now i ≡ Some s = sym (ap (λ (x : HoldState). standing_at x i) cell ∙ get_or-set_other now.cells idx i (cell_named named (standing_at now idx)) None other) ∙ e in
-        let apart : is_same_place q s.home.place ≡ false = elim (cases_Bool (is_same_place q s.home.place)) [
-          | inl same ↦ absurd (other (some_is i idx (sym ((so_far.is_hold.standing i s stood).there) ∙ (ap (index_at now) (sym (same_place-is q s.home.place same)) ∙ there))))
-          | inr no_same ↦ no_same
-        ] in
-        let in_all : is_among (places ++ q ∷ []) s.home.place ≡ is_among places s.home.place = among_more s.home.place ∙ or_elsewhere (is_among places s.home.place) (is_same_place q s.home.place) apart in
-        flagged i s stood ∙ ap (λ (b : Bool). if b then named else f s.home.place) (sym in_all)
-      where
-        same_eq : (a b : ℕ) → a ≡ b → nat_eq a b ≡ true
-        same_eq a b e = grind (arith, nat_tests)
-
-    renamed_more : AreRenamed h new named (places ++ q ∷ [])
-    renamed_more = record {
-      same = λ p. same p ∙ so_far.same p;
-      flags = λ f flagged i s e. elim (cases_Bool (nat_eq i idx)) [
-        | inl here ↦ flags_here f i s e here
-        | inr differs ↦ flags_elsewhere f (so_far.flags f flagged) i s e differs
-      ];
-      bufs = bufs_new ∙ so_far.bufs;
-      ports = ap (λ (x : HoldState). x.ports) cell ∙ so_far.ports;
-      is_hold = is_new;
-    }
-
-  pub renamed_next : IsSome (index_at now q) → ((idx : ℕ) → index_at now q ≡ Some idx → new ≡ with_cell now idx (cell_named named (standing_at now idx))) → SamePlaces (places_of now) (places_of new) → IsHold new
-      → AreRenamed h new named (places ++ q ∷ [])
-  renamed_next some cell same is = by_index (index_at now q) refl some
-    where
-      by_index : (o : Option ℕ) → index_at now q ≡ o → IsSome o → AreRenamed h new named (places ++ q ∷ [])
-      by_index None e some = absurd cc
-      by_index (Some idx) e some = renamed_more same is idx e (cell idx e)
-
-pub none_renamed : (h : HoldState) (named : Bool) → IsHold h → AreRenamed h h named []
-none_renamed h named is = record { same = λ p. refl; flags = λ f flagged. flagged; bufs = refl; ports = refl; is_hold = is }
-
-pub tx_places_more : (id : PortId) (size first k : ℕ) → tx_places id size first (k + 1) ≡ tx_places id size first k ++ place.Tx id (step_on size first k) ∷ []
-tx_places_more id size first k = seen_more (place.Tx id) size first k
+    by_cell : (f : Place → Bool) (i : ℕ) (s : Standing) (o : Option Standing) → standing_at h i ≡ o → cell_named_in named places o ≡ Some s → FlaggedBy h f → s.home.named ≡ named_if named places f s.home.place
+    by_cell f i s None e is flagged = cc
+    by_cell f i s (Some t) e is flagged =
+        let place : s.home.place ≡ t.home.place = ap (λ (o : Option Standing). option_map_or (λ (x : Standing). x.home.place) o t.home.place) (sym is) in
+        let name : s.home.named ≡ (if is_among places t.home.place then named else t.home.named) = ap (λ (o : Option Standing). option_map_or (λ (x : Standing). x.home.named) o named) (sym is) in
+        name ∙ (ap (λ (b : Bool). if is_among places t.home.place then named else b) (flagged i t e) ∙ ap (named_if named places f) (sym place))
 
 -- a transmit push: its slots exchanged, those pushed no longer named ones, those that came back named ones
 pub pushed_out : (h h1 h2 h3 : HoldState) (id : PortId) (r : RingSlots) (taken : ℕ) → AreExchanged h h1 id r (pushed_count_of r) → AreRenamed h1 h2 false (tx_places id r.ring.size r.ring.accepted_head (pushed_count_of r))

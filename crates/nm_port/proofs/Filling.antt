@@ -13,7 +13,6 @@ use Rattle.nm_types.specs.Chain.{chain_head}
 use Rattle.nm_types.specs.SyncChecks.{contains_index}
 use Rattle.nm_region.specs.Buffers.{Buffer, indices_of}
 use Rattle.nm_hold.specs.declared.standing.Standing.{Standing}
-use Rattle.nm_hold.specs.Standings.{cell_named}
 use Rattle.nm_hold.specs.Holds.{HoldState, buffers_of, index_at, standing_at, with_cell, IsHold}
 use Rattle.nm_hold.proofs.Spots.{nat_eq-is, same_place-is, same_place-refl}
 use Rattle.nm_port.specs.declared.fill.Row.{Row}
@@ -33,26 +32,6 @@ some_same x y e = cc
 
 pub within_pool : (h : HoldState) (idx : ℕ) → IsHold h → IsBufferIndex (buffers_of h) idx → idx < length h.cells
 within_pool h idx is index = let pool = is.pool in omega (arith, pool.0, index.1)
-
--- a cell that is set, and set again
-set_twice : {X : Type 0} (xs : List X) (i : ℕ) (x y : X) → set (set xs i x) i y ≡ set xs i y
-set_twice [] i x y = refl
-set_twice (z ∷ zs) zero x y = refl
-set_twice {X = X} (z ∷ zs) (suc i) x y = ap (λ (ws : List X). z ∷ ws) (set_twice zs i x y)
-
--- a buffer that was added and then named or not
-pub put_is : (h added new : HoldState) (place : Place) (buf : Buffer) (named : Bool) → IsHold h → IsBufferIndex (buffers_of h) buf.index
-    → added ≡ with_cell h buf.index (Some (placed place false buf)) → index_at added place ≡ Some buf.index
-    → ((idx : ℕ) → index_at added place ≡ Some idx → new ≡ with_cell added idx (cell_named named (standing_at added idx)))
-    → new ≡ with_cell h buf.index (Some (placed place named buf))
-put_is h added new place buf named is index cell there name =
-    let within = within_pool h buf.index is index in
-    let standing : standing_at added buf.index ≡ Some (placed place false buf) = ap (λ (x : HoldState). standing_at x buf.index) cell ∙ get_or-set_same h.cells buf.index (Some (placed place false buf)) None within in
-    name buf.index there ∙ (ap (λ (o : Option Standing). with_cell added buf.index (cell_named named o)) standing
-    ∙ (ap (λ (x : HoldState). with_cell x buf.index (Some (placed place named buf))) cell ∙ ap (λ (cells : List (Option Standing)). record h { cells = cells }) (set_twice h.cells buf.index (Some (placed place false buf)) (Some (placed place named buf)))))
-
-pub put_place : (place : Place) (idx : ℕ) (o : Option ℕ) → (if is_same_place place place then Some idx else o) ≡ Some idx
-put_place place idx o = rw (same_place-refl place) refl
 
 -- places of a row are told apart by their positions
 row_same : (port : PortId) (row : Row) (a b : ℕ) → is_same_place (place_in port row a) (place_in port row b) ≡ true → a ≡ b

@@ -1,5 +1,5 @@
 -- A push each of whose slots keeps the buffer in its place: no slot of it is refused.
-use Rattle.std.proofs.Common.{ℕ, zero, suc, ◌≡◌, ◌≢◌, ◌<◌, ◌≤◌, ◌+◌, Bool, true, false, nat_eq, List, [], ◌∷◌, ◌++◌, map, get_or, Option, Some, None, inl, inr, refl, sym, ◌∙◌, ap, subst, arith}
+use Rattle.std.proofs.Common.{ℕ, zero, suc, ◌≡◌, ◌<◌, ◌≤◌, ◌+◌, Bool, true, false, nat_eq, List, [], ◌∷◌, ◌++◌, map, Option, Some, None, inl, inr, refl, sym, ◌∙◌, ap, subst, arith}
 use Rattle.std.specs.Prelude.{◌||◌, slice_get, unwrap_or}
 use Rattle.std.proofs.lemmas.Bool.{cases_Bool}
 use Rattle.std.proofs.lemmas.List.{map-append}
@@ -7,11 +7,11 @@ use Rattle.std.proofs.lemmas.Option.{unwrap_or-slice_get}
 use Rattle.nm_types.specs.declared.id.PortId.{PortId}
 use Rattle.nm_types.specs.declared.id.Side.{Side}
 use Rattle.nm_types.specs.declared.id.Side.TheVariants.{Tx, Rx}
-use Rattle.nm_types.specs.Positions.{IsRing, FitsRing, step_on, slots_from}
+use Rattle.nm_types.specs.Positions.{IsRing, FitsRing, slots_from}
 use Rattle.nm_types.specs.Slots.{Pushed, pushed_names}
-use Rattle.nm_types.specs.SyncChecks.{slots_refusal, slot_refusal, seen_of, contains_index, PassesSlot}
+use Rattle.nm_types.specs.SyncChecks.{slots_refusal, seen_of, contains_index, PassesSlot}
 use Rattle.nm_types.proofs.SlotChecks.{PassesSlot-from_none, slot_refusal-passes}
-use Rattle.nm_hold.specs.Holds.{HoldState, buffers_of, index_at, is_named_at, slot_on, IsHold, AreNumbers}
+use Rattle.nm_hold.specs.Holds.{HoldState, buffers_of, index_at, slot_on, IsHold, AreNumbers}
 use Rattle.nm_hold.proofs.Spots.{nat_eq-is}
 use Rattle.nm_port.specs.RingSlots.{RingSlots, slot_at}
 use Rattle.nm_port.specs.Sides.{place_on, number_at, name_at, pushed_seen_at, AreNamed, seen_alone, KeepsBuffer}
@@ -20,11 +20,11 @@ use Rattle.nm_port.proofs.Judging.{passed_more, contains_more, false_true}
 use Rattle.nm_port.proofs.Pushes.{seen_more}
 use Rattle.nm_port.proofs.Exchanged.{one_place, user_apart}
 
-slot_is_place : (side : Side) (id : PortId) (at : ℕ) → slot_on side id at ≡ place_on side id at
+pub slot_is_place : (side : Side) (id : PortId) (at : ℕ) → slot_on side id at ≡ place_on side id at
 slot_is_place Tx id at = refl
 slot_is_place Rx id at = refl
 
-index_from : (o : Option ℕ) (idx : ℕ) → unwrap_or o 0 ≡ idx → 2 ≤ idx → o ≡ Some idx
+pub index_from : (o : Option ℕ) (idx : ℕ) → unwrap_or o 0 ≡ idx → 2 ≤ idx → o ≡ Some idx
 index_from None idx e low = let none : 0 ≡ idx = e in absurd (omega (arith, none))
 index_from (Some i) idx e low = ap (λ (n : ℕ). Some n) e
 

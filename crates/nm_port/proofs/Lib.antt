@@ -7,9 +7,11 @@ pub mod Checked
 pub mod Renaming
 pub mod Filling
 pub mod Taking
+pub mod TakenRuns
 pub mod PortOut
 pub mod Exchanged
 pub mod Buffers
 pub mod Undoing
+pub mod Unmoved
 pub mod Regions
 pub mod Ranges

@@ -1,7 +1,6 @@
 -- Exchanges undone, and buffers put back where they stood: the hold is as it was before.
-use Rattle.std.proofs.Common.{nat_le, ℕ, zero, suc, ◌≡◌, ◌<◌, Bool, true, false, nat_lt, if◌then◌else◌, List, [], ◌∷◌, ◌++◌, length, map, reverse, drop, set, Option, Some, None, option_map, refl, sym, ◌∙◌, ap, arith, append_assoc, rules}
+use Rattle.std.proofs.Common.{nat_le, ℕ, zero, suc, ◌≡◌, ◌<◌, Bool, true, false, nat_lt, if◌then◌else◌, List, [], ◌∷◌, ◌++◌, length, map, reverse, set, Option, Some, None, option_map, refl, sym, ◌∙◌, ap, arith, rules}
 use Rattle.std.specs.Prelude.{IsSome}
-use Rattle.std.proofs.Math.Seq.{drop-append_seam}
 use Rattle.std.proofs.lemmas.Bool.Decides.{nat_tests}
 use Rattle.std.proofs.lemmas.List.{length-set, reverse-append, length-reverse}
 use Rattle.nm_types.specs.Buffers.{IsBufferIndex}
@@ -149,10 +148,6 @@ last_out h run unnamed bufs left buf now last out =
     let x = rw (last, last_first left buf, length-reverse left) at out in
     x
 
-pub one_more_out : (h now new : HoldState) (run : Run) (unnamed : ℕ) (bufs : List Buffer) (k : ℕ) (buf : Buffer) → length bufs ≡ k → AreOut h run unnamed (reverse bufs) now
-    → IsOut now new (place_of_run run k) (nat_le unnamed k) buf → AreOut h run unnamed (reverse (bufs ++ buf ∷ [])) new
-one_more_out h now new run unnamed bufs k buf count out one = rw (last_first bufs buf, length-reverse bufs, count) ((now, (one, out)))
-
 -- a place of a run that comes behind the first ones
 pub run_not_yet : (s : Side) (id : PortId) (size first k : ℕ) → first < size → k < size → is_among (map (place_on s id) (slots_from size first k)) (place_on s id (step_on size first k)) ≡ false
 run_not_yet s id size first k within below =
@@ -168,9 +163,6 @@ run_not_yet s id size first k within below =
 module _ (h now : HoldState) (places : List Place) (before after : List Buffer) (taken : AreTaken h now places before after) (q : Place) (fresh : is_among places q ≡ false) where
   stays : index_at now q ≡ index_at h q
   stays = taken.index q ∙ ap (λ (b : Bool). if b then None else index_at h q) fresh
-
-  pub still_there : IsSome (index_at h q) → IsSome (index_at now q)
-  still_there some = rw stays some
 
   pub taken_out : (new : HoldState) (buf : Buffer) (named : Bool) → index_at now q ≡ Some buf.index → buffer_at now buf.index ≡ Some buf → new ≡ with_cell now buf.index None
       → ((p : Place) → index_at new p ≡ (if is_same_place q p then None else index_at now p)) → IsHold new → AreNamedAs named h q → IsOut now new q named buf
@@ -189,10 +181,3 @@ module _ (h now : HoldState) (places : List Place) (before after : List Buffer) 
           let place : q ≡ s.home.place = same_place-is q s.home.place (sym (ap (stands_at q) e) ∙ taken.is_hold.held q buf.index there) in
           let name : s.home.named ≡ named = sym (ap is_named_in (taken.stood buf.index s e)) ∙ flag buf.index (sym stays ∙ there) in
           ap (λ (p : Place). Some (placed p s.home.named s.buf)) (sym place) ∙ (ap (λ (n : Bool). Some (placed q n s.buf)) name ∙ ap (λ (b : Buffer). Some (placed q named b)) same)
-
-  pub out_more : (buf : Buffer) → drop (length before) (after ++ buf ∷ []) ≡ drop (length before) after ++ buf ∷ []
-  out_more buf =
-      let out : drop (length before) after ≡ taken.out = ap (drop (length before)) taken.joined ∙ drop-append_seam before taken.out in
-      ap (λ (all : List Buffer). drop (length before) (all ++ buf ∷ [])) taken.joined
-      ∙ (ap (drop (length before)) (append_assoc before taken.out (buf ∷ []))
-      ∙ (drop-append_seam before (taken.out ++ buf ∷ []) ∙ ap (λ (xs : List Buffer). xs ++ buf ∷ []) (sym out)))

@@ -54,6 +54,3 @@ pub record HasRoom (r : RingSlots) : Type 0 where
   pub fits : FitsRing r.ring r.ring.head r.ring.cur
   pub accepted : r.ring.accepted_head ≡ r.ring.head
   pub free : 0 < kernel_count r.ring.size r.ring.head r.ring.last_tail
-
-abbrev pub CanPublish : ℕ → UserPort → Type 0
-CanPublish id p = p.id.0 ≡ id → HasRoom p.rx

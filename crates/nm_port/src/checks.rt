@@ -147,7 +147,7 @@ fn judge_pushed(
 }
 
 /// The number at a position, 0 if there is none.
-fn number_in(numbers: &[u32], at: u32) -> u32
+pub(crate) fn number_in(numbers: &[u32], at: u32) -> u32
     ensures { result ≡ slice_index_or numbers.now at 0 }
 {
     match numbers.get(at as usize) {

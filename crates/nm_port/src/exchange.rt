@@ -10,10 +10,11 @@ ghost use Rattle.nm_port.specs.Exchanges.{CanExchange, AreExchanged, pushed_coun
 ghost use Rattle.nm_port.specs.Exchanges.{tx_places, ArePushedOut, ring_pushed_out, CanAccept};
 
 use crate::checks::place_on;
+use crate::kept::kept_count;
 use crate::port::UserPort;
 use crate::slot_ring::SlotRing;
 use nm_hold::Hold;
-use nm_types::{Place, PortId};
+use nm_types::PortId;
 
 /// Exchanges, for each pushed slot in order, the buffer in its place and the one that it names.
 pub(crate) fn exchange_pushed(hold: &mut Hold, port: PortId, ring: &SlotRing)
@@ -23,7 +24,8 @@ pub(crate) fn exchange_pushed(hold: &mut Hold, port: PortId, ring: &SlotRing)
 {
     let (first, count) = ring.pushed();
     let (side, size) = (ring.side(), ring.ring().size());
-    for k in 0..count {
+    let kept = kept_count(hold, port, ring);
+    for k in kept..count {
         let at = (first + k) % size;
         hold.exchange(place_on(side, port, at), ring.user_slot(at).buf_idx);
     }
@@ -38,10 +40,7 @@ pub fn name_slots(hold: &mut Hold, port: PortId, size: u32, first: u32, count: u
     requires held { (at : ℕ) → at < size → IsSome (index_at hold.old (place.Tx port at)) }
     ensures { AreRenamed hold.old hold.new named (tx_places port size first count) }
 {
-    for k in 0..count {
-        let slot = (first + k) % size;
-        hold.set_named(Place::Tx { port, slot }, named);
-    }
+    hold.name_slots(port, size, first, count, named);
 }
 
 /// Exchanges the buffers of a transmit push, of whose frames `taken` were taken, and names those of

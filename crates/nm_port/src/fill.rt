@@ -57,8 +57,7 @@ pub fn put(hold: &mut Hold, place: Place, buf: Buf, named: bool)
         ≡ (if is_same_place place q then Some buf.index else index_at hold.old q) }
     ensures hold { IsHold hold.new }
 {
-    hold.add(place, buf);
-    hold.set_named(place, named);
+    hold.add_named(place, buf, named);
 }
 
 /// Puts buffers into the empty places of a row of a port, the last one first. The first `named` of

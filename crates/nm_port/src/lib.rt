@@ -8,6 +8,7 @@ pub mod close;
 pub mod exchange;
 pub mod fill;
 pub mod gather;
+mod kept;
 mod port;
 pub mod receive;
 pub mod reset;

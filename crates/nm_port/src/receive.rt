@@ -9,7 +9,6 @@ ghost use Rattle.nm_port.specs.Own.{port_changed_if};
 ghost use Rattle.nm_port.specs.Closing.{AreTaken};
 ghost use Rattle.nm_port.specs.Exchanges.{pushed_count_of, user_place};
 ghost use Rattle.nm_port.specs.Receives.{user_places, ring_given_back, CanGiveBack};
-ghost use Rattle.nm_port.specs.Receives.{ring_published, CanPublish};
 ghost use Rattle.std.specs.Prelude.{take};
 ghost use Rattle.nm_types.specs.Buffers.{cleared_but};
 
@@ -51,26 +50,4 @@ pub fn clear_behind(buf: &mut Buf, len: u16)
 {
     let frame = buf.bytes().len().min(len as usize);
     buf.clear_behind(frame);
-}
-
-/// Publishes a frame in a port's receive ring, if it is the port of this id.
-fn publish_if(port: &mut UserPort, id: PortId, buffer: u32, len: u16)
-    requires { CanPublish id.0 port.old }
-    ensures { port.new ≡ port_changed_if id.0 Rx
-        (λ (of : PortId). ring_published buffer len) port.old }
-{
-    if port.id.0 == id.0 {
-        port.rx.publish(buffer, len);
-    }
-}
-
-/// Publishes a frame in the receive ring of the port of an id.
-pub fn publish_at(ports: &mut [UserPort], id: PortId, buffer: u32, len: u16)
-    requires { AllByRecursion (CanPublish id.0) ports.old }
-    ensures { ports.new ≡ map (port_changed_if id.0 Rx
-        (λ (of : PortId). ring_published buffer len)) ports.old }
-{
-    for port in ports.iter_mut() {
-        publish_if(port, id, buffer, len);
-    }
 }

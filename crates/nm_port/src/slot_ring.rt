@@ -194,6 +194,23 @@ impl SlotRing {
         self.put_positions(next, next);
     }
 
+    /// Does what `put_frame` does, on a transmit ring that has a slot at its head. Answers the buffer
+    /// that the slot names.
+    pub fn put_next(&mut self, len: u16) -> u32
+        requires side { self.old.side ≡ Tx }
+        requires slot { head_has_slot self.old.ring ≡ true }
+        ensures named { result ≡ (slot_at self.old self.old.ring.head).buf_idx }
+        ensures ring { self.new ≡ head_stepped (with_slot_at self.old.ring.head
+            (slot_framed len (slot_at self.old self.old.ring.head)) self.old) }
+    {
+        let at = self.ring.head();
+        let slot = self.slots[at as usize];
+        self.slots[at as usize] = framed(slot, len);
+        let next = self.next(at);
+        self.put_positions(next, next);
+        slot.buf_idx
+    }
+
     /// Whether a position is one of the user's slots.
     fn is_user_slot(&self, at: u32) -> bool
         ensures user { result ≡ is_user_slot self.now.ring at }
@@ -204,6 +221,7 @@ impl SlotRing {
     }
 
     /// Where the slot of a position, which may be any number, would be in the list of slots.
+    #[inline(always)]
     fn index_of(&self, at: u32) -> usize
         ensures { result ≡ index_of self.now.side self.now.ring at }
     {
@@ -355,7 +373,7 @@ impl SlotRing {
     }
 
     /// Publishes a received frame in the slot at the tail of a receive ring whose head is accepted.
-    pub(crate) fn publish(&mut self, buffer: u32, len: u16)
+    pub fn publish(&mut self, buffer: u32, len: u16)
         requires side { self.old.side ≡ Rx }
         requires fits { FitsRing self.old.ring self.old.ring.head self.old.ring.cur }
         requires accepted { self.old.ring.accepted_head ≡ self.old.ring.head }
@@ -439,6 +457,7 @@ impl SlotRing {
     }
 
     /// The slot at a position, which is one of the user's.
+    #[inline(always)]
     pub(crate) fn user_slot(&self, at: u32) -> Slot
         requires { is_user_slot self.now.ring at ≡ true }
         ensures { result ≡ slot_at self.now at }

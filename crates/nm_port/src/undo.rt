@@ -10,8 +10,9 @@ ghost use Rattle.nm_port.specs.Lending.{AreSwapped, AreOut, AreNamedAs, place_of
 
 use crate::checks::place_on;
 use crate::fill::put;
+use crate::kept::note_kept;
 use crate::slot_ring::SlotRing;
-use nm_hold::Hold;
+use nm_hold::{Hold, SlotRun};
 use nm_region::Buf;
 use nm_types::{Place, PortId, Side};
 
@@ -39,7 +40,8 @@ pub fn exchange_noted(hold: &mut Hold, port: PortId, ring: &SlotRing, was: &mut 
 {
     let (first, count) = ring.pushed();
     let (side, size) = (ring.side(), ring.ring().size());
-    for k in 0..count {
+    let kept = note_kept(hold, port, ring, was);
+    for k in kept..count {
         let at = (first + k) % size;
         let place = place_on(side, port, at);
         was.push_reserved(index_in(hold, place));
@@ -90,10 +92,13 @@ pub fn take_slots(
         (reverse (drop (length back.old.items) back.new.items)) hold.new }
     ensures capacity { vec_capacity back.new ≡ vec_capacity back.old }
 {
-    for k in 0..count {
-        let at = (first + k) % size;
-        back.push_reserved(hold.remove(place_on(side, port, at)));
-    }
+    let run = SlotRun {
+        port,
+        side,
+        size,
+        first,
+    };
+    hold.take_slots(run, count, back);
 }
 
 /// Puts buffers back into the places of some slots out of which they were taken, the last one first,

@@ -1,12 +1,12 @@
 use Rattle.nm_hold.proofs.Shown.{IsHold-stored}
 use Rattle.nm_hold.proofs.hold.Hold.bytes.Goals as goal
 
-pub returns-then-idx-len-clause-hold : goal.returns-then-idx-len-clause-hold
-returns-then-idx-len-clause-hold c =
+pub returns-in-Some-clause-hold : goal.returns-in-Some-clause-hold
+returns-in-Some-clause-hold c =
     let inv = c.self.invariant in
-    rw (← c.self.view_is) (IsHold-stored c.self.inside.cells.items c.self.inside.ports.tables inv.low inv.high inv.tables inv.once inv.tied)
+    rw (← c.self.view_is) (IsHold-stored c.self.inside.cells c.self.inside.ports.tables inv.low inv.high inv.tables inv.once inv.tied)
 
-pub returns-else-idx-len-clause-hold : goal.returns-else-idx-len-clause-hold
-returns-else-idx-len-clause-hold c =
+pub returns-in_default-clause-hold : goal.returns-in_default-clause-hold
+returns-in_default-clause-hold c =
     let inv = c.self.invariant in
-    rw (← c.self.view_is) (IsHold-stored c.self.inside.cells.items c.self.inside.ports.tables inv.low inv.high inv.tables inv.once inv.tied)
+    rw (← c.self.view_is) (IsHold-stored c.self.inside.cells c.self.inside.ports.tables inv.low inv.high inv.tables inv.once inv.tied)

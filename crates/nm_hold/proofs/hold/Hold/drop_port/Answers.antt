@@ -11,7 +11,7 @@ use Rattle.nm_hold.proofs.hold.Hold.drop_port.Goals as goal
 pub invariant_of-self : goal.invariant_of-self
 invariant_of-self c =
     let inv = c.self.invariant in
-    let cells = c.self.inside.cells.items in
+    let cells = c.self.inside.cells in
     let tables = c.self.inside.ports.tables in
     let port = c.args.port.0 in
     let kept : c.remove.new.self.tables ≡ without port tables = c.remove.ensures.tables in

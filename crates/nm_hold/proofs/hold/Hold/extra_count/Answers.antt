@@ -5,12 +5,12 @@ use Rattle.nm_hold.proofs.hold.Hold.extra_count.Goals as goal
 pub returns-in-Some-clause-hold : goal.returns-in-Some-clause-hold
 returns-in-Some-clause-hold c =
     let inv = c.self.invariant in
-    rw (← c.self.view_is) (IsHold-stored c.self.inside.cells.items c.self.inside.ports.tables inv.low inv.high inv.tables inv.once inv.tied)
+    rw (← c.self.view_is) (IsHold-stored c.self.inside.cells c.self.inside.ports.tables inv.low inv.high inv.tables inv.once inv.tied)
 
 pub returns-in-None-clause-hold : goal.returns-in-None-clause-hold
 returns-in-None-clause-hold c =
     let inv = c.self.invariant in
-    rw (← c.self.view_is) (IsHold-stored c.self.inside.cells.items c.self.inside.ports.tables inv.low inv.high inv.tables inv.once inv.tied)
+    rw (← c.self.view_is) (IsHold-stored c.self.inside.cells c.self.inside.ports.tables inv.low inv.high inv.tables inv.once inv.tied)
 
 pub returns-in-Some-clause-extras : goal.returns-in-Some-clause-extras
 returns-in-Some-clause-extras c =

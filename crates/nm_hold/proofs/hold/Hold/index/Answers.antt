@@ -6,14 +6,14 @@ use Rattle.nm_hold.proofs.hold.Hold.index.Goals as goal
 
 pub returns-then-idx-eq0-clause-index : goal.returns-then-idx-eq0-clause-index
 returns-then-idx-eq0-clause-index c =
-    let held = held-number c.self.inside.cells.items c.self.inside.ports.tables c.args.place c.self.invariant.tied in
+    let held = held-number c.self.inside.cells c.self.inside.ports.tables c.args.place c.self.invariant.tied in
     let number = c.number-idx.ensures in
     let none : number_at c.self.inside.ports.tables c.args.place ≡ 0 = sym number ∙ c.if-idx-eq0.true in
     rw (← c.self.view_is) (sym (held ∙ ap number_if none))
 
 pub returns-else-idx-eq0-clause-index : goal.returns-else-idx-eq0-clause-index
 returns-else-idx-eq0-clause-index c =
-    let held = held-number c.self.inside.cells.items c.self.inside.ports.tables c.args.place c.self.invariant.tied in
+    let held = held-number c.self.inside.cells c.self.inside.ports.tables c.args.place c.self.invariant.tied in
     let number = c.number-idx.ensures in
     let some : 0 < c.number-idx.result = omega arith in
     rw (← c.self.view_is) (sym (held ∙ (ap number_if (sym number) ∙ number_if-some c.number-idx.result some)))
@@ -21,9 +21,9 @@ returns-else-idx-eq0-clause-index c =
 pub returns-then-idx-eq0-clause-hold : goal.returns-then-idx-eq0-clause-hold
 returns-then-idx-eq0-clause-hold c =
     let inv = c.self.invariant in
-    rw (← c.self.view_is) (IsHold-stored c.self.inside.cells.items c.self.inside.ports.tables inv.low inv.high inv.tables inv.once inv.tied)
+    rw (← c.self.view_is) (IsHold-stored c.self.inside.cells c.self.inside.ports.tables inv.low inv.high inv.tables inv.once inv.tied)
 
 pub returns-else-idx-eq0-clause-hold : goal.returns-else-idx-eq0-clause-hold
 returns-else-idx-eq0-clause-hold c =
     let inv = c.self.invariant in
-    rw (← c.self.view_is) (IsHold-stored c.self.inside.cells.items c.self.inside.ports.tables inv.low inv.high inv.tables inv.once inv.tied)
+    rw (← c.self.view_is) (IsHold-stored c.self.inside.cells c.self.inside.ports.tables inv.low inv.high inv.tables inv.once inv.tied)

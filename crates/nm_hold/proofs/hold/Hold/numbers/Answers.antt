@@ -23,14 +23,14 @@ pub returns-in-Some-clause-numbers : goal.returns-in-Some-clause-numbers
 returns-in-Some-clause-numbers c =
     let inv = c.self.invariant in
     let found = rw c.in-Some.is at c.table.ensures.table in
-    rw (← c.self.view_is, c.slots.ensures.slots) (slots_are c.self.inside.cells.items c.self.inside.ports.tables c.args.side c.args.port c.in-Some.table.now inv.tied inv.once (sym found))
+    rw (← c.self.view_is, c.slots.ensures.slots) (slots_are c.self.inside.cells c.self.inside.ports.tables c.args.side c.args.port c.in-Some.table.now inv.tied inv.once (sym found))
 
 pub returns-in-Some-clause-hold : goal.returns-in-Some-clause-hold
 returns-in-Some-clause-hold c =
     let inv = c.self.invariant in
-    rw (← c.self.view_is) (IsHold-stored c.self.inside.cells.items c.self.inside.ports.tables inv.low inv.high inv.tables inv.once inv.tied)
+    rw (← c.self.view_is) (IsHold-stored c.self.inside.cells c.self.inside.ports.tables inv.low inv.high inv.tables inv.once inv.tied)
 
 pub returns-in-None-clause-hold : goal.returns-in-None-clause-hold
 returns-in-None-clause-hold c =
     let inv = c.self.invariant in
-    rw (← c.self.view_is) (IsHold-stored c.self.inside.cells.items c.self.inside.ports.tables inv.low inv.high inv.tables inv.once inv.tied)
+    rw (← c.self.view_is) (IsHold-stored c.self.inside.cells c.self.inside.ports.tables inv.low inv.high inv.tables inv.once inv.tied)

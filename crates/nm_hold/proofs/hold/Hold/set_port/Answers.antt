@@ -12,7 +12,7 @@ use Rattle.nm_hold.proofs.hold.Hold.set_port.Goals as goal
 pub invariant_of-self : goal.invariant_of-self
 invariant_of-self c =
     let inv = c.self.invariant in
-    let cells = c.self.inside.cells.items in
+    let cells = c.self.inside.cells in
     let tables = c.self.inside.ports.tables in
     let table = c.room.inside.table in
     let kept = c.room.invariant in

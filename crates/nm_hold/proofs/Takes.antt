@@ -1,0 +1,141 @@
+-- Buffers that are taken out of the slots of a run, one after another.
+use Rattle.std.proofs.Common.{ℕ, zero, suc, ◌≡◌, ◌<◌, ◌+◌, false, List, [], ◌∷◌, ◌++◌, length, map, slice_set, Option, Some, None, inl, inr, refl, sym, ◌∙◌, ap, arith, append_assoc, length-append}
+use Rattle.std.specs.Prelude.{option_map, slice_index_or}
+use Rattle.std.proofs.lemmas.Bool.{cases_Bool}
+use Rattle.std.proofs.lemmas.List.{length-set, reverse-append, length-reverse, append-nil}
+use Rattle.nm_types.specs.declared.id.PortId.{PortId}
+use Rattle.nm_types.specs.declared.id.Side.{Side}
+use Rattle.nm_types.specs.declared.id.Side.TheVariants as side
+use Rattle.nm_types.specs.declared.place.Place.{Place}
+use Rattle.nm_types.specs.declared.place.Place.TheVariants.{Tx, Rx, Extra}
+use Rattle.nm_types.specs.Places.{is_same_place}
+use Rattle.nm_types.specs.Positions.{dist, step_on}
+use Rattle.nm_types.proofs.RingSteps.{dist-step_on}
+use Rattle.nm_region.specs.Buffers.{Buffer}
+use Rattle.nm_hold.specs.declared.standing.Standing.{Standing}
+use Rattle.nm_hold.specs.declared.table.PortTable.{PortTable}
+use Rattle.nm_hold.specs.declared.taking.SlotRun.{SlotRun}
+use Rattle.nm_hold.specs.Standings.{buf_in}
+use Rattle.nm_hold.specs.Tables.{ports_of, number_at, put_in}
+use Rattle.nm_hold.specs.Holds.{HoldState, cell_at, slot_on, port_of}
+use Rattle.nm_hold.specs.Indexed.{tables_present, row_at, port_at, number_in_row, IsIndexed}
+use Rattle.nm_hold.specs.Takes.{place_in, IsRemoved, AreTakenBehind, AreHeld}
+use Rattle.nm_hold.proofs.Spots.{same_place-is}
+use Rattle.nm_hold.proofs.Numbers.{ports_of-put, has_place-from_number}
+use Rattle.nm_hold.proofs.Tied.{number_if-some, held-number}
+use Rattle.nm_hold.proofs.Shown.{IsHold-stored}
+use Rattle.nm_hold.proofs.Steps.{Removed, removed, put_are_tables, put_number, removed_places}
+use Rattle.nm_hold.proofs.Finding.{within_rows, apart-indexed, put-row, number-row, number-none}
+use Rattle.nm_hold.proofs.Slotted.{port_on}
+
+abbrev position : Place → ℕ
+position (Tx port at) = at
+position (Rx port at) = at
+position (Extra port at) = at
+
+position_on : (s : Side) (port : PortId) (at : ℕ) → position (slot_on s port at) ≡ at
+position_on side.Tx port at = refl
+position_on side.Rx port at = refl
+
+-- no place is there twice
+pub run_apart : (r : SlotRun) (j k : ℕ) → r.first < r.size → j < k → k < r.size → is_same_place (place_in r j) (place_in r k) ≡ false
+run_apart r j k within below few = elim (cases_Bool (is_same_place (place_in r j) (place_in r k))) [
+  | inl same ↦ absurd (let alike : step_on r.size r.first j ≡ step_on r.size r.first k =
+      sym (position_on r.side r.port (step_on r.size r.first j)) ∙ (ap position (same_place-is (place_in r j) (place_in r k) same) ∙ position_on r.side r.port (step_on r.size r.first k)) in
+      let steps : j ≡ k = sym (dist-step_on r.size r.first j within (omega (arith, below, few))) ∙ (ap (dist r.size r.first) alike ∙ dist-step_on r.size r.first k within few) in
+      omega (arith, steps, below))
+  | inr other ↦ other
+]
+
+abbrev hold_of : List (Option Standing) → List PortTable → HoldState
+hold_of cells tables = record { cells = cells; ports = ports_of tables }
+
+-- one buffer is taken out
+module _ (cells : List (Option Standing)) (tables : List PortTable) (held : AreHeld cells tables) (p : Place) (idx : ℕ) (s : Standing) (number : idx ≡ number_at tables p) (there : cell_at cells idx ≡ Some s) where
+  gone : Removed cells tables p idx s
+  gone = removed cells tables p idx s held.sound held.tied number there
+
+  pub still_held : AreHeld (slice_set cells idx None) (map (put_in p 0) tables)
+  still_held =
+      let count = length-set cells idx None in
+      record { low = rw count held.low; high = rw count held.high; sound = put_are_tables p 0 tables held.sound; once = rw (ports_of-put p 0 tables) held.once; tied = gone.tied }
+
+  pub one_removed : IsRemoved (hold_of cells tables) (hold_of (slice_set cells idx None) (map (put_in p 0) tables)) p s.buf
+  one_removed =
+      let same = ports_of-put p 0 tables in
+      let whole = still_held in
+      record {
+        index = held-number cells tables p held.tied ∙ (number_if-some (number_at tables p) gone.some ∙ ap (λ (n : ℕ). Some n) (sym number ∙ sym gone.index));
+        buffer = ap (λ (n : ℕ). buf_in (cell_at cells n)) gone.index ∙ ap buf_in there;
+        cell = rw (same, gone.index) refl;
+        places = removed_places cells (slice_set cells idx None) tables p held.sound held.tied gone.some gone.tied;
+        hold = IsHold-stored (slice_set cells idx None) (map (put_in p 0) tables) whole.low whole.high whole.sound whole.once whole.tied;
+      }
+
+-- a place that comes later still holds its buffer
+pub later_numbered : (cells : List (Option Standing)) (tables : List PortTable) (held : AreHeld cells tables) (r : SlotRun) (k j : ℕ) → r.first < r.size → k < j → j < r.size
+    → 0 < number_at tables (place_in r k) → 0 < number_at tables (place_in r j) → 0 < number_at (map (put_in (place_in r k) 0) tables) (place_in r j)
+later_numbered cells tables held r k j within below few here there =
+    let p = place_in r k in
+    rw (put_number p 0 tables held.sound (has_place-from_number tables p here) (place_in r j), run_apart r k j within below few) there
+
+-- none yet, and one more
+pub none_out : (h : HoldState) (run : SlotRun) (n : ℕ) (before : List Buffer) → n ≡ 0 → AreTakenBehind h run n h before before
+none_out h run n before none = record { out = []; joined = sym (append-nil before); count = sym none; removed = refl }
+
+pub one_more : (h now new : HoldState) (run : SlotRun) (k : ℕ) (before after : List Buffer) (buf : Buffer) → AreTakenBehind h run k now before after → IsRemoved now new (place_in run k) buf
+    → AreTakenBehind h run (k + 1) new before (after ++ buf ∷ [])
+one_more h now new run k before after buf taken one = record {
+  out = taken.out ++ buf ∷ [];
+  joined = ap (λ (all : List Buffer). all ++ buf ∷ []) taken.joined ∙ append_assoc before taken.out (buf ∷ []);
+  count = length-append taken.out (buf ∷ []) ∙ ap (λ (n : ℕ). n + 1) taken.count;
+  removed = rw (reverse-append taken.out (buf ∷ []), length-reverse taken.out, taken.count) ((now, (taken.removed, one)));
+}
+
+-- the row of the run's port
+pub row_any : (rows : List (Option PortTable)) (at : ℕ) (row : Option PortTable) → at < length rows → slice_index_or rows at row ≡ row_at rows at
+row_any [] at row h = absurd (omega (arith, h))
+row_any (r ∷ rows) zero row h = refl
+row_any (r ∷ rows) (suc at) row h = row_any rows at row (omega (arith, h))
+
+module _ (rows : List (Option PortTable)) (index : ℕ → Option ℕ) (at : ℕ) (r : SlotRun) (k : ℕ) (is : IsIndexed rows index) (found : index r.port.0 ≡ Some at) where
+  port_is : port_of (place_in r k) ≡ r.port.0
+  port_is = port_on r.side r.port (step_on r.size r.first k)
+
+  there_at : port_at rows at ≡ Some (port_of (place_in r k))
+  there_at = is.there at r.port.0 found ∙ ap (λ (n : ℕ). Some n) (sym port_is)
+
+  pub row_within : at < length rows
+  row_within = within_rows rows at r.port.0 (is.there at r.port.0 found)
+
+  pub number_is : number_in_row (row_at rows at) (place_in r k) ≡ number_at (tables_present rows) (place_in r k)
+  number_is = number-row rows index at (place_in r k) is (ap index port_is ∙ found)
+
+  pub rows_put : tables_present (slice_set rows at (option_map (put_in (place_in r k) 0) (row_at rows at))) ≡ map (put_in (place_in r k) 0) (tables_present rows)
+  rows_put = sym (put-row rows at (place_in r k) 0 (apart-indexed rows index is) there_at)
+
+-- the number that is read in the row, and the tables after it is cleared
+pub record Cleared (rows : List (Option PortTable)) (at : ℕ) (r : SlotRun) (k got : ℕ) (new : Option PortTable) : Type 0 where
+  pub number : got ≡ number_at (tables_present rows) (place_in r k)
+  pub row : new ≡ option_map (put_in (place_in r k) 0) (row_at rows at)
+  pub tables : tables_present (slice_set rows at new) ≡ map (put_in (place_in r k) 0) (tables_present rows)
+
+pub cleared : (rows : List (Option PortTable)) (index : ℕ → Option ℕ) (at : ℕ) (r : SlotRun) (k : ℕ) → IsIndexed rows index → index r.port.0 ≡ Some at → (other new : Option PortTable) (place : Place) (got : ℕ) → place ≡ place_in r k
+    → got ≡ number_in_row (slice_index_or rows at other) place → new ≡ option_map (put_in place 0) (slice_index_or rows at other) → Cleared rows at r k got new
+cleared rows index at r k is found other new place got here number row =
+    let p = place_in r k in
+    let read = row_any rows at other (row_within rows index at r k is found) in
+    let after : new ≡ option_map (put_in p 0) (row_at rows at) = row ∙ (ap (λ (q : Place). option_map (put_in q 0) (slice_index_or rows at other)) here ∙ ap (option_map (put_in p 0)) read) in
+    record {
+      number = number ∙ (ap (λ (q : Place). number_in_row (slice_index_or rows at other) q) here ∙ (ap (λ (o : Option PortTable). number_in_row o p) read ∙ number_is rows index at r k is found));
+      row = after;
+      tables = ap (λ (o : Option PortTable). tables_present (slice_set rows at o)) after ∙ rows_put rows index at r k is found;
+    }
+
+-- without a row there is nothing to take
+pub none_to_take : (rows : List (Option PortTable)) (index : ℕ → Option ℕ) (r : SlotRun) (n : ℕ) → IsIndexed rows index → index r.port.0 ≡ None → ((k : ℕ) → k < n → 0 < number_at (tables_present rows) (place_in r k)) → n ≡ 0
+none_to_take rows index r zero is none held = refl
+none_to_take rows index r (suc n) is none held =
+    let port = port_on r.side r.port (step_on r.size r.first 0) in
+    let empty = number-none rows index (place_in r 0) is (ap index port ∙ none) in
+    absurd (omega (arith, held 0 (omega arith), empty))

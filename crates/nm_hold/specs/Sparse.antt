@@ -1,0 +1,32 @@
+-- What stands at the indices of a pool, kept side by side: at each index a number, which is 0 where
+-- nothing stands, and else one more than the position of what stands there.
+use Rattle.std.specs.Prelude.{ℕ, zero, suc, ◌≡◌, ◌<◌, ◌≤◌, ◌+◌, ◌==◌, List, length, map, count_by, slice_index, slice_get, Option, None}
+use Rattle.std.specs.Vec.{vec_capacity}
+use Rattle.nm_hold.specs.declared.standing.Standing.{Standing}
+use Rattle.nm_hold.specs.declared.cells.Cells.TheInside.{Inside}
+
+-- what a number names
+abbrev pub named_by : List Standing → ℕ → Option Standing
+named_by held zero = None
+named_by held (suc position) = slice_get held position
+
+-- at each index what its number names
+abbrev pub cells_of : List ℕ → List Standing → List (Option Standing)
+cells_of at held = map (named_by held) at
+
+-- the number of an index, 0 behind the last one
+abbrev pub number_of : List ℕ → ℕ → ℕ
+number_of at idx = slice_index at idx
+
+-- an index has a position's number exactly where it is the owner of that position
+pub record AreOwners (at owners : List ℕ) : Type 0 where
+  pub numbered : (k : ℕ) → k < length owners → number_of at (slice_index owners k) ≡ suc k
+  pub owned : (idx k : ℕ) → number_of at idx ≡ suc k → (k < length owners) × (slice_index owners k ≡ idx)
+  pub full : count_by (λ n. n == 0) at + length owners ≡ length at
+
+pub record IsSparse (c : Inside) : Type 0 where
+  pub owners : AreOwners c.at.items c.owners.items
+  pub both : length c.held.items ≡ length c.owners.items
+  pub few : length c.at.items ≤ 65538
+  pub room : length c.at.items ≤ vec_capacity c.owners
+  pub space : length c.at.items ≤ vec_capacity c.held

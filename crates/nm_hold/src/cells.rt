@@ -1,0 +1,135 @@
+ghost use Rattle.std.specs.Prelude.{ℕ, ◌≡◌, ◌<◌, ◌≤◌, IfOk, IsSome, length, None, replicate, slice_set};
+ghost use Rattle.std.specs.Prelude.{Some};
+ghost use Rattle.std.specs.Borrow.{sem};
+ghost use Rattle.std.specs.Option.{option_copied};
+ghost use Rattle.nm_hold.specs.Holds.{cell_at};
+ghost use Rattle.nm_hold.specs.Standings.{bytes_in, cell_named};
+
+use crate::standing::Standing;
+use std::alloc::{AllocError, Global};
+use std::marker::Model;
+
+/// At each index of a pool the buffer that stands there, or nothing. It cannot be dropped:
+/// `destroy` ends it once nothing stands.
+///
+/// What stands lies side by side in no order, so that only as much memory is touched as buffers
+/// have stood at once; the rest of the room lies untouched.
+pub(crate) struct Cells {
+    // by index: 0 where nothing stands, else one more than the position of what stands there
+    at: Vec<u32>,
+    // by position: the index, and what stands there
+    owners: Vec<u32>,
+    held: Vec<Standing>,
+}
+
+impl Model for Cells {
+    ghost use Rattle.std.specs.Prelude.{List, Option};
+    ghost use Rattle.nm_hold.specs.declared.standing.Standing.{Standing};
+
+    ghost Value = { List (Option Standing) };
+
+    ghost use Rattle.nm_hold.specs.Sparse.{cells_of, IsSparse};
+
+    ghost view = { λ c. cells_of c.at.items c.held.items };
+
+    ghost invariant = { IsSparse };
+}
+
+impl Cells {
+    ghost use Rattle.nm_hold.specs.CellLends.{LendsStandingAt, LendsBytesIn};
+
+    /// Nothing at each of so many indices.
+    pub(crate) fn new(alloc: Global, count: usize) -> Result<Cells, AllocError>
+        requires { count ≤ 65538 }
+        ensures { IfOk result (λ cells. cells ≡ replicate count None) }
+    {
+        Ok(Cells {
+            at: vec![in alloc; 0; count]?,
+            owners: Vec::with_capacity(alloc, count)?,
+            held: Vec::with_capacity(alloc, count)?,
+        })
+    }
+
+    /// What stands at an index.
+    pub(crate) fn get(&self, idx: u32) -> Option<&Standing>
+        ensures { option_copied result ≡ cell_at self.now idx }
+    {
+        match self.at.get(idx as usize) {
+            Some(number) if *number > 0 => self.held.get((*number - 1) as usize),
+            _ => None,
+        }
+    }
+
+    /// What stands at an index, at which something stands.
+    pub(crate) fn standing(&self, idx: u32) -> &Standing
+        requires { IsSome (cell_at self.now idx) }
+        ensures { cell_at self.now idx ≡ Some result.now }
+    {
+        &self.held[(self.at[idx as usize] - 1) as usize]
+    }
+
+    /// The same, to be changed.
+    pub(crate) fn standing_mut(&mut self, idx: u32) -> &mut Standing
+        requires { IsSome (cell_at self.old idx) }
+        ensures* writes_back { sem 𝓛 (LendsStandingAt self.entry idx result) }
+        ensures standing { cell_at self.old idx ≡ Some result.now }
+    {
+        &mut self.held[(self.at[idx as usize] - 1) as usize]
+    }
+
+    /// The bytes of the buffer at an index, to be written.
+    pub(crate) fn bytes_mut(&mut self, idx: u32) -> &mut [u8]
+        requires { IsSome (cell_at self.old idx) }
+        ensures* writes_back { sem 𝓛 (LendsBytesIn self.entry idx result) }
+        ensures bytes { bytes_in (cell_at self.old idx) ≡ Some result.now }
+    {
+        self.standing_mut(idx).bytes_mut()
+    }
+
+    /// Makes the buffer at an index, at which one stands, a named one, or one that is not named.
+    pub(crate) fn rename(&mut self, idx: u32, named: bool)
+        requires { IsSome (cell_at self.old idx) }
+        ensures { self.new ≡ slice_set self.old idx (cell_named named (cell_at self.old idx)) }
+    {
+        let standing = self.standing_mut(idx);
+        standing.home.named = named;
+    }
+
+    /// Puts a buffer at an index, at which nothing stands.
+    pub(crate) fn put(&mut self, idx: u32, standing: Standing)
+        requires within { idx < length self.old }
+        requires empty { cell_at self.old idx ≡ None }
+        ensures { self.new ≡ slice_set self.old idx (Some standing) }
+    {
+        self.owners.push_reserved(idx);
+        self.held.push_reserved(standing);
+        self.at[idx as usize] = self.owners.len() as u32;
+    }
+
+    /// Takes out what stands at an index. What stands last takes its position.
+    pub(crate) fn take(&mut self, idx: u32) -> Standing
+        requires { IsSome (cell_at self.old idx) }
+        ensures standing { cell_at self.old idx ≡ Some result }
+        ensures cells { self.new ≡ slice_set self.old idx None }
+    {
+        let number = self.at[idx as usize];
+        let position = (number - 1) as usize;
+        let last = self.owners[self.owners.len() - 1];
+        self.at[last as usize] = number;
+        self.at[idx as usize] = 0;
+        self.owners.swap_remove(position);
+        self.held.swap_remove(position)
+    }
+
+    /// Ends cells in which nothing stands.
+    pub(crate) fn destroy(self)
+        requires { (idx : ℕ) → cell_at self idx ≡ None }
+    {
+        let Cells {
+            at: _,
+            owners: _,
+            held,
+        } = self;
+        held.destroy_empty();
+    }
+}

@@ -1,0 +1,127 @@
+use Rattle.std.proofs.Common.{ℕ, ◌≡◌, ◌++◌, ◌∷◌, ◌∙◌, true, set, take, Some, if◌then◌else◌, refl, ap}
+use Rattle.nm_types.specs.declared.place.Place.{Place}
+use Rattle.nm_types.specs.declared.place.Place.TheVariants as place
+use Rattle.nm_types.specs.Places.{is_same_place}
+use Rattle.nm_types.specs.Positions.{RingState}
+use Rattle.nm_types.specs.Buffers.{IsBufferIndex, cleared_but}
+use Rattle.nm_types.specs.OwnPorts.{Arrival}
+use Rattle.nm_region.specs.Buffers.{Buffer}
+use Rattle.nm_hold.specs.Offsets.{has_place}
+use Rattle.nm_hold.specs.Holds.{buffers_of, index_at, with_cell}
+use Rattle.nm_port.specs.declared.port.UserPort.{UserPort}
+use Rattle.nm_port.specs.RingSlots.{RingSlots}
+use Rattle.nm_port.specs.Own.{own_seen}
+use Rattle.nm_port.specs.Filling.{placed}
+use Rattle.nm_own.specs.Opening.{IsNew}
+use Rattle.nm_port.specs.Receives.{ring_published, own_with_arrival}
+use Rattle.nm_port.specs.Regions.{SideState}
+use Rattle.nm_port.proofs.Regions.{of_seen, holds_added}
+use Rattle.nm_own.proofs.OnePort.{kept_with}
+use Rattle.nm_own.proofs.Published.{Receives, belongs, empty, others, with_frame, changes, received_is_seen}
+use Rattle.nm_own.proofs.ReceivedAt.{within, receives_here, set_there, one_port}
+use Rattle.nm_own.proofs.RxPlaces.{with_rx}
+use Rattle.nm_own.proofs.own.OwnSide.receive_at.Goals as goal
+
+pub index-requires : goal.index-requires
+index-requires c = within c.self.inside c.self.invariant c.args.self.now c.self.view_is c.args.port c.args.at c.requires.place c.requires.room
+
+pub index_mut-requires : goal.index_mut-requires
+index_mut-requires c = within c.self.inside c.self.invariant c.args.self.now c.self.view_is c.args.port c.args.at c.requires.place c.requires.room
+
+pub put-requires-clause-belongs : goal.put-requires-clause-belongs
+put-requires-clause-belongs c =
+    let h = c.self.inside.hold in
+    let p = c.index.result.now in
+    let x = receives_here c.self.inside c.self.invariant c.args.self.now c.self.view_is c.args.port c.args.at c.requires.place c.requires.room p c.index.ensures in
+    let tail : c.tail-slot.result ≡ p.rx.ring.last_tail = c.tail-slot.ensures.tail ∙ (ap (λ (ring : RingState). ring.tail) c.ring.ensures.ring ∙ c.ring.ensures.slots.ring.one_tail) in
+    ap (λ (n : ℕ). has_place h.ports (place.Rx c.args.port n)) tail ∙ belongs h c.self.inside.ports.items c.args.port p p.rx x
+
+pub put-requires-clause-empty : goal.put-requires-clause-empty
+put-requires-clause-empty c =
+    let h = c.self.inside.hold in
+    let p = c.index.result.now in
+    let x = receives_here c.self.inside c.self.invariant c.args.self.now c.self.view_is c.args.port c.args.at c.requires.place c.requires.room p c.index.ensures in
+    let tail : c.tail-slot.result ≡ p.rx.ring.last_tail = c.tail-slot.ensures.tail ∙ (ap (λ (ring : RingState). ring.tail) c.ring.ensures.ring ∙ c.ring.ensures.slots.ring.one_tail) in
+    ap (λ (n : ℕ). index_at h (place.Rx c.args.port n)) tail ∙ empty h c.self.inside.ports.items c.args.port p p.rx x
+
+pub publish-requires-clause-side : goal.publish-requires-clause-side
+publish-requires-clause-side c =
+    (receives_here c.self.inside c.self.invariant c.args.self.now c.self.view_is c.args.port c.args.at c.requires.place c.requires.room c.index_mut.result.now c.index_mut.ensures.value).room.side
+
+pub publish-requires-clause-fits : goal.publish-requires-clause-fits
+publish-requires-clause-fits c =
+    (receives_here c.self.inside c.self.invariant c.args.self.now c.self.view_is c.args.port c.args.at c.requires.place c.requires.room c.index_mut.result.now c.index_mut.ensures.value).room.fits
+
+pub publish-requires-clause-accepted : goal.publish-requires-clause-accepted
+publish-requires-clause-accepted c =
+    (receives_here c.self.inside c.self.invariant c.args.self.now c.self.view_is c.args.port c.args.at c.requires.place c.requires.room c.index_mut.result.now c.index_mut.ensures.value).room.accepted
+
+pub publish-requires-clause-room : goal.publish-requires-clause-room
+publish-requires-clause-room c =
+    (receives_here c.self.inside c.self.invariant c.args.self.now c.self.view_is c.args.port c.args.at c.requires.place c.requires.room c.index_mut.result.now c.index_mut.ensures.value).room.free
+
+-- what is known once the frame is published
+record Step (c : goal.After-self-1) : Type 0 where
+  receives : Receives c.self.inside.hold c.self.inside.ports.items c.args.port c.index_mut.result.now c.index_mut.result.now.rx
+  cleared : c.clear_behind.new.buf.bytes ≡ cleared_but (take c.args.len c.args.buf.bytes)
+  number : c.clear_behind.new.buf.index ≡ c.args.buf.index
+  index : IsBufferIndex (buffers_of c.self.inside.hold) c.clear_behind.new.buf.index
+  cell : c.put.new.hold ≡ with_cell c.self.inside.hold c.clear_behind.new.buf.index (Some (placed (place.Rx c.args.port c.index_mut.result.now.rx.ring.last_tail) true c.clear_behind.new.buf))
+  places : (q : Place) → index_at c.put.new.hold q ≡ (if is_same_place (place.Rx c.args.port c.index_mut.result.now.rx.ring.last_tail) q then Some c.clear_behind.new.buf.index else index_at c.self.inside.hold q)
+
+step : (c : goal.After-self-1) → Step c
+step c =
+    let o = c.self.inside in
+    let p = c.index.result.now in
+    let same : p ≡ c.index_mut.result.now = one_port o c.self.invariant c.args.self.now c.self.view_is c.args.port c.args.at c.requires.place c.requires.room p c.index_mut.result.now c.index.ensures c.index_mut.ensures.value in
+    let tail : c.tail-slot.result ≡ c.index_mut.result.now.rx.ring.last_tail =
+    c.tail-slot.ensures.tail ∙ (ap (λ (ring : RingState). ring.tail) c.ring.ensures.ring ∙ (c.ring.ensures.slots.ring.one_tail ∙ ap (λ (q : UserPort). q.rx.ring.last_tail) same)) in
+    let new_index : IsNew (own_seen o.hold o.ports.items) c.args.buf.index = rw (← c.self.view_is) at c.requires.new in
+    let number : c.clear_behind.new.buf.index ≡ c.args.buf.index = ap (λ (b : Buffer). b.index) c.clear_behind.ensures.cleared in
+    record {
+      receives = receives_here o c.self.invariant c.args.self.now c.self.view_is c.args.port c.args.at c.requires.place c.requires.room c.index_mut.result.now c.index_mut.ensures.value;
+      cleared = ap (λ (b : Buffer). b.bytes) c.clear_behind.ensures.cleared;
+      number = number;
+      index = rw number new_index.0;
+      cell = rw (← tail) c.put.ensures.cell;
+      places = rw (← tail) c.put.ensures.places;
+    }
+
+-- the port that has the frame, and the ports with it
+abbrev framed : (c : goal.After-self-1) → UserPort
+framed c = with_frame c.self.inside.hold c.self.inside.ports.items c.args.port c.index_mut.result.now c.index_mut.result.now.rx (step c).receives c.put.new.hold c.clear_behind.new.buf (take c.args.len c.args.buf.bytes) c.args.len (step c).cleared c.requires.len c.clear_behind.ensures.size (step c).index (step c).cell (step c).places c.put.ensures.hold
+
+ports_are : (c : goal.After-self-1) → set c.self.inside.ports.items c.args.at (with_rx c.index_mut.result.now c.publish.new.self)
+    ≡ (others c.self.inside.hold c.self.inside.ports.items c.args.port c.index_mut.result.now c.index_mut.result.now.rx (step c).receives).before
+    ++ framed c ∷ (others c.self.inside.hold c.self.inside.ports.items c.args.port c.index_mut.result.now c.index_mut.result.now.rx (step c).receives).behind
+ports_are c =
+    let p = c.index_mut.result.now in
+    let moved : c.publish.new.self ≡ ring_published c.clear_behind.new.buf.index c.args.len p.rx = c.publish.ensures ∙ ap (λ (n : ℕ). ring_published n c.args.len p.rx) c.index-idx.ensures in
+    ap (λ (r : RingSlots). set c.self.inside.ports.items c.args.at (with_rx p r)) moved
+    ∙ set_there c.self.inside c.self.invariant c.args.self.now c.self.view_is c.args.port c.args.at c.requires.place c.requires.room p (step c).receives (framed c)
+
+pub invariant_of-self : goal.invariant_of-self
+invariant_of-self c =
+    let s = step c in
+    let h = c.self.inside.hold in
+    let ports = c.self.inside.ports.items in
+    let p = c.index_mut.result.now in
+    let buf = c.clear_behind.new.buf in
+    let frame = take c.args.len c.args.buf.bytes in
+    kept_with c.self.inside _ c.args.port p (framed c) c.self.invariant s.receives.same_id (others h ports c.args.port p p.rx s.receives)
+    (changes h ports c.args.port p p.rx s.receives c.put.new.hold buf frame c.args.len s.cleared c.requires.len c.clear_behind.ensures.size s.index s.cell s.places c.put.ensures.hold c.self.invariant.whole) (ports_are c) refl
+
+pub returns-clause-own : goal.returns-clause-own
+returns-clause-own c =
+    let s = step c in
+    let p = c.index_mut.result.now in
+    let frame = take c.args.len c.args.buf.bytes in
+    ap (own_seen c.put.new.hold) (ports_are c)
+    ∙ (received_is_seen c.self.inside.hold c.self.inside.ports.items c.args.port p p.rx s.receives c.put.new.hold c.clear_behind.new.buf frame c.args.len s.cleared c.requires.len c.clear_behind.ensures.size s.index s.cell s.places c.put.ensures.hold
+    ∙ (ap (λ (i : ℕ). let came : Arrival = record { buffer = i; bytes = frame } in own_with_arrival c.args.port.0 (own_seen c.self.inside.hold c.self.inside.ports.items) came) s.number
+    ∙ ap (λ (o : SideState). let came : Arrival = record { buffer = c.args.buf.index; bytes = frame } in own_with_arrival c.args.port.0 o.own came) c.self.view_is))
+
+pub returns-clause-region : goal.returns-clause-region
+returns-clause-region c region of own =
+    let h = c.self.inside.hold in
+    holds_added region h c.put.new.hold c.clear_behind.new.buf.index _ (step c).cell (ap (λ (b : Buffer). b.region) c.clear_behind.ensures.cleared ∙ own) (of_seen region h c.self.inside.ports.items c.args.self.now c.self.view_is of)
