@@ -1,5 +1,6 @@
 -- A port that owns the buffers of its kernel side, and the seat of the world that it stands for.
-use Rattle.std.specs.Prelude.{ℕ, Bool, false, ◌≡◌, ◌≤◌, ◌+◌, ◌&&◌, ◌==◌, not, List, [], ◌∷◌, length, take, map, Some, option_map}
+use Rattle.std.specs.Prelude.{ℕ, Bool, false, ◌≡◌, ◌≤◌, ◌+◌, ◌&&◌, ◌==◌, not, List, [], ◌∷◌, length, take, map, nat_lt, nat_eq, slice_index, Some, option_map}
+use Rattle.std.specs.List.{starts_with}
 use Rattle.nm_types.specs.Frames.{Frame, slots_of, size_of_frames}
 use Rattle.nm_types.specs.declared.id.PortId.{PortId}
 use Rattle.nm_types.specs.Openings.{is_on_switch}
@@ -63,6 +64,10 @@ is_shutting_state id p = (p.id == id) && p.shutting
 
 abbrev pub id_of_state : PortState → PortId
 id_of_state p = record { 0 = p.id }
+
+-- the text begins with this one and a colon
+abbrev pub is_part : List ℕ → List ℕ → Bool
+is_part text part = nat_lt (length part) (length text) && (slice_index text (length part) == 58 && starts_with nat_eq text part)
 
 abbrev pub is_open_state_on : List ℕ → PortState → Bool
 is_open_state_on switch p = not p.shutting && is_on_switch switch p.name

@@ -1,5 +1,8 @@
-ghost use Rattle.std.specs.Prelude.{List, ℕ, true, ◌≡◌, ◌≤◌, ◌+◌, ◌-◌, not, [], ◌++◌, All, length, take, drop, map, min, sum, false, Some, vec_capacity, IfOk, IfErr, IfSome, IfNone};
+ghost use Rattle.std.specs.Prelude.{List, ℕ, true, ◌≡◌, ◌≤◌, ◌+◌, ◌-◌, not, [], ◌++◌, All, length, take, drop, map, min, sum, nat_eq, false, Some, None, vec_capacity, IfOk, IfErr, IfSome, IfNone};
+ghost use Rattle.std.specs.List.{starts_with};
 ghost use Rattle.nm_types.specs.Frames.{Frame, size_of_frames};
+ghost use Rattle.nm_types.specs.Names.{IsName, colon_in};
+ghost use Rattle.nm_types.specs.Openings.{is_on_switch};
 ghost use Rattle.nm_region.specs.Buffers.{indices_of};
 ghost use Rattle.vale_lease.specs.Leases.{is_there, out_count};
 ghost use Rattle.vale_line.specs.Fitting.{IsFrameSize};
@@ -13,7 +16,7 @@ ghost use Rattle.vale_entry.specs.Pipe.{taken_count};
 ghost use Rattle.vale_entry.specs.Holdings.{buffers_at_port};
 ghost use Rattle.vale_port.specs.Kept.{bytes_of};
 ghost use Rattle.vale_port.specs.Laws.{with_line, line_after_put};
-ghost use Rattle.vale_port.specs.Ports.{opened_state, due_of_state, is_open_state, is_open_state_on, is_shutting_state, IsSeatOf, IsLeaseFor, IsFilledFor, Gives, sizes_of};
+ghost use Rattle.vale_port.specs.Ports.{opened_state, due_of_state, is_open_state, is_open_state_on, is_shutting_state, is_part, IsSeatOf, IsLeaseFor, IsFilledFor, Gives, sizes_of};
 ghost use Rattle.vale_port.specs.Seat.{Seat, opened_seat, given_frames, seat_given, seat_done, seat_synced, seat_put, seat_shut};
 
 use crate::room::PutRoom;
@@ -66,6 +69,36 @@ impl Model for Port {
     ghost view = { state_of };
 
     ghost invariant = { IsStored };
+}
+
+/// Tells whether a text begins with another one, which is no longer.
+fn begins(text: &[u8], with: &[u8]) -> bool
+    requires { length with.now ≤ length text.now }
+    ensures { result ≡ starts_with nat_eq text.now with.now }
+{
+    for i in 0..with.len() {
+        if text[i] != with[i] {
+            return false;
+        }
+    }
+    true
+}
+
+/// Tells whether a text begins with a part and a colon.
+fn is_part(text: &[u8], part: &[u8]) -> bool
+    ensures { result ≡ is_part text.now part.now }
+{
+    part.len() < text.len() && text[part.len()] == b':' && begins(text, part)
+}
+
+/// Tells whether a name is that of a port of this switch, which has no colon. Most ports are of
+/// other switches, so what tells them apart is looked at first.
+fn is_on(name: &[u8], switch: &[u8]) -> bool
+    requires name { IsName name.now }
+    requires switch { colon_in switch.now ≡ None }
+    ensures { result ≡ is_on_switch switch.now name.now }
+{
+    name.len() > 4 && is_part(&name[4..], switch) && begins(name, b"vale")
 }
 
 impl Port {
@@ -144,11 +177,12 @@ impl Port {
         self.id == id && self.shutting
     }
 
-    /// Tells whether the port is open on this switch.
+    /// Tells whether the port is open on this switch, which has no colon.
     pub(crate) fn is_open_on(&self, switch: &[u8]) -> bool
+        requires { colon_in switch.now ≡ None }
         ensures { result ≡ is_open_state_on switch.now self.now }
     {
-        !self.shutting && self.name.is_switch_port() && self.name.switch() == switch
+        !self.shutting && is_on(self.name.as_bytes(), switch)
     }
 
     /// Returns the number of slots of the transmit ring: 0 for a monitor, which has none.

@@ -67,6 +67,7 @@ pub fn first_of_session(ports: &[Port], session: SessionId) -> Option<usize>
     place_of_session(ports, session)
 }
 
+#[tactic(auto, using(crate::proofs::OnSwitch::switches))]
 fn ids_on(alloc: Global, ports: &[Port], name: &Name) -> Result<Vec<PortId>, NoMemory>
     ensures { IfOk result (λ ids. ids.items
         ≡ map id_of_state (filter (is_open_state_on (switch_of name.now)) ports.now)) }
