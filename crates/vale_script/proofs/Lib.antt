@@ -1,4 +1,6 @@
+mod Causes
 mod Cuts
+mod Extends
 mod Numerals
 mod Pairs
 mod Replays

@@ -71,3 +71,11 @@ sides_of word = if bytes_eq word (codes "t") then monitored.T else (if bytes_eq 
 
 abbrev pub field_of : List ℕ → SlotField
 field_of word = if bytes_eq word (codes "idx") then Idx else (if bytes_eq word (codes "len") then Len else (if bytes_eq word (codes "flags") then Flags else Ptr))
+
+-- the same for any of these causes
+abbrev pub is_bad : Place → List ℕ → List ℕ → Bool
+is_bad place before word = (misses_word place word || misses_number place before word) || misses_name place word
+
+abbrev pub any_bad : List Place → List ℕ → List (List ℕ) → Bool
+any_bad (place ∷ places) before (word ∷ words) = is_bad place before word || any_bad places word words
+any_bad places before words = false

@@ -12,7 +12,7 @@ use crate::tables::{set, unset, value_of};
 use crate::words::text_of;
 use nm_types::{DEFAULT_POOL, LineCause, MAX_USERS, Name, NoMemory, Side};
 use std::alloc::Global;
-use std::collections::BTreeMap;
+use std::collections::HashMap;
 
 /// What the lines use a file for.
 #[derive(Clone, Copy, Debug, PartialEq, Eq)]
@@ -35,19 +35,23 @@ pub(crate) struct Draft {
     pool: Option<u32>,
     spoken: bool,
     users: Vec<ScriptWord>,
-    numbers: BTreeMap<String, u32>,
-    ports: BTreeMap<String, bool>,
-    files: BTreeMap<String, FileUse>,
+    numbers: HashMap<String, u32>,
+    ports: HashMap<String, bool>,
+    files: HashMap<String, FileUse>,
     played: Vec<ScriptWord>,
     units: Vec<Unit>,
     block: Option<Block>,
 }
 
+/// How long the key of a port may be: the names of a user and of a port, and the blank.
+const KEY_BYTES: usize = 33;
+
 /// A port of a user, as one word.
 fn port_key(alloc: Global, user: &str, name: &Name) -> Result<String, NoMemory>
     ensures { IfOk result (λ key. string_bytes key ≡ port_key user.now name.now) }
 {
-    let mut key = String::from_str(alloc, user)?;
+    let mut key = String::with_capacity(alloc, KEY_BYTES)?;
+    key.push_str(user)?;
     key.push_str(" ")?;
     key.push_str(text_of(name.as_bytes()).unwrap_or(""))?;
     Ok(key)
@@ -129,9 +133,9 @@ impl Draft {
             pool: None,
             spoken: false,
             users: Vec::new(alloc),
-            numbers: BTreeMap::new(alloc),
-            ports: BTreeMap::new(alloc),
-            files: BTreeMap::new(alloc),
+            numbers: HashMap::new(alloc),
+            ports: HashMap::new(alloc),
+            files: HashMap::new(alloc),
             played: Vec::new(alloc),
             units: Vec::new(alloc),
             block: None,

@@ -1,13 +1,13 @@
 //! What the words of a line say by themselves.
-ghost use Rattle.std.specs.Prelude.{◌≡◌, ◌≤◌, ◌^◌, ℕ, map, slice_index_or, length, IfOk, Ok};
+ghost use Rattle.std.specs.Prelude.{◌≡◌, ◌≤◌, ◌^◌, ◌&&◌, nat_le, ℕ, map, slice_index_or, length, IfOk, IsTrue, None, Ok};
 ghost use Rattle.vale_script.specs.Places.{side_of, sides_of, field_of};
 ghost use Rattle.vale_script.specs.Keeps.{IsSoundStatement};
 ghost use Rattle.nm_types.specs.Names.{IsName};
 ghost use Rattle.vale_script.specs.Sound.{IsUserName, IsFileName, IsSoundDeed};
-ghost use Rattle.vale_script.specs.Statements.{shown, word_at, user_at, port_at, text_at, number_at, address_at, byte_at_place, open_act, put_with, put_act, fwd_act, poke_act, move_act, swap_act, extra_act, watch_act, named_act, plain_act, hex_act, play_act, save_act, act_of, statement_of, cause_of_words, words_said, line_said, Tells, TellsSaid, shown_text};
+ghost use Rattle.vale_script.specs.Statements.{shown, word_at, user_at, port_at, text_at, number_at, address_at, byte_at_place, open_act, put_with, put_act, fwd_act, poke_act, move_act, swap_act, extra_act, watch_act, named_act, plain_act, hex_act, play_act, save_act, act_of, statement_of, cause_by, cause_of_words, words_said, line_said, Tells, TellsSaid, shown_text};
 
-use crate::forms::{Verb, form_of, verb_of};
-use crate::places::{any_out, field_of, greatest_of, side_of, sides_of};
+use crate::forms::{Form, Verb, form_of, verb_of};
+use crate::places::{any_bad, any_out, field_of, greatest_of, side_of, sides_of};
 use crate::script::{Act, ScriptWord};
 use crate::words::{
     are_line_bytes, frame_bytes, hex_byte_of, is_silent, is_user_name, mac_of, number_in,
@@ -399,14 +399,12 @@ fn statement_of<'a>(alloc: Global, verb: Verb, words: &[&'a [u8]]) -> Result<Sai
     }
 }
 
-/// Why the words of a line are no such line, by the words alone.
-fn cause_of_words(verb: Verb, words: &[&[u8]]) -> Option<LineCause>
-    ensures { result ≡ cause_of_words verb (map (λ w. w.now) words.now) }
+/// Why the words of a line are no such line, by the words alone, where `first` is the first word.
+/// The causes have an order, so all words are looked at for one before the next.
+fn cause_by(verb: Verb, first: &[u8], others: &[&[u8]]) -> Option<LineCause>
+    ensures { result ≡ cause_by verb first.now (map (λ w. w.now) others.now) }
 {
     let form = form_of(verb);
-    let Some((first, others)) = words.split_first() else {
-        return Some(LineCause::Word);
-    };
     if any_out(LineCause::Word, form.places, first, others) {
         Some(LineCause::Word)
     } else if others.len() < form.least || others.len() > form.places.len() {
@@ -417,6 +415,36 @@ fn cause_of_words(verb: Verb, words: &[&[u8]]) -> Option<LineCause>
         Some(LineCause::Name)
     } else {
         None
+    }
+}
+
+/// Whether a line of this form may have as many words behind its first one.
+fn has_count(form: &Form, others: &[&[u8]]) -> bool
+    ensures { result ≡ (nat_le form.now.least (length others.now)
+        && nat_le (length others.now) (length form.now.places.now)) }
+{
+    form.least <= others.len() && others.len() <= form.places.len()
+}
+
+/// Whether the words of a line are such a line, told by one walk.
+fn is_good(verb: Verb, first: &[u8], others: &[&[u8]]) -> bool
+    ensures { IsTrue result → cause_by verb first.now (map (λ w. w.now) others.now) ≡ None }
+{
+    let form = form_of(verb);
+    has_count(&form, others) && !any_bad(form.places, first, others)
+}
+
+/// Why the words of a line are no such line, by the words alone.
+fn cause_of_words(verb: Verb, words: &[&[u8]]) -> Option<LineCause>
+    ensures { result ≡ cause_of_words verb (map (λ w. w.now) words.now) }
+{
+    let Some((first, others)) = words.split_first() else {
+        return Some(LineCause::Word);
+    };
+    if is_good(verb, first, others) {
+        None
+    } else {
+        cause_by(verb, first, others)
     }
 }
 

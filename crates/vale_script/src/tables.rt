@@ -4,11 +4,11 @@ ghost use Rattle.vale_script.specs.Tables.{seen, updated};
 
 use nm_types::NoMemory;
 use std::alloc::Global;
-use std::collections::BTreeMap;
+use std::collections::HashMap;
 
 /// What a table has under a word.
 #[tactic(auto, using(std::proofs::lemmas::Map::Text::text_keys))]
-pub(crate) fn value_of<V: Copy>(table: &BTreeMap<String, V>, word: &str) -> Option<V>
+pub(crate) fn value_of<V: Copy>(table: &HashMap<String, V>, word: &str) -> Option<V>
     ensures { result ≡ seen table.now word.now }
 {
     table.get(word).copied()
@@ -18,7 +18,7 @@ pub(crate) fn value_of<V: Copy>(table: &BTreeMap<String, V>, word: &str) -> Opti
 #[tactic(auto, using(std::proofs::lemmas::Map::Text::text_keys))]
 pub(crate) fn set<V: Copy + Drop>(
     alloc: Global,
-    table: &mut BTreeMap<String, V>,
+    table: &mut HashMap<String, V>,
     word: &str,
     value: V,
 ) -> Result<(), NoMemory>
@@ -31,7 +31,7 @@ pub(crate) fn set<V: Copy + Drop>(
 
 /// Removes what a table has under a word.
 #[tactic(auto, using(std::proofs::lemmas::Map::Text::text_keys))]
-pub(crate) fn unset<V: Copy + Drop>(table: &mut BTreeMap<String, V>, word: &str)
+pub(crate) fn unset<V: Copy + Drop>(table: &mut HashMap<String, V>, word: &str)
     ensures { seen table.new ≡ updated (seen table.old) word.now None }
 {
     table.remove(word);

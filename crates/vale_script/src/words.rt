@@ -6,6 +6,9 @@ ghost use Rattle.vale_script.specs.Words.{is_blank, has_bytes, words_of, is_grap
 use nm_types::{BUFFER_BYTES, Mac, Name, NoMemory};
 use std::alloc::{AllocError, Global};
 
+/// As many words as the longest form of a line has.
+const FEW_WORDS: usize = 9;
+
 /// Above each number of a script.
 const CAP: u128 = 1 << 64;
 
@@ -38,9 +41,9 @@ pub(crate) fn are_line_bytes(line: &[u8]) -> bool
 pub fn words_of(alloc: Global, line: &[u8]) -> Result<Vec<&[u8]>, AllocError>
     ensures { IfOk result (λ words. map (λ w. w.now) words.items ≡ words_of line.now) }
 {
-    line.split(|b| is_blank(*b))
-        .filter(|word| !word.is_empty())
-        .collect(alloc)
+    let mut words = Vec::with_capacity(alloc, FEW_WORDS)?;
+    words.extend(line.split(|b| is_blank(*b)).filter(|word| !word.is_empty()))?;
+    Ok(words)
 }
 
 fn begins_with_hash(word: &[u8]) -> bool
