@@ -11,4 +11,3 @@ pub mod Saving
 pub mod PortReads
 pub mod LentSides
 pub mod LentBytes
-pub mod Copies

@@ -1,5 +1,5 @@
 //! A session's ports are closed, and it leaves.
-ghost use Rattle.std.specs.Prelude.{◌≡◌, IsSome, option_map, slice_get, map, nat_eq};
+ghost use Rattle.std.specs.Prelude.{◌≡◌, None, IsSome, option_map, slice_get, map, nat_eq};
 ghost use Rattle.std.specs.List.{IsDistinct};
 ghost use Rattle.nm_types.specs.OwnPorts.{OwnPort, port_with_id};
 ghost use Rattle.nm_region.specs.Buffers.{indices_of};
@@ -8,6 +8,7 @@ ghost use Rattle.vale_entry.specs.declared.entry.Reply.TheVariants as replies;
 ghost use Rattle.vale_own.specs.Side.{id_of};
 ghost use Rattle.vale_book.specs.BookView.{AreOf};
 ghost use Rattle.vale_fabric.specs.Fabrics.{IsPassIn, fixed_in, knowing, AnswersIn};
+ghost use Rattle.nm_user.specs.Sessions.{IsThere};
 ghost use Rattle.nm_user.specs.Leaving.{MayWait, IsDetached, IsLeft};
 
 use crate::session::Session;
@@ -62,7 +63,8 @@ impl<'f> Session<'f> {
     /// slots and those that its chain does not reach too. Its monitor watches it no more.
     pub fn detach<R: Wait>(&mut self, rt: &R, port: PortId) -> Detached
         requires { IsSome (port_with_id self.old.own port.0) }
-        ensures { IsDetached self.old self.new port.0 result }
+        ensures detached { IsDetached self.old self.new port.0 result }
+        ensures there { IsThere None self.new }
     {
         self.fabric.shut(rt, &mut self.pass, port);
         let (bufs, chain) = match &mut self.own {

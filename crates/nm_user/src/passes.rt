@@ -1,9 +1,10 @@
 //! A session's pass: cut in two, and made one again.
-ghost use Rattle.std.specs.Prelude.{◌≡◌};
+ghost use Rattle.std.specs.Prelude.{◌≡◌, None};
 ghost use Rattle.nm_turn.specs.Passes.{HasAll, Knows, forked_view, joined_view, kept_view};
 ghost use Rattle.nm_turn.specs.Shares.{IsWhole};
 ghost use Rattle.vale_fabric.specs.Roots.{root_of};
 ghost use Rattle.vale_fabric.specs.Fabrics.{IsPassIn, knowing};
+ghost use Rattle.nm_user.specs.Sessions.{IsThere};
 
 use crate::session::Session;
 use vale_fabric::Pass;
@@ -29,6 +30,7 @@ impl<'f> Session<'f> {
             × Knows root_of self.new.knows.seen (knowing other).seen (knowing other).mine }
         ensures whole { IsWhole self.new.knows.part
             → HasAll self.new.knows.seen self.new.knows.seen self.new.knows.mine }
+        ensures there { IsThere None self.new }
     {
         self.fabric.join(&mut self.pass, other);
     }

@@ -14,6 +14,7 @@ ghost use Rattle.nm_port.specs.Closing.{bytes_of_buffers};
 ghost use Rattle.nm_port.specs.Regions.{SideState, AllOf, AreOf};
 ghost use Rattle.vale_line.specs.declared.got.Got.{Got};
 ghost use Rattle.vale_line.specs.Gots.{buffers_of};
+ghost use Rattle.nm_user.specs.Sessions.{IsThere};
 ghost use Rattle.nm_user.specs.Offering.{gots_of, side_after_fault, sync_fault_of_put};
 ghost use Rattle.nm_user.specs.Offering.{IsOffering, CanTake};
 ghost use Rattle.nm_user.specs.Syncs.{IsPut, PassesTx, TransmitsNot};
@@ -260,6 +261,7 @@ impl<'f> Session<'f> {
         requires { PassesTx true self.old.own port.0 }
         ensures put { IfOk result (IsPut self.old self.new port.0) }
         ensures refused { IfErr result (TransmitsNot self.old self.new port.0) }
+        ensures there { IsThere None self.new }
     {
         let room = self.room_to_offer(port)?;
         let own = match self.own.take() {

@@ -10,6 +10,7 @@ ghost use Rattle.nm_types.specs.OwnPorts.{port_with_id, ring_at};
 ghost use Rattle.nm_types.specs.OwnSyncs.{back_on, own_after_receive};
 ghost use Rattle.nm_region.specs.Buffers.{indices_of};
 ghost use Rattle.nm_own.specs.Opening.{IsNew};
+ghost use Rattle.nm_own.specs.PortPlaces.{place_with_id};
 ghost use Rattle.nm_port.specs.Own.{refusal_at};
 ghost use Rattle.nm_port.specs.Receives.{can_receive, own_with_arrival};
 ghost use Rattle.nm_port.specs.Regions.{AllOf, AreOf, IsBufferOf};
@@ -17,6 +18,7 @@ ghost use Rattle.vale_entry.specs.Legal.{fits_fault};
 ghost use Rattle.vale_line.specs.Gots.{buffers_of};
 ghost use Rattle.vale_book.specs.Reading.{read_ask};
 ghost use Rattle.vale_fabric.specs.Fabrics.{IsPassIn, fixed_in, knowing, MayIn, RefusesIn};
+ghost use Rattle.nm_user.specs.Sessions.{IsThere};
 ghost use Rattle.nm_user.specs.Receives.{IsReceived, ReceivesNot};
 ghost use Rattle.nm_user.specs.Receiving.{arrival_in, arrivals_in, CanCome, IsRead};
 
@@ -136,8 +138,10 @@ fn give_and_take<R: Wait>(
     }
 }
 
-/// Publishes a frame in the next slot of a port's receive ring.
-fn publish(own: &mut OwnSide, port: PortId, got: Got)
+/// Publishes a frame in the next slot of a port's receive ring. The port stands at a place in the
+/// order of the ports.
+fn publish(own: &mut OwnSide, at: usize, port: PortId, got: Got)
+    requires place { at ≡ place_with_id own.old.own port.0 }
     requires room { can_receive port.0 own.old.own ≡ true }
     requires new { IsNew own.old.own got.buf.index }
     ensures own { own.new.own ≡ own_with_arrival port.0 own.old.own (arrival_in got) }
@@ -146,7 +150,7 @@ fn publish(own: &mut OwnSide, port: PortId, got: Got)
 {
     let Got { buf, len, rest: _ } = got;
     let frame = buf.bytes().len().min(len as usize) as u16;
-    own.receive(port, buf, frame);
+    own.receive_at(at, port, buf, frame);
 }
 
 /// Publishes frames in their order.
@@ -157,9 +161,10 @@ fn publish_all(own: &mut OwnSide, port: PortId, gots: Vec<Got>)
     ensures region { (region : ℕ) → AllOf region own.old → AreOf region (buffers_of gots.items)
         → AllOf region own.new }
 {
+    let at = own.place_of(port);
     let mut rest = VecDeque::from_vec(gots);
     while let Some(got) = rest.pop_front() {
-        publish(own, port, got);
+        publish(own, at, port, got);
     }
     rest.destroy_empty();
 }
@@ -210,6 +215,7 @@ impl<'f> Session<'f> {
         ensures received { IfOk result (IsReceived self.old self.new port.0) }
         ensures full { IfErr result (λ fault.
             ReceivesNot self.old self.new port.0 (sync_fault_of fault)) }
+        ensures there { IsThere None self.new }
     {
         let room = self.back_room(port)?;
         let own = match self.own.take() {
@@ -271,7 +277,8 @@ impl<'f> Session<'f> {
     fn refuse_receive<R: Wait>(&mut self, rt: &R, port: PortId, fault: SyncFault) -> SyncFault
         requires refused { refusal_at Rx port.0 self.old.own ≡ Some fault }
         requires fits { fits_fault fault ≡ true }
-        ensures { ReceivesNot self.old self.new port.0 result }
+        ensures not { ReceivesNot self.old self.new port.0 result }
+        ensures there { IsThere None self.new }
     {
         match self.reset(rt, port, Side::Rx, fault) {
             Ok(()) => fault,
@@ -307,6 +314,7 @@ impl<'f> Session<'f> {
         requires { IsSome (port_with_id self.old.own port.0) }
         ensures received { IfOk result (IsReceived self.old self.new port.0) }
         ensures refused { IfErr result (ReceivesNot self.old self.new port.0) }
+        ensures there { IsThere None self.new }
     {
         if let Err(fault) = self.check(port, Side::Rx) {
             return Err(self.refuse_receive(rt, port, fault));

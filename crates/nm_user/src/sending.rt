@@ -1,6 +1,6 @@
 //! A transmit sync: what was pushed is sent, or put to a pipe's other end, and what it offers is
 //! settled.
-ghost use Rattle.std.specs.Prelude.{false, true, ◌≡◌, IsSome, IfOk, IfErr, OnOk, Some};
+ghost use Rattle.std.specs.Prelude.{false, true, ◌≡◌, IsSome, IfOk, IfErr, OnOk, None, Some};
 ghost use Rattle.nm_types.specs.declared.id.Side.TheVariants.{Tx};
 ghost use Rattle.nm_types.specs.OwnPorts.{ring_at};
 ghost use Rattle.nm_port.specs.Own.{refusal_at};
@@ -8,6 +8,7 @@ ghost use Rattle.nm_port.specs.Sides.{TellsRefusal};
 ghost use Rattle.vale_entry.specs.declared.entry.Ask.TheVariants as asks;
 ghost use Rattle.vale_entry.specs.declared.entry.Reply.TheVariants as replies;
 ghost use Rattle.vale_entry.specs.Legal.{fits_fault};
+ghost use Rattle.nm_user.specs.Sessions.{IsThere};
 ghost use Rattle.nm_user.specs.Calls.{Made, MadeNone};
 ghost use Rattle.nm_user.specs.Syncs.{IsSent, IsTransmitted, IsUnsent, PassesTx, TransmitsNot};
 
@@ -53,6 +54,7 @@ impl<'f> Session<'f> {
         requires { PassesTx false self.old.own port.0 }
         ensures sent { IfOk result (IsSent self.old self.new port.0) }
         ensures full { IfErr result (IsUnsent self.old self.new port.0) }
+        ensures there { IsThere None self.new }
     {
         let own = match &mut self.own {
             Some(own) => own,
@@ -111,6 +113,7 @@ impl<'f> Session<'f> {
         ensures made { OnOk result (Made self.old self.new (asks.Reset port side fault)
             replies.Made) }
         ensures full { IfErr result (MadeNone self.old self.new (asks.Reset port side fault)) }
+        ensures there { IsThere None self.new }
     {
         self.fabric.reset(rt, &mut self.pass, port, side, &fault)?;
         match &mut self.own {
@@ -125,7 +128,8 @@ impl<'f> Session<'f> {
     fn refuse_transmit<R: Wait>(&mut self, rt: &R, port: PortId, fault: SyncFault) -> SyncFault
         requires refused { refusal_at Tx port.0 self.old.own ≡ Some fault }
         requires fits { fits_fault fault ≡ true }
-        ensures { TransmitsNot self.old self.new port.0 result }
+        ensures not { TransmitsNot self.old self.new port.0 result }
+        ensures there { IsThere None self.new }
     {
         match self.reset(rt, port, Side::Tx, fault) {
             Ok(()) => fault,
@@ -173,6 +177,7 @@ impl<'f> Session<'f> {
         requires { IsSome (ring_at Tx self.old.own port.0) }
         ensures sent { IfOk result (IsTransmitted self.old self.new port.0) }
         ensures refused { IfErr result (TransmitsNot self.old self.new port.0) }
+        ensures there { IsThere None self.new }
     {
         if let Err(fault) = self.check(port, Side::Tx) {
             return Err(self.refuse_transmit(rt, port, fault));

@@ -93,7 +93,7 @@ met-as : (u v : Knowing) (before after : Seat) → u.seen ≡ v.seen → HasMet 
 met-as u v (There p fault) after same met =
     let q = met.0 in
     let news = met.1.1.news in
-    (q, (met.1.0, record { same = met.1.1.same; mine = met.1.1.mine; seen = met.1.1.seen; news = subst (λ (l : List Entry). IsPrefix l q.session.knows.seen) same news }))
+    (q, (met.1.0, record { same = met.1.1.same; mine = met.1.1.mine; seen = met.1.1.seen; news = subst (λ (l : List Entry). IsPrefix l q.session.knows.seen) same news; there = met.1.1.there }))
 met-as u v Away after same met = met
 met-as u v (Gone saves) after same met = met
 
@@ -120,7 +120,7 @@ pub record Telling (fabric : Fabric) (v w : Knowing) (start now : List Seat) (pl
 
 told-more : (u v : Knowing) → IsPrefix u.seen v.seen → (before after : Seat) → HasTold u before after → HasTold v before after
 told-more u v more (There p fault) after told =
-    (told.0, (told.1.0, record { same = told.1.1.same; seen = prefix_trans p.session.knows.seen u.seen v.seen told.1.1.seen more }))
+    (told.0, (told.1.0, record { same = told.1.1.same; seen = prefix_trans p.session.knows.seen u.seen v.seen told.1.1.seen more; there = told.1.1.there }))
 told-more u v more Away after told = told
 told-more u v more (Gone saves) after told = told
 

@@ -19,7 +19,6 @@ use Rattle.vale_fabric.specs.Fabrics.{Knowing, fixed_in}
 use Rattle.vale_fabric.specs.Roots.{root_of}
 use Rattle.nm_user.specs.Calls.{IsRefused}
 use Rattle.nm_user.specs.Leaving.{IsLeft}
-use Rattle.nm_user.specs.Sessions.{IsThere}
 use Rattle.vale_script.specs.declared.script.Act.{Act}
 use Rattle.vale_script.specs.declared.script.Act.TheVariants as acts
 use Rattle.vale_replay.specs.Machine.{Machine, Save, closing_tasks, resting}
@@ -94,16 +93,16 @@ closes-away pool v m (Gone saves) met after meets is left = let met-is : met ≡
 
 module _ (pool : ℕ) (v m w left : Knowing) (p player : PlayerState) (fault : Option StepFault) (saves : Vec Save Global)
     (learned : HasLearned v p player) (seen : m.seen ≡ v.seen) (mine : m.mine ≡ v.mine)
-    (here : IsThere None player.session) (of : player.session.fixed.pool ≡ pool) (leaves : IsLeft player.session left) (saved : saves.items ≡ player.saves)
+    (of : player.session.fixed.pool ≡ pool) (leaves : IsLeft player.session left) (saved : saves.items ≡ player.saves)
     (joined : w ≡ joined_view m left) (known : Knows root_of w.seen m.seen m.mine × Knows root_of w.seen left.seen left.mine) (whole : IsWhole w.part → HasAll w.seen w.seen w.mine) where
   left-works : WorksAt pool p.number closing_tasks player.session.knows left v w (There p fault) (Gone saves)
-  left-works = leaving-at pool p player left v w fault saves learned.same here of (saved ∙ ap (λ (x : PlayerState). x.saves) learned.same) leaves learned.news known.1.begins
+  left-works = leaving-at pool p player left v w fault saves learned.same learned.there of (saved ∙ ap (λ (x : PlayerState). x.saves) learned.same) leaves learned.news known.1.begins
 
   left-part : left.part ≡ player.session.knows.part
   left-part =
       let now = machine_of player (closing_tasks (machine_of player [])) in
       let worked : HasWorked player.session.fixed.pool player.session.knows left (resting now) (record now { session = None; own = leaves.last.own; tasks = [] }) =
-      closing-played player.session left player.session.knows (resting now) now here (user-begins player.session now (record { session = refl; own = refl })) refl leaves in
+      closing-played player.session left player.session.knows (resting now) now learned.there (user-begins player.session now (record { session = refl; own = refl })) refl leaves in
       worked.works.part
 
   left-held : KeepHeld m (player.session.knows ∷ []) w []
@@ -130,18 +129,18 @@ module _ (pool : ℕ) (v m w left : Knowing) (p player : PlayerState) (fault : O
 
 pub closes-there : (pool : ℕ) (v m w left : Knowing) (before met after : Seat) (player : PlayerState) (fault : Option StepFault) (saves : Vec Save Global)
     → Meets v m before met → met ≡ There player fault → after ≡ Gone saves
-    → IsThere None player.session → player.session.fixed.pool ≡ pool → IsLeft player.session left → saves.items ≡ player.saves
+    → player.session.fixed.pool ≡ pool → IsLeft player.session left → saves.items ≡ player.saves
     → w ≡ joined_view m left → Knows root_of w.seen m.seen m.mine × Knows root_of w.seen left.seen left.mine → (IsWhole w.part → HasAll w.seen w.seen w.mine)
     → Closes pool v w before after
-closes-there pool v m w left Away met after player fault saves meets is gone here of leaves saved joined known whole = let met-is : met ≡ Away = meets.seat in absurd cc
-closes-there pool v m w left (Gone other) met after player fault saves meets is gone here of leaves saved joined known whole = let met-is : met ≡ Gone other = meets.seat in absurd cc
-closes-there pool v m w left (There p before) met after player fault saves meets is gone here of leaves saved joined known whole =
+closes-there pool v m w left Away met after player fault saves meets is gone of leaves saved joined known whole = let met-is : met ≡ Away = meets.seat in absurd cc
+closes-there pool v m w left (Gone other) met after player fault saves meets is gone of leaves saved joined known whole = let met-is : met ≡ Gone other = meets.seat in absurd cc
+closes-there pool v m w left (There p before) met after player fault saves meets is gone of leaves saved joined known whole =
     let met-is = meets.seat.1.0 in
     let both : There meets.seat.0 before ≡ There player fault = sym met-is ∙ is in
     let same : meets.seat.0 ≡ player = cc in
     let keep : KeepHeld v (p.session.knows ∷ []) m (player.session.knows ∷ []) = subst (λ (s : Seat). KeepHeld v (p.session.knows ∷ []) m (knows_at s)) is meets.held in
     subst (Closes pool v w (There p before)) (sym gone)
-    (leaves-there pool v m w left p player before saves (subst (HasLearned v p) same meets.seat.1.1) meets.seen meets.mine here of leaves saved joined known whole keep)
+    (leaves-there pool v m w left p player before saves (subst (HasLearned v p) same meets.seat.1.1) meets.seen meets.mine of leaves saved joined known whole keep)
 
 -- ---- a user comes
 
@@ -211,15 +210,15 @@ module _ (fabric : Fabric) (number : ℕ) (records : List ℕ → List (List ℕ
   abbrev entering : Machine → List Task
   entering = line_tasks records acts.Enter
 
-  pub line-enters : (v m w : Knowing) (p : PlayerState) (after : Seat) → Comes fabric number v m p → IsThere None p.session → Tells m w (There p None) after
+  pub line-enters : (v m w : Knowing) (p : PlayerState) (after : Seat) → Comes fabric number v m p → Tells m w (There p None) after
       → LineAt fixed number entering v w Away after (Ok tt)
-  line-enters v m w p after comes here tells =
+  line-enters v m w p after comes tells =
       let r = tells.seat.0 in
       let said = tells.seat.1.1 in
       let began = comes.began in
       let begins : IsPrefix v.seen w.seen = subst (λ (l : List Entry). IsPrefix l w.seen) comes.seen tells.begins in
       let works : WorksAt fixed.pool number entering began p.session.knows v w Away (There r None) =
-      coming-at fabric number entering p r began v w None refl comes.entered (told-same w p r said) here (subst (IsPrefix v.seen) (sym comes.began_seen) (prefix_self v.seen)) said.seen in
+      coming-at fabric number entering p r began v w None refl comes.entered (told-same w p r said) said.there (subst (IsPrefix v.seen) (sym comes.began_seen) (prefix_self v.seen)) said.seen in
       let made : (n : ℕ) → times_made n (w ∷ r.session.knows ∷ []) ≡ times_made n (v ∷ []) + times_among n (numbers works.plays.added ∷ []) = λ n.
       let one = made-alone n v w began p.session.knows began r.session.knows works.plays.added (tells.mine ∙ comes.mine) refl (told-mine w p r said) works.mine in
       let two = cut-whole n v v began [] refl comes.began_mine in
@@ -275,7 +274,7 @@ module _ (fabric : Fabric) (number : ℕ) (records : List ℕ → List (List ℕ
       acts-plays (Err stop) acts = tt
       acts-plays (Ok x) acts =
           let works : WorksAt fixed.pool p.number tasks met.session.knows q.session.knows v w (There p fault) (There r fault) =
-          work-at fixed.pool tasks p met q r v w fault fault learned.same (told-same w q r said) acts.still acts.there (ap (λ (f : Fixed). f.pool) (ran-fixed (Ok x) acts)) acts.does learned.news said.seen in
+          work-at fixed.pool tasks p met q r v w fault fault learned.same (told-same w q r said) acts.still said.there (ap (λ (f : Fixed). f.pool) (ran-fixed (Ok x) acts)) acts.does learned.news said.seen in
           subst (λ (n : ℕ). PlaysAlone fixed.pool n tasks v w (There p fault) (There r fault)) is-number (record {
             plays = works.plays;
             made = λ n. made-alone n v w met.session.knows q.session.knows p.session.knows r.session.knows works.plays.added main learned.mine (told-mine w q r said) works.mine;
@@ -349,9 +348,9 @@ stops-more : (p q : PlayerState) (xs ys : List Task) (fault : StepFault) → Sto
 stops-more p q xs ys fault stops rest began first come = stops (ys ++ rest) began first (subst (λ (ts : List Task). HasCome began first p.session (machine_of p ts)) (append_assoc xs ys rest) come)
 
 pub has-acted : (records : List ℕ → List (List ℕ)) (act : Act) (done : Result (Unit {0}) StepFault) (before : Seat) (p q : PlayerState) (fault : Option StepFault) → before ≡ There p fault
-    → IsStill p q → IsThere None q.session → OnOk done (DoesLine p q (tasks_of records act)) → IfErr done (Stops p q (tasks_of records act)) → HasActed records act done before (There q fault)
-has-acted records act done before p q fault is still there does stops =
-    subst (λ (s : Seat). HasActed records act done s (There q fault)) (sym is) (q, (refl, record { still = still; there = there; does = by-ok done does; stops = by-err done stops }))
+    → IsStill p q → OnOk done (DoesLine p q (tasks_of records act)) → IfErr done (Stops p q (tasks_of records act)) → HasActed records act done before (There q fault)
+has-acted records act done before p q fault is still does stops =
+    subst (λ (s : Seat). HasActed records act done s (There q fault)) (sym is) (q, (refl, record { still = still; does = by-ok done does; stops = by-err done stops }))
   where
     all-is : tasks_of_lines records (act ∷ []) ≡ tasks_of records act ++ EndLine ∷ []
     all-is = append-nil (tasks_of records act ++ EndLine ∷ [])

@@ -96,7 +96,7 @@ module _ (fabric : Fabric) (records : List ℕ → List (List ℕ)) (lines : Lis
     works : has_line lines number ≡ true → (stop : Option StepFault) → RunsLines records lines p1 q stop → Runs number (There p fault) (There p3 stop)
     works has None runs =
         played number (There p fault) (There p3 None) refl (ran-number None runs)
-        (player-plays fixed.pool number records lines p p1 q p3 v w fault None (in-block has) runs.still runs.there (ap (λ (f : Fixed). f.pool) (ran-fixed None runs))
+        (player-plays fixed.pool number records lines p p1 q p3 v w fault None (in-block has) runs.still said.there (ap (λ (f : Fixed). f.pool) (ran-fixed None runs))
         (subst (λ (n : ℕ). Does p1 q (tasks_of_lines records (acts_of lines n))) met-number (runs.does refl)))
     works has (Some stop) runs =
         let stops : Stops p1 q (tasks_of_lines records (acts_of lines number)) stop = subst (λ (n : ℕ). Stops p1 q (tasks_of_lines records (acts_of lines n)) stop) met-number (runs.stops stop refl) in

@@ -6,6 +6,7 @@ use Rattle.nm_turn.specs.Passes.{Knows, joined_view}
 use Rattle.nm_turn.proofs.Prefixes.{prefix_self}
 use Rattle.nm_types.specs.declared.fault.StepFault.{StepFault}
 use Rattle.nm_user.specs.Leaving.{IsLeft}
+use Rattle.nm_user.specs.Sessions.{IsThere}
 use Rattle.vale_entry.specs.Legal.{IsLegal}
 use Rattle.vale_fabric.specs.declared.fabric.Fabric.{Fabric}
 use Rattle.vale_fabric.specs.declared.kept.Fixed.{Fixed}
@@ -20,6 +21,7 @@ use Rattle.vale_act.specs.declared.seat.Seat.TheVariants.{Away, There, Gone}
 use Rattle.vale_player.specs.Players.{PlayerState}
 use Rattle.vale_act.specs.Seats.{ActsLine, AreEach, AreNew, Comes, ComesNot, HasActed, HasMet, HasRun, HasTold, Meets, MeetAll, Tells, TellAll}
 use Rattle.vale_act.specs.Leaving.{AllHaveLeft, CanAllLeave, CanStillLeave, ComesAlone, ComesAloneAt, EachLeaves, SeatStillLeaves}
+use Rattle.vale_act.proofs.BlockRuns.{there-too}
 use Rattle.vale_act.proofs.DepartingHistory.{all-leave}
 use Rattle.vale_act.proofs.DepartingPasses.{learned-leaves, nobody-came}
 use Rattle.vale_act.proofs.DepartingPlayers.{doer-alone, entered-alone, leaver-leaves, runner-alone, stopped-alone}
@@ -56,30 +58,34 @@ tells-leaving v w before after tells each alone =
     (main-leaves v w tells.mine tells.begins each, told-alone w before after tells.seat alone)
 
 module _ (records : List ℕ → List (List ℕ)) where
-  acts-alone : (act : Act) (p q : PlayerState) (done : Result (Unit {0}) StepFault) → ActsLine records act p q done → ComesAlone p.session → ComesAlone q.session
-  acts-alone act p q (Ok x) acts alone = doer-alone p q (tasks_of_lines records (act ∷ [])) acts.there ((lines-keep records).lines (act ∷ [])) acts.does alone
-  acts-alone act p q (Err fault) acts alone = stopped-alone p q (tasks_of_lines records (act ∷ [])) fault acts.there ((lines-keep records).lines (act ∷ [])) acts.stops alone
+  acts-alone : (act : Act) (p q : PlayerState) (done : Result (Unit {0}) StepFault) → ActsLine records act p q done → IsThere None q.session → ComesAlone p.session → ComesAlone q.session
+  acts-alone act p q (Ok x) acts there alone = doer-alone p q (tasks_of_lines records (act ∷ [])) there ((lines-keep records).lines (act ∷ [])) acts.does alone
+  acts-alone act p q (Err fault) acts there alone = stopped-alone p q (tasks_of_lines records (act ∷ [])) fault there ((lines-keep records).lines (act ∷ [])) acts.stops alone
 
-  acted-alone : (act : Act) (done : Result (Unit {0}) StepFault) (before after : Seat) → HasActed records act done before after → ComesAloneAt before → ComesAloneAt after
-  acted-alone act done Away after acted alone = subst ComesAloneAt (sym acted.0) tt
-  acted-alone act done (Gone saves) after acted alone = subst ComesAloneAt (sym acted.0) tt
-  acted-alone act done (There p fault) after acted alone =
-      subst ComesAloneAt (sym acted.1.0) (acts-alone act p acted.0 done acted.1.1 alone)
+  acted-alone : (act : Act) (done : Result (Unit {0}) StepFault) (w : Knowing) (before after later : Seat)
+      → HasActed records act done before after → HasTold w after later → ComesAloneAt before → ComesAloneAt after
+  acted-alone act done w Away after later acted told alone = subst ComesAloneAt (sym acted.0) tt
+  acted-alone act done w (Gone saves) after later acted told alone = subst ComesAloneAt (sym acted.0) tt
+  acted-alone act done w (There p fault) after later acted told alone =
+      let said = subst (λ (s : Seat). HasTold w s later) acted.1.0 told in
+      subst ComesAloneAt (sym acted.1.0) (acts-alone act p acted.0 done acted.1.1 said.1.1.there alone)
 
-  run-alone : (lines : List Line) (before after : Seat) → HasRun records lines before after → ComesAloneAt before → ComesAloneAt after
-  run-alone lines Away after run alone = subst ComesAloneAt (sym run) tt
-  run-alone lines (Gone saves) after run alone = subst ComesAloneAt (sym run) tt
-  run-alone lines (There p fault) after run alone =
+  run-alone : (lines : List Line) (w : Knowing) (before after later : Seat)
+      → HasRun records lines before after → HasTold w after later → ComesAloneAt before → ComesAloneAt after
+  run-alone lines w Away after later run told alone = subst ComesAloneAt (sym run) tt
+  run-alone lines w (Gone saves) after later run told alone = subst ComesAloneAt (sym run) tt
+  run-alone lines w (There p fault) after later run told alone =
       let runs = run.1.1.1 in
+      let said = subst (λ (s : Seat). HasTold w s later) run.1.1.0 told in
       subst ComesAloneAt (sym run.1.1.0)
-      (runner-alone p run.0 (tasks_of_lines records (acts_of lines p.number)) run.1.0 runs.there ((lines-keep records).lines (acts_of lines p.number)) runs.does runs.stops alone)
+      (runner-alone p run.0 (tasks_of_lines records (acts_of lines p.number)) run.1.0 said.1.1.there ((lines-keep records).lines (acts_of lines p.number)) runs.does runs.stops alone)
 
   -- a line of a user that is there, or is not
   pub line-leaving : (act : Act) (done : Result (Unit {0}) StepFault) (v m w : Knowing) (before met acted after : Seat)
       → Meets v m before met → HasActed records act done met acted → Tells m w acted after → SeatStillLeaves v w before after
   line-leaving act done v m w before met acted after meets acts tells each alone =
       let first = meets-leaving v m before met meets each alone in
-      tells-leaving m w acted after tells first.0 (acted-alone act done met acted acts first.1)
+      tells-leaving m w acted after tells first.0 (acted-alone act done w met acted after acts tells.seat first.1)
 
   -- the lines of a block
   pub block-leaving : (lines : List Line) (v m w : Knowing) (befores mets rans afters : List Seat)
@@ -89,7 +95,9 @@ module _ (records : List ℕ → List (List ℕ)) where
       seats-leave v m befores mets met.seats.len (main-leaves v m met.mine (as-seen v m met.seen) can.each)
       (λ place before after one two alone. met-alone v before after (met.seats.each place before after one two) alone) can in
       let runs : CanAllLeave m rans =
-      seats-leave m m mets rans ran.len meets.each (λ place before after one two alone. run-alone lines before after (ran.each place before after one two) alone) meets in
+      seats-leave m m mets rans ran.len meets.each (λ place before after one two alone.
+      let later = there-too rans afters place after told.seats.len two in
+      run-alone lines w before after later.0 (ran.each place before after one two) (told.seats.each place after later.0 two later.1) alone) meets in
       seats-leave m w rans afters told.seats.len (main-leaves m w told.mine told.begins runs.each)
       (λ place before after one two alone. told-alone w before after (told.seats.each place before after one two) alone) runs
 

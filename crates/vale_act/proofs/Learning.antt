@@ -7,7 +7,8 @@ use Rattle.nm_turn.specs.Passes.{Knows, HasAll, forked_view, joined_view, kept_v
 use Rattle.nm_turn.specs.Rule.{part_of}
 use Rattle.nm_turn.specs.Shares.{IsWhole, half, both_parts, AddUp}
 use Rattle.nm_types.specs.declared.fault.StepFault.{StepFault}
-use Rattle.std.specs.Prelude.{Option}
+use Rattle.std.specs.Prelude.{Option, None}
+use Rattle.nm_user.specs.Sessions.{IsThere}
 use Rattle.vale_entry.specs.declared.entry.Entry.{Entry}
 use Rattle.vale_fabric.specs.Fabrics.{Knowing}
 use Rattle.vale_fabric.specs.Roots.{root_of}
@@ -32,8 +33,8 @@ module _ (v w : Knowing) (p q : PlayerState) (other : Knowing) (fault : Option S
 
   pub meets-there : w ≡ kept_view v → other ≡ forked_view v → q ≡ with_knows (joined_view p.session.knows other) p
       → Knows root_of q.session.knows.seen p.session.knows.seen p.session.knows.mine × Knows root_of q.session.knows.seen other.seen other.mine
-      → Meets v w (There p fault) (There q fault)
-  meets-there kept given joined known =
+      → IsThere None q.session → Meets v w (There p fault) (There q fault)
+  meets-there kept given joined known there =
       let knows = knows-is (joined_view p.session.knows other) joined in
       let part : w.part ≡ half v.part = ap (λ (x : Knowing). x.part) kept in
       let given-part : other.part ≡ half v.part = ap (λ (x : Knowing). x.part) given in
@@ -55,6 +56,7 @@ module _ (v w : Knowing) (p q : PlayerState) (other : Knowing) (fault : Option S
               mine = joined-mine p.session.knows q.session.knows other knows (ap (λ (x : Knowing). x.mine) given) known.0;
               seen = known.0.begins;
               news = subst (λ (l : List Entry). IsPrefix l q.session.knows.seen) (ap (λ (x : Knowing). x.seen) given) known.1.begins;
+              there = there;
             },
           ),
         );
@@ -63,8 +65,8 @@ module _ (v w : Knowing) (p q : PlayerState) (other : Knowing) (fault : Option S
   pub tells-there : q ≡ with_knows (kept_view p.session.knows) p → other ≡ forked_view p.session.knows → w ≡ joined_view v other
       → Knows root_of w.seen v.seen v.mine × Knows root_of w.seen other.seen other.mine
       → (IsWhole w.part → HasAll w.seen w.seen w.mine)
-      → Tells v w (There p fault) (There q fault)
-  tells-there kept given joined known whole =
+      → IsThere None p.session → Tells v w (There p fault) (There q fault)
+  tells-there kept given joined known whole there =
       let knows = knows-is (kept_view p.session.knows) kept in
       let part : q.session.knows.part ≡ half p.session.knows.part = ap (λ (x : Knowing). x.part) knows in
       let given-part : other.part ≡ half p.session.knows.part = ap (λ (x : Knowing). x.part) given in
@@ -84,6 +86,7 @@ module _ (v w : Knowing) (p q : PlayerState) (other : Knowing) (fault : Option S
             record {
               same = kept;
               seen = subst (λ (l : List Entry). IsPrefix l w.seen) (ap (λ (x : Knowing). x.seen) given) known.1.begins;
+              there = there;
             },
           ),
         );

@@ -20,9 +20,10 @@ use Rattle.vale_entry.specs.declared.entry.Reply.{Reply}
 use Rattle.vale_entry.specs.declared.entry.Reply.TheVariants as replies
 use Rattle.vale_entry.specs.OwnCalls.{offered_items, own_by}
 use Rattle.vale_entry.proofs.Each.{each-append}
-use Rattle.vale_own.specs.Side.{IsTxCall, IsPutCall, IsOfSide, id_of}
+use Rattle.vale_own.specs.Side.{IsTxCall, IsPutCall, IsOfSide}
 use Rattle.vale_own.proofs.SideExchange.{sync-fits}
 use Rattle.vale_own.proofs.SideOffers.{accepted-ring}
+use Rattle.vale_own.proofs.SideResets.{distinct-filtered}
 use Rattle.vale_act.proofs.RoomViews.{View, AreBelow, below-later, IsRingAt, id_seen, seen, views, with_view, view_if, ids-changed, rings-changed, rings-all, each-id, each-seen, ids-seen, find-seen, seen-tx, seen-rx, seen-exchanged}
 use Rattle.vale_act.proofs.RoomOwn.{ring-is, sent_ring, sent-as, put-as}
 
@@ -79,24 +80,6 @@ reset-below : (k : ℕ) (own : OwnState) (id : ℕ) (side : Side) → AreBelow k
 reset-below k own id Rx below = still-below k own (own_after_reset id Rx own) (seen-rx id (ring_after_reset Rx) own.ports) below
 reset-below k own id Tx below =
     below-rings k own (own_after_reset id Tx own) id reset_positions below (seen-tx id (ring_after_reset Tx) reset_positions (λ r. refl) own.ports) reset-is
-
-distinct-filtered : (id : ℕ) (ports : List OwnPort) → IsDistinct nat_eq (map id_of ports) → IsDistinct nat_eq (map id_of (filter (λ (q : OwnPort). not (q.id.0 == id)) ports))
-unfolding IsDistinct
-distinct-filtered id [] apart = tt
-distinct-filtered id (q ∷ ports) apart = by (q.id.0 == id) refl (distinct-filtered id ports apart.1)
-  where
-    others : (qs : List OwnPort) → Each (λ y. nat_eq q.id.0 y ≡ false) (map id_of qs) → Each (λ y. nat_eq q.id.0 y ≡ false) (map id_of (filter (λ (x : OwnPort). not (x.id.0 == id)) qs))
-    others [] all = tt
-    others (x ∷ qs) all = at (x.id.0 == id) refl (others qs all.1)
-      where
-        at : (b : Bool) → (x.id.0 == id) ≡ b → Each (λ y. nat_eq q.id.0 y ≡ false) (map id_of (filter (λ (z : OwnPort). not (z.id.0 == id)) qs))
-            → Each (λ y. nat_eq q.id.0 y ≡ false) (map id_of (filter (λ (z : OwnPort). not (z.id.0 == id)) (x ∷ qs)))
-        at true e rest = rw e rest
-        at false e rest = rw e (all.0, rest)
-
-    by : (b : Bool) → (q.id.0 == id) ≡ b → IsDistinct nat_eq (map id_of (filter (λ (x : OwnPort). not (x.id.0 == id)) ports)) → IsDistinct nat_eq (map id_of (filter (λ (x : OwnPort). not (x.id.0 == id)) (q ∷ ports)))
-    by true e rest = rw e rest
-    by false e rest = rw e (others ports apart.0, rest)
 
 finish-below : (k : ℕ) (own : OwnState) (id : ℕ) (bufs : List ℕ) → AreBelow k (views own) → AreBelow k (views (own_after_finish id bufs own))
 finish-below k own id bufs below = record {

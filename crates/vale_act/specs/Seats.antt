@@ -51,12 +51,13 @@ KeepHeld main others next nexts = (rest : List Knowing) → IsHeld main (others 
 abbrev pub with_knows : Knowing → PlayerState → PlayerState
 with_knows v p = record p { session = record p.session { knows = v } }
 
--- The user of a seat has seen all that the main pass has.
+-- The user of a seat is there, and has seen all that the main pass has.
 pub record HasLearned (main : Knowing) (p q : PlayerState) : Type 0 where
   pub same : q ≡ with_knows q.session.knows p
   pub mine : q.session.knows.mine ≡ p.session.knows.mine
   pub seen : IsPrefix p.session.knows.seen q.session.knows.seen
   pub news : IsPrefix main.seen q.session.knows.seen
+  pub there : IsThere None q.session
 
 abbrev pub HasMet : Knowing → Seat → Seat → Type 0
 HasMet main (There p fault) after = (q : PlayerState) × ((after ≡ There q fault) × HasLearned main p q)
@@ -69,10 +70,11 @@ pub record Meets (v w : Knowing) (before after : Seat) : Type 0 where
   pub held : KeepHeld v (knows_at before) w (knows_at after)
   pub seat : HasMet v before after
 
--- The main pass has seen all that the user of a seat has.
+-- The main pass has seen all that the user of a seat has, which is there.
 pub record HasSaid (main : Knowing) (p q : PlayerState) : Type 0 where
   pub same : q ≡ with_knows (kept_view p.session.knows) p
   pub seen : IsPrefix p.session.knows.seen main.seen
+  pub there : IsThere None p.session
 
 abbrev pub HasTold : Knowing → Seat → Seat → Type 0
 HasTold main (There p fault) after = (q : PlayerState) × ((after ≡ There q fault) × HasSaid main p q)
@@ -217,7 +219,6 @@ pub record ComesNot (fixed : Fixed) (number : ℕ) (v w : Knowing) (fault : Step
 -- The user of a seat does a line.
 pub record ActsLine (records : List ℕ → List (List ℕ)) (act : Act) (p q : PlayerState) (done : Result (Unit {0}) StepFault) : Type 0 where
   pub still : IsStill p q
-  pub there : IsThere None q.session
   pub does : OnOk done (Does p q (tasks_of_lines records (act ∷ [])))
   pub stops : IfErr done (Stops p q (tasks_of_lines records (act ∷ [])))
 

@@ -37,7 +37,6 @@ impl<'f> Seat<'f> {
         match mem::replace(self, Seat::Away) {
             Seat::Away => {}
             Seat::There { player, fault: _ } => {
-                player.is_there();
                 let (pass, saves, ports) = player.leave_keeping(rt);
                 fabric.join(main, pass);
                 keep_ports(kept, ports);

@@ -80,7 +80,6 @@ impl<'f> Seat<'f> {
     {
         match come(alloc, rt, fabric, main, number, names) {
             Ok(player) => {
-                player.is_there();
                 let seat = Seat::There {
                     player,
                     fault: None,
@@ -105,9 +104,7 @@ impl<'f> Seat<'f> {
         ensures { HasActed (records_in inputs.now) act.now result self.old self.new }
     {
         if let Seat::There { player, fault: _ } = self {
-            let done = player.act(rt, act, inputs, gate);
-            player.is_there();
-            return done;
+            return player.act(rt, act, inputs, gate);
         }
         Ok(())
     }

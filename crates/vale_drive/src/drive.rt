@@ -119,8 +119,6 @@ impl Drive {
         } = self;
         wind_up(&mut book, &mut users);
         users.destroy_empty();
-        // Its entries are a legal history.
-        book.history();
         book.close()
     }
 }

@@ -1,8 +1,9 @@
 //! Passes: cut in two, and made one again.
-ghost use Rattle.std.specs.Prelude.{◌≡◌};
+ghost use Rattle.std.specs.Prelude.{◌≡◌, ◌<◌, ◌^◌, length};
 ghost use Rattle.nm_turn.specs.Passes.{HasAll, Knows, forked_view, joined_view, kept_view};
 ghost use Rattle.nm_turn.specs.Shares.{IsWhole};
 ghost use Rattle.vale_entry.specs.Legal.{IsLegal};
+ghost use Rattle.vale_book.specs.Recorded.{HadRoom};
 ghost use Rattle.vale_fabric.specs.Roots.{root_of};
 ghost use Rattle.vale_fabric.specs.Fabrics.{IsPassIn, fixed_in, knowing, record_in};
 
@@ -44,6 +45,8 @@ impl Fabric {
         ensures knows { Knows root_of result.entries (knowing pass).seen (knowing pass).mine }
         ensures whole { IsWhole (knowing pass).part
             → HasAll result.entries (knowing pass).seen (knowing pass).mine }
+        ensures roomy { HadRoom result }
+        ensures few { length result.entries < 2 ^ 32 }
         ensures legal { IsLegal result.pool result.entries }
     {
         let Fabric { turn, buffers: _ } = self;

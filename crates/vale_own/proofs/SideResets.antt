@@ -104,7 +104,7 @@ reset-ports id side s session shut = changed-same id (with_ring_on side (ring_af
     on Rx q = refl
 
 -- a port that is gone
-distinct-filtered : (id : ℕ) (ports : List OwnPort) → IsDistinct nat_eq (map id_of ports) → IsDistinct nat_eq (map id_of (filter (λ (q : OwnPort). not (q.id.0 == id)) ports))
+pub distinct-filtered : (id : ℕ) (ports : List OwnPort) → IsDistinct nat_eq (map id_of ports) → IsDistinct nat_eq (map id_of (filter (λ (q : OwnPort). not (q.id.0 == id)) ports))
 unfolding IsDistinct
 distinct-filtered id [] apart = tt
 distinct-filtered id (q ∷ ports) apart = by (q.id.0 == id) refl (distinct-filtered id ports apart.1)

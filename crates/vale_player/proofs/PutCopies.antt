@@ -7,7 +7,7 @@ use Rattle.nm_types.specs.OwnPorts.{OwnRing, OwnPort, OwnState, port_with_name, 
 use Rattle.nm_types.specs.OwnEdits.{has_room, with_frame, with_frame_on}
 use Rattle.vale_own.specs.Side.{IsSound}
 use Rattle.nm_user.specs.Sessions.{SessionState, IsThere}
-use Rattle.nm_user.specs.Copies.{with_copies, FindRoom, AreCopies}
+use Rattle.nm_own.specs.Copies.{with_copies, FindRoom, AreCopies}
 use Rattle.nm_user.proofs.Written.{there-edited}
 use Rattle.nm_user.proofs.CopiesPut.{copies-keep}
 use Rattle.vale_replay.specs.Edits.{change_found}

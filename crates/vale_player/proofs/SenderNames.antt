@@ -20,7 +20,7 @@ use Rattle.vale_entry.specs.declared.entry.Reply.{Reply}
 use Rattle.vale_entry.specs.Legal.{kept_ask}
 use Rattle.vale_entry.specs.OwnCalls.{or_reset, offered_items, tx_call, own_by}
 use Rattle.nm_user.specs.Sessions.{SessionState}
-use Rattle.nm_user.specs.Copies.{with_copies}
+use Rattle.nm_own.specs.Copies.{with_copies}
 use Rattle.nm_user.specs.Syncs.{IsUnsent}
 use Rattle.vale_player.specs.declared.frames.SyncEnd.{SyncEnd}
 use Rattle.vale_player.specs.declared.frames.SyncEnd.TheVariants as ends

@@ -50,14 +50,14 @@ pub record SavesNot (s t : SessionState) (id : ℕ) : Type 0 where
 abbrev pub SaveNothing : SessionState → SessionState → Type 0
 SaveNothing s t = (id : ℕ) → IsPortOf s.fixed.pool s.knows.seen s.id id → SavesNot s t id
 
--- what came of a receive sync of a port: it went through, or it failed
+-- what came of a receive sync of a port: it went through, and the session is there, or it failed
 pub record ReceivesNothing (s t : SessionState) (id : ℕ) : Type 0 where
   pub fault : SyncFault
   pub not : ReceivesNot s t id fault
 
 abbrev pub SavesBy : SessionState → SessionState → ℕ → Option Received → Type 0
 SavesBy s t id None = ReceivesNothing s t id
-SavesBy s t id (Some received) = IsReceived s t id received
+SavesBy s t id (Some received) = IsReceived s t id received × IsThere None t
 
 -- it made an entry
 pub record CameRx (s t : SessionState) (id : ℕ) : Type 0 where

@@ -5,7 +5,7 @@ use Rattle.nm_types.specs.OwnPorts.{port_with_name}
 use Rattle.vale_entry.specs.declared.entry.Ask.{Ask}
 use Rattle.vale_fabric.specs.declared.fabric.Fabric.{Fabric}
 use Rattle.vale_fabric.specs.Fabrics.{Knowing, fixed_in}
-use Rattle.nm_user.specs.Sessions.{SessionState, IsThere}
+use Rattle.nm_user.specs.Sessions.{SessionState}
 use Rattle.nm_user.specs.Calls.{MadeNone}
 use Rattle.vale_script.specs.declared.script.Act.{Act}
 use Rattle.vale_script.specs.declared.script.Line.{Line}
@@ -89,7 +89,6 @@ pub record HasEntered (fabric : Fabric) (began : Knowing) (number : ℕ) (p : Pl
 -- stays as it is.
 pub record RunsLines (records : List ℕ → List (List ℕ)) (lines : List Line) (p q : PlayerState) (stop : Option StepFault) : Type 0 where
   pub still : IsStill p q
-  pub there : IsThere None q.session
   pub does : stop ≡ None → Does p q (tasks_of_lines records (acts_of lines p.number))
   pub stops : (fault : StepFault) → stop ≡ Some fault → Stops p q (tasks_of_lines records (acts_of lines p.number)) fault
   pub idle : has_line lines p.number ≡ false → (q ≡ p) × (stop ≡ None)

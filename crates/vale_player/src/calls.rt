@@ -1,8 +1,9 @@
 //! What a user does that makes one entry, at its ports by their names. Nothing is made where it has
 //! not the port.
-ghost use Rattle.std.specs.Prelude.{◌≡◌, [], ◌∷◌, true, OnOk, IfErr};
+ghost use Rattle.std.specs.Prelude.{◌≡◌, [], ◌∷◌, true, None, OnOk, IfErr};
 ghost use Rattle.nm_types.specs.Names.{is_monitor_name};
 ghost use Rattle.nm_user.specs.Ports.{IsWatchable};
+ghost use Rattle.nm_user.specs.Sessions.{IsThere};
 ghost use Rattle.vale_replay.specs.Tasks.{OpenPort, WatchPort, ReadCounts};
 ghost use Rattle.vale_player.specs.Players.{Does, IsStill, StopsAt};
 ghost use Rattle.vale_player.specs.Stopping.{open_stop_of, watch_stop_of};
@@ -53,6 +54,7 @@ impl<'f> Player<'f> {
         ensures does { OnOk result (Does self.old self.new (OpenPort name.now tx rx extra ∷ [])) }
         ensures stops { IfErr result (StopsAt self.old self.new (OpenPort name.now tx rx extra)) }
         ensures still { IsStill self.old self.new }
+        ensures there { IsThere None self.old.session }
     {
         let opened = self.session.open(rt, name, tx, rx, extra);
         keep_opened(&self.session, self.names, name, &opened, &mut self.kept);
@@ -78,6 +80,7 @@ impl<'f> Player<'f> {
         ensures stops { IfErr result
             (StopsAt self.old self.new (WatchPort monitor.now target.now sides)) }
         ensures still { IsStill self.old self.new }
+        ensures there { IsThere None self.old.session }
     {
         let Some(port) = self.session.port_named(monitor) else {
             return Ok(());
@@ -93,6 +96,7 @@ impl<'f> Player<'f> {
         ensures does { OnOk result (Does self.old self.new (ReadCounts name.now ∷ [])) }
         ensures stops { IfErr result (StopsAt self.old self.new (ReadCounts name.now)) }
         ensures still { IsStill self.old self.new }
+        ensures there { IsThere None self.old.session }
     {
         let Some(port) = self.session.port_named(name) else {
             return Ok(());

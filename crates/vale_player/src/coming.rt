@@ -19,13 +19,6 @@ use std::alloc::Global;
 use std::sync::Wait;
 use vale_fabric::{Fabric, Pass};
 
-/// Between two calls a session is there, and has just what is on its own side.
-fn is_there(session: &Session)
-    ensures { IsThere None session.now }
-{
-    session.id();
-}
-
 impl<'f> Player<'f> {
     /// A user of this number comes, of whose ports no frames are kept. If the record is full or
     /// memory is wanting, the pass is handed back, and the user has stopped at its Enter.
@@ -81,7 +74,6 @@ impl<'f> Player<'f> {
     {
         if let Some(port) = self.session.port_named(name) {
             self.session.detach(rt, port);
-            is_there(&self.session);
         }
     }
 
@@ -91,6 +83,7 @@ impl<'f> Player<'f> {
         ensures pass { IsPassIn self.entry.session.fabric result.0 }
         ensures left { IsLeft self.entry.session (knowing result.0) }
         ensures saves { result.1.items ≡ self.entry.saves }
+        ensures there { IsThere None self.entry.session }
     {
         let left = self.leave_keeping(rt);
         (left.0, left.1)
@@ -103,6 +96,7 @@ impl<'f> Player<'f> {
         ensures saves { result.1.items ≡ self.entry.saves }
         ensures whole { AreWhole self.entry.session.fixed.pool (knowing result.0).seen
             result.2.items }
+        ensures there { IsThere None self.entry.session }
     {
         let Player {
             number: _,
@@ -123,6 +117,7 @@ impl<'f> Player<'f> {
               = record self.old.session { knows = kept_view self.old.session.knows };
         } }
         ensures given { knowing result ≡ forked_view self.old.session.knows }
+        ensures there { IsThere None self.old.session }
     {
         self.session.fork()
     }
@@ -137,8 +132,8 @@ impl<'f> Player<'f> {
         ensures known { Knows root_of self.new.session.knows.seen self.old.session.knows.seen
             self.old.session.knows.mine × Knows root_of self.new.session.knows.seen
             (knowing other).seen (knowing other).mine }
+        ensures there { IsThere None self.new.session }
     {
         self.session.join(other);
-        is_there(&self.session);
     }
 }

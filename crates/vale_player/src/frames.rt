@@ -86,9 +86,7 @@ fn transmit<'f, R: Wait, G: Gate>(
     ensures none { IfErr result (IsUnsent session.old session.new port.0) }
     ensures there { IsThere None session.new }
 {
-    let result = session.tx_sync(rt, port, gate);
-    session.id();
-    match result {
+    match session.tx_sync(rt, port, gate) {
         Ok(_) => Ok(SyncEnd::Passed),
         Err(fault) => end_of(fault),
     }
@@ -117,9 +115,7 @@ fn receive<'f, R: Wait, G: Gate>(
     ensures none { IfErr result.1 (RxMadeNone session.old session.new port.0) }
     ensures there { IsThere None session.new }
 {
-    let result = session.rx_sync(rt, port, gate);
-    session.id();
-    match result {
+    match session.rx_sync(rt, port, gate) {
         Ok(received) => (Some(received), Ok(())),
         Err(fault) => (None, stop_of(fault)),
     }
@@ -253,6 +249,7 @@ impl<'f> Player<'f> {
         ensures does { OnOk result (Does self.old self.new (TakeFrames name.now ∷ [])) }
         ensures stops { IfErr result (StopsAt self.old self.new (TakeFrames name.now)) }
         ensures still { IsStill self.old self.new }
+        ensures there { IsThere None self.old.session }
     {
         let Some(port) = self.session.port_named(name) else {
             return Ok(());

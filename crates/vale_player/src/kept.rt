@@ -128,7 +128,6 @@ pub(crate) fn keep_received(
     ensures { (s : SessionState) → IsThere None s → SavesBy s session.now port.0 got
         → AreKept s kept.old.items → AreKept session.now kept.new.items }
 {
-    session.id();
     let Some(received) = got else { return };
     match grow(session, port, received, kept) {
         Ok(()) => {}
@@ -160,9 +159,9 @@ pub(crate) fn keep_opened(
     kept: &mut Vec<KeptPort>,
 )
     requires { IfOk opened.now (λ port. port.0 ≡ length session.now.knows.seen) }
-    ensures { AreKept session.now kept.old.items → AreKept session.now kept.new.items }
+    ensures { IsThere None session.now
+        → AreKept session.now kept.old.items → AreKept session.now kept.new.items }
 {
-    session.id();
     let Ok(port) = opened else { return };
     let Some(_) = session.ring(*port, Side::Rx) else {
         return;

@@ -1,6 +1,5 @@
 //! What a user does of its own lines.
-ghost use Rattle.std.specs.Prelude.{◌≡◌, [], ◌∷◌, None, map, OnOk, IfErr};
-ghost use Rattle.nm_user.specs.Sessions.{IsThere};
+ghost use Rattle.std.specs.Prelude.{◌≡◌, [], ◌∷◌, map, OnOk, IfErr};
 ghost use Rattle.vale_captures.specs.Inputs.{captured};
 ghost use Rattle.vale_script.specs.Sound.{IsSoundAct};
 ghost use Rattle.vale_replay.specs.Tasks.{SaveFrames, tasks_of, tasks_of_lines};
@@ -83,8 +82,6 @@ impl<'f> Player<'f> {
         if !keep {
             self.give_all_back(name);
         }
-        // Its session is there.
-        let _ = &self.number;
         self.take(rt, name, gate)
     }
 
@@ -160,8 +157,6 @@ impl<'f> Player<'f> {
             (Stops self.old self.new (tasks_of (records_in inputs.now) act.now)) }
         ensures still { IsStill self.old self.new }
     {
-        // Its session is there.
-        let _ = &self.number;
         match act {
             Act::Enter => Ok(()),
             Act::Open {
@@ -208,13 +203,6 @@ impl<'f> Player<'f> {
         Ok(())
     }
 
-    /// Between two calls a user's session is there, and has just what is on its own side.
-    pub fn is_there(&self)
-        ensures { IsThere None self.now.session }
-    {
-        let _number = self.number;
-    }
-
     /// The user does its own lines, if it has any. Answers the fault that stops it.
     pub fn run_own<R: Wait, G: Gate>(
         &mut self,
@@ -227,12 +215,9 @@ impl<'f> Player<'f> {
         ensures { RunsLines (records_in inputs.now) lines.now self.old self.new result }
     {
         if !has_line(lines, self.number) {
-            self.is_there();
             return None;
         }
-        let done = self.run_lines(rt, lines, inputs, gate);
-        self.is_there();
-        match done {
+        match self.run_lines(rt, lines, inputs, gate) {
             Ok(()) => None,
             Err(fault) => Some(fault),
         }

@@ -30,8 +30,5 @@ pub(crate) fn play_recorded<R: AllocGlobal + Threads + Wait + Sync, G: Gate>(
     let alloc = rt.alloc();
     let (fabric, pass) = Fabric::new(alloc, script.pool(), Limits::VERSION_1)?;
     let (pass, played) = play(alloc, rt, &fabric, pass, script, inputs, gate);
-    let book = fabric.close(rt, pass);
-    // What is recorded is within its limits.
-    let _history = book.history();
-    Ok((book, played))
+    Ok((fabric.close(rt, pass), played))
 }

@@ -1,10 +1,12 @@
 use Rattle.std.proofs.Common.{rules, ◌≡◌, ◌∙◌, List, ◌∷◌, fold, sym, ap, subst}
 use Rattle.nm_types.specs.OwnPorts.{OwnState}
+use Rattle.nm_own.specs.PortPlaces.{place_with_id}
+use Rattle.nm_own.proofs.PortPlaces.{place_stays}
 use Rattle.nm_port.specs.Receives.{own_with_arrival}
 use Rattle.nm_port.specs.Regions.{AreOf}
 use Rattle.vale_line.specs.declared.got.Got.{Got}
 use Rattle.vale_line.specs.Gots.{buffers_of}
-use Rattle.nm_user.specs.Receiving.{arrivals_in, CanCome}
+use Rattle.nm_user.specs.Receiving.{arrival_in, arrivals_in, CanCome}
 use Rattle.nm_user.proofs.receiving.publish_all.Goals as goal
 
 pub loop-got-preserved : goal.loop-got-preserved
@@ -14,6 +16,8 @@ loop-got-preserved c =
     let first : c.loop-got.rest.items ≡ c.in-Some.got ∷ rest = search rules in
     let come = subst (λ (gs : List Got). CanCome id c.loop-got.own.own (arrivals_in gs)) first c.loop-got.invariant.come in
     record {
+      place = c.loop-got.invariant.place
+          ∙ (sym (place_stays id c.loop-got.own.own (arrival_in c.in-Some.got)) ∙ sym (ap (λ (o : OwnState). place_with_id o id) c.publish.ensures.own));
       come = subst (λ (o : OwnState). CanCome id o (arrivals_in rest)) (sym c.publish.ensures.own) come.1;
       rest = ap (λ (o : OwnState). fold (own_with_arrival id) o (arrivals_in rest)) c.publish.ensures.own
           ∙ (sym (ap (λ (gs : List Got). fold (own_with_arrival id) c.loop-got.own.own (arrivals_in gs)) first) ∙ c.loop-got.invariant.rest);

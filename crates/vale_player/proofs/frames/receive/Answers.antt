@@ -9,7 +9,10 @@ use Rattle.vale_player.proofs.KeptPorts.{came-on, none-on}
 use Rattle.vale_player.proofs.frames.receive.Goals as goal
 
 pub returns-in-Ok-clause-came : goal.returns-in-Ok-clause-came
-returns-in-Ok-clause-came g c = record { end = ends.Passed; ends = got-ends c.args.session.now c.rx_sync-result.new.self c.args.port.0 c.in-Ok.received c.in-Ok.ensures.received }
+returns-in-Ok-clause-came g c = record { end = ends.Passed; ends = got-ends c.args.session.now c.rx_sync.new.self c.args.port.0 c.in-Ok.received c.in-Ok.ensures.received }
+
+pub returns-in-Ok-clause-saves : goal.returns-in-Ok-clause-saves
+returns-in-Ok-clause-saves g c = (c.in-Ok.ensures.received, c.rx_sync.ensures.there)
 
 pub returns-in-Err-clause-saves : goal.returns-in-Err-clause-saves
 returns-in-Err-clause-saves g c = record { fault = c.in-Err.fault; not = c.in-Err.ensures.refused }
@@ -17,7 +20,7 @@ returns-in-Err-clause-saves g c = record { fault = c.in-Err.fault; not = c.in-Er
 pub returns-in-Err-clause-came : goal.returns-in-Err-clause-came
 returns-in-Err-clause-came g c =
     let s = c.args.session.now in
-    let t = c.rx_sync-result.new.self in
+    let t = c.rx_sync.new.self in
     let id = c.args.port.0 in
     let end = sync_end_of c.in-Err.fault in
     subst (λ (r : Result (Unit {0}) StepFault). OnOk r (CameRx s t id)) (sym c.stop_of.ensures) (came-on s t id end (rx-ends s t id c.in-Err.fault c.in-Err.ensures.refused))
@@ -25,7 +28,7 @@ returns-in-Err-clause-came g c =
 pub returns-in-Err-clause-none : goal.returns-in-Err-clause-none
 returns-in-Err-clause-none g c =
     let s = c.args.session.now in
-    let t = c.rx_sync-result.new.self in
+    let t = c.rx_sync.new.self in
     let id = c.args.port.0 in
     let end = sync_end_of c.in-Err.fault in
     subst (λ (r : Result (Unit {0}) StepFault). IfErr r (RxMadeNone s t id)) (sym c.stop_of.ensures) (none-on s t id end (rx-none s t id c.in-Err.fault c.in-Err.ensures.refused))

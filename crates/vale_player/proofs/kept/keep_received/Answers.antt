@@ -12,5 +12,5 @@ returns-in_default c s here saves kept =
 pub returns-in-Ok : goal.returns-in-Ok
 returns-in-Ok c s here saves kept =
     let t = c.args.session.now in
-    taken-kept s t c.args.port.0 c.in-Some.received c.args.kept.now.items c.grow.new.kept.items c.id.ensures.there c.in-Ok.ensures here
-    (subst (λ (got : Option Received). SavesBy s t c.args.port.0 got) c.in-Some.is saves) kept
+    let came = subst (λ (got : Option Received). SavesBy s t c.args.port.0 got) c.in-Some.is saves in
+    taken-kept s t c.args.port.0 c.in-Some.received c.args.kept.now.items c.grow.new.kept.items came.1 c.in-Ok.ensures here came.0 kept

@@ -14,21 +14,21 @@ pub returns : goal.returns
 returns g c =
     let program : Program = c.args.script.now in
     let captures = map frames_of c.args.inputs.now in
-    let book : Recorded = c.close-book.result in
+    let book : Recorded = c.close.result in
     let fixed : Fixed = fixed_in c.in_ok-fabric.fabric in
     let v : Knowing = knowing c.play-pass.result.0 in
     let pool : fixed.pool ≡ program.pool = c.in_ok-fabric.ensures.pool ∙ c.pool.ensures in
     let same : program.pool ≡ book.pool = sym pool
-    ∙ ap (λ (b : Recorded). b.pool) c.close-book.ensures.fixed in
+    ∙ ap (λ (b : Recorded). b.pool) c.close.ensures.fixed in
     let seen : v.seen ≡ book.entries =
-    (c.close-book.ensures.whole c.play-pass.ensures.whole.whole).all_seen in
+    (c.close.ensures.whole c.play-pass.ensures.whole.whole).all_seen in
     record {
       fixed = fixed;
-      book_is = c.close-book.ensures.fixed;
+      book_is = c.close.ensures.fixed;
       pool = pool;
       limits_are = c.in_ok-fabric.ensures.limits;
-      roomy = c.history-history.ensures.roomy;
-      few = c.history-history.ensures.few;
+      roomy = c.close.ensures.roomy;
+      few = c.close.ensures.few;
       back = subst (λ (n : ℕ). free_count (world_of n book.entries) ≡ n) same
           (subst (λ (h : List Entry). free_count (world_of program.pool h) ≡ program.pool) seen
           c.play-pass.ensures.empty.free);

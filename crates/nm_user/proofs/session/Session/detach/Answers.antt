@@ -43,8 +43,8 @@ invariant_of-self g c =
           (detached-there s (knowing c.shut.new.pass) x c.args.port bufs c.close_port.result.1 told c.self.invariant.there some c.shut.ensures.made f c.finish-unread.ensures.made);
     }
 
-pub returns : goal.returns
-returns g c =
+pub returns-clause-detached : goal.returns-clause-detached
+returns-clause-detached g c =
     let s = session_seen c.self.inside in
     let x = knowing c.finish-unread.new.pass in
     let bufs = indices_of c.close_port.result.0.items in
@@ -54,3 +54,6 @@ returns g c =
     let own = own-finished s.own c.in-Some.own.own c.close_port.new.self.own c.args.port bufs (ap own_in c.in-Some.is) c.close_port.ensures.back c.close_port.ensures.own in
     subst (λ (u : SessionState). IsDetached u (record s { knows = x; own = c.close_port.new.self.own }) c.args.port.0 told) c.self.view_is
     (is-detached s (knowing c.shut.new.pass) x c.args.port bufs c.close_port.result.1 told c.self.invariant.there some c.shut.ensures.made f c.finish-unread.ensures.made c.close_port.new.self.own refl own)
+
+pub returns-clause-there : goal.returns-clause-there
+returns-clause-there g c = (invariant_of-self g c).there

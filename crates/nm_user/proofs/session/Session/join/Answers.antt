@@ -11,3 +11,6 @@ invariant_of-self c =
       region = c.self.invariant.region;
       there = there-joined (knowing c.args.other) (knowing c.join.new.pass) c.self.invariant.there c.join.ensures.joined c.join.ensures.known.0 c.join.ensures.pass.2;
     }
+
+pub returns-clause-there : goal.returns-clause-there
+returns-clause-there c = (invariant_of-self c).there

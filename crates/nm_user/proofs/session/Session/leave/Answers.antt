@@ -15,16 +15,16 @@ pub loop-port-smaller : goal.loop-port-smaller
 loop-port-smaller g c =
     let t = c.loop-port.session in
     let f = first-of t.own.ports c.in-Some.port (sym c.first_port.ensures.first ∙ c.in-Some.is) in
-    fewer-left {s = t} f c.first_port.ensures.apart c.detach.ensures
+    fewer-left {s = t} f c.first_port.ensures.apart c.detach.ensures.detached
 
 pub loop-port-preserved : goal.loop-port-preserved
 loop-port-preserved g c =
     let t = c.loop-port.session in
     let f = first-of t.own.ports c.in-Some.port (sym c.first_port.ensures.first ∙ c.in-Some.is) in
     record {
-      fabric = c.detach.ensures.fabric ∙ c.loop-port.invariant.fabric;
-      id = c.detach.ensures.id_is ∙ c.loop-port.invariant.id;
-      goes = goes-on c.args.self {t = t} f c.first_port.ensures.apart c.detach.ensures c.loop-port.invariant.goes;
+      fabric = c.detach.ensures.detached.fabric ∙ c.loop-port.invariant.fabric;
+      id = c.detach.ensures.detached.id_is ∙ c.loop-port.invariant.id;
+      goes = goes-on c.args.self {t = t} f c.first_port.ensures.apart c.detach.ensures.detached c.loop-port.invariant.goes;
     }
 
 pub leave-requires-clause-may : goal.leave-requires-clause-may

@@ -135,3 +135,9 @@ returns-clause-put g c =
     ap own_in c.put_back-2.ensures ∙ (c.taken.ensures.own c.in-Some.own gots taking ∙ ap (λ (p : PortId). own_after_put p.0 (blank_arrivals (indices_of put.back.items)) c.in-Some.own.own) off.ensures.port) in
     let sent : Sent = record { entry = c.entry-entry.result; pushed = put.took; short = 0; lone = 0; given = c.settle-shares.result.given; full = c.settle-shares.result.full; gone = c.settle-shares.result.gone } in
     put-at gots put sent c.self.view_is (ap own_in had) k e.made e.put ends own-now c.entry-entry.ensures refl refl refl refl
+
+pub returns-in-Err-clause-there : goal.returns-in-Err-clause-there
+returns-in-Err-clause-there g c = (invariant_of-self g c).there
+
+pub returns-clause-there : goal.returns-clause-there
+returns-clause-there g c = (invariant_of-self-2 g c).there

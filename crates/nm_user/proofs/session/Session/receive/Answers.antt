@@ -107,3 +107,9 @@ returns-clause-received g c =
     received-at c.args.port received c.self.view_is (ap own_in had)
     (subst (λ (o : OwnState). IsReceived s (record seen { knows = x; own = o }) c.args.port.0 received) (sym (ap own_in c.put_back-2.ensures))
     (received-so s w c.args.port c.args.is_pipe c.in-Ok.synced k read mid-is c.publish_all.ensures.own received ends c.entry-entry.ensures (c.len.ensures ∙ c.in-Ok.synced.got.ok.0) c.give_and_take-own.ensures.returned))
+
+pub returns-in-Err-clause-there : goal.returns-in-Err-clause-there
+returns-in-Err-clause-there g c = (invariant_of-self g c).there
+
+pub returns-clause-there : goal.returns-clause-there
+returns-clause-there g c = (invariant_of-self-2 g c).there

@@ -3,10 +3,10 @@ use Rattle.nm_user.specs.Syncs.{TransmitsNot}
 use Rattle.nm_user.proofs.Transmits.{refused-not, reset-not}
 use Rattle.nm_user.proofs.session.Session.refuse_transmit.Goals as goal
 
-pub returns-in-Ok : goal.returns-in-Ok
-returns-in-Ok g c = refused-not c.args.self.now c.args.port c.args.fault c.requires.refused c.reset.new.self c.in-Ok.ensures.made
+pub returns-in-Ok-clause-not : goal.returns-in-Ok-clause-not
+returns-in-Ok-clause-not g c = refused-not c.args.self.now c.args.port c.args.fault c.requires.refused c.reset.new.self c.in-Ok.ensures.made
 
-pub returns-in-Err : goal.returns-in-Err
-returns-in-Err g c =
+pub returns-in-Err-clause-not : goal.returns-in-Err-clause-not
+returns-in-Err-clause-not g c =
     let not = reset-not c.args.self.now c.args.port c.args.fault c.requires.refused c.reset.new.self c.in-Err.full c.in-Err.ensures.full in
     subst (TransmitsNot c.args.self.now c.reset.new.self c.args.port.0) (sym c.into.ensures) not

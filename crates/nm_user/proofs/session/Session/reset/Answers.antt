@@ -41,3 +41,9 @@ invariant_of-self-2 g c =
       region = region-kept c.self.inside c.in-Some.own c.reset-in-Some.new.self (own_after_reset c.args.port.0 c.args.side c.in-Some.own.own) c.self.invariant c.in-Some.is c.reset-in-Some.ensures;
       there = subst (λ (o : OwnState). IsThere None (record s { knows = knowing c.reset.new.pass; own = o })) (sym own) (reset-there {s = s} c.args.side c.args.port c.args.fault c.self.invariant.there asks c.in_ok-reset.ensures.made);
     }
+
+pub returns-in_err-reset-clause-there : goal.returns-in_err-reset-clause-there
+returns-in_err-reset-clause-there g c = (invariant_of-self g c).there
+
+pub returns-clause-there : goal.returns-clause-there
+returns-clause-there g c = (invariant_of-self-2 g c).there

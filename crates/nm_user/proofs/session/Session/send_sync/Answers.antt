@@ -49,3 +49,9 @@ returns-clause-sent g c =
     let ends = send-ends c.in-Ok.offers k.there k.sends c.in-Ok.ensures.made c.in-Ok.ensures.offers c.settle-shares.ensures.none c.settle-shares.ensures.settles in
     sent-at c.in-Ok.offers (record { entry = c.entry-entry.result; pushed = c.len-pushed.result; short = c.short-short.result; lone = c.lone-lone.result; given = c.settle-shares.result.given; full = c.settle-shares.result.full; gone = c.settle-shares.result.gone })
     c.self.view_is (ap own_in c.in-Some.is) k (ap (λ (side : SideState). side.own) c.sent.ensures) c.in-Ok.ensures.made c.in-Ok.ensures.offers ends c.entry-entry.ensures c.len-pushed.ensures c.short-short.ensures c.lone-lone.ensures refl
+
+pub returns-in-Err-clause-there : goal.returns-in-Err-clause-there
+returns-in-Err-clause-there g c = (invariant_of-self-in-Err g c).there
+
+pub returns-clause-there : goal.returns-clause-there
+returns-clause-there g c = (invariant_of-self-2 g c).there

@@ -16,7 +16,7 @@ returns-in-Ok-clause-line g c records =
     let comes = subst (λ r. IfOk r (Comes fabric c.args.number v m)) c.in-Ok.is c.come.ensures.comes in
     let tells = subst (λ (s : Seat). Tells m w s c.tell.new.self) c.replace.ensures.after c.tell.ensures.tells in
     subst (λ (s : Seat). LineAt (fixed_in fabric) c.args.number (line_tasks records acts.Enter) v w s c.tell.new.self (Ok tt)) (sym c.requires.away)
-    (line-enters fabric c.args.number records v m w c.in-Ok.player c.tell.new.self comes c.is_there.ensures tells)
+    (line-enters fabric c.args.number records v m w c.in-Ok.player c.tell.new.self comes tells)
 
 pub returns-in-Err-clause-line : goal.returns-in-Err-clause-line
 returns-in-Err-clause-line g c records =

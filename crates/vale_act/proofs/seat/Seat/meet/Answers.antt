@@ -10,4 +10,4 @@ pub returns-in-There-clause-meets : goal.returns-in-There-clause-meets
 returns-in-There-clause-meets c =
     subst (λ (before : Seat). Meets (knowing c.args.main.now) (knowing c.fork-news.new.pass) before (There c.meet.new.self c.in-There.fault)) (sym c.in-There.is)
     (meets-there (knowing c.args.main.now) (knowing c.fork-news.new.pass) c.in-There.player c.meet.new.self (knowing c.fork-news.result) c.in-There.fault
-    c.fork-news.ensures.kept c.fork-news.ensures.given c.meet.ensures.joined c.meet.ensures.known)
+    c.fork-news.ensures.kept c.fork-news.ensures.given c.meet.ensures.joined c.meet.ensures.known c.meet.ensures.there)

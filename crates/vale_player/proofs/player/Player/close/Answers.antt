@@ -18,7 +18,7 @@ returns-in-Some-clause-does g c =
     let p : PlayerState = record { number = c.self.inside.number; session = c.self.inside.session; saves = c.self.inside.saves.items; names = c.self.inside.names.now } in
     let q : PlayerState = record p { session = c.detach.new.self } in
     subst (λ (x : PlayerState). Does x q (ShutPort c.args.name.now ∷ FinishPort c.args.name.now ∷ [])) c.self.view_is
-    (closes-does p q refl c.args.name.now c.in-Some.port c.detach.result c.detach.ensures c.self.invariant.there c.is_there.ensures (sym c.port_named.ensures ∙ c.in-Some.is))
+    (closes-does p q refl c.args.name.now c.in-Some.port c.detach.result c.detach.ensures.detached c.self.invariant.there c.detach.ensures.there (sym c.port_named.ensures ∙ c.in-Some.is))
 
 pub returns-in_default-clause-does : goal.returns-in_default-clause-does
 returns-in_default-clause-does g c =
@@ -29,4 +29,4 @@ pub invariant_of-self : goal.invariant_of-self
 invariant_of-self g c =
     let s = c.self.inside.session in
     let t = c.detach.new.self in
-    keeping s t c.self.inside.kept.items c.is_there.ensures (detach-saves s t c.self.invariant.there c.is_there.ensures c.in-Some.port.0 c.detach.result c.detach.ensures) c.self.invariant
+    keeping s t c.self.inside.kept.items c.detach.ensures.there (detach-saves s t c.self.invariant.there c.detach.ensures.there c.in-Some.port.0 c.detach.result c.detach.ensures.detached) c.self.invariant

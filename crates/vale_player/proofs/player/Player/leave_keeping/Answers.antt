@@ -1,4 +1,5 @@
-use Rattle.std.proofs.Common.{subst}
+use Rattle.std.proofs.Common.{None, subst}
+use Rattle.nm_user.specs.Sessions.{IsThere}
 use Rattle.vale_fabric.specs.Fabrics.{knowing}
 use Rattle.vale_player.specs.Kept.{AreWhole}
 use Rattle.vale_player.specs.Players.{PlayerState}
@@ -11,3 +12,6 @@ returns-clause-whole g c =
     let w = knowing c.leave.result in
     subst (λ (x : PlayerState). AreWhole x.session.fixed.pool w.seen kept) c.self.view_is
     (left-whole c.self.inside.session w kept c.self.invariant.there c.leave.ensures.left c.self.invariant.all)
+
+pub returns-clause-there : goal.returns-clause-there
+returns-clause-there g c = subst (λ (x : PlayerState). IsThere None x.session) c.self.view_is c.self.invariant.there

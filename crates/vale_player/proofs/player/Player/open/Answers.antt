@@ -1,6 +1,7 @@
-use Rattle.std.proofs.Common.{[], ◌∷◌, List, Result, refl, sym, subst, ◌∙◌}
+use Rattle.std.proofs.Common.{[], ◌∷◌, List, None, Result, refl, sym, subst, ◌∙◌}
 use Rattle.std.specs.Prelude.{OnOk}
 use Rattle.nm_types.specs.declared.fault.StepFault.{StepFault}
+use Rattle.nm_user.specs.Sessions.{IsThere}
 use Rattle.vale_replay.specs.Tasks.{Task, OpenPort}
 use Rattle.vale_player.specs.Players.{PlayerState, Does}
 use Rattle.vale_player.proofs.PortCalls.{opens-ok, opens-err, opens-there}
@@ -15,7 +16,7 @@ invariant_of-self g c =
     let there = opens-there p q c.self.invariant.there refl c.args.name.now c.args.tx c.args.rx c.args.extra c.open-opened.result c.open-opened.ensures.made c.open-opened.ensures.unopened in
     record {
       there = there;
-      all = c.keep_opened.ensures (kept-stay p.session q.session c.self.inside.kept.items
+      all = c.keep_opened.ensures there (kept-stay p.session q.session c.self.inside.kept.items
           (open-saves p.session q.session c.self.invariant.there c.args.name.now c.args.tx c.args.rx c.args.extra c.open-opened.result c.open-opened.ensures.made c.open-opened.ensures.unopened) c.self.invariant.all);
     }
 
@@ -31,3 +32,6 @@ returns-clause-does g c =
           (opens-err p q c.self.invariant.there refl c.args.name.now c.args.tx c.args.rx c.args.extra c.open-opened.result c.open-opened.ensures.made c.open-opened.ensures.unopened w.in-Err.is)
     ] in
     subst (λ (x : PlayerState). OnOk c.match-opened.result (Does x q tasks)) c.self.view_is does
+
+pub returns-clause-there : goal.returns-clause-there
+returns-clause-there g c = subst (λ (x : PlayerState). IsThere None x.session) c.self.view_is c.self.invariant.there

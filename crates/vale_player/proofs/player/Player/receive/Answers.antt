@@ -1,7 +1,6 @@
-use Rattle.std.proofs.Common.{◌≡◌, true, false, None, inl, inr, ◌⊎◌, subst, ◌∙◌}
-use Rattle.nm_user.specs.Sessions.{IsThere}
+use Rattle.std.proofs.Common.{◌≡◌, true, false, inl, inr, ◌⊎◌, ◌∙◌}
 use Rattle.vale_script.specs.declared.script.Act.TheVariants as acts
-use Rattle.vale_player.specs.Players.{PlayerState, with_act}
+use Rattle.vale_player.specs.Players.{with_act}
 use Rattle.vale_player.proofs.PlayerLines.{received}
 use Rattle.vale_player.proofs.player.Player.receive.Goals as goal
 use Rattle.vale_player.proofs.player.Player.receive.Goals.{then-not-keep, else-not-keep}
@@ -12,12 +11,11 @@ returns-clause-does g c =
     let mid = c.if-not-keep.self in
     let name = c.args.name.now in
     let keep = c.args.keep in
-    let here : IsThere None mid.session = subst (λ (x : PlayerState). IsThere None x.session) c.self.view_is c.self.invariant.there in
     let way : ((keep ≡ true) × (mid ≡ p)) ⊎ ((keep ≡ false) × (mid ≡ with_act (acts.Rx name false) p)) = elim c.if-not-keep.branch [
       | then-not-keep w ↦ inr (w.if-not-keep.true, w.self-is ∙ w.give_all_back.ensures)
       | else-not-keep w ↦ inl (w.if-not-keep.false, w.self-is)
     ] in
-    (received p mid c.take.new.self name keep c.take.result here way c.take.ensures.does c.take.ensures.stops c.take.ensures.still).does
+    (received p mid c.take.new.self name keep c.take.result c.take.ensures.there way c.take.ensures.does c.take.ensures.stops c.take.ensures.still).does
 
 pub returns-clause-stops : goal.returns-clause-stops
 returns-clause-stops g c =
@@ -25,9 +23,8 @@ returns-clause-stops g c =
     let mid = c.if-not-keep.self in
     let name = c.args.name.now in
     let keep = c.args.keep in
-    let here : IsThere None mid.session = subst (λ (x : PlayerState). IsThere None x.session) c.self.view_is c.self.invariant.there in
     let way : ((keep ≡ true) × (mid ≡ p)) ⊎ ((keep ≡ false) × (mid ≡ with_act (acts.Rx name false) p)) = elim c.if-not-keep.branch [
       | then-not-keep w ↦ inr (w.if-not-keep.true, w.self-is ∙ w.give_all_back.ensures)
       | else-not-keep w ↦ inl (w.if-not-keep.false, w.self-is)
     ] in
-    (received p mid c.take.new.self name keep c.take.result here way c.take.ensures.does c.take.ensures.stops c.take.ensures.still).stops
+    (received p mid c.take.new.self name keep c.take.result c.take.ensures.there way c.take.ensures.does c.take.ensures.stops c.take.ensures.still).stops

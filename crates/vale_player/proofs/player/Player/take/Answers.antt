@@ -1,6 +1,7 @@
 use Rattle.std.proofs.Common.{◌≡◌, ◌∷◌, [], None, option_map, IfErr, refl, sym, subst, ◌∙◌}
 use Rattle.std.specs.Prelude.{OnOk}
 use Rattle.nm_types.specs.OwnPorts.{port_with_name}
+use Rattle.nm_user.specs.Sessions.{IsThere}
 use Rattle.vale_replay.specs.Tasks.{TakeFrames}
 use Rattle.vale_player.specs.Players.{PlayerState, Does, StopsAt, IsStill}
 use Rattle.vale_player.proofs.Changes.{id-of}
@@ -57,3 +58,9 @@ returns-clause-still g c =
     let at = port-at p.session.own name port c.self.invariant.there.side.sound (sym c.port_named.ensures ∙ c.in-Some.is) in
     let still : IsStill p q = still-on p q refl name port at c.receive-ended.result.1 c.receive-ended.ensures.came c.receive-ended.ensures.none in
     subst (λ (x : PlayerState). IsStill x q) c.self.view_is still
+
+pub returns-in_default-clause-there : goal.returns-in_default-clause-there
+returns-in_default-clause-there g c = subst (λ (x : PlayerState). IsThere None x.session) c.self.view_is c.self.invariant.there
+
+pub returns-clause-there : goal.returns-clause-there
+returns-clause-there g c = subst (λ (x : PlayerState). IsThere None x.session) c.self.view_is c.self.invariant.there

@@ -2,6 +2,7 @@ use Rattle.std.proofs.Common.{◌≡◌, [], ◌∷◌, List, None, option_map, 
 use Rattle.std.specs.Prelude.{OnOk}
 use Rattle.nm_types.specs.declared.fault.StepFault.{StepFault}
 use Rattle.nm_types.specs.OwnPorts.{port_with_name}
+use Rattle.nm_user.specs.Sessions.{IsThere}
 use Rattle.vale_replay.specs.Tasks.{Task, WatchPort}
 use Rattle.vale_player.specs.Players.{PlayerState, Does}
 use Rattle.vale_player.proofs.Changes.{id-of}
@@ -41,3 +42,9 @@ returns-clause-does g c =
           (watches-err p q c.self.invariant.there refl c.args.monitor.now c.in-Some.port (sym c.port_named.ensures ∙ c.in-Some.is) c.args.target.now c.args.sides c.watch.result c.watch.ensures.watched c.watch.ensures.unwatched w.in-Err.is)
     ] in
     subst (λ (x : PlayerState). OnOk c.match-watch.result (Does x q tasks)) c.self.view_is does
+
+pub returns-in_default-clause-there : goal.returns-in_default-clause-there
+returns-in_default-clause-there g c = subst (λ (x : PlayerState). IsThere None x.session) c.self.view_is c.self.invariant.there
+
+pub returns-clause-there : goal.returns-clause-there
+returns-clause-there g c = subst (λ (x : PlayerState). IsThere None x.session) c.self.view_is c.self.invariant.there
