@@ -89,6 +89,13 @@ impl Run {
         }
     }
 
+    fn reserve(&mut self, frames: usize, bytes: usize) -> Result<(), AllocError>
+        ensures { self.new ≡ self.old }
+    {
+        self.cuts.reserve(frames)?;
+        self.bytes.reserve(bytes)
+    }
+
     #[tactic(auto, using(crate::proofs::Places::places))]
     fn push(&mut self, bytes: &[u8], no_learn: bool) -> Result<(), AllocError>
         ensures ok { OnOk result (self.new ≡ self.old ++ record { bytes = bytes.now; no_learn = no_learn } ∷ []) }
@@ -98,11 +105,11 @@ impl Run {
         let start = self.bytes.len();
         self.bytes.extend_from_slice(bytes)?;
         let end = self.bytes.len();
-        self.cuts.push(Cut {
+        self.cuts.push_reserved(Cut {
             start,
             end,
             no_learn,
-        })?;
+        });
         Ok(())
     }
 
@@ -155,18 +162,33 @@ impl Batch {
         Batch { run: None, alloc }
     }
 
+    /// Makes room for that many frames more, with that many bytes in all, so that pushing them takes
+    /// no memory.
+    pub fn reserve(&mut self, frames: usize, bytes: usize) -> Result<(), NoMemory>
+        ensures { self.new ≡ self.old }
+    {
+        match &mut self.run {
+            Some(run) => run.reserve(frames, bytes)?,
+            None => {
+                let mut run = Run::new(self.alloc);
+                run.reserve(frames, bytes)?;
+                self.run = Some(Box::new(self.alloc, run)?);
+            }
+        }
+        Ok(())
+    }
+
     /// Adds a frame at the end.
     pub fn push(&mut self, bytes: &[u8], no_learn: bool) -> Result<(), NoMemory>
         ensures ok { OnOk result (self.new ≡ self.old ++ record { bytes = bytes.now; no_learn = no_learn } ∷ []) }
         ensures err { OnErr result (self.new ≡ self.old) }
     {
+        if self.run.is_none() {
+            self.run = Some(Box::new(self.alloc, Run::new(self.alloc))?);
+        }
         match &mut self.run {
             Some(run) => run.push(bytes, no_learn)?,
-            None => {
-                let mut run = Run::new(self.alloc);
-                run.push(bytes, no_learn)?;
-                self.run = Some(Box::new(self.alloc, run)?);
-            }
+            None => unreachable!(),
         }
         Ok(())
     }
