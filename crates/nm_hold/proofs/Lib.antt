@@ -11,3 +11,4 @@ pub mod Spots
 pub mod Steps
 pub mod Takes
 pub mod Tied
+pub mod Turns

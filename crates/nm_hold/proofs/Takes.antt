@@ -19,7 +19,8 @@ use Rattle.nm_hold.specs.Standings.{buf_in}
 use Rattle.nm_hold.specs.Tables.{ports_of, number_at, put_in}
 use Rattle.nm_hold.specs.Holds.{HoldState, cell_at, slot_on, port_of}
 use Rattle.nm_hold.specs.Indexed.{tables_present, row_at, port_at, number_in_row, IsIndexed}
-use Rattle.nm_hold.specs.Takes.{place_in, IsRemoved, AreTakenBehind, AreHeld}
+use Rattle.nm_hold.specs.Takes.{place_in, IsRemoved, AreTakenBehind}
+use Rattle.nm_hold.specs.Ties.{AreHeld}
 use Rattle.nm_hold.proofs.Spots.{same_place-is}
 use Rattle.nm_hold.proofs.Numbers.{ports_of-put, has_place-from_number}
 use Rattle.nm_hold.proofs.Tied.{number_if-some, held-number}
@@ -53,12 +54,12 @@ hold_of cells tables = record { cells = cells; ports = ports_of tables }
 -- one buffer is taken out
 module _ (cells : List (Option Standing)) (tables : List PortTable) (held : AreHeld cells tables) (p : Place) (idx : ℕ) (s : Standing) (number : idx ≡ number_at tables p) (there : cell_at cells idx ≡ Some s) where
   gone : Removed cells tables p idx s
-  gone = removed cells tables p idx s held.sound held.tied number there
+  gone = removed cells tables p idx s held.tables held.tied number there
 
   pub still_held : AreHeld (slice_set cells idx None) (map (put_in p 0) tables)
   still_held =
       let count = length-set cells idx None in
-      record { low = rw count held.low; high = rw count held.high; sound = put_are_tables p 0 tables held.sound; once = rw (ports_of-put p 0 tables) held.once; tied = gone.tied }
+      record { low = rw count held.low; high = rw count held.high; tables = put_are_tables p 0 tables held.tables; once = rw (ports_of-put p 0 tables) held.once; tied = gone.tied }
 
   pub one_removed : IsRemoved (hold_of cells tables) (hold_of (slice_set cells idx None) (map (put_in p 0) tables)) p s.buf
   one_removed =
@@ -68,8 +69,8 @@ module _ (cells : List (Option Standing)) (tables : List PortTable) (held : AreH
         index = held-number cells tables p held.tied ∙ (number_if-some (number_at tables p) gone.some ∙ ap (λ (n : ℕ). Some n) (sym number ∙ sym gone.index));
         buffer = ap (λ (n : ℕ). buf_in (cell_at cells n)) gone.index ∙ ap buf_in there;
         cell = rw (same, gone.index) refl;
-        places = removed_places cells (slice_set cells idx None) tables p held.sound held.tied gone.some gone.tied;
-        hold = IsHold-stored (slice_set cells idx None) (map (put_in p 0) tables) whole.low whole.high whole.sound whole.once whole.tied;
+        places = removed_places cells (slice_set cells idx None) tables p held.tables held.tied gone.some gone.tied;
+        hold = IsHold-stored (slice_set cells idx None) (map (put_in p 0) tables) whole.low whole.high whole.tables whole.once whole.tied;
       }
 
 -- a place that comes later still holds its buffer
@@ -77,7 +78,7 @@ pub later_numbered : (cells : List (Option Standing)) (tables : List PortTable) 
     → 0 < number_at tables (place_in r k) → 0 < number_at tables (place_in r j) → 0 < number_at (map (put_in (place_in r k) 0) tables) (place_in r j)
 later_numbered cells tables held r k j within below few here there =
     let p = place_in r k in
-    rw (put_number p 0 tables held.sound (has_place-from_number tables p here) (place_in r j), run_apart r k j within below few) there
+    rw (put_number p 0 tables held.tables (has_place-from_number tables p here) (place_in r j), run_apart r k j within below few) there
 
 -- none yet, and one more
 pub none_out : (h : HoldState) (run : SlotRun) (n : ℕ) (before : List Buffer) → n ≡ 0 → AreTakenBehind h run n h before before

@@ -1,16 +1,11 @@
 -- Buffers that are taken out of several slots of a port, one after another.
-use Rattle.std.specs.Prelude.{ℕ, ◌≡◌, ◌≤◌, All, if◌then◌else◌, List, [], ◌∷◌, ◌++◌, length, reverse, Option, Some, None}
+use Rattle.std.specs.Prelude.{ℕ, ◌≡◌, if◌then◌else◌, List, [], ◌∷◌, ◌++◌, length, reverse, Some, None}
 use Rattle.nm_types.specs.declared.place.Place.{Place}
 use Rattle.nm_types.specs.Places.{is_same_place}
 use Rattle.nm_types.specs.Positions.{step_on}
 use Rattle.nm_region.specs.Buffers.{Buffer}
-use Rattle.nm_hold.specs.declared.standing.Standing.{Standing}
-use Rattle.nm_hold.specs.declared.table.PortTable.{PortTable}
 use Rattle.nm_hold.specs.declared.taking.SlotRun.{SlotRun}
 use Rattle.nm_hold.specs.Holds.{HoldState, slot_on, index_at, buffer_at, with_cell, IsHold}
-use Rattle.nm_hold.specs.Offsets.{ArePortsOnce}
-use Rattle.nm_hold.specs.Tables.{IsTable, ports_of}
-use Rattle.nm_hold.specs.Ties.{IsTied}
 
 -- the place of a slot of a run
 abbrev pub place_in : SlotRun → ℕ → Place
@@ -35,11 +30,3 @@ pub record AreTakenBehind (h : HoldState) (run : SlotRun) (number : ℕ) (now : 
   pub joined : after ≡ before ++ out
   pub count : length out ≡ number
   pub removed : AreRemoved h run (reverse out) now
-
--- the cells and tables of one hold
-pub record AreHeld (cells : List (Option Standing)) (tables : List PortTable) : Type 0 where
-  pub low : 3 ≤ length cells
-  pub high : length cells ≤ 65538
-  pub sound : All IsTable tables
-  pub once : ArePortsOnce (ports_of tables)
-  pub tied : IsTied cells tables

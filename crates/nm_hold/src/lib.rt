@@ -1,6 +1,7 @@
 //! A session's places and the buffers that stand in them.
 #![tactic(auto)]
 
+mod around;
 mod cells;
 mod hold;
 pub mod laws;
@@ -12,8 +13,10 @@ mod taking;
 #[cfg(test)]
 mod tests;
 
+pub use around::step_on;
 pub use hold::{Hold, PortRoom};
 pub use nm_types::PortSizes;
+pub use renames::number_in;
 pub use standing::{Home, Standing};
 pub use table::PortPlaces;
 pub use taking::SlotRun;

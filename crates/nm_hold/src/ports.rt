@@ -9,7 +9,8 @@ ghost use Rattle.nm_hold.specs.Offsets.{has_port, ArePortsOnce};
 ghost use Rattle.nm_hold.specs.Holds.{port_of};
 ghost use Rattle.nm_hold.specs.Tables.{number_at, ports_of, put_in, IsTable};
 ghost use Rattle.nm_hold.specs.Indexed.{tables_present, port_in, port_at, number_in_row, IsIndexed};
-ghost use Rattle.nm_hold.specs.Takes.{place_in, AreTakenBehind, AreHeld};
+ghost use Rattle.nm_hold.specs.Takes.{place_in, AreTakenBehind};
+ghost use Rattle.nm_hold.specs.Ties.{AreHeld};
 
 use crate::cells::Cells;
 use crate::table::PortTable;

@@ -3,10 +3,11 @@ ghost use Rattle.nm_types.specs.Positions.{slots_from};
 ghost use Rattle.nm_hold.specs.Holds.{cell_at};
 ghost use Rattle.nm_hold.specs.Renames.{cells_renamed};
 
+use crate::around::step_on;
 use crate::cells::Cells;
 
 /// The number at a position, 0 if there is none.
-fn number_in(numbers: &[u32], at: u32) -> u32
+pub fn number_in(numbers: &[u32], at: u32) -> u32
     ensures { result ≡ slice_index_or numbers.now at 0 }
 {
     match numbers.get(at as usize) {
@@ -34,7 +35,7 @@ pub(crate) fn name_cells(
         ≡ cells_renamed named numbers.now (slots_from size first count) cells.old }
 {
     for k in 0..count {
-        let at = (first + k) % size;
+        let at = step_on(size, first, k);
         cells.rename(number_in(numbers, at), named);
     }
 }

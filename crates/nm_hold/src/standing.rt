@@ -13,8 +13,8 @@ pub struct Home {
 
 /// A buffer, and where it stands.
 pub struct Standing {
-    pub home: Home,
     pub buf: Buf,
+    pub home: Home,
 }
 
 impl Standing {

@@ -3,8 +3,10 @@ ghost use Rattle.std.specs.HashMap.{get};
 ghost use Rattle.std.specs.Vec.{vec_capacity};
 ghost use Rattle.nm_hold.specs.Indexed.{tables_present, IsIndexed};
 ghost use Rattle.nm_hold.specs.Tables.{number_at, ports_of};
-ghost use Rattle.nm_hold.specs.Takes.{place_in, AreTakenBehind, AreHeld};
+ghost use Rattle.nm_hold.specs.Takes.{place_in, AreTakenBehind};
+ghost use Rattle.nm_hold.specs.Ties.{AreHeld};
 
+use crate::around::step_on;
 use crate::cells::Cells;
 use crate::ports::{replace_at, row_of};
 use crate::standing::Standing;
@@ -27,10 +29,10 @@ impl SlotRun {
     fn place(self, steps: u32) -> Place
         requires size { self.size ≤ 1024 }
         requires first { self.first < self.size }
-        requires steps { steps ≤ 1024 }
+        requires steps { steps ≤ self.size }
         ensures { result ≡ place_in self steps }
     {
-        let (port, slot) = (self.port, (self.first + steps) % self.size);
+        let (port, slot) = (self.port, step_on(self.size, self.first, steps));
         match self.side {
             Side::Tx => Place::Tx { port, slot },
             Side::Rx => Place::Rx { port, slot },

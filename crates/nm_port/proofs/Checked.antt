@@ -18,7 +18,7 @@ use Rattle.nm_hold.specs.declared.standing.Standing.{Standing}
 use Rattle.nm_hold.specs.Holds.{HoldState, buffers_of, empty_hold}
 use Rattle.nm_hold.proofs.Spots.{nat_eq-is}
 use Rattle.nm_port.specs.declared.port.UserPort.{UserPort}
-use Rattle.nm_port.specs.RingSlots.{RingSlots, slot_of_user, slot_at, slot_before_tail}
+use Rattle.nm_port.specs.RingSlots.{RingSlots, slot_of_user, slot_at}
 use Rattle.nm_port.specs.Sides.{pushed_seen, pushed_seen_at}
 use Rattle.nm_port.specs.Own.{frame_seen, frames_seen, bytes_in_hold, bytes_in_cell, ring_seen, own_seen, port_at, slots_on, slots_at, AreSided, AreRings, IsRingIf, refusal_at}
 use Rattle.nm_port.proofs.Seeing.{pushed_is_seen, side_of_found, ring_is_seen}

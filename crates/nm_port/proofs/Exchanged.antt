@@ -1,21 +1,19 @@
 -- The pushed slots of a ring, exchanged one after another, and buffers that are named ones or not.
-use Rattle.std.proofs.Common.{ℕ, zero, suc, ◌≡◌, ◌≢◌, ◌<◌, ◌≤◌, ◌+◌, ◌||◌, Bool, true, false, nat_eq, if◌then◌else◌, List, [], ◌∷◌, ◌++◌, length, map, fold, take, drop, get_or, Option, Some, None, option_map, inl, inr, refl, sym, ◌∙◌, ap, arith, rules}
+use Rattle.std.proofs.Common.{ℕ, zero, suc, ◌≡◌, ◌≢◌, ◌<◌, ◌≤◌, ◌+◌, Bool, true, false, nat_eq, if◌then◌else◌, List, [], ◌∷◌, ◌++◌, length, map, fold, take, drop, get_or, Option, Some, None, option_map, inl, inr, refl, sym, ◌∙◌, ap, arith, rules}
 use Rattle.std.specs.Prelude.{is_some, unwrap_or, IsSome}
 use Rattle.std.specs.Option.{option_map_or}
 use Rattle.std.specs.List.{AllByRecursion, range_with_len}
 use Rattle.std.proofs.lemmas.Bool.{cases_Bool, cases_lt}
 use Rattle.std.proofs.lemmas.Bool.Decides.{nat_tests}
-use Rattle.std.proofs.lemmas.List.{get_or-set_same, get_or-set_other, get_or_at, drop_more, length-map, length-take-le}
-use Rattle.std.proofs.lemmas.List.Folds.{list_any-append}
+use Rattle.std.proofs.lemmas.List.{get_or_at, drop_more, length-map, length-take-le}
 use Rattle.std.proofs.lemmas.List.Sums.{fold-append}
-use Rattle.std.proofs.Math.Seq.{map-set_same}
 use Rattle.nm_types.specs.declared.id.PortId.{PortId}
 use Rattle.nm_types.specs.declared.id.Side.{Side}
 use Rattle.nm_types.specs.declared.id.Side.TheVariants.{Tx, Rx}
 use Rattle.nm_types.specs.declared.place.Place.{Place}
 use Rattle.nm_types.specs.declared.place.Place.TheVariants as place
-use Rattle.nm_types.specs.Places.{Held, held_at, is_same_place}
-use Rattle.nm_types.specs.Positions.{IsRing, FitsRing, dist, step_on, slots_from}
+use Rattle.nm_types.specs.Places.{Held, held_at}
+use Rattle.nm_types.specs.Positions.{IsRing, FitsRing, dist, slots_from}
 use Rattle.nm_types.specs.Exchange.{swapped, exchanged}
 use Rattle.nm_types.specs.OwnPorts.{OwnRing, OwnPort, ring_on}
 use Rattle.nm_types.specs.OwnSyncs.{ring_swapped, port_swapped, buffer_on, after_slot}
@@ -26,10 +24,9 @@ use Rattle.nm_region.specs.Buffers.{Buffer}
 use Rattle.nm_hold.specs.Standings.{buf_in}
 use Rattle.nm_hold.specs.Renames.{cell_named_in, with_places_named}
 use Rattle.nm_hold.proofs.Renamed.{named_at}
-use Rattle.nm_hold.specs.Holds.{HoldState, places_in, places_of, bufs_of, index_at, standing_at, stands_at, is_named_at, is_named_in, with_cell, IsHold, SamePlaces}
+use Rattle.nm_hold.specs.Holds.{HoldState, places_in, places_of, bufs_of, index_at, standing_at, stands_at, is_named_at, is_named_in, IsHold, SamePlaces}
 use Rattle.nm_hold.proofs.Spots.{nat_eq-is, same_place-is}
 use Rattle.nm_hold.proofs.Shown.{named_stands}
-use Rattle.nm_hold.proofs.Tied.{within_cells}
 use Rattle.nm_port.specs.declared.port.UserPort.{UserPort}
 use Rattle.nm_port.specs.RingSlots.{RingSlots}
 use Rattle.nm_port.specs.Sides.{place_on, number_at, name_at, pushed_seen_at}

@@ -8,6 +8,7 @@ pub mod Renaming
 pub mod Filling
 pub mod Taking
 pub mod TakenRuns
+pub mod Plain
 pub mod PortOut
 pub mod Exchanged
 pub mod Buffers

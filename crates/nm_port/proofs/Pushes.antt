@@ -57,3 +57,20 @@ offered_are ring is =
     let pushed = dist ring.size ring.accepted_head ring.head in
     slots_from-add ring.size first pending pushed
     ∙ ap (λ (at : ℕ). slots_from ring.size first pending ++ slots_from ring.size at pushed) (step_on-dist ring.size first ring.accepted_head within is.accepted)
+
+-- the next pushed slot of a loop over them: it is one of the user's, so many steps behind the accepted head
+pub record IsNext (ring : RingState) (k at : ℕ) : Type 0 where
+  pub user : is_user_slot ring at ≡ true
+  pub steps : k < ring.size
+  pub there : at ≡ step_on ring.size ring.accepted_head k
+
+pub next_is : (ring : RingState) (size first count k at : ℕ) → IsRing ring → FitsRing ring ring.head ring.cur → size ≡ ring.size → first ≡ ring.accepted_head → count ≡ dist ring.size ring.accepted_head ring.head → k < count → at ≡ step_on size first k → IsNext ring k at
+next_is ring size first count k at is fits sized start counted below here =
+    let few = dist-below ring.size ring.accepted_head ring.head is.accepted in
+    let there : at ≡ step_on ring.size ring.accepted_head k = rw (here, sized, start) refl in
+    let pushed : k < dist ring.size ring.accepted_head ring.head = omega (arith, below, counted) in
+    record {
+      user = rw there (pushed_is_user ring k is fits pushed);
+      steps = omega (arith, few, pushed);
+      there = there;
+    }

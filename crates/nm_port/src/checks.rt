@@ -3,9 +3,10 @@ ghost use Rattle.std.specs.Prelude.{OnErr, MatchResult};
 ghost use Rattle.std.specs.Prelude.{None, Some, true, false, length, replicate, slice_index_or};
 ghost use Rattle.std.specs.Prelude.{slice_set, ◌+◌};
 ghost use Rattle.nm_types.specs.Positions.{FitsRing, is_user_slot};
-ghost use Rattle.nm_types.specs.Slots.{pushed_names};
+ghost use Rattle.nm_types.specs.Limits.{buffer_bytes};
+ghost use Rattle.nm_types.specs.Slots.{pushed_names, has_flag, indirect, more_fragments};
 ghost use Rattle.nm_types.specs.SyncFaults.{ring_sync_fault, slot_sync_fault};
-ghost use Rattle.nm_types.specs.SyncChecks.{slot_refusal, seen_of, slots_refusal, refusal_of};
+ghost use Rattle.nm_types.specs.SyncChecks.{is_tx, slot_refusal, seen_of, slots_refusal, refusal_of};
 ghost use Rattle.nm_hold.specs.Holds.{buffers_of, is_named_at, IsHold};
 ghost use Rattle.nm_port.specs.Sides.{place_on, number_at, pushed_seen_at, pushed_seen};
 ghost use Rattle.nm_port.specs.Sides.{names_pushed, AreNamed, AreMarked, AreMarkedOf, AreCleared};
@@ -15,9 +16,12 @@ ghost use Rattle.nm_port.specs.Exchanges.{pushed_count_of, user_position};
 ghost use Rattle.nm_port.specs.RingSlots.{IsRingSlots, slot_at};
 
 use crate::slot_ring::SlotRing;
-use nm_hold::Hold;
+use bitflags::Flags;
+use nm_hold::{Hold, number_in, step_on};
 use nm_slot::judge;
-use nm_types::{Place, PortId, RingFault, Seen, Side, Slot, SlotFault, SyncFault};
+use nm_types::{
+    BUFFER_BYTES, Place, PortId, RingFault, Seen, Side, Slot, SlotFault, SlotFlags, SyncFault,
+};
 
 /// The place of a slot.
 pub(crate) fn place_on(side: Side, port: PortId, slot: u32) -> Place
@@ -146,61 +150,69 @@ fn judge_pushed(
     Ok(())
 }
 
-/// The number at a position, 0 if there is none.
-pub(crate) fn number_in(numbers: &[u32], at: u32) -> u32
-    ensures { result ≡ slice_index_or numbers.now at 0 }
+/// Whether no mark of a slot and not its length refuses it: those of a transmit slot may.
+fn is_plain(side: Side, slot: &Slot) -> bool
+    ensures direct { result ≡ true → is_tx side ≡ true → has_flag indirect slot.now ≡ false }
+    ensures whole { result ≡ true → is_tx side ≡ true
+        → has_flag more_fragments slot.now ≡ false }
+    ensures fits { result ≡ true → is_tx side ≡ true → slot.now.len ≤ buffer_bytes }
 {
-    match numbers.get(at as usize) {
-        Some(number) => *number,
-        None => 0,
+    let flags = SlotFlags::from_bits_retain(slot.flags);
+    match side {
+        Side::Tx => {
+            !flags.contains(SlotFlags::INDIRECT)
+                && !flags.contains(SlotFlags::MORE_FRAGMENTS)
+                && slot.len as usize <= BUFFER_BYTES
+        }
+        Side::Rx => true,
     }
 }
 
-/// Whether a slot at a position passes the checks if it names the buffer in its place, and no other
-/// slot names that one. `top` is the greatest index of a buffer.
-fn passes_alone(hold: &Hold, side: Side, at: u32, slot: &Slot, top: u32) -> bool
+/// Whether a slot passes the checks if it names the buffer in its place, and no other slot names
+/// that one.
+fn passes_alone(hold: &Hold, side: Side, slot: &Slot) -> bool
+    ensures { result ≡ true → (at : ℕ) → slot_refusal side
+        (seen_alone hold.now (buffers_of hold.now + 1) slot.now.buf_idx) at slot.now ≡ None }
+{
+    if is_plain(side, slot) {
+        hold.named(slot.buf_idx)
+    } else {
+        false
+    }
+}
+
+/// Whether the pushed slot at a position, so many steps behind the accepted head, names the buffer in
+/// its place, a named one, and passes the other checks. `numbers` has the index of the buffer in each
+/// place of the ring.
+fn keeps_buffer(hold: &Hold, ring: &SlotRing, numbers: &[u32], at: u32, steps: u32) -> bool
+    requires user { is_user_slot ring.now.ring at ≡ true }
+    requires steps { steps < ring.now.ring.size }
+    requires there { at ≡ user_position ring.now steps }
     ensures { result ≡ true
-        → slot_refusal side (seen_alone hold.now top slot.now.buf_idx) at slot.now ≡ None }
+        → KeepsBuffer hold.now (buffers_of hold.now + 1) ring.now numbers.now at }
 {
-    let seen = Seen {
-        was: slot.buf_idx,
-        top,
-        held: hold.named(slot.buf_idx),
-        doubled: false,
-    };
-    match judge(at, slot, &seen, side) {
-        Ok(()) => true,
-        Err(_) => false,
-    }
-}
-
-/// Whether the pushed slot at a position names the buffer in its place, a named one, and passes the
-/// other checks. `numbers` has the index of the buffer in each place of the ring, and `top` is the
-/// greatest index of a buffer.
-fn keeps_buffer(hold: &Hold, ring: &SlotRing, numbers: &[u32], at: u32, top: u32) -> bool
-    requires { is_user_slot ring.now.ring at ≡ true }
-    ensures { result ≡ true → KeepsBuffer hold.now top ring.now numbers.now at }
-{
-    let slot = ring.user_slot(at);
+    let slot = ring.slot_behind(at, steps);
     let own = number_in(numbers, at);
     if own == slot.buf_idx {
-        passes_alone(hold, ring.side(), at, &slot, top)
+        passes_alone(hold, ring.side(), &slot)
     } else {
         false
     }
 }
 
 /// Whether each pushed slot names the buffer in its place, a named one, and passes the other checks.
-fn each_keeps(hold: &Hold, ring: &SlotRing, numbers: &[u32], top: u32) -> bool
+fn each_keeps(hold: &Hold, ring: &SlotRing, numbers: &[u32]) -> bool
     requires { FitsRing ring.now.ring ring.now.ring.head ring.now.ring.cur }
     ensures keeps { result ≡ true → (k : ℕ) → k < pushed_count_of ring.now
-        → KeepsBuffer hold.now top ring.now numbers.now (user_position ring.now k) }
+        → KeepsBuffer hold.now (buffers_of hold.now + 1) ring.now numbers.now
+        (user_position ring.now k) }
     ensures ring { IsRingSlots ring.now }
 {
     let (first, count) = ring.pushed();
     let size = ring.ring().size();
     for k in 0..count {
-        if !keeps_buffer(hold, ring, numbers, (first + k) % size, top) {
+        let at = step_on(size, first, k);
+        if !keeps_buffer(hold, ring, numbers, at, k) {
             return false;
         }
     }
@@ -209,15 +221,14 @@ fn each_keeps(hold: &Hold, ring: &SlotRing, numbers: &[u32], top: u32) -> bool
 
 /// Whether each pushed slot keeps the buffer in its place and passes the other checks: no two of
 /// them then name one buffer, and none of them is refused.
-fn all_keep(hold: &Hold, port: PortId, ring: &SlotRing, marks: &[bool]) -> bool
-    requires fits { FitsRing ring.now.ring ring.now.ring.head ring.now.ring.cur }
-    requires marks { length marks.now ≡ buffers_of hold.now + 2 }
+fn all_keep(hold: &Hold, port: PortId, ring: &SlotRing) -> bool
+    requires { FitsRing ring.now.ring ring.now.ring.head ring.now.ring.cur }
     ensures { result ≡ true → (named : List ℕ) → AreNamed hold.now named
         → slots_refusal ring.now.side (buffers_of hold.now) named []
         (pushed_seen hold.now port ring.now) ≡ None }
 {
     match hold.numbers(port, ring.side()) {
-        Some(numbers) => each_keeps(hold, ring, numbers, marks.len() as u32 - 1),
+        Some(numbers) => each_keeps(hold, ring, numbers),
         None => false,
     }
 }
@@ -262,7 +273,7 @@ pub fn check_ring(
     if let Err(fault) = positions.check(positions.head(), positions.cur()) {
         return Err(ring_sync_fault(fault));
     }
-    if all_keep(hold, port, ring, marks) {
+    if all_keep(hold, port, ring) {
         return Ok(());
     }
     let judged = judge_pushed(hold, port, ring, marks);

@@ -1,4 +1,4 @@
-ghost use Rattle.std.specs.Prelude.{◌≡◌, IfOk, take};
+ghost use Rattle.std.specs.Prelude.{◌≡◌, IfOk, take, []};
 ghost use Rattle.nm_types.specs.Positions.{FitsRing};
 ghost use Rattle.nm_types.specs.Slots.{no_learn, has_flag};
 ghost use Rattle.nm_port.specs.Sides.{names_pushed};
@@ -7,7 +7,7 @@ ghost use Rattle.nm_port.specs.Offers.{offers_seen, lengths_seen};
 
 use crate::slot_ring::SlotRing;
 use bitflags::Flags;
-use nm_hold::Hold;
+use nm_hold::{Hold, step_on};
 use nm_types::{Batch, NoMemory, Slot, SlotFlags};
 use std::alloc::Global;
 
@@ -31,6 +31,17 @@ fn is_not_learned(slot: &Slot) -> bool
     SlotFlags::from_bits_retain(slot.flags).contains(SlotFlags::NO_LEARN)
 }
 
+/// No frames yet, with room for `count` of them that are as long as the frame of a slot.
+fn batch_for(alloc: Global, count: u32, slot: &Slot) -> Result<Batch, NoMemory>
+    ensures { IfOk result (λ batch. batch ≡ []) }
+{
+    let mut batch = Batch::new(alloc);
+    if count > 0 {
+        batch.reserve(count as usize, count as usize * slot.len as usize)?;
+    }
+    Ok(batch)
+}
+
 /// The frames of the pushed slots.
 pub fn gather(alloc: Global, hold: &Hold, ring: &SlotRing) -> Result<Batch, NoMemory>
     requires { FitsRing ring.now.ring ring.now.ring.head ring.now.ring.cur }
@@ -38,9 +49,10 @@ pub fn gather(alloc: Global, hold: &Hold, ring: &SlotRing) -> Result<Batch, NoMe
 {
     let (first, count) = ring.pushed();
     let size = ring.ring().size();
-    let mut batch = Batch::new(alloc);
+    let mut batch = batch_for(alloc, count, &ring.any_slot(first))?;
     for k in 0..count {
-        let slot = ring.user_slot((first + k) % size);
+        let at = step_on(size, first, k);
+        let slot = ring.slot_behind(at, k);
         batch.push(frame_bytes(hold, &slot), is_not_learned(&slot))?;
     }
     Ok(batch)
@@ -69,7 +81,7 @@ pub fn gather_offered(alloc: Global, hold: &Hold, ring: &SlotRing) -> Result<Bat
 {
     let (first, count) = ring.offered();
     let size = ring.ring().size();
-    let mut batch = Batch::new(alloc);
+    let mut batch = batch_for(alloc, count, &ring.any_slot(first))?;
     for k in 0..count {
         let slot = ring.any_slot((first + k) % size);
         batch.push(frame_bytes(hold, &slot), false)?;

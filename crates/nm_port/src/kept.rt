@@ -5,9 +5,8 @@ ghost use Rattle.nm_port.specs.Sides.{name_at};
 ghost use Rattle.nm_port.specs.Exchanges.{CanExchange, AreExchanged, KeepFirst, pushed_count_of};
 ghost use Rattle.nm_port.specs.Lending.{AreSwapped};
 
-use crate::checks::number_in;
 use crate::slot_ring::SlotRing;
-use nm_hold::Hold;
+use nm_hold::{Hold, number_in, step_on};
 use nm_types::PortId;
 
 /// How many pushed slots there are in front of the first that does not name the buffer in its
@@ -20,8 +19,8 @@ fn count_kept(ring: &SlotRing, numbers: &[u32]) -> u32
     let (first, count) = ring.pushed();
     let size = ring.ring().size();
     for k in 0..count {
-        let at = (first + k) % size;
-        if number_in(numbers, at) != ring.user_slot(at).buf_idx {
+        let at = step_on(size, first, k);
+        if number_in(numbers, at) != ring.slot_behind(at, k).buf_idx {
             return k;
         }
     }
@@ -58,8 +57,8 @@ fn note_names(ring: &SlotRing, numbers: &[u32], was: &mut Vec<u32>) -> u32
     let (first, count) = ring.pushed();
     let size = ring.ring().size();
     for k in 0..count {
-        let at = (first + k) % size;
-        let own = ring.user_slot(at).buf_idx;
+        let at = step_on(size, first, k);
+        let own = ring.slot_behind(at, k).buf_idx;
         if number_in(numbers, at) != own {
             return k;
         }

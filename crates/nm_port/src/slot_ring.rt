@@ -383,7 +383,7 @@ impl SlotRing {
           slots = self.old.slots ++ published_slot buffer len ∷ [];
         } }
     {
-        let tail = (self.ring.tail() + 1) % self.ring.size();
+        let tail = self.next(self.ring.tail());
         self.ring.advance(self.ring.head(), self.ring.cur(), tail);
         self.slots.push_back_reserved(Slot {
             buf_idx: buffer,
@@ -454,6 +454,28 @@ impl SlotRing {
         ensures { result ≡ self.now.side }
     {
         self.side
+    }
+
+    /// Where the slot of a position, so many steps behind the accepted head, is in the list of slots.
+    fn index_behind(&self, at: u32, steps: u32) -> usize
+        requires steps { steps < self.now.ring.size }
+        requires there { at ≡ step_on self.now.ring.size self.now.ring.accepted_head steps }
+        ensures { result ≡ index_of self.now.side self.now.ring at }
+    {
+        match self.side {
+            Side::Tx => at as usize,
+            Side::Rx => steps as usize,
+        }
+    }
+
+    /// The slot at a position, which is one of the user's, so many steps behind the accepted head.
+    pub(crate) fn slot_behind(&self, at: u32, steps: u32) -> Slot
+        requires user { is_user_slot self.now.ring at ≡ true }
+        requires steps { steps < self.now.ring.size }
+        requires there { at ≡ step_on self.now.ring.size self.now.ring.accepted_head steps }
+        ensures { result ≡ slot_at self.now at }
+    {
+        self.slots[self.index_behind(at, steps)]
     }
 
     /// The slot at a position, which is one of the user's.

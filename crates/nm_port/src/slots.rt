@@ -7,6 +7,7 @@ ghost use Rattle.nm_region.specs.Buffers.{indices_of};
 ghost use Rattle.nm_port.specs.RingSlots.{slot_framed};
 
 use bitflags::Flags;
+use nm_hold::step_on;
 use nm_region::Buf;
 use nm_types::{Slot, SlotFlags};
 use std::collections::VecDeque;
@@ -55,7 +56,7 @@ pub(crate) fn clear_announcements(slots: &mut VecDeque<Slot>, size: u32, first: 
     ensures room { deque_capacity slots.new ≡ deque_capacity slots.old }
 {
     for k in 0..count {
-        let at = (first + k) % size;
+        let at = step_on(size, first, k);
         clear_announcement(&mut slots[at as usize]);
     }
 }

@@ -44,7 +44,7 @@ pub replace_at-idx-requires : goal.replace_at-idx-requires
 replace_at-idx-requires c =
     let index = get nat_eq c.args.indices.now in
     let within = row_within c.loop-k.rows index c.in-Some.at c.args.run c.loop-k.k c.loop-k.invariant.0 (sym c.row_of.ensures ∙ c.in-Some.is) in
-    rw (row_any c.loop-k.rows c.in-Some.at c.index-rows-at.result within) (row_is_table c.loop-k.rows c.in-Some.at c.loop-k.invariant.1.sound)
+    rw (row_any c.loop-k.rows c.in-Some.at c.index-rows-at.result within) (row_is_table c.loop-k.rows c.in-Some.at c.loop-k.invariant.1.tables)
 
 pub take-buf-requires : goal.take-buf-requires
 take-buf-requires c =

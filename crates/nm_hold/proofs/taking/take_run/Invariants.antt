@@ -3,7 +3,8 @@ use Rattle.std.specs.HashMap.{get}
 use Rattle.std.specs.Vec.{vec_capacity}
 use Rattle.nm_hold.specs.Indexed.{tables_present, IsIndexed}
 use Rattle.nm_hold.specs.Tables.{number_at, ports_of}
-use Rattle.nm_hold.specs.Takes.{place_in, AreTakenBehind, AreHeld}
+use Rattle.nm_hold.specs.Takes.{place_in, AreTakenBehind}
+use Rattle.nm_hold.specs.Ties.{AreHeld}
 use Rattle.nm_hold.proofs.taking.take_run.Given as goal
 
 abbrev pub invariant-loop-k : goal.invariant-loop-k

@@ -1,4 +1,4 @@
-use Rattle.std.proofs.Common.{ℕ, ◌≡◌, ◌<◌, ◌+◌, ◌-◌, length, arith}
+use Rattle.std.proofs.Common.{ℕ, ◌<◌, ◌+◌, arith}
 use Rattle.nm_hold.specs.Holds.{buffers_of, AreNumbers}
 use Rattle.nm_port.specs.Sides.{KeepsBuffer}
 use Rattle.nm_port.specs.Exchanges.{pushed_count_of, user_position}
@@ -12,9 +12,8 @@ returns-in-Some c e named well =
     let r = c.args.ring.now in
     let numbers = c.in-Some.numbers.now in
     let numbered : AreNumbers h r.side c.args.port numbers = rw (c.in-Some.is, c.side.ensures) at c.numbers.ensures.numbers in
-    let top : length c.args.marks.now - 1 ≡ buffers_of h + 1 = omega (arith, c.requires.marks) in
-    let kept : (k : ℕ) → k < pushed_count_of r → KeepsBuffer h (buffers_of h + 1) r numbers (user_position r k) = rw top at (c.each_keeps.ensures.keeps e) in
-    kept_passes h c.args.port r numbers c.each_keeps.ensures.ring.ring c.requires.fits numbered kept c.numbers.ensures.hold named well (pushed_count_of r) (omega arith)
+    let kept : (k : ℕ) → k < pushed_count_of r → KeepsBuffer h (buffers_of h + 1) r numbers (user_position r k) = c.each_keeps.ensures.keeps e in
+    kept_passes h c.args.port r numbers c.each_keeps.ensures.ring.ring c.requires numbered kept c.numbers.ensures.hold named well (pushed_count_of r) (omega arith)
 
 pub returns-in-None : goal.returns-in-None
 returns-in-None c e named well = false_true e

@@ -1,13 +1,9 @@
-use Rattle.std.proofs.Common.{◌+◌, ◌∙◌, Bool, false, List, length, ap}
-use Rattle.std.proofs.lemmas.List.{length-replicate}
+use Rattle.std.proofs.Common.{◌+◌}
 use Rattle.nm_hold.specs.Holds.{buffers_of}
 use Rattle.nm_port.specs.Sides.{AreMarkedOf, names_pushed}
 use Rattle.nm_port.proofs.Judging.{blank_again}
 use Rattle.nm_port.proofs.Pushes.{names-seen}
 use Rattle.nm_port.proofs.checks.check_ring.Goals as goal
-
-pub all_keep-requires-clause-marks : goal.all_keep-requires-clause-marks
-all_keep-requires-clause-marks c = ap (λ (m : List Bool). length m) c.requires ∙ length-replicate (buffers_of c.args.hold.now + 2) false
 
 pub returns-in-Ok-clause-same : goal.returns-in-Ok-clause-same
 returns-in-Ok-clause-same c =

@@ -1,4 +1,4 @@
-use Rattle.nm_port.specs.Exchanges.{AreRenamed, tx_places}
+use Rattle.nm_port.specs.Exchanges.{tx_places}
 use Rattle.nm_port.proofs.Exchanged.{renamed}
 use Rattle.nm_port.proofs.exchange.name_slots.Goals as goal
 

@@ -6,4 +6,4 @@ pub take_slots-requires-clause-held : goal.take_slots-requires-clause-held
 take_slots-requires-clause-held c k below = held_has_number c.self.inside.cells c.self.inside.ports.tables (place_in c.args.run k) c.self.invariant.tied (rw (← c.self.view_is) at (c.requires.held k below))
 
 pub returns-clause-hold : goal.returns-clause-hold
-returns-clause-hold c = let whole = c.take_slots.ensures.whole in IsHold-stored _ _ whole.low whole.high whole.sound whole.once whole.tied
+returns-clause-hold c = let whole = c.take_slots.ensures.whole in IsHold-stored _ _ whole.low whole.high whole.tables whole.once whole.tied
