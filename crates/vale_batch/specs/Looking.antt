@@ -1,6 +1,6 @@
 -- Where the frames of a batch go. Each frame is learned first and then looked up; the frames after it
 -- see what it taught.
-use Rattle.std.specs.Prelude.{ℕ, ◌==◌, ◌≤◌, if◌then◌else◌, List, [], ◌∷◌, length, fold, reverse, Option, Some, None}
+use Rattle.std.specs.Prelude.{ℕ, false, ◌≡◌, ◌==◌, ◌≤◌, if◌then◌else◌, List, [], ◌∷◌, length, fold, reverse, Option, Some, None}
 use Rattle.nm_types.specs.Frames.{Frame}
 use Rattle.nm_types.specs.declared.id.Mac.{Mac}
 use Rattle.nm_types.specs.declared.id.PortId.{PortId}
@@ -42,6 +42,14 @@ abbrev pub looked_up_batch : PortId → Entries → List Frame → List Looked
 looked_up_batch from entries [] = []
 looked_up_batch from entries (frame ∷ frames) =
     looked_up from (learned_from from entries frame) frame ∷ looked_up_batch from (learned_from from entries frame) frames
+
+-- both frames have addresses, and the same ones, and the same mark
+pub record IsAlike (frame other : Frame) : Type 0 where
+  pub long : is_short frame ≡ false
+  pub other_long : is_short other ≡ false
+  pub to : destination_address frame ≡ destination_address other
+  pub from : source_address frame ≡ source_address other
+  pub mark : frame.no_learn ≡ other.no_learn
 
 -- the table before it was taught, from the last to the first
 abbrev pub untaught : Entries → Taught → Entries

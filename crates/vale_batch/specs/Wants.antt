@@ -107,6 +107,13 @@ picked test first [] = []
 picked test first (looked ∷ rest) =
     if test looked then record { place = first; size = looked.size } ∷ picked test (first + 1) rest else picked test (first + 1) rest
 
+-- the test that picks each frame
+abbrev pub every : Looked → Bool
+every looked = true
+
+abbrev pub is_port : PortId → PortId → Bool
+is_port port other = other.0 == port.0
+
 abbrev pub is_flooded_at : Destination → Bool
 is_flooded_at Short = false
 is_flooded_at Nobody = false

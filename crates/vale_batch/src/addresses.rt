@@ -1,4 +1,5 @@
 ghost use Rattle.std.specs.Prelude.{◌≡◌, ◌+◌, ◌≤◌, length, take, drop};
+ghost use Rattle.std.specs.Int.{w64, to_le_bytes};
 ghost use Rattle.vale_batch.specs.Addresses.{is_group};
 
 use nm_types::Mac;
@@ -14,6 +15,16 @@ pub(crate) fn mac_at(bytes: &[u8], at: usize) -> Mac
     let mut address = [0; 6];
     address.copy_from_slice(&bytes[at..at + 6]);
     Mac(address)
+}
+
+/// Eight bytes of a frame as one number.
+pub(crate) fn word_at(bytes: &[u8], at: usize) -> u64
+    requires { at + 8 ≤ length bytes.now }
+    ensures { to_le_bytes w64 result ≡ take 8 (drop at bytes.now) }
+{
+    let mut word = [0; 8];
+    word.copy_from_slice(&bytes[at..at + 8]);
+    u64::from_le_bytes(word)
 }
 
 /// Whether this is the address of a group, as the broadcast address is.

@@ -7,6 +7,7 @@ ghost use Rattle.vale_batch.specs.Wants.{wants_of, is_other, is_lone, is_short_d
 use crate::alone::{flooded_of, owns_of};
 use crate::lists::{Lists, keep_wanting};
 use crate::looking::{Destination, Looked, forget_taught, look_up};
+use crate::sole::{lists_to_one, sole_port};
 use nm_types::{Batch, NoMemory, PortId};
 use std::alloc::{AllocError, Global};
 use vale_learn::Table;
@@ -47,9 +48,9 @@ fn lone_count(all: &[Looked], others: bool) -> usize
     all.iter().filter(|looked| is_lone(others, looked)).count()
 }
 
-/// The lists of frames that were looked up, before it is noted what they taught.
+/// The lists of frames that may go to many ports, before it is noted what they taught.
 #[tactic(auto, using(crate::proofs::WantLemmas::counts))]
-fn lists_of(
+fn lists_to_many(
     alloc: Global,
     from: PortId,
     ports: &[PortId],
@@ -76,11 +77,33 @@ fn lists_of(
     })
 }
 
+/// The lists of frames that were looked up, before it is noted what they taught.
+fn lists_of(
+    alloc: Global,
+    from: PortId,
+    ports: &[PortId],
+    all: &[Looked],
+) -> Result<Lists, AllocError>
+    requires few { length all.now < 2 ^ 32 }
+    requires ports { IsRising (map port_number ports.now) }
+    ensures short { IfOk result (λ lists. lists.short ≡ count_by is_short_destination all.now) }
+    ensures lone { IfOk result (λ lists.
+        lists.lone ≡ count_by (is_lone from ports.now) all.now) }
+    ensures wants { IfOk result (λ lists.
+        lists.wants ≡ wants_of from all.now ports.now) }
+{
+    match sole_port(all) {
+        Some(port) => lists_to_one(alloc, from, port, ports, all),
+        None => lists_to_many(alloc, from, ports, all),
+    }
+}
+
 /// Learns the sources of a batch that port `from` sends, frame by frame, and finds out which of the
 /// switch's open ports each frame goes to. `ports` rise. `NoMemory` leaves the table as it was, and
 /// `Lists::forget` takes back what was learned.
 ///
-/// A frame to one port costs a binary search among the ports, a frame to all other ports one step,
+/// A batch whose frames all go to one port costs one step for each frame and each port. Otherwise a
+/// frame to one port costs a binary search among the ports, a frame to all other ports one step,
 /// however many they are, and each port one step beside that. What a port wants of the flooded
 /// frames costs nothing before `Lists::want` makes it.
 #[tactic(auto, using(crate::proofs::WantLemmas::classes))]

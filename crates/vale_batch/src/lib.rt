@@ -7,6 +7,7 @@ mod alone;
 mod classifying;
 mod lists;
 mod looking;
+mod sole;
 #[cfg(test)]
 mod tests;
 

@@ -1,9 +1,9 @@
-ghost use Rattle.std.specs.Prelude.{◌≡◌, ◌+◌, ◌<◌, ◌≤◌, [], ◌++◌, All, length, vec_len, vec_capacity};
+ghost use Rattle.std.specs.Prelude.{◌≡◌, ◌+◌, ◌<◌, ◌≤◌, [], ◌++◌, All, IsTrue, length, vec_len, vec_capacity};
 ghost use Rattle.vale_learn.specs.AddressTable.{port_of_address};
 ghost use Rattle.vale_batch.specs.Addresses.{is_learnable, source_address};
-ghost use Rattle.vale_batch.specs.Looking.{destination_found, destination_of, learned_from, looked_up, looked_up_batch, learned_of_batch, untaught_all, IsFrame};
+ghost use Rattle.vale_batch.specs.Looking.{destination_found, destination_of, learned_from, looked_up, looked_up_batch, learned_of_batch, untaught_all, IsAlike, IsFrame};
 
-use crate::addresses::{HEADER_BYTES, is_group, mac_at};
+use crate::addresses::{HEADER_BYTES, is_group, mac_at, word_at};
 use nm_frag::slots;
 use nm_types::{Batch, Mac, PortId};
 use vale_learn::{Station, Table};
@@ -84,6 +84,53 @@ fn learn(table: &mut Table, taughts: &mut Vec<Taught>, from: PortId, bytes: &[u8
     }
 }
 
+/// Whether a frame has the addresses and the mark of the one before it, and both have addresses.
+fn is_alike(bytes: &[u8], no_learn: bool, before: &[u8], before_no_learn: bool) -> bool
+    ensures { IsTrue result → IsAlike (record { bytes = bytes.now; no_learn = no_learn })
+        (record { bytes = before.now; no_learn = before_no_learn }) }
+{
+    bytes.len() >= HEADER_BYTES
+        && before.len() >= HEADER_BYTES
+        && word_at(bytes, 0) == word_at(before, 0)
+        && word_at(bytes, 4) == word_at(before, 4)
+        && no_learn == before_no_learn
+}
+
+/// Learns the source of a frame and looks up where it goes. The frame before it went to `went`: one
+/// that is alike goes there too, and what it teaches the table knows.
+fn follow(
+    table: &mut Table,
+    taughts: &mut Vec<Taught>,
+    from: PortId,
+    bytes: &[u8],
+    no_learn: bool,
+    before: &[u8],
+    before_no_learn: bool,
+    went: Destination,
+) -> Destination
+    requires room { vec_len taughts.old < vec_capacity taughts.old }
+    requires went { went ≡ destination_of from table.old
+        (record { bytes = before.now; no_learn = before_no_learn }) }
+    requires known { table.old ≡ learned_from from table.old
+        (record { bytes = before.now; no_learn = before_no_learn }) }
+    ensures table { table.new ≡ learned_from from table.old
+        (record { bytes = bytes.now; no_learn = no_learn }) }
+    ensures destination { result ≡ destination_of from table.new
+        (record { bytes = bytes.now; no_learn = no_learn }) }
+    ensures known { table.new ≡ learned_from from table.new
+        (record { bytes = bytes.now; no_learn = no_learn }) }
+    ensures undo { untaught_all table.new taughts.new.items
+        ≡ untaught_all table.old taughts.old.items }
+    ensures len { vec_len taughts.new ≤ vec_len taughts.old + 1 }
+    ensures capacity { vec_capacity taughts.new ≡ vec_capacity taughts.old }
+{
+    if is_alike(bytes, no_learn, before, before_no_learn) {
+        return went;
+    }
+    learn(table, taughts, from, bytes, no_learn);
+    destination_of(table, from, bytes, no_learn)
+}
+
 /// Takes back what was learned.
 #[tactic(auto, using(crate::proofs::Teaching::teaching))]
 pub(crate) fn forget_taught(table: &mut Table, taughts: &mut Vec<Taught>)
@@ -111,12 +158,17 @@ pub(crate) fn look_up(
     ensures table { table.new ≡ learned_of_batch from table.old batch.now }
     ensures undo { untaught_all table.new taughts.new.items ≡ table.old }
 {
+    let mut before: &[u8] = &[];
+    let mut marked = false;
+    let mut went = Destination::Short;
     for i in 0..batch.len() {
         let (bytes, no_learn) = batch.get(i);
-        learn(table, taughts, from, bytes, no_learn);
+        went = follow(table, taughts, from, bytes, no_learn, before, marked, went);
         all.push_reserved(Looked {
-            destination: destination_of(table, from, bytes, no_learn),
+            destination: went,
             size: slots(bytes.len()),
         });
+        before = bytes;
+        marked = no_learn;
     }
 }

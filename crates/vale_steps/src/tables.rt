@@ -18,7 +18,8 @@ pub struct NamedTable {
 pub fn table_of(tables: &[NamedTable], name: &Name) -> Option<usize>
     ensures { result ≡ position (is_for_switch (switch_of name.now)) tables.now }
 {
+    let switch = name.switch();
     tables
         .iter()
-        .position(|table| table.label.switch() == name.switch())
+        .position(|table| table.label.switch() == switch)
 }

@@ -80,9 +80,9 @@ pub(crate) fn add_monitor(
 fn listed(alloc: Global, lists: &Lists) -> Result<Vec<Want>, NoMemory>
     ensures { IfOk result (λ all. map wanted all.items ≡ lists.now.wants) }
 {
-    let mut all = Vec::new(alloc);
+    let mut all = Vec::with_capacity(alloc, lists.len())?;
     for i in 0..lists.len() {
-        all.push(lists.want(alloc, i)?)?;
+        all.push_reserved(lists.want(alloc, i)?);
     }
     Ok(all)
 }

@@ -1,0 +1,200 @@
+-- What ports want of frames that all go to one of them alone.
+use Rattle.std.proofs.Common.{ℕ, suc, Bool, true, false, ◌≡◌, ◌+◌, ◌<◌, ◌≤◌, List, [], ◌∷◌, ◌++◌, length, map, take, get_or, inl, inr, refl, sym, ◌∙◌, ap, subst, arith}
+use Rattle.std.specs.Prelude.{◌^◌, All, cond, count_by, filter, nat_lt}
+use Rattle.std.specs.List.{list_any}
+use Rattle.std.proofs.lemmas.Bool.{cases_Bool, eqb-true, eqb-false, lt-ltb, ne_eqb}
+use Rattle.std.proofs.lemmas.List.Elements.{All-head, All-tail}
+use Rattle.std.proofs.lemmas.List.Sums.{sum_by-cons}
+use Rattle.nm_types.specs.declared.id.PortId.{PortId}
+use Rattle.vale_batch.specs.declared.looking.Destination.{Destination}
+use Rattle.vale_batch.specs.declared.looking.Destination.TheVariants.{Short, Nobody, Only, Others}
+use Rattle.vale_batch.specs.declared.looking.Looked.{Looked}
+use Rattle.vale_batch.specs.declared.alone.Placed.{Placed}
+use Rattle.vale_batch.specs.declared.alone.Own.{Own}
+use Rattle.vale_batch.specs.Wants.{IsFew, Wanted, Owned, every, flooded_to, goes_alone, is_flooded, is_flooded_at, is_lone, is_lone_destination, is_only, is_other, is_port, is_short_at, is_short_destination, own_at, owned, picked, placed_at, port_number, want_seen, wants_of, wants_some, IsRising}
+use Rattle.vale_batch.proofs.Merging.{count-merged, wants-few, wants-merged}
+use Rattle.vale_batch.proofs.WantLemmas.{picked-with}
+
+abbrev GoesTo : PortId → Looked → Type 0
+GoesTo port looked = goes_alone port looked ≡ true
+
+-- what is known of a destination that is one port
+
+only-short : (port : PortId) (to : Destination) → is_only port to ≡ true → is_short_at to ≡ false
+only-short port Short is = absurd (let wrong : false ≡ true = is in cc)
+only-short port Nobody is = refl
+only-short port (Only to) is = refl
+only-short port Others is = refl
+
+only-lone : (others : Bool) (port : PortId) (to : Destination) → is_only port to ≡ true → is_lone_destination others to ≡ false
+only-lone others port Short is = refl
+only-lone others port Nobody is = absurd (let wrong : false ≡ true = is in cc)
+only-lone others port (Only to) is = refl
+only-lone others port Others is = absurd (let wrong : false ≡ true = is in cc)
+
+only-flooded : (port : PortId) (to : Destination) → is_only port to ≡ true → is_flooded_at to ≡ false
+only-flooded port Short is = refl
+only-flooded port Nobody is = refl
+only-flooded port (Only to) is = refl
+only-flooded port Others is = absurd (let wrong : false ≡ true = is in cc)
+
+only-other : (port other : PortId) (to : Destination) → is_only port to ≡ true → (port.0 ≡ other.0 → ⊥) → is_only other to ≡ false
+only-other port other Short is differ = refl
+only-other port other Nobody is differ = refl
+only-other port other (Only to) is differ = ne_eqb other.0 to.0 (λ same. differ (eqb-true port.0 to.0 is ∙ sym same))
+only-other port other Others is differ = refl
+
+-- a test that no frame passes counts none and picks none
+
+pub counts-none : (test : Looked → Bool) (all : List Looked) → All (λ (l : Looked). test l ≡ false) all → count_by test all ≡ 0
+counts-none test [] none = refl
+counts-none test (x ∷ xs) none =
+    let here : test x ≡ false = All-head (λ (l : Looked). test l ≡ false) x xs none in
+    let rest = counts-none test xs (All-tail (λ (l : Looked). test l ≡ false) x xs none) in
+    let more : count_by test (x ∷ xs) ≡ 0 + count_by test xs =
+    sum_by-cons (λ (l : Looked). cond (test l) 1 0) x xs ∙ ap (λ (b : Bool). cond b 1 0 + count_by test xs) here in
+    omega (arith, more, rest)
+
+picks-none : (test : Looked → Bool) (first : ℕ) (all : List Looked) → All (λ (l : Looked). test l ≡ false) all → picked test first all ≡ []
+picks-none test first [] none = refl
+picks-none test first (x ∷ xs) none =
+    let here : test x ≡ false = All-head (λ (l : Looked). test l ≡ false) x xs none in
+    rw here (picks-none test (first + 1) xs (All-tail (λ (l : Looked). test l ≡ false) x xs none))
+
+picks-all : (test : Looked → Bool) (first : ℕ) (all : List Looked) → All (λ (l : Looked). test l ≡ true) all → picked test first all ≡ picked every first all
+picks-all test first [] each = refl
+picks-all test first (x ∷ xs) each =
+    let here : test x ≡ true = All-head (λ (l : Looked). test l ≡ true) x xs each in
+    rw here (ap (λ (ps : List Placed). placed_at first x ∷ ps) (picks-all test (first + 1) xs (All-tail (λ (l : Looked). test l ≡ true) x xs each)))
+
+pub none-short : (port : PortId) (all : List Looked) → All (λ (l : Looked). goes_alone port l ≡ true) all → 0 ≡ count_by is_short_destination all
+none-short port all alone =
+    sym (counts-none is_short_destination all (λ k d within. only-short port (get_or all k d).destination (alone k d within)))
+
+pub none-lone : (from port : PortId) (ports : List PortId) (all : List Looked) → All (λ (l : Looked). goes_alone port l ≡ true) all → 0 ≡ count_by (is_lone from ports) all
+none-lone from port ports all alone =
+    sym (counts-none (is_lone from ports) all (λ k d within. only-lone (list_any (is_other from) ports) port (get_or all k d).destination (alone k d within)))
+
+none-flooded : (port : PortId) (all : List Looked) → All (λ (l : Looked). goes_alone port l ≡ true) all → picked is_flooded 0 all ≡ []
+none-flooded port all alone =
+    picks-none is_flooded 0 all (λ k d within. only-flooded port (get_or all k d).destination (alone k d within))
+
+-- what a port wants
+
+no-flood : (from port : PortId) → flooded_to from [] port ≡ []
+no-flood from port = elim (cases_Bool (is_other from port)) [
+  | inl here ↦ rw here refl
+  | inr other ↦ rw other refl
+]
+
+counted : (from : PortId) (own : Owned) → length (want_seen from [] own).places ≡ length own.frames
+counted from own =
+    let none : length (flooded_to from [] own.to) ≡ 0 = ap (λ (ps : List Placed). length ps) (no-flood from own.to) in
+    let all = count-merged from [] own in
+    omega (arith, all, none)
+
+abbrev own_with : PortId → List Placed → Owned
+own_with port frames = record { to = port; frames = frames }
+
+wants-none : (from port other : PortId) (all : List Looked) → All (λ (l : Looked). goes_alone port l ≡ true) all → (port.0 ≡ other.0 → ⊥)
+    → wants_some (want_seen from [] (own_at all other)) ≡ false
+wants-none from port other all alone differ =
+    let frames : picked (goes_alone other) 0 all ≡ [] =
+    picks-none (goes_alone other) 0 all (λ k d within. only-other port other (get_or all k d).destination (alone k d within) differ) in
+    let none : length (want_seen from [] (own_at all other)).places ≡ 0 = counted from (own_at all other) ∙ ap (λ (ps : List Placed). length ps) frames in
+    ap (λ (n : ℕ). nat_lt 0 n) none
+
+some-picked : (first : ℕ) (all : List Looked) → 1 ≤ length all → 0 < length (picked every first all)
+some-picked first [] some = absurd (omega (arith, some))
+some-picked first (x ∷ xs) some = omega arith
+
+wants-all : (from port : PortId) (all : List Looked) → 1 ≤ length all → wants_some (want_seen from [] (own_with port (picked every 0 all))) ≡ true
+wants-all from port all some =
+    let count = counted from (own_with port (picked every 0 all)) in
+    let more = some-picked 0 all some in
+    lt-ltb 0 (length (want_seen from [] (own_with port (picked every 0 all))).places) (omega (arith, count, more))
+
+same_port : (port other : PortId) → other.0 ≡ port.0 → other ≡ port
+same_port port other e = ap (λ (n : ℕ). numbered n) e
+  where
+    numbered : ℕ → PortId
+    numbered n = record { 0 = n }
+
+abbrev wants_in : PortId → List Looked → List PortId → List Wanted
+wants_in from all ports = filter wants_some (map (want_seen from []) (map (own_at all) ports))
+
+-- the ports that want some, where a list has not the one to which all frames go, and where it has it
+
+none-in : (from port : PortId) (ports : List PortId) (all : List Looked) → All (λ (l : Looked). goes_alone port l ≡ true) all
+    → list_any (is_port port) ports ≡ false → wants_in from all ports ≡ []
+none-in from port [] all alone none = refl
+none-in from port (p ∷ ps) all alone none = elim (cases_Bool (is_port port p)) [
+  | inl here ↦ absurd (let wrong : true ≡ false = rw here at none in cc)
+  | inr other ↦
+      let rest : list_any (is_port port) ps ≡ false = rw other at none in
+      let differ = eqb-false p.0 port.0 other in
+      let off = wants-none from port p all alone (λ same. differ (sym same)) in
+      rw off (none-in from port ps all alone rest)
+]
+
+above : (port : PortId) (ports : List PortId) → ((k d : ℕ) → k < length ports → port.0 < get_or (map port_number ports) k d) → list_any (is_port port) ports ≡ false
+above port [] higher = refl
+above port (p ∷ ps) higher =
+    let more = higher 0 0 (omega arith) in
+    let off : is_port port p ≡ false = ne_eqb p.0 port.0 (λ same. omega (arith, more, same)) in
+    rw off (above port ps (λ k d within. higher (suc k) d (omega (arith, within))))
+
+rising-tail : (p : PortId) (ps : List PortId) → IsRising (map port_number (p ∷ ps)) → IsRising (map port_number ps)
+rising-tail p ps rising i j d less within = rising (suc i) (suc j) d (omega (arith, less)) (omega (arith, within))
+
+length-numbers : (ports : List PortId) → length (map port_number ports) ≡ length ports
+length-numbers [] = refl
+length-numbers (p ∷ ps) = let rest = length-numbers ps in omega (arith, rest)
+
+one-in : (from port : PortId) (ports : List PortId) (all : List Looked) → All (λ (l : Looked). goes_alone port l ≡ true) all → 1 ≤ length all
+    → IsRising (map port_number ports) → list_any (is_port port) ports ≡ true
+    → wants_in from all ports ≡ want_seen from [] (own_with port (picked every 0 all)) ∷ []
+one-in from port [] all alone some rising there = absurd (let wrong : false ≡ true = there in cc)
+one-in from port (p ∷ ps) all alone some rising there = elim (cases_Bool (is_port port p)) [
+  | inl here ↦
+      let same : p.0 ≡ port.0 = eqb-true p.0 port.0 here in
+      let frames : own_at all p ≡ own_with port (picked every 0 all) =
+      ap (λ (q : PortId). own_at all q) (same_port port p same) ∙ ap (own_with port) (picks-all (goes_alone port) 0 all alone) in
+      let wants : wants_some (want_seen from [] (own_at all p)) ≡ true = ap (λ (o : Owned). wants_some (want_seen from [] o)) frames ∙ wants-all from port all some in
+      let behind = above port ps (λ k d within. (let size = length-numbers ps in let up = rising 0 (suc k) d (omega arith) (omega (arith, within, size)) in omega (arith, up, same))) in
+      rw wants (ap (λ (o : Owned). want_seen from [] o ∷ wants_in from all ps) frames
+      ∙ ap (λ (ws : List Wanted). want_seen from [] (own_with port (picked every 0 all)) ∷ ws) (none-in from port ps all alone behind))
+  | inr other ↦
+      let rest : list_any (is_port port) ps ≡ true = rw other at there in
+      let differ = eqb-false p.0 port.0 other in
+      let off = wants-none from port p all alone (λ same. differ (sym same)) in
+      rw off (one-in from port ps all alone some (rising-tail p ps rising) rest)
+]
+
+wants-are : (from port : PortId) (ports : List PortId) (all : List Looked) → All (λ (l : Looked). goes_alone port l ≡ true) all → wants_in from all ports ≡ wants_of from all ports
+wants-are from port ports all alone =
+    ap (λ (ps : List Placed). filter wants_some (map (want_seen from ps) (map (own_at all) ports))) (sym (none-flooded port all alone))
+    ∙ ap (filter wants_some) (wants-merged from all ports)
+
+pub none-wanted : (port : PortId) (ports : List PortId) (all : List Looked) → All (λ (l : Looked). goes_alone port l ≡ true) all → list_any (is_port port) ports ≡ false
+    → (from : PortId) → [] ≡ wants_of from all ports
+none-wanted port ports all alone none from = sym (none-in from port ports all alone none) ∙ wants-are from port ports all alone
+
+pub one-wanted : (port : PortId) (ports : List PortId) (all : List Looked) → All (λ (l : Looked). goes_alone port l ≡ true) all → 1 ≤ length all
+    → IsRising (map port_number ports) → list_any (is_port port) ports ≡ true → (own : Own) → own.to ≡ port → own.frames.items ≡ picked every 0 all
+    → (from : PortId) → want_seen from [] (owned own) ∷ [] ≡ wants_of from all ports
+one-wanted port ports all alone some rising there own to frames from =
+    let is : owned own ≡ own_with port (picked every 0 all) =
+    ap (λ (p : PortId). own_with p own.frames.items) to ∙ ap (own_with port) frames in
+    ap (λ (o : Owned). want_seen from [] o ∷ []) is ∙ (sym (one-in from port ports all alone some rising there) ∙ wants-are from port ports all alone)
+
+pub one-few : (from : PortId) (ports : List PortId) (all : List Looked) (flooded : List Placed) (owns : List Own) → length all < 2 ^ 32 → flooded ≡ []
+    → map (want_seen from []) (map owned owns) ≡ wants_of from all ports → All IsFew (map (want_seen from flooded) (map owned owns))
+one-few from ports all flooded owns few none are =
+    subst (All IsFew) (sym (ap (λ (ps : List Placed). map (want_seen from ps) (map owned owns)) none ∙ are)) (wants-few from all ports few)
+
+-- one frame more, at its place
+pub placed-more : (all : List Looked) (i : ℕ) (d : Looked) (old new : List Placed) → i < length all → old ≡ picked every 0 (take i all)
+    → new ≡ old ++ placed_at i (get_or all i d) ∷ [] → new ≡ picked every 0 (take (i + 1) all)
+placed-more all i d old new within before added =
+    added ∙ (ap (λ (ps : List Placed). ps ++ placed_at i (get_or all i d) ∷ []) before ∙ sym (picked-with every all i d within refl))
