@@ -1,9 +1,15 @@
 mod Causes
 mod Cuts
 mod Extends
+mod Free
+mod Keyed
+mod Monitors
+mod NameBytes
+mod Packing
 mod Numerals
 mod Pairs
 mod Replays
 mod Sayings
 mod Soundness
 mod Texts
+mod Verbs

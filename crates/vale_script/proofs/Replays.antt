@@ -9,7 +9,7 @@ use Rattle.vale_script.specs.declared.script.Act.TheVariants as acts
 use Rattle.vale_script.specs.declared.script.Line.{Line}
 use Rattle.vale_script.specs.Keeps.{AreAlike, IsReplayedBy}
 use Rattle.vale_script.specs.Replay.{replayed, MeetNoCause}
-use Rattle.vale_script.specs.Rules.{Draft, Opened, nothing_said, port_key, user_cause, act_cause, cause_of, with_port, with_played, with_saved, with_act, with_line, block_with, with_user, does_act, after}
+use Rattle.vale_script.specs.Rules.{Draft, Opened, nothing_said, port_key, user_cause, act_cause, cause_of, with_port, with_played, with_saved, with_act, with_line, block_with, with_user, after}
 use Rattle.vale_script.specs.Statements.{Statement, Nothing, Pool, NewUser, Begin, End, Does}
 use Rattle.vale_script.specs.Tables.{updated}
 

@@ -4,6 +4,7 @@ use Rattle.vale_script.specs.declared.draft.Draft.{Draft as Kept}
 use Rattle.vale_script.specs.declared.draft.Block.{Block}
 use Rattle.vale_script.specs.declared.draft.PortUse.{PortUse}
 use Rattle.vale_script.specs.Rules.{Draft, Opened, Use}
+use Rattle.vale_script.specs.Keys.{numbers_seen, ports_seen}
 use Rattle.vale_script.specs.Tables.{seen}
 
 abbrev pub block_of : Block → Opened
@@ -14,8 +15,8 @@ draft_of kept = record {
   pool = kept.pool;
   spoken = kept.spoken;
   users = kept.users.items;
-  numbers = seen kept.numbers;
-  ports = seen kept.ports;
+  numbers = numbers_seen kept.numbers;
+  ports = ports_seen kept.ports;
   files = seen kept.files;
   played = kept.played.items;
   units = kept.units.items;

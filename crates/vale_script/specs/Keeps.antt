@@ -16,6 +16,17 @@ IsSoundStatement (NewUser name) = IsUserName name
 IsSoundStatement (Does user act) = IsSoundDeed act
 IsSoundStatement _ = Unit {0}
 
+-- the user that a statement names has a user's name
+abbrev pub NamesUser : Statement → Type 0
+NamesUser (NewUser name) = IsUserName name
+NamesUser (Does user act) = IsUserName user
+NamesUser _ = Unit {0}
+
+-- the number of the user who does what a statement says
+abbrev pub IsNumbered : Draft → Statement → Option ℕ → Type 0
+IsNumbered draft (Does user act) number = number ≡ draft.numbers user
+IsNumbered draft _ number = Unit {0}
+
 abbrev pub IsUserNumber : ℕ → ℕ → Type 0
 IsUserNumber users number = (1 ≤ number) × (number ≤ users)
 

@@ -2,6 +2,7 @@ pub mod Drafts
 pub mod Forms
 pub mod Grammar
 pub mod Keeps
+pub mod Keys
 pub mod Places
 pub mod Replay
 pub mod Rules

@@ -1,10 +1,12 @@
 -- What is wrong with a line's words, each at its place.
-use Rattle.std.specs.Prelude.{ℕ, Bool, false, not, ◌||◌, if◌then◌else◌, List, ◌∷◌, codes, bytes_eq, is_some}
+use Rattle.std.specs.Prelude.{ℕ, Bool, true, false, not, ◌||◌, if◌then◌else◌, List, ◌∷◌, codes, bytes_eq, is_some}
 use Rattle.nm_types.specs.declared.fault.LineCause.{LineCause}
 use Rattle.nm_types.specs.declared.fault.LineCause.TheVariants.{Word, Name}
 use Rattle.nm_types.specs.declared.fault.LineCause.TheVariants as causes
 use Rattle.vale_script.specs.declared.forms.Place.{Place}
 use Rattle.vale_script.specs.declared.forms.Place.TheVariants.{UserName, PortName, Address, Number, Byte, Bytes, Side, Sides, Field, Value, Keep, Quiet}
+use Rattle.vale_script.specs.declared.forms.Verb.{Verb}
+use Rattle.vale_script.specs.declared.forms.Verb.TheVariants.{Rx, Poke, Move, Swap, Watch}
 use Rattle.nm_types.specs.declared.id.Side as sides
 use Rattle.nm_types.specs.declared.id.Side.TheVariants as rings
 use Rattle.nm_types.specs.declared.id.Sides as watched
@@ -72,10 +74,11 @@ sides_of word = if bytes_eq word (codes "t") then monitored.T else (if bytes_eq 
 abbrev pub field_of : List ℕ → SlotField
 field_of word = if bytes_eq word (codes "idx") then Idx else (if bytes_eq word (codes "len") then Len else (if bytes_eq word (codes "flags") then Flags else Ptr))
 
--- the same for any of these causes
-abbrev pub is_bad : Place → List ℕ → List ℕ → Bool
-is_bad place before word = (misses_word place word || misses_number place before word) || misses_name place word
-
-abbrev pub any_bad : List Place → List ℕ → List (List ℕ) → Bool
-any_bad (place ∷ places) before (word ∷ words) = is_bad place before word || any_bad places word words
-any_bad places before words = false
+-- whether lines of this form have words that are one of a few
+abbrev pub has_fixed_words : Verb → Bool
+has_fixed_words Rx = true
+has_fixed_words Poke = true
+has_fixed_words Move = true
+has_fixed_words Swap = true
+has_fixed_words Watch = true
+has_fixed_words _ = false

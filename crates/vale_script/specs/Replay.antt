@@ -1,5 +1,5 @@
 -- A script replayed: what its lines say, one after another, from nothing said.
-use Rattle.std.specs.Prelude.{ℕ, ◌≡◌, ◌-◌, List, [], ◌∷◌, ◌++◌, map, flat_map, get_or, Option, None}
+use Rattle.std.specs.Prelude.{ℕ, ◌≡◌, ◌-◌, List, [], ◌∷◌, ◌++◌, map, flat_map, get_or, None}
 use Rattle.vale_script.specs.declared.script.Act.{Act}
 use Rattle.vale_script.specs.declared.script.Act.TheVariants as acts
 use Rattle.vale_script.specs.declared.script.Line.{Line}

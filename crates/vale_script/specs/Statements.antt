@@ -1,5 +1,5 @@
 -- What the words of a line say by themselves, or why they say nothing that a script may say.
-use Rattle.std.specs.Prelude.{ℕ, false, ◌==◌, ◌≡◌, nat_lt, ◌||◌, if◌then◌else◌, List, [], ◌∷◌, length, slice_index_or, Option, Some, None, Result, Ok, Err}
+use Rattle.std.specs.Prelude.{ℕ, Bool, false, not, ◌==◌, ◌≡◌, nat_lt, nat_le, ◌||◌, ◌&&◌, if◌then◌else◌, List, [], ◌∷◌, length, slice_index_or, Option, Some, None, Result, Ok, Err}
 use Rattle.std.specs.Borrow.{Bor}
 use Rattle.nm_types.specs.Limits.{most_counts, most_pool, buffer_bytes, most_batch}
 use Rattle.nm_types.specs.declared.id.Mac.{Mac}
@@ -199,6 +199,12 @@ cause_by verb first others =
     else (if any_out causes.Number (form_of verb).places first others then Some causes.Number
     else (if any_out causes.Name (form_of verb).places first others then Some causes.Name
     else None)))
+
+-- as many words as a line of this form has, with its fixed words at their places
+abbrev pub has_form : Verb → List (List ℕ) → Bool
+has_form verb [] = false
+has_form verb (first ∷ others) =
+    (nat_le (form_of verb).least (length others) && nat_le (length others) (length (form_of verb).places)) && not (any_out causes.Word (form_of verb).places first others)
 
 abbrev pub cause_of_words : Verb → List (List ℕ) → Option LineCause
 cause_of_words verb [] = Some causes.Word

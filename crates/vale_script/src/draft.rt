@@ -1,15 +1,18 @@
 //! What the lines so far have said.
-ghost use Rattle.std.specs.Prelude.{◌≡◌, ◌+◌, ◌<◌, ◌≤◌, ◌++◌, ◌∷◌, [], ℕ, length, true, false, is_some, unwrap_or, Some, None, IfOk, OnOk, string_bytes, option_map};
+ghost use Rattle.std.specs.Prelude.{◌≡◌, ◌==◌, slice_index, ◌+◌, ◌<◌, ◌≤◌, ◌++◌, ◌∷◌, [], ℕ, length, true, false, is_some, unwrap_or, Some, None, IfOk, OnOk, string_bytes, option_map};
 ghost use Rattle.std.specs.Option.{IfNone};
+ghost use Rattle.nm_types.specs.Names.{is_monitor_name};
 ghost use Rattle.vale_script.specs.Drafts.{draft_of, use_of};
+ghost use Rattle.vale_script.specs.Keeps.{NamesUser, IsNumbered};
+ghost use Rattle.vale_script.specs.Sound.{IsUserName};
 ghost use Rattle.vale_script.specs.Rules.{nothing_said, port_key, first_use, second_use, lacks_port, lacks_ports, watches_wrongly, is_saved, is_twice, act_cause, user_cause, cause_of, with_port, with_played, with_saved, with_act, with_line, with_user, with_end, does_act, after, finished};
 ghost use Rattle.vale_script.specs.Statements.{shown};
 ghost use Rattle.vale_script.specs.Tables.{seen};
 
+use crate::keys::{number_of, port_of, set_number, set_port, unset_port};
 use crate::script::{Act, Line, Lines, Script, ScriptWord, Unit};
 use crate::statements::Said;
-use crate::tables::{set, unset, value_of};
-use crate::words::text_of;
+use crate::tables::{set, value_of};
 use nm_types::{DEFAULT_POOL, LineCause, MAX_USERS, Name, NoMemory, Side};
 use std::alloc::Global;
 use std::collections::HashMap;
@@ -35,26 +38,12 @@ pub(crate) struct Draft {
     pool: Option<u32>,
     spoken: bool,
     users: Vec<ScriptWord>,
-    numbers: HashMap<String, u32>,
-    ports: HashMap<String, bool>,
+    numbers: HashMap<u128, u32>,
+    ports: HashMap<(u128, u128), bool>,
     files: HashMap<String, FileUse>,
     played: Vec<ScriptWord>,
     units: Vec<Unit>,
     block: Option<Block>,
-}
-
-/// How long the key of a port may be: the names of a user and of a port, and the blank.
-const KEY_BYTES: usize = 33;
-
-/// A port of a user, as one word.
-fn port_key(alloc: Global, user: &str, name: &Name) -> Result<String, NoMemory>
-    ensures { IfOk result (λ key. string_bytes key ≡ port_key user.now name.now) }
-{
-    let mut key = String::with_capacity(alloc, KEY_BYTES)?;
-    key.push_str(user)?;
-    key.push_str(" ")?;
-    key.push_str(text_of(name.as_bytes()).unwrap_or(""))?;
-    Ok(key)
 }
 
 /// A port that a line uses, and whether the line needs its transmit ring.
@@ -100,6 +89,23 @@ fn second_use(act: &Act) -> Option<PortUse>
     Some(PortUse { name, sends })
 }
 
+fn begins_with_m(text: &[u8]) -> bool
+    ensures { result ≡ (slice_index text.now 0 == 109) }
+{
+    match text.first() {
+        Some(b) => *b == b'm',
+        None => false,
+    }
+}
+
+/// Whether a name is a monitor's: most are told by their first byte.
+#[tactic(auto, using(crate::proofs::Monitors::monitors))]
+fn is_monitor(name: &Name) -> bool
+    ensures { result ≡ is_monitor_name name.now }
+{
+    begins_with_m(name.as_bytes()) && name.is_monitor()
+}
+
 /// Whether a line has a port watch that is no monitor, or a monitor watched.
 fn watches_wrongly(act: &Act) -> bool
     ensures { result ≡ watches_wrongly act.now }
@@ -125,6 +131,7 @@ fn is_saved(used: Option<FileUse>) -> bool
 
 impl Draft {
     /// Nothing said yet.
+    #[tactic(auto, using(crate::proofs::Keyed::empty_tables))]
     pub(crate) fn new(alloc: Global) -> Draft
         ensures { draft_of result ≡ nothing_said }
     {
@@ -142,101 +149,126 @@ impl Draft {
         }
     }
 
-    fn port(&self, user: &str, name: &Name) -> Result<Option<bool>, NoMemory>
-        ensures { IfOk result (λ port. port ≡ seen self.now.ports (port_key user.now name.now)) }
+    fn number(&self, user: &str) -> Option<u32>
+        requires { IsUserName user.now }
+        ensures { result ≡ (draft_of self.now).numbers user.now }
     {
-        let key = port_key(self.alloc, user, name)?;
-        Ok(value_of(&self.ports, key.as_str()))
+        number_of(&self.numbers, user)
     }
 
-    fn lacks_port(&self, user: &str, used: Option<PortUse>) -> Result<bool, NoMemory>
-        ensures { IfOk result (λ lacks. lacks ≡ lacks_port (draft_of self.now) user.now (use_of used)) }
+    fn port(&self, user: &str, name: &Name) -> Option<bool>
+        requires { IsUserName user.now }
+        ensures { result ≡ (draft_of self.now).ports (port_key user.now name.now) }
     {
-        let Some(used) = used else {
-            return Ok(false);
-        };
-        let port = self.port(user, &used.name)?;
-        Ok(port.is_none() || (used.sends && used.name.is_monitor()))
+        port_of(&self.ports, user, name)
     }
 
-    fn lacks_ports(&self, user: &str, act: &Act) -> Result<bool, NoMemory>
-        ensures { IfOk result (λ lacks. lacks ≡ lacks_ports (draft_of self.now) user.now act.now) }
+    fn lacks_port(&self, user: &str, used: Option<PortUse>) -> bool
+        requires { IsUserName user.now }
+        ensures { result ≡ lacks_port (draft_of self.now) user.now (use_of used) }
     {
-        let first = self.lacks_port(user, first_use(act))?;
-        let second = self.lacks_port(user, second_use(act))?;
-        Ok(first || second || watches_wrongly(act))
+        match used {
+            Some(used) => {
+                self.port(user, &used.name).is_none() || (used.sends && is_monitor(&used.name))
+            }
+            None => false,
+        }
     }
 
-    fn is_twice(&self, user: &str, act: &Act) -> Result<bool, NoMemory>
-        ensures { IfOk result (λ twice. twice ≡ is_twice (draft_of self.now) user.now act.now) }
+    fn lacks_ports(&self, user: &str, act: &Act) -> bool
+        requires { IsUserName user.now }
+        ensures { result ≡ lacks_ports (draft_of self.now) user.now act.now }
+    {
+        self.lacks_port(user, first_use(act))
+            || self.lacks_port(user, second_use(act))
+            || watches_wrongly(act)
+    }
+
+    fn is_twice(&self, user: &str, act: &Act) -> bool
+        requires { IsUserName user.now }
+        ensures { result ≡ is_twice (draft_of self.now) user.now act.now }
     {
         match act {
-            Act::Open { name, .. } => Ok(self.port(user, name)?.is_some()),
-            Act::Play { file, .. } => Ok(is_saved(value_of(&self.files, file.as_str()))),
+            Act::Open { name, .. } => self.port(user, name).is_some(),
+            Act::Play { file, .. } => is_saved(value_of(&self.files, file.as_str())),
             Act::Save { name, file } => {
-                let port = self.port(user, name)?;
-                Ok(value_of(&self.files, file.as_str()).is_some() || port.unwrap_or(false))
+                value_of(&self.files, file.as_str()).is_some()
+                    || self.port(user, name).unwrap_or(false)
             }
-            _ => Ok(false),
+            _ => false,
         }
     }
 
-    fn act_cause(&self, user: &str, act: &Act) -> Result<Option<LineCause>, NoMemory>
-        ensures { IfOk result (λ cause. cause ≡ act_cause (draft_of self.now) user.now act.now) }
+    fn act_cause(&self, number: Option<u32>, user: &str, act: &Act) -> Option<LineCause>
+        requires named { IsUserName user.now }
+        requires numbered { number ≡ (draft_of self.now).numbers user.now }
+        ensures { result ≡ act_cause (draft_of self.now) user.now act.now }
     {
-        if value_of(&self.numbers, user).is_none() {
-            return Ok(Some(LineCause::User));
-        }
-        if self.lacks_ports(user, act)? {
-            return Ok(Some(LineCause::Port));
-        }
-        if self.is_twice(user, act)? {
-            return Ok(Some(LineCause::Twice));
-        }
-        Ok(None)
-    }
-
-    fn user_cause(&self, name: &str) -> Option<LineCause>
-        ensures { result ≡ user_cause (draft_of self.now) name.now }
-    {
-        if self.block.is_some() {
-            Some(LineCause::Order)
-        } else if value_of(&self.numbers, name).is_some() || self.users.len() >= MAX_USERS {
+        if number.is_none() {
+            Some(LineCause::User)
+        } else if self.lacks_ports(user, act) {
+            Some(LineCause::Port)
+        } else if self.is_twice(user, act) {
             Some(LineCause::Twice)
         } else {
             None
         }
     }
 
-    /// Why the lines so far do not let a line say this.
-    pub(crate) fn cause_of(&self, said: &Said<'_>) -> Result<Option<LineCause>, NoMemory>
-        ensures { IfOk result (λ cause. cause ≡ cause_of (draft_of self.now) (shown said.now)) }
+    fn user_cause(&self, name: &str) -> Option<LineCause>
+        requires { IsUserName name.now }
+        ensures { result ≡ user_cause (draft_of self.now) name.now }
+    {
+        if self.block.is_some() {
+            Some(LineCause::Order)
+        } else if self.number(name).is_some() || self.users.len() >= MAX_USERS {
+            Some(LineCause::Twice)
+        } else {
+            None
+        }
+    }
+
+    /// The number of the user who does what a line says, or none if no line has declared it.
+    pub(crate) fn number_for(&self, said: &Said<'_>) -> Option<u32>
+        requires { NamesUser (shown said.now) }
+        ensures { IsNumbered (draft_of self.now) (shown said.now) result }
     {
         match said {
-            Said::Nothing => Ok(None),
-            Said::Pool { .. } => Ok(self.spoken.then_some(LineCause::Order)),
-            Said::NewUser { name } => Ok(self.user_cause(name)),
-            Said::Begin => Ok(self.block.is_some().then_some(LineCause::Order)),
-            Said::End => Ok(self.block.is_none().then_some(LineCause::Order)),
-            Said::Does { user, act } => self.act_cause(user, act),
+            Said::Does { user, .. } => self.number(user),
+            _ => None,
+        }
+    }
+
+    /// Why the lines so far do not let a line say this, where `number` is its user's.
+    pub(crate) fn cause_of(&self, number: Option<u32>, said: &Said<'_>) -> Option<LineCause>
+        requires named { NamesUser (shown said.now) }
+        requires numbered { IsNumbered (draft_of self.now) (shown said.now) number }
+        ensures { result ≡ cause_of (draft_of self.now) (shown said.now) }
+    {
+        match said {
+            Said::Nothing => None,
+            Said::Pool { .. } => self.spoken.then_some(LineCause::Order),
+            Said::NewUser { name } => self.user_cause(name),
+            Said::Begin => self.block.is_some().then_some(LineCause::Order),
+            Said::End => self.block.is_none().then_some(LineCause::Order),
+            Said::Does { user, act } => self.act_cause(number, user, act),
         }
     }
 
     fn set_port(&mut self, user: &str, name: &Name, saved: bool) -> Result<(), NoMemory>
+        requires { IsUserName user.now }
         ensures units { self.new.units ≡ self.old.units }
         ensures value { OnOk result (draft_of self.new ≡ with_port (draft_of self.old) user.now name.now (Some saved)) }
     {
-        let key = port_key(self.alloc, user, name)?;
-        set(self.alloc, &mut self.ports, key.as_str(), saved)
+        set_port(&mut self.ports, user, name, saved)
     }
 
-    fn unset_port(&mut self, user: &str, name: &Name) -> Result<(), NoMemory>
+    fn unset_port(&mut self, user: &str, name: &Name)
+        requires { IsUserName user.now }
         ensures units { self.new.units ≡ self.old.units }
-        ensures value { OnOk result (draft_of self.new ≡ with_port (draft_of self.old) user.now name.now None) }
+        ensures value { draft_of self.new ≡ with_port (draft_of self.old) user.now name.now None }
     {
-        let key = port_key(self.alloc, user, name)?;
-        unset(&mut self.ports, key.as_str());
-        Ok(())
+        unset_port(&mut self.ports, user, name);
     }
 
     fn play(&mut self, file: &str) -> Result<(), NoMemory>
@@ -250,6 +282,7 @@ impl Draft {
     }
 
     fn save(&mut self, user: &str, name: &Name, file: &str) -> Result<(), NoMemory>
+        requires { IsUserName user.now }
         ensures units { self.new.units ≡ self.old.units }
         ensures value { OnOk result (draft_of self.new ≡ with_saved (draft_of self.old) user.now name.now file.now) }
     {
@@ -259,12 +292,16 @@ impl Draft {
 
     /// Keeps what an act opens, closes, plays and saves.
     fn note(&mut self, user: &str, act: &Act) -> Result<(), NoMemory>
+        requires { IsUserName user.now }
         ensures units { self.new.units ≡ self.old.units }
         ensures value { OnOk result (draft_of self.new ≡ with_act (draft_of self.old) user.now act.now) }
     {
         match act {
             Act::Open { name, .. } => self.set_port(user, name, false),
-            Act::Close { name } => self.unset_port(user, name),
+            Act::Close { name } => {
+                self.unset_port(user, name);
+                Ok(())
+            }
             Act::Play { file, .. } => self.play(file.as_str()),
             Act::Save { name, file } => self.save(user, name, file.as_str()),
             _ => Ok(()),
@@ -283,13 +320,14 @@ impl Draft {
     }
 
     fn add_user(&mut self, at: u32, name: &str) -> Result<(), NoMemory>
-        requires { length self.old.users.items < MAX_USERS }
+        requires few { length self.old.users.items < MAX_USERS }
+        requires named { IsUserName name.now }
         ensures few { length self.new.units.items ≤ length self.old.units.items + 1 }
         ensures value { OnOk result (draft_of self.new ≡ with_user (draft_of self.old) at name.now) }
     {
         let user = self.users.len() as u32 + 1;
         self.users.push(ScriptWord::new(self.alloc, name)?)?;
-        set(self.alloc, &mut self.numbers, name, user)?;
+        set_number(&mut self.numbers, name, user)?;
         let act = Act::Enter;
         self.units.push(Unit::Single {
             line: Line { at, user, act },
@@ -310,22 +348,36 @@ impl Draft {
         Ok(())
     }
 
-    fn add_act(&mut self, at: u32, user: &str, act: Act) -> Result<(), NoMemory>
+    fn add_act(
+        &mut self,
+        at: u32,
+        number: Option<u32>,
+        user: &str,
+        act: Act,
+    ) -> Result<(), NoMemory>
+        requires named { IsUserName user.now }
+        requires numbered { number ≡ (draft_of self.old).numbers user.now }
         ensures few { length self.new.units.items ≤ length self.old.units.items + 1 }
         ensures value { OnOk result (draft_of self.new ≡ does_act (draft_of self.old) at user.now act) }
     {
-        let number = value_of(&self.numbers, user).unwrap_or(0);
         self.note(user, &act)?;
         self.add_line(Line {
             at,
-            user: number,
+            user: number.unwrap_or(0),
             act,
         })
     }
 
-    /// Adds what a line says that is not bad.
-    pub(crate) fn add(&mut self, at: u32, said: Said<'_>) -> Result<(), NoMemory>
-        requires { cause_of (draft_of self.old) (shown said) ≡ None }
+    /// Adds what a line says that is not bad, where `number` is its user's.
+    pub(crate) fn add(
+        &mut self,
+        at: u32,
+        number: Option<u32>,
+        said: Said<'_>,
+    ) -> Result<(), NoMemory>
+        requires none { cause_of (draft_of self.old) (shown said) ≡ None }
+        requires named { NamesUser (shown said) }
+        requires numbered { IsNumbered (draft_of self.old) (shown said) number }
         ensures few { length self.new.units.items ≤ length self.old.units.items + 1 }
         ensures value { OnOk result (draft_of self.new ≡ after (draft_of self.old) at (shown said.entry)) }
     {
@@ -344,7 +396,7 @@ impl Draft {
                 Ok(())
             }
             Said::End => self.end_block(),
-            Said::Does { user, act } => self.add_act(at, user, act),
+            Said::Does { user, act } => self.add_act(at, number, user, act),
         }
     }
 

@@ -169,10 +169,30 @@ fn word_of(verb: Verb) -> &'static [u8]
     form_of(verb).word
 }
 
+/// What a line that begins with this word does most likely. Any answer will do, as the caller looks
+/// whether the word is that of the answer.
+fn likely_verb(word: &[u8]) -> Verb {
+    match word {
+        [b'p', b'u', ..] => Verb::Put,
+        [b't', ..] => Verb::Tx,
+        [b'r', ..] => Verb::Rx,
+        [b'h', ..] => Verb::Hex,
+        [b'f', ..] => Verb::Fwd,
+        [b'u', ..] => Verb::User,
+        [b'o', ..] => Verb::Open,
+        [b'c', ..] => Verb::Close,
+        _ => Verb::Pool,
+    }
+}
+
 /// What a line does that begins with this word, or none if no line does.
-#[tactic(auto, unfolding(crate::specs::Forms::verb_of))]
+#[tactic(auto, using(crate::proofs::Verbs::verbs_by_word), unfolding(crate::specs::Forms::verb_of))]
 pub fn verb_of(word: &[u8]) -> Option<Verb>
     ensures { result ≡ verb_of word.now }
 {
+    let likely = likely_verb(word);
+    if word_of(likely) == word {
+        return Some(likely);
+    }
     VERBS.iter().copied().find(|verb| word_of(*verb) == word)
 }

@@ -3,6 +3,7 @@
 
 mod draft;
 mod forms;
+mod keys;
 mod places;
 mod reader;
 mod script;

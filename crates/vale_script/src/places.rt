@@ -1,9 +1,9 @@
 //! What is wrong with a line's words, each at its place.
 ghost use Rattle.std.specs.Prelude.{◌≡◌, ◌≤◌, map, length};
-ghost use Rattle.vale_script.specs.Places.{is_side, is_sides, is_field, misses_word, misses_number, misses_name, is_out, is_bad, any_out, any_bad, greatest_of, side_of, sides_of, field_of};
+ghost use Rattle.vale_script.specs.Places.{is_side, is_sides, is_field, misses_word, misses_number, misses_name, is_out, any_out, has_fixed_words, greatest_of, side_of, sides_of, field_of};
 ghost use Rattle.vale_script.specs.Sound.{most_of};
 
-use crate::forms::Place;
+use crate::forms::{Place, Verb};
 use crate::script::SlotField;
 use crate::words::{frame_bytes_fit, is_hex_byte, is_mac, is_user_name, number_in, port_name};
 use nm_types::{LineCause, Side, Sides};
@@ -108,24 +108,14 @@ pub(crate) fn any_out(cause: LineCause, places: &[Place], before: &[u8], words: 
     is_out(cause, *place, before, word) || any_out(cause, places, word, words)
 }
 
-/// Whether a word is bad at its place, for any cause.
-fn is_bad(place: Place, before: &[u8], word: &[u8]) -> bool
-    ensures { result ≡ is_bad place before.now word.now }
+/// Whether lines of this form have words that are one of a few.
+pub(crate) fn has_fixed_words(verb: Verb) -> bool
+    ensures { result ≡ has_fixed_words verb }
 {
-    misses_word(place, word) || misses_number(place, before, word) || misses_name(place, word)
-}
-
-/// Whether any of the words is bad at its place, for any cause, in one walk.
-pub(crate) fn any_bad(places: &[Place], before: &[u8], words: &[&[u8]]) -> bool
-    ensures { result ≡ any_bad places.now before.now (map (λ w. w.now) words.now) }
-{
-    let Some((place, places)) = places.split_first() else {
-        return false;
-    };
-    let Some((word, words)) = words.split_first() else {
-        return false;
-    };
-    is_bad(*place, before, word) || any_bad(places, word, words)
+    matches!(
+        &verb,
+        Verb::Rx | Verb::Poke | Verb::Move | Verb::Swap | Verb::Watch
+    )
 }
 
 /// The side of a ring.

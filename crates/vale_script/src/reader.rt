@@ -10,7 +10,7 @@ ghost use Rattle.vale_script.specs.Grammar.{script_of, after_line, is_line_feed,
 
 use crate::draft::Draft;
 use crate::script::Script;
-use crate::statements::{LineFault, line_said};
+use crate::statements::{LineFault, said_in};
 use nm_types::{LineCause, NoMemory};
 use std::alloc::Global;
 
@@ -74,11 +74,12 @@ pub fn line_count(bytes: &[u8]) -> usize
 
 /// Adds a line, or says why it is bad.
 #[tactic(auto, using(crate::proofs::Soundness::soundness))]
-fn read_line(
+fn read_line<'a>(
     alloc: Global,
     draft: &mut Draft,
+    words: &mut Vec<&'a [u8]>,
     at: u32,
-    line: &[u8],
+    line: &'a [u8],
 ) -> Result<Option<LineCause>, NoMemory>
     ensures value { IfOk result
         (ReadsLine (after_line (draft_of draft.old) at line.now) (draft_of draft.new)) }
@@ -86,15 +87,16 @@ fn read_line(
     ensures sound { IfOk result (λ cause. IfNone cause
         (IsSoundDraft (draft_of draft.old) → IsSoundDraft (draft_of draft.new))) }
 {
-    let said = match line_said(alloc, line) {
+    let said = match said_in(alloc, words, line) {
         Ok(said) => said,
         Err(LineFault::Bad { cause }) => return Ok(Some(cause)),
         Err(LineFault::NoMemory) => return Err(NoMemory),
     };
-    match draft.cause_of(&said)? {
+    let number = draft.number_for(&said);
+    match draft.cause_of(number, &said) {
         Some(cause) => Ok(Some(cause)),
         None => {
-            draft.add(at, said)?;
+            draft.add(at, number, said)?;
             Ok(None)
         }
     }
@@ -110,11 +112,12 @@ pub fn parse(alloc: Global, bytes: &[u8]) -> Result<Script, ScriptFault>
     ensures bad { IfErr result (BlamesLine (script_of bytes.now)) }
 {
     let mut draft = Draft::new(alloc);
+    let mut words = Vec::new(alloc);
     let mut rest = bytes;
     let mut at = 1;
     while !rest.is_empty() {
         let (line, after) = first_line(rest);
-        if let Some(cause) = read_line(alloc, &mut draft, at, line)? {
+        if let Some(cause) = read_line(alloc, &mut draft, &mut words, at, line)? {
             return Err(ScriptFault::BadLine { line: at, cause });
         }
         rest = after;

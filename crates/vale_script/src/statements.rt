@@ -1,17 +1,17 @@
 //! What the words of a line say by themselves.
-ghost use Rattle.std.specs.Prelude.{◌≡◌, ◌≤◌, ◌^◌, ◌&&◌, nat_le, ℕ, map, slice_index_or, length, IfOk, IsTrue, None, Ok};
+ghost use Rattle.std.specs.Prelude.{◌≡◌, ◌≤◌, ◌^◌, ◌&&◌, nat_le, ℕ, map, slice_index_or, length, IfOk, None, Some, true, Ok};
 ghost use Rattle.vale_script.specs.Places.{side_of, sides_of, field_of};
-ghost use Rattle.vale_script.specs.Keeps.{IsSoundStatement};
+ghost use Rattle.vale_script.specs.Keeps.{IsSoundStatement, NamesUser};
 ghost use Rattle.nm_types.specs.Names.{IsName};
 ghost use Rattle.vale_script.specs.Sound.{IsUserName, IsFileName, IsSoundDeed};
-ghost use Rattle.vale_script.specs.Statements.{shown, word_at, user_at, port_at, text_at, number_at, address_at, byte_at_place, open_act, put_with, put_act, fwd_act, poke_act, move_act, swap_act, extra_act, watch_act, named_act, plain_act, hex_act, play_act, save_act, act_of, statement_of, cause_by, cause_of_words, words_said, line_said, Tells, TellsSaid, shown_text};
+ghost use Rattle.vale_script.specs.Statements.{shown, word_at, user_at, port_at, text_at, number_at, address_at, byte_at_place, open_act, put_with, put_act, fwd_act, poke_act, move_act, swap_act, extra_act, watch_act, named_act, plain_act, hex_act, play_act, save_act, act_of, statement_of, cause_by, cause_of_words, has_form, said_by_verb, words_said, line_said, Tells, TellsSaid, shown_text};
 
-use crate::forms::{Form, Verb, form_of, verb_of};
-use crate::places::{any_bad, any_out, field_of, greatest_of, side_of, sides_of};
+use crate::forms::{Verb, form_of, verb_of};
+use crate::places::{any_out, field_of, greatest_of, has_fixed_words, side_of, sides_of};
 use crate::script::{Act, ScriptWord};
 use crate::words::{
-    are_line_bytes, frame_bytes, hex_byte_of, is_silent, is_user_name, mac_of, number_in,
-    port_name, text_of, words_of,
+    are_line_bytes, cut_words, frame_bytes, hex_byte_of, is_silent, is_user_name, mac_of,
+    number_in, port_name, room_for_words, text_of,
 };
 use nm_types::{
     BUFFER_BYTES, Frame, LineCause, MAX_BATCH, MAX_COUNTS, MAX_POOL, Mac, Name, NoMemory, Side,
@@ -378,6 +378,7 @@ fn act_of(alloc: Global, verb: Verb, words: &[&[u8]]) -> Result<Act, LineFault>
 /// What the words of a line say, each of which is good at its place.
 fn statement_of<'a>(alloc: Global, verb: Verb, words: &[&'a [u8]]) -> Result<Said<'a>, LineFault>
     ensures sound { IfOk result (λ said. IsSoundStatement (shown said)) }
+    ensures named { IfOk result (λ said. NamesUser (shown said)) }
     ensures value { TellsSaid (statement_of verb (map (λ w. w.now) words.now)) result }
 {
     match verb {
@@ -418,38 +419,51 @@ fn cause_by(verb: Verb, first: &[u8], others: &[&[u8]]) -> Option<LineCause>
     }
 }
 
-/// Whether a line of this form may have as many words behind its first one.
-fn has_count(form: &Form, others: &[&[u8]]) -> bool
-    ensures { result ≡ (nat_le form.now.least (length others.now)
-        && nat_le (length others.now) (length form.now.places.now)) }
+/// Whether words are as many as a line of this form has, with its fixed words at their places.
+#[tactic(auto, using(crate::proofs::Free::none_of_free))]
+fn has_form(verb: Verb, words: &[&[u8]]) -> bool
+    ensures { result ≡ has_form verb (map (λ w. w.now) words.now) }
 {
-    form.least <= others.len() && others.len() <= form.places.len()
-}
-
-/// Whether the words of a line are such a line, told by one walk.
-fn is_good(verb: Verb, first: &[u8], others: &[&[u8]]) -> bool
-    ensures { IsTrue result → cause_by verb first.now (map (λ w. w.now) others.now) ≡ None }
-{
+    let Some((first, others)) = words.split_first() else {
+        return false;
+    };
     let form = form_of(verb);
-    has_count(&form, others) && !any_bad(form.places, first, others)
+    form.least <= others.len()
+        && others.len() <= form.places.len()
+        && !(has_fixed_words(verb) && any_out(LineCause::Word, form.places, first, others))
 }
 
 /// Why the words of a line are no such line, by the words alone.
 fn cause_of_words(verb: Verb, words: &[&[u8]]) -> Option<LineCause>
     ensures { result ≡ cause_of_words verb (map (λ w. w.now) words.now) }
 {
-    let Some((first, others)) = words.split_first() else {
-        return Some(LineCause::Word);
-    };
-    if is_good(verb, first, others) {
-        None
-    } else {
-        cause_by(verb, first, others)
+    match words.split_first() {
+        Some((first, others)) => cause_by(verb, first, others),
+        None => Some(LineCause::Word),
+    }
+}
+
+/// What words say that have a line's form. They are read at once, since words that are read are bad for
+/// no cause, and only those that are not are looked at for the cause.
+#[tactic(auto, using(crate::proofs::Causes::read_lines))]
+fn said_in_form<'a>(alloc: Global, verb: Verb, words: &[&'a [u8]]) -> Result<Said<'a>, LineFault>
+    requires { has_form verb (map (λ w. w.now) words.now) ≡ true }
+    ensures sound { IfOk result (λ said. IsSoundStatement (shown said)) }
+    ensures named { IfOk result (λ said. NamesUser (shown said)) }
+    ensures value { TellsSaid (said_by_verb (Some verb) (map (λ w. w.now) words.now)) result }
+{
+    match statement_of(alloc, verb, words) {
+        Ok(said) => Ok(said),
+        Err(LineFault::NoMemory) => Err(LineFault::NoMemory),
+        Err(LineFault::Bad { cause }) => Err(LineFault::Bad {
+            cause: cause_of_words(verb, words).unwrap_or(cause),
+        }),
     }
 }
 
 fn words_said<'a>(alloc: Global, words: &[&'a [u8]]) -> Result<Said<'a>, LineFault>
     ensures sound { IfOk result (λ said. IsSoundStatement (shown said)) }
+    ensures named { IfOk result (λ said. NamesUser (shown said)) }
     ensures value { TellsSaid (words_said (map (λ w. w.now) words.now)) result }
 {
     let Some(verb) = verb_of(word_at(words, 0)) else {
@@ -457,19 +471,27 @@ fn words_said<'a>(alloc: Global, words: &[&'a [u8]]) -> Result<Said<'a>, LineFau
             cause: LineCause::Word,
         });
     };
+    if has_form(verb, words) {
+        return said_in_form(alloc, verb, words);
+    }
     match cause_of_words(verb, words) {
         Some(cause) => Err(LineFault::Bad { cause }),
         None => statement_of(alloc, verb, words),
     }
 }
 
-/// What a line says.
-pub fn line_said(alloc: Global, line: &[u8]) -> Result<Said<'_>, LineFault>
+/// What a line says, cut in words where the words of the line before it were.
+pub(crate) fn said_in<'a>(
+    alloc: Global,
+    words: &mut Vec<&'a [u8]>,
+    line: &'a [u8],
+) -> Result<Said<'a>, LineFault>
     ensures sound { IfOk result (λ said. IsSoundStatement (shown said)) }
+    ensures named { IfOk result (λ said. NamesUser (shown said)) }
     ensures value { TellsSaid (line_said line.now) result }
 {
-    let words = words_of(alloc, line)?;
-    if is_silent(&words) {
+    cut_words(words, line)?;
+    if is_silent(words) {
         return Ok(Said::Nothing);
     }
     if !are_line_bytes(line) {
@@ -477,5 +499,15 @@ pub fn line_said(alloc: Global, line: &[u8]) -> Result<Said<'_>, LineFault>
             cause: LineCause::Word,
         });
     }
-    words_said(alloc, &words)
+    words_said(alloc, words)
+}
+
+/// What a line says.
+pub fn line_said(alloc: Global, line: &[u8]) -> Result<Said<'_>, LineFault>
+    ensures sound { IfOk result (λ said. IsSoundStatement (shown said)) }
+    ensures named { IfOk result (λ said. NamesUser (shown said)) }
+    ensures value { TellsSaid (line_said line.now) result }
+{
+    let mut words = room_for_words(alloc)?;
+    said_in(alloc, &mut words, line)
 }

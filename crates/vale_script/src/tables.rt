@@ -28,11 +28,3 @@ pub(crate) fn set<V: Copy + Drop>(
     table.insert(key, value)?;
     Ok(())
 }
-
-/// Removes what a table has under a word.
-#[tactic(auto, using(std::proofs::lemmas::Map::Text::text_keys))]
-pub(crate) fn unset<V: Copy + Drop>(table: &mut HashMap<String, V>, word: &str)
-    ensures { seen table.new ≡ updated (seen table.old) word.now None }
-{
-    table.remove(word);
-}

@@ -1,5 +1,5 @@
 //! The words of a script's lines, each by itself.
-ghost use Rattle.std.specs.Prelude.{◌≡◌, ◌+◌, ◌*◌, ◌/◌, ◌<◌, ◌≤◌, ◌^◌, ℕ, length, map, option_map, min, is_some, true, IsTrue, IfOk, IfSome};
+ghost use Rattle.std.specs.Prelude.{◌≡◌, ◌+◌, ◌*◌, ◌/◌, ◌<◌, ◌≤◌, ◌^◌, ℕ, length, map, option_map, min, is_some, true, IsTrue, IfOk, OnOk, IfSome};
 ghost use Rattle.nm_types.specs.Names.{is_word_byte, are_word_bytes, IsName};
 ghost use Rattle.vale_script.specs.Words.{is_blank, has_bytes, words_of, is_graphic, is_line_byte, are_line_bytes, begins_with_hash, is_silent, has_up_to, is_user_name, port_name, are_graphic, is_file_name, text_of, is_digit, are_digits, is_number, number_of, number_in, is_hex, are_hex, hex_value, is_pair_at, byte_at, is_colon_at, is_hex_byte, hex_byte_of, is_digits, bytes_of, frame_bytes, are_pairs, are_joined, is_mac, mac_value, mac_of};
 
@@ -27,7 +27,7 @@ fn is_graphic(b: u8) -> bool
 fn is_line_byte(b: u8) -> bool
     ensures { result ≡ is_line_byte b }
 {
-    is_blank(b) || is_graphic(b)
+    is_graphic(b) || is_blank(b)
 }
 
 /// Whether a line that says something may hold these bytes.
@@ -37,12 +37,26 @@ pub(crate) fn are_line_bytes(line: &[u8]) -> bool
     line.iter().all(|b| is_line_byte(*b))
 }
 
+/// Cuts the words of a line at blanks and tabs, in the place of those that were there.
+pub(crate) fn cut_words<'a>(words: &mut Vec<&'a [u8]>, line: &'a [u8]) -> Result<(), AllocError>
+    ensures { OnOk result (map (λ w. w.now) words.new.items ≡ words_of line.now) }
+{
+    words.clear();
+    words.extend(line.split(|b| is_blank(*b)).filter(|word| !word.is_empty()))?;
+    Ok(())
+}
+
+/// Room for the words of a line.
+pub(crate) fn room_for_words<'a>(alloc: Global) -> Result<Vec<&'a [u8]>, AllocError> {
+    Vec::with_capacity(alloc, FEW_WORDS)
+}
+
 /// The words of a line, cut at blanks and tabs.
 pub fn words_of(alloc: Global, line: &[u8]) -> Result<Vec<&[u8]>, AllocError>
     ensures { IfOk result (λ words. map (λ w. w.now) words.items ≡ words_of line.now) }
 {
-    let mut words = Vec::with_capacity(alloc, FEW_WORDS)?;
-    words.extend(line.split(|b| is_blank(*b)).filter(|word| !word.is_empty()))?;
+    let mut words = room_for_words(alloc)?;
+    cut_words(&mut words, line)?;
     Ok(words)
 }
 
