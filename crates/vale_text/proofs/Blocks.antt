@@ -1,21 +1,38 @@
 -- Sixteen bytes as digits.
-use Rattle.std.proofs.Common.{◌≡◌, ℕ, ◌+◌, ◌/◌, ◌%◌, ◌<◌, ◌≤◌, Bool, true, false, cond, ltb, List, [], ◌∷◌, ◌++◌, length, map, take, replicate, slice_index_or, refl, ap, subst, ◌∙◌, arith, append_assoc, length-append}
+use Rattle.std.proofs.Common.{◌≡◌, ℕ, ◌+◌, ◌/◌, ◌%◌, zero, suc, ◌-◌, ◌*◌, ◌<◌, ◌≤◌, Bool, true, ◌&&◌, T, eqb, eqb→eq, eq-zero-or-pos, inl, inr, get_or, w8, List, [], ◌∷◌, ◌++◌, length, map, take, replicate, slice_index_or, refl, ap, subst, ◌∙◌, arith, append_assoc, length-append}
 use Rattle.std.specs.List.{flat_map}
-use Rattle.std.specs.Simd.Lanes.{Each1, zip2, sel_l, top, put_chunk}
-use Rattle.std.proofs.lemmas.Simd.{take_more_put_chunk, length-put_chunk}
+use lib.Ieee.Fits.{and_l, and_r}
+use Rattle.std.specs.Simd.Lanes.{Each1, put_chunk}
+use Rattle.std.proofs.lemmas.Simd.{take_more_put_chunk, length-put_chunk, swz_l, SwzOk, SwzOk-from_below, get_or-swz_l_below}
+use Rattle.vale_text.specs.declared.hex.TheConstants.{HEX}
 use Rattle.vale_text.specs.Placed.{Placed}
 use Rattle.vale_entry.specs.Transcript.{hex_digit, hex_byte}
 
-digit-by : (n : ℕ) (b : Bool) → ltb 9 n ≡ b → n < 16 → ((48 + n) % 256 + cond (top 7 (cond b 255 0)) 39 0) % 256 ≡ hex_digit n
-digit-by n true e h = grind arith
-digit-by n false e h = grind arith
+abbrev are_digits : ℕ → Bool
+are_digits zero = true
+are_digits (suc n) = eqb (get_or HEX n 0) (hex_digit n) && are_digits n
 
-pub digits-are : (xs : List ℕ) → Each1 (λ n. n < 16) xs
-    → zip2 (λ a b. (a + b) % 256) (zip2 (λ a b. (a + b) % 256) (replicate (length xs) 48) xs)
-    (sel_l (map (top 7) (zip2 (λ a b. cond (ltb a b) 255 0) (replicate (length xs) 9) xs)) (replicate (length xs) 39) (replicate (length xs) 0))
-    ≡ map hex_digit xs
-digits-are [] low = refl
-digits-are (x ∷ xs) low = λ i. digit-by x (ltb 9 x) refl low.0 i ∷ digits-are xs low.1 i
+below : (k n : ℕ) → T (are_digits k) → n < k → get_or HEX n 0 ≡ hex_digit n
+below zero n t h = absurd (omega arith)
+below (suc k) n t h =
+    elim (eq-zero-or-pos (k - n)) [
+      | inl z ↦ let e : n ≡ k = omega arith in rw e (eqb→eq _ _ (and_l _ (are_digits k) t))
+      | inr g ↦ below k n (and_r _ (are_digits k) t) (omega arith)
+    ]
+
+pub positions-fit : (xs : List ℕ) → length xs ≡ 16 → Each1 (λ n. n < 16) xs → SwzOk w8 16 16 0 xs
+positions-fit xs long low = SwzOk-from_below w8 16 1 16 0 xs refl (omega arith) low
+
+looked-up : (xs : List ℕ) (i : ℕ) → i + length xs ≤ 16 → Each1 (λ n. n < 16) xs → swz_l w8 16 HEX i xs ≡ map hex_digit xs
+looked-up [] i within low = refl
+looked-up (x ∷ xs) i within low =
+    let place : 16 * ((i + 0) / 16) + x ≡ x = omega arith in
+    let first : get_or (swz_l w8 16 HEX i (x ∷ xs)) 0 0 ≡ hex_digit x =
+    get_or-swz_l_below w8 16 HEX i (x ∷ xs) 0 (omega arith) low.0 ∙ ap (λ n. get_or HEX n 0) place ∙ below 16 x tt low.0 in
+    λ k. first k ∷ looked-up xs (suc i) (omega arith) low.1 k
+
+pub digits-are : (xs : List ℕ) → length xs ≡ 16 → Each1 (λ n. n < 16) xs → swz_l w8 16 HEX 0 xs ≡ map hex_digit xs
+digits-are xs long low = looked-up xs 0 (omega arith) low
 
 abbrev at : List ℕ → List ℕ → ℕ → ℕ
 at hs ls i = slice_index_or (hs ++ ls) i 0

@@ -1,5 +1,6 @@
 mod Blocks
 mod Entries
+mod Pairs
 mod Places
 mod Strips
 mod Lines

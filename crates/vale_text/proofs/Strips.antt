@@ -5,7 +5,7 @@ use Rattle.std.proofs.lemmas.List.{append-nil, take-append-drop, take_more}
 use Rattle.std.proofs.lemmas.Grind.{flat_map-append}
 use Rattle.std.proofs.lemmas.Option.{get_or_from_slice_get, slice_get_within}
 use Rattle.std.proofs.Math.Seq.{drop-length, take-add}
-use Rattle.vale_entry.specs.Transcript.{list_text}
+use Rattle.vale_entry.specs.Transcript.{after_blank, list_text, words_text}
 use Rattle.vale_text.specs.Pieces.{behind, part_text, with_parts, parts_text}
 use Rattle.vale_text.specs.declared.pieces.Part.{Part}
 use Rattle.nm_io.specs.Held.{grown, GrowsByPrefix, Writes}
@@ -49,6 +49,23 @@ pub goes_out : {T E : Type 0} (old middle new : Option (List ℕ)) (p q a : List
 goes_out old middle new p q a result out empty written =
     subst (λ (rest : List ℕ). Gathers old new p rest result a) (sym empty) (gathered_out old middle new p a result out written)
 
+-- words, and then other words
+pub words_after : {T E : Type 0} (old middle new : Option (List ℕ)) (p q r : List ℕ) (a b : List (List ℕ)) (result : Result T E) → Gathered old middle p q (words_text a) → Gathers middle new q r result (words_text b) → Gathers old new p r result (words_text (a ++ b))
+words_after old middle new p q r a b result first second =
+    subst (λ (text : List ℕ). Gathers old new p r result text) (sym (flat_map-append after_blank a b)) (gathers_after old middle new p q r (words_text a) (words_text b) result first second)
+
+-- the first of them fail
+pub words_fail : (old new : Option (List ℕ)) (p : List ℕ) (a b : List (List ℕ)) → GrowsByPrefix old new (p ++ words_text a) → GrowsByPrefix old new (p ++ words_text (a ++ b))
+words_fail old new p a b part =
+    subst (λ (text : List ℕ). GrowsByPrefix old new (p ++ text)) (sym (flat_map-append after_blank a b)) (grows_past old new p (words_text a) (words_text b) part)
+
+-- texts added one after another
+pub adds_two : (p q r a b : List ℕ) → q ≡ p ++ a → r ≡ q ++ b → r ≡ p ++ (a ++ b)
+adds_two p q r a b first second = second ∙ ap (λ t. t ++ b) first ∙ append_assoc p a b
+
+pub adds_three : (p q r s a b c : List ℕ) → q ≡ p ++ a → r ≡ q ++ b → s ≡ r ++ c → s ≡ p ++ (a ++ (b ++ c))
+adds_three p q r s a b c first second third = adds_two p q s a (b ++ c) first (adds_two q r s b c second third)
+
 -- the next ones are written at once
 part-flat : {X : Type 0} (f : X → List ℕ) (xs : List X) (done end : ℕ) → done ≤ end → end ≤ length xs → flat_map f (take done xs) ++ flat_map f (take (end - done) (drop done xs)) ≡ flat_map f (take end xs)
 part-flat f xs done end up within =
@@ -70,7 +87,7 @@ part_fails old middle new p q f xs done end up within first second =
     subst (λ (text : List ℕ). GrowsByPrefix old new (p ++ text)) whole
     (grows_past old new p front (flat_map f (drop end xs)) (gathered_fails old middle new p q (flat_map f (take done xs)) (flat_map f (take (end - done) (drop done xs))) first second))
 
-flat_map-more : {X : Type 0} (f : X → List ℕ) (xs : List X) (i : ℕ) (d : X) → i < length xs → flat_map f (take (i + 1) xs) ≡ flat_map f (take i xs) ++ f (get_or xs i d)
+pub flat_map-more : {X : Type 0} (f : X → List ℕ) (xs : List X) (i : ℕ) (d : X) → i < length xs → flat_map f (take (i + 1) xs) ≡ flat_map f (take i xs) ++ f (get_or xs i d)
 flat_map-more f xs i d h =
     ap (flat_map f) (take_more xs i d h) ∙ flat_map-append f (take i xs) (get_or xs i d ∷ [])
     ∙ ap (λ text. flat_map f (take i xs) ++ text) (append-nil (f (get_or xs i d)))

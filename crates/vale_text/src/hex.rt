@@ -18,6 +18,9 @@ fn hex_digit(n: u8) -> u8
     b'0' + n + if n > 9 { 39 } else { 0 }
 }
 
+/// The digits of the numbers below 16, in lower case.
+const HEX: [u8; 16] = *b"0123456789abcdef";
+
 /// The digits of numbers below 16, in lower case.
 #[inline(always)]
 fn digits_of(numbers: u8x16) -> u8x16
@@ -25,10 +28,7 @@ fn digits_of(numbers: u8x16) -> u8x16
     requires low { Each1 (λ n. n < 16) numbers }
     ensures { result ≡ map hex_digit numbers }
 {
-    let above = numbers
-        .simd_gt(u8x16::splat(9))
-        .select(u8x16::splat(39), u8x16::splat(0));
-    u8x16::splat(b'0') + numbers + above
+    u8x16::from_array(HEX).swizzle_dyn(numbers)
 }
 
 /// Spells the first sixteen bytes.

@@ -3,6 +3,7 @@
 
 mod hex;
 pub mod laws;
+mod numerals;
 mod pieces;
 mod printable;
 mod reader;

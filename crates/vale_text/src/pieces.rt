@@ -4,10 +4,13 @@ ghost use Rattle.std.specs.List.{flat_map};
 ghost use Rattle.nm_io.specs.Counts.{Rose};
 ghost use Rattle.nm_io.specs.Gathered.{Gathers};
 ghost use Rattle.nm_io.specs.Held.{Writes};
-ghost use Rattle.vale_entry.specs.Transcript.{frame_text, frames_text, dest_text, item_text, list_text};
+ghost use Rattle.vale_entry.specs.Transcript.{frame_text, frames_text, numbers_text, dest_text, item_text, list_text};
 ghost use Rattle.vale_text.specs.Pieces.{behind, part_text, parts_text, piece_text, pieces_text};
 
-use crate::strip::{Strip, put_byte, put_hex, put_number, put_strip, put_text};
+use crate::strip::{
+    SHORT_FRAME, Strip, put_byte, put_hex, put_more_numbers, put_number, put_number_after,
+    put_short_frame, put_strip, put_text, put_text_after,
+};
 use nm_io::{Failed, Sink};
 use nm_types::Batch;
 use vale_entry::{Dest, Item};
@@ -92,14 +95,6 @@ pub fn put_parts<K: Sink>(out: &mut K, parts: &[Part<'_>]) -> Result<(), Failed>
     let mut strip = Strip::new();
     put_parts_on(out, &mut strip, parts)?;
     put_strip(out, &mut strip)
-}
-
-impl Spelled for u32 {
-    ghost text = { decimal };
-
-    fn spell<K: Sink>(&self, out: &mut K, strip: &mut Strip) -> Result<(), Failed> {
-        put_number(out, strip, *self as u64)
-    }
 }
 
 impl Spelled for Dest {
@@ -221,6 +216,9 @@ fn put_next_frame<K: Sink>(
     ensures later { K.faults out.old ≤ K.faults out.new }
     ensures cause { OnErr result (Rose (K.faults out.old) (K.faults out.new)) }
 {
+    if bytes.len() <= SHORT_FRAME {
+        return put_short_frame(out, strip, bytes, no_learn);
+    }
     put_byte(out, strip, b',')?;
     put_frame(out, strip, bytes, no_learn)
 }
@@ -244,6 +242,21 @@ fn put_frames<K: Sink>(out: &mut K, strip: &mut Strip, frames: &Batch) -> Result
     Ok(())
 }
 
+/// Writes numbers with commas between them, or a dash if there are none.
+#[tactic(auto, using(crate::proofs::Strips::strips))]
+fn put_numbers<K: Sink>(out: &mut K, strip: &mut Strip, numbers: &[u32]) -> Result<(), Failed>
+    ensures gathers { Gathers (K.holds out.old) (K.holds out.new) strip.old strip.new
+        result (numbers_text numbers.now) }
+    ensures later { K.faults out.old ≤ K.faults out.new }
+    ensures cause { OnErr result (Rose (K.faults out.old) (K.faults out.new)) }
+{
+    let Some((first, others)) = numbers.split_first() else {
+        return put_byte(out, strip, b'-');
+    };
+    put_number(out, strip, *first as u64)?;
+    put_more_numbers(out, strip, others)
+}
+
 impl Spelled for Piece<'_> {
     ghost text = { piece_text };
 
@@ -252,10 +265,24 @@ impl Spelled for Piece<'_> {
             Piece::Number(number) => put_number(out, strip, number),
             Piece::Word(word) => put_text(out, strip, word),
             Piece::Frames(frames) => put_frames(out, strip, frames),
-            Piece::Buffers(numbers) => put_list(out, strip, numbers),
+            Piece::Buffers(numbers) => put_numbers(out, strip, numbers),
             Piece::Destinations(dests) => put_list(out, strip, dests),
             Piece::Taken(items) => put_list(out, strip, items),
         }
+    }
+}
+
+/// Writes a word behind a blank.
+fn put_word<K: Sink>(out: &mut K, strip: &mut Strip, piece: &Piece<'_>) -> Result<(), Failed>
+    ensures gathers { Gathers (K.holds out.old) (K.holds out.new) strip.old strip.new
+        result (behind 32 piece_text piece.now) }
+    ensures later { K.faults out.old ≤ K.faults out.new }
+    ensures cause { OnErr result (Rose (K.faults out.old) (K.faults out.new)) }
+{
+    match *piece {
+        Piece::Number(number) => put_number_after(out, strip, b' ', number),
+        Piece::Word(word) => put_text_after(out, strip, b' ', word),
+        _ => put_after(out, strip, b' ', piece),
     }
 }
 
@@ -270,5 +297,8 @@ pub(crate) fn put_words<K: Sink>(
     ensures later { K.faults out.old ≤ K.faults out.new }
     ensures cause { OnErr result (Rose (K.faults out.old) (K.faults out.new)) }
 {
-    put_each_after(out, strip, b' ', pieces)
+    for piece in pieces {
+        put_word(out, strip, piece)?;
+    }
+    Ok(())
 }

@@ -1,18 +1,18 @@
 //! The lines of a transcript, one row for each kind.
-ghost use Rattle.std.specs.Prelude.{◌≡◌, ◌≤◌, [], ◌∷◌, ◌++◌, codes, decimal, OnErr};
+ghost use Rattle.std.specs.Prelude.{◌≡◌, ◌≤◌, [], ◌∷◌, ◌++◌, codes, decimal, OnOk, OnErr};
 ghost use Rattle.nm_io.specs.Counts.{Rose};
 ghost use Rattle.nm_io.specs.Gathered.{Gathers};
 ghost use Rattle.nm_io.specs.Held.{Writes};
 ghost use Rattle.vale_entry.specs.Transcript.{numbers_text, side_word, sides_word, fault_words, ask_words, reply_words, words_text, entry_line, start_line, end_line};
-ghost use Rattle.vale_entry.specs.declared.entry.Ask.TheVariants.{Reset, Finish, Watch};
-ghost use Rattle.vale_entry.specs.declared.entry.Reply.TheVariants.{Refused, Offered, Shared, Counted};
+ghost use Rattle.vale_entry.specs.declared.entry.Ask.TheVariants.{Done, Finish, Grant, Reset, Send, Sync, Watch};
+ghost use Rattle.vale_entry.specs.declared.entry.Reply.TheVariants.{Refused, Offered, Shared, Gave, Counted};
 ghost use Rattle.vale_text.specs.declared.pieces.Piece.TheVariants.{Number as NumberPiece};
 
 use crate::pieces::Piece::{Buffers, Destinations, Frames, Number, Taken, Word};
 use crate::pieces::{Part, Piece, put_parts, put_words};
-use crate::strip::{Strip, put_byte, put_number, put_strip};
+use crate::strip::{Strip, make_room, put_byte, put_number, put_strip};
 use nm_io::{Failed, Sink, Text};
-use nm_types::{Chain, Counts, Name, OpenFault, PortId, Side, Sides, SyncFault};
+use nm_types::{Batch, Chain, Counts, LeaseId, Name, OpenFault, PortId, Side, Sides, SyncFault};
 use vale_entry::{Ask, Dests, Entry, Numbers, Reply};
 
 /// A number of 32 bits as a word.
@@ -319,6 +319,114 @@ fn put_watch<K: Sink>(
     )
 }
 
+/// The most bytes that the numbers of a line take with the words between them.
+const SHORT_WORDS: usize = 96;
+
+/// Writes who is granted room, for which send, and where.
+fn put_grant<K: Sink>(
+    out: &mut K,
+    strip: &mut Strip,
+    session: u32,
+    origin: u32,
+    to: PortId,
+) -> Result<(), Failed>
+    ensures gathers { Gathers (K.holds out.old) (K.holds out.new) strip.old strip.new
+        result (words_text (ask_words session (Grant origin to))) }
+    ensures later { K.faults out.old ≤ K.faults out.new }
+    ensures cause { OnErr result (Rose (K.faults out.old) (K.faults out.new)) }
+{
+    make_room(out, strip, SHORT_WORDS)?;
+    strip.labelled(b" ", session);
+    strip.labelled(b" grant ", origin);
+    strip.labelled(b" ", to.0);
+    Ok(())
+}
+
+fn put_done<K: Sink>(
+    out: &mut K,
+    strip: &mut Strip,
+    session: u32,
+    lease: LeaseId,
+) -> Result<(), Failed>
+    ensures gathers { Gathers (K.holds out.old) (K.holds out.new) strip.old strip.new
+        result (words_text (ask_words session (Done lease))) }
+    ensures later { K.faults out.old ≤ K.faults out.new }
+    ensures cause { OnErr result (Rose (K.faults out.old) (K.faults out.new)) }
+{
+    make_room(out, strip, SHORT_WORDS)?;
+    strip.labelled(b" ", session);
+    strip.labelled(b" done ", lease.0);
+    Ok(())
+}
+
+/// Writes who sends, and from which port.
+fn put_sender<K: Sink>(
+    out: &mut K,
+    strip: &mut Strip,
+    session: u32,
+    port: PortId,
+) -> Result<(), Failed>
+    ensures gathers { Gathers (K.holds out.old) (K.holds out.new) strip.old strip.new
+        result (words_text (decimal session ∷ codes "send" ∷ decimal port.0 ∷ [])) }
+    ensures later { K.faults out.old ≤ K.faults out.new }
+    ensures cause { OnErr result (Rose (K.faults out.old) (K.faults out.new)) }
+{
+    make_room(out, strip, SHORT_WORDS)?;
+    strip.labelled(b" ", session);
+    strip.labelled(b" send ", port.0);
+    Ok(())
+}
+
+fn put_send<K: Sink>(
+    out: &mut K,
+    strip: &mut Strip,
+    session: u32,
+    port: PortId,
+    frames: &Batch,
+) -> Result<(), Failed>
+    ensures gathers { Gathers (K.holds out.old) (K.holds out.new) strip.old strip.new
+        result (words_text (ask_words session (Send port frames.now))) }
+    ensures later { K.faults out.old ≤ K.faults out.new }
+    ensures cause { OnErr result (Rose (K.faults out.old) (K.faults out.new)) }
+{
+    put_sender(out, strip, session, port)?;
+    put_words(out, strip, &[Frames(frames)])
+}
+
+/// Writes who syncs, and which port.
+fn put_syncer<K: Sink>(
+    out: &mut K,
+    strip: &mut Strip,
+    session: u32,
+    port: PortId,
+) -> Result<(), Failed>
+    ensures gathers { Gathers (K.holds out.old) (K.holds out.new) strip.old strip.new
+        result (words_text (decimal session ∷ codes "sync" ∷ decimal port.0 ∷ [])) }
+    ensures later { K.faults out.old ≤ K.faults out.new }
+    ensures cause { OnErr result (Rose (K.faults out.old) (K.faults out.new)) }
+{
+    make_room(out, strip, SHORT_WORDS)?;
+    strip.labelled(b" ", session);
+    strip.labelled(b" sync ", port.0);
+    Ok(())
+}
+
+fn put_sync<K: Sink>(
+    out: &mut K,
+    strip: &mut Strip,
+    session: u32,
+    port: PortId,
+    back: &Numbers,
+) -> Result<(), Failed>
+    ensures gathers { Gathers (K.holds out.old) (K.holds out.new) strip.old strip.new
+        result (words_text (ask_words session (Sync port back.now))) }
+    ensures later { K.faults out.old ≤ K.faults out.new }
+    ensures cause { OnErr result (Rose (K.faults out.old) (K.faults out.new)) }
+{
+    put_syncer(out, strip, session, port)?;
+    put_words(out, strip, &[Buffers(back.as_slice())])
+}
+
 /// Writes what was asked.
 fn put_ask<K: Sink>(out: &mut K, strip: &mut Strip, session: u32, ask: &Ask) -> Result<(), Failed>
     ensures gathers { Gathers (K.holds out.old) (K.holds out.new) strip.old strip.new result
@@ -336,16 +444,10 @@ fn put_ask<K: Sink>(out: &mut K, strip: &mut Strip, session: u32, ask: &Ask) -> 
             extra,
             ..
         } => put_open(out, strip, session, name, *tx, *rx, *extra),
-        Ask::Send { port, frames } => {
-            put_words(
-                out,
-                strip,
-                &[s, Word(b"send"), short(port.0), Frames(frames)],
-            )
-        }
-        Ask::Grant { origin, to } => put_pair(out, strip, session, b"grant", *origin, to.0),
-        Ask::Done { lease } => put_words(out, strip, &[s, Word(b"done"), short(lease.0)]),
-        Ask::Sync { port, back } => put_buffers(out, strip, session, b"sync", *port, back),
+        Ask::Send { port, frames } => put_send(out, strip, session, *port, frames),
+        Ask::Grant { origin, to } => put_grant(out, strip, session, *origin, *to),
+        Ask::Done { lease } => put_done(out, strip, session, *lease),
+        Ask::Sync { port, back } => put_sync(out, strip, session, *port, back),
         Ask::Reset { port, side, fault } => put_reset(out, strip, session, *port, *side, fault),
         Ask::Shut { port } => put_words(out, strip, &[s, Word(b"shut"), short(port.0)]),
         Ask::Finish { port, bufs, chain } => put_finish(out, strip, session, *port, bufs, *chain),
@@ -389,6 +491,20 @@ fn put_counts<K: Sink>(out: &mut K, strip: &mut Strip, counts: &Counts) -> Resul
     )
 }
 
+/// Writes how many frames were short and alone.
+fn put_left<K: Sink>(out: &mut K, strip: &mut Strip, lines: u32, lone: u32) -> Result<(), Failed>
+    ensures gathers { Gathers (K.holds out.old) (K.holds out.new) strip.old strip.new
+        result (words_text (codes "=" ∷ codes "short" ∷ decimal lines ∷ codes "lone" ∷ decimal lone ∷ codes "to" ∷ [])) }
+    ensures later { K.faults out.old ≤ K.faults out.new }
+    ensures cause { OnErr result (Rose (K.faults out.old) (K.faults out.new)) }
+{
+    make_room(out, strip, SHORT_WORDS)?;
+    strip.labelled(b" = short ", lines);
+    strip.labelled(b" lone ", lone);
+    strip.add(b" to");
+    Ok(())
+}
+
 fn put_offered<K: Sink>(
     out: &mut K,
     strip: &mut Strip,
@@ -396,25 +512,13 @@ fn put_offered<K: Sink>(
     lone: u32,
     to: &Dests,
 ) -> Result<(), Failed>
-    ensures gathers { Gathers (K.holds out.old) (K.holds out.new) strip.old strip.new result
-        (words_text (reply_words (Offered lines lone to.now))) }
+    ensures gathers { Gathers (K.holds out.old) (K.holds out.new) strip.old strip.new
+        result (words_text (reply_words (Offered lines lone to.now))) }
     ensures later { K.faults out.old ≤ K.faults out.new }
     ensures cause { OnErr result (Rose (K.faults out.old) (K.faults out.new)) }
 {
-    let (shorts, lone, to) = (short(lines), short(lone), Destinations(to.as_slice()));
-    put_words(
-        out,
-        strip,
-        &[
-            Word(b"="),
-            Word(b"short"),
-            shorts,
-            Word(b"lone"),
-            lone,
-            Word(b"to"),
-            to,
-        ],
-    )
+    put_left(out, strip, lines, lone)?;
+    put_words(out, strip, &[Destinations(to.as_slice())])
 }
 
 fn put_shared<K: Sink>(
@@ -424,25 +528,39 @@ fn put_shared<K: Sink>(
     full: u32,
     gone: u32,
 ) -> Result<(), Failed>
-    ensures gathers { Gathers (K.holds out.old) (K.holds out.new) strip.old strip.new result
-        (words_text (reply_words (Shared given full gone))) }
+    ensures gathers { Gathers (K.holds out.old) (K.holds out.new) strip.old strip.new
+        result (words_text (reply_words (Shared given full gone))) }
     ensures later { K.faults out.old ≤ K.faults out.new }
     ensures cause { OnErr result (Rose (K.faults out.old) (K.faults out.new)) }
 {
-    let (given, full, gone) = (short(given), short(full), short(gone));
-    put_words(
-        out,
-        strip,
-        &[
-            Word(b"="),
-            Word(b"given"),
-            given,
-            Word(b"full"),
-            full,
-            Word(b"gone"),
-            gone,
-        ],
-    )
+    make_room(out, strip, SHORT_WORDS)?;
+    strip.labelled(b" = given ", given);
+    strip.labelled(b" full ", full);
+    strip.labelled(b" gone ", gone);
+    Ok(())
+}
+
+/// Writes how many frames a sync gave.
+fn put_given<K: Sink>(out: &mut K, strip: &mut Strip, count: u32) -> Result<(), Failed>
+    ensures gathers { Gathers (K.holds out.old) (K.holds out.new) strip.old strip.new
+        result (words_text (codes "=" ∷ codes "gave" ∷ decimal count ∷ codes "to" ∷ [])) }
+    ensures later { K.faults out.old ≤ K.faults out.new }
+    ensures cause { OnErr result (Rose (K.faults out.old) (K.faults out.new)) }
+{
+    make_room(out, strip, SHORT_WORDS)?;
+    strip.labelled(b" = gave ", count);
+    strip.add(b" to");
+    Ok(())
+}
+
+fn put_gave<K: Sink>(out: &mut K, strip: &mut Strip, count: u32, to: &Dests) -> Result<(), Failed>
+    ensures gathers { Gathers (K.holds out.old) (K.holds out.new) strip.old strip.new
+        result (words_text (reply_words (Gave count to.now))) }
+    ensures later { K.faults out.old ≤ K.faults out.new }
+    ensures cause { OnErr result (Rose (K.faults out.old) (K.faults out.new)) }
+{
+    put_given(out, strip, count)?;
+    put_words(out, strip, &[Destinations(to.as_slice())])
 }
 
 /// Writes the answer.
@@ -457,14 +575,7 @@ fn put_reply<K: Sink>(out: &mut K, strip: &mut Strip, reply: &Reply) -> Result<(
         Reply::Refused { fault } => put_opening(out, strip, fault),
         Reply::Offered { short, lone, to } => put_offered(out, strip, *short, *lone, to),
         Reply::Shared { given, full, gone } => put_shared(out, strip, *given, *full, *gone),
-        Reply::Gave { count, to } => {
-            let (count, to) = (short(*count), Destinations(to.as_slice()));
-            put_words(
-                out,
-                strip,
-                &[Word(b"="), Word(b"gave"), count, Word(b"to"), to],
-            )
-        }
+        Reply::Gave { count, to } => put_gave(out, strip, *count, to),
         Reply::Took { items, to } => {
             let (items, to) = (Taken(items.as_slice()), Destinations(to.as_slice()));
             put_words(
@@ -534,14 +645,30 @@ fn put_entry_line<K: Sink>(
     put_byte(out, strip, b'\n')
 }
 
+/// Writes the line of an entry under its number, by way of a strip that is empty again then.
+#[tactic(auto, using(crate::proofs::Strips::strips))]
+pub(crate) fn put_whole_line<K: Sink>(
+    out: &mut K,
+    strip: &mut Strip,
+    number: u32,
+    entry: &Entry,
+) -> Result<(), Failed>
+    requires { strip.old ≡ [] }
+    ensures writes { Writes (K.holds out.old) (K.holds out.new) result (entry_line number entry.now) }
+    ensures later { K.faults out.old ≤ K.faults out.new }
+    ensures cause { OnErr result (Rose (K.faults out.old) (K.faults out.new)) }
+    ensures emptied { OnOk result (strip.new ≡ []) }
+{
+    put_entry_line(out, strip, number, entry)?;
+    put_strip(out, strip)
+}
+
 impl Text for EntryLine<'_> {
     ghost text = { λ line. entry_line line.number line.entry.now };
 
-    #[tactic(auto, using(crate::proofs::Strips::strips))]
     fn write<K: Sink>(&self, out: &mut K) -> Result<(), Failed> {
         let mut strip = Strip::new();
-        put_entry_line(out, &mut strip, self.number, self.entry)?;
-        put_strip(out, &mut strip)
+        put_whole_line(out, &mut strip, self.number, self.entry)
     }
 }
 

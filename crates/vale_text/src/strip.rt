@@ -1,17 +1,16 @@
 //! Bytes gathered on a strip of a fixed size, on their way to a sink.
-ghost use Rattle.std.specs.Prelude.{◌≡◌, ◌≤◌, ◌<◌, ◌*◌, ◌+◌, ◌++◌, ◌∷◌, [], ℕ, List, length, take, decimal, OnOk, OnErr};
+ghost use Rattle.std.specs.Prelude.{◌≡◌, ◌≤◌, ◌<◌, ◌*◌, ◌+◌, ◌++◌, ◌∷◌, [], if◌then◌else◌, ℕ, List, length, take, decimal, OnOk, OnErr};
 ghost use Rattle.std.specs.List.{flat_map};
 ghost use Rattle.nm_io.specs.Counts.{Rose};
 ghost use Rattle.nm_io.specs.Gathered.{Gathers};
 ghost use Rattle.nm_io.specs.Held.{Writes};
-ghost use Rattle.vale_entry.specs.Transcript.{hex_byte, hex_text};
-ghost use Rattle.vale_text.specs.Placed.{Placed};
+ghost use Rattle.vale_entry.specs.Transcript.{frame_text, hex_byte, hex_text};
+ghost use Rattle.vale_text.specs.Pieces.{behind};
 
 use crate::hex::place_digits;
-use itoa::write_digits;
+use crate::numerals::{DIGITS, place_number, place_numbers};
 use nm_io::{Failed, Sink, put_all};
 use std::marker::Model;
-use std::simd::prelude::*;
 
 /// How many bytes a strip has room for.
 pub(crate) const ROOM: usize = 1536;
@@ -19,21 +18,8 @@ pub(crate) const ROOM: usize = 1536;
 /// How many bytes are spelled at once.
 const PART: usize = 256;
 
-/// How many digits a number has at most.
-const DIGITS: usize = 20;
-
-/// Writes a number in decimal digits, and returns where they end. The bytes behind them may change.
-#[inline(always)]
-fn place_number(buf: &mut [u8], at: usize, number: u64) -> usize
-    requires { at + 20 ≤ length buf.old }
-    ensures { Placed buf.old buf.new at (decimal number) result }
-{
-    let mut digits = [0; 2 * DIGITS];
-    let start = write_digits(number, &mut digits, DIGITS);
-    u8x16::from_slice(&digits[start..]).copy_to_slice(&mut buf[at..]);
-    u8x4::from_slice(&digits[start + 16..]).copy_to_slice(&mut buf[at + 16..]);
-    at + (DIGITS - start)
-}
+/// How many numbers are written at once.
+const NUMBERS: usize = 64;
 
 /// Bytes on their way to a sink.
 #[derive(Drop)]
@@ -98,12 +84,33 @@ impl Strip {
         self.len = end;
     }
 
+    /// Adds a label, and a number behind it.
+    #[inline(always)]
+    pub(crate) fn labelled(&mut self, label: &[u8], number: u32)
+        requires { length self.old + length label.now + 20 ≤ ROOM }
+        ensures value { self.new ≡ self.old ++ (label.now ++ decimal number) }
+        ensures within { length self.new ≤ length self.old + length label.now + 20 }
+    {
+        self.add(label);
+        self.number(number as u64);
+    }
+
     #[inline(always)]
     pub(crate) fn number(&mut self, number: u64)
         requires { length self.old + 20 ≤ ROOM }
-        ensures { self.new ≡ self.old ++ decimal number }
+        ensures value { self.new ≡ self.old ++ decimal number }
+        ensures within { length self.new ≤ length self.old + 20 }
     {
         self.len = place_number(&mut self.room, self.len, number);
+    }
+
+    /// Adds numbers, each behind a comma.
+    #[inline(always)]
+    fn numbers(&mut self, numbers: &[u32])
+        requires { length self.old + 21 * length numbers.now ≤ ROOM }
+        ensures { self.new ≡ self.old ++ flat_map (behind 44 decimal) numbers.now }
+    {
+        self.len = place_numbers(&mut self.room, self.len, numbers);
     }
 
     #[inline(always)]
@@ -112,6 +119,39 @@ impl Strip {
         ensures { self.new ≡ self.old ++ flat_map hex_byte bytes.now }
     {
         self.len = place_digits(&mut self.room, self.len, bytes);
+    }
+
+    /// Adds bytes as digits, or a dot if there are none.
+    fn hex(&mut self, bytes: &[u8])
+        requires { length self.old + 2 * length bytes.now < ROOM }
+        ensures { self.new ≡ self.old ++ hex_text bytes.now }
+    {
+        if bytes.is_empty() {
+            self.push(b'.');
+        } else {
+            self.digits(bytes);
+        }
+    }
+
+    /// Adds the mark of a frame that teaches nothing.
+    fn mark(&mut self, no_learn: bool)
+        requires { length self.old < ROOM }
+        ensures { self.new ≡ self.old ++ (if no_learn then 126 ∷ [] else []) }
+    {
+        if no_learn {
+            self.push(b'~');
+        }
+    }
+
+    /// Adds a frame behind a comma.
+    fn next_frame(&mut self, bytes: &[u8], no_learn: bool)
+        requires { length self.old + 2 * length bytes.now + 2 < ROOM }
+        ensures { self.new
+            ≡ self.old ++ behind 44 frame_text (record { bytes = bytes.now; no_learn = no_learn }) }
+    {
+        self.push(b',');
+        self.mark(no_learn);
+        self.hex(bytes);
     }
 }
 
@@ -130,7 +170,7 @@ pub(crate) fn put_strip<K: Sink>(out: &mut K, strip: &mut Strip) -> Result<(), F
 /// Writes what a strip holds, if it has no room for so many bytes more.
 #[tactic(auto, using(crate::proofs::Strips::strips))]
 #[inline(always)]
-fn make_room<K: Sink>(out: &mut K, strip: &mut Strip, count: usize) -> Result<(), Failed>
+pub(crate) fn make_room<K: Sink>(out: &mut K, strip: &mut Strip, count: usize) -> Result<(), Failed>
     requires { count ≤ ROOM }
     ensures gathers { Gathers (K.holds out.old) (K.holds out.new) strip.old strip.new
         result ([]) }
@@ -186,6 +226,29 @@ pub(crate) fn put_text<K: Sink>(out: &mut K, strip: &mut Strip, text: &[u8]) -> 
     Ok(())
 }
 
+/// Writes a mark, and a text as it is behind it.
+#[tactic(auto, using(crate::proofs::Strips::strips))]
+pub(crate) fn put_text_after<K: Sink>(
+    out: &mut K,
+    strip: &mut Strip,
+    mark: u8,
+    text: &[u8],
+) -> Result<(), Failed>
+    ensures gathers { Gathers (K.holds out.old) (K.holds out.new) strip.old strip.new
+        result (mark ∷ text.now) }
+    ensures later { K.faults out.old ≤ K.faults out.new }
+    ensures cause { OnErr result (Rose (K.faults out.old) (K.faults out.new)) }
+{
+    if text.len() >= ROOM {
+        put_byte(out, strip, mark)?;
+        return put_long(out, strip, text);
+    }
+    make_room(out, strip, text.len() + 1)?;
+    strip.push(mark);
+    strip.add(text);
+    Ok(())
+}
+
 /// Writes a number in decimal digits.
 #[tactic(auto, using(crate::proofs::Strips::strips))]
 pub(crate) fn put_number<K: Sink>(out: &mut K, strip: &mut Strip, number: u64) -> Result<(), Failed>
@@ -196,6 +259,61 @@ pub(crate) fn put_number<K: Sink>(out: &mut K, strip: &mut Strip, number: u64) -
 {
     make_room(out, strip, DIGITS)?;
     strip.number(number);
+    Ok(())
+}
+
+/// Writes a mark, and a number in decimal digits behind it.
+#[tactic(auto, using(crate::proofs::Strips::strips))]
+pub(crate) fn put_number_after<K: Sink>(
+    out: &mut K,
+    strip: &mut Strip,
+    mark: u8,
+    number: u64,
+) -> Result<(), Failed>
+    ensures gathers { Gathers (K.holds out.old) (K.holds out.new) strip.old strip.new
+        result (mark ∷ decimal number) }
+    ensures later { K.faults out.old ≤ K.faults out.new }
+    ensures cause { OnErr result (Rose (K.faults out.old) (K.faults out.new)) }
+{
+    make_room(out, strip, DIGITS + 1)?;
+    strip.push(mark);
+    strip.number(number);
+    Ok(())
+}
+
+/// Writes numbers that a strip has room for, each behind a comma.
+#[tactic(auto, using(crate::proofs::Strips::strips))]
+#[inline(always)]
+fn put_some_numbers<K: Sink>(out: &mut K, strip: &mut Strip, numbers: &[u32]) -> Result<(), Failed>
+    requires { 21 * length numbers.now ≤ ROOM }
+    ensures gathers { Gathers (K.holds out.old) (K.holds out.new) strip.old strip.new
+        result (flat_map (behind 44 decimal) numbers.now) }
+    ensures later { K.faults out.old ≤ K.faults out.new }
+    ensures cause { OnErr result (Rose (K.faults out.old) (K.faults out.new)) }
+{
+    make_room(out, strip, 21 * numbers.len())?;
+    strip.numbers(numbers);
+    Ok(())
+}
+
+/// Writes numbers, each behind a comma.
+#[tactic(auto, using(crate::proofs::Strips::parts))]
+pub(crate) fn put_more_numbers<K: Sink>(
+    out: &mut K,
+    strip: &mut Strip,
+    numbers: &[u32],
+) -> Result<(), Failed>
+    ensures gathers { Gathers (K.holds out.old) (K.holds out.new) strip.old strip.new
+        result (flat_map (behind 44 decimal) numbers.now) }
+    ensures later { K.faults out.old ≤ K.faults out.new }
+    ensures cause { OnErr result (Rose (K.faults out.old) (K.faults out.new)) }
+{
+    let mut done = 0;
+    while done < numbers.len() {
+        let end = numbers.len().min(done + NUMBERS);
+        put_some_numbers(out, strip, &numbers[done..end])?;
+        done = end;
+    }
     Ok(())
 }
 
@@ -242,4 +360,26 @@ pub(crate) fn put_hex<K: Sink>(out: &mut K, strip: &mut Strip, bytes: &[u8]) -> 
     } else {
         put_digits(out, strip, bytes)
     }
+}
+
+/// How many bytes a short frame has at most.
+pub(crate) const SHORT_FRAME: usize = PART;
+
+/// Writes a short frame behind a comma.
+#[tactic(auto, using(crate::proofs::Strips::strips))]
+pub(crate) fn put_short_frame<K: Sink>(
+    out: &mut K,
+    strip: &mut Strip,
+    bytes: &[u8],
+    no_learn: bool,
+) -> Result<(), Failed>
+    requires { length bytes.now ≤ SHORT_FRAME }
+    ensures gathers { Gathers (K.holds out.old) (K.holds out.new) strip.old strip.new
+        result (behind 44 frame_text (record { bytes = bytes.now; no_learn = no_learn })) }
+    ensures later { K.faults out.old ≤ K.faults out.new }
+    ensures cause { OnErr result (Rose (K.faults out.old) (K.faults out.new)) }
+{
+    make_room(out, strip, 2 * bytes.len() + 3)?;
+    strip.next_frame(bytes, no_learn);
+    Ok(())
 }

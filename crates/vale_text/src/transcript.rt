@@ -3,11 +3,12 @@ ghost use Rattle.std.specs.Prelude.{◌≡◌, ◌≤◌, ◌<◌, ◌-◌, ◌+
 ghost use Rattle.nm_io.specs.Counts.{Rose};
 ghost use Rattle.nm_io.specs.Gathered.{Gathers};
 ghost use Rattle.nm_io.specs.Held.{grown, Writes};
-ghost use Rattle.vale_entry.specs.Transcript.{start_line, entry_lines, end_line};
+ghost use Rattle.vale_entry.specs.Transcript.{start_line, entry_line, entry_lines, end_line};
 ghost use Rattle.vale_text.specs.declared.transcript.PutError.TheVariants.{Failed as PutFailed, NoMemory as OutOfMemory};
 ghost use Rattle.vale_text.specs.Written.{LineBytes, text_of, BlamesSink};
 
-use crate::rows::{EndLine, EntryLine, StartLine};
+use crate::rows::{EndLine, StartLine, put_whole_line};
+use crate::strip::Strip;
 use nm_io::{Failed, Sink, Text, put_all};
 use nm_types::NoMemory;
 use std::alloc::Global;
@@ -131,6 +132,46 @@ fn put_line<K: Sink, T: Text>(out: &mut K, lines: &mut Lines, line: &T) -> Resul
     Ok(())
 }
 
+/// Writes the line of an entry in memory, or says that there is none left.
+fn gather_entry(
+    lines: &mut Lines,
+    strip: &mut Strip,
+    number: u32,
+    entry: &Entry,
+) -> Result<(), NoMemory>
+    requires { strip.old ≡ [] }
+    ensures ok { OnOk result (lines.new.bytes ≡ lines.old.bytes ++ entry_line number entry.now) }
+    ensures emptied { OnOk result (strip.new ≡ []) }
+{
+    match put_whole_line(lines, strip, number, entry) {
+        Ok(()) => Ok(()),
+        Err(Failed) => Err(NoMemory),
+    }
+}
+
+/// Writes the line of an entry by way of those gathered, which go out if they are many.
+#[tactic(auto, using(crate::proofs::Entries::gathering_lines))]
+fn put_entry<K: Sink>(
+    out: &mut K,
+    lines: &mut Lines,
+    strip: &mut Strip,
+    number: u32,
+    entry: &Entry,
+) -> Result<(), PutError>
+    requires { strip.old ≡ [] }
+    ensures gathers { Gathers (K.holds out.old) (K.holds out.new) lines.old.bytes lines.new.bytes
+        result (entry_line number entry.now) }
+    ensures later { K.faults out.old ≤ K.faults out.new }
+    ensures cause { IfErr result (BlamesSink (K.faults out.old) (K.faults out.new)) }
+    ensures emptied { OnOk result (strip.new ≡ []) }
+{
+    gather_entry(lines, strip, number, entry)?;
+    if lines.bytes().len() >= PAGE_BYTES {
+        put_gathered(out, lines)?;
+    }
+    Ok(())
+}
+
 /// Writes the lines of the entries, the first of which has the number 1.
 fn put_entries<K: Sink>(out: &mut K, lines: &mut Lines, entries: &[Entry]) -> Result<(), PutError>
     requires { length entries.now < 2 ^ 32 - 1 }
@@ -139,12 +180,9 @@ fn put_entries<K: Sink>(out: &mut K, lines: &mut Lines, entries: &[Entry]) -> Re
     ensures later { K.faults out.old ≤ K.faults out.new }
     ensures cause { IfErr result (BlamesSink (K.faults out.old) (K.faults out.new)) }
 {
+    let mut strip = Strip::new();
     for (i, entry) in entries.iter().enumerate() {
-        let line = EntryLine {
-            number: i as u32 + 1,
-            entry,
-        };
-        put_line(out, lines, &line)?;
+        put_entry(out, lines, &mut strip, i as u32 + 1, entry)?;
     }
     Ok(())
 }

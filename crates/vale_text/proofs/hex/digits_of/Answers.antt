@@ -1,5 +1,8 @@
-use Rattle.vale_text.proofs.Blocks.{digits-are}
+use Rattle.vale_text.proofs.Blocks.{positions-fit, digits-are}
 use Rattle.vale_text.proofs.hex.digits_of.Goals as goal
 
+pub swizzle : goal.swizzle
+swizzle c = positions-fit c.args.numbers c.requires.long c.requires.low
+
 pub returns : goal.returns
-returns c = rw (c.requires.long) at (digits-are c.args.numbers c.requires.low)
+returns c = digits-are c.args.numbers c.requires.long c.requires.low

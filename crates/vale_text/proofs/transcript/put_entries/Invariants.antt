@@ -1,4 +1,4 @@
-use Rattle.std.proofs.Common.{◌≤◌, take}
+use Rattle.std.proofs.Common.{◌≡◌, ◌≤◌, [], take}
 use Rattle.nm_io.specs.Gathered.{Gathered}
 use Rattle.vale_entry.specs.Transcript.{entry_lines}
 use Rattle.vale_text.proofs.transcript.put_entries.Given as goal
@@ -7,4 +7,5 @@ abbrev pub invariant-loop-i : goal.invariant-loop-i
 invariant-loop-i g l = let sink = g.K.Sink in record {
   gathered : Gathered (sink.holds l.fn.out) (sink.holds l.out) l.fn.lines.bytes l.lines.bytes (entry_lines 1 (take l.i l.entries));
   later : sink.faults l.fn.out ≤ sink.faults l.out;
+  empty : l.strip ≡ [];
 }

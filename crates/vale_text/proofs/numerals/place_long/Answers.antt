@@ -1,13 +1,13 @@
 use Rattle.std.proofs.Common.{◌≡◌, ◌+◌, length, decimal, drop, replicate, rules}
 use Rattle.std.proofs.lemmas.Fmt.{length-decimal-le}
 use Rattle.vale_text.proofs.Places.{placed-number}
-use Rattle.vale_text.proofs.strip.place_number.Goals as goal
+use Rattle.vale_text.proofs.numerals.place_long.Goals as goal
 
 pub write_digits-start-requires : goal.write_digits-start-requires
 write_digits-start-requires c = search (rules, length-decimal-le 20)
 
-pub returns : goal.returns
-returns c =
+pub returns-clause-placed : goal.returns-clause-placed
+returns-clause-placed c =
     let n = c.args.number in
     let start = c.write_digits-start.result in
     let ys = c.write_digits-start.new.buf in

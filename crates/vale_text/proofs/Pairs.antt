@@ -1,0 +1,74 @@
+-- Numbers spelled two digits at a time.
+use Rattle.std.proofs.Common.{◌≡◌, ℕ, zero, suc, ◌+◌, ◌-◌, ◌*◌, ◌/◌, ◌%◌, ◌^◌, ◌<◌, ◌≤◌, Bool, true, ◌&&◌, T, eqb, List, [], ◌∷◌, ◌++◌, length, take, set, get_or, decimal, refl, ap, sym, subst, ◌∙◌, inl, inr, arith, eq-zero-or-pos, eqb→eq, append_assoc, length-set}
+use Rattle.std.specs.List.{flat_map}
+use lib.Ieee.Fits.{and_l, and_r}
+use Rattle.std.proofs.lemmas.Grind.{take-set_at}
+use Rattle.std.proofs.lemmas.Fmt.{decimal_digit, decimal_step}
+use Rattle.vale_text.specs.Placed.{Placed}
+use Rattle.vale_text.proofs.Places.{placed-then}
+use Rattle.vale_text.proofs.Strips.{flat_map-more}
+use Rattle.vale_text.specs.declared.numerals.TheConstants.{PAIRS}
+
+abbrev pub two_digits : ℕ → List ℕ
+two_digits n = (48 + n / 10) ∷ (48 + n % 10) ∷ []
+
+abbrev are_pairs : ℕ → Bool
+are_pairs zero = true
+are_pairs (suc p) = (eqb (get_or PAIRS (p * 2) 0) (48 + p / 10) && eqb (get_or PAIRS (p * 2 + 1) 0) (48 + p % 10)) && are_pairs p
+
+below : (n p : ℕ) → T (are_pairs n) → p < n → (get_or PAIRS (p * 2) 0 ≡ 48 + p / 10) × (get_or PAIRS (p * 2 + 1) 0 ≡ 48 + p % 10)
+below zero p t h = absurd (omega arith)
+below (suc n) p t h =
+    elim (eq-zero-or-pos (n - p)) [
+      | inl z ↦ let e : p ≡ n = omega arith in let a = and_l _ (are_pairs n) t in rw e (eqb→eq _ _ (and_l _ _ a), eqb→eq _ _ (and_r _ _ a))
+      | inr g ↦ below n p (and_r _ (are_pairs n) t) (omega arith)
+    ]
+
+-- the two digits of the table
+pub pairs_at : (p : ℕ) → p < 100 → (get_or PAIRS (p * 2) 0 ≡ 48 + p / 10) × (get_or PAIRS (p * 2 + 1) 0 ≡ 48 + p % 10)
+pairs_at p h = below 100 p tt h
+
+pub decimal_two : (n : ℕ) → 10 ≤ n → n < 100 → decimal n ≡ two_digits n
+decimal_two n lo hi = rw (decimal_step n lo (omega arith), decimal_digit (n / 10) (omega arith))
+
+pub decimal_pair : (n : ℕ) → 100 ≤ n → n < 2 ^ 64 → decimal n ≡ decimal (n / 100) ++ two_digits (n % 100)
+decimal_pair n lo hi =
+    let a : n / 10 / 10 ≡ n / 100 = omega arith in
+    let b : n / 10 % 10 ≡ n % 100 / 10 = omega arith in
+    let c : n % 10 ≡ n % 100 % 10 = omega arith in
+    rw (decimal_step n (omega arith) hi, decimal_step (n / 10) (omega arith) (omega arith), append_assoc, a, b, ← c)
+
+-- two digits, one behind the other
+pub placed-two : (buf : List ℕ) (at x y : ℕ) → at + 2 ≤ length buf → Placed buf (set (set buf at x) (at + 1) y) at (x ∷ y ∷ []) (at + 2)
+placed-two buf at x y h = record {
+  bytes = take-set_at (set buf at x) (at + 1) (at + 2) y (omega arith) (omega (arith, length-set buf at x))
+      ∙ ap (λ t. t ++ y ∷ []) (take-set_at buf at (at + 1) x refl (omega arith)) ∙ append_assoc (take at buf) (x ∷ []) (y ∷ []);
+  moved = omega arith;
+  len = length-set (set buf at x) (at + 1) y ∙ length-set buf at x;
+}
+
+-- one digit
+pub placed-one : (buf : List ℕ) (at x : ℕ) → at < length buf → Placed buf (set buf at x) at (x ∷ []) (at + 1)
+placed-one buf at x h = record {
+  bytes = take-set_at buf at (at + 1) x refl h;
+  moved = omega arith;
+  len = length-set buf at x;
+}
+
+-- the last two digits behind those before
+pub placed-pair : {a b c : List ℕ} {at end : ℕ} (n : ℕ) → 100 ≤ n → n < 10000 → Placed a b at (decimal (n / 100)) end → Placed b c end (two_digits (n % 100)) (end + 2) → Placed a c at (decimal n) (end + 2)
+placed-pair {a} {b} {c} {at} {end} n lo hi p q =
+    subst (λ (t : List ℕ). Placed a c at t (end + 2)) (sym (decimal_pair n lo (omega arith))) (placed-then p q)
+
+pub placed-first-one : (buf : List ℕ) (at n : ℕ) → n < 10 → at < length buf → Placed buf (set buf at (48 + n)) at (decimal n) (at + 1)
+placed-first-one buf at n small room = rw (decimal_digit n small) (placed-one buf at (48 + n) room)
+
+pub placed-first-two : {a b : List ℕ} {at : ℕ} (n : ℕ) → 10 ≤ n → n < 100 → Placed a b at (two_digits n) (at + 2) → Placed a b at (decimal n) (at + 2)
+placed-first-two n lo hi p = rw (decimal_two n lo hi) p
+
+-- the next number, behind a comma
+pub placed-next : {a b c : List ℕ} {at here end : ℕ} (f : ℕ → List ℕ) (xs : List ℕ) (i x : ℕ) → i < length xs → x ≡ get_or xs i x
+    → Placed a b at (flat_map f (take i xs)) here → Placed b c here (f x) end → Placed a c at (flat_map f (take (i + 1) xs)) end
+placed-next {a} {b} {c} {at} {here} {end} f xs i x h same p q =
+    let next : flat_map f (take (i + 1) xs) ≡ flat_map f (take i xs) ++ f x = flat_map-more f xs i x h ∙ ap (λ z. flat_map f (take i xs) ++ f z) (sym same) in
+    subst (λ (t : List ℕ). Placed a c at t end) (sym next) (placed-then p q)

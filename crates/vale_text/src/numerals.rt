@@ -1,0 +1,110 @@
+//! Numbers in decimal digits. Most numbers of a transcript are below 10,000.
+ghost use Rattle.std.specs.Prelude.{◌≡◌, ◌≤◌, ◌<◌, ◌*◌, ◌/◌, ◌%◌, ◌+◌, ◌∷◌, [], length, decimal};
+ghost use Rattle.std.specs.List.{flat_map};
+ghost use Rattle.vale_text.specs.Pieces.{behind};
+ghost use Rattle.vale_text.specs.Placed.{Placed};
+
+use itoa::write_digits;
+use std::simd::prelude::*;
+
+/// How many digits a number has at most.
+pub(crate) const DIGITS: usize = 20;
+
+/// The numbers below 100, two digits each.
+static PAIRS: [u8; 200] =
+    *b"00010203040506070809101112131415161718192021222324252627282930313233343536373839404142434445464748495051525354555657585960616263646566676869707172737475767778798081828384858687888990919293949596979899";
+
+/// Writes a number below 100 in two digits.
+#[inline(always)]
+fn place_pair(buf: &mut [u8], at: usize, number: u64)
+    requires { (number < 100) × (at + 2 ≤ length buf.old) }
+    ensures { Placed buf.old buf.new at ((48 + number / 10) ∷ (48 + number % 10) ∷ []) (at + 2) }
+{
+    let from = number as usize * 2;
+    let (tens, ones) = (PAIRS[from], PAIRS[from + 1]);
+    buf[at] = tens;
+    buf[at + 1] = ones;
+}
+
+/// Writes a number below 100, and returns where its digits end.
+#[inline(always)]
+fn place_first(buf: &mut [u8], at: usize, number: u64) -> usize
+    requires { (number < 100) × (at + 2 ≤ length buf.old) }
+    ensures placed { Placed buf.old buf.new at (decimal number) result }
+    ensures within { result ≤ at + 2 }
+{
+    if number < 10 {
+        buf[at] = b'0' + number as u8;
+        return at + 1;
+    }
+    place_pair(buf, at, number);
+    at + 2
+}
+
+/// Writes a number below 10,000, and returns where its digits end.
+#[inline(always)]
+fn place_short(buf: &mut [u8], at: usize, number: u64) -> usize
+    requires { (number < 10000) × (at + 4 ≤ length buf.old) }
+    ensures placed { Placed buf.old buf.new at (decimal number) result }
+    ensures within { result ≤ at + 4 }
+{
+    if number < 100 {
+        return place_first(buf, at, number);
+    }
+    let end = place_first(buf, at, number / 100);
+    place_pair(buf, end, number % 100);
+    end + 2
+}
+
+/// Writes any number, and returns where its digits end. The bytes behind them may change.
+fn place_long(buf: &mut [u8], at: usize, number: u64) -> usize
+    requires { at + 20 ≤ length buf.old }
+    ensures placed { Placed buf.old buf.new at (decimal number) result }
+    ensures within { result ≤ at + 20 }
+{
+    let mut digits = [0; 2 * DIGITS];
+    let start = write_digits(number, &mut digits, DIGITS);
+    u8x16::from_slice(&digits[start..]).copy_to_slice(&mut buf[at..]);
+    u8x4::from_slice(&digits[start + 16..]).copy_to_slice(&mut buf[at + 16..]);
+    at + (DIGITS - start)
+}
+
+/// Writes a number, and returns where its digits end. The bytes behind them may change.
+#[inline(always)]
+pub(crate) fn place_number(buf: &mut [u8], at: usize, number: u64) -> usize
+    requires { at + 20 ≤ length buf.old }
+    ensures placed { Placed buf.old buf.new at (decimal number) result }
+    ensures within { result ≤ at + 20 }
+{
+    if number < 10_000 {
+        return place_short(buf, at, number);
+    }
+    place_long(buf, at, number)
+}
+
+/// Writes a number behind a comma, and returns where its digits end.
+#[inline(always)]
+fn place_next(buf: &mut [u8], at: usize, number: u32) -> usize
+    requires { at + 21 ≤ length buf.old }
+    ensures placed { Placed buf.old buf.new at (behind 44 decimal number) result }
+    ensures within { result ≤ at + 21 }
+{
+    buf[at] = b',';
+    let (from, number) = (at + 1, number as u64);
+    if number < 10_000 {
+        return place_short(buf, from, number);
+    }
+    place_long(buf, from, number)
+}
+
+/// Writes numbers, each behind a comma, and returns where they end.
+pub(crate) fn place_numbers(buf: &mut [u8], at: usize, numbers: &[u32]) -> usize
+    requires { at + 21 * length numbers.now ≤ length buf.old }
+    ensures { Placed buf.old buf.new at (flat_map (behind 44 decimal) numbers.now) result }
+{
+    let mut end = at;
+    for number in numbers {
+        end = place_next(buf, end, *number);
+    }
+    end
+}
