@@ -1,4 +1,5 @@
 pub mod Rooms
+pub mod LegalRecords
 pub mod Moves
 pub mod FreshBooks
 pub mod Comings

@@ -1,6 +1,7 @@
 pub use Rattle.vale_steps.specs.Granting
 pub use Rattle.vale_steps.specs.Offering
 pub mod Recorded
+pub mod LegalRecords
 pub mod BookView
 pub mod OpenAnswers
 pub mod Monitored

@@ -5,3 +5,4 @@ pub mod Rising
 pub mod NextOffers
 pub mod NextLeases
 pub mod NextPorts
+pub mod Served

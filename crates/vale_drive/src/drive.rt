@@ -4,6 +4,8 @@ ghost use Rattle.vale_entry.specs.Legal.{IsLegal, world_of};
 ghost use Rattle.vale_entry.specs.World.{free_count};
 ghost use Rattle.vale_entry.specs.Room.{promised_of};
 ghost use Rattle.vale_book.specs.Recorded.{standing, HadRoom};
+ghost use Rattle.vale_book.specs.LegalRecords.{IsLegalRecord};
+ghost use Rattle.vale_serve.specs.Joined.{AreUsersOf};
 ghost use Rattle.vale_drive.specs.Running.{after_asks, IsStopped};
 ghost use Rattle.vale_serve.specs.Serving.{IsServed};
 ghost use Rattle.vale_drive.specs.Winding.{IsEnded};
@@ -36,6 +38,26 @@ impl Model for Drive {
     ghost view = { λ d. d.book };
 
     ghost invariant = { IsDrive };
+}
+
+/// Makes asks one after another, and stops at one that is refused.
+fn run_each(
+    alloc: Global,
+    book: &mut Book,
+    users: &mut Vec<User>,
+    asks: &[Ask],
+) -> Result<(), StepFault>
+    requires users { AreUsersOf book.old users.old.items }
+    requires legal { IsLegalRecord book.old }
+    ensures made { OnOk result (book.new ≡ after_asks book.old asks.now) }
+    ensures stopped { IfErr result (IsStopped book.old book.new asks.now) }
+    ensures users { AreUsersOf book.new users.new.items }
+    ensures legal { IsLegalRecord book.new }
+{
+    for ask in asks {
+        serve(alloc, book, users, ask)?;
+    }
+    Ok(())
 }
 
 impl Drive {
@@ -76,16 +98,6 @@ impl Drive {
         serve(self.alloc, &mut self.book, &mut self.users, ask)
     }
 
-    fn run_each(&mut self, asks: &[Ask]) -> Result<(), StepFault>
-        ensures made { OnOk result (self.new ≡ after_asks self.old asks.now) }
-        ensures stopped { IfErr result (IsStopped self.old self.new asks.now) }
-    {
-        for ask in asks {
-            self.apply(ask)?;
-        }
-        Ok(())
-    }
-
     /// Makes asks one after another, passing over those that are not enabled. Where the record is
     /// full or memory is wanting it stops, and those before are made.
     pub fn run(&mut self, asks: &[Ask]) -> Result<(), StepFault>
@@ -94,10 +106,7 @@ impl Drive {
         ensures legal { IsLegal self.new.pool self.new.entries }
         ensures roomy { HadRoom self.new }
     {
-        let made = self.run_each(asks);
-        // Its entries are a legal history, made or refused.
-        self.book.history();
-        made
+        run_each(self.alloc, &mut self.book, &mut self.users, asks)
     }
 
     /// Ends the drive, and frees its region: its record is left. First it makes what was promised

@@ -33,7 +33,6 @@ use Rattle.vale_book.specs.Recorded.{Recorded, standing}
 use Rattle.vale_book.specs.Sending.{IsSent}
 use Rattle.vale_fabric.specs.declared.fabric.Fabric.{Fabric}
 use Rattle.vale_fabric.specs.declared.kept.Fixed.{Fixed}
-use Rattle.vale_fabric.specs.declared.kept.Shared.{Shared}
 use Rattle.vale_fabric.specs.Alone.{IsAlone, IsKept, AreKept, book_of}
 use Rattle.vale_fabric.specs.Fabrics.{Knowing, IsPassIn, MayIn, Makes, before_in, entry_by, fixed_in, knowing, record_in, seen_by, MakesNone, MayAsk}
 use Rattle.vale_fabric.specs.Leases.{IsFilledBy, MayFill, StandOf, is_grant_to, is_held_as}
@@ -59,10 +58,10 @@ over-64 : (fabric : Fabric) (h : List Entry) → (fixed_in fabric).pool ≡ 64 �
 over-64 fabric h pool =
     ap (λ (p : ℕ). let b : Recorded = record { pool = p; region = (fixed_in fabric).region; limits = (fixed_in fabric).limits; entries = h } in b) pool
 
-pub as-alone : {fabric : Fabric} {pass : Pass Shared Entry Fixed} {h : List Entry} → IsAlone fabric pass h → seen_by fabric pass ≡ book_of fabric h
+pub as-alone : {fabric : Fabric} {pass : Pass Recorded Entry Fixed} {h : List Entry} → IsAlone fabric pass h → seen_by fabric pass ≡ book_of fabric h
 as-alone {fabric} {pass} {h} a = ap (record_in (fixed_in fabric)) a.seen ∙ over-64 fabric h a.pool
 
-pub alone-first : {fabric : Fabric} {pass : Pass Shared Entry Fixed} → IsPassIn fabric pass → (fixed_in fabric).pool ≡ 64 → knowing pass ≡ first_view (fixed_in fabric) → IsAlone fabric pass []
+pub alone-first : {fabric : Fabric} {pass : Pass Recorded Entry Fixed} → IsPassIn fabric pass → (fixed_in fabric).pool ≡ 64 → knowing pass ≡ first_view (fixed_in fabric) → IsAlone fabric pass []
 alone-first {fabric} {pass} is pool first = record {
   is_of = is;
   pool = pool;
@@ -72,7 +71,7 @@ alone-first {fabric} {pass} is pool first = record {
 }
 
 -- one entry more
-pub alone-next : {fabric : Fabric} {old : Pass Shared Entry Fixed} {ask : Ask} {h : List Entry} (new : Pass Shared Entry Fixed) (k : List Entry) (session : ℕ) (reply : Reply) → IsAlone fabric old h → IsPassIn fabric new
+pub alone-next : {fabric : Fabric} {old : Pass Recorded Entry Fixed} {ask : Ask} {h : List Entry} (new : Pass Recorded Entry Fixed) (k : List Entry) (session : ℕ) (reply : Reply) → IsAlone fabric old h → IsPassIn fabric new
     → Makes (fixed_in fabric) (knowing old) (knowing new) ask → option_map session_and_reply (step (standing_of 64 h) ask) ≡ Some (session, reply)
     → h ++ entry_by session ask reply ∷ [] ≡ k → IsAlone fabric new k
 alone-next {fabric} {old} {ask} {h} new k session reply a pass m is more =
@@ -97,11 +96,11 @@ alone-next {fabric} {old} {ask} {h} new k session reply a pass m is more =
     }
 
 -- and before it
-pub before-alone : {fabric : Fabric} {new : Pass Shared Entry Fixed} {k : List Entry} (h : List Entry) (e : Entry) → IsAlone fabric new k → k ≡ h ++ e ∷ [] → before_in (fixed_in fabric) (knowing new) ≡ book_of fabric h
+pub before-alone : {fabric : Fabric} {new : Pass Recorded Entry Fixed} {k : List Entry} (h : List Entry) (e : Entry) → IsAlone fabric new k → k ≡ h ++ e ∷ [] → before_in (fixed_in fabric) (knowing new) ≡ book_of fabric h
 before-alone {fabric} {new} {k} h e a more = ap (record_in (fixed_in fabric)) (earlier-is h (knowing new).seen e (a.seen ∙ more)) ∙ over-64 fabric h a.pool
 
 -- or none
-pub alone-still : {fabric : Fabric} {old : Pass Shared Entry Fixed} {h : List Entry} (new : Pass Shared Entry Fixed) → IsAlone fabric old h → IsPassIn fabric new → MakesNone (fixed_in fabric) (knowing old) (knowing new) → IsAlone fabric new h
+pub alone-still : {fabric : Fabric} {old : Pass Recorded Entry Fixed} {h : List Entry} (new : Pass Recorded Entry Fixed) → IsAlone fabric old h → IsPassIn fabric new → MakesNone (fixed_in fabric) (knowing old) (knowing new) → IsAlone fabric new h
 alone-still {fabric} {old} {h} new a pass none =
     let mine : (knowing new).mine ≡ numbered 1 h = none.told.mine ∙ (append-nil (knowing old).mine ∙ a.mine) in
     record {
@@ -112,7 +111,7 @@ alone-still {fabric} {old} {h} new a pass none =
       mine = mine;
     }
 
-pub may-alone : {fabric : Fabric} {pass : Pass Shared Entry Fixed} {ask : Ask} {h : List Entry} (session : ℕ) → IsAlone fabric pass h → Stands session (numbered 1 h)
+pub may-alone : {fabric : Fabric} {pass : Pass Recorded Entry Fixed} {ask : Ask} {h : List Entry} (session : ℕ) → IsAlone fabric pass h → Stands session (numbered 1 h)
     → asks (standing_of 64 h) session ask ≡ true → MayIn fabric pass ask
 may-alone {fabric} {pass} {ask} {h} session a there may = record {
   session = session;
@@ -142,15 +141,15 @@ offers-over {h} {session} {number} {frames} {o} k offers kept here there =
       };
     }
 
-pub stand-alone : {fabric : Fabric} {pass : Pass Shared Entry Fixed} {h : List Entry} {session number : ℕ} {frames : List Frame} {o : OffersState} → IsAlone fabric pass h
+pub stand-alone : {fabric : Fabric} {pass : Pass Recorded Entry Fixed} {h : List Entry} {session number : ℕ} {frames : List Frame} {o : OffersState} → IsAlone fabric pass h
     → AreKept h session number frames o → StandOf (standing (seen_by fabric pass)) o frames
 stand-alone {fabric} {pass} {h} {session} {number} {frames} {o} a kept = subst (λ (b : Recorded). StandOf (standing b) o frames) (sym (as-alone a)) kept.stand
 
-pub speaks-alone : {fabric : Fabric} {pass : Pass Shared Entry Fixed} {h : List Entry} {session : ℕ} (n : ℕ) → IsAlone fabric pass h → n ≡ session → Stands session (numbered 1 h) → Stands n (knowing pass).mine
+pub speaks-alone : {fabric : Fabric} {pass : Pass Recorded Entry Fixed} {h : List Entry} {session : ℕ} (n : ℕ) → IsAlone fabric pass h → n ≡ session → Stands session (numbered 1 h) → Stands n (knowing pass).mine
 speaks-alone {fabric} {pass} {h} {session} n a same there = subst (Stands n) (sym a.mine) (subst (λ (k : ℕ). Stands k (numbered 1 h)) (sym same) there)
 
 -- as they were sent
-pub offers-sent : {fabric : Fabric} {pass : Pass Shared Entry Fixed} {h : List Entry} {frames : List Frame} {o : OffersState} (session number : ℕ) → IsAlone fabric pass h
+pub offers-sent : {fabric : Fabric} {pass : Pass Recorded Entry Fixed} {h : List Entry} {frames : List Frame} {o : OffersState} (session number : ℕ) → IsAlone fabric pass h
     → IsSent (seen_by fabric pass) frames o → o.entry ≡ number → 1 ≤ length o.wants → option_map (λ (x : Offer). x.session) (first_offer (world_of 64 h) number) ≡ Some session
     → AreKept h session number frames o
 offers-sent {fabric} {pass} {h} {frames} {o} session number a sent entry some first =
@@ -161,7 +160,7 @@ offers-sent {fabric} {pass} {h} {frames} {o} session number a sent entry some fi
     record { entry = entry; session_is = sym n.by ∙ same; stand = st }
 
 -- and once the first is granted
-pub offers-less : {fabric : Fabric} {pass : Pass Shared Entry Fixed} {h k : List Entry} {session number : ℕ} {frames : List Frame} {o less : OffersState} → IsAlone fabric pass k
+pub offers-less : {fabric : Fabric} {pass : Pass Recorded Entry Fixed} {h k : List Entry} {session number : ℕ} {frames : List Frame} {o less : OffersState} → IsAlone fabric pass k
     → AreKept h session number frames o → less.entry ≡ o.entry → less.session ≡ o.session → StandOf (standing (seen_by fabric pass)) less frames → AreKept k session number frames less
 offers-less {fabric} {pass} {h} {k} {session} {number} {frames} {o} {less} a kept entry by stand = record {
   entry = entry ∙ kept.entry;
@@ -171,7 +170,7 @@ offers-less {fabric} {pass} {h} {k} {session} {number} {frames} {o} {less} a kep
 
 -- ---- its leases
 
-pub lease-filled : {fabric : Fabric} {pass : Pass Shared Entry Fixed} {h : List Entry} {lease : Leased} {by session number : ℕ} → IsAlone fabric pass h → by ≡ session → IsFilledBy (seen_by fabric pass) by lease
+pub lease-filled : {fabric : Fabric} {pass : Pass Recorded Entry Fixed} {h : List Entry} {lease : Leased} {by session number : ℕ} → IsAlone fabric pass h → by ≡ session → IsFilledBy (seen_by fabric pass) by lease
     → lease.id ≡ number → lease.sizes ≡ [] → lease.empty ≡ [] → AreOf (fixed_in fabric).region (buffers_of lease.filled) → IsKept fabric h session number lease
 lease-filled {fabric} {pass} {h} {lease} {by} a same filled id sizes empty region = record {
   id = id;
@@ -201,7 +200,7 @@ lease-over {fabric} {h} {session} {number} {lease} k leases kept here one two =
       region = kept.region;
     }
 
-pub may-complete : {fabric : Fabric} {pass : Pass Shared Entry Fixed} {h : List Entry} {session number : ℕ} {lease : Leased} → IsAlone fabric pass h → IsKept fabric h session number lease
+pub may-complete : {fabric : Fabric} {pass : Pass Recorded Entry Fixed} {h : List Entry} {session number : ℕ} {lease : Leased} → IsAlone fabric pass h → IsKept fabric h session number lease
     → Stands session (numbered 1 h) → MayFill (fixed_in fabric) (knowing pass) lease
 may-complete {fabric} {pass} {h} {session} {number} {lease} a kept there = record {
   session = session;
@@ -211,25 +210,25 @@ may-complete {fabric} {pass} {h} {session} {number} {lease} a kept there = recor
 
 -- ---- entries by their numbers
 
-pub sent-next : {fabric : Fabric} {old : Pass Shared Entry Fixed} {h : List Entry} {sent : List Frame} (new : Pass Shared Entry Fixed) (k : List Entry) (at : PortId) (frames : List Frame) (session : ℕ) (reply : Reply)
+pub sent-next : {fabric : Fabric} {old : Pass Recorded Entry Fixed} {h : List Entry} {sent : List Frame} (new : Pass Recorded Entry Fixed) (k : List Entry) (at : PortId) (frames : List Frame) (session : ℕ) (reply : Reply)
     → IsAlone fabric old h → IsPassIn fabric new → sent ≡ frames → Makes (fixed_in fabric) (knowing old) (knowing new) (Send at sent)
     → option_map session_and_reply (step (standing_of 64 h) (Send at frames)) ≡ Some (session, reply) → h ++ entry_by session (Send at frames) reply ∷ [] ≡ k → IsAlone fabric new k
 sent-next {fabric} {old} new k at frames session reply a pass same m is more =
     alone-next new k session reply a pass (subst (λ (fs : List Frame). Makes (fixed_in fabric) (knowing old) (knowing new) (Send at fs)) same m) is more
 
-pub granted-next : {fabric : Fabric} {old : Pass Shared Entry Fixed} {h : List Entry} {session number : ℕ} {frames : List Frame} {o : OffersState} (new : Pass Shared Entry Fixed) (k : List Entry) (to by : ℕ) (reply : Reply)
+pub granted-next : {fabric : Fabric} {old : Pass Recorded Entry Fixed} {h : List Entry} {session number : ℕ} {frames : List Frame} {o : OffersState} (new : Pass Recorded Entry Fixed) (k : List Entry) (to by : ℕ) (reply : Reply)
     → IsAlone fabric old h → AreKept h session number frames o → IsPassIn fabric new → Makes (fixed_in fabric) (knowing old) (knowing new) (Grant o.entry (port to))
     → option_map session_and_reply (step (standing_of 64 h) (Grant number (port to))) ≡ Some (by, reply) → h ++ entry_by by (Grant number (port to)) reply ∷ [] ≡ k → IsAlone fabric new k
 granted-next {fabric} {old} new k to by reply a kept pass m is more =
     alone-next new k by reply a pass (subst (λ (n : ℕ). Makes (fixed_in fabric) (knowing old) (knowing new) (Grant n (port to))) kept.entry m) is more
 
-pub done-next : {fabric : Fabric} {old : Pass Shared Entry Fixed} {h other : List Entry} {session number : ℕ} {lease : Leased} (new : Pass Shared Entry Fixed) (k : List Entry) (by : ℕ) → IsAlone fabric old h
+pub done-next : {fabric : Fabric} {old : Pass Recorded Entry Fixed} {h other : List Entry} {session number : ℕ} {lease : Leased} (new : Pass Recorded Entry Fixed) (k : List Entry) (by : ℕ) → IsAlone fabric old h
     → IsKept fabric other session number lease → IsPassIn fabric new → Makes (fixed_in fabric) (knowing old) (knowing new) (Done (lease_id lease.id))
     → option_map session_and_reply (step (standing_of 64 h) (Done (lease_id number))) ≡ Some (by, Made) → h ++ entry_by by (Done (lease_id number)) Made ∷ [] ≡ k → IsAlone fabric new k
 done-next {fabric} {old} new k by a kept pass m is more =
     alone-next new k by Made a pass (subst (λ (n : ℕ). Makes (fixed_in fabric) (knowing old) (knowing new) (Done (lease_id n))) kept.id m) is more
 
-pub gone-next : {fabric : Fabric} {old : Pass Shared Entry Fixed} {h : List Entry} {bufs : List ℕ} (new : Pass Shared Entry Fixed) (k : List Entry) (at : PortId) (named : List ℕ) (by : ℕ) (reply : Reply)
+pub gone-next : {fabric : Fabric} {old : Pass Recorded Entry Fixed} {h : List Entry} {bufs : List ℕ} (new : Pass Recorded Entry Fixed) (k : List Entry) (at : PortId) (named : List ℕ) (by : ℕ) (reply : Reply)
     → IsAlone fabric old h → IsPassIn fabric new → bufs ≡ named → Makes (fixed_in fabric) (knowing old) (knowing new) (Finish at bufs no_chain)
     → option_map session_and_reply (step (standing_of 64 h) (Finish at named no_chain)) ≡ Some (by, reply) → h ++ entry_by by (Finish at named no_chain) reply ∷ [] ≡ k → IsAlone fabric new k
 gone-next {fabric} {old} new k at named by reply a pass same m is more =

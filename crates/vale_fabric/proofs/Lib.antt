@@ -1,5 +1,6 @@
 pub mod Others
 pub mod Making
+pub mod Lent
 pub mod Refusals
 pub mod OffersHeld
 pub mod OwnNow

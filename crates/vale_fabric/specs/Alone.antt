@@ -16,13 +16,12 @@ use Rattle.vale_book.specs.BookView.{AreOf}
 use Rattle.vale_book.specs.Offering.{OffersState}
 use Rattle.vale_book.specs.Recorded.{Recorded}
 use Rattle.vale_fabric.specs.declared.kept.Fixed.{Fixed}
-use Rattle.vale_fabric.specs.declared.kept.Shared.{Shared}
 use Rattle.vale_fabric.specs.declared.fabric.Fabric.{Fabric}
 use Rattle.vale_fabric.specs.Fabrics.{IsPassIn, fixed_in, knowing}
 use Rattle.vale_fabric.specs.Leases.{IsFilledBy, StandOf}
 
 -- over 64 buffers
-pub record IsAlone (fabric : Fabric) (pass : Pass Shared Entry Fixed) (history : List Entry) : Type 0 where
+pub record IsAlone (fabric : Fabric) (pass : Pass Recorded Entry Fixed) (history : List Entry) : Type 0 where
   pub is_of : IsPassIn fabric pass
   pub pool : (fixed_in fabric).pool ≡ 64
   pub whole : IsWhole (knowing pass).part

@@ -15,7 +15,6 @@ use Rattle.vale_entry.specs.Legal.{session_and_reply, step, IsLegal}
 use Rattle.vale_own.specs.Asker.{asks}
 use Rattle.vale_book.specs.Recorded.{Recorded, standing, IsRefusal, HasRoom}
 use Rattle.vale_fabric.specs.declared.kept.Fixed.{Fixed}
-use Rattle.vale_fabric.specs.declared.kept.Shared.{Shared}
 use Rattle.vale_fabric.specs.declared.fabric.Fabric.{Fabric}
 use Rattle.vale_fabric.specs.Roots.{fixed_of, root_of}
 
@@ -23,7 +22,7 @@ use Rattle.vale_fabric.specs.Roots.{fixed_of, root_of}
 abbrev pub Knowing : Type 0
 Knowing = PassView Entry Fixed
 
-abbrev pub knowing : Pass Shared Entry Fixed → Knowing
+abbrev pub knowing : Pass Recorded Entry Fixed → Knowing
 knowing pass = view_of pass
 
 -- what never changes of the fabric's book
@@ -31,7 +30,7 @@ abbrev pub fixed_in : Fabric → Fixed
 fixed_in fabric = fixed_of (opened fabric.turn)
 
 -- the pass is of this fabric, has not the turn, and has seen a legal history
-abbrev pub IsPassIn : Fabric → Pass Shared Entry Fixed → Type 0
+abbrev pub IsPassIn : Fabric → Pass Recorded Entry Fixed → Type 0
 IsPassIn fabric pass = IsPassOf fixed_of fabric.turn pass × IsOutside pass × IsLegal (fixed_in fabric).pool (knowing pass).seen
 
 -- the fabric's book with these entries
@@ -84,21 +83,21 @@ pub record Refuses (fixed : Fixed) (v w : Knowing) (ask : Ask) (fault : StepFaul
 
 -- The same of a fabric and its passes.
 
-abbrev pub MayIn : Fabric → Pass Shared Entry Fixed → Ask → Type 0
+abbrev pub MayIn : Fabric → Pass Recorded Entry Fixed → Ask → Type 0
 MayIn fabric pass ask = MayAsk (fixed_in fabric) (knowing pass) ask
 
-abbrev pub MakesIn : Fabric → Pass Shared Entry Fixed → Pass Shared Entry Fixed → Ask → Type 0
+abbrev pub MakesIn : Fabric → Pass Recorded Entry Fixed → Pass Recorded Entry Fixed → Ask → Type 0
 MakesIn fabric old new ask = Makes (fixed_in fabric) (knowing old) (knowing new) ask
 
-abbrev pub AnswersIn : Fabric → Pass Shared Entry Fixed → Pass Shared Entry Fixed → Ask → Reply → Type 0
+abbrev pub AnswersIn : Fabric → Pass Recorded Entry Fixed → Pass Recorded Entry Fixed → Ask → Reply → Type 0
 AnswersIn fabric old new ask reply = Answers (fixed_in fabric) (knowing old) (knowing new) ask reply
 
-abbrev pub RefusesIn : Fabric → Pass Shared Entry Fixed → Pass Shared Entry Fixed → Ask → StepFault → Type 0
+abbrev pub RefusesIn : Fabric → Pass Recorded Entry Fixed → Pass Recorded Entry Fixed → Ask → StepFault → Type 0
 RefusesIn fabric old new ask fault = Refuses (fixed_in fabric) (knowing old) (knowing new) ask fault
 
 -- the book as the pass has seen it, and before the last entry that it has seen
-abbrev pub seen_by : Fabric → Pass Shared Entry Fixed → Recorded
+abbrev pub seen_by : Fabric → Pass Recorded Entry Fixed → Recorded
 seen_by fabric pass = seen_in (fixed_in fabric) (knowing pass)
 
-abbrev pub before : Fabric → Pass Shared Entry Fixed → Recorded
+abbrev pub before : Fabric → Pass Recorded Entry Fixed → Recorded
 before fabric pass = before_in (fixed_in fabric) (knowing pass)

@@ -4,7 +4,7 @@ use Rattle.nm_turn.specs.declared.view.TurnStage.TheVariants.{Out}
 use Rattle.nm_turn.specs.Shares.{IsWhole}
 use Rattle.nm_turn.specs.Passes.{HasAll, Knows, Told, at_stage, listed, new_since}
 use Rattle.vale_entry.specs.Legal.{IsLegal}
-use Rattle.vale_book.specs.Recorded.{Recorded}
+use Rattle.vale_book.specs.Recorded.{Recorded, HadRoom}
 use Rattle.vale_fabric.specs.declared.kept.Fixed.{Fixed}
 use Rattle.vale_fabric.specs.Roots.{root_of}
 use Rattle.vale_fabric.specs.Fabrics.{Knowing, record_in}
@@ -15,6 +15,7 @@ pub record IsTaken (fixed : Fixed) (v entered : Knowing) (book : Recorded) : Typ
   pub stage : entered ≡ at_stage (Out book.entries) v
   pub knows : Knows root_of book.entries v.seen v.mine
   pub legal : IsLegal book.pool book.entries
+  pub roomy : HadRoom book
   pub whole : IsWhole v.part → HasAll book.entries v.seen v.mine
 
 -- the pass has left, and the book went back with this legal history

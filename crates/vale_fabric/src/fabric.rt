@@ -1,13 +1,14 @@
-ghost use Rattle.std.specs.Prelude.{◌≡◌, ◌<◌, ◌^◌, length, OnOk, IfOk, IfErr};
+ghost use Rattle.std.specs.Prelude.{◌≡◌, ◌<◌, ◌^◌, [], IfOk};
 ghost use Rattle.nm_types.specs.Buffers.{IsPoolSize};
 ghost use Rattle.nm_turn.specs.Passes.{first_view};
 ghost use Rattle.nm_turn.specs.Turns.{opened, entered, AddsOne, HasEntered, IsPassOf};
+ghost use Rattle.vale_book.specs.LegalRecords.{IsLegalRecord};
 ghost use Rattle.vale_fabric.specs.Roots.{root_of, fixed_of};
 
 use crate::kept::{Pass, Shared};
 use nm_turn::Turn;
 use nm_types::{Limits, NoMemory};
-use std::alloc::Global;
+use std::alloc::{AllocFailed, Global};
 use std::sync::Wait;
 use vale_book::Book;
 
@@ -15,9 +16,23 @@ use vale_book::Book;
 pub struct Fabric {
     pub(crate) turn: Turn<Shared>,
     pub(crate) buffers: u32,
-    ghost pool: { (opened turn).book.pool ≡ buffers },
+    ghost pool: { (opened turn).pool ≡ buffers },
     ghost size: { IsPoolSize buffers },
-    ghost few: { (opened turn).book.limits.entries < 2 ^ 32 },
+    ghost few: { (opened turn).limits.entries < 2 ^ 32 },
+}
+
+/// Puts a book with no entries into memory of its own. It ends where there is none.
+fn boxed(alloc: Global, book: Book) -> Result<Box<Book>, NoMemory>
+    requires { book.entries ≡ [] }
+    ensures { IfOk result (λ boxed. boxed.value ≡ book) }
+{
+    match Box::new(alloc, book) {
+        Ok(boxed) => Ok(boxed),
+        Err(AllocFailed { value }) => {
+            drop(value.close());
+            Err(NoMemory)
+        }
+    }
 }
 
 impl Fabric {
@@ -33,11 +48,11 @@ impl Fabric {
         ensures pool { IfOk result (λ made. (fixed_in made.0).pool ≡ buffers) }
         ensures limits { IfOk result (λ made. (fixed_in made.0).limits ≡ limits) }
     {
-        let book = Book::new(alloc, buffers, limits)?;
+        let book = boxed(alloc, Book::new(alloc, buffers, limits)?)?;
         match Turn::open(alloc, Shared { book }) {
             Ok((turn, pass)) => Ok((Fabric { turn, buffers }, pass)),
             Err((NoMemory, Shared { book })) => {
-                drop(book.close());
+                drop(Box::into_inner(book).close());
                 Err(NoMemory)
             }
         }
@@ -52,42 +67,41 @@ impl Fabric {
     }
 
     /// Takes the turn and the book.
-    pub(crate) fn take<R: Wait>(&self, rt: &R, pass: &mut Pass) -> Shared
+    pub(crate) fn take<R: Wait>(&self, rt: &R, pass: &mut Pass) -> Box<Book>
         requires { IsPassIn self.now pass.old }
         ensures pass { IsPassOf fixed_of self.now.turn pass.new }
         ensures entered { HasEntered pass.new }
         ensures taken { IsTaken (fixed_in self.now) (knowing pass.old) (knowing pass.new)
-            result.book }
+            result.value }
     {
-        let shared = self.turn.enter(rt, pass);
-        let _history = shared.book.history();
-        shared
+        let Shared { book } = self.turn.enter(rt, pass);
+        book
     }
 
     /// Gives the turn up, and the book back, which has one entry more.
-    pub(crate) fn give(&self, pass: &mut Pass, shared: Shared)
+    pub(crate) fn give(&self, pass: &mut Pass, book: Box<Book>)
         requires pass { IsPassOf fixed_of self.now.turn pass.old }
         requires entered { HasEntered pass.old }
-        requires fixed { fixed_of shared ≡ fixed_in self.now }
+        requires fixed { fixed_of book.value ≡ fixed_in self.now }
+        requires legal { IsLegalRecord book.value }
         requires adds { AddsOne root_of (entered pass.old) (knowing pass.old).mine
-            shared.book.entries }
+            book.value.entries }
         ensures pass { IsPassIn self.now pass.new }
-        ensures back { IsPutBack (knowing pass.old) (knowing pass.new) shared.book }
+        ensures back { IsPutBack (knowing pass.old) (knowing pass.new) book.value }
     {
-        let _number = shared.book.history().len();
-        self.turn.leave(pass, shared, true);
+        self.turn.leave(pass, Shared { book }, true);
     }
 
     /// Gives the turn up, and the book back as it was.
-    pub(crate) fn put_back(&self, pass: &mut Pass, shared: Shared)
+    pub(crate) fn put_back(&self, pass: &mut Pass, book: Box<Book>)
         requires pass { IsPassOf fixed_of self.now.turn pass.old }
         requires entered { HasEntered pass.old }
-        requires fixed { fixed_of shared ≡ fixed_in self.now }
-        requires same { shared.book.entries ≡ entered pass.old }
+        requires fixed { fixed_of book.value ≡ fixed_in self.now }
+        requires legal { IsLegalRecord book.value }
+        requires same { book.value.entries ≡ entered pass.old }
         ensures pass { IsPassIn self.now pass.new }
-        ensures back { IsPutBack (knowing pass.old) (knowing pass.new) shared.book }
+        ensures back { IsPutBack (knowing pass.old) (knowing pass.new) book.value }
     {
-        let _number = shared.book.history().len();
-        self.turn.leave(pass, shared, false);
+        self.turn.leave(pass, Shared { book }, false);
     }
 }

@@ -1,12 +1,26 @@
 //! The book as what a turn keeps.
 use nm_turn::Kept;
 use nm_types::Limits;
+use std::marker::Model;
 use vale_book::Book;
 use vale_entry::Entry;
 
-/// A book that a turn keeps.
+/// A book that a turn keeps, in memory of its own: a call moves no more than where it lies.
+///
+/// Contracts see it as the book's record, which is legal between two calls.
 pub struct Shared {
-    pub(crate) book: Book,
+    pub(crate) book: Box<Book>,
+}
+
+impl Model for Shared {
+    ghost use Rattle.vale_book.specs.Recorded.{Recorded};
+    ghost use Rattle.vale_book.specs.LegalRecords.{IsLegalRecord};
+
+    ghost Value = { Recorded };
+
+    ghost view = { λ s. s.book.value };
+
+    ghost invariant = { λ s. IsLegalRecord s.book.value };
 }
 
 /// What never changes of a book: the pool's size, the number of its region, and the limits. No

@@ -51,7 +51,6 @@ impl Fabric {
     {
         let Fabric { turn, buffers: _ } = self;
         let Shared { book } = turn.close(rt, pass);
-        let _history = book.history();
-        book
+        Box::into_inner(book)
     }
 }

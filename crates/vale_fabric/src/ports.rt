@@ -43,14 +43,14 @@ impl Fabric {
             (asks.Stat port) (replies.Counted counts)) }
         ensures full { IfErr result (RefusesIn self.now pass.old pass.new (asks.Stat port)) }
     {
-        let mut shared = self.take(rt, pass);
-        match shared.book.stats(port) {
+        let mut book = self.take(rt, pass);
+        match book.stats(port) {
             Ok(counts) => {
-                self.give(pass, shared);
+                self.give(pass, book);
                 Ok(counts)
             }
             Err(fault) => {
-                self.put_back(pass, shared);
+                self.put_back(pass, book);
                 Err(fault)
             }
         }
@@ -73,14 +73,14 @@ impl Fabric {
         ensures full { IfErr result (RefusesIn self.now pass.old pass.new
             (asks.Reset port side fault.now)) }
     {
-        let mut shared = self.take(rt, pass);
-        match shared.book.reset(port, side, fault) {
+        let mut book = self.take(rt, pass);
+        match book.reset(port, side, fault) {
             Ok(()) => {
-                self.give(pass, shared);
+                self.give(pass, book);
                 Ok(())
             }
             Err(full) => {
-                self.put_back(pass, shared);
+                self.put_back(pass, book);
                 Err(full)
             }
         }
@@ -93,9 +93,9 @@ impl Fabric {
         ensures pass { IsPassIn self.now pass.new }
         ensures made { AnswersIn self.now pass.old pass.new (asks.Shut port) replies.Made }
     {
-        let mut shared = self.take(rt, pass);
-        shared.book.shut(port);
-        self.give(pass, shared);
+        let mut book = self.take(rt, pass);
+        book.shut(port);
+        self.give(pass, book);
     }
 
     /// A monitor watches these sides of the port of this name. Answers which port that is. That no
@@ -116,18 +116,18 @@ impl Fabric {
         ensures unwatched { IfErr result (WatchesNot (fixed_in self.now) (knowing pass.old)
             (knowing pass.new) (asks.Watch monitor target.now sides)) }
     {
-        let mut shared = self.take(rt, pass);
-        match shared.book.watch(monitor, target, sides) {
+        let mut book = self.take(rt, pass);
+        match book.watch(monitor, target, sides) {
             Ok(port) => {
-                self.give(pass, shared);
+                self.give(pass, book);
                 Ok(port)
             }
             Err(fault) => {
                 if is_said(fault) {
-                    self.give(pass, shared);
+                    self.give(pass, book);
                     return Err(fault);
                 }
-                self.put_back(pass, shared);
+                self.put_back(pass, book);
                 Err(fault)
             }
         }
@@ -155,18 +155,18 @@ impl Fabric {
         ensures unopened { IfErr result (OpensNot (fixed_in self.now) (knowing pass.old)
             (knowing pass.new) (asks.Open session name.now tx rx extra)) }
     {
-        let mut shared = self.take(rt, pass);
-        match shared.book.open(session, name, tx, rx, extra) {
+        let mut book = self.take(rt, pass);
+        match book.open(session, name, tx, rx, extra) {
             Ok(opened) => {
-                self.give(pass, shared);
+                self.give(pass, book);
                 Ok(opened)
             }
             Err(fault) => {
                 if is_recorded(fault) {
-                    self.give(pass, shared);
+                    self.give(pass, book);
                     return Err(fault);
                 }
-                self.put_back(pass, shared);
+                self.put_back(pass, book);
                 Err(fault)
             }
         }
@@ -194,14 +194,14 @@ impl Fabric {
             (knowing pass.new) (asks.Finish port (indices_of bufs.items) chain) out.n) }
         ensures back { IfErr result (λ out. out.bufs.items ≡ bufs.items) }
     {
-        let mut shared = self.take(rt, pass);
-        match shared.book.finish(port, bufs, chain) {
+        let mut book = self.take(rt, pass);
+        match book.finish(port, bufs, chain) {
             Ok(count) => {
-                self.give(pass, shared);
+                self.give(pass, book);
                 Ok(count)
             }
             Err(out) => {
-                self.put_back(pass, shared);
+                self.put_back(pass, book);
                 Err(out)
             }
         }

@@ -64,18 +64,18 @@ impl Fabric {
             (knowing pass.new) port (items_of pending.old.items)) }
         ensures kept { OnErr result (pending.new.items ≡ pending.old.items) }
     {
-        let mut shared = self.take(rt, pass);
-        match shared.book.pipe_put(port, pending) {
+        let mut book = self.take(rt, pass);
+        match book.pipe_put(port, pending) {
             Ok(put) => {
-                self.give(pass, shared);
+                self.give(pass, book);
                 Ok(put)
             }
             Err(fault) => {
                 if is_put_said(fault) {
-                    self.give(pass, shared);
+                    self.give(pass, book);
                     return Err(fault);
                 }
-                self.put_back(pass, shared);
+                self.put_back(pass, book);
                 Err(fault)
             }
         }

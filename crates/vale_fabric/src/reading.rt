@@ -52,14 +52,14 @@ impl Fabric {
             (asks.Sync port (indices_of back.items)) refused.0) }
         ensures back { IfErr result (λ refused. refused.1 ≡ back) }
     {
-        let mut shared = self.take(rt, pass);
-        match shared.book.sync(port, back) {
+        let mut book = self.take(rt, pass);
+        match book.sync(port, back) {
             Ok(synced) => {
-                self.give(pass, shared);
+                self.give(pass, book);
                 Ok(synced)
             }
             Err(refused) => {
-                self.put_back(pass, shared);
+                self.put_back(pass, book);
                 Err(refused)
             }
         }
@@ -95,14 +95,14 @@ impl Fabric {
             (asks.Get port (indices_of back.items)) refused.0) }
         ensures back { IfErr result (λ refused. refused.1 ≡ back) }
     {
-        let mut shared = self.take(rt, pass);
-        match shared.book.pipe_get(port, back) {
+        let mut book = self.take(rt, pass);
+        match book.pipe_get(port, back) {
             Ok(synced) => {
-                self.give(pass, shared);
+                self.give(pass, book);
                 Ok(synced)
             }
             Err(refused) => {
-                self.put_back(pass, shared);
+                self.put_back(pass, book);
                 Err(refused)
             }
         }

@@ -50,14 +50,14 @@ impl Fabric {
         ensures full { IfErr result (RefusesIn self.now pass.old pass.new
             (asks.Send port batch.now)) }
     {
-        let mut shared = self.take(rt, pass);
-        match shared.book.send(port, batch) {
+        let mut book = self.take(rt, pass);
+        match book.send(port, batch) {
             Ok(offers) => {
-                self.give(pass, shared);
+                self.give(pass, book);
                 Ok(offers)
             }
             Err(fault) => {
-                self.put_back(pass, shared);
+                self.put_back(pass, book);
                 Err(fault)
             }
         }
@@ -91,9 +91,9 @@ impl Fabric {
             → IsHeldFor (seen_by self.now pass.new) offers.old.session lease (bytes_of frames)
             (take result.given result.want.places.items)) }
     {
-        let mut shared = self.take(rt, pass);
-        let granted = shared.book.grant(offers);
-        self.give(pass, shared);
+        let mut book = self.take(rt, pass);
+        let granted = book.grant(offers);
+        self.give(pass, book);
         granted
     }
 
@@ -109,8 +109,8 @@ impl Fabric {
         ensures made { AnswersIn self.now pass.old pass.new (asks.Done (lease_id lease.id))
             replies.Made }
     {
-        let mut shared = self.take(rt, pass);
-        shared.book.done(lease);
-        self.give(pass, shared);
+        let mut book = self.take(rt, pass);
+        book.done(lease);
+        self.give(pass, book);
     }
 }

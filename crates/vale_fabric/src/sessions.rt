@@ -20,14 +20,14 @@ impl Fabric {
         ensures id { IfOk result (λ id. id.0 ≡ length (knowing pass.new).seen) }
         ensures full { IfErr result (RefusesIn self.now pass.old pass.new (asks.Enter user)) }
     {
-        let mut shared = self.take(rt, pass);
-        match shared.book.enter(user) {
+        let mut book = self.take(rt, pass);
+        match book.enter(user) {
             Ok(session) => {
-                self.give(pass, shared);
+                self.give(pass, book);
                 Ok(session)
             }
             Err(fault) => {
-                self.put_back(pass, shared);
+                self.put_back(pass, book);
                 Err(fault)
             }
         }
@@ -40,8 +40,8 @@ impl Fabric {
         ensures pass { IsPassIn self.now pass.new }
         ensures made { AnswersIn self.now pass.old pass.new (asks.Leave session) replies.Made }
     {
-        let mut shared = self.take(rt, pass);
-        shared.book.leave(session);
-        self.give(pass, shared);
+        let mut book = self.take(rt, pass);
+        book.leave(session);
+        self.give(pass, book);
     }
 }

@@ -1,13 +1,20 @@
 use Rattle.vale_fabric.proofs.Making.{adds-new, comes, made, answered, came, refused}
+use Rattle.vale_fabric.proofs.Lent.{as-lent, legal-made, legal-same}
 use Rattle.vale_fabric.proofs.fabric.Fabric.enter.Goals as goal
 
 pub give-requires-clause-adds : goal.give-requires-clause-adds
-give-requires-clause-adds g c = adds-new c.take-shared.ensures.taken c.enter.ensures.fits c.in-Ok.ensures.made
+give-requires-clause-adds g c = adds-new (as-lent c.deref_mut.ensures.value c.take-book.ensures.taken) c.enter.ensures.fits c.in-Ok.ensures.made
 
 pub returns-in-Ok-clause-made : goal.returns-in-Ok-clause-made
 returns-in-Ok-clause-made g c =
-    let steps = comes c.take-shared.result.book c.args.user c.enter.ensures.fits in
-    answered (made c.take-shared.ensures.taken steps c.in-Ok.ensures.made c.in-Ok.ensures.room c.give.ensures.back) (came c.take-shared.result.book c.args.user c.enter.ensures.fits)
+    let steps = comes c.deref_mut.result.now c.args.user c.enter.ensures.fits in
+    answered (made (as-lent c.deref_mut.ensures.value c.take-book.ensures.taken) steps c.in-Ok.ensures.made c.in-Ok.ensures.room c.give.ensures.back) (came c.deref_mut.result.now c.args.user c.enter.ensures.fits)
 
 pub returns-in-Err-clause-full : goal.returns-in-Err-clause-full
-returns-in-Err-clause-full g c = refused c.take-shared.ensures.taken c.in-Err.ensures.err c.in-Err.ensures.full c.put_back.ensures.back
+returns-in-Err-clause-full g c = refused (as-lent c.deref_mut.ensures.value c.take-book.ensures.taken) c.in-Err.ensures.err c.in-Err.ensures.full c.put_back.ensures.back
+
+pub give-requires-clause-legal : goal.give-requires-clause-legal
+give-requires-clause-legal g c = legal-made (as-lent c.deref_mut.ensures.value c.take-book.ensures.taken) (comes c.deref_mut.result.now c.args.user c.enter.ensures.fits) c.in-Ok.ensures.made c.in-Ok.ensures.room
+
+pub put_back-requires-clause-legal : goal.put_back-requires-clause-legal
+put_back-requires-clause-legal g c = legal-same (as-lent c.deref_mut.ensures.value c.take-book.ensures.taken) c.in-Err.ensures.err
