@@ -1,5 +1,7 @@
 -- Two lists, one behind the other, cut in the first or in the second.
 use Rattle.std.proofs.Common.{◌≡◌, ℕ, zero, suc, ◌+◌, ◌<◌, ◌≤◌, List, [], ◌∷◌, ◌++◌, length, get_or, set, take, drop, refl, ap, arith}
+use Rattle.std.proofs.lemmas.List.{length-append, length-drop, length-take-le}
+use Rattle.nm_reach.specs.Cells.{refilled}
 
 module _ {X : Type 0} where
   pub take_low : (k : ℕ) (xs ys : List X) → k ≤ length xs → take k (xs ++ ys) ≡ take k xs
@@ -46,3 +48,10 @@ module _ {X : Type 0} where
   pub none : (xs : List X) → length xs ≡ 0 → xs ≡ []
   none [] h = refl
   none (x ∷ xs) h = absurd (omega arith)
+
+  -- values that were written over are as many
+  pub length_refilled : (xs ws : List X) → length (refilled xs ws) ≡ length xs
+  length_refilled xs ws =
+      let both = length-append ws (drop (length ws) xs) in
+      let left = length-drop (length ws) xs in
+      length-take-le (length xs) (ws ++ drop (length ws) xs) (omega (arith, both, left))

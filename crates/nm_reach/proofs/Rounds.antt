@@ -1,5 +1,8 @@
 -- The two sides of a run.
-use Rattle.std.proofs.Common.{◌≡◌, ℕ, ◌+◌, ◌-◌, ◌<◌, ◌≤◌, inl, inr, length, arith, length-append}
+use Rattle.std.proofs.Common.{◌≡◌, ℕ, ◌+◌, ◌-◌, ◌<◌, ◌≤◌, ◌⊎◌, [], ◌++◌, inl, inr, length, take, drop, ap, sym, ◌∙◌, arith, length-append, append-nil}
+use Rattle.std.proofs.Math.Seq.{take-append_seam, drop-append_seam}
+use Rattle.std.proofs.lemmas.List.{take_all, drop_all}
+use Rattle.nm_reach.proofs.Lists.{none}
 use denote.RawPtr.{Ptr}
 use Rattle.nm_reach.specs.Sides.{values_of, IsOneRun, IsRound, IsRun}
 use Rattle.nm_reach.specs.declared.sides.Sides.{Sides}
@@ -24,3 +27,30 @@ after_front s r k room e h l len same =
     let n = length s.back.values in
     let h' : k ≤ m + n = omega (arith, h, length-append s.front.values s.back.values) in
     past_front s.front.size s.front.at m n k room len r.one r.within e h' l same
+
+-- the values of a run up to the end of the field, and those behind it
+pub record Halves {T : Type 0} (s : Sides T) (k : ℕ) : Type 0 where
+  pub front : take k (values_of s) ≡ s.front.values
+  pub back : drop k (values_of s) ≡ s.back.values
+
+pub halves : {T : Type 0} {base : Ptr} {size start : ℕ} (s : Sides T) → IsRound base size start s → Halves s (size - start)
+halves {T = T} {size = size} {start = start} s r = by r.one
+  where
+    by : ((length s.back.values ≡ 0) × (start + length s.front.values ≤ size)) ⊎ ((start + length s.front.values ≡ size) × (length s.back.values ≤ start)) → Halves s (size - start)
+    by (inl e) =
+        let k = size - start in
+        let empty : s.back.values ≡ [] = none s.back.values e.0 in
+        let alone : values_of s ≡ s.front.values = ap (λ vs. s.front.values ++ vs) empty ∙ append-nil s.front.values in
+        let fits = e.1 in
+        let few : length s.front.values ≤ k = omega (arith, fits) in
+        record {
+          front = ap (take k) alone ∙ take_all k s.front.values few;
+          back = ap (drop k) alone ∙ (drop_all k s.front.values few ∙ sym empty);
+        }
+    by (inr e) =
+        let full = e.0 in
+        let same : size - start ≡ length s.front.values = omega (arith, full) in
+        record {
+          front = ap (λ k. take k (values_of s)) same ∙ take-append_seam s.front.values s.back.values;
+          back = ap (λ k. drop k (values_of s)) same ∙ drop-append_seam s.front.values s.back.values;
+        }

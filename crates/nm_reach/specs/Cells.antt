@@ -1,5 +1,5 @@
 -- Cells that lie side by side, and where they lie in their field.
-use Rattle.std.specs.Prelude.{ℕ, ◌*◌, ◌^◌, List, length, refl, Vec}
+use Rattle.std.specs.Prelude.{ℕ, ◌*◌, ◌^◌, List, ◌++◌, length, take, drop, refl, Vec}
 use Rattle.std.specs.Coded.{Coded, code_by, coded×, coded_list, coded_ℕ}
 use Rattle.std.specs.Mem.{type_size}
 use Rattle.std.specs.Ptr.{ptr_add}
@@ -48,3 +48,7 @@ side_code {X = X} c =
     (coded× coded_ptr (coded× coded_ℕ (coded× coded_ℕ (coded_list c))))
     (λ s. (s.base, (s.size, (s.at, s.values))))
     (λ p. record { base = p.0; size = p.1.0; at = p.1.1.0; values = p.1.1.1 }) (λ _. refl)
+
+-- values once others were written over them, as a slice of theirs is when it was lent
+abbrev pub refilled : {X : Type 0} → List X → List X → List X
+refilled values written = take (length values) (written ++ drop (length written) values)

@@ -64,3 +64,10 @@ pub record IsAllOf {X : Type 0} (f : FieldState) (r : Run X) : Type 0 where
 -- the values in the order of their cells, from cell 0 on
 abbrev pub from_first : {X : Type 0} → Run X → List X
 from_first r = drop (r.size - r.start) r.values ++ take (r.size - r.start) r.values
+
+-- a run's values up to the end of the field, and those from cell 0 on
+abbrev pub front_of : {X : Type 0} → Run X → List X
+front_of r = take (r.size - r.start) r.values
+
+abbrev pub back_of : {X : Type 0} → Run X → List X
+back_of r = drop (r.size - r.start) r.values

@@ -1,6 +1,6 @@
-ghost use Rattle.std.specs.Prelude.{◌≡◌, ◌+◌, ◌-◌, ◌<◌, ◌≤◌, ◌++◌, length, take, drop, slice_index_or};
+ghost use Rattle.std.specs.Prelude.{◌≡◌, ◌+◌, ◌-◌, ◌<◌, ◌≤◌, [], ◌++◌, length, take, drop, slice_index_or};
 ghost use Rattle.std.specs.Borrow.{sem};
-ghost use Rattle.nm_reach.specs.Fields.{round, Meet, from_first};
+ghost use Rattle.nm_reach.specs.Fields.{round, Meet, from_first, front_of, back_of};
 ghost use Rattle.nm_reach.specs.Sides.{values_of, IsRound};
 
 use crate::sides::Sides;
@@ -48,7 +48,7 @@ fn place_after(size: u32, from: u32, k: u32) -> u32
 }
 
 impl<T> Reach<T> {
-    ghost use Rattle.nm_reach.specs.LendingRun.{LendsCellOf};
+    ghost use Rattle.nm_reach.specs.LendingRun.{LendsCellOf, LendsFrontOf, LendsBackOf};
 
     /// The right to all cells of a field.
     pub(crate) fn whole(size: u32, sides: Sides<T>) -> Reach<T>
@@ -93,8 +93,19 @@ impl<T> Reach<T> {
     pub fn len(&self) -> u32
         ensures { result ≡ length self.now.values }
     {
-        let _size = self.size;
         self.sides.len() as u32
+    }
+
+    /// Ends a right to no cells.
+    pub fn end(self)
+        requires { self.values ≡ [] }
+    {
+        let Reach {
+            start: _,
+            size: _,
+            sides,
+        } = self;
+        sides.end();
     }
 
     /// Takes the first `k` cells as a right of their own. No value is changed.
@@ -158,5 +169,21 @@ impl<T> Reach<T> {
         } else {
             self.sides.back.get_mut(i as usize - before)
         }
+    }
+
+    /// The values in the cells up to the end of the field, for writing.
+    pub fn front_mut(&mut self) -> &mut [T]
+        ensures* writes_back { sem 𝓛 (LendsFrontOf T.row self.entry result) }
+        ensures value { result.now ≡ front_of self.old }
+    {
+        self.sides.front.values_mut()
+    }
+
+    /// The values in the cells from cell 0 on, if the run goes round, for writing.
+    pub fn back_mut(&mut self) -> &mut [T]
+        ensures* writes_back { sem 𝓛 (LendsBackOf T.row self.entry result) }
+        ensures value { result.now ≡ back_of self.old }
+    {
+        self.sides.back.values_mut()
     }
 }

@@ -1,4 +1,4 @@
-ghost use Rattle.std.specs.Prelude.{◌≡◌, ◌+◌, ◌-◌, ◌<◌, ◌≤◌, [], ◌++◌, length, take, drop};
+ghost use Rattle.std.specs.Prelude.{◌≡◌, ◌+◌, ◌-◌, ◌<◌, ◌≤◌, ◌^◌, [], ◌++◌, length, take, drop};
 ghost use Rattle.nm_reach.specs.Fields.{round};
 ghost use Rattle.nm_reach.specs.Sides.{values_of, IsRun, IsRound};
 
@@ -34,7 +34,9 @@ impl<T> Sides<T> {
 
     /// How many cells these are.
     pub(crate) fn len(&self) -> usize
-        ensures { result ≡ length (values_of self.now) }
+        requires { IsRun self.now }
+        ensures len { result ≡ length (values_of self.now) }
+        ensures few { result < 2 ^ 32 }
     {
         self.front.len() + self.back.len()
     }

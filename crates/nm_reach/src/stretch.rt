@@ -31,7 +31,7 @@ impl<T> Model for Stretch<T> {
 }
 
 impl<T> Stretch<T> {
-    ghost use Rattle.nm_reach.specs.Lending.{LendsCell};
+    ghost use Rattle.nm_reach.specs.Lending.{LendsCell, LendsCells};
 
     /// The cells of values that lie at `ptr`.
     pub(crate) fn new(ptr: *mut T, len: usize, values: Values<T>) -> Stretch<T>
@@ -118,8 +118,8 @@ impl<T> Stretch<T> {
     pub(crate) fn len(&self) -> usize
         ensures len { result ≡ length self.now.values }
         ensures small { result < 2 ^ 32 }
+        ensures field { self.now.size < 2 ^ 32 }
     {
-        let _ = &self.spot;
         self.cells.len()
     }
 
@@ -138,5 +138,13 @@ impl<T> Stretch<T> {
         ensures value { result.now ≡ slice_index_or self.old.values i result.now }
     {
         &mut self.cells[i]
+    }
+
+    /// The values of all cells, for writing.
+    pub(crate) fn values_mut(&mut self) -> &mut [T]
+        ensures* writes_back { sem 𝓛 (LendsCells T.row self.entry result) }
+        ensures value { result.now ≡ self.old.values }
+    {
+        self.cells.as_mut_slice()
     }
 }

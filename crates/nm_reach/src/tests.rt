@@ -59,6 +59,27 @@ fn a_write_is_found_where_it_was(rt: HostRuntime) -> Result<(), Fail> {
     Ok(())
 }
 
+#[test]
+fn a_run_is_written_in_two_parts(rt: HostRuntime) -> Result<(), Fail> {
+    let values = four(rt.alloc())?;
+    let Ok((field, mut all)) = Field::new(values) else {
+        unreachable!();
+    };
+    let first = all.split_front(3);
+    all.join(first);
+    for value in all.front_mut() {
+        *value = 23;
+    }
+    for value in all.back_mut() {
+        *value = 22;
+    }
+    assert!(rt; *all.get(0) == 23 && *all.get(1) == 22);
+    all.split_front(0).end();
+    let values = field.close(all);
+    assert!(rt; values[..] == [22, 22, 22, 23]);
+    Ok(())
+}
+
 /// A value that must be spent.
 struct Coin {
     worth: u32,
