@@ -12,6 +12,7 @@ use nm_types::NoMemory;
 use std::alloc::Global;
 use std::snapshot::Snapshot;
 use std::sync::Wait;
+use std::time::Duration;
 
 /// The word that is 1 while a pass has the turn.
 const TURN: usize = 0;
@@ -24,6 +25,19 @@ const WAITING: usize = 2;
 
 /// The place of the value.
 const VALUE: usize = 0;
+
+/// How often a thread looks at a turn that is taken before it sleeps.
+const LOOKS: u32 = 1000;
+
+/// A thread that waits is woken whenever the history has got this many entries more.
+const ENTRIES_A_WAKE: u64 = 16;
+
+/// How many microseconds a thread that waits sleeps before it looks at the turn again, when it
+/// first finds it taken.
+const FIRST_SLEEP: u64 = 20;
+
+/// How many microseconds it sleeps at most, when it has found it taken again and again.
+const LONGEST_SLEEP: u64 = 200;
 
 /// A lock over one value, which stands for one history of all callers. It must be closed, so that
 /// the value is not lost.
@@ -71,22 +85,36 @@ impl<B: Kept> Turn<B> {
         }
     }
 
-    /// Waits until the turn is free, and takes it. A pass that finds it taken is counted while it
-    /// waits; since it is counted before it looks at the turn for the last time, whoever gives the
-    /// turn up after that look sees that it waits.
+    /// Looks at the turn until it is free, but no more than `LOOKS` times.
+    fn look(&self) {
+        let shared = &self.table.shared;
+        for _ in 0..LOOKS {
+            if shared.peek(TURN) == 0 {
+                return;
+            }
+        }
+    }
+
+    /// Waits until the turn is free, and takes it. A thread that finds it taken looks on for a short
+    /// while, is counted then and sleeps. `wake` wakes it, but nothing rests on that: it looks again
+    /// by itself, and sleeps twice as long each time that it finds the turn taken, up to
+    /// `LONGEST_SLEEP`.
     fn take<R: Wait>(&self, rt: &R, pass: &mut Pass<B>)
         requires pass { IsPassOf B.fixed self.now pass.old }
         requires outside { IsOutside pass.old }
         ensures { HasTurn pass.old pass.new }
     {
         let shared = &self.table.shared;
+        let mut sleep = FIRST_SLEEP;
         for _ in rt.forever() {
+            self.look();
             if shared.compare_exchange::<TakeTurn>(&mut pass.seat, TURN, 0, 1) == 0 {
                 return;
             }
             shared.fetch_add::<Awaits>(&mut pass.seat, WAITING, 1);
-            shared.park(rt, TURN, 1);
+            shared.park_timeout(rt, TURN, 1, Duration::from_micros(sleep));
             shared.fetch_sub::<Awaits>(&mut pass.seat, WAITING, 1);
+            sleep = LONGEST_SLEEP.min(sleep.saturating_mul(2));
         }
         unreachable!()
     }
@@ -128,16 +156,24 @@ impl<B: Kept> Turn<B> {
         }
     }
 
-    /// Wakes one thread that waits for the turn, if some do.
+    /// Wakes one thread that waits for the turn, if some do and the history came to a number of
+    /// entries at which one is woken.
+    ///
+    /// Not every leave wakes a thread. Whoever leaves mostly comes again before a woken thread
+    /// runs, which then finds the turn taken and sleeps again, so a wake at each leave costs two
+    /// switches of threads and lets nobody go on sooner. A wake that is left out or comes too early
+    /// leaves no thread asleep for good: while others make entries, each lot of them wakes one
+    /// thread, and where none are made, a thread that looks again by itself finds the turn free.
     fn wake(&self) {
         let shared = &self.table.shared;
-        if shared.peek(WAITING) > 0 {
+        if shared.peek(WAITING) > 0 && shared.peek(COUNT) % ENTRIES_A_WAKE == 0 {
             shared.wake_one(TURN);
         }
     }
 
-    /// Gives the value back, gives the turn up, and wakes one thread if some wait for it. `made` says
-    /// whether the value has one entry more than when `enter` returned it.
+    /// Gives the value back and gives the turn up. After some of its entries it wakes one of the
+    /// threads that wait for the turn. `made` says whether the value has one entry more than when
+    /// `enter` returned it.
     pub fn leave(&self, pass: &mut Pass<B>, value: B, made: bool)
         requires pass { IsPassOf B.fixed self.now pass.old }
         requires entered { HasEntered pass.old }
