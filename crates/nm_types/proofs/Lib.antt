@@ -8,3 +8,4 @@ pub mod RingSteps
 pub mod RingChecks
 pub mod SlotChecks
 pub mod Exchanges
+pub mod NameBytes

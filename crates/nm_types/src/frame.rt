@@ -59,7 +59,7 @@ struct Cut {
 }
 
 /// The frames of a batch that is not empty: their bytes lie in one run.
-#[derive(Clone, Drop)]
+#[derive(Drop)]
 struct Run {
     bytes: Vec<u8>,
     cuts: Vec<Cut>,
@@ -79,6 +79,20 @@ impl Model for Run {
     ghost invariant = { λ r. All (IsWithin (length r.bytes.items)) r.cuts.items };
 }
 
+impl Clone for Run {
+    ghost is_clone = { λ run other. other ≡ run };
+
+    fn clone(&self) -> Result<Run, AllocError>
+        ensures { IfOk result (λ other. other ≡ self.now) }
+    {
+        let alloc = *self.bytes.allocator();
+        Ok(Run {
+            bytes: Vec::from_slice(alloc, &self.bytes)?,
+            cuts: Vec::from_slice(alloc, &self.cuts)?,
+        })
+    }
+}
+
 impl Run {
     fn new(alloc: Global) -> Run
         ensures { result ≡ [] }
@@ -96,6 +110,7 @@ impl Run {
         self.bytes.reserve(bytes)
     }
 
+    #[inline(always)]
     #[tactic(auto, using(crate::proofs::Places::places))]
     fn push(&mut self, bytes: &[u8], no_learn: bool) -> Result<(), AllocError>
         ensures ok { OnOk result (self.new ≡ self.old ++ record { bytes = bytes.now; no_learn = no_learn } ∷ []) }
@@ -135,6 +150,14 @@ impl Run {
     }
 }
 
+/// An empty run, behind a pointer.
+#[inline(never)]
+fn empty_run(alloc: Global) -> Result<Box<Run>, AllocError>
+    ensures { IfOk result (λ run. run.value ≡ []) }
+{
+    Ok(Box::new(alloc, Run::new(alloc))?)
+}
+
 /// A list of frames. Their bytes lie in one buffer, behind one pointer, so that a stored batch is
 /// small.
 #[derive(Clone, Drop)]
@@ -162,8 +185,8 @@ impl Batch {
         Batch { run: None, alloc }
     }
 
-    /// Makes room for that many frames more, with that many bytes in all, so that pushing them takes
-    /// no memory.
+    /// Makes room at once for that many frames more, with that many bytes in all, as `Vec::reserve`
+    /// does. Contracts do not see the room: a push may want memory all the same.
     pub fn reserve(&mut self, frames: usize, bytes: usize) -> Result<(), NoMemory>
         ensures { self.new ≡ self.old }
     {
@@ -179,12 +202,13 @@ impl Batch {
     }
 
     /// Adds a frame at the end.
+    #[inline(always)]
     pub fn push(&mut self, bytes: &[u8], no_learn: bool) -> Result<(), NoMemory>
         ensures ok { OnOk result (self.new ≡ self.old ++ record { bytes = bytes.now; no_learn = no_learn } ∷ []) }
         ensures err { OnErr result (self.new ≡ self.old) }
     {
         if self.run.is_none() {
-            self.run = Some(Box::new(self.alloc, Run::new(self.alloc))?);
+            self.run = Some(empty_run(self.alloc)?);
         }
         match &mut self.run {
             Some(run) => run.push(bytes, no_learn)?,

@@ -25,7 +25,7 @@ pub use limits::{
     MAX_SCRIPT_BYTES, MAX_SCRIPT_LINES, MAX_SWITCH_PORTS, MAX_SWITCHES, MAX_USERS, MIN_RING,
     NAME_BYTES,
 };
-pub use name::{Kind, Name};
+pub use name::{Kind, Name, are_word_bytes};
 pub use place::Place;
 pub use refusal::{RingFault, SlotFault};
 pub use slot::{Seen, Slot, SlotWrite};

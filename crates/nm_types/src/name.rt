@@ -50,7 +50,8 @@ fn is_word_byte(b: u8) -> bool
     b.is_ascii_alphanumeric() || b == b'_' || b == b'-'
 }
 
-fn are_word_bytes(text: &[u8]) -> bool
+/// Tells whether each byte is a letter, a digit, `_` or `-`.
+pub fn are_word_bytes(text: &[u8]) -> bool
     ensures { result ≡ are_word_bytes text.now }
 {
     text.iter().all(|b| is_word_byte(*b))

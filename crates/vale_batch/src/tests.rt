@@ -115,6 +115,19 @@ fn learned_before_looked_up(rt: HostRuntime) {
 }
 
 #[test]
+fn all_frames_to_one_port(rt: HostRuntime) {
+    let Ok(mut table) = Table::new(rt.alloc()) else {
+        panic!(rt; "no memory");
+    };
+    let own = send(&rt, rt.alloc(), &mut table, 4, &[(TO_SELF, false)]);
+    assert_counts(&rt, &own, 0, 0, 1);
+    let frames = [(TO_A, false), (TO_A, false)];
+    let sole = send(&rt, rt.alloc(), &mut table, 5, &frames);
+    assert_counts(&rt, &sole, 1, 0, 0);
+    assert!(rt; wants(&rt, rt.alloc(), &sole, 0, 4, &[0, 1], &[1, 1]));
+}
+
+#[test]
 fn forgotten_batch_taught_nothing(rt: HostRuntime) {
     let Ok(mut table) = Table::new(rt.alloc()) else {
         panic!(rt; "no memory");
