@@ -9,7 +9,7 @@ use Rattle.std.proofs.lemmas.List.{get_or_read, get_or-set_same, get_or-set_othe
 use Rattle.std.proofs.lemmas.List.Elements.{recursion_from_All}
 use Rattle.nm_types.specs.declared.place.Place.{Place}
 use Rattle.nm_hold.specs.declared.table.PortTable.{PortTable}
-use Rattle.nm_hold.specs.Offsets.{offset_of, has_port, ArePortsOnce}
+use Rattle.nm_hold.specs.Offsets.{offset_of, has_place, has_port, ArePortsOnce}
 use Rattle.nm_hold.specs.Holds.{port_of}
 use Rattle.nm_hold.specs.Tables.{IsTable, ports_of, number_in, number_at, put_in}
 use Rattle.nm_hold.specs.Indexed.{tables_present, row_at, port_in, port_at, number_in_row, IsIndexed, AreKeys}
@@ -259,6 +259,35 @@ number-row rows index at place is found =
 
 pub number-none : (rows : List (Option PortTable)) (index : ℕ → Option ℕ) (place : Place) → IsIndexed rows index → index (port_of place) ≡ None → number_at (tables_present rows) place ≡ 0
 number-none rows index place is none = number-absent (tables_present rows) place (no_index rows index (port_of place) is none)
+
+-- a place that is some port's is a place of the row of its port
+place-port : (tables : List PortTable) (place : Place) → has_place (ports_of tables) place ≡ true → has_port (ports_of tables) (port_of place) ≡ true
+place-port [] place has = true_false (sym has)
+place-port (t ∷ tables) place has = by_offset (offset_of t.places place) refl (place-port tables place)
+  where
+    by_offset : (o : Option ℕ) → offset_of t.places place ≡ o → (has_place (ports_of tables) place ≡ true → has_port (ports_of tables) (port_of place) ≡ true) → has_port (ports_of (t ∷ tables)) (port_of place) ≡ true
+    by_offset (Some at) e rest = rw (nat_eq-same t.places.port.0 (port_of place) (sym (offset-port t.places place at e))) refl
+    by_offset None e rest = or_true (nat_eq t.places.port.0 (port_of place)) (has_port (ports_of tables) (port_of place)) (rest (rw e at has))
+
+pub place-row : (rows : List (Option PortTable)) (at : ℕ) (place : Place) → AreApart rows → port_at rows at ≡ Some (port_of place) → has_place (ports_of (tables_present rows)) place ≡ true
+    → IfSome (row_at rows at) (λ (t : PortTable). is_some (offset_of t.places place) ≡ true)
+place-row [] at place apart e has = none_some (port_of place) e
+place-row (None ∷ rows) zero place apart e has = none_some (port_of place) e
+place-row (None ∷ rows) (suc at) place apart e has = place-row rows at place (tail_apart None rows apart) e has
+place-row (Some t ∷ rows) zero place apart e has = elim (cases_Bool (is_some (offset_of t.places place))) [
+  | inl here ↦ here
+  | inr absent ↦ (let once = once-apart (Some t ∷ rows) apart in
+      let same : t.places.port.0 ≡ port_of place = some_is t.places.port.0 (port_of place) e in
+      let rest : has_place (ports_of (tables_present rows)) place ≡ true = rw absent at has in
+      true_false (sym (place-port (tables_present rows) place rest) ∙ (ap (has_port (ports_of (tables_present rows))) (sym same) ∙ once.0)))
+]
+place-row (Some t ∷ rows) (suc at) place apart e has = by_offset (offset_of t.places place) refl (place-row rows at place (tail_apart (Some t) rows apart) e)
+  where
+    by_offset : (o : Option ℕ) → offset_of t.places place ≡ o
+        → (has_place (ports_of (tables_present rows)) place ≡ true → IfSome (row_at rows at) (λ (t : PortTable). is_some (offset_of t.places place) ≡ true))
+        → IfSome (row_at rows at) (λ (t : PortTable). is_some (offset_of t.places place) ≡ true)
+    by_offset (Some k) f rest = absurd (let first : 0 ≡ suc at = apart 0 (suc at) (port_of place) (ap (λ (n : ℕ). Some n) (sym (offset-port t.places place k f))) e in omega (arith, first))
+    by_offset None f rest = rest (rw f at has)
 
 -- one more table, behind the others
 pub present-push : (rows : List (Option PortTable)) (t : PortTable) → tables_present (rows ++ Some t ∷ []) ≡ tables_present rows ++ t ∷ []

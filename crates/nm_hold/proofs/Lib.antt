@@ -1,9 +1,13 @@
+pub mod Added
+pub mod Begun
 pub mod Emptied
 pub mod Exchanging
 pub mod Finding
 pub mod Naming
 pub mod Numbers
+pub mod Owned
 pub mod Owning
+pub mod Receiving
 pub mod Renamed
 pub mod Shown
 pub mod Slotted
@@ -12,3 +16,4 @@ pub mod Steps
 pub mod Takes
 pub mod Tied
 pub mod Turns
+pub mod Zeros

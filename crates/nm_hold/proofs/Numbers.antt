@@ -18,7 +18,7 @@ use Rattle.nm_hold.proofs.Spots.{nat_eq-is, same_place-is, offset-within, offset
 true_false : {X : Type 0} → true ≡ false → X
 true_false e = cc
 
-places-put_in : (place : Place) (number : ℕ) (t : PortTable) (o : Option ℕ) → offset_of t.places place ≡ o → (put_in place number t).places ≡ t.places
+pub places-put_in : (place : Place) (number : ℕ) (t : PortTable) (o : Option ℕ) → offset_of t.places place ≡ o → (put_in place number t).places ≡ t.places
 places-put_in place number t None e = rw e refl
 places-put_in place number t (Some at) e = rw e refl
 

@@ -70,9 +70,12 @@ pub standing_read : (at : List ℕ) (held : List Standing) (idx k : ℕ) (s : St
 standing_read at held idx k s e h read =
     cell_named at held idx ∙ (ap (named_by held) e ∙ (slice_get-get_or held k s h ∙ ap (λ (t : Standing). Some t) (sym read)))
 
--- the number of an index, as it is read
-pub read_at : (at : List ℕ) (idx k n : ℕ) → number_of at idx ≡ suc k → n ≡ get_or at idx n → n ≡ suc k
-read_at at idx k n e read = get_or_read at idx n (within_numbers at idx k e) read 0 ∙ e
+-- a number that is not 0 is one more than a position that holds something
+pub held_before : (at owners : List ℕ) (held : List Standing) (idx n : ℕ) → AreOwners at owners → length held ≡ length owners → n ≡ number_of at idx → 0 < n → (number_of at idx ≡ suc (n - 1)) × (n - 1 < length held)
+held_before at owners held idx n own both e h =
+    let number : number_of at idx ≡ suc (n - 1) = omega (arith, e, h) in
+    let owner = own.owned idx (n - 1) number in
+    (number, omega (arith, owner.0, both))
 
 -- how many indices have no number, after one is set
 abbrev free_count : List ℕ → ℕ
@@ -196,6 +199,20 @@ pub last_within : (at owners : List ℕ) (idx k n last : ℕ) → AreOwners at o
 last_within at owners idx k n last own is count read =
     let end = last_owner at owners idx k n last own is count read in
     within_numbers at last (n - 1) (ap (number_of at) (sym end) ∙ own.numbered (n - 1) (omega (arith, (own.owned idx k is).0, count)))
+
+-- it has a number
+pub last_given : (at owners : List ℕ) (idx k n last : ℕ) → AreOwners at owners → number_of at idx ≡ suc k → n ≡ length owners → last ≡ get_or owners (n - 1) last → 0 < number_of at last
+last_given at owners idx k n last own is count read =
+    let end = last_owner at owners idx k n last own is count read in
+    let number : number_of at last ≡ suc (n - 1) = ap (number_of at) (sym end) ∙ own.numbered (n - 1) (omega (arith, (own.owned idx k is).0, count)) in
+    omega (arith, number)
+
+-- and where it gets another one, what had one has one
+pub still_given : (at : List ℕ) (idx k last n : ℕ) → number_of at idx ≡ suc k → n ≡ suc k → last < length at → 0 < number_of (slice_set at last n) idx
+still_given at idx k last n is number within = elim (cases_eq idx last) [
+  | inl same ↦ (let here : number_of (slice_set at last n) idx ≡ n = ap (number_of (slice_set at last n)) same ∙ get_or-set_same at last n 0 within in omega (arith, here, number))
+  | inr other ↦ (let there : number_of (slice_set at last n) idx ≡ suc k = get_or-set_other at last idx n 0 other ∙ is in omega (arith, there))
+]
 
 -- what stands last takes the position of what goes
 module _ (at owners new : List ℕ) (idx k last : ℕ) (own : AreOwners at owners) (is : number_of at idx ≡ suc k) (count : length new + 1 ≡ length owners) (end : slice_index owners (length new) ≡ last)

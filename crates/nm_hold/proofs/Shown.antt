@@ -18,6 +18,8 @@ use Rattle.nm_hold.specs.Offsets.{AreSizes, ArePortsOnce, has_port, has_place, o
 use Rattle.nm_hold.specs.Tables.{IsTable, ports_of, number_at}
 use Rattle.nm_hold.specs.Holds.{places_in, extra_of, is_named_in, IsHold}
 use Rattle.nm_hold.specs.Ties.{IsTied}
+use Rattle.nm_hold.specs.Stored.{IsStored}
+use Rattle.nm_hold.specs.declared.hold.Hold.TheInside.{Inside}
 use Rattle.nm_hold.proofs.Numbers.{has_place-from_number}
 use Rattle.nm_hold.proofs.Tied.{number_if, number_if-some, held-number}
 
@@ -51,6 +53,10 @@ IsHold-stored cells tables low high all once tied = record {
   });
   held = λ p idx e. (let n = number_if-is (number_at tables p) idx (sym (held-number cells tables p tied) ∙ e) in rw (← n.0) (tied.numbered p n.1));
 }
+
+-- what is kept inside a hold makes it one
+pub stored_shown : (h : Inside) → IsStored h → IsHold (record { cells = h.cells; ports = ports_of h.ports.tables })
+stored_shown h inv = IsHold-stored h.cells h.ports.tables inv.low inv.high inv.tables inv.once inv.tied
 
 pub find-places : (port : ℕ) (tables : List PortTable) → find (λ (p : PortPlaces). nat_eq p.port.0 port) (ports_of tables) ≡ option_map (λ (t : PortTable). t.places) (find (λ (t : PortTable). nat_eq t.places.port.0 port) tables)
 find-places port [] = refl

@@ -64,13 +64,13 @@ stands_by port other slot size before at e =
     let both = and-is (nat_eq port other) (nat_lt slot size) some.0 in
     record { same = nat_eq-is port other both.0; within = nat_lt-is slot size both.1; there = sym some.1 }
 
-tx_stands : (p : PortPlaces) (port : PortId) (slot at : ℕ) → offset_of p (Tx port slot) ≡ Some at → Stands port.0 p.port.0 slot p.sizes.tx 0 at
+pub tx_stands : (p : PortPlaces) (port : PortId) (slot at : ℕ) → offset_of p (Tx port slot) ≡ Some at → Stands port.0 p.port.0 slot p.sizes.tx 0 at
 tx_stands p port slot at e =
     let some = some_if (nat_eq port.0 p.port.0 && nat_lt slot p.sizes.tx) slot at e in
     let both = and-is (nat_eq port.0 p.port.0) (nat_lt slot p.sizes.tx) some.0 in
     record { same = nat_eq-is port.0 p.port.0 both.0; within = nat_lt-is slot p.sizes.tx both.1; there = omega (arith, some.1) }
 
-rx_stands : (p : PortPlaces) (port : PortId) (slot at : ℕ) → offset_of p (Rx port slot) ≡ Some at → Stands port.0 p.port.0 slot p.sizes.rx p.sizes.tx at
+pub rx_stands : (p : PortPlaces) (port : PortId) (slot at : ℕ) → offset_of p (Rx port slot) ≡ Some at → Stands port.0 p.port.0 slot p.sizes.rx p.sizes.tx at
 rx_stands p port slot at e = stands_by port.0 p.port.0 slot p.sizes.rx p.sizes.tx at e
 
 pub extra_stands : (p : PortPlaces) (port : PortId) (slot at : ℕ) → offset_of p (Extra port slot) ≡ Some at → Stands port.0 p.port.0 slot p.sizes.extra (p.sizes.tx + p.sizes.rx) at

@@ -4,14 +4,16 @@ use Rattle.std.specs.Prelude.{All}
 use Rattle.std.proofs.lemmas.List.Elements.{All-from_recursion, recursion_from_All}
 use Rattle.nm_types.specs.declared.place.Place.{Place}
 use Rattle.nm_types.specs.Places.{held_at, is_same_place}
+use Rattle.nm_region.specs.Buffers.{Buffer}
 use Rattle.nm_hold.specs.declared.standing.Standing.{Standing}
 use Rattle.nm_hold.specs.declared.table.PortTable.{PortTable}
+use Rattle.nm_hold.specs.Standings.{buf_in}
 use Rattle.nm_hold.specs.Offsets.{has_place}
 use Rattle.nm_hold.specs.Tables.{IsTable, ports_of, number_at, put_in}
 use Rattle.nm_hold.specs.Holds.{cell_at, places_in}
 use Rattle.nm_hold.specs.Ties.{IsTied}
 use Rattle.nm_hold.proofs.Numbers.{number-put, tables-put, has_place-from_number}
-use Rattle.nm_hold.proofs.Tied.{number_if, number_if-some, held-number, tied-added, tied-removed}
+use Rattle.nm_hold.proofs.Tied.{some_is, number_if, number_if-some, held-number, tied-added, tied-removed}
 
 pub put_are_tables : (p : Place) (number : ℕ) (tables : List PortTable) → All IsTable tables → All IsTable (map (put_in p number) tables)
 put_are_tables p number tables all = All-from_recursion IsTable (map (put_in p number) tables) (tables-put p number tables (recursion_from_All IsTable tables all))
@@ -30,18 +32,23 @@ pub removed_tied : (cells : List (Option Standing)) (tables : List PortTable) (p
 removed_tied cells tables p all tied some =
     tied-removed cells tables (map (put_in p 0) tables) p tied some (put_number p 0 tables all (has_place-from_number tables p some))
 
+with_buf : (cell : Option Standing) (buf : Buffer) → buf_in cell ≡ Some buf → (s : Standing) × (cell ≡ Some s) × (s.buf ≡ buf)
+with_buf None buf e = cc
+with_buf (Some s) buf e = (s, refl, some_is s.buf buf e)
+
 -- a buffer that is taken out of its place
-pub record Removed (cells : List (Option Standing)) (tables : List PortTable) (p : Place) (idx : ℕ) (s : Standing) : Type 0 where
+pub record Removed (cells : List (Option Standing)) (tables : List PortTable) (p : Place) (idx : ℕ) (buf : Buffer) : Type 0 where
   pub some : 0 < number_at tables p
-  pub index : s.buf.index ≡ idx
+  pub index : buf.index ≡ idx
   pub tied : IsTied (slice_set cells idx None) (map (put_in p 0) tables)
 
-pub removed : (cells : List (Option Standing)) (tables : List PortTable) (p : Place) (idx : ℕ) (s : Standing) → All IsTable tables → IsTied cells tables → idx ≡ number_at tables p → cell_at cells idx ≡ Some s
-    → Removed cells tables p idx s
-removed cells tables p idx s all tied number there =
-    let right = tied.standing idx s there in
+pub removed : (cells : List (Option Standing)) (tables : List PortTable) (p : Place) (idx : ℕ) (buf : Buffer) → All IsTable tables → IsTied cells tables → idx ≡ number_at tables p → buf_in (cell_at cells idx) ≡ Some buf
+    → Removed cells tables p idx buf
+removed cells tables p idx buf all tied number there =
+    let found = with_buf (cell_at cells idx) buf there in
+    let right = tied.standing idx found.0 found.1 in
     let some : 0 < number_at tables p = omega (arith, number, right.low) in
-    record { some = some; index = right.index; tied = rw number (removed_tied cells tables p all tied some) }
+    record { some = some; index = ap (λ (b : Buffer). b.index) (sym found.2) ∙ right.index; tied = rw number (removed_tied cells tables p all tied some) }
 
 some_choice : (b : Bool) (idx n : ℕ) (o : Option ℕ) → 0 < idx → number_if n ≡ o → number_if (if b then idx else n) ≡ (if b then Some idx else o)
 some_choice true idx n o h e = number_if-some idx h

@@ -4,6 +4,7 @@ pub mod Indexed
 pub mod Laws
 pub mod Lending
 pub mod Names
+pub mod NumberTables
 pub mod Offsets
 pub mod PortLists
 pub mod Renames

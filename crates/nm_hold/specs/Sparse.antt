@@ -3,6 +3,7 @@
 use Rattle.std.specs.Prelude.{ℕ, zero, suc, ◌≡◌, ◌<◌, ◌≤◌, ◌+◌, ◌==◌, List, length, map, count_by, slice_index, slice_get, Option, None}
 use Rattle.std.specs.Vec.{vec_capacity}
 use Rattle.nm_hold.specs.declared.standing.Standing.{Standing}
+use Rattle.nm_hold.specs.declared.cells.Owned.{Owned}
 use Rattle.nm_hold.specs.declared.cells.Cells.TheInside.{Inside}
 
 -- what a number names
@@ -24,9 +25,14 @@ pub record AreOwners (at owners : List ℕ) : Type 0 where
   pub owned : (idx k : ℕ) → number_of at idx ≡ suc k → (k < length owners) × (slice_index owners k ≡ idx)
   pub full : count_by (λ n. n == 0) at + length owners ≡ length at
 
+-- by position: what stands there, and the index that owns it
+abbrev pub standings_in : List Owned → List Standing
+standings_in held = map (λ (o : Owned). o.standing) held
+
+abbrev pub owners_in : List Owned → List ℕ
+owners_in held = map (λ (o : Owned). o.index) held
+
 pub record IsSparse (c : Inside) : Type 0 where
-  pub owners : AreOwners c.at.items c.owners.items
-  pub both : length c.held.items ≡ length c.owners.items
-  pub few : length c.at.items ≤ 65538
-  pub room : length c.at.items ≤ vec_capacity c.owners
-  pub space : length c.at.items ≤ vec_capacity c.held
+  pub owners : AreOwners c.at (owners_in c.held.items)
+  pub few : length c.at ≤ 65538
+  pub space : length c.at ≤ vec_capacity c.held

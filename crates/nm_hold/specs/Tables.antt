@@ -1,5 +1,5 @@
 -- The table of a port's places: at each, the index of the buffer there, or 0.
-use Rattle.std.specs.Prelude.{ℕ, ◌≡◌, ◌+◌, List, [], ◌∷◌, length, map, slice_index, slice_range}
+use Rattle.std.specs.Prelude.{ℕ, ◌≡◌, ◌+◌, List, [], ◌∷◌, length, map, slice_index, slice_range, Option, Some, None}
 use Rattle.std.specs.Option.{option_map_or}
 use Rattle.std.specs.Vec.{with_item}
 use Rattle.nm_types.specs.declared.id.Side.{Side}
@@ -32,3 +32,9 @@ put_in place number t = option_map_or (λ at. record t { numbers = with_item t.n
 abbrev pub slots_in : PortTable → Side → List ℕ
 slots_in t Tx = slice_range t.numbers.items 0 t.places.sizes.tx
 slots_in t Rx = slice_range t.numbers.items t.places.sizes.tx (t.places.sizes.tx + t.places.sizes.rx)
+
+-- how many places of a row's port stand before the slots of a side
+abbrev pub places_before : Side → Option PortTable → ℕ
+places_before side None = 0
+places_before Tx (Some t) = 0
+places_before Rx (Some t) = t.places.sizes.tx

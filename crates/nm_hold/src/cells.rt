@@ -3,9 +3,11 @@ ghost use Rattle.std.specs.Prelude.{Some};
 ghost use Rattle.std.specs.Borrow.{sem};
 ghost use Rattle.std.specs.Option.{option_copied};
 ghost use Rattle.nm_hold.specs.Holds.{cell_at};
-ghost use Rattle.nm_hold.specs.Standings.{bytes_in, cell_named};
+ghost use Rattle.nm_hold.specs.Standings.{buf_in, bytes_in, cell_named};
 
+use crate::number_table::NumberTable;
 use crate::standing::Standing;
+use nm_region::Buf;
 use std::alloc::{AllocError, Global};
 use std::marker::Model;
 
@@ -16,10 +18,15 @@ use std::marker::Model;
 /// have stood at once; the rest of the room lies untouched.
 pub(crate) struct Cells {
     // by index: 0 where nothing stands, else one more than the position of what stands there
-    at: Vec<u32>,
-    // by position: the index, and what stands there
-    owners: Vec<u32>,
-    held: Vec<Standing>,
+    at: NumberTable,
+    // by position
+    held: Vec<Owned>,
+}
+
+/// What stands at an index, with that index.
+pub(crate) struct Owned {
+    index: u32,
+    standing: Standing,
 }
 
 impl Model for Cells {
@@ -28,9 +35,9 @@ impl Model for Cells {
 
     ghost Value = { List (Option Standing) };
 
-    ghost use Rattle.nm_hold.specs.Sparse.{cells_of, IsSparse};
+    ghost use Rattle.nm_hold.specs.Sparse.{cells_of, standings_in, IsSparse};
 
-    ghost view = { λ c. cells_of c.at.items c.held.items };
+    ghost view = { λ c. cells_of c.at (standings_in c.held.items) };
 
     ghost invariant = { IsSparse };
 }
@@ -44,8 +51,7 @@ impl Cells {
         ensures { IfOk result (λ cells. cells ≡ replicate count None) }
     {
         Ok(Cells {
-            at: vec![in alloc; 0; count]?,
-            owners: Vec::with_capacity(alloc, count)?,
+            at: NumberTable::new(alloc, count)?,
             held: Vec::with_capacity(alloc, count)?,
         })
     }
@@ -54,9 +60,11 @@ impl Cells {
     pub(crate) fn get(&self, idx: u32) -> Option<&Standing>
         ensures { option_copied result ≡ cell_at self.now idx }
     {
-        match self.at.get(idx as usize) {
-            Some(number) if *number > 0 => self.held.get((*number - 1) as usize),
-            _ => None,
+        let number = self.at.number(idx);
+        if number == 0 {
+            None
+        } else {
+            Some(&self.held[(number - 1) as usize].standing)
         }
     }
 
@@ -65,7 +73,7 @@ impl Cells {
         requires { IsSome (cell_at self.now idx) }
         ensures { cell_at self.now idx ≡ Some result.now }
     {
-        &self.held[(self.at[idx as usize] - 1) as usize]
+        &self.held[(self.at.given(idx) - 1) as usize].standing
     }
 
     /// The same, to be changed.
@@ -74,7 +82,7 @@ impl Cells {
         ensures* writes_back { sem 𝓛 (LendsStandingAt self.entry idx result) }
         ensures standing { cell_at self.old idx ≡ Some result.now }
     {
-        &mut self.held[(self.at[idx as usize] - 1) as usize]
+        &mut self.held[(self.at.given(idx) - 1) as usize].standing
     }
 
     /// The bytes of the buffer at an index, to be written.
@@ -101,35 +109,36 @@ impl Cells {
         requires empty { cell_at self.old idx ≡ None }
         ensures { self.new ≡ slice_set self.old idx (Some standing) }
     {
-        self.owners.push_reserved(idx);
-        self.held.push_reserved(standing);
-        self.at[idx as usize] = self.owners.len() as u32;
+        self.held.push_reserved(Owned {
+            index: idx,
+            standing,
+        });
+        self.at.set(idx, self.held.len() as u32);
     }
 
-    /// Takes out what stands at an index. What stands last takes its position.
-    pub(crate) fn take(&mut self, idx: u32) -> Standing
+    /// Takes out the buffer that stands at an index. What stands last takes its position.
+    pub(crate) fn take(&mut self, idx: u32) -> Buf
         requires { IsSome (cell_at self.old idx) }
-        ensures standing { cell_at self.old idx ≡ Some result }
+        ensures buffer { buf_in (cell_at self.old idx) ≡ Some result }
         ensures cells { self.new ≡ slice_set self.old idx None }
     {
-        let number = self.at[idx as usize];
+        let number = self.at.given(idx);
         let position = (number - 1) as usize;
-        let last = self.owners[self.owners.len() - 1];
-        self.at[last as usize] = number;
-        self.at[idx as usize] = 0;
-        self.owners.swap_remove(position);
-        self.held.swap_remove(position)
+        let last = self.held[self.held.len() - 1].index;
+        self.at.change(last, number);
+        self.at.change(idx, 0);
+        let Owned {
+            index: _,
+            standing: Standing { home: _, buf },
+        } = self.held.swap_remove(position);
+        buf
     }
 
     /// Ends cells in which nothing stands.
     pub(crate) fn destroy(self)
         requires { (idx : ℕ) → cell_at self idx ≡ None }
     {
-        let Cells {
-            at: _,
-            owners: _,
-            held,
-        } = self;
+        let Cells { at: _, held } = self;
         held.destroy_empty();
     }
 }

@@ -16,7 +16,7 @@ ghost use Rattle.nm_hold.specs.Holds.{empty_hold, buffers_of, extra_of, place_at
 ghost use Rattle.nm_hold.specs.Holds.{standing_at, buffer_at, is_named_at, named_bytes_at, index_at};
 ghost use Rattle.nm_hold.specs.Holds.{places_of, bufs_of, with_cell, SamePlaces, HoldsNothing};
 ghost use Rattle.nm_hold.specs.Holds.{size_on, AreNumbers};
-ghost use Rattle.nm_types.specs.declared.place.Place.TheVariants.{Tx};
+ghost use Rattle.nm_types.specs.declared.place.Place.TheVariants.{Tx, Rx};
 ghost use Rattle.nm_hold.specs.Renames.{with_places_named, tx_slots};
 ghost use Rattle.nm_hold.specs.Takes.{place_in, AreTakenBehind};
 
@@ -303,6 +303,26 @@ impl Hold {
         self.ports.replace(place, idx);
     }
 
+    /// Puts the buffer of a received frame into an empty slot of a port's receive ring. It is a named
+    /// one.
+    pub fn add_received(&mut self, port: PortId, slot: u32, buf: Buf)
+        requires belongs { has_place self.old.ports (Rx port slot) ≡ true }
+        requires empty { index_at self.old (Rx port slot) ≡ None }
+        requires index { IsBufferIndex (buffers_of self.old) buf.index }
+        requires apart { standing_at self.old buf.index ≡ None }
+        ensures cell { self.new ≡ with_cell self.old buf.index
+            (Some (record { home = record { place = Rx port slot; named = true }; buf = buf })) }
+        ensures places { (p : Place) → index_at self.new p
+            ≡ (if is_same_place (Rx port slot) p then Some buf.index else index_at self.old p) }
+        ensures hold { IsHold self.new }
+    {
+        let idx = buf.index();
+        let place = Place::Rx { port, slot };
+        let home = Home { place, named: true };
+        self.cells.put(idx, Standing { home, buf });
+        self.ports.put_received(port, slot, idx);
+    }
+
     /// Takes the buffer out of a place.
     pub fn remove(&mut self, place: Place) -> Buf
         requires { IsSome (index_at self.old place) }
@@ -314,8 +334,7 @@ impl Hold {
         ensures hold { IsHold self.new }
     {
         let idx = self.ports.replace(place, 0);
-        let Standing { home: _, buf } = self.cells.take(idx);
-        buf
+        self.cells.take(idx)
     }
 
     /// Makes the buffer in a place a named one, or one that is not named.

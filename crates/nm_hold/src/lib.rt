@@ -5,6 +5,7 @@ mod around;
 mod cells;
 mod hold;
 pub mod laws;
+mod number_table;
 mod ports;
 mod renames;
 mod standing;

@@ -2,10 +2,11 @@ ghost use Rattle.std.specs.Prelude.{◌≡◌, ◌==◌, ◌≤◌, ◌<◌, ◌
 ghost use Rattle.std.specs.Prelude.{false, true, length, not, filter, find, map, nat_eq, option_map};
 ghost use Rattle.std.specs.Prelude.{ℕ, Some};
 ghost use Rattle.std.specs.HashMap.{get};
-ghost use Rattle.std.specs.Vec.{vec_capacity};
+ghost use Rattle.std.specs.Vec.{vec_capacity, with_item};
 ghost use Rattle.std.specs.Option.{option_copied};
+ghost use Rattle.nm_types.specs.declared.place.Place.TheVariants.{Rx};
 ghost use Rattle.nm_hold.specs.declared.table.PortTable.{PortTable};
-ghost use Rattle.nm_hold.specs.Offsets.{has_port, ArePortsOnce};
+ghost use Rattle.nm_hold.specs.Offsets.{has_place, has_port, ArePortsOnce};
 ghost use Rattle.nm_hold.specs.Holds.{port_of};
 ghost use Rattle.nm_hold.specs.Tables.{number_at, ports_of, put_in, IsTable};
 ghost use Rattle.nm_hold.specs.Indexed.{tables_present, port_in, port_at, number_in_row, IsIndexed};
@@ -65,7 +66,10 @@ impl Ports {
             ≡ find (λ (t : PortTable). t.places.port.0 == port.0) self.now.tables }
         ensures once { ArePortsOnce (ports_of self.now.tables) }
     {
-        match row_of(&self.rows, &self.indices, port) {
+        if is_first(&self.rows, port) {
+            return self.rows[0].as_ref();
+        }
+        match row_in(&self.indices, port) {
             Some(at) => self.rows[at].as_ref(),
             None => None,
         }
@@ -90,10 +94,36 @@ impl Ports {
         ensures tables { self.new.tables ≡ map (put_in place number) self.old.tables }
         ensures spare { self.new.spare ≡ self.old.spare }
     {
-        match row_of(&self.rows, &self.indices, port_of(place)) {
+        if is_first(&self.rows, port_of(place)) {
+            return replace_at(&mut self.rows[0], place, number);
+        }
+        self.replace_by_map(place, number)
+    }
+
+    /// Does what `replace` does, in the row that the map finds.
+    fn replace_by_map(&mut self, place: Place, number: u32) -> u32
+        requires { All IsTable self.old.tables }
+        ensures number { result ≡ number_at self.old.tables place }
+        ensures tables { self.new.tables ≡ map (put_in place number) self.old.tables }
+        ensures spare { self.new.spare ≡ self.old.spare }
+    {
+        match row_in(&self.indices, port_of(place)) {
             Some(at) => replace_at(&mut self.rows[at], place, number),
             None => 0,
         }
+    }
+
+    /// Puts the index of a buffer at a receive slot of one of these ports.
+    pub(crate) fn put_received(&mut self, port: PortId, slot: u32, number: u32)
+        requires tables { All IsTable self.old.tables }
+        requires there { has_place (ports_of self.old.tables) (Rx port slot) ≡ true }
+        ensures { self.new.tables ≡ map (put_in (Rx port slot) number) self.old.tables }
+    {
+        if is_first(&self.rows, port) {
+            put_received_at(&mut self.rows[0], slot, number);
+            return;
+        }
+        self.replace_by_map(Place::Rx { port, slot }, number);
     }
 
     /// Puts the index of a buffer at a place, and the one that was there at another place. Returns
@@ -230,6 +260,16 @@ fn is_first(rows: &[Option<PortTable>], port: PortId) -> bool
     }
 }
 
+/// The row of a port's table, by the map.
+fn row_in(indices: &HashMap<u32, usize>, port: PortId) -> Option<usize>
+    ensures { result ≡ get nat_eq indices.now port.0 }
+{
+    match indices.get(&port.0) {
+        Some(at) => Some(*at),
+        None => None,
+    }
+}
+
 /// The row of a port's table. The first row is tried before the map.
 pub(crate) fn row_of(
     rows: &[Option<PortTable>],
@@ -242,10 +282,7 @@ pub(crate) fn row_of(
     if is_first(rows, port) {
         return Some(0);
     }
-    match indices.get(&port.0) {
-        Some(at) => Some(*at),
-        None => None,
-    }
+    row_in(indices, port)
 }
 
 /// The port of a place.
@@ -259,7 +296,7 @@ fn port_of(place: Place) -> PortId
 }
 
 /// Stores a number at a place of the port of a row. Returns the one that was there.
-pub(crate) fn replace_at(row: &mut Option<PortTable>, place: Place, number: u32) -> u32
+fn replace_at(row: &mut Option<PortTable>, place: Place, number: u32) -> u32
     requires { IfSome row.old IsTable }
     ensures number { result ≡ number_in_row row.old place }
     ensures row { row.new ≡ option_map (put_in place number) row.old }
@@ -267,6 +304,20 @@ pub(crate) fn replace_at(row: &mut Option<PortTable>, place: Place, number: u32)
     match row {
         Some(table) => table.replace(place, number),
         None => 0,
+    }
+}
+
+/// Stores a number at a receive slot of the port of a row.
+fn put_received_at(row: &mut Option<PortTable>, slot: u32, number: u32)
+    requires { IfSome row.old
+        (λ t. t.places.sizes.tx + slot < length t.numbers.items) }
+    ensures { row.new ≡ option_map (λ (t : PortTable). record t {
+      numbers = with_item t.numbers (t.places.sizes.tx + slot) number;
+    }) row.old }
+{
+    if let Some(table) = row {
+        let at = table.places.sizes.tx as usize + slot as usize;
+        table.numbers[at] = number;
     }
 }
 

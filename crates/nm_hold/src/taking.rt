@@ -1,19 +1,23 @@
-ghost use Rattle.std.specs.Prelude.{ℕ, ◌≡◌, ◌<◌, ◌≤◌, ◌+◌, length, nat_eq};
+ghost use Rattle.std.specs.Prelude.{ℕ, ◌≡◌, ◌<◌, ◌≤◌, ◌+◌, ◌^◌, IfSome, length, nat_eq};
+ghost use Rattle.std.specs.Prelude.{option_map, slice_index};
+ghost use Rattle.std.specs.Option.{option_map_or};
 ghost use Rattle.std.specs.HashMap.{get};
-ghost use Rattle.std.specs.Vec.{vec_capacity};
+ghost use Rattle.std.specs.Vec.{vec_capacity, with_item};
+ghost use Rattle.nm_types.specs.Positions.{step_on};
 ghost use Rattle.nm_hold.specs.Indexed.{tables_present, IsIndexed};
-ghost use Rattle.nm_hold.specs.Tables.{number_at, ports_of};
+ghost use Rattle.nm_hold.specs.declared.table.PortTable.{PortTable};
+ghost use Rattle.nm_hold.specs.Tables.{number_at, places_before, ports_of};
 ghost use Rattle.nm_hold.specs.Takes.{place_in, AreTakenBehind};
 ghost use Rattle.nm_hold.specs.Ties.{AreHeld};
 
 use crate::around::step_on;
 use crate::cells::Cells;
-use crate::ports::{replace_at, row_of};
-use crate::standing::Standing;
+use crate::ports::row_of;
 use crate::table::PortTable;
 use nm_region::Buf;
-use nm_types::{Place, PortId, Side};
+use nm_types::{PortId, Side};
 use std::collections::HashMap;
+use std::mem::replace;
 
 /// Slots of a side of a port, from one on, going round at `size`.
 #[derive(Clone, Copy, Debug, PartialEq, Eq)]
@@ -25,18 +29,42 @@ pub struct SlotRun {
 }
 
 impl SlotRun {
-    /// The place of the slot so many steps behind the first one.
-    fn place(self, steps: u32) -> Place
+    /// The slot so many steps behind the first one.
+    fn slot(self, steps: u32) -> usize
         requires size { self.size ≤ 1024 }
         requires first { self.first < self.size }
         requires steps { steps ≤ self.size }
-        ensures { result ≡ place_in self steps }
+        ensures { result ≡ step_on self.size self.first steps }
     {
-        let (port, slot) = (self.port, step_on(self.size, self.first, steps));
-        match self.side {
-            Side::Tx => Place::Tx { port, slot },
-            Side::Rx => Place::Rx { port, slot },
-        }
+        step_on(self.size, self.first, steps) as usize
+    }
+}
+
+/// How many places of a row's port stand before the slots of a side.
+fn places_before(row: &Option<PortTable>, side: Side) -> usize
+    ensures count { result ≡ places_before side row.now }
+    ensures few { result < 2 ^ 32 }
+{
+    match row {
+        Some(table) => match side {
+            Side::Tx => 0,
+            Side::Rx => table.places.sizes.tx as usize,
+        },
+        None => 0,
+    }
+}
+
+/// Clears the number that stands so many places behind the first one of a row's port. Returns it.
+fn clear_at(row: &mut Option<PortTable>, at: usize) -> u32
+    requires { IfSome row.old (λ t. at < length t.numbers.items) }
+    ensures number { result
+        ≡ option_map_or (λ (t : PortTable). slice_index t.numbers.items at) row.old 0 }
+    ensures row { row.new ≡ option_map
+        (λ (t : PortTable). record t { numbers = with_item t.numbers at 0 }) row.old }
+{
+    match row {
+        Some(table) => replace(&mut table.numbers[at], 0),
+        None => 0,
     }
 }
 
@@ -69,9 +97,10 @@ pub(crate) fn take_run(
     let Some(at) = row_of(rows, indices, run.port) else {
         return;
     };
+    let ahead = places_before(&rows[at], run.side);
     for k in 0..count {
-        let idx = replace_at(&mut rows[at], run.place(k), 0);
-        let Standing { home: _, buf } = cells.take(idx);
-        back.push_reserved(buf);
+        let place = ahead + run.slot(k);
+        let idx = clear_at(&mut rows[at], place);
+        back.push_reserved(cells.take(idx));
     }
 }

@@ -29,6 +29,7 @@ pub mod TakenTx
 pub mod TakenLent
 pub mod PortNames
 pub mod SlotsLent
+pub mod SlotsAhead
 pub mod WrittenCopies
 pub mod PutCopies
 pub mod PortPlaces

@@ -125,3 +125,8 @@ module _ (h : HoldState) (ports : List UserPort) (side : Side) (id : PortId) (p 
     once = names_once;
     is_hold = x.is_hold;
   }
+
+-- the positions of a ring that a check passed fit it
+pub passes_fit : (o : Inside) (side : Side) (id : PortId) (r : RingSlots) → IsKept o → slots_at side o.ports.items id.0 ≡ Some r → refusal_at side id.0 (own_seen o.hold o.ports.items) ≡ None
+    → FitsRing r.ring r.ring.head r.ring.cur
+passes_fit o side id r kept at passes = let x = passes_of o side id r kept at passes in positions_fit o.hold o.ports.items side id x.0 r x.1

@@ -1,11 +1,9 @@
 -- A buffer whose first bytes are written, over what is seen.
-use Rattle.std.proofs.Common.{ℕ, zero, suc, ◌≡◌, ◌≤◌, ◌-◌, Bool, true, false, List, [], ◌∷◌, ◌++◌, length, drop, map, set, Option, Some, None, option_map, refl, sym, ◌∙◌, ap, arith, length-append}
+use Rattle.std.proofs.Common.{ℕ, zero, suc, ◌≡◌, ◌≤◌, ◌-◌, Bool, true, false, List, [], ◌∷◌, ◌++◌, length, drop, map, set, Option, Some, None, refl, sym, ◌∙◌, ap, arith, length-append}
 use Rattle.std.specs.Prelude.{is_some, unwrap_or}
-use Rattle.std.specs.List.{range_with_len}
 use Rattle.std.proofs.lemmas.List.{length-set, length-drop}
 use Rattle.nm_types.specs.declared.id.Side.{Side}
-use Rattle.nm_types.specs.declared.id.Side.TheVariants.{Tx, Rx}
-use Rattle.nm_types.specs.declared.place.Place.{Place}
+use Rattle.nm_types.specs.declared.id.Side.TheVariants.{Tx}
 use Rattle.nm_types.specs.declared.place.Place.TheVariants as place
 use Rattle.nm_types.specs.Slots.{SlotState}
 use Rattle.nm_types.specs.OwnPorts.{OwnRing, OwnPort, OwnState, bytes_at, with_ring, slot_in, named_of, ring_at}
@@ -16,16 +14,17 @@ use Rattle.nm_types.specs.SyncChecks.{contains_index}
 use Rattle.nm_hold.specs.declared.standing.Home.{Home}
 use Rattle.nm_hold.specs.declared.standing.Standing.{Standing}
 use Rattle.nm_hold.specs.Standings.{cell_fronted}
-use Rattle.nm_hold.specs.Holds.{HoldState, port_of, buffers_of, standing_at, cell_at, places_of, with_cell, is_named_at, IsHold, SamePlaces}
+use Rattle.nm_hold.specs.Holds.{HoldState, buffers_of, standing_at, cell_at, places_of, with_cell, is_named_at, IsHold, SamePlaces}
 use Rattle.nm_hold.proofs.Shown.{named_stands}
 use Rattle.nm_port.specs.declared.port.UserPort.{UserPort}
 use Rattle.nm_port.specs.RingSlots.{RingSlots, slot_before_tail}
-use Rattle.nm_port.specs.Sides.{number_at}
-use Rattle.nm_port.specs.Own.{positions_of, number_on, extra_number_at, ring_seen, port_seen, own_seen, bytes_in_cell, AreSided, AreRings, AreFlagged, AreFilled, AreWhole}
+use Rattle.nm_port.specs.Own.{ring_seen, port_seen, own_seen, bytes_in_cell, AreSided, AreRings, AreFlagged, AreFilled, AreWhole}
 use Rattle.nm_own.proofs.Filled.{is_named_seen}
 use Rattle.nm_port.proofs.Checked.{bytes_are_seen}
 use Rattle.nm_port.proofs.Seeing.{map-set, ports_same}
 use Rattle.nm_types.specs.declared.id.PortId.{PortId}
+use Rattle.nm_own.specs.Kept.{IsKept}
+use Rattle.nm_own.specs.declared.own.OwnSide.TheInside.{Inside}
 
 -- a written cell
 fronted_bytes : (bytes : List ℕ) (cell : Option Standing) (s : Standing) → cell ≡ Some s → bytes_in_cell (cell_fronted bytes cell) ≡ bytes ++ drop (length bytes) (bytes_in_cell cell)
@@ -142,6 +141,23 @@ whole_fronted (cell ∷ cells) (suc idx) (suc i) bytes s few whole e = whole_fro
 
 pub whole_kept : (h new : HoldState) (idx : ℕ) (bytes : List ℕ) → length bytes ≤ 2048 → new ≡ with_cell h idx (cell_fronted bytes (standing_at h idx)) → AreWhole h → AreWhole new
 whole_kept h new idx bytes few cell whole i s e = whole_fronted h.cells idx i bytes s few whole (ap (λ (x : HoldState). standing_at x i) (sym cell) ∙ e)
+
+-- what is kept of a session's own side whose hold has first bytes written
+pub fronted_inside : (o : Inside) (new : HoldState) (idx : ℕ) (bytes : List ℕ) → IsKept o → length bytes ≤ 2048 → new ≡ with_cell o.hold idx (cell_fronted bytes (standing_at o.hold idx)) → SamePlaces (places_of o.hold) (places_of new) → IsHold new
+    → IsKept (record o { hold = new })
+fronted_inside o new idx bytes kept few cell places is =
+    let homes = fronted_keeps o.hold new idx bytes cell in
+    record {
+      sided = kept.sided;
+      rings = kept.rings;
+      flagged = flagged_kept o.hold new o.ports.items homes kept.flagged;
+      hold = is;
+      places = ap (λ (x : HoldState). x.ports) cell ∙ kept.places;
+      filled = filled_kept o.hold new o.ports.items places kept.filled;
+      whole = whole_kept o.hold new idx bytes few cell kept.whole;
+      blank = rw homes.count kept.blank;
+      back = kept.back;
+    }
 
 -- the slot at the head, as it is seen
 pub head_slot_seen : (h : HoldState) (port : PortId) (side : Side) (r : RingSlots) → r.side ≡ side → slot_before_tail r ≡ head_slot_in side (Some (ring_seen h port r))

@@ -1,11 +1,13 @@
 -- Copies of one frame, written one after another.
-use Rattle.std.proofs.Common.{ℕ, zero, suc, ◌≡◌, ◌+◌, ◌<◌, true, false, List, length, refl, sym, ◌∙◌, ap, subst, arith, le_refl}
+use Rattle.std.proofs.Common.{ℕ, zero, suc, ◌≡◌, ◌≤◌, ◌+◌, ◌<◌, min, true, List, length, refl, ◌∙◌, ap, subst, arith}
 use Rattle.nm_types.specs.declared.id.Side.TheVariants.{Tx}
 use Rattle.nm_hold.specs.Holds.{HoldState}
-use Rattle.nm_port.specs.RingSlots.{RingSlots, head_has_slot}
+use Rattle.nm_types.specs.Positions.{IsRing}
+use Rattle.nm_port.specs.RingSlots.{RingSlots, head_has_slot, slots_ahead}
 use Rattle.nm_own.specs.declared.edit.RingEdit.TheVariants.{Frame}
 use Rattle.nm_own.specs.Edits.{edited}
 use Rattle.nm_own.specs.CopiesIn.{ring_behind, named_at_head, IsFronted, AreWritten, ArePutIn}
+use Rattle.nm_own.proofs.SlotsAhead.{none_left}
 
 next_one : (count : ℕ) → suc count ≡ count + 1
 next_one count = omega arith
@@ -28,11 +30,17 @@ written_more count idx bytes r was h before new is written has names fronted =
     subst (λ (n : ℕ). AreWritten n bytes r h new) (next_one count)
     (before, written, subst (λ (x : RingSlots). head_has_slot x.ring ≡ true) is has, subst (λ (i : ℕ). IsFronted i bytes before new) (names ∙ ap named_at_head is) fronted)
 
--- there is no slot for one more
-pub no_more : (wanted count : ℕ) (bytes : List ℕ) (r was : RingSlots) (h new : HoldState) → count < wanted → was ≡ ring_behind count (length bytes) r → AreWritten count bytes r h new → head_has_slot was.ring ≡ false → ArePutIn wanted count bytes r h new
-no_more wanted count bytes r was h new less is written none =
-    record { most = omega (arith, less); written = written; full = λ more. subst (λ (x : RingSlots). head_has_slot x.ring ≡ false) is none }
+-- of as many as are wanted, or find a slot, none is left out
+pub least_put : (wanted put least seen : ℕ) (bytes : List ℕ) (r : RingSlots) (h new : HoldState) → IsRing r.ring → put ≡ least → seen ≡ slots_ahead r.ring → least ≡ min seen wanted → AreWritten put bytes r h new
+    → ArePutIn wanted least bytes r h new
+least_put wanted put least seen bytes r h new is all ahead at written = record {
+  most = under least seen wanted at;
+  written = subst (λ (n : ℕ). AreWritten n bytes r h new) all written;
+  full = λ more. ap (λ (n : ℕ). head_has_slot (ring_behind n (length bytes) r).ring) (first least seen wanted at more ∙ ahead) ∙ none_left (length bytes) r is;
+}
+  where
+    under : (least seen wanted : ℕ) → least ≡ min seen wanted → least ≤ wanted
+    under least seen wanted at = grind arith
 
-pub all_written : (wanted count : ℕ) (bytes : List ℕ) (r : RingSlots) (h new : HoldState) → wanted ≡ count → AreWritten count bytes r h new → ArePutIn wanted wanted bytes r h new
-all_written wanted count bytes r h new all written =
-    record { most = le_refl wanted; written = subst (λ (n : ℕ). AreWritten n bytes r h new) (sym all) written; full = λ more. absurd (let none : ⊥ = omega (arith, more) in none) }
+    first : (least seen wanted : ℕ) → least ≡ min seen wanted → least < wanted → least ≡ seen
+    first least seen wanted at more = grind arith

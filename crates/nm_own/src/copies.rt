@@ -30,14 +30,12 @@ fn put_in(hold: &mut Hold, ring: &mut SlotRing, bytes: &[u8], count: u32) -> u32
     ensures ring { ring.new ≡ ring_behind result (length bytes.now) ring.old }
 {
     let len = bytes.len() as u16;
-    for put in 0..count {
-        if !ring.has_slot() {
-            return put;
-        }
+    let most = ring.slots_ahead().min(count);
+    for put in 0..most {
         let idx = ring.put_next(len);
         write_front(hold, idx, bytes);
     }
-    count
+    most
 }
 
 /// Puts copies of a frame into the transmit ring of a port; none if it has no such ring.

@@ -42,14 +42,14 @@ use nm_hold::Hold;
 use nm_port::checks::check_ring;
 use nm_port::close::{empty_port, take_port};
 use nm_port::exchange::{accept_pushes, send_out};
-use nm_port::fill::{Row, fill, put};
+use nm_port::fill::{Row, fill};
 use nm_port::gather::{gather, gather_names, gather_offered};
 use nm_port::receive::clear_behind;
 use nm_port::reset::reset_rings;
 use nm_port::{SlotRing, UserPort};
 use nm_region::Buf;
 use nm_ring::Ring;
-use nm_types::{Batch, Chain, Name, NoMemory, Place, PortId, Side, Slot, SyncFault};
+use nm_types::{Batch, Chain, Name, NoMemory, PortId, Side, Slot, SyncFault};
 use std::alloc::Global;
 use std::marker::Model;
 
@@ -532,7 +532,7 @@ impl OwnSide {
         let mut buf = buf;
         clear_behind(&mut buf, len);
         let idx = buf.index();
-        put(&mut self.hold, Place::Rx { port, slot }, buf, true);
+        self.hold.add_received(port, slot, buf);
         self.ports[at].rx.publish(idx, len);
     }
 

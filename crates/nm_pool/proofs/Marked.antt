@@ -1,24 +1,29 @@
 -- Words of bits: one bit changes and the others stay; a word that is 0 has none; bits beside places.
-use Rattle.std.proofs.Common.{ℕ, zero, suc, ◌≡◌, ◌≢◌, ◌+◌, ◌-◌, ◌*◌, ◌/◌, ◌%◌, ◌^◌, ◌<◌, ◌≤◌, true, false, List, [], ◌∷◌, ◌++◌, length, take, map, slice_set, get_or, Option, Some, None, nat_eq, nat_lt, inl, inr, refl, sym, ◌∙◌, ap, subst, arith}
+use Rattle.std.proofs.Common.{ℕ, zero, suc, ◌≡◌, ◌≢◌, ◌+◌, ◌-◌, ◌*◌, ◌/◌, ◌%◌, ◌^◌, ◌<◌, ◌≤◌, List, [], ◌∷◌, length, take, map, slice_set, get_or, Option, Some, None, nat_eq, nat_lt, inl, inr, refl, sym, ◌∙◌, ap, subst, arith}
 use Rattle.std.specs.Prelude.{min}
 use Rattle.std.specs.List.{range_with_len}
-use Rattle.std.specs.Int.{bit_at, trailing_zeros}
+use Rattle.std.specs.Int.{bit_at}
 use Rattle.std.proofs.lemmas.Bool.{cases_Bool}
 use Rattle.std.proofs.lemmas.Bool.Decides.{nat_tests}
 use Rattle.std.proofs.Math.ListN.{get_or-eq_default}
 use Rattle.std.proofs.Math.Nat.{min-le_left, le-min}
 use Rattle.std.proofs.lemmas.List.{get_or-set_same, get_or-set_other}
 use Rattle.std.proofs.lemmas.List.FromFn.{get_or-map-range_with_len, length-map-range_with_len}
-use Rattle.std.proofs.lemmas.Nat.Bits.{bit_at-zero, bit_at_ones, bit_at_ones_above, bit_at-trailing_zeros}
+use Rattle.std.proofs.lemmas.Nat.Bits.{bit_at-zero, bit_at_ones, bit_at_ones_above}
 use Rattle.nm_region.specs.Buffers.{Buffer}
 use Rattle.nm_pool.specs.Bits.{bit_of, mark, AreBits}
 use Rattle.nm_pool.specs.Kept.{buffers_in}
+use Rattle.std.proofs.lemmas.List.{get_or_read_under}
 
 -- ---- one word is changed
 pub changed-same : (words : List ℕ) (k v : ℕ) → k < length words * 64 → bit_of (slice_set words (k / 64) v) k ≡ bit_at v (k % 64)
 changed-same words k v h =
     let within : k / 64 < length words = omega (arith, h) in
     ap (λ (w : ℕ). bit_at w (k % 64)) (get_or-set_same words (k / 64) v 0 within)
+
+-- the word of a bit, as it is read
+pub word_read : (words : List ℕ) (k w : ℕ) → k < length words * 64 → w ≡ get_or words (k / 64) w → w ≡ get_or words (k / 64) 0
+word_read words k w below is = get_or_read_under words (k / 64) (length words) w 0 is (omega (arith, below)) refl
 
 pub changed-other : (words : List ℕ) (k v : ℕ) → k < length words * 64 → ((i : ℕ) → i < 64 → i ≢ k % 64 → bit_at v i ≡ bit_at (get_or words (k / 64) 0) i)
     → (j : ℕ) → j ≢ k → bit_of (slice_set words (k / 64) v) j ≡ bit_of words j

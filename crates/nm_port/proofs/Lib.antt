@@ -16,3 +16,5 @@ pub mod Undoing
 pub mod Unmoved
 pub mod Regions
 pub mod Ranges
+pub mod SideBySide
+pub mod StillNamed

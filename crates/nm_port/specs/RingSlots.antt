@@ -1,6 +1,6 @@
 -- A ring with its slots: those of a transmit ring by position, those of a receive ring from the accepted
 -- head on, as many as are the user's.
-use Rattle.std.specs.Prelude.{ℕ, Bool, ◌≡◌, ◌==◌, ◌&&◌, not, is_none, List, length, Option, Some, None, if◌then◌else◌, slice_index_or, slice_set}
+use Rattle.std.specs.Prelude.{ℕ, Bool, ◌≡◌, ◌<◌, ◌+◌, ◌==◌, ◌&&◌, not, is_none, List, length, Option, Some, None, if◌then◌else◌, slice_index_or, slice_set}
 use Rattle.bitflags.specs.Sets.{without}
 use Rattle.nm_types.specs.declared.id.Side.{Side}
 use Rattle.nm_types.specs.declared.id.Side.TheVariants.{Tx, Rx}
@@ -62,9 +62,19 @@ slot_framed len slot = record slot { len = len; flags = without 16 slot.flags fr
 abbrev pub head_has_slot : RingState → Bool
 head_has_slot ring = is_none (ring_refusal ring ring.head ring.cur) && not (ring.head == ring.tail)
 
+-- how many slots there are from the head to before the tail, if the positions fit
+abbrev pub slots_ahead : RingState → ℕ
+slots_ahead ring = if is_none (ring_refusal ring ring.head ring.cur) then dist ring.size ring.head ring.last_tail else 0
+
 abbrev pub slot_before_tail : RingSlots → Option SlotState
 slot_before_tail r = if head_has_slot r.ring then Some (slot_at r r.ring.head) else None
 
 -- how many slots are the kernel side's, behind the tail, once the push up to the head is accepted
 abbrev pub count_behind_tail : RingState → ℕ
 count_behind_tail ring = kernel_count ring.size ring.head ring.last_tail
+
+-- some slots from the one on that is so many steps behind the accepted head, whose positions do not go
+-- round
+pub record AreSideBySide (r : RingSlots) (steps : ℕ) (slots : List SlotState) : Type 0 where
+  pub stand : (j : ℕ) → j < length slots → slice_index_or slots j blank_slot ≡ slot_at r (step_on r.ring.size r.ring.accepted_head (steps + j))
+  pub positions : (j : ℕ) → j < length slots → step_on r.ring.size r.ring.accepted_head (steps + j) ≡ step_on r.ring.size r.ring.accepted_head steps + j

@@ -7,7 +7,7 @@ use Rattle.nm_types.specs.declared.id.Side.TheVariants.{Tx, Rx}
 use Rattle.nm_types.specs.declared.place.Place.{Place}
 use Rattle.nm_types.specs.declared.place.Place.TheVariants as place
 use Rattle.nm_types.specs.Positions.{pushed_slots}
-use Rattle.nm_types.specs.Slots.{Pushed}
+use Rattle.nm_types.specs.Slots.{SlotState, Pushed}
 use Rattle.nm_types.specs.declared.slot.Seen.{Seen}
 use Rattle.nm_types.specs.SyncChecks.{contains_index, slot_refusal, seen_of}
 use Rattle.nm_types.specs.declared.refusal.SlotFault.{SlotFault}
@@ -78,8 +78,13 @@ TellsRefusal (Err fault) refusal = refusal ≡ Some fault
 abbrev pub seen_alone : HoldState → ℕ → ℕ → Seen
 seen_alone h top idx = record { was = idx; top = top; held = is_named_at h idx; doubled = false }
 
--- a slot that names the buffer in its place, as these numbers of all places tell, and passes all checks
--- that do not ask for other slots
+-- a slot that names the buffer of this index, the one in its place, and passes all checks that do not ask
+-- for other slots
+pub record KeepsSlot (h : HoldState) (top : ℕ) (side : Side) (number : ℕ) (slot : SlotState) : Type 0 where
+  pub own : number ≡ slot.buf_idx
+  pub passes : (at : ℕ) → slot_refusal side (seen_alone h top slot.buf_idx) at slot ≡ None
+
+-- a pushed slot that does, as these numbers of all places tell
 pub record KeepsBuffer (h : HoldState) (top : ℕ) (r : RingSlots) (numbers : List ℕ) (at : ℕ) : Type 0 where
   pub own : slice_index_or numbers at 0 ≡ name_at r at
   pub passes : slot_refusal r.side (seen_alone h top (name_at r at)) at (slot_at r at) ≡ None

@@ -4,6 +4,7 @@ ghost use Rattle.std.specs.Prelude.{None, Some, true, false, length, replicate, 
 ghost use Rattle.std.specs.Prelude.{slice_set, ◌+◌};
 ghost use Rattle.nm_types.specs.Positions.{FitsRing, is_user_slot};
 ghost use Rattle.nm_types.specs.Limits.{buffer_bytes};
+ghost use Rattle.nm_types.specs.OwnPorts.{blank_slot};
 ghost use Rattle.nm_types.specs.Slots.{pushed_names, has_flag, indirect, more_fragments};
 ghost use Rattle.nm_types.specs.SyncFaults.{ring_sync_fault, slot_sync_fault};
 ghost use Rattle.nm_types.specs.SyncChecks.{is_tx, slot_refusal, seen_of, slots_refusal, refusal_of};
@@ -11,13 +12,14 @@ ghost use Rattle.nm_hold.specs.Holds.{buffers_of, is_named_at, IsHold};
 ghost use Rattle.nm_port.specs.Sides.{place_on, number_at, pushed_seen_at, pushed_seen};
 ghost use Rattle.nm_port.specs.Sides.{names_pushed, AreNamed, AreMarked, AreMarkedOf, AreCleared};
 ghost use Rattle.nm_port.specs.Sides.{JudgesSlot, JudgesAll, TellsRefusal, marks_after};
-ghost use Rattle.nm_port.specs.Sides.{KeepsBuffer, seen_alone};
+ghost use Rattle.nm_port.specs.Sides.{KeepsBuffer, KeepsSlot, seen_alone};
 ghost use Rattle.nm_port.specs.Exchanges.{pushed_count_of, user_position};
 ghost use Rattle.nm_port.specs.RingSlots.{IsRingSlots, slot_at};
 
+use crate::kept::numbers_from;
 use crate::slot_ring::SlotRing;
 use bitflags::Flags;
-use nm_hold::{Hold, number_in, step_on};
+use nm_hold::{Hold, step_on};
 use nm_slot::judge;
 use nm_types::{
     BUFFER_BYTES, Place, PortId, RingFault, Seen, Side, Slot, SlotFault, SlotFlags, SyncFault,
@@ -150,7 +152,7 @@ fn judge_pushed(
     Ok(())
 }
 
-/// Whether no mark of a slot and not its length refuses it: those of a transmit slot may.
+/// Whether neither the marks nor the length of a slot refuse it; those of a receive slot never do.
 fn is_plain(side: Side, slot: &Slot) -> bool
     ensures direct { result ≡ true → is_tx side ≡ true → has_flag indirect slot.now ≡ false }
     ensures whole { result ≡ true → is_tx side ≡ true
@@ -181,26 +183,20 @@ fn passes_alone(hold: &Hold, side: Side, slot: &Slot) -> bool
     }
 }
 
-/// Whether the pushed slot at a position, so many steps behind the accepted head, names the buffer in
-/// its place, a named one, and passes the other checks. `numbers` has the index of the buffer in each
-/// place of the ring.
-fn keeps_buffer(hold: &Hold, ring: &SlotRing, numbers: &[u32], at: u32, steps: u32) -> bool
-    requires user { is_user_slot ring.now.ring at ≡ true }
-    requires steps { steps < ring.now.ring.size }
-    requires there { at ≡ user_position ring.now steps }
-    ensures { result ≡ true
-        → KeepsBuffer hold.now (buffers_of hold.now + 1) ring.now numbers.now at }
+/// Whether each of some slots names the buffer in its place, a named one, and passes the other
+/// checks. `numbers` begins with the index of the buffer in the place of each.
+fn slots_keep(hold: &Hold, side: Side, slots: &[Slot], numbers: &[u32]) -> bool
+    ensures { result ≡ true → (j : ℕ) → j < length slots.now
+        → KeepsSlot hold.now (buffers_of hold.now + 1) side
+        (slice_index_or numbers.now j 0) (slice_index_or slots.now j blank_slot) }
 {
-    let slot = ring.slot_behind(at, steps);
-    let own = number_in(numbers, at);
-    if own == slot.buf_idx {
-        passes_alone(hold, ring.side(), &slot)
-    } else {
-        false
-    }
+    slots.len() <= numbers.len()
+        && slots.iter().zip(numbers).all(|(slot, number)| *number == slot.buf_idx
+            && passes_alone(hold, side, slot))
 }
 
 /// Whether each pushed slot names the buffer in its place, a named one, and passes the other checks.
+/// `numbers` has the index of the buffer in each place of the ring.
 fn each_keeps(hold: &Hold, ring: &SlotRing, numbers: &[u32]) -> bool
     requires { FitsRing ring.now.ring ring.now.ring.head ring.now.ring.cur }
     ensures keeps { result ≡ true → (k : ℕ) → k < pushed_count_of ring.now
@@ -210,11 +206,14 @@ fn each_keeps(hold: &Hold, ring: &SlotRing, numbers: &[u32]) -> bool
 {
     let (first, count) = ring.pushed();
     let size = ring.ring().size();
-    for k in 0..count {
+    let mut k = 0;
+    while k < count {
         let at = step_on(size, first, k);
-        if !keeps_buffer(hold, ring, numbers, at, k) {
+        let slots = ring.side_by_side(at, k, count - k);
+        if !slots_keep(hold, ring.side(), slots, numbers_from(numbers, at)) {
             return false;
         }
+        k += slots.len() as u32;
     }
     true
 }

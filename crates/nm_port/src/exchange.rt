@@ -3,7 +3,7 @@ ghost use Rattle.std.specs.List.{AllByRecursion};
 ghost use Rattle.nm_types.specs.declared.id.Side.TheVariants.{Tx};
 ghost use Rattle.nm_types.specs.declared.id.PortId.{PortId};
 ghost use Rattle.nm_types.specs.declared.place.Place.TheVariants as place;
-ghost use Rattle.nm_types.specs.Positions.{IsRing};
+ghost use Rattle.nm_types.specs.Positions.{IsRing, step_on};
 ghost use Rattle.nm_hold.specs.Holds.{index_at, IsHold};
 ghost use Rattle.nm_port.specs.Own.{port_changed_if};
 ghost use Rattle.nm_port.specs.Exchanges.{CanExchange, AreExchanged, pushed_count_of, AreRenamed};
@@ -13,7 +13,7 @@ use crate::checks::place_on;
 use crate::kept::kept_count;
 use crate::port::UserPort;
 use crate::slot_ring::SlotRing;
-use nm_hold::Hold;
+use nm_hold::{Hold, step_on};
 use nm_types::PortId;
 
 /// Exchanges, for each pushed slot in order, the buffer in its place and the one that it names.
@@ -60,6 +60,26 @@ pub(crate) fn push_out(hold: &mut Hold, port: PortId, ring: &SlotRing, taken: u3
     name_slots(hold, port, positions.size(), positions.tail(), taken, true);
 }
 
+/// Does what `push_out` does, for all frames of a push, where none of an earlier one is still pushed:
+/// but for the last one its slots stay the user's, and the slot at the tail is the user's again.
+fn push_all(hold: &mut Hold, port: PortId, ring: &SlotRing)
+    requires can { CanExchange hold.old port ring.now }
+    requires side { ring.now.side ≡ Tx }
+    requires some { 0 < pushed_count_of ring.now }
+    requires behind { step_on ring.now.ring.size ring.now.ring.last_tail 1
+        ≡ ring.now.ring.accepted_head }
+    requires held { (at : ℕ) → at < ring.now.ring.size
+        → IsSome (index_at hold.old (place.Tx port at)) }
+    ensures { ArePushedOut hold.old hold.new port ring.now (pushed_count_of ring.now) }
+{
+    let (first, count) = ring.pushed();
+    let positions = ring.ring();
+    let last = step_on(positions.size(), first, count - 1);
+    exchange_pushed(hold, port, ring);
+    name_slots(hold, port, positions.size(), last, 1, false);
+    name_slots(hold, port, positions.size(), positions.tail(), 1, true);
+}
+
 /// Exchanges the buffers of a transmit push all of whose frames were taken; answers their number.
 pub fn send_out(hold: &mut Hold, port: PortId, ring: &SlotRing) -> u32
     requires can { CanExchange hold.old port ring.now }
@@ -69,8 +89,12 @@ pub fn send_out(hold: &mut Hold, port: PortId, ring: &SlotRing) -> u32
     ensures count { result ≡ pushed_count_of ring.now }
     ensures out { ArePushedOut hold.old hold.new port ring.now (pushed_count_of ring.now) }
 {
-    let (_, count) = ring.pushed();
-    push_out(hold, port, ring, count);
+    let (first, count) = ring.pushed();
+    if count > 0 && ring.next(ring.ring().tail()) == first {
+        push_all(hold, port, ring);
+    } else {
+        push_out(hold, port, ring, count);
+    }
     count
 }
 

@@ -1,6 +1,6 @@
-ghost use Rattle.std.specs.Prelude.{◌≡◌, IfOk, take, []};
+ghost use Rattle.std.specs.Prelude.{◌≡◌, ◌++◌, IfOk, OnOk, map, take, []};
 ghost use Rattle.nm_types.specs.Positions.{FitsRing};
-ghost use Rattle.nm_types.specs.Slots.{no_learn, has_flag};
+ghost use Rattle.nm_types.specs.Slots.{frame_at, no_learn, has_flag};
 ghost use Rattle.nm_port.specs.Sides.{names_pushed};
 ghost use Rattle.nm_port.specs.Own.{bytes_in_hold, frames_seen};
 ghost use Rattle.nm_port.specs.Offers.{offers_seen, lengths_seen};
@@ -8,7 +8,7 @@ ghost use Rattle.nm_port.specs.Offers.{offers_seen, lengths_seen};
 use crate::slot_ring::SlotRing;
 use bitflags::Flags;
 use nm_hold::{Hold, step_on};
-use nm_types::{Batch, NoMemory, Slot, SlotFlags};
+use nm_types::{BUFFER_BYTES, Batch, NoMemory, Slot, SlotFlags};
 use std::alloc::Global;
 
 /// The first bytes of the buffer that a slot names, as many as its frame has.
@@ -31,15 +31,29 @@ fn is_not_learned(slot: &Slot) -> bool
     SlotFlags::from_bits_retain(slot.flags).contains(SlotFlags::NO_LEARN)
 }
 
-/// No frames yet, with room for `count` of them that are as long as the frame of a slot.
+/// No frames yet, with room for `count` of them that are as long as the frame of a slot, which is in
+/// one buffer.
 fn batch_for(alloc: Global, count: u32, slot: &Slot) -> Result<Batch, NoMemory>
     ensures { IfOk result (λ batch. batch ≡ []) }
 {
     let mut batch = Batch::new(alloc);
     if count > 0 {
-        batch.reserve(count as usize, count as usize * slot.len as usize)?;
+        let len = (slot.len as usize).min(BUFFER_BYTES);
+        batch.reserve(count as usize, count as usize * len)?;
     }
     Ok(batch)
+}
+
+/// Adds the frames of slots.
+#[inline(never)]
+fn gather_slots(hold: &Hold, slots: &[Slot], batch: &mut Batch) -> Result<(), NoMemory>
+    ensures { OnOk result (batch.new
+        ≡ batch.old ++ map (frame_at (bytes_in_hold hold.now)) slots.now) }
+{
+    for slot in slots {
+        batch.push(frame_bytes(hold, slot), is_not_learned(slot))?;
+    }
+    Ok(())
 }
 
 /// The frames of the pushed slots.
@@ -50,10 +64,12 @@ pub fn gather(alloc: Global, hold: &Hold, ring: &SlotRing) -> Result<Batch, NoMe
     let (first, count) = ring.pushed();
     let size = ring.ring().size();
     let mut batch = batch_for(alloc, count, &ring.any_slot(first))?;
-    for k in 0..count {
+    let mut k = 0;
+    while k < count {
         let at = step_on(size, first, k);
-        let slot = ring.slot_behind(at, k);
-        batch.push(frame_bytes(hold, &slot), is_not_learned(&slot))?;
+        let slots = ring.side_by_side(at, k, count - k);
+        gather_slots(hold, slots, &mut batch)?;
+        k += slots.len() as u32;
     }
     Ok(batch)
 }

@@ -1,13 +1,44 @@
-ghost use Rattle.std.specs.Prelude.{ℕ, ◌≡◌, ◌≤◌, [], length, map, reverse};
+ghost use Rattle.std.specs.Prelude.{ℕ, ◌≡◌, ◌<◌, ◌≤◌, ◌+◌, ◌++◌, [], length, map, reverse};
+ghost use Rattle.std.specs.Prelude.{slice_index_or};
 ghost use Rattle.std.specs.Vec.{vec_capacity};
+ghost use Rattle.nm_types.specs.Slots.{SlotState};
+ghost use Rattle.nm_types.specs.OwnPorts.{blank_slot};
 ghost use Rattle.nm_types.specs.Positions.{IsRing, FitsRing, slots_from};
 ghost use Rattle.nm_port.specs.Sides.{name_at};
 ghost use Rattle.nm_port.specs.Exchanges.{CanExchange, AreExchanged, KeepFirst, pushed_count_of};
 ghost use Rattle.nm_port.specs.Lending.{AreSwapped};
 
 use crate::slot_ring::SlotRing;
-use nm_hold::{Hold, number_in, step_on};
-use nm_types::PortId;
+use nm_hold::{Hold, step_on};
+use nm_types::{PortId, Slot};
+
+/// The numbers from a position on.
+pub(crate) fn numbers_from(numbers: &[u32], at: u32) -> &[u32]
+    ensures { (j : ℕ) → slice_index_or result.now j 0 ≡ slice_index_or numbers.now (at + j) 0 }
+{
+    if (at as usize) < numbers.len() {
+        &numbers[at as usize..]
+    } else {
+        &[]
+    }
+}
+
+/// How many slots there are in front of the first that does not name the buffer in its place.
+/// `numbers` begins with the index of the buffer in the place of each.
+fn slots_kept(slots: &[Slot], numbers: &[u32]) -> usize
+    ensures few { result ≤ length slots.now }
+    ensures kept { (j : ℕ) → j < result
+        → slice_index_or numbers.now j 0 ≡ (slice_index_or slots.now j blank_slot).buf_idx }
+{
+    let changed = slots
+        .iter()
+        .zip(numbers)
+        .position(|(slot, number)| *number != slot.buf_idx);
+    match changed {
+        Some(count) => count,
+        None => slots.len().min(numbers.len()),
+    }
+}
 
 /// How many pushed slots there are in front of the first that does not name the buffer in its
 /// place. `numbers` has the index of the buffer in each place of the ring.
@@ -18,13 +49,17 @@ fn count_kept(ring: &SlotRing, numbers: &[u32]) -> u32
 {
     let (first, count) = ring.pushed();
     let size = ring.ring().size();
-    for k in 0..count {
+    let mut k = 0;
+    while k < count {
         let at = step_on(size, first, k);
-        if number_in(numbers, at) != ring.slot_behind(at, k).buf_idx {
+        let slots = ring.side_by_side(at, k, count - k);
+        let kept = slots_kept(slots, numbers_from(numbers, at));
+        k += kept as u32;
+        if kept < slots.len() {
             return k;
         }
     }
-    count
+    k
 }
 
 /// How many of the first pushed slots name the buffers in their places, so that nothing changes
@@ -41,6 +76,39 @@ pub(crate) fn kept_count(hold: &Hold, port: PortId, ring: &SlotRing) -> u32
     }
 }
 
+/// Keeps the names in slots.
+fn note_slots(slots: &[Slot], was: &mut Vec<u32>)
+    requires room { length was.old.items + length slots.now ≤ vec_capacity was.old }
+    ensures names { was.new.items
+        ≡ was.old.items ++ map (λ (s : SlotState). s.buf_idx) slots.now }
+    ensures capacity { vec_capacity was.new ≡ vec_capacity was.old }
+{
+    for slot in slots {
+        was.push_reserved(slot.buf_idx);
+    }
+}
+
+/// Keeps the names in the first `count` pushed slots.
+fn note_first(ring: &SlotRing, count: u32, was: &mut Vec<u32>)
+    requires fits { FitsRing ring.now.ring ring.now.ring.head ring.now.ring.cur }
+    requires few { count ≤ pushed_count_of ring.now }
+    requires empty { was.old.items ≡ [] }
+    requires room { count ≤ vec_capacity was.old }
+    ensures names { was.new.items ≡ map (name_at ring.now)
+        (slots_from ring.now.ring.size ring.now.ring.accepted_head count) }
+    ensures capacity { vec_capacity was.new ≡ vec_capacity was.old }
+{
+    let (first, _) = ring.pushed();
+    let size = ring.ring().size();
+    let mut k = 0;
+    while k < count {
+        let at = step_on(size, first, k);
+        let slots = ring.side_by_side(at, k, count - k);
+        note_slots(slots, was);
+        k += slots.len() as u32;
+    }
+}
+
 /// Keeps the names in the pushed slots in front of the first that does not name the buffer in its
 /// place, and answers how many they are. `numbers` has the index of the buffer in each place of the
 /// ring.
@@ -54,17 +122,9 @@ fn note_names(ring: &SlotRing, numbers: &[u32], was: &mut Vec<u32>) -> u32
         (slots_from ring.now.ring.size ring.now.ring.accepted_head result) }
     ensures capacity { vec_capacity was.new ≡ vec_capacity was.old }
 {
-    let (first, count) = ring.pushed();
-    let size = ring.ring().size();
-    for k in 0..count {
-        let at = step_on(size, first, k);
-        let own = ring.slot_behind(at, k).buf_idx;
-        if number_in(numbers, at) != own {
-            return k;
-        }
-        was.push_reserved(own);
-    }
-    count
+    let kept = count_kept(ring, numbers);
+    note_first(ring, kept, was);
+    kept
 }
 
 /// How many of the first pushed slots name the buffers in their places, so that nothing changes

@@ -1,5 +1,6 @@
 ghost use Rattle.std.specs.Prelude.{ℕ, ◌≡◌, ◌<◌, ◌≤◌, ◌++◌, ◌∷◌, [], None, Some, IfSome, IfOk};
-ghost use Rattle.std.specs.Prelude.{option_map, drop, length, map, false, true, ◌+◌};
+ghost use Rattle.std.specs.Prelude.{option_map, drop, length, map, min, slice_index_or, false, true};
+ghost use Rattle.std.specs.Prelude.{◌+◌, ◌-◌};
 ghost use Rattle.std.specs.Borrow.{sem};
 ghost use Rattle.std.specs.Option.{option_copied, option_copied_mut};
 ghost use Rattle.nm_types.specs.Positions.{IsRing, IsRingSize, is_user_slot, opened_tx};
@@ -11,8 +12,9 @@ ghost use Rattle.nm_region.specs.Buffers.{indices_of};
 ghost use Rattle.nm_port.specs.RingSlots.{RingSlots, IsRingSlots, slot_of_user};
 ghost use Rattle.nm_port.specs.RingSlots.{with_slot_of_user, with_slot_reset_at, at_positions};
 ghost use Rattle.nm_port.specs.RingSlots.{slot_at, with_slot_at, both_stepped, head_stepped};
-ghost use Rattle.nm_port.specs.RingSlots.{slot_framed, head_has_slot, count_behind_tail};
-ghost use Rattle.nm_types.specs.OwnPorts.{index_of};
+ghost use Rattle.nm_port.specs.RingSlots.{slot_framed, head_has_slot, slots_ahead, count_behind_tail};
+ghost use Rattle.nm_port.specs.RingSlots.{AreSideBySide};
+ghost use Rattle.nm_types.specs.OwnPorts.{index_of, blank_slot};
 ghost use Rattle.nm_types.specs.declared.id.Side.TheVariants.{Tx, Rx};
 ghost use Rattle.nm_types.specs.Positions.{FitsRing, dist, step_on};
 ghost use Rattle.nm_types.specs.OwnSyncs.{accepted, slots_after_push};
@@ -20,7 +22,8 @@ ghost use Rattle.nm_port.specs.Exchanges.{CanPushOut, ring_pushed_out};
 ghost use Rattle.std.specs.VecDeque.{deque_capacity};
 ghost use Rattle.nm_port.specs.Receives.{has_free_slot};
 
-use crate::slots::{BLANK, clear_announcements, drop_front, framed, opened_slots};
+use crate::slots::{BLANK, any_announces, clear_if_announced, drop_front, framed, opened_slots};
+use nm_hold::step_on;
 use nm_region::Buf;
 use nm_ring::Ring;
 use nm_types::{Side, Slot};
@@ -67,6 +70,16 @@ fn dist(size: u32, from: u32, to: u32) -> u32
     } else {
         ((to as u64 + (size - from) as u64) % size as u64) as u32
     }
+}
+
+/// The slots of a list from one on, at most so many.
+fn part(slots: &[Slot], first: usize, most: usize) -> &[Slot]
+    requires { first < length slots.now }
+    ensures count { length result.now ≡ min most (length slots.now - first) }
+    ensures slots { (j : ℕ) → j < length result.now
+        → slice_index_or result.now j blank_slot ≡ slice_index_or slots.now (first + j) blank_slot }
+{
+    &slots[first..first + most.min(slots.len() - first)]
 }
 
 impl SlotRing {
@@ -117,6 +130,17 @@ impl SlotRing {
         match self.ring.check(self.ring.head(), self.ring.cur()) {
             Ok(()) => self.ring.head() != self.ring.tail(),
             Err(_) => false,
+        }
+    }
+
+    /// How many slots there are from the head to before the tail; none if the positions do not fit.
+    pub fn slots_ahead(&self) -> u32
+        ensures ahead { result ≡ slots_ahead self.now.ring }
+        ensures slots { IsRingSlots self.now }
+    {
+        match self.ring.check(self.ring.head(), self.ring.cur()) {
+            Ok(()) => dist(self.ring.size(), self.ring.head(), self.ring.tail()),
+            Err(_) => 0,
         }
     }
 
@@ -204,11 +228,12 @@ impl SlotRing {
             (slot_framed len (slot_at self.old self.old.ring.head)) self.old) }
     {
         let at = self.ring.head();
-        let slot = self.slots[at as usize];
-        self.slots[at as usize] = framed(slot, len);
+        let slot = &mut self.slots[at as usize];
+        let idx = slot.buf_idx;
+        *slot = framed(*slot, len);
         let next = self.next(at);
         self.put_positions(next, next);
-        slot.buf_idx
+        idx
     }
 
     /// Whether a position is one of the user's slots.
@@ -281,6 +306,27 @@ impl SlotRing {
         }
     }
 
+    /// Whether a pushed slot of a transmit ring whose positions fit announces a changed buffer. If
+    /// none does, clearing their announcements changes nothing.
+    fn announces(&self) -> bool
+        requires side { self.now.side ≡ Tx }
+        requires fits { FitsRing self.now.ring self.now.ring.head self.now.ring.cur }
+        ensures { result ≡ false → slots_after_push self.now.ring self.now.slots ≡ self.now.slots }
+    {
+        let (first, count) = self.pushed();
+        let size = self.ring.size();
+        let mut k = 0;
+        while k < count {
+            let at = step_on(size, first, k);
+            let slots = self.side_by_side(at, k, count - k);
+            if any_announces(slots) {
+                return true;
+            }
+            k += slots.len() as u32;
+        }
+        false
+    }
+
     /// Accepts the push of a transmit ring whose positions fit, and clears the announcements of its
     /// slots. The tail stays.
     pub(crate) fn accept_push(&mut self)
@@ -292,7 +338,8 @@ impl SlotRing {
         } }
     {
         let (first, count) = self.pushed();
-        clear_announcements(&mut self.slots, self.ring.size(), first, count);
+        let (size, announced) = (self.ring.size(), self.announces());
+        clear_if_announced(&mut self.slots, size, first, count, announced);
         let (head, cur, tail) = (self.ring.head(), self.ring.cur(), self.ring.tail());
         self.ring.advance(head, cur, tail);
     }
@@ -476,6 +523,27 @@ impl SlotRing {
         ensures { result ≡ slot_at self.now at }
     {
         self.slots[self.index_behind(at, steps)]
+    }
+
+    /// Some of the user's slots that lie side by side, at most so many, from the position on that is so
+    /// many steps behind the accepted head.
+    pub(crate) fn side_by_side(&self, at: u32, steps: u32, most: u32) -> &[Slot]
+        requires there { at ≡ step_on self.now.ring.size self.now.ring.accepted_head steps }
+        requires user { steps + most
+            ≤ dist self.now.ring.size self.now.ring.accepted_head self.now.ring.last_tail }
+        requires some { 0 < most }
+        ensures some { 0 < length result.now }
+        ensures few { length result.now ≤ most }
+        ensures slots { AreSideBySide self.now steps result.now }
+    {
+        let most = most.min(self.ring.size() - at) as usize;
+        let index = self.index_behind(at, steps);
+        let (front, back) = self.slots.as_slices();
+        if index < front.len() {
+            part(front, index, most)
+        } else {
+            part(back, index - front.len(), most)
+        }
     }
 
     /// The slot at a position, which is one of the user's.

@@ -1,7 +1,9 @@
-ghost use Rattle.std.specs.Prelude.{◌≡◌, ◌<◌, ◌≤◌, [], drop, fold, length, map};
+ghost use Rattle.std.specs.Prelude.{ℕ, ◌≡◌, ◌<◌, ◌≤◌, [], drop, false, fold, length, map};
+ghost use Rattle.std.specs.Prelude.{slice_index_or};
 ghost use Rattle.std.specs.VecDeque.{deque_capacity};
 ghost use Rattle.nm_types.specs.Positions.{slots_from};
 ghost use Rattle.nm_types.specs.Slots.{slot_after_push};
+ghost use Rattle.nm_types.specs.OwnPorts.{blank_slot};
 ghost use Rattle.nm_types.specs.OwnSyncs.{with_push_cleared, opened_slot};
 ghost use Rattle.nm_region.specs.Buffers.{indices_of};
 ghost use Rattle.nm_port.specs.RingSlots.{slot_framed};
@@ -45,8 +47,49 @@ fn clear_announcement(slot: &mut Slot)
     slot.flags = flags.difference(SlotFlags::BUF_CHANGED).bits();
 }
 
+/// Whether a slot announces a changed buffer.
+fn announces(slot: &Slot) -> bool
+    ensures { result ≡ false → slot_after_push slot.now ≡ slot.now }
+{
+    let flags = SlotFlags::from_bits_retain(slot.flags);
+    flags.difference(SlotFlags::BUF_CHANGED).bits() != slot.flags
+}
+
+/// Whether one of some slots announces a changed buffer.
+pub(crate) fn any_announces(slots: &[Slot]) -> bool
+    ensures { result ≡ false → (j : ℕ) → j < length slots.now
+        → slot_after_push (slice_index_or slots.now j blank_slot)
+        ≡ slice_index_or slots.now j blank_slot }
+{
+    slots.iter().any(|slot| announces(slot))
+}
+
+/// Clears the announcements of `count` slots from a position on, going round, if one of them
+/// announces a changed buffer.
+pub(crate) fn clear_if_announced(
+    slots: &mut VecDeque<Slot>,
+    size: u32,
+    first: u32,
+    count: u32,
+    announced: bool,
+)
+    requires size { length slots.old.items ≡ size }
+    requires few { size ≤ 1024 }
+    requires first { first < size }
+    requires count { count < size }
+    requires none { announced ≡ false
+        → fold with_push_cleared slots.old.items (slots_from size first count) ≡ slots.old.items }
+    ensures slots { slots.new.items
+        ≡ fold with_push_cleared slots.old.items (slots_from size first count) }
+    ensures room { deque_capacity slots.new ≡ deque_capacity slots.old }
+{
+    if announced {
+        clear_announcements(slots, size, first, count);
+    }
+}
+
 /// Clears the announcements of `count` slots from a position on, going round.
-pub(crate) fn clear_announcements(slots: &mut VecDeque<Slot>, size: u32, first: u32, count: u32)
+fn clear_announcements(slots: &mut VecDeque<Slot>, size: u32, first: u32, count: u32)
     requires size { length slots.old.items ≡ size }
     requires few { size ≤ 1024 }
     requires first { first < size }
@@ -66,6 +109,10 @@ pub(crate) fn drop_front(slots: &mut VecDeque<Slot>, count: u32)
     ensures slots { slots.new.items ≡ drop count slots.old.items }
     ensures room { deque_capacity slots.new ≡ deque_capacity slots.old }
 {
+    if slots.len() <= count as usize {
+        slots.truncate(0);
+        return;
+    }
     for _ in 0..count {
         let _first = slots.pop_front();
     }

@@ -154,6 +154,7 @@ fn publish(own: &mut OwnSide, at: usize, port: PortId, got: Got)
 }
 
 /// Publishes frames in their order.
+#[inline(never)]
 fn publish_all(own: &mut OwnSide, port: PortId, gots: Vec<Got>)
     requires come { CanCome port.0 own.old.own (arrivals_in gots.items) }
     ensures own { own.new.own

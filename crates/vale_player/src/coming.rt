@@ -62,6 +62,7 @@ impl<'f> Player<'f> {
                 saves: Vec::new(alloc),
                 names,
                 kept: Vec::new(alloc),
+                frame: Vec::new(alloc),
             }),
             Err(refused) => Err(refused),
         }
@@ -104,6 +105,7 @@ impl<'f> Player<'f> {
             saves,
             names: _,
             kept,
+            frame: _,
         } = self;
         (session.leave(rt), saves, kept)
     }

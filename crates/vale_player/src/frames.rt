@@ -146,16 +146,13 @@ impl<'f> Player<'f> {
         self.session.put_frame(port, bytes);
     }
 
-    /// Puts copies of a frame at the port of a name, where there is room for one of them. Answers how
-    /// many.
+    /// Puts copies of a frame at the port of a name, as many as there is room for. Answers how many.
     fn write_copies(&mut self, name: &Name, port: PortId, bytes: &[u8], count: u32) -> u32
         requires size { length bytes.now ≤ 2048 }
         requires named { sender_named self.old.session.own name.now ≡ Some port }
-        requires room { has_room self.old.session.own port.0 ≡ true }
-        requires some { 1 ≤ count }
         ensures does { Does self.old self.new (replicate result (PutFrame name.now bytes.now)) }
         ensures named { sender_named self.new.session.own name.now ≡ Some port }
-        ensures some { 1 ≤ result }
+        ensures some { has_room self.old.session.own port.0 ≡ true → 1 ≤ count → 1 ≤ result }
         ensures most { result ≤ count }
         ensures still { IsStill self.old self.new }
     {
@@ -293,7 +290,8 @@ impl<'f> Player<'f> {
         let Some(port) = self.sender(name) else {
             return Ok(());
         };
-        let mut left = count;
+        let put = self.write_copies(name, port, frame, count);
+        let mut left = count - put;
         while left > 0 {
             match self.make_room(rt, name, port, gate) {
                 Ok(true) => left -= self.write_copies(name, port, frame, left),
@@ -386,25 +384,26 @@ impl<'f> Player<'f> {
     }
 }
 
-/// The frame that a line asks for: the first `len` bytes of destination, source, 88 b5 and the fill
-/// byte repeated.
-pub(crate) fn frame_of_put(
-    alloc: Global,
+/// Writes the frame that a line asks for, in the place of other bytes: the first `len` bytes of
+/// destination, source, 88 b5 and the fill byte repeated.
+pub(crate) fn write_frame_of_put(
+    bytes: &mut Vec<u8>,
     to: Mac,
     from: Mac,
     len: u16,
     fill: u8,
-) -> Result<Vec<u8>, NoMemory>
+) -> Result<(), NoMemory>
     requires { len ≤ 2048 }
-    ensures { IfOk result (λ bytes. bytes.items ≡ frame_of_put to from len fill) }
+    ensures { OnOk result (bytes.new.items ≡ frame_of_put to from len fill) }
 {
     let len = len as usize;
-    let mut bytes = Vec::with_capacity(alloc, len + 14)?;
+    bytes.clear();
+    bytes.reserve(len + 14)?;
     bytes.extend_from_slice(&to.0)?;
     bytes.extend_from_slice(&from.0)?;
     bytes.push(0x88)?;
     bytes.push(0xb5)?;
     bytes.resize(len + 14, fill)?;
     bytes.truncate(len);
-    Ok(bytes)
+    Ok(())
 }

@@ -1,18 +1,19 @@
 //! What a user does of its own lines.
-ghost use Rattle.std.specs.Prelude.{◌≡◌, [], ◌∷◌, map, OnOk, IfErr};
+ghost use Rattle.std.specs.Prelude.{◌≡◌, ◌≤◌, [], ◌∷◌, length, map, replicate, OnOk, IfErr};
 ghost use Rattle.vale_captures.specs.Inputs.{captured};
 ghost use Rattle.vale_script.specs.Sound.{IsSoundAct};
-ghost use Rattle.vale_replay.specs.Tasks.{SaveFrames, tasks_of, tasks_of_lines};
+ghost use Rattle.vale_replay.specs.Tasks.{PutFrame, SaveFrames, tasks_of, tasks_of_lines};
 ghost use Rattle.vale_replay.specs.Replay.{acts_of, has_line};
 ghost use Rattle.vale_player.specs.Players.{Does, DoesLine, Stops, IsStill, RunsLines, with_act};
 ghost use Rattle.vale_player.specs.Inputs.{records_in};
 ghost use Rattle.vale_player.specs.Deeds.{IsSoundWatch, IsOnRings, AreDoable, receive_tasks};
 
-use crate::frames::frame_of_put;
+use crate::frames::write_frame_of_put;
 use crate::player::Player;
 use nm_io::Gate;
 use nm_types::{Name, StepFault};
 use pcap_io::Record;
+use std::mem;
 use std::sync::Wait;
 use vale_captures::Inputs;
 use vale_script::{Act, Line, ScriptWord};
@@ -32,6 +33,21 @@ fn has_line(lines: &[Line], number: u64) -> bool
 }
 
 impl<'f> Player<'f> {
+    /// The memory for a frame, which the player then has not.
+    fn take_frame(&mut self) -> Vec<u8>
+        ensures { self.new ≡ self.old }
+    {
+        let alloc = *self.saves.allocator();
+        mem::replace(&mut self.frame, Vec::new(alloc))
+    }
+
+    /// Keeps memory for a frame.
+    fn keep_frame(&mut self, frame: Vec<u8>)
+        ensures { self.new ≡ self.old }
+    {
+        self.frame = frame;
+    }
+
     /// Changes what is on the user's own side, as a line says that makes no call.
     fn change(&mut self, act: &Act)
         requires { IsSoundAct act.now }
@@ -99,6 +115,27 @@ impl<'f> Player<'f> {
         }
     }
 
+    /// A line that puts a frame so many times, whose memory is kept then.
+    fn put_kept<R: Wait, G: Gate>(
+        &mut self,
+        rt: &R,
+        name: &Name,
+        count: u32,
+        frame: Vec<u8>,
+        gate: &G,
+    ) -> Result<(), StepFault>
+        requires { length frame.items ≤ 2048 }
+        ensures does { OnOk result
+            (DoesLine self.old self.new (replicate count (PutFrame name.now frame.items))) }
+        ensures stops { IfErr result
+            (Stops self.old self.new (replicate count (PutFrame name.now frame.items))) }
+        ensures still { IsStill self.old self.new }
+    {
+        let done = self.put(rt, name, count, &frame, gate);
+        self.keep_frame(frame);
+        done
+    }
+
     /// Does what a line says on the rings of ports: puts, sends and takes frames, or changes what
     /// is on the user's own side.
     fn act_on_rings<R: Wait, G: Gate>(
@@ -125,8 +162,9 @@ impl<'f> Player<'f> {
                 len,
                 fill,
             } => {
-                let frame = frame_of_put(*self.saves.allocator(), *to, *from, *len, *fill)?;
-                self.put(rt, name, *count, &frame, gate)
+                let mut frame = self.take_frame();
+                write_frame_of_put(&mut frame, *to, *from, *len, *fill)?;
+                self.put_kept(rt, name, *count, frame, gate)
             }
             Act::Hex { name, bytes } => self.put(rt, name, 1, bytes.bytes(), gate),
             Act::Play { name, file, batch } => {

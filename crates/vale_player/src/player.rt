@@ -30,6 +30,8 @@ pub struct Player<'f> {
     pub(crate) names: &'f [Name],
     /// Such ports, with all that they have given.
     pub(crate) kept: Vec<KeptPort>,
+    /// Memory for the frame that a line puts.
+    pub(crate) frame: Vec<u8>,
 }
 
 impl<'f> Model for Player<'f> {

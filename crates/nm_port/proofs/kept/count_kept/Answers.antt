@@ -1,32 +1,29 @@
-use Rattle.std.proofs.Common.{◌≡◌, ◌∙◌, sym, ap, inl, inr, arith}
+use Rattle.std.proofs.Common.{ℕ, ◌≡◌, ◌∙◌, ◌+◌, ap, refl, arith}
 use Rattle.std.specs.Prelude.{slice_index_or}
-use Rattle.std.proofs.lemmas.Bool.{cases_lt}
-use Rattle.nm_types.specs.Positions.{RingState}
-use Rattle.nm_types.specs.Slots.{SlotState}
-use Rattle.nm_port.specs.Sides.{name_at}
-use Rattle.nm_port.proofs.Pushes.{IsNext, next_is}
+use Rattle.nm_port.specs.Exchanges.{user_position, KeepFirst}
+use Rattle.nm_port.proofs.SideBySide.{names_more}
 use Rattle.nm_port.proofs.kept.count_kept.Goals as goal
 
--- the next slot
-next : (c : goal.After-number_in) → IsNext c.args.ring.now.ring c.loop-k.k c.step_on-at.result
-next c =
-    next_is c.args.ring.now.ring c.size-size.result c.pushed-first.result.0 c.pushed-first.result.1 c.loop-k.k c.step_on-at.result c.pushed-first.ensures.slots.ring c.requires
-    (c.size-size.ensures.size ∙ ap (λ (ring : RingState). ring.size) c.ring.ensures.ring) c.pushed-first.ensures.first c.pushed-first.ensures.count (omega (arith, c.loop-k-test.true)) c.step_on-at.ensures
-
-pub slot_behind-requires-clause-user : goal.slot_behind-requires-clause-user
-slot_behind-requires-clause-user c = (next c).user
-
-pub slot_behind-requires-clause-steps : goal.slot_behind-requires-clause-steps
-slot_behind-requires-clause-steps c = (next c).steps
-
-pub slot_behind-requires-clause-there : goal.slot_behind-requires-clause-there
-slot_behind-requires-clause-there c = (next c).there
-
 pub loop-k-preserved : goal.loop-k-preserved
-loop-k-preserved c j less = elim (cases_lt j c.loop-k.k) [
-  | inl earlier ↦ c.loop-k.invariant j earlier
-  | inr last ↦ (let same : c.loop-k.k ≡ j = omega arith in
-      let kept : slice_index_or c.args.numbers.now c.step_on-at.result 0 ≡ name_at c.args.ring.now c.step_on-at.result =
-      sym c.number_in.ensures ∙ (c.if-number_in-slot_behind.false ∙ ap (λ (s : SlotState). s.buf_idx) c.slot_behind.ensures) in
-      rw (← same, ← c.step_on-at.ensures) kept)
-]
+loop-k-preserved c =
+    let r = c.args.ring.now in
+    let numbers = c.args.numbers.now in
+    let k = c.loop-k.k in
+    let at : c.step_on-at.result ≡ user_position r k = rw (c.step_on-at.ensures, c.pushed-first.ensures.first, c.size-size.ensures.size, c.ring.ensures.ring) refl in
+    let before : KeepFirst r numbers k = (λ j below. rw (c.pushed-first.ensures.first, c.size-size.ensures.size, c.ring.ensures.ring) at (c.loop-k.invariant.1 j below)) in
+    let more : KeepFirst r numbers (k + c.slots_kept-kept.result) = names_more r k c.side_by_side-slots.result.now c.side_by_side-slots.ensures.slots numbers c.numbers_from.result.now
+    (λ i. c.numbers_from.ensures i ∙ ap (λ (a : ℕ). slice_index_or numbers (a + i) 0) at) c.slots_kept-kept.result c.slots_kept-kept.ensures.few before c.slots_kept-kept.ensures.kept in (
+      omega (arith, c.slots_kept-kept.ensures.few, c.side_by_side-slots.ensures.few, c.loop-k-test.true),
+      λ j below. rw (c.pushed-first.ensures.first, c.size-size.ensures.size, c.ring.ensures.ring) (more j below),
+    )
+
+pub returns-then-kept-slots-clause-kept : goal.returns-then-kept-slots-clause-kept
+returns-then-kept-slots-clause-kept c =
+    let r = c.args.ring.now in
+    let numbers = c.args.numbers.now in
+    let k = c.loop-k.k in
+    let at : c.step_on-at.result ≡ user_position r k = rw (c.step_on-at.ensures, c.pushed-first.ensures.first, c.size-size.ensures.size, c.ring.ensures.ring) refl in
+    let before : KeepFirst r numbers k = (λ j below. rw (c.pushed-first.ensures.first, c.size-size.ensures.size, c.ring.ensures.ring) at (c.loop-k.invariant.1 j below)) in
+    let more : KeepFirst r numbers (k + c.slots_kept-kept.result) = names_more r k c.side_by_side-slots.result.now c.side_by_side-slots.ensures.slots numbers c.numbers_from.result.now
+    (λ i. c.numbers_from.ensures i ∙ ap (λ (a : ℕ). slice_index_or numbers (a + i) 0) at) c.slots_kept-kept.result c.slots_kept-kept.ensures.few before c.slots_kept-kept.ensures.kept in
+    more

@@ -1,16 +1,25 @@
-use Rattle.std.proofs.Common.{◌≡◌, ◌-◌, arith}
-use Rattle.nm_hold.proofs.Owning.{position, read_at, standing_read}
+use Rattle.std.proofs.Common.{◌≡◌, ◌-◌, ◌∙◌, suc, arith}
+use Rattle.nm_hold.specs.Sparse.{standings_in}
+use Rattle.nm_hold.proofs.Owned.{standings_long, standing_of}
+use Rattle.nm_hold.proofs.Owning.{position, standing_read}
 use Rattle.nm_hold.proofs.cells.Cells.standing.Goals as goal
 
-pub index-requires-2 : goal.index-requires-2
-index-requires-2 c =
-    let p = position c.self.inside.at.items c.self.inside.held.items c.args.idx (rw (← c.self.view_is) at c.requires) in
-    let number = read_at c.self.inside.at.items c.args.idx p.k c.index.result.now p.number c.index.ensures in
-    omega (arith, number, p.within)
+pub given-requires : goal.given-requires
+given-requires c =
+    let p = position c.self.inside.at (standings_in c.self.inside.held.items) c.args.idx (rw (← c.self.view_is) at c.requires) in
+    omega (arith, p.number)
+
+pub index-requires : goal.index-requires
+index-requires c =
+    let held = c.self.inside.held.items in
+    let p = position c.self.inside.at (standings_in held) c.args.idx (rw (← c.self.view_is) at c.requires) in
+    let number : c.given.result ≡ suc p.k = c.given.ensures ∙ p.number in
+    omega (arith, number, p.within, standings_long held)
 
 pub returns : goal.returns
 returns c =
-    let p = position c.self.inside.at.items c.self.inside.held.items c.args.idx (rw (← c.self.view_is) at c.requires) in
-    let number = read_at c.self.inside.at.items c.args.idx p.k c.index.result.now p.number c.index.ensures in
-    let spot : c.index.result.now - 1 ≡ p.k = omega (arith, number) in
-    rw (← c.self.view_is) (standing_read c.self.inside.at.items c.self.inside.held.items c.args.idx p.k c.index-2.result.now p.number p.within (rw spot at c.index-2.ensures))
+    let held = c.self.inside.held.items in
+    let p = position c.self.inside.at (standings_in held) c.args.idx (rw (← c.self.view_is) at c.requires) in
+    let number : c.given.result ≡ suc p.k = c.given.ensures ∙ p.number in
+    let spot : c.given.result - 1 ≡ p.k = omega (arith, number) in
+    rw (← c.self.view_is) (standing_read c.self.inside.at (standings_in held) c.args.idx p.k c.index.result.now.standing p.number p.within (standing_of held p.k c.index.result.now (rw spot at c.index.ensures)))

@@ -1,21 +1,45 @@
-use Rattle.std.proofs.Common.{◌≡◌, ◌-◌, refl, arith}
-use Rattle.nm_hold.proofs.Owning.{position, read_at, standing_read, cells_lent}
+use Rattle.std.proofs.Common.{◌≡◌, ◌-◌, ◌∙◌, suc, refl, ap, arith}
+use Rattle.nm_hold.specs.declared.cells.Owned.{Owned}
+use Rattle.nm_hold.specs.Sparse.{cells_of, owners_in, standings_in}
+use Rattle.nm_hold.proofs.Owned.{standings_long, standing_of, standings_set, owners_stay}
+use Rattle.nm_hold.proofs.Owning.{position, standing_read, cells_lent}
 use Rattle.nm_hold.proofs.cells.Cells.standing_mut.Goals as goal
+
+pub given-requires : goal.given-requires
+given-requires c =
+    let p = position c.self.inside.at (standings_in c.self.inside.held.items) c.args.idx (rw (← c.self.view_is) at c.requires) in
+    omega (arith, p.number)
 
 pub index_mut-requires : goal.index_mut-requires
 index_mut-requires c =
-    let p = position c.self.inside.at.items c.self.inside.held.items c.args.idx (rw (← c.self.view_is) at c.requires) in
-    let number = read_at c.self.inside.at.items c.args.idx p.k c.index.result.now p.number c.index.ensures in
-    omega (arith, number, p.within)
+    let held = c.self.inside.held.items in
+    let p = position c.self.inside.at (standings_in held) c.args.idx (rw (← c.self.view_is) at c.requires) in
+    let number : c.given.result ≡ suc p.k = c.given.ensures ∙ p.number in
+    omega (arith, number, p.within, standings_long held)
+
+pub invariant_of-self-lent : goal.invariant_of-self-lent
+invariant_of-self-lent c w =
+    let inv = c.self.invariant in
+    record {
+      owners = rw (owners_stay c.self.inside.held.items (c.given.result - 1) c.index_mut.result.now w c.index_mut.ensures.value) inv.owners;
+      few = inv.few;
+      space = inv.space;
+    }
 
 pub returns : goal.returns
 returns c =
-    let p = position c.self.inside.at.items c.self.inside.held.items c.args.idx (rw (← c.self.view_is) at c.requires) in
-    let number = read_at c.self.inside.at.items c.args.idx p.k c.index.result.now p.number c.index.ensures in
-    let spot : c.index.result.now - 1 ≡ p.k = omega (arith, number) in (
-      (refl, λ w. rw (← c.self.view_is, spot) (cells_lent c.self.inside.at.items c.self.inside.owners.items c.self.inside.held.items c.args.idx p.k w c.self.invariant.owners p.number p.within)),
+    let at = c.self.inside.at in
+    let held = c.self.inside.held.items in
+    let p = position at (standings_in held) c.args.idx (rw (← c.self.view_is) at c.requires) in
+    let number : c.given.result ≡ suc p.k = c.given.ensures ∙ p.number in
+    let spot : c.given.result - 1 ≡ p.k = omega (arith, number) in (
+      (
+        refl,
+        λ w. (let put : Owned = record { index = c.index_mut.result.now.index; standing = w } in
+            rw (← c.self.view_is, spot) (ap (cells_of at) (standings_set held p.k put) ∙ cells_lent at (owners_in held) (standings_in held) c.args.idx p.k w c.self.invariant.owners p.number p.within)),
+      ),
       record {
         writes_back = tt;
-        standing = rw (← c.self.view_is) (standing_read c.self.inside.at.items c.self.inside.held.items c.args.idx p.k c.index_mut.result.now p.number p.within (rw spot at c.index_mut.ensures.value));
+        standing = rw (← c.self.view_is) (standing_read at (standings_in held) c.args.idx p.k c.index_mut.result.now.standing p.number p.within (standing_of held p.k c.index_mut.result.now (rw spot at c.index_mut.ensures.value)));
       },
     )

@@ -1,93 +1,112 @@
-use Rattle.std.proofs.Common.{ℕ, ◌≡◌, ◌≢◌, ◌<◌, ◌-◌, ◌+◌, ◌∙◌, ap, length, get_or, slice_set, Some, None, arith}
+use Rattle.std.proofs.Common.{ℕ, ◌≡◌, ◌≢◌, ◌<◌, ◌-◌, ◌+◌, ◌∙◌, suc, ap, sym, length, get_or, slice_set, Some, None, List, arith}
 use Rattle.std.specs.Prelude.{slice_index}
 use Rattle.std.proofs.lemmas.List.{length-set}
-use Rattle.nm_hold.specs.Sparse.{cells_of, AreOwners}
+use Rattle.nm_hold.specs.declared.cells.Owned.{Owned}
+use Rattle.nm_hold.specs.Sparse.{cells_of, owners_in, standings_in, AreOwners}
+use Rattle.nm_hold.specs.Standings.{buf_in}
 use Rattle.nm_hold.specs.Holds.{cell_at}
-use Rattle.nm_hold.proofs.Owning.{position, read_at, standing_read, last_owner, last_within, owners_taken, cells_taken}
+use Rattle.nm_hold.proofs.Owned.{both_long, index_get, index_of, owners_long, standing_get, standing_of, standings_long}
+use Rattle.nm_hold.proofs.Owning.{position, standing_read, last_owner, last_within, last_given, still_given, owners_taken, cells_taken}
 use Rattle.nm_hold.proofs.cells.Cells.take.Goals as goal
 
-pub index_mut-requires : goal.index_mut-requires
-index_mut-requires c =
-    let at = c.self.inside.at.items in
-    let owners = c.self.inside.owners.items in
-    let p = position at c.self.inside.held.items c.args.idx (rw (← c.self.view_is) at c.requires) in
-    let count : c.len.result ≡ length owners = omega (arith, c.len.ensures) in
-    let within = last_within at owners c.args.idx p.k c.len.result c.index-last.result.now c.self.invariant.owners p.number count c.index-last.ensures in
-    omega (arith, within)
+pub given-number-requires : goal.given-number-requires
+given-number-requires c =
+    let p = position c.self.inside.at (standings_in c.self.inside.held.items) c.args.idx (rw (← c.self.view_is) at c.requires) in
+    omega (arith, p.number)
 
-pub swap_remove-requires : goal.swap_remove-requires
-swap_remove-requires c =
-    let at = c.self.inside.at.items in
-    let p = position at c.self.inside.held.items c.args.idx (rw (← c.self.view_is) at c.requires) in
-    let number = read_at at c.args.idx p.k c.index-number.result.now p.number c.index-number.ensures in
-    let owner = c.self.invariant.owners.owned c.args.idx p.k p.number in
-    omega (arith, number, owner.0)
+pub change-requires : goal.change-requires
+change-requires c =
+    let at = c.self.inside.at in
+    let held = c.self.inside.held.items in
+    let p = position at (standings_in held) c.args.idx (rw (← c.self.view_is) at c.requires) in
+    let count : c.len.result ≡ length (owners_in held) = omega (arith, c.len.ensures, owners_long held) in
+    last_given at (owners_in held) c.args.idx p.k c.len.result c.index.result.now.index c.self.invariant.owners p.number count (index_of held (c.len.result - 1) c.index.result.now c.index.ensures)
 
-pub swap_remove-requires-2 : goal.swap_remove-requires-2
-swap_remove-requires-2 c =
-    let at = c.self.inside.at.items in
-    let p = position at c.self.inside.held.items c.args.idx (rw (← c.self.view_is) at c.requires) in
-    let number = read_at at c.args.idx p.k c.index-number.result.now p.number c.index-number.ensures in
-    omega (arith, number, p.within)
+pub change-requires-2 : goal.change-requires-2
+change-requires-2 c =
+    let at = c.self.inside.at in
+    let held = c.self.inside.held.items in
+    let last = c.index.result.now.index in
+    let p = position at (standings_in held) c.args.idx (rw (← c.self.view_is) at c.requires) in
+    let number : c.given-number.result ≡ suc p.k = c.given-number.ensures ∙ p.number in
+    let count : c.len.result ≡ length (owners_in held) = omega (arith, c.len.ensures, owners_long held) in
+    let within = last_within at (owners_in held) c.args.idx p.k c.len.result last c.self.invariant.owners p.number count (index_of held (c.len.result - 1) c.index.result.now c.index.ensures) in
+    rw c.change.ensures (still_given at c.args.idx p.k last c.given-number.result p.number number within)
+
+pub swap_remove-buf-requires : goal.swap_remove-buf-requires
+swap_remove-buf-requires c =
+    let at = c.self.inside.at in
+    let held = c.self.inside.held.items in
+    let p = position at (standings_in held) c.args.idx (rw (← c.self.view_is) at c.requires) in
+    let number : c.given-number.result ≡ suc p.k = c.given-number.ensures ∙ p.number in
+    omega (arith, number, p.within, standings_long held)
 
 -- the facts of the step, over the fields
-record Step (c : goal.After-swap_remove-2) : Type 0 where
-  owners : AreOwners (slice_set (slice_set c.self.inside.at.items c.index-last.result.now c.index-number.result.now) c.args.idx 0) c.swap_remove.new.self.items
-  cells : cells_of (slice_set (slice_set c.self.inside.at.items c.index-last.result.now c.index-number.result.now) c.args.idx 0) c.swap_remove-2.new.self.items
-      ≡ slice_set (cells_of c.self.inside.at.items c.self.inside.held.items) c.args.idx None
-  standing : cell_at (cells_of c.self.inside.at.items c.self.inside.held.items) c.args.idx ≡ Some c.swap_remove-2.result
+record Step (c : goal.After-swap_remove-buf) : Type 0 where
+  owners : AreOwners (slice_set (slice_set c.self.inside.at c.index.result.now.index c.given-number.result) c.args.idx 0) (owners_in c.swap_remove-buf.new.self.items)
+  cells : cells_of (slice_set (slice_set c.self.inside.at c.index.result.now.index c.given-number.result) c.args.idx 0) (standings_in c.swap_remove-buf.new.self.items)
+      ≡ slice_set (cells_of c.self.inside.at (standings_in c.self.inside.held.items)) c.args.idx None
+  standing : cell_at (cells_of c.self.inside.at (standings_in c.self.inside.held.items)) c.args.idx ≡ Some c.swap_remove-buf.result.standing
 
-step : (c : goal.After-swap_remove-2) → Step c
+step : (c : goal.After-swap_remove-buf) → Step c
 step c =
     let inv = c.self.invariant in
-    let at = c.self.inside.at.items in
-    let owners = c.self.inside.owners.items in
-    let held = c.self.inside.held.items in
+    let at = c.self.inside.at in
+    let all = c.self.inside.held.items in
+    let left = c.swap_remove-buf.new.self.items in
+    let owners = owners_in all in
+    let held = standings_in all in
     let idx = c.args.idx in
-    let last = c.index-last.result.now in
-    let new = c.swap_remove.new.self.items in
-    let after = c.swap_remove-2.new.self.items in
-    let s = c.swap_remove-2.result in
+    let last = c.index.result.now.index in
+    let new = owners_in left in
+    let after = standings_in left in
+    let out = c.swap_remove-buf.result in
+    let s = out.standing in
+    let zeroth : Owned = record { index = 0; standing = s } in
     let p = position at held idx (rw (← c.self.view_is) at c.requires) in
     let k = p.k in
-    let number = read_at at idx k c.index-number.result.now p.number c.index-number.ensures in
-    let spot : c.index-number.result.now - 1 ≡ k = omega (arith, number) in
-    let count : c.len.result ≡ length owners = omega (arith, c.len.ensures) in
-    let end = last_owner at owners idx k c.len.result last inv.owners p.number count c.index-last.ensures in
-    let fewer : length new + 1 ≡ length owners = omega (arith, c.swap_remove.ensures.len) in
-    let fewer_held : length after + 1 ≡ length held = omega (arith, c.swap_remove-2.ensures.len) in
+    let number : c.given-number.result ≡ suc p.k = c.given-number.ensures ∙ p.number in
+    let spot : c.given-number.result - 1 ≡ k = omega (arith, number) in
+    let count : c.len.result ≡ length owners = omega (arith, c.len.ensures, owners_long all) in
+    let end = last_owner at owners idx k c.len.result last inv.owners p.number count (index_of all (c.len.result - 1) c.index.result.now c.index.ensures) in
+    let fewer_all : length left + 1 ≡ length all = omega (arith, c.swap_remove-buf.ensures.len) in
+    let fewer : length new + 1 ≡ length owners = omega (arith, fewer_all, owners_long all, owners_long left) in
+    let fewer_held : length after + 1 ≡ length held = omega (arith, fewer_all, standings_long all, standings_long left) in
     let last_spot : c.len.result - 1 ≡ length new = omega (arith, count, fewer) in
     let end_new : slice_index owners (length new) ≡ last = rw last_spot at end in
-    let by = rw spot at c.swap_remove.ensures.by_index in
-    let by_held = rw spot at c.swap_remove-2.ensures.by_index in
-    let end_spot : c.self.inside.owners.len - 1 ≡ length new = omega (arith, c.len.ensures, count, fewer) in
-    let end_held : c.self.inside.held.len - 1 ≡ length after = omega (arith, c.swap_remove-2.ensures.len, fewer_held) in
-    let moved = λ (h : k < length new). by.0 0 (omega (arith, h, fewer)) ∙ (ap (λ (n : ℕ). get_or owners n 0) end_spot ∙ end_new) in
-    let kept = λ (j : ℕ) (differs : j ≢ k) (h : j < length new). by.1 j 0 differs (omega (arith, h, fewer)) in
-    let moved_held = λ (h : k < length after). by_held.0 s (omega (arith, h, fewer_held)) ∙ ap (λ (n : ℕ). get_or held n s) end_held in
-    let kept_held = λ (j : ℕ) (differs : j ≢ k) (h : j < length after). by_held.1 j s differs (omega (arith, h, fewer_held)) in
+    let by = rw spot at c.swap_remove-buf.ensures.by_index in
+    let end_spot : c.self.inside.held.len - 1 ≡ length new = omega (arith, c.swap_remove-buf.ensures.len, fewer_all, owners_long left) in
+    let end_held : c.self.inside.held.len - 1 ≡ length after = omega (arith, c.swap_remove-buf.ensures.len, fewer_all, standings_long left) in
+    let moved = λ (h : k < length new).
+    index_get left k zeroth ∙ (ap (λ (o : Owned). o.index) (by.0 zeroth (omega (arith, h, owners_long left, fewer_all))) ∙ (sym (index_get all (c.self.inside.held.len - 1) zeroth) ∙ (ap (λ (n : ℕ). get_or owners n 0) end_spot ∙ end_new))) in
+    let kept = λ (j : ℕ) (differs : j ≢ k) (h : j < length new).
+    index_get left j zeroth ∙ (ap (λ (o : Owned). o.index) (by.1 j zeroth differs (omega (arith, h, owners_long left, fewer_all))) ∙ sym (index_get all j zeroth)) in
+    let moved_held = λ (h : k < length after).
+    standing_get left k out ∙ (ap (λ (o : Owned). o.standing) (by.0 out (omega (arith, h, standings_long left, fewer_all))) ∙ (sym (standing_get all (c.self.inside.held.len - 1) out) ∙ ap (λ (n : ℕ). get_or held n s) end_held)) in
+    let kept_held = λ (j : ℕ) (differs : j ≢ k) (h : j < length after).
+    standing_get left j out ∙ (ap (λ (o : Owned). o.standing) (by.1 j out differs (omega (arith, h, standings_long left, fewer_all))) ∙ sym (standing_get all j out)) in
     record {
       owners = rw number (owners_taken at owners new idx k last inv.owners p.number fewer end_new moved kept);
-      cells = rw number (cells_taken at owners new idx k last inv.owners p.number fewer end_new moved kept held after s inv.both fewer_held moved_held kept_held);
-      standing = standing_read at held idx k s p.number p.within (rw spot at c.swap_remove-2.ensures.value);
+      cells = rw number (cells_taken at owners new idx k last inv.owners p.number fewer end_new moved kept held after s (both_long all) fewer_held moved_held kept_held);
+      standing = standing_read at held idx k s p.number p.within (standing_of all k out (rw spot at c.swap_remove-buf.ensures.value));
     }
 
 pub invariant_of-self : goal.invariant_of-self
 invariant_of-self c =
     let f = step c in
     let inv = c.self.invariant in
-    let at = c.self.inside.at.items in
-    let count = length-set (slice_set at c.index-last.result.now c.index-number.result.now) c.args.idx 0 ∙ length-set at c.index-last.result.now c.index-number.result.now in
+    let at = c.self.inside.at in
+    let count : length c.change-2.new.self ≡ length at =
+    ap (λ (xs : List ℕ). length xs) (c.change-2.ensures ∙ ap (λ (xs : List ℕ). slice_set xs c.args.idx 0) c.change.ensures)
+    ∙ (length-set (slice_set at c.index.result.now.index c.given-number.result) c.args.idx 0 ∙ length-set at c.index.result.now.index c.given-number.result) in
     record {
-      owners = f.owners;
-      both = omega (arith, c.swap_remove.ensures.len, c.swap_remove-2.ensures.len, inv.both);
+      owners = rw (c.change-2.ensures, c.change.ensures) f.owners;
       few = omega (arith, count, inv.few);
-      room = omega (arith, count, inv.room, c.swap_remove.ensures.capacity);
-      space = omega (arith, count, inv.space, c.swap_remove-2.ensures.capacity);
+      space = omega (arith, count, inv.space, c.swap_remove-buf.ensures.capacity);
     }
 
-pub returns-clause-standing : goal.returns-clause-standing
-returns-clause-standing c = let f = step c in rw (← c.self.view_is) f.standing
+pub returns-clause-buffer : goal.returns-clause-buffer
+returns-clause-buffer c = let f = step c in rw (← c.self.view_is) (ap buf_in f.standing)
 
 pub returns-clause-cells : goal.returns-clause-cells
-returns-clause-cells c = let f = step c in rw (← c.self.view_is) f.cells
+returns-clause-cells c = let f = step c in rw (← c.self.view_is, c.change-2.ensures, c.change.ensures) f.cells

@@ -1,7 +1,7 @@
 use Rattle.std.proofs.Common.{◌≡◌, ◌<◌, ap, sym, ◌∙◌, arith}
 use Rattle.nm_hold.specs.Tables.{number_at}
 use Rattle.nm_hold.proofs.Tied.{number_if, number_if-some, held-number}
-use Rattle.nm_hold.proofs.Shown.{IsHold-stored}
+use Rattle.nm_hold.proofs.Shown.{stored_shown}
 use Rattle.nm_hold.proofs.hold.Hold.index.Goals as goal
 
 pub returns-then-idx-eq0-clause-index : goal.returns-then-idx-eq0-clause-index
@@ -19,11 +19,7 @@ returns-else-idx-eq0-clause-index c =
     rw (← c.self.view_is) (sym (held ∙ (ap number_if (sym number) ∙ number_if-some c.number-idx.result some)))
 
 pub returns-then-idx-eq0-clause-hold : goal.returns-then-idx-eq0-clause-hold
-returns-then-idx-eq0-clause-hold c =
-    let inv = c.self.invariant in
-    rw (← c.self.view_is) (IsHold-stored c.self.inside.cells c.self.inside.ports.tables inv.low inv.high inv.tables inv.once inv.tied)
+returns-then-idx-eq0-clause-hold c = rw (← c.self.view_is) (stored_shown c.self.inside c.self.invariant)
 
 pub returns-else-idx-eq0-clause-hold : goal.returns-else-idx-eq0-clause-hold
-returns-else-idx-eq0-clause-hold c =
-    let inv = c.self.invariant in
-    rw (← c.self.view_is) (IsHold-stored c.self.inside.cells c.self.inside.ports.tables inv.low inv.high inv.tables inv.once inv.tied)
+returns-else-idx-eq0-clause-hold c = rw (← c.self.view_is) (stored_shown c.self.inside c.self.invariant)

@@ -1,6 +1,6 @@
 use Rattle.std.proofs.Common.{ℕ, Some, None, sym, ◌∙◌, ap}
 use Rattle.nm_hold.proofs.Finding.{found_is_table}
-use Rattle.nm_hold.proofs.Shown.{IsHold-stored}
+use Rattle.nm_hold.proofs.Shown.{stored_shown}
 use Rattle.nm_hold.proofs.Slotted.{slots_are, size_found}
 use Rattle.nm_hold.proofs.hold.Hold.numbers.Goals as goal
 
@@ -26,11 +26,7 @@ returns-in-Some-clause-numbers c =
     rw (← c.self.view_is, c.slots.ensures.slots) (slots_are c.self.inside.cells c.self.inside.ports.tables c.args.side c.args.port c.in-Some.table.now inv.tied inv.once (sym found))
 
 pub returns-in-Some-clause-hold : goal.returns-in-Some-clause-hold
-returns-in-Some-clause-hold c =
-    let inv = c.self.invariant in
-    rw (← c.self.view_is) (IsHold-stored c.self.inside.cells c.self.inside.ports.tables inv.low inv.high inv.tables inv.once inv.tied)
+returns-in-Some-clause-hold c = rw (← c.self.view_is) (stored_shown c.self.inside c.self.invariant)
 
 pub returns-in-None-clause-hold : goal.returns-in-None-clause-hold
-returns-in-None-clause-hold c =
-    let inv = c.self.invariant in
-    rw (← c.self.view_is) (IsHold-stored c.self.inside.cells c.self.inside.ports.tables inv.low inv.high inv.tables inv.once inv.tied)
+returns-in-None-clause-hold c = rw (← c.self.view_is) (stored_shown c.self.inside c.self.invariant)

@@ -11,8 +11,8 @@ use Rattle.nm_hold.proofs.Shown.{held_has_number, IsHold-stored}
 use Rattle.nm_hold.proofs.Steps.{removed, put_are_tables, removed_places}
 use Rattle.nm_hold.proofs.hold.Hold.remove.Goals as goal
 
-pub take-buf-requires : goal.take-buf-requires
-take-buf-requires c =
+pub take-requires : goal.take-requires
+take-requires c =
     let cells = c.self.inside.cells in
     let tables = c.self.inside.ports.tables in
     let number = c.replace-idx.ensures.number in
@@ -26,9 +26,9 @@ invariant_of-self c =
     let inv = c.self.invariant in
     let cells = c.self.inside.cells in
     let tables = c.self.inside.ports.tables in
-    let f = removed cells tables c.args.place c.replace-idx.result c.take-buf.result inv.tables inv.tied c.replace-idx.ensures.number c.take-buf.ensures.standing in
+    let f = removed cells tables c.args.place c.replace-idx.result c.take.result inv.tables inv.tied c.replace-idx.ensures.number c.take.ensures.buffer in
     let same = c.replace-idx.ensures.tables in
-    let after = c.take-buf.ensures.cells in
+    let after = c.take.ensures.cells in
     let count = length-set cells c.replace-idx.result None in
     record {
       low = rw (after, count) inv.low;
@@ -41,7 +41,7 @@ invariant_of-self c =
 pub returns-clause-index : goal.returns-clause-index
 returns-clause-index c =
     let inv = c.self.invariant in
-    let f = removed c.self.inside.cells c.self.inside.ports.tables c.args.place c.replace-idx.result c.take-buf.result inv.tables inv.tied c.replace-idx.ensures.number c.take-buf.ensures.standing in
+    let f = removed c.self.inside.cells c.self.inside.ports.tables c.args.place c.replace-idx.result c.take.result inv.tables inv.tied c.replace-idx.ensures.number c.take.ensures.buffer in
     let held = held-number c.self.inside.cells c.self.inside.ports.tables c.args.place inv.tied in
     let idx = f.index ∙ c.replace-idx.ensures.number in
     rw (← c.self.view_is, idx) (held ∙ number_if-some (number_at c.self.inside.ports.tables c.args.place) f.some)
@@ -49,23 +49,23 @@ returns-clause-index c =
 pub returns-clause-buffer : goal.returns-clause-buffer
 returns-clause-buffer c =
     let inv = c.self.invariant in
-    let f = removed c.self.inside.cells c.self.inside.ports.tables c.args.place c.replace-idx.result c.take-buf.result inv.tables inv.tied c.replace-idx.ensures.number c.take-buf.ensures.standing in
-    rw (← c.self.view_is) (ap (λ (n : ℕ). buf_in (cell_at c.self.inside.cells n)) f.index ∙ ap buf_in c.take-buf.ensures.standing)
+    let f = removed c.self.inside.cells c.self.inside.ports.tables c.args.place c.replace-idx.result c.take.result inv.tables inv.tied c.replace-idx.ensures.number c.take.ensures.buffer in
+    rw (← c.self.view_is) (ap (λ (n : ℕ). buf_in (cell_at c.self.inside.cells n)) f.index ∙ c.take.ensures.buffer)
 
 pub returns-clause-cell : goal.returns-clause-cell
 returns-clause-cell c =
     let inv = c.self.invariant in
-    let f = removed c.self.inside.cells c.self.inside.ports.tables c.args.place c.replace-idx.result c.take-buf.result inv.tables inv.tied c.replace-idx.ensures.number c.take-buf.ensures.standing in
+    let f = removed c.self.inside.cells c.self.inside.ports.tables c.args.place c.replace-idx.result c.take.result inv.tables inv.tied c.replace-idx.ensures.number c.take.ensures.buffer in
     let same = c.replace-idx.ensures.tables in
-    let after = c.take-buf.ensures.cells in
+    let after = c.take.ensures.cells in
     rw (← c.self.view_is, same, after, ports_of-put c.args.place 0 c.self.inside.ports.tables, f.index) refl
 
 pub returns-clause-places : goal.returns-clause-places
 returns-clause-places c q =
     let inv = c.self.invariant in
     let cells = c.self.inside.cells in
-    let f = removed cells c.self.inside.ports.tables c.args.place c.replace-idx.result c.take-buf.result inv.tables inv.tied c.replace-idx.ensures.number c.take-buf.ensures.standing in
-    let after = c.take-buf.ensures.cells in
+    let f = removed cells c.self.inside.ports.tables c.args.place c.replace-idx.result c.take.result inv.tables inv.tied c.replace-idx.ensures.number c.take.ensures.buffer in
+    let after = c.take.ensures.cells in
     rw (← c.self.view_is, after) (removed_places cells (slice_set cells c.replace-idx.result None) c.self.inside.ports.tables c.args.place inv.tables inv.tied f.some f.tied q)
 
 pub returns-clause-hold : goal.returns-clause-hold

@@ -6,9 +6,24 @@ use Rattle.nm_hold.proofs.ports.Ports.table.Goals as goal
 
 pub index-requires : goal.index-requires
 index-requires c =
+    let there : port_at c.self.inside.rows.items 0 ≡ Some c.args.port.0 = rw (← c.deref.ensures.value) (c.is_first.ensures c.if-is_first.true) in
+    let within = within_rows c.self.inside.rows.items 0 c.args.port.0 there in
+    omega (arith, within)
+
+pub index-requires-in-Some : goal.index-requires-in-Some
+index-requires-in-Some c =
     let index : get nat_eq c.self.inside.indices c.args.port.0 ≡ Some c.in-Some.at = search rules in
     let within = within_rows c.self.inside.rows.items c.in-Some.at c.args.port.0 (c.self.invariant.there c.in-Some.at c.args.port.0 index) in
     omega (arith, within)
+
+pub returns-then-is_first : goal.returns-then-is_first
+returns-then-is_first c =
+    let rows = c.self.inside.rows.items in
+    let port = c.args.port.0 in
+    let there : port_at rows 0 ≡ Some port = rw (← c.deref.ensures.value) (c.is_first.ensures c.if-is_first.true) in
+    let apart = apart-indexed rows (get nat_eq c.self.inside.indices) c.self.invariant in
+    let read = row_read rows 0 c.index.result.now (within_rows rows 0 port there) c.index.ensures in
+    rw (← c.self.view_is) (record { table = c.as_ref.ensures.value ∙ (read ∙ sym (find-row rows 0 port apart there)); once = once-apart rows apart })
 
 pub returns-in-Some : goal.returns-in-Some
 returns-in-Some c =
@@ -18,8 +33,8 @@ returns-in-Some c =
     let index : get nat_eq c.self.inside.indices port ≡ Some at = search rules in
     let there : port_at rows at ≡ Some port = c.self.invariant.there at port index in
     let apart = apart-indexed rows (get nat_eq c.self.inside.indices) c.self.invariant in
-    let read = row_read rows at c.index.result.now (within_rows rows at port there) c.index.ensures in
-    rw (← c.self.view_is) (record { table = c.as_ref.ensures.value ∙ (read ∙ sym (find-row rows at port apart there)); once = once-apart rows apart })
+    let read = row_read rows at c.index-in-Some.result.now (within_rows rows at port there) c.index-in-Some.ensures in
+    rw (← c.self.view_is) (record { table = c.as_ref-in-Some.ensures.value ∙ (read ∙ sym (find-row rows at port apart there)); once = once-apart rows apart })
 
 pub returns-in-None : goal.returns-in-None
 returns-in-None c =

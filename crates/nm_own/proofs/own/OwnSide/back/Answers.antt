@@ -1,23 +1,16 @@
-use Rattle.std.proofs.Common.{◌≡◌, Some, None, sym}
+use Rattle.std.proofs.Common.{◌≡◌, Some, sym}
 use Rattle.nm_types.specs.declared.id.Side.TheVariants.{Rx}
 use Rattle.nm_port.specs.Own.{slots_at}
-use Rattle.nm_port.proofs.Checked.{no_ring, passed_fits}
+use Rattle.nm_port.proofs.Checked.{no_ring}
 use Rattle.nm_own.proofs.Offered.{rx_ring_found, back_is_seen}
+use Rattle.nm_own.proofs.Passing.{passes_fit}
 use Rattle.nm_own.proofs.own.OwnSide.back.Goals as goal
 
 pub unreachable-requires : goal.unreachable-requires
-unreachable-requires c =
-    let none : None ≡ slots_at Rx c.self.inside.ports.items c.args.port.0 = rw (c.in-None.is, c.deref.ensures.value) at c.ring_at.ensures in
-    no_ring c.self.inside.hold c.self.inside.ports.items Rx c.args.port.0 (sym none) (rw (← c.self.view_is) at c.requires.ring)
+unreachable-requires c = no_ring c.self.inside.hold c.self.inside.ports.items Rx c.args.port.0 (sym (rw (c.in-None.is, c.deref.ensures.value) at c.ring_at.ensures)) (rw (← c.self.view_is) at c.requires.ring)
 
 pub gather_names-requires : goal.gather_names-requires
-gather_names-requires c =
-    let h = c.self.inside.hold in
-    let ports = c.self.inside.ports.items in
-    let kept = c.self.invariant in
-    let there : Some c.in-Some.ring.now ≡ slots_at Rx ports c.args.port.0 = rw (c.in-Some.is, c.deref.ensures.value) at c.ring_at.ensures in
-    let passes = rw (← c.self.view_is) at c.requires.passes in
-    passed_fits h ports Rx c.args.port c.in-Some.ring.now kept.sided (rx_ring_found ports c.args.port c.in-Some.ring.now kept.rings (sym there)) (sym there) passes
+gather_names-requires c = passes_fit c.self.inside Rx c.args.port c.in-Some.ring.now c.self.invariant (sym (rw (c.in-Some.is, c.deref.ensures.value) at c.ring_at.ensures)) (rw (← c.self.view_is) at c.requires.passes)
 
 pub returns : goal.returns
 returns c =
@@ -27,5 +20,5 @@ returns c =
     let there : Some c.in-Some.ring.now ≡ slots_at Rx ports c.args.port.0 = rw (c.in-Some.is, c.deref.ensures.value) at c.ring_at.ensures in
     let is = rx_ring_found ports c.args.port c.in-Some.ring.now kept.rings (sym there) in
     let passes = rw (← c.self.view_is) at c.requires.passes in
-    let fits = passed_fits h ports Rx c.args.port c.in-Some.ring.now kept.sided is (sym there) passes in
+    let fits = passes_fit c.self.inside Rx c.args.port c.in-Some.ring.now kept (sym there) passes in
     rw (← c.self.view_is, ← (back_is_seen h ports c.args.port c.in-Some.ring.now kept.sided is (sym there) fits)) c.gather_names.ensures

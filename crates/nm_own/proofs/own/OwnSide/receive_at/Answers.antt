@@ -28,16 +28,16 @@ index-requires c = within c.self.inside c.self.invariant c.args.self.now c.self.
 pub index_mut-requires : goal.index_mut-requires
 index_mut-requires c = within c.self.inside c.self.invariant c.args.self.now c.self.view_is c.args.port c.args.at c.requires.place c.requires.room
 
-pub put-requires-clause-belongs : goal.put-requires-clause-belongs
-put-requires-clause-belongs c =
+pub add_received-requires-clause-belongs : goal.add_received-requires-clause-belongs
+add_received-requires-clause-belongs c =
     let h = c.self.inside.hold in
     let p = c.index.result.now in
     let x = receives_here c.self.inside c.self.invariant c.args.self.now c.self.view_is c.args.port c.args.at c.requires.place c.requires.room p c.index.ensures in
     let tail : c.tail-slot.result ≡ p.rx.ring.last_tail = c.tail-slot.ensures.tail ∙ (ap (λ (ring : RingState). ring.tail) c.ring.ensures.ring ∙ c.ring.ensures.slots.ring.one_tail) in
     ap (λ (n : ℕ). has_place h.ports (place.Rx c.args.port n)) tail ∙ belongs h c.self.inside.ports.items c.args.port p p.rx x
 
-pub put-requires-clause-empty : goal.put-requires-clause-empty
-put-requires-clause-empty c =
+pub add_received-requires-clause-empty : goal.add_received-requires-clause-empty
+add_received-requires-clause-empty c =
     let h = c.self.inside.hold in
     let p = c.index.result.now in
     let x = receives_here c.self.inside c.self.invariant c.args.self.now c.self.view_is c.args.port c.args.at c.requires.place c.requires.room p c.index.ensures in
@@ -66,8 +66,8 @@ record Step (c : goal.After-self-1) : Type 0 where
   cleared : c.clear_behind.new.buf.bytes ≡ cleared_but (take c.args.len c.args.buf.bytes)
   number : c.clear_behind.new.buf.index ≡ c.args.buf.index
   index : IsBufferIndex (buffers_of c.self.inside.hold) c.clear_behind.new.buf.index
-  cell : c.put.new.hold ≡ with_cell c.self.inside.hold c.clear_behind.new.buf.index (Some (placed (place.Rx c.args.port c.index_mut.result.now.rx.ring.last_tail) true c.clear_behind.new.buf))
-  places : (q : Place) → index_at c.put.new.hold q ≡ (if is_same_place (place.Rx c.args.port c.index_mut.result.now.rx.ring.last_tail) q then Some c.clear_behind.new.buf.index else index_at c.self.inside.hold q)
+  cell : c.add_received.new.self ≡ with_cell c.self.inside.hold c.clear_behind.new.buf.index (Some (placed (place.Rx c.args.port c.index_mut.result.now.rx.ring.last_tail) true c.clear_behind.new.buf))
+  places : (q : Place) → index_at c.add_received.new.self q ≡ (if is_same_place (place.Rx c.args.port c.index_mut.result.now.rx.ring.last_tail) q then Some c.clear_behind.new.buf.index else index_at c.self.inside.hold q)
 
 step : (c : goal.After-self-1) → Step c
 step c =
@@ -83,13 +83,13 @@ step c =
       cleared = ap (λ (b : Buffer). b.bytes) c.clear_behind.ensures.cleared;
       number = number;
       index = rw number new_index.0;
-      cell = rw (← tail) c.put.ensures.cell;
-      places = rw (← tail) c.put.ensures.places;
+      cell = rw (← tail) c.add_received.ensures.cell;
+      places = rw (← tail) c.add_received.ensures.places;
     }
 
 -- the port that has the frame, and the ports with it
 abbrev framed : (c : goal.After-self-1) → UserPort
-framed c = with_frame c.self.inside.hold c.self.inside.ports.items c.args.port c.index_mut.result.now c.index_mut.result.now.rx (step c).receives c.put.new.hold c.clear_behind.new.buf (take c.args.len c.args.buf.bytes) c.args.len (step c).cleared c.requires.len c.clear_behind.ensures.size (step c).index (step c).cell (step c).places c.put.ensures.hold
+framed c = with_frame c.self.inside.hold c.self.inside.ports.items c.args.port c.index_mut.result.now c.index_mut.result.now.rx (step c).receives c.add_received.new.self c.clear_behind.new.buf (take c.args.len c.args.buf.bytes) c.args.len (step c).cleared c.requires.len c.clear_behind.ensures.size (step c).index (step c).cell (step c).places c.add_received.ensures.hold
 
 ports_are : (c : goal.After-self-1) → set c.self.inside.ports.items c.args.at (with_rx c.index_mut.result.now c.publish.new.self)
     ≡ (others c.self.inside.hold c.self.inside.ports.items c.args.port c.index_mut.result.now c.index_mut.result.now.rx (step c).receives).before
@@ -109,19 +109,19 @@ invariant_of-self c =
     let buf = c.clear_behind.new.buf in
     let frame = take c.args.len c.args.buf.bytes in
     kept_with c.self.inside _ c.args.port p (framed c) c.self.invariant s.receives.same_id (others h ports c.args.port p p.rx s.receives)
-    (changes h ports c.args.port p p.rx s.receives c.put.new.hold buf frame c.args.len s.cleared c.requires.len c.clear_behind.ensures.size s.index s.cell s.places c.put.ensures.hold c.self.invariant.whole) (ports_are c) refl
+    (changes h ports c.args.port p p.rx s.receives c.add_received.new.self buf frame c.args.len s.cleared c.requires.len c.clear_behind.ensures.size s.index s.cell s.places c.add_received.ensures.hold c.self.invariant.whole) (ports_are c) refl
 
 pub returns-clause-own : goal.returns-clause-own
 returns-clause-own c =
     let s = step c in
     let p = c.index_mut.result.now in
     let frame = take c.args.len c.args.buf.bytes in
-    ap (own_seen c.put.new.hold) (ports_are c)
-    ∙ (received_is_seen c.self.inside.hold c.self.inside.ports.items c.args.port p p.rx s.receives c.put.new.hold c.clear_behind.new.buf frame c.args.len s.cleared c.requires.len c.clear_behind.ensures.size s.index s.cell s.places c.put.ensures.hold
+    ap (own_seen c.add_received.new.self) (ports_are c)
+    ∙ (received_is_seen c.self.inside.hold c.self.inside.ports.items c.args.port p p.rx s.receives c.add_received.new.self c.clear_behind.new.buf frame c.args.len s.cleared c.requires.len c.clear_behind.ensures.size s.index s.cell s.places c.add_received.ensures.hold
     ∙ (ap (λ (i : ℕ). let came : Arrival = record { buffer = i; bytes = frame } in own_with_arrival c.args.port.0 (own_seen c.self.inside.hold c.self.inside.ports.items) came) s.number
     ∙ ap (λ (o : SideState). let came : Arrival = record { buffer = c.args.buf.index; bytes = frame } in own_with_arrival c.args.port.0 o.own came) c.self.view_is))
 
 pub returns-clause-region : goal.returns-clause-region
 returns-clause-region c region of own =
     let h = c.self.inside.hold in
-    holds_added region h c.put.new.hold c.clear_behind.new.buf.index _ (step c).cell (ap (λ (b : Buffer). b.region) c.clear_behind.ensures.cleared ∙ own) (of_seen region h c.self.inside.ports.items c.args.self.now c.self.view_is of)
+    holds_added region h c.add_received.new.self c.clear_behind.new.buf.index _ (step c).cell (ap (λ (b : Buffer). b.region) c.clear_behind.ensures.cleared ∙ own) (of_seen region h c.self.inside.ports.items c.args.self.now c.self.view_is of)

@@ -1,28 +1,11 @@
-use Rattle.std.proofs.Common.{◌∙◌, ap, sym, refl}
-use Rattle.nm_hold.specs.Holds.{HoldState}
-use Rattle.nm_own.proofs.Written.{fronted_is_seen, not_written, fronted_keeps, flagged_kept, filled_kept, whole_kept}
+use Rattle.std.proofs.Common.{◌∙◌, sym, refl}
+use Rattle.nm_own.proofs.Written.{fronted_is_seen, not_written, fronted_inside}
 use Rattle.nm_types.specs.OwnEdits.{with_written}
 use Rattle.nm_port.proofs.Regions.{same_side, regions_fronted}
 use Rattle.nm_own.proofs.own.OwnSide.write_front.Goals as goal
 
 pub invariant_of-self : goal.invariant_of-self
-invariant_of-self c =
-    let kept = c.self.invariant in
-    let h = c.self.inside.hold in
-    let ports = c.self.inside.ports.items in
-    let new = c.write.new.self in
-    let homes = fronted_keeps h new c.args.idx c.args.bytes.now c.write.ensures.cell in
-    record {
-      sided = kept.sided;
-      rings = kept.rings;
-      flagged = flagged_kept h new ports homes kept.flagged;
-      hold = c.write.ensures.hold;
-      places = ap (λ (x : HoldState). x.ports) c.write.ensures.cell ∙ kept.places;
-      filled = filled_kept h new ports c.write.ensures.places kept.filled;
-      whole = whole_kept h new c.args.idx c.args.bytes.now c.requires c.write.ensures.cell kept.whole;
-      blank = rw homes.count kept.blank;
-      back = kept.back;
-    }
+invariant_of-self c = fronted_inside c.self.inside c.write.new.self c.args.idx c.args.bytes.now c.self.invariant c.requires c.write.ensures.cell c.write.ensures.places c.write.ensures.hold
 
 pub returns-then-named : goal.returns-then-named
 returns-then-named c =

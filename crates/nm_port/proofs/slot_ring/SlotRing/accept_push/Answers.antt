@@ -10,7 +10,7 @@ use Rattle.nm_port.proofs.slot_ring.SlotRing.accept_push.Goals as goal
 record Step (c : goal.After-advance) : Type 0 where
   tx : c.self.inside.side ≡ Tx
   ring : c.advance.new.self ≡ advanced c.self.inside.ring c.self.inside.ring.head c.self.inside.ring.cur c.self.inside.ring.tail
-  slots : c.clear_announcements.new.slots.items ≡ slots_after_push c.self.inside.ring c.self.inside.slots.items
+  slots : c.clear_if_announced.new.slots.items ≡ slots_after_push c.self.inside.ring c.self.inside.slots.items
 
 step : (c : goal.After-advance) → Step c
 step c =
@@ -20,7 +20,7 @@ step c =
       ring = rw (c.advance.ensures, c.head-head.ensures, c.cur-cur.ensures, c.tail-tail.ensures.tail) refl;
       slots = (let first = rw (← c.self.view_is) at c.pushed-first.ensures.first in
           let count = rw (← c.self.view_is) at c.pushed-first.ensures.count in
-          rw (c.clear_announcements.ensures.slots, c.size.ensures.size, first, count) refl);
+          rw (c.clear_if_announced.ensures.slots, c.size-size.ensures.size, first, count) refl);
     }
 
 pub invariant_of-self : goal.invariant_of-self
@@ -34,7 +34,7 @@ invariant_of-self c =
         ring = rw s.ring (accepted_ring ring ring.tail old.ring fits.head_within tail);
         count = rw (s.ring, s.slots, s.tx) (length-cleared c.self.inside.slots.items (pushed_slots ring ring.head) ∙ (old.count ∙ ap (λ (side : Side). slot_count side ring) s.tx));
       },
-      rw (s.ring, c.clear_announcements.ensures.room) c.self.invariant.1,
+      rw (s.ring, c.clear_if_announced.ensures.room) c.self.invariant.1,
     )
 
 pub returns : goal.returns

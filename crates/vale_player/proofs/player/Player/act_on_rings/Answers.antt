@@ -1,4 +1,4 @@
-use Rattle.std.proofs.Common.{ℕ, ◌≡◌, [], ◌∷◌, List, replicate, sym, subst, ◌∙◌}
+use Rattle.std.proofs.Common.{ℕ, ◌≡◌, [], ◌∷◌, List, replicate, sym, subst}
 use Rattle.std.specs.Prelude.{OnOk}
 use Rattle.vale_script.specs.declared.script.Act.TheVariants as acts
 use Rattle.vale_replay.specs.Tasks.{Task, PutFrame, ChangeOwn, frame_of_put, played, tasks_of}
@@ -8,14 +8,16 @@ use Rattle.vale_player.proofs.Doing.{does-line}
 use Rattle.vale_player.proofs.PlayerLines.{changed, change-only, does-as}
 use Rattle.vale_player.proofs.player.Player.act_on_rings.Goals as goal
 
-pub returns-in_ok-frame-in-Put-clause-does : goal.returns-in_ok-frame-in-Put-clause-does
-returns-in_ok-frame-in-Put-clause-does g c =
+pub returns-in_ok-write_frame_of_put-in-Put-clause-does : goal.returns-in_ok-write_frame_of_put-in-Put-clause-does
+returns-in_ok-write_frame_of_put-in-Put-clause-does g c =
     let records = records_in c.args.inputs.now in
     let p = c.args.self.now in
+    let q = c.put_kept.new.self in
     let put = c.in-Put in
-    let same : c.deref.result.now ≡ frame_of_put put.to put.from put.len put.fill = c.deref.ensures.value ∙ c.in_ok-frame-in-Put.ensures in
-    does-as records p c.put.new.self c.args.act.now (acts.Put put.name put.count put.to put.from put.len put.fill) c.put.result put.is
-    (subst (λ (bytes : List ℕ). OnOk c.put.result (DoesLine p c.put.new.self (replicate put.count (PutFrame put.name bytes)))) same c.put.ensures.does)
+    let done = c.put_kept.result in
+    does-as records p q c.args.act.now (acts.Put put.name put.count put.to put.from put.len put.fill) done put.is
+    (subst (λ (x : PlayerState). OnOk done (DoesLine x q (replicate put.count (PutFrame put.name (frame_of_put put.to put.from put.len put.fill))))) c.take_frame-frame.ensures
+    (subst (λ (bytes : List ℕ). OnOk done (DoesLine c.take_frame-frame.new.self q (replicate put.count (PutFrame put.name bytes)))) c.in_ok-write_frame_of_put-in-Put.ensures c.put_kept.ensures.does))
 
 pub returns-in-Hex-clause-does : goal.returns-in-Hex-clause-does
 returns-in-Hex-clause-does g c =
@@ -23,8 +25,8 @@ returns-in-Hex-clause-does g c =
     let p = c.args.self.now in
     let hex = c.in-Hex in
     let one : ℕ = 1 in
-    does-as records p c.put-in-Hex.new.self c.args.act.now (acts.Hex hex.name hex.bytes) c.put-in-Hex.result hex.is
-    (subst (λ (bytes : List ℕ). OnOk c.put-in-Hex.result (DoesLine p c.put-in-Hex.new.self (replicate one (PutFrame hex.name bytes)))) c.bytes.ensures c.put-in-Hex.ensures.does)
+    does-as records p c.put.new.self c.args.act.now (acts.Hex hex.name hex.bytes) c.put.result hex.is
+    (subst (λ (bytes : List ℕ). OnOk c.put.result (DoesLine p c.put.new.self (replicate one (PutFrame hex.name bytes)))) c.bytes.ensures c.put.ensures.does)
 
 pub returns-in-Play-clause-does : goal.returns-in-Play-clause-does
 returns-in-Play-clause-does g c =

@@ -20,10 +20,17 @@ returns-in_default-clause-still g c = still-self c.args.self.now
 pub loop-left-init : goal.loop-left-init
 loop-left-init g c =
     let p = c.args.self.now in
+    let t = c.write_copies-put.new.self in
+    let count = c.args.count in
+    let put = c.write_copies-put.result in
+    let task : Task = PutFrame c.args.name.now c.args.frame.now in
+    let whole : List Task = replicate count task in
+    let parted : Leads p p whole (replicate put task ++ replicate (count - put) task) =
+    leads-as p p whole whole (replicate put task ++ replicate (count - put) task) (left-parts task count put c.write_copies-put.ensures.most) (leads-self p whole) in
     record {
-      leads = leads-self p (replicate c.args.count (PutFrame c.args.name.now c.args.frame.now));
-      named = sym c.sender.ensures.sender ∙ c.in-Some.is;
-      still = still-self p;
+      leads = leads-tasks p p t whole (replicate put task) (replicate (count - put) task) parted c.write_copies-put.ensures.does;
+      named = c.write_copies-put.ensures.named;
+      still = c.write_copies-put.ensures.still;
     }
 
 pub loop-left-preserved : goal.loop-left-preserved

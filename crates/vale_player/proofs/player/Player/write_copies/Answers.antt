@@ -38,10 +38,10 @@ returns-clause-named c =
     subst (λ (s : SessionState). sender_named s.own name ≡ Some port) (sym c.put_copies.ensures.own) (copies-named p name c.args.bytes.now port c.self.invariant.there named c.put_copies.result)
 
 pub returns-clause-some : goal.returns-clause-some
-returns-clause-some c =
+returns-clause-some c has some =
     let p : PlayerState = record { number = c.self.inside.number; session = c.self.inside.session; saves = c.self.inside.saves.items; names = c.self.inside.names.now } in
-    let room : has_room p.session.own c.args.port.0 ≡ true = subst (λ (x : PlayerState). has_room x.session.own c.args.port.0 ≡ true) (sym c.self.view_is) c.requires.room in
-    some-copies c.args.count c.put_copies.result c.args.port.0 c.args.bytes.now p.session.own c.put_copies.ensures.copies room c.requires.some
+    let room : has_room p.session.own c.args.port.0 ≡ true = subst (λ (x : PlayerState). has_room x.session.own c.args.port.0 ≡ true) (sym c.self.view_is) has in
+    some-copies c.args.count c.put_copies.result c.args.port.0 c.args.bytes.now p.session.own c.put_copies.ensures.copies room some
 
 pub returns-clause-most : goal.returns-clause-most
 returns-clause-most c = c.put_copies.ensures.copies.most

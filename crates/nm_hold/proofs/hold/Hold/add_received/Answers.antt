@@ -1,0 +1,28 @@
+use Rattle.std.proofs.Common.{true}
+use Rattle.nm_types.specs.declared.place.Place.TheVariants.{Rx}
+use Rattle.nm_hold.specs.declared.standing.Standing.{Standing}
+use Rattle.nm_hold.proofs.Added.{Added, added}
+use Rattle.nm_hold.proofs.hold.Hold.add_received.Goals as goal
+
+abbrev standing : goal.After-put_received → Standing
+standing c = record { home = record { place = Rx c.args.port c.args.slot; named = true }; buf = c.args.buf }
+
+step : (c : goal.After-put_received) → Added c.self.inside.cells c.self.inside.ports.tables (standing c) c.put.new.self c.put_received.new.self.tables
+step c =
+    let has = rw (← c.self.view_is) at c.requires.belongs in
+    let unheld = rw (← c.self.view_is) at c.requires.empty in
+    let index = rw (← c.self.view_is) at c.requires.index in
+    let unused = rw (← c.self.view_is) at c.requires.apart in
+    added c.self.inside.cells c.self.inside.ports.tables (standing c) c.index-idx.result c.put.new.self c.put_received.new.self.tables c.self.invariant has unheld index unused c.index-idx.ensures c.put.ensures c.put_received.ensures
+
+pub invariant_of-self : goal.invariant_of-self
+invariant_of-self c = (step c).whole
+
+pub returns-clause-cell : goal.returns-clause-cell
+returns-clause-cell c = rw (← c.self.view_is) (step c).cell
+
+pub returns-clause-places : goal.returns-clause-places
+returns-clause-places c p = rw (← c.self.view_is) ((step c).places p)
+
+pub returns-clause-hold : goal.returns-clause-hold
+returns-clause-hold c = (step c).hold
