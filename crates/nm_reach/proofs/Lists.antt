@@ -49,6 +49,14 @@ module _ {X : Type 0} where
   none [] h = refl
   none (x ∷ xs) h = absurd (omega arith)
 
+  pub none_first : (xs ys : List X) → xs ++ ys ≡ [] → xs ≡ []
+  none_first [] ys h = refl
+  none_first (x ∷ xs) ys h = absurd cc
+
+  pub none_behind : (xs ys : List X) → xs ++ ys ≡ [] → ys ≡ []
+  none_behind [] ys h = h
+  none_behind (x ∷ xs) ys h = absurd cc
+
   -- values that were written over are as many
   pub length_refilled : (xs ws : List X) → length (refilled xs ws) ≡ length xs
   length_refilled xs ws =

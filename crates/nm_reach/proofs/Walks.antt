@@ -2,6 +2,7 @@
 use Rattle.std.proofs.Common.{◌≡◌, ℕ, zero, suc, List, [], ◌∷◌, refl}
 use seplogic.Ra.Ura.{Ura}
 use mir.Val.{Val, vstruct, vcons, vnil}
+use base.Logic.{SProp}
 use types.Logic.{Logic}
 use types.Kit.{Goal, Seq, Step, step, Item, ‵, ◌$◌, move, drop, fsplit, fjoin, fpick, fpack, feq_l, feq_i}
 use denote.Builtin.{unit}
@@ -9,6 +10,9 @@ use denote.RattleType.{RattleType, Valss}
 use denote.Param.Laws.{Laws}
 use denote.Signature.{Slot, plain}
 use denote.Steps.{nothing}
+use denote.Triple.Clauses.{Ended, Clauses}
+use denote.Triple.End.{Kepts}
+use denote.Triple.Walked.{Stays, stay_dropped, walk_of}
 use denote.Struct.Struct.{within}
 use Rattle.nm_reach.specs.Cells.{stands, values_at}
 use Rattle.nm_reach.proofs.Lodging.{Good, plainly, tells}
@@ -19,6 +23,17 @@ abbrev pub slot_at : {n : ℕ} → ℕ → List (Slot n) → Slot n
 slot_at k [] = plain (λ _. unit)
 slot_at zero (s ∷ ss) = s
 slot_at (suc k) (s ∷ ss) = slot_at k ss
+
+-- nothing is had of what was passed, at the end
+abbrev all_go : {n : ℕ} (ss : List (Slot n)) (ks : Kepts ss) → Stays ss ks
+all_go [] ks = tt
+all_go (s ∷ ss) ks = (stay_dropped s ks.0, all_go ss ks.1)
+
+abbrev pub stays : (E : Ended) → Stays E.signature.params E.kept
+stays E = all_go E.signature.params E.kept
+
+abbrev pub at_end : {M : Type 1} {𝓤 : Ura M} (𝓛 : Logic 𝓤) (E : Ended) (c : Clauses 𝓤 E) → (walk_of 𝓛 E (stays E) c).Ghost → Val → SProp 𝓤
+at_end 𝓛 E c z = (walk_of 𝓛 E (stays E) c).post z
 
 abbrev pub none : Val
 none = vstruct vnil

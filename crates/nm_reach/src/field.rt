@@ -8,6 +8,7 @@ use crate::sides::Sides;
 use crate::stretch::Stretch;
 use nm_types::NoMemory;
 use std::marker::Model;
+use std::mem::ManuallyDrop;
 
 /// Cells that are reached by rights alone. It cannot be dropped: `close` takes it with the right to
 /// all its cells.
@@ -15,12 +16,14 @@ use std::marker::Model;
 /// The cells lie in the memory of the vector that they were made of. By that memory fields are told
 /// apart: where it begins no caller can work out.
 pub struct Field<T> {
-    husk: Husk<T>,
+    /// Never dropped: what holds a field then needs no drop of a husk.
+    husk: ManuallyDrop<Husk<T>>,
     size: u32,
 }
 
 impl<T> Model for Field<T> {
     ghost use Rattle.std.specs.Prelude.{◌≡◌};
+    ghost use Rattle.std.specs.Mem.{manually_drop_value};
     ghost use Rattle.nm_reach.specs.Fields.{FieldState, field_code};
 
     ghost Value = { FieldState };
@@ -28,12 +31,12 @@ impl<T> Model for Field<T> {
     ghost coded = { field_code };
 
     ghost view = { λ f. record {
-      field = f.husk.ptr;
+      field = (manually_drop_value f.husk).ptr;
       size = f.size;
-      capacity = f.husk.cap;
+      capacity = (manually_drop_value f.husk).cap;
     } };
 
-    ghost invariant = { λ f. f.husk.len ≡ f.size };
+    ghost invariant = { λ f. (manually_drop_value f.husk).len ≡ f.size };
 }
 
 impl<T> Field<T> {
@@ -51,6 +54,7 @@ impl<T> Field<T> {
         let (values, husk) = detach(values);
         let (back, front) = Stretch::new(ptr, size, values).cut(0);
         let size = size as u32;
+        let husk = unsafe { ManuallyDrop::new_unchecked(husk) };
         let all = Reach::whole(size, Sides { front, back });
         Ok((Field { husk, size }, all))
     }
@@ -64,6 +68,6 @@ impl<T> Field<T> {
         ensures capacity { vec_capacity result ≡ self.capacity }
     {
         let Field { husk, size: _ } = self;
-        attach(all.unrolled().into_values(), husk)
+        attach(all.unrolled().into_values(), ManuallyDrop::into_inner(husk))
     }
 }

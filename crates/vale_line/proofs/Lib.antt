@@ -1,6 +1,9 @@
+pub mod CellLemmas
+pub mod FilledFrames
 pub mod Filling
 pub mod FittingLemmas
 pub mod FrameLemmas
 pub mod LotLemmas
 pub mod Moving
+pub mod RingLemmas
 pub mod RoomLemmas

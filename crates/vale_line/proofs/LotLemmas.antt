@@ -18,7 +18,7 @@ use Rattle.vale_lease.proofs.LeaseLemmas.{leases-completed as ring-completed}
 use Rattle.vale_line.specs.declared.got.Got.{Got}
 use Rattle.vale_line.specs.Gots.{frames_in, HoldWholeFrames}
 use Rattle.vale_line.proofs.FrameLemmas.{frames_in-append}
-use Rattle.vale_line.specs.Lines.{HeldLot, LineState, is_done, gots_of, lease_of, leases_of, slots_of, done_lots, behind_done, ready_gots, ready_frames, frames_of_lot, completed, opened_lot, put_lot, with_lease, given_by_sync, out_of, space_of, first_gots, is_out_at, slots_out, IsLot, IsLine}
+use Rattle.vale_line.specs.Lines.{HeldLot, LineState, is_done, gots_of, lease_of, leases_of, slots_of, done_lots, behind_done, ready_gots, ready_frames, frames_of_lot, completed, opened_lot, put_lot, with_lease, given_by_sync, out_of, space_of, first_gots, gots_of_first, is_out_at, slots_out, IsLot, IsLine}
 
 -- the ring has as many slots leased as the lots have
 pub leased-slots : (lots : List HeldLot) → lease_slots (leases_of lots) ≡ slots_of lots
@@ -98,6 +98,39 @@ none-ready (lot ∷ lots) is = let other : is_done lot ≡ false = ap is_some is
 pub none-behind : (lots : List HeldLot) → first_gots lots ≡ None → behind_done lots ≡ lots
 none-behind [] is = refl
 none-behind (lot ∷ lots) is = let other : is_done lot ≡ false = ap is_some is in rw other refl
+
+-- the buffers of a first lot that is done
+pub first-of : (lots : List HeldLot) → is_some (first_gots lots) ≡ true → first_gots lots ≡ Some (gots_of_first lots)
+first-of lots done = by (first_gots lots) done
+  where
+    by : (g : Option (List Got)) → is_some g ≡ true → g ≡ Some (option_map_or (λ (gots : List Got). gots) g [])
+    by None done = absurd (let wrong : false ≡ true = done in cc)
+    by (Some gots) done = refl
+
+pub first-none : (lots : List HeldLot) → is_some (first_gots lots) ≡ false → first_gots lots ≡ None
+first-none lots other = by (first_gots lots) other
+  where
+    by : (g : Option (List Got)) → is_some g ≡ false → g ≡ None
+    by None other = refl
+    by (Some gots) other = absurd (let wrong : true ≡ false = other in cc)
+
+-- what is ready once the buffers of the first lot were given
+pub record Given (lots : List HeldLot) : Type 0 where
+  pub ready : ready_gots lots ≡ gots_of_first lots ++ ready_gots (drop 1 lots)
+  pub behind : behind_done lots ≡ behind_done (drop 1 lots)
+  pub some : 1 ≤ length lots
+  pub count : length (ready_gots lots) ≡ length (gots_of_first lots) + length (ready_gots (drop 1 lots))
+
+pub given : (lots : List HeldLot) → is_some (first_gots lots) ≡ true → Given lots
+given lots done =
+    let first = first-of lots done in
+    let ready = first-ready lots (gots_of_first lots) first in
+    record {
+      ready = ready;
+      behind = first-behind lots (gots_of_first lots) first;
+      some = first-some lots (gots_of_first lots) first;
+      count = ap length ready ∙ length-append (gots_of_first lots) (ready_gots (drop 1 lots));
+    }
 
 -- the lots that are ready have as many buffers as slots
 length-first : (lot : HeldLot) (gots : List Got) → lot.gots ≡ Some gots → IsLot lot → length gots ≡ lot.slots
@@ -289,6 +322,18 @@ opened-done id gots lots fresh =
     map-append (completed id.0 gots) lots (opened_lot id (length gots) ∷ [])
     ∙ (ap (λ (ls : List HeldLot). ls ++ completed id.0 gots (opened_lot id (length gots)) ∷ []) (completed-none id.0 gots lots fresh)
     ∙ ap (λ (l : HeldLot). lots ++ l ∷ []) first)
+
+-- the slots of the lot that is out, found at a place
+pub slots-at : (lots : List HeldLot) (id n at : ℕ) (d : HeldLot) → AreLeases (leases_of lots) → at < length lots → is_out_at id (get_or lots at d) ≡ true → slots_out id lots ≡ Some n → (get_or lots at d).slots ≡ n
+slots-at [] id n at d are within out is = absurd (omega (arith, within))
+slots-at (lot ∷ lots) id n zero d are within out is = let told : Some lot.slots ≡ Some n = rw out at is in cc
+slots-at (lot ∷ lots) id n (suc at) d are within out is =
+    let there : list_any (is_out_at id) lots ≡ true = list_any_at (is_out_at id) lots at d (omega arith) out in
+    let known : is_there id (leases_of lots) ≡ true = out_there id (leases_of lots) (sym (lease-out id lots) ∙ there) in
+    elim (cases_Bool (is_out_at id lot)) [
+      | inl here ↦ absurd (both_ways (is_there id (leases_of lots)) (none-behind-it id lot lots are (and_parts (lot.id.0 == id) (not (is_done lot)) here).0) known)
+      | inr other ↦ (let later : slots_out id lots ≡ Some n = rw other at is in slots-at lots id n at d are.1.1 (omega (arith, within)) out later)
+    ]
 
 -- a lot found at a place
 pub lot_found : (id : ℕ) (lots : List HeldLot) (at : ℕ) (d : HeldLot) → at < length lots

@@ -82,6 +82,10 @@ abbrev pub first_gots : List HeldLot → Option (List Got)
 first_gots [] = None
 first_gots (lot ∷ lots) = lot.gots
 
+-- its buffers, or none
+abbrev pub gots_of_first : List HeldLot → List Got
+gots_of_first lots = option_map_or (λ (gots : List Got). gots) (first_gots lots) []
+
 -- a lot that came done
 abbrev pub put_lot : LeaseId → List Got → HeldLot
 put_lot id gots = record { id = id; slots = length gots; gots = Some gots }

@@ -1,23 +1,23 @@
 -- How a line, a lease and the room for one are kept in memory.
 use Rattle.std.specs.Prelude.{◌≡◌, ◌≤◌, ◌-◌, [], length, take, drop, sum}
 use Rattle.std.specs.Vec.{vec_capacity}
-use Rattle.std.specs.VecDeque.{deque_capacity}
 use Rattle.vale_line.specs.declared.lease.Lease.TheInside.{Inside as LeaseInside}
 use Rattle.vale_line.specs.declared.line.Line.TheInside.{Inside}
 use Rattle.vale_line.specs.Gots.{buffers_of, frames_in, HoldWholeFrames}
 use Rattle.vale_line.specs.Leased.{Leased}
 use Rattle.vale_line.specs.Lines.{LineState, IsLine, leases_of}
+use Rattle.vale_line.specs.Rings.{ring_state, IsRing}
 
 abbrev pub state_of : Inside → LineState
-state_of l = record { size = l.size; idle = l.idle.items; lots = l.lots.items }
+state_of l = ring_state l.ring
 
 pub record IsStored (l : Inside) : Type 0 where
+  pub size : l.size ≡ (state_of l).size
   pub line : IsLine (state_of l)
-  pub leases : l.leases ≡ record { size = l.size; leases = leases_of l.lots.items }
-  pub idle_room : l.size ≤ deque_capacity l.idle
-  pub lots_room : l.size ≤ deque_capacity l.lots
+  pub ring : IsRing l.ring
+  pub leases : l.leases ≡ record { size = (state_of l).size; leases = leases_of (state_of l).lots }
   pub none : l.room.items ≡ []
-  pub room : l.size ≤ vec_capacity l.room
+  pub room : (state_of l).size ≤ vec_capacity l.room
 
 abbrev pub lease_state : LeaseInside → Leased
 lease_state l = record {

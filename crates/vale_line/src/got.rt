@@ -1,5 +1,5 @@
 ghost use Rattle.std.specs.Prelude.{◌≡◌, ◌≤◌, length};
-ghost use Rattle.vale_line.specs.Gots.{got_of, last_count};
+ghost use Rattle.vale_line.specs.Gots.{blank, got_of, last_count};
 
 use nm_region::Buf;
 
@@ -13,6 +13,29 @@ pub struct Got {
 }
 
 impl Got {
+    /// A buffer with no frame.
+    pub(crate) fn blank(buf: Buf) -> Got
+        ensures { result ≡ blank buf }
+    {
+        Got {
+            buf,
+            len: 0,
+            rest: 0,
+        }
+    }
+
+    /// The buffer without its frame.
+    pub(crate) fn into_buf(self) -> Buf
+        ensures { result ≡ self.buf }
+    {
+        let Got {
+            buf,
+            len: _,
+            rest: _,
+        } = self;
+        buf
+    }
+
     /// Copies a part of a frame into the buffer. `rest` more parts follow.
     pub(crate) fn fill(&mut self, part: &[u8], rest: u8)
         requires { length part.now ≤ 2048 }

@@ -62,6 +62,16 @@ impl Drop for LeaseRoom {
     }
 }
 
+/// Copies a frame of one part into the buffer at `at`.
+fn fill_first(gots: &mut Vec<Got>, at: usize, bytes: &[u8])
+    requires frame { length bytes.now ≤ 2048 }
+    requires room { at < length gots.old.items }
+    ensures { gots.new.items ≡ take at gots.old.items
+        ++ written_parts (parts_of bytes.now) (drop at gots.old.items) }
+{
+    gots[at].fill(bytes, 0);
+}
+
 /// Copies a frame into the buffers from `at` on, 2048 bytes in each but the last.
 fn fill_parts(gots: &mut Vec<Got>, at: usize, bytes: &[u8])
     requires frame { length bytes.now ≤ 131072 }
@@ -70,7 +80,7 @@ fn fill_parts(gots: &mut Vec<Got>, at: usize, bytes: &[u8])
         ++ written_parts (parts_of bytes.now) (drop at gots.old.items) }
 {
     if bytes.len() <= BUFFER_BYTES {
-        gots[at].fill(bytes, 0);
+        fill_first(gots, at, bytes);
         return;
     }
     let count = slots(bytes.len());
@@ -188,6 +198,19 @@ impl Lease {
         let size = usize::from(self.sizes[self.frames]);
         fill_parts(&mut self.gots, self.filled, bytes);
         self.filled += size;
+        self.frames += 1;
+    }
+
+    /// Copies a frame that fits one buffer, as the next size says, into the next buffer.
+    #[tactic(auto, using(crate::proofs::Filling::filling))]
+    pub fn fill_one(&mut self, bytes: &[u8])
+        requires frame { length bytes.now ≤ 2048 }
+        requires next { next_of self.old ≡ 1 }
+        ensures lease { self.new ≡ with_frame bytes.now self.old }
+        ensures contents { contents self.new ≡ contents self.old ++ bytes.now ∷ [] }
+    {
+        fill_first(&mut self.gots, self.filled, bytes);
+        self.filled += 1;
         self.frames += 1;
     }
 

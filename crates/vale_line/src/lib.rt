@@ -6,6 +6,8 @@ mod got;
 mod lease;
 mod line;
 mod lot;
+mod moves;
+mod ring;
 mod rooms;
 #[cfg(test)]
 mod tests;

@@ -1,19 +1,19 @@
-ghost use Rattle.std.specs.Prelude.{◌≡◌, ◌≤◌, ◌<◌, ◌+◌, ◌-◌, ◌^◌, [], ◌∷◌, ◌++◌, All, length, take, drop, map, min, sum, false, None, Some, option_map, slice_get, vec_len, vec_capacity, is_some, if◌then◌else◌, IfOk, IfErr, IfSome, IfNone, IsTrue};
+ghost use Rattle.std.specs.Prelude.{◌≡◌, ◌≤◌, ◌<◌, ◌+◌, ◌-◌, ◌^◌, [], ◌∷◌, ◌++◌, All, length, take, drop, map, min, sum, false, Some, vec_len, vec_capacity, IfOk, IfErr, IfSome, IfNone};
 ghost use Rattle.std.specs.List.{list_any};
 ghost use Rattle.std.specs.VecDeque.{deque_capacity};
 ghost use Rattle.vale_lease.specs.Leases.{AreLeases, is_there, out_count};
 ghost use Rattle.vale_line.specs.Fitting.{IsFrameSize, first_fitting, fitting_sizes};
+ghost use Rattle.vale_line.specs.Rings.{ring_state, IsRing};
 ghost use Rattle.vale_line.specs.Gots.{blank, buffers_of, frames_in, IsSingle, HoldWholeFrames};
 ghost use Rattle.vale_line.specs.Leased.{buffer_count};
 ghost use Rattle.vale_line.specs.Lines.{is_out_at, slots_out, first_gots, IsLine, space_of, out_of, slots_of, leases_of, done_lots, behind_done, ready_gots, ready_frames, completed, new_line, granted_sizes, with_lease, leased, given_by_sync, with_put, held_gots};
 
 use crate::got::Got;
 use crate::lease::{Lease, LeaseRoom};
-use crate::lot::Lot;
+use crate::ring::Ring;
 use nm_region::Buf;
 use nm_types::{LeaseId, NoMemory, PortId};
 use std::alloc::Global;
-use std::collections::VecDeque;
 use std::marker::Model;
 use std::mem::replace;
 use vale_lease::Leases;
@@ -22,9 +22,9 @@ use vale_lease::Leases;
 /// leased, oldest first. It cannot be dropped: `clear` gives its buffers back.
 pub struct Line {
     size: u32,
-    idle: VecDeque<Buf>,
-    lots: VecDeque<Lot>,
+    ring: Ring,
     leases: Leases,
+    /// The vector that the line was made of, empty.
     room: Vec<Buf>,
     alloc: Global,
 }
@@ -41,178 +41,45 @@ impl Model for Line {
     ghost invariant = { IsStored };
 }
 
-/// Moves the first buffers into an empty vector that has room for them.
-#[tactic(auto, using(crate::proofs::Moving::moving))]
-fn lease_front(idle: &mut VecDeque<Buf>, mut gots: Vec<Got>, count: u32) -> Vec<Got>
-    requires none { gots.items ≡ [] }
-    requires room { count ≤ vec_capacity gots }
-    requires enough { count ≤ length idle.old.items }
-    ensures gots { result.items ≡ map blank (take count idle.old.items) }
-    ensures idle { idle.new.items ≡ drop count idle.old.items }
-    ensures capacity { deque_capacity idle.new ≡ deque_capacity idle.old }
-{
-    for _ in 0..count {
-        match idle.pop_front() {
-            Some(buf) => gots.push_reserved(Got {
-                buf,
-                len: 0,
-                rest: 0,
-            }),
-            None => unreachable!(),
-        }
-    }
-    gots
-}
-
-/// Moves buffers to the end. Gives the vector in which they came back, empty.
-fn push_all(idle: &mut VecDeque<Buf>, back: Vec<Buf>) -> Vec<Buf>
-    requires { length idle.old.items + length back.items ≤ deque_capacity idle.old }
-    ensures items { idle.new.items ≡ idle.old.items ++ back.items }
-    ensures capacity { deque_capacity idle.new ≡ deque_capacity idle.old }
-    ensures none { result.items ≡ [] }
-    ensures kept { vec_capacity result ≡ vec_capacity back }
-{
-    let mut rest = VecDeque::from_vec(back);
-    while let Some(buf) = rest.pop_front() {
-        idle.push_back_reserved(buf);
-    }
-    rest.into_vec()
-}
-
-/// Moves the first buffers into an empty vector that has room for them.
-#[tactic(auto, using(crate::proofs::Moving::moving))]
-fn lend_front(idle: &mut VecDeque<Buf>, mut lent: Vec<Buf>, count: u32) -> Vec<Buf>
-    requires none { lent.items ≡ [] }
-    requires room { count ≤ vec_capacity lent }
-    requires enough { count ≤ length idle.old.items }
-    ensures lent { result.items ≡ take count idle.old.items }
-    ensures idle { idle.new.items ≡ drop count idle.old.items }
-    ensures capacity { deque_capacity idle.new ≡ deque_capacity idle.old }
-{
-    for _ in 0..count {
-        match idle.pop_front() {
-            Some(buf) => lent.push_reserved(buf),
-            None => unreachable!(),
-        }
-    }
-    lent
-}
-
-/// The place of the lot whose lease of this id is out, found from the back, where the newest lots
-/// are.
-fn place_of(lots: &VecDeque<Lot>, id: LeaseId) -> Option<usize>
-    ensures within { IfSome result (λ at. at < length lots.now.items) }
-    ensures found { IfSome result (λ at.
-        IfSome (slice_get lots.now.items at) (λ lot. IsTrue (is_out_at id.0 lot))) }
-    ensures none { IfNone result (All (λ lot. is_out_at id.0 lot ≡ false) lots.now.items) }
-{
-    lots.iter().rposition(|lot| lot.is_out_at(id))
-}
-
-/// Completes the lot of a lease that is out with the lease's buffers.
+/// Gives the buffers of the longest prefix of done lots behind others.
 #[tactic(auto, using(crate::proofs::LotLemmas::lots))]
-fn complete(lots: &mut VecDeque<Lot>, id: LeaseId, gots: Vec<Got>)
-    requires leases { AreLeases (leases_of lots.old.items) }
-    requires out { IsTrue (list_any (is_out_at id.0) lots.old.items) }
-    ensures items { lots.new.items ≡ map (completed id.0 gots.items) lots.old.items }
-    ensures capacity { deque_capacity lots.new ≡ deque_capacity lots.old }
+fn give_done(ring: &mut Ring, gots: Vec<Got>) -> Vec<Got>
+    requires ring { IsRing ring.old }
+    requires room { vec_len gots + length (ready_gots (ring_state ring.old).lots)
+        ≤ vec_capacity gots }
+    ensures ring { IsRing ring.new }
+    ensures got { result.items ≡ gots.items ++ ready_gots (ring_state ring.old).lots }
+    ensures line { ring_state ring.new ≡ record (ring_state ring.old) {
+      lots = behind_done (ring_state ring.old).lots;
+    } }
+    ensures capacity { vec_capacity result ≡ vec_capacity gots }
 {
-    match place_of(lots, id) {
-        Some(at) => lots[at].complete(gots),
-        None => unreachable!(),
+    let mut got = gots;
+    while ring.is_first_done() {
+        got = ring.publish_first(got);
     }
+    got
 }
 
-fn is_first_done(lots: &VecDeque<Lot>) -> bool
-    ensures { result ≡ is_some (first_gots lots.now.items) }
-{
-    match lots.front() {
-        Some(lot) => lot.is_done(),
-        None => false,
-    }
-}
-
-/// Takes the first lot out, if it is done.
+/// Gives the buffers of the longest prefix of done lots behind others, without their frames. Returns
+/// the number of frames in them.
 #[tactic(auto, using(crate::proofs::LotLemmas::lots))]
-fn take_done(lots: &mut VecDeque<Lot>) -> Option<Vec<Got>>
-    ensures gots { option_map (λ gots. gots.items) result ≡ first_gots lots.old.items }
-    ensures rest { lots.new.items ≡ (if is_some (first_gots lots.old.items)
-        then drop 1 lots.old.items else lots.old.items) }
-    ensures capacity { deque_capacity lots.new ≡ deque_capacity lots.old }
-{
-    if !is_first_done(lots) {
-        return None;
-    }
-    match lots.pop_front() {
-        Some(lot) => lot.into_gots(),
-        None => unreachable!(),
-    }
-}
-
-/// Moves the buffers of the longest prefix of done lots to the end of others.
-#[tactic(auto, using(crate::proofs::LotLemmas::lots))]
-fn give_done(lots: &mut VecDeque<Lot>, got: &mut Vec<Got>)
-    requires { vec_len got.old + length (ready_gots lots.old.items) ≤ vec_capacity got.old }
-    ensures got { got.new.items ≡ got.old.items ++ ready_gots lots.old.items }
-    ensures rest { lots.new.items ≡ behind_done lots.old.items }
-    ensures capacity { deque_capacity lots.new ≡ deque_capacity lots.old }
-    ensures got_capacity { vec_capacity got.old ≤ vec_capacity got.new }
-{
-    while let Some(mut gots) = take_done(lots) {
-        got.append(&mut gots).unwrap();
-        gots.destroy_empty();
-    }
-}
-
-/// Moves all buffers behind others.
-fn gather(room: &mut Vec<Buf>, idle: &mut VecDeque<Buf>)
-    requires { length room.old.items + length idle.old.items ≤ vec_capacity room.old }
-    ensures items { room.new.items ≡ room.old.items ++ idle.old.items }
-    ensures capacity { vec_capacity room.new ≡ vec_capacity room.old }
-    ensures none { idle.new.items ≡ [] }
-{
-    while let Some(buf) = idle.pop_front() {
-        room.push_reserved(buf);
-    }
-}
-
-/// Moves the buffers of a lot behind others. Returns the number of frames in them.
-fn gather_lot(room: &mut Vec<Buf>, mut gots: Vec<Got>) -> u32
-    requires room { length room.old.items + length gots.items ≤ vec_capacity room.old }
-    requires few { length gots.items < 2 ^ 32 }
-    ensures count { result ≡ length (frames_in gots.items) }
-    ensures items { room.new.items ≡ room.old.items ++ buffers_of gots.items }
-    ensures capacity { vec_capacity room.new ≡ vec_capacity room.old }
-{
-    gots.reverse();
-    let mut count = 0;
-    while let Some(got) = gots.pop() {
-        count += got.last_count();
-        let Got {
-            buf,
-            len: _,
-            rest: _,
-        } = got;
-        room.push_reserved(buf);
-    }
-    gots.destroy_empty();
-    count
-}
-
-/// Moves the buffers of the longest prefix of done lots behind others. Returns the number of frames
-/// in them.
-#[tactic(auto, using(crate::proofs::LotLemmas::lots))]
-fn gather_done(room: &mut Vec<Buf>, lots: &mut VecDeque<Lot>) -> u32
-    requires room { length room.old.items + length (ready_gots lots.old.items)
+fn discard_done(ring: &mut Ring, room: &mut Vec<Buf>) -> u32
+    requires ring { IsRing ring.old }
+    requires room { vec_len room.old + length (ready_gots (ring_state ring.old).lots)
         ≤ vec_capacity room.old }
-    requires few { length (ready_gots lots.old.items) < 2 ^ 32 }
-    ensures items { room.new.items ≡ room.old.items ++ buffers_of (ready_gots lots.old.items) }
-    ensures rest { lots.new.items ≡ behind_done lots.old.items }
-    ensures count { result ≡ length (frames_in (ready_gots lots.old.items)) }
+    requires few { length (ready_gots (ring_state ring.old).lots) < 2 ^ 32 }
+    ensures ring { IsRing ring.new }
+    ensures items { room.new.items
+        ≡ room.old.items ++ buffers_of (ready_gots (ring_state ring.old).lots) }
+    ensures line { ring_state ring.new ≡ record (ring_state ring.old) {
+      lots = behind_done (ring_state ring.old).lots;
+    } }
+    ensures count { result ≡ length (frames_in (ready_gots (ring_state ring.old).lots)) }
 {
     let mut count = 0;
-    while let Some(gots) = take_done(lots) {
-        count += gather_lot(room, gots);
+    while ring.is_first_done() {
+        count += ring.discard_first(room);
     }
     count
 }
@@ -258,31 +125,25 @@ fn take_fitting(sizes: &mut Vec<u8>, want: &[u32], room: u32) -> u32
 impl Line {
     /// A line of these buffers, which are idle. `clear` gives them back in the vector that is
     /// passed here, and so does `NoMemory` at once. No other call takes memory.
-    pub fn new(alloc: Global, bufs: Vec<Buf>) -> Result<Line, (NoMemory, Vec<Buf>)>
+    pub fn new(alloc: Global, mut bufs: Vec<Buf>) -> Result<Line, (NoMemory, Vec<Buf>)>
         requires size { (1 ≤ length bufs.items) × (length bufs.items ≤ 1024) }
         ensures ok { IfOk result (λ line. line ≡ new_line bufs.items) }
         ensures err { IfErr result (λ fault. fault.1.items ≡ bufs.items) }
     {
-        let size = bufs.len();
-        let Ok(leases) = Leases::new(alloc, size as u32) else {
+        let size = bufs.len() as u32;
+        let Ok(leases) = Leases::new(alloc, size) else {
             return Err((NoMemory, bufs));
         };
-        let Ok(mut idle) = VecDeque::with_capacity(alloc, size) else {
-            return Err((NoMemory, bufs));
-        };
-        let Ok(lots) = VecDeque::with_capacity(alloc, size) else {
-            idle.destroy_empty();
-            return Err((NoMemory, bufs));
-        };
-        let room = push_all(&mut idle, bufs);
-        Ok(Line {
-            size: size as u32,
-            idle,
-            lots,
-            leases,
-            room,
-            alloc,
-        })
+        match Ring::new(alloc, &mut bufs) {
+            Ok(ring) => Ok(Line {
+                size,
+                ring,
+                leases,
+                room: bufs,
+                alloc,
+            }),
+            Err(fault) => Err((fault, bufs)),
+        }
     }
 
     /// The number of slots of the ring.
@@ -297,7 +158,7 @@ impl Line {
         ensures space { result ≡ space_of self.now }
         ensures line { IsLine self.now }
     {
-        self.idle.len() as u32 - 1
+        self.ring.idle_len() - 1
     }
 
     /// The number of buffers that a sync would hand out.
@@ -342,8 +203,7 @@ impl Line {
             return None;
         }
         self.leases.open(id, count);
-        self.lots.push_back_reserved(Lot::new(id, count));
-        let gots = lease_front(&mut self.idle, gots, count);
+        let gots = self.ring.lease(id, count, gots, &mut self.room);
         Some(Lease::new(id, to, gots, sizes))
     }
 
@@ -359,13 +219,13 @@ impl Line {
     {
         let id = lease.id();
         self.leases.done(id);
-        complete(&mut self.lots, id, lease.into_gots());
+        self.ring.complete(id, lease.into_gots());
     }
 
     /// Takes buffers back, and hands out those of the longest prefix of done lots, with their
     /// frames, in `room`.
     #[tactic(auto, using(crate::proofs::LotLemmas::lots))]
-    pub fn sync(&mut self, back: Vec<Buf>, mut room: Vec<Got>) -> Vec<Got>
+    pub fn sync(&mut self, back: Vec<Buf>, room: Vec<Got>) -> Vec<Got>
         requires returned { length back.items ≤ out_of self.old }
         requires none { room.items ≡ [] }
         requires room { length (ready_gots self.old.lots) ≤ vec_capacity room }
@@ -376,9 +236,8 @@ impl Line {
         ensures was { IsLine self.old }
     {
         self.leases.take();
-        give_done(&mut self.lots, &mut room);
-        push_all(&mut self.idle, back).destroy_empty();
-        room
+        self.ring.take_back(back, &mut self.room);
+        give_done(&mut self.ring, room)
     }
 
     /// Lends the first `k` idle buffers in `room`, for a put that gives others in their place.
@@ -391,7 +250,7 @@ impl Line {
         ensures line { self.new ≡ record self.old { idle = drop k self.old.idle } }
         ensures was { IsLine self.old }
     {
-        lend_front(&mut self.idle, room, k)
+        self.ring.lend(k, room, &mut self.room)
     }
 
     /// Takes buffers with a frame in each, in the place of those that were lent, as a done lot. No
@@ -412,7 +271,7 @@ impl Line {
         }
         self.leases.open(id, gots.len() as u32);
         self.leases.done(id);
-        self.lots.push_back_reserved(Lot::put(id, gots));
+        self.ring.accept(id, gots, &mut self.room);
     }
 
     /// Gives back all buffers, in the vector that the line was made of, and the number of frames
@@ -426,16 +285,14 @@ impl Line {
     {
         let Line {
             size: _,
-            mut idle,
-            mut lots,
+            mut ring,
             leases: _,
-            mut room,
+            room,
             alloc: _,
         } = self;
-        gather(&mut room, &mut idle);
-        idle.destroy_empty();
-        let unread = gather_done(&mut room, &mut lots);
-        lots.destroy_empty();
-        (room, unread)
+        let mut bufs = ring.give_idle(room);
+        let unread = discard_done(&mut ring, &mut bufs);
+        ring.end();
+        (bufs, unread)
     }
 }

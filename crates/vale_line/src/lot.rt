@@ -1,85 +1,71 @@
-ghost use Rattle.std.specs.Prelude.{◌≡◌, ◌<◌, ◌^◌, length, Some, None, option_map};
-ghost use Rattle.vale_line.specs.Lines.{is_done, is_out_at, opened_lot, put_lot};
+ghost use Rattle.std.specs.Prelude.{◌≡◌, true, false, length};
+ghost use Rattle.vale_line.specs.Cells.{AreEmpty, SameCells, gots_in};
+ghost use Rattle.vale_line.specs.Lines.{is_out_at};
+ghost use Rattle.vale_line.specs.Rings.{held};
 
 use crate::got::Got;
+use crate::moves::{Cell, put_run};
+use nm_reach::Reach;
 use nm_types::LeaseId;
-use std::marker::Model;
 
-/// A lot of a line. Its lease has its buffers until it is done.
+/// A lot of a line, with the right to its cells. Its lease has its buffers until it is done.
 pub(crate) struct Lot {
     id: LeaseId,
-    slots: u32,
-    gots: Option<Vec<Got>>,
-}
-
-impl Model for Lot {
-    ghost use Rattle.std.specs.Prelude.{option_map};
-    ghost use Rattle.vale_line.specs.Lines.{HeldLot};
-
-    ghost Value = { HeldLot };
-
-    ghost view = { λ l. record {
-      id = l.id;
-      slots = l.slots;
-      gots = option_map (λ gots. gots.items) l.gots;
-    } };
+    reach: Reach<Cell>,
+    is_done: bool,
 }
 
 impl Lot {
-    pub(crate) fn new(id: LeaseId, slots: u32) -> Lot
-        ensures { result ≡ opened_lot id slots }
+    pub(crate) fn new(id: LeaseId, reach: Reach<Cell>) -> Lot
+        ensures { result ≡ record {
+          id = id;
+          reach = reach;
+          is_done = false;
+        } }
     {
         Lot {
             id,
-            slots,
-            gots: None,
-        }
-    }
-
-    /// A lot that is done from the start.
-    pub(crate) fn put(id: LeaseId, gots: Vec<Got>) -> Lot
-        requires { length gots.items < 2 ^ 32 }
-        ensures { result ≡ put_lot id gots.items }
-    {
-        Lot {
-            id,
-            slots: gots.len() as u32,
-            gots: Some(gots),
+            reach,
+            is_done: false,
         }
     }
 
     /// Whether this is the lot of that lease, and not done.
     pub(crate) fn is_out_at(&self, id: LeaseId) -> bool
-        ensures { result ≡ is_out_at id.0 self.now }
+        ensures { result ≡ is_out_at id.0 (held self.now) }
     {
-        self.id == id && !self.is_done()
+        self.id == id && !self.is_done
     }
 
     pub(crate) fn is_done(&self) -> bool
-        ensures { result ≡ is_done self.now }
+        ensures { result ≡ self.now.is_done }
     {
-        self.gots.is_some()
+        self.is_done
     }
 
     /// Completes the lot with the filled buffers of its lease.
-    pub(crate) fn complete(&mut self, gots: Vec<Got>)
-        requires { self.old.gots ≡ None }
-        ensures { self.new ≡ record self.old { gots = Some gots.items } }
+    pub(crate) fn complete(&mut self, mut gots: Vec<Got>)
+        requires empty { AreEmpty self.old.reach.values }
+        requires count { length gots.items ≡ length self.old.reach.values }
+        ensures id { self.new.id ≡ self.old.id }
+        ensures done { self.new.is_done ≡ true }
+        ensures cells { SameCells self.old.reach self.new.reach }
+        ensures gots { gots_in self.new.reach.values ≡ gots.items }
     {
-        match self.gots.replace(gots) {
-            None => {}
-            Some(_other) => unreachable!(),
-        }
+        put_run(&mut self.reach, &mut gots);
+        gots.destroy_empty();
+        self.is_done = true;
     }
 
-    pub(crate) fn into_gots(self) -> Option<Vec<Got>>
-        ensures { option_map (λ gots. gots.items) result ≡ self.gots }
+    /// The right to the lot's cells.
+    pub(crate) fn into_reach(self) -> Reach<Cell>
+        ensures { result ≡ self.reach }
     {
         let Lot {
             id: _,
-            slots: _,
-            gots,
+            reach,
+            is_done: _,
         } = self;
-        gots
+        reach
     }
 }

@@ -1,6 +1,6 @@
 -- `house` hands the values to `lodge`. Assumes `Logic`.
 use Rattle.std.proofs.Common.{◌≡◌, ◌+◌, ◌*◌, ◌^◌, ◌<◌, ◌≤◌, List, [], ◌∷◌, ◌++◌, length, refl, sym, ap, ◌∙◌, subst, arith, w64, Vec}
-use mir.Syntax.{Fn, Args, a_type}
+use mir.Syntax.{Fn, a_type}
 use mir.Val.{Val, vint, vptr, vstruct, vcons, vnil}
 use mir.MapTy.{inst_fn}
 use base.Logic.{SProp, emp, id⊢, never}
@@ -22,7 +22,6 @@ use denote.Struct.Struct.{as_fields}
 use denote.Triple.Call.{calls_at_last}
 use denote.Triple.Entry.{alive}
 use denote.Triple.Table.{framed}
-use denote.Triple.Walked.{Stays, stay_dropped, walk_of}
 use Rattle.std.proofs.alloc.Calls.{Goes-blank}
 use Rattle.std.proofs.raw_atomic.Walks.{proved_at, leaves}
 use Rattle.std.specs.Mem.{type_size}
@@ -32,7 +31,7 @@ use Rattle.std.proofs.mem.Timeless.{timeless, timeless_laws}
 use Rattle.std_alloc.proofs.VecSteps.Shapes.{after}
 use Rattle.nm_reach.specs.Cells.{values_at}
 use Rattle.nm_reach.specs.contracts.parts.Spot as Spot
-use Rattle.nm_reach.proofs.Walks.{slot_at, spot_val, values_val, spot_made, values_had}
+use Rattle.nm_reach.proofs.Walks.{slot_at, stays, at_end, spot_val, values_val, spot_made, values_had}
 use Rattle.std_alloc.specs.declared.vec.lodged.Lodged.{Lodged}
 use Rattle.std_alloc.specs.Vec.Ownership.{lodged}
 use Rattle.std_alloc.proofs.vec.lodge.Met as callee
@@ -45,36 +44,23 @@ use Rattle.nm_reach.proofs.parts.house.Code as compiled
 
 pub house_spec : {M : Type 1} → statement M
 house_spec 𝓤 𝓛 𝓜 𝓡 wired T L =
-    let H = 𝓛.H in
-    let En₀ = ended T in
-    let c = clauses T 𝓛 𝓜.mem 𝓡.returns in
-    let args : Args = layouts (a_type ∷ []) (T, tt) in
-    let fn : Fn = inst_fn args compiled.function in
-    let stays : Stays En₀.signature.params En₀.kept = (stay_dropped (slot_at 0 En₀.signature.params) En₀.kept.0, (stay_dropped (slot_at 1 En₀.signature.params) En₀.kept.1.0, (stay_dropped (slot_at 2 En₀.signature.params) En₀.kept.1.1.0, tt))) in
-    let C = (tables 𝓤 H 𝓜 𝓡 𝓡.env).C in
-    let Λ = (tables 𝓤 H 𝓜 𝓡 𝓡.env).Λ in
-    proved_at 𝓛 En₀ stays c 𝓜 𝓡 (Goes-blank 𝓛 1 (slot_at 0 En₀.signature.params) En₀.kept.0 (λ κs x f. tt), (Goes-blank 𝓛 1 (slot_at 1 En₀.signature.params) En₀.kept.1.0 (λ κs x f. tt), (Goes-blank 𝓛 1 (slot_at 2 En₀.signature.params) En₀.kept.1.1.0 (λ κs x f. tt), tt))) (#self args) fn (compiled.unfolded 𝓤 H 𝓜 𝓡 wired (T, tt)) (λ z are.
-    let Post : Val → SProp 𝓤 = (walk_of 𝓛 En₀ stays c).post z in
-    let a = z.0.3 in
-    let vss = z.0.4 in
-    let R : RattleType = param 0 T in
-    let LR : Laws R = param_laws 0 T L in
-    let p = a.0 in
-    let n = a.1.0 in
-    let x = a.1.1.0 in
-    let s = x.spot in
-    let xs = x.items in
+    let E = ended T in let c = clauses T 𝓛 𝓜.mem 𝓡.returns in
+    let fn : Fn = inst_fn (layouts (a_type ∷ []) (T, tt)) compiled.function in
+    proved_at 𝓛 E (stays E) c 𝓜 𝓡 (Goes-blank 𝓛 1 (slot_at 0 E.signature.params) E.kept.0 (λ κs x f. tt), (Goes-blank 𝓛 1 (slot_at 1 E.signature.params) E.kept.1.0 (λ κs x f. tt), (Goes-blank 𝓛 1 (slot_at 2 E.signature.params) E.kept.1.1.0 (λ κs x f. tt), tt))) (#self (layouts (a_type ∷ []) (T, tt))) fn (compiled.unfolded 𝓤 𝓛.H 𝓜 𝓡 wired (T, tt)) (λ z are.
+    let a = z.0.3 in let vss = z.0.4 in let p = a.0 in let n = a.1.0 in let x = a.1.1.0 in let s = x.spot in let xs = x.items in
+    let R : RattleType = param 0 T in let LR : Laws R = param_laws 0 T L in
+    let C = (tables 𝓤 𝓛.H 𝓜 𝓡 𝓡.env).C in let Λ = (tables 𝓤 𝓛.H 𝓜 𝓡 𝓡.env).Λ in let Post : Val → SProp 𝓤 = at_end 𝓛 E c z in
     let Asked : Type 0 = (s.ptr ≡ p) × (length xs ≡ n) × (n < 2 ^ 63) × (s.at + n ≤ s.size) in
-    qed 𝓛 ((raw (alive 𝓛 En₀.signature z.0.0 z.0.1) ⊛ ‵ (owns (types_at En₀.signature.params z.0.0) a vss)) ∷ (raw (fact 𝓤 (z.0.0.0 ⊑ T.lives)) ⊛ raw (fact 𝓤 Asked)) ∷ []) ∵
+    qed 𝓛 ((raw (alive 𝓛 E.signature z.0.0 z.0.1) ⊛ ‵ (owns (types_at E.signature.params z.0.0) a vss)) ∷ (raw (fact 𝓤 (z.0.0.0 ⊑ T.lives)) ⊛ raw (fact 𝓤 Asked)) ∷ []) ∵
     move ! (1 ∷ []) $ split ! $ drop ! $ heard ! Asked (λ asked. split ! $ move ! (1 ∷ []) $
     fsplit ! $ feq_l ! (λ is₀. fsplit ! $ fsplit ! $ feq_l ! (λ is₁. flt_l ! (λ fits. fsplit ! $ values_had ! R x vss.1.1.0 (λ is₂. move ! (2 ∷ []) $ drop ! $
     fsplit ! $ flt_l ! (λ small. feq_l ! (λ there.
     rewrite ! 0 (λ r. ‵ (values_at R r xs)) asked.0 refl $ in_a_block ! p (λ r. values_at R r xs) (id⊢ 𝓤 (never 𝓤)) (λ b o at.
     let y = at_lodge T 𝓛 𝓜.mem 𝓡.returns b o n n xs in
     let fine : n * type_size R < 2 ^ 63 = times_below n s.size (type_size R) (2 ^ 63) (let within = asked.3 in omega (arith, within)) small in
-    regoal ! (λ (us : List Val). prop (WpFn 𝓤 H C Λ fn (us ++ (vss.1.0 ++ (vss.1.1.0 ++ []))) Post)) (is₀ ∙ ap (λ r. ptr_val r ∷ []) at) refl $
-    regoal ! (λ (us : List Val). prop (WpFn 𝓤 H C Λ fn ((vptr b o ∷ []) ++ (us ++ (vss.1.1.0 ++ []))) Post)) is₁ refl $
-    regoal ! (λ (us : List Val). prop (WpFn 𝓤 H C Λ fn ((vptr b o ∷ []) ++ ((vint w64 n ∷ []) ++ (us ++ []))) Post)) is₂ refl $
+    regoal ! (λ (us : List Val). prop (WpFn 𝓤 𝓛.H C Λ fn (us ++ (vss.1.0 ++ (vss.1.1.0 ++ []))) Post)) (is₀ ∙ ap (λ r. ptr_val r ∷ []) at) refl $
+    regoal ! (λ (us : List Val). prop (WpFn 𝓤 𝓛.H C Λ fn ((vptr b o ∷ []) ++ (us ++ (vss.1.1.0 ++ []))) Post)) is₁ refl $
+    regoal ! (λ (us : List Val). prop (WpFn 𝓤 𝓛.H C Λ fn ((vptr b o ∷ []) ++ ((vint w64 n ∷ []) ++ (us ++ []))) Post)) is₂ refl $
     use1 𝓛 (‵ (lodged R (block_ptr b o) n n xs)) (housed T L 𝓛 b o n xs asked.1 fine) $
     enter ! C Λ fn (vptr b o ∷ vint w64 n ∷ values_val ∷ []) Post $ alloc_all ! (λ l. pass_all ! refl ((tt, tt), ((tt, record { fits = fits }), ((tt, ((tt, tt), tt)), tt))) $ let En : Env 𝓤 𝓛.H = env fn.locals l in
     sets ! (of_opd ! (get_in ! (fld ! refl (stop !)) (sub ! 0 refl (whole !)))) refl (tt, (tt, tt)) $
@@ -94,4 +80,4 @@ house_spec 𝓤 𝓛 𝓜 𝓡 wired T L =
     let Said : Type 0 = (r.items ≡ xs) × (r.len ≡ n) × (r.cap ≡ n) × (r.ptr ≡ p) × (s ≡ s) in
     use0 𝓛 (raw (fact 𝓤 Said)) (fact_i 𝓤 Said (emp 𝓤) (is.0, is.1, is.2, is.3 ∙ sym at, refl)) $
     nothing ! $ nothing ! $ fjoin ! $ nothing ! $ fjoin ! $ nothing ! $ fjoin ! $ move ! (3 ∷ 0 ∷ 2 ∷ 1 ∷ []) $
-    by ! (leaves 𝓛 En₀ stays c z (vstruct (vcons v (vcons spot_val vnil))) (r, s) (tt, (tt, ((tt, tt), tt))) (tt, (tt, (tt, tt))))))))))))))))))
+    by ! (leaves 𝓛 E (stays E) c z (vstruct (vcons v (vcons spot_val vnil))) (r, s) (tt, (tt, ((tt, tt), tt))) (tt, (tt, (tt, tt))))))))))))))))))

@@ -18,34 +18,20 @@ loop-k-preserved c =
     let count = c.slots-count.ensures.slots in
     let test = c.loop-k-test.true in
     let within : at < length gots = omega (arith, size, room, count, test) in
-    let more = written-more gots at left rest c.index_mut-in-loop-k.result.now within (sym c.index_mut-in-loop-k.ensures.value) in
+    let more = written-more gots at left rest c.index_mut.result.now within (sym c.index_mut.ensures.value) in
     let front : c.split_at.result.0.now ≡ take 2048 rest = search (rules, take-min) in
     let back : c.split_at.result.1.now ≡ drop 2048 rest = search (rules, drop-min) in
-    let filled : c.fill-in-loop-k.new.self ≡ got_of (take 2048 rest) left c.index_mut-in-loop-k.result.now.buf = search rules in
+    let filled : c.fill.new.self ≡ got_of (take 2048 rest) left c.index_mut.result.now.buf = search rules in
     let next : at + 1 ≡ c.args.at + (c.loop-k.k + 1) = omega arith in
     let same : suc left ≡ c.slots-count.result - c.loop-k.k = omega (arith, test) in
     record {
       written = rw (← next, filled, back) (more
           ∙ (ap (λ (n : ℕ). take at gots ++ written_parts (first_parts n rest) (drop at gots)) same ∙ c.loop-k.invariant.written));
-      len = length-set gots at c.fill-in-loop-k.new.self ∙ size;
+      len = length-set gots at c.fill.new.self ∙ size;
     }
 
--- a frame of one part
-pub returns-then-bytes-le-BUFFER_BYTES : goal.returns-then-bytes-le-BUFFER_BYTES
-returns-then-bytes-le-BUFFER_BYTES c =
-    let bytes = c.args.bytes.now in
-    let at = c.args.at in
-    let gots = c.args.gots.now.items in
-    let got = c.index_mut.result.now in
-    let short = c.if-bytes-le-BUFFER_BYTES.true in
-    let one = slots-one (length bytes) short in
+pub fill_first-requires : goal.fill_first-requires
+fill_first-requires c =
+    let one = slots-one (length c.args.bytes.now) c.if-bytes-le-BUFFER_BYTES.true in
     let room = c.requires.room in
-    let within : at < length gots = omega (arith, one, room) in
-    let whole = take_all 2048 bytes short in
-    let written = slice_set gots at (got_of (take 2048 bytes) 0 got.buf) in
-    let filled : c.fill.new.self ≡ got_of bytes 0 got.buf = search rules in
-    let put : slice_set gots at c.fill.new.self ≡ written =
-    ap (λ (x : Got). slice_set gots at x) (filled ∙ ap (λ (bs : List ℕ). got_of bs 0 got.buf) (sym whole)) in
-    let more = written-more gots at 0 bytes got within (sym c.index_mut.ensures.value) in
-    put ∙ (sym (take-append-drop (at + 1) written)
-    ∙ (more ∙ ap (λ (n : ℕ). take at gots ++ written_parts (first_parts n bytes) (drop at gots)) (sym one)))
+    omega (arith, one, room)

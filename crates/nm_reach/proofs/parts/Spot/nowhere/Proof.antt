@@ -1,6 +1,6 @@
 -- `nowhere` is the first cell, wherever its pointer leads. Assumes `Logic`.
 use Rattle.std.proofs.Common.{◌≡◌, ◌*◌, ◌^◌, List, [], ◌∷◌, ◌++◌, refl, sym, arith}
-use mir.Syntax.{Fn, Args, a_type}
+use mir.Syntax.{Fn, a_type}
 use mir.Val.{Val}
 use mir.MapTy.{inst_fn}
 use base.Logic.{SProp, emp}
@@ -16,17 +16,15 @@ use types.ByLocal.{alloc_all, pass_all, free_all, look_at, get, sets}
 use denote.RattleType.{RattleType, owns}
 use denote.RawPtr.{Ptr, ptr_val}
 use denote.Param.{param, layouts}
-use denote.Param.Laws.{Laws, param_laws}
 use denote.Signature.{types_at}
 use denote.Steps.{nothing}
 use denote.Triple.Entry.{alive}
-use denote.Triple.Walked.{Stays, stay_dropped, walk_of}
 use Rattle.std.proofs.alloc.Calls.{Goes-blank}
 use Rattle.std.proofs.raw_atomic.Walks.{proved_at, leaves}
 use Rattle.std.specs.Mem.{type_size}
 use Rattle.std.specs.Ptr.{ptr_add}
 use Rattle.nm_reach.specs.contracts.parts.Spot as Spot
-use Rattle.nm_reach.proofs.Walks.{slot_at, spot_val, spot_made}
+use Rattle.nm_reach.proofs.Walks.{slot_at, stays, at_end, spot_val, spot_made}
 use Rattle.std_alloc.proofs.RcSteps.{Ptr-Good}
 use Rattle.nm_reach.proofs.Cells.{at_first}
 use native.Mathlib.Nat.{zero-mul}
@@ -37,26 +35,17 @@ use Rattle.nm_reach.proofs.parts.Spot.nowhere.Code as compiled
 
 pub nowhere_spec : {M : Type 1} → statement M
 nowhere_spec 𝓤 𝓛 𝓜 𝓡 wired T L =
-    let H = 𝓛.H in
-    let En₀ = ended T in
-    let c = clauses T 𝓛 𝓜.mem 𝓡.returns in
-    let args : Args = layouts (a_type ∷ []) (T, tt) in
-    let fn : Fn = inst_fn args compiled.function in
-    let stays : Stays En₀.signature.params En₀.kept = (stay_dropped (slot_at 0 En₀.signature.params) En₀.kept.0, tt) in
-    let C = (tables 𝓤 H 𝓜 𝓡 𝓡.env).C in
-    let Λ = (tables 𝓤 H 𝓜 𝓡 𝓡.env).Λ in
-    proved_at 𝓛 En₀ stays c 𝓜 𝓡 (Goes-blank 𝓛 1 (slot_at 0 En₀.signature.params) En₀.kept.0 (λ κs x f. tt), tt) (#self args) fn (compiled.unfolded 𝓤 H 𝓜 𝓡 wired (T, tt)) (λ z are.
-    let Post : Val → SProp 𝓤 = (walk_of 𝓛 En₀ stays c).post z in
-    let a = z.0.3 in
-    let vss = z.0.4 in
+    let E = ended T in let c = clauses T 𝓛 𝓜.mem 𝓡.returns in
+    let fn : Fn = inst_fn (layouts (a_type ∷ []) (T, tt)) compiled.function in
+    proved_at 𝓛 E (stays E) c 𝓜 𝓡 (Goes-blank 𝓛 1 (slot_at 0 E.signature.params) E.kept.0 (λ κs x f. tt), tt) (#self (layouts (a_type ∷ []) (T, tt))) fn (compiled.unfolded 𝓤 𝓛.H 𝓜 𝓡 wired (T, tt)) (λ z are.
+    let a = z.0.3 in let vss = z.0.4 in let p = a.0 in
     let R : RattleType = param 0 T in
-    let LR : Laws R = param_laws 0 T L in
-    let p = a.0 in
+    let C = (tables 𝓤 𝓛.H 𝓜 𝓡 𝓡.env).C in let Λ = (tables 𝓤 𝓛.H 𝓜 𝓡 𝓡.env).Λ in let Post : Val → SProp 𝓤 = at_end 𝓛 E c z in
     let s : (Spot.the_row R).Denot = record { marker = record {}; base = p; size = 0; at = 0; ptr = p } in
     let none' : 0 * type_size R ≡ 0 = zero-mul (type_size R) in
-    qed 𝓛 ((raw (alive 𝓛 En₀.signature z.0.0 z.0.1) ⊛ ‵ (owns (types_at En₀.signature.params z.0.0) a vss)) ∷ (raw (fact 𝓤 (z.0.0.0 ⊑ T.lives)) ⊛ ‵ ftrue) ∷ []) ∵
+    qed 𝓛 ((raw (alive 𝓛 E.signature z.0.0 z.0.1) ⊛ ‵ (owns (types_at E.signature.params z.0.0) a vss)) ∷ (raw (fact 𝓤 (z.0.0.0 ⊑ T.lives)) ⊛ ‵ ftrue) ∷ []) ∵
     move ! (1 ∷ []) $ drop ! $ split ! $ move ! (1 ∷ []) $ fsplit ! $ feq_l ! (λ is. drop ! $
-    regoal ! (λ (us : List Val). prop (WpFn 𝓤 H C Λ fn (us ++ []) Post)) is refl $
+    regoal ! (λ (us : List Val). prop (WpFn 𝓤 𝓛.H C Λ fn (us ++ []) Post)) is refl $
     enter ! C Λ fn (ptr_val p ∷ []) Post $ alloc_all ! (λ l. pass_all ! refl (Ptr-Good p, tt) $
     sets ! (agg ! (no_more !)) refl (tt, tt) $
     sets ! (agg ! (and_then ! (get ! refl) (no_more !))) refl (tt, (tt, tt)) $
@@ -64,4 +53,4 @@ nowhere_spec 𝓤 𝓛 𝓜 𝓡 wired T L =
     feq_i ! Ptr p (ptr_add R 0 p) (sym (at_first R p)) $ flt_i ! (0 * type_size R) (2 ^ 63) (omega (arith, none')) $ fjoin ! $ spot_made ! R s $
     let Said : Type 0 = (p ≡ p) × (0 ≡ 0) × (0 ≡ 0) × (p ≡ p) in
     use0 𝓛 (raw (fact 𝓤 Said)) (fact_i 𝓤 Said (emp 𝓤) (refl, refl, refl, refl)) $ nothing ! $ nothing ! $ fjoin ! $ move ! (3 ∷ 0 ∷ 2 ∷ 1 ∷ []) $
-    by ! (leaves 𝓛 En₀ stays c z spot_val s (tt, tt) (tt, tt)))))
+    by ! (leaves 𝓛 E (stays E) c z spot_val s (tt, tt) (tt, tt)))))

@@ -2,11 +2,15 @@ use Rattle.std.proofs.Common.{◌≡◌, ◌≤◌, List, [], ◌∷◌, ◌++�
 use Rattle.vale_lease.specs.declared.leases.LeaseSlots.{LeaseSlots}
 use Rattle.vale_lease.specs.Leases.{LeaseRing, is_there, completed as ring_completed}
 use Rattle.vale_line.specs.declared.got.Got.{Got}
-use Rattle.vale_line.specs.Lines.{HeldLot, LineState, IsLine, out_of, opened_lot, put_lot, leases_of, lease_of}
+use Rattle.vale_line.specs.Lines.{LineState, IsLine, out_of, opened_lot, put_lot, leases_of, lease_of}
 use Rattle.vale_line.specs.Stored.{state_of}
 use Rattle.vale_line.proofs.FrameLemmas.{whole-singles}
 use Rattle.vale_line.proofs.LotLemmas.{IsLine-put, leases_of-push, leases-completed, opened-done}
+use Rattle.vale_line.proofs.RingLemmas.{few-held}
 use Rattle.vale_line.proofs.line.Line.accept.Goals as goal
+
+pub accept-requires-clause-lots : goal.accept-requires-clause-lots
+accept-requires-clause-lots c = few-held c.self.inside.ring c.self.invariant.line
 
 pub invariant_of-self : goal.invariant_of-self
 invariant_of-self c =
@@ -19,23 +23,27 @@ invariant_of-self c =
     let few : n ≤ out_of line = subst (λ (l : LineState). n ≤ out_of l) (sym c.self.view_is) c.requires.lent in
     let fresh : is_there id.0 (leases_of line.lots) ≡ false = ap (λ (l : LineState). is_there id.0 (leases_of l.lots)) c.self.view_is ∙ c.requires.new in
     let is = IsLine-put line id gots (whole-singles gots c.requires.single) c.self.invariant.line some few fresh in
-    let lot : c.put.result ≡ put_lot id gots = c.put.ensures ∙ ap (put_lot id) own in
-    let added : c.push_back_reserved.new.self.items ≡ line.lots ++ put_lot id gots ∷ [] = rw (← lot) c.push_back_reserved.ensures.items in
+    let put : LineState = record line { lots = line.lots ++ put_lot id gots ∷ [] } in
+    let after : state_of (record c.self.inside { ring = c.accept.new.self }) ≡ put = c.accept.ensures.line ∙ ap (λ (gs : List Got). record line { lots = line.lots ++ put_lot id gs ∷ [] }) own in
+    let size = ap (λ (l : LineState). l.size) after in
+    let room = c.self.invariant.room in
+    let same = c.accept.ensures.capacity in
     let count : c.len.result ≡ n = search rules in
-    let opened : c.open.new.self ≡ record { size = c.self.inside.size; leases = leases_of line.lots ++ lease_of (opened_lot id n) ∷ [] } =
+    let opened : c.open.new.self ≡ record { size = line.size; leases = leases_of line.lots ++ lease_of (opened_lot id n) ∷ [] } =
     rw (← count) (c.open.ensures ∙ ap (λ (r : LeaseRing). record r { leases = r.leases ++ lease_of (opened_lot id c.len.result) ∷ [] }) c.self.invariant.leases) in
-    let whole : map (ring_completed id.0) (leases_of line.lots ++ lease_of (opened_lot id n) ∷ []) ≡ leases_of c.push_back_reserved.new.self.items =
+    let whole : map (ring_completed id.0) (leases_of line.lots ++ lease_of (opened_lot id n) ∷ []) ≡ leases_of put.lots =
     ap (map (ring_completed id.0)) (sym (leases_of-push line.lots (opened_lot id n)))
     ∙ (sym (leases-completed id.0 gots (line.lots ++ opened_lot id n ∷ []))
-    ∙ ap leases_of (opened-done id gots line.lots fresh ∙ sym added)) in
+    ∙ ap leases_of (opened-done id gots line.lots fresh)) in
     record {
-      line = subst (λ (ls : List HeldLot). IsLine (record line { lots = ls })) (sym added) is;
+      size = c.self.invariant.size ∙ sym size;
+      line = subst IsLine (sym after) is;
+      ring = c.accept.ensures.ring;
       leases =
           c.done.ensures
           ∙ (ap (λ (r : LeaseRing). record r { leases = map (ring_completed id.0) r.leases }) opened
-          ∙ ap (λ (ls : List LeaseSlots). record { size = c.self.inside.size; leases = ls }) whole);
-      idle_room = search rules;
-      lots_room = search rules;
-      none = search rules;
-      room = search rules;
+          ∙ (ap (λ (ls : List LeaseSlots). record { size = line.size; leases = ls }) whole
+          ∙ ap (λ (l : LineState). record { size = l.size; leases = leases_of l.lots }) (sym after)));
+      none = c.accept.ensures.none;
+      room = omega (arith, room, same, size);
     }

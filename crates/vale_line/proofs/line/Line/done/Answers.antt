@@ -1,4 +1,4 @@
-use Rattle.std.proofs.Common.{◌≡◌, Some, true, List, length, map, ap, sym, ◌∙◌, subst, rules}
+use Rattle.std.proofs.Common.{◌≡◌, Some, true, List, length, map, ap, sym, ◌∙◌, subst, arith}
 use Rattle.std.specs.List.{list_any}
 use Rattle.vale_lease.specs.declared.leases.LeaseSlots.{LeaseSlots}
 use Rattle.vale_lease.specs.Leases.{LeaseRing, completed as ring_completed}
@@ -11,7 +11,7 @@ use Rattle.vale_line.proofs.line.Line.done.Goals as goal
 
 pub done-requires : goal.done-requires
 done-requires c =
-    let lots = c.self.inside.lots.items in
+    let lots = (state_of c.self.inside).lots in
     let id = c.args.lease.id in
     let out : slots_out id lots ≡ Some (buffer_count c.args.lease) = ap (λ (l : LineState). slots_out id l.lots) c.self.view_is ∙ c.requires.lot in
     let there : list_any (is_out_at id) lots ≡ true = slots-out id (buffer_count c.args.lease) lots out in
@@ -20,7 +20,7 @@ done-requires c =
 pub invariant_of-self : goal.invariant_of-self
 invariant_of-self c =
     let line = state_of c.self.inside in
-    let lots = c.self.inside.lots.items in
+    let lots = (state_of c.self.inside).lots in
     let id = c.args.lease.id in
     let gots = c.args.lease.filled in
     let full : buffer_count c.args.lease ≡ length gots = sym c.into_gots.ensures.count ∙ ap length c.into_gots.ensures.gots in
@@ -29,16 +29,20 @@ invariant_of-self c =
     let is = IsLine-done line id gots frames c.self.invariant.line out in
     let same_id = c.id-id.ensures in
     let same_gots = c.into_gots.ensures.gots in
-    let after : c.complete.new.lots.items ≡ map (completed id gots) lots = rw (← same_id, ← same_gots) c.complete.ensures.items in
-    let ring : c.done.new.self ≡ record c.self.inside.leases { leases = map (ring_completed id) c.self.inside.leases.leases } = rw (← same_id) c.done.ensures in
+    let done : LineState = record line { lots = map (completed id gots) lots } in
+    let after : state_of (record c.self.inside { ring = c.complete.new.self }) ≡ done = rw (← same_id, ← same_gots) c.complete.ensures.line in
+    let leases : c.done.new.self ≡ record c.self.inside.leases { leases = map (ring_completed id) c.self.inside.leases.leases } = rw (← same_id) c.done.ensures in
+    let size = ap (λ (l : LineState). l.size) after in
+    let room = c.self.invariant.room in
     record {
-      line = subst (λ ls. IsLine (record line { lots = ls })) (sym after) is;
+      size = c.self.invariant.size ∙ sym size;
+      line = subst IsLine (sym after) is;
+      ring = c.complete.ensures.ring;
       leases =
-          ring
+          leases
           ∙ (ap (λ (r : LeaseRing). record r { leases = map (ring_completed id) r.leases }) c.self.invariant.leases
-          ∙ ap (λ (ls : List LeaseSlots). record { size = c.self.inside.size; leases = ls }) (sym (leases-completed id gots lots) ∙ ap leases_of (sym after)));
-      idle_room = search rules;
-      lots_room = search rules;
-      none = search rules;
-      room = search rules;
+          ∙ (ap (λ (ls : List LeaseSlots). record { size = line.size; leases = ls }) (sym (leases-completed id gots lots))
+          ∙ ap (λ (l : LineState). record { size = l.size; leases = leases_of l.lots }) (sym after)));
+      none = c.self.invariant.none;
+      room = omega (arith, room, size);
     }

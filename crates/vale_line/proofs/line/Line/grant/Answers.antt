@@ -10,7 +10,8 @@ use Rattle.vale_line.specs.Gots.{blank, buffers_of}
 use Rattle.vale_line.specs.Leased.{Leased, buffer_count}
 use Rattle.vale_line.specs.Lines.{LineState, with_lease, granted_sizes, space_of, IsLine, opened_lot, leases_of, lease_of}
 use Rattle.vale_line.specs.Stored.{state_of}
-use Rattle.vale_line.proofs.LotLemmas.{leased-slots, few-lots, IsLine-granted, leases_of-push}
+use Rattle.vale_line.proofs.LotLemmas.{leased-slots, IsLine-granted, leases_of-push}
+use Rattle.vale_line.proofs.RingLemmas.{few-held}
 use Rattle.vale_line.proofs.Moving.{buffers-blank}
 use Rattle.vale_line.proofs.line.Line.grant.Goals as goal
 
@@ -21,26 +22,17 @@ sizes-some : (sizes : List ℕ) → 1 ≤ sum sizes → 1 ≤ length sizes
 sizes-some [] h = h
 sizes-some (size ∷ sizes) h = omega arith
 
-pub push_back_reserved-requires : goal.push_back_reserved-requires
-push_back_reserved-requires c =
-    let line = c.self.invariant.line in
-    let few = few-lots c.self.inside.lots.items line.are_leases in
-    let some = line.some in
-    let within = line.within in
-    let room = c.self.invariant.lots_room in
-    omega (arith, few, some, within, room)
+pub lease-gots-requires-clause-lots : goal.lease-gots-requires-clause-lots
+lease-gots-requires-clause-lots c = few-held c.self.inside.ring c.self.invariant.line
 
 -- which frames are granted, and how many buffers they take
-pub record Granting (c : goal.After-new-2) : Type 0 where
+pub record Granting (c : goal.After-new) : Type 0 where
   pub sizes : c.take_fitting-count.new.sizes.items ≡ granted_sizes c.args.want.now (state_of c.self.inside)
   pub count : c.take_fitting-count.result ≡ sum (granted_sizes c.args.want.now (state_of c.self.inside))
   pub some : 1 ≤ c.take_fitting-count.result
   pub fits : c.take_fitting-count.result ≤ space_of (state_of c.self.inside)
-  pub added : c.push_back_reserved.new.self.items ≡ c.self.inside.lots.items ++ opened_lot c.args.id c.take_fitting-count.result ∷ []
-  pub after : with_lease c.args.id c.take_fitting-count.result (state_of c.self.inside)
-      ≡ record { size = c.self.inside.size; idle = c.lease_front-gots.new.idle.items; lots = c.push_back_reserved.new.self.items }
 
-granting : (c : goal.After-new-2) → Granting c
+granting : (c : goal.After-new) → Granting c
 granting c =
     let line = state_of c.self.inside in
     let n = c.take_fitting-count.result in
@@ -49,11 +41,7 @@ granting c =
     let count : n ≡ sum (granted_sizes c.args.want.now line) = c.take_fitting-count.ensures.sum ∙ ap (λ (k : ℕ). sum (fitting_sizes k c.args.want.now)) space in
     let most = fitting-sum (space_of line) c.args.want.now in
     let some : 1 ≤ n = search (rules, arith) in
-    let added : c.push_back_reserved.new.self.items ≡ c.self.inside.lots.items ++ opened_lot c.args.id n ∷ [] = rw (← c.new.ensures) c.push_back_reserved.ensures.items in
-    let idle = c.lease_front-gots.ensures.idle in
-    let now : LineState = record { size = c.self.inside.size; idle = c.lease_front-gots.new.idle.items; lots = c.push_back_reserved.new.self.items } in
-    let same : with_lease c.args.id n line ≡ now = cc in
-    record { sizes = sizes; count = count; some = some; fits = omega (arith, count, most); added = added; after = same }
+    record { sizes = sizes; count = count; some = some; fits = omega (arith, count, most) }
 
 pub invariant_of-self : goal.invariant_of-self
 invariant_of-self c =
@@ -62,16 +50,21 @@ invariant_of-self c =
     let g = granting c in
     let fresh : is_there c.args.id.0 (leases_of line.lots) ≡ false = ap (λ (l : LineState). is_there c.args.id.0 (leases_of l.lots)) c.self.view_is ∙ c.requires.new in
     let is = IsLine-granted line c.args.id n c.self.invariant.line g.some g.fits fresh in
+    let after = c.lease-gots.ensures.line in
+    let size = ap (λ (l : LineState). l.size) after in
+    let room = c.self.invariant.room in
+    let same = c.lease-gots.ensures.capacity in
     record {
-      line = subst IsLine g.after is;
+      size = c.self.invariant.size ∙ sym size;
+      line = subst IsLine (sym after) is;
+      ring = c.lease-gots.ensures.ring;
       leases =
           c.open.ensures
           ∙ (ap (λ (r : LeaseRing). record r { leases = r.leases ++ lease_of (opened_lot c.args.id n) ∷ [] }) c.self.invariant.leases
-          ∙ ap (λ (ls : List LeaseSlots). record { size = c.self.inside.size; leases = ls }) (sym (leases_of-push c.self.inside.lots.items (opened_lot c.args.id n)) ∙ ap leases_of (sym g.added)));
-      idle_room = search rules;
-      lots_room = search rules;
-      none = search rules;
-      room = search rules;
+          ∙ (ap (λ (ls : List LeaseSlots). record { size = line.size; leases = ls }) (sym (leases_of-push line.lots (opened_lot c.args.id n)))
+          ∙ ap (λ (l : LineState). record { size = l.size; leases = leases_of l.lots }) (sym after)));
+      none = c.lease-gots.ensures.none;
+      room = omega (arith, room, same, size);
     }
 
 pub returns-clause-some : goal.returns-clause-some
@@ -87,9 +80,9 @@ returns-clause-lease c =
     let line = state_of c.self.inside in
     let n = c.take_fitting-count.result in
     let g = granting c in
-    let lent : buffers_of c.lease_front-gots.result.items ≡ take n line.idle = ap buffers_of c.lease_front-gots.ensures.gots ∙ buffers-blank (take n line.idle) in
+    let lent : buffers_of c.lease-gots.result.items ≡ take n line.idle = ap buffers_of c.lease-gots.ensures.gots ∙ buffers-blank (take n line.idle) in
     let start = lease_of_buffers c.args.id.0 c.args.to.0 in
-    rw (← c.self.view_is) (c.new-2.ensures
+    rw (← c.self.view_is) (c.new.ensures
     ∙ (ap (λ (bs : List Buffer). start c.take_fitting-count.new.sizes.items bs) lent
     ∙ (ap (λ (k : ℕ). start c.take_fitting-count.new.sizes.items (take k line.idle)) g.count
     ∙ ap (λ (ns : List ℕ). start ns (take (sum (granted_sizes c.args.want.now line)) line.idle)) g.sizes)))
@@ -97,7 +90,7 @@ returns-clause-lease c =
 pub returns-clause-lot : goal.returns-clause-lot
 returns-clause-lot c =
     let g = granting c in
-    rw (← c.self.view_is) (sym g.after ∙ ap (λ (k : ℕ). with_lease c.args.id k (state_of c.self.inside)) g.count)
+    rw (← c.self.view_is) (c.lease-gots.ensures.line ∙ ap (λ (k : ℕ). with_lease c.args.id k (state_of c.self.inside)) g.count)
 
 none-left : (sizes : List ℕ) → length sizes ≤ 0 → sizes ≡ []
 none-left [] h = refl
@@ -125,8 +118,8 @@ open-requires-clause-room c =
     let some = c.self.invariant.line.some in
     omega (arith, most, count, space, slots, size, within, some)
 
-pub lease_front-gots-requires-clause-room : goal.lease_front-gots-requires-clause-room
-lease_front-gots-requires-clause-room c =
+pub lease-gots-requires-clause-gots_room : goal.lease-gots-requires-clause-gots_room
+lease-gots-requires-clause-gots_room c =
     let line = state_of c.self.inside in
     let most = fitting-sum c.space.result c.args.want.now in
     let total = fitting-total c.space.result c.args.want.now in
@@ -138,15 +131,15 @@ lease_front-gots-requires-clause-room c =
     let gots = c.into_vecs-gots.ensures.gots_room in
     omega (arith, most, total, count, space, size, within, room, gots)
 
-pub lease_front-gots-requires-clause-enough : goal.lease_front-gots-requires-clause-enough
-lease_front-gots-requires-clause-enough c =
+pub lease-gots-requires-clause-enough : goal.lease-gots-requires-clause-enough
+lease-gots-requires-clause-enough c =
     let most = fitting-sum c.space.result c.args.want.now in
     let count = c.take_fitting-count.ensures.sum in
     let space : c.space.result ≡ space_of (state_of c.self.inside) = c.space.ensures.space ∙ ap space_of (sym c.self.view_is) in
     omega (arith, most, count, space)
 
-pub new-requires-2-clause-few_frames : goal.new-requires-2-clause-few_frames
-new-requires-2-clause-few_frames c =
+pub new-requires-clause-few_frames : goal.new-requires-clause-few_frames
+new-requires-clause-few_frames c =
     let line = state_of c.self.inside in
     let frames = fitting-count c.space.result c.args.want.now c.requires.sizes in
     let most = fitting-sum c.space.result c.args.want.now in
@@ -156,16 +149,16 @@ new-requires-2-clause-few_frames c =
     let within = c.self.invariant.line.within in
     omega (arith, frames, most, sizes, space, few, within)
 
-pub new-requires-2-clause-room : goal.new-requires-2-clause-room
-new-requires-2-clause-room c =
-    let idle = c.self.inside.idle.items in
+pub new-requires-clause-room : goal.new-requires-clause-room
+new-requires-clause-room c =
+    let idle = (state_of c.self.inside).idle in
     let n = c.take_fitting-count.result in
     let most = fitting-sum c.space.result c.args.want.now in
     let sum_is = ap sum c.take_fitting-count.ensures.sizes in
     let count = c.take_fitting-count.ensures.sum in
     let space : c.space.result ≡ space_of (state_of c.self.inside) = c.space.ensures.space ∙ ap space_of (sym c.self.view_is) in
     let enough : n ≤ length idle = omega (arith, most, count, space) in
-    let blanks = ap length c.lease_front-gots.ensures.gots ∙ (length-map (take n idle) blank ∙ length-take-le n idle enough) in
+    let blanks = ap length c.lease-gots.ensures.gots ∙ (length-map (take n idle) blank ∙ length-take-le n idle enough) in
     omega (arith, sum_is, count, blanks)
 
 pub returns-clause-count : goal.returns-clause-count

@@ -1,0 +1,86 @@
+use Rattle.std.proofs.Common.{◌≡◌, ◌≤◌, ℕ, false, true, List, Option, [], ◌∷◌, ◌++◌, length, take, drop, refl, ap, sym, ◌∙◌, subst, arith}
+use Rattle.std.proofs.lemmas.List.{length-map, map-append, length-take-le}
+use Rattle.nm_reach.specs.Fields.{Run}
+use Rattle.nm_region.specs.Buffers.{Buffer}
+use Rattle.vale_line.specs.declared.got.Got.{Got}
+use Rattle.vale_line.specs.declared.lot.Lot.{Lot}
+use Rattle.vale_line.specs.Cells.{AreFull, AreEmpty, SameCells, gots_in}
+use Rattle.vale_line.specs.Gots.{buffers_of, buffer_of}
+use Rattle.vale_line.specs.Lines.{HeldLot, opened_lot}
+use Rattle.vale_line.specs.Rings.{held, held_lots, IsHeld}
+use Rattle.vale_line.proofs.RingLemmas.{pushed, full-front, full-rest, full-take, full-drop, blank-rest, blank-front, buffers-drop, AreBlank}
+use Rattle.vale_line.proofs.ring.Ring.lease_front.Goals as goal
+
+-- what is known of the cells that are leased
+pub record Leasing (c : goal.After-push_back_reserved) : Type 0 where
+  pub full : AreFull c.args.self.now.idle.values
+  pub enough : c.args.count ≤ length c.args.self.now.idle.values
+  pub cells : SameCells (record c.args.self.now.idle { values = take c.args.count c.args.self.now.idle.values }) c.take_run-gots.new.run
+  pub lot : c.new.result ≡ record { id = c.args.id; reach = c.take_run-gots.new.run; is_done = false }
+
+leasing : (c : goal.After-push_back_reserved) → Leasing c
+leasing c =
+    let r = c.args.self.now in
+    let is = c.requires.ring in
+    let none = c.requires.lent in
+    let full : AreFull r.idle.values = subst (λ (l : ℕ). AreFull (drop l r.idle.values)) none is.full in
+    let bufs = length-map (gots_in r.idle.values) buffer_of in
+    let enough = c.requires.enough in
+    record {
+      full = full;
+      enough = omega (arith, enough, bufs, full);
+      cells = subst (λ (i : Run (Option Got)). SameCells i c.take_run-gots.new.run) c.split_front-reach.ensures.first c.take_run-gots.ensures.cells;
+      lot = c.new.ensures;
+    }
+
+pub take_run-gots-requires-clause-full : goal.take_run-gots-requires-clause-full
+take_run-gots-requires-clause-full c =
+    let r = c.args.self.now in
+    let full : AreFull r.idle.values = subst (λ (l : ℕ). AreFull (drop l r.idle.values)) c.requires.lent c.requires.ring.full in
+    let first = ap (λ (i : Run (Option Got)). i.values) c.split_front-reach.ensures.first in
+    subst AreFull (sym first) (full-front c.args.count r.idle.values full)
+
+pub returns-clause-ring : goal.returns-clause-ring
+returns-clause-ring c =
+    let r = c.args.self.now in
+    let k = c.args.count in
+    let vs = r.idle.values in
+    let l = leasing c in
+    let none = c.requires.lent in
+    let lot = c.new.result in
+    let cells : SameCells (record r.idle { values = take k vs }) lot.reach = subst (λ (i : Run (Option Got)). SameCells (record r.idle { values = take k vs }) i) (sym (ap (λ (x : Lot). x.reach) l.lot)) l.cells in
+    let empty : AreEmpty lot.reach.values = subst (λ (x : Lot). AreEmpty x.reach.values) (sym l.lot) c.take_run-gots.ensures.empty in
+    let other : lot.is_done ≡ false = ap (λ (x : Lot). x.is_done) l.lot in
+    let holds : IsHeld lot = ((λ (done : lot.is_done ≡ true). absurd (let wrong : true ≡ false = sym done ∙ other in cc)), (λ _. empty)) in
+    pushed r k r.lent c.push_back_reserved.new.self lot c.split_front-reach.new.self c.requires.ring l.enough c.push_back_reserved.ensures.items c.push_back_reserved.ensures.capacity
+    c.split_front-reach.ensures.rest cells holds (omega (arith, none))
+    (subst (λ (j : ℕ). AreEmpty (take j (drop k vs))) (sym none) refl)
+    (subst (λ (j : ℕ). AreFull (drop j (drop k vs))) (sym none) (full-rest k vs l.full))
+    (subst AreBlank (sym (full-drop k vs l.full)) (blank-rest k (gots_in vs) c.requires.ring.blank))
+
+pub returns-clause-line : goal.returns-clause-line
+returns-clause-line c =
+    let r = c.args.self.now in
+    let k = c.args.count in
+    let vs = r.idle.values in
+    let l = leasing c in
+    let now = ap (λ (i : Run (Option Got)). i.values) c.split_front-reach.ensures.rest in
+    let idle : buffers_of (gots_in c.split_front-reach.new.self.values) ≡ drop k (buffers_of (gots_in vs)) =
+    ap (λ (cs : List (Option Got)). buffers_of (gots_in cs)) now ∙ (ap buffers_of (full-drop k vs l.full) ∙ buffers-drop k (gots_in vs)) in
+    let count : length c.take_run-gots.new.run.values ≡ k = l.cells.count ∙ length-take-le k vs l.enough in
+    let opened : held c.new.result ≡ opened_lot c.args.id k =
+    ap held l.lot ∙ ap (λ (j : ℕ). opened_lot c.args.id j) count in
+    let lots : held_lots c.push_back_reserved.new.self.items ≡ held_lots r.lots.items ++ opened_lot c.args.id k ∷ [] =
+    ap held_lots c.push_back_reserved.ensures.items ∙ (map-append held r.lots.items (c.new.result ∷ []) ∙ ap (λ (x : HeldLot). held_lots r.lots.items ++ x ∷ []) opened) in
+    ap (λ (bs : List Buffer). record { size = r.field.size; idle = bs; lots = held_lots c.push_back_reserved.new.self.items }) idle
+    ∙ ap (λ (ls : List HeldLot). record { size = r.field.size; idle = drop k (buffers_of (gots_in vs)); lots = ls }) lots
+
+pub returns-clause-gots : goal.returns-clause-gots
+returns-clause-gots c =
+    let r = c.args.self.now in
+    let k = c.args.count in
+    let vs = r.idle.values in
+    let l = leasing c in
+    let first = ap (λ (i : Run (Option Got)). gots_in i.values) c.split_front-reach.ensures.first in
+    c.take_run-gots.ensures.gots ∙ (ap (λ (gs : List Got). gs ++ gots_in c.split_front-reach.result.values) c.requires.gots
+    ∙ (first ∙ (full-take k vs l.full ∙ blank-front k (gots_in vs) c.requires.ring.blank)))
