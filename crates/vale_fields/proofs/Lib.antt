@@ -4,6 +4,7 @@ pub mod Entries
 pub mod Numerals
 mod Pairs
 mod Parts
+mod Rising
 pub mod Sizes
 pub mod Splits
 pub mod Texts

@@ -7,8 +7,10 @@
 mod fields;
 pub mod laws;
 mod lists;
+mod printable;
 mod rows;
 
 pub use fields::{cut_at, short_of};
 pub use lists::words_of;
+pub use printable::is_printable;
 pub use rows::entry_of;

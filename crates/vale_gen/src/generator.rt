@@ -1,7 +1,6 @@
 //! The load of a number, as a script.
 ghost use Rattle.std.specs.Prelude.{◌≡◌, ◌+◌, ◌*◌, ◌<◌, ◌≤◌, ◌^◌, [], map, IfOk, OnOk};
-ghost use Rattle.vale_gen.specs.Load.{enters, opens, user_deeds, numbered, users, opening, block_deeds, load_program};
-ghost use Rattle.vale_gen.specs.Load.{user_name as name_of};
+ghost use Rattle.vale_gen.specs.Load.{enters, opens, user_deeds, numbered, users, opening, block_deeds, load_program, user_name as name_of};
 ghost use Rattle.vale_script.specs.Sound.{IsSound};
 ghost use Rattle.vale_script.specs.declared.script.Unit.TheVariants.{Single};
 ghost use Rattle.vale_gen.specs.Sheets.{with_deeds};
@@ -20,6 +19,9 @@ const RING: u32 = 256;
 
 /// The number of a block's first line: eight lines and its `par` stand before it.
 const BLOCK_LINE: u32 = 10;
+
+/// The lines of a block: four users put 2,000 frames each, and sync both rings 32 times.
+const BLOCK_LINES: usize = 8_256;
 
 fn user_words(alloc: Global) -> Result<Vec<ScriptWord>, NoMemory>
     ensures { IfOk result (λ words. words.items ≡ map name_of users) }
@@ -97,7 +99,7 @@ fn add_user(alloc: Global, sheet: &mut Sheet, n: u64, user: u8) -> Result<(), No
 fn block(alloc: Global, n: u64) -> Result<Vec<Line>, NoMemory>
     ensures { IfOk result (λ lines. lines.items ≡ numbered 10 (block_deeds n)) }
 {
-    let mut sheet = Sheet::new(alloc, BLOCK_LINE);
+    let mut sheet = Sheet::with_room(alloc, BLOCK_LINE, BLOCK_LINES)?;
     for user in 1..=USERS {
         add_user(alloc, &mut sheet, n, user)?;
     }

@@ -1,5 +1,5 @@
 //! Lines that are numbered one after another.
-ghost use Rattle.std.specs.Prelude.{◌≡◌, ◌+◌, ◌<◌, ◌^◌, [], ◌∷◌, OnOk};
+ghost use Rattle.std.specs.Prelude.{◌≡◌, ◌+◌, ◌<◌, ◌^◌, [], ◌∷◌, IfOk, OnOk};
 ghost use Rattle.vale_gen.specs.Sheets.{with_deeds};
 
 use nm_types::NoMemory;
@@ -31,6 +31,16 @@ impl Sheet {
             next,
             lines: Vec::new(alloc),
         }
+    }
+
+    /// No lines yet, with room for so many; the first will have the number `next`.
+    pub(crate) fn with_room(alloc: Global, next: u32, count: usize) -> Result<Sheet, NoMemory>
+        ensures { IfOk result (λ sheet. sheet ≡ record { next = next; lines = [] }) }
+    {
+        Ok(Sheet {
+            next,
+            lines: Vec::with_capacity(alloc, count)?,
+        })
     }
 
     /// Adds the line on which a user does this.

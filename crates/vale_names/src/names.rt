@@ -17,7 +17,7 @@ use std::marker::Model;
 /// the ports of its switch, the pipe ends or the monitors alone.
 #[derive(Drop)]
 pub struct Names {
-    switches: Box<[Switch; MAX_SWITCHES]>,
+    switches: [Switch; MAX_SWITCHES],
     pipes: Group,
     monitors: Group,
 }
@@ -30,9 +30,9 @@ impl Model for Names {
 
     ghost use Rattle.vale_names.specs.Named.{all_ports, AreNamed};
 
-    ghost view = { λ n. all_ports n.switches.value n.pipes n.monitors };
+    ghost view = { λ n. all_ports n.switches n.pipes n.monitors };
 
-    ghost invariant = { λ n. AreNamed n.switches.value n.pipes n.monitors };
+    ghost invariant = { λ n. AreNamed n.switches n.pipes n.monitors };
 }
 
 /// Tells whether a ring may have `size` slots.
@@ -64,7 +64,7 @@ impl Names {
         let third = Switch::new(alloc)?;
         let fourth = Switch::new(alloc)?;
         Ok(Names {
-            switches: Box::new(alloc, [first, second, third, fourth])?,
+            switches: [first, second, third, fourth],
             pipes: Group::new(alloc, MAX_PIPE_ENDS)?,
             monitors: Group::new(alloc, MAX_MONITORS)?,
         })
@@ -97,7 +97,7 @@ impl Names {
             return Err(OpenFault::BadSize);
         }
         match name.kind() {
-            Kind::Vale => open_on_switch(self.switches.as_mut_slice(), name, id),
+            Kind::Vale => open_on_switch(&mut self.switches, name, id),
             Kind::Master | Kind::Slave => self.pipes.open(name, id),
             Kind::Monitor => self.monitors.open(name, id),
         }
@@ -110,7 +110,7 @@ impl Names {
         ensures names { IsNames self.now }
     {
         match name.kind() {
-            Kind::Vale => find_on_switch(self.switches.as_slice(), name),
+            Kind::Vale => find_on_switch(&self.switches, name),
             Kind::Master | Kind::Slave => self.pipes.find(name),
             Kind::Monitor => self.monitors.find(name),
         }
@@ -122,7 +122,7 @@ impl Names {
     pub fn shut(&mut self, id: PortId)
         ensures { self.new ≡ shut_in id.0 self.old }
     {
-        shut_on_switches(self.switches.as_mut_slice(), id);
+        shut_on_switches(&mut self.switches, id);
         self.pipes.shut(id);
         self.monitors.shut(id);
     }
@@ -132,7 +132,7 @@ impl Names {
     pub fn gone(&mut self, id: PortId)
         ensures { self.new ≡ ports_without id.0 self.old }
     {
-        leave_switches(self.switches.as_mut_slice(), id);
+        leave_switches(&mut self.switches, id);
         self.pipes.gone(id);
         self.monitors.gone(id);
     }

@@ -1,10 +1,12 @@
 -- Cutting the first line off.
-use Rattle.std.proofs.Common.{◌≡◌, ℕ, ◌+◌, ◌-◌, ◌<◌, ◌≤◌, Bool, true, false, cond, List, [], ◌∷◌, length, take, drop, nat_lt, ◌==◌, Some, None, refl, sym, ap, ◌∙◌, arith}
+use Rattle.std.proofs.Common.{◌≡◌, ℕ, ◌+◌, ◌-◌, ◌<◌, ◌≤◌, Bool, true, false, cond, List, [], ◌∷◌, length, take, drop, get_or, nat_lt, ◌==◌, Option, Some, None, refl, sym, ap, ◌∙◌, arith}
 use Rattle.std.specs.List.{position, position_or_len, slice_split}
 use Rattle.std.specs.Str.Lines.{lines, lines_of_parts, strip_carriage_return}
 use Rattle.std.proofs.lemmas.List.{take_rest}
 use Rattle.std.proofs.lemmas.List.Splits.{slice_split_first, slice_split_none, length-slice_split}
-use Rattle.std.proofs.lemmas.List.Sums.{fails_before_first}
+use Rattle.std.proofs.lemmas.List.Sums.{fails_before_first, position_or_len_is}
+use Rattle.std.proofs.lemmas.Bool.{cond-true, cond-false, lt-ltb, le-ltb, ltb-false}
+use Rattle.memchr.specs.Find.{IsFirstByte}
 use Rattle.std.proofs.lemmas.List.Quantifiers.{position-Some}
 use Rattle.std.proofs.lemmas.Bool.Decides.{nat_tests}
 use Rattle.std.proofs.Math.Seq.{drop-length}
@@ -45,5 +47,28 @@ lines_none bytes some is =
     let test : (length bytes == 0) ≡ false = grind (arith, nat_tests) in
     ap lines_of_parts split ∙ ap (λ b. cond b [] (bytes ∷ [])) test
     ∙ ap (λ rest. bytes ∷ lines rest) (sym (take_rest bytes (length bytes) ∙ drop-length bytes))
+
+not-true : (b : Bool) → (b ≡ true → ⊥) → b ≡ false
+not-true true h = absurd (h refl)
+not-true false h = refl
+
+-- no byte passes a test that is passed nowhere
+pub none_passes : (test : ℕ → Bool) (bytes : List ℕ) → position test bytes ≡ None → (k d : ℕ) → k < length bytes → test (get_or bytes k d) ≡ false
+none_passes test bytes is k d low =
+    let past : nat_lt (position_or_len test bytes) (length bytes) ≡ false = not_found (position_or_len test bytes) (length bytes) (nat_lt (position_or_len test bytes) (length bytes)) refl is in
+    let all : length bytes ≤ position_or_len test bytes = ltb-false (position_or_len test bytes) (length bytes) past in
+    fails_before_first test bytes k d (omega (arith, low, all))
+
+-- the first byte that passes a test is where a search finds it
+pub first_byte : (test : ℕ → Bool) (bytes : List ℕ) (r : Option ℕ) → IsFirstByte test bytes r → r ≡ position test bytes
+first_byte test bytes None h =
+    let is : position_or_len test bytes ≡ length bytes =
+    position_or_len_is test bytes (length bytes) 0 (omega arith) (λ k low. not-true (test (get_or bytes k 0)) (h k (omega arith) low)) (λ past. absurd (omega (arith, past))) in
+    sym (cond-false (nat_lt (position_or_len test bytes) (length bytes)) (Some (position_or_len test bytes)) None (le-ltb (position_or_len test bytes) (length bytes) (omega (arith, is))))
+first_byte test bytes (Some n) h =
+    let is : position_or_len test bytes ≡ n =
+    position_or_len_is test bytes n 0 (omega (arith, h.0.high)) (λ k low. not-true (test (get_or bytes k 0)) (h.0.before k (omega arith) low)) (λ inside. h.1) in
+    sym (cond-true (nat_lt (position_or_len test bytes) (length bytes)) (Some (position_or_len test bytes)) None (lt-ltb (position_or_len test bytes) (length bytes) (omega (arith, is, h.0.high)))
+    ∙ ap (λ (k : ℕ). Some k) is)
 
 pub ruleset cuts = (lines_found, lines_none)

@@ -3,11 +3,10 @@ mod Cuts
 mod Extends
 mod Free
 mod Keyed
-mod Monitors
-mod NameBytes
 mod Packing
 mod Numerals
 mod Pairs
+mod Plain
 mod Replays
 mod Sayings
 mod Soundness

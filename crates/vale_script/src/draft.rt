@@ -1,7 +1,6 @@
 //! What the lines so far have said.
-ghost use Rattle.std.specs.Prelude.{◌≡◌, ◌==◌, slice_index, ◌+◌, ◌<◌, ◌≤◌, ◌++◌, ◌∷◌, [], ℕ, length, true, false, is_some, unwrap_or, Some, None, IfOk, OnOk, string_bytes, option_map};
+ghost use Rattle.std.specs.Prelude.{◌≡◌, ◌+◌, ◌<◌, ◌≤◌, ◌++◌, ◌∷◌, [], ℕ, length, true, false, is_some, unwrap_or, Some, None, IfOk, OnOk, string_bytes, option_map};
 ghost use Rattle.std.specs.Option.{IfNone};
-ghost use Rattle.nm_types.specs.Names.{is_monitor_name};
 ghost use Rattle.vale_script.specs.Drafts.{draft_of, use_of};
 ghost use Rattle.vale_script.specs.Keeps.{NamesUser, IsNumbered};
 ghost use Rattle.vale_script.specs.Sound.{IsUserName};
@@ -89,23 +88,6 @@ fn second_use(act: &Act) -> Option<PortUse>
     Some(PortUse { name, sends })
 }
 
-fn begins_with_m(text: &[u8]) -> bool
-    ensures { result ≡ (slice_index text.now 0 == 109) }
-{
-    match text.first() {
-        Some(b) => *b == b'm',
-        None => false,
-    }
-}
-
-/// Whether a name is a monitor's: most are told by their first byte.
-#[tactic(auto, using(crate::proofs::Monitors::monitors))]
-fn is_monitor(name: &Name) -> bool
-    ensures { result ≡ is_monitor_name name.now }
-{
-    begins_with_m(name.as_bytes()) && name.is_monitor()
-}
-
 /// Whether a line has a port watch that is no monitor, or a monitor watched.
 fn watches_wrongly(act: &Act) -> bool
     ensures { result ≡ watches_wrongly act.now }
@@ -149,27 +131,14 @@ impl Draft {
         }
     }
 
-    fn number(&self, user: &str) -> Option<u32>
-        requires { IsUserName user.now }
-        ensures { result ≡ (draft_of self.now).numbers user.now }
-    {
-        number_of(&self.numbers, user)
-    }
-
-    fn port(&self, user: &str, name: &Name) -> Option<bool>
-        requires { IsUserName user.now }
-        ensures { result ≡ (draft_of self.now).ports (port_key user.now name.now) }
-    {
-        port_of(&self.ports, user, name)
-    }
-
     fn lacks_port(&self, user: &str, used: Option<PortUse>) -> bool
         requires { IsUserName user.now }
         ensures { result ≡ lacks_port (draft_of self.now) user.now (use_of used) }
     {
         match used {
             Some(used) => {
-                self.port(user, &used.name).is_none() || (used.sends && is_monitor(&used.name))
+                port_of(&self.ports, user, &used.name).is_none()
+                    || (used.sends && used.name.is_monitor())
             }
             None => false,
         }
@@ -189,11 +158,11 @@ impl Draft {
         ensures { result ≡ is_twice (draft_of self.now) user.now act.now }
     {
         match act {
-            Act::Open { name, .. } => self.port(user, name).is_some(),
+            Act::Open { name, .. } => port_of(&self.ports, user, name).is_some(),
             Act::Play { file, .. } => is_saved(value_of(&self.files, file.as_str())),
             Act::Save { name, file } => {
                 value_of(&self.files, file.as_str()).is_some()
-                    || self.port(user, name).unwrap_or(false)
+                    || port_of(&self.ports, user, name).unwrap_or(false)
             }
             _ => false,
         }
@@ -221,7 +190,7 @@ impl Draft {
     {
         if self.block.is_some() {
             Some(LineCause::Order)
-        } else if self.number(name).is_some() || self.users.len() >= MAX_USERS {
+        } else if number_of(&self.numbers, name).is_some() || self.users.len() >= MAX_USERS {
             Some(LineCause::Twice)
         } else {
             None
@@ -234,7 +203,7 @@ impl Draft {
         ensures { IsNumbered (draft_of self.now) (shown said.now) result }
     {
         match said {
-            Said::Does { user, .. } => self.number(user),
+            Said::Does { user, .. } => number_of(&self.numbers, user),
             _ => None,
         }
     }
@@ -406,16 +375,12 @@ impl Draft {
         ensures value { finished (draft_of self) ≡ result }
     {
         let Draft {
-            alloc: _,
             pool,
-            spoken: _,
             users,
-            numbers: _,
-            ports: _,
-            files: _,
             played,
             units,
             block,
+            ..
         } = self;
         match block {
             Some(block) => Err(block.at),

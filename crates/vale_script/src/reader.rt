@@ -11,6 +11,7 @@ ghost use Rattle.vale_script.specs.Grammar.{script_of, after_line, is_line_feed,
 use crate::draft::Draft;
 use crate::script::Script;
 use crate::statements::{LineFault, said_in};
+use memchr::memchr;
 use nm_types::{LineCause, NoMemory};
 use std::alloc::Global;
 
@@ -26,7 +27,7 @@ fn without_return(line: &[u8]) -> &[u8]
 fn line_feed_in(bytes: &[u8]) -> Option<usize>
     ensures { result ≡ position is_line_feed bytes.now }
 {
-    bytes.iter().position(|b| *b == b'\n')
+    memchr(b'\n', bytes)
 }
 
 /// The first line, and what follows it.

@@ -10,8 +10,8 @@ use crate::forms::{Verb, form_of, verb_of};
 use crate::places::{any_out, field_of, greatest_of, has_fixed_words, side_of, sides_of};
 use crate::script::{Act, ScriptWord};
 use crate::words::{
-    are_line_bytes, cut_words, frame_bytes, hex_byte_of, is_silent, is_user_name, mac_of,
-    number_in, port_name, room_for_words, text_of,
+    cut_plain_words, cut_words, frame_bytes, hex_byte_of, is_silent, is_user_name, mac_of,
+    name_text, number_in, port_name, room_for_words, text_of,
 };
 use nm_types::{
     BUFFER_BYTES, Frame, LineCause, MAX_BATCH, MAX_COUNTS, MAX_POOL, Mac, Name, NoMemory, Side,
@@ -92,7 +92,7 @@ fn user_at<'a>(words: &[&'a [u8]]) -> Result<&'a str, LineCause>
     if !is_user_name(word) {
         return Err(LineCause::Name);
     }
-    text_of(word).ok_or(LineCause::Word)
+    name_text(word).ok_or(LineCause::Word)
 }
 
 fn text_at<'a>(words: &[&'a [u8]], i: usize) -> Result<&'a str, LineCause>
@@ -490,11 +490,14 @@ pub(crate) fn said_in<'a>(
     ensures named { IfOk result (λ said. NamesUser (shown said)) }
     ensures value { TellsSaid (line_said line.now) result }
 {
-    cut_words(words, line)?;
+    let plain = cut_plain_words(words, line)?;
+    if !plain {
+        cut_words(words, line)?;
+    }
     if is_silent(words) {
         return Ok(Said::Nothing);
     }
-    if !are_line_bytes(line) {
+    if !plain {
         return Err(LineFault::Bad {
             cause: LineCause::Word,
         });

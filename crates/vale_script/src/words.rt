@@ -1,9 +1,9 @@
 //! The words of a script's lines, each by itself.
-ghost use Rattle.std.specs.Prelude.{◌≡◌, ◌+◌, ◌*◌, ◌/◌, ◌<◌, ◌≤◌, ◌^◌, ℕ, length, map, option_map, min, is_some, true, IsTrue, IfOk, OnOk, IfSome};
-ghost use Rattle.nm_types.specs.Names.{is_word_byte, are_word_bytes, IsName};
-ghost use Rattle.vale_script.specs.Words.{is_blank, has_bytes, words_of, is_graphic, is_line_byte, are_line_bytes, begins_with_hash, is_silent, has_up_to, is_user_name, port_name, are_graphic, is_file_name, text_of, is_digit, are_digits, is_number, number_of, number_in, is_hex, are_hex, hex_value, is_pair_at, byte_at, is_colon_at, is_hex_byte, hex_byte_of, is_digits, bytes_of, frame_bytes, are_pairs, are_joined, is_mac, mac_value, mac_of};
+ghost use Rattle.std.specs.Prelude.{◌≡◌, ◌+◌, ◌*◌, ◌/◌, ◌<◌, ◌≤◌, ◌^◌, ◌++◌, ◌∷◌, [], ℕ, length, take, drop, map, filter, not, position, option_map, min, is_some, true, IsTrue, IfOk, OnOk, IfSome};
+ghost use Rattle.nm_types.specs.Names.{IsName};
+ghost use Rattle.vale_script.specs.Words.{is_blank, has_bytes, words_of, is_graphic, are_line_bytes, begins_with_hash, is_silent, has_up_to, is_user_name, port_name, are_graphic, is_file_name, text_of, is_digit, are_digits, is_number, number_of, number_in, is_hex, are_hex, hex_value, is_pair_at, byte_at, is_colon_at, is_hex_byte, hex_byte_of, is_digits, bytes_of, frame_bytes, are_pairs, are_joined, is_mac, mac_value, mac_of};
 
-use nm_types::{BUFFER_BYTES, Mac, Name, NoMemory};
+use nm_types::{BUFFER_BYTES, Mac, Name, NoMemory, are_word_bytes};
 use std::alloc::{AllocError, Global};
 
 /// As many words as the longest form of a line has.
@@ -24,17 +24,57 @@ fn is_graphic(b: u8) -> bool
     (33..=126).contains(&b)
 }
 
-fn is_line_byte(b: u8) -> bool
-    ensures { result ≡ is_line_byte b }
+/// Where the first byte stands that is a blank or no line byte.
+fn end_of_word(bytes: &[u8]) -> Option<usize>
+    ensures { result ≡ position (λ b. not (is_graphic b)) bytes.now }
 {
-    is_graphic(b) || is_blank(b)
+    bytes.iter().position(|b| !is_graphic(*b))
 }
 
-/// Whether a line that says something may hold these bytes.
-pub(crate) fn are_line_bytes(line: &[u8]) -> bool
-    ensures { result ≡ are_line_bytes line.now }
+/// What stands before a place, and what stands behind it.
+#[inline(always)]
+fn around(bytes: &[u8], at: usize) -> (&[u8], &[u8])
+    requires { at < length bytes.now }
+    ensures before { result.0.now ≡ take at bytes.now }
+    ensures behind { result.1.now ≡ drop (at + 1) bytes.now }
 {
-    line.iter().all(|b| is_line_byte(*b))
+    (&bytes[..at], &bytes[at + 1..])
+}
+
+/// Adds a word, if it has a byte.
+#[inline(always)]
+fn add_word<'a>(words: &mut Vec<&'a [u8]>, word: &'a [u8]) -> Result<(), AllocError>
+    ensures { OnOk result (map (λ w. w.now) words.new.items ≡ map (λ w. w.now) words.old.items
+        ++ filter has_bytes (word.now ∷ [])) }
+{
+    if !word.is_empty() {
+        words.push(word)?;
+    }
+    Ok(())
+}
+
+/// Tells whether a line holds line bytes alone, and if so cuts its words at blanks and tabs, in the place of
+/// those that were there.
+#[tactic(auto, using(crate::proofs::Plain::plain))]
+pub(crate) fn cut_plain_words<'a>(
+    words: &mut Vec<&'a [u8]>,
+    line: &'a [u8],
+) -> Result<bool, AllocError>
+    ensures plain { IfOk result (λ plain. plain ≡ are_line_bytes line.now) }
+    ensures words { IfOk result (λ plain. IsTrue plain → map (λ w. w.now) words.new.items ≡ words_of line.now) }
+{
+    words.clear();
+    let mut rest = line;
+    while let Some(at) = end_of_word(rest) {
+        if !is_blank(rest[at]) {
+            return Ok(false);
+        }
+        let (word, after) = around(rest, at);
+        add_word(words, word)?;
+        rest = after;
+    }
+    add_word(words, rest)?;
+    Ok(true)
 }
 
 /// Cuts the words of a line at blanks and tabs, in the place of those that were there.
@@ -79,18 +119,6 @@ pub(crate) fn is_silent(words: &[&[u8]]) -> bool
     }
 }
 
-fn is_word_byte(b: u8) -> bool
-    ensures { result ≡ is_word_byte b }
-{
-    b.is_ascii_alphanumeric() || b == b'_' || b == b'-'
-}
-
-fn are_word_bytes(word: &[u8]) -> bool
-    ensures { result ≡ are_word_bytes word.now }
-{
-    word.iter().all(|b| is_word_byte(*b))
-}
-
 fn has_up_to(most: usize, word: &[u8]) -> bool
     ensures { result ≡ has_up_to most word.now }
 {
@@ -127,6 +155,16 @@ pub(crate) fn text_of(word: &[u8]) -> Option<&str>
     } else {
         None
     }
+}
+
+/// The text of a user's name.
+#[tactic(auto, using(crate::proofs::Texts::texts), unfolding(crate::specs::Words::text_of))]
+pub(crate) fn name_text(word: &[u8]) -> Option<&str>
+    requires { is_user_name word.now ≡ true }
+    ensures text { option_map (λ text. text.now) result ≡ text_of word.now }
+    ensures same { IfSome result (λ text. text.now ≡ word.now) }
+{
+    str::from_utf8(word).ok()
 }
 
 /// The name of a port, a pipe end or a monitor, or none if the word is none.

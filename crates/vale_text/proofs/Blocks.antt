@@ -1,5 +1,5 @@
 -- Sixteen bytes as digits.
-use Rattle.std.proofs.Common.{◌≡◌, ℕ, ◌+◌, ◌/◌, ◌%◌, zero, suc, ◌-◌, ◌*◌, ◌<◌, ◌≤◌, Bool, true, ◌&&◌, T, eqb, eqb→eq, eq-zero-or-pos, inl, inr, get_or, w8, List, [], ◌∷◌, ◌++◌, length, map, take, replicate, slice_index_or, refl, ap, subst, ◌∙◌, arith, append_assoc, length-append}
+use Rattle.std.proofs.Common.{◌≡◌, ℕ, ◌+◌, ◌/◌, ◌%◌, zero, suc, ◌-◌, ◌*◌, ◌<◌, ◌≤◌, Bool, true, ◌&&◌, T, eqb, eqb→eq, eq-zero-or-pos, inl, inr, get_or, w8, List, [], ◌∷◌, ◌++◌, length, map, take, slice_index_or, refl, ap, subst, ◌∙◌, arith, append_assoc, length-append}
 use Rattle.std.specs.List.{flat_map}
 use lib.Ieee.Fits.{and_l, and_r}
 use Rattle.std.specs.Simd.Lanes.{Each1, put_chunk}

@@ -8,6 +8,5 @@ mod NameWords
 mod GivingBack
 mod LineReads
 mod Reading
-mod Rising
 pub mod Transcripts
 mod Wider

@@ -1,8 +1,11 @@
 -- Numbers spelled two digits at a time.
-use Rattle.std.proofs.Common.{◌≡◌, ℕ, zero, suc, ◌+◌, ◌-◌, ◌*◌, ◌/◌, ◌%◌, ◌^◌, ◌<◌, ◌≤◌, Bool, true, ◌&&◌, T, eqb, List, [], ◌∷◌, ◌++◌, length, take, set, get_or, decimal, refl, ap, sym, subst, ◌∙◌, inl, inr, arith, eq-zero-or-pos, eqb→eq, append_assoc, length-set}
+use Rattle.std.proofs.Common.{◌≡◌, ℕ, zero, suc, ◌+◌, ◌-◌, ◌*◌, ◌/◌, ◌%◌, ◌^◌, ◌<◌, ◌≤◌, Bool, true, ◌&&◌, T, eqb, List, [], ◌∷◌, ◌++◌, length, take, drop, set, get_or, decimal, refl, ap, sym, subst, ◌∙◌, inl, inr, arith, eq-zero-or-pos, eqb→eq, append_assoc, length-set}
 use Rattle.std.specs.List.{flat_map}
 use lib.Ieee.Fits.{and_l, and_r}
+use Rattle.std.specs.Simd.Lanes.{put_chunk}
 use Rattle.std.proofs.lemmas.Grind.{take-set_at}
+use Rattle.std.proofs.lemmas.List.{take_rest}
+use Rattle.std.proofs.lemmas.Simd.{take_more_put_chunk, length-put_chunk}
 use Rattle.std.proofs.lemmas.Fmt.{decimal_digit, decimal_step}
 use Rattle.vale_text.specs.Placed.{Placed}
 use Rattle.vale_text.proofs.Places.{placed-then}
@@ -38,14 +41,27 @@ decimal_pair n lo hi =
     let c : n % 10 ≡ n % 100 % 10 = omega arith in
     rw (decimal_step n (omega arith) hi, decimal_step (n / 10) (omega arith) (omega arith), append_assoc, a, b, ← c)
 
--- two digits, one behind the other
-pub placed-two : (buf : List ℕ) (at x y : ℕ) → at + 2 ≤ length buf → Placed buf (set (set buf at x) (at + 1) y) at (x ∷ y ∷ []) (at + 2)
-placed-two buf at x y h = record {
-  bytes = take-set_at (set buf at x) (at + 1) (at + 2) y (omega arith) (omega (arith, length-set buf at x))
-      ∙ ap (λ t. t ++ y ∷ []) (take-set_at buf at (at + 1) x refl (omega arith)) ∙ append_assoc (take at buf) (x ∷ []) (y ∷ []);
+two-at : (xs : List ℕ) (i : ℕ) → i + 2 ≤ length xs → take 2 (drop i xs) ≡ get_or xs i 0 ∷ get_or xs (i + 1) 0 ∷ []
+two-at [] i h = absurd (omega arith)
+two-at (x ∷ []) zero h = absurd (omega arith)
+two-at (x ∷ y ∷ xs) zero h = refl
+two-at (x ∷ xs) (suc i) h =
+    let next : suc i + 1 ≡ suc (i + 1) = omega arith in
+    two-at xs i (omega (arith, h)) ∙ ap (λ (k : ℕ). get_or xs i 0 ∷ get_or (x ∷ xs) k 0 ∷ []) (sym next)
+
+-- the two digits as they stand in the table
+pub pair_of : (p : ℕ) → p < 100 → take 2 (take (200 - p * 2) (drop (p * 2) PAIRS)) ≡ two_digits p
+pair_of p h =
+    let at = pairs_at p h in
+    ap (take 2) (take_rest PAIRS (p * 2)) ∙ two-at PAIRS (p * 2) (omega arith) ∙ (λ i. at.0 i ∷ at.1 i ∷ [])
+
+-- two digits at once
+pub placed-two : (buf xs : List ℕ) (at x y : ℕ) → xs ≡ x ∷ y ∷ [] → at + 2 ≤ length buf → Placed buf (put_chunk at buf xs) at (x ∷ y ∷ []) (at + 2)
+placed-two buf xs at x y is h = rw is (record {
+  bytes = take_more_put_chunk at buf (x ∷ y ∷ []) (at + 2) (omega arith) (omega arith);
   moved = omega arith;
-  len = length-set (set buf at x) (at + 1) y ∙ length-set buf at x;
-}
+  len = length-put_chunk at buf (x ∷ y ∷ []);
+})
 
 -- one digit
 pub placed-one : (buf : List ℕ) (at x : ℕ) → at < length buf → Placed buf (set buf at x) at (x ∷ []) (at + 1)
@@ -56,9 +72,20 @@ placed-one buf at x h = record {
 }
 
 -- the last two digits behind those before
-pub placed-pair : {a b c : List ℕ} {at end : ℕ} (n : ℕ) → 100 ≤ n → n < 10000 → Placed a b at (decimal (n / 100)) end → Placed b c end (two_digits (n % 100)) (end + 2) → Placed a c at (decimal n) (end + 2)
+pub placed-pair : {a b c : List ℕ} {at end : ℕ} (n : ℕ) → 100 ≤ n → n < 2 ^ 64 → Placed a b at (decimal (n / 100)) end → Placed b c end (two_digits (n % 100)) (end + 2) → Placed a c at (decimal n) (end + 2)
 placed-pair {a} {b} {c} {at} {end} n lo hi p q =
-    subst (λ (t : List ℕ). Placed a c at t (end + 2)) (sym (decimal_pair n lo (omega arith))) (placed-then p q)
+    subst (λ (t : List ℕ). Placed a c at t (end + 2)) (sym (decimal_pair n lo hi)) (placed-then p q)
+
+-- the last four digits behind those before
+pub placed-four : {a b c d : List ℕ} {at end : ℕ} (n : ℕ) → 10000 ≤ n → n < 2 ^ 64 → Placed a b at (decimal (n / 10000)) end
+    → Placed b c end (two_digits (n % 10000 / 100)) (end + 2) → Placed c d (end + 2) (two_digits (n % 10000 % 100)) (end + 2 + 2) → Placed a d at (decimal n) (end + 2 + 2)
+placed-four {a} {b} {c} {d} {at} {end} n lo hi p q r =
+    let high : n / 10000 ≡ n / 100 / 100 = omega arith in
+    let middle : n % 10000 / 100 ≡ n / 100 % 100 = omega arith in
+    let low : n % 10000 % 100 ≡ n % 100 = omega arith in
+    placed-pair n (omega (arith, lo)) hi
+    (placed-pair (n / 100) (omega (arith, lo)) (omega (arith, hi)) (subst (λ (m : ℕ). Placed a b at (decimal m) end) high p) (subst (λ (m : ℕ). Placed b c end (two_digits m) (end + 2)) middle q))
+    (subst (λ (m : ℕ). Placed c d (end + 2) (two_digits m) (end + 2 + 2)) low r)
 
 pub placed-first-one : (buf : List ℕ) (at n : ℕ) → n < 10 → at < length buf → Placed buf (set buf at (48 + n)) at (decimal n) (at + 1)
 placed-first-one buf at n small room = rw (decimal_digit n small) (placed-one buf at (48 + n) room)

@@ -1,9 +1,10 @@
 //! Bytes as hexadecimal digits, sixteen at once. The last sixteen may overlap those before.
-ghost use Rattle.std.specs.Prelude.{◌≡◌, ◌≤◌, ◌<◌, ◌*◌, ◌+◌, ℕ, length, take, map};
+ghost use Rattle.std.specs.Prelude.{◌≡◌, ◌≤◌, ◌<◌, ◌*◌, ◌+◌, ◌∷◌, [], if◌then◌else◌, ℕ, length, take, map};
 ghost use Rattle.std.specs.List.{flat_map};
 ghost use Rattle.std.specs.Simd.Lanes.{Each1};
+ghost use Rattle.vale_text.specs.Pieces.{behind};
 ghost use Rattle.vale_text.specs.Placed.{Placed};
-ghost use Rattle.vale_entry.specs.Transcript.{hex_digit, hex_byte};
+ghost use Rattle.vale_entry.specs.Transcript.{frame_text, hex_digit, hex_byte, hex_text};
 
 use std::simd::prelude::*;
 
@@ -81,4 +82,43 @@ pub(crate) fn place_digits(buf: &mut [u8], at: usize, bytes: &[u8]) -> usize
         place_many(buf, at, bytes);
     }
     at + 2 * bytes.len()
+}
+
+/// Writes the mark of a frame that teaches nothing, and returns where it ends.
+#[inline(always)]
+fn place_mark(buf: &mut [u8], at: usize, no_learn: bool) -> usize
+    requires { at < length buf.old }
+    ensures placed { Placed buf.old buf.new at (if no_learn then 126 ∷ [] else []) result }
+    ensures within { result ≤ at + 1 }
+{
+    if no_learn {
+        buf[at] = b'~';
+        return at + 1;
+    }
+    at
+}
+
+/// Spells bytes, or writes a dot if there are none, and returns where they end.
+#[inline(always)]
+fn place_hex(buf: &mut [u8], at: usize, bytes: &[u8]) -> usize
+    requires { at + 2 * length bytes.now < length buf.old }
+    ensures { Placed buf.old buf.new at (hex_text bytes.now) result }
+{
+    if bytes.is_empty() {
+        buf[at] = b'.';
+        return at + 1;
+    }
+    place_digits(buf, at, bytes)
+}
+
+/// Writes a frame behind a comma, and returns where it ends.
+#[inline(always)]
+pub(crate) fn place_next_frame(buf: &mut [u8], at: usize, bytes: &[u8], no_learn: bool) -> usize
+    requires { at + 2 * length bytes.now + 2 < length buf.old }
+    ensures { Placed buf.old buf.new at
+        (behind 44 frame_text (record { bytes = bytes.now; no_learn = no_learn })) result }
+{
+    buf[at] = b',';
+    let from = place_mark(buf, at + 1, no_learn);
+    place_hex(buf, from, bytes)
 }

@@ -5,7 +5,6 @@ mod hex;
 pub mod laws;
 mod numerals;
 mod pieces;
-mod printable;
 mod reader;
 mod rows;
 mod strip;

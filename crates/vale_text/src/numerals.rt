@@ -21,9 +21,7 @@ fn place_pair(buf: &mut [u8], at: usize, number: u64)
     ensures { Placed buf.old buf.new at ((48 + number / 10) ∷ (48 + number % 10) ∷ []) (at + 2) }
 {
     let from = number as usize * 2;
-    let (tens, ones) = (PAIRS[from], PAIRS[from + 1]);
-    buf[at] = tens;
-    buf[at + 1] = ones;
+    u8x2::from_slice(&PAIRS[from..]).copy_to_slice(&mut buf[at..]);
 }
 
 /// Writes a number below 100, and returns where its digits end.
@@ -41,6 +39,26 @@ fn place_first(buf: &mut [u8], at: usize, number: u64) -> usize
     at + 2
 }
 
+/// Writes a number from 100 to 9,999, and returns where its digits end.
+#[inline(always)]
+fn place_middle(buf: &mut [u8], at: usize, number: u64) -> usize
+    requires { (100 ≤ number) × (number < 10000) × (at + 4 ≤ length buf.old) }
+    ensures placed { Placed buf.old buf.new at (decimal number) result }
+    ensures within { result ≤ at + 4 }
+{
+    let (high, low) = (number / 100, number % 100);
+    if high < 10 {
+        buf[at] = b'0' + high as u8;
+        let end = at + 1;
+        place_pair(buf, end, low);
+        return end + 2;
+    }
+    place_pair(buf, at, high);
+    let end = at + 2;
+    place_pair(buf, end, low);
+    end + 2
+}
+
 /// Writes a number below 10,000, and returns where its digits end.
 #[inline(always)]
 fn place_short(buf: &mut [u8], at: usize, number: u64) -> usize
@@ -51,9 +69,20 @@ fn place_short(buf: &mut [u8], at: usize, number: u64) -> usize
     if number < 100 {
         return place_first(buf, at, number);
     }
-    let end = place_first(buf, at, number / 100);
-    place_pair(buf, end, number % 100);
-    end + 2
+    place_middle(buf, at, number)
+}
+
+/// Writes a number from 10,000 to 99,999,999, and returns where its digits end.
+fn place_wide(buf: &mut [u8], at: usize, number: u64) -> usize
+    requires { (10000 ≤ number) × (number < 100000000) × (at + 8 ≤ length buf.old) }
+    ensures placed { Placed buf.old buf.new at (decimal number) result }
+    ensures within { result ≤ at + 8 }
+{
+    let end = place_short(buf, at, number / 10_000);
+    let low = number % 10_000;
+    place_pair(buf, end, low / 100);
+    place_pair(buf, end + 2, low % 100);
+    end + 2 + 2
 }
 
 /// Writes any number, and returns where its digits end. The bytes behind them may change.
@@ -69,6 +98,18 @@ fn place_long(buf: &mut [u8], at: usize, number: u64) -> usize
     at + (DIGITS - start)
 }
 
+/// Writes a number from 10,000 on, and returns where its digits end. The bytes behind them may change.
+fn place_large(buf: &mut [u8], at: usize, number: u64) -> usize
+    requires { (10000 ≤ number) × (at + 20 ≤ length buf.old) }
+    ensures placed { Placed buf.old buf.new at (decimal number) result }
+    ensures within { result ≤ at + 20 }
+{
+    if number < 100_000_000 {
+        return place_wide(buf, at, number);
+    }
+    place_long(buf, at, number)
+}
+
 /// Writes a number, and returns where its digits end. The bytes behind them may change.
 #[inline(always)]
 pub(crate) fn place_number(buf: &mut [u8], at: usize, number: u64) -> usize
@@ -79,7 +120,7 @@ pub(crate) fn place_number(buf: &mut [u8], at: usize, number: u64) -> usize
     if number < 10_000 {
         return place_short(buf, at, number);
     }
-    place_long(buf, at, number)
+    place_large(buf, at, number)
 }
 
 /// Writes a number behind a comma, and returns where its digits end.
@@ -94,7 +135,7 @@ fn place_next(buf: &mut [u8], at: usize, number: u32) -> usize
     if number < 10_000 {
         return place_short(buf, from, number);
     }
-    place_long(buf, from, number)
+    place_large(buf, from, number)
 }
 
 /// Writes numbers, each behind a comma, and returns where they end.

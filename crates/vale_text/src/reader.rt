@@ -8,14 +8,13 @@ ghost use Rattle.vale_text.specs.declared.reader.TextFault.TheVariants.{NoMemory
 ghost use Rattle.vale_text.specs.Lines.{is_line_feed, IsCut, IsUncut, front_of, back_of, pool_in, is_start, free_in, is_end, entry_in};
 ghost use Rattle.vale_text.specs.Reading.{IsTextOf, BlamesText, IsReadTo};
 
-use crate::printable::is_printable;
 use crate::rows::{EndLine, EntryLine, StartLine};
 use crate::transcript::{Lines, gather};
 use nm_io::Text;
 use nm_types::{MAX_POOL, NoMemory};
 use std::alloc::{AllocFailed, Global};
 use vale_entry::Entry;
-use vale_fields::{cut_at, entry_of, short_of, words_of};
+use vale_fields::{cut_at, entry_of, is_printable, short_of, words_of};
 
 /// Why a text was not read.
 #[derive(Clone, Copy, Debug, PartialEq, Eq)]

@@ -336,9 +336,29 @@ fn put_grant<K: Sink>(
     ensures cause { OnErr result (Rose (K.faults out.old) (K.faults out.new)) }
 {
     make_room(out, strip, SHORT_WORDS)?;
-    strip.labelled(b" ", session);
-    strip.labelled(b" grant ", origin);
-    strip.labelled(b" ", to.0);
+    strip.labelled(*b" ", session);
+    strip.labelled(*b" grant ", origin);
+    strip.labelled(*b" ", to.0);
+    Ok(())
+}
+
+/// Writes who calls, what, and the number of what it is called for.
+#[inline(always)]
+fn put_call<K: Sink>(
+    out: &mut K,
+    strip: &mut Strip,
+    session: u32,
+    call: [u8; 6],
+    number: u32,
+) -> Result<(), Failed>
+    ensures gathers { Gathers (K.holds out.old) (K.holds out.new) strip.old strip.new
+        result ((codes " " ++ decimal session) ++ (call ++ decimal number)) }
+    ensures later { K.faults out.old ≤ K.faults out.new }
+    ensures cause { OnErr result (Rose (K.faults out.old) (K.faults out.new)) }
+{
+    make_room(out, strip, SHORT_WORDS)?;
+    strip.labelled(*b" ", session);
+    strip.labelled(call, number);
     Ok(())
 }
 
@@ -353,28 +373,7 @@ fn put_done<K: Sink>(
     ensures later { K.faults out.old ≤ K.faults out.new }
     ensures cause { OnErr result (Rose (K.faults out.old) (K.faults out.new)) }
 {
-    make_room(out, strip, SHORT_WORDS)?;
-    strip.labelled(b" ", session);
-    strip.labelled(b" done ", lease.0);
-    Ok(())
-}
-
-/// Writes who sends, and from which port.
-fn put_sender<K: Sink>(
-    out: &mut K,
-    strip: &mut Strip,
-    session: u32,
-    port: PortId,
-) -> Result<(), Failed>
-    ensures gathers { Gathers (K.holds out.old) (K.holds out.new) strip.old strip.new
-        result (words_text (decimal session ∷ codes "send" ∷ decimal port.0 ∷ [])) }
-    ensures later { K.faults out.old ≤ K.faults out.new }
-    ensures cause { OnErr result (Rose (K.faults out.old) (K.faults out.new)) }
-{
-    make_room(out, strip, SHORT_WORDS)?;
-    strip.labelled(b" ", session);
-    strip.labelled(b" send ", port.0);
-    Ok(())
+    put_call(out, strip, session, *b" done ", lease.0)
 }
 
 fn put_send<K: Sink>(
@@ -389,26 +388,8 @@ fn put_send<K: Sink>(
     ensures later { K.faults out.old ≤ K.faults out.new }
     ensures cause { OnErr result (Rose (K.faults out.old) (K.faults out.new)) }
 {
-    put_sender(out, strip, session, port)?;
+    put_call(out, strip, session, *b" send ", port.0)?;
     put_words(out, strip, &[Frames(frames)])
-}
-
-/// Writes who syncs, and which port.
-fn put_syncer<K: Sink>(
-    out: &mut K,
-    strip: &mut Strip,
-    session: u32,
-    port: PortId,
-) -> Result<(), Failed>
-    ensures gathers { Gathers (K.holds out.old) (K.holds out.new) strip.old strip.new
-        result (words_text (decimal session ∷ codes "sync" ∷ decimal port.0 ∷ [])) }
-    ensures later { K.faults out.old ≤ K.faults out.new }
-    ensures cause { OnErr result (Rose (K.faults out.old) (K.faults out.new)) }
-{
-    make_room(out, strip, SHORT_WORDS)?;
-    strip.labelled(b" ", session);
-    strip.labelled(b" sync ", port.0);
-    Ok(())
 }
 
 fn put_sync<K: Sink>(
@@ -423,12 +404,18 @@ fn put_sync<K: Sink>(
     ensures later { K.faults out.old ≤ K.faults out.new }
     ensures cause { OnErr result (Rose (K.faults out.old) (K.faults out.new)) }
 {
-    put_syncer(out, strip, session, port)?;
+    put_call(out, strip, session, *b" sync ", port.0)?;
     put_words(out, strip, &[Buffers(back.as_slice())])
 }
 
-/// Writes what was asked.
-fn put_ask<K: Sink>(out: &mut K, strip: &mut Strip, session: u32, ask: &Ask) -> Result<(), Failed>
+/// Writes what was asked, where it is none of the calls that a frame takes.
+#[inline(never)]
+fn put_other_ask<K: Sink>(
+    out: &mut K,
+    strip: &mut Strip,
+    session: u32,
+    ask: &Ask,
+) -> Result<(), Failed>
     ensures gathers { Gathers (K.holds out.old) (K.holds out.new) strip.old strip.new result
         (words_text (ask_words session ask.now)) }
     ensures later { K.faults out.old ≤ K.faults out.new }
@@ -461,6 +448,22 @@ fn put_ask<K: Sink>(out: &mut K, strip: &mut Strip, session: u32, ask: &Ask) -> 
         } => put_watch(out, strip, session, *monitor, target, *sides),
         Ask::Stat { port } => put_words(out, strip, &[s, Word(b"stat"), short(port.0)]),
         Ask::Put { .. } => put_words(out, strip, &[]),
+    }
+}
+
+/// Writes what was asked.
+fn put_ask<K: Sink>(out: &mut K, strip: &mut Strip, session: u32, ask: &Ask) -> Result<(), Failed>
+    ensures gathers { Gathers (K.holds out.old) (K.holds out.new) strip.old strip.new result
+        (words_text (ask_words session ask.now)) }
+    ensures later { K.faults out.old ≤ K.faults out.new }
+    ensures cause { OnErr result (Rose (K.faults out.old) (K.faults out.new)) }
+{
+    match ask {
+        Ask::Send { port, frames } => put_send(out, strip, session, *port, frames),
+        Ask::Grant { origin, to } => put_grant(out, strip, session, *origin, *to),
+        Ask::Done { lease } => put_done(out, strip, session, *lease),
+        Ask::Sync { port, back } => put_sync(out, strip, session, *port, back),
+        _ => put_other_ask(out, strip, session, ask),
     }
 }
 
@@ -499,9 +502,9 @@ fn put_left<K: Sink>(out: &mut K, strip: &mut Strip, lines: u32, lone: u32) -> R
     ensures cause { OnErr result (Rose (K.faults out.old) (K.faults out.new)) }
 {
     make_room(out, strip, SHORT_WORDS)?;
-    strip.labelled(b" = short ", lines);
-    strip.labelled(b" lone ", lone);
-    strip.add(b" to");
+    strip.labelled(*b" = short ", lines);
+    strip.labelled(*b" lone ", lone);
+    strip.add_label(*b" to");
     Ok(())
 }
 
@@ -534,9 +537,9 @@ fn put_shared<K: Sink>(
     ensures cause { OnErr result (Rose (K.faults out.old) (K.faults out.new)) }
 {
     make_room(out, strip, SHORT_WORDS)?;
-    strip.labelled(b" = given ", given);
-    strip.labelled(b" full ", full);
-    strip.labelled(b" gone ", gone);
+    strip.labelled(*b" = given ", given);
+    strip.labelled(*b" full ", full);
+    strip.labelled(*b" gone ", gone);
     Ok(())
 }
 
@@ -548,8 +551,8 @@ fn put_given<K: Sink>(out: &mut K, strip: &mut Strip, count: u32) -> Result<(), 
     ensures cause { OnErr result (Rose (K.faults out.old) (K.faults out.new)) }
 {
     make_room(out, strip, SHORT_WORDS)?;
-    strip.labelled(b" = gave ", count);
-    strip.add(b" to");
+    strip.labelled(*b" = gave ", count);
+    strip.add_label(*b" to");
     Ok(())
 }
 
@@ -563,8 +566,9 @@ fn put_gave<K: Sink>(out: &mut K, strip: &mut Strip, count: u32, to: &Dests) -> 
     put_words(out, strip, &[Destinations(to.as_slice())])
 }
 
-/// Writes the answer.
-fn put_reply<K: Sink>(out: &mut K, strip: &mut Strip, reply: &Reply) -> Result<(), Failed>
+/// Writes the answer, where it is none of those to the calls that a frame takes.
+#[inline(never)]
+fn put_other_reply<K: Sink>(out: &mut K, strip: &mut Strip, reply: &Reply) -> Result<(), Failed>
     ensures gathers { Gathers (K.holds out.old) (K.holds out.new) strip.old strip.new
         result (words_text (reply_words reply.now)) }
     ensures later { K.faults out.old ≤ K.faults out.new }
@@ -603,6 +607,22 @@ fn put_reply<K: Sink>(out: &mut K, strip: &mut Strip, reply: &Reply) -> Result<(
         ),
         Reply::Counted { counts } => put_counts(out, strip, counts),
         Reply::Made | Reply::LeasesOut { .. } => put_words(out, strip, &[]),
+    }
+}
+
+/// Writes the answer.
+fn put_reply<K: Sink>(out: &mut K, strip: &mut Strip, reply: &Reply) -> Result<(), Failed>
+    ensures gathers { Gathers (K.holds out.old) (K.holds out.new) strip.old strip.new
+        result (words_text (reply_words reply.now)) }
+    ensures later { K.faults out.old ≤ K.faults out.new }
+    ensures cause { OnErr result (Rose (K.faults out.old) (K.faults out.new)) }
+{
+    match reply {
+        Reply::Made => Ok(()),
+        Reply::Offered { short, lone, to } => put_offered(out, strip, *short, *lone, to),
+        Reply::Shared { given, full, gone } => put_shared(out, strip, *given, *full, *gone),
+        Reply::Gave { count, to } => put_gave(out, strip, *count, to),
+        _ => put_other_reply(out, strip, reply),
     }
 }
 

@@ -7,7 +7,7 @@ ghost use Rattle.nm_io.specs.Held.{Writes};
 ghost use Rattle.vale_entry.specs.Transcript.{frame_text, hex_byte, hex_text};
 ghost use Rattle.vale_text.specs.Pieces.{behind};
 
-use crate::hex::place_digits;
+use crate::hex::{place_digits, place_next_frame};
 use crate::numerals::{DIGITS, place_number, place_numbers};
 use nm_io::{Failed, Sink, put_all};
 use std::marker::Model;
@@ -84,18 +84,28 @@ impl Strip {
         self.len = end;
     }
 
+    /// Adds a text of a known length.
+    #[inline(always)]
+    pub(crate) fn add_label<const N: usize>(&mut self, label: [u8; N])
+        requires { length self.old + length label ≤ ROOM }
+        ensures { self.new ≡ self.old ++ label.entry }
+    {
+        let end = self.len + label.len();
+        self.room[self.len..end].copy_from_slice(&label);
+        self.len = end;
+    }
+
     /// Adds a label, and a number behind it.
     #[inline(always)]
-    pub(crate) fn labelled(&mut self, label: &[u8], number: u32)
-        requires { length self.old + length label.now + 20 ≤ ROOM }
-        ensures value { self.new ≡ self.old ++ (label.now ++ decimal number) }
-        ensures within { length self.new ≤ length self.old + length label.now + 20 }
+    pub(crate) fn labelled<const N: usize>(&mut self, label: [u8; N], number: u32)
+        requires { length self.old + length label + 20 ≤ ROOM }
+        ensures value { self.new ≡ self.old ++ (label.entry ++ decimal number) }
+        ensures within { length self.new ≤ length self.old + length label.entry + 20 }
     {
-        self.add(label);
+        self.add_label(label);
         self.number(number as u64);
     }
 
-    #[inline(always)]
     pub(crate) fn number(&mut self, number: u64)
         requires { length self.old + 20 ≤ ROOM }
         ensures value { self.new ≡ self.old ++ decimal number }
@@ -121,37 +131,13 @@ impl Strip {
         self.len = place_digits(&mut self.room, self.len, bytes);
     }
 
-    /// Adds bytes as digits, or a dot if there are none.
-    fn hex(&mut self, bytes: &[u8])
-        requires { length self.old + 2 * length bytes.now < ROOM }
-        ensures { self.new ≡ self.old ++ hex_text bytes.now }
-    {
-        if bytes.is_empty() {
-            self.push(b'.');
-        } else {
-            self.digits(bytes);
-        }
-    }
-
-    /// Adds the mark of a frame that teaches nothing.
-    fn mark(&mut self, no_learn: bool)
-        requires { length self.old < ROOM }
-        ensures { self.new ≡ self.old ++ (if no_learn then 126 ∷ [] else []) }
-    {
-        if no_learn {
-            self.push(b'~');
-        }
-    }
-
     /// Adds a frame behind a comma.
     fn next_frame(&mut self, bytes: &[u8], no_learn: bool)
         requires { length self.old + 2 * length bytes.now + 2 < ROOM }
         ensures { self.new
             ≡ self.old ++ behind 44 frame_text (record { bytes = bytes.now; no_learn = no_learn }) }
     {
-        self.push(b',');
-        self.mark(no_learn);
-        self.hex(bytes);
+        self.len = place_next_frame(&mut self.room, self.len, bytes, no_learn);
     }
 }
 

@@ -1,5 +1,5 @@
 use Rattle.std.proofs.Common.{◌≤◌, length, sym, subst, ℕ, List}
-use Rattle.vale_script.proofs.NameBytes.{name_sizes}
+use Rattle.nm_types.proofs.NameBytes.{name_sizes}
 use Rattle.vale_script.proofs.keys.port_key.Goals as goal
 
 pub packed-requires-2 : goal.packed-requires-2

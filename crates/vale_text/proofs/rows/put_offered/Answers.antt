@@ -1,6 +1,6 @@
-use Rattle.std.proofs.Common.{List, ℕ, [], ◌∷◌, ◌++◌, codes, decimal}
+use Rattle.std.proofs.Common.{List, ℕ, [], ◌∷◌, codes, decimal}
 use Rattle.std.proofs.lemmas.Result.{err_from_is_err_and}
-use Rattle.vale_entry.specs.Transcript.{numbers_text, dests_text, frames_text}
+use Rattle.vale_entry.specs.Transcript.{dests_text}
 use Rattle.vale_text.proofs.Strips.{words_after, words_fail}
 use Rattle.vale_text.proofs.rows.put_offered.Goals as goal
 

@@ -1,7 +1,7 @@
 use Rattle.std.proofs.Common.{List, ℕ, [], ◌∷◌, ◌++◌, codes, decimal}
 use Rattle.std.proofs.lemmas.List.{append-nil}
 use Rattle.vale_entry.specs.Transcript.{words_text}
-use Rattle.vale_text.proofs.Strips.{adds, adds_two, adds_three}
+use Rattle.vale_text.proofs.Strips.{adds, adds_three}
 use Rattle.vale_text.proofs.rows.put_shared.Goals as goal
 
 pub returns-clause-gathers : goal.returns-clause-gathers

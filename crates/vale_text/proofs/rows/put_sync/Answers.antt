@@ -1,17 +1,14 @@
-use Rattle.std.proofs.Common.{List, ℕ, [], ◌∷◌, ◌++◌, codes, decimal}
+use Rattle.std.proofs.Common.{[], ◌∷◌, codes, decimal}
 use Rattle.std.proofs.lemmas.Result.{err_from_is_err_and}
-use Rattle.vale_entry.specs.Transcript.{numbers_text, dests_text, frames_text}
-use Rattle.vale_text.proofs.Strips.{words_after, words_fail}
+use Rattle.vale_entry.specs.Transcript.{numbers_text}
+use Rattle.vale_text.proofs.Strips.{call_after, call_fail}
 use Rattle.vale_text.proofs.rows.put_sync.Goals as goal
 
-pub returns-in_err-put_syncer-clause-gathers : goal.returns-in_err-put_syncer-clause-gathers
-returns-in_err-put_syncer-clause-gathers g c =
-    let p = err_from_is_err_and c.from_residual.result c.from_residual.ensures.1 in
-    let head : List (List ℕ) = decimal c.args.session ∷ codes "sync" ∷ decimal c.args.port.0 ∷ [] in
-    rw (p.1) (words_fail (g.K.Sink.holds c.args.out.now) (g.K.Sink.holds c.put_syncer.new.out) c.args.strip.now head (numbers_text c.args.back.now ∷ []) c.in_err-put_syncer.ensures.gathers)
+pub returns-in_err-put_call-clause-gathers : goal.returns-in_err-put_call-clause-gathers
+returns-in_err-put_call-clause-gathers g c =
+    rw ((err_from_is_err_and c.from_residual.result c.from_residual.ensures.1).1) (call_fail (g.K.Sink.holds c.args.out.now) (g.K.Sink.holds c.put_call.new.out) c.args.strip.now (decimal c.args.session) (codes "sync") (decimal c.args.port.0) (numbers_text c.args.back.now ∷ []) c.in_err-put_call.ensures.gathers)
 
 pub returns-clause-gathers : goal.returns-clause-gathers
 returns-clause-gathers g c =
-    let head : List (List ℕ) = decimal c.args.session ∷ codes "sync" ∷ decimal c.args.port.0 ∷ [] in
-    words_after (g.K.Sink.holds c.args.out.now) (g.K.Sink.holds c.put_syncer.new.out) (g.K.Sink.holds c.put_words.new.out) c.args.strip.now c.put_syncer.new.strip c.put_words.new.strip
-    head (numbers_text c.args.back.now ∷ []) c.put_words.result c.in_ok-put_syncer.ensures.gathers (rw (c.as_slice.ensures) at c.put_words.ensures.gathers)
+    call_after (g.K.Sink.holds c.args.out.now) (g.K.Sink.holds c.put_call.new.out) (g.K.Sink.holds c.put_words.new.out) c.args.strip.now c.put_call.new.strip c.put_words.new.strip
+    (decimal c.args.session) (codes "sync") (decimal c.args.port.0) (numbers_text c.args.back.now ∷ []) c.put_words.result c.in_ok-put_call.ensures.gathers (rw (c.as_slice.ensures) at c.put_words.ensures.gathers)

@@ -10,8 +10,8 @@ find_on_switch-requires-clause-kind c = vale_is_switch_port c.args.name.now (c.k
 pub returns-in-Vale-clause-port : goal.returns-in-Vale-clause-port
 returns-in-Vale-clause-port c =
     let kind = vale_is_switch_port c.args.name.now (c.kind.ensures ∙ ap Some c.in-Vale.is) in
-    let told = names_find_switch c.self.inside.switches.value c.self.inside.pipes c.self.inside.monitors c.args.name.now c.self.invariant kind in
-    rw (← c.self.view_is) ((rw (c.as_slice.ensures, c.deref.ensures) at c.find_on_switch.ensures) ∙ sym told)
+    let told = names_find_switch c.self.inside.switches c.self.inside.pipes c.self.inside.monitors c.args.name.now c.self.invariant kind in
+    rw (← c.self.view_is) (c.find_on_switch.ensures ∙ sym told)
 
 pub returns-in-Master-clause-port : goal.returns-in-Master-clause-port
 returns-in-Master-clause-port c =
@@ -19,20 +19,20 @@ returns-in-Master-clause-port c =
       | inl is ↦ master_is_pipe c.args.name.now (c.kind.ensures ∙ ap Some is)
       | inr is ↦ slave_is_pipe c.args.name.now (c.kind.ensures ∙ ap Some is)
     ] in
-    let told = names_find_pipe c.self.inside.switches.value c.self.inside.pipes c.self.inside.monitors c.args.name.now c.self.invariant kind in
+    let told = names_find_pipe c.self.inside.switches c.self.inside.pipes c.self.inside.monitors c.args.name.now c.self.invariant kind in
     rw (← c.self.view_is) (c.find.ensures ∙ sym told)
 
 pub returns-in-Monitor-clause-port : goal.returns-in-Monitor-clause-port
 returns-in-Monitor-clause-port c =
     let kind = monitor_is_monitor c.args.name.now (c.kind.ensures ∙ ap Some c.in-Monitor.is) in
-    let told = names_find_monitor c.self.inside.switches.value c.self.inside.pipes c.self.inside.monitors c.args.name.now c.self.invariant kind in
+    let told = names_find_monitor c.self.inside.switches c.self.inside.pipes c.self.inside.monitors c.args.name.now c.self.invariant kind in
     rw (← c.self.view_is) (c.find-in-Monitor.ensures ∙ sym told)
 
 pub returns-in-Vale-clause-names : goal.returns-in-Vale-clause-names
-returns-in-Vale-clause-names c = rw (← c.self.view_is) (are_names c.self.inside.switches.value c.self.inside.pipes c.self.inside.monitors c.self.invariant)
+returns-in-Vale-clause-names c = rw (← c.self.view_is) (are_names c.self.inside.switches c.self.inside.pipes c.self.inside.monitors c.self.invariant)
 
 pub returns-in-Master-clause-names : goal.returns-in-Master-clause-names
-returns-in-Master-clause-names c = rw (← c.self.view_is) (are_names c.self.inside.switches.value c.self.inside.pipes c.self.inside.monitors c.self.invariant)
+returns-in-Master-clause-names c = rw (← c.self.view_is) (are_names c.self.inside.switches c.self.inside.pipes c.self.inside.monitors c.self.invariant)
 
 pub returns-in-Monitor-clause-names : goal.returns-in-Monitor-clause-names
-returns-in-Monitor-clause-names c = rw (← c.self.view_is) (are_names c.self.inside.switches.value c.self.inside.pipes c.self.inside.monitors c.self.invariant)
+returns-in-Monitor-clause-names c = rw (← c.self.view_is) (are_names c.self.inside.switches c.self.inside.pipes c.self.inside.monitors c.self.invariant)

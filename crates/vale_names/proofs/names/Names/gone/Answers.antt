@@ -3,10 +3,10 @@ use Rattle.vale_names.proofs.names.Names.gone.Goals as goal
 
 pub invariant_of-self : goal.invariant_of-self
 invariant_of-self c =
-    rw (c.leave_switches.ensures, c.as_mut_slice.ensures.value, c.deref_mut.ensures.value, c.gone.ensures, c.gone-2.ensures)
-    (named_without c.args.id.0 c.self.inside.switches.value c.self.inside.pipes c.self.inside.monitors c.self.invariant)
+    rw (c.leave_switches.ensures, c.gone.ensures, c.gone-2.ensures)
+    (named_without c.args.id.0 c.self.inside.switches c.self.inside.pipes c.self.inside.monitors c.self.invariant)
 
 pub returns : goal.returns
 returns c =
-    rw (← c.self.view_is) (rw (c.leave_switches.ensures, c.as_mut_slice.ensures.value, c.deref_mut.ensures.value, c.gone.ensures, c.gone-2.ensures)
-    (all_without c.args.id.0 c.self.inside.switches.value c.self.inside.pipes c.self.inside.monitors))
+    rw (← c.self.view_is) (rw (c.leave_switches.ensures, c.gone.ensures, c.gone-2.ensures)
+    (all_without c.args.id.0 c.self.inside.switches c.self.inside.pipes c.self.inside.monitors))

@@ -1,11 +1,10 @@
-use Rattle.std.proofs.Common.{List, ◌≡◌, ◌∙◌, sym, ap, subst, Some, true, inl, inr}
+use Rattle.std.proofs.Common.{◌≡◌, ◌∙◌, sym, ap, Some, true, inl, inr}
 use Rattle.std.proofs.lemmas.Result.{on_ok_weaker}
 use Rattle.nm_types.specs.Names.{is_pipe_name}
 use Rattle.vale_names.specs.Ports.{fresh_port}
 use Rattle.nm_types.specs.Openings.{are_sizes}
 use Rattle.vale_names.specs.Switches.{ports_on}
-use Rattle.vale_names.specs.declared.switch.Switch.{Switch}
-use Rattle.vale_names.specs.Named.{all_ports, AreNamed}
+use Rattle.vale_names.specs.Named.{all_ports}
 use Rattle.vale_names.proofs.PortLemmas.{joins_behind, joins_before, vale_is_switch_port, master_is_pipe, slave_is_pipe, monitor_is_monitor}
 use Rattle.vale_names.proofs.NameLemmas.{names_refuse_switch, names_refuse_pipe, names_refuse_monitor, sized, told_as, named_switch, named_pipe, named_monitor, are_names}
 use Rattle.vale_names.proofs.names.Names.open.Goals as goal
@@ -16,32 +15,28 @@ open_on_switch-requires-clause-kind c = vale_is_switch_port c.args.name.now (c.k
 pub invariant_of-self : goal.invariant_of-self
 invariant_of-self c =
     let name = c.args.name.now in
-    let s = c.as_mut_slice.result.now in
+    let s = c.self.inside.switches in
     let p = c.self.inside.pipes in
     let m = c.self.inside.monitors in
-    let same : s ≡ c.self.inside.switches.value = c.as_mut_slice.ensures.value ∙ c.deref_mut.ensures.value in
-    let were : AreNamed s p m = subst (λ (x : List Switch). AreNamed x p m) (sym same) c.self.invariant in
     let kind = vale_is_switch_port name (c.kind.ensures ∙ ap Some c.in-Vale.is) in
-    named_switch s c.open_on_switch.new.places p m name c.args.id c.open_on_switch.result were kind c.open_on_switch.ensures.places c.open_on_switch.auto.places
+    named_switch s c.open_on_switch.new.places p m name c.args.id c.open_on_switch.result c.self.invariant kind c.open_on_switch.ensures.places c.open_on_switch.auto.places
     c.open_on_switch.ensures.refusal c.open_on_switch.ensures.joined c.open_on_switch.ensures.err
 
 pub returns-in-Vale-clause-names : goal.returns-in-Vale-clause-names
 returns-in-Vale-clause-names c =
     let name = c.args.name.now in
-    let s = c.as_mut_slice.result.now in
+    let s = c.self.inside.switches in
     let p = c.self.inside.pipes in
     let m = c.self.inside.monitors in
-    let same : s ≡ c.self.inside.switches.value = c.as_mut_slice.ensures.value ∙ c.deref_mut.ensures.value in
-    let were : AreNamed s p m = subst (λ (x : List Switch). AreNamed x p m) (sym same) c.self.invariant in
     let kind = vale_is_switch_port name (c.kind.ensures ∙ ap Some c.in-Vale.is) in
-    let are = named_switch s c.open_on_switch.new.places p m name c.args.id c.open_on_switch.result were kind c.open_on_switch.ensures.places c.open_on_switch.auto.places
+    let are = named_switch s c.open_on_switch.new.places p m name c.args.id c.open_on_switch.result c.self.invariant kind c.open_on_switch.ensures.places c.open_on_switch.auto.places
     c.open_on_switch.ensures.refusal c.open_on_switch.ensures.joined c.open_on_switch.ensures.err in
     on_ok_weaker c.open_on_switch.result (λ joined. are_names c.open_on_switch.new.places p m are) c.open_on_switch.ensures.joined
 
 pub invariant_of-self-in-Master : goal.invariant_of-self-in-Master
 invariant_of-self-in-Master c =
     let name = c.args.name.now in
-    let s = c.self.inside.switches.value in
+    let s = c.self.inside.switches in
     let p = c.self.inside.pipes in
     let m = c.self.inside.monitors in
     let kind : is_pipe_name name ≡ true = elim c.in-Master.is [
@@ -53,7 +48,7 @@ invariant_of-self-in-Master c =
 pub returns-in-Master-clause-names : goal.returns-in-Master-clause-names
 returns-in-Master-clause-names c =
     let name = c.args.name.now in
-    let s = c.self.inside.switches.value in
+    let s = c.self.inside.switches in
     let p = c.self.inside.pipes in
     let m = c.self.inside.monitors in
     let kind : is_pipe_name name ≡ true = elim c.in-Master.is [
@@ -66,7 +61,7 @@ returns-in-Master-clause-names c =
 pub invariant_of-self-in-Monitor : goal.invariant_of-self-in-Monitor
 invariant_of-self-in-Monitor c =
     let name = c.args.name.now in
-    let s = c.self.inside.switches.value in
+    let s = c.self.inside.switches in
     let p = c.self.inside.pipes in
     let m = c.self.inside.monitors in
     let kind = monitor_is_monitor name (c.kind.ensures ∙ ap Some c.in-Monitor.is) in
@@ -76,7 +71,7 @@ invariant_of-self-in-Monitor c =
 pub returns-in-Monitor-clause-names : goal.returns-in-Monitor-clause-names
 returns-in-Monitor-clause-names c =
     let name = c.args.name.now in
-    let s = c.self.inside.switches.value in
+    let s = c.self.inside.switches in
     let p = c.self.inside.pipes in
     let m = c.self.inside.monitors in
     let kind = monitor_is_monitor name (c.kind.ensures ∙ ap Some c.in-Monitor.is) in
@@ -87,20 +82,18 @@ returns-in-Monitor-clause-names c =
 pub returns-in-Vale-clause-refusal : goal.returns-in-Vale-clause-refusal
 returns-in-Vale-clause-refusal c =
     let name = c.args.name.now in
-    let s = c.as_mut_slice.result.now in
+    let s = c.self.inside.switches in
     let p = c.self.inside.pipes in
     let m = c.self.inside.monitors in
-    let same : s ≡ c.self.inside.switches.value = c.as_mut_slice.ensures.value ∙ c.deref_mut.ensures.value in
-    let were : AreNamed s p m = subst (λ (x : List Switch). AreNamed x p m) (sym same) c.self.invariant in
     let kind = vale_is_switch_port name (c.kind.ensures ∙ ap Some c.in-Vale.is) in
     let fits : are_sizes name c.args.tx c.args.rx c.args.extra ≡ true = sym c.are_sizes.ensures ∙ c.if-not-are_sizes.false in
-    let told = sized (all_ports s p m) name c.args.tx c.args.rx c.args.extra fits ∙ names_refuse_switch s p m name were kind in
-    rw (← c.self.view_is) (rw (← same) (told_as c.open_on_switch.result _ _ told c.open_on_switch.ensures.refusal))
+    let told = sized (all_ports s p m) name c.args.tx c.args.rx c.args.extra fits ∙ names_refuse_switch s p m name c.self.invariant kind in
+    rw (← c.self.view_is) (told_as c.open_on_switch.result _ _ told c.open_on_switch.ensures.refusal)
 
 pub returns-in-Master-clause-refusal : goal.returns-in-Master-clause-refusal
 returns-in-Master-clause-refusal c =
     let name = c.args.name.now in
-    let s = c.self.inside.switches.value in
+    let s = c.self.inside.switches in
     let p = c.self.inside.pipes in
     let m = c.self.inside.monitors in
     let kind : is_pipe_name name ≡ true = elim c.in-Master.is [
@@ -113,7 +106,7 @@ returns-in-Master-clause-refusal c =
 
 pub returns-in-Master-clause-opened : goal.returns-in-Master-clause-opened
 returns-in-Master-clause-opened c =
-    let s = c.self.inside.switches.value in
+    let s = c.self.inside.switches in
     let p = c.self.inside.pipes in
     let m = c.self.inside.monitors in
     let port = fresh_port c.args.name.now c.args.id in
@@ -123,7 +116,7 @@ returns-in-Master-clause-opened c =
 pub returns-in-Monitor-clause-refusal : goal.returns-in-Monitor-clause-refusal
 returns-in-Monitor-clause-refusal c =
     let name = c.args.name.now in
-    let s = c.self.inside.switches.value in
+    let s = c.self.inside.switches in
     let p = c.self.inside.pipes in
     let m = c.self.inside.monitors in
     let kind = monitor_is_monitor name (c.kind.ensures ∙ ap Some c.in-Monitor.is) in
@@ -133,7 +126,7 @@ returns-in-Monitor-clause-refusal c =
 
 pub returns-in-Monitor-clause-opened : goal.returns-in-Monitor-clause-opened
 returns-in-Monitor-clause-opened c =
-    let s = c.self.inside.switches.value in
+    let s = c.self.inside.switches in
     let p = c.self.inside.pipes in
     let m = c.self.inside.monitors in
     let port = fresh_port c.args.name.now c.args.id in

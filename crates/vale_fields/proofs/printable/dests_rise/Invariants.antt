@@ -1,6 +1,6 @@
 use Rattle.std.proofs.Common.{◌≡◌, ◌-◌, ◌<◌, drop}
 use Rattle.vale_entry.specs.Transcript.{dests_rise}
-use Rattle.vale_text.proofs.printable.dests_rise.Given as goal
+use Rattle.vale_fields.proofs.printable.dests_rise.Given as goal
 
 abbrev pub invariant-loop-i : goal.invariant-loop-i
 invariant-loop-i l = record {

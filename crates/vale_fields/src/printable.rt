@@ -56,8 +56,8 @@ fn are_unmarked(items: &[Item]) -> bool
     items.iter().all(|item| is_unmarked(item))
 }
 
-/// Whether an entry may stand in a history under its number.
-pub(crate) fn is_printable(number: u32, entry: &Entry) -> bool
+/// Tells whether an entry may stand in a history under its number.
+pub fn is_printable(number: u32, entry: &Entry) -> bool
     ensures { result ≡ is_printable number entry.now.session.0 entry.now.ask entry.now.reply }
 {
     let asker = entry.session.0;
