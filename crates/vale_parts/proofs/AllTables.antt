@@ -145,6 +145,26 @@ one_at_most : (b : Bool) → one_if b ≤ 1
 one_at_most true = omega arith
 one_at_most false = omega arith
 
+turned : (a b c : ℕ) → a + b ≡ c → b + a ≡ c
+turned a b c e = omega (arith, e)
+
+with_none : (a b : ℕ) → a ≡ b → 0 + a ≡ b
+with_none a b e = omega (arith, e)
+
+-- a switch that had no table has one at most where the tables of a name are as many as before, and
+-- one more of this switch
+one-counted : (switch : List ℕ) (tables : List SwitchTable) (wanted : List ℕ) (n rest : ℕ) → has_table switch tables ≡ false
+    → count_by (is_table_of wanted) tables ≤ 1 → (b : Bool) → bytes_eq switch wanted ≡ b
+    → rest + n ≡ count_by (is_table_of wanted) tables + one_if (bytes_eq switch wanted) → n ≤ 1
+one-counted switch tables wanted n rest none once true t sum =
+    let same : switch ≡ wanted = (bytes_eq-Decides switch wanted).0 t in
+    let zero_before = none_counted wanted tables (subst (λ (s : List ℕ). has_table s tables ≡ false) same none) in
+    let one = one_at_most (bytes_eq switch wanted) in
+    omega (arith, sum, zero_before, one)
+one-counted switch tables wanted n rest none once false t sum =
+    let none_more : one_if (bytes_eq switch wanted) ≡ 0 = ap one_if t in
+    omega (arith, sum, once, none_more)
+
 pub given_over : TablesAreGivenOver
 given_over pool h tables place table switch are here vacant none =
     let w = world_of pool h in
@@ -165,21 +185,8 @@ given_over pool h tables place table switch are here vacant none =
           left_by (switch_of port.name) tables place table new here other (has named)) w.ports are.there (each-none (is_on_switch table.switch) w.ports vacant);
       once = λ wanted.
           let sum = sum-set (λ (x : SwitchTable). one_if (is_table_of wanted x)) tables place table new here in
-          by_switch wanted (bytes_eq switch wanted) refl sum;
+          one-counted switch tables wanted _ (one_if (bytes_eq table.switch wanted)) none (are.once wanted) (bytes_eq switch wanted) refl (turned _ _ _ sum);
     }
-  where
-    by_switch : (wanted : List ℕ) (b : Bool) → bytes_eq switch wanted ≡ b
-        → count_by (is_table_of wanted) (slice_set tables place (record table { switch = switch })) + one_if (bytes_eq table.switch wanted) ≡ count_by (is_table_of wanted) tables + one_if (bytes_eq switch wanted)
-        → count_by (is_table_of wanted) (slice_set tables place (record table { switch = switch })) ≤ 1
-    by_switch wanted true t sum =
-        let same : switch ≡ wanted = (bytes_eq-Decides switch wanted).0 t in
-        let zero_before = none_counted wanted tables (subst (λ (s : List ℕ). has_table s tables ≡ false) same none) in
-        let one = one_at_most (bytes_eq switch wanted) in
-        omega (arith, sum, zero_before, one)
-    by_switch wanted false t sum =
-        let before = are.once wanted in
-        let none_more : one_if (bytes_eq switch wanted) ≡ 0 = ap one_if t in
-        omega (arith, sum, before, none_more)
 
 pub fresh_added : FreshTablesAreAdded
 fresh_added pool h tables switch are none =
@@ -192,18 +199,5 @@ fresh_added pool h tables switch are none =
       there = each-weaker (HasTable tables) (HasTable (tables ++ new ∷ [])) (λ port has named. any-append_left (is_table_of (switch_of port.name)) tables (new ∷ []) (has named)) w.ports are.there;
       once = λ wanted.
           let sum = sum_by_push (λ (x : SwitchTable). one_if (is_table_of wanted x)) tables new in
-          by_switch wanted (bytes_eq switch wanted) refl sum;
+          one-counted switch tables wanted _ 0 none (are.once wanted) (bytes_eq switch wanted) refl (with_none _ _ sum);
     }
-  where
-    by_switch : (wanted : List ℕ) (b : Bool) → bytes_eq switch wanted ≡ b
-        → count_by (is_table_of wanted) (tables ++ (record { switch = switch; entries = no_stations }) ∷ []) ≡ count_by (is_table_of wanted) tables + one_if (bytes_eq switch wanted)
-        → count_by (is_table_of wanted) (tables ++ (record { switch = switch; entries = no_stations }) ∷ []) ≤ 1
-    by_switch wanted true t sum =
-        let same : switch ≡ wanted = (bytes_eq-Decides switch wanted).0 t in
-        let zero_before = none_counted wanted tables (subst (λ (s : List ℕ). has_table s tables ≡ false) same none) in
-        let one = one_at_most (bytes_eq switch wanted) in
-        omega (arith, sum, zero_before, one)
-    by_switch wanted false t sum =
-        let before = are.once wanted in
-        let none_more : one_if (bytes_eq switch wanted) ≡ 0 = ap one_if t in
-        omega (arith, sum, before, none_more)

@@ -1,5 +1,5 @@
 -- A name is on a switch if it begins with `vale`, the switch's text and a colon.
-use Rattle.std.proofs.Common.{rules, ℕ, suc, Bool, true, false, not, cond, List, [], ◌∷◌, ◌≡◌, ◌<◌, ◌≤◌, ◌&&◌, ◌+◌, ◌-◌, ◌==◌, length, take, drop, get_or, slice_index, nat_eq, nat_lt, codes, Option, Some, None, refl, sym, ◌∙◌, ap, subst, arith, inl, inr}
+use Rattle.std.proofs.Common.{rules, ℕ, suc, Bool, true, false, not, cond, List, [], ◌∷◌, ◌++◌, ◌≡◌, ◌<◌, ◌≤◌, ◌&&◌, ◌+◌, ◌-◌, ◌==◌, length, take, drop, get_or, slice_index, nat_eq, nat_lt, codes, Option, Some, None, refl, sym, ◌∙◌, ap, subst, arith, inl, inr}
 use Rattle.std.specs.Prelude.{bytes_eq}
 use Rattle.std.specs.List.{starts_with, position_or_len, before_first}
 use Rattle.std.proofs.lemmas.Bool.{cases_Bool, eqb-true, eqb-false, ltb-true, ltb-false, lt-ltb, le-ltb, and_left, and_right}
@@ -11,7 +11,7 @@ use Rattle.nm_types.specs.declared.name.Kind.TheVariants.{Vale, Master, Slave, M
 use Rattle.nm_types.specs.Names.{is_switch_port, is_switch_port_at, is_switch_port_kind, is_switch_port_name, pipe_kind, is_word, switch_of, colon_in, IsName}
 use Rattle.nm_types.specs.Openings.{is_on_switch}
 use Rattle.nm_types.proofs.SwitchNames.{kind_of-vale}
-use Rattle.vale_port.specs.Ports.{is_part}
+use Rattle.vale_port.specs.Ports.{is_part, IsLastByte}
 
 abbrev is_colon : ℕ → Bool
 is_colon b = b == 58
@@ -219,6 +219,69 @@ begins-other text with k less differ = elim (cases_Bool (starts_with nat_eq text
       let same : with ≡ take (length with) text = (bytes_eq-Decides with (take (length with) text)).0 is in
       absurd (differ (sym (get_or-take (length with) text k 0 less) ∙ ap (λ (l : List ℕ). get_or l k 0) (sym same)))
   | inr off ↦ off
+]
+
+-- the last byte of `vale` and a switch's text stands in each name of the switch's ports
+
+pub last-none : IsLastByte [] 101
+last-none = refl
+
+pub last-some : (switch : List ℕ) → 1 ≤ length switch → IsLastByte switch (slice_index switch (length switch - 1))
+last-some switch some =
+    let place : length switch + 3 ≡ suc (suc (suc (suc (length switch - 1)))) = omega (arith, some) in
+    rw place refl
+
+both_true : (a b : Bool) → (a && b) ≡ true → (a ≡ true) × (b ≡ true)
+both_true true b is = (refl, is)
+both_true false b is = absurd cc
+
+same_last : (switch : List ℕ) (a b c d last : ℕ) (rest : List ℕ) → IsLastByte switch last → codes "vale" ≡ a ∷ b ∷ c ∷ d ∷ []
+    → length switch < length rest → switch ≡ take (length switch) rest → get_or (a ∷ b ∷ c ∷ d ∷ rest) (length switch + 3) 0 ≡ last
+same_last [] a b c d last rest is vale long begins = sym (ap (λ (l : List ℕ). get_or l 3 0) vale) ∙ is
+same_last (s ∷ switch) a b c d last rest is vale long begins =
+    let place : suc (length switch) + 3 ≡ suc (suc (suc (suc (length switch)))) = omega arith in
+    let here : get_or rest (length switch) 0 ≡ get_or (s ∷ switch) (length switch) 0 =
+    sym (get_or-take (suc (length switch)) rest (length switch) 0 (omega arith)) ∙ ap (λ (l : List ℕ). get_or l (length switch) 0) (sym begins) in
+    let there : get_or (s ∷ switch) (length switch) 0 ≡ last = subst (λ (n : ℕ). get_or (codes "vale" ++ s ∷ switch) n 0 ≡ last) place is in
+    rw place (here ∙ there)
+
+stands-in : (switch name : List ℕ) (last : ℕ) → IsLastByte switch last → nat_lt 4 (length name) ≡ true → is_part (drop 4 name) switch ≡ true
+    → is_vale name ≡ true → (length switch + 3 < length name) × (get_or name (length switch + 3) 0 ≡ last)
+stands-in [] [] last is long part vale = absurd cc
+stands-in switch [] last is long part vale = absurd cc
+stands-in switch (a ∷ []) last is long part vale = absurd cc
+stands-in switch (a ∷ b ∷ []) last is long part vale = absurd cc
+stands-in switch (a ∷ b ∷ c ∷ []) last is long part vale = absurd cc
+stands-in switch (a ∷ b ∷ c ∷ d ∷ rest) last is long part vale =
+    let first = both_true (nat_lt (length switch) (length rest)) (slice_index rest (length switch) == 58 && starts_with nat_eq rest switch) part in
+    let second = both_true (slice_index rest (length switch) == 58) (starts_with nat_eq rest switch) first.1 in
+    let less : length switch < length rest = ltb-true (length switch) (length rest) first.0 in
+    let text : codes "vale" ≡ a ∷ b ∷ c ∷ d ∷ [] = (bytes_eq-Decides (codes "vale") (take 4 (a ∷ b ∷ c ∷ d ∷ rest))).0 vale in
+    (omega (arith, less), same_last switch a b c d last rest is text less ((bytes_eq-Decides switch (take (length switch) rest)).0 second.1))
+
+same_byte : (a b : ℕ) → a ≡ b → (a == b) ≡ true
+same_byte a b is = elim (cases_Bool (a == b)) [
+  | inl same ↦ same
+  | inr off ↦ absurd (eqb-false a b off is)
+]
+
+abbrev stands : List ℕ → List ℕ → ℕ → Bool
+stands switch name last = nat_lt (length switch + 3) (length name) && slice_index name (length switch + 3) == last
+
+stands-on : (switch name : List ℕ) (last : ℕ) → IsLastByte switch last → colon_in switch ≡ None → IsName name → is_on_switch switch name ≡ true
+    → stands switch name last ≡ true
+stands-on switch name last is none named on =
+    let all = on-switch switch name none named ∙ on in
+    let first = both_true (nat_lt 4 (length name)) (is_part (drop 4 name) switch && is_vale name) all in
+    let second = both_true (is_part (drop 4 name) switch) (is_vale name) first.1 in
+    let there = stands-in switch name last is first.0 second.0 second.1 in
+    rw (lt-ltb (length switch + 3) (length name) there.0) (same_byte (slice_index name (length switch + 3)) last there.1)
+
+pub off-last : (switch name : List ℕ) (last : ℕ) → IsLastByte switch last → colon_in switch ≡ None → IsName name → stands switch name last ≡ false
+    → false ≡ is_on_switch switch name
+off-last switch name last is none named off = elim (cases_Bool (is_on_switch switch name)) [
+  | inl on ↦ absurd (let wrong : true ≡ false = sym (stands-on switch name last is none named on) ∙ off in cc)
+  | inr not_on ↦ sym not_on
 ]
 
 pub ruleset switches = (switch-none)

@@ -1,5 +1,5 @@
 -- A port that owns the buffers of its kernel side, and the seat of the world that it stands for.
-use Rattle.std.specs.Prelude.{ℕ, Bool, false, ◌≡◌, ◌≤◌, ◌+◌, ◌&&◌, ◌==◌, not, List, [], ◌∷◌, length, take, map, nat_lt, nat_eq, slice_index, Some, option_map}
+use Rattle.std.specs.Prelude.{ℕ, Bool, false, ◌≡◌, ◌≤◌, ◌+◌, ◌&&◌, ◌==◌, not, List, [], ◌∷◌, ◌++◌, codes, length, take, map, nat_lt, nat_eq, slice_index, Some, option_map}
 use Rattle.std.specs.List.{starts_with}
 use Rattle.nm_types.specs.Frames.{Frame, slots_of, size_of_frames}
 use Rattle.nm_types.specs.declared.id.PortId.{PortId}
@@ -68,6 +68,10 @@ id_of_state p = record { 0 = p.id }
 -- the text begins with this one and a colon
 abbrev pub is_part : List ℕ → List ℕ → Bool
 is_part text part = nat_lt (length part) (length text) && (slice_index text (length part) == 58 && starts_with nat_eq text part)
+
+-- the last byte of `vale` and a switch's text
+abbrev pub IsLastByte : List ℕ → ℕ → Type 0
+IsLastByte switch last = slice_index (codes "vale" ++ switch) (length switch + 3) ≡ last
 
 abbrev pub is_open_state_on : List ℕ → PortState → Bool
 is_open_state_on switch p = not p.shutting && is_on_switch switch p.name

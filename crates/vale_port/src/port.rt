@@ -1,4 +1,4 @@
-ghost use Rattle.std.specs.Prelude.{List, ℕ, true, ◌≡◌, ◌≤◌, ◌+◌, ◌-◌, not, [], ◌++◌, All, length, take, drop, map, min, sum, nat_eq, false, Some, None, vec_capacity, IfOk, IfErr, IfSome, IfNone};
+ghost use Rattle.std.specs.Prelude.{List, ℕ, true, ◌≡◌, ◌≤◌, ◌+◌, ◌-◌, ◌==◌, ◌&&◌, not, nat_lt, slice_index, [], ◌++◌, All, length, take, drop, map, min, sum, nat_eq, false, Some, None, vec_capacity, IfOk, IfErr, IfSome, IfNone};
 ghost use Rattle.std.specs.List.{starts_with};
 ghost use Rattle.nm_types.specs.Frames.{Frame, size_of_frames};
 ghost use Rattle.nm_types.specs.Names.{IsName, colon_in};
@@ -16,7 +16,7 @@ ghost use Rattle.vale_entry.specs.Pipe.{taken_count};
 ghost use Rattle.vale_entry.specs.Holdings.{buffers_at_port};
 ghost use Rattle.vale_port.specs.Kept.{bytes_of};
 ghost use Rattle.vale_port.specs.Laws.{with_line, line_after_put};
-ghost use Rattle.vale_port.specs.Ports.{opened_state, due_of_state, is_open_state, is_open_state_on, is_shutting_state, is_part, IsSeatOf, IsLeaseFor, IsFilledFor, Gives, sizes_of};
+ghost use Rattle.vale_port.specs.Ports.{opened_state, due_of_state, is_open_state, is_open_state_on, is_shutting_state, is_part, IsLastByte, IsSeatOf, IsLeaseFor, IsFilledFor, Gives, sizes_of};
 ghost use Rattle.vale_port.specs.Seat.{Seat, opened_seat, given_frames, seat_given, seat_done, seat_synced, seat_put, seat_shut};
 
 use crate::room::PutRoom;
@@ -91,14 +91,43 @@ fn is_part(text: &[u8], part: &[u8]) -> bool
     part.len() < text.len() && text[part.len()] == b':' && begins(text, part)
 }
 
-/// Tells whether a name is that of a port of this switch, which has no colon. Most ports are of
-/// other switches, so what tells them apart is looked at first.
-fn is_on(name: &[u8], switch: &[u8]) -> bool
+/// Tells whether a name is that of a port of this switch, which has no colon. The part before the
+/// colon is looked at first, as it tells ports of other switches apart.
+fn is_named_on(name: &[u8], switch: &[u8]) -> bool
     requires name { IsName name.now }
     requires switch { colon_in switch.now ≡ None }
     ensures { result ≡ is_on_switch switch.now name.now }
 {
     name.len() > 4 && is_part(&name[4..], switch) && begins(name, b"vale")
+}
+
+/// The last byte of `vale` and a switch's text.
+pub(crate) fn last_byte(switch: &[u8]) -> u8
+    ensures { IsLastByte switch.now result }
+{
+    if switch.is_empty() {
+        b'e'
+    } else {
+        switch[switch.len() - 1]
+    }
+}
+
+/// Tells whether a byte stands in a name at this place.
+fn stands_at(name: &[u8], at: usize, byte: u8) -> bool
+    ensures { result ≡ (nat_lt at (length name.now) && slice_index name.now at == byte) }
+{
+    at < name.len() && name[at] == byte
+}
+
+/// Tells whether a name is that of a port of this switch, which has no colon. Most ports are of
+/// other switches, which the last byte of `vale` and the switch's text tells apart.
+fn is_on(name: &[u8], switch: &[u8], last: u8) -> bool
+    requires name { IsName name.now }
+    requires switch { colon_in switch.now ≡ None }
+    requires last { IsLastByte switch.now last }
+    ensures { result ≡ is_on_switch switch.now name.now }
+{
+    stands_at(name, switch.len() + 3, last) && is_named_on(name, switch)
 }
 
 impl Port {
@@ -178,11 +207,12 @@ impl Port {
     }
 
     /// Tells whether the port is open on this switch, which has no colon.
-    pub(crate) fn is_open_on(&self, switch: &[u8]) -> bool
-        requires { colon_in switch.now ≡ None }
+    pub(crate) fn is_open_on(&self, switch: &[u8], last: u8) -> bool
+        requires switch { colon_in switch.now ≡ None }
+        requires last { IsLastByte switch.now last }
         ensures { result ≡ is_open_state_on switch.now self.now }
     {
-        !self.shutting && is_on(self.name.as_bytes(), switch)
+        is_on(self.name.as_bytes(), switch, last) && !self.shutting
     }
 
     /// Returns the number of slots of the transmit ring: 0 for a monitor, which has none.

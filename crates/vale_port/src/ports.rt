@@ -6,7 +6,7 @@ ghost use Rattle.vale_entry.specs.Delivered.{port_at};
 ghost use Rattle.vale_port.specs.Lists.{IsFoundAt, IsNotFound, AreOpenOn};
 ghost use Rattle.vale_port.specs.Ports.{id_of_state, is_state_of, is_state_of_session, is_open_state, is_open_state_on, is_shutting_state};
 
-use crate::port::Port;
+use crate::port::{Port, last_byte};
 use nm_types::{Name, NoMemory, PortId, SessionId};
 use std::alloc::Global;
 use vale_line::Lease;
@@ -73,9 +73,10 @@ fn ids_on(alloc: Global, ports: &[Port], name: &Name) -> Result<Vec<PortId>, NoM
         ≡ map id_of_state (filter (is_open_state_on (switch_of name.now)) ports.now)) }
 {
     let switch = name.switch();
+    let last = last_byte(switch);
     let mut ids = Vec::with_capacity(alloc, ports.len())?;
     for port in ports {
-        if port.is_open_on(switch) {
+        if port.is_open_on(switch, last) {
             ids.push_reserved(port.id());
         }
     }

@@ -3,10 +3,10 @@ ghost use Rattle.vale_batch.specs.Wants.{wanted};
 ghost use Rattle.vale_steps.specs.Offering.{slots_in, slots_wanted};
 
 use nm_types::{NoMemory, SessionId};
-use std::alloc::{AllocError, Global};
+use std::alloc::Global;
 use std::marker::Model;
 use vale_batch::Want;
-use vale_line::{LeaseRoom, rooms_for};
+use vale_line::LeaseRoom;
 
 /// What is wanted of an entry's frames and not granted yet, with memory for the leases. It cannot be
 /// dropped: the grants take one want after the other, and `close` ends it.
@@ -40,21 +40,16 @@ fn slots_of(want: &Want) -> u32
     want.sizes.iter().sum()
 }
 
-/// How many slots the frames of each want take.
-fn slots_of_each(alloc: Global, wants: &[Want]) -> Result<Vec<u32>, AllocError>
-    requires { All (λ want. slots_in want < 2 ^ 32) wants.now }
-    ensures { IfOk result (λ all. all.items ≡ map slots_in wants.now) }
-{
-    wants.iter().map(|want| slots_of(want)).collect(alloc)
-}
-
 /// Makes room for the lease of each want.
 pub(crate) fn rooms_of(alloc: Global, wants: &[Want]) -> Result<Vec<LeaseRoom>, NoMemory>
     requires { All (λ want. slots_in want < 2 ^ 32) wants.now }
     ensures { IfOk result (λ rooms. rooms.items ≡ map slots_in wants.now) }
 {
-    let slots = slots_of_each(alloc, wants)?;
-    rooms_for(alloc, &slots)
+    let mut rooms = Vec::with_capacity(alloc, wants.len())?;
+    for want in wants {
+        rooms.push_reserved(LeaseRoom::new(alloc, slots_of(want))?);
+    }
+    Ok(rooms)
 }
 
 impl Offers {

@@ -1,18 +1,11 @@
-use Rattle.std.proofs.Common.{rules, ◌≡◌}
-use Rattle.std.specs.Prelude.{position}
+use Rattle.std.proofs.Common.{rules}
 use Rattle.vale_entry.specs.Closing.{is_port_of}
 use Rattle.vale_port.specs.Ports.{is_state_of_session}
 use Rattle.vale_port.proofs.Lookups.{place-some, place-none, same-session}
 use Rattle.vale_port.proofs.ports.first_of_session.Goals as goal
 
 pub returns-clause-some : goal.returns-clause-some
-returns-clause-some c =
-    let id = c.args.session.0 in
-    let is : c.place_of_session.result ≡ position (is_state_of_session id) c.args.ports.now = search rules in
-    place-some (is_state_of_session id) (is_port_of id) (same-session id) c.args.ports.now c.place_of_session.result is
+returns-clause-some c = place-some (is_state_of_session c.args.session.0) (is_port_of c.args.session.0) (same-session c.args.session.0) c.args.ports.now c.place_of_session.result (search rules)
 
 pub returns-clause-none : goal.returns-clause-none
-returns-clause-none c =
-    let id = c.args.session.0 in
-    let is : c.place_of_session.result ≡ position (is_state_of_session id) c.args.ports.now = search rules in
-    place-none (is_state_of_session id) (is_port_of id) (same-session id) c.args.ports.now c.place_of_session.result is
+returns-clause-none c = place-none (is_state_of_session c.args.session.0) (is_port_of c.args.session.0) (same-session c.args.session.0) c.args.ports.now c.place_of_session.result (search rules)
