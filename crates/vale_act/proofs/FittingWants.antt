@@ -30,6 +30,7 @@ use Rattle.vale_entry.specs.Laws.{Rise, id_of_port}
 use Rattle.vale_entry.specs.Legal.{Standing, Outcome, step, world_of, made_at, fits_u64, fits_chain, enter_step, can_open, open_step_by, can_send, send_step, named_of, is_offer_next, grant_step, done_step, can_sync, can_get, sync_step, can_reset, reset_step, can_shut, shut_step, can_go, finish_step, finish_step_at, leave_step, can_put, can_offer, put_step_by, put_step_at, watch_step_by, watch_step_of, stat_step}
 use Rattle.vale_entry.proofs.Numbered.{world-numbered}
 use Rattle.vale_entry.proofs.Worlds.{count-world_of}
+use Rattle.vale_entry.proofs.FrameBytes.{frames-bytes}
 
 -- ports are no more than entries, and offers no more than ports
 
@@ -74,19 +75,6 @@ dests-few origin session wanted ports =
     let same = length-map (offers_of origin session wanted ports) dest_of in
     omega (arith, offers, same)
 
--- frames that fit a buffer have few bytes
-
-bytes-few :
-    (frames : List Frame) → list_all fits_buffer frames ≡ true
-    → bytes_of_frames frames ≤ 2048 * length frames
-bytes-few [] fit = omega arith
-bytes-few (frame ∷ frames) fit =
-    let parts = and_parts (fits_buffer frame) (list_all fits_buffer frames) fit in
-    let here = leb-true (length frame.bytes) 2048 parts.0 in
-    let rest = bytes-few frames parts.1 in
-    let cut = sum_by-cons (λ (f : Frame). length f.bytes) frame frames in
-    omega (arith, here, rest, cut)
-
 sendable-bytes :
     (frames : List Frame) → is_sendable frames ≡ true → bytes_of_frames frames ≤ 2048 * 1023
 sendable-bytes frames may =
@@ -96,7 +84,7 @@ sendable-bytes frames may =
     let rest =
     and_parts (nat_le (size_of_frames frames) 1023) (list_all fits_buffer frames) parts.1 in
     let count = leb-true (length frames) 1023 parts.0 in
-    let all = bytes-few frames rest.1 in
+    let all = frames-bytes frames rest.1 in
     omega (arith, count, all)
 
 -- and so have those of the items that a pipe's other end takes

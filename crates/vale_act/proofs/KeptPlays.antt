@@ -6,23 +6,20 @@ use Rattle.std.specs.declared.alloc.Global.{Global}
 use Rattle.std.proofs.lemmas.Grind.{flat_map-append}
 use mathlib.Core.List.{IsPrefix}
 use Rattle.nm_turn.specs.Passes.{Knows}
-use Rattle.nm_types.specs.declared.fault.StepFault.{StepFault}
-use Rattle.nm_types.specs.declared.fault.StepFault.TheVariants.{RecordFull, NoMemory}
 use Rattle.vale_entry.specs.declared.entry.Entry.{Entry}
 use Rattle.vale_entry.specs.Legal.{IsLegal}
 use Rattle.vale_fabric.specs.Roots.{root_of}
 use Rattle.vale_fabric.specs.Fabrics.{Knowing}
-use Rattle.vale_fabric.specs.declared.kept.Fixed.{Fixed}
 use Rattle.vale_script.specs.Script.{Program}
 use Rattle.vale_captures.specs.Outputs.{OutputFile, IsWritable}
 use Rattle.vale_replay.specs.Machine.{Machine, Save}
 use Rattle.vale_replay.specs.Saved.{saves_of}
 use Rattle.vale_replay.specs.Tasks.{Captures}
 use Rattle.vale_act.specs.Outputs.{outputs_of}
-use Rattle.vale_act.specs.Plays.{PlaysScript, IsStoppedBy}
+use Rattle.vale_act.specs.Plays.{PlaysScript}
 use Rattle.vale_act.specs.Units.{AreUsersFrom}
 use Rattle.vale_player.specs.Kept.{KeptFrames, AreWhole, KeepsWhole}
-use Rattle.vale_act.specs.Seats.{AllAre, IsEmpty, IsScriptStopped, Meets, ScriptDone, files_in, saves_at}
+use Rattle.vale_act.specs.Seats.{AllAre, IsEmpty, Meets, ScriptDone, files_in, saves_at}
 use Rattle.vale_act.specs.declared.seat.Seat.{Seat}
 use Rattle.vale_act.specs.declared.seat.Seat.TheVariants.{Away, There, Gone}
 use Rattle.vale_player.proofs.KeptPorts.{whole-stays}
@@ -103,8 +100,3 @@ plays-script program captures pool v lists kept made same done whole is writable
       saved = is v.seen done.played.users saves (subst (λ (n : ℕ). AreWhole n v.seen kept) same whole);
       writable = writable;
     }
-
-pub stops-script : (fixed : Fixed) (program : Program) (captures : Captures) (history : List Entry) (fault : StepFault) → IsScriptStopped fixed program captures history fault → IsStoppedBy fixed program captures history fault
-stops-script fixed program captures history NoMemory stop = tt
-stops-script fixed program captures history (RecordFull what used want) stop =
-    record { count = stop.count; user = stop.user; call = stop.call; stopped = stop.stopped; refusal = stop.refusal }

@@ -24,6 +24,7 @@ use Rattle.vale_act.specs.FewFrames.{LightScriptsFit}
 use Rattle.vale_player.proofs.PlayerLines.{records-same}
 use Rattle.vale_act.proofs.RoomRests.{frames_in, calls_in, ArePlain}
 use Rattle.vale_act.proofs.RoomCosts.{lines-cost}
+use Rattle.vale_entry.proofs.Removals.{sum-filter_less}
 
 -- ---- sums
 
@@ -60,17 +61,6 @@ sum-mapped f g (x ∷ xs) =
     let one = sum_by-cons f (g x) (map g xs) in
     let other = sum_by-cons (λ y. f (g y)) x xs in
     omega (arith, rest, one, other)
-
-sum-kept : {X : Type 0} (f : X → ℕ) (test : X → Bool) (xs : List X) → sum_by f (filter test xs) ≤ sum_by f xs
-sum-kept f test [] = omega arith
-sum-kept f test (x ∷ xs) = by (test x) (sum-kept f test xs)
-  where
-    by : (b : Bool) → sum_by f (filter test xs) ≤ sum_by f xs → sum_by f (cond b (x ∷ filter test xs) (filter test xs)) ≤ sum_by f (x ∷ xs)
-    by true rest =
-        let one = sum_by-cons f x (filter test xs) in
-        let other = sum_by-cons f x xs in
-        omega (arith, rest, one, other)
-    by false rest = let other = sum_by-cons f x xs in omega (arith, rest, other)
 
 -- a range has a number once at most
 
@@ -158,7 +148,7 @@ module _ (f : Task → ℕ) (records : List ℕ → List (List ℕ)) where
       let same : of_unit (shares_of records users (parts.Block ls)) ≡ sum_by (of_user ls) present =
       sum-mapped of_share (λ user. share_of records user (acts_of ls user)) present
       ∙ sum-at (λ user. of_share (share_of records user (acts_of ls user))) (of_user ls) present (λ user. lines-sum (acts_of ls user)) in
-      let kept = sum-kept (of_user ls) (has_line ls) (range_with_len 1 users) in
+      let kept = sum-filter_less (of_user ls) (has_line ls) (range_with_len 1 users) in
       let all : sum_by (of_user ls) (range_with_len 1 users) ≤ sum_by of_act (acts_of_unit (parts.Block ls)) = users-sum ls 1 users in
       omega (arith, same, kept, all)
 

@@ -20,6 +20,7 @@ use Rattle.vale_entry.specs.Legal.{Standing, after, fresh_standing}
 use Rattle.vale_entry.proofs.ListLaws.{sum-map_same}
 use Rattle.vale_entry.proofs.Steps.{standing-by}
 use Rattle.vale_entry.proofs.Follows.{EachKind, after-by}
+use Rattle.vale_entry.proofs.Removals.{sum-filter_less}
 use Rattle.vale_act.specs.Completeness.{SwitchesHaveFewPorts}
 
 abbrev pub one_if : Bool → ℕ
@@ -57,20 +58,9 @@ few-mapped change names ports few switch =
 few-changed : (id : ℕ) (change : Port → Port) → ((p : Port) → (change p).name ≡ p.name) → (ports : List Port) → Few ports → Few (changed_at id change ports)
 few-changed id change names ports few = few-mapped (λ (p : Port). changed_if (p.id == id) change p) (λ p. name-if (p.id == id) change p (names p)) ports few
 
-on-filter : (switch : List ℕ) (test : Port → Bool) (ports : List Port) → on switch (filter test ports) ≤ on switch ports
-on-filter switch test [] = omega arith
-on-filter switch test (p ∷ ports) = by (test p) (on-filter switch test ports)
-  where
-    by : (b : Bool) → on switch (filter test ports) ≤ on switch ports → on switch (cond b (p ∷ filter test ports) (filter test ports)) ≤ on switch (p ∷ ports)
-    by true rest =
-        let one = on-cons switch p (filter test ports) in
-        let other = on-cons switch p ports in
-        omega (arith, rest, one, other)
-    by false rest = let other = on-cons switch p ports in omega (arith, rest, other)
-
 few-filter : (test : Port → Bool) (ports : List Port) → Few ports → Few (filter test ports)
 few-filter test ports few switch =
-    let less = on-filter switch test ports in
+    let less = sum-filter_less (λ (p : Port). one_if (is_on_switch switch p)) test ports in
     let here = few switch in
     omega (arith, less, here)
 

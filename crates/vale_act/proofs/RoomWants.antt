@@ -19,6 +19,7 @@ use Rattle.vale_entry.specs.Pipe.{frames_of_items, is_pipe_item}
 use Rattle.vale_entry.specs.Legal.{Standing, standing_of, kept_ask, can_send, sync_step, unchanged}
 use Rattle.vale_entry.proofs.Follows.{EachKind, IsQuiet, Receives, by_sync, by_get, refused_open, resets, finds_no_peer, finds_no_target, finds_watched, counts, IfMade, recorded-by}
 use Rattle.vale_entry.proofs.Numbered.{world-numbered}
+use Rattle.vale_entry.proofs.FrameBytes.{frames-bytes}
 use Rattle.vale_book.proofs.Rooms.{step-recorded}
 use Rattle.vale_act.specs.Completeness.{CostsLittle, EntriesCostLittle}
 use Rattle.vale_act.proofs.RoomSwitches.{one_if}
@@ -48,15 +49,6 @@ monitored-few origin session monitor frames (p ∷ ports) = by (is_monitor monit
         let same : length (offers_of origin session (monitored_frames monitor frames) (p ∷ ports)) ≡ length (offers_of origin session (monitored_frames monitor frames) ports) =
         ap (λ (b : Bool). length (cons_option (offer_to origin session p.id (wanted_if b frames)) (offers_of origin session (monitored_frames monitor frames) ports))) is in
         omega (arith, rest, same, all)
-
-frames-bytes : (frames : List Frame) → list_all fits_buffer frames ≡ true → bytes_of_frames frames ≤ 2048 * length frames
-frames-bytes [] fit = omega arith
-frames-bytes (frame ∷ frames) fit =
-    let parts = and_parts (fits_buffer frame) (list_all fits_buffer frames) fit in
-    let here = leb-true (length frame.bytes) 2048 parts.0 in
-    let rest = frames-bytes frames parts.1 in
-    let cut = sum_by-cons (λ (f : Frame). length f.bytes) frame frames in
-    omega (arith, here, rest, cut)
 
 items-bytes : (items : List Item) → list_all is_pipe_item items ≡ true → bytes_of_frames (frames_of_items items) ≤ 2048 * length items
 items-bytes [] fit = omega arith

@@ -1,5 +1,5 @@
 -- The shares of the main pass and of one other, cut and put together.
-use Rattle.std.proofs.Common.{◌≡◌, ℕ, ◌+◌, ◌-◌, ◌*◌, ◌^◌, ◌<◌, ◌≤◌, max, List, [], ◌∷◌, ◌++◌, refl, sym, ap, ◌∙◌, subst, arith, pow-add, pow_pos}
+use Rattle.std.proofs.Common.{◌≡◌, ℕ, ◌+◌, ◌-◌, ◌*◌, ◌^◌, ◌≤◌, max, List, [], ◌∷◌, ◌++◌, sym, ap, ◌∙◌, arith, pow-add, pow_pos}
 use Rattle.nm_turn.specs.declared.view.Share.{Share}
 use Rattle.nm_turn.specs.Shares.{IsWhole, half, weight, both_parts, deepest, total, AddUp}
 use Rattle.nm_turn.proofs.Shares.{AddUp-total, total-AddUp}
@@ -85,28 +85,26 @@ pub deepest-then : (ps qs : List Share) → deepest (ps ++ qs) ≡ max (deepest 
 deepest-then [] qs = omega arith
 deepest-then (p ∷ ps) qs = let e = deepest-then ps qs in omega (arith, e)
 
-pub add-moved : (v : Share) (ps qs rs : List Share) → AddUp (v ∷ (ps ++ qs) ++ rs) → AddUp (v ∷ qs ++ (ps ++ rs))
-add-moved v ps qs rs up =
-    let d : ℕ = v.depth + deepest ps + deepest qs + deepest rs in
+moved-total : (d : ℕ) (ps qs rs : List Share) → total d ((ps ++ qs) ++ rs) ≡ total d (qs ++ (ps ++ rs))
+moved-total d ps qs rs =
     let a = total-then d (ps ++ qs) rs in
     let b = total-then d ps qs in
     let c = total-then d qs (ps ++ rs) in
     let e = total-then d ps rs in
-    let da = deepest-then (ps ++ qs) rs in
-    let db = deepest-then ps qs in
-    let dc = deepest-then qs (ps ++ rs) in
-    let de = deepest-then ps rs in
-    add-as (v ∷ (ps ++ qs) ++ rs) (v ∷ qs ++ (ps ++ rs)) d (omega (arith, da, db)) (omega (arith, dc, de)) (omega (arith, a, b, c, e)) up
+    omega (arith, a, b, c, e)
+
+deepest-left : (ps qs rs : List Share) → deepest ((ps ++ qs) ++ rs) ≤ deepest ps + deepest qs + deepest rs
+deepest-left ps qs rs = omega (arith, deepest-then (ps ++ qs) rs, deepest-then ps qs)
+
+deepest-right : (ps qs rs : List Share) → deepest (qs ++ (ps ++ rs)) ≤ deepest ps + deepest qs + deepest rs
+deepest-right ps qs rs = omega (arith, deepest-then qs (ps ++ rs), deepest-then ps rs)
+
+pub add-moved : (v : Share) (ps qs rs : List Share) → AddUp (v ∷ (ps ++ qs) ++ rs) → AddUp (v ∷ qs ++ (ps ++ rs))
+add-moved v ps qs rs up =
+    let d : ℕ = v.depth + deepest ps + deepest qs + deepest rs in
+    add-as (v ∷ (ps ++ qs) ++ rs) (v ∷ qs ++ (ps ++ rs)) d (omega (arith, deepest-left ps qs rs)) (omega (arith, deepest-right ps qs rs)) (omega (arith, moved-total d ps qs rs)) up
 
 pub add-moved-back : (v : Share) (ps qs rs : List Share) → AddUp (v ∷ qs ++ (ps ++ rs)) → AddUp (v ∷ (ps ++ qs) ++ rs)
 add-moved-back v ps qs rs up =
     let d : ℕ = v.depth + deepest ps + deepest qs + deepest rs in
-    let a = total-then d (ps ++ qs) rs in
-    let b = total-then d ps qs in
-    let c = total-then d qs (ps ++ rs) in
-    let e = total-then d ps rs in
-    let da = deepest-then (ps ++ qs) rs in
-    let db = deepest-then ps qs in
-    let dc = deepest-then qs (ps ++ rs) in
-    let de = deepest-then ps rs in
-    add-as (v ∷ qs ++ (ps ++ rs)) (v ∷ (ps ++ qs) ++ rs) d (omega (arith, dc, de)) (omega (arith, da, db)) (omega (arith, a, b, c, e)) up
+    add-as (v ∷ qs ++ (ps ++ rs)) (v ∷ (ps ++ qs) ++ rs) d (omega (arith, deepest-right ps qs rs)) (omega (arith, deepest-left ps qs rs)) (omega (arith, moved-total d ps qs rs)) up

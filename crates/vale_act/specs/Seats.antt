@@ -1,6 +1,6 @@
 -- What the main pass and the seats of a script's users learn from one another, and what a line or a
 -- block makes of them.
-use Rattle.std.specs.Prelude.{ℕ, true, false, ◌≡◌, ◌<◌, ◌≤◌, ◌+◌, ◌⊎◌, List, [], ◌∷◌, ◌++◌, length, flat_map, take, Option, Some, None, slice_get, Result, Ok, OnOk, IfErr, Vec}
+use Rattle.std.specs.Prelude.{ℕ, ◌≡◌, ◌<◌, ◌≤◌, ◌+◌, List, [], ◌∷◌, ◌++◌, length, flat_map, take, Option, Some, None, slice_get, Result, Ok, OnOk, IfErr, Vec}
 use Rattle.std.specs.List.{AllByRecursion}
 use Rattle.std.specs.declared.alloc.Global.{Global}
 use mathlib.Core.List.{IsPrefix}
@@ -25,12 +25,12 @@ use Rattle.nm_user.specs.Calls.{IsRefused}
 use Rattle.vale_fabric.specs.declared.kept.Fixed.{Fixed}
 use Rattle.vale_replay.specs.Machine.{Machine, Save, closing_tasks}
 use Rattle.vale_replay.specs.Tasks.{Captures, Task, tasks_of_lines}
-use Rattle.vale_replay.specs.Stops.{HasStopped as HaveStopped}
 use Rattle.vale_replay.specs.Replay.{HasPlayed, ScriptUnit, times_among, units_of, user_count}
 use Rattle.vale_fabric.specs.declared.fabric.Fabric.{Fabric}
 use Rattle.vale_fabric.specs.Fabrics.{Knowing, record_in}
 use Rattle.vale_player.specs.Players.{PlayerState, Does, HasEntered, IsStill, RunsLines, Stops}
 use Rattle.vale_act.specs.Units.{AreUsersFrom, HaveWhole, IsOn, HavePlayed, PlaysAt, PlaysUnit, StopsAtSeat, StopsUnit, all_know, knows_at, times_made}
+use Rattle.vale_act.specs.Plays.{IsStoppedBy}
 use Rattle.vale_act.specs.declared.seat.Seat.{Seat}
 use Rattle.vale_act.specs.declared.seat.Seat.TheVariants.{Away, There, Gone}
 
@@ -299,17 +299,9 @@ pub record ScriptPlayed (program : Program) (captures : Captures) (w : Knowing) 
   pub played : HasPlayed program captures w.seen users
   pub are : AreUsersFrom program.pool 1 seats users
 
--- or a full record stops a user at this call, after so many entries
-pub record ScriptStopped (fixed : Fixed) (program : Program) (captures : Captures) (history : List Entry) (fault : StepFault) : Type 0 where
-  pub user : ℕ
-  pub count : ℕ
-  pub call : Ask
-  pub stopped : HaveStopped program captures history count user call
-  pub refusal : IsRefusal (record_in fixed (take count history)) call fault
-
+-- or a full record stops a user in it
 abbrev pub IsScriptStopped : Fixed → Program → Captures → List Entry → StepFault → Type 0
-IsScriptStopped fixed program captures history (RecordFull what used want) = ScriptStopped fixed program captures history (RecordFull what used want)
-IsScriptStopped fixed program captures history NoMemory = Unit {0}
+IsScriptStopped = IsStoppedBy
 
 -- Seats of which nobody has come.
 pub record AreNew (count : ℕ) (seats : List Seat) : Type 0 where

@@ -7,9 +7,7 @@ ghost use Rattle.vale_fabric.specs.Fabrics.{IsPassIn, fixed_in, knowing};
 ghost use Rattle.vale_player.specs.Deeds.{AreDoable};
 ghost use Rattle.vale_player.specs.Inputs.{records_in};
 ghost use Rattle.vale_act.specs.Leaving.{CanStillLeave};
-ghost use Rattle.vale_act.specs.Seats.{AllOn, MeetAll, TellAll, HasRun, AreEach, AllAre};
-ghost use Rattle.vale_act.specs.Seats.{AreSeated, IsDeedLine, UnitAt};
-ghost use Rattle.vale_act.specs.Seats.{fault_at, HasNoFault, IsFirstFault};
+ghost use Rattle.vale_act.specs.Seats.{AllOn, MeetAll, TellAll, HasRun, AreEach, AllAre, AreSeated, IsDeedLine, UnitAt, fault_at, HasNoFault, IsFirstFault};
 
 use crate::seat::Seat;
 use nm_io::Gate;

@@ -1,10 +1,8 @@
 //! Laws of scripts that put few frames: their record never is full. Each function does nothing; its
 //! contract is a law about the definitions, which the check proves.
 
-ghost use Rattle.vale_act.specs.Completeness.{HistoriesAreCheap, FramesThatFitHaveRoom, RoomIsNotRefused, UsersSpend};
-ghost use Rattle.vale_act.specs.Completeness.{FewTasksFit, LinesCostLittle};
+ghost use Rattle.vale_act.specs.Completeness.{HistoriesAreCheap, FramesThatFitHaveRoom, RoomIsNotRefused, UsersSpend, FewTasksFit, LinesCostLittle, SwitchesHaveFewPorts, SendsWantLittle, EntriesCostLittle, TurnsSpend};
 ghost use Rattle.vale_act.specs.FewFrames.{LightScriptsFit};
-ghost use Rattle.vale_act.specs.Completeness.{SwitchesHaveFewPorts, SendsWantLittle, EntriesCostLittle, TurnsSpend};
 
 /// A switch has at most 16 ports, open ones and shutting ones.
 pub fn switches_have_few_ports()

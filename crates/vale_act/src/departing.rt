@@ -1,13 +1,7 @@
 //! Laws of users that come and leave. Each function does nothing; its contract is a law about the
 //! definitions, which the check proves.
 
-ghost use Rattle.vale_act.specs.Leaving.{AllLeave, TurnsEnterNot, LinesKeepSession};
-ghost use Rattle.vale_act.specs.Leaving.{ComerIsThere, EnteredComesAlone, RefusedMakesNothing};
-ghost use Rattle.vale_act.specs.Leaving.{DoerComesAlone, StoppedComesAlone, RunnerComesAlone};
-ghost use Rattle.vale_act.specs.Leaving.{ForkedComesAlone, MeetingComesAlone, LearnerComesAlone};
-ghost use Rattle.vale_act.specs.Leaving.{NobodyHasCome, ForkedEachLeaves, MetEachLeaves};
-ghost use Rattle.vale_act.specs.Leaving.{LearnedEachLeaves, LeaverEachLeaves};
-ghost use Rattle.vale_act.specs.Leaving.{BeginsToLeave, SeatCanLeave, SeatsCanLeave};
+ghost use Rattle.vale_act.specs.Leaving.{AllLeave, TurnsEnterNot, LinesKeepSession, ComerIsThere, EnteredComesAlone, RefusedMakesNothing, DoerComesAlone, StoppedComesAlone, RunnerComesAlone, ForkedComesAlone, MeetingComesAlone, LearnerComesAlone, NobodyHasCome, ForkedEachLeaves, MetEachLeaves, LearnedEachLeaves, LeaverEachLeaves, BeginsToLeave, SeatCanLeave, SeatsCanLeave};
 
 /// Where a pass has made all entries, and each session that came has left, no session is there and
 /// all buffers are free.

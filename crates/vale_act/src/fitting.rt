@@ -1,8 +1,7 @@
 //! Laws of the room that a record uses and that a call wants of it. Each function does nothing; its
 //! contract is a law about the definitions, which the check proves.
 
-ghost use Rattle.vale_act.specs.Fitting.{HadRoomIsWithin, PrefixHadRoom, PrefixIsWithin};
-ghost use Rattle.vale_act.specs.Fitting.{RefusalsFit};
+ghost use Rattle.vale_act.specs.Fitting.{HadRoomIsWithin, PrefixHadRoom, PrefixIsWithin, RefusalsFit};
 
 /// A record each of whose entries had room is within its limits.
 pub fn had_room_is_within()

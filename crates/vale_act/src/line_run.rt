@@ -9,8 +9,7 @@ ghost use Rattle.vale_player.specs.Deeds.{IsDoable};
 ghost use Rattle.vale_player.specs.Inputs.{records_in};
 ghost use Rattle.vale_act.specs.Leaving.{CanStillLeave, SeatStillLeaves};
 ghost use Rattle.vale_act.specs.Units.{IsOn};
-ghost use Rattle.vale_act.specs.Seats.{Comes, ComesNot, HasActed, LineAt, UnitAt, line_tasks};
-ghost use Rattle.vale_act.specs.Seats.{AllOn, AreSeated, IsDeed, IsSeated};
+ghost use Rattle.vale_act.specs.Seats.{Comes, ComesNot, HasActed, LineAt, UnitAt, line_tasks, AllOn, AreSeated, IsDeed, IsSeated};
 
 use crate::seat::Seat;
 use nm_io::Gate;

@@ -9,8 +9,7 @@ ghost use Rattle.vale_replay.specs.Replay.{act_of};
 ghost use Rattle.vale_replay.specs.Saved.{acts_of_unit, saved_file, saves_of};
 ghost use Rattle.vale_player.specs.Kept.{KeptFrames, AreWhole};
 ghost use Rattle.vale_act.specs.Outputs.{output_of, outputs_of};
-ghost use Rattle.vale_act.specs.SavedActs.{note_of, OutputsAre};
-ghost use Rattle.vale_act.specs.SavedActs.{name_of_save, names_of_acts, names_saved};
+ghost use Rattle.vale_act.specs.SavedActs.{note_of, OutputsAre, name_of_save, names_of_acts, names_saved};
 
 use nm_types::{Name, NoMemory, PortId};
 use pcap_io::Record;

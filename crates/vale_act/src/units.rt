@@ -1,16 +1,7 @@
 //! Laws of the users of a script between two of its units. Each function does nothing; its contract
 //! is a law about the definitions, which the check proves.
 
-ghost use Rattle.vale_act.specs.Units.{PlayBegins, UnitIsPlayed, PlayIsWhole, StopIsWhole};
-ghost use Rattle.vale_act.specs.Units.{ShareIsUnit, BlockIsUnit, ShareStops, BlockStops};
-ghost use Rattle.vale_act.specs.Units.{WorkIsAt, StopIsAt, FullStopIsAt, AbsentIsAt};
-ghost use Rattle.vale_act.specs.Units.{EnteringIsAt, ComingIsAt, EnterStopIsAt};
-ghost use Rattle.vale_act.specs.Units.{FullEnterStopIsAt, LeavingIsAt, WorkIsOfBlock};
-ghost use Rattle.vale_act.specs.Units.{StopIsOfBlock, FullStopIsOfBlock, IdleIsOfBlock};
-ghost use Rattle.vale_act.specs.Units.{AbsentIsOfBlock, PlayIsReplay, JoinedIsBoth, CutIsWhole};
-ghost use Rattle.vale_act.specs.Units.{AddedIsMade, FrontIsFree, PlayerPlaysLines};
-ghost use Rattle.vale_act.specs.Units.{PlayerStopsInLines, PlayerIsFullInLines, BlockIsOfEach};
-ghost use Rattle.vale_act.specs.Units.{StopIsOfEach};
+ghost use Rattle.vale_act.specs.Units.{PlayBegins, UnitIsPlayed, PlayIsWhole, StopIsWhole, ShareIsUnit, BlockIsUnit, ShareStops, BlockStops, WorkIsAt, StopIsAt, FullStopIsAt, AbsentIsAt, EnteringIsAt, ComingIsAt, EnterStopIsAt, FullEnterStopIsAt, LeavingIsAt, WorkIsOfBlock, StopIsOfBlock, FullStopIsOfBlock, IdleIsOfBlock, AbsentIsOfBlock, PlayIsReplay, JoinedIsBoth, CutIsWhole, AddedIsMade, FrontIsFree, PlayerPlaysLines, PlayerStopsInLines, PlayerIsFullInLines, BlockIsOfEach, StopIsOfEach};
 
 /// Before the first unit, in a record with no entry, nobody has come.
 pub fn play_begins()

@@ -14,3 +14,4 @@ pub mod Putting
 pub mod PutFaults
 pub mod Lives
 pub mod Asking
+pub mod Words

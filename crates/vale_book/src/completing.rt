@@ -2,17 +2,15 @@ ghost use Rattle.std.specs.Prelude.{◌≡◌, ◌<◌, ◌≤◌, ◌+◌, ◌-
 ghost use Rattle.vale_entry.specs.declared.entry.Ask.TheVariants as asks;
 ghost use Rattle.vale_entry.specs.declared.entry.Reply.TheVariants as replies;
 ghost use Rattle.vale_entry.specs.declared.entry.Entry.{Entry as Stored};
-ghost use Rattle.vale_line.specs.Gots.{buffers_of};
 ghost use Rattle.vale_line.specs.Leased.{buffer_count};
 ghost use Rattle.vale_line.specs.Lines.{slots_out, completed};
 ghost use Rattle.vale_port.specs.Laws.{with_line};
 ghost use Rattle.vale_port.specs.Lists.{ChangesSeatIf, OfState};
 ghost use Rattle.vale_port.specs.Ports.{IsFilledFor};
 ghost use Rattle.vale_port.specs.Seat.{seat_done};
-ghost use Rattle.nm_region.specs.Regions.{AreOf};
 ghost use Rattle.vale_steps.specs.Granting.{lease_id};
 ghost use Rattle.vale_steps.specs.Offering.{IsFilledIn};
-ghost use Rattle.vale_book.specs.Recorded.{standing, after_ask, HasRoom};
+ghost use Rattle.vale_book.specs.Words.{AreOf, HasRoom, after_ask, buffers_of, standing};
 
 use crate::book::Book;
 use nm_types::{LeaseId, SessionId};

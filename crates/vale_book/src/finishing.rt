@@ -1,15 +1,11 @@
-ghost use Rattle.std.specs.Prelude.{◌≡◌, ◌<◌, length, Some};
-ghost use Rattle.std.specs.Prelude.{OnOk, OnErr, IfOk, IfErr};
-ghost use Rattle.nm_region.specs.Buffers.{indices_of};
+ghost use Rattle.std.specs.Prelude.{◌≡◌, ◌<◌, length, Some, OnOk, OnErr, IfOk, IfErr};
 ghost use Rattle.vale_lease.specs.Leases.{out_count};
 ghost use Rattle.vale_line.specs.Lines.{leases_of};
 ghost use Rattle.vale_entry.specs.declared.entry.Ask.TheVariants as asks;
 ghost use Rattle.vale_entry.specs.declared.entry.Reply.TheVariants as replies;
 ghost use Rattle.vale_entry.specs.Closing.{leases_out};
-ghost use Rattle.vale_entry.specs.Legal.{IsEnabled, reply_to};
 ghost use Rattle.vale_port.specs.Lists.{OfSeat, OfState};
-ghost use Rattle.nm_region.specs.Regions.{AreOf};
-ghost use Rattle.vale_book.specs.Recorded.{standing, after_ask, HasRoom};
+ghost use Rattle.vale_book.specs.Words.{AreOf, HasRoom, IsEnabled, after_ask, indices_of, reply_to, standing};
 
 use crate::book::Book;
 use crate::noting::session_at;

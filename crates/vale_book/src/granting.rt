@@ -7,7 +7,7 @@ ghost use Rattle.vale_entry.specs.Grant.{first_offer};
 ghost use Rattle.vale_entry.specs.Legal.{step, reply_of};
 ghost use Rattle.vale_steps.specs.Offering.{OffersStand, IsLeaseOf};
 ghost use Rattle.vale_steps.specs.Granting.{given_by};
-ghost use Rattle.vale_book.specs.Recorded.{standing, after_ask, HasRoom};
+ghost use Rattle.vale_book.specs.Words.{HasRoom, after_ask, standing};
 
 use crate::book::Book;
 use vale_port::open_port;

@@ -1,9 +1,8 @@
 ghost use Rattle.std.specs.Prelude.{◌≡◌, ◌+◌, ◌<◌, [], ◌∷◌, ◌++◌};
 ghost use Rattle.vale_entry.specs.declared.entry.Ask.TheVariants as asks;
 ghost use Rattle.vale_entry.specs.declared.entry.Reply.TheVariants as replies;
-ghost use Rattle.vale_entry.specs.Legal.{IsEnabled};
-ghost use Rattle.vale_book.specs.Recorded.{standing, after_ask, HasRoom};
 ghost use Rattle.vale_book.specs.Sessions.{users_without};
+ghost use Rattle.vale_book.specs.Words.{HasRoom, IsEnabled, after_ask, standing};
 
 use crate::book::Book;
 use nm_types::SessionId;

@@ -1,12 +1,8 @@
-ghost use Rattle.std.specs.Prelude.{◌≡◌, ◌+◌, length, take};
-ghost use Rattle.std.specs.Prelude.{drop, OnOk, IfOk, IfErr};
-ghost use Rattle.nm_region.specs.Buffers.{indices_of};
+ghost use Rattle.std.specs.Prelude.{◌≡◌, ◌+◌, length, take, drop, OnOk, IfOk, IfErr};
 ghost use Rattle.vale_entry.specs.declared.entry.Ask.TheVariants as asks;
 ghost use Rattle.vale_entry.specs.declared.entry.Reply.TheVariants as replies;
-ghost use Rattle.vale_entry.specs.Legal.{IsEnabled};
-ghost use Rattle.nm_region.specs.Regions.{AreOf};
-ghost use Rattle.vale_book.specs.Recorded.{standing, IsRecordedAs};
 ghost use Rattle.vale_book.specs.OpenAnswers.{IsUnopened};
+ghost use Rattle.vale_book.specs.Words.{AreOf, IsEnabled, IsRecordedAs, indices_of, standing};
 
 use crate::book::Book;
 use nm_types::{Name, OpenFault, PortId, SessionId};

@@ -1,15 +1,10 @@
-ghost use Rattle.std.specs.Prelude.{◌≡◌, ◌<◌, ◌-◌};
-ghost use Rattle.std.specs.Prelude.{All, drop, vec_capacity};
-ghost use Rattle.std.specs.Prelude.{Some, None, OnOk, OnErr, IfOk, IfErr, IfSome, IfNone};
-ghost use Rattle.vale_line.specs.Gots.{buffers_of, IsSingle};
+ghost use Rattle.std.specs.Prelude.{◌≡◌, ◌<◌, ◌-◌, All, drop, vec_capacity, Some, None, OnOk, OnErr, IfOk, IfErr, IfSome, IfNone};
 ghost use Rattle.vale_entry.specs.declared.entry.Ask.TheVariants as asks;
-ghost use Rattle.vale_entry.specs.Legal.{IsEnabled};
 ghost use Rattle.vale_entry.specs.Pipe.{peer_at};
-ghost use Rattle.nm_region.specs.Regions.{AreOf};
-ghost use Rattle.vale_book.specs.Recorded.{standing, after_ask, IsRefusal, HasRoom};
 ghost use Rattle.vale_book.specs.PutFaults.{IfMade, IfNotMade, IsPutRefusal};
 ghost use Rattle.vale_steps.specs.Putting.{items_of, took_of};
 ghost use Rattle.vale_book.specs.Putting.{IsPut};
+ghost use Rattle.vale_book.specs.Words.{AreOf, HasRoom, IsEnabled, IsRefusal, IsSingle, after_ask, buffers_of, standing};
 
 use crate::book::Book;
 use crate::fault::PutFault;

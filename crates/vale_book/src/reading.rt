@@ -1,17 +1,10 @@
-ghost use Rattle.std.specs.Prelude.{◌≡◌, ◌<◌, ◌-◌, length};
-ghost use Rattle.std.specs.Prelude.{All, Some, OnOk, OnErr, IfOk};
-ghost use Rattle.std.specs.Prelude.{IfErr};
+ghost use Rattle.std.specs.Prelude.{◌≡◌, ◌<◌, ◌-◌, length, All, Some, OnOk, OnErr, IfOk, IfErr};
 ghost use Rattle.nm_types.specs.Limits.{most_ring};
-ghost use Rattle.nm_region.specs.Buffers.{indices_of};
-ghost use Rattle.vale_line.specs.Gots.{IsSingle};
 ghost use Rattle.vale_entry.specs.declared.entry.Ask.TheVariants as asks;
 ghost use Rattle.vale_entry.specs.declared.entry.Reply.TheVariants as replies;
-ghost use Rattle.vale_entry.specs.Legal.{IsEnabled, reply_to};
-ghost use Rattle.vale_parts.specs.Batches.{dests_wanted};
-ghost use Rattle.nm_region.specs.Regions.{AreOf};
-ghost use Rattle.vale_book.specs.Recorded.{standing, after_ask, IsRefusal, HasRoom};
 ghost use Rattle.vale_steps.specs.Reading.{read_ask};
 ghost use Rattle.vale_book.specs.Reading.{IsGiven, IsOffered};
+ghost use Rattle.vale_book.specs.Words.{AreOf, HasRoom, IsEnabled, IsRefusal, IsSingle, after_ask, dests_wanted, indices_of, reply_to, standing};
 
 use crate::book::Book;
 use nm_region::Buf;

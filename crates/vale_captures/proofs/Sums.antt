@@ -1,9 +1,10 @@
 -- Sums over the lines of a script, one line after another, and that they are few.
-use Rattle.std.proofs.Common.{ℕ, ◌+◌, ◌≤◌, ◌≡◌, List, [], ◌∷◌, ◌++◌, map, take, drop, flat_map, sum_by, Some, slice_get, sym, ◌∙◌, ap, arith}
+use Rattle.std.proofs.Common.{ℕ, ◌+◌, ◌≤◌, ◌≡◌, List, [], ◌∷◌, ◌++◌, map, take, drop, flat_map, sum_by, Some, slice_get, sym, ◌∙◌, ap, arith, ◌<◌, ◌^◌, length, get_or, refl, subst}
 use Rattle.std.proofs.lemmas.Grind.{flat_map-append}
 use Rattle.std.proofs.lemmas.List.{map-append, append-nil}
 use Rattle.std.proofs.lemmas.List.Sums.{sum_by-append, sum_by-cons}
 use Rattle.vale_captures.proofs.Pages.{taken-next, cut-at}
+use Rattle.std.proofs.lemmas.Option.{slice_get_read}
 
 module _ {X A : Type 0} (g : X → List A) (f : A → ℕ) where
   pub flat-next : (xs : List X) (k : ℕ) (x : X) → slice_get xs k ≡ Some x → sum_by f (flat_map g (take (k + 1) xs)) ≡ sum_by f (flat_map g (take k xs)) + sum_by f (g x)
@@ -17,6 +18,14 @@ module _ {X A : Type 0} (g : X → List A) (f : A → ℕ) where
       let all : sum_by f (flat_map g (take k xs)) + sum_by f (flat_map g (drop k xs)) ≡ sum_by f (flat_map g xs) =
       sym (sum_by-append f (flat_map g (take k xs)) (flat_map g (drop k xs))) ∙ (ap (λ (ys : List A). sum_by f ys) (sym (flat_map-append g (take k xs) (drop k xs))) ∙ ap (λ (ys : List X). sum_by f (flat_map g ys)) (cut-at xs k)) in
       omega (arith, all)
+
+  -- what an element adds to the sum of those before it is within the sum of all
+  pub flat-fits : (xs whole : List X) (k : ℕ) (x : X) → k < length xs → x ≡ get_or xs k x → xs ≡ whole → sum_by f (flat_map g whole) < 2 ^ 64 → sum_by f (flat_map g (take k xs)) + sum_by f (g x) < 2 ^ 64
+  flat-fits xs whole k x below is same few =
+      let next = flat-next xs k x (slice_get_read xs (length xs) k x refl below is) in
+      let within = flat-within xs (k + 1) in
+      let all : sum_by f (flat_map g xs) < 2 ^ 64 = subst (λ (ys : List X). sum_by f (flat_map g ys) < 2 ^ 64) (sym same) few in
+      omega (arith, next, within, all)
 
 module _ {X A : Type 0} (g : X → A) (f : A → ℕ) where
   pub map-next : (xs : List X) (k : ℕ) (x : X) → slice_get xs k ≡ Some x → sum_by f (map g (take (k + 1) xs)) ≡ sum_by f (map g (take k xs)) + f (g x)

@@ -1,7 +1,6 @@
 //! How many frames a script puts, forwards and plays.
-ghost use Rattle.std.specs.Prelude.{ℕ, List, ◌≡◌, ◌≤◌, ◌<◌, ◌^◌, length, sum_by, map, flat_map};
+ghost use Rattle.std.specs.Prelude.{ℕ, List, ◌≡◌, ◌≤◌, ◌<◌, ◌^◌, length, sum_by, map, flat_map, Ok};
 ghost use Rattle.std.specs.Str.Lines.{lines};
-ghost use Rattle.std.specs.Prelude.{Ok};
 ghost use Rattle.std.specs.List.{AllByRecursion};
 ghost use Rattle.vale_script.specs.Grammar.{script_of};
 ghost use Rattle.vale_script.specs.Sound.{IsSoundAct};

@@ -1,7 +1,6 @@
 //! The captures that a script plays.
 ghost use Rattle.std.specs.Prelude.{◌≡◌, ◌≤◌, ℕ, List, map, IfOk, IfErr};
-ghost use Rattle.vale_captures.specs.Inputs.{captured, records_in, IsInput, AreInputs};
-ghost use Rattle.vale_captures.specs.Inputs.{BlamesFile, StopsReading};
+ghost use Rattle.vale_captures.specs.Inputs.{captured, records_in, IsInput, AreInputs, BlamesFile, StopsReading};
 
 use nm_io::{ReadError, Shelf, read_all};
 use pcap_io::{PcapFault, Record, read};

@@ -1,13 +1,11 @@
 //! The captures that a script saves.
-ghost use Rattle.std.specs.Prelude.{◌≡◌, ◌≤◌, ◌++◌, ℕ, List, [], true, length};
-ghost use Rattle.std.specs.Prelude.{OnOk, OnErr, IfOk, IfErr};
+ghost use Rattle.std.specs.Prelude.{◌≡◌, ◌≤◌, ◌++◌, ℕ, List, [], true, length, OnOk, OnErr, IfOk, IfErr};
 ghost use Rattle.std.specs.List.{AllByRecursion};
 ghost use Rattle.nm_io.specs.Counts.{Rose};
 ghost use Rattle.nm_io.specs.Files.{Appends, AppendsPrefix};
 ghost use Rattle.pcap_io.specs.Limits.{most_captured};
 ghost use Rattle.pcap_io.specs.Written.{header_text, record_text, capture_text};
-ghost use Rattle.vale_captures.specs.Outputs.{text_of, all_appended, IsWritable, IsShortRecord, IsFlushed};
-ghost use Rattle.vale_captures.specs.Outputs.{StopsWriting, has_failed};
+ghost use Rattle.vale_captures.specs.Outputs.{text_of, all_appended, IsWritable, IsShortRecord, IsFlushed, StopsWriting, has_failed};
 
 use nm_io::{Failed, Shelf, append_all};
 use pcap_io::{Record, header, record_head};

@@ -50,22 +50,19 @@ first-counted n ns =
     let hit = ap one_if (eq-eqb n n refl) in
     omega (arith, front, hit)
 
+-- what lies before the first of a list that climbs is not in it
+not-first : (x y : ℕ) (xs ys : List ℕ) → x < y → Climbs y ys → count_of x (x ∷ xs) ≡ count_of x (y ∷ ys) → ⊥
+not-first x y xs ys above d both =
+    let none = climb-none x y (y ∷ ys) above (omega arith, d) in
+    let one = first-counted x xs in
+    omega arith
+
 -- two lists that climb and have the same numbers are the same
 same_by : (x y : ℕ) (xs ys : List ℕ) (less more : Bool) → nat_lt x y ≡ less → nat_lt y x ≡ more → Climbs x xs → Climbs y ys
     → ((b : ℕ) → count_of b (x ∷ xs) ≡ count_of b (y ∷ ys)) → (((b : ℕ) → count_of b xs ≡ count_of b ys) → xs ≡ ys)
     → x ∷ xs ≡ y ∷ ys
-same_by x y xs ys true more e f c d same later =
-    let above = ltb-true x y e in
-    let none = climb-none x y (y ∷ ys) above (omega arith, d) in
-    let one = first-counted x xs in
-    let both = same x in
-    absurd (omega arith)
-same_by x y xs ys false true e f c d same later =
-    let above = ltb-true y x f in
-    let none = climb-none y x (x ∷ xs) above (omega arith, c) in
-    let one = first-counted y ys in
-    let both = same y in
-    absurd (omega arith)
+same_by x y xs ys true more e f c d same later = absurd (not-first x y xs ys (ltb-true x y e) d (same x))
+same_by x y xs ys false true e f c d same later = absurd (not-first y x ys xs (ltb-true y x f) c (sym (same y)))
 same_by x y xs ys false false e f c d same later =
     let one = ltb-false x y e in
     let two = ltb-false y x f in

@@ -1,13 +1,11 @@
 ghost use Rattle.std.specs.Prelude.{◌≡◌, ◌≤◌, length, take, None, filter_map};
 ghost use Rattle.std.specs.List.{AllByRecursion};
 ghost use Rattle.nm_region.specs.Buffers.{indices_of};
-ghost use Rattle.vale_entry.specs.World.{open_port};
 ghost use Rattle.vale_entry.specs.Closing.{shutting_port};
-ghost use Rattle.vale_book.specs.Recorded.{standing};
 ghost use Rattle.vale_serve.specs.Joined.{AreUsersOf, IsOwner};
 ghost use Rattle.vale_serve.specs.Users.{offered_by, leased_by};
-ghost use Rattle.vale_drive.specs.Turns.{HasGranted, IsQuiet, IsPortsTurn};
-ghost use Rattle.vale_drive.specs.Turns.{IsGrantTurn, IsDoneTurn, IsLastTurn};
+ghost use Rattle.vale_serve.specs.Words.{open_port, standing};
+ghost use Rattle.vale_drive.specs.Turns.{HasGranted, IsQuiet, IsPortsTurn, IsGrantTurn, IsDoneTurn, IsLastTurn};
 ghost use Rattle.vale_drive.specs.Winding.{IsEnded, IsNextMade, least};
 
 use nm_region::Buf;

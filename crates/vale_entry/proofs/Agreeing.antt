@@ -9,7 +9,7 @@ use Rattle.vale_entry.specs.Laws.{Rise, id_of_port, id_of_held, id_of_session, I
 use Rattle.vale_entry.proofs.Rising.{rise-bounds, rise-slice_get, map-at_key}
 use Rattle.vale_entry.proofs.Each.{each-weaker}
 use Rattle.vale_entry.proofs.Removals.{sum-remove}
-use Rattle.vale_entry.proofs.ListLaws.{sum-set, sum-map_same}
+use Rattle.vale_entry.proofs.ListLaws.{sum-set, sum-map_same, map-set_same}
 
 pub agree-ids :
     (ports : List Port) (helds : List PortBuffers) → PortsAgree ports helds
@@ -181,6 +181,16 @@ pub record SessionPlace (helds : List SessionBuffers) (session : ℕ) : Type 0 w
   pub held : SessionBuffers
   pub here : slice_get helds place ≡ Some held
   pub id_is : held.session ≡ session
+
+-- the sessions have their ids where one has other buffers
+pub users-named :
+    {session : ℕ} (helds : List SessionBuffers) (user : SessionPlace helds session)
+    (new : SessionBuffers) (later : List SessionBuffers)
+    → later ≡ slice_set helds user.place new → new.session ≡ user.held.session
+    → map id_of_session later ≡ map id_of_session helds
+users-named helds user new later are same =
+    ap (map id_of_session) are
+    ∙ map-set_same id_of_session helds user.place user.held new user.here same
 
 session_place_by :
     (x : SessionBuffers) (xs : List SessionBuffers) (session : ℕ) (hit : Bool)

@@ -65,18 +65,8 @@ dropped_by : (given full gone : ℕ) (shares : List Share) → (full ≡ 0) ⊎ 
     → map (fate_by (record { given = given; full = full; gone = gone } ∷ shares))
     (range_with_len given (full + gone))
     ≡ replicate full Full ++ replicate gone Gone
-dropped_by given full gone shares (inl none) =
-    subst
-    (λ (n : ℕ).
-    map (fate_by (record { given = given; full = n; gone = gone } ∷ shares))
-    (range_with_len given (n + gone)) ≡ replicate n Full ++ replicate gone Gone) (sym none)
-    (dropped_gone given gone shares)
-dropped_by given full gone shares (inr none) =
-    subst
-    (λ (n : ℕ).
-    map (fate_by (record { given = given; full = full; gone = n } ∷ shares))
-    (range_with_len given (full + n)) ≡ replicate full Full ++ replicate n Gone) (sym none)
-    (dropped_full given full shares)
+dropped_by given full gone shares (inl none) = rw none (dropped_gone given gone shares)
+dropped_by given full gone shares (inr none) = rw none (dropped_full given full shares)
 
 -- all the frames that a share counts
 shared_fates :

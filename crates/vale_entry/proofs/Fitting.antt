@@ -1,7 +1,7 @@
 -- Each entry of a legal history fits its fields: its numbers are those of entries, of buffers of
 -- the pool, of counters, or such as an ask may bear.
 use Rattle.std.specs.List.{AllByRecursion as Each, list_all}
-use Rattle.std.proofs.Common.{ℕ, ◌+◌, ◌*◌, ◌^◌, ◌<◌, ◌≤◌, ◌≡◌, Bool, true, false, cond, not, ◌&&◌, ◌==◌, nat_lt, List, [], ◌∷◌, ◌++◌, find, length, flat_map, sum_by, Option, Some, None, sym, subst, arith, length-append}
+use Rattle.std.proofs.Common.{ℕ, ◌+◌, ◌*◌, ◌^◌, ◌<◌, ◌≤◌, ◌≡◌, Bool, true, false, cond, not, ◌&&◌, ◌==◌, nat_lt, List, [], ◌∷◌, ◌++◌, find, length, flat_map, sum_by, Option, Some, None, subst, arith, length-append}
 use Rattle.std.proofs.lemmas.Bool.{and_parts, leb-true, ltb-true, eqb-true, not-true}
 use Rattle.std.proofs.lemmas.List.{length-map}
 use Rattle.std.proofs.lemmas.List.Sums.{count_by-le-length, sum_by-cons}
@@ -48,7 +48,7 @@ use Rattle.vale_entry.proofs.Watched.{any-each}
 use Rattle.vale_entry.proofs.Within.{IsPortWithin, found-within, ports-within, wanted-few, monitored-few, length-named, delivered-few, sent-few, kept-few, IsShortOffer, IsUnder, IsPortUnder, AreWithin, history-within}
 use Rattle.vale_entry.proofs.Worlds.{count-world_of}
 use Rattle.vale_entry.proofs.Told.{history-by}
-use Rattle.vale_entry.proofs.HistoryLaws.{Stands, history-stands}
+use Rattle.vale_entry.proofs.HistoryLaws.{Stands, stands-own, pool-small}
 use Rattle.vale_entry.proofs.Follows.{EachKind, Left, entry_made, IsQuiet, Receives, by_sync, by_get, refused_open, resets, finds_no_peer, finds_no_target, finds_watched, counts, follows-by}
 
 -- Numbers of a refusal, of a fault and of a chain.
@@ -455,15 +455,10 @@ legal-fits pool h legal small =
         → Each FitsEntry (h ++ e ∷ [])
     keeps h e legal follows k few =
         let s = standing_of pool h in
-        let stands = history-stands pool h legal in
-        let size : s.world.pool < 4294967296 =
-        subst (λ (n : ℕ). n < 4294967296) (sym stands.pool_is) small in
-        let here : Stands s.world.pool s =
-        subst (λ (n : ℕ). Stands n s) (sym stands.pool_is) stands in
         let more = length-append h (e ∷ []) in
         let count = count-world_of pool h in
         each-append FitsEntry h (e ∷ []) (k (omega (arith, few, more))) (
           follows-by s Fitting e follows
-              (kinds s here size (omega (arith, few, more, count)) (history-within pool h legal small)),
+              (kinds s (stands-own pool h legal) (pool-small pool h legal small) (omega (arith, few, more, count)) (history-within pool h legal small)),
           tt,
         )

@@ -10,24 +10,24 @@ use Rattle.std.proofs.lemmas.Bool.{and_parts, eqb-true, eqb-false, eq-eqb, ne_eq
 use Rattle.vale_entry.specs.declared.entry.Entry.{Entry}
 use Rattle.vale_entry.specs.World.{World, Port, changed_at, changed_if, due_of, buffers_of}
 use Rattle.vale_entry.specs.Closing.{shut, shutting_port, ports_without, sessions_without}
-use Rattle.vale_entry.specs.Holdings.{Holdings, PortBuffers, SessionBuffers, PortAgrees, Agrees, IsParted, all_free, buffers_at_port, contains, are_distinct, holds_all, due_of_session, sessions_less, buffers_without, buffers_of_session, holdings_after_finish, buffers_of_port}
+use Rattle.vale_entry.specs.Holdings.{Holdings, PortBuffers, SessionBuffers, PortAgrees, Agrees, IsParted, all_free, buffers_at_port, contains, are_distinct, holds_all, due_of_session, sessions_less, buffers_without, holdings_after_finish, buffers_of_port}
 use Rattle.vale_entry.specs.Legal.{Standing, after, shut_step, can_finish, finish_step, leave_step}
-use Rattle.vale_entry.specs.Laws.{Rise, id_of_held, id_of_session, IsThere, HasRoom, IsPortOf}
+use Rattle.vale_entry.specs.Laws.{Rise, id_of_held, id_of_session, HasRoom}
 use Rattle.vale_entry.proofs.Follows.{EachKind, after-by}
-use Rattle.vale_entry.proofs.ListLaws.{each-at, map-set_same, sum-set}
+use Rattle.vale_entry.proofs.ListLaws.{each-at, sum-set}
 use Rattle.vale_entry.proofs.Each.{each-weaker, sum-changed_at}
 use Rattle.vale_entry.proofs.Counting.{count_of, count_of-append, count-away, length-away, count-pool}
 use Rattle.vale_entry.proofs.Freeing.{count-all_with_free}
 use Rattle.vale_entry.proofs.Removals.{each-filter, filter-at_key, sum-remove, sum-filter_same, map-filter}
 use Rattle.vale_entry.proofs.Closings.{CanLeave}
-use Rattle.vale_entry.proofs.Agreeing.{agree-ids, agree-at, agree-map, due_for, due-sum, due-remove, due-without, agree-remove, less-place, SessionPlace, session-place, each-set_key}
-use Rattle.vale_entry.proofs.Places.{buffers_of_session-place, buffers_of_port-place, shutting-place}
+use Rattle.vale_entry.proofs.Agreeing.{agree-ids, agree-at, agree-map, due_for, due-remove, due-without, agree-remove, less-place, SessionPlace, each-set_key, users-named}
+use Rattle.vale_entry.proofs.Places.{buffers_of_port-place, shutting-place}
 use Rattle.vale_entry.proofs.Numbered.{Numbered}
 use Rattle.vale_entry.proofs.Roomy.{Roomy}
 use Rattle.vale_entry.proofs.Holding.{whole, size_of_lot, at_port, at_session, times-held, IsPaid, AreHeld, Held, HeldNext, HasFree}
-use Rattle.vale_entry.proofs.HeldGrants.{held_done, held_enter, held_grant, held_opened}
+use Rattle.vale_entry.proofs.HeldGrants.{dues-same, held_done, held_enter, held_grant, held_opened}
 pub use Rattle.vale_entry.proofs.HeldExchanges.{delivered-length, held-once}
-use Rattle.vale_entry.proofs.HeldExchanges.{held_put, held_synced}
+use Rattle.vale_entry.proofs.HeldExchanges.{held_put, held_synced, holder}
 
 -- Shut
 agrees-shut :
@@ -39,19 +39,16 @@ agrees-shut false port held a = a
 held_shut : (s : Standing) (port : Port) → Held s → HeldNext (shut_step s port)
 held_shut s port h =
     let w = s.world in
-    let ports = changed_at port.id shut w.ports in
     record {
       ports_agree =
           agree-map (λ (p : Port). changed_if (p.id == port.id) shut p)
           (λ p held a. agrees-shut (p.id == port.id) p held a) w.ports s.holdings.ports
           h.ports_agree;
       session_ids = h.session_ids;
-      dues = each-weaker (IsPaid w.ports) (IsPaid ports)
-          (λ held here.
-          let old = due-sum w.ports held.session in
-          let new = due-sum ports held.session in
-          let same = sum-changed_at (due_for held.session) port.id shut (λ p. refl) w.ports in
-          omega arith) s.holdings.sessions h.dues;
+      dues =
+          dues-same w.ports (changed_at port.id shut w.ports)
+          (λ session. sum-changed_at (due_for session) port.id shut (λ p. refl) w.ports)
+          s.holdings.sessions h.dues;
       parted = h.parted;
     }
 
@@ -133,9 +130,7 @@ finished-at pool high sessions ports x bufs port i held user held_rise user_rise
     (λ same. eqb-false z.session user.held.session other (sym same ∙ sym user.id_is))))) h.dues own in
     record {
       ports_agree = rw (ports_are, helds_are) (agree-remove ports x.ports i h.ports_agree);
-      session_ids =
-          ap (map id_of_session) users_are ∙ map-set_same id_of_session x.sessions user.place
-          user.held after_user user.here refl ∙ h.session_ids;
+      session_ids = users-named x.sessions user after_user _ users_are refl ∙ h.session_ids;
       dues = rw (ports_are, users_are) dues;
       parted = λ b.
           let before = h.parted b in
@@ -161,24 +156,11 @@ held_finished s bufs id port e can n h =
     let x = s.holdings in
     let p = shutting-place w.ports w.entry_count id port n.ports_rise e in
     let a = agree-at w.ports x.ports p.place port h.ports_agree p.here in
-    let rise : Rise 0 (map id_of_session x.sessions) w.entry_count =
-    rw h.session_ids n.sessions_rise in
-    let owned : IsThere w.sessions port.session =
-    each-at (IsPortOf w.sessions) w.ports p.place port n.ports_owned p.here in
-    let among : IsThere (map id_of_session x.sessions) port.session = rw h.session_ids owned in
-    let user = session-place x.sessions port.session among in
     let parts = and_parts (length bufs == due_of port) (holds_all x port.session bufs) can in
-    let holds =
-    and_parts (list_all (λ b. contains b (buffers_of_session x.sessions port.session)) bufs)
-    (are_distinct bufs) parts.1 in
-    let own : buffers_of_session x.sessions port.session ≡ user.held.buffers =
-    subst (λ (k : ℕ). buffers_of_session x.sessions k ≡ user.held.buffers) user.id_is
-    (buffers_of_session-place x.sessions w.entry_count user.place user.held rise user.here) in
-    let within : list_all (λ b. contains b user.held.buffers) bufs ≡ true =
-    subst (λ (bs : List ℕ). list_all (λ b. contains b bs) bufs ≡ true) own holds.0 in
-    finished-at w.pool w.entry_count w.sessions w.ports x bufs port p.place a.held user
-    (rw (agree-ids w.ports x.ports h.ports_agree) n.ports_rise) rise
-    p.here p.goes a.here a.agrees.id (eqb-true (length bufs) (due_of port) parts.0) within holds.1 h
+    let holds = holder s p.place port bufs p.here parts.1 n h in
+    finished-at w.pool w.entry_count w.sessions w.ports x bufs port p.place a.held holds.user
+    (rw (agree-ids w.ports x.ports h.ports_agree) n.ports_rise) holds.rise p.here p.goes a.here
+    a.agrees.id (eqb-true (length bufs) (due_of port) parts.0) holds.within holds.distinct h
 
 -- Leave
 -- a session that is due nothing holds nothing

@@ -8,15 +8,15 @@ use Rattle.std.proofs.lemmas.Bool.{and_parts, leb-true, eqb-false, eq-eqb, ne_eq
 use Rattle.nm_types.specs.Frames.{slots_of, size_of_frames}
 use Rattle.vale_entry.specs.World.{Port, open_port, changed_at, space_of, due_of}
 use Rattle.vale_entry.specs.Delivery.{is_done_lot, ready_lots, delivered_frames, frames_of_lot, port_after_sync}
-use Rattle.vale_entry.specs.Holdings.{Holdings, PortBuffers, SessionBuffers, PortAgrees, is_buffer_index, contains, are_distinct, due_of_session, sessions_given, sessions_less, buffers_without, buffers_of_session, delivered_buffers, changed_buffers, with_returned, holdings_after_sync, with_put_buffers, first_idle, holdings_after_put}
+use Rattle.vale_entry.specs.Holdings.{holds_all, Holdings, PortBuffers, SessionBuffers, PortAgrees, is_buffer_index, contains, are_distinct, due_of_session, sessions_given, sessions_less, buffers_without, buffers_of_session, delivered_buffers, changed_buffers, with_returned, holdings_after_sync, with_put_buffers, first_idle, holdings_after_put}
 use Rattle.vale_entry.specs.Legal.{Standing, sync_step, put_step}
 use Rattle.vale_entry.specs.Laws.{Rise, id_of_port, id_of_held, id_of_session, IsThere, HasRoom, IsPortOf}
 use Rattle.vale_entry.specs.Pipe.{peer_of, index_of_item, indices_of, frames_of_items, port_after_put}
 use Rattle.vale_entry.specs.declared.entry.Item.{Item}
 use Rattle.vale_entry.proofs.Follows.{CanReceive, CanKeep}
-use Rattle.vale_entry.proofs.ListLaws.{each-at, map-set_same, sum-at, sum-set, sum-flat_map}
+use Rattle.vale_entry.proofs.ListLaws.{each-at, sum-at, sum-set, sum-flat_map}
 use Rattle.vale_entry.proofs.Counting.{count_of, count_of-append, count-away, length-away}
-use Rattle.vale_entry.proofs.Agreeing.{agree-ids, agree-at, agree-set, due_for, due-set, SessionPlace, session-place, each-set_key, moved-place}
+use Rattle.vale_entry.proofs.Agreeing.{agree-ids, agree-at, agree-set, due_for, due-set, SessionPlace, users-named, session-place, each-set_key, moved-place}
 use Rattle.vale_entry.proofs.Places.{open-place, changed_at-place, changed_buffers-place, buffers_of_session-place, delivered_buffers-place, PeerPlace, peer-place, first_idle-place}
 use Rattle.vale_entry.proofs.Numbered.{Numbered}
 use Rattle.vale_entry.proofs.Roomy.{Roomy, with_lot-size, delivered-size, items-size, taken-few}
@@ -187,9 +187,7 @@ synced-at pool high sessions ports x back port i held user port_rise held_rise u
           rw (ports_are, helds_are)
           (agree-set ports x.ports i (change port) (move held) h.ports_agree
           (agrees-synced back port held few room a));
-      session_ids =
-          ap (map id_of_session) users_are ∙ map-set_same id_of_session x.sessions user.place
-          user.held after_user user.here refl ∙ h.session_ids;
+      session_ids = users-named x.sessions user after_user _ users_are refl ∙ h.session_ids;
       dues = rw (ports_are, users_are) dues;
       parted = λ b.
           let before = h.parted b in
@@ -204,6 +202,39 @@ synced-at pool high sessions ports x back port i held user port_rise held_rise u
           omega arith;
     }
 
+-- a port's session holds buffers at a place, and what it brings is among them
+pub record Holder (high session : ℕ) (x : Holdings) (bufs : List ℕ) : Type 0 where
+  pub rise : Rise 0 (map id_of_session x.sessions) high
+  pub user : SessionPlace x.sessions session
+  pub within : list_all (λ b. contains b user.held.buffers) bufs ≡ true
+  pub distinct : are_distinct bufs ≡ true
+
+pub holder :
+    (s : Standing) (i : ℕ) (port : Port) (bufs : List ℕ) → slice_get s.world.ports i ≡ Some port
+    → holds_all s.holdings port.session bufs ≡ true → Numbered s → Held s
+    → Holder s.world.entry_count port.session s.holdings bufs
+holder s i port bufs here all n h =
+    let w = s.world in
+    let x = s.holdings in
+    let rise : Rise 0 (map id_of_session x.sessions) w.entry_count =
+    rw h.session_ids n.sessions_rise in
+    let owned : IsThere w.sessions port.session =
+    each-at (IsPortOf w.sessions) w.ports i port n.ports_owned here in
+    let among : IsThere (map id_of_session x.sessions) port.session = rw h.session_ids owned in
+    let user = session-place x.sessions port.session among in
+    let holds =
+    and_parts (list_all (λ b. contains b (buffers_of_session x.sessions port.session)) bufs)
+    (are_distinct bufs) all in
+    let own : buffers_of_session x.sessions port.session ≡ user.held.buffers =
+    subst (λ (k : ℕ). buffers_of_session x.sessions k ≡ user.held.buffers) user.id_is
+    (buffers_of_session-place x.sessions w.entry_count user.place user.held rise user.here) in
+    record {
+      rise = rise;
+      user = user;
+      within = subst (λ (bs : List ℕ). list_all (λ b. contains b bs) bufs ≡ true) own holds.0;
+      distinct = holds.1;
+    }
+
 pub held_synced :
     (s : Standing) (back : List ℕ) (id : ℕ) (port : Port) → open_port s.world.ports id ≡ Some port
     → CanReceive s back port
@@ -214,24 +245,11 @@ held_synced s back id port e can n roomy h =
     let x = s.holdings in
     let p = open-place w.ports w.entry_count id port n.ports_rise e in
     let a = agree-at w.ports x.ports p.place port h.ports_agree p.here in
-    let rise : Rise 0 (map id_of_session x.sessions) w.entry_count =
-    rw h.session_ids n.sessions_rise in
-    let owned : IsThere w.sessions port.session =
-    each-at (IsPortOf w.sessions) w.ports p.place port n.ports_owned p.here in
-    let among : IsThere (map id_of_session x.sessions) port.session = rw h.session_ids owned in
-    let user = session-place x.sessions port.session among in
-    let holds =
-    and_parts (list_all (λ b. contains b (buffers_of_session x.sessions port.session)) back)
-    (are_distinct back) can.held in
-    let own : buffers_of_session x.sessions port.session ≡ user.held.buffers =
-    subst (λ (k : ℕ). buffers_of_session x.sessions k ≡ user.held.buffers) user.id_is
-    (buffers_of_session-place x.sessions w.entry_count user.place user.held rise user.here) in
-    let within : list_all (λ b. contains b user.held.buffers) back ≡ true =
-    subst (λ (bs : List ℕ). list_all (λ b. contains b bs) back ≡ true) own holds.0 in
-    synced-at w.pool w.entry_count w.sessions w.ports x back port p.place a.held user n.ports_rise
-    (rw (agree-ids w.ports x.ports h.ports_agree) n.ports_rise) rise p.here a.here a.agrees
-    (each-at HasRoom w.ports p.place port roomy.roomy p.here)
-    (leb-true (length back) port.out can.few) within holds.1 h
+    let holds = holder s p.place port back p.here can.held n h in
+    synced-at w.pool w.entry_count w.sessions w.ports x back port p.place a.held holds.user
+    n.ports_rise (rw (agree-ids w.ports x.ports h.ports_agree) n.ports_rise) holds.rise p.here
+    a.here a.agrees (each-at HasRoom w.ports p.place port roomy.roomy p.here)
+    (leb-true (length back) port.out can.few) holds.within holds.distinct h
 
 -- Put
 agrees-put :
@@ -350,9 +368,7 @@ put-at pool high number sessions ports x items session peer p held user held_ris
           rw (ports_are, helds_are)
           (agree-set ports x.ports p.place (change peer) (move held) h.ports_agree
           (agrees-put number session items peer held few room a));
-      session_ids =
-          ap (map id_of_session) users_are ∙ map-set_same id_of_session x.sessions user.place
-          user.held after_user user.here refl ∙ h.session_ids;
+      session_ids = users-named x.sessions user after_user _ users_are refl ∙ h.session_ids;
       dues = rw (ports_are, users_are) dues;
       parted = λ b.
           let before = h.parted b in
@@ -379,22 +395,8 @@ held_put s id offered items port peer e can found n roomy h =
     let own_place = open-place w.ports w.entry_count id port n.ports_rise e in
     let p = peer-place w.ports w.entry_count port peer n.ports_rise found in
     let a = agree-at w.ports x.ports p.place peer h.ports_agree p.here in
-    let rise : Rise 0 (map id_of_session x.sessions) w.entry_count =
-    rw h.session_ids n.sessions_rise in
-    let owned : IsThere w.sessions port.session =
-    each-at (IsPortOf w.sessions) w.ports own_place.place port n.ports_owned own_place.here in
-    let among : IsThere (map id_of_session x.sessions) port.session = rw h.session_ids owned in
-    let user = session-place x.sessions port.session among in
-    let taken = indices_of items in
-    let holds =
-    and_parts (list_all (λ b. contains b (buffers_of_session x.sessions port.session)) taken)
-    (are_distinct taken) can.held in
-    let own : buffers_of_session x.sessions port.session ≡ user.held.buffers =
-    subst (λ (k : ℕ). buffers_of_session x.sessions k ≡ user.held.buffers) user.id_is
-    (buffers_of_session-place x.sessions w.entry_count user.place user.held rise user.here) in
-    let within : list_all (λ b. contains b user.held.buffers) taken ≡ true =
-    subst (λ (bs : List ℕ). list_all (λ b. contains b bs) taken ≡ true) own holds.0 in
+    let holds = holder s own_place.place port (indices_of items) own_place.here can.held n h in
     put-at w.pool w.entry_count (w.entry_count + 1) w.sessions w.ports x items port.session peer p
-    a.held user (rw (agree-ids w.ports x.ports h.ports_agree) n.ports_rise) rise a.here a.agrees
-    (each-at HasRoom w.ports p.place peer roomy.roomy p.here)
-    (taken-few s offered items port peer can found) within holds.1 h
+    a.held holds.user (rw (agree-ids w.ports x.ports h.ports_agree) n.ports_rise) holds.rise a.here
+    a.agrees (each-at HasRoom w.ports p.place peer roomy.roomy p.here)
+    (taken-few s offered items port peer can found) holds.within holds.distinct h

@@ -316,22 +316,31 @@ agrees-done number port held a =
     record
     { id = a.id; idle = omega arith; lots = a.lots ∙ sym (sizes-after_done number port.line) }
 
+-- sessions are paid where ports change that leave what each session is due
+pub dues-same :
+    (ports later : List Port)
+    → ((session : ℕ) → sum_by (due_for session) later ≡ sum_by (due_for session) ports)
+    → (users : List SessionBuffers) → Each (IsPaid ports) users → Each (IsPaid later) users
+dues-same ports later same users paid =
+    each-weaker (IsPaid ports) (IsPaid later)
+    (λ held here.
+    let old = due-sum ports held.session in
+    let new = due-sum later held.session in
+    let still = same held.session in
+    omega arith) users paid
+
 pub held_done : (s : Standing) (number : ℕ) (lot : Lot) → Held s → HeldNext (done_step s number lot)
 held_done s number lot h =
     let w = s.world in
-    let ports = map (port_after_done number) w.ports in
     record {
       ports_agree =
           agree-map (port_after_done number) (agrees-done number) w.ports s.holdings.ports
           h.ports_agree;
       session_ids = h.session_ids;
-      dues = each-weaker (IsPaid w.ports) (IsPaid ports)
-          (λ held here.
-          let old = due-sum w.ports held.session in
-          let new = due-sum ports held.session in
-          let same =
-          sum-map_same (due_for held.session) (due_for held.session) (port_after_done number)
-          (λ port. refl) w.ports in
-          omega arith) s.holdings.sessions h.dues;
+      dues =
+          dues-same w.ports (map (port_after_done number) w.ports)
+          (λ session.
+          sum-map_same (due_for session) (due_for session) (port_after_done number) (λ port. refl)
+          w.ports) s.holdings.sessions h.dues;
       parted = h.parted;
     }

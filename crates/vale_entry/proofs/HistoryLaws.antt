@@ -82,6 +82,20 @@ pub history-stands : (pool : ℕ) (h : List Entry) → IsLegal pool h → Stands
 history-stands pool h legal =
     legal-by (Stands pool) (stands_entry pool) pool h legal (stands_fresh pool)
 
+-- what stands after a legal history, said of the pool that stands there
+pub stands-own :
+    (pool : ℕ) (h : List Entry) → IsLegal pool h
+    → Stands (standing_of pool h).world.pool (standing_of pool h)
+stands-own pool h legal =
+    let stands = history-stands pool h legal in
+    subst (λ (n : ℕ). Stands n (standing_of pool h)) (sym stands.pool_is) stands
+
+pub pool-small :
+    (pool : ℕ) (h : List Entry) → IsLegal pool h → pool < 4294967296
+    → (standing_of pool h).world.pool < 4294967296
+pool-small pool h legal small =
+    subst (λ (n : ℕ). n < 4294967296) (sym (history-stands pool h legal).pool_is) small
+
 -- The laws, in the words of their statements.
 pub numbers-rise : NumbersRise
 numbers-rise pool h =

@@ -1,7 +1,7 @@
 -- What a Put makes is what its entry records: the items that were taken are the first of those
 -- offered.
 use Rattle.std.proofs.Common.{ℕ, zero, suc, ◌≡◌, Bool, true, false, cond, not, min, ◌&&◌, ◌||◌, ◌==◌, nat_le, List, [], ◌∷◌, length, take, Option, Some, None, refl, sym, ◌∙◌, ap, arith}
-use Rattle.std.specs.List.{list_all, list_any}
+use Rattle.std.specs.List.{list_all}
 use Rattle.std.proofs.lemmas.Bool.{and_parts, eq-eqb, not-true}
 use Rattle.std.proofs.lemmas.List.{length-take-le}
 use Rattle.nm_types.specs.Names.{is_pipe_name}
@@ -25,13 +25,11 @@ none_by : (a b c : Bool) → (a || b) ≡ false → (b ≡ false → c ≡ false
 none_by true b c e later = absurd cc
 none_by false b c e later = later e
 
-none-take :
-    {X : Type 0} (test : X → Bool) (n : ℕ) (xs : List X) → list_any test xs ≡ false
-    → list_any test (take n xs) ≡ false
-none-take test zero xs e = refl
-none-take test (suc n) [] e = refl
-none-take test (suc n) (x ∷ xs) e =
-    none_by (test x) (list_any test xs) (list_any test (take n xs)) e (none-take test n xs)
+none-take : (b n : ℕ) (bs : List ℕ) → contains b bs ≡ false → contains b (take n bs) ≡ false
+none-take b zero bs e = refl
+none-take b (suc n) [] e = refl
+none-take b (suc n) (c ∷ bs) e =
+    none_by (c == b) (contains b bs) (contains b (take n bs)) e (none-take b n bs)
 
 indices-take : (n : ℕ) (items : List Item) → indices_of (take n items) ≡ take n (indices_of items)
 indices-take zero items = refl
@@ -44,7 +42,7 @@ distinct-take (suc n) [] e = refl
 distinct-take (suc n) (b ∷ bs) e =
     let parts = and_parts (not (contains b bs)) (are_distinct bs) e in
     let other : contains b (take n bs) ≡ false =
-    none-take (λ c. c == b) n bs (not-true (contains b bs) parts.0) in
+    none-take b n bs (not-true (contains b bs) parts.0) in
     rw other (distinct-take n bs parts.1)
 
 length-taken :

@@ -56,3 +56,4 @@ pub mod HistoryPlaces
 pub mod ItemBytes
 pub mod Printable
 pub mod DeliveryLaws
+pub mod FrameBytes

@@ -1,7 +1,7 @@
 -- Laws of lists: the place of an element, sums after a change at a place, a list cut into two
 -- parts.
 use Rattle.std.proofs.Common.{ℕ, zero, suc, ◌+◌, ◌≤◌, ◌≡◌, Bool, true, false, cond, List, [], ◌∷◌, ◌++◌, map, length, take, drop, find, sum_by, flat_map, Some, refl, ap, subst, arith, slice_get, slice_set}
-use Rattle.std.specs.List.{AllByRecursion as Each}
+use Rattle.std.specs.List.{AllByRecursion as Each, remove}
 use Rattle.std.proofs.lemmas.List.Sums.{sum_by-cons, sum_by-append}
 
 -- an element that a search finds, with its place
@@ -98,16 +98,22 @@ map-set_same f (z ∷ zs) zero x y e same =
     cc
 map-set_same f (z ∷ zs) (suc i) x y e same = let rest = map-set_same f zs i x y e same in cc
 
-pub sum-at :
+pub sum-remove :
     {X : Type 0} (f : X → ℕ) (xs : List X) (i : ℕ) (x : X) → slice_get xs i ≡ Some x
-    → f x ≤ sum_by f xs
-sum-at f [] i x e = absurd cc
-sum-at f (y ∷ ys) zero x e =
+    → sum_by f (remove xs i) + f x ≡ sum_by f xs
+sum-remove f [] i x e = absurd cc
+sum-remove f (y ∷ ys) zero x e =
     let same : y ≡ x = cc in
     let value : f y ≡ f x = ap f same in
     let sum = sum_by-cons f y ys in
     omega arith
-sum-at f (y ∷ ys) (suc i) x e =
-    let rest = sum-at f ys i x e in
-    let sum = sum_by-cons f y ys in
+sum-remove f (y ∷ ys) (suc i) x e =
+    let rest = sum-remove f ys i x e in
+    let old = sum_by-cons f y ys in
+    let new = sum_by-cons f y (remove ys i) in
     omega arith
+
+pub sum-at :
+    {X : Type 0} (f : X → ℕ) (xs : List X) (i : ℕ) (x : X) → slice_get xs i ≡ Some x
+    → f x ≤ sum_by f xs
+sum-at f xs i x e = let rest = sum-remove f xs i x e in omega arith

@@ -11,7 +11,7 @@ use Rattle.vale_entry.specs.Delivery.{done_if, lot_after_done, port_after_done, 
 use Rattle.vale_entry.specs.Closing.{shut}
 use Rattle.vale_entry.specs.Pipe.{frames_of_items, port_after_put}
 use Rattle.vale_entry.specs.Legal.{Standing, standing_of, world_of, grant_step, put_step, IsLegal, Follows}
-use Rattle.vale_entry.specs.Laws.{IsOfEntry, LotsAreOfEntries}
+use Rattle.vale_entry.specs.Laws.{IsOfEntry, LotsAreOfEntries, brings_lot, is_grant}
 use Rattle.vale_entry.proofs.Each.{each-weaker, each-append, each-map, each-drop, each-changed_at}
 use Rattle.vale_entry.proofs.Removals.{each-filter}
 use Rattle.vale_entry.proofs.Worlds.{standing-push, count-world_of}
@@ -92,6 +92,20 @@ module _ (s : Standing) (h : List Entry) (size : s.world.entry_count ≡ length 
       let place : s.world.entry_count + 1 - 1 ≡ length h = omega (arith, size) in
       ap (slice_get (h ++ e ∷ [])) place ∙ get-last h e
 
+  of-now :
+      (e : Entry) (session : ℕ) (done : Bool) (frames : List Frame) → e.session.0 ≡ session
+      → brings_lot e.ask ≡ true → (done ≡ false → is_grant e.ask ≡ true)
+      → IsOfEntry (h ++ e ∷ [])
+      (record { number = s.world.entry_count + 1; session = session; frames = frames; is_done = done })
+  of-now e session done frames mine brings leased = record {
+    entry = e;
+    counted = omega arith;
+    here = here-is e;
+    session = mine;
+    brings = brings;
+    leased = leased;
+  }
+
   kinds : EachKind s (Left s (Brings h))
   kinds = record {
     enters = λ user fits. of-later h _ ports k;
@@ -108,15 +122,7 @@ module _ (s : Standing) (h : List Entry) (size : s.world.entry_count ≡ length 
         (λ p all.
         with-lot (h ++ e ∷ []) (s.world.entry_count + 1) offer.session false
         (granted_frames s.world offer) p.line
-        (λ more.
-        record {
-          entry = e;
-          counted = omega arith;
-          here = here-is e;
-          session = refl;
-          brings = refl;
-          leased = λ undone. refl;
-        }) all);
+        (λ more. of-now e offer.session false more refl refl (λ undone. refl)) all);
     completes = λ lease lot is.
         each-map (λ (p : Port). Each (IsOfEntry (h ++ _ ∷ [])) p.line)
         (λ (p : Port). Each (IsOfEntry (h ++ _ ∷ [])) p.line) (port_after_done lease.0)
@@ -134,15 +140,7 @@ module _ (s : Standing) (h : List Entry) (size : s.world.entry_count ≡ length 
         (λ p all.
         with-lot (h ++ e ∷ []) (s.world.entry_count + 1) port.session true (frames_of_items items)
         p.line
-        (λ more.
-        record {
-          entry = e;
-          counted = omega arith;
-          here = here-is e;
-          session = refl;
-          brings = refl;
-          leased = λ undone. absurd cc;
-        }) all);
+        (λ more. of-now e port.session true more refl refl (λ undone. absurd cc)) all);
     watches = λ at target sides port found is can there none. of-later h _ ports k;
     shuts = λ at port is settled. changed _ port.id shut (λ p all. all);
     finishes = λ at bufs chain port fits is can out.

@@ -1,12 +1,12 @@
 -- After every history sessions, ports, lots and offers bear the numbers of the entries that made
 -- them.
-use Rattle.std.proofs.Common.{ℕ, ◌+◌, ◌<◌, ◌≤◌, ◌≡◌, Bool, true, false, not, ◌==◌, List, [], ◌∷◌, ◌++◌, map, length, Some, None, refl, sym, ap, ◌∙◌, ◌&&◌, arith, le_refl}
+use Rattle.std.proofs.Common.{ℕ, ◌+◌, ◌<◌, ◌≤◌, ◌≡◌, Bool, true, false, not, ◌==◌, List, [], ◌∷◌, ◌++◌, map, length, Some, None, refl, sym, ap, ◌∙◌, ◌&&◌, arith, le_refl, subst, rules}
 use Rattle.std.specs.List.{AllByRecursion as Each}
 use Rattle.std.proofs.lemmas.List.{map-append}
 use Rattle.std.proofs.lemmas.Bool.{eqb-false}
 use Rattle.nm_types.specs.Frames.{Frame}
 use Rattle.vale_entry.specs.declared.entry.Entry.{Entry}
-use Rattle.vale_entry.specs.World.{World, Port, Lot, Offer, is_session, open_port, is_open_at, is_owed_by, has_lot_owed_by}
+use Rattle.vale_entry.specs.World.{changed_at, World, Port, Lot, Offer, is_session, open_port, is_open_at, is_owed_by, has_lot_owed_by}
 use Rattle.vale_entry.specs.Opening.{opened_port}
 use Rattle.vale_entry.specs.Offers.{offers_of, is_offer_of}
 use Rattle.vale_entry.specs.Grant.{with_lot, port_after_grant, granted_frames, first_offer}
@@ -172,6 +172,31 @@ leases-with_lot ss count session done [] line owned all = all
 leases-with_lot ss count session done (frame ∷ frames) line owned all =
     each-append (IsLotOf ss) line _ all (owned, tt)
 
+-- a change of one port that keeps its id, its session, its lots and whose they are
+changed-numbered :
+    (count : ℕ) (ss : List ℕ) (ps : List Port) (os : List Offer) (id : ℕ) (change : Port → Port)
+    → ((p : Port) → id_of_port (change p) ≡ id_of_port p)
+    → ((p : Port) → (change p).session ≡ p.session)
+    → ((p : Port) → HasLotsUpTo count p → HasLotsUpTo count (change p))
+    → ((p : Port) → HasLeasesOf ss p → HasLeasesOf ss (change p)) → AreNumbered count ss ps os
+    → AreNumbered count ss (changed_at id change ps) os
+changed-numbered count ss ps os id change ids sessions lots leases m = record {
+  sessions_rise = m.sessions_rise;
+  ports_rise = rw (map-changed_at id_of_port id change ids ps) m.ports_rise;
+  ports_owned =
+      each-changed_at (IsPortOf ss) (IsPortOf ss) id change (λ p here. here)
+      (λ p here. subst (λ (n : ℕ). IsThere ss n) (sym (sessions p)) here) ps m.ports_owned;
+  lots_within =
+      each-changed_at (HasLotsUpTo count) (HasLotsUpTo count) id change (λ p here. here) lots ps
+      m.lots_within;
+  offers_within = m.offers_within;
+  offers_to = m.offers_to;
+  offers_owned = m.offers_owned;
+  leases_owned =
+      each-changed_at (HasLeasesOf ss) (HasLeasesOf ss) id change (λ p here. here) leases ps
+      m.leases_owned;
+}
+
 numbered_grant :
     (s : Standing) (origin : ℕ) (offer : Offer) → first_offer s.world origin ≡ Some offer
     → Numbered s
@@ -179,34 +204,25 @@ numbered_grant :
 numbered_grant s origin offer first n =
     let w = s.world in
     let m = numbered-later w.entry_count w.sessions w.ports w.offers n in
-    let change = port_after_grant (w.entry_count + 1) offer.session (granted_frames w offer) in
+    let frames = granted_frames w offer in
     let owned : IsThere w.sessions offer.session =
     each-find (IsOfferOf w.sessions) (is_offer_of origin) w.offers offer n.offers_owned first in
-    record {
+    changed-numbered (w.entry_count + 1) w.sessions w.ports _ offer.to
+    (port_after_grant (w.entry_count + 1) offer.session frames) (λ p. refl) (λ p. refl)
+    (λ p here. lots-with_lot (w.entry_count + 1) offer.session false frames p.line here)
+    (λ p here.
+    leases-with_lot w.sessions (w.entry_count + 1) offer.session false frames p.line
+    (λ undone. owned) here) (record {
       sessions_rise = m.sessions_rise;
-      ports_rise =
-          rw (map-changed_at id_of_port offer.to change (λ port. refl) w.ports) m.ports_rise;
-      ports_owned =
-          each-changed_at (IsPortOf w.sessions) (IsPortOf w.sessions) offer.to change
-          (λ port here. here) (λ port here. here) w.ports m.ports_owned;
-      lots_within =
-          each-changed_at (HasLotsUpTo (w.entry_count + 1)) (HasLotsUpTo (w.entry_count + 1))
-          offer.to change (λ port here. here)
-          (λ port here.
-          lots-with_lot (w.entry_count + 1) offer.session false (granted_frames w offer) port.line
-          here) w.ports m.lots_within;
+      ports_rise = m.ports_rise;
+      ports_owned = m.ports_owned;
+      lots_within = m.lots_within;
       offers_within =
           each-without_first (IsFrom (w.entry_count + 1)) offer.origin w.offers m.offers_within;
       offers_to = each-without_first (IsTo (w.entry_count + 1)) offer.origin w.offers m.offers_to;
       offers_owned = each-without_first (IsOfferOf w.sessions) offer.origin w.offers m.offers_owned;
-      leases_owned =
-          each-changed_at (HasLeasesOf w.sessions) (HasLeasesOf w.sessions) offer.to change
-          (λ port here. here)
-          (λ port here.
-          leases-with_lot w.sessions (w.entry_count + 1) offer.session false
-          (granted_frames w offer) port.line
-          (λ undone. owned) here) w.ports m.leases_owned;
-    }
+      leases_owned = m.leases_owned;
+    })
 
 done-keeps_number :
     (count : ℕ) (b : Bool) (lot : Lot) → lot.number ≤ count → (done_if b lot).number ≤ count
@@ -260,28 +276,11 @@ numbered_sync s back id port e n =
     let w = s.world in
     let owned : IsThere w.sessions port.session =
     each-find (IsPortOf w.sessions) (is_open_at id) w.ports port n.ports_owned e in
-    let m = offers-later w port.session _ n owned in
-    let change = port_after_sync (length back) in
-    record {
-      sessions_rise = m.sessions_rise;
-      ports_rise = rw (map-changed_at id_of_port port.id change (λ p. refl) w.ports) m.ports_rise;
-      ports_owned =
-          each-changed_at (IsPortOf w.sessions) (IsPortOf w.sessions) port.id change
-          (λ p here. here) (λ p here. here) w.ports m.ports_owned;
-      lots_within =
-          each-changed_at (HasLotsUpTo (w.entry_count + 1)) (HasLotsUpTo (w.entry_count + 1))
-          port.id change (λ p here. here)
-          (λ p here. each-drop (IsGrantedBy (w.entry_count + 1)) (length (ready_lots p)) p.line here)
-          w.ports m.lots_within;
-      offers_within = m.offers_within;
-      offers_to = m.offers_to;
-      offers_owned = m.offers_owned;
-      leases_owned =
-          each-changed_at (HasLeasesOf w.sessions) (HasLeasesOf w.sessions) port.id change
-          (λ p here. here)
-          (λ p here. each-drop (IsLotOf w.sessions) (length (ready_lots p)) p.line here) w.ports
-          m.leases_owned;
-    }
+    changed-numbered (w.entry_count + 1) w.sessions w.ports _ port.id
+    (port_after_sync (length back)) (λ p. refl) (λ p. refl)
+    (λ p here. each-drop (IsGrantedBy (w.entry_count + 1)) (length (ready_lots p)) p.line here)
+    (λ p here. each-drop (IsLotOf w.sessions) (length (ready_lots p)) p.line here)
+    (offers-later w port.session _ n owned)
 
 numbered_put :
     (s : Standing) (id : ℕ) (items : List Item) (port peer : Port)
@@ -291,53 +290,20 @@ numbered_put s id items port peer e n =
     let w = s.world in
     let owned : IsThere w.sessions port.session =
     each-find (IsPortOf w.sessions) (is_open_at id) w.ports port n.ports_owned e in
-    let m = offers-later w port.session _ n owned in
     let frames = frames_of_items items in
-    let change = port_after_put (w.entry_count + 1) port.session frames in
-    record {
-      sessions_rise = m.sessions_rise;
-      ports_rise = rw (map-changed_at id_of_port peer.id change (λ p. refl) w.ports) m.ports_rise;
-      ports_owned =
-          each-changed_at (IsPortOf w.sessions) (IsPortOf w.sessions) peer.id change
-          (λ p here. here) (λ p here. here) w.ports m.ports_owned;
-      lots_within =
-          each-changed_at (HasLotsUpTo (w.entry_count + 1)) (HasLotsUpTo (w.entry_count + 1))
-          peer.id change (λ p here. here)
-          (λ p here. lots-with_lot (w.entry_count + 1) port.session true frames p.line here) w.ports
-          m.lots_within;
-      offers_within = m.offers_within;
-      offers_to = m.offers_to;
-      offers_owned = m.offers_owned;
-      leases_owned =
-          each-changed_at (HasLeasesOf w.sessions) (HasLeasesOf w.sessions) peer.id change
-          (λ p here. here)
-          (λ p here.
-          leases-with_lot w.sessions (w.entry_count + 1) port.session true frames p.line
-          (λ undone. absurd cc) here)
-          w.ports m.leases_owned;
-    }
+    changed-numbered (w.entry_count + 1) w.sessions w.ports _ peer.id
+    (port_after_put (w.entry_count + 1) port.session frames) (λ p. refl) (λ p. refl)
+    (λ p here. lots-with_lot (w.entry_count + 1) port.session true frames p.line here)
+    (λ p here.
+    leases-with_lot w.sessions (w.entry_count + 1) port.session true frames p.line
+    (λ undone. absurd cc) here) (offers-later w port.session _ n owned)
 
 numbered_shut : (s : Standing) (port : Port) → Numbered s → NumberedNext s (shut_step s port)
 numbered_shut s port n =
     let w = s.world in
-    let m = numbered-later w.entry_count w.sessions w.ports w.offers n in
-    record {
-      sessions_rise = m.sessions_rise;
-      ports_rise = rw (map-changed_at id_of_port port.id shut (λ p. refl) w.ports) m.ports_rise;
-      ports_owned =
-          each-changed_at (IsPortOf w.sessions) (IsPortOf w.sessions) port.id shut (λ p here. here)
-          (λ p here. here) w.ports m.ports_owned;
-      lots_within =
-          each-changed_at (HasLotsUpTo (w.entry_count + 1)) (HasLotsUpTo (w.entry_count + 1))
-          port.id shut (λ p here. here) (λ p here. here) w.ports m.lots_within;
-      offers_within = m.offers_within;
-      offers_to = m.offers_to;
-      offers_owned = m.offers_owned;
-      leases_owned =
-          each-changed_at (HasLeasesOf w.sessions) (HasLeasesOf w.sessions) port.id shut
-          (λ p here. here)
-          (λ p here. here) w.ports m.leases_owned;
-    }
+    changed-numbered (w.entry_count + 1) w.sessions w.ports w.offers port.id shut (λ p. refl)
+    (λ p. refl) (λ p here. here) (λ p here. here)
+    (numbered-later w.entry_count w.sessions w.ports w.offers n)
 
 numbered_finish :
     (s : Standing) (bufs : List ℕ) (port : Port) → Numbered s
@@ -435,13 +401,4 @@ numbered_entry s e n =
 
 -- what every history makes is numbered
 pub world-numbered : (pool : ℕ) (h : List Entry) → IsNumbered (world_of pool h)
-world-numbered pool h = standing-by Numbered numbered_entry (fresh_standing pool) h (record {
-  sessions_rise = le_refl 0;
-  ports_rise = le_refl 0;
-  ports_owned = tt;
-  lots_within = tt;
-  offers_within = tt;
-  offers_to = tt;
-  offers_owned = tt;
-  leases_owned = tt;
-})
+world-numbered pool h = standing-by Numbered numbered_entry (fresh_standing pool) h (search rules)

@@ -19,7 +19,7 @@ use Rattle.vale_entry.proofs.Told.{told-push, flat_map-push, history-by}
 use Rattle.vale_entry.proofs.Follows.{EachKind, Left, follows-by}
 use Rattle.vale_entry.proofs.Tells.{tells-nothing, tells-received, tells-put}
 use Rattle.vale_entry.proofs.Numbered.{Numbered, world-numbered}
-use Rattle.vale_entry.proofs.PortAt.{first_of, find-append, port_at-map, port_at-changed, port_at-id, port_at-under, port_at-without, port_at-without_other, Found, found-open}
+use Rattle.vale_entry.proofs.PortAt.{IsKeptAt, same_port, kept-map, kept-if, first_of, find-append, port_at-map, port_at-changed, port_at-id, port_at-under, port_at-without, port_at-without_other, Found, found-open}
 
 -- the port of an id after so many entries, and what it read and brought back
 pub record IsOut (id count : ℕ) (found : Option Port) (read : List Frame) (returned : List ℕ) :
@@ -30,14 +30,9 @@ pub record IsOut (id count : ℕ) (found : Option Port) (read : List Frame) (ret
 abbrev OutAt : ℕ → World → List Frame → List ℕ → Type 0
 OutAt id w read returned = IsOut id w.entry_count (port_at w.ports id) read returned
 
-some_is : (x y : Port) → Some x ≡ Some y → x ≡ y
-some_is x y e = cc
-
 -- an entry that reads nothing here
 out-still : (id count : ℕ) (found later : Option Port) (read : List Frame) (returned : List ℕ)
-    →
-    ((port : Port) → later ≡ Some port → (old : Port) × ((found ≡ Some old) × (old.out ≡ port.out)))
-    → IsOut id count found read returned → IsOut id (count + 1) later (read ++ []) (returned ++ [])
+    → IsKeptAt (λ (p : Port). p.out) found later → IsOut id count found read returned → IsOut id (count + 1) later (read ++ []) (returned ++ [])
 out-still id count found later read returned same k =
     rw (append-nil read, append-nil returned) (record {
       counted = λ port e.
@@ -46,24 +41,6 @@ out-still id count found later read returned same k =
           omega (arith, before, old.1.1);
       future = λ above. k.future (omega (arith, above));
     })
-
-from_map :
-    (change : Port → Port) → ((port : Port) → (change port).out ≡ port.out)
-    → (found later : Option Port) → later ≡ option_map change found
-    → (port : Port) → later ≡ Some port → (old : Port) × ((found ≡ Some old) × (old.out ≡ port.out))
-from_map change keeps None later e port is = absurd (none_some (sym e ∙ is))
-  where
-    none_some : None ≡ Some port → ⊥
-    none_some e = absurd cc
-from_map change keeps (Some old) later e port is =
-    let changed : change old ≡ port = some_is (change old) port (sym e ∙ is) in
-    (old, (refl, sym (keeps old) ∙ ap (λ (p : Port). p.out) changed))
-
-out_if :
-    (b : Bool) (change : Port → Port) (port : Port) → (change port).out ≡ port.out
-    → (changed_if b change port).out ≡ port.out
-out_if true change port same = same
-out_if false change port same = refl
 
 abbrev KeptOut : ℕ → World → List Frame → List ℕ → Entry → Standing → Type 0
 KeptOut id w read returned e left =
@@ -87,8 +64,8 @@ module _ (s : Standing) (id : ℕ) (read : List Frame) (returned : List ℕ) (n 
   changed at change ids outs =
       out-still id w.entry_count (port_at w.ports id) (port_at (changed_at at change w.ports) id)
       read returned
-      (from_map (λ (p : Port). changed_if (p.id == at) change p)
-      (λ p. out_if (p.id == at) change p (outs p)) (port_at w.ports id) _
+      (kept-map (λ (p : Port). p.out) (λ (p : Port). changed_if (p.id == at) change p)
+      (λ p. kept-if (λ (q : Port). q.out) (p.id == at) change p (outs p)) (port_at w.ports id) _
       (port_at-changed at change ids w.ports id)) k
 
   opens :
@@ -108,7 +85,7 @@ module _ (s : Standing) (id : ℕ) (read : List Frame) (returned : List ℕ) (n 
           → port.out + sum returned ≡ size_of_frames read
       by_found (Some old) c here t port is = k.counted port (here ∙ is)
       by_found None true here t port is =
-          let same : new ≡ port = some_is new port is in
+          let same : new ≡ port = same_port new port is in
           let none = k.future (fresh t) in
           let out : port.out ≡ 0 = ap (λ (p : Port). p.out) (sym same) ∙ zero' in
           rw (none.0, none.1, out) refl
@@ -136,7 +113,7 @@ module _ (s : Standing) (id : ℕ) (read : List Frame) (returned : List ℕ) (n 
         ∙ ap (λ (b : Bool). Some (changed_if b (port_after_sync (length back)) port))
         (eq-eqb port.id port.id refl)) in
         let after' : port_after_sync (length back) port ≡ p =
-        some_is (port_after_sync (length back) port) p (sym later ∙ is) in
+        same_port (port_after_sync (length back) port) p (sym later ∙ is) in
         let out : p.out ≡ port.out + size_of_frames (delivered_frames port) - length back =
         ap (λ (q : Port). q.out) (sym after') in
         let before = k.counted port here in
@@ -182,7 +159,7 @@ module _ (s : Standing) (id : ℕ) (read : List Frame) (returned : List ℕ) (n 
               (λ e. eqb-false at id t (sym place.id_is ∙ (sym e ∙ port_at-id w.ports id old here)))
               in
               let same : changed_if (old.id == port.id) (port_after_sync (length back)) old ≡ p =
-              some_is _ p e in
+              same_port _ p e in
               let is : old ≡ p =
               ap (λ (b : Bool). changed_if b (port_after_sync (length back)) old) (sym apart) ∙ same
               in
@@ -233,7 +210,7 @@ module _ (s : Standing) (id : ℕ) (read : List Frame) (returned : List ℕ) (n 
         (λ p. refl);
     completes = λ lease lot e.
         out-still id w.entry_count (port_at w.ports id) _ read returned
-        (from_map (port_after_done lease.0) (λ p. refl) (port_at w.ports id) _
+        (kept-map (λ (p : Port). p.out) (port_after_done lease.0) (λ p. refl) (port_at w.ports id) _
         (port_at-map (port_after_done lease.0) (λ p. refl) w.ports id)) k;
     receives = λ ask at back port receiving e can.
         let tells = tells-received s ask at back (sync_step s back port) receiving in

@@ -21,6 +21,7 @@ use Rattle.vale_entry.proofs.Removals.{each-filter}
 use Rattle.vale_entry.proofs.Steps.{standing-by}
 use Rattle.vale_entry.proofs.ListLaws.{each-at}
 use Rattle.vale_entry.proofs.Places.{open-place}
+use Rattle.vale_entry.proofs.PortAt.{kept-if}
 use Rattle.vale_entry.proofs.Numbered.{Numbered, numbered_entry, world-numbered}
 use Rattle.vale_entry.proofs.Watched.{only-place}
 use Rattle.vale_entry.proofs.Within.{ports-within}
@@ -61,26 +62,14 @@ mapped change ids names ports pair all =
     each-map (IsPortOfPair pair) (IsPortOfPair pair) change
     (λ p here same. rw (names p) (here (sym (ids p) ∙ same))) ports all
 
-id_if :
-    (b : Bool) (change : Port → Port) (p : Port) → (change p).id ≡ p.id
-    → (changed_if b change p).id ≡ p.id
-id_if true change p same = same
-id_if false change p same = refl
-
-name_if :
-    (b : Bool) (change : Port → Port) (p : Port) → (change p).name ≡ p.name
-    → (changed_if b change p).name ≡ p.name
-name_if true change p same = same
-name_if false change p same = refl
-
 changed :
     (id : ℕ) (change : Port → Port) → ((p : Port) → (change p).id ≡ p.id)
     → ((p : Port) → (change p).name ≡ p.name) → (ports : List Port) (pair : Pair)
     → AreOfPair ports pair → AreOfPair (changed_at id change ports) pair
 changed id change ids names ports pair all =
     mapped (λ (p : Port). changed_if (p.id == id) change p)
-    (λ p. id_if (p.id == id) change p (ids p)) (λ p. name_if (p.id == id) change p (names p)) ports
-    pair all
+    (λ p. kept-if (λ (q : Port). q.id) (p.id == id) change p (ids p))
+    (λ p. kept-if (λ (q : Port). q.name) (p.id == id) change p (names p)) ports pair all
 
 -- what a sender teaches is of its switch
 taught :

@@ -5,8 +5,8 @@ use Rattle.std.specs.List.{remove}
 use Rattle.std.proofs.lemmas.Bool.{eq-eqb, ne_eqb, eqb-true, and_parts, not-true}
 use Rattle.vale_entry.specs.declared.entry.Entry.{Entry}
 use Rattle.vale_entry.specs.World.{Port, open_port, is_open_at, changed_if, changed_at}
-use Rattle.vale_entry.specs.Closing.{is_shutting_at, shutting_port, ports_without, sessions_without}
-use Rattle.vale_entry.specs.Holdings.{PortBuffers, SessionBuffers, changed_buffers, session_given, sessions_given, session_less, sessions_less, buffers_of_session, delivered_buffers, buffers_of_port, buffers_at_port, first_idle}
+use Rattle.vale_entry.specs.Closing.{is_shutting_at, shutting_port, ports_without}
+use Rattle.vale_entry.specs.Holdings.{PortBuffers, SessionBuffers, changed_buffers, buffers_of_session, delivered_buffers, buffers_of_port, buffers_at_port, first_idle}
 use Rattle.vale_entry.specs.Legal.{world_of}
 use Rattle.vale_entry.specs.Laws.{Rise, id_of_port, id_of_held, id_of_session}
 use Rattle.vale_entry.specs.Pipe.{is_peer, peer_of}
@@ -15,7 +15,7 @@ use Rattle.nm_types.specs.Names.{is_pipe_name, peer_name}
 use Rattle.std.specs.Prelude.{bytes_eq}
 use Rattle.vale_entry.proofs.ListLaws.{place-of}
 use Rattle.vale_entry.proofs.Rising.{map-at_key, find-at_key, rise-slice_get}
-use Rattle.vale_entry.proofs.Removals.{filter-at_key, filter-at_number}
+use Rattle.vale_entry.proofs.Removals.{filter-at_key}
 use Rattle.vale_entry.proofs.Numbered.{world-numbered}
 
 pub changed_at-place : (change : Port → Port) (ports : List Port) (high i : ℕ) (port : Port)
@@ -112,16 +112,6 @@ shutting_port-place ports high i port r e shuts =
     find-at_key id_of_port (is_shutting_at port.id) 0 ports high i port r e
     (rw (eq-eqb port.id port.id refl, shuts) refl) (λ p other. rw other refl)
 
--- the forms for a caller that has the history
-pub changed_at-world :
-    (pool : ℕ) (h : List Entry) (change : Port → Port) (i : ℕ) (port : Port)
-    → slice_get (world_of pool h).ports i ≡ Some port
-    → changed_at port.id change (world_of pool h).ports
-    ≡ slice_set (world_of pool h).ports i (change port)
-changed_at-world pool h change i port e =
-    changed_at-place change (world_of pool h).ports (world_of pool h).entry_count i port
-    (world-numbered pool h).ports_rise e
-
 pub open_port-place : (ports : List Port) (high i : ℕ) (port : Port)
     → Rise 0 (map id_of_port ports) high → slice_get ports i ≡ Some port → port.shutting ≡ false
     → open_port ports port.id ≡ Some port
@@ -137,31 +127,6 @@ open_port-world pool h i port e open' =
     open_port-place (world_of pool h).ports (world_of pool h).entry_count i port
     (world-numbered pool h).ports_rise e open'
 
-pub shutting_port-world :
-    (pool : ℕ) (h : List Entry) (i : ℕ) (port : Port)
-    → slice_get (world_of pool h).ports i ≡ Some port → port.shutting ≡ true
-    → shutting_port (world_of pool h).ports port.id ≡ Some port
-shutting_port-world pool h i port e shuts =
-    shutting_port-place (world_of pool h).ports (world_of pool h).entry_count i port
-    (world-numbered pool h).ports_rise e shuts
-
--- the ports left without one, and the sessions
-pub ports_without-world :
-    (pool : ℕ) (h : List Entry) (i : ℕ) (port : Port)
-    → slice_get (world_of pool h).ports i ≡ Some port
-    → ports_without port.id (world_of pool h).ports ≡ remove (world_of pool h).ports i
-ports_without-world pool h i port e =
-    filter-at_key id_of_port 0 (world_of pool h).ports (world_of pool h).entry_count i port
-    (world-numbered pool h).ports_rise e
-
-pub sessions_without-world :
-    (pool : ℕ) (h : List Entry) (i session : ℕ)
-    → slice_get (world_of pool h).sessions i ≡ Some session
-    → sessions_without session (world_of pool h).sessions ≡ remove (world_of pool h).sessions i
-sessions_without-world pool h i session e =
-    filter-at_number (world_of pool h).sessions (world_of pool h).entry_count i session
-    (world-numbered pool h).sessions_rise e
-
 pub changed_buffers-place :
     (change : PortBuffers → PortBuffers) (helds : List PortBuffers) (high i : ℕ)
     (held : PortBuffers)
@@ -174,24 +139,6 @@ changed_buffers-place change helds high i held r e =
     helds high i held r e
     (λ x other. rw other refl) in
     all ∙ ap (slice_set helds i) hit
-
-pub sessions_given-place :
-    (more : List ℕ) (helds : List SessionBuffers) (high i : ℕ) (held : SessionBuffers)
-    → Rise 0 (map id_of_session helds) high → slice_get helds i ≡ Some held
-    → sessions_given held.session more helds
-    ≡ slice_set helds i (session_given held.session more held)
-sessions_given-place more helds high i held r e =
-    map-at_key id_of_session (session_given held.session more) 0 helds high i held r e
-    (λ x other. rw other refl)
-
-pub sessions_less-place :
-    (gone : List ℕ) (helds : List SessionBuffers) (high i : ℕ) (held : SessionBuffers)
-    → Rise 0 (map id_of_session helds) high → slice_get helds i ≡ Some held
-    → sessions_less held.session gone helds
-    ≡ slice_set helds i (session_less held.session gone held)
-sessions_less-place gone helds high i held r e =
-    map-at_key id_of_session (session_less held.session gone) 0 helds high i held r e
-    (λ x other. rw other refl)
 
 buffers_of_session-from :
     (low : ℕ) (helds : List SessionBuffers) (high i : ℕ) (held : SessionBuffers)

@@ -127,6 +127,33 @@ port_at-without [] gone = refl
 port_at-without (x ∷ xs) gone =
     gone_by x gone (ports_without gone xs) (x.id == gone) refl (port_at-without xs gone)
 
+-- what is found later was found before, with what this reads of it
+abbrev pub IsKeptAt : {X : Type 0} → (Port → X) → Option Port → Option Port → Type 0
+IsKeptAt read found later =
+    (port : Port) → later ≡ Some port
+    → (old : Port) × ((found ≡ Some old) × (read old ≡ read port))
+
+pub same_port : (x y : Port) → Some x ≡ Some y → x ≡ y
+same_port x y e = cc
+
+pub no_port : (port : Port) → None ≡ Some port → ⊥
+no_port port e = absurd cc
+
+pub kept-map :
+    {X : Type 0} (read : Port → X) (change : Port → Port)
+    → ((port : Port) → read (change port) ≡ read port)
+    → (found later : Option Port) → later ≡ option_map change found → IsKeptAt read found later
+kept-map read change keeps None later e port is = absurd (no_port port (sym e ∙ is))
+kept-map read change keeps (Some old) later e port is =
+    let changed : change old ≡ port = same_port (change old) port (sym e ∙ is) in
+    (old, (refl, sym (keeps old) ∙ ap read changed))
+
+pub kept-if :
+    {X : Type 0} (read : Port → X) (b : Bool) (change : Port → Port) (port : Port)
+    → read (change port) ≡ read port → read (changed_if b change port) ≡ read port
+kept-if read true change port same = same
+kept-if read false change port same = refl
+
 -- an open port, or a shutting one, is the port of its id
 pub port_at-place :
     (ports : List Port) (high i : ℕ) (port : Port) → Rise 0 (map id_of_port ports) high
@@ -140,29 +167,27 @@ pub record Found (ports : List Port) (id : ℕ) (port : Port) : Type 0 where
   pub id_is : port.id ≡ id
   pub here : port_at ports id ≡ Some port
 
+found-place :
+    (ports : List Port) (high i id : ℕ) (port : Port) → Rise 0 (map id_of_port ports) high
+    → slice_get ports i ≡ Some port → port.id ≡ id → Found ports id port
+found-place ports high i id port r here is = record {
+  id_is = is;
+  here = subst (λ (k : ℕ). port_at ports k ≡ Some port) is (port_at-place ports high i port r here);
+}
+
 pub found-open :
     (ports : List Port) (high id : ℕ) (port : Port) → Rise 0 (map id_of_port ports) high
     → open_port ports id ≡ Some port → Found ports id port
 found-open ports high id port r e =
     let p = open-place ports high id port r e in
-    record {
-      id_is = p.id_is;
-      here =
-          subst (λ (k : ℕ). port_at ports k ≡ Some port) p.id_is
-          (port_at-place ports high p.place port r p.here);
-    }
+    found-place ports high p.place id port r p.here p.id_is
 
 pub found-shutting :
     (ports : List Port) (high id : ℕ) (port : Port) → Rise 0 (map id_of_port ports) high
     → shutting_port ports id ≡ Some port → Found ports id port
 found-shutting ports high id port r e =
     let p = shutting-place ports high id port r e in
-    record {
-      id_is = p.id_is;
-      here =
-          subst (λ (k : ℕ). port_at ports k ≡ Some port) p.id_is
-          (port_at-place ports high p.place port r p.here);
-    }
+    found-place ports high p.place id port r p.here p.id_is
 
 pub found-peer :
     (ports : List Port) (high : ℕ) (port peer : Port) → Rise 0 (map id_of_port ports) high

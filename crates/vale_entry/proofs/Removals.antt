@@ -6,6 +6,7 @@ use Rattle.std.proofs.lemmas.List.Sums.{sum_by-cons}
 use Rattle.std.proofs.lemmas.Bool.{eqb-true, eq-eqb, ne_eqb}
 use Rattle.vale_entry.specs.Laws.{Rise, IsThere}
 use Rattle.vale_entry.proofs.Rising.{rise-wider, rise-slice_get}
+pub use Rattle.vale_entry.proofs.ListLaws.{sum-remove}
 
 -- an element that stays passed the test
 kept_by :
@@ -123,21 +124,6 @@ filter-at_key key low (y ∷ ys) high (suc i) x r e =
     let above = rise-slice_get key (key y) ys high i x r.1 e in
     let miss : (key y == key x) ≡ false = ne_eqb (key y) (key x) (λ k. omega arith) in
     rw miss (ap (λ zs. y ∷ zs) (filter-at_key key (key y) ys high i x r.1 e))
-
-pub sum-remove :
-    {X : Type 0} (f : X → ℕ) (xs : List X) (i : ℕ) (x : X) → slice_get xs i ≡ Some x
-    → sum_by f (remove xs i) + f x ≡ sum_by f xs
-sum-remove f [] i x e = absurd cc
-sum-remove f (y ∷ ys) zero x e =
-    let same : y ≡ x = cc in
-    let value : f y ≡ f x = ap f same in
-    let sum = sum_by-cons f y ys in
-    omega arith
-sum-remove f (y ∷ ys) (suc i) x e =
-    let rest = sum-remove f ys i x e in
-    let old = sum_by-cons f y ys in
-    let new = sum_by-cons f y (remove ys i) in
-    omega arith
 
 -- Numbers that rise.
 

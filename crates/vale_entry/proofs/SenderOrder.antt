@@ -1,7 +1,6 @@
 -- In every legal history a sender's frames are given to a port in the order of its entries.
 use Rattle.std.proofs.Common.{ℕ, ◌+◌, ◌≤◌, ◌≡◌, ◌⊎◌, inl, inr, Bool, true, false, cond, ◌==◌, List, [], ◌∷◌, ◌++◌, map, length, take, filter, find, flat_map, Option, Some, None, refl, sym, ◌∙◌, ap, subst, arith, append-nil, min}
 use Rattle.std.specs.List.{AllByRecursion as Each}
-use Rattle.std.specs.Prelude.{option_map}
 use Rattle.std.proofs.lemmas.Bool.{eqb-true, eq-eqb, cases_eq}
 use Rattle.nm_types.specs.Frames.{Frame}
 use Rattle.vale_entry.specs.declared.entry.Entry.{Entry}
@@ -26,7 +25,7 @@ use Rattle.vale_entry.proofs.Follows.{EachKind, Left, follows-by}
 use Rattle.vale_entry.proofs.Tells.{tells-nothing, tells-received, tells-put}
 use Rattle.vale_entry.proofs.Closings.{settled-none}
 use Rattle.vale_entry.proofs.Each.{each-find, each-offers_of, each-without_first, each-all}
-use Rattle.vale_entry.proofs.PortAt.{first_of, find-append, port_at-map, port_at-changed, port_at-below, port_at-without, port_at-without_other, Found, found-open}
+use Rattle.vale_entry.proofs.PortAt.{IsKeptAt, same_port, no_port, kept-map, kept-if, first_of, find-append, port_at-map, port_at-changed, port_at-below, port_at-without, port_at-without_other, Found, found-open}
 use Rattle.vale_entry.proofs.Numbered.{Numbered, world-numbered}
 use Rattle.vale_entry.proofs.Offered.{first-origin, offers-granted}
 use Rattle.vale_entry.proofs.SharedOnce.{history-account}
@@ -38,45 +37,16 @@ use Rattle.vale_entry.proofs.Senders.{Ordered, IsKept, IsOf, ordered-still, orde
 
 -- the port that is found is of the session that it was of
 abbrev IsSame : Option Port → Option Port → Type 0
-IsSame found later =
-    (port : Port) → later ≡ Some port
-    → (old : Port) × ((found ≡ Some old) × (old.session ≡ port.session))
-
-same_map :
-    (change : Port → Port) → ((port : Port) → (change port).session ≡ port.session)
-    → (found later : Option Port) → later ≡ option_map change found → IsSame found later
-same_map change keeps None later e port is = absurd (absurd_some (sym e ∙ is))
-  where
-    absurd_some : None ≡ Some port → ⊥
-    absurd_some eq = absurd cc
-same_map change keeps (Some old) later e port is =
-    let changed : change old ≡ port = some_is (change old) port (sym e ∙ is) in
-    (old, (refl, sym (keeps old) ∙ ap (λ (p : Port). p.session) changed))
-  where
-    some_is : (x y : Port) → Some x ≡ Some y → x ≡ y
-    some_is x y eq = cc
-
-session_if :
-    (b : Bool) (change : Port → Port) (port : Port) → (change port).session ≡ port.session
-    → (changed_if b change port).session ≡ port.session
-session_if true change port same = same
-session_if false change port same = refl
+IsSame found later = IsKeptAt (λ (p : Port). p.session) found later
 
 kept_open :
     (numbers : List ℕ) (found : Option Port) (b : Bool) (new : Port) (later : Option Port)
     → later ≡ first_of found (cond b (Some new) None) → (b ≡ true → numbers ≡ [])
     → IsKept numbers found later
 kept_open numbers (Some old) b new later e fresh port is =
-    let same : old ≡ port = some_is old port (sym e ∙ is) in
-    inr (old, (refl, ap (λ (p : Port). p.session) same))
-  where
-    some_is : (x y : Port) → Some x ≡ Some y → x ≡ y
-    some_is x y eq = cc
+    inr (old, (refl, ap (λ (p : Port). p.session) (same_port old port (sym e ∙ is))))
 kept_open numbers None true new later e fresh port is = inl (fresh refl)
-kept_open numbers None false new later e fresh port is = absurd (absurd_some (sym e ∙ is))
-  where
-    absurd_some : None ≡ Some port → ⊥
-    absurd_some eq = absurd cc
+kept_open numbers None false new later e fresh port is = absurd (no_port port (sym e ∙ is))
 
 abbrev KeptOrder : ℕ → ℕ → World → List ℕ → List Brought → Entry → Standing → Type 0
 KeptOrder id to w numbers granted e left =
@@ -167,13 +137,10 @@ module _ (s : Standing) (id to : ℕ) (numbers : List ℕ) (granted : List Broug
             subst (λ (k : ℕ). k ≤ w.entry_count) (place.id_is ∙ eqb-true at id t)
             (port_at-below w.ports w.entry_count at port n.ports_rise place)
 
-        some_is : (x y : Port) → Some x ≡ Some y → x ≡ y
-        some_is x y eq = cc
-
         session : (next : Port) → later ≡ Some next → next.session ≡ port.session
         session next is =
             let old = same next is in
-            sym old.1.1 ∙ ap (λ (p : Port). p.session) (some_is old.0 port (sym old.1.0 ∙ here))
+            sym old.1.1 ∙ ap (λ (p : Port). p.session) (same_port old.0 port (sym old.1.0 ∙ here))
     makes at port wants later e settled same false t =
         ordered-others id w.entry_count port.session (port_at w.ports id) later w.offers
         (offers_of (w.entry_count + 1) port.session wants w.ports) numbers granted
@@ -248,8 +215,8 @@ module _ (s : Standing) (id to : ℕ) (numbers : List ℕ) (granted : List Broug
         → ((port : Port) → (change port).session ≡ port.session)
         → IsSame (port_at w.ports id) (port_at (changed_at at change w.ports) id)
     changed_same at change ids sessions =
-        same_map (λ (p : Port). changed_if (p.id == at) change p)
-        (λ p. session_if (p.id == at) change p (sessions p)) (port_at w.ports id)
+        kept-map (λ (p : Port). p.session) (λ (p : Port). changed_if (p.id == at) change p)
+        (λ p. kept-if (λ (q : Port). q.session) (p.id == at) change p (sessions p)) (port_at w.ports id)
         (port_at (changed_at at change w.ports) id)
         (port_at-changed at change ids w.ports id)
 
@@ -281,7 +248,7 @@ module _ (s : Standing) (id to : ℕ) (numbers : List ℕ) (granted : List Broug
           still _
           (λ p is.
           inr
-          (same_map (port_after_done lease.0) (λ p. refl) (port_at w.ports id) _
+          (kept-map (λ (p : Port). p.session) (port_after_done lease.0) (λ p. refl) (port_at w.ports id) _
           (port_at-map (port_after_done lease.0) (λ p. refl) w.ports id) p is));
       receives = λ ask at back port receives e can.
           let tells = tells-received s ask at back (sync_step s back port) receives in

@@ -306,50 +306,7 @@ granted_by_test numbers granted gift count false t last alone first below r =
     (rise-wider 0 0 (map origin_of (filter (is_among numbers) granted)) count (count + 1)
     (omega arith) (omega arith) r)
 
-pub ordered-grants :
-    (id count : ℕ) (found later : Option Port) (offers fewer : List Offer) (numbers : List ℕ)
-    (granted : List Brought) (gift : Brought)
-    → IsKept numbers found later
-    → ((P : Offer → Type 0) → Each P offers → Each P fewer)
-    → (IsThere numbers gift.origin → Each (λ (n : ℕ). n ≤ gift.origin) numbers)
-    → Each (λ (other : Brought). (other.origin == gift.origin) ≡ false) granted
-    → gift.origin ≤ count
-    → Ordered id count found offers numbers granted
-    → Ordered id (count + 1) later fewer (numbers ++ []) (granted ++ gift ∷ [])
-ordered-grants id count found later offers fewer numbers granted gift kept less last alone below o =
-    let next = ordered-still id count found later offers numbers granted kept o in
-    let same = append-nil numbers in
-    record {
-      numbers_rise = next.numbers_rise;
-      within =
-          each-append (λ (g : Brought). g.origin ≤ count + 1) granted (gift ∷ [])
-          (each-weaker (λ (g : Brought). g.origin ≤ count) (λ (g : Brought). g.origin ≤ count + 1)
-          (λ g here. omega (arith, here)) granted o.within) (omega (arith, below), tt);
-      brought_rises =
-          subst
-          (λ (ns : List ℕ).
-          Rise 0 (map origin_of (filter (is_among ns) (granted ++ gift ∷ []))) (count + 1))
-          (sym same)
-          (subst (λ (gifts : List Brought). Rise 0 (map origin_of gifts) (count + 1))
-          (sym (filter-append (is_among numbers) granted (gift ∷ [])))
-          (granted_by_test numbers granted gift count (is_among numbers gift) refl last alone
-          (λ there.
-          there-each (λ (n : ℕ). 0 < n) numbers gift.origin
-          (rise-above 0 numbers count o.numbers_rise) there) below o.brought_rises));
-      last =
-          less
-          (λ (offer : Offer).
-          IsThere (numbers ++ []) offer.origin → Each (λ (n : ℕ). n ≤ offer.origin) (numbers ++ []))
-          next.last;
-      owner =
-          less
-          (λ (offer : Offer).
-          IsThere (numbers ++ []) offer.origin → (port : Port) → later ≡ Some port
-          → port.session ≡ offer.session) next.owner;
-      future = next.future;
-    }
-
--- and one to another port
+-- an entry that grants an offer to another port
 pub ordered-fewer :
     (id count : ℕ) (found later : Option Port) (offers fewer : List Offer) (numbers : List ℕ)
     (granted : List Brought)
@@ -373,6 +330,41 @@ ordered-fewer id count found later offers fewer numbers granted kept less o =
           (λ (offer : Offer).
           IsThere (numbers ++ []) offer.origin → (port : Port) → later ≡ Some port
           → port.session ≡ offer.session) next.owner;
+      future = next.future;
+    }
+
+pub ordered-grants :
+    (id count : ℕ) (found later : Option Port) (offers fewer : List Offer) (numbers : List ℕ)
+    (granted : List Brought) (gift : Brought)
+    → IsKept numbers found later
+    → ((P : Offer → Type 0) → Each P offers → Each P fewer)
+    → (IsThere numbers gift.origin → Each (λ (n : ℕ). n ≤ gift.origin) numbers)
+    → Each (λ (other : Brought). (other.origin == gift.origin) ≡ false) granted
+    → gift.origin ≤ count
+    → Ordered id count found offers numbers granted
+    → Ordered id (count + 1) later fewer (numbers ++ []) (granted ++ gift ∷ [])
+ordered-grants id count found later offers fewer numbers granted gift kept less last alone below o =
+    let next = ordered-fewer id count found later offers fewer numbers granted kept less o in
+    let same = append-nil numbers in
+    record {
+      numbers_rise = next.numbers_rise;
+      within =
+          each-append (λ (g : Brought). g.origin ≤ count + 1) granted (gift ∷ [])
+          (each-weaker (λ (g : Brought). g.origin ≤ count) (λ (g : Brought). g.origin ≤ count + 1)
+          (λ g here. omega (arith, here)) granted o.within) (omega (arith, below), tt);
+      brought_rises =
+          subst
+          (λ (ns : List ℕ).
+          Rise 0 (map origin_of (filter (is_among ns) (granted ++ gift ∷ []))) (count + 1))
+          (sym same)
+          (subst (λ (gifts : List Brought). Rise 0 (map origin_of gifts) (count + 1))
+          (sym (filter-append (is_among numbers) granted (gift ∷ [])))
+          (granted_by_test numbers granted gift count (is_among numbers gift) refl last alone
+          (λ there.
+          there-each (λ (n : ℕ). 0 < n) numbers gift.origin
+          (rise-above 0 numbers count o.numbers_rise) there) below o.brought_rises));
+      last = next.last;
+      owner = next.owner;
       future = next.future;
     }
 

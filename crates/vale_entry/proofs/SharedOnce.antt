@@ -1,6 +1,6 @@
 -- In every legal history the frames of an entry that are wanted at a port are offered and shared
 -- out once.
-use Rattle.std.proofs.Common.{ℕ, ◌+◌, ◌-◌, ◌≡◌, ◌⊎◌, inl, inr, Bool, true, false, cond, ◌&&◌, ◌==◌, List, [], ◌∷◌, ◌++◌, length, take, filter, find, Option, Some, None, refl, sym, ◌∙◌, ap, subst, arith, append-nil}
+use Rattle.std.proofs.Common.{ℕ, ◌+◌, ◌-◌, ◌≡◌, ◌⊎◌, inl, inr, Bool, true, false, cond, ◌&&◌, ◌==◌, List, [], ◌∷◌, ◌++◌, length, take, filter, find, Option, Some, None, refl, sym, ◌∙◌, ap, subst, arith, append-nil, rules}
 use Rattle.std.proofs.lemmas.List.Elements.{filter-append}
 use Rattle.std.proofs.lemmas.Bool.{eqb-true}
 use Rattle.nm_types.specs.Frames.{Frame}
@@ -293,10 +293,4 @@ history-account pool h legal number to =
 pub wanted-shared : WantedIsSharedOnce
 wanted-shared pool h legal number to =
     let k = history-account pool h legal number to in
-    record {
-      once = k.once;
-      offered = k.offered;
-      counted = k.counted;
-      one_cause = k.one_cause;
-      first_given = k.first_given;
-    }
+    search (rules, k.once, k.offered, k.counted, k.one_cause, k.first_given)

@@ -1,6 +1,6 @@
 -- What an entry tells of frames brought, wanted and read, where its step is of a kind that several
 -- asks have in common, and what a Put tells.
-use Rattle.std.proofs.Common.{ℕ, ◌≡◌, ◌∙◌, ap, ◌+◌, ◌==◌, Bool, true, false, cond, List, [], ◌∷◌, Option, None, Some, refl, length}
+use Rattle.std.proofs.Common.{ℕ, ◌≡◌, ◌∙◌, ap, ◌+◌, ◌==◌, Bool, true, false, cond, List, [], ◌∷◌, Option, None, Some, refl, length, rules}
 use Rattle.std.proofs.Math.Bool.{and-false, and-true}
 use Rattle.nm_types.specs.Frames.{Frame}
 use Rattle.nm_types.specs.declared.id.PortId.{PortId}
@@ -54,30 +54,8 @@ none_wanted w to (Some port) = at_port (port_at w.ports to)
 pub tells-nothing :
     (s : Standing) (ask : Ask) (session : ℕ) (reply : Reply) → IsQuiet s ask session reply
     → TellsNothing s.world (entry_made ask (unchanged s session reply))
-tells-nothing s _ _ _ (refused_open session name tx rx extra fault can e) = record {
-  granted = λ port. refl;
-  put = λ port. refl;
-  read = λ port. refl;
-  returned = λ port. refl;
-  unread = λ port. refl;
-  given = λ port. refl;
-  gave = λ port. refl;
-  wanted = λ number to. refl;
-  shares = λ number to. refl;
-  sent = λ port. refl;
-}
-tells-nothing s _ _ _ (resets at side fault port e can) = record {
-  granted = λ port. refl;
-  put = λ port. refl;
-  read = λ port. refl;
-  returned = λ port. refl;
-  unread = λ port. refl;
-  given = λ port. refl;
-  gave = λ port. refl;
-  wanted = λ number to. refl;
-  shares = λ number to. refl;
-  sent = λ port. refl;
-}
+tells-nothing s _ _ _ (refused_open session name tx rx extra fault can e) = search rules
+tells-nothing s _ _ _ (resets at side fault port e can) = search rules
 tells-nothing s _ _ _ (finds_no_peer at offered sender e few gone) = record {
   granted = λ port. refl;
   put = λ port. same_if (puts_to_port s.world.ports at.0 port) [];
@@ -94,42 +72,9 @@ tells-nothing s _ _ _ (finds_no_peer at offered sender e few gone) = record {
       λ port. ap (λ (b : Bool). cond b ((s.world.entry_count + 1) ∷ []) [])
       (and-false (at.0 == port));
 }
-tells-nothing s _ _ _ (finds_no_target at target sides port e can none) = record {
-  granted = λ port. refl;
-  put = λ port. refl;
-  read = λ port. refl;
-  returned = λ port. refl;
-  unread = λ port. refl;
-  given = λ port. refl;
-  gave = λ port. refl;
-  wanted = λ number to. refl;
-  shares = λ number to. refl;
-  sent = λ port. refl;
-}
-tells-nothing s _ _ _ (finds_watched at target sides port found watch e can there some) = record {
-  granted = λ port. refl;
-  put = λ port. refl;
-  read = λ port. refl;
-  returned = λ port. refl;
-  unread = λ port. refl;
-  given = λ port. refl;
-  gave = λ port. refl;
-  wanted = λ number to. refl;
-  shares = λ number to. refl;
-  sent = λ port. refl;
-}
-tells-nothing s _ _ _ (counts at port e) = record {
-  granted = λ port. refl;
-  put = λ port. refl;
-  read = λ port. refl;
-  returned = λ port. refl;
-  unread = λ port. refl;
-  given = λ port. refl;
-  gave = λ port. refl;
-  wanted = λ number to. refl;
-  shares = λ number to. refl;
-  sent = λ port. refl;
-}
+tells-nothing s _ _ _ (finds_no_target at target sides port e can none) = search rules
+tells-nothing s _ _ _ (finds_watched at target sides port found watch e can there some) = search rules
+tells-nothing s _ _ _ (counts at port e) = search rules
 
 -- an entry that gives what is ready at a port
 pub record TellsReceived (w : World) (at : ℕ) (back : List ℕ) (e : Entry) : Type 0 where
@@ -152,30 +97,8 @@ pub record TellsReceived (w : World) (at : ℕ) (back : List ℕ) (e : Entry) : 
 pub tells-received :
     (s : Standing) (ask : Ask) (at : PortId) (back : List ℕ) (made : Outcome) → Receives ask at back
     → TellsReceived s.world at.0 back (entry_made ask made)
-tells-received s _ _ _ made (by_sync at back) = record {
-  granted = λ port. refl;
-  put = λ port. refl;
-  read = λ port. refl;
-  returned = λ port. refl;
-  unread = λ port. refl;
-  given = λ port. refl;
-  gave = λ port. refl;
-  wanted = λ number to. refl;
-  shares = λ number to. refl;
-  sent = λ port. refl;
-}
-tells-received s _ _ _ made (by_get at back) = record {
-  granted = λ port. refl;
-  put = λ port. refl;
-  read = λ port. refl;
-  returned = λ port. refl;
-  unread = λ port. refl;
-  given = λ port. refl;
-  gave = λ port. refl;
-  wanted = λ number to. refl;
-  shares = λ number to. refl;
-  sent = λ port. refl;
-}
+tells-received s _ _ _ made (by_sync at back) = search rules
+tells-received s _ _ _ made (by_get at back) = search rules
 
 -- a Put whose other end took these items
 pub record TellsPut (w : World) (at : ℕ) (items : List Item) (peer : Port) (e : Entry) : Type 0

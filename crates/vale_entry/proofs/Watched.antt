@@ -135,6 +135,14 @@ each_every : {X : Type 0} (P : X → Type 0) → ((x : X) → P x) → (xs : Lis
 each_every P holds [] = tt
 each_every P holds (x ∷ xs) = (holds x, each_every P holds xs)
 
+-- some element still passes a test that a change keeps
+still-any :
+    {X : Type 0} (test : X → Bool) (change : X → X)
+    → ((x : X) → test x ≡ true → test (change x) ≡ true)
+    → (xs : List X) → list_any test xs ≡ true → list_any test (map change xs) ≡ true
+still-any test change keeps xs =
+    any-map test change xs (each_every (λ x. test x ≡ true → test (change x) ≡ true) keeps xs)
+
 -- a change that keeps ids, names and phases keeps the watches
 watched-map :
     (change : Port → Port) → ((p : Port) → (id : ℕ) → is_open_at id (change p) ≡ is_open_at id p)
@@ -144,17 +152,10 @@ watched-map :
 watched-map change opens names ports watches k = record {
   each = each-weaker (IsWatch ports) (IsWatch (map change ports))
       (λ watch here. record {
-        monitor = any-map (is_monitor_open watch.monitor) change ports
-            (each_every
-            (λ (p : Port).
-            is_monitor_open watch.monitor p ≡ true
-            → is_monitor_open watch.monitor (change p) ≡ true)
-            (λ p e. rw (opens p watch.monitor, names p) e) ports) here.monitor;
-        target = any-map (is_target_open watch.target) change ports
-            (each_every
-            (λ (p : Port).
-            is_target_open watch.target p ≡ true → is_target_open watch.target (change p) ≡ true)
-            (λ p e. rw (opens p watch.target, names p) e) ports) here.target;
+        monitor = still-any (is_monitor_open watch.monitor) change
+            (λ p e. rw (opens p watch.monitor, names p) e) ports here.monitor;
+        target = still-any (is_target_open watch.target) change
+            (λ p e. rw (opens p watch.target, names p) e) ports here.target;
       }) watches k.each;
   once = k.once;
 }
@@ -197,24 +198,22 @@ watched-open ports port watches k = record {
 }
 
 -- Shut: a watch that is left has neither end there
+id_other : (at id : ℕ) (p : Port) → (id == at) ≡ false → is_open_at id p ≡ true → (p.id == at) ≡ false
+id_other at id p other e =
+    let tests = and_parts (p.id == id) (not p.shutting) e in
+    ne_eqb p.id at (λ same. eqb-false id at other (sym (eqb-true p.id id tests.0) ∙ same))
+
 target_other : (at id : ℕ) (p : Port) → (id == at) ≡ false → is_target_open id p ≡ true
     → is_target_open id (changed_if (p.id == at) shut p) ≡ true
 target_other at id p other e =
-    let parts = and_parts (is_open_at id p) (not (is_monitor_name p.name)) e in
-    let tests = and_parts (p.id == id) (not p.shutting) parts.0 in
-    let miss : (p.id == at) ≡ false =
-    ne_eqb p.id at (λ same. eqb-false id at other (sym (eqb-true p.id id tests.0) ∙ same)) in
-    rw miss e
+    let open_at = (and_parts (is_open_at id p) (not (is_monitor_name p.name)) e).0 in
+    rw (id_other at id p other open_at) e
 
 monitor_other :
     (at id : ℕ) (p : Port) → (id == at) ≡ false → is_monitor_open id p ≡ true
     → is_monitor_open id (changed_if (p.id == at) shut p) ≡ true
 monitor_other at id p other e =
-    let parts = and_parts (is_open_at id p) (is_monitor_name p.name) e in
-    let tests = and_parts (p.id == id) (not p.shutting) parts.0 in
-    let miss : (p.id == at) ≡ false =
-    ne_eqb p.id at (λ same. eqb-false id at other (sym (eqb-true p.id id tests.0) ∙ same)) in
-    rw miss e
+    rw (id_other at id p other (and_parts (is_open_at id p) (is_monitor_name p.name) e).0) e
 
 watched-shut :
     (ports : List Port) (watches : List Watcher) (at : ℕ) → AreWatches ports watches
@@ -227,23 +226,12 @@ watched-shut ports watches at k = record {
       let apart =
       or_parts (watch.monitor == at) (watch.target == at) (not-true (is_watch_of at watch) stays) in
       record {
-        monitor =
-            any-map (is_monitor_open watch.monitor) (λ (p : Port). changed_if (p.id == at) shut p)
-            ports
-            (each_every
-            (λ (p : Port).
-            is_monitor_open watch.monitor p ≡ true
-            → is_monitor_open watch.monitor (changed_if (p.id == at) shut p) ≡ true)
-            (λ p e. monitor_other at watch.monitor p apart.0 e) ports)
-            here.monitor;
-        target =
-            any-map (is_target_open watch.target) (λ (p : Port). changed_if (p.id == at) shut p)
-            ports
-            (each_every
-            (λ (p : Port).
-            is_target_open watch.target p ≡ true
-            → is_target_open watch.target (changed_if (p.id == at) shut p) ≡ true)
-            (λ p e. target_other at watch.target p apart.1 e) ports) here.target;
+        monitor = still-any (is_monitor_open watch.monitor)
+            (λ (p : Port). changed_if (p.id == at) shut p)
+            (λ p e. monitor_other at watch.monitor p apart.0 e) ports here.monitor;
+        target = still-any (is_target_open watch.target)
+            (λ (p : Port). changed_if (p.id == at) shut p)
+            (λ p e. target_other at watch.target p apart.1 e) ports here.target;
       }) watches k.each;
   once = λ target.
       let less =
@@ -262,22 +250,12 @@ watched-finish :
 watched-finish ports high id port watches r e k = record {
   each = each-weaker (IsWatch ports) (IsWatch (ports_without port.id ports))
       (λ watch here. record {
-        monitor =
-            any-filter (is_monitor_open watch.monitor) (λ (p : Port). not (p.id == port.id)) ports
-            (each-weaker (λ (p : Port). p.id ≡ port.id → p ≡ port)
-            (λ (p : Port). is_monitor_open watch.monitor p ≡ true → not (p.id == port.id) ≡ true)
-            (λ p only t.
-            stays watch.monitor p only
-            (and_parts (is_open_at watch.monitor p) (is_monitor_name p.name) t).0) ports
-            only) here.monitor;
-        target =
-            any-filter (is_target_open watch.target) (λ (p : Port). not (p.id == port.id)) ports
-            (each-weaker (λ (p : Port). p.id ≡ port.id → p ≡ port)
-            (λ (p : Port). is_target_open watch.target p ≡ true → not (p.id == port.id) ≡ true)
-            (λ p only t.
-            stays watch.target p only
-            (and_parts (is_open_at watch.target p) (not (is_monitor_name p.name)) t).0) ports
-            only) here.target;
+        monitor = left (is_monitor_open watch.monitor) watch.monitor
+            (λ p t. (and_parts (is_open_at watch.monitor p) (is_monitor_name p.name) t).0)
+            here.monitor;
+        target = left (is_target_open watch.target) watch.target
+            (λ p t. (and_parts (is_open_at watch.target p) (not (is_monitor_name p.name)) t).0)
+            here.target;
       }) watches k.each;
   once = k.once;
 }
@@ -301,6 +279,16 @@ watched-finish ports high id port watches r e k = record {
             not-true p.shutting (and_parts (p.id == end) (not p.shutting) t).1 in
             let shuts : p.shutting ≡ true = ap (λ (q : Port). q.shutting) is ∙ place.shuts in
             absurd (let no : true ≡ false = sym shuts ∙ opens in cc)
+
+    left :
+        (test : Port → Bool) (end : ℕ)
+        → ((p : Port) → test p ≡ true → is_open_at end p ≡ true)
+        → list_any test ports ≡ true → list_any test (ports_without port.id ports) ≡ true
+    left test end opens =
+        any-filter test (λ (p : Port). not (p.id == port.id)) ports
+        (each-weaker (λ (p : Port). p.id ≡ port.id → p ≡ port)
+        (λ (p : Port). test p ≡ true → not (p.id == port.id) ≡ true)
+        (λ p same t. stays end p same (opens p t)) ports only)
 
 -- Watch
 none_of :

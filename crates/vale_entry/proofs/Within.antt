@@ -1,7 +1,7 @@
 -- What a legal history counts stays within bounds: an offer has no more frames than a batch or the
 -- pool; each entry counts less than 2^32 at a port.
 use Rattle.std.specs.List.{AllByRecursion as Each, list_all}
-use Rattle.std.proofs.Common.{ℕ, ◌+◌, ◌*◌, ◌<◌, ◌≤◌, ◌≡◌, Bool, true, false, cond, not, ◌&&◌, ◌==◌, nat_le, List, [], ◌∷◌, ◌++◌, map, filter, find, length, min, sum_by, count_by, Option, Some, None, refl, sym, ◌∙◌, ap, subst, arith, slice_get}
+use Rattle.std.proofs.Common.{ℕ, ◌+◌, ◌*◌, ◌<◌, ◌≤◌, ◌≡◌, Bool, true, false, cond, not, ◌&&◌, ◌==◌, nat_le, List, [], ◌∷◌, ◌++◌, map, filter, find, length, min, sum_by, count_by, Option, Some, None, refl, sym, ◌∙◌, ap, subst, arith, slice_get, le_trans}
 use Rattle.std.proofs.lemmas.Bool.{and_parts, leb-true}
 use Rattle.std.proofs.lemmas.List.{length-map}
 use Rattle.std.proofs.lemmas.List.Sums.{count_by-le-length}
@@ -39,7 +39,7 @@ use Rattle.vale_entry.proofs.Roomy.{Roomy, delivered-size}
 use Rattle.vale_entry.proofs.Numbered.{Numbered}
 use Rattle.vale_entry.proofs.Worlds.{standing-push}
 use Rattle.vale_entry.proofs.Told.{history-by}
-use Rattle.vale_entry.proofs.HistoryLaws.{Stands, history-stands}
+use Rattle.vale_entry.proofs.HistoryLaws.{Stands, stands-own, pool-small}
 use Rattle.vale_entry.proofs.CountersKept.{moved-quiet, moved-read}
 use Rattle.vale_entry.proofs.Follows.{EachKind, Left, entry_made, IsQuiet, Receives, by_sync, by_get, refused_open, resets, finds_no_peer, finds_no_target, finds_watched, counts, CanKeep, follows-by}
 
@@ -183,19 +183,13 @@ under-sum :
     (one two : ℕ) (c more : Counts) → IsUnder one c → IsUnder two more
     → IsUnder (one + two) (sum_of_counts c more)
 under-sum one two c more a b =
-    let a1 =
-    a.sent in let a2 = a.short in let a3 = a.lone in let a4 = a.given in let a5 = a.full in let a6 =
-    a.read in
-    let b1 =
-    b.sent in let b2 = b.short in let b3 = b.lone in let b4 = b.given in let b5 = b.full in let b6 =
-    b.read in
     record {
-      sent = omega (arith, a1, b1);
-      short = omega (arith, a2, b2);
-      lone = omega (arith, a3, b3);
-      given = omega (arith, a4, b4);
-      full = omega (arith, a5, b5);
-      read = omega (arith, a6, b6);
+      sent = omega (arith, a.sent, b.sent);
+      short = omega (arith, a.short, b.short);
+      lone = omega (arith, a.lone, b.lone);
+      given = omega (arith, a.given, b.given);
+      full = omega (arith, a.full, b.full);
+      read = omega (arith, a.read, b.read);
     }
 
 under-if : (bound : ℕ) (b : Bool) (c : Counts) → IsUnder bound c → IsUnder bound (counts_if b c)
@@ -209,15 +203,7 @@ IsCountedWithin w e = (port : ℕ) → IsUnder 4294967295 (counted_in port w e)
 shared-under :
     (found : Option Port) (frames : List Frame) → length frames < 4294967296
     → IsUnder 4294967295 (count_shared (grant_reply_at found frames))
-shared-under None frames few =
-    record {
-      sent = omega arith;
-      short = omega arith;
-      lone = omega arith;
-      given = omega arith;
-      full = omega arith;
-      read = omega arith;
-    }
+shared-under None frames few = under-zero 4294967295
 shared-under (Some port) frames few =
     let fits = fitting-few (space_of port) frames in
     record {
@@ -229,46 +215,34 @@ shared-under (Some port) frames few =
       read = omega arith;
     }
 
+under-sent : (n : ℕ) → n ≤ 1023 → IsUnder 1023 (record zero_counts { sent = n })
+under-sent n few = record {
+  sent = few;
+  short = omega arith;
+  lone = omega arith;
+  given = omega arith;
+  full = omega arith;
+  read = omega arith;
+}
+
+under-given : (n : ℕ) → n ≤ 1023 → IsUnder 4294966272 (record zero_counts { given = n })
+under-given n few = record {
+  sent = omega arith;
+  short = omega arith;
+  lone = omega arith;
+  given = omega (arith, few);
+  full = omega arith;
+  read = omega arith;
+}
+
 put-under : (n : ℕ) (one two : Bool) → n ≤ 1023
     → IsUnder 4294967295
     (sum_of_counts (counts_if one (record zero_counts { sent = n }))
     (counts_if two (record zero_counts { given = n })))
-put-under n true true few =
-    record {
-      sent = omega (arith, few);
-      short = omega arith;
-      lone = omega arith;
-      given = omega (arith, few);
-      full = omega arith;
-      read = omega arith;
-    }
-put-under n true false few =
-    record {
-      sent = omega (arith, few);
-      short = omega arith;
-      lone = omega arith;
-      given = omega arith;
-      full = omega arith;
-      read = omega arith;
-    }
-put-under n false true few =
-    record {
-      sent = omega arith;
-      short = omega arith;
-      lone = omega arith;
-      given = omega (arith, few);
-      full = omega arith;
-      read = omega arith;
-    }
-put-under n false false few =
-    record {
-      sent = omega arith;
-      short = omega arith;
-      lone = omega arith;
-      given = omega arith;
-      full = omega arith;
-      read = omega arith;
-    }
+put-under n one two few =
+    under-sum 1023 4294966272 _ _
+    (under-if 1023 one (record zero_counts { sent = n }) (under-sent n few))
+    (under-if 4294966272 two (record zero_counts { given = n }) (under-given n few))
 
 sent-under : (frames : List Frame) (lone : ℕ) (to : List Dest) → length frames ≤ 1023 → lone ≤ 1023
     → IsUnder 4294967295 (count_sent frames (Offered (count_by is_short frames) lone to))
@@ -339,16 +313,13 @@ counts-under w e cs k all =
   where
     wider : (low high : ℕ) (c : Counts) → low ≤ high → IsUnder low c → IsUnder high c
     wider low high c more a =
-        let a1 =
-        a.sent in let a2 = a.short in let a3 = a.lone in let a4 = a.given in let a5 = a.full in let
-        a6 = a.read in
         record {
-          sent = omega (arith, more, a1);
-          short = omega (arith, more, a2);
-          lone = omega (arith, more, a3);
-          given = omega (arith, more, a4);
-          full = omega (arith, more, a5);
-          read = omega (arith, more, a6);
+          sent = le_trans a.sent more;
+          short = le_trans a.short more;
+          lone = le_trans a.lone more;
+          given = le_trans a.given more;
+          full = le_trans a.full more;
+          read = le_trans a.read more;
         }
 
 -- What every legal history keeps.
@@ -507,10 +478,5 @@ history-within pool h legal small =
         → AreWithin (world_of pool h) → AreWithin (world_of pool (h ++ e ∷ []))
     keeps h e legal follows k =
         let s = standing_of pool h in
-        let stands = history-stands pool h legal in
-        let size : s.world.pool < 4294967296 =
-        subst (λ (n : ℕ). n < 4294967296) (sym stands.pool_is) small in
-        let here : Stands s.world.pool s =
-        subst (λ (n : ℕ). Stands n s) (sym stands.pool_is) stands in
         subst (λ (t : Standing). AreWithin t.world) (sym (standing-push pool h e))
-        (follows-by s Keeps e follows (kinds s here size k))
+        (follows-by s Keeps e follows (kinds s (stands-own pool h legal) (pool-small pool h legal small) k))

@@ -1,10 +1,14 @@
 -- Worked examples of the lines of a transcript.
-use Rattle.std.specs.Prelude.{◌≡◌, ◌∷◌, ◌++◌, [], take, codes, refl}
+use Rattle.std.specs.Prelude.{◌≡◌, ◌∷◌, ◌++◌, [], map, take, codes, refl}
 use Rattle.std.specs.Fmt.{digits}
+use Rattle.nm_types.specs.declared.fault.OpenFault.{OpenFault}
 use Rattle.nm_types.specs.declared.fault.OpenFault.TheVariants.{BadSize, SwitchesFull, PortsFull, NameTaken, NoBuffers}
+use Rattle.nm_types.specs.declared.fault.SyncFault.{SyncFault}
 use Rattle.nm_types.specs.declared.fault.SyncFault.TheVariants as faults
+use Rattle.nm_types.specs.declared.id.Side.{Side}
 use Rattle.nm_types.specs.declared.id.Side.TheVariants.{Tx, Rx}
 use Rattle.nm_types.specs.declared.id.Sides.TheVariants.{T, R, TR}
+use Rattle.vale_entry.specs.declared.entry.Entry.{Entry}
 use Rattle.vale_entry.specs.declared.entry.Ask.TheVariants.{Send, Grant, Reset, Finish, Watch, Stat}
 use Rattle.vale_entry.specs.declared.entry.Reply.TheVariants.{Made, Refused, Offered, Shared, Unread, Watching, NoTarget, Watched, Counted}
 use Rattle.vale_entry.specs.Transcript.{entry_line, entry_lines}
@@ -17,30 +21,17 @@ grant-text : entry_line 6 (entry 1 (Grant 5 (port 4)) (Shared 1 2 3))
 unfolding digits
 grant-text = refl
 
-badsize-text : entry_line 3 (entry 1 (opening 1 (codes "vale0:a") 2 3) (Refused BadSize))
-    ≡ codes "3 1 open vale0:a 2 3 0 = badsize\n"
-unfolding digits
-badsize-text = refl
+abbrev refused : OpenFault → Entry
+refused fault = entry 1 (opening 1 (codes "vale0:a") 2 3) (Refused fault)
 
-switchesfull-text : entry_line 3 (entry 1 (opening 1 (codes "vale0:a") 2 3) (Refused SwitchesFull))
-    ≡ codes "3 1 open vale0:a 2 3 0 = switchesfull\n"
+refusals-text :
+    entry_lines 3
+    (map refused (BadSize ∷ SwitchesFull ∷ PortsFull ∷ NameTaken ∷ NoBuffers 7 2 ∷ []))
+    ≡ codes "3 1 open vale0:a 2 3 0 = badsize\n4 1 open vale0:a 2 3 0 = switchesfull\n"
+    ++ codes "5 1 open vale0:a 2 3 0 = portsfull\n6 1 open vale0:a 2 3 0 = nametaken\n"
+    ++ codes "7 1 open vale0:a 2 3 0 = nobuffers 7 2\n"
 unfolding digits
-switchesfull-text = refl
-
-portsfull-text : entry_line 3 (entry 1 (opening 1 (codes "vale0:a") 2 3) (Refused PortsFull))
-    ≡ codes "3 1 open vale0:a 2 3 0 = portsfull\n"
-unfolding digits
-portsfull-text = refl
-
-nametaken-text : entry_line 3 (entry 1 (opening 1 (codes "vale0:a") 2 3) (Refused NameTaken))
-    ≡ codes "3 1 open vale0:a 2 3 0 = nametaken\n"
-unfolding digits
-nametaken-text = refl
-
-nobuffers-text : entry_line 3 (entry 1 (opening 1 (codes "vale0:a") 2 3) (Refused (NoBuffers 7 2)))
-    ≡ codes "3 1 open vale0:a 2 3 0 = nobuffers 7 2\n"
-unfolding digits
-nobuffers-text = refl
+refusals-text = refl
 
 send-text :
     entry_line 5 (entry 1 (Send (port 3) (bytes [] ∷ marked (bytes (171 ∷ [])) ∷ []))
@@ -63,20 +54,15 @@ pipe_run-text : entry_lines 1 (take 8 pipe_run)
 unfolding digits
 pipe_run-text = refl
 
-notarget-text : entry_line 7 (entry 2 (Watch (port 5) (codes "vale0:c") TR) NoTarget)
-    ≡ codes "7 2 watch 5 vale0:c tr = notarget\n"
+watches-text :
+    entry_lines 7
+    (entry 2 (Watch (port 5) (codes "vale0:c") TR) NoTarget
+    ∷ entry 2 (Watch (port 5) (codes "vale0:a") T) (Watching (port 3))
+    ∷ entry 2 (Watch (port 6) (codes "vale0:a") R) (Watched (port 5)) ∷ [])
+    ≡ codes "7 2 watch 5 vale0:c tr = notarget\n8 2 watch 5 vale0:a t = ok 3\n"
+    ++ codes "9 2 watch 6 vale0:a r = watched 5\n"
 unfolding digits
-notarget-text = refl
-
-watching-text : entry_line 8 (entry 2 (Watch (port 5) (codes "vale0:a") T) (Watching (port 3)))
-    ≡ codes "8 2 watch 5 vale0:a t = ok 3\n"
-unfolding digits
-watching-text = refl
-
-watched-text : entry_line 9 (entry 2 (Watch (port 6) (codes "vale0:a") R) (Watched (port 5)))
-    ≡ codes "9 2 watch 6 vale0:a r = watched 5\n"
-unfolding digits
-watched-text = refl
+watches-text = refl
 
 counted-text : entry_line 9 (entry 1 (Stat (port 3)) (Counted (counters 1 2 3 4 5 6)))
     ≡ codes "9 1 stat 3 = sent 1 short 2 lone 3 given 4 full 5 read 6\n"
@@ -84,47 +70,24 @@ unfolding digits
 counted-text = refl
 
 -- The text of each refusal of a sync, as a reset keeps it.
-headout-text : entry_line 4 (entry 1 (Reset (port 2) Tx (faults.HeadOut 9 0 4)) Made)
-    ≡ codes "4 1 reset 2 tx headout 9 0 4\n"
-unfolding digits
-headout-text = refl
+abbrev reset : Side → SyncFault → Entry
+reset side fault = entry 1 (Reset (port 2) side fault) Made
 
-curout-text : entry_line 5 (entry 1 (Reset (port 2) Tx (faults.CurOut 7 1 3)) Made)
-    ≡ codes "5 1 reset 2 tx curout 7 1 3\n"
+resets-text :
+    entry_lines 4
+    (reset Tx (faults.HeadOut 9 0 4)
+    ∷ reset Tx (faults.CurOut 7 1 3)
+    ∷ reset Rx (faults.Indirect 2)
+    ∷ reset Tx (faults.IndexOut 1 70000)
+    ∷ reset Rx (faults.NotHeld 2 9)
+    ∷ reset Tx (faults.Doubled 3 5)
+    ∷ reset Tx (faults.Unannounced 1 2 3)
+    ∷ reset Tx (faults.LongLen 3 4000)
+    ∷ reset Tx (faults.Fragment 3) ∷ [])
+    ≡ codes "4 1 reset 2 tx headout 9 0 4\n5 1 reset 2 tx curout 7 1 3\n"
+    ++ codes "6 1 reset 2 rx indirect 2\n7 1 reset 2 tx indexout 1 70000\n"
+    ++ codes "8 1 reset 2 rx notheld 2 9\n9 1 reset 2 tx doubled 3 5\n"
+    ++ codes "10 1 reset 2 tx unannounced 1 2 3\n11 1 reset 2 tx longlen 3 4000\n"
+    ++ codes "12 1 reset 2 tx fragment 3\n"
 unfolding digits
-curout-text = refl
-
-indirect-text : entry_line 6 (entry 1 (Reset (port 2) Rx (faults.Indirect 2)) Made)
-    ≡ codes "6 1 reset 2 rx indirect 2\n"
-unfolding digits
-indirect-text = refl
-
-indexout-text : entry_line 7 (entry 1 (Reset (port 2) Tx (faults.IndexOut 1 70000)) Made)
-    ≡ codes "7 1 reset 2 tx indexout 1 70000\n"
-unfolding digits
-indexout-text = refl
-
-notheld-text : entry_line 8 (entry 1 (Reset (port 2) Rx (faults.NotHeld 2 9)) Made)
-    ≡ codes "8 1 reset 2 rx notheld 2 9\n"
-unfolding digits
-notheld-text = refl
-
-doubled-text : entry_line 9 (entry 1 (Reset (port 2) Tx (faults.Doubled 3 5)) Made)
-    ≡ codes "9 1 reset 2 tx doubled 3 5\n"
-unfolding digits
-doubled-text = refl
-
-unannounced-text : entry_line 10 (entry 1 (Reset (port 2) Tx (faults.Unannounced 1 2 3)) Made)
-    ≡ codes "10 1 reset 2 tx unannounced 1 2 3\n"
-unfolding digits
-unannounced-text = refl
-
-longlen-text : entry_line 11 (entry 1 (Reset (port 2) Tx (faults.LongLen 3 4000)) Made)
-    ≡ codes "11 1 reset 2 tx longlen 3 4000\n"
-unfolding digits
-longlen-text = refl
-
-fragment-text : entry_line 12 (entry 1 (Reset (port 2) Tx (faults.Fragment 3)) Made)
-    ≡ codes "12 1 reset 2 tx fragment 3\n"
-unfolding digits
-fragment-text = refl
+resets-text = refl

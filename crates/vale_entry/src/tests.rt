@@ -2,15 +2,15 @@ use crate::{Ask, Dest, Dests, Entry, History, Items, Numbers, Reply, laws};
 use nm_types::{Limits, Part, PortId, SessionId, StepFault};
 use std::test::Fail;
 
+/// The limits of a small record.
+const SMALL: Limits = Limits {
+    entries: 4,
+    bytes: 10,
+};
+
 #[test]
 fn a_record_refuses_beyond_its_limits(rt: HostRuntime) -> Result<(), Fail> {
-    let mut history = History::new(
-        rt.alloc(),
-        Limits {
-            entries: 4,
-            bytes: 10,
-        },
-    );
+    let mut history = History::new(rt.alloc(), SMALL);
     assert!(rt; history.reserve(4, 10).is_ok());
     let full = StepFault::RecordFull {
         what: Part::Entries,
@@ -31,13 +31,7 @@ fn a_record_refuses_beyond_its_limits(rt: HostRuntime) -> Result<(), Fail> {
 
 #[test]
 fn entries_are_kept_under_their_numbers(rt: HostRuntime) -> Result<(), Fail> {
-    let mut history = History::new(
-        rt.alloc(),
-        Limits {
-            entries: 4,
-            bytes: 10,
-        },
-    );
+    let mut history = History::new(rt.alloc(), SMALL);
     history.reserve(2, 0).ok().ok_or("room")?;
     history.push(Entry {
         session: SessionId(1),

@@ -7,3 +7,4 @@ pub mod Leases
 pub mod Filling
 pub mod Settling
 pub mod Alone
+pub mod Words

@@ -21,7 +21,7 @@ pub struct Fabric {
     ghost few: { (opened turn).limits.entries < 2 ^ 32 },
 }
 
-/// Puts a book with no entries into memory of its own. It ends where there is none.
+/// Puts a book with no entries into memory of its own. Closes it if out of memory.
 fn boxed(alloc: Global, book: Book) -> Result<Box<Book>, NoMemory>
     requires { book.entries ≡ [] }
     ensures { IfOk result (λ boxed. boxed.value ≡ book) }

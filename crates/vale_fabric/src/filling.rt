@@ -27,7 +27,7 @@ fn fill_next(lease: &mut Lease, bytes: &[u8])
     ensures lease { lease.new ≡ with_frame bytes.now lease.old }
     ensures contents { contents lease.new ≡ contents lease.old ++ bytes.now ∷ [] }
 {
-    lease.fill(bytes);
+    lease.fill_one(bytes);
 }
 
 /// The frame in the buffer at a place.

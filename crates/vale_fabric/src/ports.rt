@@ -1,13 +1,10 @@
 //! Ports open, are watched and told of, are shut and go.
 ghost use Rattle.std.specs.Prelude.{◌≡◌, length, OnOk, IfOk, IfErr, true, false};
-ghost use Rattle.nm_region.specs.Buffers.{indices_of};
 ghost use Rattle.vale_entry.specs.declared.entry.Ask.TheVariants as asks;
 ghost use Rattle.vale_entry.specs.declared.entry.Reply.TheVariants as replies;
 ghost use Rattle.vale_entry.specs.Transcript.{is_refusal};
-ghost use Rattle.vale_book.specs.BookView.{AreOf};
-ghost use Rattle.vale_fabric.specs.Fabrics.{IsPassIn, fixed_in, knowing, before};
-ghost use Rattle.vale_fabric.specs.Fabrics.{AnswersIn, MayIn, RefusesIn};
 ghost use Rattle.vale_fabric.specs.Ports.{Hands, OpensNot, Waits, WatchesNot, is_said};
+ghost use Rattle.vale_fabric.specs.Words.{AnswersIn, AreOf, IsPassIn, MayIn, RefusesIn, before, fixed_in, indices_of, knowing};
 
 use crate::fabric::Fabric;
 use crate::kept::Pass;

@@ -1,20 +1,12 @@
 //! Frames are offered to a pipe's other end.
-ghost use Rattle.std.specs.Prelude.{true, ◌≡◌, ◌≤◌, All, take, drop, length, vec_capacity};
-ghost use Rattle.std.specs.Prelude.{OnErr, IfOk, IfErr};
+ghost use Rattle.std.specs.Prelude.{true, ◌≡◌, ◌≤◌, All, take, drop, length, vec_capacity, OnErr, IfOk, IfErr};
 ghost use Rattle.std.specs.List.{list_all};
 ghost use Rattle.nm_types.specs.Sendable.{fits_buffer};
-ghost use Rattle.nm_turn.specs.Numbered.{Stands};
-ghost use Rattle.vale_line.specs.Gots.{buffers_of, IsSingle};
 ghost use Rattle.vale_entry.specs.declared.entry.Ask.TheVariants as asks;
 ghost use Rattle.vale_entry.specs.declared.entry.Reply.TheVariants as replies;
-ghost use Rattle.vale_parts.specs.Batches.{dests_wanted};
-ghost use Rattle.vale_port.specs.Kept.{bytes_of};
-ghost use Rattle.vale_book.specs.BookView.{AreOf};
 ghost use Rattle.vale_book.specs.Putting.{items_of, IsPut};
-ghost use Rattle.vale_fabric.specs.Fabrics.{IsPassIn, fixed_in, knowing, before, seen_by};
-ghost use Rattle.vale_fabric.specs.Fabrics.{AnswersIn, MayIn};
-ghost use Rattle.vale_fabric.specs.Settling.{IsAtHand};
 ghost use Rattle.vale_fabric.specs.Puts.{PutsNot, is_put_said};
+ghost use Rattle.vale_fabric.specs.Words.{AnswersIn, AreOf, IsAtHand, IsPassIn, IsSingle, MayIn, Stands, before, buffers_of, bytes_of, dests_wanted, fixed_in, knowing, seen_by};
 
 use crate::fabric::Fabric;
 use crate::kept::Pass;

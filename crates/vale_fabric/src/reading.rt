@@ -1,17 +1,10 @@
 //! What a port was granted is read.
 ghost use Rattle.std.specs.Prelude.{◌≡◌, ◌≤◌, ◌<◌, All, length, IfOk, IfErr};
 ghost use Rattle.nm_types.specs.Limits.{most_ring};
-ghost use Rattle.nm_turn.specs.Numbered.{Stands};
-ghost use Rattle.nm_region.specs.Buffers.{indices_of};
 ghost use Rattle.vale_entry.specs.declared.entry.Ask.TheVariants as asks;
 ghost use Rattle.vale_entry.specs.declared.entry.Reply.TheVariants as replies;
-ghost use Rattle.vale_line.specs.Gots.{frames_in, IsSingle};
-ghost use Rattle.vale_parts.specs.Batches.{dests_wanted};
-ghost use Rattle.vale_book.specs.BookView.{AreOf};
 ghost use Rattle.vale_book.specs.Reading.{IsGiven, IsOffered};
-ghost use Rattle.vale_fabric.specs.Fabrics.{IsPassIn, fixed_in, knowing, before, seen_by};
-ghost use Rattle.vale_fabric.specs.Fabrics.{AnswersIn, MayIn, RefusesIn};
-ghost use Rattle.vale_fabric.specs.Settling.{IsAtHand};
+ghost use Rattle.vale_fabric.specs.Words.{AnswersIn, AreOf, IsAtHand, IsPassIn, IsSingle, MayIn, RefusesIn, Stands, before, dests_wanted, fixed_in, frames_in, indices_of, knowing, seen_by};
 
 use crate::fabric::Fabric;
 use crate::kept::Pass;

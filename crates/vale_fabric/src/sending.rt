@@ -1,23 +1,14 @@
 //! Frames are sent, and what ports want of them is granted and completed.
-ghost use Rattle.std.specs.Prelude.{List, ◌≡◌, ◌≤◌, [], drop, length, slice_get, take, Some};
-ghost use Rattle.std.specs.Prelude.{IfOk, IfErr, IfSome};
+ghost use Rattle.std.specs.Prelude.{List, ◌≡◌, ◌≤◌, [], drop, length, slice_get, take, Some, IfOk, IfErr, IfSome};
 ghost use Rattle.nm_types.specs.Frames.{Frame};
-ghost use Rattle.nm_turn.specs.Numbered.{Stands};
 ghost use Rattle.vale_entry.specs.declared.entry.Ask.TheVariants as asks;
 ghost use Rattle.vale_entry.specs.declared.entry.Reply.TheVariants as replies;
-ghost use Rattle.vale_parts.specs.Batches.{dests_wanted};
-ghost use Rattle.vale_line.specs.Gots.{buffers_of};
-ghost use Rattle.vale_book.specs.BookView.{AreOf};
 ghost use Rattle.vale_batch.specs.Wants.{wanted};
-ghost use Rattle.vale_port.specs.Kept.{bytes_of};
 ghost use Rattle.vale_book.specs.Granting.{given_by, lease_id};
 ghost use Rattle.vale_book.specs.Offering.{OffersStand};
-ghost use Rattle.vale_book.specs.Recorded.{standing};
 ghost use Rattle.vale_book.specs.Sending.{IsSent};
-ghost use Rattle.vale_fabric.specs.Fabrics.{IsPassIn, before, fixed_in, knowing, seen_by};
-ghost use Rattle.vale_fabric.specs.Fabrics.{AnswersIn, MayIn, RefusesIn};
 ghost use Rattle.vale_fabric.specs.Leases.{IsHeldBy, IsHeldFor, IsLeaseBy, MayFill, StandOf};
-ghost use Rattle.vale_fabric.specs.Settling.{IsAtHand};
+ghost use Rattle.vale_fabric.specs.Words.{AnswersIn, AreOf, IsAtHand, IsPassIn, MayIn, RefusesIn, Stands, before, buffers_of, bytes_of, dests_wanted, fixed_in, knowing, seen_by, standing};
 
 use crate::fabric::Fabric;
 use crate::kept::Pass;

@@ -2,7 +2,7 @@
 ghost use Rattle.std.specs.Prelude.{◌≡◌, ◌<◌, ◌^◌, length, OnOk, IfOk, IfErr};
 ghost use Rattle.vale_entry.specs.declared.entry.Ask.TheVariants as asks;
 ghost use Rattle.vale_entry.specs.declared.entry.Reply.TheVariants as replies;
-ghost use Rattle.vale_fabric.specs.Fabrics.{IsPassIn, knowing, AnswersIn, MayIn, RefusesIn};
+ghost use Rattle.vale_fabric.specs.Words.{AnswersIn, IsPassIn, MayIn, RefusesIn, knowing};
 
 use crate::fabric::Fabric;
 use crate::kept::Pass;

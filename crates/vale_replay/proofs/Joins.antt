@@ -223,17 +223,17 @@ others-from session zero (suc last) (e ∷ h) others = (
 others-from session (suc from) (suc last) (e ∷ h) others =
     others-from session from last h (λ at x low high there. others (suc at) x (omega (arith, low)) (omega (arith, high)) there)
 
--- what a user owed nothing of behind some entries it owes nothing of behind more that are of others
-owes-on : (pool : ℕ) (h : List Entry) (from last : ℕ) (x : SessionId) → from ≤ last
+-- entries of others leave what a user owes
+pub settles-same : (pool : ℕ) (h : List Entry) (from last : ℕ) (x : SessionId) → from ≤ last
     → IsLegal pool (take last h)
     → ((at : ℕ) (e : Entry) → from ≤ at → at < last → slice_get h at ≡ Some e → IsOfOther x.0 e)
-    → OwesNothing pool (take from h) (Some x) → OwesNothing pool (take last h) (Some x)
-owes-on pool h from last x up legal others owes =
+    → settling_call (standing_of pool (take last h)).world x ≡ settling_call (standing_of pool (take from h)).world x
+settles-same pool h from last x up legal others =
     let cut : take from (take last h) ≡ take from h = take-take from last h up in
     let whole : take from h ++ drop from (take last h) ≡ take last h = ap (λ (es : List Entry). es ++ drop from (take last h)) (sym cut) ∙ take-append-drop from (take last h) in
     let all = All-from_recursion (IsOfOther x.0) (drop from (take last h)) (others-from x.0 from last h others) in
     ap (λ (es : List Entry). settling_call (standing_of pool es).world x) (sym whole)
-    ∙ settling-same pool (take from h) (drop from (take last h)) x (subst (IsLegal pool) (sym whole) legal) all ∙ owes
+    ∙ settling-same pool (take from h) (drop from (take last h)) x (subst (IsLegal pool) (sym whole) legal) all
 
 -- where a user owed nothing last, in the unit: behind its last entry, or before the unit
 record OwedNothing (pool : ℕ) (h : List Entry) (first last : ℕ) (numbers : List ℕ) (session : Option SessionId) : Type 0 where
@@ -347,12 +347,12 @@ owes-next pool h users first unit lists afters last apart each split up cast leg
     by_session None is = ap (option_and_then (settling_call (standing_of pool (take last h)).world)) is
     by_session (Some x) is =
         ap (option_and_then (settling_call (standing_of pool (take last h)).world)) is
-        ∙ owes-on pool h owed.from last x owed.high legal
+        ∙ settles-same pool h owed.from last x owed.high legal
         (λ k e low high there same.
         let first_low = owed.low in
         let once : times_among (k + 1) lists ≡ 1 = split-has first last lists (k + 1) split (omega (arith, first_low, low)) (omega (arith, high)) in
         apart-from x k e is low high there (has-member (ReplaysShare pool h) users unit lists afters (k + 1) apart weak (omega (arith, once))) same)
-        (ap (option_and_then (settling_call (standing_of pool (take owed.from h)).world)) (sym is) ∙ owed.owes)
+        ∙ (ap (option_and_then (settling_call (standing_of pool (take owed.from h)).world)) (sym is) ∙ owed.owes)
 
 -- Units.
 

@@ -42,18 +42,18 @@ unfolding start_of
 start-is users share before here = ap (start_of share) here
 
 -- a share by its order
-record ShareAt (pool : ℕ) (h : List Entry) (users : List Machine) (unit : ScriptUnit) (lists : List (List ℕ)) (afters : List Machine) (k : ℕ) (m : Machine) : Type 0 where
+record ShareAt (pool : ℕ) (h : List Entry) (users : List Machine) (found : Option UnitShare) (numbers : List ℕ) (came : Option Machine) (m : Machine) : Type 0 where
   share : UnitShare
-  at : slice_get unit k ≡ Some share
+  at : found ≡ Some share
   before : Machine
   here : slice_get users (place_of share) ≡ Some before
   starts : m ≡ starting share before
   after : Machine
-  comes : slice_get afters k ≡ Some after
-  replays : ReplaysUser pool h m (list_at lists k) after
+  comes : came ≡ Some after
+  replays : ReplaysUser pool h m numbers after
 
 share-at : (pool : ℕ) (h : List Entry) (users : List Machine) (unit : ScriptUnit) (lists : List (List ℕ)) (afters : List Machine) (k : ℕ) (m : Machine)
-    → EachShare (ReplaysShare pool h) users unit lists afters → slice_get (starts_of users unit) k ≡ Some m → ShareAt pool h users unit lists afters k m
+    → EachShare (ReplaysShare pool h) users unit lists afters → slice_get (starts_of users unit) k ≡ Some m → ShareAt pool h users (slice_get unit k) (list_at lists k) (slice_get afters k) m
 share-at pool h users [] [] [] k m each at = absurd cc
 share-at pool h users (share ∷ shares) (ns ∷ lists) (a ∷ afters) zero m each at =
     let is : m ≡ starting share each.0.0 = sym (some-same (start_of share (slice_get users (place_of share))) m at) ∙ start-is users share each.0.0 each.0.1 in
@@ -67,18 +67,7 @@ share-at pool h users (share ∷ shares) (ns ∷ lists) (a ∷ afters) zero m ea
       comes = refl;
       replays = subst (λ (x : Machine). ReplaysUser pool h x ns a) (sym is) each.0.2;
     }
-share-at pool h users (share ∷ shares) (ns ∷ lists) (a ∷ afters) (suc k) m each at =
-    let rest = share-at pool h users shares lists afters k m each.1 at in
-    record {
-      share = rest.share;
-      at = rest.at;
-      before = rest.before;
-      here = rest.here;
-      starts = rest.starts;
-      after = rest.after;
-      comes = rest.comes;
-      replays = rest.replays;
-    }
+share-at pool h users (share ∷ shares) (ns ∷ lists) (a ∷ afters) (suc k) m each at = share-at pool h users shares lists afters k m each.1 at
 share-at pool h users [] [] (a ∷ afters) k m each at = absurd each
 share-at pool h users [] (ns ∷ lists) afters k m each at = absurd each
 share-at pool h users (share ∷ shares) [] afters k m each at = absurd each
@@ -227,7 +216,7 @@ starts-distinct pool h users unit lists afters first apart each cast = record {
 }
   where
     found : (k : ℕ) (m : Machine) → slice_get (starts_of users unit) k ≡ Some m
-        → ShareAt pool h users unit lists afters k m
+        → ShareAt pool h users (slice_get unit k) (list_at lists k) (slice_get afters k) m
     found k m at = share-at pool h users unit lists afters k m each at
 
     session : (k : ℕ) (m : Machine) (at : slice_get (starts_of users unit) k ≡ Some m)

@@ -3,14 +3,11 @@ use Rattle.std.proofs.Common.{Bool, true, false, cond, ℕ, ◌+◌, ◌<◌, �
 use Rattle.std.specs.Prelude.{◌==◌, option_and_then}
 use Rattle.std.specs.List.{AllByRecursion}
 use Rattle.std.proofs.lemmas.Bool.{eq-eqb, ne_eqb, cases_lt}
-use Rattle.std.proofs.lemmas.List.{take-take}
-use Rattle.std.proofs.lemmas.List.Elements.{All-from_recursion}
 use Rattle.nm_types.specs.declared.id.SessionId.{SessionId}
 use Rattle.vale_entry.specs.declared.entry.Entry.{Entry}
 use Rattle.vale_entry.specs.Arrivals.{arrivals_of}
 use Rattle.vale_entry.specs.Legal.{standing_of, IsLegal}
 use Rattle.vale_entry.proofs.Counting.{count_of, count_of-cons}
-use Rattle.vale_own.specs.Laws.{IsOfOther}
 use Rattle.vale_own.proofs.OwnKept.{legal-split}
 use Rattle.vale_replay.specs.Tasks.{Task, Arrive, OpenPort, PutFrame, SendFrames, TakeFrames, ChangeOwn, SaveFrames, WatchPort, ReadCounts, ShutPort, FinishPort, Depart, EndLine}
 use Rattle.vale_replay.specs.Machine.{Machine, settling_call, call_of_task, call_of_tasks, after_task, at_rest, answered}
@@ -18,11 +15,10 @@ use Rattle.vale_replay.specs.Replay.{UnitShare, ScriptUnit, TakesTurns, EachShar
 use Rattle.vale_replay.specs.Joined.{PlaysShare, IsWithin, TurnsOfUnit, TurnsOfUnits, PlayedIsOfTurns, lists_in}
 use Rattle.vale_replay.proofs.Numbers.{rise-past, rise-cut}
 use Rattle.vale_replay.proofs.Legal.{played-legal}
-use Rattle.vale_replay.proofs.Others.{settling-same}
 use Rattle.vale_replay.proofs.Sessions.{IsOwnSession, starting-same, own-after}
 use Rattle.vale_replay.proofs.Members.{AreApart, IsElsewhere, place_of, numbers_at, few-one, among-cons, each-weaker}
-use Rattle.vale_replay.proofs.Joins.{Cast, OwesNothing, cast-next, split-in, split-has, split-below, split-from, others-from, last-counted, needs-owes, owes-needs, among-append, units-apart, first-cast}
-use Rattle.vale_replay.proofs.Sides.{AreForeign, foreign-at, or-second}
+use Rattle.vale_replay.proofs.Joins.{Cast, settles-same, OwesNothing, cast-next, split-in, split-has, split-below, split-from, last-counted, needs-owes, owes-needs, among-append, units-apart, first-cast}
+use Rattle.vale_replay.proofs.Sides.{AreForeign, each-with, foreign-at, or-second}
 
 -- A user that has gone as far as it can has no task, or one that needs a call.
 
@@ -72,17 +68,6 @@ rested-done pool h user (inr some) ended =
 
 -- What it owes nothing of at the end of its unit it owed nothing of behind its own last entry.
 
-owes-back : (pool : ℕ) (h : List Entry) (from last : ℕ) (x : SessionId) → from ≤ last
-    → IsLegal pool (take last h)
-    → ((at : ℕ) (e : Entry) → from ≤ at → at < last → slice_get h at ≡ Some e → IsOfOther x.0 e)
-    → OwesNothing pool (take last h) (Some x) → OwesNothing pool (take from h) (Some x)
-owes-back pool h from last x up legal others owes =
-    let cut : take from (take last h) ≡ take from h = take-take from last h up in
-    let whole : take from h ++ drop from (take last h) ≡ take last h = ap (λ (es : List Entry). es ++ drop from (take last h)) (sym cut) ∙ take-append-drop from (take last h) in
-    let all = All-from_recursion (IsOfOther x.0) (drop from (take last h)) (others-from x.0 from last h others) in
-    sym (settling-same pool (take from h) (drop from (take last h)) x (subst (IsLegal pool) (sym whole) legal) all)
-    ∙ ap (λ (es : List Entry). settling_call (standing_of pool es).world x) whole ∙ owes
-
 owes-first : (pool : ℕ) (session : Option SessionId) → OwesNothing pool [] session
 owes-first pool None = refl
 owes-first pool (Some x) = refl
@@ -94,8 +79,8 @@ owed-last : (pool : ℕ) (h : List Entry) (first last : ℕ) (share : UnitShare)
 owed-last pool h first last share before [] after session is legal foreign inside r owes = owes-first pool session
 owed-last pool h first last share before (n ∷ ns) after None is legal foreign inside r owes = refl
 owed-last pool h first last share before (n ∷ ns) after (Some x) is legal foreign inside r owes =
-    owes-back pool h (last_behind n ns) last x in'.1 legal
-    (λ k e low high there. foreign x k e own (omega (arith, above, low)) high (past k low) there) owes
+    sym (settles-same pool h (last_behind n ns) last x in'.1 legal
+    (λ k e low high there. foreign x k e own (omega (arith, above, low)) high (past k low) there)) ∙ owes
   where
     in' : (first < last_behind n ns) × (last_behind n ns ≤ last)
     in' = inside (last_behind n ns) (last-counted n ns)
@@ -124,17 +109,6 @@ share-plays pool h first last share before ns after legal foreign inside r ended
     }
 
 -- Each share with its place among the lists.
-
-each-with : (R : UnitShare → Machine → List ℕ → Machine → Type 0) (P : UnitShare → Type 0) (Q : Machine → Type 0) (users : List Machine) (unit : ScriptUnit) (lists : List (List ℕ)) (afters : List Machine)
-    → AllByRecursion P unit → AllByRecursion Q afters → EachShare R users unit lists afters
-    → EachShare (λ (share : UnitShare) (before : Machine) (ns : List ℕ) (after : Machine). R share before ns after × (P share × Q after)) users unit lists afters
-each-with R P Q users [] [] [] ps qs each = tt
-each-with R P Q users (share ∷ shares) (ns ∷ lists) (a ∷ afters) ps qs each =
-    ((each.0.0, each.0.1, (each.0.2, (ps.0, qs.0))), each-with R P Q users shares lists afters ps.1 qs.1 each.1)
-each-with R P Q users [] [] (a ∷ afters) ps qs each = absurd each
-each-with R P Q users [] (ns ∷ lists) afters ps qs each = absurd each
-each-with R P Q users (share ∷ shares) [] afters ps qs each = absurd each
-each-with R P Q users (share ∷ shares) (ns ∷ lists) [] ps qs each = absurd each
 
 abbrev IsNumbered : List Machine → ScriptUnit → List (List ℕ) → UnitShare → Machine → List ℕ → Type 0
 IsNumbered users unit lists share before ns =

@@ -108,16 +108,21 @@ IsPairedShare share = (m : Machine) → ArePaired (share.tasks m)
 abbrev WithBoth : ℕ → List Entry → (Machine → Type 0) → UnitShare → Machine → List ℕ → Machine → Type 0
 WithBoth pool h Q share before ns after = ReplaysShare pool h share before ns after × (IsPairedShare share × Q after)
 
+pub each-with : (R : UnitShare → Machine → List ℕ → Machine → Type 0) (P : UnitShare → Type 0) (Q : Machine → Type 0) (users : List Machine) (unit : ScriptUnit) (lists : List (List ℕ)) (afters : List Machine)
+    → AllByRecursion P unit → AllByRecursion Q afters → EachShare R users unit lists afters
+    → EachShare (λ (share : UnitShare) (before : Machine) (ns : List ℕ) (after : Machine). R share before ns after × (P share × Q after)) users unit lists afters
+each-with R P Q users [] [] [] ps qs each = tt
+each-with R P Q users (share ∷ shares) (ns ∷ lists) (a ∷ afters) ps qs each =
+    ((each.0.0, each.0.1, (each.0.2, (ps.0, qs.0))), each-with R P Q users shares lists afters ps.1 qs.1 each.1)
+each-with R P Q users [] [] (a ∷ afters) ps qs each = absurd each
+each-with R P Q users [] (ns ∷ lists) afters ps qs each = absurd each
+each-with R P Q users (share ∷ shares) [] afters ps qs each = absurd each
+each-with R P Q users (share ∷ shares) (ns ∷ lists) [] ps qs each = absurd each
+
 with-both : (pool : ℕ) (h : List Entry) (Q : Machine → Type 0) (users : List Machine) (unit : ScriptUnit) (lists : List (List ℕ)) (afters : List Machine)
     → AllByRecursion IsPairedShare unit → AllByRecursion Q afters
     → EachShare (ReplaysShare pool h) users unit lists afters → EachShare (WithBoth pool h Q) users unit lists afters
-with-both pool h Q users [] [] [] paired qs each = tt
-with-both pool h Q users (share ∷ shares) (ns ∷ lists) (a ∷ afters) paired qs each =
-    ((each.0.0, each.0.1, (each.0.2, (paired.0, qs.0))), with-both pool h Q users shares lists afters paired.1 qs.1 each.1)
-with-both pool h Q users [] [] (a ∷ afters) paired qs each = absurd each
-with-both pool h Q users [] (ns ∷ lists) afters paired qs each = absurd each
-with-both pool h Q users (share ∷ shares) [] afters paired qs each = absurd each
-with-both pool h Q users (share ∷ shares) (ns ∷ lists) [] paired qs each = absurd each
+with-both pool h Q = each-with (ReplaysShare pool h) IsPairedShare Q
 
 -- between units no port is shut
 abbrev HaveSides : ℕ → Standing → List Machine → Type 0

@@ -483,21 +483,26 @@ abbrev answer_of : ℕ → List Entry → Machine → Ask → Outcome → Machin
 answer_of pool past user ask made =
     answered (length past + 1) (entry_of ask made) (arrivals_of (standing_of pool past) (kept_ask ask) made.reply) user
 
+-- a call that leaves its user as it was
+call-turn : (pool : ℕ) (past : List Entry) (user : Machine) (keeps : KeepsSide pool (standing_of pool past) user) (call ask : Ask) (made : Outcome)
+    → IsMade pool past ask made → IsOwn user.session made → call ≡ ask → IsOfSide keeps.shut user.own (kept_ask call) made.reply
+    → answer_of pool past user call made ≡ user → shut_after (kept_ask call) keeps.shut ≡ keeps.shut
+    → came_by (standing_of pool past) call made user.own (length past + 1) ≡ user.own
+    → KeepsSide pool (standing_next pool past ask made) (answer_of pool past user ask made)
+call-turn pool past user keeps call ask made m is same of still shuts came =
+    let stays : answer_of pool past user ask made ≡ user = ap (λ (a : Ask). answer_of pool past user a made) (sym same) ∙ still in
+    subst (KeepsSide pool (standing_next pool past ask made)) (sym stays)
+    (settled-turn pool past user keeps.shut ask made m is (subst (λ (a : Ask). IsOfSide keeps.shut user.own (kept_ask a) made.reply) same of)
+    (ap (λ (a : Ask). shut_after (kept_ask a) keeps.shut) (sym same) ∙ shuts)
+    (ap (λ (a : Ask). came_by (standing_of pool past) a made user.own (length past + 1)) (sym same) ∙ came) keeps.side keeps.order)
+
 lot-turn : (pool : ℕ) (past : List Entry) (user : Machine) (keeps : KeepsSide pool (standing_of pool past) user) (lot : Lot) (ask : Ask) (made : Outcome)
     → IsMade pool past ask made → IsOwn user.session made → done_call lot ≡ ask → KeepsSide pool (standing_next pool past ask made) (answer_of pool past user ask made)
-lot-turn pool past user keeps lot ask made m is same =
-    let stays : answer_of pool past user ask made ≡ user = ap (λ (a : Ask). answer_of pool past user a made) (sym same) in
-    subst (KeepsSide pool (standing_next pool past ask made)) (sym stays)
-    (settled-turn pool past user keeps.shut ask made m is (subst (λ (a : Ask). IsOfSide keeps.shut user.own (kept_ask a) made.reply) same tt)
-    (ap (λ (a : Ask). shut_after (kept_ask a) keeps.shut) (sym same)) (ap (λ (a : Ask). came_by (standing_of pool past) a made user.own (length past + 1)) (sym same)) keeps.side keeps.order)
+lot-turn pool past user keeps lot ask made m is same = call-turn pool past user keeps (done_call lot) ask made m is same tt refl refl refl
 
 offer-turn : (pool : ℕ) (past : List Entry) (user : Machine) (keeps : KeepsSide pool (standing_of pool past) user) (offer : Offer) (ask : Ask) (made : Outcome)
     → IsMade pool past ask made → IsOwn user.session made → grant_call offer ≡ ask → KeepsSide pool (standing_next pool past ask made) (answer_of pool past user ask made)
-offer-turn pool past user keeps offer ask made m is same =
-    let stays : answer_of pool past user ask made ≡ user = ap (λ (a : Ask). answer_of pool past user a made) (sym same) in
-    subst (KeepsSide pool (standing_next pool past ask made)) (sym stays)
-    (settled-turn pool past user keeps.shut ask made m is (subst (λ (a : Ask). IsOfSide keeps.shut user.own (kept_ask a) made.reply) same tt)
-    (ap (λ (a : Ask). shut_after (kept_ask a) keeps.shut) (sym same)) (ap (λ (a : Ask). came_by (standing_of pool past) a made user.own (length past + 1)) (sym same)) keeps.side keeps.order)
+offer-turn pool past user keeps offer ask made m is same = call-turn pool past user keeps (grant_call offer) ask made m is same tt refl refl refl
 
 -- The call of a task is neither an Enter nor one that settles, where its user has a session.
 record IsPlain (ask : Ask) : Type 0 where

@@ -1,16 +1,11 @@
 //! Laws of the histories that play a script. Each function does nothing; its contract is a law
 //! about the definitions, which the check proves.
 
-ghost use Rattle.vale_replay.specs.Laws.{PlaysOneHistory, UnderWayIsBeginning, UnderWayIsOne};
-ghost use Rattle.vale_replay.specs.Laws.{PlayedIsLegal, PiecesAreOne, ReadsToItsLast, StatesAreOne};
-ghost use Rattle.vale_replay.specs.Laws.{OthersChangeNoCall, PrefixIsUnderWay};
-ghost use Rattle.vale_replay.specs.Laws.{PlayedStatesAreOne, ReachedStatesAreOne};
-ghost use Rattle.vale_replay.specs.Laws.{CallsAreAtOnce, PlayedComesToNone, UsersLeave};
+ghost use Rattle.vale_replay.specs.Laws.{PlaysOneHistory, UnderWayIsBeginning, UnderWayIsOne, PlayedIsLegal, PiecesAreOne, ReadsToItsLast, StatesAreOne, OthersChangeNoCall, PrefixIsUnderWay, PlayedStatesAreOne, ReachedStatesAreOne, CallsAreAtOnce, PlayedComesToNone, UsersLeave};
 ghost use Rattle.vale_replay.specs.Walk.{WalksPlay};
 ghost use Rattle.vale_replay.specs.Joined.{JoinsUsers, PlayedIsOfTurns, TurnsReadToTheirLast, TurnsGoOn};
 ghost use Rattle.vale_replay.specs.Stops.{UsersStop};
-ghost use Rattle.vale_replay.specs.Owners.{UsersHoldTheirOwn, BuffersHaveOneOwner, BuffersAlwaysHaveOneOwner};
-ghost use Rattle.vale_replay.specs.Owners.{BuffersComeBack};
+ghost use Rattle.vale_replay.specs.Owners.{UsersHoldTheirOwn, BuffersHaveOneOwner, BuffersAlwaysHaveOneOwner, BuffersComeBack};
 
 /// At most one history plays a script without blocks.
 pub fn plays_one_history()

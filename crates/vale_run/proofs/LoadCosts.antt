@@ -22,50 +22,31 @@ use Rattle.vale_act.specs.Completeness.{frames_of_task, calls_of_task, IsPlainTa
 same-le : (n : ℕ) → n ≤ n
 same-le n = omega arith
 
-pub record Cost (tasks : List Task) (frames calls : ℕ) : Type 0 where
-  frames_are : sum_by frames_of_task tasks ≤ frames
-  calls_are : sum_by calls_of_task tasks ≤ calls
-  plain : Each IsPlainTask tasks
+-- what frames and calls a list costs at most, and what each element is
+record CostBy {X : Type 0} (frames calls : X → ℕ) (P : X → Type 0) (xs : List X) (most_frames most_calls : ℕ) : Type 0 where
+  frames_are : sum_by frames xs ≤ most_frames
+  calls_are : sum_by calls xs ≤ most_calls
+  plain : Each P xs
+
+abbrev Cost : List Task → ℕ → ℕ → Type 0
+Cost = CostBy frames_of_task calls_of_task IsPlainTask
+
+abbrev UnitCost : List ScriptUnit → ℕ → ℕ → Type 0
+UnitCost = CostBy frames_of_unit calls_of_unit (Each IsCosted)
 
 each-append : {X : Type 0} (P : X → Type 0) (xs ys : List X) → Each P xs → Each P ys
     → Each P (xs ++ ys)
 each-append P [] ys first then = then
 each-append P (x ∷ xs) ys first then = (first.0, each-append P xs ys first.1 then)
 
-cost-append : (xs ys : List Task) (f k g l : ℕ) → Cost xs f k → Cost ys g l
-    → Cost (xs ++ ys) (f + g) (k + l)
-cost-append xs ys f k g l one other =
-    let frames = sum_by-append frames_of_task xs ys in
-    let calls = sum_by-append calls_of_task xs ys in
-    let a = one.frames_are in
-    let b = one.calls_are in
-    let c = other.frames_are in
-    let d = other.calls_are in
-    record {
-      frames_are = omega (arith, frames, a, c);
-      calls_are = omega (arith, calls, b, d);
-      plain = each-append IsPlainTask xs ys one.plain other.plain;
-    }
-
-record UnitCost (units : List ScriptUnit) (frames calls : ℕ) : Type 0 where
-  frames_are : frames_of_units units ≤ frames
-  calls_are : calls_of_units units ≤ calls
-  costed : Each (Each IsCosted) units
-
-units-append : (xs ys : List ScriptUnit) (f k g l : ℕ) → UnitCost xs f k → UnitCost ys g l
-    → UnitCost (xs ++ ys) (f + g) (k + l)
-units-append xs ys f k g l one other =
-    let frames = sum_by-append frames_of_unit xs ys in
-    let calls = sum_by-append calls_of_unit xs ys in
-    let a = one.frames_are in
-    let b = one.calls_are in
-    let c = other.frames_are in
-    let d = other.calls_are in
-    record {
-      frames_are = omega (arith, frames, a, c);
-      calls_are = omega (arith, calls, b, d);
-      costed = each-append (Each IsCosted) xs ys one.costed other.costed;
-    }
+cost-append : {X : Type 0} (frames calls : X → ℕ) (P : X → Type 0) (xs ys : List X) (f k g l : ℕ)
+    → CostBy frames calls P xs f k → CostBy frames calls P ys g l
+    → CostBy frames calls P (xs ++ ys) (f + g) (k + l)
+cost-append frames calls P xs ys f k g l one other = record {
+  frames_are = omega (arith, sum_by-append frames xs ys, one.frames_are, other.frames_are);
+  calls_are = omega (arith, sum_by-append calls xs ys, one.calls_are, other.calls_are);
+  plain = each-append P xs ys one.plain other.plain;
+}
 
 -- ---- lines
 
@@ -80,7 +61,7 @@ acts-cost : (acts : List Act) → Each IsLight acts
     → Cost (tasks_of_lines records acts) (length acts) (3 * length acts)
 acts-cost [] light = record { frames_are = omega arith; calls_are = omega arith; plain = tt }
 acts-cost (act ∷ acts) light =
-    let all = cost-append (tasks_of_line records act) (tasks_of_lines records acts) 1 3 (length acts)
+    let all = cost-append frames_of_task calls_of_task IsPlainTask (tasks_of_line records act) (tasks_of_lines records acts) 1 3 (length acts)
     (3 * length acts) light.0 (acts-cost acts light.1) in
     let frames = all.frames_are in
     let calls = all.calls_are in
@@ -227,13 +208,13 @@ unit-cons unit units f k g l costed a b rest =
     record {
       frames_are = omega (arith, frames, a, c);
       calls_are = omega (arith, calls, b, d);
-      costed = (costed, rest.costed);
+      plain = (costed, rest.plain);
     }
 
 singles-cost : (at : ℕ) (deeds : List Deed) → Each IsLightDeed deeds
     → UnitCost (map (shares_of records 4) (map parts.Single (numbered at deeds))) (length deeds)
     (3 * length deeds)
-singles-cost at [] light = record { frames_are = omega arith; calls_are = omega arith; costed = tt }
+singles-cost at [] light = record { frames_are = omega arith; calls_are = omega arith; plain = tt }
 singles-cost at (deed ∷ deeds) light =
     let one = acts-cost (deed.act ∷ []) (light.0, tt) in
     let frames = one.frames_are in
@@ -247,13 +228,11 @@ singles-cost at (deed ∷ deeds) light =
     record {
       frames_are = omega (arith, all-frames);
       calls_are = omega (arith, all-calls);
-      costed = all.costed;
+      plain = all.plain;
     }
 
-record SharesCost (unit : ScriptUnit) (frames calls : ℕ) : Type 0 where
-  frames_are : frames_of_unit unit ≤ frames
-  calls_are : calls_of_unit unit ≤ calls
-  costed : Each IsCosted unit
+abbrev SharesCost : ScriptUnit → ℕ → ℕ → Type 0
+SharesCost = CostBy frames_of_share calls_of_share IsCosted
 
 module _ (lines : List Line) (most : ℕ) (acts : (user : ℕ) → UserActs (acts_of lines user) most) where
   abbrev share : ℕ → UnitShare
@@ -275,7 +254,7 @@ module _ (lines : List Line) (most : ℕ) (acts : (user : ℕ) → UserActs (act
       record {
         frames_are = omega (arith, few, a, c, all-frames);
         calls_are = omega (arith, few, b, d, all-calls);
-        costed = (share-costed user (acts_of lines user) own.light, rest.costed);
+        plain = (share-costed user (acts_of lines user) own.light, rest.plain);
       }
   with-share user others frames calls false rest =
       let c = rest.frames_are in
@@ -283,13 +262,13 @@ module _ (lines : List Line) (most : ℕ) (acts : (user : ℕ) → UserActs (act
       record {
         frames_are = omega (arith, c);
         calls_are = omega (arith, d);
-        costed = rest.costed;
+        plain = rest.plain;
       }
 
   shares-cost : (us : List ℕ)
       → SharesCost (map share (filter (has_line lines) us)) (length us * most)
       (length us * (3 * most))
-  shares-cost [] = record { frames_are = omega arith; calls_are = omega arith; costed = tt }
+  shares-cost [] = record { frames_are = omega arith; calls_are = omega arith; plain = tt }
   shares-cost (user ∷ us) =
       let all = with-share user (filter (has_line lines) us) (length us * most)
       (length us * (3 * most)) (has_line lines user) (shares-cost us) in
@@ -298,7 +277,7 @@ module _ (lines : List Line) (most : ℕ) (acts : (user : ℕ) → UserActs (act
       record {
         frames_are = omega (arith, frames);
         calls_are = omega (arith, calls);
-        costed = all.costed;
+        plain = all.plain;
       }
 
 -- ---- the closings
@@ -306,7 +285,7 @@ module _ (lines : List Line) (most : ℕ) (acts : (user : ℕ) → UserActs (act
 closing-free : (ports : List OwnPort) → Cost (flat_map closing_of ports ++ Depart ∷ []) 0 0
 closing-free [] = record { frames_are = omega arith; calls_are = omega arith; plain = (tt, tt) }
 closing-free (port ∷ ports) =
-    cost-append (closing_of port) (flat_map closing_of ports ++ Depart ∷ []) 0 0 0 0
+    cost-append frames_of_task calls_of_task IsPlainTask (closing_of port) (flat_map closing_of ports ++ Depart ∷ []) 0 0 0 0
     (record { frames_are = omega arith; calls_are = omega arith; plain = (tt, (tt, tt)) })
     (closing-free ports)
 
@@ -321,7 +300,7 @@ closing-costed user = (
 )
 
 closings-cost : (us : List ℕ) → UnitCost (map closing_unit us) 0 0
-closings-cost [] = record { frames_are = omega arith; calls_are = omega arith; costed = tt }
+closings-cost [] = record { frames_are = omega arith; calls_are = omega arith; plain = tt }
 closings-cost (user ∷ us) = unit-cons (closing_unit user) (map closing_unit us) 0 0 0 0
     (closing-costed user) (same-le 0) (same-le 0) (closings-cost us)
 
@@ -336,10 +315,10 @@ load-cost n =
     let own = of-user user 10 (block_deeds n) deeds.light in
     let size = own.few in
     record { few = omega (arith, size, few); light = own.light }) users in
-    units-append (map (shares_of records 4) (map parts.Single (numbered 1 opening))) _ 8 24 96000
+    cost-append frames_of_unit calls_of_unit (Each IsCosted) (map (shares_of records 4) (map parts.Single (numbered 1 opening))) _ 8 24 96000
     288000 (singles-cost 1 opening opening-light)
     (unit-cons (shares_of records 4 (parts.Block lines)) (map closing_unit users) 96000 288000 0 0
-    block.costed block.frames_are block.calls_are (closings-cost users))
+    block.plain block.frames_are block.calls_are (closings-cost users))
 
 fit-entries : (units : List ScriptUnit) → UnitCost units 96008 288024
     → 34 * frames_of_units units + calls_of_units units ≤ 8388608
@@ -354,7 +333,7 @@ fit-bytes units cost = let frames = cost.frames_are in omega (arith, frames)
 
 pub load-fits : (n : ℕ) → TasksFit (load_program n) [] VERSION_1
 load-fits n = record {
-  costed = (load-cost n).costed;
+  costed = (load-cost n).plain;
   entries = fit-entries (units_of (load_program n) []) (load-cost n);
   bytes = fit-bytes (units_of (load_program n) []) (load-cost n);
 }

@@ -13,18 +13,9 @@ use Rattle.vale_entry.specs.declared.entry.Entry.{Entry}
 use Rattle.vale_entry.specs.declared.entry.Reply.{Reply}
 use Rattle.vale_entry.specs.World.{Port, is_settled, open_port}
 use Rattle.vale_entry.specs.Legal.{Standing, IsLegal, IsLegalFrom, after, can_send, fresh_standing, made_at, recorded_step, send_step, session_and_reply}
+use Rattle.vale_entry.proofs.FrameBytes.{frames-bytes}
 use Rattle.vale_captures.proofs.Pages.{taken-next}
 use Rattle.vale_run.specs.Load.{frames_of_ask, count_sent, bytes_sent}
-
-few-bytes : (frames : List Frame) → list_all fits_buffer frames ≡ true
-    → bytes_of_frames frames ≤ 2048 * length frames
-few-bytes [] fit = omega arith
-few-bytes (frame ∷ frames) fit =
-    let parts = and_parts (fits_buffer frame) (list_all fits_buffer frames) fit in
-    let here = leb-true (length frame.bytes) 2048 parts.0 in
-    let rest = few-bytes frames parts.1 in
-    let cut = sum_by-cons (λ (f : Frame). length f.bytes) frame frames in
-    omega (arith, here, rest, cut)
 
 record AreFew (frames : List Frame) : Type 0 where
   count : length frames ≤ 1023
@@ -37,7 +28,7 @@ sendable-few frames may =
     let fits = and_parts (nat_le (size_of_frames frames) 1023) (list_all fits_buffer frames)
     parts.1 in
     let count = leb-true (length frames) 1023 parts.0 in
-    let bytes = few-bytes frames fits.1 in
+    let bytes = frames-bytes frames fits.1 in
     record { count = count; bytes = omega (arith, count, bytes) }
 
 -- a Send that was made carries what one send may carry
@@ -87,16 +78,12 @@ sums-few s (e ∷ history) legal =
 pub counts-fit : (pool : ℕ) (history : List Entry) → IsLegal pool history
     → length history < 2 ^ 32 → sum_by count_sent history < 2 ^ 64
 counts-fit pool history legal few =
-    let sums = sums-few (fresh_standing pool) history legal in
-    let count = sums.count in
-    omega (arith, few, count)
+    omega (arith, few, (sums-few (fresh_standing pool) history legal).count)
 
 pub bytes-fit : (pool : ℕ) (history : List Entry) → IsLegal pool history
     → length history < 2 ^ 32 → sum_by bytes_sent history < 2 ^ 64
 bytes-fit pool history legal few =
-    let sums = sums-few (fresh_standing pool) history legal in
-    let bytes = sums.bytes in
-    omega (arith, few, bytes)
+    omega (arith, few, (sums-few (fresh_standing pool) history legal).bytes)
 
 -- Entries are gone through one after another.
 

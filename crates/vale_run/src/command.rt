@@ -1,22 +1,18 @@
 //! Runs a command.
-ghost use Rattle.std.specs.Prelude.{ℕ, List, ◌≡◌, ◌≤◌, ◌<◌, ◌^◌, length, map, string_bytes};
-ghost use Rattle.std.specs.Prelude.{option_map, Ok};
+ghost use Rattle.std.specs.Prelude.{ℕ, List, ◌≡◌, ◌≤◌, ◌<◌, ◌^◌, length, map, string_bytes, option_map, Ok};
 ghost use Rattle.vale_entry.specs.World.{free_count};
 ghost use Rattle.vale_book.specs.Recorded.{standing};
 ghost use Rattle.vale_script.specs.Sound.{IsSound};
 ghost use Rattle.vale_captures.specs.Counting.{frames_played};
-ghost use Rattle.vale_captures.specs.Inputs.{HasContents, name_of};
+ghost use Rattle.vale_captures.specs.Inputs.{HasContents, name_of, AreInputs};
 ghost use Rattle.std.specs.List.{AllByRecursion};
 ghost use Rattle.vale_entry.specs.Transcript.{transcript_text};
-ghost use Rattle.vale_captures.specs.Inputs.{AreInputs};
 ghost use Rattle.vale_captures.specs.Outputs.{IsWritable};
-ghost use Rattle.vale_run.specs.Run.{script_name, Ends, IsScript, IsAccepted, IsCounted};
+ghost use Rattle.vale_run.specs.Run.{script_name, Ends, IsScript, IsAccepted, IsCounted, HasInputs, IsReady};
 ghost use Rattle.vale_run.specs.Load.{load_number};
 ghost use Rattle.vale_run.specs.Commands.{Runs};
-ghost use Rattle.vale_run.specs.Run.{HasInputs, IsReady};
 ghost use Rattle.vale_run.specs.Complete.{Completes};
-ghost use Rattle.vale_run.specs.Writing.{IsFewUsed, stopped, NamesFile, BlamesFile, Saves, Written};
-ghost use Rattle.vale_run.specs.Writing.{IsSaid, NamesInput, BlamesInput};
+ghost use Rattle.vale_run.specs.Writing.{IsFewUsed, stopped, NamesFile, BlamesFile, Saves, Written, IsSaid, NamesInput, BlamesInput};
 
 use crate::load::{load_number, run_load};
 use crate::playing::play_recorded;

@@ -5,8 +5,7 @@ ghost use Rattle.nm_io.specs.Held.{Writes};
 ghost use Rattle.vale_entry.specs.World.{free_count};
 ghost use Rattle.vale_book.specs.Recorded.{standing};
 ghost use Rattle.vale_script.specs.Words.{are_digits, number_in};
-ghost use Rattle.vale_run.specs.Load.{most_load, load_number, count_sent, bytes_sent, load_line};
-ghost use Rattle.vale_run.specs.Load.{load_text, LoadEnds};
+ghost use Rattle.vale_run.specs.Load.{most_load, load_number, count_sent, bytes_sent, load_line, load_text, LoadEnds};
 ghost use Rattle.vale_run.specs.Status.{WritesAnswer};
 
 use crate::command::stopped;

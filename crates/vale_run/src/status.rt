@@ -2,8 +2,7 @@
 ghost use Rattle.std.specs.Prelude.{◌≡◌, ◌≤◌, List, ℕ, OnErr};
 ghost use Rattle.nm_io.specs.Counts.{Rose};
 ghost use Rattle.nm_io.specs.Held.{Writes};
-ghost use Rattle.vale_run.specs.Status.{code_of, cause_text, capture_text, offset_of, what_text};
-ghost use Rattle.vale_run.specs.Status.{bad_capture_line, over_line, status_text, Reports};
+ghost use Rattle.vale_run.specs.Status.{code_of, cause_text, capture_text, offset_of, what_text, bad_capture_line, over_line, status_text, Reports};
 
 use nm_io::{Failed, Sink, put_all};
 use nm_types::LineCause;

@@ -11,3 +11,4 @@ pub mod Copies
 pub mod Exchange
 pub mod Reading
 pub mod Putting
+pub mod Words

@@ -1,11 +1,9 @@
 ghost use Rattle.std.specs.Prelude.{◌≡◌, None, Ok, IfSome, IfNone};
 ghost use Rattle.vale_entry.specs.declared.entry.Ask.TheVariants as asks;
-ghost use Rattle.vale_entry.specs.World.{open_port};
 ghost use Rattle.vale_entry.specs.Closing.{shutting_port};
 ghost use Rattle.vale_book.specs.Reading.{read_ask};
-ghost use Rattle.vale_book.specs.Recorded.{standing};
 ghost use Rattle.vale_serve.specs.Joined.{AreUsersOf, IsOwner};
-ghost use Rattle.vale_serve.specs.Serving.{IsServed};
+ghost use Rattle.vale_serve.specs.Words.{IsServed, open_port, standing};
 
 use crate::completing::{done, place_of_lease};
 use crate::finishing::finish;

@@ -1,8 +1,7 @@
 ghost use Rattle.std.specs.Prelude.{◌≡◌, true, Ok, position};
 ghost use Rattle.vale_entry.specs.declared.entry.Ask.TheVariants as asks;
-ghost use Rattle.vale_entry.specs.Legal.{IsLegal};
-ghost use Rattle.vale_serve.specs.Serving.{IsServed};
-ghost use Rattle.vale_serve.specs.Users.{IsUser, has_lease, is_lease};
+ghost use Rattle.vale_serve.specs.Users.{has_lease, is_lease};
+ghost use Rattle.vale_serve.specs.Words.{IsLegal, IsServed, IsUser};
 
 use crate::users::User;
 use nm_types::LeaseId;

@@ -3,12 +3,10 @@ ghost use Rattle.std.specs.List.{AllByRecursion, list_any};
 ghost use Rattle.vale_entry.specs.declared.entry.Ask.TheVariants as asks;
 ghost use Rattle.vale_entry.specs.declared.entry.Reply.TheVariants as replies;
 ghost use Rattle.vale_entry.specs.Closing.{shutting_port};
-ghost use Rattle.vale_entry.specs.Legal.{IsLegal};
-ghost use Rattle.vale_book.specs.Recorded.{standing};
 ghost use Rattle.vale_serve.specs.Buffers.{holds_all};
 ghost use Rattle.vale_serve.specs.Finishing.{HasRoomForPort, HasLostRoom, HasTakenForPort};
-ghost use Rattle.vale_serve.specs.Serving.{IsServed};
-ghost use Rattle.vale_serve.specs.Users.{IsUser, IsAsker, IsRoom, IsMemory, is_room_of};
+ghost use Rattle.vale_serve.specs.Users.{IsRoom, is_room_of};
+ghost use Rattle.vale_serve.specs.Words.{IsAsker, IsLegal, IsMemory, IsServed, IsUser, standing};
 
 use crate::buffers::{holds_all, take_out};
 use crate::users::{Room, User};

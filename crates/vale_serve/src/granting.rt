@@ -1,12 +1,9 @@
-ghost use Rattle.std.specs.Prelude.{ℕ, ◌≡◌, ◌≤◌, ◌+◌, length, vec_capacity, true, None, Ok, Some};
-ghost use Rattle.std.specs.Prelude.{position};
+ghost use Rattle.std.specs.Prelude.{ℕ, ◌≡◌, ◌≤◌, ◌+◌, length, vec_capacity, true, None, Ok, Some, position};
 ghost use Rattle.vale_entry.specs.declared.entry.Ask.TheVariants as asks;
-ghost use Rattle.vale_entry.specs.Legal.{IsLegal};
-ghost use Rattle.vale_book.specs.Recorded.{standing};
 ghost use Rattle.vale_serve.specs.Filling.{IsFillable, IsFilledWith};
 ghost use Rattle.vale_serve.specs.Granting.{CanGrant, HasGranted, AddsLease};
-ghost use Rattle.vale_serve.specs.Serving.{IsServed};
-ghost use Rattle.vale_serve.specs.Users.{IsUser, contents, is_offered, next_is};
+ghost use Rattle.vale_serve.specs.Users.{is_offered, next_is};
+ghost use Rattle.vale_serve.specs.Words.{IsLegal, IsServed, IsUser, contents, standing};
 
 use crate::sending::keep;
 use crate::users::{Sent, User};

@@ -2,11 +2,8 @@ ghost use Rattle.std.specs.Prelude.{◌≡◌, ◌≤◌, [], true, vec_capacity
 ghost use Rattle.nm_types.specs.Names.{is_name};
 ghost use Rattle.vale_entry.specs.declared.entry.Ask.TheVariants as asks;
 ghost use Rattle.vale_entry.specs.World.{is_session};
-ghost use Rattle.vale_entry.specs.Legal.{IsLegal};
-ghost use Rattle.vale_book.specs.Recorded.{standing};
 ghost use Rattle.vale_serve.specs.Opening.{unopened, most_given, CanTake, TakesIn, HasTaken};
-ghost use Rattle.vale_serve.specs.Serving.{IsServed};
-ghost use Rattle.vale_serve.specs.Users.{IsUser, SameUser, IsMemory};
+ghost use Rattle.vale_serve.specs.Words.{IsLegal, IsMemory, IsServed, IsUser, SameUser, standing};
 
 use crate::buffers::move_all;
 use crate::users::{Room, User};

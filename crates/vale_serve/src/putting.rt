@@ -1,21 +1,15 @@
-ghost use Rattle.std.specs.Prelude.{◌≡◌, ◌≤◌, ◌+◌, ◌&&◌, [], true, false, length, take, map};
-ghost use Rattle.std.specs.Prelude.{vec_capacity, None, IfOk};
+ghost use Rattle.std.specs.Prelude.{◌≡◌, ◌≤◌, ◌+◌, ◌&&◌, [], true, false, length, take, map, vec_capacity, None, IfOk};
 ghost use Rattle.std.specs.List.{list_all, list_any, AllByRecursion};
 ghost use Rattle.nm_region.specs.Buffers.{indices_of};
 ghost use Rattle.vale_line.specs.Gots.{got_of};
 ghost use Rattle.vale_entry.specs.declared.entry.Ask.TheVariants as asks;
 ghost use Rattle.vale_entry.specs.declared.entry.Reply.TheVariants as replies;
-ghost use Rattle.vale_entry.specs.World.{open_port};
 ghost use Rattle.vale_entry.specs.Holdings.{contains, are_distinct};
-ghost use Rattle.vale_entry.specs.Legal.{IsLegal};
 ghost use Rattle.vale_entry.specs.Pipe.{indices_of as item_indices, is_pipe_item};
-ghost use Rattle.vale_book.specs.Recorded.{standing};
 ghost use Rattle.vale_serve.specs.Buffers.{holds, holds_all};
-ghost use Rattle.vale_serve.specs.Putting.{is_in, is_held, bytes_in, can_put, unput};
-ghost use Rattle.vale_serve.specs.Putting.{AreFramed, IsPutRoom, HasPut};
+ghost use Rattle.vale_serve.specs.Putting.{is_in, is_held, bytes_in, can_put, unput, AreFramed, IsPutRoom, HasPut};
 ghost use Rattle.vale_serve.specs.Replies.{last_dests};
-ghost use Rattle.vale_serve.specs.Serving.{IsServed};
-ghost use Rattle.vale_serve.specs.Users.{IsUser, IsAsker, SameUser, contents};
+ghost use Rattle.vale_serve.specs.Words.{IsAsker, IsLegal, IsServed, IsUser, SameUser, contents, open_port, standing};
 
 use crate::buffers::holds;
 use crate::exchanging::{give, give_all, take_from};

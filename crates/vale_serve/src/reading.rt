@@ -1,20 +1,17 @@
-ghost use Rattle.std.specs.Prelude.{◌≡◌, ◌≤◌, ◌<◌, ◌+◌, [], All, length, vec_capacity, None, Some};
-ghost use Rattle.std.specs.Prelude.{OnOk, OnErr, IfOk, IfErr};
+ghost use Rattle.std.specs.Prelude.{◌≡◌, ◌≤◌, ◌<◌, ◌+◌, [], All, length, vec_capacity, None, Some, OnOk, OnErr, IfOk, IfErr};
 ghost use Rattle.nm_types.specs.Limits.{most_ring};
 ghost use Rattle.nm_region.specs.Buffers.{indices_of};
 ghost use Rattle.vale_line.specs.Gots.{IsSingle};
 ghost use Rattle.vale_entry.specs.declared.entry.Reply.TheVariants as replies;
-ghost use Rattle.vale_entry.specs.World.{open_port};
-ghost use Rattle.vale_entry.specs.Legal.{IsLegal, IsEnabled, reply_to};
+ghost use Rattle.vale_entry.specs.Legal.{IsEnabled, reply_to};
 ghost use Rattle.vale_parts.specs.Batches.{dests_wanted};
 ghost use Rattle.vale_book.specs.BookView.{AreOf};
 ghost use Rattle.vale_book.specs.Reading.{read_ask, IsGiven, IsOffered};
-ghost use Rattle.vale_book.specs.Recorded.{standing, after_ask, IsRefusal, HasRoom};
+ghost use Rattle.vale_book.specs.Recorded.{after_ask, IsRefusal, HasRoom};
 ghost use Rattle.vale_serve.specs.Exchange.{HasRead, HasRoomFor};
 ghost use Rattle.vale_serve.specs.Reading.{is_read_so, can_read, copies_of, IsReadRoom};
 ghost use Rattle.vale_serve.specs.Replies.{last_dests};
-ghost use Rattle.vale_serve.specs.Serving.{IsServed};
-ghost use Rattle.vale_serve.specs.Users.{IsUser, IsAsker, SameUser};
+ghost use Rattle.vale_serve.specs.Words.{IsAsker, IsLegal, IsServed, IsUser, SameUser, open_port, standing};
 
 use crate::buffers::holds_all;
 use crate::copying::CopyRoom;

@@ -1,12 +1,10 @@
 ghost use Rattle.std.specs.Prelude.{◌≡◌, ◌&&◌};
 ghost use Rattle.nm_types.specs.SyncFaults.{is_check_fault};
 ghost use Rattle.vale_entry.specs.declared.entry.Ask.TheVariants as asks;
-ghost use Rattle.vale_entry.specs.World.{Port, open_port};
-ghost use Rattle.vale_entry.specs.Legal.{IsLegal, has_ring, can_reset, fits_fault};
+ghost use Rattle.vale_entry.specs.World.{Port};
+ghost use Rattle.vale_entry.specs.Legal.{has_ring, can_reset, fits_fault};
 ghost use Rattle.vale_book.specs.Asking.{IsSeen};
-ghost use Rattle.vale_book.specs.Recorded.{standing};
-ghost use Rattle.vale_serve.specs.Serving.{IsServed};
-ghost use Rattle.vale_serve.specs.Users.{IsUser, IsAsker};
+ghost use Rattle.vale_serve.specs.Words.{IsAsker, IsLegal, IsServed, IsUser, open_port, standing};
 
 use crate::users::User;
 use nm_types::{PortId, Side, StepFault, SyncFault};

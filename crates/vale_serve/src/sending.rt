@@ -2,13 +2,10 @@ ghost use Rattle.std.specs.Prelude.{◌≡◌, ◌≤◌, ◌&&◌, [], None, le
 ghost use Rattle.nm_types.specs.Names.{is_switch_port_name};
 ghost use Rattle.nm_types.specs.Sendable.{is_sendable};
 ghost use Rattle.vale_entry.specs.declared.entry.Ask.TheVariants as asks;
-ghost use Rattle.vale_entry.specs.World.{open_port};
-ghost use Rattle.vale_entry.specs.Legal.{IsLegal};
 ghost use Rattle.vale_port.specs.Kept.{bytes_of};
-ghost use Rattle.vale_book.specs.Recorded.{standing};
 ghost use Rattle.vale_serve.specs.Replies.{dests_in, last_dests};
-ghost use Rattle.vale_serve.specs.Serving.{IsServed};
-ghost use Rattle.vale_serve.specs.Users.{IsUser, IsAsker, contents, is_settled_user, HasSent};
+ghost use Rattle.vale_serve.specs.Users.{is_settled_user, HasSent};
+ghost use Rattle.vale_serve.specs.Words.{IsAsker, IsLegal, IsServed, IsUser, contents, open_port, standing};
 
 use crate::users::{Sent, User};
 use nm_types::{Batch, NoMemory, PortId, StepFault};

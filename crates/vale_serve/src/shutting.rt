@@ -1,10 +1,6 @@
 ghost use Rattle.std.specs.Prelude.{Ok};
 ghost use Rattle.vale_entry.specs.declared.entry.Ask.TheVariants as asks;
-ghost use Rattle.vale_entry.specs.World.{open_port};
-ghost use Rattle.vale_entry.specs.Legal.{IsLegal};
-ghost use Rattle.vale_book.specs.Recorded.{standing};
-ghost use Rattle.vale_serve.specs.Serving.{IsServed};
-ghost use Rattle.vale_serve.specs.Users.{IsUser, IsMine};
+ghost use Rattle.vale_serve.specs.Words.{IsLegal, IsMine, IsServed, IsUser, open_port, standing};
 
 use crate::users::User;
 use nm_types::PortId;

@@ -1,9 +1,6 @@
-ghost use Rattle.std.specs.Prelude.{◌≡◌, ◌==◌, ◌≤◌, ◌+◌, ◌&&◌, length, position, vec_capacity, OnOk};
-ghost use Rattle.std.specs.Prelude.{true, slice_get, option_map};
-ghost use Rattle.vale_serve.specs.Users.{offered_by, leased_by};
+ghost use Rattle.std.specs.Prelude.{◌≡◌, ◌==◌, ◌≤◌, ◌+◌, ◌&&◌, length, position, vec_capacity, OnOk, true, slice_get, option_map};
+ghost use Rattle.vale_serve.specs.Users.{offered_by, leased_by, SameUser, is_user, is_settled_user, is_offered, next_is, is_next_to, has_next, port_in_room, HasNothing};
 ghost use Rattle.vale_serve.specs.Exchange.{HasSorted};
-ghost use Rattle.vale_serve.specs.Users.{SameUser, is_user, is_settled_user, is_offered, next_is};
-ghost use Rattle.vale_serve.specs.Users.{is_next_to, has_next, port_in_room, HasNothing};
 
 use nm_region::Buf;
 use nm_types::{PortId, SessionId};

@@ -1,12 +1,8 @@
 ghost use Rattle.std.specs.Prelude.{◌≡◌, ◌&&◌, not};
 ghost use Rattle.nm_types.specs.Names.{is_name, is_monitor_name};
 ghost use Rattle.vale_entry.specs.declared.entry.Ask.TheVariants as asks;
-ghost use Rattle.vale_entry.specs.World.{open_port};
-ghost use Rattle.vale_entry.specs.Legal.{IsLegal};
-ghost use Rattle.vale_book.specs.Recorded.{standing};
 ghost use Rattle.vale_serve.specs.Replies.{watch_answer};
-ghost use Rattle.vale_serve.specs.Serving.{IsServed};
-ghost use Rattle.vale_serve.specs.Users.{IsUser, IsAsker};
+ghost use Rattle.vale_serve.specs.Words.{IsAsker, IsLegal, IsServed, IsUser, open_port, standing};
 
 use crate::users::User;
 use nm_types::{Kind, Name, PortId, Sides, StepFault, WatchFault};

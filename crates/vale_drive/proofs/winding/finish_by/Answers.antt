@@ -30,12 +30,9 @@ write_indices-requires c =
 
 pub finish_at-requires : goal.finish_at-requires
 finish_at-requires c =
-    let b = c.args.book.now in
-    let users = c.args.users.now.items in
-    let found = shutting_port (standing b).world.ports c.args.port.0 in
-    let at = sorted-at b users c.args.place found c.args.seen c.index_mut.result.now c.sort_bufs.new.self c.requires.users
-    (owner-at users found c.args.seen c.args.place c.index_mut.result.now c.requires.owner c.index_mut.ensures.value) c.sort_bufs.ensures in
-    at.kept
+    let found = shutting_port (standing c.args.book.now).world.ports c.args.port.0 in
+    (sorted-at c.args.book.now c.args.users.now.items c.args.place found c.args.seen c.index_mut.result.now c.sort_bufs.new.self c.requires.users
+    (owner-at c.args.users.now.items found c.args.seen c.args.place c.index_mut.result.now c.requires.owner c.index_mut.ensures.value) c.sort_bufs.ensures).kept
 
 pub returns-clause-made : goal.returns-clause-made
 returns-clause-made c =

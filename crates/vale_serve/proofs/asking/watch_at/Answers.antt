@@ -2,14 +2,12 @@ use Rattle.std.proofs.Common.{◌≡◌, get_or, refl, rules}
 use Rattle.vale_entry.specs.declared.entry.Ask.TheVariants.{Watch}
 use Rattle.vale_entry.specs.World.{open_port}
 use Rattle.vale_book.specs.Recorded.{standing}
-use Rattle.vale_serve.proofs.Asked.{OwnerAt, owner-at, acted-still}
+use Rattle.vale_serve.proofs.Asked.{owner-at, acted-still}
 use Rattle.vale_serve.proofs.asking.watch_at.Goals as goal
 
 pub returns-in-Some-clause-kept : goal.returns-in-Some-clause-kept
 returns-in-Some-clause-kept c =
-    let b = c.args.book.now in
     let user = c.index-users-place.result in
     let is : user ≡ get_or c.args.users.now c.in-Some.place user = search rules in
-    let at : OwnerAt c.args.users.now (open_port (standing b).world.ports c.args.monitor.0) c.in-Some.seen c.in-Some.place user =
-    owner-at c.args.users.now (open_port (standing b).world.ports c.args.monitor.0) c.in-Some.seen c.in-Some.place user c.in-Some.ensures.some is in
-    acted-still b c.watch.new.book c.args.users.now c.in-Some.place user (Watch c.args.monitor c.args.target.now c.args.sides) c.watch.result c.requires at.here c.watch.ensures.kept c.watch.ensures.served refl refl at.asker
+    let at = owner-at c.args.users.now (open_port (standing c.args.book.now).world.ports c.args.monitor.0) c.in-Some.seen c.in-Some.place user c.in-Some.ensures.some is in
+    acted-still c.args.book.now c.watch.new.book c.args.users.now c.in-Some.place user (Watch c.args.monitor c.args.target.now c.args.sides) c.watch.result c.requires at.here c.watch.ensures.kept c.watch.ensures.served refl refl at.asker

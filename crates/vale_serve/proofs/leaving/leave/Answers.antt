@@ -18,20 +18,16 @@ returns-in_err-place-clause-served c =
 
 pub returns-then-not-can_leave-clause-served : goal.returns-then-not-can_leave-clause-served
 returns-then-not-can_leave-clause-served c =
-    let e = rw c.deref.ensures.value at (sym c.in_ok-place.ensures) in
     let user = c.index.result.now in
     let is : user ≡ get_or c.args.users.now.items c.in_ok-place.place user = search rules in
-    let at : LeavesAt c.args.book.now c.args.users.now.items c.args.session c.in_ok-place.place user =
-    leaves-at c.args.book.now c.args.users.now.items c.args.session c.in_ok-place.place user c.requires e is in
+    let at = leaves-at c.args.book.now c.args.users.now.items c.args.session c.in_ok-place.place user c.requires (rw c.deref.ensures.value at (sym c.in_ok-place.ensures)) is in
     unserved c.args.book.now (Leave c.args.session) (λ s. refl) (at.enabled ∙ (sym c.can_leave.ensures ∙ c.if-not-can_leave.true))
 
 pub leave-requires : goal.leave-requires
 leave-requires c =
-    let e = rw c.deref.ensures.value at (sym c.in_ok-place.ensures) in
     let user = c.index.result.now in
     let is : user ≡ get_or c.args.users.now.items c.in_ok-place.place user = search rules in
-    let at : LeavesAt c.args.book.now c.args.users.now.items c.args.session c.in_ok-place.place user =
-    leaves-at c.args.book.now c.args.users.now.items c.args.session c.in_ok-place.place user c.requires e is in
+    let at = leaves-at c.args.book.now c.args.users.now.items c.args.session c.in_ok-place.place user c.requires (rw c.deref.ensures.value at (sym c.in_ok-place.ensures)) is in
     at.enabled ∙ (sym c.can_leave.ensures ∙ c.if-not-can_leave.false)
 
 pub end-requires : goal.end-requires
@@ -50,22 +46,18 @@ end-requires c =
 
 pub returns-clause-served : goal.returns-clause-served
 returns-clause-served c =
-    let e = rw c.deref.ensures.value at (sym c.in_ok-place.ensures) in
     let user = c.index.result.now in
     let is : user ≡ get_or c.args.users.now.items c.in_ok-place.place user = search rules in
-    let at : LeavesAt c.args.book.now c.args.users.now.items c.args.session c.in_ok-place.place user =
-    leaves-at c.args.book.now c.args.users.now.items c.args.session c.in_ok-place.place user c.requires e is in
+    let at = leaves-at c.args.book.now c.args.users.now.items c.args.session c.in_ok-place.place user c.requires (rw c.deref.ensures.value at (sym c.in_ok-place.ensures)) is in
     let steps = steps-of c.args.book.now (Leave c.args.session) (λ s. refl) (at.enabled ∙ (sym c.can_leave.ensures ∙ c.if-not-can_leave.false)) in
     (sym (said-by steps (leave-said steps)), c.leave.ensures.made, c.leave.ensures.room)
 
 pub returns-clause-kept : goal.returns-clause-kept
 returns-clause-kept c =
     let b = c.args.book.now in
-    let e = rw c.deref.ensures.value at (sym c.in_ok-place.ensures) in
     let user = c.index.result.now in
     let is : user ≡ get_or c.args.users.now.items c.in_ok-place.place user = search rules in
-    let at : LeavesAt b c.args.users.now.items c.args.session c.in_ok-place.place user =
-    leaves-at b c.args.users.now.items c.args.session c.in_ok-place.place user c.requires e is in
+    let at = leaves-at b c.args.users.now.items c.args.session c.in_ok-place.place user c.requires (rw c.deref.ensures.value at (sym c.in_ok-place.ensures)) is in
     let can = at.enabled ∙ (sym c.can_leave.ensures ∙ c.if-not-can_leave.false) in
     let mine : is_enabled (standing b) (Leave user.id) ≡ true = subst (λ (s : SessionId). is_enabled (standing b) (Leave s) ≡ true) (sym at.named) can in
     let made = subst (λ (s : SessionId). c.leave.new.self ≡ after_ask b (Leave s)) (sym at.named) c.leave.ensures.made in

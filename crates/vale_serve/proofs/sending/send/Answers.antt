@@ -19,22 +19,16 @@ returns-then-not-can_send-clause-served c =
     (can-send c.args.book.now c.args.user.now c.args.port c.args.seen c.args.batch.now c.requires.legal c.requires.user c.requires.asker ∙ (sym c.can_send.ensures ∙ c.if-not-can_send.true))
 
 pub returns-in_err-frames-clause-served : goal.returns-in_err-frames-clause-served
-returns-in_err-frames-clause-served c =
-    let full = send-refused c.args.book.now c.args.user.now c.args.port c.args.seen c.args.batch.now c.requires.legal c.requires.user c.requires.asker (sym c.can_send.ensures ∙ c.if-not-can_send.false) in
-    search rules
+returns-in_err-frames-clause-served c = search (rules, send-refused c.args.book.now c.args.user.now c.args.port c.args.seen c.args.batch.now c.requires.legal c.requires.user c.requires.asker (sym c.can_send.ensures ∙ c.if-not-can_send.false))
 
 pub returns-in_err-reserve_leases-clause-served : goal.returns-in_err-reserve_leases-clause-served
-returns-in_err-reserve_leases-clause-served c =
-    let full = send-refused c.args.book.now c.args.user.now c.args.port c.args.seen c.args.batch.now c.requires.legal c.requires.user c.requires.asker (sym c.can_send.ensures ∙ c.if-not-can_send.false) in
-    search rules
+returns-in_err-reserve_leases-clause-served c = search (rules, send-refused c.args.book.now c.args.user.now c.args.port c.args.seen c.args.batch.now c.requires.legal c.requires.user c.requires.asker (sym c.can_send.ensures ∙ c.if-not-can_send.false))
 
 pub returns-in_err-reserve_leases-clause-kept : goal.returns-in_err-reserve_leases-clause-kept
 returns-in_err-reserve_leases-clause-kept c = user-same c.args.book.now c.args.user.now c.reserve_leases.new.self c.reserve_leases.ensures.same c.requires.user
 
 pub returns-in_err-to-clause-served : goal.returns-in_err-to-clause-served
-returns-in_err-to-clause-served c =
-    let full = send-refused c.args.book.now c.args.user.now c.args.port c.args.seen c.args.batch.now c.requires.legal c.requires.user c.requires.asker (sym c.can_send.ensures ∙ c.if-not-can_send.false) in
-    search rules
+returns-in_err-to-clause-served c = search (rules, send-refused c.args.book.now c.args.user.now c.args.port c.args.seen c.args.batch.now c.requires.legal c.requires.user c.requires.asker (sym c.can_send.ensures ∙ c.if-not-can_send.false))
 
 pub returns-in_err-to-clause-kept : goal.returns-in_err-to-clause-kept
 returns-in_err-to-clause-kept c = user-same c.args.book.now c.args.user.now c.reserve_leases.new.self c.reserve_leases.ensures.same c.requires.user

@@ -1,0 +1,18 @@
+-- Frames that fit a buffer have few bytes.
+use Rattle.std.proofs.Common.{◌*◌, ◌≤◌, ◌≡◌, true, List, [], ◌∷◌, length, arith}
+use Rattle.std.specs.List.{list_all}
+use Rattle.std.proofs.lemmas.Bool.{and_parts, leb-true}
+use Rattle.std.proofs.lemmas.List.Sums.{sum_by-cons}
+use Rattle.nm_types.specs.Frames.{Frame, bytes_of_frames}
+use Rattle.nm_types.specs.Sendable.{fits_buffer}
+
+pub frames-bytes :
+    (frames : List Frame) → list_all fits_buffer frames ≡ true
+    → bytes_of_frames frames ≤ 2048 * length frames
+frames-bytes [] fit = omega arith
+frames-bytes (frame ∷ frames) fit =
+    let parts = and_parts (fits_buffer frame) (list_all fits_buffer frames) fit in
+    let here = leb-true (length frame.bytes) 2048 parts.0 in
+    let rest = frames-bytes frames parts.1 in
+    let cut = sum_by-cons (λ (f : Frame). length f.bytes) frame frames in
+    omega (arith, here, rest, cut)
