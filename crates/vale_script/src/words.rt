@@ -53,15 +53,16 @@ fn add_word<'a>(words: &mut Vec<&'a [u8]>, word: &'a [u8]) -> Result<(), AllocEr
     Ok(())
 }
 
-/// Tells whether a line holds line bytes alone, and if so cuts its words at blanks and tabs, in the place of
-/// those that were there.
+/// Tells whether a line holds line bytes alone, and if so cuts its words at blanks and tabs, in the
+/// place of those that were there.
 #[tactic(auto, using(crate::proofs::Plain::plain))]
 pub(crate) fn cut_plain_words<'a>(
     words: &mut Vec<&'a [u8]>,
     line: &'a [u8],
 ) -> Result<bool, AllocError>
     ensures plain { IfOk result (λ plain. plain ≡ are_line_bytes line.now) }
-    ensures words { IfOk result (λ plain. IsTrue plain → map (λ w. w.now) words.new.items ≡ words_of line.now) }
+    ensures words { IfOk result (λ plain. IsTrue plain
+        → map (λ w. w.now) words.new.items ≡ words_of line.now) }
 {
     words.clear();
     let mut rest = line;

@@ -98,7 +98,8 @@ fn place_long(buf: &mut [u8], at: usize, number: u64) -> usize
     at + (DIGITS - start)
 }
 
-/// Writes a number from 10,000 on, and returns where its digits end. The bytes behind them may change.
+/// Writes a number from 10,000 on, and returns where its digits end. The bytes behind them may
+/// change.
 fn place_large(buf: &mut [u8], at: usize, number: u64) -> usize
     requires { (10000 ≤ number) × (at + 20 ≤ length buf.old) }
     ensures placed { Placed buf.old buf.new at (decimal number) result }
