@@ -1,17 +1,11 @@
--- How large the frames of a batch are, counted frame by frame.
+-- How large the frames of a batch are.
 use Rattle.std.proofs.Common.{ℕ, List, [], ◌∷◌, ◌≡◌, ◌+◌, true, false, drop, length, refl, arith, slice_get, Some, nat_le}
 use Rattle.std.specs.List.{list_all}
 use Rattle.std.proofs.lemmas.List.Sums.{sum_by-cons}
 use Rattle.std.proofs.Math.Seq.{drop-length}
-use Rattle.nm_types.specs.Frames.{Frame, slots_of, size_of_frames, bytes_of_frames}
+use Rattle.nm_types.specs.Frames.{Frame, slots_of, size_of_frames}
 use Rattle.nm_types.specs.Sendable.{fits_buffer}
-use Rattle.nm_types.proofs.Lists.{drop-slice_get, list_all-drop}
-
-pub bytes_more : (fs : List Frame) (i : ℕ) (f : Frame) → slice_get fs i ≡ Some f → bytes_of_frames (drop i fs) ≡ length f.bytes + bytes_of_frames (drop (i + 1) fs)
-bytes_more fs i f e = rw (drop-slice_get fs i f e) (sum_by-cons (λ (g : Frame). length g.bytes) f (drop (i + 1) fs))
-
-pub bytes_end : (fs : List Frame) → bytes_of_frames (drop (length fs) fs) ≡ 0
-bytes_end fs = rw (drop-length fs) refl
+use Rattle.nm_types.proofs.Lists.{list_all-drop}
 
 -- each frame takes one slot
 pub size_of_frames-length : (fs : List Frame) → size_of_frames fs ≡ length fs
@@ -27,4 +21,4 @@ fits_not fs i f e fits = rw (list_all-drop fits_buffer fs i f e, fits) refl
 pub fits_end : (fs : List Frame) → list_all fits_buffer (drop (length fs) fs) ≡ true
 fits_end fs = rw (drop-length fs) refl
 
-pub ruleset sizes = (bytes_more, bytes_end, size_of_frames-length, fits_more, fits_not, fits_end)
+pub ruleset sizes = (size_of_frames-length, fits_more, fits_not, fits_end)

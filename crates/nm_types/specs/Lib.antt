@@ -2,7 +2,7 @@ pub mod Addresses
 pub mod Buffers
 pub mod Chain
 pub mod Counters
-pub mod Cuts
+pub mod Ends
 pub mod Exchange
 pub mod Faults
 pub mod Frames

@@ -1,5 +1,8 @@
-ghost use Rattle.std.specs.Prelude.{◌≡◌, ◌<◌, ◌^◌, [], ◌∷◌, ◌++◌, length, take, IfOk, OnOk, OnErr, slice_get, option_map, Some, true, false, IsTrue, ◌↔◌};
+ghost use Rattle.std.specs.Prelude.{ℕ, ◌≡◌, ◌<◌, ◌≤◌, ◌+◌, ◌^◌, [], ◌∷◌, ◌++◌, length, take, IfOk, OnOk, OnErr};
+ghost use Rattle.std.specs.Prelude.{slice_get, slice_index, slice_index_or, slice_range, option_map, Some, true, false, IsTrue, ◌↔◌};
 ghost use Rattle.std.specs.List.{list_all};
+ghost use Rattle.std.specs.Vec.{vec_capacity};
+ghost use Rattle.nm_types.specs.Ends.{start_at};
 ghost use Rattle.nm_types.specs.Frames.{bytes_of_frames};
 ghost use Rattle.nm_types.specs.Sendable.{fits_buffer, is_sendable};
 
@@ -50,33 +53,28 @@ impl Frame {
     }
 }
 
-/// Where a frame lies among the bytes of its batch.
-#[derive(Clone, Copy)]
-struct Cut {
-    start: usize,
-    end: usize,
-    no_learn: bool,
-}
-
-/// The frames of a batch that is not empty: their bytes lie in one run.
+/// The frames of a batch that is not empty: their bytes lie side by side in one run. A stored batch
+/// has four bytes more for each frame.
 #[derive(Drop)]
 struct Run {
     bytes: Vec<u8>,
-    cuts: Vec<Cut>,
+    /// Where each frame ends, and the next one begins.
+    ends: Vec<u32>,
+    /// Which frames are marked no-learn, up to the last one that is. Mostly empty.
+    marks: Vec<bool>,
 }
 
 impl Model for Run {
-    ghost use Rattle.std.specs.Prelude.{List, map, length};
-    ghost use Rattle.std.specs.List.{All};
+    ghost use Rattle.std.specs.Prelude.{List};
     ghost use Rattle.nm_types.specs.Frames.{Frame as Packet};
 
     ghost Value = { List Packet };
 
-    ghost use Rattle.nm_types.specs.Cuts.{frame_at, IsWithin};
+    ghost use Rattle.nm_types.specs.Ends.{frames_from, IsRun};
 
-    ghost view = { λ r. map (frame_at r.bytes.items) r.cuts.items };
+    ghost view = { λ r. frames_from r.bytes.items r.ends.items r.marks.items 0 };
 
-    ghost invariant = { λ r. All (IsWithin (length r.bytes.items)) r.cuts.items };
+    ghost invariant = { λ r. IsRun r.bytes.items r.ends.items r.marks.items };
 }
 
 impl Clone for Run {
@@ -88,9 +86,73 @@ impl Clone for Run {
         let alloc = *self.bytes.allocator();
         Ok(Run {
             bytes: Vec::from_slice(alloc, &self.bytes)?,
-            cuts: Vec::from_slice(alloc, &self.cuts)?,
+            ends: Vec::from_slice(alloc, &self.ends)?,
+            marks: Vec::from_slice(alloc, &self.marks)?,
         })
     }
+}
+
+/// Where a frame of `len` bytes ends behind `before` bytes, if that is told by 32 bits.
+fn end_behind(before: usize, len: usize) -> Result<u32, AllocError>
+    ensures { IfOk result (λ end. end ≡ before + len) }
+{
+    let most = u32::MAX as usize;
+    if before > most {
+        return Err(AllocError);
+    }
+    if len > most - before {
+        return Err(AllocError);
+    }
+    Ok((before + len) as u32)
+}
+
+/// Where the frame at a place begins: at the end of the one before it.
+fn start_at(ends: &[u32], i: usize) -> u32
+    requires { i ≤ length ends.now }
+    ensures { result ≡ start_at 0 ends.now i }
+{
+    if i == 0 { 0 } else { ends[i - 1] }
+}
+
+/// Where the frame at a place ends.
+fn end_at(ends: &[u32], i: usize) -> u32
+    requires { i < length ends.now }
+    ensures { result ≡ slice_index ends.now i }
+{
+    ends[i]
+}
+
+/// The bytes from one place up to another.
+fn part(bytes: &[u8], start: u32, end: u32) -> &[u8]
+    requires order { start ≤ end }
+    requires within { end ≤ length bytes.now }
+    ensures { result.now ≡ slice_range bytes.now start end }
+{
+    &bytes[start as usize..end as usize]
+}
+
+/// Whether the frame at a place is marked.
+fn is_marked(marks: &[bool], i: usize) -> bool
+    ensures { result ≡ slice_index_or marks.now i false }
+{
+    match marks.get(i) {
+        Some(mark) => *mark,
+        None => false,
+    }
+}
+
+/// Has the marks of `count` frames in memory, and room for one more.
+#[inline(never)]
+fn reach_marks(marks: &mut Vec<bool>, count: usize) -> Result<(), AllocError>
+    requires { length marks.old.items ≤ count }
+    ensures padded { (i : ℕ)
+        → slice_index_or marks.new.items i false ≡ slice_index_or marks.old.items i false }
+    ensures few { length marks.new.items ≤ count }
+    ensures count { IfOk result (λ done. length marks.new.items ≡ count) }
+    ensures room { IfOk result (λ done. count < vec_capacity marks.new) }
+{
+    marks.resize(count, false)?;
+    marks.reserve(1)
 }
 
 impl Run {
@@ -99,32 +161,55 @@ impl Run {
     {
         Run {
             bytes: Vec::new(alloc),
-            cuts: Vec::new(alloc),
+            ends: Vec::new(alloc),
+            marks: Vec::new(alloc),
         }
     }
 
     fn reserve(&mut self, frames: usize, bytes: usize) -> Result<(), AllocError>
         ensures { self.new ≡ self.old }
     {
-        self.cuts.reserve(frames)?;
+        self.ends.reserve(frames)?;
         self.bytes.reserve(bytes)
     }
 
     #[inline(always)]
-    #[tactic(auto, using(crate::proofs::Places::places))]
     fn push(&mut self, bytes: &[u8], no_learn: bool) -> Result<(), AllocError>
         ensures ok { OnOk result (self.new ≡ self.old ++ record { bytes = bytes.now; no_learn = no_learn } ∷ []) }
         ensures err { OnErr result (self.new ≡ self.old) }
     {
-        self.cuts.reserve(1)?;
-        let start = self.bytes.len();
+        if no_learn {
+            self.push_marked(bytes)
+        } else {
+            self.push_plain(bytes)
+        }
+    }
+
+    /// Adds a frame that is not marked.
+    #[inline(always)]
+    fn push_plain(&mut self, bytes: &[u8]) -> Result<(), AllocError>
+        ensures ok { OnOk result (self.new ≡ self.old ++ record { bytes = bytes.now; no_learn = false } ∷ []) }
+        ensures err { OnErr result (self.new ≡ self.old) }
+    {
+        let end = end_behind(self.bytes.len(), bytes.len())?;
+        self.ends.reserve(1)?;
         self.bytes.extend_from_slice(bytes)?;
-        let end = self.bytes.len();
-        self.cuts.push_reserved(Cut {
-            start,
-            end,
-            no_learn,
-        });
+        self.ends.push_reserved(end);
+        Ok(())
+    }
+
+    /// Adds a frame that is marked.
+    #[inline(never)]
+    fn push_marked(&mut self, bytes: &[u8]) -> Result<(), AllocError>
+        ensures ok { OnOk result (self.new ≡ self.old ++ record { bytes = bytes.now; no_learn = true } ∷ []) }
+        ensures err { OnErr result (self.new ≡ self.old) }
+    {
+        let end = end_behind(self.bytes.len(), bytes.len())?;
+        self.ends.reserve(1)?;
+        reach_marks(&mut self.marks, self.ends.len())?;
+        self.bytes.extend_from_slice(bytes)?;
+        self.ends.push_reserved(end);
+        self.marks.push_reserved(true);
         Ok(())
     }
 
@@ -132,21 +217,31 @@ impl Run {
         requires { i < length self.now }
         ensures { slice_get self.now i ≡ Some (record { bytes = result.0.now; no_learn = result.1 }) }
     {
-        let cut = self.cuts[i];
-        (&self.bytes[cut.start..cut.end], cut.no_learn)
+        let (start, end) = (start_at(&self.ends, i), end_at(&self.ends, i));
+        (part(&self.bytes, start, end), is_marked(&self.marks, i))
     }
 
     fn len(&self) -> usize
         ensures { result ≡ length self.now }
     {
-        self.cuts.len()
+        self.ends.len()
     }
 
-    #[tactic(auto, using(crate::proofs::Places::places))]
+    fn size(&self) -> usize
+        ensures { result ≡ bytes_of_frames self.now }
+    {
+        self.bytes.len()
+    }
+
     fn truncate(&mut self, len: usize)
         ensures { self.new ≡ take len self.old }
     {
-        self.cuts.truncate(len);
+        if len < self.ends.len() {
+            let end = start_at(&self.ends, len) as usize;
+            self.bytes.truncate(end);
+            self.ends.truncate(len);
+            self.marks.truncate(len);
+        }
     }
 }
 
@@ -159,7 +254,7 @@ fn empty_run(alloc: Global) -> Result<Box<Run>, AllocError>
 }
 
 /// A list of frames. Their bytes lie in one buffer, behind one pointer, so that a stored batch is
-/// small.
+/// small. For 4 GiB of bytes there is no memory.
 #[derive(Clone, Drop)]
 pub struct Batch {
     run: Option<Box<Run>>,
@@ -262,16 +357,14 @@ impl Batch {
     }
 
     /// The number of bytes of all frames.
-    #[tactic(auto, using(crate::proofs::Sizes::sizes))]
     pub fn size(&self) -> u64
         requires { bytes_of_frames self.now < 2 ^ 64 }
         ensures { result ≡ bytes_of_frames self.now }
     {
-        let mut total = 0;
-        for i in 0..self.len() {
-            total += self.get(i).0.len() as u64;
+        match &self.run {
+            Some(run) => run.size() as u64,
+            None => 0,
         }
-        total
     }
 
     #[tactic(auto, using(crate::proofs::Sizes::sizes))]
