@@ -5,7 +5,7 @@ use Rattle.std.specs.Prelude.{IsSome, slice_get, slice_index, count_by, cond}
 use Rattle.std.proofs.lemmas.Bool.{cases_eq}
 use Rattle.std.proofs.lemmas.Bool.Decides.{nat_tests}
 use Rattle.std.proofs.lemmas.List.{length-set, length-map, length_push, get_or-set_same, get_or-set_other, get_or_push, get_or_append_left, get_or_read, ext_get_or}
-use Rattle.std.proofs.lemmas.List.Sums.{sum_by-set}
+use Rattle.std.proofs.lemmas.List.Sums.{sum_by-cons, sum_by-set}
 use Rattle.std.proofs.lemmas.Option.{slice_get-get_or}
 use Rattle.nm_hold.specs.declared.standing.Standing.{Standing}
 use Rattle.nm_hold.specs.Holds.{cell_at}
@@ -94,6 +94,22 @@ free_set : (at : List ℕ) (idx n : ℕ) → idx < length at → free_count (sli
 free_set at idx n h = sum_by-set one_if at idx n 0 h
 
 -- nothing stands at any index
+number_none : (count idx : ℕ) → number_of (replicate count 0) idx ≡ 0
+number_none zero idx = refl
+number_none (suc count) zero = refl
+number_none (suc count) (suc idx) = number_none count idx
+
+free_none : (count : ℕ) → free_count (replicate count 0) ≡ length (replicate {A = ℕ} count 0)
+free_none zero = refl
+free_none (suc count) = omega (arith, sum_by-cons one_if 0 (replicate {A = ℕ} count 0), one_if-none 0 refl, free_none count)
+
+pub owners_none : (count : ℕ) → AreOwners (replicate count 0) []
+owners_none count = record {
+  numbered = λ k h. omega (arith, h);
+  owned = λ idx k e. zero_suc k (sym (number_none count idx) ∙ e);
+  full = omega (arith, free_none count);
+}
+
 pub cells_none : (count : ℕ) (held : List Standing) → cells_of (replicate count 0) held ≡ replicate count None
 cells_none zero held = refl
 cells_none (suc count) held = ap (λ (cells : List (Option Standing)). None ∷ cells) (cells_none count held)

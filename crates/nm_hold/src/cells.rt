@@ -23,10 +23,11 @@ pub(crate) struct Cells {
     held: Vec<Owned>,
 }
 
-/// What stands at an index, with that index.
+/// What stands at an index, with that index. The buffer lies at the front, so that it is moved out by
+/// the same loads as what stands was stored by.
 pub(crate) struct Owned {
-    index: u32,
     standing: Standing,
+    index: u32,
 }
 
 impl Model for Cells {

@@ -125,7 +125,7 @@ module _ (o : Inside) (kept : IsKept o) (idx : ℕ) (bytes : List ℕ) (named : 
   pub written_is_seen : own_seen now o.ports.items ≡ with_all_written (own_seen o.hold o.ports.items) idx bytes
   written_is_seen = fronted_is_seen o.hold now o.ports.items idx front kept.hold kept.sided kept.rings kept.flagged kept.filled is_named is_front same_places
 
-  pub kept_written : (new : Inside) → new.hold ≡ now → new.ports.items ≡ o.ports.items → new.marks.items ≡ o.marks.items → IsKept new
+  pub kept_written : (new : Inside) → new.hold ≡ now → new.ports.items ≡ o.ports.items → new.marks ≡ o.marks → IsKept new
   kept_written new hold_is ports_are marks_are =
       let homes = fronted_keeps o.hold now idx front is_front in
       record {

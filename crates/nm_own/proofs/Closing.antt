@@ -26,7 +26,7 @@ use Rattle.nm_region.specs.Buffers.{Buffer, indices_of}
 use Rattle.nm_hold.specs.Standings.{buf_in}
 use Rattle.nm_hold.specs.declared.standing.Standing.{Standing}
 use Rattle.nm_hold.specs.declared.table.PortPlaces.{PortPlaces}
-use Rattle.nm_hold.specs.Offsets.{has_port as has_id, ArePortsOnce, AreSizes}
+use Rattle.nm_hold.specs.Offsets.{ArePortsOnce, AreSizes}
 use Rattle.nm_hold.specs.Holds.{HoldState, buffers_of, index_at, standing_at, stands_at, buffer_at, cell_at, places_in, port_of, extra_of, HoldsNothing, IsHold}
 use Rattle.nm_hold.proofs.Spots.{nat_eq-is, same_place-is, same_place-refl}
 use Rattle.nm_extra.specs.Extras.{extras_of, link_at}

@@ -1,13 +1,12 @@
 -- What a put offers, and what a receive sync gives back, over what is seen.
-use Rattle.std.proofs.Common.{ℕ, ◌≡◌, ◌<◌, ◌+◌, List, [], ◌∷◌, ◌++◌, map, Some, refl, sym, ◌∙◌, ap, arith}
+use Rattle.std.proofs.Common.{ℕ, ◌≡◌, List, [], ◌∷◌, ◌++◌, map, Some, refl, sym, ◌∙◌, ap}
 use Rattle.nm_types.specs.declared.id.PortId.{PortId}
 use Rattle.nm_types.specs.declared.id.Side.TheVariants.{Tx, Rx}
-use Rattle.nm_types.specs.Positions.{RingState, IsRing, FitsRing, dist, step_on, slots_from, pending_slots, pushed_slots}
+use Rattle.nm_types.specs.Positions.{IsRing, FitsRing, pending_slots, pushed_slots}
 use Rattle.nm_types.specs.Frames.{Frame}
 use Rattle.nm_types.specs.Slots.{SlotState, pushed_names}
 use Rattle.nm_types.specs.OwnPorts.{bytes_at, slot_in}
 use Rattle.nm_types.specs.OwnSyncs.{back_on}
-use Rattle.nm_types.proofs.RingSteps.{step_on-below, step_on-dist, slots_from-add}
 use Rattle.nm_hold.specs.Holds.{HoldState}
 use Rattle.nm_port.specs.declared.port.UserPort.{UserPort}
 use Rattle.nm_port.specs.RingSlots.{RingSlots, slot_at}

@@ -145,7 +145,7 @@ pub record ChangesPort (h new : HoldState) (ports : List UserPort) (id : PortId)
   pub is_hold : IsHold new
 
 pub kept_with : (o new : Inside) (id : PortId) (p x : UserPort) → IsKept o → p.id ≡ id → (m : Among o.ports.items id.0 p) → ChangesPort o.hold new.hold o.ports.items id p x
-    → new.ports.items ≡ m.before ++ x ∷ m.behind → new.marks.items ≡ o.marks.items → IsKept new
+    → new.ports.items ≡ m.before ++ x ∷ m.behind → new.marks ≡ o.marks → IsKept new
 kept_with o new id p x kept same m step ports_are marks_are =
     let p_id : p.id.0 ≡ id.0 = ap (λ (i : PortId). i.0) same in
     let x_id : x.id.0 ≡ id.0 = ap (λ (i : PortId). i.0) step.same_id ∙ p_id in

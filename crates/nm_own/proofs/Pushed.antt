@@ -1,6 +1,6 @@
 -- A transmit push that is accepted, over what is seen: the buffers that its slots name stand in their
 -- places, the slots pushed are the kernel side's, and those behind the tail the user's.
-use Rattle.std.proofs.Common.{ℕ, zero, suc, ◌≡◌, ◌<◌, ◌≤◌, ◌+◌, ◌-◌, ◌&&◌, ◌||◌, ◌⊎◌, Bool, true, false, nat_eq, nat_lt, if◌then◌else◌, List, [], ◌∷◌, ◌++◌, map, fold, replicate, Option, Some, None, option_map, inl, inr, refl, sym, ◌∙◌, ap, arith, rules}
+use Rattle.std.proofs.Common.{ℕ, ◌≡◌, ◌<◌, ◌≤◌, ◌+◌, ◌-◌, ◌||◌, ◌⊎◌, Bool, true, false, nat_eq, nat_lt, if◌then◌else◌, List, [], ◌∷◌, ◌++◌, map, fold, replicate, Option, Some, None, option_map, inl, inr, refl, sym, ◌∙◌, ap, arith, rules}
 use Rattle.std.specs.Prelude.{is_some, IsSome}
 use Rattle.std.specs.List.{AllByRecursion, list_any, range_with_len}
 use Rattle.std.proofs.lemmas.Bool.{cases_Bool, cases_lt}
@@ -15,7 +15,7 @@ use Rattle.nm_types.specs.Places.{is_same_place}
 use Rattle.nm_types.specs.Positions.{IsRing, FitsRing, dist, step_on, slots_from, user_slots, kernel_count}
 use Rattle.nm_types.specs.OwnPorts.{OwnRing, OwnPort, OwnState, port_if, with_ring_on, pushed_on, pushed_count}
 use Rattle.nm_types.specs.OwnSyncs.{accepted, slots_after_push, after_slot, after_exchange, ring_after_send, own_after_send}
-use Rattle.nm_types.proofs.RingSteps.{dist-below, dist-step_on, step_on-below, step_on-dist, dist-add, dist_split, dist-cases, length-slots_from}
+use Rattle.nm_types.proofs.RingSteps.{dist-below, dist-step_on, step_on-below, dist-add, dist_split, dist-cases, length-slots_from}
 use Rattle.nm_hold.specs.Offsets.{ArePortsOnce}
 use Rattle.nm_hold.specs.Holds.{HoldState, buffers_of, index_at, port_of}
 use Rattle.nm_hold.proofs.Spots.{nat_eq-is}
@@ -501,9 +501,9 @@ module _ (h : HoldState) (ports : List UserPort) (id : PortId) (p : UserPort) (r
       count_same : buffers_of h3 ≡ buffers_of h
       count_same = count_by_bufs h h3 out.bufs
 
-      pub kept_after : (o : Inside) → IsKept o → (new : Inside) → o.hold ≡ h → o.ports.items ≡ ports → new.hold ≡ h3 → new.ports.items ≡ after → new.marks.items ≡ o.marks.items → IsKept new
+      pub kept_after : (o : Inside) → IsKept o → (new : Inside) → o.hold ≡ h → o.ports.items ≡ ports → new.hold ≡ h3 → new.ports.items ≡ after → new.marks ≡ o.marks → IsKept new
       kept_after o kept new hold_is ports_are hold_new ports_new marks =
-          let blank : o.marks.items ≡ replicate (buffers_of h + 2) false = rw (← hold_is) kept.blank in
+          let blank : o.marks ≡ replicate (buffers_of h + 2) false = rw (← hold_is) kept.blank in
           let whole : AreWhole h = rw (← hold_is) kept.whole in
           record {
             sided = rw ports_new (sided_after id moved (λ q r. refl) (λ q r. refl) ports x.sided);

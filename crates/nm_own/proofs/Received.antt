@@ -1,11 +1,8 @@
 -- The places of pushed receive slots, emptied one after another.
-use Rattle.std.proofs.Common.{ℕ, ◌≡◌, ◌<◌, ◌+◌, ◌||◌, Bool, false, nat_eq, nat_lt, List, [], ◌∷◌, ◌++◌, map, refl, ◌∙◌, ap, arith}
+use Rattle.std.proofs.Common.{ℕ, ◌≡◌, ◌<◌, ◌+◌, false, nat_lt, List, [], ◌∷◌, ◌++◌, ◌∙◌, ap, arith}
 use Rattle.std.specs.Prelude.{IsSome}
-use Rattle.std.specs.List.{list_any}
 use Rattle.std.proofs.lemmas.Bool.Decides.{nat_tests}
 use Rattle.nm_types.specs.declared.id.PortId.{PortId}
-use Rattle.nm_types.specs.declared.id.Side.{Side}
-use Rattle.nm_types.specs.declared.id.Side.TheVariants.{Tx, Rx}
 use Rattle.nm_types.specs.Positions.{IsRing, FitsRing, slots_from}
 use Rattle.nm_types.proofs.RingSteps.{dist-below, dist-step_on, step_on-below}
 use Rattle.nm_region.specs.Buffers.{Buffer}
@@ -15,7 +12,6 @@ use Rattle.nm_port.specs.Sides.{place_on}
 use Rattle.nm_port.specs.Closing.{AreTaken}
 use Rattle.nm_port.specs.Exchanges.{pushed_count_of, user_position, user_place, is_among}
 use Rattle.nm_port.specs.Receives.{user_places}
-use Rattle.nm_port.proofs.Judging.{same_eq}
 use Rattle.nm_port.proofs.Pushes.{seen_more}
 use Rattle.nm_port.proofs.Ranges.{is_slot_from, among_slots}
 

@@ -1,19 +1,17 @@
 -- The reset of a ring, slot by slot, and how it is seen.
-use Rattle.std.proofs.Common.{ℕ, zero, suc, ◌≡◌, ◌<◌, ◌+◌, List, map, fold, refl, sym, ◌∙◌, ap, arith}
+use Rattle.std.proofs.Common.{ℕ, zero, suc, ◌≡◌, ◌<◌, ◌+◌, map, fold, refl, ◌∙◌, ap, arith}
 use Rattle.std.specs.List.{range_with_len}
 use Rattle.nm_types.specs.declared.id.PortId.{PortId}
 use Rattle.nm_types.specs.declared.id.Side.{Side}
 use Rattle.nm_types.specs.declared.id.Side.TheVariants.{Tx, Rx}
-use Rattle.nm_types.specs.Positions.{IsRing, dist, step_on, slots_from, user_slots}
-use Rattle.nm_types.specs.Slots.{SlotState}
+use Rattle.nm_types.specs.Positions.{IsRing, dist, step_on, user_slots}
 use Rattle.nm_types.specs.Reset.{reset_positions}
 use Rattle.nm_types.specs.OwnSyncs.{with_slot_reset, ring_after_reset}
 use Rattle.nm_hold.specs.Holds.{HoldState}
-use Rattle.nm_port.specs.RingSlots.{RingSlots, with_slot_reset_at}
-use Rattle.nm_port.specs.Own.{number_on, held_on, ring_seen}
+use Rattle.nm_port.specs.RingSlots.{RingSlots}
+use Rattle.nm_port.specs.Own.{held_on, ring_seen}
 use Rattle.nm_port.specs.Resets.{slots_reset_at, ring_reset}
 use Rattle.nm_own.proofs.Changing.{Keeps}
-use Rattle.nm_port.proofs.SlotLists.{fold-slots_from}
 use Rattle.nm_port.proofs.Seeing.{buffer_seen}
 
 -- two ways to change slots that agree at the slots from one on

@@ -247,7 +247,7 @@ module _ (l : LentOffers) (r : RingSlots) (s : SideState) (lent : List Buffer) (
         ap (map (port_changed_if l.port.0 Tx (λ (of : PortId). ring_taken h4 l.port going))) around.are
         ∙ changed_are l.port.0 (port_changed Tx (λ (of : PortId). ring_taken h4 l.port going)) around.before around.behind w.p around.first around.rest (ap (λ (i : PortId). i.0) w.passes.same_id)
 
-    pub kept_now : (new : Inside) → new.hold ≡ h4 → new.ports.items ≡ taken_ports → new.marks.items ≡ l.marks.items → IsKept new
+    pub kept_now : (new : Inside) → new.hold ≡ h4 → new.ports.items ≡ taken_ports → new.marks ≡ l.marks → IsKept new
     kept_now new hold ports marks =
         let step = changes w.was l.ports.items l.port w.p r w.passes w.exchanged h1 h2 w.exchange gone (map cleared came) alike enough_number out comes_in is_put h3 h4 pushed freed (all_cleared came) w.kept.whole in
         kept_with (record { hold = w.was; ports = l.ports; marks = l.marks }) new l.port w.p now_taken w.kept w.passes.same_id around

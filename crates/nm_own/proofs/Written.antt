@@ -4,7 +4,6 @@ use Rattle.std.specs.Prelude.{is_some, unwrap_or}
 use Rattle.std.proofs.lemmas.List.{length-set, length-drop}
 use Rattle.nm_types.specs.declared.id.Side.{Side}
 use Rattle.nm_types.specs.declared.id.Side.TheVariants.{Tx}
-use Rattle.nm_types.specs.declared.place.Place.TheVariants as place
 use Rattle.nm_types.specs.Slots.{SlotState}
 use Rattle.nm_types.specs.OwnPorts.{OwnRing, OwnPort, OwnState, bytes_at, with_ring, slot_in, named_of, ring_at}
 use Rattle.nm_types.specs.OwnEdits.{has_slot, with_written, with_frame, with_frame_on}

@@ -12,5 +12,5 @@ pub record IsKept (o : Inside) : Type 0 where
   pub places : HasPlaces o.hold o.ports.items
   pub filled : AreFilled o.hold o.ports.items
   pub whole : AreWhole o.hold
-  pub blank : o.marks.items ≡ replicate (buffers_of o.hold + 2) false
+  pub blank : o.marks ≡ replicate (buffers_of o.hold + 2) false
   pub back : HaveBackRoom o.ports.items

@@ -15,13 +15,12 @@ use Rattle.nm_types.specs.OwnEdits.{with_user_slot}
 use Rattle.nm_types.specs.contracts.slot.Slot.{the_row as slot_row}
 use Rattle.nm_own.specs.declared.edit.RingEdit.TheVariants.{Slot}
 use Rattle.nm_port.specs.declared.port.UserPort.{UserPort}
-use Rattle.nm_port.specs.RingSlots.{RingSlots, slot_of_user, with_slot_of_user}
+use Rattle.nm_port.specs.RingSlots.{RingSlots, slot_of_user}
 use Rattle.nm_port.specs.Own.{slots_on}
 use Rattle.nm_own.specs.Edits.{port_edited}
 use Rattle.nm_port.specs.Regions.{SideState}
 use Rattle.nm_own.specs.contracts.own.OwnSide.{the_row as side_row}
 use Rattle.nm_port.specs.Closing.{has_id}
-use Rattle.nm_port.specs.contracts.slot_ring.SlotRing.{the_row as ring_row}
 use Rattle.nm_port.specs.contracts.port.UserPort.{the_row as port_row}
 
 -- where no slot is lent, the port stays as it is

@@ -12,9 +12,9 @@ ghost use Rattle.nm_port.specs.Regions.{SideState, AllOf, AreOf};
 
 use crate::own::{OwnSide, ring_at};
 use nm_hold::Hold;
-use nm_port::UserPort;
 use nm_port::receive::accept_backs;
 use nm_port::undo::{exchange_back, exchange_noted, put_slots, take_slots};
+use nm_port::{Marks, UserPort};
 use nm_region::Buf;
 use nm_types::{PortId, Side};
 
@@ -24,7 +24,7 @@ use nm_types::{PortId, Side};
 pub struct LentBack {
     pub(crate) hold: Hold,
     pub(crate) ports: Vec<UserPort>,
-    pub(crate) marks: Vec<bool>,
+    pub(crate) marks: Marks,
     pub(crate) port: PortId,
     /// The buffers that stood in the places of the pushed slots.
     pub(crate) replaced: Vec<u32>,

@@ -15,11 +15,11 @@ ghost use Rattle.nm_port.specs.Regions.{SideState, AllOf, AreOf};
 
 use crate::own::{OwnSide, ring_at};
 use nm_hold::Hold;
-use nm_port::UserPort;
 use nm_port::exchange::name_slots;
 use nm_port::gather::gather_lengths;
 use nm_port::take::take_at;
 use nm_port::undo::{exchange_back, exchange_noted, put_slots, take_slots};
+use nm_port::{Marks, UserPort};
 use nm_region::Buf;
 use nm_types::{NoMemory, PortId, Side};
 use std::alloc::Global;
@@ -30,7 +30,7 @@ use std::alloc::Global;
 pub struct LentOffers {
     pub(crate) hold: Hold,
     pub(crate) ports: Vec<UserPort>,
-    pub(crate) marks: Vec<bool>,
+    pub(crate) marks: Marks,
     pub(crate) port: PortId,
     /// The buffers that stood in the places of the pushed slots.
     pub(crate) replaced: Vec<u32>,

@@ -46,7 +46,7 @@ use nm_port::fill::{Row, fill};
 use nm_port::gather::{gather, gather_names, gather_offered};
 use nm_port::receive::clear_behind;
 use nm_port::reset::reset_rings;
-use nm_port::{SlotRing, UserPort};
+use nm_port::{Marks, SlotRing, UserPort};
 use nm_region::Buf;
 use nm_ring::Ring;
 use nm_types::{Batch, Chain, Name, NoMemory, PortId, Side, Slot, SyncFault};
@@ -58,7 +58,7 @@ pub struct OwnSide {
     pub(crate) hold: Hold,
     pub(crate) ports: Vec<UserPort>,
     /// Marks of indices, all of them clear between two calls.
-    pub(crate) marks: Vec<bool>,
+    pub(crate) marks: Marks,
 }
 
 impl Model for OwnSide {
@@ -121,7 +121,7 @@ impl OwnSide {
         ensures { IfOk result
             (λ side. side ≡ record { own = empty_own buffers; regions = [] }) }
     {
-        let marks = vec![in alloc; false; buffers as usize + 2]?;
+        let marks = Marks::new(alloc, buffers as usize + 2)?;
         let hold = Hold::new(alloc, buffers)?;
         Ok(OwnSide {
             hold,

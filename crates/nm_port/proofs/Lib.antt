@@ -18,3 +18,4 @@ pub mod Regions
 pub mod Ranges
 pub mod SideBySide
 pub mod StillNamed
+pub mod Blanks

@@ -11,3 +11,4 @@ pub mod Receives
 pub mod Puts
 pub mod Lending
 pub mod LentSlots
+pub mod MarkLists

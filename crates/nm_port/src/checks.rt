@@ -17,6 +17,7 @@ ghost use Rattle.nm_port.specs.Exchanges.{pushed_count_of, user_position};
 ghost use Rattle.nm_port.specs.RingSlots.{IsRingSlots, slot_at};
 
 use crate::kept::numbers_from;
+use crate::marks::Marks;
 use crate::slot_ring::SlotRing;
 use bitflags::Flags;
 use nm_hold::{Hold, step_on};
@@ -68,7 +69,7 @@ fn slot_sync_fault(fault: SlotFault) -> SyncFault
 }
 
 /// What a sync knows of a pushed slot. `marks` has each index that an earlier slot names.
-fn seen_at(hold: &Hold, place: Place, idx: u32, marks: &[bool]) -> Seen
+fn seen_at(hold: &Hold, place: Place, idx: u32, marks: &Marks) -> Seen
     requires { length marks.now ≡ buffers_of hold.now + 2 }
     ensures was { result.was ≡ number_at hold.now place }
     ensures top { result.top ≡ buffers_of hold.now + 1 }
@@ -82,17 +83,7 @@ fn seen_at(hold: &Hold, place: Place, idx: u32, marks: &[bool]) -> Seen
         was: number_at(hold, place),
         top,
         held,
-        doubled: is_marked(marks, idx),
-    }
-}
-
-/// Whether an index is marked.
-fn is_marked(marks: &[bool], idx: u32) -> bool
-    ensures { result ≡ slice_index_or marks.now idx false }
-{
-    match marks.get(idx as usize) {
-        Some(mark) => *mark,
-        None => false,
+        doubled: marks.is_marked(idx),
     }
 }
 
@@ -102,7 +93,7 @@ fn judge_slot(
     port: PortId,
     ring: &SlotRing,
     at: u32,
-    marks: &mut [bool],
+    marks: &mut Marks,
 ) -> Result<(), SlotFault>
     requires user { is_user_slot ring.now.ring at ≡ true }
     requires marks { length marks.old ≡ buffers_of hold.now + 2 }
@@ -115,17 +106,8 @@ fn judge_slot(
     let slot = ring.user_slot(at);
     let seen = seen_at(hold, place_on(ring.side(), port, at), slot.buf_idx, marks);
     judge(at, &slot, &seen, ring.side())?;
-    mark(marks, slot.buf_idx);
+    marks.mark(slot.buf_idx);
     Ok(())
-}
-
-/// Marks an index.
-fn mark(marks: &mut [bool], idx: u32)
-    ensures { marks.new ≡ slice_set marks.old idx true }
-{
-    if (idx as usize) < marks.len() {
-        marks[idx as usize] = true;
-    }
 }
 
 /// Judges the pushed slots in their order up to the first that does not pass, and marks the buffers
@@ -134,7 +116,7 @@ fn judge_pushed(
     hold: &Hold,
     port: PortId,
     ring: &SlotRing,
-    marks: &mut [bool],
+    marks: &mut Marks,
 ) -> Result<(), SlotFault>
     requires fits { FitsRing ring.now.ring ring.now.ring.head ring.now.ring.cur }
     requires blank { marks.old ≡ replicate (buffers_of hold.now + 2) false }
@@ -232,17 +214,8 @@ fn all_keep(hold: &Hold, port: PortId, ring: &SlotRing) -> bool
     }
 }
 
-/// Clears the mark of an index.
-fn unmark(marks: &mut [bool], idx: u32)
-    ensures { marks.new ≡ slice_set marks.old idx false }
-{
-    if (idx as usize) < marks.len() {
-        marks[idx as usize] = false;
-    }
-}
-
 /// Clears the marks of the buffers that the pushed slots name.
-fn clear_marks(ring: &SlotRing, marks: &mut [bool])
+fn clear_marks(ring: &SlotRing, marks: &mut Marks)
     requires { FitsRing ring.now.ring ring.now.ring.head ring.now.ring.cur }
     ensures count { length marks.new ≡ length marks.old }
     ensures cleared { AreCleared marks.old marks.new (names_pushed ring.now) }
@@ -250,7 +223,7 @@ fn clear_marks(ring: &SlotRing, marks: &mut [bool])
     let (first, count) = ring.pushed();
     let size = ring.ring().size();
     for k in 0..count {
-        unmark(marks, ring.user_slot((first + k) % size).buf_idx);
+        marks.unmark(ring.user_slot((first + k) % size).buf_idx);
     }
 }
 
@@ -259,7 +232,7 @@ pub fn check_ring(
     hold: &Hold,
     port: PortId,
     ring: &SlotRing,
-    marks: &mut [bool],
+    marks: &mut Marks,
 ) -> Result<(), SyncFault>
     requires { marks.old ≡ replicate (buffers_of hold.now + 2) false }
     ensures refusal { (named : List ℕ) → AreNamed hold.now named

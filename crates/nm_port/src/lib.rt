@@ -9,6 +9,7 @@ pub mod exchange;
 pub mod fill;
 pub mod gather;
 mod kept;
+mod marks;
 mod port;
 pub mod receive;
 pub mod reset;
@@ -20,5 +21,6 @@ mod tests;
 pub mod undo;
 
 pub use buf_room::BufRoom;
+pub use marks::Marks;
 pub use port::UserPort;
 pub use slot_ring::SlotRing;

@@ -17,7 +17,7 @@ use crate::port::UserPort;
 use crate::slot_ring::SlotRing;
 use nm_hold::Hold;
 use nm_region::Buf;
-use nm_types::PortId;
+use nm_types::{BUFFER_BYTES, PortId};
 
 /// Accepts the push of a port's receive ring, if it is the port of this id.
 fn accept_if(port: &mut UserPort, id: PortId)
@@ -48,6 +48,7 @@ pub fn clear_behind(buf: &mut Buf, len: u16)
         ≡ record buf.old { bytes = cleared_but (take len buf.old.bytes) } }
     ensures size { length (take len buf.old.bytes) ≡ len }
 {
-    let frame = buf.bytes().len().min(len as usize);
-    buf.clear_behind(frame);
+    let room = buf.bytes().len();
+    prove!(room == BUFFER_BYTES);
+    buf.clear_behind(len as usize);
 }

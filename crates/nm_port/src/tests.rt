@@ -4,6 +4,7 @@ ghost use Rattle.nm_hold.specs.Offsets.{has_place};
 ghost use Rattle.nm_types.specs.declared.place.Place.TheVariants as place;
 
 use crate::checks::{check_ring, place_on};
+use crate::marks::Marks;
 use crate::slot_ring::SlotRing;
 use nm_hold::Hold;
 use nm_region::{Buf, Region};
@@ -65,7 +66,7 @@ fn put(rt: &impl Abort, hold: &mut Hold, at: u32, buf: Buf, named: bool)
 }
 
 /// What a check of the ring answers at a head.
-fn refusal(hold: &Hold, ring: &mut SlotRing, marks: &mut [bool], head: u32) -> Option<SyncFault>
+fn refusal(hold: &Hold, ring: &mut SlotRing, marks: &mut Marks, head: u32) -> Option<SyncFault>
     requires { marks.old ≡ replicate (buffers_of hold.now + 2) false }
     ensures { marks.new ≡ marks.old }
 {
@@ -75,7 +76,7 @@ fn refusal(hold: &Hold, ring: &mut SlotRing, marks: &mut [bool], head: u32) -> O
 }
 
 /// Checks each change of slot 0, and then two slots that name one buffer.
-fn check_all(rt: &impl Abort, hold: &Hold, ring: &mut SlotRing, marks: &mut [bool])
+fn check_all(rt: &impl Abort, hold: &Hold, ring: &mut SlotRing, marks: &mut Marks)
     requires { marks.old ≡ replicate (buffers_of hold.now + 2) false }
 {
     for (idx, len, flags, wanted) in FIRST_SLOTS {
@@ -112,7 +113,7 @@ fn pushes_are_checked(rt: HostRuntime) {
     };
     let (Ok(slots), Ok(mut marks), Ok(room)) = (
         VecDeque::with_capacity(rt.alloc(), 4),
-        vec![in rt.alloc(); false; 66],
+        Marks::new(rt.alloc(), 66),
         hold.room(4, 4, 0),
     ) else {
         panic!(rt; "out of memory");

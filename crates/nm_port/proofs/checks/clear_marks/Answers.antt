@@ -20,7 +20,7 @@ loop-k-preserved c =
     let first = c.pushed-first.result.0 in
     let k = c.loop-k.k in
     let name = f (step_on size first k) in
-    let marks : c.unmark.new.marks ≡ slice_set c.loop-k.marks name false = c.unmark.ensures ∙ ap (λ (s : SlotState). slice_set c.loop-k.marks s.buf_idx false) c.user_slot.ensures in
+    let marks : c.unmark.new.self ≡ slice_set c.loop-k.marks name false = c.unmark.ensures ∙ ap (λ (s : SlotState). slice_set c.loop-k.marks s.buf_idx false) c.user_slot.ensures in
     record {
       cleared = rw (marks, seen_more f size first k) (unmarked_next c.args.marks.now c.loop-k.marks (map f (slots_from size first k)) name c.loop-k.invariant.count c.loop-k.invariant.cleared);
       count = rw marks (length-set c.loop-k.marks name false ∙ c.loop-k.invariant.count);

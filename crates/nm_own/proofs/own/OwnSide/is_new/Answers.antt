@@ -17,7 +17,7 @@ none_copied (Some x) false e = refl
 pub returns : goal.returns
 returns c =
     let h = c.self.inside.hold in
-    let marks : length c.self.inside.marks.items ≡ buffers_of h + 2 = ap (λ (m : List Bool). length m) c.self.invariant.blank ∙ length-replicate (buffers_of h + 2) false in
-    let len : c.len.result ≡ length c.self.inside.marks.items = c.len.ensures ∙ c.self.inside.marks.ok.0 in
+    let marks : length c.self.inside.marks ≡ buffers_of h + 2 = ap (λ (m : List Bool). length m) c.self.invariant.blank ∙ length-replicate (buffers_of h + 2) false in
+    let len : c.len.result ≡ length c.self.inside.marks = c.len.ensures in
     let index : IsBufferIndex (buffers_of h) c.args.idx = (omega (arith, c.if-idx-lt2.false), omega (arith, c.if-idx-len.false, marks, len)) in
     rw (← c.self.view_is) (new_if h c.self.inside.ports.items c.args.idx c.is_none.result c.self.invariant.whole (none_copied c.buffer.result c.is_none.result c.is_none.ensures ∙ ap is_none c.buffer.ensures.buffer) index)

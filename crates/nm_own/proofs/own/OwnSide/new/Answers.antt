@@ -7,16 +7,16 @@ pub invariant_of-result : goal.invariant_of-result
 invariant_of-result c =
     let f = fresh c.in_ok-hold.hold c.args.buffers c.in_ok-hold.ensures c.requires in
     record {
-      sided = rw c.new-2.ensures.items tt;
-      rings = rw c.new-2.ensures.items tt;
-      flagged = rw c.new-2.ensures.items f.flagged;
+      sided = rw c.new-3.ensures.items tt;
+      rings = rw c.new-3.ensures.items tt;
+      flagged = rw c.new-3.ensures.items f.flagged;
       hold = f.hold;
-      places = rw c.new-2.ensures.items f.places;
-      filled = rw c.new-2.ensures.items f.filled;
+      places = rw c.new-3.ensures.items f.places;
+      filled = rw c.new-3.ensures.items f.filled;
       whole = f.whole;
       blank = rw f.count (search rules);
-      back = rw c.new-2.ensures.items tt;
+      back = rw c.new-3.ensures.items tt;
     }
 
 pub returns : goal.returns
-returns c = rw (c.in_ok-hold.ensures, c.new-2.ensures.items) (made_side c.args.buffers)
+returns c = rw (c.in_ok-hold.ensures, c.new-3.ensures.items) (made_side c.args.buffers)
