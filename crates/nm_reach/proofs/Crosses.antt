@@ -1,6 +1,8 @@
--- A spot and a husk may go to another thread where the values may: they are facts, and a right to free
--- memory.
-use Rattle.std.specs.Prelude.{length}
+-- A spot, a husk and a cell may go to another thread where the values may: they are facts, a right to
+-- free memory, and a value or nothing.
+use Rattle.std.specs.Prelude.{List, length, Option, Some, None}
+use base.Shift.{Keyless}
+use mir.Val.{Val}
 use denote.RattleType.{RattleType}
 use denote.Struct.Struct.{exits_of}
 use denote.Struct.Declared as declared
@@ -14,6 +16,8 @@ use denote.Param.Send.{array_send}
 use Rattle.nm_reach.specs.contracts.parts.Spot as Spot
 use Rattle.nm_reach.specs.contracts.parts.Husk as Husk
 use Rattle.nm_reach.specs.contracts.parts.Husk.TheInside as Inside
+use Rattle.nm_reach.specs.contracts.cell.Cell as Cell
+use Rattle.nm_reach.specs.contracts.cell.Cell.TheInside as InCell
 
 pub spot-send : (T : RattleType) → IsSend (Spot.the_row T)
 spot-send T =
@@ -34,3 +38,10 @@ husk-send T s = record {
   );
   leaving = λ k x w. tt;
 }
+
+pub cell-send : (T : RattleType) → IsSend T → IsSend (Cell.the_row T)
+cell-send T s = record { owned = owned; leaving = λ k x w. tt }
+  where
+    owned : (held : Option T.Denot) (vs : List Val) → Keyless ((Cell.the_row T).own_val held vs)
+    owned None vs = ((λ _. tt), tt)
+    owned (Some x) vs = ((λ _. tt), (struct_send (declared.shape (InCell.the_type T)) (s, tt)).owned (x, tt) vs)

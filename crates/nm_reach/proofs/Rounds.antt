@@ -1,5 +1,5 @@
 -- The two sides of a run.
-use Rattle.std.proofs.Common.{◌≡◌, ℕ, ◌+◌, ◌-◌, ◌<◌, ◌≤◌, ◌⊎◌, [], ◌++◌, inl, inr, length, take, drop, ap, sym, ◌∙◌, arith, length-append, append-nil}
+use Rattle.std.proofs.Common.{◌≡◌, ℕ, ◌+◌, ◌-◌, ◌^◌, ◌<◌, ◌≤◌, ◌⊎◌, List, [], ◌++◌, inl, inr, length, take, drop, ap, sym, ◌∙◌, arith, length-append, append-nil}
 use Rattle.std.proofs.Math.Seq.{take-append_seam, drop-append_seam}
 use Rattle.std.proofs.lemmas.List.{take_all, drop_all}
 use Rattle.nm_reach.proofs.Lists.{none}
@@ -14,6 +14,11 @@ within_of size start m n (inr e) = omega (arith, e.0, e.1)
 module _ {T : Type 0} {base : Ptr} {size start : ℕ} (s : Sides T) (r : IsRound base size start s) where
   pub run_within : length (values_of s) ≤ size
   run_within = omega (arith, within_of size start (length s.front.values) (length s.back.values) r.one, length-append s.front.values s.back.values)
+
+-- a run in a field of few cells has few
+pub run_few : {T : Type 0} {base : Ptr} {size start : ℕ} (s : Sides T) → IsRound base size start s → {values : List T} → values_of s ≡ values
+    → (k : ℕ) → k ≡ size → k < 2 ^ 32 → length values < 2 ^ 32
+run_few s r are k same few = omega (arith, run_within s r, ap length are, same, few)
 
 past_front : (size start m n k room len : ℕ) → IsOneRun size start m n → start < size → room ≡ size - start → k ≤ m + n → room ≤ k → len ≡ m → k ≡ m + (k - len)
 past_front size start m n k room len (inl e) w r h l same = omega (arith, e.0, e.1, w, r, h, l, same)

@@ -1,5 +1,6 @@
 pub mod Cells
 pub mod Fields
+pub mod Held
 pub mod Kept
 pub mod Lending
 pub mod LendingRun

@@ -1,6 +1,7 @@
 //! Raw cells, and rights to circular runs of them.
 #![tactic(auto)]
 
+mod cell;
 mod field;
 mod parts;
 mod reach;
@@ -9,5 +10,6 @@ mod stretch;
 #[cfg(test)]
 mod tests;
 
+pub use cell::Cell;
 pub use field::Field;
 pub use reach::Reach;

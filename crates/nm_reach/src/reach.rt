@@ -1,4 +1,4 @@
-ghost use Rattle.std.specs.Prelude.{◌≡◌, ◌+◌, ◌-◌, ◌<◌, ◌≤◌, [], ◌++◌, length, take, drop, slice_index_or};
+ghost use Rattle.std.specs.Prelude.{◌≡◌, ◌+◌, ◌-◌, ◌<◌, ◌≤◌, ◌^◌, [], ◌++◌, length, take, drop, slice_index_or};
 ghost use Rattle.std.specs.Borrow.{sem};
 ghost use Rattle.nm_reach.specs.Fields.{round, Meet, from_first, front_of, back_of};
 ghost use Rattle.nm_reach.specs.Sides.{values_of, IsRound};
@@ -175,6 +175,7 @@ impl<T> Reach<T> {
     pub fn front_mut(&mut self) -> &mut [T]
         ensures* writes_back { sem 𝓛 (LendsFrontOf T.row self.entry result) }
         ensures value { result.now ≡ front_of self.old }
+        ensures few { length self.old.values < 2 ^ 32 }
     {
         self.sides.front.values_mut()
     }
@@ -183,6 +184,7 @@ impl<T> Reach<T> {
     pub fn back_mut(&mut self) -> &mut [T]
         ensures* writes_back { sem 𝓛 (LendsBackOf T.row self.entry result) }
         ensures value { result.now ≡ back_of self.old }
+        ensures few { length self.old.values < 2 ^ 32 }
     {
         self.sides.back.values_mut()
     }

@@ -3,15 +3,17 @@ ghost use Rattle.std.specs.Borrow.{sem};
 
 use crate::parts::{Spot, Values, house, vacate};
 use std::marker::Model;
+use std::mem::ManuallyDrop;
 use std_alloc::vec::Lodged;
 
 /// Cells of a field that lie side by side.
 pub(crate) struct Stretch<T> {
-    cells: Vec<T, Lodged>,
+    cells: ManuallyDrop<Vec<T, Lodged>>,
     spot: Spot<T>,
 }
 
 impl<T> Model for Stretch<T> {
+    ghost use Rattle.std.specs.Mem.{manually_drop_value};
     ghost use Rattle.nm_reach.specs.Cells.{Side, side_code};
 
     ghost Value = { Side T };
@@ -22,7 +24,7 @@ impl<T> Model for Stretch<T> {
       base = s.spot.base;
       size = s.spot.size;
       at = s.spot.at;
-      values = s.cells.items;
+      values = (manually_drop_value s.cells).items;
     } };
 
     ghost use Rattle.nm_reach.specs.Placed.{IsStretch};
@@ -47,6 +49,7 @@ impl<T> Stretch<T> {
         } }
     {
         let (cells, spot) = house(ptr, len, values);
+        let cells = unsafe { ManuallyDrop::new_unchecked(cells) };
         Stretch { cells, spot }
     }
 
@@ -56,6 +59,7 @@ impl<T> Stretch<T> {
     {
         let mut cells = Vec::new(Lodged);
         let spot = Spot::nowhere(cells.as_mut_ptr());
+        let cells = unsafe { ManuallyDrop::new_unchecked(cells) };
         Stretch { cells, spot }
     }
 
@@ -64,7 +68,7 @@ impl<T> Stretch<T> {
         requires { self.values ≡ [] }
     {
         let Stretch { cells, spot: _ } = self;
-        cells.destroy_empty();
+        ManuallyDrop::into_inner(cells).destroy_empty();
     }
 
     /// The values, out of their cells.
@@ -74,7 +78,7 @@ impl<T> Stretch<T> {
         ensures values { result.items ≡ self.values }
     {
         let Stretch { cells, spot } = self;
-        vacate(cells, spot)
+        vacate(ManuallyDrop::into_inner(cells), spot)
     }
 
     /// The first `k` cells, and the others.
@@ -86,7 +90,8 @@ impl<T> Stretch<T> {
           values = drop k self.values;
         } }
     {
-        let Stretch { mut cells, spot } = self;
+        let Stretch { cells, spot } = self;
+        let mut cells = ManuallyDrop::into_inner(cells);
         let ptr = cells.as_mut_ptr();
         let len = cells.len();
         let (front, back, middle) = vacate(cells, spot).cut(ptr, k);
@@ -103,11 +108,13 @@ impl<T> Stretch<T> {
         requires within { self.at + (length self.values + length next.values) ≤ self.size }
         ensures { result ≡ record self { values = self.values ++ next.values } }
     {
-        let Stretch { mut cells, spot } = self;
+        let Stretch { cells, spot } = self;
         let Stretch {
             cells: others,
             spot: further,
         } = next;
+        let mut cells = ManuallyDrop::into_inner(cells);
+        let others = ManuallyDrop::into_inner(others);
         let ptr = cells.as_mut_ptr();
         let len = cells.len() + others.len();
         let all = vacate(cells, spot).glue(vacate(others, further));
@@ -144,6 +151,7 @@ impl<T> Stretch<T> {
     pub(crate) fn values_mut(&mut self) -> &mut [T]
         ensures* writes_back { sem 𝓛 (LendsCells T.row self.entry result) }
         ensures value { result.now ≡ self.old.values }
+        ensures field { self.old.size < 2 ^ 32 }
     {
         self.cells.as_mut_slice()
     }

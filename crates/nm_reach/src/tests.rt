@@ -1,6 +1,6 @@
 ghost use Rattle.std.specs.Prelude.{◌≡◌, ◌∷◌, [], IfOk};
 
-use crate::Field;
+use crate::{Cell, Field};
 use nm_types::NoMemory;
 use std::alloc::Global;
 use std::test::Fail;
@@ -115,4 +115,14 @@ fn values_that_must_be_spent_come_back(rt: HostRuntime) -> Result<(), Fail> {
     assert_eq!(rt; all.get(1).worth, 3);
     assert_eq!(rt; spend_all(field.close(all)), 7);
     Ok(())
+}
+
+#[test]
+fn a_cell_is_emptied_and_filled(rt: HostRuntime) {
+    let mut cell = Cell::full(Coin { worth: 3 });
+    assert!(rt; is_sendable(&cell));
+    assert_eq!(rt; spend(cell.take()), 3);
+    cell.put(Coin { worth: 4 });
+    assert_eq!(rt; spend(cell.take()), 4);
+    cell.end();
 }

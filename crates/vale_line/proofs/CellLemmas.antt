@@ -1,6 +1,6 @@
 -- Buffers in cells that stand one behind the other.
-use Rattle.std.proofs.Common.{ℕ, zero, suc, ◌≡◌, ◌+◌, ◌-◌, ◌<◌, ◌≤◌, List, [], ◌∷◌, ◌++◌, length, take, drop, map, Option, Some, None, get_or, slice_set, refl, subst, sym, ◌∙◌, ap, arith}
-use Rattle.std.proofs.lemmas.List.{length-append, length-map, map-append, take-append-drop, length-drop, length-take-le}
+use Rattle.std.proofs.Common.{ℕ, zero, suc, ◌≡◌, ◌+◌, ◌-◌, ◌<◌, ◌≤◌, List, [], ◌∷◌, ◌++◌, length, take, drop, map, reverse, Option, Some, None, is_some, true, get_or, slice_set, refl, subst, sym, ◌∙◌, ap, arith}
+use Rattle.std.proofs.lemmas.List.{append_assoc, reverse-append, length-append, length-map, map-append, take-append-drop, length-drop, length-take-le}
 use Rattle.nm_reach.specs.Cells.{refilled}
 use Rattle.nm_region.specs.Buffers.{Buffer}
 use Rattle.vale_line.specs.declared.got.Got.{Got}
@@ -27,6 +27,13 @@ gots-full (g ∷ gs) = ap (λ (l : List Got). g ∷ l) (gots-full gs)
 pub gots-blank : (bs : List Buffer) → gots_in (map with_buffer bs) ≡ map blank bs
 gots-blank [] = refl
 gots-blank (b ∷ bs) = ap (λ (l : List Got). blank b ∷ l) (gots-blank bs)
+
+-- the buffers of a vector, which is turned round first, go into cells one by one
+pub cells-next : (cells now : Cells) (bufs left : List Buffer) (b : Buffer) → now ≡ cells ++ with_buffer b ∷ [] → bufs ≡ left ++ b ∷ []
+    → now ++ map with_buffer (reverse left) ≡ cells ++ map with_buffer (reverse bufs)
+cells-next cells now bufs left b is was =
+    ap (λ (cs : Cells). cs ++ map with_buffer (reverse left)) is
+    ∙ (append_assoc cells (with_buffer b ∷ []) (map with_buffer (reverse left)) ∙ ap (λ (bs : List Buffer). cells ++ map with_buffer bs) (sym (ap reverse was ∙ reverse-append left (b ∷ []))))
 
 pub gots-emptied : (xs : Cells) → gots_in (map emptied xs) ≡ []
 gots-emptied [] = refl
@@ -62,8 +69,14 @@ empty-both xs ys first second = gots-append xs ys ∙ (ap (λ (gs : List Got). g
 pub full-head : (x : Option Got) (xs : Cells) → AreFull (x ∷ xs) → AreFull (x ∷ [])
 full-head x xs full = (full-parts (x ∷ []) xs full).0
 
-pub full-none : AreFull (None ∷ []) → ⊥
-full-none e = omega (arith, e)
+full-some : (x : Option Got) → AreFull (x ∷ []) → is_some x ≡ true
+full-some None full = absurd (omega (arith, full))
+full-some (Some g) full = refl
+
+-- and an empty one nothing
+pub empty-none : (x : Option Got) → AreEmpty (x ∷ []) → x ≡ None
+empty-none None empty = refl
+empty-none (Some g) empty = absurd (let wrong : g ∷ [] ≡ [] = empty in cc)
 
 pub gots-take-more : (xs : Cells) (n : ℕ) (g : Got) (left : Cells) → drop n xs ≡ Some g ∷ left → gots_in (take (n + 1) xs) ≡ gots_in (take n xs) ++ g ∷ []
 gots-take-more [] zero g left e = absurd (let wrong : [] ≡ Some g ∷ left = e in cc)
@@ -112,7 +125,7 @@ emptied-at xs cells i d g are within full is =
       count = (let e = ap length rest in omega (arith, e));
     }
 
-pub full-next : (xs cells : Cells) (i : ℕ) (d : Option Got) → cells ≡ map emptied (take i xs) ++ drop i xs → i < length cells → AreFull (drop i xs) → AreFull (get_or cells i d ∷ [])
+pub full-next : (xs cells : Cells) (i : ℕ) (d : Option Got) → cells ≡ map emptied (take i xs) ++ drop i xs → i < length cells → AreFull (drop i xs) → is_some (get_or cells i d) ≡ true
 full-next xs cells i d are within full =
     let same = ap length are in
     let parts = length-append (map emptied (take i xs)) (drop i xs) in
@@ -120,28 +133,7 @@ full-next xs cells i d are within full =
     let whole = ap length (take-append-drop i xs) in
     let both = length-append (take i xs) (drop i xs) in
     let inside : i < length xs = omega (arith, same, parts, count, whole, both, within) in
-    subst (λ (cs : Cells). AreFull (get_or cs i d ∷ [])) (sym are) (full-at xs i d inside full)
-
--- the same, told of the cell
-pub record EmptiedBy (xs : Cells) (i : ℕ) (x : Option Got) : Type 0 where
-  pub cells : slice_set (map emptied (take i xs) ++ drop i xs) i None ≡ map emptied (take (i + 1) xs) ++ drop (i + 1) xs
-  pub gots : gots_in (take (i + 1) xs) ≡ gots_in (take i xs) ++ gots_in (x ∷ [])
-  pub full : AreFull (drop (i + 1) xs)
-  pub count : length (drop i xs) ≡ 1 + length (drop (i + 1) xs)
-
-pub emptied-by : (xs cells : Cells) (i : ℕ) (d : Option Got) → cells ≡ map emptied (take i xs) ++ drop i xs → i < length cells → AreFull (drop i xs) → EmptiedBy xs i (get_or cells i d)
-emptied-by xs cells i d are within full = by (get_or cells i d) refl
-  where
-    by : (x : Option Got) → get_or cells i d ≡ x → EmptiedBy xs i (get_or cells i d)
-    by None e = absurd (let none : AreFull (None ∷ []) = subst (λ (x : Option Got). AreFull (x ∷ [])) e (full-next xs cells i d are within full) in omega (arith, none))
-    by (Some g) e =
-        let step = emptied-at xs cells i d g are within full e in
-        record {
-          cells = step.cells;
-          gots = step.gots ∙ ap (λ (x : Option Got). gots_in (take i xs) ++ gots_in (x ∷ [])) (sym e);
-          full = step.full;
-          count = step.count;
-        }
+    full-some (get_or cells i d) (subst (λ (cs : Cells). AreFull (get_or cs i d ∷ [])) (sym are) (full-at xs i d inside full))
 
 -- the cell that is filled next
 pub empty-at : (xs ys : Cells) (i : ℕ) (d : Option Got) → suc i ≤ length xs → AreEmpty (take (suc i) xs) → get_or (take (suc i) xs ++ ys) i d ≡ None

@@ -11,7 +11,7 @@ use Rattle.vale_line.specs.Gots.{buffer_of, buffers_of, frames_in, gots_with, wr
 use Rattle.vale_line.specs.Leased.{Leased, first_size, with_frame}
 use Rattle.vale_line.specs.Stored.{lease_state, IsStoredLease}
 use Rattle.vale_line.proofs.FrameLemmas.{frames_in-append, frames_in-with, whole-append, whole-with}
-use Rattle.vale_line.proofs.Filling.{FilledIn, filled-in, drop-buffers, sizes-more, sizes-there}
+use Rattle.vale_line.proofs.Filling.{filled-in, drop-buffers, sizes-more, sizes-there}
 
 -- the slots of the next frame, which its buffers have
 pub record Next (sizes : List ℕ) (gots : List Got) (frames filled n d : ℕ) : Type 0 where

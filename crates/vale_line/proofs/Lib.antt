@@ -6,4 +6,4 @@ pub mod FrameLemmas
 pub mod LotLemmas
 pub mod Moving
 pub mod RingLemmas
-pub mod RoomLemmas
+pub mod RunLemmas

@@ -613,17 +613,14 @@ module _ {w g all0 full0 run1 all1 a idle1 b full1 rest : Run (Option Got)} {roo
       }
 
 -- the ring that is made first
-pub first_ring : (field : FieldState) (idle0 idle given now : Run (Option Got)) (lots : VecDeque Lot Global) (bufs : List Buffer) → 1 ≤ length bufs → length bufs ≤ 1024
-    → idle0.field ≡ field.field → idle0.size ≡ field.size → length idle0.values ≡ field.size → idle0.start ≡ 0 → length idle0.values ≡ length bufs → lots.items ≡ [] → length bufs ≤ deque_capacity lots
-    → SameCells idle0 idle → gots_in idle.values ≡ map blank bufs
+pub first_ring : (field : FieldState) (idle given now : Run (Option Got)) (lots : VecDeque Lot Global) → 1 ≤ field.size → field.size ≤ 1024
+    → idle.field ≡ field.field → idle.size ≡ field.size → length idle.values ≡ field.size → idle.start ≡ 0 → lots.items ≡ [] → field.size ≤ deque_capacity lots
+    → AreFull idle.values → AreBlank (gots_in idle.values)
     → given ≡ record idle { values = take 0 idle.values } → now ≡ record idle { start = round idle.size idle.start 0; values = drop 0 idle.values }
     → IsRing (ring_with field given now lots 0)
-first_ring field idle0 idle given now lots bufs some few in_field in_size all at_start count none room cells gots given_is now_is =
+first_ring field idle given now lots some few in_field size long start none room full blanks given_is now_is =
     let n = field.size in
-    let long : length idle.values ≡ n = cells.count ∙ all in
-    let start : idle.start ≡ 0 = cells.start ∙ at_start in
-    let size : idle.size ≡ n = cells.size ∙ in_size in
-    let positive : 0 < n = omega (arith, some, count, all) in
+    let positive : 0 < n = omega (arith, some) in
     let stay : round n 0 0 ≡ 0 = round-low n 0 0 positive in
     let about : round n 0 n ≡ 0 = round-high n 0 n (omega arith) ∙ omega arith in
     let now_size : now.size ≡ n = ap (λ (i : Run (Option Got)). i.size) now_is ∙ size in
@@ -634,28 +631,26 @@ first_ring field idle0 idle given now lots bufs some few in_field in_size all at
     let given_values : given.values ≡ [] = ap (λ (i : Run (Option Got)). i.values) given_is in
     let zero_len = ap length given_values in
     let now_len = ap length now_values in
-    let blanks = ap length gots ∙ length-map bufs blank in
-    let full : AreFull idle.values = omega (arith, blanks, count, long, all) in
     let ends : end_of given ≡ 0 =
     ap (λ (m : ℕ). round m given.start (length given.values)) given_size ∙ (ap (λ (i : ℕ). round n i (length given.values)) given_start ∙ (ap (λ (j : ℕ). round n 0 j) zero_len ∙ stay)) in
     record {
-      given = record { field = ap (λ (i : Run (Option Got)). i.field) given_is ∙ (cells.field ∙ in_field); size = given_size; start = refl };
+      given = record { field = ap (λ (i : Run (Option Got)). i.field) given_is ∙ in_field; size = given_size; start = refl };
       lots = subst (λ (ls : List Lot). Chain field.field n (end_of given) ls now.start) (sym none) (ends ∙ sym now_start);
-      idle = record { field = ap (λ (i : Run (Option Got)). i.field) now_is ∙ (cells.field ∙ in_field); size = now_size; start = refl };
+      idle = record { field = ap (λ (i : Run (Option Got)). i.field) now_is ∙ in_field; size = now_size; start = refl };
       round =
           ap (λ (m : ℕ). round m now.start (length now.values)) now_size
           ∙ (ap (λ (i : ℕ). round n i (length now.values)) now_start ∙ (ap (λ (j : ℕ). round n 0 j) (now_len ∙ long) ∙ (about ∙ sym given_start)));
       given_within = omega (arith, given_start, positive);
       idle_within = omega (arith, now_start, positive);
-      few = omega (arith, few, count, all);
+      few = few;
       all = (let no_lots = ap (λ (ls : List Lot). slots_of (held_lots ls)) none in omega (arith, zero_len, now_len, long, no_lots));
       none = subst AreEmpty (sym given_values) refl;
       held = subst (λ (ls : List Lot). All IsHeld ls) (sym none) (All-nil IsHeld);
       lent_within = omega arith;
       lent = refl;
       full = subst AreFull (sym now_values) full;
-      blank = subst (λ (cs : Cells). AreBlank (gots_in cs)) (sym now_values) (subst AreBlank (sym gots) (blank-map bufs));
-      room = omega (arith, room, count, all);
+      blank = subst (λ (cs : Cells). AreBlank (gots_in cs)) (sym now_values) blanks;
+      room = room;
     }
 
 -- no lots are held where there are none
@@ -666,17 +661,6 @@ no-lots (lot ∷ lots) e = absurd (let wrong : held lot ∷ held_lots lots ≡ [
 pub no-bufs : (gs : List Got) → buffers_of gs ≡ [] → gs ≡ []
 no-bufs [] e = refl
 no-bufs (g ∷ gs) e = absurd (let wrong : buffer_of g ∷ buffers_of gs ≡ [] = e in cc)
-
-pub gots-next : (xs : Cells) (i : ℕ) (d : Option Got) → i < length xs → gots_in (take (i + 1) xs) ≡ gots_in (take i xs) ++ gots_in (get_or xs i d ∷ [])
-gots-next [] i d within = absurd (omega (arith, within))
-gots-next (x ∷ xs) zero d within = refl
-gots-next (None ∷ xs) (suc i) d within = let next : suc i + 1 ≡ suc (i + 1) = omega arith in rw next (gots-next xs i d (omega (arith, within)))
-gots-next (Some g ∷ xs) (suc i) d within = let next : suc i + 1 ≡ suc (i + 1) = omega arith in rw next (ap (λ (gs : List Got). g ∷ gs) (gots-next xs i d (omega (arith, within))))
-
--- a cell with a buffer is not empty
-pub some-cell : (x : Option Got) (g : Got) → x ≡ Some g → AreEmpty (x ∷ []) → ⊥
-some-cell None g e empty = let wrong : None ≡ Some g = e in cc
-some-cell (Some h) g e empty = let wrong : h ∷ [] ≡ [] = empty in cc
 
 -- there is room for one more lot
 pub few-held : (r : Ring) → IsLine (ring_state r) → length r.lots.items < r.field.size

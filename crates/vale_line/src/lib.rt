@@ -8,11 +8,9 @@ mod line;
 mod lot;
 mod moves;
 mod ring;
-mod rooms;
 #[cfg(test)]
 mod tests;
 
 pub use got::Got;
 pub use lease::{Lease, LeaseRoom};
 pub use line::Line;
-pub use rooms::rooms_for;

@@ -1,57 +1,14 @@
 //! Buffers that are moved into the cells of a run, and out of them.
-ghost use Rattle.std.specs.Prelude.{◌≡◌, ◌+◌, ◌-◌, ◌<◌, ◌≤◌, [], ◌∷◌, ◌++◌, None, Some, length, take, drop, map, vec_len, vec_capacity};
+ghost use Rattle.std.specs.Prelude.{◌≡◌, ◌+◌, ◌-◌, ◌<◌, ◌≤◌, ◌^◌, [], ◌++◌, length, take, drop, map, sum_by, vec_len, vec_capacity};
 ghost use Rattle.vale_line.specs.Cells.{AreFull, AreEmpty, SameCells, emptied, with_got, with_buffer, gots_in};
-ghost use Rattle.vale_line.specs.Gots.{blank, buffers_of};
+ghost use Rattle.vale_line.specs.Gots.{blank, buffers_of, last_count};
 
 use crate::got::Got;
-use core::mem::replace_with;
 use nm_reach::Reach;
 use nm_region::Buf;
-use std::mem::replace;
 
 /// A cell of a ring: a buffer with its frame, or nothing.
-pub(crate) type Cell = Option<Got>;
-
-/// Takes the buffer out of a cell.
-fn take(cell: &mut Cell) -> Got
-    requires { AreFull (cell.old ∷ []) }
-    ensures was { cell.old ≡ Some result }
-    ensures none { cell.new ≡ None }
-{
-    match cell.take() {
-        Some(got) => got,
-        None => unreachable!(),
-    }
-}
-
-/// Puts a buffer into an empty cell.
-fn put(cell: &mut Cell, got: Got)
-    requires { cell.old ≡ None }
-    ensures { cell.new ≡ Some got }
-{
-    match replace(cell, Some(got)) {
-        None => {}
-        Some(_other) => unreachable!(),
-    }
-}
-
-/// Moves the buffer of a full cell behind others.
-fn taken(cell: Cell, mut gots: Vec<Got>) -> (Cell, Vec<Got>)
-    requires full { AreFull (cell ∷ []) }
-    requires room { vec_len gots < vec_capacity gots }
-    ensures none { result.0 ≡ None }
-    ensures gots { result.1.items ≡ gots.items ++ gots_in (cell ∷ []) }
-    ensures len { vec_len result.1 ≡ vec_len gots + 1 }
-    ensures capacity { vec_capacity result.1 ≡ vec_capacity gots }
-{
-    match cell {
-        Some(got) => {
-            gots.push_reserved(got);
-            (None, gots)
-        }
-        None => unreachable!(),
-    }
-}
+pub(crate) type Cell = nm_reach::Cell<Got>;
 
 /// Takes the buffers out of cells, to the end of others.
 #[tactic(auto, using(crate::proofs::CellLemmas::cells))]
@@ -64,23 +21,30 @@ fn take_gots(cells: &mut [Cell], gots: Vec<Got>) -> Vec<Got>
 {
     let mut all = gots;
     for cell in cells.iter_mut() {
-        all = replace_with(cell, all, taken);
+        all.push_reserved(cell.take());
     }
     all
 }
 
-/// Takes the buffers out of cells, without their frames, to the end of others.
+/// Takes the buffers out of cells, without their frames, to the end of others. Returns how many
+/// frames ended in them.
 #[tactic(auto, using(crate::proofs::CellLemmas::cells))]
-fn take_bufs(cells: &mut [Cell], bufs: &mut Vec<Buf>)
+fn take_bufs(cells: &mut [Cell], bufs: &mut Vec<Buf>) -> u32
     requires full { AreFull cells.old }
+    requires few { length cells.old < 2 ^ 32 }
     requires room { vec_len bufs.old + length cells.old ≤ vec_capacity bufs.old }
     ensures cells { cells.new ≡ map emptied cells.old }
     ensures bufs { bufs.new.items ≡ bufs.old.items ++ buffers_of (gots_in cells.old) }
+    ensures count { result ≡ sum_by last_count (gots_in cells.old) }
     ensures capacity { vec_capacity bufs.new ≡ vec_capacity bufs.old }
 {
+    let mut count = 0;
     for cell in cells.iter_mut() {
-        bufs.push_reserved(take(cell).into_buf());
+        let got = cell.take();
+        count += got.last_count();
+        bufs.push_reserved(got.into_buf());
     }
+    count
 }
 
 /// Moves the last buffers into empty cells.
@@ -96,7 +60,7 @@ fn put_gots(cells: &mut [Cell], gots: &mut Vec<Got>)
     let mut at = cells.len();
     while at > 0 {
         at -= 1;
-        put(&mut cells[at], gots.take_last());
+        cells[at].put(gots.take_last());
     }
 }
 
@@ -113,7 +77,7 @@ fn put_bufs(cells: &mut [Cell], bufs: &mut Vec<Buf>)
     let mut at = cells.len();
     while at > 0 {
         at -= 1;
-        put(&mut cells[at], Got::blank(bufs.take_last()));
+        cells[at].put(Got::blank(bufs.take_last()));
     }
 }
 
@@ -131,18 +95,20 @@ pub(crate) fn take_run(run: &mut Reach<Cell>, gots: Vec<Got>) -> Vec<Got>
     take_gots(run.back_mut(), front)
 }
 
-/// Takes the buffers out of the cells of a run, without their frames, to the end of others.
+/// Takes the buffers out of the cells of a run, without their frames, to the end of others. Returns
+/// how many frames ended in them.
 #[tactic(auto, using(crate::proofs::CellLemmas::runs))]
-pub(crate) fn take_run_bufs(run: &mut Reach<Cell>, bufs: &mut Vec<Buf>)
+pub(crate) fn take_run_bufs(run: &mut Reach<Cell>, bufs: &mut Vec<Buf>) -> u32
     requires full { AreFull run.old.values }
     requires room { vec_len bufs.old + length run.old.values ≤ vec_capacity bufs.old }
     ensures cells { SameCells run.old run.new }
     ensures empty { AreEmpty run.new.values }
     ensures bufs { bufs.new.items ≡ bufs.old.items ++ buffers_of (gots_in run.old.values) }
+    ensures count { result ≡ sum_by last_count (gots_in run.old.values) }
     ensures capacity { vec_capacity bufs.new ≡ vec_capacity bufs.old }
 {
-    take_bufs(run.front_mut(), bufs);
-    take_bufs(run.back_mut(), bufs);
+    let front = take_bufs(run.front_mut(), bufs);
+    front + take_bufs(run.back_mut(), bufs)
 }
 
 /// Moves as many buffers as there are cells into those of a run.

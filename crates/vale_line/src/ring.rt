@@ -1,9 +1,9 @@
 //! The cells of a receive ring, and the rights to them.
 ghost use Rattle.std.specs.Prelude.{◌≡◌, ◌+◌, ◌-◌, ◌≤◌, ◌<◌, ◌^◌, [], ◌∷◌, ◌++◌, All, Some, length, take, drop, map, false, is_some, vec_len, vec_capacity, sum_by, slice_get, IfOk, IfErr, IfSome, IfNone, IsTrue};
 ghost use Rattle.std.specs.VecDeque.{deque_capacity};
-ghost use Rattle.nm_reach.specs.Fields.{Meet, IsAllOf, end_of};
+ghost use Rattle.nm_reach.specs.Fields.{Meet, end_of};
 ghost use Rattle.vale_lease.specs.Leases.{AreLeases};
-ghost use Rattle.vale_line.specs.Cells.{AreFull, AreEmpty, gots_in};
+ghost use Rattle.vale_line.specs.Cells.{AreFull, AreEmpty, gots_in, with_buffer};
 ghost use Rattle.vale_line.specs.Gots.{blank, buffers_of, last_count};
 ghost use Rattle.vale_line.specs.Lines.{is_out_at, leases_of, slots_out, completed, first_gots, gots_of_first, out_of, new_line, with_lease, put_lot};
 ghost use Rattle.vale_line.specs.Rings.{held, ring_state, IsAt, IsRing};
@@ -41,14 +41,17 @@ fn place_of(lots: &VecDeque<Lot>, id: LeaseId) -> Option<usize>
     lots.iter().rposition(|lot| lot.is_out_at(id))
 }
 
-/// So many empty cells.
-fn empty_cells(alloc: Global, size: usize) -> Result<Vec<Cell>, NoMemory>
-    ensures empty { IfOk result (λ cells. AreEmpty cells.items) }
-    ensures count { IfOk result (λ cells. length cells.items ≡ size) }
+/// A full cell for each buffer. They are taken out of their vector.
+fn full_cells(alloc: Global, bufs: &mut Vec<Buf>) -> Result<Vec<Cell>, NoMemory>
+    ensures cells { IfOk result (λ cells. cells.items ≡ map with_buffer bufs.old.items) }
+    ensures none { IfOk result (λ _. bufs.new.items ≡ []) }
+    ensures kept { IfErr result (λ _. bufs.new.items ≡ bufs.old.items) }
+    ensures capacity { vec_capacity bufs.new ≡ vec_capacity bufs.old }
 {
-    let mut cells = Vec::with_capacity(alloc, size)?;
-    for _ in 0..size {
-        cells.push_reserved(None);
+    let mut cells = Vec::with_capacity(alloc, bufs.len())?;
+    bufs.reverse();
+    while let Some(buf) = bufs.pop() {
+        cells.push_reserved(Cell::full(Got::blank(buf)));
     }
     Ok(cells)
 }
@@ -58,34 +61,9 @@ fn end_cells(mut cells: Vec<Cell>)
     requires { AreEmpty cells.items }
 {
     while let Some(cell) = cells.pop() {
-        match cell {
-            None => {}
-            Some(_got) => unreachable!(),
-        }
+        cell.end();
     }
     cells.destroy_empty();
-}
-
-/// How many frames end in the buffer of a cell.
-fn lasts_of(cell: &Cell) -> u32
-    ensures count { result ≡ sum_by last_count (gots_in (cell.now ∷ [])) }
-    ensures few { result ≤ 1 }
-{
-    match cell {
-        Some(got) => got.last_count(),
-        None => 0,
-    }
-}
-
-/// How many frames end in the buffers of a run.
-fn count_lasts(run: &Reach<Cell>) -> u32
-    ensures { result ≡ sum_by last_count (gots_in run.now.values) }
-{
-    let mut count = 0;
-    for i in 0..run.len() {
-        count += lasts_of(run.get(i));
-    }
-    count
 }
 
 /// The cells of idle buffers, and behind them those whose buffers are with the user.
@@ -147,40 +125,29 @@ impl Ring {
         ensures capacity { vec_capacity bufs.new ≡ vec_capacity bufs.old }
     {
         let lots = VecDeque::with_capacity(alloc, bufs.len())?;
-        let Ok(cells) = empty_cells(alloc, bufs.len()) else {
-            lots.destroy_empty();
-            return Err(NoMemory);
-        };
-        match Field::new(cells) {
-            Ok((field, idle)) => Ok(Ring::filled(field, idle, lots, bufs)),
-            Err((fault, cells)) => {
+        match full_cells(alloc, bufs) {
+            Ok(cells) => Ok(Ring::filled(cells, lots)),
+            Err(fault) => {
                 lots.destroy_empty();
-                end_cells(cells);
                 Err(fault)
             }
         }
     }
 
-    /// The ring whose empty cells are filled with these buffers.
-    fn filled(
-        field: Field<Cell>,
-        mut idle: Reach<Cell>,
-        lots: VecDeque<Lot>,
-        bufs: &mut Vec<Buf>,
-    ) -> Ring
-        requires size { (1 ≤ length bufs.old.items) × (length bufs.old.items ≤ 1024) }
-        requires all { IsAllOf field idle }
-        requires start { idle.start ≡ 0 }
-        requires empty { AreEmpty idle.values }
-        requires count { length idle.values ≡ length bufs.old.items }
+    /// The ring of these cells, each with an idle buffer.
+    fn filled(cells: Vec<Cell>, lots: VecDeque<Lot>) -> Ring
+        requires size { (1 ≤ length cells.items) × (length cells.items ≤ 1024) }
+        requires full { AreFull cells.items }
+        requires blank { gots_in cells.items ≡ map blank (buffers_of (gots_in cells.items)) }
         requires lots { lots.items ≡ [] }
-        requires room { length bufs.old.items ≤ deque_capacity lots }
+        requires room { length cells.items ≤ deque_capacity lots }
         ensures ring { IsRing result }
-        ensures line { ring_state result ≡ new_line bufs.old.items }
-        ensures none { bufs.new.items ≡ [] }
-        ensures capacity { vec_capacity bufs.new ≡ vec_capacity bufs.old }
+        ensures line { ring_state result ≡ new_line (buffers_of (gots_in cells.items)) }
     {
-        put_run_bufs(&mut idle, bufs);
+        let (field, mut idle) = match Field::new(cells) {
+            Ok(made) => made,
+            Err(_kept) => unreachable!(),
+        };
         let given = idle.split_front(0);
         Ring {
             field,
@@ -410,8 +377,7 @@ impl Ring {
         ensures capacity { vec_capacity bufs.new ≡ vec_capacity bufs.old }
     {
         let mut reach = self.take_first();
-        let count = count_lasts(&reach);
-        take_run_bufs(&mut reach, bufs);
+        let count = take_run_bufs(&mut reach, bufs);
         self.given.join(reach);
         count
     }

@@ -1,4 +1,4 @@
-use Rattle.std.proofs.Common.{ℕ, ◌≡◌, ◌+◌, ◌++◌, List, length, take, drop, slice_set, ap, sym, ◌∙◌, arith, rules}
+use Rattle.std.proofs.Common.{ℕ, ◌≡◌, ◌+◌, ◌++◌, List, length, take, drop, slice_set, ap, sym, ◌∙◌, rules}
 use Rattle.std.proofs.lemmas.List.{take_all, take-append-drop}
 use Rattle.nm_frag.specs.Parts.{first_parts}
 use Rattle.nm_frag.proofs.PartLemmas.{slots-one}

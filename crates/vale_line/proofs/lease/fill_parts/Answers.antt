@@ -1,8 +1,7 @@
-use Rattle.std.proofs.Common.{◌≡◌, ◌+◌, ◌-◌, ◌<◌, ◌++◌, suc, ℕ, List, length, take, drop, slice_set, ap, sym, ◌∙◌, arith, rules}
-use Rattle.std.proofs.lemmas.List.{length-set, take_all, take-append-drop}
+use Rattle.std.proofs.Common.{◌≡◌, ◌+◌, ◌-◌, ◌<◌, ◌++◌, suc, ℕ, length, take, drop, ap, sym, ◌∙◌, arith, rules}
+use Rattle.std.proofs.lemmas.List.{length-set}
 use Rattle.nm_frag.specs.Parts.{first_parts}
 use Rattle.nm_frag.proofs.PartLemmas.{slots-one}
-use Rattle.vale_line.specs.declared.got.Got.{Got}
 use Rattle.vale_line.specs.Gots.{got_of, written_parts}
 use Rattle.vale_line.proofs.Filling.{written-more, take-min, drop-min}
 use Rattle.vale_line.proofs.lease.fill_parts.Goals as goal

@@ -1,36 +1,25 @@
-use Rattle.std.proofs.Common.{◌≡◌, ◌-◌, List, Option, length, map, take, drop, subst, ap, sym, ◌∙◌}
-use Rattle.std.proofs.lemmas.List.{take-append-drop}
-use Rattle.vale_line.specs.declared.got.Got.{Got}
-use Rattle.vale_line.specs.Cells.{AreEmpty, gots_in, with_buffer}
-use Rattle.vale_line.proofs.CellLemmas.{empty-parts, gots-blank, second_written, put-front, put-all}
+use Rattle.std.proofs.Common.{◌-◌, ap, ◌∙◌}
+use Rattle.vale_line.specs.Cells.{gots_in, with_buffer}
+use Rattle.vale_line.proofs.CellLemmas.{gots-blank}
+use Rattle.vale_line.proofs.RunLemmas.{back-empty, front-empty, all-put}
 use Rattle.vale_line.proofs.moves.put_run_bufs.Goals as goal
 
 pub put_bufs-requires-clause-empty : goal.put_bufs-requires-clause-empty
 put_bufs-requires-clause-empty c =
-    let n = c.args.run.now.size - c.args.run.now.start in
-    let vs = c.args.run.now.values in
-    subst AreEmpty (sym c.back_mut.ensures.value) (empty-parts (take n vs) (drop n vs) (subst AreEmpty (sym (take-append-drop n vs)) c.requires.empty)).1
+    let run = c.args.run.now in
+    back-empty (run.size - run.start) run.values c.back_mut.result.now c.back_mut.ensures.value c.requires.empty
 
 pub put_bufs-requires-2-clause-empty : goal.put_bufs-requires-2-clause-empty
 put_bufs-requires-2-clause-empty c =
-    let n = c.args.run.now.size - c.args.run.now.start in
-    let vs = c.args.run.now.values in
-    let gs = c.args.bufs.now.items in
-    let w = c.put_bufs.new.cells in
-    let is : w ≡ map with_buffer (drop (length gs - length (drop n vs)) gs) = c.put_bufs.ensures.cells ∙ ap (λ (cs : List (Option Got)). map with_buffer (drop (length gs - length cs) gs)) c.back_mut.ensures.value in
-    let rest : c.put_bufs.new.bufs.items ≡ take (length gs - length (drop n vs)) gs = c.put_bufs.ensures.rest ∙ ap (λ (cs : List (Option Got)). take (length gs - length cs) gs) c.back_mut.ensures.value in
-    let front : c.front_mut.result.now ≡ take n vs = c.front_mut.ensures.value ∙ put-front with_buffer n vs w w gs c.put_bufs.new.bufs.items c.requires.count is rest in
-    subst AreEmpty (sym front) (empty-parts (take n vs) (drop n vs) (subst AreEmpty (sym (take-append-drop n vs)) c.requires.empty)).0
+    let run = c.args.run.now in
+    let put = c.put_bufs in
+    front-empty with_buffer (run.size - run.start) run.values c.back_mut.result.now put.new.cells c.front_mut.result.now c.args.bufs.now.items put.new.bufs.items
+    c.requires.count c.back_mut.ensures.value put.ensures.cells put.ensures.rest c.front_mut.ensures.value c.requires.empty
 
 pub returns-clause-gots : goal.returns-clause-gots
 returns-clause-gots c =
-    let n = c.args.run.now.size - c.args.run.now.start in
-    let vs = c.args.run.now.values in
-    let gs = c.args.bufs.now.items in
-    let gs1 = c.put_bufs.new.bufs.items in
-    let w = c.put_bufs.new.cells in
-    let w2 = c.put_bufs-2.new.cells in
-    let is : w ≡ map with_buffer (drop (length gs - length (drop n vs)) gs) = c.put_bufs.ensures.cells ∙ ap (λ (cs : List (Option Got)). map with_buffer (drop (length gs - length cs) gs)) c.back_mut.ensures.value in
-    let rest : gs1 ≡ take (length gs - length (drop n vs)) gs = c.put_bufs.ensures.rest ∙ ap (λ (cs : List (Option Got)). take (length gs - length cs) gs) c.back_mut.ensures.value in
-    let is2 : w2 ≡ map with_buffer (drop (length gs1 - length (take n (second_written n vs w))) gs1) = c.put_bufs-2.ensures.cells ∙ ap (λ (cs : List (Option Got)). map with_buffer (drop (length gs1 - length cs) gs1)) c.front_mut.ensures.value in
-    ap gots_in (put-all with_buffer n vs w w2 gs gs1 c.requires.count is rest is2) ∙ gots-blank gs
+    let run = c.args.run.now in
+    let put = c.put_bufs in
+    ap gots_in (all-put with_buffer (run.size - run.start) run.values c.back_mut.result.now put.new.cells c.front_mut.result.now c.args.bufs.now.items put.new.bufs.items
+    c.requires.count c.back_mut.ensures.value put.ensures.cells put.ensures.rest c.front_mut.ensures.value c.put_bufs-2.new.cells c.put_bufs-2.ensures.cells)
+    ∙ gots-blank c.args.bufs.now.items

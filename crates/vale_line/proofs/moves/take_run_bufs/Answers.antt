@@ -1,65 +1,90 @@
-use Rattle.std.proofs.Common.{◌≡◌, ◌-◌, ◌++◌, List, Option, length, map, take, drop, subst, ap, sym, ◌∙◌, arith}
-use Rattle.std.proofs.lemmas.List.{append_assoc, length-append, length-map, map-append, take-append-drop}
-use Rattle.nm_region.specs.Buffers.{Buffer}
-use Rattle.vale_line.specs.declared.got.Got.{Got}
-use Rattle.vale_line.specs.Cells.{AreFull, AreEmpty, emptied, gots_in}
-use Rattle.vale_line.specs.Gots.{buffers_of, buffer_of}
-use Rattle.vale_line.proofs.CellLemmas.{full-parts, gots-append, gots-most, gots-emptied, taken-back, taken-all, first_written}
+use Rattle.std.proofs.Common.{◌-◌, length, ap, arith}
+use Rattle.std.specs.Prelude.{sum_by}
+use Rattle.std.proofs.lemmas.List.{length-append, length-map, map-append}
+use Rattle.std.proofs.lemmas.List.Sums.{sum_by-append}
+use Rattle.vale_line.specs.Cells.{gots_in}
+use Rattle.vale_line.specs.Gots.{buffers_of, buffer_of, last_count}
+use Rattle.vale_line.proofs.CellLemmas.{gots-most}
+use Rattle.vale_line.proofs.FrameLemmas.{few-lasts}
+use Rattle.vale_line.proofs.RunLemmas.{front-full, front-most, back-full, counts-both, gots-both, all-empty, moved-both}
 use Rattle.vale_line.proofs.moves.take_run_bufs.Goals as goal
+
+pub take_bufs-front-requires-clause-few : goal.take_bufs-front-requires-clause-few
+take_bufs-front-requires-clause-few c =
+    let run = c.args.run.now in
+    let most = front-most (run.size - run.start) run.values c.front_mut.result.now c.front_mut.ensures.value in
+    let few = c.front_mut.ensures.few in
+    omega (arith, most, few)
+
+pub take_bufs-requires-clause-few : goal.take_bufs-requires-clause-few
+take_bufs-requires-clause-few c =
+    let run = c.args.run.now in
+    let took = c.take_bufs-front in
+    let both = counts-both (run.size - run.start) run.values c.front_mut.result.now took.new.cells c.back_mut.result.now c.front_mut.ensures.value took.ensures.cells c.back_mut.ensures.value in
+    let few = c.front_mut.ensures.few in
+    omega (arith, both, few)
+
+pub overflow_add-result : goal.overflow_add-result
+overflow_add-result c =
+    let run = c.args.run.now in
+    let took = c.take_bufs-front in
+    let both = counts-both (run.size - run.start) run.values c.front_mut.result.now took.new.cells c.back_mut.result.now c.front_mut.ensures.value took.ensures.cells c.back_mut.ensures.value in
+    let front = took.ensures.count in
+    let back = c.take_bufs.ensures.count in
+    let few_front = few-lasts (gots_in c.front_mut.result.now) in
+    let few_back = few-lasts (gots_in c.back_mut.result.now) in
+    let most_front = gots-most c.front_mut.result.now in
+    let most_back = gots-most c.back_mut.result.now in
+    let few = c.front_mut.ensures.few in
+    omega (arith, both, front, back, few_front, few_back, most_front, most_back, few)
+
+pub take_bufs-front-requires-clause-full : goal.take_bufs-front-requires-clause-full
+take_bufs-front-requires-clause-full c =
+    let run = c.args.run.now in
+    front-full (run.size - run.start) run.values c.front_mut.result.now c.front_mut.ensures.value c.requires.full
 
 pub take_bufs-requires-clause-full : goal.take_bufs-requires-clause-full
 take_bufs-requires-clause-full c =
-    let n = c.args.run.now.size - c.args.run.now.start in
-    let vs = c.args.run.now.values in
-    subst AreFull (sym c.front_mut.ensures.value) (full-parts (take n vs) (drop n vs) (subst AreFull (sym (take-append-drop n vs)) c.requires.full)).0
+    let run = c.args.run.now in
+    let took = c.take_bufs-front in
+    back-full (run.size - run.start) run.values c.front_mut.result.now took.new.cells c.back_mut.result.now c.front_mut.ensures.value took.ensures.cells c.back_mut.ensures.value
+    c.requires.full
 
-pub take_bufs-requires-2-clause-full : goal.take_bufs-requires-2-clause-full
-take_bufs-requires-2-clause-full c =
-    let n = c.args.run.now.size - c.args.run.now.start in
-    let vs = c.args.run.now.values in
-    let w = c.take_bufs.new.cells in
-    let is : w ≡ map emptied (take n vs) = c.take_bufs.ensures.cells ∙ ap (λ (cs : List (Option Got)). map emptied cs) c.front_mut.ensures.value in
-    let back : c.back_mut.result.now ≡ drop n vs = c.back_mut.ensures.value ∙ taken-back n vs w is in
-    subst AreFull (sym back) (full-parts (take n vs) (drop n vs) (subst AreFull (sym (take-append-drop n vs)) c.requires.full)).1
-
-pub take_bufs-requires-2-clause-room : goal.take_bufs-requires-2-clause-room
-take_bufs-requires-2-clause-room c =
-    let n = c.args.run.now.size - c.args.run.now.start in
-    let vs = c.args.run.now.values in
-    let w = c.take_bufs.new.cells in
-    let is : w ≡ map emptied (take n vs) = c.take_bufs.ensures.cells ∙ ap (λ (cs : List (Option Got)). map emptied cs) c.front_mut.ensures.value in
-    let back = ap length (c.back_mut.ensures.value ∙ taken-back n vs w is) in
-    let whole = ap length (take-append-drop n vs) in
-    let both = length-append (take n vs) (drop n vs) in
-    let front = ap length c.front_mut.ensures.value in
+pub take_bufs-requires-clause-room : goal.take_bufs-requires-clause-room
+take_bufs-requires-clause-room c =
+    let run = c.args.run.now in
+    let took = c.take_bufs-front in
+    let both = counts-both (run.size - run.start) run.values c.front_mut.result.now took.new.cells c.back_mut.result.now c.front_mut.ensures.value took.ensures.cells c.back_mut.ensures.value in
     let most = gots-most c.front_mut.result.now in
-    let now = ap length c.take_bufs.ensures.bufs in
-    let sum = length-append c.args.bufs.now.items (buffers_of (gots_in (c.front_mut.result.now))) in
+    let now = ap length took.ensures.bufs in
+    let sum = length-append c.args.bufs.now.items (buffers_of (gots_in c.front_mut.result.now)) in
     let plain = length-map (gots_in c.front_mut.result.now) buffer_of in
-    let len = c.take_bufs.new.bufs.ok.0 in
+    let len = took.new.bufs.ok.0 in
     let was = c.args.bufs.now.ok.0 in
-    let same = c.take_bufs.ensures.capacity in
+    let same = took.ensures.capacity in
     let room = c.requires.room in
-    omega (arith, back, whole, both, front, most, now, sum, len, was, same, room, plain)
+    omega (arith, both, most, now, sum, plain, len, was, same, room)
 
 pub returns-clause-empty : goal.returns-clause-empty
 returns-clause-empty c =
-    let n = c.args.run.now.size - c.args.run.now.start in
-    let vs = c.args.run.now.values in
-    let w = c.take_bufs.new.cells in
-    let w2 = c.take_bufs-2.new.cells in
-    let is : w ≡ map emptied (take n vs) = c.take_bufs.ensures.cells ∙ ap (λ (cs : List (Option Got)). map emptied cs) c.front_mut.ensures.value in
-    let is2 : w2 ≡ map emptied (drop n (first_written n vs w)) = c.take_bufs-2.ensures.cells ∙ ap (λ (cs : List (Option Got)). map emptied cs) c.back_mut.ensures.value in
-    subst AreEmpty (sym (taken-all n vs w w2 is is2)) (gots-emptied vs)
+    let run = c.args.run.now in
+    let took = c.take_bufs-front in
+    all-empty (run.size - run.start) run.values c.front_mut.result.now took.new.cells c.back_mut.result.now c.front_mut.ensures.value took.ensures.cells c.back_mut.ensures.value
+    c.take_bufs.new.cells c.take_bufs.ensures.cells
 
 pub returns-clause-bufs : goal.returns-clause-bufs
 returns-clause-bufs c =
-    let n = c.args.run.now.size - c.args.run.now.start in
-    let vs = c.args.run.now.values in
-    let w = c.take_bufs.new.cells in
-    let is : w ≡ map emptied (take n vs) = c.take_bufs.ensures.cells ∙ ap (λ (cs : List (Option Got)). map emptied cs) c.front_mut.ensures.value in
-    let back : c.back_mut.result.now ≡ drop n vs = c.back_mut.ensures.value ∙ taken-back n vs w is in
-    let all : buffers_of (gots_in (take n vs)) ++ buffers_of (gots_in (drop n vs)) ≡ buffers_of (gots_in (vs)) = sym (map-append buffer_of (gots_in (take n vs)) (gots_in (drop n vs))) ∙ ap buffers_of (sym (gots-append (take n vs) (drop n vs)) ∙ ap gots_in (take-append-drop n vs)) in
-    c.take_bufs-2.ensures.bufs ∙ (ap (λ (l : List (Option Got)). c.take_bufs.new.bufs.items ++ buffers_of (gots_in (l))) back
-    ∙ (ap (λ (l : List Buffer). l ++ buffers_of (gots_in (drop n vs))) (c.take_bufs.ensures.bufs ∙ ap (λ (l : List (Option Got)). c.args.bufs.now.items ++ buffers_of (gots_in (l))) c.front_mut.ensures.value)
-    ∙ (append_assoc c.args.bufs.now.items (buffers_of (gots_in (take n vs))) (buffers_of (gots_in (drop n vs))) ∙ ap (λ (l : List Buffer). c.args.bufs.now.items ++ l) all)))
+    let run = c.args.run.now in
+    let took = c.take_bufs-front in
+    moved-both (run.size - run.start) run.values c.front_mut.result.now took.new.cells c.back_mut.result.now c.front_mut.ensures.value took.ensures.cells c.back_mut.ensures.value
+    buffers_of (map-append buffer_of) c.args.bufs.now.items took.new.bufs.items c.take_bufs.new.bufs.items took.ensures.bufs c.take_bufs.ensures.bufs
+
+pub returns-clause-count : goal.returns-clause-count
+returns-clause-count c =
+    let run = c.args.run.now in
+    let took = c.take_bufs-front in
+    let all = ap (sum_by last_count) (gots-both (run.size - run.start) run.values c.front_mut.result.now took.new.cells c.back_mut.result.now c.front_mut.ensures.value took.ensures.cells c.back_mut.ensures.value) in
+    let sum = sum_by-append last_count (gots_in c.front_mut.result.now) (gots_in c.back_mut.result.now) in
+    let front = took.ensures.count in
+    let back = c.take_bufs.ensures.count in
+    omega (arith, all, sum, front, back)

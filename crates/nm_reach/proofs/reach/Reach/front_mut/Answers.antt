@@ -2,7 +2,7 @@ use Rattle.std.proofs.Common.{◌-◌, ◌++◌, List, take, ap, sym, ◌∙◌,
 use Rattle.nm_reach.specs.Cells.{refilled}
 use Rattle.nm_reach.specs.Fields.{Run, front_of, back_of}
 use Rattle.nm_reach.specs.Sides.{values_of}
-use Rattle.nm_reach.proofs.Rounds.{halves}
+use Rattle.nm_reach.proofs.Rounds.{halves, run_few}
 use Rattle.nm_reach.proofs.reach.Reach.front_mut.Goals as goal
 
 pub returns : goal.returns
@@ -19,5 +19,6 @@ returns g c =
       record {
         writes_back = tt;
         value = c.values_mut.ensures.value ∙ (sym h.front ∙ ap (λ (r : Run g.row.T.Denot). front_of r) c.self.view_is);
+        few = run_few x.sides c.self.invariant (ap (λ (r : Run g.row.T.Denot). r.values) c.self.view_is) x.sides.front.size c.self.invariant.front_size c.values_mut.ensures.field;
       },
     )

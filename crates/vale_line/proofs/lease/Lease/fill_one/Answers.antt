@@ -1,4 +1,4 @@
-use Rattle.std.proofs.Common.{◌≡◌, ◌+◌, ◌∙◌, length, drop, ap, sym, arith}
+use Rattle.std.proofs.Common.{◌≡◌, ◌∙◌, length, drop, ap, sym, arith}
 use Rattle.nm_frag.specs.Parts.{slots_of_length}
 use Rattle.nm_frag.proofs.PartLemmas.{slots-one}
 use Rattle.vale_line.specs.Leased.{first_size, next_of}
