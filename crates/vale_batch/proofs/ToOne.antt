@@ -1,7 +1,7 @@
 -- What ports want of frames that all go to one of them alone.
-use Rattle.std.proofs.Common.{ℕ, suc, Bool, true, false, ◌≡◌, ◌+◌, ◌<◌, ◌≤◌, List, [], ◌∷◌, ◌++◌, length, map, take, get_or, inl, inr, refl, sym, ◌∙◌, ap, subst, arith}
-use Rattle.std.specs.Prelude.{◌^◌, All, cond, count_by, filter, nat_lt}
-use Rattle.std.specs.List.{list_any}
+use Rattle.std.proofs.Common.{ℕ, suc, Bool, true, false, ◌≡◌, ◌+◌, ◌<◌, ◌≤◌, List, [], ◌∷◌, length, map, get_or, inl, inr, refl, sym, ◌∙◌, ap, arith}
+use Rattle.std.specs.Prelude.{All, IfSome, Option, Some, None, cond, count_by, filter, nat_lt}
+use Rattle.std.specs.List.{list_any, range_with_len}
 use Rattle.std.proofs.lemmas.Bool.{cases_Bool, eqb-true, eqb-false, lt-ltb, ne_eqb}
 use Rattle.std.proofs.lemmas.List.Elements.{All-head, All-tail}
 use Rattle.std.proofs.lemmas.List.Sums.{sum_by-cons}
@@ -10,10 +10,8 @@ use Rattle.vale_batch.specs.declared.looking.Destination.{Destination}
 use Rattle.vale_batch.specs.declared.looking.Destination.TheVariants.{Short, Nobody, Only, Others}
 use Rattle.vale_batch.specs.declared.looking.Looked.{Looked}
 use Rattle.vale_batch.specs.declared.alone.Placed.{Placed}
-use Rattle.vale_batch.specs.declared.alone.Own.{Own}
-use Rattle.vale_batch.specs.Wants.{IsFew, Wanted, Owned, every, flooded_to, goes_alone, is_flooded, is_flooded_at, is_lone, is_lone_destination, is_only, is_other, is_port, is_short_at, is_short_destination, own_at, owned, picked, placed_at, port_number, want_seen, wants_of, wants_some, IsRising}
-use Rattle.vale_batch.proofs.Merging.{count-merged, wants-few, wants-merged}
-use Rattle.vale_batch.proofs.WantLemmas.{picked-with}
+use Rattle.vale_batch.specs.Wants.{Wanted, Owned, every, flooded_to, goes_alone, is_flooded, is_flooded_at, is_lone, is_lone_destination, is_only, is_other, is_port, is_short_at, is_short_destination, own_at, picked, place_of, placed_at, port_number, size_of, slots_of, want_of, want_seen, wants_of, wants_some, IsRising}
+use Rattle.vale_batch.proofs.Merging.{count-merged, want-own, wants-merged}
 
 abbrev GoesTo : PortId → Looked → Type 0
 GoesTo port looked = goes_alone port looked ≡ true
@@ -92,6 +90,9 @@ counted from own =
     let none : length (flooded_to from [] own.to) ≡ 0 = ap (λ (ps : List Placed). length ps) (no-flood from own.to) in
     let all = count-merged from [] own in
     omega (arith, all, none)
+
+abbrev pub want_made : PortId → List ℕ → List ℕ → Wanted
+want_made port places sizes = record { to = port; places = places; sizes = sizes }
 
 abbrev own_with : PortId → List Placed → Owned
 own_with port frames = record { to = port; frames = frames }
@@ -180,21 +181,38 @@ pub none-wanted : (port : PortId) (ports : List PortId) (all : List Looked) → 
     → (from : PortId) → [] ≡ wants_of from all ports
 none-wanted port ports all alone none from = sym (none-in from port ports all alone none) ∙ wants-are from port ports all alone
 
-pub one-wanted : (port : PortId) (ports : List PortId) (all : List Looked) → All (λ (l : Looked). goes_alone port l ≡ true) all → 1 ≤ length all
-    → IsRising (map port_number ports) → list_any (is_port port) ports ≡ true → (own : Own) → own.to ≡ port → own.frames.items ≡ picked every 0 all
-    → (from : PortId) → want_seen from [] (owned own) ∷ [] ≡ wants_of from all ports
-one-wanted port ports all alone some rising there own to frames from =
-    let is : owned own ≡ own_with port (picked every 0 all) =
-    ap (λ (p : PortId). own_with p own.frames.items) to ∙ ap (own_with port) frames in
-    ap (λ (o : Owned). want_seen from [] o ∷ []) is ∙ (sym (one-in from port ports all alone some rising there) ∙ wants-are from port ports all alone)
+-- the one want, made at once
 
-pub one-few : (from : PortId) (ports : List PortId) (all : List Looked) (flooded : List Placed) (owns : List Own) → length all < 2 ^ 32 → flooded ≡ []
-    → map (want_seen from []) (map owned owns) ≡ wants_of from all ports → All IsFew (map (want_seen from flooded) (map owned owns))
-one-few from ports all flooded owns few none are =
-    subst (All IsFew) (sym (ap (λ (ps : List Placed). map (want_seen from ps) (map owned owns)) none ∙ are)) (wants-few from all ports few)
+places-every : (first : ℕ) (all : List Looked) → range_with_len first (length all) ≡ map place_of (picked every first all)
+places-every first [] = refl
+places-every first (x ∷ xs) = ap (λ (ns : List ℕ). first ∷ ns) (places-every (first + 1) xs)
 
--- one frame more, at its place
-pub placed-more : (all : List Looked) (i : ℕ) (d : Looked) (old new : List Placed) → i < length all → old ≡ picked every 0 (take i all)
-    → new ≡ old ++ placed_at i (get_or all i d) ∷ [] → new ≡ picked every 0 (take (i + 1) all)
-placed-more all i d old new within before added =
-    added ∙ (ap (λ (ps : List Placed). ps ++ placed_at i (get_or all i d) ∷ []) before ∙ sym (picked-with every all i d within refl))
+sizes-every : (first : ℕ) (all : List Looked) → map size_of all ≡ map slots_of (picked every first all)
+sizes-every first [] = refl
+sizes-every first (x ∷ xs) = ap (λ (ns : List ℕ). x.size ∷ ns) (sizes-every (first + 1) xs)
+
+wants-every : (from port : PortId) (all : List Looked) → want_made port (range_with_len 0 (length all)) (map size_of all) ≡ want_seen from [] (own_with port (picked every 0 all))
+wants-every from port all =
+    ap (λ (ns : List ℕ). want_made port ns (map size_of all)) (places-every 0 all)
+    ∙ (ap (λ (ns : List ℕ). want_made port (map place_of (picked every 0 all)) ns) (sizes-every 0 all)
+    ∙ (want-own port (picked every 0 all)
+    ∙ ap (λ (ps : List Placed). want_of port (picked every 0 all) ps) (sym (no-flood from port))))
+
+pub every-wanted : (port : PortId) (ports : List PortId) (all : List Looked) → All (λ (l : Looked). goes_alone port l ≡ true) all → 1 ≤ length all
+    → IsRising (map port_number ports) → list_any (is_port port) ports ≡ true → (want : Wanted)
+    → want ≡ want_made port (range_with_len 0 (length all)) (map size_of all) → (from : PortId) → want ∷ [] ≡ wants_of from all ports
+every-wanted port ports all alone some rising there want is from =
+    ap (λ (w : Wanted). w ∷ []) (is ∙ wants-every from port all)
+    ∙ (sym (one-in from port ports all alone some rising there) ∙ wants-are from port ports all alone)
+
+-- what the sole port tells of all frames
+
+pub sole-short : (all : List Looked) (r : Option PortId) → IfSome r (λ (port : PortId). All (λ (l : Looked). goes_alone port l ≡ true) all)
+    → IfSome r (λ (port : PortId). 0 ≡ count_by is_short_destination all)
+sole-short all (Some port) alone = none-short port all alone
+sole-short all None alone = tt
+
+pub sole-lone : (from : PortId) (all : List Looked) (r : Option PortId) → IfSome r (λ (port : PortId). All (λ (l : Looked). goes_alone port l ≡ true) all)
+    → IfSome r (λ (port : PortId). (ports : List PortId) → 0 ≡ count_by (is_lone from ports) all)
+sole-lone from all (Some port) alone = λ ports. none-lone from port ports all alone
+sole-lone from all None alone = tt

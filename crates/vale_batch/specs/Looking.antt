@@ -61,3 +61,9 @@ untaught_all entries taughts = fold untaught entries (reverse taughts)
 -- a frame of at most 131,072 bytes
 abbrev pub IsFrame : Frame → Type 0
 IsFrame frame = length frame.bytes ≤ 131072
+
+-- what contracts see of a batch that was looked up: who sent it, where its frames go, and what they taught
+pub record LookedUp : Type 0 where
+  pub from : PortId
+  pub all : List Looked
+  pub taughts : List Taught

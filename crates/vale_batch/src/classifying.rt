@@ -6,8 +6,8 @@ ghost use Rattle.vale_batch.specs.Wants.{wants_of, is_other, is_lone, is_short_d
 
 use crate::alone::{flooded_of, owns_of};
 use crate::lists::{Lists, keep_wanting};
-use crate::looking::{Destination, Looked, forget_taught, look_up};
-use crate::sole::{lists_to_one, sole_port};
+use crate::looking::{Destination, Looked};
+use crate::lookup::Lookup;
 use nm_types::{Batch, NoMemory, PortId};
 use std::alloc::{AllocError, Global};
 use vale_learn::Table;
@@ -48,9 +48,9 @@ fn lone_count(all: &[Looked], others: bool) -> usize
     all.iter().filter(|looked| is_lone(others, looked)).count()
 }
 
-/// The lists of frames that may go to many ports, before it is noted what they taught.
+/// The lists of frames that were looked up, before it is noted what they taught.
 #[tactic(auto, using(crate::proofs::WantLemmas::counts))]
-fn lists_to_many(
+pub(crate) fn lists_of(
     alloc: Global,
     from: PortId,
     ports: &[PortId],
@@ -77,35 +77,14 @@ fn lists_to_many(
     })
 }
 
-/// The lists of frames that were looked up, before it is noted what they taught.
-fn lists_of(
-    alloc: Global,
-    from: PortId,
-    ports: &[PortId],
-    all: &[Looked],
-) -> Result<Lists, AllocError>
-    requires few { length all.now < 2 ^ 32 }
-    requires ports { IsRising (map port_number ports.now) }
-    ensures short { IfOk result (λ lists. lists.short ≡ count_by is_short_destination all.now) }
-    ensures lone { IfOk result (λ lists.
-        lists.lone ≡ count_by (is_lone from ports.now) all.now) }
-    ensures wants { IfOk result (λ lists.
-        lists.wants ≡ wants_of from all.now ports.now) }
-{
-    match sole_port(all) {
-        Some(port) => lists_to_one(alloc, from, port, ports, all),
-        None => lists_to_many(alloc, from, ports, all),
-    }
-}
-
 /// Learns the sources of a batch that port `from` sends, frame by frame, and finds out which of the
 /// switch's open ports each frame goes to. `ports` rise. `NoMemory` leaves the table as it was, and
 /// `Lists::forget` takes back what was learned.
 ///
-/// A batch whose frames all go to one port costs one step for each frame and each port. Otherwise a
-/// frame to one port costs a binary search among the ports, a frame to all other ports one step,
-/// however many they are, and each port one step beside that. What a port wants of the flooded
-/// frames costs nothing before `Lists::want` makes it.
+/// A frame to one port costs a binary search among the ports, or one step where the one before it
+/// goes there too, a frame to all other ports one step, however many they are, and each port one
+/// step beside that. What a port wants of the flooded frames costs nothing before `Lists::want`
+/// makes it.
 #[tactic(auto, using(crate::proofs::WantLemmas::classes))]
 pub fn classify(
     alloc: Global,
@@ -126,14 +105,12 @@ pub fn classify(
     ensures wants { IfOk result (λ lists. lists.wants
         ≡ wants_of from (looked_up_batch from table.old batch.now) ports.now) }
 {
-    let mut taughts = Vec::with_capacity(alloc, batch.len())?;
-    let mut all = Vec::with_capacity(alloc, batch.len())?;
-    look_up(table, &mut taughts, &mut all, from, batch);
-    match lists_of(alloc, from, ports, &all) {
-        Ok(lists) => Ok(Lists { taughts, ..lists }),
-        Err(_) => {
-            forget_taught(table, &mut taughts);
-            Err(NoMemory)
+    let lookup = Lookup::new(alloc, table, from, batch)?;
+    match lookup.lists(alloc, ports) {
+        Ok(lists) => Ok(lookup.told(lists)),
+        Err(fault) => {
+            lookup.forget(table);
+            Err(fault)
         }
     }
 }

@@ -7,6 +7,7 @@ mod alone;
 mod classifying;
 mod lists;
 mod looking;
+mod lookup;
 mod sole;
 #[cfg(test)]
 mod tests;
@@ -14,3 +15,4 @@ mod tests;
 pub use classifying::classify;
 pub use lists::{Dest, Lists, Want};
 pub use looking::{Destination, Looked};
+pub use lookup::Lookup;

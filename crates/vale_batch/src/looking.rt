@@ -1,4 +1,4 @@
-ghost use Rattle.std.specs.Prelude.{◌≡◌, ◌+◌, ◌<◌, ◌≤◌, [], ◌++◌, All, IsTrue, length, vec_len, vec_capacity};
+ghost use Rattle.std.specs.Prelude.{◌≡◌, ◌≤◌, [], ◌++◌, All, IsTrue, IfOk, OnOk, length, vec_capacity};
 ghost use Rattle.vale_learn.specs.AddressTable.{port_of_address};
 ghost use Rattle.vale_batch.specs.Addresses.{is_learnable, source_address};
 ghost use Rattle.vale_batch.specs.Looking.{destination_found, destination_of, learned_from, looked_up, looked_up_batch, learned_of_batch, untaught_all, IsAlike, IsFrame};
@@ -6,6 +6,7 @@ ghost use Rattle.vale_batch.specs.Looking.{destination_found, destination_of, le
 use crate::addresses::{HEADER_BYTES, is_group, mac_at, word_at};
 use nm_frag::slots;
 use nm_types::{Batch, Mac, PortId};
+use std::alloc::AllocError;
 use vale_learn::{Station, Table};
 
 /// Where a frame goes.
@@ -66,22 +67,28 @@ fn is_learnable(bytes: &[u8], no_learn: bool) -> bool
     bytes.len() >= HEADER_BYTES && !is_group(mac_at(bytes, 6)) && !no_learn
 }
 
-/// Learns the source of a frame, if it may be learned, and notes what its entry held.
+/// Learns the source of a frame, if it may be learned, and notes what its entry held. Want of
+/// memory teaches nothing.
 #[tactic(auto, using(crate::proofs::Teaching::teaching))]
-fn learn(table: &mut Table, taughts: &mut Vec<Taught>, from: PortId, bytes: &[u8], no_learn: bool)
-    requires { vec_len taughts.old < vec_capacity taughts.old }
-    ensures table { table.new ≡ learned_from from table.old
-        (record { bytes = bytes.now; no_learn = no_learn }) }
+fn learn(
+    table: &mut Table,
+    taughts: &mut Vec<Taught>,
+    from: PortId,
+    bytes: &[u8],
+    no_learn: bool,
+) -> Result<(), AllocError>
+    ensures table { OnOk result (table.new ≡ learned_from from table.old
+        (record { bytes = bytes.now; no_learn = no_learn })) }
     ensures undo { untaught_all table.new taughts.new.items
         ≡ untaught_all table.old taughts.old.items }
-    ensures len { vec_len taughts.new ≤ vec_len taughts.old + 1 }
-    ensures capacity { vec_capacity taughts.new ≡ vec_capacity taughts.old }
 {
     if is_learnable(bytes, no_learn) {
+        taughts.reserve(1)?;
         let address = mac_at(bytes, 6);
         let before = table.teach(address, from);
         taughts.push_reserved(Taught { address, before });
     }
+    Ok(())
 }
 
 /// Whether a frame has the addresses and the mark of the one before it, and both have addresses.
@@ -107,28 +114,25 @@ fn follow(
     before: &[u8],
     before_no_learn: bool,
     went: Destination,
-) -> Destination
-    requires room { vec_len taughts.old < vec_capacity taughts.old }
+) -> Result<Destination, AllocError>
     requires went { went ≡ destination_of from table.old
         (record { bytes = before.now; no_learn = before_no_learn }) }
     requires known { table.old ≡ learned_from from table.old
         (record { bytes = before.now; no_learn = before_no_learn }) }
-    ensures table { table.new ≡ learned_from from table.old
-        (record { bytes = bytes.now; no_learn = no_learn }) }
-    ensures destination { result ≡ destination_of from table.new
-        (record { bytes = bytes.now; no_learn = no_learn }) }
-    ensures known { table.new ≡ learned_from from table.new
-        (record { bytes = bytes.now; no_learn = no_learn }) }
+    ensures table { OnOk result (table.new ≡ learned_from from table.old
+        (record { bytes = bytes.now; no_learn = no_learn })) }
+    ensures destination { IfOk result (λ to. to ≡ destination_of from table.new
+        (record { bytes = bytes.now; no_learn = no_learn })) }
+    ensures known { OnOk result (table.new ≡ learned_from from table.new
+        (record { bytes = bytes.now; no_learn = no_learn })) }
     ensures undo { untaught_all table.new taughts.new.items
         ≡ untaught_all table.old taughts.old.items }
-    ensures len { vec_len taughts.new ≤ vec_len taughts.old + 1 }
-    ensures capacity { vec_capacity taughts.new ≡ vec_capacity taughts.old }
 {
     if is_alike(bytes, no_learn, before, before_no_learn) {
-        return went;
+        return Ok(went);
     }
-    learn(table, taughts, from, bytes, no_learn);
-    destination_of(table, from, bytes, no_learn)
+    learn(table, taughts, from, bytes, no_learn)?;
+    Ok(destination_of(table, from, bytes, no_learn))
 }
 
 /// Takes back what was learned.
@@ -141,7 +145,7 @@ pub(crate) fn forget_taught(table: &mut Table, taughts: &mut Vec<Taught>)
     }
 }
 
-/// Learns and looks up one frame after another.
+/// Learns and looks up one frame after another. Want of memory ends it at some frame.
 #[tactic(auto, using(crate::proofs::Teaching::teaching))]
 pub(crate) fn look_up(
     table: &mut Table,
@@ -149,13 +153,12 @@ pub(crate) fn look_up(
     all: &mut Vec<Looked>,
     from: PortId,
     batch: &Batch,
-)
+) -> Result<(), AllocError>
     requires frames { All IsFrame batch.now }
     requires none { (all.old.items ≡ []) × (taughts.old.items ≡ []) }
     requires all { length batch.now ≤ vec_capacity all.old }
-    requires taughts { length batch.now ≤ vec_capacity taughts.old }
-    ensures all { all.new.items ≡ looked_up_batch from table.old batch.now }
-    ensures table { table.new ≡ learned_of_batch from table.old batch.now }
+    ensures all { OnOk result (all.new.items ≡ looked_up_batch from table.old batch.now) }
+    ensures table { OnOk result (table.new ≡ learned_of_batch from table.old batch.now) }
     ensures undo { untaught_all table.new taughts.new.items ≡ table.old }
 {
     let mut before: &[u8] = &[];
@@ -163,7 +166,7 @@ pub(crate) fn look_up(
     let mut went = Destination::Short;
     for i in 0..batch.len() {
         let (bytes, no_learn) = batch.get(i);
-        went = follow(table, taughts, from, bytes, no_learn, before, marked, went);
+        went = follow(table, taughts, from, bytes, no_learn, before, marked, went)?;
         all.push_reserved(Looked {
             destination: went,
             size: slots(bytes.len()),
@@ -171,4 +174,5 @@ pub(crate) fn look_up(
         before = bytes;
         marked = no_learn;
     }
+    Ok(())
 }

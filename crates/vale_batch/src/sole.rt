@@ -1,12 +1,11 @@
-//! Batches whose frames all go to one port alone: nothing is kept for the other ports, and no frame
-//! is looked for among flooded, short and lone ones.
-ghost use Rattle.std.specs.Prelude.{◌≡◌, ◌<◌, ◌≤◌, ◌^◌, [], All, length, map, true, count_by, IsTrue, IfOk, IfSome};
-ghost use Rattle.std.specs.List.{list_any};
+//! Batches whose frames all go to one port alone: nothing is listed for the other ports, and no
+//! frame is looked for among flooded, short and lone ones.
+ghost use Rattle.std.specs.Prelude.{List, ◌≡◌, ◌<◌, ◌≤◌, ◌^◌, [], All, length, map, true, count_by, IsTrue, IfOk, IfSome};
+ghost use Rattle.std.specs.List.{list_any, range_with_len};
 ghost use Rattle.nm_types.specs.declared.id.PortId.{PortId};
-ghost use Rattle.vale_batch.specs.Wants.{every, goes_alone, is_lone, is_port, is_short_destination, owned, picked, port_number, want_seen, wants_of, IsRising};
+ghost use Rattle.vale_batch.specs.Wants.{goes_alone, is_port, port_number, size_of, wanted, wants_of, IsRising};
 
-use crate::alone::{Own, Placed};
-use crate::lists::Lists;
+use crate::lists::Want;
 use crate::looking::{Destination, Looked};
 use nm_types::PortId;
 use std::alloc::{AllocError, Global};
@@ -45,75 +44,42 @@ pub(crate) fn sole_port(all: &[Looked]) -> Option<PortId>
     }
 }
 
-/// All frames, each with its place.
-fn placed(alloc: Global, looked: &[Looked]) -> Result<Vec<Placed>, AllocError>
-    requires { length looked.now < 2 ^ 32 }
-    ensures { IfOk result (λ all. all.items ≡ picked every 0 looked.now) }
+/// The places of so many frames.
+fn places(alloc: Global, count: u32) -> Result<Vec<u32>, AllocError>
+    ensures { IfOk result (λ all. all.items ≡ range_with_len 0 count) }
 {
-    let mut all = Vec::with_capacity(alloc, looked.len())?;
-    for place in 0..looked.len() {
-        all.push_reserved(Placed {
-            place: place as u32,
-            size: looked[place].size,
-        });
-    }
-    Ok(all)
+    (0..count).collect(alloc)
 }
 
-fn has_port(ports: &[PortId], port: PortId) -> bool
-    ensures { result ≡ list_any (is_port port) ports.now }
+/// How many slots each of the frames takes.
+fn sizes(alloc: Global, all: &[Looked]) -> Result<Vec<u32>, AllocError>
+    ensures { IfOk result (λ sizes. sizes.items ≡ map size_of all.now) }
 {
-    ports.iter().any(|other| *other == port)
+    all.iter().map(|looked| looked.size).collect(alloc)
 }
 
-/// The frames of the one port to which all go, if it is one of these.
-fn own_of(
+/// What ports want of frames that all go to one port alone, which is among them or is not.
+pub(crate) fn wants_of_sole(
     alloc: Global,
     port: PortId,
-    ports: &[PortId],
+    there: bool,
     all: &[Looked],
-) -> Result<Vec<Own>, AllocError>
+) -> Result<Vec<Want>, AllocError>
     requires few { length all.now < 2 ^ 32 }
-    requires ports { IsRising (map port_number ports.now) }
     requires some { 1 ≤ length all.now }
     requires alone { All (λ looked. goes_alone port looked ≡ true) all.now }
-    ensures { IfOk result (λ owns. (from : PortId)
-        → map (want_seen from []) (map owned owns.items) ≡ wants_of from all.now ports.now) }
+    ensures { IfOk result (λ wants. (from : PortId) (ports : List PortId)
+        → IsRising (map port_number ports) → list_any (is_port port) ports ≡ there
+        → map wanted wants.items ≡ wants_of from all.now ports) }
 {
-    if !has_port(ports, port) {
+    if !there {
         return Ok(Vec::new(alloc));
     }
-    let mut owns = Vec::with_capacity(alloc, 1)?;
-    let frames = placed(alloc, all)?;
-    owns.push_reserved(Own { to: port, frames });
-    Ok(owns)
-}
-
-/// The lists of frames that all go to one port alone, before it is noted what they taught.
-pub(crate) fn lists_to_one(
-    alloc: Global,
-    from: PortId,
-    port: PortId,
-    ports: &[PortId],
-    all: &[Looked],
-) -> Result<Lists, AllocError>
-    requires few { length all.now < 2 ^ 32 }
-    requires ports { IsRising (map port_number ports.now) }
-    requires some { 1 ≤ length all.now }
-    requires alone { All (λ looked. goes_alone port looked ≡ true) all.now }
-    ensures short { IfOk result (λ lists. lists.short ≡ count_by is_short_destination all.now) }
-    ensures lone { IfOk result (λ lists.
-        lists.lone ≡ count_by (is_lone from ports.now) all.now) }
-    ensures wants { IfOk result (λ lists.
-        lists.wants ≡ wants_of from all.now ports.now) }
-{
-    let owns = own_of(alloc, port, ports, all)?;
-    Ok(Lists {
-        short: 0,
-        lone: 0,
-        from,
-        flooded: Vec::new(alloc),
-        owns,
-        taughts: Vec::new(alloc),
-    })
+    let mut wants = Vec::with_capacity(alloc, 1)?;
+    wants.push_reserved(Want {
+        to: port,
+        places: places(alloc, all.len() as u32)?,
+        sizes: sizes(alloc, all)?,
+    });
+    Ok(wants)
 }

@@ -9,7 +9,7 @@ use crate::book::Book;
 use crate::noting::session_at;
 use crate::shutting::name_at;
 use nm_types::{Batch, PortId, Side, StepFault};
-use vale_port::{open_port, open_ports_on};
+use vale_port::open_port;
 use vale_steps::offers::Offers;
 use vale_steps::sending::{count, send};
 use vale_steps::tables::table_of;
@@ -39,14 +39,14 @@ impl Book {
         let Some(at) = table_of(&self.tables, &name) else {
             unreachable!()
         };
-        let ids = open_ports_on(self.alloc, &self.ports, &name)?;
         let monitor = self.watches.of(port, Side::Tx);
         let table = &mut self.tables[at].table;
         let sent = send(
             self.alloc,
             &mut self.history,
             table,
-            &ids,
+            &self.ports,
+            &name,
             session,
             monitor,
             port,

@@ -1,16 +1,17 @@
 -- A search among ports of owned buffers finds what a search among the world's ports finds.
-use Rattle.std.proofs.Common.{ℕ, zero, suc, Bool, true, false, not, ◌≡◌, ◌<◌, ◌≤◌, ◌+◌, nat_lt, List, [], ◌∷◌, length, map, find, slice_get, get_or, Option, Some, None, cond, refl, sym, ◌∙◌, ap, arith, inl, inr, Vec, Global, ◌&&◌}
-use Rattle.std.specs.Prelude.{position, filter, IfOk, IfSome, IfNone, Result, Ok, Err}
+use Rattle.std.proofs.Common.{ℕ, zero, suc, Bool, true, false, not, ◌≡◌, ◌<◌, ◌≤◌, ◌+◌, nat_lt, List, [], ◌∷◌, length, map, find, slice_get, get_or, Option, Some, None, cond, refl, sym, ◌∙◌, ap, arith, inl, inr, Vec, Global, ◌&&◌, ◌==◌}
+use Rattle.std.specs.Prelude.{◌||◌, position, filter, IfOk, IfSome, IfNone, Result, Ok, Err}
 use Rattle.nm_types.specs.declared.id.PortId.{PortId}
+use Rattle.nm_types.specs.Openings.{is_on_switch as is_name_on}
 use Rattle.vale_entry.specs.Opening.{is_on_switch}
-use Rattle.std.specs.List.{position_or_len}
-use Rattle.std.proofs.lemmas.Bool.{cases_Bool, ltb-false}
+use Rattle.std.specs.List.{list_any, position_or_len}
+use Rattle.std.proofs.lemmas.Bool.{and_right, cases_Bool, ltb-false}
 use Rattle.std.proofs.lemmas.List.Quantifiers.{position-Some}
 use Rattle.vale_entry.specs.World.{Port, is_open_at}
 use Rattle.vale_entry.specs.Closing.{is_shutting_at, is_port_of}
 use Rattle.vale_entry.specs.Delivered.{has_id}
 use Rattle.vale_port.specs.Lists.{IsFoundAt, IsNotFound, AreOpenOn, port_id}
-use Rattle.vale_port.specs.Ports.{PortState, IsSeatOf, AreSeatsOf, id_of_state, is_open_state, is_open_state_on, is_shutting_state, is_state_of, is_state_of_session}
+use Rattle.vale_port.specs.Ports.{PortState, IsSeatOf, AreSeatsOf, id_of_state, open_ids, is_open_id_on, is_open_state, is_open_state_on, is_shutting_state, is_state_of, is_state_of_session}
 use Rattle.vale_port.specs.Seat.{Seat, port_of}
 
 found-at : (test : PortState → Bool) (of : Port → Bool) → ((seat : Seat) (p : PortState) → IsSeatOf seat p → of seat.port ≡ test p)
@@ -83,8 +84,8 @@ same-session session seat p is = let one = is.session in cc
 same-on : (switch : List ℕ) (seat : Seat) (p : PortState) → IsSeatOf seat p → is_open_state_on switch p ≡ (not seat.port.shutting && is_on_switch switch seat.port)
 same-on switch seat p is = let one = is.name in let two = is.shutting in cc
 
-open-on : (switch : List ℕ) (seats : List Seat) (ps : List PortState) → AreSeatsOf seats ps
-    → map id_of_state (filter (is_open_state_on switch) ps) ≡ map port_id (filter (λ (port : Port). not port.shutting && is_on_switch switch port) (map port_of seats))
+pub open-on : (switch : List ℕ) (seats : List Seat) (ps : List PortState) → AreSeatsOf seats ps
+    → open_ids switch ps ≡ map port_id (filter (λ (port : Port). not port.shutting && is_on_switch switch port) (map port_of seats))
 open-on switch [] [] are = refl
 open-on switch [] (p ∷ ps) are = absurd are
 open-on switch (s ∷ ss) [] are = absurd are
@@ -100,6 +101,27 @@ open-on switch (s ∷ ss) (p ∷ ps) are =
     ]
 
 pub found-open : {E : Type 0} (switch : List ℕ) (ps : List PortState) (r : Result (Vec PortId Global) E)
-    → IfOk r (λ (ids : Vec PortId Global). ids.items ≡ map id_of_state (filter (is_open_state_on switch) ps)) → IfOk r (λ (ids : Vec PortId Global). AreOpenOn switch ps ids.items)
+    → IfOk r (λ (ids : Vec PortId Global). ids.items ≡ open_ids switch ps) → IfOk r (λ (ids : Vec PortId Global). AreOpenOn switch ps ids.items)
 found-open switch ps (Ok ids) is = λ seats are. is ∙ open-on switch seats ps are
 found-open switch ps (Err fault) is = tt
+
+-- The port of an id is one of them.
+
+abbrev is_id : ℕ → PortId → Bool
+is_id id port = port.0 == id
+
+on-and-open : (same shut on : Bool) → (not shut && on) ≡ true → ((same && not shut) && (not shut && on)) ≡ same
+on-and-open true true on is = absurd cc
+on-and-open true false on is = is
+on-and-open false shut on is = refl
+
+pub any-open : (switch : List ℕ) (id : ℕ) (ps : List PortState) → list_any (is_open_id_on switch id) ps ≡ list_any (is_id id) (open_ids switch ps)
+any-open switch id [] = refl
+any-open switch id (p ∷ ps) =
+    let rest = any-open switch id ps in
+    elim (cases_Bool (is_open_state_on switch p)) [
+      | inl here ↦
+          let first = on-and-open (p.id == id) p.shutting (is_name_on switch p.name) here in
+          rw (first, here) (ap (λ (b : Bool). (p.id == id) || b) rest)
+      | inr other ↦ rw (other, and_right (is_open_state id p) false refl) rest
+    ]

@@ -1,5 +1,5 @@
 -- A port that owns the buffers of its kernel side, and the seat of the world that it stands for.
-use Rattle.std.specs.Prelude.{ℕ, Bool, false, ◌≡◌, ◌≤◌, ◌+◌, ◌&&◌, ◌==◌, not, List, [], ◌∷◌, ◌++◌, codes, length, take, map, nat_lt, nat_eq, slice_index, Some, option_map}
+use Rattle.std.specs.Prelude.{ℕ, Bool, false, ◌≡◌, ◌≤◌, ◌+◌, ◌&&◌, ◌==◌, not, List, [], ◌∷◌, ◌++◌, codes, length, take, map, filter, nat_lt, nat_eq, slice_index, Some, option_map}
 use Rattle.std.specs.List.{starts_with}
 use Rattle.nm_types.specs.Frames.{Frame, slots_of, size_of_frames}
 use Rattle.nm_types.specs.declared.id.PortId.{PortId}
@@ -75,6 +75,13 @@ IsLastByte switch last = slice_index (codes "vale" ++ switch) (length switch + 3
 
 abbrev pub is_open_state_on : List ℕ → PortState → Bool
 is_open_state_on switch p = not p.shutting && is_on_switch switch p.name
+
+-- the ids of the open ports of a switch
+abbrev pub open_ids : List ℕ → List PortState → List PortId
+open_ids switch ps = map id_of_state (filter (is_open_state_on switch) ps)
+
+abbrev pub is_open_id_on : List ℕ → ℕ → PortState → Bool
+is_open_id_on switch id p = is_open_state id p && is_open_state_on switch p
 
 -- the slots of the frames that an offer wants
 abbrev pub sizes_of : List Frame → List ℕ

@@ -1,7 +1,7 @@
 ghost use Rattle.std.specs.Prelude.{List, ℕ, true, ◌≡◌, ◌≤◌, ◌+◌, ◌-◌, ◌==◌, ◌&&◌, not, nat_lt, slice_index, [], ◌++◌, All, length, take, drop, map, min, sum, nat_eq, false, Some, None, vec_capacity, IfOk, IfErr, IfSome, IfNone};
 ghost use Rattle.std.specs.List.{starts_with};
 ghost use Rattle.nm_types.specs.Frames.{Frame, size_of_frames};
-ghost use Rattle.nm_types.specs.Names.{IsName, colon_in};
+ghost use Rattle.nm_types.specs.Names.{IsName, colon_in, switch_of};
 ghost use Rattle.nm_types.specs.Openings.{is_on_switch};
 ghost use Rattle.nm_region.specs.Buffers.{indices_of};
 ghost use Rattle.vale_lease.specs.Leases.{is_there, out_count};
@@ -213,6 +213,15 @@ impl Port {
         ensures { result ≡ is_open_state_on switch.now self.now }
     {
         is_on(self.name.as_bytes(), switch, last) && !self.shutting
+    }
+
+    /// Tells whether the port is open on the switch of a name.
+    #[tactic(auto, using(crate::proofs::OnSwitch::switches))]
+    pub(crate) fn is_open_beside(&self, name: &Name) -> bool
+        ensures { result ≡ is_open_state_on (switch_of name.now) self.now }
+    {
+        let switch = name.switch();
+        self.is_open_on(switch, last_byte(switch))
     }
 
     /// Returns the number of slots of the transmit ring: 0 for a monitor, which has none.

@@ -1,10 +1,11 @@
-ghost use Rattle.std.specs.Prelude.{◌≡◌, map, filter, find, position, IfOk, IfSome, IfNone};
+ghost use Rattle.std.specs.Prelude.{◌≡◌, ◌==◌, find, position, IfOk, IfSome, IfNone};
+ghost use Rattle.std.specs.List.{list_any};
 ghost use Rattle.nm_types.specs.Names.{switch_of};
 ghost use Rattle.vale_entry.specs.World.{open_port};
 ghost use Rattle.vale_entry.specs.Closing.{shutting_port, is_port_of};
 ghost use Rattle.vale_entry.specs.Delivered.{port_at};
 ghost use Rattle.vale_port.specs.Lists.{IsFoundAt, IsNotFound, AreOpenOn};
-ghost use Rattle.vale_port.specs.Ports.{id_of_state, is_state_of, is_state_of_session, is_open_state, is_open_state_on, is_shutting_state};
+ghost use Rattle.vale_port.specs.Ports.{open_ids, is_state_of, is_state_of_session, is_open_id_on, is_open_state, is_shutting_state};
 
 use crate::port::{Port, last_byte};
 use nm_types::{Name, NoMemory, PortId, SessionId};
@@ -69,8 +70,7 @@ pub fn first_of_session(ports: &[Port], session: SessionId) -> Option<usize>
 
 #[tactic(auto, using(crate::proofs::OnSwitch::switches))]
 fn ids_on(alloc: Global, ports: &[Port], name: &Name) -> Result<Vec<PortId>, NoMemory>
-    ensures { IfOk result (λ ids. ids.items
-        ≡ map id_of_state (filter (is_open_state_on (switch_of name.now)) ports.now)) }
+    ensures { IfOk result (λ ids. ids.items ≡ open_ids (switch_of name.now) ports.now) }
 {
     let switch = name.switch();
     let last = last_byte(switch);
@@ -85,7 +85,24 @@ fn ids_on(alloc: Global, ports: &[Port], name: &Name) -> Result<Vec<PortId>, NoM
 
 /// Returns the ids of the open ports on the switch of a name, in the order of the ports.
 pub fn open_ports_on(alloc: Global, ports: &[Port], name: &Name) -> Result<Vec<PortId>, NoMemory>
-    ensures { IfOk result (λ ids. AreOpenOn (switch_of name.now) ports.now ids.items) }
+    ensures open { IfOk result (λ ids. AreOpenOn (switch_of name.now) ports.now ids.items) }
+    ensures ids { IfOk result (λ ids. ids.items ≡ open_ids (switch_of name.now) ports.now) }
 {
     ids_on(alloc, ports, name)
+}
+
+fn has_open_on(ports: &[Port], id: PortId, name: &Name) -> bool
+    ensures { result ≡ list_any (is_open_id_on (switch_of name.now) id.0) ports.now }
+{
+    ports
+        .iter()
+        .any(|port| port.is_open_at(id) && port.is_open_beside(name))
+}
+
+/// Tells whether the port of this id is one of the open ports on the switch of a name.
+pub fn is_open_on(ports: &[Port], id: PortId, name: &Name) -> bool
+    ensures { result
+        ≡ list_any (λ port. port.0 == id.0) (open_ids (switch_of name.now) ports.now) }
+{
+    has_open_on(ports, id, name)
 }

@@ -12,6 +12,7 @@ use Rattle.vale_batch.specs.Wants.{Wanted, Classed, port_number, is_lone, wants_
 use Rattle.vale_entry.specs.declared.entry.Ask.TheVariants.{Send}
 use Rattle.vale_entry.specs.declared.entry.Reply.TheVariants.{Offered}
 use Rattle.vale_entry.specs.declared.entry.Entry.{Entry}
+use Rattle.vale_port.specs.Ports.{PortState, open_ids}
 use Rattle.vale_parts.specs.Batches.{wants_monitored, dests_wanted}
 use Rattle.vale_steps.specs.Offering.{OffersState}
 
@@ -27,6 +28,10 @@ classed from entries frames ports = record {
   wants = wants_of from (looked_up_batch from entries frames) ports;
   taughts = [];
 }
+
+-- the same for the open ports of a switch
+abbrev pub classed_among : PortId → Entries → List Frame → List ℕ → List PortState → Classed
+classed_among from entries frames switch ports = classed from entries frames (open_ids switch ports)
 
 abbrev pub send_entry : SessionId → PortId → List Frame → Classed → List Wanted → Entry
 send_entry session from frames classed wants = record { session = session; ask = Send from frames; reply = Offered classed.short classed.lone (dests_wanted wants) }

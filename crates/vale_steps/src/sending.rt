@@ -1,22 +1,27 @@
-ghost use Rattle.std.specs.Prelude.{◌≡◌, ◌<◌, ◌+◌, ◌-◌, [], ◌∷◌, ◌++◌, true, All, IsSome, length, map, OnOk, OnErr, IfOk, IfErr};
+ghost use Rattle.std.specs.Prelude.{◌≡◌, ◌<◌, ◌≤◌, ◌^◌, ◌+◌, ◌-◌, [], ◌∷◌, ◌++◌, true, All, IsSome, length, map, count_by, OnOk, OnErr, IfOk, IfErr};
 ghost use Rattle.nm_types.specs.Frames.{bytes_of_frames};
+ghost use Rattle.nm_types.specs.Names.{switch_of};
 ghost use Rattle.nm_types.specs.Sendable.{is_sendable};
-ghost use Rattle.vale_batch.specs.Looking.{IsFrame, learned_of_batch};
-ghost use Rattle.vale_batch.specs.Wants.{IsRising, port_number};
+ghost use Rattle.vale_batch.specs.Addresses.{is_short};
+ghost use Rattle.vale_batch.specs.Looking.{IsFrame, learned_of_batch, looked_up_batch, untaught_all};
+ghost use Rattle.vale_batch.specs.Wants.{IsRising, is_lone, is_short_destination, port_number, wants_of as ports_want};
 ghost use Rattle.nm_count.specs.Tallies.{counts_of, tally_after_add};
 ghost use Rattle.vale_parts.specs.Adding.{FitsIn};
 ghost use Rattle.vale_entry.specs.Stored.{Fits, IsFull};
-ghost use Rattle.vale_steps.specs.Sending.{all_wants, classed, send_entry, send_room, send_offers, sent_counts};
+ghost use Rattle.vale_port.specs.Ports.{open_ids};
+ghost use Rattle.vale_steps.specs.Sending.{all_wants, classed_among, send_entry, send_room, send_offers, sent_counts};
 ghost use Rattle.vale_steps.specs.Wanting.{IsSmall};
 
 use crate::offers::{Offers, rooms_of};
-use crate::wanting::{dests_of, reversed, wants_of};
+use crate::wanting::{dests_of, listed, reversed, with_monitor};
 use nm_count::Tally;
-use nm_types::{Batch, Counts, NoMemory, PortId, SessionId, StepFault};
+use nm_types::{Batch, Counts, Name, NoMemory, PortId, SessionId, StepFault};
 use std::alloc::Global;
-use vale_batch::{Lists, classify};
+use std::marker::Model;
+use vale_batch::{Lookup, Want};
 use vale_entry::{Ask, Dests, Entry, History, Reply};
 use vale_learn::Table;
+use vale_port::{Port, is_open_on, open_ports_on};
 
 fn copy_of(batch: &Batch) -> Result<Batch, NoMemory>
     ensures { IfOk result (λ copy. copy ≡ batch.now) }
@@ -24,44 +29,65 @@ fn copy_of(batch: &Batch) -> Result<Batch, NoMemory>
     Ok(batch.clone()?)
 }
 
+/// How many frames of a batch are short and how many are lone, and what the ports want.
+#[derive(Drop)]
+struct Classes {
+    short: u32,
+    lone: u32,
+    wants: Vec<Want>,
+}
+
+impl Model for Classes {
+    ghost use Rattle.std.specs.Prelude.{[], map};
+    ghost use Rattle.vale_batch.specs.Wants.{Classed, wanted};
+
+    ghost Value = { Classed };
+
+    ghost view = { λ c. record {
+      short = c.short;
+      lone = c.lone;
+      wants = map wanted c.wants.items;
+      taughts = [];
+    } };
+}
+
 /// Records a send whose batch was classified, and makes its offers. Where it fails nothing has
 /// changed.
 fn record(
     alloc: Global,
     history: &mut History,
-    lists: &Lists,
+    classes: Classes,
     session: SessionId,
     monitor: Option<PortId>,
     port: PortId,
     batch: &Batch,
 ) -> Result<Offers, StepFault>
     requires sendable { is_sendable batch.now ≡ true }
-    requires small { All IsSmall lists.now.wants }
+    requires small { All IsSmall classes.wants }
     ensures entries { OnOk result (history.new.entries ≡ history.old.entries
-        ++ send_entry session port batch.now lists.now
-        (all_wants monitor batch.now lists.now) ∷ []) }
+        ++ send_entry session port batch.now classes
+        (all_wants monitor batch.now classes) ∷ []) }
     ensures offers { IfOk result (λ offers. offers ≡ send_offers
-        (length history.old.entries + 1) session lists.now
-        (all_wants monitor batch.now lists.now)) }
+        (length history.old.entries + 1) session classes
+        (all_wants monitor batch.now classes)) }
     ensures promised { OnOk result (history.new.promised + 1 ≡ history.old.promised
-        + send_room (all_wants monitor batch.now lists.now)) }
+        + send_room (all_wants monitor batch.now classes)) }
     ensures limits { history.new.limits ≡ history.old.limits }
     ensures fits { OnOk result (Fits history.old
-        (send_room (all_wants monitor batch.now lists.now)) (bytes_of_frames batch.now)) }
+        (send_room (all_wants monitor batch.now classes)) (bytes_of_frames batch.now)) }
     ensures full { IfErr result (IsFull history.old
-        (send_room (all_wants monitor batch.now lists.now)) (bytes_of_frames batch.now)) }
+        (send_room (all_wants monitor batch.now classes)) (bytes_of_frames batch.now)) }
     ensures err { OnErr result ((history.new.entries ≡ history.old.entries)
         × (history.new.promised ≡ history.old.promised)) }
 {
-    let wants = wants_of(alloc, lists, monitor, batch.len() as u32)?;
+    let Classes { short, lone, wants } = classes;
+    let wants = with_monitor(alloc, wants, monitor, batch.len() as u32)?;
     let to = dests_of(alloc, &wants)?;
     let wants = reversed(wants);
     let rooms = rooms_of(alloc, &wants)?;
     let frames = copy_of(batch)?;
     history.reserve(1 + 2 * to.len() as u64, batch.size())?;
     let entry = history.len() + 1;
-    let short = lists.short();
-    let lone = lists.lone();
     history.push(Entry {
         session,
         ask: Ask::Send { port, frames },
@@ -81,12 +107,83 @@ fn record(
     })
 }
 
-/// Records a send of an open port, whose switch has this table. Where it fails nothing has changed.
+/// What is told and wanted of a batch that was looked up, for the open ports on the switch of a
+/// name. These are listed only where its frames do not all go to one port.
+fn classes_among(
+    alloc: Global,
+    ports: &[Port],
+    name: &Name,
+    lookup: &Lookup,
+) -> Result<Classes, NoMemory>
+    requires few { length lookup.now.all < 2 ^ 32 }
+    requires ports { IsRising (map port_number (open_ids (switch_of name.now) ports.now)) }
+    ensures short { IfOk result (λ classes.
+        classes.short ≡ count_by is_short_destination lookup.now.all) }
+    ensures lone { IfOk result (λ classes. classes.lone ≡ count_by
+        (is_lone lookup.now.from (open_ids (switch_of name.now) ports.now)) lookup.now.all) }
+    ensures wants { IfOk result (λ classes. classes.wants ≡ ports_want
+        lookup.now.from lookup.now.all (open_ids (switch_of name.now) ports.now)) }
+{
+    match lookup.sole() {
+        Some(sole) => Ok(Classes {
+            short: 0,
+            lone: 0,
+            wants: lookup.sole_wants(alloc, sole, is_open_on(ports, sole, name))?,
+        }),
+        None => {
+            let ids = open_ports_on(alloc, ports, name)?;
+            let lists = lookup.lists(alloc, &ids)?;
+            Ok(Classes {
+                short: lists.short(),
+                lone: lists.lone(),
+                wants: listed(alloc, &lists)?,
+            })
+        }
+    }
+}
+
+/// Looks a batch up, and finds what is told and wanted of it, for the open ports on the switch of a
+/// name. `NoMemory` leaves the table as it was.
+#[tactic(auto, using(vale_batch::proofs::WantLemmas::classes))]
+fn classify_among(
+    alloc: Global,
+    table: &mut Table,
+    ports: &[Port],
+    name: &Name,
+    from: PortId,
+    batch: &Batch,
+) -> Result<(Classes, Lookup), NoMemory>
+    requires few { length batch.now ≤ 1023 }
+    requires frames { All IsFrame batch.now }
+    requires ports { IsRising (map port_number (open_ids (switch_of name.now) ports.now)) }
+    ensures table { OnOk result (table.new ≡ learned_of_batch from table.old batch.now) }
+    ensures err { OnErr result (table.new ≡ table.old) }
+    ensures undo { IfOk result (λ found. untaught_all table.new found.1.taughts ≡ table.old) }
+    ensures short { IfOk result (λ found. found.0.short ≡ count_by is_short batch.now) }
+    ensures lone { IfOk result (λ found. found.0.lone ≡ count_by
+        (is_lone from (open_ids (switch_of name.now) ports.now))
+        (looked_up_batch from table.old batch.now)) }
+    ensures wants { IfOk result (λ found. found.0.wants ≡ ports_want from
+        (looked_up_batch from table.old batch.now) (open_ids (switch_of name.now) ports.now)) }
+{
+    let lookup = Lookup::new(alloc, table, from, batch)?;
+    match classes_among(alloc, ports, name, &lookup) {
+        Ok(classes) => Ok((classes, lookup)),
+        Err(fault) => {
+            lookup.forget(table);
+            Err(fault)
+        }
+    }
+}
+
+/// Records a send of an open port on the switch of a name, which has this table. Where it fails
+/// nothing has changed.
 pub fn send(
     alloc: Global,
     history: &mut History,
     table: &mut Table,
-    ids: &[PortId],
+    ports: &[Port],
+    name: &Name,
     session: SessionId,
     monitor: Option<PortId>,
     port: PortId,
@@ -94,31 +191,36 @@ pub fn send(
 ) -> Result<Offers, StepFault>
     requires sendable { is_sendable batch.now ≡ true }
     requires frames { All IsFrame batch.now }
-    requires ports { IsRising (map port_number ids.now) }
+    requires ports { IsRising (map port_number (open_ids (switch_of name.now) ports.now)) }
     ensures table { OnOk result (table.new ≡ learned_of_batch port table.old batch.now) }
     ensures entries { OnOk result (history.new.entries ≡ history.old.entries
-        ++ send_entry session port batch.now (classed port table.old batch.now ids.now)
-        (all_wants monitor batch.now (classed port table.old batch.now ids.now)) ∷ []) }
+        ++ send_entry session port batch.now
+        (classed_among port table.old batch.now (switch_of name.now) ports.now)
+        (all_wants monitor batch.now
+        (classed_among port table.old batch.now (switch_of name.now) ports.now)) ∷ []) }
     ensures offers { IfOk result (λ offers. offers ≡ send_offers
-        (length history.old.entries + 1) session (classed port table.old batch.now ids.now)
-        (all_wants monitor batch.now (classed port table.old batch.now ids.now))) }
+        (length history.old.entries + 1) session
+        (classed_among port table.old batch.now (switch_of name.now) ports.now)
+        (all_wants monitor batch.now
+        (classed_among port table.old batch.now (switch_of name.now) ports.now))) }
     ensures promised { OnOk result (history.new.promised + 1 ≡ history.old.promised + send_room
-        (all_wants monitor batch.now (classed port table.old batch.now ids.now))) }
+        (all_wants monitor batch.now
+        (classed_among port table.old batch.now (switch_of name.now) ports.now))) }
     ensures limits { history.new.limits ≡ history.old.limits }
-    ensures fits { OnOk result (Fits history.old (send_room
-        (all_wants monitor batch.now (classed port table.old batch.now ids.now)))
+    ensures fits { OnOk result (Fits history.old (send_room (all_wants monitor batch.now
+        (classed_among port table.old batch.now (switch_of name.now) ports.now)))
         (bytes_of_frames batch.now)) }
-    ensures full { IfErr result (IsFull history.old (send_room
-        (all_wants monitor batch.now (classed port table.old batch.now ids.now)))
+    ensures full { IfErr result (IsFull history.old (send_room (all_wants monitor batch.now
+        (classed_among port table.old batch.now (switch_of name.now) ports.now)))
         (bytes_of_frames batch.now)) }
     ensures err { OnErr result ((history.new.entries ≡ history.old.entries)
         × (history.new.promised ≡ history.old.promised) × (table.new ≡ table.old)) }
 {
-    let lists = classify(alloc, table, ids, port, batch)?;
-    match record(alloc, history, &lists, session, monitor, port, batch) {
+    let (classes, looked) = classify_among(alloc, table, ports, name, port, batch)?;
+    match record(alloc, history, classes, session, monitor, port, batch) {
         Ok(offers) => Ok(offers),
         Err(fault) => {
-            lists.forget(table);
+            looked.forget(table);
             Err(fault)
         }
     }

@@ -77,7 +77,7 @@ pub(crate) fn add_monitor(
 
 /// What the ports want, in their order.
 #[tactic(auto, using(crate::proofs::MonitoredWants::wants_seen))]
-fn listed(alloc: Global, lists: &Lists) -> Result<Vec<Want>, NoMemory>
+pub(crate) fn listed(alloc: Global, lists: &Lists) -> Result<Vec<Want>, NoMemory>
     ensures { IfOk result (λ all. map wanted all.items ≡ lists.now.wants) }
 {
     let mut all = Vec::with_capacity(alloc, lists.len())?;
@@ -88,19 +88,19 @@ fn listed(alloc: Global, lists: &Lists) -> Result<Vec<Want>, NoMemory>
 }
 
 /// What the ports want of a batch of so many frames, with its monitor's want at its place.
-pub(crate) fn wants_of(
+pub(crate) fn with_monitor(
     alloc: Global,
-    lists: &Lists,
+    wants: Vec<Want>,
     monitor: Option<PortId>,
     count: u32,
 ) -> Result<Vec<Want>, NoMemory>
-    requires { All IsSmall lists.now.wants }
-    ensures wants { IfOk result (λ wants. (frames : List Frame) → length frames ≡ count
-        → map wanted wants.items
-        ≡ wants_monitored (option_map port_number monitor) frames lists.now.wants) }
-    ensures small { IfOk result (λ wants. All IsSmallWant wants.items) }
+    requires { All IsSmall (map wanted wants.items) }
+    ensures wants { IfOk result (λ all. (frames : List Frame) → length frames ≡ count
+        → map wanted all.items ≡ wants_monitored (option_map port_number monitor) frames
+        (map wanted wants.items)) }
+    ensures small { IfOk result (λ all. All IsSmallWant all.items) }
 {
-    let mut wants = listed(alloc, lists)?;
+    let mut wants = wants;
     add_monitor(alloc, &mut wants, monitor, count)?;
     Ok(wants)
 }

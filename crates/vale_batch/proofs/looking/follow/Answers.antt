@@ -9,5 +9,5 @@ pub returns-clause-known : goal.returns-clause-known
 returns-clause-known c =
     let from = c.args.from in
     let frame : Frame = record { bytes = c.args.bytes.now; no_learn = c.args.no_learn } in
-    let taught = c.learn.ensures.table in
+    let taught = c.in_ok-learn.ensures.table in
     taught ∙ (sym (taught_once from c.args.table.now frame) ∙ ap (λ (t : Entries). learned_from from t frame) (sym taught))

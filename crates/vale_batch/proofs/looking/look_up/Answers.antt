@@ -1,4 +1,4 @@
-use Rattle.std.proofs.Common.{◌≡◌, ◌+◌, ◌++◌, ◌∷◌, [], List, drop, ap, sym, ◌∙◌, arith, rules}
+use Rattle.std.proofs.Common.{◌≡◌, ◌+◌, ◌++◌, ◌∷◌, [], List, drop, ap, sym, ◌∙◌, rules}
 use Rattle.std.proofs.lemmas.List.{append_assoc}
 use Rattle.nm_frag.specs.Parts.{slots_of_length}
 use Rattle.nm_types.specs.Frames.{Frame}
@@ -18,10 +18,10 @@ loop-i-preserved c =
     let frame : Frame = record { bytes = c.get-no_learn.result.0.now; no_learn = c.get-no_learn.result.1 } in
     let rest = drop (i + 1) batch in
     let cut : drop i batch ≡ frame ∷ rest = drop-at batch i frame c.get-no_learn.ensures in
-    let follow = c.follow-went in
+    let follow = c.in_ok-went in
     let taught = follow.ensures.table in
-    let here : Looked = looked_up from follow.new.table frame in
-    let told : Looked = record { destination = follow.result; size = slots_of_length (length frame.bytes) } in
+    let here : Looked = looked_up from c.follow.new.table frame in
+    let told : Looked = record { destination = follow.went; size = slots_of_length (length frame.bytes) } in
     let seen : told ≡ here = ap (λ (d : Destination). record { destination = d; size = slots_of_length (length frame.bytes) }) follow.ensures.destination in
     let pushed : c.push_reserved.new.self.items ≡ c.loop-i.all.items ++ told ∷ [] = search rules in
     let placed : c.push_reserved.new.self.items ≡ c.loop-i.all.items ++ here ∷ [] = pushed ∙ ap (λ (l : Looked). c.loop-i.all.items ++ l ∷ []) seen in
@@ -34,7 +34,5 @@ loop-i-preserved c =
       known = follow.ensures.known;
       undo = follow.ensures.undo ∙ inv.undo;
       all = search rules;
-      taughts = (let more = follow.ensures.len in let before = inv.taughts in omega (arith, more, before));
       all_room = search rules;
-      taughts_room = search rules;
     }

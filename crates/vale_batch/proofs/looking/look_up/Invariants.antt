@@ -11,7 +11,5 @@ invariant-loop-i l = record {
   known : l.table ≡ learned_from l.from l.table (record { bytes = l.before; no_learn = l.marked });
   undo : untaught_all l.table l.taughts.items ≡ l.fn.table;
   all : vec_len l.all ≡ l.i;
-  taughts : vec_len l.taughts ≤ l.i;
   all_room : length l.batch ≤ vec_capacity l.all;
-  taughts_room : length l.batch ≤ vec_capacity l.taughts;
 }

@@ -1,4 +1,4 @@
-use Rattle.std.proofs.Common.{◌≡◌, sym, ◌∙◌}
+use Rattle.std.proofs.Common.{sym, ◌∙◌}
 use Rattle.vale_port.proofs.OnSwitch.{off-last}
 use Rattle.vale_port.proofs.port.is_on.Goals as goal
 

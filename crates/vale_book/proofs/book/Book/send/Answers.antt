@@ -5,6 +5,8 @@ use Rattle.vale_entry.specs.declared.entry.Ask.TheVariants.{Send}
 use Rattle.vale_entry.specs.declared.entry.Ask.{Ask}
 use Rattle.vale_entry.specs.Legal.{IsEnabled, Outcome, can_send}
 use Rattle.vale_port.specs.Lists.{AreOpenOn}
+use Rattle.vale_port.specs.Ports.{open_ids}
+use Rattle.vale_port.proofs.Lookups.{open-on}
 use Rattle.vale_book.specs.declared.book.Book.TheInside.{Inside}
 use Rattle.vale_steps.specs.declared.tables.NamedTable.{NamedTable}
 use Rattle.vale_steps.specs.NamedTables.{table_seen}
@@ -13,7 +15,7 @@ use Rattle.vale_book.specs.Recorded.{Recorded, standing}
 use Rattle.vale_book.proofs.Moves.{Moves, before, moved, stayed, record-moved, had-room}
 use Rattle.vale_book.proofs.Found.{IsOpenHere, open-here, never-missing}
 use Rattle.vale_book.proofs.SendMoves.{IsSending, send_made, can-parts, can-look_up, ids-rise, send-at, send-table, sender-counted, counts-fit_offers, send-moves, said-sent, sent-stand, table-same, full-sent}
-use Rattle.vale_book.proofs.book.Book.send.Goals.{In-Some, After-send-sent, After-drop-ids}
+use Rattle.vale_book.proofs.book.Book.send.Goals.{In-Some, After-count, After-send-sent}
 use Rattle.vale_book.proofs.book.Book.send.Goals as goal
 
 -- the sender's port stands at the place found
@@ -23,39 +25,38 @@ here c =
     open-here c.self.inside c.args.port.0 c.in-Some.place (can_send (before c.self.inside).world c.args.batch.now) c.self.invariant (rw c.deref.ensures.value at c.in-Some.ensures.some) can
 
 -- all that the call looked up
-sending : (c : After-send-sent) → IsSending c.self.inside c.args.port c.in-Some.place c.args.batch.now c.deref-6.result.now c.of-monitor.result c.session_at-session.result c.in-Some-table_of.at c.index_mut.result.now
+sending : (c : After-send-sent) → IsSending c.self.inside c.args.port c.in-Some.place c.args.batch.now (open_ids (switch_of c.name_at-name.result) c.deref-5.result.now) c.of-monitor.result c.session_at-session.result c.in-Some-table_of.at c.index_mut.result.now
 sending c =
     let can = subst (λ (r : Recorded). IsEnabled (standing r) (Send c.args.port c.args.batch.now)) (sym c.self.view_is) c.requires in
     let found = rw c.deref.ensures.value at c.in-Some.ensures.some in
     let whose = rw c.deref-2.ensures.value at c.session_at-session.ensures in
     let named = rw c.deref-3.ensures.value at c.name_at-name.ensures in
     let there = rw c.deref-4.ensures.value at c.table_of.ensures in
-    let listed : AreOpenOn (switch_of c.name_at-name.result) c.self.inside.ports.items c.in_ok-ids.ids.items = rw c.deref-5.ensures.value at c.in_ok-ids.ensures in
-    let ids : AreOpenOn (switch_of c.name_at-name.result) c.self.inside.ports.items c.deref-6.result.now = rw c.deref-6.ensures.value listed in
-    send-at c.self.inside c.args.port c.in-Some.place c.args.batch.now c.deref-6.result.now c.of-monitor.result c.session_at-session.result c.name_at-name.result c.in-Some-table_of.at c.index_mut.result.now c.self.invariant can found
-    whose named (sym there ∙ c.in-Some-table_of.is) c.index_mut.ensures.value ids c.of-monitor.ensures
+    let open' : AreOpenOn (switch_of c.name_at-name.result) c.self.inside.ports.items (open_ids (switch_of c.name_at-name.result) c.deref-5.result.now) = rw c.deref-5.ensures.value (λ seats are. open-on (switch_of c.name_at-name.result) seats c.self.inside.ports.items are) in
+    send-at c.self.inside c.args.port c.in-Some.place c.args.batch.now (open_ids (switch_of c.name_at-name.result) c.deref-5.result.now) c.of-monitor.result c.session_at-session.result c.name_at-name.result c.in-Some-table_of.at c.index_mut.result.now c.self.invariant can found
+    whose named (sym there ∙ c.in-Some-table_of.is) c.index_mut.ensures.value open' c.of-monitor.ensures
 
 -- the step, behind what was looked up
-abbrev Sent : After-drop-ids → Type 0
-Sent c = IsSending c.self.inside c.args.port c.in-Some.place c.args.batch.now c.deref-6.result.now c.of-monitor.result c.session_at-session.result c.in-Some-table_of.at c.index_mut.result.now
+abbrev Sent : After-count → Type 0
+Sent c = IsSending c.self.inside c.args.port c.in-Some.place c.args.batch.now (open_ids (switch_of c.name_at-name.result) c.deref-5.result.now) c.of-monitor.result c.session_at-session.result c.in-Some-table_of.at c.index_mut.result.now
 
-abbrev next : After-drop-ids → Inside
+abbrev next : After-count → Inside
 next c = record c.self.inside {
   history = c.send-sent.new.history;
   tables = with_item c.self.inside.tables c.in-Some-table_of.at (record { label = c.index_mut.result.now.label; table = c.send-sent.new.table });
   tally = c.count.new.tally;
 }
 
-abbrev ask : After-drop-ids → Ask
+abbrev ask : After-count → Ask
 ask c = Send c.args.port c.args.batch.now
 
-abbrev made : (c : After-drop-ids) → Sent c → Outcome
+abbrev made : (c : After-count) → Sent c → Outcome
 made c s = send_made c.self.inside c.args.port c.in-Some.place c.args.batch.now s.here
 
-moves : (c : After-drop-ids) → (s : Sent c) → Moves c.self.inside (next c) (ask c) (made c s)
+moves : (c : After-count) → (s : Sent c) → Moves c.self.inside (next c) (ask c) (made c s)
 moves c s =
     let e = c.in-Ok.ensures in
-    send-moves c.self.inside (next c) c.args.port c.in-Some.place c.args.batch.now c.deref-6.result.now c.of-monitor.result c.session_at-session.result c.in-Some-table_of.at c.index_mut.result.now c.self.invariant s e.entries e.promised e.limits e.fits
+    send-moves c.self.inside (next c) c.args.port c.in-Some.place c.args.batch.now (open_ids (switch_of c.name_at-name.result) c.deref-5.result.now) c.of-monitor.result c.session_at-session.result c.in-Some-table_of.at c.index_mut.result.now c.self.invariant s e.entries e.promised e.limits e.fits
     (rw e.table refl) (c.count.ensures ∙ (rw (e.offers, c.len.ensures) refl)) refl refl refl refl refl refl
 
 pub unreachable-requires : goal.unreachable-requires
@@ -78,7 +79,8 @@ send-sent-requires-clause-frames c =
 
 pub send-sent-requires-clause-ports : goal.send-sent-requires-clause-ports
 send-sent-requires-clause-ports c =
-    rw c.deref-6.ensures.value (ids-rise c.self.inside (switch_of c.name_at-name.result) c.in_ok-ids.ids.items c.self.invariant (rw c.deref-5.ensures.value at c.in_ok-ids.ensures))
+    let switch = switch_of c.name_at-name.result in
+    rw c.deref-5.ensures.value (ids-rise c.self.inside switch (open_ids switch c.self.inside.ports.items) c.self.invariant (λ seats are. open-on switch seats c.self.inside.ports.items are))
 
 pub count-requires-clause-there : goal.count-requires-clause-there
 count-requires-clause-there c = sender-counted c.self.inside c.args.port c.in-Some.place c.args.batch.now c.self.invariant (here (goal.at.count-requires-clause-there c).In-Some)
@@ -86,7 +88,7 @@ count-requires-clause-there c = sender-counted c.self.inside c.args.port c.in-So
 pub count-requires-clause-fits : goal.count-requires-clause-fits
 count-requires-clause-fits c =
     let s = sending (goal.at.count-requires-clause-fits c).After-send-sent in
-    counts-fit_offers c.self.inside c.args.port c.in-Some.place c.args.batch.now c.deref-6.result.now c.of-monitor.result c.session_at-session.result c.in-Some-table_of.at c.index_mut.result.now (length c.self.inside.history.entries + 1) c.len.result c.in-Ok.offers c.self.invariant s c.in-Ok.ensures.offers c.len.ensures
+    counts-fit_offers c.self.inside c.args.port c.in-Some.place c.args.batch.now (open_ids (switch_of c.name_at-name.result) c.deref-5.result.now) c.of-monitor.result c.session_at-session.result c.in-Some-table_of.at c.index_mut.result.now (length c.self.inside.history.entries + 1) c.len.result c.in-Ok.offers c.self.invariant s c.in-Ok.ensures.offers c.len.ensures
 
 pub invariant_of-self : goal.invariant_of-self
 invariant_of-self c =
@@ -121,19 +123,19 @@ returns-in-Ok-clause-made c =
 pub returns-in-Ok-clause-said : goal.returns-in-Ok-clause-said
 returns-in-Ok-clause-said c =
     let s = sending (goal.at.returns-in-Ok-clause-said c).After-send-sent in
-    rw (← c.self.view_is) (said-sent c.self.inside c.args.port c.in-Some.place c.args.batch.now c.deref-6.result.now c.of-monitor.result c.session_at-session.result c.in-Some-table_of.at c.index_mut.result.now (length c.self.inside.history.entries + 1) c.in-Ok.offers c.self.invariant s c.in-Ok.ensures.offers)
+    rw (← c.self.view_is) (said-sent c.self.inside c.args.port c.in-Some.place c.args.batch.now (open_ids (switch_of c.name_at-name.result) c.deref-5.result.now) c.of-monitor.result c.session_at-session.result c.in-Some-table_of.at c.index_mut.result.now (length c.self.inside.history.entries + 1) c.in-Ok.offers c.self.invariant s c.in-Ok.ensures.offers)
 
 pub returns-in-Ok-clause-offers : goal.returns-in-Ok-clause-offers
 returns-in-Ok-clause-offers c =
     let s = sending (goal.at.returns-in-Ok-clause-offers c).After-send-sent in
-    sent-stand c.self.inside (next c) c.args.port c.in-Some.place c.args.batch.now c.deref-6.result.now c.of-monitor.result c.session_at-session.result c.in-Some-table_of.at c.index_mut.result.now c.in-Ok.offers c.self.invariant s refl c.in-Ok.ensures.entries c.in-Ok.ensures.offers
+    sent-stand c.self.inside (next c) c.args.port c.in-Some.place c.args.batch.now (open_ids (switch_of c.name_at-name.result) c.deref-5.result.now) c.of-monitor.result c.session_at-session.result c.in-Some-table_of.at c.index_mut.result.now c.in-Ok.offers c.self.invariant s refl c.in-Ok.ensures.entries c.in-Ok.ensures.offers
 
 pub returns-in-Ok-clause-room : goal.returns-in-Ok-clause-room
 returns-in-Ok-clause-room c =
     let s = sending (goal.at.returns-in-Ok-clause-room c).After-send-sent in
     rw (← c.self.view_is) (had-room c.self.inside (next c) (ask c) (made c s) (moves c s))
 
-pub returns-clause-full : goal.returns-clause-full
-returns-clause-full c =
-    let s = sending (goal.at.returns-clause-full c).After-send-sent in
-    rw (← c.self.view_is) (full-sent c.self.inside c.args.port c.in-Some.place c.args.batch.now c.deref-6.result.now c.of-monitor.result c.session_at-session.result c.in-Some-table_of.at c.index_mut.result.now c.in-Err.fault c.self.invariant s c.in-Err.ensures.full)
+pub returns-in-Err-clause-full : goal.returns-in-Err-clause-full
+returns-in-Err-clause-full c =
+    let s = sending (goal.at.returns-in-Err-clause-full c).After-send-sent in
+    rw (← c.self.view_is) (full-sent c.self.inside c.args.port c.in-Some.place c.args.batch.now (open_ids (switch_of c.name_at-name.result) c.deref-5.result.now) c.of-monitor.result c.session_at-session.result c.in-Some-table_of.at c.index_mut.result.now c.in-Err.fault c.self.invariant s c.in-Err.ensures.full)

@@ -2,7 +2,7 @@ use Rattle.std.proofs.Common.{◌≡◌, map, rules}
 use Rattle.std.specs.Prelude.{filter}
 use Rattle.vale_batch.specs.Wants.{owned, want_seen, wants_some}
 use Rattle.vale_batch.proofs.Merging.{lists-are, lists-few}
-use Rattle.vale_batch.proofs.classifying.lists_to_many.Goals as goal
+use Rattle.vale_batch.proofs.classifying.lists_of.Goals as goal
 
 pub invariant_of-result : goal.invariant_of-result
 invariant_of-result c =
