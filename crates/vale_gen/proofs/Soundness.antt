@@ -12,7 +12,7 @@ use Rattle.vale_script.specs.Replay.{user_name as name_among, act_says, lines_sa
 use Rattle.vale_script.specs.Rules.{Draft, Opened, nothing_said, port_key, act_cause, cause_of, with_line, block_with, after}
 use Rattle.vale_script.specs.Sound.{IsSoundAct, IsSoundLine, IsSoundUnit, IsSound}
 use Rattle.vale_script.specs.Statements.{Statement, NewUser, Begin, End, Does}
-use Rattle.vale_script.specs.Words.{text_of}
+use Rattle.vale_words.specs.Words.{text_of}
 use Rattle.vale_gen.proofs.Users.{for_users, is_named, no_monitor}
 use Rattle.vale_gen.specs.Load.{Deed, user_name, port_name, puts, syncs, is_followed, frame_deeds, user_deeds, numbered, users, block_deeds, load_program}
 

@@ -5,7 +5,7 @@ use Rattle.std.specs.Result.{result_ok}
 use Rattle.std.specs.Str.Parse.{ParsesUnsigned}
 use Rattle.std.proofs.lemmas.Bool.{leb-true, ltb-true, le-leb, lt-ltb, and_parts, and_from}
 use Rattle.std.proofs.lemmas.Str.Parse.{IsDigitsTest, FoldsDigits, IsNumeralModel, numerals_by_fold, parse_digits}
-use Rattle.vale_script.specs.Words.{is_digit, are_digits, number_after, number_of, number_in}
+use Rattle.vale_words.specs.Words.{is_digit, are_digits, number_after, number_of, number_in}
 use Rattle.vale_run.specs.Load.{most_load}
 
 tells-digits : IsDigitsTest (λ ds. are_digits ds ≡ true)

@@ -8,7 +8,7 @@ use Rattle.vale_entry.specs.declared.entry.Ask.TheVariants.{Send}
 use Rattle.vale_entry.specs.declared.entry.Entry.{Entry}
 use Rattle.vale_entry.specs.World.{free_count}
 use Rattle.vale_entry.specs.Legal.{world_of}
-use Rattle.vale_script.specs.Words.{number_in}
+use Rattle.vale_words.specs.Words.{number_in}
 use Rattle.vale_gen.specs.Load.{load_program}
 use Rattle.vale_replay.specs.Machine.{Machine}
 use Rattle.vale_run.specs.declared.status.Status.{Status}

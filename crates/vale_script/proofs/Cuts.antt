@@ -10,6 +10,7 @@ use Rattle.memchr.specs.Find.{IsFirstByte}
 use Rattle.std.proofs.lemmas.List.Quantifiers.{position-Some}
 use Rattle.std.proofs.lemmas.Bool.Decides.{nat_tests}
 use Rattle.std.proofs.Math.Seq.{drop-length}
+use Rattle.vale_words.proofs.Positions.{not_found}
 use Rattle.vale_script.specs.Grammar.{is_line_feed}
 
 parts_more : (x : List ℕ) (parts : List (List ℕ)) → 0 < length parts → lines_of_parts (x ∷ parts) ≡ strip_carriage_return x ∷ lines_of_parts parts
@@ -33,10 +34,6 @@ lines_found bytes n is =
     ap lines_of_parts split ∙ parts_more (take n bytes) (slice_split is_line_feed after) some
     ∙ ap (λ rest. strip_carriage_return (take n bytes) ∷ lines rest) (sym (take_rest bytes (n + 1)))
 
-not_found : (k m : ℕ) (b : Bool) → b ≡ nat_lt k m → cond b (Some k) None ≡ None → nat_lt k m ≡ false
-not_found k m true same is = cc
-not_found k m false same is = sym same
-
 -- without a line feed the bytes are the last line
 pub lines_none : (bytes : List ℕ) → 0 < length bytes → position is_line_feed bytes ≡ None → lines bytes ≡ bytes ∷ lines (take (length bytes - length bytes) (drop (length bytes) bytes))
 lines_none bytes some is =
@@ -51,13 +48,6 @@ lines_none bytes some is =
 not-true : (b : Bool) → (b ≡ true → ⊥) → b ≡ false
 not-true true h = absurd (h refl)
 not-true false h = refl
-
--- no byte passes a test that is passed nowhere
-pub none_passes : (test : ℕ → Bool) (bytes : List ℕ) → position test bytes ≡ None → (k d : ℕ) → k < length bytes → test (get_or bytes k d) ≡ false
-none_passes test bytes is k d low =
-    let past : nat_lt (position_or_len test bytes) (length bytes) ≡ false = not_found (position_or_len test bytes) (length bytes) (nat_lt (position_or_len test bytes) (length bytes)) refl is in
-    let all : length bytes ≤ position_or_len test bytes = ltb-false (position_or_len test bytes) (length bytes) past in
-    fails_before_first test bytes k d (omega (arith, low, all))
 
 -- the first byte that passes a test is where a search finds it
 pub first_byte : (test : ℕ → Bool) (bytes : List ℕ) (r : Option ℕ) → IsFirstByte test bytes r → r ≡ position test bytes

@@ -10,7 +10,7 @@ use Rattle.vale_script.specs.Keys.{packed, before_blank, behind_blank, is_port_t
 use Rattle.vale_script.specs.Rules.{port_key}
 use Rattle.vale_script.specs.Sound.{IsUserName}
 use Rattle.vale_script.specs.Tables.{updated}
-use Rattle.vale_script.specs.Words.{is_graphic, are_graphic, has_bytes, has_up_to, is_user_name, is_file_name, text_of}
+use Rattle.vale_words.specs.Words.{is_graphic, are_graphic, has_bytes, has_up_to, is_user_name, is_file_name, text_of}
 use Rattle.nm_types.proofs.NameBytes.{both, are-graphic, name_graphic, name_sizes}
 
 -- Words of graphic bytes that are one number are one word.

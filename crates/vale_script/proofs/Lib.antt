@@ -1,14 +1,9 @@
 mod Causes
 mod Cuts
-mod Extends
 mod Free
 mod Keyed
 mod Packing
-mod Numerals
-mod Pairs
-mod Plain
 mod Replays
 mod Sayings
 mod Soundness
-mod Texts
 mod Verbs

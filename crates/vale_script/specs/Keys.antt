@@ -1,7 +1,7 @@
 -- Names as numbers, and what tables by such numbers say of names.
 use Rattle.std.specs.Prelude.{ℕ, Bool, ◌+◌, ◌*◌, ◌==◌, ◌&&◌, nat_eq, if◌then◌else◌, List, [], ◌∷◌, Option, None}
 use Rattle.std.specs.HashMap.{HashMap, get}
-use Rattle.vale_script.specs.Words.{is_user_name, is_file_name}
+use Rattle.vale_words.specs.Words.{is_user_name, is_file_name}
 
 -- the bytes of a word as one number, the first one lowest
 abbrev pub packed : List ℕ → ℕ

@@ -10,4 +10,3 @@ pub mod Script
 pub mod Sound
 pub mod Statements
 pub mod Tables
-pub mod Words

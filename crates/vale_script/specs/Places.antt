@@ -13,7 +13,7 @@ use Rattle.nm_types.specs.declared.id.Sides as watched
 use Rattle.nm_types.specs.declared.id.Sides.TheVariants as monitored
 use Rattle.vale_script.specs.declared.script.SlotField.{SlotField}
 use Rattle.vale_script.specs.declared.script.SlotField.TheVariants.{Idx, Len, Flags, Ptr}
-use Rattle.vale_script.specs.Words.{is_user_name, port_name, number_in, is_hex_byte, frame_bytes, is_mac}
+use Rattle.vale_words.specs.Words.{is_user_name, port_name, number_in, is_hex_byte, frame_bytes, is_mac}
 
 abbrev pub is_side : List ℕ → Bool
 is_side word = bytes_eq word (codes "tx") || bytes_eq word (codes "rx")

@@ -16,7 +16,7 @@ use Rattle.vale_script.specs.declared.script.Unit.TheVariants as parts
 use Rattle.vale_script.specs.Script.{Program}
 use Rattle.vale_script.specs.Statements.{Statement, Nothing, Pool, NewUser, Begin, End, Does}
 use Rattle.vale_script.specs.Tables.{updated}
-use Rattle.vale_script.specs.Words.{text_of}
+use Rattle.vale_words.specs.Words.{text_of}
 
 -- a block that has begun: the line of its `par`, and its lines so far
 pub record Opened : Type 0 where

@@ -14,7 +14,7 @@ use Rattle.vale_script.specs.declared.script.Unit.TheVariants as parts
 use Rattle.vale_script.specs.Replay.{program_says, replayed, MeetNoCause}
 use Rattle.vale_script.specs.Rules.{nothing_said}
 use Rattle.vale_script.specs.Script.{Program}
-use Rattle.vale_script.specs.Words.{is_user_name, is_file_name}
+use Rattle.vale_words.specs.Words.{is_user_name, is_file_name}
 
 -- the greatest number that a field of a slot holds
 abbrev pub most_of : SlotField → ℕ

@@ -15,7 +15,7 @@ use Rattle.vale_script.specs.declared.statements.LineFault.{LineFault}
 use Rattle.vale_script.specs.declared.statements.LineFault.TheVariants.{Bad, NoMemory}
 use Rattle.vale_script.specs.Forms.{form_of, verb_of}
 use Rattle.vale_script.specs.Places.{any_out, greatest_of, side_of, sides_of, field_of}
-use Rattle.vale_script.specs.Words.{words_of, are_line_bytes, is_silent, is_user_name, port_name, text_of, number_in, hex_byte_of, frame_bytes, mac_of}
+use Rattle.vale_words.specs.Words.{words_of, are_line_bytes, is_silent, is_user_name, port_name, text_of, number_in, hex_byte_of, frame_bytes, mac_of}
 
 infixl 10 ◌>>=◌
 abbrev pub ◌>>=◌ : {A B : Type 0} → Result A LineCause → (A → Result B LineCause) → Result B LineCause

@@ -11,10 +11,8 @@ mod statements;
 mod tables;
 #[cfg(test)]
 mod tests;
-mod words;
 
 pub use forms::{Verb, verb_of};
 pub use reader::{ScriptFault, first_line, line_count, parse};
 pub use script::{Act, Line, Lines, Script, ScriptWord, SlotField, Unit};
 pub use statements::{LineFault, Said, line_said, word_at};
-pub use words::words_of;

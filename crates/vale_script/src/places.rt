@@ -5,8 +5,8 @@ ghost use Rattle.vale_script.specs.Sound.{most_of};
 
 use crate::forms::{Place, Verb};
 use crate::script::SlotField;
-use crate::words::{frame_bytes_fit, is_hex_byte, is_mac, is_user_name, number_in, port_name};
 use nm_types::{LineCause, Side, Sides};
+use vale_words::{frame_bytes_fit, is_hex_byte, is_mac, is_user_name, number_in, port_name};
 
 fn is_side(word: &[u8]) -> bool
     ensures { result ≡ is_side word.now }

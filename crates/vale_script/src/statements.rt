@@ -9,14 +9,14 @@ ghost use Rattle.vale_script.specs.Statements.{shown, word_at, user_at, port_at,
 use crate::forms::{Verb, form_of, verb_of};
 use crate::places::{any_out, field_of, greatest_of, has_fixed_words, side_of, sides_of};
 use crate::script::{Act, ScriptWord};
-use crate::words::{
-    cut_plain_words, cut_words, frame_bytes, hex_byte_of, is_silent, is_user_name, mac_of,
-    name_text, number_in, port_name, room_for_words, text_of,
-};
 use nm_types::{
     BUFFER_BYTES, Frame, LineCause, MAX_BATCH, MAX_COUNTS, MAX_POOL, Mac, Name, NoMemory, Side,
 };
 use std::alloc::{AllocError, Global};
+use vale_words::{
+    cut_plain_words, cut_words, frame_bytes, hex_byte_of, is_silent, is_user_name, mac_of,
+    name_text, number_in, port_name, room_for_words, text_of,
+};
 
 /// Why a line says nothing that a script may say.
 #[derive(Clone, Copy, Debug, PartialEq, Eq)]

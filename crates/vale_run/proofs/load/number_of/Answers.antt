@@ -1,5 +1,5 @@
 use Rattle.std.proofs.Common.{◌≡◌, true, sym, ◌∙◌, ap}
-use Rattle.vale_script.specs.Words.{are_digits}
+use Rattle.vale_words.specs.Words.{are_digits}
 use Rattle.vale_run.proofs.Digits.{parsed-is, long-is, other-is}
 use Rattle.vale_run.proofs.load.number_of.Goals.{else-word-le-MAX_DIGITS-via-then-word-le-MAX_DIGITS+else-are_digits, else-word-le-MAX_DIGITS-via-else-word-le-MAX_DIGITS}
 use Rattle.vale_run.proofs.load.number_of.Goals as goal

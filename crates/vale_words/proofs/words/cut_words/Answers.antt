@@ -1,9 +1,9 @@
 use Rattle.std.proofs.Common.{◌++◌, rules, ap, map, ◌∙◌}
 use Rattle.std.proofs.lemmas.Iterator.Consumers.{YieldsList-from_filter}
 use Rattle.std.proofs.lemmas.Iterator.Splits.{YieldsList-from_slice_split}
-use Rattle.vale_script.specs.Words.{is_blank, has_bytes}
-use Rattle.vale_script.proofs.Extends.{list_from_extend}
-use Rattle.vale_script.proofs.words.cut_words.Goals as goal
+use Rattle.vale_words.specs.Words.{is_blank, has_bytes}
+use Rattle.vale_words.proofs.Extends.{list_from_extend}
+use Rattle.vale_words.proofs.words.cut_words.Goals as goal
 
 pub returns : goal.returns
 returns c =

@@ -1,7 +1,7 @@
 //! The words of a script's lines, each by itself.
 ghost use Rattle.std.specs.Prelude.{◌≡◌, ◌+◌, ◌*◌, ◌/◌, ◌<◌, ◌≤◌, ◌^◌, ◌++◌, ◌∷◌, [], ℕ, length, take, drop, map, filter, not, position, option_map, min, is_some, true, IsTrue, IfOk, OnOk, IfSome};
 ghost use Rattle.nm_types.specs.Names.{IsName};
-ghost use Rattle.vale_script.specs.Words.{is_blank, has_bytes, words_of, is_graphic, are_line_bytes, begins_with_hash, is_silent, has_up_to, is_user_name, port_name, are_graphic, is_file_name, text_of, is_digit, are_digits, is_number, number_of, number_in, is_hex, are_hex, hex_value, is_pair_at, byte_at, is_colon_at, is_hex_byte, hex_byte_of, is_digits, bytes_of, frame_bytes, are_pairs, are_joined, is_mac, mac_value, mac_of};
+ghost use Rattle.vale_words.specs.Words.{is_blank, has_bytes, words_of, is_graphic, are_line_bytes, begins_with_hash, is_silent, has_up_to, is_user_name, port_name, are_graphic, is_file_name, text_of, is_digit, are_digits, is_number, number_of, number_in, is_hex, are_hex, hex_value, is_pair_at, byte_at, is_colon_at, is_hex_byte, hex_byte_of, is_digits, bytes_of, frame_bytes, are_pairs, are_joined, is_mac, mac_value, mac_of};
 
 use nm_types::{BUFFER_BYTES, Mac, Name, NoMemory, are_word_bytes};
 use std::alloc::{AllocError, Global};
@@ -56,10 +56,7 @@ fn add_word<'a>(words: &mut Vec<&'a [u8]>, word: &'a [u8]) -> Result<(), AllocEr
 /// Tells whether a line holds line bytes alone, and if so cuts its words at blanks and tabs, in the
 /// place of those that were there.
 #[tactic(auto, using(crate::proofs::Plain::plain))]
-pub(crate) fn cut_plain_words<'a>(
-    words: &mut Vec<&'a [u8]>,
-    line: &'a [u8],
-) -> Result<bool, AllocError>
+pub fn cut_plain_words<'a>(words: &mut Vec<&'a [u8]>, line: &'a [u8]) -> Result<bool, AllocError>
     ensures plain { IfOk result (λ plain. plain ≡ are_line_bytes line.now) }
     ensures words { IfOk result (λ plain. IsTrue plain
         → map (λ w. w.now) words.new.items ≡ words_of line.now) }
@@ -79,7 +76,7 @@ pub(crate) fn cut_plain_words<'a>(
 }
 
 /// Cuts the words of a line at blanks and tabs, in the place of those that were there.
-pub(crate) fn cut_words<'a>(words: &mut Vec<&'a [u8]>, line: &'a [u8]) -> Result<(), AllocError>
+pub fn cut_words<'a>(words: &mut Vec<&'a [u8]>, line: &'a [u8]) -> Result<(), AllocError>
     ensures { OnOk result (map (λ w. w.now) words.new.items ≡ words_of line.now) }
 {
     words.clear();
@@ -88,7 +85,7 @@ pub(crate) fn cut_words<'a>(words: &mut Vec<&'a [u8]>, line: &'a [u8]) -> Result
 }
 
 /// Room for the words of a line.
-pub(crate) fn room_for_words<'a>(alloc: Global) -> Result<Vec<&'a [u8]>, AllocError> {
+pub fn room_for_words<'a>(alloc: Global) -> Result<Vec<&'a [u8]>, AllocError> {
     Vec::with_capacity(alloc, FEW_WORDS)
 }
 
@@ -111,7 +108,7 @@ fn begins_with_hash(word: &[u8]) -> bool
 }
 
 /// Whether a line of these words says nothing.
-pub(crate) fn is_silent(words: &[&[u8]]) -> bool
+pub fn is_silent(words: &[&[u8]]) -> bool
     ensures { result ≡ is_silent (map (λ w. w.now) words.now) }
 {
     match words.first() {
@@ -126,7 +123,8 @@ fn has_up_to(most: usize, word: &[u8]) -> bool
     !word.is_empty() && word.len() <= most
 }
 
-pub(crate) fn is_user_name(word: &[u8]) -> bool
+/// Whether a word is a user's name.
+pub fn is_user_name(word: &[u8]) -> bool
     ensures { result ≡ is_user_name word.now }
 {
     has_up_to(16, word) && are_word_bytes(word)
@@ -146,7 +144,7 @@ fn is_file_name(word: &[u8]) -> bool
 
 /// The text of a word, or none if it has no byte, or one that is not printable or a blank.
 #[tactic(auto, using(crate::proofs::Texts::texts), unfolding(crate::specs::Words::text_of))]
-pub(crate) fn text_of(word: &[u8]) -> Option<&str>
+pub fn text_of(word: &[u8]) -> Option<&str>
     ensures text { option_map (λ text. text.now) result ≡ text_of word.now }
     ensures same { IfSome result (λ text. text.now ≡ word.now) }
     ensures named { IfSome result (λ text. is_file_name text.now ≡ true) }
@@ -160,7 +158,7 @@ pub(crate) fn text_of(word: &[u8]) -> Option<&str>
 
 /// The text of a user's name.
 #[tactic(auto, using(crate::proofs::Texts::texts), unfolding(crate::specs::Words::text_of))]
-pub(crate) fn name_text(word: &[u8]) -> Option<&str>
+pub fn name_text(word: &[u8]) -> Option<&str>
     requires { is_user_name word.now ≡ true }
     ensures text { option_map (λ text. text.now) result ≡ text_of word.now }
     ensures same { IfSome result (λ text. text.now ≡ word.now) }
@@ -170,7 +168,7 @@ pub(crate) fn name_text(word: &[u8]) -> Option<&str>
 
 /// The name of a port, a pipe end or a monitor, or none if the word is none.
 #[tactic(auto, unfolding(crate::specs::Words::port_name))]
-pub(crate) fn port_name(word: &[u8]) -> Option<Name>
+pub fn port_name(word: &[u8]) -> Option<Name>
     ensures name { result ≡ port_name word.now }
     ensures named { IfSome result IsName }
 {
@@ -209,7 +207,7 @@ fn capped_number(word: &[u8]) -> u128
 
 /// A number within these bounds, or none if the word is none.
 #[tactic(auto, unfolding(crate::specs::Words::number_in))]
-pub(crate) fn number_in(low: u64, high: u64, word: &[u8]) -> Option<u64>
+pub fn number_in(low: u64, high: u64, word: &[u8]) -> Option<u64>
     ensures value { result ≡ number_in low high word.now }
     ensures within { IfSome result (λ n. n ≤ high) }
     ensures least { IfSome result (λ n. low ≤ n) }
@@ -262,7 +260,7 @@ fn byte_at(word: &[u8], i: usize) -> u8
 
 /// Whether a word is two hexadecimal digits.
 #[tactic(auto, unfolding(crate::specs::Words::is_hex_byte))]
-pub(crate) fn is_hex_byte(word: &[u8]) -> bool
+pub fn is_hex_byte(word: &[u8]) -> bool
     ensures value { result ≡ is_hex_byte word.now }
     ensures two { IsTrue result → 1 < length word.now }
     ensures pair { IsTrue result → is_pair_at word.now 0 ≡ true }
@@ -271,7 +269,7 @@ pub(crate) fn is_hex_byte(word: &[u8]) -> bool
 }
 
 /// The byte that two hexadecimal digits write, or none if the word is none.
-pub(crate) fn hex_byte_of(word: &[u8]) -> Option<u8>
+pub fn hex_byte_of(word: &[u8]) -> Option<u8>
     ensures { result ≡ hex_byte_of word.now }
 {
     if is_hex_byte(word) {
@@ -313,7 +311,7 @@ fn bytes_of(alloc: Global, word: &[u8]) -> Result<Vec<u8>, NoMemory>
 
 /// Whether a word is the digits of a frame, or a dot.
 #[tactic(auto, unfolding(crate::specs::Words::frame_bytes))]
-pub(crate) fn frame_bytes_fit(word: &[u8]) -> bool
+pub fn frame_bytes_fit(word: &[u8]) -> bool
     ensures { result ≡ is_some (frame_bytes word.now) }
 {
     word == b".".as_slice() || is_digits(word)
@@ -321,7 +319,7 @@ pub(crate) fn frame_bytes_fit(word: &[u8]) -> bool
 
 /// The bytes of a frame in digits, or none if the word is none. A dot is the empty frame.
 #[tactic(auto, unfolding(crate::specs::Words::frame_bytes))]
-pub(crate) fn frame_bytes(alloc: Global, word: &[u8]) -> Result<Option<Vec<u8>>, NoMemory>
+pub fn frame_bytes(alloc: Global, word: &[u8]) -> Result<Option<Vec<u8>>, NoMemory>
     ensures fits { IfOk result (λ bytes. IfSome bytes (λ b. length b.items ≤ BUFFER_BYTES)) }
     ensures value { IfOk result (λ bytes. option_map (λ b. b.items) bytes ≡ frame_bytes word.now) }
 {
@@ -354,8 +352,9 @@ fn are_joined(word: &[u8]) -> bool
     word[2] == b':' && word[5] == b':' && word[8] == b':' && word[11] == b':' && word[14] == b':'
 }
 
+/// Whether a word is an Ethernet address.
 #[tactic(auto, unfolding(crate::specs::Words::is_mac))]
-pub(crate) fn is_mac(word: &[u8]) -> bool
+pub fn is_mac(word: &[u8]) -> bool
     ensures value { result ≡ is_mac word.now }
     ensures length { IsTrue result → length word.now ≡ 17 }
     ensures pairs { IsTrue result → are_pairs word.now ≡ true }
@@ -381,7 +380,7 @@ fn mac_value(word: &[u8]) -> Mac
 /// An Ethernet address: six pairs of hexadecimal digits joined by colons, or none if the word is
 /// none.
 #[tactic(auto, unfolding(crate::specs::Words::mac_of))]
-pub(crate) fn mac_of(word: &[u8]) -> Option<Mac>
+pub fn mac_of(word: &[u8]) -> Option<Mac>
     ensures { result ≡ mac_of word.now }
 {
     if is_mac(word) {

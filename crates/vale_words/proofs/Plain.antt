@@ -6,8 +6,8 @@ use Rattle.std.proofs.lemmas.List.Elements.{filter-append}
 use Rattle.std.proofs.lemmas.List.Quantifiers.{position-Some}
 use Rattle.std.proofs.lemmas.List.Splits.{slice_split_first, slice_split_none}
 use Rattle.std.proofs.lemmas.List.Sums.{position_or_len_is}
-use Rattle.vale_script.specs.Words.{is_blank, has_bytes, words_of, is_graphic, is_line_byte, are_line_bytes}
-use Rattle.vale_script.proofs.Cuts.{none_passes}
+use Rattle.vale_words.specs.Words.{is_blank, has_bytes, words_of, is_graphic, is_line_byte, are_line_bytes}
+use Rattle.vale_words.proofs.Positions.{none_passes}
 
 abbrev ends : ℕ → Bool
 ends b = not (is_graphic b)

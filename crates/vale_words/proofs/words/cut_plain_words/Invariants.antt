@@ -1,6 +1,6 @@
 use Rattle.std.proofs.Common.{◌≡◌, ◌++◌, length, map}
-use Rattle.vale_script.specs.Words.{words_of, are_line_bytes}
-use Rattle.vale_script.proofs.words.cut_plain_words.Given as goal
+use Rattle.vale_words.specs.Words.{words_of, are_line_bytes}
+use Rattle.vale_words.proofs.words.cut_plain_words.Given as goal
 
 abbrev pub invariant-loop-at : goal.invariant-loop-at
 invariant-loop-at l = record {

@@ -1,8 +1,8 @@
 use Rattle.std.proofs.Common.{◌≡◌, ◌∙◌, ◌+◌, ◌*◌, ℕ, List, [], ◌∷◌, ◌++◌, length, map, sym, ap, arith}
 use Rattle.std.specs.List.{range_with_len}
 use Rattle.std.proofs.lemmas.List.FromFn.{map-range_with_len_more, length-map-range_with_len}
-use Rattle.vale_script.specs.Words.{byte_at}
-use Rattle.vale_script.proofs.words.bytes_of.Goals as goal
+use Rattle.vale_words.specs.Words.{byte_at}
+use Rattle.vale_words.proofs.words.bytes_of.Goals as goal
 
 pub loop-k-preserved : goal.loop-k-preserved
 loop-k-preserved c =

@@ -1,8 +1,8 @@
 use Rattle.std.proofs.Common.{◌≡◌, ℕ, ◌+◌, Bool, true, not, List, [], ◌∷◌, ◌++◌, take, drop, get_or, map, filter, Some, sym, ◌∙◌, rules}
 use Rattle.std.specs.List.{position}
-use Rattle.vale_script.specs.Words.{is_blank, has_bytes, words_of, is_graphic, are_line_bytes}
-use Rattle.vale_script.proofs.Plain.{line_goes_on, one_more}
-use Rattle.vale_script.proofs.words.cut_plain_words.Goals as goal
+use Rattle.vale_words.specs.Words.{is_blank, has_bytes, words_of, is_graphic, are_line_bytes}
+use Rattle.vale_words.proofs.Plain.{line_goes_on, one_more}
+use Rattle.vale_words.proofs.words.cut_plain_words.Goals as goal
 
 pub loop-at-preserved : goal.loop-at-preserved
 loop-at-preserved c =

@@ -4,7 +4,7 @@ use Rattle.std.proofs.lemmas.Bool.{and_parts, leb-true}
 use Rattle.std.proofs.lemmas.Str.{IsUtf8-from_ascii}
 use Rattle.std.specs.Str.{IsUtf8, IsAscii}
 use Rattle.nm_types.specs.Names.{are_word_bytes}
-use Rattle.vale_script.specs.Words.{is_graphic, are_graphic, has_bytes, has_up_to, is_user_name, is_file_name}
+use Rattle.vale_words.specs.Words.{is_graphic, are_graphic, has_bytes, has_up_to, is_user_name, is_file_name}
 use Rattle.nm_types.proofs.NameBytes.{both, are-graphic}
 
 low-byte : (b : ℕ) → is_graphic b ≡ true → b < 128

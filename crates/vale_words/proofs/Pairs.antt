@@ -1,6 +1,6 @@
 -- What six pairs of hexadecimal digits are.
 use Rattle.std.proofs.Common.{◌≡◌, ℕ, Bool, true, false, ◌&&◌, List, refl}
-use Rattle.vale_script.specs.Words.{is_pair_at, are_pairs}
+use Rattle.vale_words.specs.Words.{is_pair_at, are_pairs}
 
 both : (a b : Bool) → (a && b) ≡ true → (a ≡ true) × (b ≡ true)
 both true b h = (refl, h)

@@ -1,5 +1,5 @@
-use Rattle.vale_script.proofs.Pairs.{pairs_at}
-use Rattle.vale_script.proofs.words.mac_value.Goals as goal
+use Rattle.vale_words.proofs.Pairs.{pairs_at}
+use Rattle.vale_words.proofs.words.mac_value.Goals as goal
 
 pub byte_at-requires-clause-pair : goal.byte_at-requires-clause-pair
 byte_at-requires-clause-pair c = (pairs_at c.args.word.now c.requires.pairs).0

@@ -1,6 +1,6 @@
 use Rattle.std.proofs.Common.{◌≡◌, ◌^◌, take, min}
-use Rattle.vale_script.specs.Words.{number_of}
-use Rattle.vale_script.proofs.words.capped_number.Given as goal
+use Rattle.vale_words.specs.Words.{number_of}
+use Rattle.vale_words.proofs.words.capped_number.Given as goal
 
 abbrev pub invariant-loop-b : goal.invariant-loop-b
 invariant-loop-b l = l.number ≡ min (number_of (take l.b-index l.word)) (2 ^ 64)
