@@ -124,29 +124,63 @@ pub(crate) fn place_number(buf: &mut [u8], at: usize, number: u64) -> usize
     place_large(buf, at, number)
 }
 
-/// Writes a number behind a comma, and returns where its digits end.
+/// Writes a number of four digits by its hundreds and what is left, and returns where it ends.
 #[inline(always)]
-fn place_next(buf: &mut [u8], at: usize, number: u32) -> usize
-    requires { at + 21 ≤ length buf.old }
-    ensures placed { Placed buf.old buf.new at (behind 44 decimal number) result }
-    ensures within { result ≤ at + 21 }
+fn place_four(buf: &mut [u8], at: usize, high: u64, low: u64) -> usize
+    requires { (10 ≤ high) × (high < 100) × (low < 100) × (at + 4 ≤ length buf.old) }
+    ensures placed { Placed buf.old buf.new at (decimal (high * 100 + low)) result }
+    ensures within { result ≤ at + 4 }
 {
-    buf[at] = b',';
-    let (from, number) = (at + 1, number as u64);
-    if number < 10_000 {
-        return place_short(buf, from, number);
-    }
-    place_large(buf, from, number)
+    place_pair(buf, at, high);
+    place_pair(buf, at + 2, low);
+    at + 4
 }
 
-/// Writes numbers, each behind a comma, and returns where they end.
+/// Writes a number, and returns where its digits end, and its hundreds if it has four digits, else
+/// 0. The bytes behind them may change.
+fn place_other(buf: &mut [u8], at: usize, number: u64) -> (usize, u64)
+    requires { at + 20 ≤ length buf.old }
+    ensures placed { Placed buf.old buf.new at (decimal number) result.0 }
+    ensures within { result.0 ≤ at + 20 }
+    ensures hundreds { result.1 < 100 }
+{
+    if number < 1000 {
+        return (place_short(buf, at, number), 0);
+    }
+    if number < 10_000 {
+        let high = number / 100;
+        return (place_four(buf, at, high, number % 100), high);
+    }
+    (place_large(buf, at, number), 0)
+}
+
+/// Writes a number behind a comma, and returns where its digits end, and its hundreds if it has
+/// four digits, else 0. `high` is what was so returned of another number, whose first digits it may
+/// share.
+#[inline(always)]
+fn place_next(buf: &mut [u8], at: usize, high: u64, number: u64) -> (usize, u64)
+    requires room { at + 21 ≤ length buf.old }
+    requires hundreds { high < 100 }
+    ensures placed { Placed buf.old buf.new at (behind 44 decimal number) result.0 }
+    ensures within { result.0 ≤ at + 21 }
+    ensures hundreds { result.1 < 100 }
+{
+    buf[at] = b',';
+    let from = high * 100;
+    if 1000 <= from && from <= number && number - from < 100 {
+        return (place_four(buf, at + 1, high, number - from), high);
+    }
+    place_other(buf, at + 1, number)
+}
+
+/// Writes numbers, each behind a comma, and returns where they end. Most follow one another.
 pub(crate) fn place_numbers(buf: &mut [u8], at: usize, numbers: &[u32]) -> usize
     requires { at + 21 * length numbers.now ≤ length buf.old }
     ensures { Placed buf.old buf.new at (flat_map (behind 44 decimal) numbers.now) result }
 {
-    let mut end = at;
+    let (mut end, mut high) = (at, 0);
     for number in numbers {
-        end = place_next(buf, end, *number);
+        (end, high) = place_next(buf, end, high, *number as u64);
     }
     end
 }
