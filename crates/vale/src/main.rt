@@ -18,7 +18,7 @@ use std::process::ExitCode;
 use std::sync::Wait;
 use std::thread::Threads;
 use std::{env, io};
-use vale_run::{Status, report, run};
+use vale_run::{Remains, Status, report, run_leaving};
 
 const HELP: &str = "usage: vale run SCRIPT | vale load N
 
@@ -93,6 +93,7 @@ fn run_command<R: AllocGlobal + Threads + Wait + Sync, S: Shelf, K: Sink>(
     words: &[String],
     shelf: &mut S,
     out: &mut K,
+    remains: &mut Remains,
 ) -> Status
     ensures answers { Answers Limits.VERSION_1 (answer_to (map string_bytes words.now))
         (script_name (map string_bytes words.now)) (load_number (map string_bytes words.now))
@@ -116,7 +117,7 @@ fn run_command<R: AllocGlobal + Threads + Wait + Sync, S: Shelf, K: Sink>(
     }) result }
 {
     let Some(text) = answer(words) else {
-        return run(rt, words, shelf, out, &NoGate);
+        return run_leaving(rt, words, shelf, out, &NoGate, remains);
     };
     match put_all(out, text.as_bytes()) {
         Ok(()) => Status::Done,
@@ -125,15 +126,19 @@ fn run_command<R: AllocGlobal + Threads + Wait + Sync, S: Shelf, K: Sink>(
 }
 
 fn main(rt: HostRuntime) -> ExitCode {
+    let mut remains = Remains::new();
     let status = match words_of_command(&rt) {
         Ok(words) => run_command(
             &rt,
             &words,
             &mut FileShelf::new(&rt),
             &mut StdSink::new(&rt),
+            &mut remains,
         ),
         Err(error) if error.kind() == io::ErrorKind::OutOfMemory => Status::NoMemory,
         Err(_) => Status::Usage,
     };
-    ExitCode::from(report(&mut StdSink::new(&rt.stderr()), &status))
+    let code = report(&mut StdSink::new(&rt.stderr()), &status);
+    remains.leave();
+    ExitCode::from(code)
 }

@@ -20,7 +20,7 @@ fn help_and_version_are_told(rt: HostRuntime) -> Result<(), Fail> {
         assert_eq!(rt; told, text);
         let mut shelf = MemoryShelf::new(alloc, Vec::new(alloc));
         let mut out = MemorySink::new(alloc, Vec::new(alloc));
-        let status = run_command(&rt, &words, &mut shelf, &mut out);
+        let status = run_command(&rt, &words, &mut shelf, &mut out, &mut Remains::new());
         assert_eq!(rt; status.code(), 0);
         assert_eq!(rt; out.bytes(), text.as_bytes());
     }

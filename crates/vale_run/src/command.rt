@@ -1,13 +1,13 @@
 //! Runs a command.
 ghost use Rattle.std.specs.Prelude.{ℕ, List, ◌≡◌, ◌≤◌, ◌<◌, ◌^◌, length, map, string_bytes, option_map, Ok};
-ghost use Rattle.vale_entry.specs.World.{free_count};
+ghost use Rattle.std.specs.List.{AllByRecursion};
 ghost use Rattle.vale_book.specs.Recorded.{standing};
-ghost use Rattle.vale_script.specs.Sound.{IsSound};
 ghost use Rattle.vale_captures.specs.Counting.{frames_played};
 ghost use Rattle.vale_captures.specs.Inputs.{HasContents, name_of, AreInputs};
-ghost use Rattle.std.specs.List.{AllByRecursion};
-ghost use Rattle.vale_entry.specs.Transcript.{transcript_text};
 ghost use Rattle.vale_captures.specs.Outputs.{IsWritable};
+ghost use Rattle.vale_entry.specs.Transcript.{transcript_text};
+ghost use Rattle.vale_entry.specs.World.{free_count};
+ghost use Rattle.vale_script.specs.Sound.{IsSound};
 ghost use Rattle.vale_run.specs.Run.{script_name, Ends, IsScript, IsAccepted, IsCounted, HasInputs, IsReady};
 ghost use Rattle.vale_run.specs.Load.{load_number};
 ghost use Rattle.vale_run.specs.Commands.{Runs};
@@ -16,6 +16,7 @@ ghost use Rattle.vale_run.specs.Writing.{IsFewUsed, stopped, NamesFile, BlamesFi
 
 use crate::load::{load_number, run_load};
 use crate::playing::play_recorded;
+use crate::remains::Remains;
 use crate::status::{Status, What, offset_of};
 use nm_io::{Gate, ReadError, Shelf, Sink, read_all};
 use nm_types::{Limits, Part, StepFault};
@@ -134,6 +135,7 @@ fn write<S: Shelf, K: Sink>(
     outputs: &Outputs,
     shelf: &mut S,
     out: &mut K,
+    remains: &mut Remains,
 ) -> Status
     requires limits { book.limits ≡ Limits.VERSION_1 }
     requires whole { free_count (standing book).world ≡ book.pool }
@@ -157,7 +159,10 @@ fn write<S: Shelf, K: Sink>(
     let (pool, free) = (book.buffers(), book.free());
     let history = book.close();
     match write_transcript(alloc, out, pool, history.entries(), free) {
-        Ok(()) => write_saved(alloc, outputs, shelf),
+        Ok(()) => {
+            remains.keep(history);
+            write_saved(alloc, outputs, shelf)
+        }
         Err(PutError::Failed) => Status::WriteFault,
         Err(PutError::NoMemory) => Status::NoMemory,
     }
@@ -171,6 +176,7 @@ fn run_ready<R: AllocGlobal + Threads + Wait + Sync, S: Shelf, K: Sink, G: Gate>
     shelf: &mut S,
     out: &mut K,
     gate: &G,
+    remains: &mut Remains,
 ) -> Status
     requires sound { IsSound script.now }
     requires files { map name_of inputs.now ≡ script.now.files }
@@ -194,7 +200,7 @@ fn run_ready<R: AllocGlobal + Threads + Wait + Sync, S: Shelf, K: Sink, G: Gate>
         return Status::NoMemory;
     };
     match played {
-        Ok(outputs) => write(rt.alloc(), book, &outputs, shelf, out),
+        Ok(outputs) => write(rt.alloc(), book, &outputs, shelf, out, remains),
         Err(fault) => {
             drop(book.close());
             stopped(fault)
@@ -227,6 +233,7 @@ fn run_inputs<R: AllocGlobal + Threads + Wait + Sync, S: Shelf, K: Sink, G: Gate
     shelf: &mut S,
     out: &mut K,
     gate: &G,
+    remains: &mut Remains,
 ) -> Status
     requires sound { IsSound script.now }
     requires files { map name_of inputs.now ≡ script.now.files }
@@ -255,7 +262,7 @@ fn run_inputs<R: AllocGlobal + Threads + Wait + Sync, S: Shelf, K: Sink, G: Gate
             limit: MAX_FRAMES,
         };
     }
-    run_ready(rt, script, inputs, shelf, out, gate)
+    run_ready(rt, script, inputs, shelf, out, gate, remains)
 }
 
 /// Reads the captures that a script plays, and runs it with them.
@@ -265,6 +272,7 @@ fn run_counted<R: AllocGlobal + Threads + Wait + Sync, S: Shelf, K: Sink, G: Gat
     shelf: &mut S,
     out: &mut K,
     gate: &G,
+    remains: &mut Remains,
 ) -> Status
     requires sound { IsSound script.now }
     requires said { IsSaid script.now }
@@ -285,7 +293,7 @@ fn run_counted<R: AllocGlobal + Threads + Wait + Sync, S: Shelf, K: Sink, G: Gat
     ensures later { K.faults out.old ≤ K.faults out.new }
 {
     match read_inputs(rt.alloc(), shelf, script.files(), MAX_INPUTS) {
-        Ok(inputs) => run_inputs(rt, script, &inputs, shelf, out, gate),
+        Ok(inputs) => run_inputs(rt, script, &inputs, shelf, out, gate, remains),
         Err((at, fault)) => input_fault(rt.alloc(), script, at, fault),
     }
 }
@@ -297,6 +305,7 @@ fn run_accepted<R: AllocGlobal + Threads + Wait + Sync, S: Shelf, K: Sink, G: Ga
     shelf: &mut S,
     out: &mut K,
     gate: &G,
+    remains: &mut Remains,
 ) -> Status
     requires sound { IsSound script.now }
     requires said { IsSaid script.now }
@@ -324,7 +333,7 @@ fn run_accepted<R: AllocGlobal + Threads + Wait + Sync, S: Shelf, K: Sink, G: Ga
             limit: MAX_COUNTS,
         };
     }
-    run_counted(rt, script, shelf, out, gate)
+    run_counted(rt, script, shelf, out, gate, remains)
 }
 
 /// Runs the script that these bytes are.
@@ -334,6 +343,7 @@ fn run_script<R: AllocGlobal + Threads + Wait + Sync, S: Shelf, K: Sink, G: Gate
     shelf: &mut S,
     out: &mut K,
     gate: &G,
+    remains: &mut Remains,
 ) -> Status
     requires { length bytes.now ≤ MAX_SCRIPT }
     ensures ends { (name : List ℕ) → HasContents (S.files shelf.old) name bytes.now
@@ -361,7 +371,7 @@ fn run_script<R: AllocGlobal + Threads + Wait + Sync, S: Shelf, K: Sink, G: Gate
         };
     }
     match parse(rt.alloc(), bytes) {
-        Ok(script) => run_accepted(rt, &script, shelf, out, gate),
+        Ok(script) => run_accepted(rt, &script, shelf, out, gate, remains),
         Err(ScriptFault::BadLine { line, cause }) => Status::BadScript { line, cause },
         Err(ScriptFault::NoMemory) => Status::NoMemory,
     }
@@ -374,6 +384,7 @@ fn run_file<R: AllocGlobal + Threads + Wait + Sync, S: Shelf, K: Sink, G: Gate>(
     shelf: &mut S,
     out: &mut K,
     gate: &G,
+    remains: &mut Remains,
 ) -> Status
     ensures ends { Ends Limits.VERSION_1 (record {
       files = S.files shelf.old;
@@ -391,7 +402,7 @@ fn run_file<R: AllocGlobal + Threads + Wait + Sync, S: Shelf, K: Sink, G: Gate>(
     ensures later { K.faults out.old ≤ K.faults out.new }
 {
     match read_all(rt.alloc(), shelf, name, MAX_SCRIPT) {
-        Ok(bytes) => run_script(rt, &bytes, shelf, out, gate),
+        Ok(bytes) => run_script(rt, &bytes, shelf, out, gate, remains),
         Err(ReadError::TooLong) => Status::Over {
             what: What::Script,
             count: MAX_SCRIPT + 1,
@@ -399,6 +410,49 @@ fn run_file<R: AllocGlobal + Threads + Wait + Sync, S: Shelf, K: Sink, G: Gate>(
         },
         Err(ReadError::Failed) => read_fault(rt.alloc(), name),
         Err(ReadError::NoMemory) => Status::NoMemory,
+    }
+}
+
+/// Runs a command, as `run` does. Its record goes to `remains` once it was written.
+pub fn run_leaving<R: AllocGlobal + Threads + Wait + Sync, S: Shelf, K: Sink, G: Gate>(
+    rt: &R,
+    words: &[String],
+    shelf: &mut S,
+    out: &mut K,
+    gate: &G,
+    remains: &mut Remains,
+) -> Status
+    ensures runs { Runs Limits.VERSION_1 (script_name (map string_bytes words.now))
+        (load_number (map string_bytes words.now)) (record {
+          files = S.files shelf.old;
+          new_files = S.files shelf.new;
+          reads = λ name. (S.read_faults shelf.old name, S.read_faults shelf.new name);
+          appends = λ name. (S.append_faults shelf.old name, S.append_faults shelf.new name);
+          holds = K.holds out.old;
+          new_holds = K.holds out.new;
+          writes = (K.faults out.old, K.faults out.new);
+        }) result }
+    ensures completes { Completes (script_name (map string_bytes words.now)) (record {
+      files = S.files shelf.old;
+      new_files = S.files shelf.new;
+      reads = λ name. (S.read_faults shelf.old name, S.read_faults shelf.new name);
+      appends = λ name. (S.append_faults shelf.old name, S.append_faults shelf.new name);
+      holds = K.holds out.old;
+      new_holds = K.holds out.new;
+      writes = (K.faults out.old, K.faults out.new);
+    }) result }
+    ensures reads_later { (other : List ℕ) →
+        S.read_faults shelf.old other ≤ S.read_faults shelf.new other }
+    ensures appends_later { (other : List ℕ) →
+        S.append_faults shelf.old other ≤ S.append_faults shelf.new other }
+    ensures later { K.faults out.old ≤ K.faults out.new }
+{
+    match script_name(words) {
+        Some(name) => run_file(rt, name, shelf, out, gate, remains),
+        None => match load_number(words) {
+            Some(n) => run_load(rt, n, out, gate, remains),
+            None => Status::Usage,
+        },
     }
 }
 
@@ -439,11 +493,5 @@ pub fn run<R: AllocGlobal + Threads + Wait + Sync, S: Shelf, K: Sink, G: Gate>(
         S.append_faults shelf.old other ≤ S.append_faults shelf.new other }
     ensures later { K.faults out.old ≤ K.faults out.new }
 {
-    match script_name(words) {
-        Some(name) => run_file(rt, name, shelf, out, gate),
-        None => match load_number(words) {
-            Some(n) => run_load(rt, n, out, gate),
-            None => Status::Usage,
-        },
-    }
+    run_leaving(rt, words, shelf, out, gate, &mut Remains::new())
 }

@@ -4,9 +4,11 @@
 mod command;
 mod load;
 mod playing;
+mod remains;
 mod status;
 #[cfg(test)]
 mod tests;
 
-pub use command::{MAX_COUNTS, MAX_FRAMES, MAX_INPUTS, MAX_LINES, MAX_SCRIPT, run};
+pub use command::{MAX_COUNTS, MAX_FRAMES, MAX_INPUTS, MAX_LINES, MAX_SCRIPT, run, run_leaving};
+pub use remains::Remains;
 pub use status::{Status, What, report};

@@ -4,12 +4,13 @@ ghost use Rattle.nm_io.specs.Counts.{Rose};
 ghost use Rattle.nm_io.specs.Held.{Writes};
 ghost use Rattle.vale_entry.specs.World.{free_count};
 ghost use Rattle.vale_book.specs.Recorded.{standing};
-ghost use Rattle.vale_script.specs.Words.{are_digits, number_in};
+ghost use Rattle.vale_words.specs.Words.{are_digits, number_in};
 ghost use Rattle.vale_run.specs.Load.{most_load, load_number, count_sent, bytes_sent, load_line, load_text, LoadEnds};
 ghost use Rattle.vale_run.specs.Status.{WritesAnswer};
 
 use crate::command::stopped;
 use crate::playing::play_recorded;
+use crate::remains::Remains;
 use crate::status::Status;
 use nm_io::{Failed, Gate, Sink};
 use nm_types::Limits;
@@ -114,7 +115,7 @@ fn put_line<K: Sink>(out: &mut K, n: u64, frames: u64, bytes: u64, free: u32) ->
 }
 
 /// Writes the line of a load that was played.
-fn write<K: Sink>(out: &mut K, n: u64, book: Book) -> Status
+fn write<K: Sink>(out: &mut K, n: u64, book: Book, remains: &mut Remains) -> Status
     requires whole { free_count (standing book).world ≡ book.pool }
     ensures written { WritesAnswer (load_text n book.pool book.entries)
         (K.faults out.old, K.faults out.new) (K.holds out.old) (K.holds out.new) result }
@@ -122,7 +123,7 @@ fn write<K: Sink>(out: &mut K, n: u64, book: Book) -> Status
 {
     let (frames, bytes) = sent(book.history().entries());
     let free = book.free();
-    drop(book.close());
+    remains.keep(book.close());
     match put_line(out, n, frames, bytes, free) {
         Ok(()) => Status::Done,
         Err(Failed) => Status::WriteFault,
@@ -135,6 +136,7 @@ pub(crate) fn run_load<R: AllocGlobal + Threads + Wait + Sync, K: Sink, G: Gate>
     n: u64,
     out: &mut K,
     gate: &G,
+    remains: &mut Remains,
 ) -> Status
     ensures ends { LoadEnds Limits.VERSION_1 n (K.faults out.old, K.faults out.new)
         (K.holds out.old) (K.holds out.new) result }
@@ -148,7 +150,7 @@ pub(crate) fn run_load<R: AllocGlobal + Threads + Wait + Sync, K: Sink, G: Gate>
         return Status::NoMemory;
     };
     match played {
-        Ok(_) => write(out, n, book),
+        Ok(_) => write(out, n, book, remains),
         // A load sends so few frames that its record is never full: memory was wanting.
         Err(fault) => {
             drop(book.close());

@@ -1,6 +1,7 @@
 use super::*;
 use nm_io::{MemoryShelf, MemorySink, NoGate};
 use std::alloc::{AllocError, Global};
+use std::process::Abort;
 use std::sync::Wait;
 use std::test::Fail;
 use std::thread::Threads;
@@ -18,6 +19,14 @@ struct Left {
     shelf: MemoryShelf,
     out: MemorySink,
     line: MemorySink,
+}
+
+impl Left {
+    /// The run's line and its output are these.
+    fn says(&self, rt: &impl Abort, line: &[u8], text: &[u8]) {
+        assert_eq!(rt; self.line.bytes(), line);
+        assert_eq!(rt; self.out.bytes(), text);
+    }
 }
 
 fn command(alloc: Global, words: &[&str]) -> Result<Vec<String>, AllocError> {
@@ -47,22 +56,21 @@ fn ran<R: AllocGlobal + Threads + Wait + Sync>(
     Ok(Left { shelf, out, line })
 }
 
-/// The first run; what a switch learns; a ring that fills; openings that are refused: the folder
-/// `examples` has the same.
-#[test]
-fn examples_are_played(rt: HostRuntime) -> Result<(), Fail> {
-    for (script, text) in [
-        (EMPTY, EMPTY_TEXT),
-        (FIRST, FIRST_TEXT),
-        (LEARNING, LEARNING_TEXT),
-        (FULL, FULL_TEXT),
-        (REFUSED, REFUSED_TEXT),
-    ] {
-        let left = ran(&rt, &["run", "s"], script, EMPTY, 99, 99)?;
-        assert_eq!(rt; left.line.bytes(), EMPTY);
-        assert_eq!(rt; left.out.bytes(), text);
+/// Each script's run ends with its line, and writes its text.
+fn say_all<R: AllocGlobal + Threads + Wait + Sync + Abort>(
+    rt: &R,
+    cases: &[Case],
+) -> Result<(), Fail> {
+    for (script, line, text) in cases {
+        let left = ran(rt, &["run", "s"], script, EMPTY, 99, 99)?;
+        left.says(rt, line, text);
     }
     Ok(())
+}
+
+#[test]
+fn examples_are_played(rt: HostRuntime) -> Result<(), Fail> {
+    say_all(&rt, EXAMPLES)
 }
 
 /// Tells whether lines stand in a text, one behind the other.
@@ -73,33 +81,7 @@ fn stand_in(text: &[u8], lines: &[u8]) -> bool {
 /// These lines stand in what each script writes.
 #[test]
 fn lines_are_run(rt: HostRuntime) -> Result<(), Fail> {
-    for (script, lines) in [
-        (SHORT, SHORT_LINES),
-        (GROUP_SOURCE, GROUP_SOURCE_LINES),
-        (BUCKETS, BUCKETS_LINES),
-        (LONE, LONE_LINES),
-        (PUT_TOO_MANY, PUT_TOO_MANY_LINES),
-        (NAME_TAKEN, NAME_TAKEN_LINES),
-        (SWITCHES, SWITCHES_LINES),
-        (PIPES, PIPES_LINES),
-        (MONITORS, MONITORS_LINES),
-        (SWAPS, SWAPS_LINES),
-        (EXTRAS, EXTRAS_LINES),
-        (RESETS, RESETS_LINES),
-        (SIDE_BY_SIDE, SIDE_BY_SIDE_LINES),
-        (NO_LEARN, NO_LEARN_LINES),
-        (BIG_RING, BIG_RING_LINES),
-        (SLOTS, SLOTS_LINES),
-        (SWAP_QUIET, SWAP_QUIET_LINES),
-        (EXTRA_SENT, EXTRA_SENT_LINES),
-        (CHAIN_ROUND, CHAIN_ROUND_LINES),
-        (HEAD_OUT, HEAD_OUT_LINES),
-        (FORWARD, FORWARD_LINES),
-        (PEER_COMES, PEER_COMES_LINES),
-        (RECEIVE_MONITOR, RECEIVE_MONITOR_LINES),
-        (OPENINGS, OPENINGS_LINES),
-        (PORTS, PORTS_LINES),
-    ] {
+    for (script, lines) in LINES {
         let left = ran(&rt, &["run", "s"], script, EMPTY, 99, 99)?;
         assert_eq!(rt; left.line.bytes(), EMPTY);
         assert!(rt; stand_in(left.out.bytes(), lines));
@@ -107,17 +89,12 @@ fn lines_are_run(rt: HostRuntime) -> Result<(), Fail> {
     Ok(())
 }
 
-/// A capture with nanoseconds, one without records, and one that tcpdump wrote.
 #[test]
 fn captures_are_played_and_saved(rt: HostRuntime) -> Result<(), Fail> {
-    for (script, capture, saved) in [
-        (CAPTURE, PLAYED, SAVED),
-        (CAPTURE, PLAYED_HEADER, SAVED_HEADER),
-        (EXCHANGE, EXCHANGED, RECEIVED),
-    ] {
+    for (script, capture, saved) in SAVED_CAPTURES {
         let left = ran(&rt, &["run", "s"], script, capture, 99, 99)?;
         assert_eq!(rt; left.line.bytes(), EMPTY);
-        assert_eq!(rt; left.shelf.file("out.pcap").ok_or("saved")?, saved);
+        assert_eq!(rt; left.shelf.file("out.pcap").ok_or("saved")?, *saved);
     }
     Ok(())
 }
@@ -125,25 +102,10 @@ fn captures_are_played_and_saved(rt: HostRuntime) -> Result<(), Fail> {
 /// Captures that end too early, and others with a wrong number.
 #[test]
 fn bad_captures_are_told(rt: HostRuntime) -> Result<(), Fail> {
-    for (capture, count, line) in [
-        (PLAYED, 0, BYTE_0_TRUNCATED),
-        (PLAYED, 1, BYTE_0_TRUNCATED),
-        (PLAYED, 3, BYTE_0_TRUNCATED),
-        (PLAYED, 4, BYTE_0_TRUNCATED),
-        (PLAYED, 23, BYTE_0_TRUNCATED),
-        (PLAYED, 25, BYTE_24_TRUNCATED),
-        (PLAYED, 39, BYTE_24_TRUNCATED),
-        (PLAYED, 40, BYTE_24_TRUNCATED),
-        (PLAYED, 53, BYTE_24_TRUNCATED),
-        (NEXT_GENERATION, 4, BYTE_0_MAGIC),
-        (OLD_VERSION, 24, BYTE_4_VERSION),
-        (OTHER_LINK, 24, BYTE_20_LINK),
-        (LONG_RECORD, 40, BYTE_24_RECORD),
-    ] {
-        let part = &capture[..capture.len().min(count)];
+    for (capture, count, line) in BAD_CAPTURES {
+        let part = &capture[..capture.len().min(*count)];
         let left = ran(&rt, &["run", "s"], CAPTURE, part, 99, 99)?;
-        assert_eq!(rt; left.line.bytes(), line);
-        assert_eq!(rt; left.out.bytes(), EMPTY);
+        left.says(&rt, line, EMPTY);
     }
     Ok(())
 }
@@ -151,16 +113,12 @@ fn bad_captures_are_told(rt: HostRuntime) -> Result<(), Fail> {
 /// Captures of too many bytes, and of too many frames, counted once for each line that plays them.
 #[test]
 fn large_captures_are_told(rt: HostRuntime) -> Result<(), Fail> {
-    for (head, count, script, line) in [
-        (EMPTY, 67_108_865, CAPTURE, INPUTS_OVER),
-        (PLAYED_HEADER, 8_000_040, PLAYED_TWICE, FRAMES_OVER),
-    ] {
+    for (head, count, script, line) in LARGE_CAPTURES {
         let mut capture = Vec::new(rt.alloc());
         capture.extend_from_slice(head)?;
-        capture.resize(count, 0)?;
+        capture.resize(*count, 0)?;
         let left = ran(&rt, &["run", "s"], script, &capture, 99_999, 99)?;
-        assert_eq!(rt; left.line.bytes(), line);
-        assert_eq!(rt; left.out.bytes(), EMPTY);
+        left.says(&rt, line, EMPTY);
     }
     Ok(())
 }
@@ -174,8 +132,7 @@ fn faults_are_told(rt: HostRuntime) -> Result<(), Fail> {
         ("s", 99, 1, "vale: cannot write\n".as_bytes()),
     ] {
         let left = ran(&rt, &["run", name], CAPTURE, PLAYED, fail_shelf, fail_sink)?;
-        assert_eq!(rt; left.line.bytes(), text);
-        assert_eq!(rt; left.out.bytes(), EMPTY);
+        left.says(&rt, text, EMPTY);
     }
     Ok(())
 }
@@ -189,8 +146,7 @@ fn what_was_written_before_a_fault_stays(rt: HostRuntime) -> Result<(), Fail> {
         (6, 99, CAPTURE_TEXT, SAVED),
     ] {
         let left = ran(&rt, &["run", "s"], TWO_SAVED, PLAYED, fail_shelf, fail_sink)?;
-        assert_eq!(rt; left.line.bytes(), "vale: cannot write\n".as_bytes());
-        assert_eq!(rt; left.out.bytes(), text);
+        left.says(&rt, b"vale: cannot write\n", text);
         assert_eq!(rt; left.shelf.file("out.pcap").unwrap_or(EMPTY), saved);
         assert!(rt; left.shelf.file("other.pcap").is_none());
     }
@@ -201,34 +157,29 @@ fn what_was_written_before_a_fault_stays(rt: HostRuntime) -> Result<(), Fail> {
 /// too many.
 #[test]
 fn bad_scripts_are_told(rt: HostRuntime) -> Result<(), Fail> {
-    for (script, text) in [
-        (USER_TWICE, SECOND_TWICE),
-        (LATE_POOL, SECOND_ORDER),
-        (NOT_OPEN, SECOND_PORT),
-        (OTHERS_PORT, FOURTH_PORT),
-        (CLOSED_TWICE, FOURTH_PORT),
-        (BLOCK, THIRD_ORDER),
-        (LONG_USER, FIRST_COUNT),
-        (LONG_POOL, FIRST_COUNT),
-        (MANY_FRAMES, MANY_FRAMES_LINE),
-    ] {
-        let left = ran(&rt, &["run", "s"], script, EMPTY, 99, 99)?;
-        assert_eq!(rt; left.line.bytes(), text);
-        assert_eq!(rt; left.out.bytes(), EMPTY);
-    }
-    Ok(())
+    say_all(&rt, BAD_SCRIPTS)
 }
 
+/// Words of no command; of a load no word, two words, no digits, a sign, a number past 64 bits, and
+/// one of 21 digits.
 #[test]
 fn other_words_are_refused(rt: HostRuntime) -> Result<(), Fail> {
     for words in [
         ["run"].as_slice(),
         ["ran", "s"].as_slice(),
         ["run", "s", "s"].as_slice(),
+        ["load"].as_slice(),
+        ["load", "7", "7"].as_slice(),
+        ["load", ""].as_slice(),
+        ["load", "x"].as_slice(),
+        ["load", "-1"].as_slice(),
+        ["load", "+1"].as_slice(),
+        ["load", "18446744073709551616"].as_slice(),
+        ["load", "000000000000000000007"].as_slice(),
+        ["Load", "7"].as_slice(),
     ] {
         let left = ran(&rt, words, EMPTY, EMPTY, 99, 99)?;
-        assert_eq!(rt; left.line.bytes(), load::USAGE);
-        assert_eq!(rt; left.out.bytes(), EMPTY);
+        left.says(&rt, b"usage: vale run SCRIPT | vale load N\n", EMPTY);
     }
     Ok(())
 }
@@ -244,8 +195,7 @@ fn longest_scripts_are_run(rt: HostRuntime) -> Result<(), Fail> {
     ] {
         let script = vec![in rt.alloc(); byte; count]?;
         let left = ran(&rt, &["run", "s"], &script, EMPTY, 9999, 99)?;
-        assert_eq!(rt; left.line.bytes(), line);
-        assert_eq!(rt; left.out.bytes(), text);
+        left.says(&rt, line, text);
     }
     Ok(())
 }

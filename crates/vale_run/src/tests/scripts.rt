@@ -1,229 +1,217 @@
 //! Scripts, what they write, and how their runs end.
 
+/// A script, the line that tells how it ends, and what it writes.
+pub(super) type Case = (&'static [u8], &'static [u8], &'static [u8]);
+
 pub(super) const EMPTY: &[u8] = b"";
 
 pub(super) const EMPTY_TEXT: &[u8] = b"vale 1 pool 8192\nend 0 free 8192\n";
 
-/// Two ports, one broadcast, one read.
-pub(super) const FIRST: &[u8] =
-    b"user a\nuser b\nopen a vale0:a 4 4\nopen b vale0:b 4 4\nput a vale0:a 1 ff:ff:ff:ff:ff:ff 02:00:00:00:00:0a 60 11\ntx a vale0:a\nrx b vale0:b\n";
-
-pub(super) const FIRST_TEXT: &[u8] =
-    b"vale 1 pool 8192\n1 enter 1\n2 enter 2\n3 1 open vale0:a 4 4 0 = ok\n4 2 open vale0:b 4 4 0 = ok\n5 1 send 3 ffffffffffff02000000000a88b511111111111111111111111111111111111111111111111111111111111111111111111111111111111111111111 = short 0 lone 0 to 4*1\n6 1 grant 5 4 = given 1 full 0 gone 0\n7 1 done 6\n8 2 sync 4 - = gave 1 to -\n9 1 shut 3\n10 1 finish 3 2,3,4,5 found 0 astray 0 = unread 0\n11 1 leave\n12 2 shut 4\n13 2 finish 4 10,11,12,13,14 found 0 astray 0 = unread 0\n14 2 leave\nend 14 free 8192\n";
-/// Two stations, and what the switch learns.
-pub(super) const LEARNING: &[u8] =
-    b"pool 64\nuser ana\nuser bob\nuser cem\nopen ana vale0:a 4 4\nopen bob vale0:b 4 4\nopen cem vale0:c 4 4\nput ana vale0:a 1 ff:ff:ff:ff:ff:ff 02:00:00:00:00:0a 14 00\ntx ana vale0:a\nput bob vale0:b 1 02:00:00:00:00:0a 02:00:00:00:00:0b 14 00\ntx bob vale0:b\nrx ana vale0:a\nrx cem vale0:c\n";
-
-pub(super) const LEARNING_TEXT: &[u8] =
-    b"vale 1 pool 64\n1 enter 1\n2 enter 2\n3 enter 3\n4 1 open vale0:a 4 4 0 = ok\n5 2 open vale0:b 4 4 0 = ok\n6 3 open vale0:c 4 4 0 = ok\n7 1 send 4 ffffffffffff02000000000a88b5 = short 0 lone 0 to 5*1,6*1\n8 1 grant 7 5 = given 1 full 0 gone 0\n9 1 done 8\n10 1 grant 7 6 = given 1 full 0 gone 0\n11 1 done 10\n12 2 send 5 02000000000a02000000000b88b5 = short 0 lone 0 to 4*1\n13 2 grant 12 4 = given 1 full 0 gone 0\n14 2 done 13\n15 1 sync 4 - = gave 1 to -\n16 3 sync 6 - = gave 1 to -\n17 1 shut 4\n18 1 finish 4 2,3,4,5,6 found 0 astray 0 = unread 0\n19 1 leave\n20 2 shut 5\n21 2 finish 5 10,11,12,13 found 0 astray 0 = unread 1\n22 2 leave\n23 3 shut 6\n24 3 finish 6 18,19,20,21,22 found 0 astray 0 = unread 0\n25 3 leave\nend 25 free 64\n";
-/// A ring that fills, and what it counts.
-pub(super) const FULL: &[u8] =
-    b"pool 64\nuser ana\nuser bob\nopen ana vale0:a 4 4\nopen bob vale0:b 2 2\nput ana vale0:a 3 ff:ff:ff:ff:ff:ff 02:00:00:00:00:0a 14 00\ntx ana vale0:a\nrx bob vale0:b\nrx bob vale0:b\nstat bob vale0:b\nclose bob vale0:b\n";
-
-pub(super) const FULL_TEXT: &[u8] =
-    b"vale 1 pool 64\n1 enter 1\n2 enter 2\n3 1 open vale0:a 4 4 0 = ok\n4 2 open vale0:b 2 2 0 = ok\n5 1 send 3 ffffffffffff02000000000a88b5,ffffffffffff02000000000a88b5,ffffffffffff02000000000a88b5 = short 0 lone 0 to 4*3\n6 1 grant 5 4 = given 1 full 2 gone 0\n7 1 done 6\n8 2 sync 4 - = gave 1 to -\n9 2 sync 4 12 = gave 0 to -\n10 2 stat 4 = sent 0 short 0 lone 0 given 1 full 2 read 1\n11 2 shut 4\n12 2 finish 4 10,11 found 0 astray 0 = unread 0\n13 1 shut 3\n14 1 finish 3 2,3,4,5 found 0 astray 0 = unread 0\n15 1 leave\n16 2 leave\nend 16 free 64\n";
-/// Openings that are refused.
-pub(super) const REFUSED: &[u8] =
-    b"pool 10\nuser ana\nopen ana vale0:a 4 4\nopen ana vale0:b 2 2\nopen ana vale0:c 1 2\nput ana vale0:b 1 ff:ff:ff:ff:ff:ff 02:00:00:00:00:0b 14 00\ntx ana vale0:b\nclose ana vale0:b\nclose ana vale0:a\nopen ana vale0:b 2 2\n";
-
-pub(super) const REFUSED_TEXT: &[u8] =
-    b"vale 1 pool 10\n1 enter 1\n2 1 open vale0:a 4 4 0 = ok\n3 1 open vale0:b 2 2 0 = nobuffers 4 2\n4 1 open vale0:c 1 2 0 = badsize\n5 1 shut 2\n6 1 finish 2 2,3,4,5 found 0 astray 0 = unread 0\n7 1 open vale0:b 2 2 0 = ok\n8 1 shut 7\n9 1 finish 7 2,3 found 0 astray 0 = unread 0\n10 1 leave\nend 10 free 10\n";
-/// A short frame before another.
-pub(super) const SHORT: &[u8] =
-    b"pool 64\nuser a\nuser b\nopen a vale0:a 4 4\nopen b vale0:b 4 4\nput a vale0:a 1 ff:ff:ff:ff:ff:ff 02:00:00:00:00:0a 13 00\nput a vale0:a 1 ff:ff:ff:ff:ff:ff 02:00:00:00:00:0a 14 00\ntx a vale0:a\n";
-
-pub(super) const SHORT_LINES: &[u8] =
-    b"5 1 send 3 ffffffffffff02000000000a88,ffffffffffff02000000000a88b5 = short 1 lone 0 to 4*1\n";
-/// A group as a source is not learned.
-pub(super) const GROUP_SOURCE: &[u8] =
-    b"pool 64\nuser a\nuser b\nuser c\nopen a vale0:a 4 4\nopen b vale0:b 4 4\nopen c vale0:c 4 4\nput a vale0:a 1 ff:ff:ff:ff:ff:ff 03:00:00:00:00:0a 14 00\ntx a vale0:a\nput b vale0:b 1 02:00:00:00:00:0a 02:00:00:00:00:0b 14 00\ntx b vale0:b\n";
-
-pub(super) const GROUP_SOURCE_LINES: &[u8] =
-    b"12 2 send 5 02000000000a02000000000b88b5 = short 0 lone 0 to 4*1,6*1\n";
-/// Two stations in one bucket: the newer one hides the older.
-pub(super) const BUCKETS: &[u8] =
-    b"pool 64\nuser a\nuser b\nuser c\nopen a vale0:a 4 4\nopen b vale0:b 4 4\nopen c vale0:c 4 4\nput a vale0:a 1 ff:ff:ff:ff:ff:ff 02:00:00:00:00:01 14 00\ntx a vale0:a\nput b vale0:b 1 ff:ff:ff:ff:ff:ff 02:00:00:01:00:00 14 00\ntx b vale0:b\nput c vale0:c 1 02:00:00:00:00:01 02:00:00:00:00:0c 14 00\ntx c vale0:c\nput c vale0:c 1 02:00:00:01:00:00 02:00:00:00:00:0c 14 00\ntx c vale0:c\n";
-
-pub(super) const BUCKETS_LINES: &[u8] =
-    b"22 3 send 6 02000001000002000000000c88b5 = short 0 lone 0 to 5*1\n";
-/// A frame to its own sender.
-pub(super) const LONE: &[u8] =
-    b"pool 64\nuser a\nuser b\nopen a vale0:a 4 4\nopen b vale0:b 4 4\nput a vale0:a 1 ff:ff:ff:ff:ff:ff 02:00:00:00:00:0a 14 00\ntx a vale0:a\nput a vale0:a 1 02:00:00:00:00:0a 02:00:00:00:00:0a 14 00\ntx a vale0:a\n";
-
-pub(super) const LONE_LINES: &[u8] =
-    b"8 1 send 3 02000000000a02000000000a88b5 = short 0 lone 1 to -\n";
-/// More frames than a ring takes.
-pub(super) const PUT_TOO_MANY: &[u8] =
-    b"pool 64\nuser a\nopen a vale0:a 2 4\nput a vale0:a 3 ff:ff:ff:ff:ff:ff 02:00:00:00:00:0a 14 00\n";
-
-pub(super) const PUT_TOO_MANY_LINES: &[u8] =
-    b"2 1 open vale0:a 2 4 0 = ok\n3 1 send 2 ffffffffffff02000000000a88b5 = short 0 lone 1 to -\n4 1 send 2 ffffffffffff02000000000a88b5 = short 0 lone 1 to -\n5 1 shut 2\n";
-/// A name that is taken, and the lines of the port that is refused.
-pub(super) const NAME_TAKEN: &[u8] =
-    b"pool 64\nuser a\nuser b\nopen a vale0:a 4 4\nopen b vale0:a 4 4\nput b vale0:a 1 ff:ff:ff:ff:ff:ff 02:00:00:00:00:0b 14 00\ntx b vale0:a\nrx b vale0:a\nclose b vale0:a\n";
-
-pub(super) const NAME_TAKEN_LINES: &[u8] =
-    b"4 2 open vale0:a 4 4 0 = nametaken\n5 1 shut 3\n6 1 finish 3 2,3,4,5 found 0 astray 0 = unread 0\n7 1 leave\n8 2 leave\nend 8 free 64\n";
-/// More switches than there may be.
-pub(super) const SWITCHES: &[u8] =
-    b"user a\nopen a vale0:a 2 2\nopen a vale1:a 2 2\nopen a vale2:a 2 2\nopen a vale3:a 2 2\nopen a vale4:a 2 2\n";
-
-pub(super) const SWITCHES_LINES: &[u8] =
-    b"5 1 open vale3:a 2 2 0 = ok\n6 1 open vale4:a 2 2 0 = switchesfull\n";
-/// A pipe that takes frames in part, and whose other end goes.
-pub(super) const PIPES: &[u8] =
-    b"pool 64\nuser a\nuser b\nopen a pipe0{ 4 4\nopen b pipe0} 2 2\nput a pipe0{ 2 ff:ff:ff:ff:ff:ff 02:00:00:00:00:0a 14 00\ntx a pipe0{\nrx b pipe0}\ntx a pipe0{\nrx b pipe0}\ntx a pipe0{\n";
-
-pub(super) const PIPES_LINES: &[u8] =
-    b"5 1 put 3 2 = took 2:ffffffffffff02000000000a88b5 to -\n6 2 get 4 - = gave 1 to -\n7 1 put 3 1 = took - to -\n8 2 get 4 2 = gave 0 to -\n9 1 put 3 1 = took 3:ffffffffffff02000000000a88b5 to -\n10 1 shut 3\n11 1 finish 3 12,13,4,5 found 0 astray 0 = unread 0\n";
-/// A monitor of what a port sends.
-pub(super) const MONITORS: &[u8] =
-    b"pool 64\nuser a\nuser b\nuser m\nopen a vale0:a 4 4\nopen b vale0:b 4 4\nopen m mon0 0 2\nwatch m mon0 vale0:a t\nput a vale0:a 2 ff:ff:ff:ff:ff:ff 02:00:00:00:00:0a 14 00\ntx a vale0:a\nrx m mon0\nwatch m mon0 vale0:a t\nwatch m mon0 vale9:x t\n";
-
-pub(super) const MONITORS_LINES: &[u8] =
-    b"7 3 watch 6 vale0:a t = ok 4\n8 1 send 4 ffffffffffff02000000000a88b5,ffffffffffff02000000000a88b5 = short 0 lone 0 to 5*2,6*2\n9 1 grant 8 5 = given 2 full 0 gone 0\n10 1 done 9\n11 1 grant 8 6 = given 1 full 1 gone 0\n12 1 done 11\n13 3 sync 6 - = gave 1 to -\n14 3 watch 6 vale0:a t = watched 6\n15 3 watch 6 vale9:x t = notarget\n";
-/// A frame that is forwarded without a copy.
-pub(super) const SWAPS: &[u8] =
-    b"pool 64\nuser a\nuser b\nopen a vale0:a 4 4\nopen b vale0:b 4 4\nput a vale0:a 1 ff:ff:ff:ff:ff:ff 02:00:00:00:00:0a 14 00\ntx a vale0:a\nrx b vale0:b\nswap b vale0:b rx 0 vale0:b tx 0\npoke b vale0:b tx 0 len 14\nmove b vale0:b tx 1 1\ntx b vale0:b\nrx b vale0:b\n";
-
-pub(super) const SWAPS_LINES: &[u8] =
-    b"8 2 sync 4 - = gave 1 to -\n9 2 send 4 ffffffffffff02000000000a88b5 = short 0 lone 0 to 3*1\n10 2 grant 9 3 = given 1 full 0 gone 0\n11 2 done 10\n12 2 sync 4 10 = gave 0 to -\n";
-/// Extra buffers, one of which is linked away.
-pub(super) const EXTRAS: &[u8] = b"pool 64\nuser a\nopen a vale0:a 2 2 3\nextra a vale0:a 2 1\n";
-
-pub(super) const EXTRAS_LINES: &[u8] =
-    b"3 1 shut 2\n4 1 finish 2 2,3,6,7,8 found 2 astray 1 = unread 0\n5 1 leave\nend 5 free 64\n";
-/// Rings whose positions do not fit.
-pub(super) const RESETS: &[u8] =
-    b"user a\nopen a vale0:a 4 4\nmove a vale0:a rx 1 1\nrx a vale0:a keep\nmove a vale0:a tx 2 1\ntx a vale0:a\nmove a vale0:a tx 4 4\ntx a vale0:a\ntx a vale0:a\n";
-
-pub(super) const RESETS_LINES: &[u8] =
-    b"3 1 reset 2 rx headout 1 0 0\n4 1 reset 2 tx curout 1 2 3\n5 1 reset 2 tx headout 4 0 3\n6 1 send 2 - = short 0 lone 0 to -\n";
-/// A user that is declared twice.
-pub(super) const USER_TWICE: &[u8] = b"user a\nuser a\n";
-/// A pool behind another line.
-pub(super) const LATE_POOL: &[u8] = b"user a\npool 9\n";
-/// A port that is not open.
-pub(super) const NOT_OPEN: &[u8] = b"user a\nclose a vale0:a\n";
-/// A port that is another user's.
-pub(super) const OTHERS_PORT: &[u8] = b"user a\nuser b\nopen a vale0:a 2 2\nrx b vale0:a\n";
-/// A port that is closed twice.
-pub(super) const CLOSED_TWICE: &[u8] =
-    b"user a\nopen a vale0:a 2 2\nclose a vale0:a\nclose a vale0:a\n";
-/// One frame more than the lines may put.
-pub(super) const MANY_FRAMES: &[u8] =
-    b"user a\nopen a vale0:a 4 4\nput a vale0:a 1000000 ff:ff:ff:ff:ff:ff 02:00:00:00:00:0a 14 00\nput a vale0:a 1 ff:ff:ff:ff:ff:ff 02:00:00:00:00:0a 14 00\n";
-/// A word too many on a user's line, which names a monitor.
-pub(super) const LONG_USER: &[u8] = b"user a mon0\n";
-/// The same of the pool.
-pub(super) const LONG_POOL: &[u8] = b"pool 5 mon0\n";
-
 pub(super) const FIRST_COUNT: &[u8] = b"vale: script line 1: count\n";
 
-pub(super) const SECOND_TWICE: &[u8] = b"vale: script line 2: twice\n";
-
-pub(super) const SECOND_ORDER: &[u8] = b"vale: script line 2: order\n";
-
-pub(super) const SECOND_PORT: &[u8] = b"vale: script line 2: port\n";
-
 pub(super) const FOURTH_PORT: &[u8] = b"vale: script line 4: port\n";
-
-pub(super) const MANY_FRAMES_LINE: &[u8] = b"vale: counts 1000001 over 1000000\n";
 
 pub(super) const LONG_SCRIPT_LINE: &[u8] = b"vale: script 1048577 over 1048576\n";
 
 pub(super) const MANY_LINES_LINE: &[u8] = b"vale: lines 10001 over 10000\n";
 
-/// A user declared inside a block.
-pub(super) const BLOCK: &[u8] = b"user a\npar\nuser a\nend\n";
+/// The first run; what a switch learns; a ring that fills; openings that are refused: the folder
+/// `examples` has the same.
+pub(super) const EXAMPLES: &[Case] = &[
+    (EMPTY, EMPTY, EMPTY_TEXT),
+    // Two ports, one broadcast, one read.
+    (
+        b"user a\nuser b\nopen a vale0:a 4 4\nopen b vale0:b 4 4\nput a vale0:a 1 ff:ff:ff:ff:ff:ff 02:00:00:00:00:0a 60 11\ntx a vale0:a\nrx b vale0:b\n",
+        EMPTY,
+        b"vale 1 pool 8192\n1 enter 1\n2 enter 2\n3 1 open vale0:a 4 4 0 = ok\n4 2 open vale0:b 4 4 0 = ok\n5 1 send 3 ffffffffffff02000000000a88b511111111111111111111111111111111111111111111111111111111111111111111111111111111111111111111 = short 0 lone 0 to 4*1\n6 1 grant 5 4 = given 1 full 0 gone 0\n7 1 done 6\n8 2 sync 4 - = gave 1 to -\n9 1 shut 3\n10 1 finish 3 2,3,4,5 found 0 astray 0 = unread 0\n11 1 leave\n12 2 shut 4\n13 2 finish 4 10,11,12,13,14 found 0 astray 0 = unread 0\n14 2 leave\nend 14 free 8192\n",
+    ),
+    // Two stations, and what the switch learns.
+    (
+        b"pool 64\nuser ana\nuser bob\nuser cem\nopen ana vale0:a 4 4\nopen bob vale0:b 4 4\nopen cem vale0:c 4 4\nput ana vale0:a 1 ff:ff:ff:ff:ff:ff 02:00:00:00:00:0a 14 00\ntx ana vale0:a\nput bob vale0:b 1 02:00:00:00:00:0a 02:00:00:00:00:0b 14 00\ntx bob vale0:b\nrx ana vale0:a\nrx cem vale0:c\n",
+        EMPTY,
+        b"vale 1 pool 64\n1 enter 1\n2 enter 2\n3 enter 3\n4 1 open vale0:a 4 4 0 = ok\n5 2 open vale0:b 4 4 0 = ok\n6 3 open vale0:c 4 4 0 = ok\n7 1 send 4 ffffffffffff02000000000a88b5 = short 0 lone 0 to 5*1,6*1\n8 1 grant 7 5 = given 1 full 0 gone 0\n9 1 done 8\n10 1 grant 7 6 = given 1 full 0 gone 0\n11 1 done 10\n12 2 send 5 02000000000a02000000000b88b5 = short 0 lone 0 to 4*1\n13 2 grant 12 4 = given 1 full 0 gone 0\n14 2 done 13\n15 1 sync 4 - = gave 1 to -\n16 3 sync 6 - = gave 1 to -\n17 1 shut 4\n18 1 finish 4 2,3,4,5,6 found 0 astray 0 = unread 0\n19 1 leave\n20 2 shut 5\n21 2 finish 5 10,11,12,13 found 0 astray 0 = unread 1\n22 2 leave\n23 3 shut 6\n24 3 finish 6 18,19,20,21,22 found 0 astray 0 = unread 0\n25 3 leave\nend 25 free 64\n",
+    ),
+    // A ring that fills, and what it counts.
+    (
+        b"pool 64\nuser ana\nuser bob\nopen ana vale0:a 4 4\nopen bob vale0:b 2 2\nput ana vale0:a 3 ff:ff:ff:ff:ff:ff 02:00:00:00:00:0a 14 00\ntx ana vale0:a\nrx bob vale0:b\nrx bob vale0:b\nstat bob vale0:b\nclose bob vale0:b\n",
+        EMPTY,
+        b"vale 1 pool 64\n1 enter 1\n2 enter 2\n3 1 open vale0:a 4 4 0 = ok\n4 2 open vale0:b 2 2 0 = ok\n5 1 send 3 ffffffffffff02000000000a88b5,ffffffffffff02000000000a88b5,ffffffffffff02000000000a88b5 = short 0 lone 0 to 4*3\n6 1 grant 5 4 = given 1 full 2 gone 0\n7 1 done 6\n8 2 sync 4 - = gave 1 to -\n9 2 sync 4 12 = gave 0 to -\n10 2 stat 4 = sent 0 short 0 lone 0 given 1 full 2 read 1\n11 2 shut 4\n12 2 finish 4 10,11 found 0 astray 0 = unread 0\n13 1 shut 3\n14 1 finish 3 2,3,4,5 found 0 astray 0 = unread 0\n15 1 leave\n16 2 leave\nend 16 free 64\n",
+    ),
+    // Openings that are refused.
+    (
+        b"pool 10\nuser ana\nopen ana vale0:a 4 4\nopen ana vale0:b 2 2\nopen ana vale0:c 1 2\nput ana vale0:b 1 ff:ff:ff:ff:ff:ff 02:00:00:00:00:0b 14 00\ntx ana vale0:b\nclose ana vale0:b\nclose ana vale0:a\nopen ana vale0:b 2 2\n",
+        EMPTY,
+        b"vale 1 pool 10\n1 enter 1\n2 1 open vale0:a 4 4 0 = ok\n3 1 open vale0:b 2 2 0 = nobuffers 4 2\n4 1 open vale0:c 1 2 0 = badsize\n5 1 shut 2\n6 1 finish 2 2,3,4,5 found 0 astray 0 = unread 0\n7 1 open vale0:b 2 2 0 = ok\n8 1 shut 7\n9 1 finish 7 2,3 found 0 astray 0 = unread 0\n10 1 leave\nend 10 free 10\n",
+    ),
+];
 
-pub(super) const THIRD_ORDER: &[u8] = b"vale: script line 3: order\n";
+/// Scripts, and lines that stand in what each writes.
+pub(super) const LINES: &[(&[u8], &[u8])] = &[
+    // A short frame before another.
+    (
+        b"pool 64\nuser a\nuser b\nopen a vale0:a 4 4\nopen b vale0:b 4 4\nput a vale0:a 1 ff:ff:ff:ff:ff:ff 02:00:00:00:00:0a 13 00\nput a vale0:a 1 ff:ff:ff:ff:ff:ff 02:00:00:00:00:0a 14 00\ntx a vale0:a\n",
+        b"5 1 send 3 ffffffffffff02000000000a88,ffffffffffff02000000000a88b5 = short 1 lone 0 to 4*1\n",
+    ),
+    // A group as a source is not learned.
+    (
+        b"pool 64\nuser a\nuser b\nuser c\nopen a vale0:a 4 4\nopen b vale0:b 4 4\nopen c vale0:c 4 4\nput a vale0:a 1 ff:ff:ff:ff:ff:ff 03:00:00:00:00:0a 14 00\ntx a vale0:a\nput b vale0:b 1 02:00:00:00:00:0a 02:00:00:00:00:0b 14 00\ntx b vale0:b\n",
+        b"12 2 send 5 02000000000a02000000000b88b5 = short 0 lone 0 to 4*1,6*1\n",
+    ),
+    // Two stations in one bucket: the newer one hides the older.
+    (
+        b"pool 64\nuser a\nuser b\nuser c\nopen a vale0:a 4 4\nopen b vale0:b 4 4\nopen c vale0:c 4 4\nput a vale0:a 1 ff:ff:ff:ff:ff:ff 02:00:00:00:00:01 14 00\ntx a vale0:a\nput b vale0:b 1 ff:ff:ff:ff:ff:ff 02:00:00:01:00:00 14 00\ntx b vale0:b\nput c vale0:c 1 02:00:00:00:00:01 02:00:00:00:00:0c 14 00\ntx c vale0:c\nput c vale0:c 1 02:00:00:01:00:00 02:00:00:00:00:0c 14 00\ntx c vale0:c\n",
+        b"22 3 send 6 02000001000002000000000c88b5 = short 0 lone 0 to 5*1\n",
+    ),
+    // A frame to its own sender.
+    (
+        b"pool 64\nuser a\nuser b\nopen a vale0:a 4 4\nopen b vale0:b 4 4\nput a vale0:a 1 ff:ff:ff:ff:ff:ff 02:00:00:00:00:0a 14 00\ntx a vale0:a\nput a vale0:a 1 02:00:00:00:00:0a 02:00:00:00:00:0a 14 00\ntx a vale0:a\n",
+        b"8 1 send 3 02000000000a02000000000a88b5 = short 0 lone 1 to -\n",
+    ),
+    // More frames than a ring takes.
+    (
+        b"pool 64\nuser a\nopen a vale0:a 2 4\nput a vale0:a 3 ff:ff:ff:ff:ff:ff 02:00:00:00:00:0a 14 00\n",
+        b"2 1 open vale0:a 2 4 0 = ok\n3 1 send 2 ffffffffffff02000000000a88b5 = short 0 lone 1 to -\n4 1 send 2 ffffffffffff02000000000a88b5 = short 0 lone 1 to -\n5 1 shut 2\n",
+    ),
+    // A name that is taken, and the lines of the port that is refused.
+    (
+        b"pool 64\nuser a\nuser b\nopen a vale0:a 4 4\nopen b vale0:a 4 4\nput b vale0:a 1 ff:ff:ff:ff:ff:ff 02:00:00:00:00:0b 14 00\ntx b vale0:a\nrx b vale0:a\nclose b vale0:a\n",
+        b"4 2 open vale0:a 4 4 0 = nametaken\n5 1 shut 3\n6 1 finish 3 2,3,4,5 found 0 astray 0 = unread 0\n7 1 leave\n8 2 leave\nend 8 free 64\n",
+    ),
+    // More switches than there may be.
+    (
+        b"user a\nopen a vale0:a 2 2\nopen a vale1:a 2 2\nopen a vale2:a 2 2\nopen a vale3:a 2 2\nopen a vale4:a 2 2\n",
+        b"5 1 open vale3:a 2 2 0 = ok\n6 1 open vale4:a 2 2 0 = switchesfull\n",
+    ),
+    // A pipe that takes frames in part, and whose other end goes.
+    (
+        b"pool 64\nuser a\nuser b\nopen a pipe0{ 4 4\nopen b pipe0} 2 2\nput a pipe0{ 2 ff:ff:ff:ff:ff:ff 02:00:00:00:00:0a 14 00\ntx a pipe0{\nrx b pipe0}\ntx a pipe0{\nrx b pipe0}\ntx a pipe0{\n",
+        b"5 1 put 3 2 = took 2:ffffffffffff02000000000a88b5 to -\n6 2 get 4 - = gave 1 to -\n7 1 put 3 1 = took - to -\n8 2 get 4 2 = gave 0 to -\n9 1 put 3 1 = took 3:ffffffffffff02000000000a88b5 to -\n10 1 shut 3\n11 1 finish 3 12,13,4,5 found 0 astray 0 = unread 0\n",
+    ),
+    // A monitor of what a port sends.
+    (
+        b"pool 64\nuser a\nuser b\nuser m\nopen a vale0:a 4 4\nopen b vale0:b 4 4\nopen m mon0 0 2\nwatch m mon0 vale0:a t\nput a vale0:a 2 ff:ff:ff:ff:ff:ff 02:00:00:00:00:0a 14 00\ntx a vale0:a\nrx m mon0\nwatch m mon0 vale0:a t\nwatch m mon0 vale9:x t\n",
+        b"7 3 watch 6 vale0:a t = ok 4\n8 1 send 4 ffffffffffff02000000000a88b5,ffffffffffff02000000000a88b5 = short 0 lone 0 to 5*2,6*2\n9 1 grant 8 5 = given 2 full 0 gone 0\n10 1 done 9\n11 1 grant 8 6 = given 1 full 1 gone 0\n12 1 done 11\n13 3 sync 6 - = gave 1 to -\n14 3 watch 6 vale0:a t = watched 6\n15 3 watch 6 vale9:x t = notarget\n",
+    ),
+    // A frame that is forwarded without a copy.
+    (
+        b"pool 64\nuser a\nuser b\nopen a vale0:a 4 4\nopen b vale0:b 4 4\nput a vale0:a 1 ff:ff:ff:ff:ff:ff 02:00:00:00:00:0a 14 00\ntx a vale0:a\nrx b vale0:b\nswap b vale0:b rx 0 vale0:b tx 0\npoke b vale0:b tx 0 len 14\nmove b vale0:b tx 1 1\ntx b vale0:b\nrx b vale0:b\n",
+        b"8 2 sync 4 - = gave 1 to -\n9 2 send 4 ffffffffffff02000000000a88b5 = short 0 lone 0 to 3*1\n10 2 grant 9 3 = given 1 full 0 gone 0\n11 2 done 10\n12 2 sync 4 10 = gave 0 to -\n",
+    ),
+    // Extra buffers, one of which is linked away.
+    (
+        b"pool 64\nuser a\nopen a vale0:a 2 2 3\nextra a vale0:a 2 1\n",
+        b"3 1 shut 2\n4 1 finish 2 2,3,6,7,8 found 2 astray 1 = unread 0\n5 1 leave\nend 5 free 64\n",
+    ),
+    // Rings whose positions do not fit.
+    (
+        b"user a\nopen a vale0:a 4 4\nmove a vale0:a rx 1 1\nrx a vale0:a keep\nmove a vale0:a tx 2 1\ntx a vale0:a\nmove a vale0:a tx 4 4\ntx a vale0:a\ntx a vale0:a\n",
+        b"3 1 reset 2 rx headout 1 0 0\n4 1 reset 2 tx curout 1 2 3\n5 1 reset 2 tx headout 4 0 3\n6 1 send 2 - = short 0 lone 0 to -\n",
+    ),
+    // Users side by side, whose entries come in any order.
+    (
+        b"user a\nuser b\nopen a vale0:a 4 4\nopen b vale0:b 4 4\npar\nput a vale0:a 3 ff:ff:ff:ff:ff:ff 02:00:00:00:00:0a 60 11\ntx a vale0:a\nput b vale0:b 2 ff:ff:ff:ff:ff:ff 02:00:00:00:00:0b 60 22\ntx b vale0:b\nend\nrx a vale0:a\nrx b vale0:b\n",
+        b"end 18 free 8192\n",
+    ),
+    // A frame marked no-learn: its source is not learned.
+    (
+        b"pool 64\nuser a\nuser b\nuser c\nopen a vale0:a 4 4\nopen b vale0:b 4 4\nopen c vale0:c 4 4\nput a vale0:a 1 ff:ff:ff:ff:ff:ff 02:00:00:00:00:0a 14 00\npoke a vale0:a tx 0 flags 8\ntx a vale0:a\nput b vale0:b 1 02:00:00:00:00:0a 02:00:00:00:00:0b 14 00\ntx b vale0:b\n",
+        b"7 1 send 4 ~ffffffffffff02000000000a88b5 = short 0 lone 0 to 5*1,6*1\n8 1 grant 7 5 = given 1 full 0 gone 0\n9 1 done 8\n10 1 grant 7 6 = given 1 full 0 gone 0\n11 1 done 10\n12 2 send 5 02000000000a02000000000b88b5 = short 0 lone 0 to 4*1,6*1\n",
+    ),
+    // A ring of 1,024 slots that goes round; one frame to nobody, and none.
+    (
+        b"pool 2048\nuser a\nopen a vale0:a 1024 4\nput a vale0:a 1023 ff:ff:ff:ff:ff:ff 02:00:00:00:00:0a 0 00\ntx a vale0:a\nput a vale0:a 1 ff:ff:ff:ff:ff:ff 02:00:00:00:00:0a 14 00\ntx a vale0:a\ntx a vale0:a\n",
+        b"4 1 send 2 ffffffffffff02000000000a88b5 = short 0 lone 1 to -\n5 1 send 2 - = short 0 lone 0 to -\n",
+    ),
+    // Each fault of a pushed slot, and a frame behind them.
+    (
+        b"pool 64\nuser ana\nopen ana vale0:a 4 4\nmove ana vale0:a tx 4 0\ntx ana vale0:a\nmove ana vale0:a tx 2 1\ntx ana vale0:a\nput ana vale0:a 1 ff:ff:ff:ff:ff:ff 02:00:00:00:00:0a 14 00\npoke ana vale0:a tx 0 flags 16\ntx ana vale0:a\nput ana vale0:a 1 ff:ff:ff:ff:ff:ff 02:00:00:00:00:0a 14 00\npoke ana vale0:a tx 0 idx 66\ntx ana vale0:a\nput ana vale0:a 1 ff:ff:ff:ff:ff:ff 02:00:00:00:00:0a 14 00\npoke ana vale0:a tx 0 idx 6\ntx ana vale0:a\nput ana vale0:a 2 ff:ff:ff:ff:ff:ff 02:00:00:00:00:0a 14 00\npoke ana vale0:a tx 1 idx 2\npoke ana vale0:a tx 1 flags 1\ntx ana vale0:a\nput ana vale0:a 1 ff:ff:ff:ff:ff:ff 02:00:00:00:00:0a 14 00\npoke ana vale0:a tx 0 idx 3\ntx ana vale0:a\nput ana vale0:a 1 ff:ff:ff:ff:ff:ff 02:00:00:00:00:0a 14 00\npoke ana vale0:a tx 0 len 2049\ntx ana vale0:a\nput ana vale0:a 1 ff:ff:ff:ff:ff:ff 02:00:00:00:00:0a 14 00\npoke ana vale0:a tx 0 flags 32\ntx ana vale0:a\nput ana vale0:a 1 ff:ff:ff:ff:ff:ff 02:00:00:00:00:0a 14 00\ntx ana vale0:a\n",
+        b"3 1 reset 2 tx headout 4 0 3\n4 1 reset 2 tx curout 1 2 3\n5 1 reset 2 tx indirect 0\n6 1 reset 2 tx indexout 0 66\n7 1 reset 2 tx notheld 0 6\n8 1 reset 2 tx doubled 1 2\n9 1 reset 2 tx unannounced 0 3 2\n10 1 reset 2 tx longlen 0 2049\n11 1 reset 2 tx fragment 0\n12 1 send 2 ffffffffffff02000000000a88b5 = short 0 lone 1 to -\n",
+    ),
+    // An exchange without marks.
+    (
+        b"pool 64\nuser a\nuser b\nopen a vale0:a 4 4\nopen b vale0:b 4 4\nput a vale0:a 1 ff:ff:ff:ff:ff:ff 02:00:00:00:00:0a 14 00\ntx a vale0:a\nrx b vale0:b\nswap b vale0:b rx 0 vale0:b tx 0 quiet\npoke b vale0:b tx 0 len 14\nmove b vale0:b tx 1 1\ntx b vale0:b\nrx b vale0:b\n",
+        b"9 2 reset 4 tx unannounced 0 14 10\n10 2 reset 4 rx unannounced 0 10 14\n",
+    ),
+    // An extra buffer that is sent.
+    (
+        b"pool 64\nuser ana\nopen ana vale0:a 2 2 3\nextra ana vale0:a 0 2\npoke ana vale0:a tx 0 idx 6\npoke ana vale0:a tx 0 flags 1\nhex ana vale0:a ffffffffffff02000000000a88b5\ntx ana vale0:a\nclose ana vale0:a\n",
+        b"3 1 send 2 ffffffffffff02000000000a88b5 = short 0 lone 1 to -\n4 1 shut 2\n5 1 finish 2 6,3,2,7,8 found 2 astray 1 = unread 0\n6 1 leave\n",
+    ),
+    // A chain that goes round.
+    (
+        b"pool 64\nuser a\nopen a vale0:a 2 2 3\nextra a vale0:a 2 2\nclose a vale0:a\n",
+        b"3 1 shut 2\n4 1 finish 2 2,3,6,7,8 found 2 astray 1 = unread 0\n5 1 leave\n",
+    ),
+    // The largest number as a head.
+    (
+        b"user a\nopen a vale0:a 2 2\nmove a vale0:a tx 4294967295 0\ntx a vale0:a\n",
+        b"3 1 reset 2 tx headout 4294967295 0 1\n",
+    ),
+    // Frames that are forwarded without a copy.
+    (
+        b"pool 64\nuser ana\nuser mid\nuser bob\nopen ana vale0:ana 4 4\nopen mid vale0:mid 4 4\nopen mid vale1:mid 4 4\nopen bob vale1:bob 4 4\nput ana vale0:ana 2 ff:ff:ff:ff:ff:ff 02:00:00:00:00:0a 14 00\ntx ana vale0:ana\nrx mid vale0:mid\nfwd mid vale0:mid vale1:mid 2\ntx mid vale1:mid\nrx mid vale0:mid\nrx bob vale1:bob\n",
+        b"11 2 sync 5 - = gave 2 to -\n12 2 send 6 ffffffffffff02000000000a88b5,ffffffffffff02000000000a88b5 = short 0 lone 0 to 7*2\n13 2 grant 12 7 = given 2 full 0 gone 0\n14 2 done 13\n15 2 sync 5 18,19 = gave 0 to -\n16 3 sync 7 - = gave 2 to -\n17 1 shut 4\n18 1 finish 4 2,3,4,5 found 0 astray 0 = unread 0\n19 1 leave\n20 2 shut 5\n21 2 finish 5 10,11,12,13 found 0 astray 0 = unread 0\n22 2 shut 6\n23 2 finish 6 14,15,20,21 found 0 astray 0 = unread 0\n24 2 leave\n",
+    ),
+    // A pipe's other end that comes late.
+    (
+        b"pool 64\nuser a\nopen a pipe0{ 4 4\nput a pipe0{ 1 ff:ff:ff:ff:ff:ff 02:00:00:00:00:0a 14 00\ntx a pipe0{\nuser b\nopen b pipe0} 4 4\ntx a pipe0{\n",
+        b"3 1 put 2 1 = peergone\n4 enter 2\n5 4 open pipe0} 4 4 0 = ok\n6 1 put 2 1 = took 2:ffffffffffff02000000000a88b5 to -\n",
+    ),
+    // A monitor of what a port receives.
+    (
+        b"pool 64\nuser a\nuser b\nuser m\nopen a vale0:a 4 4\nopen b vale0:b 4 4\nopen m mon0 0 2\nwatch m mon0 vale0:b r\nput a vale0:a 1 ff:ff:ff:ff:ff:ff 02:00:00:00:00:0a 14 00\ntx a vale0:a\nrx b vale0:b\nrx m mon0\n",
+        b"7 3 watch 6 vale0:b r = ok 5\n8 1 send 4 ffffffffffff02000000000a88b5 = short 0 lone 0 to 5*1\n9 1 grant 8 5 = given 1 full 0 gone 0\n10 1 done 9\n11 2 sync 5 - = gave 1 to 6*1\n12 2 grant 11 6 = given 1 full 0 gone 0\n13 2 done 12\n14 3 sync 6 - = gave 1 to -\n",
+    ),
+    // Openings refused for sizes and for want of buffers, with extra ones.
+    (
+        b"pool 10\nuser a\nopen a vale0:a 4 4\nopen a vale0:b 2 2\nopen a vale0:c 1 2\nopen a vale0:d 2 2 3\nopen a vale0:e 2 2 1025\n",
+        b"2 1 open vale0:a 4 4 0 = ok\n3 1 open vale0:b 2 2 0 = nobuffers 4 2\n4 1 open vale0:c 1 2 0 = badsize\n5 1 open vale0:d 2 2 3 = nobuffers 7 2\n6 1 open vale0:e 2 2 1025 = badsize\n",
+    ),
+    // One port more than a switch may have.
+    (
+        b"user a\nopen a vale0:p0 2 2\nopen a vale0:p1 2 2\nopen a vale0:p2 2 2\nopen a vale0:p3 2 2\nopen a vale0:p4 2 2\nopen a vale0:p5 2 2\nopen a vale0:p6 2 2\nopen a vale0:p7 2 2\nopen a vale0:p8 2 2\nopen a vale0:p9 2 2\nopen a vale0:p10 2 2\nopen a vale0:p11 2 2\nopen a vale0:p12 2 2\nopen a vale0:p13 2 2\nopen a vale0:p14 2 2\nopen a vale0:p15 2 2\nopen a vale0:p16 2 2\n",
+        b"17 1 open vale0:p15 2 2 0 = ok\n18 1 open vale0:p16 2 2 0 = portsfull\n",
+    ),
+];
 
-/// Users side by side, whose entries come in any order.
-pub(super) const SIDE_BY_SIDE: &[u8] =
-    b"user a\nuser b\nopen a vale0:a 4 4\nopen b vale0:b 4 4\npar\nput a vale0:a 3 ff:ff:ff:ff:ff:ff 02:00:00:00:00:0a 60 11\ntx a vale0:a\nput b vale0:b 2 ff:ff:ff:ff:ff:ff 02:00:00:00:00:0b 60 22\ntx b vale0:b\nend\nrx a vale0:a\nrx b vale0:b\n";
-
-pub(super) const SIDE_BY_SIDE_LINES: &[u8] = b"end 18 free 8192\n";
-
-/// A frame marked no-learn: its source is not learned.
-pub(super) const NO_LEARN: &[u8] =
-    b"pool 64\nuser a\nuser b\nuser c\nopen a vale0:a 4 4\nopen b vale0:b 4 4\nopen c vale0:c 4 4\nput a vale0:a 1 ff:ff:ff:ff:ff:ff 02:00:00:00:00:0a 14 00\npoke a vale0:a tx 0 flags 8\ntx a vale0:a\nput b vale0:b 1 02:00:00:00:00:0a 02:00:00:00:00:0b 14 00\ntx b vale0:b\n";
-
-pub(super) const NO_LEARN_LINES: &[u8] =
-    b"7 1 send 4 ~ffffffffffff02000000000a88b5 = short 0 lone 0 to 5*1,6*1\n8 1 grant 7 5 = given 1 full 0 gone 0\n9 1 done 8\n10 1 grant 7 6 = given 1 full 0 gone 0\n11 1 done 10\n12 2 send 5 02000000000a02000000000b88b5 = short 0 lone 0 to 4*1,6*1\n";
-
-/// A ring of 1,024 slots that goes round; one frame to nobody, and none.
-pub(super) const BIG_RING: &[u8] =
-    b"pool 2048\nuser a\nopen a vale0:a 1024 4\nput a vale0:a 1023 ff:ff:ff:ff:ff:ff 02:00:00:00:00:0a 0 00\ntx a vale0:a\nput a vale0:a 1 ff:ff:ff:ff:ff:ff 02:00:00:00:00:0a 14 00\ntx a vale0:a\ntx a vale0:a\n";
-
-pub(super) const BIG_RING_LINES: &[u8] =
-    b"4 1 send 2 ffffffffffff02000000000a88b5 = short 0 lone 1 to -\n5 1 send 2 - = short 0 lone 0 to -\n";
-
-/// Each fault of a pushed slot, and a frame behind them.
-pub(super) const SLOTS: &[u8] =
-    b"pool 64\nuser ana\nopen ana vale0:a 4 4\nmove ana vale0:a tx 4 0\ntx ana vale0:a\nmove ana vale0:a tx 2 1\ntx ana vale0:a\nput ana vale0:a 1 ff:ff:ff:ff:ff:ff 02:00:00:00:00:0a 14 00\npoke ana vale0:a tx 0 flags 16\ntx ana vale0:a\nput ana vale0:a 1 ff:ff:ff:ff:ff:ff 02:00:00:00:00:0a 14 00\npoke ana vale0:a tx 0 idx 66\ntx ana vale0:a\nput ana vale0:a 1 ff:ff:ff:ff:ff:ff 02:00:00:00:00:0a 14 00\npoke ana vale0:a tx 0 idx 6\ntx ana vale0:a\nput ana vale0:a 2 ff:ff:ff:ff:ff:ff 02:00:00:00:00:0a 14 00\npoke ana vale0:a tx 1 idx 2\npoke ana vale0:a tx 1 flags 1\ntx ana vale0:a\nput ana vale0:a 1 ff:ff:ff:ff:ff:ff 02:00:00:00:00:0a 14 00\npoke ana vale0:a tx 0 idx 3\ntx ana vale0:a\nput ana vale0:a 1 ff:ff:ff:ff:ff:ff 02:00:00:00:00:0a 14 00\npoke ana vale0:a tx 0 len 2049\ntx ana vale0:a\nput ana vale0:a 1 ff:ff:ff:ff:ff:ff 02:00:00:00:00:0a 14 00\npoke ana vale0:a tx 0 flags 32\ntx ana vale0:a\nput ana vale0:a 1 ff:ff:ff:ff:ff:ff 02:00:00:00:00:0a 14 00\ntx ana vale0:a\n";
-
-pub(super) const SLOTS_LINES: &[u8] =
-    b"3 1 reset 2 tx headout 4 0 3\n4 1 reset 2 tx curout 1 2 3\n5 1 reset 2 tx indirect 0\n6 1 reset 2 tx indexout 0 66\n7 1 reset 2 tx notheld 0 6\n8 1 reset 2 tx doubled 1 2\n9 1 reset 2 tx unannounced 0 3 2\n10 1 reset 2 tx longlen 0 2049\n11 1 reset 2 tx fragment 0\n12 1 send 2 ffffffffffff02000000000a88b5 = short 0 lone 1 to -\n";
-
-/// An exchange without marks.
-pub(super) const SWAP_QUIET: &[u8] =
-    b"pool 64\nuser a\nuser b\nopen a vale0:a 4 4\nopen b vale0:b 4 4\nput a vale0:a 1 ff:ff:ff:ff:ff:ff 02:00:00:00:00:0a 14 00\ntx a vale0:a\nrx b vale0:b\nswap b vale0:b rx 0 vale0:b tx 0 quiet\npoke b vale0:b tx 0 len 14\nmove b vale0:b tx 1 1\ntx b vale0:b\nrx b vale0:b\n";
-
-pub(super) const SWAP_QUIET_LINES: &[u8] =
-    b"9 2 reset 4 tx unannounced 0 14 10\n10 2 reset 4 rx unannounced 0 10 14\n";
-
-/// An extra buffer that is sent.
-pub(super) const EXTRA_SENT: &[u8] =
-    b"pool 64\nuser ana\nopen ana vale0:a 2 2 3\nextra ana vale0:a 0 2\npoke ana vale0:a tx 0 idx 6\npoke ana vale0:a tx 0 flags 1\nhex ana vale0:a ffffffffffff02000000000a88b5\ntx ana vale0:a\nclose ana vale0:a\n";
-
-pub(super) const EXTRA_SENT_LINES: &[u8] =
-    b"3 1 send 2 ffffffffffff02000000000a88b5 = short 0 lone 1 to -\n4 1 shut 2\n5 1 finish 2 6,3,2,7,8 found 2 astray 1 = unread 0\n6 1 leave\n";
-
-/// A chain that goes round.
-pub(super) const CHAIN_ROUND: &[u8] =
-    b"pool 64\nuser a\nopen a vale0:a 2 2 3\nextra a vale0:a 2 2\nclose a vale0:a\n";
-
-pub(super) const CHAIN_ROUND_LINES: &[u8] =
-    b"3 1 shut 2\n4 1 finish 2 2,3,6,7,8 found 2 astray 1 = unread 0\n5 1 leave\n";
-
-/// The largest number as a head.
-pub(super) const HEAD_OUT: &[u8] =
-    b"user a\nopen a vale0:a 2 2\nmove a vale0:a tx 4294967295 0\ntx a vale0:a\n";
-
-pub(super) const HEAD_OUT_LINES: &[u8] = b"3 1 reset 2 tx headout 4294967295 0 1\n";
-
-/// Frames that are forwarded without a copy.
-pub(super) const FORWARD: &[u8] =
-    b"pool 64\nuser ana\nuser mid\nuser bob\nopen ana vale0:ana 4 4\nopen mid vale0:mid 4 4\nopen mid vale1:mid 4 4\nopen bob vale1:bob 4 4\nput ana vale0:ana 2 ff:ff:ff:ff:ff:ff 02:00:00:00:00:0a 14 00\ntx ana vale0:ana\nrx mid vale0:mid\nfwd mid vale0:mid vale1:mid 2\ntx mid vale1:mid\nrx mid vale0:mid\nrx bob vale1:bob\n";
-
-pub(super) const FORWARD_LINES: &[u8] =
-    b"11 2 sync 5 - = gave 2 to -\n12 2 send 6 ffffffffffff02000000000a88b5,ffffffffffff02000000000a88b5 = short 0 lone 0 to 7*2\n13 2 grant 12 7 = given 2 full 0 gone 0\n14 2 done 13\n15 2 sync 5 18,19 = gave 0 to -\n16 3 sync 7 - = gave 2 to -\n17 1 shut 4\n18 1 finish 4 2,3,4,5 found 0 astray 0 = unread 0\n19 1 leave\n20 2 shut 5\n21 2 finish 5 10,11,12,13 found 0 astray 0 = unread 0\n22 2 shut 6\n23 2 finish 6 14,15,20,21 found 0 astray 0 = unread 0\n24 2 leave\n";
-
-/// A pipe's other end that comes late.
-pub(super) const PEER_COMES: &[u8] =
-    b"pool 64\nuser a\nopen a pipe0{ 4 4\nput a pipe0{ 1 ff:ff:ff:ff:ff:ff 02:00:00:00:00:0a 14 00\ntx a pipe0{\nuser b\nopen b pipe0} 4 4\ntx a pipe0{\n";
-
-pub(super) const PEER_COMES_LINES: &[u8] =
-    b"3 1 put 2 1 = peergone\n4 enter 2\n5 4 open pipe0} 4 4 0 = ok\n6 1 put 2 1 = took 2:ffffffffffff02000000000a88b5 to -\n";
-
-/// A monitor of what a port receives.
-pub(super) const RECEIVE_MONITOR: &[u8] =
-    b"pool 64\nuser a\nuser b\nuser m\nopen a vale0:a 4 4\nopen b vale0:b 4 4\nopen m mon0 0 2\nwatch m mon0 vale0:b r\nput a vale0:a 1 ff:ff:ff:ff:ff:ff 02:00:00:00:00:0a 14 00\ntx a vale0:a\nrx b vale0:b\nrx m mon0\n";
-
-pub(super) const RECEIVE_MONITOR_LINES: &[u8] =
-    b"7 3 watch 6 vale0:b r = ok 5\n8 1 send 4 ffffffffffff02000000000a88b5 = short 0 lone 0 to 5*1\n9 1 grant 8 5 = given 1 full 0 gone 0\n10 1 done 9\n11 2 sync 5 - = gave 1 to 6*1\n12 2 grant 11 6 = given 1 full 0 gone 0\n13 2 done 12\n14 3 sync 6 - = gave 1 to -\n";
-
-/// Openings refused for sizes and for want of buffers, with extra ones.
-pub(super) const OPENINGS: &[u8] =
-    b"pool 10\nuser a\nopen a vale0:a 4 4\nopen a vale0:b 2 2\nopen a vale0:c 1 2\nopen a vale0:d 2 2 3\nopen a vale0:e 2 2 1025\n";
-
-pub(super) const OPENINGS_LINES: &[u8] =
-    b"2 1 open vale0:a 4 4 0 = ok\n3 1 open vale0:b 2 2 0 = nobuffers 4 2\n4 1 open vale0:c 1 2 0 = badsize\n5 1 open vale0:d 2 2 3 = nobuffers 7 2\n6 1 open vale0:e 2 2 1025 = badsize\n";
-
-/// One port more than a switch may have.
-pub(super) const PORTS: &[u8] =
-    b"user a\nopen a vale0:p0 2 2\nopen a vale0:p1 2 2\nopen a vale0:p2 2 2\nopen a vale0:p3 2 2\nopen a vale0:p4 2 2\nopen a vale0:p5 2 2\nopen a vale0:p6 2 2\nopen a vale0:p7 2 2\nopen a vale0:p8 2 2\nopen a vale0:p9 2 2\nopen a vale0:p10 2 2\nopen a vale0:p11 2 2\nopen a vale0:p12 2 2\nopen a vale0:p13 2 2\nopen a vale0:p14 2 2\nopen a vale0:p15 2 2\nopen a vale0:p16 2 2\n";
-
-pub(super) const PORTS_LINES: &[u8] =
-    b"17 1 open vale0:p15 2 2 0 = ok\n18 1 open vale0:p16 2 2 0 = portsfull\n";
+/// Scripts that are not accepted, and the lines that tell why.
+pub(super) const BAD_SCRIPTS: &[Case] = &[
+    // A user that is declared twice.
+    (b"user a\nuser a\n", b"vale: script line 2: twice\n", EMPTY),
+    // A pool behind another line.
+    (b"user a\npool 9\n", b"vale: script line 2: order\n", EMPTY),
+    // A port that is not open.
+    (
+        b"user a\nclose a vale0:a\n",
+        b"vale: script line 2: port\n",
+        EMPTY,
+    ),
+    // A port that is another user's.
+    (
+        b"user a\nuser b\nopen a vale0:a 2 2\nrx b vale0:a\n",
+        FOURTH_PORT,
+        EMPTY,
+    ),
+    // A port that is closed twice.
+    (
+        b"user a\nopen a vale0:a 2 2\nclose a vale0:a\nclose a vale0:a\n",
+        FOURTH_PORT,
+        EMPTY,
+    ),
+    // A user declared inside a block.
+    (
+        b"user a\npar\nuser a\nend\n",
+        b"vale: script line 3: order\n",
+        EMPTY,
+    ),
+    // A word too many on a user's line, which names a monitor.
+    (b"user a mon0\n", FIRST_COUNT, EMPTY),
+    // The same of the pool.
+    (b"pool 5 mon0\n", FIRST_COUNT, EMPTY),
+    // One frame more than the lines may put.
+    (
+        b"user a\nopen a vale0:a 4 4\nput a vale0:a 1000000 ff:ff:ff:ff:ff:ff 02:00:00:00:00:0a 14 00\nput a vale0:a 1 ff:ff:ff:ff:ff:ff 02:00:00:00:00:0a 14 00\n",
+        b"vale: counts 1000001 over 1000000\n",
+        EMPTY,
+    ),
+];

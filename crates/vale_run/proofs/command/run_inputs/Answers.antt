@@ -4,8 +4,5 @@ use Rattle.vale_run.proofs.command.run_inputs.Goals as goal
 
 pub returns-clause-ends : goal.returns-clause-ends
 returns-clause-ends g c = λ name has.
-    c.run_ready.ensures.ends name (record {
-      has_inputs = has;
-      few_frames = subst (λ (n : ℕ). n ≤ most_frames) c.frames_played-count.ensures
-          c.if-count-gt-MAX_FRAMES.false;
-    })
+    let few = subst (λ (n : ℕ). n ≤ most_frames) c.frames_played-count.ensures c.if-count-gt-MAX_FRAMES.false in
+    c.run_ready.ensures.ends name (record { has_inputs = has; few_frames = few })

@@ -4,7 +4,7 @@ use Rattle.vale_run.specs.Run.{Io, script_name}
 use Rattle.vale_run.specs.Complete.{Completes}
 use Rattle.vale_run.proofs.Completing.{named-complete}
 use Rattle.vale_run.proofs.Since.{io_of}
-use Rattle.vale_run.proofs.command.run.Goals as goal
+use Rattle.vale_run.proofs.command.run_leaving.Goals as goal
 
 pub returns-in-Some-clause-completes : goal.returns-in-Some-clause-completes
 returns-in-Some-clause-completes g c =
