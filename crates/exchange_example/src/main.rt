@@ -1,4 +1,5 @@
-//! Two users on two threads exchange frames through a pipe, each by a session of its own.
+//! Two users on two threads exchange frames, each by a session of its own: through a switch, and
+//! then through a pipe.
 #![tactic(auto)]
 
 ghost use Rattle.vale_fabric.specs.Fabrics.{IsPassIn};
@@ -8,6 +9,7 @@ use nm_io::NoGate;
 use nm_types::{Limits, Name, PortId, Side, SyncFault};
 use nm_user::Session;
 use std::alloc::Global;
+use std::io::Print;
 use std::sync::Wait;
 use std::thread::{Threads, join};
 use vale_book::Book;
@@ -35,7 +37,8 @@ fn put(session: &mut Session, port: PortId, letter: u8) -> Option<()> {
     Some(())
 }
 
-/// Puts a frame, and offers it until the other end is there and takes it.
+/// Sends a frame until another port is there that takes it. A switch without one drops the frame,
+/// which is put again; before a pipe's other end is there it stays in its slot.
 fn send<R: Wait>(rt: &R, session: &mut Session, port: PortId, letter: u8) -> Option<()> {
     put(session, port, letter)?;
     for _ in rt.forever() {
@@ -43,7 +46,8 @@ fn send<R: Wait>(rt: &R, session: &mut Session, port: PortId, letter: u8) -> Opt
             return None;
         }
         match session.tx_sync(rt, port, &NoGate) {
-            Ok(_) => return Some(()),
+            Ok(sent) if sent.lone == 0 => return Some(()),
+            Ok(_) => put(session, port, letter)?,
             Err(SyncFault::PeerGone) => {}
             Err(_) => return None,
         }
@@ -65,7 +69,7 @@ fn receive<R: Wait>(rt: &R, session: &mut Session, port: PortId) -> Option<u8> {
     unreachable!()
 }
 
-/// Opens an end, sends a frame with a letter there, and waits for the letter of another.
+/// Opens a port, sends a frame with a letter there, and waits for the letter of another.
 fn exchange<R: Wait>(rt: &R, session: &mut Session, name: &str, letter: u8) -> Option<u8> {
     let name = Name::parse(name).ok()?;
     let port = session.open(rt, &name, 4, 4, 0).ok()?;
@@ -90,21 +94,22 @@ fn live<R: Wait>(
     heard
 }
 
-/// Both users live, each on a thread of its own.
+/// Both users live, each on a thread of its own and at the port of its name.
 fn live_both<R: Threads + Wait + Sync>(
     rt: &R,
     alloc: Global,
     fabric: &Fabric,
     one: Pass,
     two: Pass,
+    names: (&str, &str),
 ) -> (Option<u8>, Option<u8>)
     requires one { IsPassIn fabric.now one }
     requires two { IsPassIn fabric.now two }
 {
     join(
         rt,
-        || live(rt, alloc, fabric, one, "pipe0{", b'A'),
-        || live(rt, alloc, fabric, two, "pipe0}", b'B'),
+        || live(rt, alloc, fabric, one, names.0, b'A'),
+        || live(rt, alloc, fabric, two, names.1, b'B'),
     )
 }
 
@@ -119,17 +124,23 @@ fn end<R: Wait>(rt: &R, book: Book) {
     unreachable!()
 }
 
-fn main(rt: HostRuntime) -> Result<()> {
+/// Two users live on a fabric of their own, and what each has heard is printed.
+fn meet<R: Print + AllocGlobal + Threads + Wait + Sync>(rt: &R, names: (&str, &str)) -> Result<()> {
     let (fabric, mut pass) = Fabric::new(rt.alloc(), 64, Limits::VERSION_1)?;
     let (one, two) = (fabric.fork(&mut pass), fabric.fork(&mut pass));
-    let heard = live_both(&rt, rt.alloc(), &fabric, one, two);
-    end(&rt, fabric.close(&rt, pass));
+    let heard = live_both(rt, rt.alloc(), &fabric, one, two, names);
+    end(rt, fabric.close(rt, pass));
     match heard {
         (Some(one), Some(two)) => {
-            println!(rt; "master heard {}", char::from(one))?;
-            println!(rt; "slave heard {}", char::from(two))?;
+            println!(rt; "{} heard {}", names.0, char::from(one))?;
+            println!(rt; "{} heard {}", names.1, char::from(two))?;
         }
         _ => println!(rt; "no memory")?,
     }
     Ok(())
+}
+
+fn main(rt: HostRuntime) -> Result<()> {
+    meet(&rt, ("vale0:a", "vale0:b"))?;
+    meet(&rt, ("pipe0{", "pipe0}"))
 }
