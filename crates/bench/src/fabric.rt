@@ -4,18 +4,12 @@ ghost use Rattle.bench.specs.Comers.{HaveLeft, IsWorth};
 
 use nm_types::Limits;
 use std::alloc::Global;
-use std::io::{self, Print};
 use std::sync::Wait;
 use std::thread::{Threads, join};
-use std::time::{Clock, Instant};
 use vale_fabric::{Fabric, Pass};
 
 /// The buffers of the pool, of which none is handed out.
 const BUFFERS: u32 = 8;
-
-const FEW: u32 = 200;
-
-const MANY: u32 = 100_000;
 
 /// A user comes and leaves, if there is room and memory.
 fn come_and_leave<R: Wait>(rt: &R, fabric: &Fabric, pass: &mut Pass, user: u32)
@@ -86,34 +80,11 @@ fn come_by<R: Threads + Wait + Sync>(
 
 /// Counts the entries that there are after users have come and left on as many threads, `count` in
 /// all.
-fn count_entries<R: Threads + Wait + Sync>(rt: &R, alloc: Global, threads: u32, count: u32) -> u32 {
+pub fn entries<R: Threads + Wait + Sync>(rt: &R, alloc: Global, threads: u32, count: u32) -> u64 {
     let (fabric, pass) = match Fabric::new(alloc, BUFFERS, Limits::VERSION_1) {
         Ok(made) => made,
         Err(_) => return 0,
     };
     let pass = come_by(rt, &fabric, pass, threads, count);
-    fabric.close(rt, pass).close().len()
-}
-
-/// Users come to a fabric and leave it, on 1, 2 and 4 threads: a few, and prints how many entries
-/// there are, or, if `is_timed`, a hundred thousand, and prints entries per second. Each makes two
-/// entries.
-pub fn run<R: Print + Clock + Threads + Wait + Sync>(
-    rt: &R,
-    alloc: Global,
-    is_timed: bool,
-) -> io::Result<()> {
-    for threads in [1, 2, 4] {
-        if !is_timed {
-            let made = count_entries(rt, alloc, threads, FEW);
-            println!(rt; "fabric: {threads} threads, {made} entries")?;
-            continue;
-        }
-        let start = Instant::now(rt)?;
-        let made = count_entries(rt, alloc, threads, MANY);
-        let micros = start.elapsed(rt)?.as_micros().max(1);
-        let rate = made as u128 * 1_000_000 / micros;
-        println!(rt; "fabric: {threads} threads, {rate} entries per second")?;
-    }
-    Ok(())
+    u64::from(fabric.close(rt, pass).close().len())
 }

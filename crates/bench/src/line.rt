@@ -10,6 +10,7 @@ use std::alloc::Global;
 use std::io::{self, Print};
 use std::time::{Clock, Duration, Instant};
 use vale_line::{Got, Lease, LeaseRoom, Line};
+use vale_serve::unwrap_all;
 
 /// The buffers of the ring.
 const RING: u32 = 1024;
@@ -66,25 +67,6 @@ fn fill_all(lease: &mut Lease)
     }
 }
 
-/// Takes the buffers out of what a sync gave, in their order.
-fn take_buffers(mut gots: Vec<Got>, mut bufs: Vec<Buf>) -> Vec<Buf>
-    requires none { bufs.items ≡ [] }
-    requires room { length gots.items ≤ vec_capacity bufs }
-    ensures { result.items ≡ buffers_of gots.items }
-{
-    gots.reverse();
-    while let Some(got) = gots.pop() {
-        let Got {
-            buf,
-            len: _,
-            rest: _,
-        } = got;
-        bufs.push_reserved(buf);
-    }
-    gots.destroy_empty();
-    bufs
-}
-
 /// Grants, fills, completes and syncs frames of one slot. The buffers of the last round come back
 /// with the sync. Returns how many frames there were, and their buffers.
 fn play_round(
@@ -103,7 +85,11 @@ fn play_round(
     ensures rest { IsAtRest region.now line.new result.1.items }
     ensures few { result.0 ≤ 64 }
 {
-    let Rooms { lease, gots, bufs } = rooms;
+    let Rooms {
+        lease,
+        gots,
+        mut bufs,
+    } = rooms;
     let Some(mut lease) = line.grant(id, PortId(0), lease, &WANT) else {
         gots.destroy_empty();
         bufs.destroy_empty();
@@ -112,7 +98,9 @@ fn play_round(
     fill_all(&mut lease);
     line.done(lease);
     let got = line.sync(back, gots);
-    (got.len(), take_buffers(got, bufs))
+    let count = got.len();
+    unwrap_all(got, &mut bufs);
+    (count, bufs)
 }
 
 /// Plays some rounds. Returns how many frames there were, and the buffers of the last round.

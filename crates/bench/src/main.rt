@@ -12,10 +12,12 @@ mod line;
 mod look;
 mod pool;
 mod text;
+mod threads;
 mod turn;
 
 use anyhow::Result;
 use std::env;
+use threads::Shared;
 
 fn main(rt: HostRuntime) -> Result<()> {
     let mut is_small = true;
@@ -24,11 +26,11 @@ fn main(rt: HostRuntime) -> Result<()> {
         match word.as_str() {
             "capture" => capture::run(&rt, rt.alloc(), true)?,
             "pool" => pool::run(&rt, rt.alloc(), true)?,
-            "turn" => turn::run(&rt, rt.alloc(), true)?,
+            "turn" => Shared::Turn.run(&rt, rt.alloc(), true)?,
             "line" => line::run(&rt, rt.alloc(), true)?,
             "batch" => batch::run(&rt, rt.alloc(), true)?,
             "text" => text::run(&rt, rt.alloc(), true)?,
-            "fabric" => fabric::run(&rt, rt.alloc(), true)?,
+            "fabric" => Shared::Fabric.run(&rt, rt.alloc(), true)?,
             "asks" => {
                 let mut said = env::args(&rt)?.skip(2);
                 return asks::run(&rt, rt.alloc(), said.next(), said.next());
@@ -39,11 +41,11 @@ fn main(rt: HostRuntime) -> Result<()> {
     if is_small {
         capture::run(&rt, rt.alloc(), false)?;
         pool::run(&rt, rt.alloc(), false)?;
-        turn::run(&rt, rt.alloc(), false)?;
+        Shared::Turn.run(&rt, rt.alloc(), false)?;
         line::run(&rt, rt.alloc(), false)?;
         batch::run(&rt, rt.alloc(), false)?;
         text::run(&rt, rt.alloc(), false)?;
-        fabric::run(&rt, rt.alloc(), false)?;
+        Shared::Fabric.run(&rt, rt.alloc(), false)?;
     }
     Ok(())
 }

@@ -4,14 +4,8 @@ ghost use Rattle.nm_turn.specs.Turns.{IsPassOf, IsOutside};
 
 use nm_turn::{Kept, Pass, Turn};
 use std::alloc::Global;
-use std::io::{self, Print};
 use std::sync::Wait;
 use std::thread::{Threads, join};
-use std::time::{Clock, Instant};
-
-const FEW: u32 = 400;
-
-const MANY: u32 = 1_000_000;
 
 /// The numbers that were added, each its own root.
 #[derive(Drop)]
@@ -96,38 +90,11 @@ fn add_by<R: Threads + Wait + Sync>(
 }
 
 /// Counts the entries that there are after as many threads have added their parts of `count`.
-fn count_entries<R: Threads + Wait + Sync>(
-    rt: &R,
-    alloc: Global,
-    threads: u32,
-    count: u32,
-) -> usize {
+pub fn entries<R: Threads + Wait + Sync>(rt: &R, alloc: Global, threads: u32, count: u32) -> u64 {
     let (turn, pass) = match Turn::open(alloc, Numbers::new(alloc)) {
         Ok(opened) => opened,
         Err(_) => return 0,
     };
     let pass = add_by(rt, &turn, pass, threads, count);
-    turn.close(rt, pass).items.len()
-}
-
-/// Adds a few entries from 1, 2 and 4 threads and prints how many there are, or, if `is_timed`, a
-/// million and prints entries per second.
-pub fn run<R: Print + Clock + Threads + Wait + Sync>(
-    rt: &R,
-    alloc: Global,
-    is_timed: bool,
-) -> io::Result<()> {
-    for threads in [1, 2, 4] {
-        if !is_timed {
-            let made = count_entries(rt, alloc, threads, FEW);
-            println!(rt; "turn: {threads} threads, {made} entries")?;
-            continue;
-        }
-        let start = Instant::now(rt)?;
-        let made = count_entries(rt, alloc, threads, MANY);
-        let micros = start.elapsed(rt)?.as_micros().max(1);
-        let rate = made as u128 * 1_000_000 / micros;
-        println!(rt; "turn: {threads} threads, {rate} entries per second")?;
-    }
-    Ok(())
+    turn.close(rt, pass).items.len() as u64
 }

@@ -1,15 +1,15 @@
 -- Words of bits: one bit changes and the others stay; a word that is 0 has none; bits beside places.
-use Rattle.std.proofs.Common.{ℕ, zero, suc, ◌≡◌, ◌≢◌, ◌+◌, ◌-◌, ◌*◌, ◌/◌, ◌%◌, ◌^◌, ◌<◌, ◌≤◌, List, [], ◌∷◌, length, take, map, slice_set, get_or, Option, Some, None, nat_eq, nat_lt, inl, inr, refl, sym, ◌∙◌, ap, subst, arith}
+use Rattle.std.proofs.Common.{ℕ, zero, suc, ◌≡◌, ◌≢◌, ◌+◌, ◌-◌, ◌*◌, ◌/◌, ◌%◌, ◌^◌, ◌<◌, ◌≤◌, List, [], ◌∷◌, length, take, map, slice_set, get_or, Option, Some, None, nat_eq, nat_lt, inl, inr, refl, sym, ◌∙◌, ap, subst, arith, w64}
 use Rattle.std.specs.Prelude.{min}
 use Rattle.std.specs.List.{range_with_len}
-use Rattle.std.specs.Int.{bit_at}
+use Rattle.std.specs.Int.{bit_at, trailing_zeros}
 use Rattle.std.proofs.lemmas.Bool.{cases_Bool}
 use Rattle.std.proofs.lemmas.Bool.Decides.{nat_tests}
 use Rattle.std.proofs.Math.ListN.{get_or-eq_default}
 use Rattle.std.proofs.Math.Nat.{min-le_left, le-min}
 use Rattle.std.proofs.lemmas.List.{get_or-set_same, get_or-set_other}
 use Rattle.std.proofs.lemmas.List.FromFn.{get_or-map-range_with_len, length-map-range_with_len}
-use Rattle.std.proofs.lemmas.Nat.Bits.{bit_at-zero, bit_at_ones, bit_at_ones_above}
+use Rattle.std.proofs.lemmas.Nat.Bits.{bit_at-zero, bit_at_ones, bit_at_ones_above, bit_at-trailing_zeros}
 use Rattle.nm_region.specs.Buffers.{Buffer}
 use Rattle.nm_pool.specs.Bits.{bit_of, mark, AreBits}
 use Rattle.nm_pool.specs.Kept.{buffers_in}
@@ -81,6 +81,20 @@ none-before words at i h low before k below = elim (cases_Bool (nat_lt k (at * 6
       let there : k % 64 < i = omega (arith, near, below, h, here) in
       ap (λ (w : ℕ). bit_at (get_or words w 0) (k % 64)) here ∙ low (k % 64) there)
 ]
+
+-- the lowest bit of a word that has one is set, and none stands before it in the words
+pub record IsLowest (words : List ℕ) (at w : ℕ) : Type 0 where
+  pub set : bit_of words (at * 64 + trailing_zeros w64 w) ≡ 1
+  pub before : ((k : ℕ) → k < at * 64 → bit_of words k ≡ 0) → (k : ℕ) → k < at * 64 + trailing_zeros w64 w → bit_of words k ≡ 0
+
+pub lowest : (words : List ℕ) (at w : ℕ) → w ≡ get_or words at w → at < length words → (w ≡ 0 → ⊥) → get_or words at 0 < 2 ^ 64 → IsLowest words at w
+lowest words at w read within some few =
+    let is : w ≡ get_or words at 0 = get_or_read_under words at (length words) w 0 read within refl in
+    let low = bit_at-trailing_zeros w64 w (positive w some) (subst (λ (x : ℕ). x < 2 ^ 64) (sym is) few) in
+    record {
+      set = bit-found words at (trailing_zeros w64 w) low.0 ∙ (ap (λ (x : ℕ). bit_at x (trailing_zeros w64 w)) (sym is) ∙ low.1);
+      before = none-before words at (trailing_zeros w64 w) low.0 (λ j h. ap (λ (x : ℕ). bit_at x j) (sym is) ∙ low.2 j h);
+    }
 
 -- ---- full words
 pub full-set : (count most : ℕ) (words : List ℕ) → words ≡ map (λ (w : ℕ). 2 ^ min (count - w * 64) 64 - 1) (range_with_len 0 most) → count ≤ most * 64 → (k : ℕ) → k < count → bit_of words k ≡ 1

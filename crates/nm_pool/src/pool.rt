@@ -1,11 +1,11 @@
 ghost use Rattle.std.specs.Prelude.{◌≡◌, ◌≢◌, ◌≤◌, ◌<◌, ◌*◌, length, take, drop, All, IfOk, IfErr, OnOk, OnErr, ℕ, [], ◌++◌, None, get_or, slice_set};
 ghost use Rattle.std.specs.Option.{option_to_list};
-ghost use Rattle.nm_types.specs.Buffers.{IsPoolSize, IsBufferIndex};
-ghost use Rattle.nm_region.specs.Buffers.{indices_of};
 ghost use Rattle.std.specs.Vec.{vec_capacity};
-ghost use Rattle.nm_pool.specs.Free.{with_buffer, AreWhole, IsPool};
 ghost use Rattle.nm_pool.specs.Bits.{AreBits};
+ghost use Rattle.nm_pool.specs.Free.{with_buffer, AreWhole, IsPool};
 ghost use Rattle.nm_pool.specs.Kept.{buffers_in, ArePlaced};
+ghost use Rattle.nm_region.specs.Buffers.{indices_of};
+ghost use Rattle.nm_types.specs.Buffers.{IsPoolSize, IsBufferIndex};
 
 use crate::bits::{clear_bit, first_bit, full_words, set_bit};
 use nm_region::Buf;

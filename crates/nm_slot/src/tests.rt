@@ -23,11 +23,11 @@ fn seen(was: u32, held: bool, doubled: bool) -> Seen {
     }
 }
 
-/// Each of these slots, at its place of the ring, is refused for this fault.
-fn refused(rt: &impl Abort, cases: &[(u32, Slot, Seen, SlotFault)]) {
-    for (at, slot, seen, fault) in cases {
+/// Each of these slots, at a place of the ring and with this known of it, is refused for its fault.
+fn refused(rt: &impl Abort, at: u32, known: Seen, cases: &[(Slot, SlotFault)]) {
+    for (slot, fault) in cases {
         assert!(rt;
-            judge(*at, slot, seen, Side::Tx) == Err(*fault),
+            judge(at, slot, &known, Side::Tx) == Err(*fault),
             "{fault:?}"
         );
     }
@@ -38,80 +38,38 @@ fn refused(rt: &impl Abort, cases: &[(u32, Slot, Seen, SlotFault)]) {
 
 #[test]
 fn bad_indices(rt: HostRuntime) {
-    refused(
-        &rt,
-        &[
-            (
-                0,
-                slot(1, 0, 14),
-                seen(2, false, false),
-                SlotFault::IndexOut { slot: 0, idx: 1 },
-            ),
-            (
-                0,
-                slot(66, 0, 14),
-                seen(2, false, false),
-                SlotFault::IndexOut { slot: 0, idx: 66 },
-            ),
-            (
-                0,
-                slot(6, 0, 14),
-                seen(2, false, false),
-                SlotFault::NotHeld { slot: 0, idx: 6 },
-            ),
-        ],
-    );
+    let cases = [
+        (slot(1, 0, 14), SlotFault::IndexOut { slot: 0, idx: 1 }),
+        (slot(66, 0, 14), SlotFault::IndexOut { slot: 0, idx: 66 }),
+        (slot(6, 0, 14), SlotFault::NotHeld { slot: 0, idx: 6 }),
+    ];
+    refused(&rt, 0, seen(2, false, false), &cases);
 }
 
 #[test]
 fn bad_lengths_and_flags(rt: HostRuntime) {
-    refused(
-        &rt,
-        &[
-            (
-                0,
-                slot(2, 0, 2049),
-                seen(2, true, false),
-                SlotFault::LongLen { slot: 0, len: 2049 },
-            ),
-            (
-                0,
-                slot(2, 16, 14),
-                seen(2, true, false),
-                SlotFault::Indirect { slot: 0 },
-            ),
-            (
-                0,
-                slot(2, 32, 14),
-                seen(2, true, false),
-                SlotFault::Fragment { slot: 0 },
-            ),
-        ],
-    );
+    let cases = [
+        (slot(2, 0, 2049), SlotFault::LongLen { slot: 0, len: 2049 }),
+        (slot(2, 16, 14), SlotFault::Indirect { slot: 0 }),
+        (slot(2, 32, 14), SlotFault::Fragment { slot: 0 }),
+    ];
+    refused(&rt, 0, seen(2, true, false), &cases);
 }
 
 #[test]
 fn bad_exchanges(rt: HostRuntime) {
+    let twice = SlotFault::Doubled { slot: 1, idx: 2 };
+    refused(&rt, 1, seen(3, true, true), &[(slot(2, 1, 14), twice)]);
+    let unannounced = SlotFault::Unannounced {
+        slot: 0,
+        idx: 14,
+        was: 10,
+    };
     refused(
         &rt,
-        &[
-            (
-                1,
-                slot(2, 1, 14),
-                seen(3, true, true),
-                SlotFault::Doubled { slot: 1, idx: 2 },
-            ),
-            (
-                0,
-                slot(14, 0, 14),
-                seen(10, true, false),
-                SlotFault::Unannounced {
-                    slot: 0,
-                    idx: 14,
-                    was: 10,
-                },
-            ),
-        ],
+        0,
+        seen(10, true, false),
+        &[(slot(14, 0, 14), unannounced)],
     );
 }
 
@@ -120,66 +78,33 @@ fn bad_exchanges(rt: HostRuntime) {
 #[test]
 fn first_fault_is_told(rt: HostRuntime) {
     let known = slot(5, 32, 2049);
+    let cases = [
+        (slot(66, 48, 2049), SlotFault::Indirect { slot: 7 }),
+        (slot(66, 32, 2049), SlotFault::IndexOut { slot: 7, idx: 66 }),
+        (known, SlotFault::NotHeld { slot: 7, idx: 5 }),
+    ];
+    refused(&rt, 7, seen(2, false, true), &cases);
     refused(
         &rt,
-        &[
-            (
-                7,
-                slot(66, 48, 2049),
-                seen(2, false, true),
-                SlotFault::Indirect { slot: 7 },
-            ),
-            (
-                7,
-                slot(66, 32, 2049),
-                seen(2, false, true),
-                SlotFault::IndexOut { slot: 7, idx: 66 },
-            ),
-            (
-                7,
-                known,
-                seen(2, false, true),
-                SlotFault::NotHeld { slot: 7, idx: 5 },
-            ),
-            (
-                7,
-                known,
-                seen(2, true, true),
-                SlotFault::Doubled { slot: 7, idx: 5 },
-            ),
-        ],
+        7,
+        seen(2, true, true),
+        &[(known, SlotFault::Doubled { slot: 7, idx: 5 })],
     );
 }
 
 #[test]
 fn last_faults_are_told(rt: HostRuntime) {
-    refused(
-        &rt,
-        &[
-            (
-                7,
-                slot(5, 32, 2049),
-                seen(2, true, false),
-                SlotFault::Unannounced {
-                    slot: 7,
-                    idx: 5,
-                    was: 2,
-                },
-            ),
-            (
-                7,
-                slot(5, 33, 2049),
-                seen(2, true, false),
-                SlotFault::LongLen { slot: 7, len: 2049 },
-            ),
-            (
-                7,
-                slot(5, 33, 2048),
-                seen(2, true, false),
-                SlotFault::Fragment { slot: 7 },
-            ),
-        ],
-    );
+    let unannounced = SlotFault::Unannounced {
+        slot: 7,
+        idx: 5,
+        was: 2,
+    };
+    let cases = [
+        (slot(5, 32, 2049), unannounced),
+        (slot(5, 33, 2049), SlotFault::LongLen { slot: 7, len: 2049 }),
+        (slot(5, 33, 2048), SlotFault::Fragment { slot: 7 }),
+    ];
+    refused(&rt, 7, seen(2, true, false), &cases);
 }
 
 /// The first and the last buffer, a whole buffer of bytes, an announced buffer, other flags.

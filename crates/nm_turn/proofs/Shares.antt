@@ -6,7 +6,7 @@ use Rattle.atomic_table.proofs.Lists.{set_else, set_again}
 use Rattle.nm_turn.specs.declared.view.Share.{Share}
 use Rattle.nm_turn.specs.Shares.{nothing, IsWhole, half, weight, both_parts, deepest, total, AddUp}
 
-weight-deeper : (d k : ℕ) (p : Share) → p.depth ≤ d → weight (d + k) p ≡ 2 ^ k * weight d p
+pub weight-deeper : (d k : ℕ) (p : Share) → p.depth ≤ d → weight (d + k) p ≡ 2 ^ k * weight d p
 weight-deeper d k p le =
     let e : (d + k) - p.depth ≡ (d - p.depth) + k = omega arith in
     let f : 2 ^ ((d + k) - p.depth) ≡ 2 ^ (d - p.depth) * 2 ^ k = ap (λ (n : ℕ). 2 ^ n) e ∙ pow-add 2 (d - p.depth) k in

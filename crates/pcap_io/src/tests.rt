@@ -1,6 +1,7 @@
 use super::*;
 use nm_io::{Failed, MemorySink};
 use std::alloc::{AllocError, Global};
+use std::process::Abort;
 use std::test::Fail;
 
 /// A broadcast from 02:00:00:00:00:0a without payload, of a type for local experiments.
@@ -56,6 +57,15 @@ fn capture(
     Ok(out)
 }
 
+/// A capture has one record, of the frame, with these seconds, this fraction and original length.
+fn has_frame(rt: &impl Abort, alloc: Global, bytes: &[u8], numbers: (u32, u32, u32)) {
+    let records = read(alloc, bytes).expect(rt, "a capture");
+    assert_eq!(rt; records.len(), 1);
+    let record = &records[0];
+    assert_eq!(rt; (record.seconds, record.fraction, record.original), numbers);
+    assert_eq!(rt; record.bytes.as_slice(), FRAME.as_slice());
+}
+
 #[test]
 fn capture_read_whole_and_cut(rt: HostRuntime) -> Result<(), Fail> {
     for len in 0..CAPTURE.len() {
@@ -71,13 +81,7 @@ fn capture_read_whole_and_cut(rt: HostRuntime) -> Result<(), Fail> {
             }
         }
     }
-    let records = read(rt.alloc(), CAPTURE).expect(&rt, "a capture");
-    assert_eq!(rt; records.len(), 1);
-    assert_eq!(rt;
-        (records[0].seconds, records[0].fraction, records[0].original),
-        (1, 2, 64)
-    );
-    assert_eq!(rt; records[0].bytes.as_slice(), FRAME.as_slice());
+    has_frame(&rt, rt.alloc(), CAPTURE, (1, 2, 64));
     Ok(())
 }
 
@@ -190,13 +194,7 @@ fn captures_written_are_read_again(rt: HostRuntime) -> Result<(), Fail> {
         assert!(rt; whole.starts_with(out.bytes()));
         if written {
             assert_eq!(rt; out.bytes(), whole.as_slice());
-            let records = read(rt.alloc(), out.bytes()).expect(&rt, "a capture");
-            assert_eq!(rt; records.len(), 1);
-            assert_eq!(rt;
-                (records[0].seconds, records[0].fraction, records[0].original),
-                (3, 9, 14)
-            );
-            assert_eq!(rt; records[0].bytes.as_slice(), FRAME.as_slice());
+            has_frame(&rt, rt.alloc(), out.bytes(), (3, 9, 14));
         }
     }
     Ok(())

@@ -1,18 +1,17 @@
 -- Where each session that came has left, none is there.
 use Rattle.std.proofs.Common.{ℕ, zero, suc, ◌+◌, ◌-◌, ◌<◌, ◌≤◌, ◌≡◌, Bool, true, false, not, ◌&&◌, ◌||◌, List, [], ◌∷◌, length, sum_by, slice_get, Some, refl, sym, ◌∙◌, ap, subst, arith}
-use Rattle.std.specs.Prelude.{◌==◌}
-use Rattle.std.specs.List.{list_any, AllByRecursion}
+use Rattle.std.specs.List.{list_any}
 use Rattle.std.proofs.lemmas.Bool.{eq-eqb}
 use Rattle.nm_turn.specs.Numbered.{Stands, numbered}
 use Rattle.nm_turn.proofs.Prefixes.{numbered-Stands}
 use Rattle.vale_entry.specs.declared.entry.Entry.{Entry}
 use Rattle.vale_entry.specs.World.{World, Port, is_session, buffers_of}
-use Rattle.vale_entry.specs.Laws.{IsPortOf}
 use Rattle.vale_entry.specs.Legal.{IsLegal, is_met, world_of}
 use Rattle.vale_entry.proofs.Numbered.{world-numbered}
 use Rattle.vale_entry.proofs.HistoryLaws.{history-stands}
 use Rattle.vale_own.specs.There.{is_coming, is_leave_of, is_leaving, has_come, has_left}
 use Rattle.vale_own.proofs.Coming.{there-come}
+use Rattle.vale_replay.proofs.Leaving.{no-members, no-ports}
 use Rattle.vale_act.specs.Leaving.{AllLeave, EntersOnlyAt, HasMadeLeave}
 
 -- ---- a session that is there has come and has not left
@@ -66,17 +65,6 @@ any-at p (x ∷ h) (suc k) e at is = or-true (p x) (list_any p h) (any-at p h k 
     or-true : (a b : Bool) → b ≡ true → (a || b) ≡ true
     or-true true b e = refl
     or-true false b e = e
-
-no-members : (sessions : List ℕ) → ((x : ℕ) → list_any (λ (k : ℕ). k == x) sessions ≡ true → ⊥) → sessions ≡ []
-no-members [] none = refl
-no-members (x ∷ sessions) none =
-    absurd (none x (ap (λ (b : Bool). b || list_any (λ (k : ℕ). k == x) sessions) (eq-eqb x x refl)))
-
-no-ports : (sessions : List ℕ) (ports : List Port) → sessions ≡ [] → AllByRecursion (IsPortOf sessions) ports → ports ≡ []
-no-ports sessions [] none owned = refl
-no-ports sessions (p ∷ ports) none owned =
-    let there : list_any (λ (s : ℕ). s == p.session) [] ≡ true = subst (λ (ss : List ℕ). list_any (λ (s : ℕ). s == p.session) ss ≡ true) none owned.0 in
-    absurd cc
 
 pub all-leave : AllLeave
 all-leave pool h main legal all each = record { sessions = none; free = free }

@@ -94,17 +94,9 @@ fit-room b call made legal is fit =
 refused-not : (b : Recorded) (call : Ask) (what : Part) (used want : ℕ) (found : Option Outcome) → room_by b call found → refused_by b call (RecordFull what used want) found → ⊥
 refused-not b call what used want None room refused = refused
 refused-not b call Entries used want (Some made) room refused =
-    let one = refused.0 in
-    let two = refused.1 in
-    let more = refused.2 in
-    let fits = room.0 in
-    absurd (omega (arith, one, two, more, fits))
+    absurd (omega (arith, refused.0, refused.1, refused.2, room.0))
 refused-not b call Bytes used want (Some made) room refused =
-    let one = refused.1 in
-    let two = refused.2 in
-    let more = refused.3 in
-    let fits = room.1 in
-    absurd (omega (arith, one, two, more, fits))
+    absurd (omega (arith, refused.1, refused.2, refused.3, room.1))
 
 pub not-refused : RoomIsNotRefused
 not-refused b call what used want room refused = refused-not b call what used want (step (standing b) call) room refused

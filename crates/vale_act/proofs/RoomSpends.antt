@@ -220,10 +220,17 @@ module _ (pool : ℕ) (past : List Entry) (legal : IsLegal pool past) (number : 
 
 -- ---- turns
 
-pub outcome-of : (ask : Ask) (entry : Entry) (made : Option Outcome) → option_map (entry_of ask) made ≡ Some entry
+outcome-of : (ask : Ask) (entry : Entry) (made : Option Outcome) → option_map (entry_of ask) made ≡ Some entry
     → (out : Outcome) × (made ≡ Some out) × (entry_of ask out ≡ entry)
 outcome-of ask entry None e = absurd cc
 outcome-of ask entry (Some out) e = (out, refl, some-same (entry_of ask out) entry e)
+
+-- what holds of the entry of each outcome of a turn's ask holds of the turn's entry
+pub turn-outcome : {pool : ℕ} {h : List Entry} {user : Machine} {n : ℕ} {after : Machine} (turn : TakesTurn pool h user n after) (P : Entry → Type 0)
+    → ((out : Outcome) → step (standing_of pool (take (n - 1) h)) turn.ask ≡ Some out → P (entry_of turn.ask out)) → P turn.entry
+turn-outcome {pool} {h} {user} {n} {after} turn P each =
+    let out = outcome-of turn.ask turn.entry (step (standing_of pool (take (n - 1) h)) turn.ask) turn.made in
+    subst P out.2 (each out.0 out.1)
 
 abbrev SpendsAt : ℕ → List Entry → ℕ → Machine → Machine → Entry → Type 0
 SpendsAt pool past number user after e =
@@ -232,15 +239,12 @@ SpendsAt pool past number user after e =
 pub tidy-spends : (pool : ℕ) (h : List Entry) (user : Machine) (n : ℕ) (after : Machine) → IsLegal pool (take (n - 1) h) → AreTidy (views user.own) → AreTidy (views after.own)
     → ArePlain user.tasks → (turn : TakesTurn pool h user n after) → Spends user after turn.entry.ask turn.entry.reply
 tidy-spends pool h user n after legal tidy tidy-after plain turn =
-    subst (SpendsAt pool (take (n - 1) h) n user after) out.2 here turn.goes_on
+    turn-outcome turn (SpendsAt pool (take (n - 1) h) n user after) here turn.goes_on
   where
-    out : (o : Outcome) × (step (standing_of pool (take (n - 1) h)) turn.ask ≡ Some o) × (entry_of turn.ask o ≡ turn.entry)
-    out = outcome-of turn.ask turn.entry (step (standing_of pool (take (n - 1) h)) turn.ask) turn.made
-
-    here : SpendsAt pool (take (n - 1) h) n user after (entry_of turn.ask out.0)
-    here goes =
-        subst (λ (m : Machine). Spends user m (kept_ask turn.ask) out.0.reply) (sym goes)
-        (made-spends pool (take (n - 1) h) legal n user tidy out.0 turn.ask plain turn.asked out.1
+    here : (out : Outcome) → step (standing_of pool (take (n - 1) h)) turn.ask ≡ Some out → SpendsAt pool (take (n - 1) h) n user after (entry_of turn.ask out)
+    here out made goes =
+        subst (λ (m : Machine). Spends user m (kept_ask turn.ask) out.reply) (sym goes)
+        (made-spends pool (take (n - 1) h) legal n user tidy out turn.ask plain turn.asked made
         (subst (λ (m : Machine). AreTidy (views m.own)) goes tidy-after))
 
 pub turns-spend : TurnsSpend

@@ -119,12 +119,12 @@ module _ (pool : ℕ) (past : List Entry) (legal : IsLegal pool past) where
   Brings ask made = BringsAsMany ask made.reply (arrivals_of s ask made.reply)
 
   quiet-brings : (ask : Ask) (session : ℕ) (reply : Reply) → IsQuiet s ask session reply → Brings ask (unchanged s session reply)
+  quiet-brings ask session reply (counts at port e) = tt
   quiet-brings ask session reply (refused_open id name tx rx extra fault can refused) = tt
   quiet-brings ask session reply (resets at side fault port e can) = tt
   quiet-brings ask session reply (finds_no_peer at offered port e few none) = refl
   quiet-brings ask session reply (finds_no_target at target sides port e can none) = tt
   quiet-brings ask session reply (finds_watched at target sides port found watch e can there is) = tt
-  quiet-brings ask session reply (counts at port e) = tt
 
   receives-brings : (ask : Ask) (at : PortId) (back : List ℕ) (made : Outcome) → Receives ask at back → Brings ask made
   receives-brings ask at back made (by_sync id bufs) = tt
@@ -132,20 +132,20 @@ module _ (pool : ℕ) (past : List Entry) (legal : IsLegal pool past) where
 
   brings-kinds : EachKind s Brings
   brings-kinds = record {
+    receives = λ ask at back port receives e can. receives-brings ask at back (sync_step s back port) receives;
+    leaves = λ session can. tt;
     enters = λ user fits. tt;
     quiet = λ ask session reply quiet. quiet-brings ask session reply quiet;
     opens = λ session name tx rx extra can refusal. tt;
     sends = λ from frames port e can settled. tt;
     grants = λ origin to offer first same. tt;
     completes = λ lease lot e. tt;
-    receives = λ ask at back port receives e can. receives-brings ask at back (sync_step s back port) receives;
     puts = λ at offered items port peer e can found.
         let stands = history-stands pool past legal in
         rw (e, found) (lent-count s offered items port peer can found stands.numbered stands.held);
     watches = λ at target sides port found e can there none. tt;
     shuts = λ at port e settled. tt;
     finishes = λ at bufs chain port fits e can out. tt;
-    leaves = λ session can. tt;
   }
 
   pub brings : (ask : Ask) (made : Outcome) → step s ask ≡ Some made → Brings (kept_ask ask) made

@@ -17,7 +17,7 @@ use Rattle.vale_replay.specs.Replay.{TakesTurn, TakesTurns, entry_of}
 use Rattle.vale_act.specs.Completeness.{taken_by, call_of, taken_at, call_at, IsOpenedBy, SpendsAll, UsersSpend}
 use Rattle.vale_act.proofs.RoomViews.{View, AreBelow, below-later, seen, views, tidy-of}
 use Rattle.vale_act.proofs.RoomRests.{ArePlain, lines-left}
-use Rattle.vale_act.proofs.RoomSpends.{tidy-spends, outcome-of}
+use Rattle.vale_act.proofs.RoomSpends.{tidy-spends, turn-outcome}
 use Rattle.vale_act.proofs.RoomChains.{made-below}
 
 either : (b : Bool) (one other : List Task) → ArePlain one → ArePlain other → ArePlain (cond b one other)
@@ -52,17 +52,14 @@ BelowAt pool past number user after e =
 turn-below : (pool : ℕ) (h : List Entry) (k : ℕ) (user : Machine) (n : ℕ) (after : Machine) → AreBelow k (views user.own) → k < n → ArePlain user.tasks
     → TakesTurn pool h user n after → AreBelow n (views after.own)
 turn-below pool h k user n after below above plain turn =
-    subst (BelowAt pool (take (n - 1) h) n user after) out.2 here turn.goes_on
+    turn-outcome turn (BelowAt pool (take (n - 1) h) n user after) here turn.goes_on
   where
-    out : (o : Outcome) × (step (standing_of pool (take (n - 1) h)) turn.ask ≡ Some o) × (entry_of turn.ask o ≡ turn.entry)
-    out = outcome-of turn.ask turn.entry (step (standing_of pool (take (n - 1) h)) turn.ask) turn.made
-
-    here : BelowAt pool (take (n - 1) h) n user after (entry_of turn.ask out.0)
-    here goes =
+    here : (out : Outcome) → step (standing_of pool (take (n - 1) h)) turn.ask ≡ Some out → BelowAt pool (take (n - 1) h) n user after (entry_of turn.ask out)
+    here out made goes =
         subst (λ (m : Machine). AreBelow n (views m.own)) (sym goes)
-        (made-below pool (take (n - 1) h) k n user below above out.0 turn.ask
-        (plain-answered n (entry_of turn.ask out.0) (own_after n (entry_of turn.ask out.0) (arrivals_of (standing_of pool (take (n - 1) h)) (kept_ask turn.ask) out.0.reply) user.own) user (is_settling (kept_ask turn.ask)) plain)
-        turn.asked out.1)
+        (made-below pool (take (n - 1) h) k n user below above out turn.ask
+        (plain-answered n (entry_of turn.ask out) (own_after n (entry_of turn.ask out) (arrivals_of (standing_of pool (take (n - 1) h)) (kept_ask turn.ask) out.reply) user.own) user (is_settling (kept_ask turn.ask)) plain)
+        turn.asked made)
 
 pub record Chain (h : List Entry) (user : Machine) (ns : List ℕ) (after : Machine) (high : ℕ) : Type 0 where
   pub spends : SpendsAll h user after ns

@@ -20,6 +20,17 @@ each-rest R number before after befores afters each place old new here there =
     let same : suc place + number ≡ place + (number + 1) = omega arith in
     subst (λ (n : ℕ). R n old new) same (each (suc place) old new here there)
 
+-- what holds of two lists where it holds of each of their places, from a number on
+each-from : (R : ℕ → Seat → Seat → Type 0) (Q : ℕ → List Seat → List Seat → Type 0) → ((number : ℕ) → Q number [] [])
+    → ((number : ℕ) (before after : Seat) (befores afters : List Seat) → R number before after → Q (number + 1) befores afters → Q number (before ∷ befores) (after ∷ afters))
+    → (number : ℕ) (befores afters : List Seat) → length afters ≡ length befores → Each R number befores afters → Q number befores afters
+each-from R Q none more number [] [] len each = none number
+each-from R Q none more number [] (after ∷ afters) len each = absurd (omega (arith, len))
+each-from R Q none more number (before ∷ befores) [] len each = absurd (omega (arith, len))
+each-from R Q none more number (before ∷ befores) (after ∷ afters) len each =
+    more number before after befores afters (each-first R number before after befores afters each)
+    (each-from R Q none more (number + 1) befores afters (omega (arith, len)) (each-rest R number before after befores afters each))
+
 module _ (pool : ℕ) (records : List ℕ → List (List ℕ)) (lines : List Line) (main next : Knowing) where
   abbrev Plays : ℕ → Seat → Seat → Type 0
   Plays number before after = PlaysBlockAt pool number records lines main next before after
@@ -28,18 +39,12 @@ module _ (pool : ℕ) (records : List ℕ → List (List ℕ)) (lines : List Lin
   Replays number before after = ReplaysBlockAt pool number records lines main next before after
 
   plays-each : (number : ℕ) (befores afters : List Seat) → length afters ≡ length befores → Each Plays number befores afters → PlayBlockFrom pool number records lines main next befores afters
-  plays-each number [] [] len each = tt
-  plays-each number [] (after ∷ afters) len each = absurd (omega (arith, len))
-  plays-each number (before ∷ befores) [] len each = absurd (omega (arith, len))
-  plays-each number (before ∷ befores) (after ∷ afters) len each =
-      (each-first Plays number before after befores afters each, plays-each (number + 1) befores afters (omega (arith, len)) (each-rest Plays number before after befores afters each))
+  plays-each = each-from Plays (λ (number : ℕ) (befores afters : List Seat). PlayBlockFrom pool number records lines main next befores afters) (λ number. tt)
+      (λ number before after befores afters here rest. (here, rest))
 
   replays-each : (number : ℕ) (befores afters : List Seat) → length afters ≡ length befores → Each Replays number befores afters → ReplayBlockFrom pool number records lines main next befores afters
-  replays-each number [] [] len each = tt
-  replays-each number [] (after ∷ afters) len each = absurd (omega (arith, len))
-  replays-each number (before ∷ befores) [] len each = absurd (omega (arith, len))
-  replays-each number (before ∷ befores) (after ∷ afters) len each =
-      (each-first Replays number before after befores afters each, replays-each (number + 1) befores afters (omega (arith, len)) (each-rest Replays number before after befores afters each))
+  replays-each = each-from Replays (λ (number : ℕ) (befores afters : List Seat). ReplayBlockFrom pool number records lines main next befores afters) (λ number. tt)
+      (λ number before after befores afters here rest. (here, rest))
 
   stops-each : (number at count : ℕ) (call : Ask) (befores afters : List Seat) → length afters ≡ length befores → at < length befores
       → ((place : ℕ) (before after : Seat) → slice_get befores place ≡ Some before → slice_get afters place ≡ Some after → place < at → Plays (place + number) before after)

@@ -2,14 +2,7 @@
 use Rattle.std.proofs.Common.{◌≡◌, ℕ, ◌+◌, ◌-◌, ◌*◌, ◌^◌, ◌≤◌, max, List, [], ◌∷◌, ◌++◌, sym, ap, ◌∙◌, arith, pow-add, pow_pos}
 use Rattle.nm_turn.specs.declared.view.Share.{Share}
 use Rattle.nm_turn.specs.Shares.{IsWhole, half, weight, both_parts, deepest, total, AddUp}
-use Rattle.nm_turn.proofs.Shares.{AddUp-total, total-AddUp}
-
-weight-deeper : (d k : ℕ) (p : Share) → p.depth ≤ d → weight (d + k) p ≡ 2 ^ k * weight d p
-weight-deeper d k p le =
-    let e : (d + k) - p.depth ≡ (d - p.depth) + k = omega arith in
-    let f : 2 ^ ((d + k) - p.depth) ≡ 2 ^ (d - p.depth) * 2 ^ k = ap (λ (n : ℕ). 2 ^ n) e ∙ pow-add 2 (d - p.depth) k in
-    let x : ℕ = 2 ^ (d - p.depth) in let y : ℕ = 2 ^ k in
-    ap (λ (n : ℕ). p.share * n) f ∙ grind arith
+use Rattle.nm_turn.proofs.Shares.{weight-deeper, AddUp-total, total-AddUp}
 
 weight-half : (d : ℕ) (p : Share) → p.depth + 1 ≤ d → weight d p ≡ weight d (half p) + weight d (half p)
 weight-half d p le =

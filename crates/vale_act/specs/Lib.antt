@@ -7,3 +7,4 @@ pub mod SavedActs
 pub mod Completeness
 pub mod FewFrames
 pub mod Plays
+pub mod Words

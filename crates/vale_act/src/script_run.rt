@@ -2,23 +2,14 @@
 ghost use Rattle.std.specs.Prelude.{◌≡◌, ◌≤◌, ◌++◌, [], List, length, map, flat_map, OnOk, IfOk, IfErr};
 ghost use Rattle.std.specs.List.{AllByRecursion};
 ghost use Rattle.std.specs.Vec.{vec_capacity};
-ghost use Rattle.nm_turn.specs.Numbered.{numbered};
-ghost use Rattle.nm_turn.specs.Shares.{IsWhole};
-ghost use Rattle.vale_entry.specs.declared.entry.Entry.{Entry};
-ghost use Rattle.vale_fabric.specs.Fabrics.{IsPassIn, fixed_in, knowing};
-ghost use Rattle.vale_script.specs.Sound.{IsSound};
-ghost use Rattle.vale_captures.specs.Inputs.{name_of, frames_of};
-ghost use Rattle.vale_captures.specs.Outputs.{IsWritable};
-ghost use Rattle.vale_replay.specs.Machine.{Machine};
-ghost use Rattle.vale_replay.specs.Replay.{shares_of, user_count};
-ghost use Rattle.vale_replay.specs.Saved.{saves_of};
-ghost use Rattle.vale_player.specs.Inputs.{captures_of, names_of, records_in};
-ghost use Rattle.vale_player.specs.Kept.{AreWhole};
 ghost use Rattle.vale_act.specs.Leaving.{AllHaveLeft, CanAllLeave, CanStillLeave};
 ghost use Rattle.vale_act.specs.Outputs.{outputs_of};
 ghost use Rattle.vale_act.specs.Plays.{HasWhole, PlaysScript, IsStoppedBy};
-ghost use Rattle.vale_act.specs.Units.{knows_at};
 ghost use Rattle.vale_act.specs.Seats.{AllOn, AreSeated, IsRunnable, UnitAt, AllAre, AreSaves, IsEmpty, ScriptDone, files_in, saves_at, AreBetween, AreNew, AreStopped, IsScriptStopped, ScriptPlayed};
+ghost use Rattle.vale_act.specs.Units.{knows_at};
+ghost use Rattle.vale_act.specs.Words.{AreWhole, Entry, IsPassIn, IsSound, IsWhole, IsWritable, Machine};
+ghost use Rattle.vale_act.specs.Words.{captures_of, fixed_in, frames_of, knowing, name_of, names_of};
+ghost use Rattle.vale_act.specs.Words.{numbered, records_in, saves_of, shares_of, user_count};
 
 use crate::block_run::run_block;
 use crate::ending::close_all;

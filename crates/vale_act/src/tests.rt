@@ -29,6 +29,13 @@ const RECORD: &[u8] = b"\x11\x00\x00\x00";
 /// A user comes, and another one.
 const TWO: &[u8] = b"user a\nuser b\n";
 
+/// One entry is stored and one promised when the second user comes, which wants two.
+const FULL: StepFault = StepFault::RecordFull {
+    what: Part::Entries,
+    used: 2,
+    want: 2,
+};
+
 const WIDE: Limits = Limits {
     entries: 100,
     bytes: 1_000,
@@ -38,13 +45,6 @@ const WIDE: Limits = Limits {
 const NARROW: Limits = Limits {
     entries: 3,
     bytes: 0,
-};
-
-/// One entry is stored and one promised when the second user comes, which wants two.
-const FULL: StepFault = StepFault::RecordFull {
-    what: Part::Entries,
-    used: 2,
-    want: 2,
 };
 
 /// The script that these bytes are, which plays no captures.

@@ -4,7 +4,7 @@ mod steps;
 
 use crate::Drive;
 use nm_types::{Limits, Part, SessionId, StepFault};
-use rows::ROWS;
+use rows::{Asks, ROWS};
 use std::alloc::Global;
 use std::process::Abort;
 use steps::{Answer, Step, answer_of, ask_of};
@@ -30,21 +30,21 @@ fn answered(rt: &impl Abort, alloc: Global, drive: &mut Drive, step: Step) -> An
     }
 }
 
-/// Makes asks, each of which is answered so, closes the drive and counts the entries.
-fn ended(rt: &impl Abort, alloc: Global, pool: u32, steps: &[(Step, Answer)]) -> u32 {
-    let mut drive = fresh(rt, alloc, pool, Limits::VERSION_1);
-    for (step, answer) in steps {
-        let found = answered(rt, alloc, &mut drive, *step);
+/// Makes asks, each of which is answered so.
+fn play(rt: &impl Abort, alloc: Global, drive: &mut Drive, asks: Asks) {
+    for (step, answer) in asks {
+        let found = answered(rt, alloc, drive, *step);
         assert_eq!(rt; found, *answer);
     }
-    drive.close().len()
 }
 
 #[test]
 fn rows_are_answered(rt: HostRuntime) {
-    for (pool, steps, count) in ROWS {
-        let found = ended(&rt, rt.alloc(), *pool, *steps);
-        assert_eq!(rt; found, *count);
+    for (pool, before, asks, entries) in ROWS {
+        let mut drive = fresh(&rt, rt.alloc(), *pool, Limits::VERSION_1);
+        play(&rt, rt.alloc(), &mut drive, *before);
+        play(&rt, rt.alloc(), &mut drive, *asks);
+        assert_eq!(rt; drive.close().len(), *entries);
     }
 }
 

@@ -22,12 +22,12 @@ pub queue-still :
 queue-still id count there later queued now given read unread alive same q =
     rw (append-nil given, append-nil read, append-nil unread, same) (record {
       left = q.left;
+      future = λ above. q.future (omega (arith, above));
       parts = q.parts;
+      alive = alive;
       counted = q.counted;
       once = q.once;
       none = q.none;
-      alive = alive;
-      future = λ above. q.future (omega (arith, above));
     })
 
 pub queue-grants :

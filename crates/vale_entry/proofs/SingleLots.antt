@@ -199,6 +199,7 @@ single_finish s bufs port single = λ k.
 single_kinds : (s : Standing) → Numbered s → Single s → EachKind s (λ ask made. SingleNext made)
 single_kinds s n single = record {
   enters = λ user fits. single;
+  leaves = λ session can. single;
   quiet = λ ask session reply quiet. single;
   opens = λ session name tx rx extra can refusal. single_open s session.0 name tx rx extra single;
   sends = λ from frames port e can settled. single;
@@ -209,7 +210,6 @@ single_kinds s n single = record {
   watches = λ at target sides port found e can there none. single;
   shuts = λ at port e settled. single_shut s port single;
   finishes = λ at bufs chain port fits e can out. single_finish s bufs port single;
-  leaves = λ session can. single;
 }
 
 pub single_entry : (s : Standing) (e : Entry) → Numbered s → Single s → Single (after s e)

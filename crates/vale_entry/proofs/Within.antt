@@ -170,14 +170,8 @@ pub record IsUnder (bound : ℕ) (c : Counts) : Type 0 where
 
 under-zero : (bound : ℕ) → IsUnder bound zero_counts
 under-zero bound =
-    record {
-      sent = omega arith;
-      short = omega arith;
-      lone = omega arith;
-      given = omega arith;
-      full = omega arith;
-      read = omega arith;
-    }
+    let low : 0 ≤ bound = omega arith in
+    record { sent = low; short = low; lone = low; given = low; full = low; read = low }
 
 under-sum :
     (one two : ℕ) (c more : Counts) → IsUnder one c → IsUnder two more

@@ -156,8 +156,8 @@ at-found : {X : Type 0} (f : X → Own) (own made : Own) (found : Option X) (x :
 at-found f own made found x e is = rw e is
 
 quiet-makes : (s : Standing) (ask : Ask) (by : ℕ) (reply : Reply) → IsQuiet s ask by reply → Makes s ask (unchanged s by reply)
-quiet-makes s ask by reply (refused_open session name tx rx extra fault can e) = refl
 quiet-makes s ask by reply (resets at side fault port e can) = refl
+quiet-makes s ask by reply (refused_open session name tx rx extra fault can e) = refl
 quiet-makes s ask by reply (finds_no_peer at offered port e few none) = refl
 quiet-makes s ask by reply (finds_no_target at target sides port e can none) = refl
 quiet-makes s ask by reply (finds_watched at target sides port found watch e can there some) = refl

@@ -20,19 +20,22 @@ opened session name = entry session (opening session name 4 4) Opened
 abbrev port_seen : ℕ → ℕ → List ℕ → ℕ → Port
 port_seen id session name out = record { id = id; session = session; name = name; tx = 4; rx = 4; extra = 0; shutting = false; out = out; line = [] }
 
--- The first session sends a frame that the second one's port wants, grants it and fills it; the second
--- one reads it after that, or shuts its port before.
-abbrev start : List Entry
-start =
-    entry 1 (Enter 1) Made
-    ∷ entry 2 (Enter 2) Made
-    ∷ opened 1 (codes "vale0:a")
-    ∷ opened 2 (codes "vale0:b")
-    ∷ entry 1 (Send (port 3) (frame_f ∷ [])) (Offered 0 0 (dest 4 1 ∷ []))
-    ∷ entry 1 (Grant 5 (port 4)) (Shared 1 0 0)
+-- two sessions come, and each opens a port
+abbrev come : List ℕ → List ℕ → List Entry
+come one two = entry 1 (Enter 1) Made ∷ entry 2 (Enter 2) Made ∷ opened 1 one ∷ opened 2 two ∷ []
+
+-- The first session sends a frame that the second one's port wants.
+abbrev pub sent : List Entry
+sent =
+    come (codes "vale0:a") (codes "vale0:b")
+    ++ entry 1 (Send (port 3) (frame_f ∷ [])) (Offered 0 0 (dest 4 1 ∷ []))
     ∷ []
 
-abbrev run : List Entry
+-- It grants the frame and fills it; the second one reads it after that, or shuts its port before.
+abbrev start : List Entry
+start = sent ++ entry 1 (Grant 5 (port 4)) (Shared 1 0 0) ∷ []
+
+abbrev pub run : List Entry
 run =
     start
     ++ entry 1 (completes 6) Made
@@ -61,52 +64,32 @@ came : own_at 2 2 ≡ record { there = true; ports = []; offers = []; leases = [
 came = refl
 
 -- each has its port and the buffers of its transmit slots
-first_opened : own_at 1 4 ≡ first_own
+both_opened : (own_at 1 4 ≡ first_own) × (own_at 2 4 ≡ second_own)
 unfolding is_name is_switch_port_name is_pipe_name is_monitor_name switch_of peer_name
-first_opened = refl
-
-second_opened : own_at 2 4 ≡ second_own
-unfolding is_name is_switch_port_name is_pipe_name is_monitor_name switch_of peer_name
-second_opened = refl
+both_opened = (refl, refl)
 
 -- an offer is the sender's
-offered : own_at 1 5 ≡ record first_own { offers = record { origin = 5; session = 1; to = 4; frames = frame_f ∷ [] } ∷ [] }
+offered : (own_at 1 5 ≡ record first_own { offers = record { origin = 5; session = 1; to = 4; frames = frame_f ∷ [] } ∷ [] }) × (own_at 2 5 ≡ second_own)
 unfolding is_name is_switch_port_name is_pipe_name is_monitor_name switch_of peer_name
-offered = refl
-
-not_offered : own_at 2 5 ≡ second_own
-unfolding is_name is_switch_port_name is_pipe_name is_monitor_name switch_of peer_name
-not_offered = refl
+offered = (refl, refl)
 
 -- a lease is the sender's, with the first idle buffer of the other's port, at which it is queued
 abbrev lease_6 : HeldLot
 lease_6 = (record { number = 6; session = 1; frames = frame_f ∷ []; is_done = false }, 14 ∷ [])
 
-leased : own_at 1 6 ≡ record first_own { leases = lease_6 ∷ [] }
+leased : (own_at 1 6 ≡ record first_own { leases = lease_6 ∷ [] }) × (own_at 2 6 ≡ second_own)
 unfolding is_name is_switch_port_name is_pipe_name is_monitor_name switch_of peer_name
-leased = refl
-
-queued_by_other : own_at 2 6 ≡ second_own
-unfolding is_name is_switch_port_name is_pipe_name is_monitor_name switch_of peer_name
-queued_by_other = refl
+leased = (refl, refl)
 
 -- once it is done nobody has it
-done : own_at 1 7 ≡ first_own
+done : (own_at 1 7 ≡ first_own) × (own_at 2 7 ≡ second_own)
 unfolding is_name is_switch_port_name is_pipe_name is_monitor_name switch_of peer_name
-done = refl
-
-done_by_other : own_at 2 7 ≡ second_own
-unfolding is_name is_switch_port_name is_pipe_name is_monitor_name switch_of peer_name
-done_by_other = refl
+done = (refl, refl)
 
 -- what is read is out, and its buffer is the reader's
-read : own_at 2 8 ≡ record second_own { ports = port_seen 4 2 (codes "vale0:b") 1 ∷ []; buffers = 10 ∷ 11 ∷ 12 ∷ 13 ∷ 14 ∷ [] }
+read : (own_at 2 8 ≡ record second_own { ports = port_seen 4 2 (codes "vale0:b") 1 ∷ []; buffers = 10 ∷ 11 ∷ 12 ∷ 13 ∷ 14 ∷ [] }) × (own_at 1 8 ≡ first_own)
 unfolding is_name is_switch_port_name is_pipe_name is_monitor_name switch_of peer_name
-read = refl
-
-read_by_other : own_at 1 8 ≡ first_own
-unfolding is_name is_switch_port_name is_pipe_name is_monitor_name switch_of peer_name
-read_by_other = refl
+read = (refl, refl)
 
 brought_back : own_at 2 9 ≡ second_own
 unfolding is_name is_switch_port_name is_pipe_name is_monitor_name switch_of peer_name
@@ -178,11 +161,8 @@ enter_of_nobody = refl
 -- of the other's own changes until it reads.
 abbrev pipe_run : List Entry
 pipe_run =
-    entry 1 (Enter 1) Made
-    ∷ entry 2 (Enter 2) Made
-    ∷ opened 1 (codes "pipe0{")
-    ∷ opened 2 (codes "pipe0}")
-    ∷ entry 1 (PutKept (port 3) 1) (Took (item 2 frame_f.bytes ∷ []) [])
+    come (codes "pipe0{") (codes "pipe0}")
+    ++ entry 1 (PutKept (port 3) 1) (Took (item 2 frame_f.bytes ∷ []) [])
     ∷ []
 
 pipe_run-legal : IsLegal 64 pipe_run

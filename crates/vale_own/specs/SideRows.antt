@@ -1,33 +1,26 @@
 -- Worked examples of a session's own side, as theorems about the definitions: a pool of 64 buffers, and
 -- two sessions with a port of 4 and 4 slots each. The first sends a frame that the second one reads,
 -- gives back, and then closes its port.
-use Rattle.std.specs.Prelude.{ℕ, ◌≡◌, ◌-◌, true, List, [], ◌∷◌, take, map, slice_get, codes, Option, Some, None, option_map, refl}
+use Rattle.std.specs.Prelude.{ℕ, ◌≡◌, ◌-◌, true, List, [], ◌∷◌, ◌++◌, take, map, slice_get, Option, Some, None, option_map, refl}
 use Rattle.nm_types.specs.Names.{is_name, is_switch_port_name, is_pipe_name, is_monitor_name, switch_of, peer_name}
 use Rattle.nm_types.specs.OwnPorts.{OwnState, empty_own, port_with_id}
 use Rattle.nm_types.specs.OwnEdits.{with_all_back}
-use Rattle.vale_entry.specs.declared.entry.Ask.TheVariants.{Enter, Send, Grant, Sync, Shut, Finish}
+use Rattle.vale_entry.specs.declared.entry.Ask.TheVariants.{Sync, Shut, Finish}
 use Rattle.vale_entry.specs.declared.entry.Entry.{Entry}
-use Rattle.vale_entry.specs.declared.entry.Reply.TheVariants.{Made, Opened, Offered, Shared, Gave, Unread}
+use Rattle.vale_entry.specs.declared.entry.Reply.TheVariants.{Made, Unread}
 use Rattle.vale_entry.specs.Arrivals.{arrivals_of}
 use Rattle.vale_entry.specs.OwnCalls.{rx_call, finish_call, own_after}
-use Rattle.vale_entry.specs.RowWords.{entry, port, opening, completes, dest, no_chain, frame_f}
+use Rattle.vale_entry.specs.RowWords.{entry, port, no_chain}
 use Rattle.vale_entry.specs.Legal.{standing_of}
 use Rattle.vale_own.specs.Own.{Own, own_of}
 use Rattle.vale_own.specs.OwnAsks.{may_ask}
+use Rattle.vale_own.specs.Rows.{run as read_run}
 use Rattle.vale_own.specs.Side.{buffers_on, port_of_side}
 
 abbrev run : List Entry
 run =
-    entry 1 (Enter 1) Made
-    ∷ entry 2 (Enter 2) Made
-    ∷ entry 1 (opening 1 (codes "vale0:a") 4 4) Opened
-    ∷ entry 2 (opening 2 (codes "vale0:b") 4 4) Opened
-    ∷ entry 1 (Send (port 3) (frame_f ∷ [])) (Offered 0 0 (dest 4 1 ∷ []))
-    ∷ entry 1 (Grant 5 (port 4)) (Shared 1 0 0)
-    ∷ entry 1 (completes 6) Made
-    ∷ entry 2 (Sync (port 4) []) (Gave 1 [])
-    ∷ entry 2 (Sync (port 4) (14 ∷ [])) (Gave 0 [])
-    ∷ entry 2 (Shut (port 4)) Made
+    read_run
+    ++ entry 2 (Shut (port 4)) Made
     ∷ entry 2 (Finish (port 4) (10 ∷ 11 ∷ 12 ∷ 13 ∷ []) no_chain) (Unread 0)
     ∷ []
 
@@ -53,21 +46,13 @@ abbrev given_back : OwnState
 given_back = side_after 9 (with_all_back 4 read)
 
 -- the ports are those that stand, and so are the buffers
-opened_ports : (own_at 4).ports ≡ map (port_of_side 2 None) opened.ports
+opened_seen : ((own_at 4).ports ≡ map (port_of_side 2 None) opened.ports) × (buffers_on opened ≡ (own_at 4).buffers)
 unfolding is_name is_switch_port_name is_pipe_name is_monitor_name switch_of peer_name
-opened_ports = refl
+opened_seen = (refl, refl)
 
-opened_buffers : buffers_on opened ≡ (own_at 4).buffers
+read_seen : ((own_at 8).ports ≡ map (port_of_side 2 None) read.ports) × (buffers_on read ≡ 10 ∷ 11 ∷ 12 ∷ 13 ∷ 14 ∷ [])
 unfolding is_name is_switch_port_name is_pipe_name is_monitor_name switch_of peer_name
-opened_buffers = refl
-
-read_ports : (own_at 8).ports ≡ map (port_of_side 2 None) read.ports
-unfolding is_name is_switch_port_name is_pipe_name is_monitor_name switch_of peer_name
-read_ports = refl
-
-read_buffers : buffers_on read ≡ 10 ∷ 11 ∷ 12 ∷ 13 ∷ 14 ∷ []
-unfolding is_name is_switch_port_name is_pipe_name is_monitor_name switch_of peer_name
-read_buffers = refl
+read_seen = (refl, refl)
 
 -- the call that gives back is the one that the entry has, and may be asked
 back_is_called : option_map (rx_call (with_all_back 4 read)) (port_with_id (with_all_back 4 read) 4) ≡ Some (Sync (port 4) (14 ∷ []))
@@ -78,13 +63,9 @@ back_is_asked : may_ask 2 (own_at 8) (Sync (port 4) (14 ∷ [])) ≡ true
 unfolding is_name is_switch_port_name is_pipe_name is_monitor_name switch_of peer_name
 back_is_asked = refl
 
-back_ports : (own_at 9).ports ≡ map (port_of_side 2 None) given_back.ports
+back_seen : ((own_at 9).ports ≡ map (port_of_side 2 None) given_back.ports) × (buffers_on given_back ≡ (own_at 9).buffers)
 unfolding is_name is_switch_port_name is_pipe_name is_monitor_name switch_of peer_name
-back_ports = refl
-
-back_buffers : buffers_on given_back ≡ (own_at 9).buffers
-unfolding is_name is_switch_port_name is_pipe_name is_monitor_name switch_of peer_name
-back_buffers = refl
+back_seen = (refl, refl)
 
 -- a port that is shut stands still, and its detach names the buffers in its places
 shut_ports : (own_at 10).ports ≡ map (port_of_side 2 (Some 4)) given_back.ports

@@ -2,18 +2,17 @@
 //! definitions, which the check proves.
 #![tactic(auto, using(crate::proofs::OwnLaws::own_laws))]
 
-ghost use Rattle.vale_own.specs.Laws.{AskersMakeSteps, AsksStay, BuffersAreDue};
-ghost use Rattle.vale_own.specs.Laws.{BuffersAreMoved, BuffersGoAndCome, EntriesAreOfAskers};
-ghost use Rattle.vale_own.specs.Laws.{EntriesHaveOneAsker, FirstLeasesAreOwn};
-ghost use Rattle.vale_own.specs.Laws.{FirstOffersAreOwn, GrantsGoByPort, LeasesHoldFrames};
-ghost use Rattle.vale_own.specs.Laws.{OffersLeftAreOwn, OwnBuffersAreApart};
-ghost use Rattle.vale_own.specs.Laws.{OwnEntriesChangeOwn, OwnIsKept, OwnTellsAsks};
-ghost use Rattle.vale_own.specs.Laws.{SettledIsOwn, ThereIsCome};
-ghost use Rattle.vale_own.specs.SideAsks.{CallsAreOwn, CallsKeepSide, FinishesAreOfSide};
-ghost use Rattle.vale_own.specs.SideAsks.{FinishMayBeAsked, LeaveMayBeAsked, OpenMayBeAsked};
-ghost use Rattle.vale_own.specs.SideAsks.{ReceivesAreOfSide, RefusalsFit, TransmitsAreOfSide};
-ghost use Rattle.vale_own.specs.SideAsks.{ReceiveMayBeAsked, ShutMayBeAsked, StatMayBeAsked};
-ghost use Rattle.vale_own.specs.SideAsks.{TransmitMayBeAsked, WatchMayBeAsked};
+ghost use Rattle.vale_own.specs.Laws.{AskersMakeSteps, AsksStay, BuffersAreDue, BuffersAreMoved};
+ghost use Rattle.vale_own.specs.Laws.{BuffersGoAndCome, EntriesAreOfAskers, EntriesHaveOneAsker};
+ghost use Rattle.vale_own.specs.Laws.{FirstLeasesAreOwn, FirstOffersAreOwn, GrantsGoByPort};
+ghost use Rattle.vale_own.specs.Laws.{LeasesHoldFrames, OffersLeftAreOwn, OwnBuffersAreApart};
+ghost use Rattle.vale_own.specs.Laws.{OwnEntriesChangeOwn, OwnIsKept, OwnTellsAsks, SettledIsOwn};
+ghost use Rattle.vale_own.specs.Laws.{ThereIsCome};
+ghost use Rattle.vale_own.specs.SideAsks.{CallsAreOwn, CallsKeepSide, FinishMayBeAsked};
+ghost use Rattle.vale_own.specs.SideAsks.{FinishesAreOfSide, LeaveMayBeAsked, OpenMayBeAsked};
+ghost use Rattle.vale_own.specs.SideAsks.{ReceiveMayBeAsked, ReceivesAreOfSide, RefusalsFit};
+ghost use Rattle.vale_own.specs.SideAsks.{ShutMayBeAsked, StatMayBeAsked, TransmitMayBeAsked};
+ghost use Rattle.vale_own.specs.SideAsks.{TransmitsAreOfSide, WatchMayBeAsked};
 ghost use Rattle.vale_own.specs.SideEdits.{EditsKeepSides};
 ghost use Rattle.vale_own.specs.SideLaws.{ArrivalsAreApart, ArrivalsAreAsMany, BuffersComeNew};
 ghost use Rattle.vale_own.specs.SideLaws.{OthersKeepSide, SideBegins, SideIsKept};

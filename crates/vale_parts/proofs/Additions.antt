@@ -46,34 +46,16 @@ one_fits w ask reply tally id more all counted c e = subst (SumFits c) (counted 
 
 -- a part of what fits
 first_fits : (c one two : Counts) → SumFits c (sum_of_counts one two) → SumFits c one
-first_fits c one two all = record {
-  sent = (let x = all.sent in omega (arith, x));
-  short = (let x = all.short in omega (arith, x));
-  lone = (let x = all.lone in omega (arith, x));
-  given = (let x = all.given in omega (arith, x));
-  full = (let x = all.full in omega (arith, x));
-  read = (let x = all.read in omega (arith, x));
-}
+first_fits c one two all = record
+    { sent = omega (arith, all.sent); short = omega (arith, all.short); lone = omega (arith, all.lone); given = omega (arith, all.given); full = omega (arith, all.full); read = omega (arith, all.read) }
 
 last_fits : (c one two : Counts) → SumFits c (sum_of_counts one two) → SumFits (sum_of_counts c one) two
-last_fits c one two all = record {
-  sent = (let x = all.sent in omega (arith, x));
-  short = (let x = all.short in omega (arith, x));
-  lone = (let x = all.lone in omega (arith, x));
-  given = (let x = all.given in omega (arith, x));
-  full = (let x = all.full in omega (arith, x));
-  read = (let x = all.read in omega (arith, x));
-}
+last_fits c one two all = record
+    { sent = omega (arith, all.sent); short = omega (arith, all.short); lone = omega (arith, all.lone); given = omega (arith, all.given); full = omega (arith, all.full); read = omega (arith, all.read) }
 
 two_fits : (c one two : Counts) → SumFits c (sum_of_counts one two) → SumFits c two
-two_fits c one two all = record {
-  sent = (let x = all.sent in omega (arith, x));
-  short = (let x = all.short in omega (arith, x));
-  lone = (let x = all.lone in omega (arith, x));
-  given = (let x = all.given in omega (arith, x));
-  full = (let x = all.full in omega (arith, x));
-  read = (let x = all.read in omega (arith, x));
-}
+two_fits c one two all = record
+    { sent = omega (arith, all.sent); short = omega (arith, all.short); lone = omega (arith, all.lone); given = omega (arith, all.given); full = omega (arith, all.full); read = omega (arith, all.read) }
 
 if_fits : (b : Bool) (c d put taken : Counts) → SumFits c (sum_of_counts (counts_if b put) taken) → cond b (sum_of_counts c put) c ≡ d → SumFits d taken
 if_fits true c d put taken all same = subst (λ (x : Counts). SumFits x taken) same (last_fits c put taken all)

@@ -275,17 +275,17 @@ module _ (s : Standing) (state next : PoolState) where
 
   sized_kinds : EachKind s (Left s Sized)
   sized_kinds = record {
-    enters = λ user fits is. same_size is;
-    quiet = λ ask session reply quiet is. same_size (quiet_pool s state next ask session reply quiet is);
     opens = λ session name tx rx extra can refusal is. ap (λ (p : PoolState). p.buffers) is;
+    quiet = λ ask session reply quiet is. same_size (quiet_pool s state next ask session reply quiet is);
+    receives = λ ask at back port receives e can is. same_size (read_pool s.holdings state next ask at back (sync_step s back port).reply receives is);
+    finishes = λ at bufs chain port fits e can out is. back_size (buffers_of_port at.0 s.holdings.ports ++ bufs) is;
+    enters = λ user fits is. same_size is;
     sends = λ from frames port e can settled is. same_size is;
     grants = λ origin to offer first same is. same_size is;
     completes = λ lease lot e is. same_size is;
-    receives = λ ask at back port receives e can is. same_size (read_pool s.holdings state next ask at back (sync_step s back port).reply receives is);
     puts = λ at offered items port peer e can found is. same_size is;
     watches = λ at target sides port found e can there none is. same_size is;
     shuts = λ at port e settled is. same_size is;
-    finishes = λ at bufs chain port fits e can out is. back_size (buffers_of_port at.0 s.holdings.ports ++ bufs) is;
     leaves = λ session can is. same_size is;
   }
 

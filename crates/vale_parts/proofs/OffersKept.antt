@@ -117,12 +117,12 @@ module _ (s : Standing) (n : Numbered s) where
   at_port make found port e = sym (ap (λ (o : Option Port). option_map_or make o []) e)
 
   quiet_started : (ask : Ask) (session : ℕ) (reply : Reply) → IsQuiet s ask session reply → offers_at w (w.entry_count + 1) ≡ offers_started w ask reply
+  quiet_started _ _ _ (counts at port e) = none_new
   quiet_started _ _ _ (refused_open session name tx rx extra fault can e) = none_new
   quiet_started _ _ _ (resets at side fault port e can) = none_new
   quiet_started _ _ _ (finds_no_peer at offered port e few gone) = none_new
   quiet_started _ _ _ (finds_no_target at target sides port e can none) = none_new
   quiet_started _ _ _ (finds_watched at target sides port found watch e can there some) = none_new
-  quiet_started _ _ _ (counts at port e) = none_new
 
   read_started : (ask : Ask) (at : PortId) (back : List ℕ) (reply : Reply) (port : Port) → Receives ask at back → open_port w.ports at.0 ≡ Some port
       → filter (is_offer_of (w.entry_count + 1)) (w.offers ++ offers_of_sync w port) ≡ offers_started w ask reply
@@ -134,6 +134,7 @@ module _ (s : Standing) (n : Numbered s) where
   started_kinds : EachKind s (Left s Started)
   started_kinds = record {
     enters = λ user fits. none_new;
+    leaves = λ session can. none_new;
     quiet = quiet_started;
     opens = λ session name tx rx extra can refusal. none_new;
     sends = λ from frames port e can settled.
@@ -148,7 +149,6 @@ module _ (s : Standing) (n : Numbered s) where
     watches = λ at target sides port found e can there none. none_new;
     shuts = λ at port e settled. none_new;
     finishes = λ at bufs chain port fits e can out. none_new;
-    leaves = λ session can. none_new;
   }
 
   pub started : (e : Entry) → Follows s e → Started e (after s e)
@@ -185,8 +185,8 @@ module _ (s : Standing) (n : Numbered s) where
         subst (AreOffersOf frames (cond (from == origin) (drop 1 wants) wants)) (sym left) (granted_by (from == origin))
 
     quiet_kept : (ask : Ask) (session : ℕ) (reply : Reply) → IsQuiet s ask session reply → OffersAre w origin frames (wants_after origin ask wants)
-    quiet_kept _ _ _ (refused_open session name tx rx extra fault can e) = are
     quiet_kept _ _ _ (resets at side fault port e can) = are
+    quiet_kept _ _ _ (refused_open session name tx rx extra fault can e) = are
     quiet_kept _ _ _ (finds_no_peer at offered port e few gone) = are
     quiet_kept _ _ _ (finds_no_target at target sides port e can none) = are
     quiet_kept _ _ _ (finds_watched at target sides port found watch e can there some) = are

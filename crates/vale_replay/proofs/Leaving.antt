@@ -232,12 +232,12 @@ users-left program captures h users played i u at =
 
 -- What is left then.
 
-no-members : (sessions : List ℕ) → ((x : ℕ) → list_any (λ (k : ℕ). k == x) sessions ≡ true → ⊥) → sessions ≡ []
+pub no-members : (sessions : List ℕ) → ((x : ℕ) → list_any (λ (k : ℕ). k == x) sessions ≡ true → ⊥) → sessions ≡ []
 no-members [] none = refl
 no-members (x ∷ sessions) none =
     absurd (none x (ap (λ (b : Bool). b || list_any (λ (k : ℕ). k == x) sessions) (eq-eqb x x refl)))
 
-no-ports : (sessions : List ℕ) (ports : List Port) → sessions ≡ [] → AllByRecursion (IsPortOf sessions) ports → ports ≡ []
+pub no-ports : (sessions : List ℕ) (ports : List Port) → sessions ≡ [] → AllByRecursion (IsPortOf sessions) ports → ports ≡ []
 no-ports sessions [] none owned = refl
 no-ports sessions (p ∷ ports) none owned =
     let there : list_any (λ (s : ℕ). s == p.session) [] ≡ true = subst (λ (ss : List ℕ). list_any (λ (s : ℕ). s == p.session) ss ≡ true) none owned.0 in

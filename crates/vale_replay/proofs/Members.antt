@@ -198,9 +198,9 @@ has-there R users share shares ns lists b away m = by_here (cases_Bool (place_of
           place = m.place;
           share = m.share;
           before = m.before;
+          goes = subst (λ (ms : List ℕ). R m.share m.before ms m.after) numbers m.goes;
           after = m.after;
           here = m.here;
-          goes = subst (λ (ms : List ℕ). R m.share m.before ms m.after) numbers m.goes;
           some = subst (λ (ms : List ℕ). 1 ≤ count_of b ms) numbers m.some;
         }
 

@@ -267,10 +267,10 @@ on-its-way program captures h user call lines comes =
       count = r.count;
       share = at.share;
       there = at.there;
-      between = r.users;
-      from = r.first;
       units = alone-units program.pool h (users_of program) 0 (take r.count (shares_in program captures)) r.users r.first
           (subst (λ (us : List ScriptUnit). ReplaysUnits program.pool h (users_of program) 0 us r.users r.first) taken r.units);
+      between = r.users;
+      from = r.first;
       before = so_far.before;
       here = so_far.here;
       within = r.forward;

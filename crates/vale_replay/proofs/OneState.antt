@@ -416,10 +416,10 @@ comes-calls program captures h user call comes =
       afters = r.afters;
       forward = r.forward;
       split = r.split;
+      here = s.at ∙ ap (λ (m : Machine). Some m) now;
       each = r.replays;
       place = s.order;
       now = comes.now;
-      here = s.at ∙ ap (λ (m : Machine). Some m) now;
       call = call;
       called = comes.called;
     }

@@ -76,12 +76,12 @@ reach-cut program captures h n count unit users first lists afters last files th
   record {
     files = files;
     count = count;
+    forward = subst (λ (k : ℕ). first ≤ k) (sym total) low;
     unit = unit;
     there = there;
     users = users;
     first = first;
     units = units-cut program.pool h (users_of program) 0 (take count (units_of program captures)) users first n low units;
-    forward = subst (λ (k : ℕ). first ≤ k) (sym total) low;
     lists = map (up_to n) lists;
     afters = cut.nows;
     split = subst (λ (k : ℕ). AreSplit first k (map (up_to n) lists)) (sym total) (split-cut program.pool h users unit n lists afters first last each low high split);

@@ -63,11 +63,11 @@ alone pool h users first share next last r =
     record {
       before = a.before;
       after = a.after;
+      others = r.others ∙ ap (λ (ms : List Machine). with_afters (share ∷ []) ms users) a.afters_are;
       here = a.here;
       forward = r.forward;
       turns = a.turns;
       ended = ended.0;
-      others = r.others ∙ ap (λ (ms : List Machine). with_afters (share ∷ []) ms users) a.afters_are;
     }
 
 -- units of one user each, one after another

@@ -1,27 +1,24 @@
 -- A worked block of two users, as theorems that hold by computation: the second one reads between the
 -- first one's send and its grant, and so gets nothing. Each user's turns are told by its own numbers.
-use Rattle.std.specs.Prelude.{ℕ, false, ◌+◌, ◌-◌, List, [], ◌∷◌, take, slice_get, codes, Option, Some, None, refl}
+use Rattle.std.specs.Prelude.{ℕ, false, ◌+◌, ◌-◌, ◌++◌, List, [], ◌∷◌, take, slice_get, codes, Option, Some, None, refl}
 use Rattle.nm_types.specs.OwnPorts.{empty_own}
 use Rattle.nm_types.specs.Names.{is_name, is_switch_port_name, is_pipe_name, is_monitor_name, switch_of, peer_name}
 use Rattle.vale_script.specs.declared.script.Act.{Act}
 use Rattle.vale_script.specs.declared.script.Act.TheVariants as acts
-use Rattle.vale_entry.specs.declared.entry.Ask.TheVariants.{Enter, Send, Grant, Sync}
+use Rattle.vale_entry.specs.declared.entry.Ask.TheVariants.{Send, Grant, Sync}
 use Rattle.vale_entry.specs.declared.entry.Entry.{Entry}
-use Rattle.vale_entry.specs.declared.entry.Reply.TheVariants.{Made, Opened, Offered, Shared, Gave}
+use Rattle.vale_entry.specs.declared.entry.Reply.TheVariants.{Made, Offered, Shared, Gave}
 use Rattle.vale_entry.specs.Arrivals.{arrivals_of}
 use Rattle.vale_entry.specs.OwnCalls.{own_after}
-use Rattle.vale_entry.specs.RowWords.{entry, port, session, opening, completes, dest, frame_f}
+use Rattle.vale_entry.specs.RowWords.{entry, port, session, completes, dest, frame_f}
+use Rattle.vale_own.specs.Rows.{sent}
 use Rattle.vale_replay.specs.Machine.{Machine, answered, resting}
 use Rattle.vale_replay.specs.Replay.{TakesTurns, NeedsNoCall, share_of, standing_before, starting}
 
 abbrev block_history : List Entry
 block_history =
-    entry 1 (Enter 1) Made
-    ∷ entry 2 (Enter 2) Made
-    ∷ entry 1 (opening 1 (codes "vale0:a") 4 4) Opened
-    ∷ entry 2 (opening 2 (codes "vale0:b") 4 4) Opened
-    ∷ entry 1 (Send (port 3) (frame_f ∷ [])) (Offered 0 0 (dest 4 1 ∷ []))
-    ∷ entry 2 (Sync (port 4) []) (Gave 0 [])
+    sent
+    ++ entry 2 (Sync (port 4) []) (Gave 0 [])
     ∷ entry 1 (Grant 5 (port 4)) (Shared 1 0 0)
     ∷ entry 1 (completes 7) Made
     ∷ []

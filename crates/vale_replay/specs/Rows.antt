@@ -6,7 +6,7 @@ use Rattle.nm_types.specs.Names.{is_name, is_switch_port_name, is_pipe_name, is_
 use Rattle.vale_entry.specs.Transcript.{transcript_text, start_line, end_line}
 use Rattle.vale_script.specs.Grammar.{Fault, script_of}
 use Rattle.vale_script.specs.Forms.{verb_of}
-use Rattle.vale_script.specs.Words.{number_in, text_of, port_name, is_hex_byte, is_digits, frame_bytes, is_mac, mac_of}
+use Rattle.vale_words.specs.Words.{number_in, text_of, port_name, is_hex_byte, is_digits, frame_bytes, is_mac, mac_of}
 use Rattle.vale_script.specs.Script.{Program}
 use Rattle.vale_replay.specs.Saved.{SavedFile, saved_files}
 use Rattle.vale_replay.specs.Walk.{Stage, walk}

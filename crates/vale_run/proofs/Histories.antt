@@ -168,12 +168,12 @@ module _ (limits : Limits) (fixed : Fixed) (program : Program) (played : List In
         region = fixed.region;
         roomy = roomy;
         before = s.count;
+        refused = refusal-of (RecordFull part used want) s;
         user = s.user;
         call = s.call;
         stopped = s.stopped;
         used = used;
         want = want;
-        refused = refusal-of (RecordFull part used want) s;
         counted = refl;
       }
 

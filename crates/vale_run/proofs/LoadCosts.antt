@@ -63,13 +63,7 @@ acts-cost [] light = record { frames_are = omega arith; calls_are = omega arith;
 acts-cost (act ∷ acts) light =
     let all = cost-append frames_of_task calls_of_task IsPlainTask (tasks_of_line records act) (tasks_of_lines records acts) 1 3 (length acts)
     (3 * length acts) light.0 (acts-cost acts light.1) in
-    let frames = all.frames_are in
-    let calls = all.calls_are in
-    record {
-      frames_are = omega (arith, frames);
-      calls_are = omega (arith, calls);
-      plain = all.plain;
-    }
+    record { frames_are = omega (arith, all.frames_are); calls_are = omega (arith, all.calls_are); plain = all.plain }
 
 share-costed : (user : ℕ) (acts : List Act) → Each IsLight acts
     → IsCosted (share_of records user acts)
@@ -257,13 +251,7 @@ module _ (lines : List Line) (most : ℕ) (acts : (user : ℕ) → UserActs (act
         plain = (share-costed user (acts_of lines user) own.light, rest.plain);
       }
   with-share user others frames calls false rest =
-      let c = rest.frames_are in
-      let d = rest.calls_are in
-      record {
-        frames_are = omega (arith, c);
-        calls_are = omega (arith, d);
-        plain = rest.plain;
-      }
+      record { frames_are = omega (arith, rest.frames_are); calls_are = omega (arith, rest.calls_are); plain = rest.plain }
 
   shares-cost : (us : List ℕ)
       → SharesCost (map share (filter (has_line lines) us)) (length us * most)

@@ -46,12 +46,12 @@ module _ (files new : Option Files) (first_reads reads now_reads first_appends a
   stops-since names at fault s = record {
     before = s.before;
     used = s.used;
+    blames = blames-since files s.name (most_inputs - s.used) (first_reads s.name) (reads s.name)
+        (now_reads s.name) fault (reads_later s.name) s.blames;
     read = s.read;
     within = s.within;
     name = s.name;
     there = s.there;
-    blames = blames-since files s.name (most_inputs - s.used) (first_reads s.name) (reads s.name)
-        (now_reads s.name) fault (reads_later s.name) s.blames;
   }
 
   input-since : (name : List ℕ) (fault : InputFault) (which : List ℕ)

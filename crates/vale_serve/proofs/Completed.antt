@@ -1,5 +1,5 @@
 -- A session completes a lease.
-use Rattle.std.proofs.Common.{ℕ, zero, suc, ◌≡◌, ◌≤◌, ◌<◌, ◌==◌, ◌&&◌, not, Bool, true, false, cond, List, [], ◌∷◌, length, map, filter, find, flat_map, slice_get, Option, Some, None, is_some, refl, sym, ◌∙◌, ap, subst, arith}
+use Rattle.std.proofs.Common.{ℕ, zero, suc, ◌≡◌, ◌≤◌, ◌<◌, ◌==◌, ◌&&◌, not, Bool, true, false, cond, List, [], ◌∷◌, length, map, filter, find, flat_map, slice_get, Option, Some, None, refl, sym, ◌∙◌, ap, subst, arith}
 use Rattle.std.specs.Prelude.{vec_capacity}
 use Rattle.std.specs.List.{AllByRecursion as Each, remove, zip}
 use Rattle.std.proofs.lemmas.Bool.{and_parts, eqb-true, eq-eqb, ne_eqb}
@@ -28,7 +28,7 @@ use Rattle.vale_book.specs.BookView.{AreOf}
 use Rattle.vale_book.specs.Offering.{IsFilledIn}
 use Rattle.vale_book.specs.Recorded.{Recorded, standing, after_ask}
 use Rattle.vale_fabric.specs.Leases.{is_held_as}
-use Rattle.vale_fabric.proofs.FilledNow.{filled-in}
+use Rattle.vale_fabric.proofs.FilledNow.{filled-in, find-mapped}
 use Rattle.vale_fabric.proofs.Making.{Steps, and-first, and-second}
 use Rattle.vale_serve.specs.declared.users.User.{User}
 use Rattle.vale_serve.specs.Users.{HasOffers, AreSame, IsRoom, IsHeldAs, AreHeldAs, HasOwn, IsUser, number_of, wants_left}
@@ -121,15 +121,6 @@ remove-few [] zero = omega arith
 remove-few [] (suc k) = omega arith
 remove-few (x ∷ xs) zero = omega arith
 remove-few (x ∷ xs) (suc k) = let rest = remove-few xs k in omega (arith, rest)
-
-find-mapped : {X Y : Type 0} (f : X → Y) (p : Y → Bool) (xs : List X) (x : X) → find (λ (z : X). p (f z)) xs ≡ Some x → is_some (find p (map f xs)) ≡ true
-find-mapped f p [] x e = absurd cc
-find-mapped {X} {Y} f p (z ∷ zs) x e = by (p (f z)) (find-mapped f p zs x) e
-  where
-    by : (b : Bool) → (find (λ (y : X). p (f y)) zs ≡ Some x → is_some (find p (map f zs)) ≡ true) → cond b (Some z) (find (λ (y : X). p (f y)) zs) ≡ Some x
-        → is_some (cond b (Some (f z)) (find p (map f zs))) ≡ true
-    by true rest e = refl
-    by false rest e = rest e
 
 asker-same : (found : Option ℕ) (n m : ℕ) → found ≡ Some n → is_asker found m ≡ true → m ≡ n
 asker-same None n m e t = absurd cc

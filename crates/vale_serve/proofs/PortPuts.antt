@@ -194,7 +194,7 @@ pub record PutOf (b : Recorded) (user held : User) (at : PortId) (taken : List B
 some-same : (p q : Port) → Some p ≡ Some q → p ≡ q
 some-same p q e = cc
 
-pub put-of : (b : Recorded) (old user held : User) (at : PortId) (seen : PortSeen) (offered : List Item) (taken : List Buffer) (gots : List Got) → IsLegal b.pool b.entries → IsUser b old
+put-of : (b : Recorded) (old user held : User) (at : PortId) (seen : PortSeen) (offered : List Item) (taken : List Buffer) (gots : List Got) → IsLegal b.pool b.entries → IsUser b old
     → IsAsker old (open_port (standing b).world.ports at.0) seen → can_put offered old seen ≡ true → SameUser old user → HasTakenOut user (item_indices offered) taken held → AreFramed taken offered gots
     → PutOf b user held at taken gots
 put-of b old user held at seen offered taken gots legal is asker can same out framed =
@@ -215,6 +215,13 @@ put-of b old user held at seen offered taken gots legal is asker can same out fr
       region_is = framed.region_is b.region (out.bufs.taken_of b.region is'.region_is);
       steps = subst (λ (items : List Item). Steps b (Put at items)) back (steps-of b (Put at offered) (λ s. refl) (put-enabled b old at seen offered legal is asker can));
     }
+
+-- the same, where the buffers are taken by a list of their names
+pub put-named : (b : Recorded) (old user held : User) (at : PortId) (seen : PortSeen) (offered : List Item) (taken : List Buffer) (gots : List Got) → IsLegal b.pool b.entries → IsUser b old
+    → IsAsker old (open_port (standing b).world.ports at.0) seen → can_put offered old seen ≡ true → SameUser old user → {named : List ℕ} → HasTakenOut user named taken held
+    → named ≡ item_indices offered → AreFramed taken offered gots → PutOf b user held at taken gots
+put-named b old user held at seen offered taken gots legal is asker can same out e framed =
+    put-of b old user held at seen offered taken gots legal is asker can same (subst (λ (ns : List ℕ). HasTakenOut user ns taken held) e out) framed
 
 module _ {b : Recorded} {user held : User} {at : PortId} {taken : List Buffer} {gots : List Got} (r : PutOf b user held at taken gots) where
   abbrev w : World

@@ -44,10 +44,10 @@ sizes-kept : (s : Standing) → Sizes s → EachKind s (λ ask made. Sizes made.
 sizes-kept s all =
     let ports = s.world.ports in
     record {
-      enters = λ user fits. all;
-      quiet = λ ask session reply quiet. all;
       opens = λ session name tx rx extra can none. each-append HasSizes ports _ all
           (let fit = opened-sizes s.world name tx rx extra none in record { tx = fit.0; rx = fit.1; extra = fit.2 }, tt);
+      enters = λ user fits. all;
+      quiet = λ ask session reply quiet. all;
       sends = λ from frames port found can settled. all;
       grants = λ origin to offer first other. each-changed_at HasSizes HasSizes offer.to _ (λ port here. here) (λ port here. record { tx = here.tx; rx = here.rx; extra = here.extra }) ports all;
       completes = λ lease lot found. each-map HasSizes HasSizes (port_after_done lease.0) (λ port here. record { tx = here.tx; rx = here.rx; extra = here.extra }) ports all;

@@ -21,7 +21,7 @@ pub(crate) fn move_all(mut from: Vec<Buf>, to: &mut Vec<Buf>)
 }
 
 /// Moves the buffers of all frames to the end of others, for which there is room.
-pub(crate) fn unwrap_all(mut from: Vec<Got>, to: &mut Vec<Buf>)
+pub fn unwrap_all(mut from: Vec<Got>, to: &mut Vec<Buf>)
     requires { vec_len to.old + length from.items ≤ vec_capacity to.old }
     ensures items { to.new.items ≡ to.old.items ++ buffers_of from.items }
     ensures capacity { vec_capacity to.new ≡ vec_capacity to.old }

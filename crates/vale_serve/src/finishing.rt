@@ -1,8 +1,8 @@
 ghost use Rattle.std.specs.Prelude.{◌≡◌, ◌<◌, ◌&&◌, ◌==◌, length, position, true, Ok, IfSome, IfNone};
 ghost use Rattle.std.specs.List.{AllByRecursion, list_any};
+ghost use Rattle.vale_entry.specs.Closing.{shutting_port};
 ghost use Rattle.vale_entry.specs.declared.entry.Ask.TheVariants as asks;
 ghost use Rattle.vale_entry.specs.declared.entry.Reply.TheVariants as replies;
-ghost use Rattle.vale_entry.specs.Closing.{shutting_port};
 ghost use Rattle.vale_serve.specs.Buffers.{holds_all};
 ghost use Rattle.vale_serve.specs.Finishing.{HasRoomForPort, HasLostRoom, HasTakenForPort};
 ghost use Rattle.vale_serve.specs.Users.{IsRoom, is_room_of};

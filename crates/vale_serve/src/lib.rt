@@ -23,6 +23,7 @@ mod users;
 mod watching;
 
 pub use asking::{done_at, finish_at, grant_at, owner_of_shut, shut_at};
+pub use buffers::unwrap_all;
 pub use granting::place_of_origin;
 pub use leaving::leave;
 pub use opening::MOST_DUE;

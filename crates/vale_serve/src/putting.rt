@@ -146,12 +146,12 @@ fn room_to_put(alloc: Global, offered: &[Item]) -> Result<PutRoom, NoMemory>
         return Err(NoMemory);
     };
     Ok(PutRoom {
+        bufs,
+        pending,
         named,
         items,
         frames,
         to,
-        bufs,
-        pending,
     })
 }
 

@@ -2,8 +2,8 @@ ghost use Rattle.std.specs.Prelude.{◌≡◌, ◌≤◌, ◌<◌, ◌+◌, [], 
 ghost use Rattle.nm_types.specs.Limits.{most_ring};
 ghost use Rattle.nm_region.specs.Buffers.{indices_of};
 ghost use Rattle.vale_line.specs.Gots.{IsSingle};
-ghost use Rattle.vale_entry.specs.declared.entry.Reply.TheVariants as replies;
 ghost use Rattle.vale_entry.specs.Legal.{IsEnabled, reply_to};
+ghost use Rattle.vale_entry.specs.declared.entry.Reply.TheVariants as replies;
 ghost use Rattle.vale_parts.specs.Batches.{dests_wanted};
 ghost use Rattle.vale_book.specs.BookView.{AreOf};
 ghost use Rattle.vale_book.specs.Reading.{read_ask, IsGiven, IsOffered};

@@ -2,27 +2,34 @@
 use super::steps::{Answer, Step};
 use nm_types::{Counts, OpenFault, Sides};
 
-/// The size of a pool, asks of a fresh drive with their answers, and how many entries there are once
-/// the drive is closed.
-pub(super) const ROWS: &[(u32, &[(Step, Answer)], u32)] = &[
-    (64, LEASES, 27),
-    (64, GONE, 22),
-    (64, OUT, 20),
-    (64, PIPE, 16),
-    (64, TRANSMITTED, 24),
-    (20, RECEIVED, 20),
-    (64, COUNTERS, 16),
-    (10, OPENINGS, 9),
-    (40, NAMES, 20),
+/// Asks with their answers.
+pub(super) type Asks = &'static [(Step, Answer)];
+
+/// The size of a pool, what a fresh drive is asked first, the asks that the row is about, and how
+/// many entries there are once the drive is closed.
+pub(super) const ROWS: &[(u32, Asks, Asks, u32)] = &[
+    (64, THREE, LEASES, 27),
+    (64, THREE, GONE, 22),
+    (64, THREE, OUT, 20),
+    (64, &[], PIPE, 16),
+    (64, THREE, TRANSMITTED, 24),
+    (20, &[], RECEIVED, 20),
+    (64, &[], COUNTERS, 16),
+    (10, &[], OPENINGS, 9),
+    (40, &[], NAMES, 20),
 ];
 
-/// Frames are read in the order of their leases, and not in that of their completions.
-const LEASES: &[(Step, Answer)] = &[
+/// Three users, two of which have a port on one switch.
+const THREE: Asks = &[
     (Step::Enter, Answer::Made),
     (Step::Enter, Answer::Made),
     (Step::Enter, Answer::Made),
     (Step::Open(1, "vale0:a", 4, 4, 0), Answer::Opened),
     (Step::Open(2, "vale0:b", 4, 4, 0), Answer::Opened),
+];
+
+/// Frames are read in the order of their leases, and not in that of their completions.
+const LEASES: Asks = &[
     (Step::Open(3, "vale0:c", 4, 4, 0), Answer::Opened),
     (Step::Send(4, 0x0a, 1), Answer::Offered(5, 2)),
     (Step::Grant(7, 6), Answer::NotEnabled),
@@ -42,12 +49,7 @@ const LEASES: &[(Step, Answer)] = &[
 ];
 
 /// An offer to a port that is gone is granted nothing, also once its name is opened again.
-const GONE: &[(Step, Answer)] = &[
-    (Step::Enter, Answer::Made),
-    (Step::Enter, Answer::Made),
-    (Step::Enter, Answer::Made),
-    (Step::Open(1, "vale0:a", 4, 4, 0), Answer::Opened),
-    (Step::Open(2, "vale0:b", 4, 4, 0), Answer::Opened),
+const GONE: Asks = &[
     (Step::Open(3, "vale0:c", 4, 4, 0), Answer::Opened),
     (Step::Send(4, 0x0a, 1), Answer::Offered(5, 2)),
     (Step::Finish(6, &[18, 19, 20, 21]), Answer::NotEnabled),
@@ -62,12 +64,7 @@ const GONE: &[(Step, Answer)] = &[
 ];
 
 /// A port waits for the leases that were granted to it.
-const OUT: &[(Step, Answer)] = &[
-    (Step::Enter, Answer::Made),
-    (Step::Enter, Answer::Made),
-    (Step::Enter, Answer::Made),
-    (Step::Open(1, "vale0:a", 4, 4, 0), Answer::Opened),
-    (Step::Open(2, "vale0:b", 4, 4, 0), Answer::Opened),
+const OUT: Asks = &[
     (Step::Open(3, "vale0:c", 4, 4, 0), Answer::Opened),
     (Step::Send(4, 0x0a, 1), Answer::Offered(5, 2)),
     (Step::Grant(7, 5), Answer::Shared(1, 0, 0)),
@@ -82,7 +79,7 @@ const OUT: &[(Step, Answer)] = &[
 ];
 
 /// Frames go through a pipe with their buffers, for which others come.
-const PIPE: &[(Step, Answer)] = &[
+const PIPE: Asks = &[
     (Step::Enter, Answer::Made),
     (Step::Enter, Answer::Made),
     (Step::Open(1, "pipe0{", 4, 4, 0), Answer::Opened),
@@ -101,12 +98,7 @@ const PIPE: &[(Step, Answer)] = &[
 ];
 
 /// What a port sends is named for its monitor too.
-const TRANSMITTED: &[(Step, Answer)] = &[
-    (Step::Enter, Answer::Made),
-    (Step::Enter, Answer::Made),
-    (Step::Enter, Answer::Made),
-    (Step::Open(1, "vale0:a", 4, 4, 0), Answer::Opened),
-    (Step::Open(2, "vale0:b", 4, 4, 0), Answer::Opened),
+const TRANSMITTED: Asks = &[
     (Step::Open(3, "mon0", 0, 2, 0), Answer::Opened),
     (Step::Watch(4, "vale0:b", Sides::T), Answer::NotEnabled),
     (Step::Watch(6, "vale0:a", Sides::T), Answer::Watching(4)),
@@ -121,7 +113,7 @@ const TRANSMITTED: &[(Step, Answer)] = &[
 ];
 
 /// What a port is given is offered to its monitor, which is given it too.
-const RECEIVED: &[(Step, Answer)] = &[
+const RECEIVED: Asks = &[
     (Step::Enter, Answer::Made),
     (Step::Open(1, "vale0:a", 4, 4, 0), Answer::Opened),
     (Step::Open(1, "vale0:b", 4, 4, 0), Answer::Opened),
@@ -140,7 +132,7 @@ const RECEIVED: &[(Step, Answer)] = &[
 ];
 
 /// What finds no room is counted.
-const COUNTERS: &[(Step, Answer)] = &[
+const COUNTERS: Asks = &[
     (Step::Enter, Answer::Made),
     (Step::Enter, Answer::Made),
     (Step::Open(1, "vale0:a", 4, 4, 0), Answer::Opened),
@@ -163,7 +155,7 @@ const READ: Counts = Counts {
 };
 
 /// Openings that find too few buffers, or ask for sizes out of range.
-const OPENINGS: &[(Step, Answer)] = &[
+const OPENINGS: Asks = &[
     (Step::Enter, Answer::Made),
     (Step::Open(1, "vale0:a", 4, 4, 0), Answer::Opened),
     (
@@ -185,7 +177,7 @@ const OPENINGS: &[(Step, Answer)] = &[
 ];
 
 /// Openings under names of all kinds, of which one is taken and one has no switch.
-const NAMES: &[(Step, Answer)] = &[
+const NAMES: Asks = &[
     (Step::Enter, Answer::Made),
     (Step::Open(1, "vale0:a", 2, 2, 0), Answer::Opened),
     (

@@ -1,4 +1,6 @@
-use Rattle.std.proofs.Common.{length, ap, arith}
+use Rattle.std.proofs.Common.{List, ◌++◌, length, ◌∙◌, ap, arith}
+use Rattle.nm_region.specs.Buffers.{Buffer}
+use Rattle.vale_line.specs.Gots.{buffers_of}
 use Rattle.bench.proofs.Rounds.{round-granted, round-lot, round-complete, round-rest}
 use Rattle.bench.proofs.line.play_round.Goals as goal
 
@@ -31,20 +33,23 @@ sync-got-requires-clause-room c =
     let room = c.requires.gots_room in
     omega (arith, few, room)
 
-pub take_buffers-requires-clause-room : goal.take_buffers-requires-clause-room
-take_buffers-requires-clause-room c =
+pub unwrap_all-requires : goal.unwrap_all-requires
+unwrap_all-requires c =
     let is = round-granted c.args.line.now c.grant.new.self c.in-Some.lease c.args.id 0 c.in-Some.ensures.lease c.in-Some.ensures.count c.in-Some.ensures.lot in
     let all = round-complete c.args.region.now c.args.line.now c.grant.new.self c.done.new.self c.args.back.items c.in-Some.lease c.fill_all.new.lease c.args.id c.requires.rest is c.fill_all.ensures.id c.fill_all.ensures.names c.done.ensures.line in
     let few = all.few in
     let room = c.requires.bufs_room in
     let got = ap length c.sync-got.ensures.got in
-    omega (arith, few, room, got)
+    let none = ap length c.requires.bufs in
+    let size = c.args.rooms.bufs.ok.0 in
+    omega (arith, few, room, got, none, size)
 
 pub returns-clause-rest : goal.returns-clause-rest
 returns-clause-rest c =
     let is = round-granted c.args.line.now c.grant.new.self c.in-Some.lease c.args.id 0 c.in-Some.ensures.lease c.in-Some.ensures.count c.in-Some.ensures.lot in
     let all = round-complete c.args.region.now c.args.line.now c.grant.new.self c.done.new.self c.args.back.items c.in-Some.lease c.fill_all.new.lease c.args.id c.requires.rest is c.fill_all.ensures.id c.fill_all.ensures.names c.done.ensures.line in
-    round-rest c.args.region.now c.done.new.self c.sync-got.new.self c.args.back.items c.take_buffers.result.items c.fill_all.new.lease c.sync-got.result.items all c.sync-got.ensures.line c.sync-got.ensures.got c.take_buffers.ensures
+    round-rest c.args.region.now c.done.new.self c.sync-got.new.self c.args.back.items c.unwrap_all.new.to.items c.fill_all.new.lease c.sync-got.result.items all c.sync-got.ensures.line c.sync-got.ensures.got
+    (c.unwrap_all.ensures.items ∙ ap (λ (bs : List Buffer). bs ++ buffers_of c.sync-got.result.items) c.requires.bufs)
 
 pub returns-clause-few : goal.returns-clause-few
 returns-clause-few c =
@@ -52,5 +57,5 @@ returns-clause-few c =
     let all = round-complete c.args.region.now c.args.line.now c.grant.new.self c.done.new.self c.args.back.items c.in-Some.lease c.fill_all.new.lease c.args.id c.requires.rest is c.fill_all.ensures.id c.fill_all.ensures.names c.done.ensures.line in
     let few = all.few in
     let got = ap length c.sync-got.ensures.got in
-    let count = c.len.ensures in
+    let count = c.len-count.ensures in
     omega (arith, few, got, count)

@@ -1,4 +1,4 @@
-use Rattle.std.proofs.Common.{◌≡◌, ◌-◌, ◌<◌, length, slice_get, Some, refl, sym, subst, arith}
+use Rattle.std.proofs.Common.{◌-◌, length, refl, sym, subst, arith}
 use Rattle.std.proofs.lemmas.Option.{slice_get_read}
 use Rattle.vale_fabric.specs.Fabrics.{fixed_in, knowing}
 use Rattle.vale_player.specs.Inputs.{records_in}
@@ -14,12 +14,9 @@ returns-clause-runs g c =
     let line = c.args.line.now in
     let seats = c.args.seats.now in
     let records = records_in c.args.inputs.now in
-    let least = c.requires.least in
-    let most = c.requires.most in
     let before = c.index-seats-place.result in
-    let within : line.user - 1 < length seats = omega (arith, least, most) in
-    let here : slice_get seats (line.user - 1) ≡ Some before = slice_get_read seats (length seats) (line.user - 1) before refl within c.index-seats-place.is in
-    single-at c.args.fabric.now records line (knowing c.args.main.now) (knowing c.run_line.new.main) seats (line.user - 1) before c.run_line.new.self c.run_line.result (omega (arith, least)) here c.requires.seated
+    let here = slice_get_read seats (length seats) (line.user - 1) before refl (omega (arith, c.requires.least, c.requires.most)) c.index-seats-place.is in
+    single-at c.args.fabric.now records line (knowing c.args.main.now) (knowing c.run_line.new.main) seats (line.user - 1) before c.run_line.new.self c.run_line.result (omega (arith, c.requires.least)) here c.requires.seated
     (subst (λ (b : Seat). LineAt (fixed_in c.args.fabric.now) line.user (line_tasks records line.act) (knowing c.args.main.now) (knowing c.run_line.new.main) b c.run_line.new.self c.run_line.result) (sym c.index-seats-place.is) c.run_line.ensures.line)
 
 pub returns-clause-leaves : goal.returns-clause-leaves
@@ -28,10 +25,7 @@ returns-clause-leaves g c =
     let seats = c.args.seats.now in
     let v = knowing c.args.main.now in
     let w = knowing c.run_line.new.main in
-    let least = c.requires.least in
-    let most = c.requires.most in
     let before = c.index-seats-place.result in
-    let within : line.user - 1 < length seats = omega (arith, least, most) in
-    let here : slice_get seats (line.user - 1) ≡ Some before = slice_get_read seats (length seats) (line.user - 1) before refl within c.index-seats-place.is in
+    let here = slice_get_read seats (length seats) (line.user - 1) before refl (omega (arith, c.requires.least, c.requires.most)) c.index-seats-place.is in
     seat-leaving v w seats (line.user - 1) before c.run_line.new.self here
     (subst (λ (b : Seat). SeatStillLeaves v w b c.run_line.new.self) (sym c.index-seats-place.is) c.run_line.ensures.leaves)

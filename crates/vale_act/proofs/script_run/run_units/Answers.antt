@@ -1,4 +1,4 @@
-use Rattle.std.proofs.Common.{◌≡◌, List, length, slice_get, Some, Result, refl, subst}
+use Rattle.std.proofs.Common.{ℕ, ◌≡◌, ◌<◌, List, length, get_or, slice_get, Some, Result, refl, subst}
 use Rattle.std.proofs.lemmas.Option.{slice_get_read}
 use Rattle.nm_types.specs.declared.fault.StepFault.{StepFault}
 use Rattle.vale_fabric.specs.Fabrics.{fixed_in, knowing}
@@ -9,41 +9,40 @@ use Rattle.vale_act.specs.Seats.{UnitAt}
 use Rattle.vale_act.proofs.Between.{between-next, between-runs, between-stops}
 use Rattle.vale_act.proofs.script_run.run_units.Goals as goal
 
+-- the unit that is done next, as it stands in the script
+next-unit : (units all : List Part) (i : ℕ) (unit : Part) → i < length units → unit ≡ get_or units i unit → units ≡ all → slice_get all i ≡ Some unit
+next-unit units all i unit low is same = subst (λ (l : List Part). slice_get l i ≡ Some unit) same (slice_get_read units (length units) i unit refl low is)
+
 pub run_unit-requires-clause-runnable : goal.run_unit-requires-clause-runnable
 run_unit-requires-clause-runnable g c κs outlives =
     let i = c.loop-unit.unit-index in
     let unit = c.unit-item.result in
-    let here : slice_get c.units-all.result.now i ≡ Some unit = slice_get_read c.units-all.result.now (length c.units-all.result.now) i unit refl c.loop-unit-test.true c.unit-item.is in
-    let at = subst (λ (l : List Part). slice_get l i ≡ Some unit) c.units-all.ensures here in
+    let at = next-unit c.units-all.result.now _ i unit c.loop-unit-test.true c.unit-item.is c.units-all.ensures in
     between-runs c.args.fabric.now c.args.script.now c.args.inputs.now c.requires.files c.requires.pool i unit (knowing c.loop-unit.main) (knowing c.loop-unit.main) c.loop-unit.seats c.loop-unit.seats at c.loop-unit.invariant.1.1 c.requires.runnable
 
 pub loop-unit-preserved : goal.loop-unit-preserved
 loop-unit-preserved g c =
-    let i = c.loop-unit.unit-index in
     let unit = c.unit-item.result in
     let v = knowing c.loop-unit.main in
     let w = knowing c.run_unit.new.main in
-    let here : slice_get c.units-all.result.now i ≡ Some unit = slice_get_read c.units-all.result.now (length c.units-all.result.now) i unit refl c.loop-unit-test.true c.unit-item.is in
-    let at = subst (λ (l : List Part). slice_get l i ≡ Some unit) c.units-all.ensures here in
+    let at = next-unit c.units-all.result.now _ c.loop-unit.unit-index unit c.loop-unit-test.true c.unit-item.is c.units-all.ensures in
     let ran = subst (λ (r : Result (Unit {0}) StepFault). UnitAt (fixed_in c.args.fabric.now) (shares_of (records_in c.args.inputs.now) (length c.loop-unit.seats) unit) v w c.loop-unit.seats c.run_unit.new.seats r) c.in-Ok.is c.run_unit.ensures.runs in (
       c.run_unit.ensures.pass,
       (
         c.run_unit.ensures.on,
-        between-next c.args.fabric.now c.args.script.now c.args.inputs.now c.requires.files c.requires.pool i unit v w c.loop-unit.seats c.run_unit.new.seats at c.loop-unit.invariant.1.1 ran,
+        between-next c.args.fabric.now c.args.script.now c.args.inputs.now c.requires.files c.requires.pool c.loop-unit.unit-index unit v w c.loop-unit.seats c.run_unit.new.seats at c.loop-unit.invariant.1.1 ran,
       ),
       λ can. c.run_unit.ensures.leaves (c.loop-unit.invariant.2 can),
     )
 
 pub returns-in-Err-clause-stops : goal.returns-in-Err-clause-stops
 returns-in-Err-clause-stops g c =
-    let i = c.loop-unit.unit-index in
     let unit = c.unit-item.result in
     let v = knowing c.loop-unit.main in
     let w = knowing c.run_unit.new.main in
-    let here : slice_get c.units-all.result.now i ≡ Some unit = slice_get_read c.units-all.result.now (length c.units-all.result.now) i unit refl c.loop-unit-test.true c.unit-item.is in
-    let at = subst (λ (l : List Part). slice_get l i ≡ Some unit) c.units-all.ensures here in
+    let at = next-unit c.units-all.result.now _ c.loop-unit.unit-index unit c.loop-unit-test.true c.unit-item.is c.units-all.ensures in
     let ran = subst (λ (r : Result (Unit {0}) StepFault). UnitAt (fixed_in c.args.fabric.now) (shares_of (records_in c.args.inputs.now) (length c.loop-unit.seats) unit) v w c.loop-unit.seats c.run_unit.new.seats r) c.in-Err.is c.run_unit.ensures.runs in
-    between-stops c.args.fabric.now c.args.script.now c.args.inputs.now c.requires.files c.requires.pool i unit v w c.loop-unit.seats c.run_unit.new.seats at c.loop-unit.invariant.1.1 c.in-Err.fault ran
+    between-stops c.args.fabric.now c.args.script.now c.args.inputs.now c.requires.files c.requires.pool c.loop-unit.unit-index unit v w c.loop-unit.seats c.run_unit.new.seats at c.loop-unit.invariant.1.1 c.in-Err.fault ran
 
 pub loop-unit-init : goal.loop-unit-init
 loop-unit-init g c = (c.requires.pass, (c.requires.on, c.requires.between), λ can. can)

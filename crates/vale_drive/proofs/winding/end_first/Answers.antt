@@ -1,4 +1,4 @@
-use Rattle.std.proofs.Common.{◌≡◌, Some, slice_get, get_or, refl, sym, ◌∙◌, ap, subst, arith, rules}
+use Rattle.std.proofs.Common.{◌≡◌, ◌<◌, List, length, Some, slice_get, get_or, refl, sym, ◌∙◌, ap, subst, arith, rules}
 use Rattle.std.specs.Prelude.{Ok}
 use Rattle.std.specs.Vec.{vec_len}
 use Rattle.std.proofs.lemmas.Bool.{eqb-true, eqb-false}
@@ -11,6 +11,9 @@ use Rattle.vale_serve.specs.Users.{IsUser}
 use Rattle.vale_drive.proofs.Endings.{none-there}
 use Rattle.vale_drive.proofs.NextPorts.{first-port, leaves-next, none-next}
 use Rattle.vale_drive.proofs.winding.end_first.Goals as goal
+
+first-here : (users : List User) (user : User) → 0 < length users → user ≡ get_or users 0 user → slice_get users 0 ≡ Some user
+first-here users user some is = slice_get-get_or users 0 user some ∙ ap (λ (u : User). Some u) (sym is)
 
 pub returns-then-is_empty-clause-turn : goal.returns-then-is_empty-clause-turn
 returns-then-is_empty-clause-turn c =
@@ -25,28 +28,22 @@ pub end_port-requires-clause-first : goal.end_port-requires-clause-first
 end_port-requires-clause-first c =
     let b = c.args.book.now in
     let users = c.args.users.now.items in
-    let user = c.index-2.result.now in
-    let is : user ≡ get_or users 0 user = search rules in
     let apart = eqb-false (vec_len c.args.users.now) 0 (sym c.is_empty.ensures ∙ c.if-is_empty.false) in
     let size = c.args.users.now.ok.0 in
-    let here : slice_get users 0 ≡ Some user = slice_get-get_or users 0 user (omega (arith, apart, size)) ∙ ap (λ (u : User). Some u) (sym is) in
+    let here = first-here users c.index-2.result.now (omega (arith, apart, size)) (search rules) in
     record {
-      user = user;
+      user = c.index-2.result.now;
       first = here;
-      port = first-port b user (Some c.in-Some.port) (each-at (IsUser b) users 0 user c.requires.users.each here) (sym c.in-Some.is ∙ c.first_port.ensures);
+      port = first-port b c.index-2.result.now (Some c.in-Some.port) (each-at (IsUser b) users 0 c.index-2.result.now c.requires.users.each here) (sym c.in-Some.is ∙ c.first_port.ensures);
     }
 
 pub returns-in-None-clause-turn : goal.returns-in-None-clause-turn
 returns-in-None-clause-turn c =
-    let b = c.args.book.now in
     let users = c.args.users.now.items in
-    let user = c.index-2.result.now in
-    let is : user ≡ get_or users 0 user = search rules in
     let apart = eqb-false (vec_len c.args.users.now) 0 (sym c.is_empty.ensures ∙ c.if-is_empty.false) in
     let size = c.args.users.now.ok.0 in
-    let here : slice_get users 0 ≡ Some user = slice_get-get_or users 0 user (omega (arith, apart, size)) ∙ ap (λ (u : User). Some u) (sym is) in
-    let other : c.index.result.now ≡ get_or users 0 c.index.result.now = search rules in
-    let there : slice_get users 0 ≡ Some c.index.result.now = slice_get-get_or users 0 c.index.result.now (omega (arith, apart, size)) ∙ ap (λ (u : User). Some u) (sym other) in
-    let same : c.index.result.now ≡ user = let both = sym there ∙ here in cc in
-    leaves-next b c.leave.new.book users user c.leave.result c.requires.users c.requires.quiet here (sym c.in-None.is ∙ c.first_port.ensures)
-    (subst (λ (u : User). IsServed b c.leave.new.book (Leave u.id) (Ok c.leave.result)) same c.leave.ensures.served)
+    let here = first-here users c.index-2.result.now (omega (arith, apart, size)) (search rules) in
+    let there = first-here users c.index.result.now (omega (arith, apart, size)) (search rules) in
+    let same : c.index.result.now ≡ c.index-2.result.now = let both = sym there ∙ here in cc in
+    leaves-next c.args.book.now c.leave.new.book users c.index-2.result.now c.leave.result c.requires.users c.requires.quiet here (sym c.in-None.is ∙ c.first_port.ensures)
+    (subst (λ (u : User). IsServed c.args.book.now c.leave.new.book (Leave u.id) (Ok c.leave.result)) same c.leave.ensures.served)

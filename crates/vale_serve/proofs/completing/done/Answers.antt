@@ -30,43 +30,28 @@ unreachable-requires c =
 
 pub done-requires-clause-filled : goal.done-requires-clause-filled
 done-requires-clause-filled c =
-    let lease = c.remove-lease.result in
-    let is : lease ≡ get_or c.args.user.now.leases.items c.in-Some.place lease = search rules in
-    let h : Here c.args.user.now.leases.items c.args.id.0 c.in-Some.place lease =
-    here-by c.args.user.now.leases.items c.args.id.0 c.in-Some.place lease (rw c.deref.ensures.value at (sym c.place_of.ensures ∙ c.in-Some.is)) is in
-    lease-filled c.args.book.now c.args.user.now c.args.id c.in-Some.place lease c.requires.legal c.requires.user h.at h.number
+    let h = here-by c.args.user.now.leases.items c.args.id.0 c.in-Some.place c.remove-lease.result (rw c.deref.ensures.value at (sym c.place_of.ensures ∙ c.in-Some.is)) (search rules) in
+    lease-filled c.args.book.now c.args.user.now c.args.id c.in-Some.place c.remove-lease.result c.requires.legal c.requires.user h.at h.number
 
 pub done-requires-clause-full : goal.done-requires-clause-full
 done-requires-clause-full c =
-    let lease = c.remove-lease.result in
-    let is : lease ≡ get_or c.args.user.now.leases.items c.in-Some.place lease = search rules in
-    let h : Here c.args.user.now.leases.items c.args.id.0 c.in-Some.place lease =
-    here-by c.args.user.now.leases.items c.args.id.0 c.in-Some.place lease (rw c.deref.ensures.value at (sym c.place_of.ensures ∙ c.in-Some.is)) is in
-    (held-here c.args.book.now c.args.user.now c.args.id c.in-Some.place lease c.requires.legal c.requires.user h.at h.number).is.full
+    let h = here-by c.args.user.now.leases.items c.args.id.0 c.in-Some.place c.remove-lease.result (rw c.deref.ensures.value at (sym c.place_of.ensures ∙ c.in-Some.is)) (search rules) in
+    (held-here c.args.book.now c.args.user.now c.args.id c.in-Some.place c.remove-lease.result c.requires.legal c.requires.user h.at h.number).is.full
 
 pub done-requires-clause-empty : goal.done-requires-clause-empty
 done-requires-clause-empty c =
-    let lease = c.remove-lease.result in
-    let is : lease ≡ get_or c.args.user.now.leases.items c.in-Some.place lease = search rules in
-    let h : Here c.args.user.now.leases.items c.args.id.0 c.in-Some.place lease =
-    here-by c.args.user.now.leases.items c.args.id.0 c.in-Some.place lease (rw c.deref.ensures.value at (sym c.place_of.ensures ∙ c.in-Some.is)) is in
-    (held-here c.args.book.now c.args.user.now c.args.id c.in-Some.place lease c.requires.legal c.requires.user h.at h.number).is.empty
+    let h = here-by c.args.user.now.leases.items c.args.id.0 c.in-Some.place c.remove-lease.result (rw c.deref.ensures.value at (sym c.place_of.ensures ∙ c.in-Some.is)) (search rules) in
+    (held-here c.args.book.now c.args.user.now c.args.id c.in-Some.place c.remove-lease.result c.requires.legal c.requires.user h.at h.number).is.empty
 
 pub done-requires-clause-region : goal.done-requires-clause-region
 done-requires-clause-region c =
-    let lease = c.remove-lease.result in
-    let is : lease ≡ get_or c.args.user.now.leases.items c.in-Some.place lease = search rules in
-    let h : Here c.args.user.now.leases.items c.args.id.0 c.in-Some.place lease =
-    here-by c.args.user.now.leases.items c.args.id.0 c.in-Some.place lease (rw c.deref.ensures.value at (sym c.place_of.ensures ∙ c.in-Some.is)) is in
-    (held-here c.args.book.now c.args.user.now c.args.id c.in-Some.place lease c.requires.legal c.requires.user h.at h.number).is.region_is
+    let h = here-by c.args.user.now.leases.items c.args.id.0 c.in-Some.place c.remove-lease.result (rw c.deref.ensures.value at (sym c.place_of.ensures ∙ c.in-Some.is)) (search rules) in
+    (held-here c.args.book.now c.args.user.now c.args.id c.in-Some.place c.remove-lease.result c.requires.legal c.requires.user h.at h.number).is.region_is
 
 pub returns-clause-served : goal.returns-clause-served
 returns-clause-served c =
-    let lease = c.remove-lease.result in
-    let is : lease ≡ get_or c.args.user.now.leases.items c.in-Some.place lease = search rules in
-    let h : Here c.args.user.now.leases.items c.args.id.0 c.in-Some.place lease =
-    here-by c.args.user.now.leases.items c.args.id.0 c.in-Some.place lease (rw c.deref.ensures.value at (sym c.place_of.ensures ∙ c.in-Some.is)) is in
-    let st = steps c.args.book.now c.args.user.now c.args.id c.in-Some.place lease c.requires.legal c.requires.user h.at h.number in (
+    let h = here-by c.args.user.now.leases.items c.args.id.0 c.in-Some.place c.remove-lease.result (rw c.deref.ensures.value at (sym c.place_of.ensures ∙ c.in-Some.is)) (search rules) in
+    let st = steps c.args.book.now c.args.user.now c.args.id c.in-Some.place c.remove-lease.result c.requires.legal c.requires.user h.at h.number in (
       sym (said-by st (done-said st)),
       subst (λ (n : ℕ). c.done.new.self ≡ after_ask c.args.book.now (Done (lease_id n))) h.number c.done.ensures.made,
       subst (λ (n : ℕ). HasRoom c.args.book.now (Done (lease_id n))) h.number c.done.ensures.room,
@@ -74,11 +59,8 @@ returns-clause-served c =
 
 pub returns-clause-kept : goal.returns-clause-kept
 returns-clause-kept c =
-    let lease = c.remove-lease.result in
-    let is : lease ≡ get_or c.args.user.now.leases.items c.in-Some.place lease = search rules in
-    let h : Here c.args.user.now.leases.items c.args.id.0 c.in-Some.place lease =
-    here-by c.args.user.now.leases.items c.args.id.0 c.in-Some.place lease (rw c.deref.ensures.value at (sym c.place_of.ensures ∙ c.in-Some.is)) is in
+    let h = here-by c.args.user.now.leases.items c.args.id.0 c.in-Some.place c.remove-lease.result (rw c.deref.ensures.value at (sym c.place_of.ensures ∙ c.in-Some.is)) (search rules) in
     let made = subst (λ (n : ℕ). c.done.new.self ≡ after_ask c.args.book.now (Done (lease_id n))) h.number c.done.ensures.made in
     let capacity = c.remove-lease.ensures.capacity in
-    completed-kept c.args.book.now c.args.user.now c.args.id c.in-Some.place lease c.requires.legal c.requires.user h.at h.number c.done.new.self
+    completed-kept c.args.book.now c.args.user.now c.args.id c.in-Some.place c.remove-lease.result c.requires.legal c.requires.user h.at h.number c.done.new.self
     (record c.args.user.now { leases = c.remove-lease.new.self }) made refl refl refl refl c.remove-lease.ensures.items (omega (arith, capacity))

@@ -1,4 +1,4 @@
-use Rattle.std.proofs.Common.{ℕ, ◌≡◌, ◌≤◌, ◌<◌, ◌++◌, [], ◌∷◌, List, length, take, drop, get_or, append-nil, refl, sym, ◌∙◌, ap, subst, arith, rules}
+use Rattle.std.proofs.Common.{ℕ, ◌≡◌, ◌≤◌, ◌<◌, ◌++◌, [], ◌∷◌, List, length, take, drop, append-nil, refl, sym, ◌∙◌, ap, subst, arith, rules}
 use Rattle.nm_region.specs.Buffers.{Buffer, indices_of}
 use Rattle.vale_line.specs.Gots.{buffers_of, frames_in}
 use Rattle.vale_line.specs.Leased.{Leased, first_size}
@@ -6,58 +6,28 @@ use Rattle.vale_book.specs.BookView.{AreOf, IsBufferOf}
 use Rattle.vale_book.proofs.Standing.{each-left}
 use Rattle.vale_serve.specs.Filling.{placed}
 use Rattle.vale_serve.specs.Users.{contents}
-use Rattle.vale_serve.proofs.Filling.{slots-one, first-one, drop-next, left-of, drop-all, no-buffers, placed-more, Next, next-frame, fill-indices, fill-left, fill-region, indices_in}
+use Rattle.vale_serve.proofs.Filling.{slots-one, first-one, drop-next, left-of, drop-all, no-buffers, placed-more, next-frame, fill-indices, fill-left, fill-region, indices_in}
 use Rattle.vale_serve.proofs.granting.filled.Goals as goal
 
 pub fill-requires-clause-frame : goal.fill-requires-clause-frame
 fill-requires-clause-frame c =
-    let frames = c.args.frames.now in
-    let places = c.args.want.now.places.items in
-    let v = c.index-frames-index.result in
-    let p = c.index.result.now in
-    let low = c.loop-i-test.true in
-    let count = c.loop-i.invariant.count in
-    let enough = c.requires.enough in
-    let within : c.loop-i.i < length c.args.lease.sizes = omega (arith, low, count) in
-    let few : c.loop-i.i < length places = omega (arith, within, enough) in
-    let is : v ≡ get_or frames p v = search rules in
-    let here : p ≡ get_or places c.loop-i.i p = search rules in
-    let n : Next (contents frames) places c.loop-i.i c.deref.result.now =
-    next-frame frames places c.loop-i.i p v c.deref.result.now few c.requires.there c.requires.few here is c.deref.ensures.value in
-    let fits = n.fits in omega (arith, fits)
+    let within : c.loop-i.i < length c.args.lease.sizes = omega (arith, c.loop-i-test.true, c.loop-i.invariant.count) in
+    let n = next-frame c.args.frames.now c.args.want.now.places.items c.loop-i.i c.index.result.now c.index-frames-index.result c.deref.result.now
+    (omega (arith, within, c.requires.enough)) c.requires.there c.requires.few (search rules) (search rules) c.deref.ensures.value in
+    omega (arith, n.fits)
 
 pub fill-requires-clause-next : goal.fill-requires-clause-next
 fill-requires-clause-next c =
-    let frames = c.args.frames.now in
-    let places = c.args.want.now.places.items in
-    let v = c.index-frames-index.result in
-    let p = c.index.result.now in
-    let low = c.loop-i-test.true in
-    let count = c.loop-i.invariant.count in
-    let enough = c.requires.enough in
-    let within : c.loop-i.i < length c.args.lease.sizes = omega (arith, low, count) in
-    let few : c.loop-i.i < length places = omega (arith, within, enough) in
-    let is : v ≡ get_or frames p v = search rules in
-    let here : p ≡ get_or places c.loop-i.i p = search rules in
-    let n : Next (contents frames) places c.loop-i.i c.deref.result.now =
-    next-frame frames places c.loop-i.i p v c.deref.result.now few c.requires.there c.requires.few here is c.deref.ensures.value in
+    let within : c.loop-i.i < length c.args.lease.sizes = omega (arith, c.loop-i-test.true, c.loop-i.invariant.count) in
+    let n = next-frame c.args.frames.now c.args.want.now.places.items c.loop-i.i c.index.result.now c.index-frames-index.result c.deref.result.now
+    (omega (arith, within, c.requires.enough)) c.requires.there c.requires.few (search rules) (search rules) c.deref.ensures.value in
     slots-one c.deref.result.now n.fits ∙ sym (ap first_size c.loop-i.invariant.sizes ∙ first-one c.args.lease.sizes c.loop-i.i c.requires.sizes within)
 
 pub loop-i-preserved : goal.loop-i-preserved
 loop-i-preserved c =
-    let frames = c.args.frames.now in
-    let places = c.args.want.now.places.items in
-    let v = c.index-frames-index.result in
-    let p = c.index.result.now in
-    let low = c.loop-i-test.true in
-    let count = c.loop-i.invariant.count in
-    let enough = c.requires.enough in
-    let within : c.loop-i.i < length c.args.lease.sizes = omega (arith, low, count) in
-    let few : c.loop-i.i < length places = omega (arith, within, enough) in
-    let is : v ≡ get_or frames p v = search rules in
-    let here : p ≡ get_or places c.loop-i.i p = search rules in
-    let n : Next (contents frames) places c.loop-i.i c.deref.result.now =
-    next-frame frames places c.loop-i.i p v c.deref.result.now few c.requires.there c.requires.few here is c.deref.ensures.value in
+    let within : c.loop-i.i < length c.args.lease.sizes = omega (arith, c.loop-i-test.true, c.loop-i.invariant.count) in
+    let n = next-frame c.args.frames.now c.args.want.now.places.items c.loop-i.i c.index.result.now c.index-frames-index.result c.deref.result.now
+    (omega (arith, within, c.requires.enough)) c.requires.there c.requires.few (search rules) (search rules) c.deref.ensures.value in
     let k = c.loop-i.invariant in
     let l = c.loop-i.lease in
     let bytes = c.deref.result.now in

@@ -1,19 +1,17 @@
-use Rattle.std.proofs.Common.{ℕ, ◌≡◌, ◌≤◌, List, Some, length, take, drop, refl, sym, ◌∙◌, ap, subst, arith, rules}
+use Rattle.std.proofs.Common.{◌≤◌, List, Some, length, take, drop, refl, sym, ◌∙◌, ap, subst, arith, rules}
 use Rattle.std.specs.Prelude.{vec_capacity, Ok}
 use Rattle.std.proofs.lemmas.List.{length-map}
 use Rattle.vale_entry.specs.declared.entry.Ask.TheVariants.{Put}
 use Rattle.vale_entry.specs.declared.entry.Item.{Item}
 use Rattle.vale_entry.specs.Legal.{IsEnabled}
 use Rattle.vale_entry.specs.Pipe.{index_of_item}
-use Rattle.vale_entry.specs.Pipe.{indices_of as item_indices}
 use Rattle.vale_book.specs.Putting.{item_of, items_of, IsPut}
 use Rattle.vale_book.specs.Recorded.{standing}
-use Rattle.vale_serve.specs.Exchange.{HasTakenOut}
 use Rattle.vale_serve.specs.Putting.{AreFramed, HasPut, bytes_in, unput}
 use Rattle.vale_serve.specs.Replies.{last_dests}
 use Rattle.vale_serve.specs.Serving.{IsServed}
 use Rattle.vale_serve.proofs.Acting.{unserved, user-same}
-use Rattle.vale_serve.proofs.PortPuts.{PutOf, put-of, can-put-is, put-enabled, put-refused, few-dests, as-few, put-served, put-kept, unput-kept, unput-served}
+use Rattle.vale_serve.proofs.PortPuts.{put-named, can-put-is, put-enabled, put-refused, few-dests, as-few, put-served, put-kept, unput-kept, unput-served}
 use Rattle.vale_serve.proofs.putting.put.Goals as goal
 
 pub returns-then-not-can_put-clause-served : goal.returns-then-not-can_put-clause-served
@@ -24,16 +22,14 @@ returns-then-not-can_put-clause-served c =
 
 pub returns-in_err-reserve_leases-clause-served : goal.returns-in_err-reserve_leases-clause-served
 returns-in_err-reserve_leases-clause-served c =
-    let full = put-refused c.args.book.now c.args.user.now c.args.port c.args.seen c.args.offered.now c.requires.legal c.requires.user c.requires.asker (sym c.can_put.ensures ∙ c.if-not-can_put.false) in
-    search rules
+    let full = put-refused c.args.book.now c.args.user.now c.args.port c.args.seen c.args.offered.now c.requires.legal c.requires.user c.requires.asker (sym c.can_put.ensures ∙ c.if-not-can_put.false) in search rules
 
 pub returns-in_err-reserve_leases-clause-kept : goal.returns-in_err-reserve_leases-clause-kept
 returns-in_err-reserve_leases-clause-kept c = user-same c.args.book.now c.args.user.now c.reserve_leases.new.self c.reserve_leases.ensures.same c.requires.user
 
 pub returns-in_err-room-clause-served : goal.returns-in_err-room-clause-served
 returns-in_err-room-clause-served c =
-    let full = put-refused c.args.book.now c.args.user.now c.args.port c.args.seen c.args.offered.now c.requires.legal c.requires.user c.requires.asker (sym c.can_put.ensures ∙ c.if-not-can_put.false) in
-    search rules
+    let full = put-refused c.args.book.now c.args.user.now c.args.port c.args.seen c.args.offered.now c.requires.legal c.requires.user c.requires.asker (sym c.can_put.ensures ∙ c.if-not-can_put.false) in search rules
 
 pub returns-in_err-room-clause-kept : goal.returns-in_err-room-clause-kept
 returns-in_err-room-clause-kept c = user-same c.args.book.now c.args.user.now c.reserve_leases.new.self c.reserve_leases.ensures.same c.requires.user
@@ -46,132 +42,68 @@ pipe_put-requires-clause-enabled c =
 
 pub pipe_put-requires-clause-of : goal.pipe_put-requires-clause-of
 pipe_put-requires-clause-of c =
-    let b = c.args.book.now in
-    let user = c.reserve_leases.new.self in
-    let held = c.take_from.new.user in
-    let gots = c.all_framed-pending.result.items in
-    let offered = c.args.offered.now in
-    let framed : AreFramed c.take_from.result.items offered gots = c.all_framed-pending.ensures in
-    let named : c.in_ok-room.room.named.items ≡ item_indices offered = c.in_ok-room.ensures.named in
-    let out : HasTakenOut user (item_indices offered) c.take_from.result.items held = subst (λ (ns : List ℕ). HasTakenOut user ns c.take_from.result.items held) (rw c.deref.ensures.value named) c.take_from.ensures in
-    let r : PutOf b user held c.args.port c.take_from.result.items gots =
-    put-of b c.args.user.now user held c.args.port c.args.seen offered c.take_from.result.items gots c.requires.legal c.requires.user c.requires.asker (sym c.can_put.ensures ∙ c.if-not-can_put.false)
-    c.reserve_leases.ensures.same out framed in
+    let r = put-named c.args.book.now c.args.user.now c.reserve_leases.new.self c.take_from.new.user c.args.port c.args.seen c.args.offered.now c.take_from.result.items c.all_framed-pending.result.items
+    c.requires.legal c.requires.user c.requires.asker (sym c.can_put.ensures ∙ c.if-not-can_put.false) c.reserve_leases.ensures.same c.take_from.ensures (rw c.deref.ensures.value c.in_ok-room.ensures.named) c.all_framed-pending.ensures in
     r.region_is
 
 pub took-reply-requires-clause-dests : goal.took-reply-requires-clause-dests
 took-reply-requires-clause-dests c =
-    let b = c.args.book.now in
-    let user = c.reserve_leases.new.self in
-    let held = c.take_from.new.user in
-    let gots = c.all_framed-pending.result.items in
-    let offered = c.args.offered.now in
-    let framed : AreFramed c.take_from.result.items offered gots = c.all_framed-pending.ensures in
-    let named : c.in_ok-room.room.named.items ≡ item_indices offered = c.in_ok-room.ensures.named in
-    let out : HasTakenOut user (item_indices offered) c.take_from.result.items held = subst (λ (ns : List ℕ). HasTakenOut user ns c.take_from.result.items held) (rw c.deref.ensures.value named) c.take_from.ensures in
-    let r : PutOf b user held c.args.port c.take_from.result.items gots =
-    put-of b c.args.user.now user held c.args.port c.args.seen offered c.take_from.result.items gots c.requires.legal c.requires.user c.requires.asker (sym c.can_put.ensures ∙ c.if-not-can_put.false)
-    c.reserve_leases.ensures.same out framed in
-    let y = c.in-Ok.ensures in
-    let is_put : IsPut b c.pipe_put.new.self c.args.port gots c.in-Ok.put = y.put in
-    let few = few-dests r is_put y.made y.room in
+    let r = put-named c.args.book.now c.args.user.now c.reserve_leases.new.self c.take_from.new.user c.args.port c.args.seen c.args.offered.now c.take_from.result.items c.all_framed-pending.result.items
+    c.requires.legal c.requires.user c.requires.asker (sym c.can_put.ensures ∙ c.if-not-can_put.false) c.reserve_leases.ensures.same c.take_from.ensures (rw c.deref.ensures.value c.in_ok-room.ensures.named) c.all_framed-pending.ensures in
+    let is_put : IsPut c.args.book.now c.pipe_put.new.self c.args.port c.all_framed-pending.result.items c.in-Ok.put = c.in-Ok.ensures.put in
+    let few = few-dests r is_put c.in-Ok.ensures.made c.in-Ok.ensures.room in
     let entries = ap (λ h. length (last_dests h)) c.history.ensures.entries in
     let room = c.in_ok-room.ensures.dests in
     omega (arith, few, entries, room)
 
 pub take_in-requires-clause-room : goal.take_in-requires-clause-room
 take_in-requires-clause-room c =
-    let b = c.args.book.now in
-    let user = c.reserve_leases.new.self in
-    let held = c.take_from.new.user in
-    let gots = c.all_framed-pending.result.items in
-    let offered = c.args.offered.now in
-    let framed : AreFramed c.take_from.result.items offered gots = c.all_framed-pending.ensures in
-    let named : c.in_ok-room.room.named.items ≡ item_indices offered = c.in_ok-room.ensures.named in
-    let out : HasTakenOut user (item_indices offered) c.take_from.result.items held = subst (λ (ns : List ℕ). HasTakenOut user ns c.take_from.result.items held) (rw c.deref.ensures.value named) c.take_from.ensures in
-    let r : PutOf b user held c.args.port c.take_from.result.items gots =
-    put-of b c.args.user.now user held c.args.port c.args.seen offered c.take_from.result.items gots c.requires.legal c.requires.user c.requires.asker (sym c.can_put.ensures ∙ c.if-not-can_put.false)
-    c.reserve_leases.ensures.same out framed in
-    let y = c.in-Ok.ensures in
-    let is_put : IsPut b c.pipe_put.new.self c.args.port gots c.in-Ok.put = y.put in
-    let few = as-few r is_put y.made y.room in
-    let left = ap (λ gs. length gs) y.pending in
-    let fewer = out.bufs.fewer in
-    let capacity = out.capacity in
-    let size = length-map offered index_of_item in
-    let items = ap (λ (its : List Item). length its) framed.items in
-    let count = length-map gots item_of in
-    let room : length user.bufs.items ≤ vec_capacity user.bufs = search rules in
-    omega (arith, few, left, fewer, capacity, size, items, count, room)
+    let r = put-named c.args.book.now c.args.user.now c.reserve_leases.new.self c.take_from.new.user c.args.port c.args.seen c.args.offered.now c.take_from.result.items c.all_framed-pending.result.items
+    c.requires.legal c.requires.user c.requires.asker (sym c.can_put.ensures ∙ c.if-not-can_put.false) c.reserve_leases.ensures.same c.take_from.ensures (rw c.deref.ensures.value c.in_ok-room.ensures.named) c.all_framed-pending.ensures in
+    let is_put : IsPut c.args.book.now c.pipe_put.new.self c.args.port c.all_framed-pending.result.items c.in-Ok.put = c.in-Ok.ensures.put in
+    let few = as-few r is_put c.in-Ok.ensures.made c.in-Ok.ensures.room in
+    let left = ap (λ gs. length gs) c.in-Ok.ensures.pending in
+    let fewer = r.out.bufs.fewer in
+    let capacity = r.out.capacity in
+    let size = length-map (items_of c.all_framed-pending.result.items) index_of_item in
+    let count = length-map c.all_framed-pending.result.items item_of in
+    let room : length c.reserve_leases.new.self.bufs.items ≤ vec_capacity c.reserve_leases.new.self.bufs = search rules in
+    omega (arith, few, left, fewer, capacity, size, count, room)
 
 pub returns-in-Ok-clause-served : goal.returns-in-Ok-clause-served
 returns-in-Ok-clause-served c =
-    let b = c.args.book.now in
-    let user = c.reserve_leases.new.self in
-    let held = c.take_from.new.user in
-    let gots = c.all_framed-pending.result.items in
-    let offered = c.args.offered.now in
-    let framed : AreFramed c.take_from.result.items offered gots = c.all_framed-pending.ensures in
-    let named : c.in_ok-room.room.named.items ≡ item_indices offered = c.in_ok-room.ensures.named in
-    let out : HasTakenOut user (item_indices offered) c.take_from.result.items held = subst (λ (ns : List ℕ). HasTakenOut user ns c.take_from.result.items held) (rw c.deref.ensures.value named) c.take_from.ensures in
-    let r : PutOf b user held c.args.port c.take_from.result.items gots =
-    put-of b c.args.user.now user held c.args.port c.args.seen offered c.take_from.result.items gots c.requires.legal c.requires.user c.requires.asker (sym c.can_put.ensures ∙ c.if-not-can_put.false)
-    c.reserve_leases.ensures.same out framed in
-    let y = c.in-Ok.ensures in
-    let is_put : IsPut b c.pipe_put.new.self c.args.port gots c.in-Ok.put = y.put in
+    let r = put-named c.args.book.now c.args.user.now c.reserve_leases.new.self c.take_from.new.user c.args.port c.args.seen c.args.offered.now c.take_from.result.items c.all_framed-pending.result.items
+    c.requires.legal c.requires.user c.requires.asker (sym c.can_put.ensures ∙ c.if-not-can_put.false) c.reserve_leases.ensures.same c.take_from.ensures (rw c.deref.ensures.value c.in_ok-room.ensures.named) c.all_framed-pending.ensures in
+    let is_put : IsPut c.args.book.now c.pipe_put.new.self c.args.port c.all_framed-pending.result.items c.in-Ok.put = c.in-Ok.ensures.put in
+    let framed : AreFramed c.take_from.result.items c.args.offered.now c.all_framed-pending.result.items = c.all_framed-pending.ensures in
     let items = c.in_ok-room.ensures.items in
-    subst (λ (its : List Item). IsServed b c.pipe_put.new.self (Put c.args.port its) (Ok (Some c.took-reply.result))) framed.items
-    (put-served r is_put y.made y.room c.took-reply.result (rw (framed.items, ← items, ← c.history.ensures.entries) c.took-reply.ensures))
+    subst (λ (its : List Item). IsServed c.args.book.now c.pipe_put.new.self (Put c.args.port its) (Ok (Some c.took-reply.result))) framed.items
+    (put-served r is_put c.in-Ok.ensures.made c.in-Ok.ensures.room c.took-reply.result (rw (framed.items, ← items, ← c.history.ensures.entries) c.took-reply.ensures))
 
 pub returns-in-Ok-clause-kept : goal.returns-in-Ok-clause-kept
 returns-in-Ok-clause-kept c =
-    let b = c.args.book.now in
-    let user = c.reserve_leases.new.self in
-    let held = c.take_from.new.user in
+    let r = put-named c.args.book.now c.args.user.now c.reserve_leases.new.self c.take_from.new.user c.args.port c.args.seen c.args.offered.now c.take_from.result.items c.all_framed-pending.result.items
+    c.requires.legal c.requires.user c.requires.asker (sym c.can_put.ensures ∙ c.if-not-can_put.false) c.reserve_leases.ensures.same c.take_from.ensures (rw c.deref.ensures.value c.in_ok-room.ensures.named) c.all_framed-pending.ensures in
+    let is_put : IsPut c.args.book.now c.pipe_put.new.self c.args.port c.all_framed-pending.result.items c.in-Ok.put = c.in-Ok.ensures.put in
     let gots = c.all_framed-pending.result.items in
-    let offered = c.args.offered.now in
-    let framed : AreFramed c.take_from.result.items offered gots = c.all_framed-pending.ensures in
-    let named : c.in_ok-room.room.named.items ≡ item_indices offered = c.in_ok-room.ensures.named in
-    let out : HasTakenOut user (item_indices offered) c.take_from.result.items held = subst (λ (ns : List ℕ). HasTakenOut user ns c.take_from.result.items held) (rw c.deref.ensures.value named) c.take_from.ensures in
-    let r : PutOf b user held c.args.port c.take_from.result.items gots =
-    put-of b c.args.user.now user held c.args.port c.args.seen offered c.take_from.result.items gots c.requires.legal c.requires.user c.requires.asker (sym c.can_put.ensures ∙ c.if-not-can_put.false)
-    c.reserve_leases.ensures.same out framed in
-    let y = c.in-Ok.ensures in
-    let is_put : IsPut b c.pipe_put.new.self c.args.port gots c.in-Ok.put = y.put in
+    let framed : AreFramed c.take_from.result.items c.args.offered.now c.all_framed-pending.result.items = c.all_framed-pending.ensures in
     let frames = c.in_ok-room.ensures.frames in
-    let has : HasPut held (drop c.in-Ok.put.took gots) c.in-Ok.put.back.items c.in-Ok.put.offers (take c.in-Ok.put.took (bytes_in (items_of gots))) c.take_in.new.user =
-    rw (← y.pending, framed.items, ← frames) c.take_in.ensures in
-    put-kept r is_put y.made y.room c.take_in.new.user has c.in_ok-reserve_leases.ensures.room
+    let has : HasPut c.take_from.new.user (drop c.in-Ok.put.took gots) c.in-Ok.put.back.items c.in-Ok.put.offers (take c.in-Ok.put.took (bytes_in (items_of gots))) c.take_in.new.user =
+    rw (← c.in-Ok.ensures.pending, framed.items, ← frames) c.take_in.ensures in
+    put-kept r is_put c.in-Ok.ensures.made c.in-Ok.ensures.room c.take_in.new.user has c.in_ok-reserve_leases.ensures.room
 
 pub returns-clause-served : goal.returns-clause-served
 returns-clause-served c =
-    let b = c.args.book.now in
-    let user = c.reserve_leases.new.self in
-    let held = c.take_from.new.user in
-    let gots = c.all_framed-pending.result.items in
-    let offered = c.args.offered.now in
-    let framed : AreFramed c.take_from.result.items offered gots = c.all_framed-pending.ensures in
-    let named : c.in_ok-room.room.named.items ≡ item_indices offered = c.in_ok-room.ensures.named in
-    let out : HasTakenOut user (item_indices offered) c.take_from.result.items held = subst (λ (ns : List ℕ). HasTakenOut user ns c.take_from.result.items held) (rw c.deref.ensures.value named) c.take_from.ensures in
-    let r : PutOf b user held c.args.port c.take_from.result.items gots =
-    put-of b c.args.user.now user held c.args.port c.args.seen offered c.take_from.result.items gots c.requires.legal c.requires.user c.requires.asker (sym c.can_put.ensures ∙ c.if-not-can_put.false)
-    c.reserve_leases.ensures.same out framed in
+    let r = put-named c.args.book.now c.args.user.now c.reserve_leases.new.self c.take_from.new.user c.args.port c.args.seen c.args.offered.now c.take_from.result.items c.all_framed-pending.result.items
+    c.requires.legal c.requires.user c.requires.asker (sym c.can_put.ensures ∙ c.if-not-can_put.false) c.reserve_leases.ensures.same c.take_from.ensures (rw c.deref.ensures.value c.in_ok-room.ensures.named) c.all_framed-pending.ensures in
     let y = c.in-Err.ensures in
-    let said : IsServed b c.pipe_put.new.self (Put c.args.port (items_of gots)) (unput c.in-Err.fault) = unput-served r c.pipe_put.new.self c.in-Err.fault y.made y.room y.err y.refused in
-    rw c.unput.ensures (subst (λ (its : List Item). IsServed b c.pipe_put.new.self (Put c.args.port its) (unput c.in-Err.fault)) framed.items said)
+    let framed : AreFramed c.take_from.result.items c.args.offered.now c.all_framed-pending.result.items = c.all_framed-pending.ensures in
+    let said : IsServed c.args.book.now c.pipe_put.new.self (Put c.args.port (items_of c.all_framed-pending.result.items)) (unput c.in-Err.fault) = unput-served r c.pipe_put.new.self c.in-Err.fault y.made y.room y.err y.refused in
+    rw c.unput.ensures (subst (λ (its : List Item). IsServed c.args.book.now c.pipe_put.new.self (Put c.args.port its) (unput c.in-Err.fault)) framed.items said)
 
 pub returns-clause-kept : goal.returns-clause-kept
 returns-clause-kept c =
-    let b = c.args.book.now in
-    let user = c.reserve_leases.new.self in
-    let held = c.take_from.new.user in
-    let gots = c.all_framed-pending.result.items in
-    let offered = c.args.offered.now in
-    let framed : AreFramed c.take_from.result.items offered gots = c.all_framed-pending.ensures in
-    let named : c.in_ok-room.room.named.items ≡ item_indices offered = c.in_ok-room.ensures.named in
-    let out : HasTakenOut user (item_indices offered) c.take_from.result.items held = subst (λ (ns : List ℕ). HasTakenOut user ns c.take_from.result.items held) (rw c.deref.ensures.value named) c.take_from.ensures in
-    let r : PutOf b user held c.args.port c.take_from.result.items gots =
-    put-of b c.args.user.now user held c.args.port c.args.seen offered c.take_from.result.items gots c.requires.legal c.requires.user c.requires.asker (sym c.can_put.ensures ∙ c.if-not-can_put.false)
-    c.reserve_leases.ensures.same out framed in
+    let r = put-named c.args.book.now c.args.user.now c.reserve_leases.new.self c.take_from.new.user c.args.port c.args.seen c.args.offered.now c.take_from.result.items c.all_framed-pending.result.items
+    c.requires.legal c.requires.user c.requires.asker (sym c.can_put.ensures ∙ c.if-not-can_put.false) c.reserve_leases.ensures.same c.take_from.ensures (rw c.deref.ensures.value c.in_ok-room.ensures.named) c.all_framed-pending.ensures in
     let y = c.in-Err.ensures in
     unput-kept r c.pipe_put.new.self c.requires.asker.port c.requires.asker.found_is c.give_all.new.user c.pipe_put.new.pending.items c.give_all.ensures.more y.kept c.in-Err.fault y.made y.err y.refused

@@ -10,7 +10,7 @@ use Rattle.vale_serve.specs.Replies.{last_dests}
 use Rattle.vale_serve.specs.Users.{IsUser}
 use Rattle.vale_serve.proofs.Acting.{unserved, user-same, settled-parts}
 use Rattle.vale_serve.proofs.Exchanges.{back-kept}
-use Rattle.vale_serve.proofs.PortReads.{ReadOf, read-of, read-plain, can-read-is, can-read-parts, read-enabled, read-refused, few-copies, count, few-dests, read-served, read-kept}
+use Rattle.vale_serve.proofs.PortReads.{read-of, read-plain, can-read-is, can-read-parts, read-enabled, read-refused, few-copies, count, few-dests, read-served, read-kept}
 use Rattle.vale_serve.proofs.reading.read.Goals as goal
 
 pub returns-then-not-can_read-clause-served : goal.returns-then-not-can_read-clause-served
@@ -41,20 +41,16 @@ sync-requires-clause-of c =
 
 pub take_in-requires-clause-copies : goal.take_in-requires-clause-copies
 take_in-requires-clause-copies c =
-    let y = c.in-Ok.ensures in
-    let r : ReadOf c.args.book.now c.sync.new.book c.room_to_read.new.user c.take_from.new.user c.args.is_pipe c.args.port c.args.back.now c.take_from.result.items c.in-Ok.synced.got.items c.in-Ok.synced.offers c.ready.result =
-    read-of c.args.book.now c.sync.new.book c.args.user.now c.room_to_read.new.user c.take_from.new.user c.args.is_pipe c.args.port c.args.seen c.args.back.now c.take_from.result.items c.in-Ok.synced.got.items
-    c.in-Ok.synced.offers c.ready.result c.requires.legal c.requires.user c.requires.asker (sym c.can_read.ensures ∙ c.if-not-can_read.false) c.room_to_read.ensures.same c.take_from.ensures y.made y.said y.room y.got
-    y.single y.offers c.ready.ensures in
+    let r = read-of c.args.book.now c.sync.new.book c.args.user.now c.room_to_read.new.user c.take_from.new.user c.args.is_pipe c.args.port c.args.seen c.args.back.now c.take_from.result.items c.in-Ok.synced.got.items
+    c.in-Ok.synced.offers c.ready.result c.requires.legal c.requires.user c.requires.asker (sym c.can_read.ensures ∙ c.if-not-can_read.false) c.room_to_read.ensures.same c.take_from.ensures
+    c.in-Ok.ensures.made c.in-Ok.ensures.said c.in-Ok.ensures.room c.in-Ok.ensures.got c.in-Ok.ensures.single c.in-Ok.ensures.offers c.ready.ensures in
     rw c.in_ok-room.ensures.room.copies (few-copies c.ready.result c.in-Ok.synced.got.items (count r))
 
 pub take_in-requires-clause-room : goal.take_in-requires-clause-room
 take_in-requires-clause-room c =
-    let y = c.in-Ok.ensures in
-    let r : ReadOf c.args.book.now c.sync.new.book c.room_to_read.new.user c.take_from.new.user c.args.is_pipe c.args.port c.args.back.now c.take_from.result.items c.in-Ok.synced.got.items c.in-Ok.synced.offers c.ready.result =
-    read-of c.args.book.now c.sync.new.book c.args.user.now c.room_to_read.new.user c.take_from.new.user c.args.is_pipe c.args.port c.args.seen c.args.back.now c.take_from.result.items c.in-Ok.synced.got.items
-    c.in-Ok.synced.offers c.ready.result c.requires.legal c.requires.user c.requires.asker (sym c.can_read.ensures ∙ c.if-not-can_read.false) c.room_to_read.ensures.same c.take_from.ensures y.made y.said y.room y.got
-    y.single y.offers c.ready.ensures in
+    let r = read-of c.args.book.now c.sync.new.book c.args.user.now c.room_to_read.new.user c.take_from.new.user c.args.is_pipe c.args.port c.args.seen c.args.back.now c.take_from.result.items c.in-Ok.synced.got.items
+    c.in-Ok.synced.offers c.ready.result c.requires.legal c.requires.user c.requires.asker (sym c.can_read.ensures ∙ c.if-not-can_read.false) c.room_to_read.ensures.same c.take_from.ensures
+    c.in-Ok.ensures.made c.in-Ok.ensures.said c.in-Ok.ensures.room c.in-Ok.ensures.got c.in-Ok.ensures.single c.in-Ok.ensures.offers c.ready.ensures in
     let count' = count r in
     let fewer = c.take_from.ensures.bufs.fewer in
     let capacity = c.take_from.ensures.capacity in
@@ -68,11 +64,9 @@ take_in-requires-clause-settled c =
 
 pub take_in-requires-clause-dests : goal.take_in-requires-clause-dests
 take_in-requires-clause-dests c =
-    let y = c.in-Ok.ensures in
-    let r : ReadOf c.args.book.now c.sync.new.book c.room_to_read.new.user c.take_from.new.user c.args.is_pipe c.args.port c.args.back.now c.take_from.result.items c.in-Ok.synced.got.items c.in-Ok.synced.offers c.ready.result =
-    read-of c.args.book.now c.sync.new.book c.args.user.now c.room_to_read.new.user c.take_from.new.user c.args.is_pipe c.args.port c.args.seen c.args.back.now c.take_from.result.items c.in-Ok.synced.got.items
-    c.in-Ok.synced.offers c.ready.result c.requires.legal c.requires.user c.requires.asker (sym c.can_read.ensures ∙ c.if-not-can_read.false) c.room_to_read.ensures.same c.take_from.ensures y.made y.said y.room y.got
-    y.single y.offers c.ready.ensures in
+    let r = read-of c.args.book.now c.sync.new.book c.args.user.now c.room_to_read.new.user c.take_from.new.user c.args.is_pipe c.args.port c.args.seen c.args.back.now c.take_from.result.items c.in-Ok.synced.got.items
+    c.in-Ok.synced.offers c.ready.result c.requires.legal c.requires.user c.requires.asker (sym c.can_read.ensures ∙ c.if-not-can_read.false) c.room_to_read.ensures.same c.take_from.ensures
+    c.in-Ok.ensures.made c.in-Ok.ensures.said c.in-Ok.ensures.room c.in-Ok.ensures.got c.in-Ok.ensures.single c.in-Ok.ensures.offers c.ready.ensures in
     let few = few-dests r in
     let entries = ap (λ h. length (last_dests h)) c.history.ensures.entries in
     let room = c.in_ok-room.ensures.room.dests in
@@ -80,20 +74,16 @@ take_in-requires-clause-dests c =
 
 pub returns-in-Ok-clause-served : goal.returns-in-Ok-clause-served
 returns-in-Ok-clause-served c =
-    let y = c.in-Ok.ensures in
-    let r : ReadOf c.args.book.now c.sync.new.book c.room_to_read.new.user c.take_from.new.user c.args.is_pipe c.args.port c.args.back.now c.take_from.result.items c.in-Ok.synced.got.items c.in-Ok.synced.offers c.ready.result =
-    read-of c.args.book.now c.sync.new.book c.args.user.now c.room_to_read.new.user c.take_from.new.user c.args.is_pipe c.args.port c.args.seen c.args.back.now c.take_from.result.items c.in-Ok.synced.got.items
-    c.in-Ok.synced.offers c.ready.result c.requires.legal c.requires.user c.requires.asker (sym c.can_read.ensures ∙ c.if-not-can_read.false) c.room_to_read.ensures.same c.take_from.ensures y.made y.said y.room y.got
-    y.single y.offers c.ready.ensures in
+    let r = read-of c.args.book.now c.sync.new.book c.args.user.now c.room_to_read.new.user c.take_from.new.user c.args.is_pipe c.args.port c.args.seen c.args.back.now c.take_from.result.items c.in-Ok.synced.got.items
+    c.in-Ok.synced.offers c.ready.result c.requires.legal c.requires.user c.requires.asker (sym c.can_read.ensures ∙ c.if-not-can_read.false) c.room_to_read.ensures.same c.take_from.ensures
+    c.in-Ok.ensures.made c.in-Ok.ensures.said c.in-Ok.ensures.room c.in-Ok.ensures.got c.in-Ok.ensures.single c.in-Ok.ensures.offers c.ready.ensures in
     read-served r c.take_in.result (rw (← c.history.ensures.entries) c.take_in.ensures.reply)
 
 pub returns-in-Ok-clause-kept : goal.returns-in-Ok-clause-kept
 returns-in-Ok-clause-kept c =
-    let y = c.in-Ok.ensures in
-    let r : ReadOf c.args.book.now c.sync.new.book c.room_to_read.new.user c.take_from.new.user c.args.is_pipe c.args.port c.args.back.now c.take_from.result.items c.in-Ok.synced.got.items c.in-Ok.synced.offers c.ready.result =
-    read-of c.args.book.now c.sync.new.book c.args.user.now c.room_to_read.new.user c.take_from.new.user c.args.is_pipe c.args.port c.args.seen c.args.back.now c.take_from.result.items c.in-Ok.synced.got.items
-    c.in-Ok.synced.offers c.ready.result c.requires.legal c.requires.user c.requires.asker (sym c.can_read.ensures ∙ c.if-not-can_read.false) c.room_to_read.ensures.same c.take_from.ensures y.made y.said y.room y.got
-    y.single y.offers c.ready.ensures in
+    let r = read-of c.args.book.now c.sync.new.book c.args.user.now c.room_to_read.new.user c.take_from.new.user c.args.is_pipe c.args.port c.args.seen c.args.back.now c.take_from.result.items c.in-Ok.synced.got.items
+    c.in-Ok.synced.offers c.ready.result c.requires.legal c.requires.user c.requires.asker (sym c.can_read.ensures ∙ c.if-not-can_read.false) c.room_to_read.ensures.same c.take_from.ensures
+    c.in-Ok.ensures.made c.in-Ok.ensures.said c.in-Ok.ensures.room c.in-Ok.ensures.got c.in-Ok.ensures.single c.in-Ok.ensures.offers c.ready.ensures in
     let has : HasRead c.take_from.new.user c.in-Ok.synced.got.items c.in-Ok.synced.offers (copies_of c.ready.result) c.take_in.new.user = rw (← c.in_ok-room.ensures.room.copies) c.take_in.ensures.taken in
     read-kept r c.take_in.new.user has c.in_ok-room.ensures.fits.lease
 

@@ -22,9 +22,8 @@ invariant_of-self c =
     let buffers : length places ≡ c.args.self.now.buffers = ap (λ (p : PoolState). p.buffers) c.self.view_is in
     let within : at < length places = omega (arith, c.requires.index, c.index.ensures) in
     let empty : c.index_mut-place.result.now ≡ None = cc in
-    let none : None ≡ get_or places at None = rw empty at c.index_mut-place.ensures.value in
     let here : buf.index ≡ 2 + at = omega (arith, c.requires.index, c.index.ensures) in
-    let put : buffers_in (slice_set places at (Some buf)) ≡ with_buffer buf (buffers_in places) = buffers_in-set buf 2 places at within none here c.self.invariant.placed in
+    let put : buffers_in (slice_set places at (Some buf)) ≡ with_buffer buf (buffers_in places) = buffers_in-set buf 2 places at within (rw empty at c.index_mut-place.ensures.value) here c.self.invariant.placed in
     let count = length-set places at (Some buf) in
     let after = c.replace.ensures.after in
     record {
@@ -61,7 +60,6 @@ returns c =
     let free : buffers_in places ≡ c.args.self.now.free = ap (λ (p : PoolState). p.free) c.self.view_is in
     let within : at < length places = omega (arith, c.requires.index, c.index.ensures) in
     let empty : c.index_mut-place.result.now ≡ None = cc in
-    let none : None ≡ get_or places at None = rw empty at c.index_mut-place.ensures.value in
     let here : buf.index ≡ 2 + at = omega (arith, c.requires.index, c.index.ensures) in
-    let put : buffers_in (slice_set places at (Some buf)) ≡ with_buffer buf (buffers_in places) = buffers_in-set buf 2 places at within none here c.self.invariant.placed in
+    let put : buffers_in (slice_set places at (Some buf)) ≡ with_buffer buf (buffers_in places) = buffers_in-set buf 2 places at within (rw empty at c.index_mut-place.ensures.value) here c.self.invariant.placed in
     rw (c.replace.ensures.after, put, length-set places at (Some buf), buffers, free) refl

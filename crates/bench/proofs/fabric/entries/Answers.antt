@@ -4,7 +4,7 @@ use Rattle.nm_turn.specs.Shares.{IsWhole}
 use Rattle.vale_fabric.specs.Fabrics.{Knowing, knowing}
 use Rattle.bench.specs.Comers.{HaveLeft, IsWorth}
 use Rattle.bench.proofs.Comers.{whole-worth, all-free}
-use Rattle.bench.proofs.fabric.count_entries.Goals as goal
+use Rattle.bench.proofs.fabric.entries.Goals as goal
 
 pub close-requires-2 : goal.close-requires-2
 close-requires-2 g c =
