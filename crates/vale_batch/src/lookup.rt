@@ -1,4 +1,5 @@
-ghost use Rattle.std.specs.Prelude.{List, ◌≡◌, ◌<◌, ◌≤◌, ◌^◌, All, length, map, true, count_by, IfOk, IfSome, OnOk, OnErr};
+//! A batch whose frames were looked up, before any port is listed.
+ghost use Rattle.std.specs.Prelude.{List, ◌≡◌, ◌<◌, ◌≤◌, ◌^◌, All, length, map, true, count_by, IfOk, IfSome, IfNone, OnOk, OnErr};
 ghost use Rattle.std.specs.List.{list_any};
 ghost use Rattle.vale_batch.specs.Looking.{IsFrame, looked_up_batch, learned_of_batch, untaught_all};
 ghost use Rattle.nm_types.specs.declared.id.PortId.{PortId};
@@ -68,6 +69,8 @@ impl Lookup {
         ensures some { IfSome result (λ port. 1 ≤ length self.now.all) }
         ensures alone { IfSome result (λ port.
             All (λ looked. goes_alone port looked ≡ true) self.now.all) }
+        ensures none { IfNone result ((port : PortId) → 1 ≤ length self.now.all
+            → All (λ looked. goes_alone port looked ≡ true) self.now.all → ⊥) }
         ensures short { IfSome result (λ _. 0 ≡ count_by is_short_destination self.now.all) }
         ensures lone { IfSome result (λ _. (ports : List PortId)
             → 0 ≡ count_by (is_lone self.now.from ports) self.now.all) }

@@ -1,6 +1,6 @@
 //! Batches whose frames all go to one port alone: nothing is listed for the other ports, and no
 //! frame is looked for among flooded, short and lone ones.
-ghost use Rattle.std.specs.Prelude.{List, ◌≡◌, ◌<◌, ◌≤◌, ◌^◌, [], All, length, map, true, count_by, IsTrue, IfOk, IfSome};
+ghost use Rattle.std.specs.Prelude.{List, ◌≡◌, ◌<◌, ◌≤◌, ◌^◌, [], All, length, map, true, count_by, IsTrue, IfOk, IfSome, IfNone};
 ghost use Rattle.std.specs.List.{list_any, range_with_len};
 ghost use Rattle.nm_types.specs.declared.id.PortId.{PortId};
 ghost use Rattle.vale_batch.specs.Wants.{goes_alone, is_port, port_number, size_of, wanted, wants_of, IsRising};
@@ -23,7 +23,8 @@ fn goes_alone(looked: &Looked, port: PortId) -> bool
 }
 
 fn all_go_alone(all: &[Looked], port: PortId) -> bool
-    ensures { IsTrue result → All (λ looked. goes_alone port looked ≡ true) all.now }
+    ensures alone { IsTrue result → All (λ looked. goes_alone port looked ≡ true) all.now }
+    ensures other { All (λ looked. goes_alone port looked ≡ true) all.now → IsTrue result }
 {
     all.iter().all(|looked| goes_alone(looked, port))
 }
@@ -34,6 +35,8 @@ pub(crate) fn sole_port(all: &[Looked]) -> Option<PortId>
     ensures some { IfSome result (λ port. 1 ≤ length all.now) }
     ensures alone { IfSome result (λ port.
         All (λ looked. goes_alone port looked ≡ true) all.now) }
+    ensures none { IfNone result ((port : PortId) → 1 ≤ length all.now
+        → All (λ looked. goes_alone port looked ≡ true) all.now → ⊥) }
 {
     if all.is_empty() {
         return None;

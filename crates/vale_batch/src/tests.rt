@@ -1,7 +1,7 @@
 ghost use Rattle.std.specs.Prelude.{◌≡◌, ◌≤◌, All, length};
 ghost use Rattle.vale_batch.specs.Looking.{IsFrame};
 
-use crate::{Lists, classify};
+use crate::{Lists, Lookup, classify};
 use nm_types::{Batch, PortId};
 use std::alloc::Global;
 use std::process::Abort;
@@ -50,6 +50,23 @@ fn send(
     let ports = [PortId(4), PortId(5), PortId(6)];
     match classify(alloc, table, &ports, PortId(from), &batch) {
         Ok(lists) => lists,
+        Err(_) => panic!(rt; "no memory"),
+    }
+}
+
+/// The port to which all of some frames from a port go, each to it alone.
+fn sole(
+    rt: &impl Abort,
+    alloc: Global,
+    table: &mut Table,
+    from: u32,
+    frames: &[(&[u8], bool)],
+) -> Option<PortId>
+    requires { length frames.now ≤ 8 }
+{
+    let batch = batch_of(rt, alloc, frames);
+    match Lookup::new(alloc, table, PortId(from), &batch) {
+        Ok(lookup) => lookup.sole(),
         Err(_) => panic!(rt; "no memory"),
     }
 }
@@ -122,9 +139,13 @@ fn all_frames_to_one_port(rt: HostRuntime) {
     let own = send(&rt, rt.alloc(), &mut table, 4, &[(TO_SELF, false)]);
     assert_counts(&rt, &own, 0, 0, 1);
     let frames = [(TO_A, false), (TO_A, false)];
-    let sole = send(&rt, rt.alloc(), &mut table, 5, &frames);
-    assert_counts(&rt, &sole, 1, 0, 0);
-    assert!(rt; wants(&rt, rt.alloc(), &sole, 0, 4, &[0, 1], &[1, 1]));
+    let sent = send(&rt, rt.alloc(), &mut table, 5, &frames);
+    assert_counts(&rt, &sent, 1, 0, 0);
+    assert!(rt; wants(&rt, rt.alloc(), &sent, 0, 4, &[0, 1], &[1, 1]));
+    assert!(rt; sole(&rt, rt.alloc(), &mut table, 5, &frames) == Some(PortId(4)));
+    let mixed = [(TO_A, false), (TO_ALL, true)];
+    assert!(rt; sole(&rt, rt.alloc(), &mut table, 5, &mixed).is_none());
+    assert!(rt; sole(&rt, rt.alloc(), &mut table, 5, &[]).is_none());
 }
 
 #[test]
