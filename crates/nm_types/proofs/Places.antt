@@ -1,7 +1,7 @@
 -- A batch's frames lie side by side, and stay where they are while its bytes grow.
 use Rattle.std.proofs.Common.{ℕ, zero, suc, List, [], ◌∷◌, ◌++◌, ◌≡◌, ◌<◌, ◌≤◌, ◌+◌, ◌-◌, ◌∙◌, Bool, true, false, Some, length, take, drop, slice_get, refl, sym, ap, arith, slice_range}
 use Rattle.std.specs.Prelude.{slice_index, slice_index_or}
-use Rattle.std.proofs.lemmas.List.{length-append, length_push, take-append-le, drop-append-le, length-drop, length-take, take_all, take-append-drop, get_or_past, get_or_push, get_or_append_left}
+use Rattle.std.proofs.lemmas.List.{length-append, length_push, take-append-le, drop-append-le, length-drop, length-take, take_all, get_or_past, get_or_push, get_or_append_left}
 use Rattle.std.proofs.Math.Seq.{drop-append_seam}
 use Rattle.std.proofs.lemmas.List.Sums.{sum_by-cons}
 use Rattle.nm_types.specs.Frames.{Frame, bytes_of_frames}
@@ -101,53 +101,6 @@ frames_more b more (e ∷ ends) marks now mark s a same last =
 pub ends_more : (s : ℕ) (b more ends : List ℕ) → AreEnds s (length b) ends → AreEnds s (length b + length more) (ends ++ (length b + length more) ∷ [])
 ends_more s b more [] a = let start : s ≡ length b = a in (omega (arith, start), refl)
 ends_more s b more (e ∷ ends) a = (a.0, ends_more e b more ends a.1)
-
--- the first frames
-pub frames_taken : (b ends : List ℕ) (marks : List Bool) (s n : ℕ) → frames_from b (take n ends) marks s ≡ take n (frames_from b ends marks s)
-frames_taken b ends marks s zero = refl
-frames_taken b [] marks s (suc n) = refl
-frames_taken b (e ∷ ends) marks s (suc n) = ap (λ (fs : List Frame). framed (slice_range b s e) (slice_index_or marks 0 false) ∷ fs) (frames_taken b ends (drop 1 marks) e n)
-
-pub ends_taken : (s size : ℕ) (ends : List ℕ) (n : ℕ) → AreEnds s size ends → AreEnds s (start_at s ends n) (take n ends)
-ends_taken s size ends zero a = refl
-ends_taken s size [] (suc n) a = refl
-ends_taken s size (e ∷ ends) (suc n) a = (a.0, ends_taken e size ends n a.1)
-
-frames_grow : (b more ends : List ℕ) (marks : List Bool) (s : ℕ) → AreEnds s (length b) ends → frames_from (b ++ more) ends marks s ≡ frames_from b ends marks s
-frames_grow b more [] marks s a = refl
-frames_grow b more (e ∷ ends) marks s a =
-    let within = start_within e (length b) ends zero a.1 in
-    let first = ap (λ (x : List ℕ). framed x (slice_index_or marks 0 false)) (range_grows b more s e a.0 within) in
-    let rest = frames_grow b more ends (drop 1 marks) e a.1 in
-    both_same first rest
-
--- marks of the first frames
-frames_marked_first : (b ends : List ℕ) (marks : List Bool) (s n : ℕ) → length ends ≤ n → frames_from b ends (take n marks) s ≡ frames_from b ends marks s
-frames_marked_first b [] marks s n h = refl
-frames_marked_first b (e ∷ ends) [] s zero h = refl
-frames_marked_first b (e ∷ ends) [] s (suc n) h = refl
-frames_marked_first b (e ∷ ends) (m ∷ marks) s zero h = absurd (omega arith)
-frames_marked_first b (e ∷ ends) (m ∷ marks) s (suc n) h = ap (λ (fs : List Frame). framed (slice_range b s e) m ∷ fs) (frames_marked_first b ends marks e n (omega (arith, h)))
-
--- what is left of a run of which only the first frames are
-pub record Cut (b ends : List ℕ) (marks : List Bool) (n : ℕ) : Type 0 where
-  pub frames : frames_from (take (start_at 0 ends n) b) (take n ends) (take n marks) 0 ≡ take n (frames_from b ends marks 0)
-  pub is : IsRun (take (start_at 0 ends n) b) (take n ends) (take n marks)
-
-pub cut_run : (b ends : List ℕ) (marks : List Bool) (n : ℕ) → IsRun b ends marks → n ≤ length ends → Cut b ends marks n
-cut_run b ends marks n is few =
-    let at = start_at 0 ends n in
-    let within = start_within 0 (length b) ends n is.cut in
-    let size : length (take at b) ≡ at = simp length-take (omega (arith, within)) in
-    let count : length (take n ends) ≡ n = simp length-take (omega (arith, few)) in
-    let marked : length (take n marks) ≤ n = simp length-take (omega arith) in
-    let cut : AreEnds 0 (length (take at b)) (take n ends) = rw size (ends_taken 0 (length b) ends n is.cut) in
-    let whole : frames_from (take at b ++ drop at b) (take n ends) (take n marks) 0 ≡ frames_from (take at b) (take n ends) (take n marks) 0 = frames_grow (take at b) (drop at b) (take n ends) (take n marks) 0 cut in
-    let joined : frames_from (take at b ++ drop at b) (take n ends) (take n marks) 0 ≡ frames_from b (take n ends) (take n marks) 0 = ap (λ (x : List ℕ). frames_from x (take n ends) (take n marks) 0) (take-append-drop at b) in
-    record {
-      frames = sym whole ∙ (joined ∙ (frames_marked_first b (take n ends) marks 0 n (omega (arith, count)) ∙ frames_taken b ends marks 0 n));
-      is = record { cut = cut; few = omega (arith, count, marked) };
-    }
 
 -- behind the marks no frame is marked
 pub mark_last : (marks : List Bool) (n : ℕ) → length marks ≤ n → slice_index_or marks n false ≡ false

@@ -2,6 +2,7 @@ ghost use Rattle.std.specs.Prelude.{ℕ, ◌≡◌, ◌<◌, ◌≤◌, ◌+◌,
 ghost use Rattle.std.specs.Prelude.{slice_get, slice_index, slice_index_or, slice_range, option_map, Some, true, false, IsTrue, ◌↔◌};
 ghost use Rattle.std.specs.List.{list_all};
 ghost use Rattle.std.specs.Vec.{vec_capacity};
+ghost use Rattle.std.specs.Arc.{arc_value};
 ghost use Rattle.nm_types.specs.Ends.{start_at};
 ghost use Rattle.nm_types.specs.Frames.{bytes_of_frames};
 ghost use Rattle.nm_types.specs.Sendable.{fits_buffer, is_sendable};
@@ -10,6 +11,7 @@ use crate::fault::NoMemory;
 use crate::limits::{BUFFER_BYTES, MAX_BATCH};
 use std::alloc::{AllocError, Global};
 use std::marker::Model;
+use std::sync::Arc;
 
 /// An Ethernet frame: its bytes, and the mark that the switch is not to learn its source
 /// (`NS_NO_LEARN` of netmap(4)).
@@ -232,32 +234,22 @@ impl Run {
     {
         self.bytes.len()
     }
-
-    fn truncate(&mut self, len: usize)
-        ensures { self.new ≡ take len self.old }
-    {
-        if len < self.ends.len() {
-            let end = start_at(&self.ends, len) as usize;
-            self.bytes.truncate(end);
-            self.ends.truncate(len);
-            self.marks.truncate(len);
-        }
-    }
 }
 
 /// An empty run, behind a pointer.
 #[inline(never)]
-fn empty_run(alloc: Global) -> Result<Box<Run>, AllocError>
-    ensures { IfOk result (λ run. run.value ≡ []) }
+fn empty_run(alloc: Global) -> Result<Arc<Run>, AllocError>
+    ensures { IfOk result (λ run. arc_value run ≡ []) }
 {
-    Ok(Box::new(alloc, Run::new(alloc))?)
+    Ok(Arc::new(alloc, Run::new(alloc))?)
 }
 
 /// A list of frames. Their bytes lie in one buffer, behind one pointer, so that a stored batch is
-/// small. For 4 GiB of bytes there is no memory.
+/// small. A clone shares the frames, and takes no memory until one of the two is changed. For 4 GiB
+/// of bytes there is no memory.
 #[derive(Clone, Drop)]
 pub struct Batch {
-    run: Option<Box<Run>>,
+    run: Option<Arc<Run>>,
     alloc: Global,
 }
 
@@ -286,11 +278,11 @@ impl Batch {
         ensures { self.new ≡ self.old }
     {
         match &mut self.run {
-            Some(run) => run.reserve(frames, bytes)?,
+            Some(run) => Arc::make_mut(run)?.reserve(frames, bytes)?,
             None => {
                 let mut run = Run::new(self.alloc);
                 run.reserve(frames, bytes)?;
-                self.run = Some(Box::new(self.alloc, run)?);
+                self.run = Some(Arc::new(self.alloc, run)?);
             }
         }
         Ok(())
@@ -306,7 +298,7 @@ impl Batch {
             self.run = Some(empty_run(self.alloc)?);
         }
         match &mut self.run {
-            Some(run) => run.push(bytes, no_learn)?,
+            Some(run) => Arc::make_mut(run)?.push(bytes, no_learn)?,
             None => unreachable!(),
         }
         Ok(())
@@ -385,14 +377,5 @@ impl Batch {
         ensures { result ≡ is_sendable self.now }
     {
         self.len() <= MAX_BATCH && self.fit_buffers()
-    }
-
-    /// Keeps the first `len` frames.
-    pub fn truncate(&mut self, len: usize)
-        ensures { self.new ≡ take len self.old }
-    {
-        if let Some(run) = &mut self.run {
-            run.truncate(len);
-        }
     }
 }

@@ -141,9 +141,10 @@ fn batches_hold_frames_in_order(rt: HostRuntime) -> Result<(), Fail> {
     assert!(rt; batch.is_sendable());
     assert_eq!(rt; batch.size(), 20);
     let copy = batch.clone()?;
-    batch.truncate(1);
-    assert_eq!(rt; batch.len(), 1);
+    batch.push(&BROADCAST[..1], false)?;
+    assert_eq!(rt; batch.len(), 3);
     assert_eq!(rt; copy.len(), 2);
+    assert!(rt; copy.no_learn(1));
     Ok(())
 }
 
