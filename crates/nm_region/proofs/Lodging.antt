@@ -1,6 +1,6 @@
--- `lodge` and `dislodge` at a call, for room of c bytes, and that two vectors that have room lie apart.
+-- `lodge` and `dislodge` at a call, for room of c bytes, and that two parts lie apart.
 -- Assumes `Logic`, and `apart` a `Model` too.
-use Rattle.std.proofs.Common.{◌≡◌, ◌≢◌, ℕ, ◌+◌, ◌-◌, ◌*◌, ◌^◌, ◌<◌, ◌≤◌, List, [], ◌∷◌, length, true, nat_eq, inl, inr, refl, sym, ap, ◌∙◌, arith, Vec}
+use Rattle.std.proofs.Common.{◌≡◌, ◌≢◌, ℕ, ◌+◌, ◌-◌, ◌*◌, ◌^◌, ◌<◌, ◌≤◌, List, [], ◌∷◌, length, true, nat_eq, inl, inr, refl, sym, ap, ◌∙◌, arith, lit<, Vec}
 use Rattle.std.specs.Prelude.{◌⊎◌}
 use Rattle.std.proofs.lemmas.Bool.{cases_Bool, ne_eqb, not_from_false}
 use Rattle.std.proofs.lemmas.Bool.Decides.{nat_tests}
@@ -47,6 +47,7 @@ use Rattle.std_alloc.specs.contracts.vec.lodged.Vec+T+Lodged.dislodge as DL
 use Rattle.std_alloc.proofs.vec.Vec.TheLaws as vec_laws
 use Rattle.std_alloc.proofs.vec.lodged.Lodged.TheLaws as lodged-laws
 use Rattle.nm_region.specs.Parts.{bytes_of}
+use Rattle.nm_region.specs.contracts.part.Part as P
 
 abbrev pub byte_laws : Laws u8
 byte_laws = of_field u8-field u8-laws refl (copy_shared u8-field u8-copy)
@@ -58,7 +59,7 @@ abbrev pub housed-laws : Laws Housed
 housed-laws = vec_laws.the_row_laws u8 L.the_row ghosts byte_laws lodged-laws.the_row_laws
 
 -- the memory of a vector, which it has unless the capacity is 0
-abbrev memory : Ptr → ℕ → ℕ → List ℕ → Fml
+abbrev pub memory : Ptr → ℕ → ℕ → List ℕ → Fml
 memory p n c xs = in_block p (owns_if (has_block c) (block_with_items (λ _ _. ftrue) u8 p n c xs))
 
 live : (c : ℕ) → 0 < c → has_block c ≡ true
@@ -93,11 +94,25 @@ module _ {M : Type 1} {𝓤 : Ura M} (𝓛 : Logic 𝓤) where
       rewrite ! 0 (λ (k : ℕ). ‵ (froom (bytes_of k) b o)) sum refl $ done !)
 
   -- whatever is written there, a vector's memory is room
-  memory_room : (b o n c : ℕ) (xs : List ℕ) → n ≤ c → 0 < c → ent 𝓤 (sem 𝓛 (memory (block_ptr b o) n c xs)) (H.room (bytes_of c) b o)
+  pub memory_room : (b o n c : ℕ) (xs : List ℕ) → n ≤ c → 0 < c → ent 𝓤 (sem 𝓛 (memory (block_ptr b o) n c xs)) (H.room (bytes_of c) b o)
   memory_room b o n c xs le filled =
       qed 𝓛 (‵ (memory (block_ptr b o) n c xs) ∷ []) ∵
       rewrite ! 0 (λ y. ‵ (owns_if y (block_with_items (λ _ _. ftrue) u8 (block_ptr b o) n c xs))) (live c filled) refl $
       fsplit3 ! $ keep ! (0 ∷ 1 ∷ []) $ fjoin ! $ by ! (all_room b o n c xs le)
+
+  -- nothing lies at null
+  pub nowhere : (n c : ℕ) (xs : List ℕ) → ent 𝓤 (sem 𝓛 (lodged u8 null_ptr n c xs)) (never 𝓤)
+  nowhere n c xs = qed 𝓛 (‵ (lodged u8 null_ptr n c xs) ∷ []) ∵ fsplit ! $ drop ! $ by ! (id⊢ 𝓤 (never 𝓤))
+
+  -- room is memory of which nothing is written
+  pub unwritten : (b o c : ℕ) → 0 < c → c < 2 ^ 63 → ent 𝓤 (H.room (bytes_of c) b o) (sem 𝓛 (lodged u8 (block_ptr b o) 0 c []))
+  unwritten b o c filled small =
+      let p = block_ptr b o in
+      let all : c ≡ c - 0 = omega arith in
+      let here : o ≡ o + 0 * 1 = sym (add-zero o) in
+      qed 𝓛 (‵ (froom (bytes_of c) b o) ∷ []) ∵ rewrite ! 0 (λ (k : ℕ). ‵ (froom (bytes_of k) b o)) all refl $ rewrite ! 0 (λ (j : ℕ). ‵ (froom (bytes_of (c - 0)) b j)) here refl $
+      nothing ! $ use0 𝓛 (‵ (lies_at (Array u8 0) full_share p [])) (none_lie b o) $ move ! (0 ∷ 2 ∷ 1 ∷ []) $ fjoin3 ! $
+      rewrite ! 0 (λ y. ‵ (owns_if y (block_with_items (λ _ _. ftrue) u8 p 0 c []))) (sym (live c filled)) refl $ flt_i ! (c * 1) (2 ^ 63) (omega arith) $ fjoin ! $ done !
 
 module _ {M : Type 1} {𝓤 : Ura M} (𝓛 : Logic 𝓤) (at_mem : Memory → SProp 𝓤) (run : Routine → Fun 𝓤) where
   open 𝓛 use {H}
@@ -115,15 +130,10 @@ module _ {M : Type 1} {𝓤 : Ura M} (𝓛 : Logic 𝓤) (at_mem : Memory → SP
     abbrev pub IsLodged : Vec ℕ Lodged → Type 0
     IsLodged r = (r.items ≡ []) × (r.len ≡ 0) × (r.cap ≡ c) × (r.ptr ≡ block_ptr b o)
 
-    pub lodge_goes : 0 < c → c < 2 ^ 63 → ent 𝓤 (H.room (bytes_of c) b o) (Lodges.pre at_lodge)
+    pub lodge_goes : 0 < c → c < 2 ^ 63 → ent 𝓤 (sem 𝓛 (lodged u8 (block_ptr b o) 0 c [])) (Lodges.pre at_lodge)
     lodge_goes filled small =
-        let p = block_ptr b o in
         let Asked : Type 0 = (0 ≡ length {A = ℕ} []) × (0 ≤ c) × (c < 2 ^ 63) in
-        let all : c ≡ c - 0 = omega arith in
-        let here : o ≡ o + 0 * 1 = sym (add-zero o) in
-        qed 𝓛 (‵ (froom (bytes_of c) b o) ∷ []) ∵ rewrite ! 0 (λ (k : ℕ). ‵ (froom (bytes_of k) b o)) all refl $ rewrite ! 0 (λ (j : ℕ). ‵ (froom (bytes_of (c - 0)) b j)) here refl $
-        nothing ! $ use0 𝓛 (‵ (lies_at (Array u8 0) full_share p [])) (none_lie 𝓛 b o) $ move ! (0 ∷ 2 ∷ 1 ∷ []) $ fjoin3 ! $
-        rewrite ! 0 (λ y. ‵ (owns_if y (block_with_items (λ _ _. ftrue) u8 p 0 c []))) (sym (live c filled)) refl $ flt_i ! (c * 1) (2 ^ 63) (omega arith) $ fjoin ! $
+        qed 𝓛 (‵ (lodged u8 (block_ptr b o) 0 c []) ∷ []) ∵
         use0 𝓛 (raw (fact 𝓤 Asked)) (fact_i 𝓤 Asked (emp 𝓤) (refl, omega arith, small)) $ join ! $
         use0 𝓛 (raw (fact 𝓤 ([] ⊑ []))) (fact_i 𝓤 ([] ⊑ []) (emp 𝓤) (⊑_refl [])) $ join ! $
         nothing ! $ flt_i ! c (2 ^ 64) (omega arith) $ feq_i ! (List Val) (vint w64 c ∷ []) (vint w64 c ∷ []) refl $ fjoin ! $ fjoin ! $
@@ -147,19 +157,13 @@ module _ {M : Type 1} {𝓤 : Ura M} (𝓛 : Logic 𝓤) (at_mem : Memory → SP
         qed 𝓛 (‵ (Housed.own_val d (u ∷ [])) ∷ []) ∵ nothing ! $ use0 𝓛 (raw (fact 𝓤 ([] ⊑ []))) (fact_i 𝓤 ([] ⊑ []) (emp 𝓤) (⊑_refl [])) $ join ! $
         nothing ! $ move ! (2 ∷ 0 ∷ []) $ fjoin ! $ nothing ! $ use0 𝓛 (‵ (flft [] full_share)) (𝓛.lfts.lft-nil full_share) $ join ! $ join ! $ done !
 
-    -- whatever lies there, the room comes back
-    pub dislodge_gives : (b o c : ℕ) → d.cap ≡ c → 0 < c → d.ptr ≡ block_ptr b o → (v : Val)
-        → ent 𝓤 (Dislodges.post at_dislodge v) (H.⇛ (guard 𝓤 ((v ≡ vint w64 d.len) × (d.len < 2 ^ 64)) (H.room (bytes_of c) b o)))
-    dislodge_gives b o c is_c filled at v =
-        let some_cap : 0 < d.cap = omega (arith, is_c) in
+    pub dislodge_gives : (v : Val) → ent 𝓤 (Dislodges.post at_dislodge v) (H.⇛ (guard 𝓤 ((v ≡ vint w64 d.len) × (d.len < 2 ^ 64)) (sem 𝓛 (lodged u8 d.ptr d.len d.cap d.items))))
+    dislodge_gives v =
         qed 𝓛 (raw (Dislodges.post at_dislodge v) ∷ []) ∵ updating ! $
         use1 𝓛 (later (some (λ (r : ℕ). ((‵ (flft [] full_share) ⊛ ‵ ftrue) ⊛ ‵ (usize.own_val r (v ∷ [])))
         ⊛ some (λ (ws : Unit {0} × Unit {0}). ‵ (fsep (left ((V.the_row (param 0 u8) L.the_row ghosts).exit no) d ws.0) ftrue) ⊛ raw (fact 𝓤 (r ≡ d.len)) ⊛ ‵ (lodged u8 d.ptr d.len d.cap d.items))))) (id⊢ 𝓤 _) $ await ! tt $ pick ! (λ r.
         split ! $ move ! (1 ∷ []) $ pick ! (λ ws. split3 ! $ drop ! $ heard ! (r ≡ d.len) (λ is. move ! (1 ∷ []) $ split ! $ drop ! $ fsplit ! $ feq_l ! (λ e. flt_l ! (λ f. now ! $
-        check ! (ap only e ∙ ap (vint w64) is, omega arith) $ fsplit ! $ drop ! $
-        rewrite ! 0 (λ (p : Ptr). ‵ (memory p d.len d.cap d.items)) at refl $
-        use1 𝓛 (‵ (froom (bytes_of d.cap) b o)) (memory_room 𝓛 b o d.len d.cap d.items d.ok.1 some_cap) $
-        rewrite ! 0 (λ (k : ℕ). ‵ (froom (bytes_of k) b o)) is_c refl $ done !)))))
+        check ! (ap only e ∙ ap (vint w64) is, omega arith) $ done !)))))
 
 same_or_not : (p q : Ptr) → (p ≡ q) ⊎ (p ≢ q)
 same_or_not (block_ptr b o) (block_ptr b' o') = elim (cases_Bool (nat_eq b b')) [
@@ -173,23 +177,25 @@ same_or_not (block_ptr b o) null_ptr = inr (λ s. cc)
 same_or_not null_ptr (block_ptr b o) = inr (λ s. cc)
 same_or_not null_ptr null_ptr = inl refl
 
-module _ {M : Type 1} {𝓤 : Ura M} (𝓛 : Logic 𝓤) (𝓜 : Model 𝓤 𝓛.H) (d e : Vec ℕ Lodged) (us vs : List Val) (filled : 0 < d.cap) (filled' : 0 < e.cap) where
+module _ {M : Type 1} {𝓤 : Ura M} (𝓛 : Logic 𝓤) (𝓜 : Model 𝓤 𝓛.H) (d e : P.the_row.Denot) (us vs : List Val) (few : length d.items ≤ 2048) (few' : length e.items ≤ 2048) where
   abbrev Two : SProp 𝓤
-  Two = sep 𝓤 (sem 𝓛 (Housed.own_val d us)) (sem 𝓛 (Housed.own_val e vs))
+  Two = sep 𝓤 (sem 𝓛 (P.the_row.own_val d us)) (sem 𝓛 (P.the_row.own_val e vs))
 
   -- no byte is room of two
-  clash : d.ptr ≡ e.ptr → ent 𝓤 Two (never 𝓤)
+  clash : d.at ≡ e.at → ent 𝓤 Two (never 𝓤)
   clash same =
-      qed 𝓛 (‵ (Housed.own_val d us) ∷ ‵ (Housed.own_val e vs) ∷ []) ∵ fsplit ! $ drop ! $ fsplit ! $ drop ! $
-      in_a_block ! d.ptr (λ p. memory p d.len d.cap d.items) (id⊢ 𝓤 (never 𝓤)) (λ b o at.
-      use1 𝓛 (‵ (froom (bytes_of d.cap) b o)) (memory_room 𝓛 b o d.len d.cap d.items d.ok.1 filled) $ move ! (1 ∷ []) $ fsplit ! $ drop ! $ fsplit ! $ drop ! $
-      rewrite ! 0 (λ (p : Ptr). ‵ (memory p e.len e.cap e.items)) (sym same ∙ at) refl $
-      use1 𝓛 (‵ (froom (bytes_of e.cap) b o)) (memory_room 𝓛 b o e.len e.cap e.items e.ok.1 filled') $
-      by ! (𝓜.room-room (bytes_of e.cap) (bytes_of d.cap) b o o o (omega arith, omega arith) (omega arith, omega arith)))
+      let n = length d.items in
+      let m = length e.items in
+      qed 𝓛 (‵ (P.the_row.own_val d us) ∷ ‵ (P.the_row.own_val e vs) ∷ []) ∵ fsplit ! $ drop ! $ fsplit ! $ drop ! $
+      in_a_block ! d.at (λ p. memory p n 2048 d.items) (id⊢ 𝓤 (never 𝓤)) (λ b o at.
+      use1 𝓛 (‵ (froom (bytes_of 2048) b o)) (memory_room 𝓛 b o n 2048 d.items few (lit< tt)) $ move ! (1 ∷ []) $ fsplit ! $ drop ! $ fsplit ! $ drop ! $
+      rewrite ! 0 (λ (p : Ptr). ‵ (memory p m 2048 e.items)) (sym same ∙ at) refl $
+      use1 𝓛 (‵ (froom (bytes_of 2048) b o)) (memory_room 𝓛 b o m 2048 e.items few' (lit< tt)) $
+      by ! (𝓜.room-room (bytes_of 2048) (bytes_of 2048) b o o o (omega arith, omega arith) (omega arith, omega arith)))
 
-  -- two vectors with room begin at two places
-  pub apart : ent 𝓤 Two (fact 𝓤 (d.ptr ≢ e.ptr))
-  apart = elim (same_or_not d.ptr e.ptr) [
+  -- two parts begin at two places
+  pub apart : ent 𝓤 Two (fact 𝓤 (d.at ≢ e.at))
+  apart = elim (same_or_not d.at e.at) [
     | inl s ↦ via 𝓤 (never 𝓤) (clash s) (never_e 𝓤 _)
-    | inr n ↦ fact_i 𝓤 (d.ptr ≢ e.ptr) Two n
+    | inr n ↦ fact_i 𝓤 (d.at ≢ e.at) Two n
   ]

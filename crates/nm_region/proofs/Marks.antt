@@ -1,12 +1,12 @@
 -- What writing and clearing do to the mark of a buffer.
-use Rattle.std.proofs.Common.{ℕ, zero, suc, ◌≡◌, ◌+◌, ◌-◌, ◌≤◌, List, [], ◌∷◌, ◌++◌, length, take, drop, inl, inr, refl, sym, ◌∙◌, ap, subst, arith}
+use Rattle.std.proofs.Common.{ℕ, zero, suc, ◌≡◌, ◌+◌, ◌-◌, ◌<◌, ◌≤◌, Bool, true, false, List, [], ◌∷◌, ◌++◌, length, take, drop, refl, sym, ◌∙◌, ap, subst, arith}
 use Rattle.std.specs.Prelude.{replicate}
 use Rattle.std.proofs.Math.Seq.{drop-append-add, drop-append_seam}
 use Rattle.std.proofs.lemmas.List.{append-nil, length-append, length-drop, length-take-le, length-replicate, take-append-drop, drop_all, drop-replicate, replicate-append-replicate}
 use Rattle.nm_types.specs.Buffers.{cleared_but}
 use denote.RawPtr.{Ptr, block_of}
 use Rattle.nm_region.specs.Buffers.{Buffer}
-use Rattle.nm_region.specs.Marked.{written_front, cleared_between, place_of, IsMarked, IsKept}
+use Rattle.nm_region.specs.Marked.{written_front, cleared_between, place_of, AreWritten, IsMarked, IsKept}
 use Rattle.nm_region.proofs.Named.{written_over_is}
 
 -- whatever is written into lent bytes, the mark at their end holds
@@ -91,19 +91,29 @@ full_is items e =
     let none : 2048 - length items ≡ 0 = omega (arith, e) in
     ap (λ (k : ℕ). items ++ replicate k 0) none ∙ append-nil items
 
-pub kept-new : (index : ℕ) (items : List ℕ) (places : ℕ) (at : Ptr) → items ≡ [] → places ≡ 2048 → at ≡ place_of (block_of at) index → IsKept 0 index items places at
-kept-new index items places at none room place =
+pub kept-new : (index : ℕ) (items : List ℕ) (at : Ptr) → items ≡ [] → at ≡ place_of (block_of at) index → IsKept 0 index false items at
+kept-new index items at none place =
     let all : cleared_but items ≡ replicate 2048 0 = ap cleared_but none in
     record {
       mark = rw all (record { size = length-replicate {A = ℕ} 2048 0; within = omega arith; zero_behind = refl });
-      whole = inl none;
-      room = room;
+      whole = none;
+      untouched = λ _. refl;
       place = place;
     }
 
-pub kept-full : (used index : ℕ) (items : List ℕ) (places : ℕ) (at : Ptr) → length items ≡ 2048 → IsMarked used items → places ≡ 2048 → at ≡ place_of (block_of at) index → IsKept used index items places at
-kept-full used index items places at size mark room place =
-    record { mark = rw (full_is items size) mark; whole = inr size; room = room; place = place }
+pub kept-full : (used index : ℕ) (items : List ℕ) (at : Ptr) → length items ≡ 2048 → IsMarked used items → at ≡ place_of (block_of at) index → IsKept used index true items at
+kept-full used index items at size mark place =
+    record { mark = rw (full_is items size) mark; whole = size; untouched = λ e. absurd (let wrong : true ≡ false = e in cc); place = place }
+
+-- a part of which some bytes are used is written
+pub used-written : (used index : ℕ) (is_written : Bool) (items : List ℕ) (at : Ptr) → IsKept used index is_written items at → 0 < used → (is_written ≡ true) × (length items ≡ 2048)
+used-written used index true items at is some = (refl, is.whole)
+used-written used index false items at is some = absurd (let none = is.untouched refl in omega (arith, none, some))
+
+-- none of a part's bytes is written, or all 2048
+pub written-most : (is_written : Bool) (items : List ℕ) → AreWritten is_written items → length items ≤ 2048
+written-most true items size = omega (arith, size)
+written-most false items none = omega (arith, ap length none)
 
 -- a part is where it was, for its buffer, once its bytes are in memory
 pub placed-still : (index : ℕ) (at there : Ptr) → at ≡ there → there ≡ place_of (block_of there) index → at ≡ place_of (block_of at) index
@@ -112,4 +122,4 @@ placed-still index at there e place = subst (λ (p : Ptr). p ≡ place_of (block
 pub same-buffer : (a b : Buffer) → a.region ≡ b.region → a.index ≡ b.index → a.bytes ≡ b.bytes → a ≡ b
 same-buffer a b r i e = λ j. record { region = r j; index = i j; bytes = e j }
 
-pub ruleset marks = (full_is, kept-new, kept-full, marked-lent, marked-front, cleared-behind, clear-behind, marked-cleared, written_over_is)
+pub ruleset marks = (full_is, kept-new, kept-full, written-most, marked-lent, marked-front, cleared-behind, clear-behind, marked-cleared, written_over_is)

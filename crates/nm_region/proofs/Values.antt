@@ -1,4 +1,4 @@
--- The machine values of the block's structs: what is owned tells them, and is made of nothing.
+-- The machine values of the structs of a block: what is owned tells them, and is made of nothing.
 use Rattle.std.proofs.Common.{◌≡◌, ℕ, ◌^◌, ◌<◌, List, [], ◌∷◌, ◌++◌, refl, ◌∙◌, w64}
 use seplogic.Ra.Ura.{Ura}
 use mir.Val.{Val, vint, vstruct, vcons, vnil, of_list}
@@ -26,6 +26,18 @@ block_told p n vs s = (s.1.0 ∙ (λ i. vstruct (of_list (s.1.1.0 i ++ (s.1.1.1.
 
 pub block_made : {M : Type 1} {𝓤 : Ura M} (𝓛 : Logic 𝓤) (p : Ptr) (n : ℕ) → (n < 2 ^ 64) → ent 𝓤 (emp 𝓤) (sem 𝓛 (block_own p n (block_val p n ∷ [])))
 block_made 𝓛 p n f = makes_shadow 𝓛 (block_own p n (block_val p n ∷ [])) (λ _. (tt, (tt, ((tt, tt), tt)))) ((ptr_val p ∷ [], (vint w64 n ∷ [], tt)), (refl, (refl, ((refl, f), tt))))
+
+abbrev pub part_val : Ptr → Val
+part_val p = vstruct (vcons (ptr_val p) vnil)
+
+abbrev pub part_own : Ptr → List Val → Fml
+part_own p = (plainly (RawPtr ∷ [])).own_val (p, tt)
+
+pub part_told : (p : Ptr) (vs : List Val) → shadow (part_own p vs) → vs ≡ part_val p ∷ []
+part_told p vs s = s.1.0 ∙ (λ i. vstruct (of_list (s.1.1.0 i ++ [])) ∷ [])
+
+pub part_made : {M : Type 1} {𝓤 : Ura M} (𝓛 : Logic 𝓤) (p : Ptr) → ent 𝓤 (emp 𝓤) (sem 𝓛 (part_own p (part_val p ∷ [])))
+part_made 𝓛 p = makes_shadow 𝓛 (part_own p (part_val p ∷ [])) (λ _. (tt, (tt, tt))) ((ptr_val p ∷ [], tt), (refl, (refl, tt)))
 
 abbrev pub deed_val : Val
 deed_val = vstruct (vcons (vstruct vnil) vnil)

@@ -1,5 +1,6 @@
 pub mod Buffers
 pub mod Lending
+pub mod LendingPart
 pub mod Marked
 pub mod Opened
 pub mod Parts

@@ -1,15 +1,14 @@
-ghost use Rattle.std.specs.Prelude.{◌≡◌, ◌*◌, ◌/◌, ◌<◌, ℕ, List, Bool, true, false, [], length, replicate, get_or, slice_set, IfSome};
-ghost use Rattle.std.specs.Vec.{vec_capacity, vec_ptr};
+ghost use Rattle.std.specs.Prelude.{◌≡◌, ◌*◌, ◌/◌, ◌<◌, ◌≤◌, ℕ, List, Bool, true, false, [], length, replicate, get_or, slice_set, IfSome};
 ghost use denote.RawPtr.{Ptr, block_ptr, block_of, count_of, ◌+ₚ◌};
 ghost use Rattle.nm_region.specs.Parts.{bytes_of, parts_at, IsBlockSize, IsBlock};
 
+use crate::part::Part;
 use nm_types::BUFFER_BYTES;
 use std::alloc::{Allocator, Global};
 use std::marker::{Model, PhantomData};
-use std_alloc::vec::{Lodged, lodge};
 
 /// One block of memory, cut into parts of 2048 bytes. It owns the parts that are at home; the
-/// others are out, each as a vector that lies there.
+/// others are out.
 pub(crate) struct Block {
     pub(crate) start: *mut u8,
     pub(crate) size: usize,
@@ -73,30 +72,29 @@ impl Block {
     }
 
     /// Hands out the part `at`, of which no byte is written.
-    pub(crate) fn cut(self, at: usize) -> (Block, Vec<u8, Lodged>)
+    pub(crate) fn cut(self, at: usize) -> (Block, Part)
         requires { (at < length self.home) × (get_or self.home at false ≡ true) }
         ensures { (result.0.start ≡ self.start)
             × (result.0.size ≡ self.size)
             × (result.0.home ≡ slice_set self.home at false)
             × (result.1.items ≡ [])
-            × (vec_capacity result.1 ≡ 2048)
-            × (vec_ptr result.1 ≡ self.start +ₚ at * 2048) }
+            × (result.1.at ≡ self.start +ₚ at * 2048) }
     {
         let Block { start, size } = self;
-        let part = unsafe { lodge(start.add(at * BUFFER_BYTES), 0, BUFFER_BYTES) };
-        (Block { start, size }, part)
+        let place = unsafe { start.add(at * BUFFER_BYTES) };
+        (Block { start, size }, Part { at: place })
     }
 
     /// Takes the part `at` back, whatever is written there.
-    pub(crate) fn take_back(self, part: Vec<u8, Lodged>, at: usize) -> Block
+    pub(crate) fn take_back(self, part: Part, at: usize) -> Block
         requires { (at < length self.home)
-            × (vec_capacity part ≡ 2048)
-            × (vec_ptr part ≡ self.start +ₚ at * 2048) }
+            × (length part.items ≤ 2048)
+            × (part.at ≡ self.start +ₚ at * 2048) }
         ensures { (result.start ≡ self.start)
             × (result.size ≡ self.size)
             × (result.home ≡ slice_set self.home at true) }
     {
-        let _len = part.dislodge();
+        let Part { at: _ } = part;
         let Block { start, size } = self;
         Block { start, size }
     }

@@ -1,14 +1,12 @@
 ghost use Rattle.std.specs.Prelude.{◌≡◌, ◌≢◌, ◌≤◌, [], length, take};
 ghost use Rattle.std.specs.Borrow.{sem};
-ghost use Rattle.std.specs.Vec.{vec_capacity, vec_ptr};
 ghost use denote.RawPtr.{block_of};
 ghost use Rattle.nm_types.specs.Buffers.{cleared, cleared_but};
-ghost use Rattle.nm_region.specs.Marked.{written_front, with_front, cleared_between, AreAllOrNone, place_of};
+ghost use Rattle.nm_region.specs.Marked.{written_front, with_front, cleared_between, AreWritten, place_of};
 
+use crate::part::Part;
 use nm_types::BUFFER_BYTES;
 use std::marker::Model;
-use std::mem::replace;
-use std_alloc::vec::Lodged;
 
 /// What a buffer is seen as while nothing was written there.
 const ZEROS: [u8; BUFFER_BYTES] = [0; BUFFER_BYTES];
@@ -16,60 +14,42 @@ const ZEROS: [u8; BUFFER_BYTES] = [0; BUFFER_BYTES];
 /// A buffer of a region: 2048 bytes that hold a frame or a part of one, as in netmap(4). It cannot
 /// be dropped: it goes back to its region. It may be sent to another thread.
 pub struct Buf {
-    /// Lies in the region's block, by which regions are told apart. Empty until the first write:
-    /// then all bytes count as zero, and the memory is not touched.
-    bytes: Vec<u8, Lodged>,
+    /// Lies in the region's block, by which regions are told apart.
+    part: Part,
     index: u32,
     /// All bytes from here on are zero.
     used: u16,
+    /// Until the first write all bytes count as zero, none is used, and the memory is not touched.
+    is_written: bool,
 }
 
 impl Model for Buf {
     ghost use Rattle.std.specs.Prelude.{◌≡◌};
-    ghost use Rattle.std.specs.Vec.{vec_capacity, vec_ptr};
     ghost use Rattle.nm_types.specs.Buffers.{cleared_but};
     ghost use Rattle.nm_region.specs.Buffers.{Buffer, region_of};
 
     ghost Value = { Buffer };
 
     ghost view = { λ b. record {
-      region = region_of (vec_ptr b.bytes);
+      region = region_of b.part.at;
       index = b.index;
-      bytes = cleared_but b.bytes.items;
+      bytes = cleared_but b.part.items;
     } };
 
     ghost use Rattle.nm_region.specs.Marked.{IsKept};
 
-    ghost invariant = { λ b.
-        IsKept b.used b.index b.bytes.items (vec_capacity b.bytes) (vec_ptr b.bytes) };
-}
-
-/// Writes zeros to a part that has none of its bytes.
-fn zeroed(mut part: Vec<u8, Lodged>) -> Vec<u8, Lodged>
-    requires none { part.items ≡ [] }
-    requires room { vec_capacity part ≡ 2048 }
-    ensures bytes { result.items ≡ cleared }
-    ensures room { vec_capacity result ≡ 2048 }
-    ensures place { vec_ptr result ≡ vec_ptr part }
-{
-    for _ in 0..BUFFER_BYTES {
-        part.push_reserved(0);
-    }
-    part
+    ghost invariant = { λ b. IsKept b.used b.index b.is_written b.part.items b.part.at };
 }
 
 /// Has all bytes of a part in memory.
-fn fill(part: &mut Vec<u8, Lodged>)
-    requires whole { AreAllOrNone part.old.items }
-    requires room { vec_capacity part.old ≡ 2048 }
+fn fill(part: &mut Part, is_written: bool)
+    requires { AreWritten is_written part.old.items }
     ensures bytes { part.new.items ≡ cleared_but part.old.items }
     ensures size { length part.new.items ≡ 2048 }
-    ensures room { vec_capacity part.new ≡ 2048 }
-    ensures place { vec_ptr part.new ≡ vec_ptr part.old }
+    ensures place { part.new.at ≡ part.old.at }
 {
-    if part.is_empty() {
-        let empty = replace(part, Vec::new(Lodged));
-        *part = zeroed(empty);
+    if !is_written {
+        part.clear();
     }
 }
 
@@ -91,9 +71,9 @@ fn clear_between(bytes: &mut [u8], from: usize, to: usize)
 }
 
 /// Tells that two parts do not begin at one place, since each owns its memory.
-fn lie_apart(a: &mut Vec<u8, Lodged>, b: &mut Vec<u8, Lodged>)
-    requires room { (vec_capacity a.old ≡ 2048) × (vec_capacity b.old ≡ 2048) }
-    ensures apart { vec_ptr a.old ≢ vec_ptr b.old }
+fn lie_apart(a: &mut Part, b: &mut Part)
+    requires { (length a.old.items ≤ 2048) × (length b.old.items ≤ 2048) }
+    ensures apart { a.old.at ≢ b.old.at }
     ensures kept { (a.new ≡ a.old) × (b.new ≡ b.old) }
 {}
 
@@ -103,42 +83,43 @@ pub fn distinct(a: &mut Buf, b: &mut Buf)
     ensures apart { a.old.region ≡ b.old.region → a.old.index ≢ b.old.index }
     ensures kept { (a.new ≡ a.old) × (b.new ≡ b.old) }
 {
-    lie_apart(&mut a.bytes, &mut b.bytes);
+    lie_apart(&mut a.part, &mut b.part);
 }
 
 impl Buf {
     ghost use Rattle.nm_region.specs.Lending.{LendsBytes};
 
-    /// The buffer of a part, whose bytes are all zero.
-    pub(crate) fn new(bytes: Vec<u8, Lodged>, index: u32) -> Buf
-        requires none { bytes.items ≡ [] }
-        requires room { vec_capacity bytes ≡ 2048 }
-        requires place { vec_ptr bytes ≡ place_of (block_of (vec_ptr bytes)) index }
+    /// The buffer of a part of which nothing is written: its bytes are all zero.
+    pub(crate) fn new(part: Part, index: u32) -> Buf
+        requires none { part.items ≡ [] }
+        requires place { part.at ≡ place_of (block_of part.at) index }
         ensures { result ≡ record {
-          region = block_of (vec_ptr bytes);
+          region = block_of part.at;
           index = index;
           bytes = cleared;
         } }
     {
         Buf {
-            bytes,
+            part,
             index,
             used: 0,
+            is_written: false,
         }
     }
 
     /// The buffer's part and its index.
-    pub(crate) fn into_part(self) -> (Vec<u8, Lodged>, u32)
-        ensures room { vec_capacity result.0 ≡ 2048 }
-        ensures place { vec_ptr result.0 ≡ place_of self.region self.index }
+    pub(crate) fn into_part(self) -> (Part, u32)
+        ensures size { length result.0.items ≤ 2048 }
+        ensures place { result.0.at ≡ place_of self.region self.index }
         ensures index { result.1 ≡ self.index }
     {
         let Buf {
-            bytes,
+            part,
             index,
             used: _,
+            is_written: _,
         } = self;
-        (bytes, index)
+        (part, index)
     }
 
     /// The buffer's index: 2 or more.
@@ -153,10 +134,10 @@ impl Buf {
         ensures bytes { result.now ≡ self.now.bytes }
         ensures size { length result.now ≡ 2048 }
     {
-        if self.bytes.is_empty() {
-            &ZEROS
+        if self.is_written {
+            self.part.bytes()
         } else {
-            self.bytes.as_slice()
+            &ZEROS
         }
     }
 
@@ -168,8 +149,9 @@ impl Buf {
         ensures size { length result.now ≡ 2048 }
     {
         self.used = BUFFER_BYTES as u16;
-        fill(&mut self.bytes);
-        self.bytes.as_mut_slice()
+        fill(&mut self.part, self.is_written);
+        self.is_written = true;
+        self.part.bytes_mut()
     }
 
     /// Writes `bytes` over the first ones of the buffer.
@@ -178,21 +160,20 @@ impl Buf {
         requires { length bytes.now ≤ 2048 }
         ensures { self.new ≡ with_front bytes.now self.old }
     {
-        fill(&mut self.bytes);
-        put_front(self.bytes.as_mut_slice(), bytes);
+        fill(&mut self.part, self.is_written);
+        self.is_written = true;
+        put_front(self.part.bytes_mut(), bytes);
         self.used = self.used.max(bytes.len() as u16);
     }
 
     /// Clears all bytes but the first `len`. Costs no more than what was written since the last
     /// time.
-    #[tactic(auto, using(crate::proofs::Marks::marks))]
     pub fn clear_behind(&mut self, len: usize)
         requires { len ≤ 2048 }
         ensures { self.new ≡ record self.old { bytes = cleared_but (take len self.old.bytes) } }
     {
         if len < self.used as usize {
-            fill(&mut self.bytes);
-            clear_between(self.bytes.as_mut_slice(), len, self.used as usize);
+            clear_between(self.part.bytes_mut(), len, self.used as usize);
             self.used = len as u16;
         }
     }

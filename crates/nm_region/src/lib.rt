@@ -3,6 +3,7 @@
 
 mod block;
 mod buf;
+mod part;
 mod region;
 #[cfg(test)]
 mod tests;

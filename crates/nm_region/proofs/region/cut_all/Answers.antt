@@ -1,7 +1,6 @@
 use Rattle.std.proofs.Common.{ℕ, ◌≡◌, ◌≢◌, ◌+◌, ◌*◌, false, refl, sym, ap, ◌∙◌, length, get_or, map, arith}
 use Rattle.std.specs.List.{range_with_len}
 use Rattle.std.specs.Prelude.{List, ◌++◌, ◌∷◌, []}
-use Rattle.std.specs.Vec.{vec_ptr}
 use Rattle.std.proofs.lemmas.List.{length-set, get_or-set_other}
 use Rattle.std.proofs.lemmas.List.FromFn.{map-range_with_len_more}
 use denote.RawPtr.{Ptr, block_ptr, null_ptr, block_of, ◌+ₚ◌}
@@ -24,8 +23,8 @@ loop-at-preserved c =
     let cut = c.cut-rest.ensures in
     let inv = c.loop-at.invariant in
     let r : RegionState = record { region = block_of c.args.block.start; buffers = c.args.n } in
-    let region : block_of (vec_ptr part) ≡ r.region = ap block_of cut.5 ∙ (same-block was.start (at * 2048) ∙ ap block_of inv.start) in
-    let made : c.new.result ≡ opened_buffer r (at + 2) = c.new.ensures ∙ same-buffer (record { region = block_of (vec_ptr part); index = at + 2; bytes = cleared }) (opened_buffer r (at + 2)) region refl refl in
+    let region : block_of (part.at) ≡ r.region = ap block_of cut.4 ∙ (same-block was.start (at * 2048) ∙ ap block_of inv.start) in
+    let made : c.new.result ≡ opened_buffer r (at + 2) = c.new.ensures ∙ same-buffer (record { region = block_of (part.at); index = at + 2; bytes = cleared }) (opened_buffer r (at + 2)) region refl refl in
     let next : 2 + at ≡ at + 2 = omega arith in
     record {
       start = cut.0 ∙ inv.start;

@@ -1,5 +1,5 @@
--- `cut` hands the room of one part to `lodge`. Assumes `Logic`.
-use Rattle.std.proofs.Common.{◌≡◌, ℕ, ◌+◌, ◌*◌, ◌^◌, ◌<◌, Bool, true, false, List, [], ◌∷◌, ◌++◌, length, get_or, refl, sym, ap, ◌∙◌, subst, arith, lit<, w64, Vec}
+-- `cut` takes the room of one part out. Assumes `Logic`.
+use Rattle.std.proofs.Common.{◌≡◌, ℕ, ◌+◌, ◌*◌, ◌^◌, ◌<◌, Bool, true, false, List, [], ◌∷◌, ◌++◌, length, get_or, refl, sym, ap, ◌∙◌, arith, lit<, w64}
 use lib.ListN.{set, length-set}
 use native.Mathlib.Nat.{add_comm}
 use mir.Syntax.{Fn}
@@ -9,33 +9,30 @@ use base.Fml.{froom}
 use prog.Wp.{Env, WpFn}
 use contract.Monad.{fact, fact_i}
 use contract.Running.{tables}
-use types.Kit.{‵, raw, ◌⊛◌, later, prop, ◌$◌, ◌∵◌, !, qed, by, move, drop, use0, use1, use2, split, fsplit, fjoin, regoal, rewrite, await, some, given, pick, learn, at_ret}
+use types.Kit.{‵, raw, ◌⊛◌, prop, ◌$◌, ◌∵◌, !, qed, by, move, drop, use0, use1, use2, split, fsplit, fjoin, regoal, rewrite, at_ret}
 use types.Part.{whole, sub, agg}
-use types.Run.{stop, fld, lit, bin, of_opd, and_then, no_more, first, blocks, exec, returns, enter}
-use types.ByLocal.{alloc_all, pass_all, free_all, look_at, get, get_in, sets, lands_last, env}
+use types.Run.{stop, fld, bin, of_opd, and_then, no_more, first, blocks, exec, returns, enter}
+use types.ByLocal.{alloc_all, pass_all, free_all, look_at, get, get_in, sets, sets_last, env}
 use denote.RattleType.{owns}
 use denote.Builtin.{u8}
-use denote.Param.{layout}
 use denote.RawPtr.{Ptr, block_ptr, in_a_block, ◌+ₚ◌}
 use denote.Signature.{types_at}
-use denote.Steps.{nothing, heard, only}
+use denote.Steps.{nothing, heard}
 use denote.Struct.Tuple.{Tuple}
-use denote.Triple.Call.{calls_at_last}
 use denote.Triple.Entry.{alive}
-use denote.Triple.Table.{framed}
 use denote.Triple.Walked.{Stays, stay_dropped, walk_of, Goes-dropped}
 use Rattle.std.proofs.alloc.Calls.{Goes-blank}
 use Rattle.std.proofs.alloc.Shapes.{after}
 use Rattle.std.proofs.raw_atomic.Walks.{proved_at, leaves}
-use Rattle.std_alloc.proofs.Pairs.{pair_of, pair_val, pair_Typed}
-use Rattle.std_alloc.specs.declared.vec.lodged.Lodged.{Lodged}
-use Rattle.std_alloc.proofs.vec.lodge.Met as callee
+use Rattle.std_alloc.proofs.Pairs.{pair_of, pair_val}
+use Rattle.std_alloc.specs.Vec.Ownership.{lodged}
 use Rattle.nm_region.specs.Parts.{bytes_of, parts, parts_at}
-use Rattle.nm_region.proofs.Lodging.{byte_laws, Housed, housed-laws, Lodges, at_lodge, IsLodged, lodge_goes, lodge_gives}
+use Rattle.nm_region.proofs.Lodging.{unwritten}
 use Rattle.nm_region.proofs.Parts.{taken}
-use Rattle.nm_region.proofs.Values.{block_val, block_own, block_told, block_made}
-use Rattle.nm_region.proofs.Walks.{Good, slot_at, tells, big}
+use Rattle.nm_region.proofs.Values.{block_val, block_own, block_told, block_made, part_val, part_own, part_made}
+use Rattle.nm_region.proofs.Walks.{slot_at, big}
 use Rattle.nm_region.specs.contracts.block.Block as block
+use Rattle.nm_region.specs.contracts.part.Part as part
 use Rattle.nm_region.specs.contracts.block.Block.cut.{ended, clauses}
 use Rattle.nm_region.specs.contracts.block.Block.cut.Key.{name as #self}
 use Rattle.nm_region.proofs.block.Block.cut.Statement.{statement}
@@ -78,26 +75,23 @@ cut_spec 𝓤 𝓛 𝓜 𝓡 wired =
     sets ! (of_opd ! (get_in ! (fld ! refl (stop !)) (sub ! 1 refl (whole !)))) refl (tt, record { fits = fits }) $
     first ! $ blocks ! $
     sets ! (bin ! (get ! refl) (big ! (lit< tt)) (record { fits = far })) refl (tt, record { fits = far }) $
-    sets ! (bin ! (get ! refl) (get ! refl) tt) refl (tt, tt) $
-    use1 𝓛 (raw ((Lodges 𝓛 𝓜.mem 𝓡.returns).pre (at_lodge 𝓛 𝓜.mem 𝓡.returns b place 2048))) (lodge_goes 𝓛 𝓜.mem 𝓡.returns b place 2048 (lit< tt) (lit< tt)) $
-    calls_at_last ! (framed 𝓤 𝓛.H 𝓜 (tables 𝓤 𝓛.H 𝓜 𝓡 𝓡.env)) (Lodges 𝓛 𝓜.mem 𝓡.returns) (callee.met 𝓤 𝓛 𝓜 𝓡 (compiled.calls-std_alloc::vec::lodge 𝓡.env wired) u8 byte_laws) (at_lodge 𝓛 𝓜.mem 𝓡.returns b place 2048)
-    (and_then ! (get ! refl) (and_then ! (lit ! tt) (and_then ! (big ! (lit< tt)) (no_more !)))) (λ v.
-    use1 𝓛 (later (some (λ (r : Vec ℕ Lodged). given (IsLodged 𝓛 𝓜.mem 𝓡.returns b place 2048 r) (‵ (Housed.own_val r (v ∷ [])))))) (lodge_gives 𝓛 𝓜.mem 𝓡.returns b place 2048 v) $
-    await ! tt $ pick ! (λ r. learn ! (λ is. tells ! Housed housed-laws r (v ∷ []) (λ u same good.
-    let fine : Good Housed v = subst (Good Housed) (sym (ap only same)) good in
-    rewrite ! 0 (λ (w : Val). ‵ (Housed.own_val r (w ∷ []))) (sym (ap only same)) refl $ lands_last ! refl fine $
+    sets_last ! (bin ! (get ! refl) (get ! refl) tt) refl (tt, tt) $
     exec ! C Λ En (after 3 fn.body) (at_ret En Post) $
-    sets ! (of_opd ! (get ! refl)) refl fine $
+    sets ! (of_opd ! (get ! refl)) refl (tt, tt) $
     sets ! (agg ! (and_then ! (get ! refl) (and_then ! (get ! refl) (no_more !)))) refl (tt, (tt, (record { fits = fits }, tt))) $
-    sets ! (of_opd ! (get ! refl)) refl fine $
+    sets ! (agg ! (and_then ! (get ! refl) (no_more !))) refl (tt, (tt, tt)) $
     let same : length home ≡ length x.home = length-set x.home k false in
     let y : (block.the_row).Denot = record { start = block_ptr b o; size = n; home = home; fits = (omega (arith, same, x.fits.0), x.fits.1) } in
+    let r : (part.the_row).Denot = record { at = block_ptr b place; items = [] } in
     let w : Val = block_val y.start n in
-    sets ! (agg ! (and_then ! (get ! refl) (and_then ! (get ! refl) (no_more !)))) refl (pair_Typed (layout block.the_row) (layout Housed) w v (tt, (tt, (record { fits = fits }, tt))) fine) $
+    let v : Val = part_val r.at in
+    sets ! (agg ! (and_then ! (get ! refl) (and_then ! (get ! refl) (no_more !)))) refl (tt, ((tt, (record { fits = fits }, tt)), ((tt, tt), tt))) $
     returns ! (look_at ! 0 refl) $ free_all ! refl $
-    let there : r.ptr ≡ x.start +ₚ k * 2048 = is.3 ∙ (ap (λ (j : ℕ). block_ptr b j) (add_comm (k * 2048) o) ∙ ap (λ (p : Ptr). p +ₚ k * 2048) (sym at)) in
-    let Said : Type 0 = (y.start ≡ x.start) × (n ≡ n) × (home ≡ home) × (r.items ≡ []) × (r.cap ≡ 2048) × (r.ptr ≡ x.start +ₚ k * 2048) in
-    move ! (1 ∷ []) $ use0 𝓛 (‵ (block_own y.start n (w ∷ []))) (block_made 𝓛 y.start n fits) $ fjoin ! $
-    use2 𝓛 (‵ ((Tuple (block.the_row ∷ Housed ∷ [])).own_val (y, r) (pair_val w v ∷ []))) (pair_of 𝓛 block.the_row Housed y r w v) $
-    use0 𝓛 (raw (fact 𝓤 Said)) (fact_i 𝓤 Said (emp 𝓤) (sym at, refl, refl, is.0, is.2, there)) $ nothing ! $ nothing ! $ fjoin ! $ nothing ! $ fjoin ! $ move ! (3 ∷ 0 ∷ 2 ∷ 1 ∷ []) $
-    by ! (leaves 𝓛 En₀ stays c z (pair_val w v) (y, r) (tt, (tt, tt)) (tt, (tt, tt)))))))))))
+    let there : r.at ≡ x.start +ₚ k * 2048 = ap (λ (j : ℕ). block_ptr b j) (add_comm (k * 2048) o) ∙ ap (λ (p : Ptr). p +ₚ k * 2048) (sym at) in
+    let Said : Type 0 = (y.start ≡ x.start) × (n ≡ n) × (home ≡ home) × (r.items ≡ r.items) × (r.at ≡ x.start +ₚ k * 2048) in
+    use1 𝓛 (‵ (lodged u8 r.at 0 2048 [])) (unwritten 𝓛 b place 2048 (lit< tt) (lit< tt)) $
+    use0 𝓛 (‵ (part_own r.at (v ∷ []))) (part_made 𝓛 r.at) $ fjoin ! $ move ! (1 ∷ []) $
+    use0 𝓛 (‵ (block_own y.start n (w ∷ []))) (block_made 𝓛 y.start n fits) $ fjoin ! $
+    use2 𝓛 (‵ ((Tuple (block.the_row ∷ part.the_row ∷ [])).own_val (y, r) (pair_val w v ∷ []))) (pair_of 𝓛 block.the_row part.the_row y r w v) $
+    use0 𝓛 (raw (fact 𝓤 Said)) (fact_i 𝓤 Said (emp 𝓤) (sym at, refl, refl, refl, there)) $ nothing ! $ nothing ! $ fjoin ! $ nothing ! $ fjoin ! $ move ! (3 ∷ 0 ∷ 2 ∷ 1 ∷ []) $
+    by ! (leaves 𝓛 En₀ stays c z (pair_val w v) (y, r) (tt, (tt, tt)) (tt, (tt, tt)))))))

@@ -1,5 +1,5 @@
--- `take_back` has the room of the part from `dislodge`. Assumes `Logic`.
-use Rattle.std.proofs.Common.{◌≡◌, ◌+◌, ◌*◌, ◌^◌, ◌<◌, Bool, true, List, [], ◌∷◌, ◌++◌, length, refl, sym, ap, ◌∙◌, arith, lit<, w64}
+-- `take_back` has the room of the part, whatever is written there. Assumes `Logic`.
+use Rattle.std.proofs.Common.{◌≡◌, ◌+◌, ◌*◌, ◌<◌, ◌≤◌, Bool, true, List, [], ◌∷◌, ◌++◌, length, refl, sym, ap, ◌∙◌, arith, lit<, w64}
 use lib.ListN.{set, length-set}
 use mir.Syntax.{Fn}
 use mir.Val.{Val, vint}
@@ -8,27 +8,23 @@ use base.Fml.{froom}
 use prog.Wp.{Env, WpFn}
 use contract.Monad.{fact, fact_i}
 use contract.Running.{tables}
-use types.Kit.{‵, raw, ◌⊛◌, later, prop, ◌$◌, ◌∵◌, !, qed, by, move, drop, use0, use1, use2, split, fsplit, fjoin, regoal, await, given, learn}
+use types.Kit.{‵, raw, ◌⊛◌, prop, ◌$◌, ◌∵◌, !, qed, by, move, drop, use0, use1, use2, split, fsplit, fjoin, regoal, rewrite}
 use types.Part.{whole, sub, agg}
 use types.Run.{stop, fld, of_opd, and_then, no_more, returns, enter}
-use types.ByLocal.{alloc_all, pass_all, free_all, look_at, get, get_in, sets, lands_as, env}
+use types.ByLocal.{alloc_all, pass_all, free_all, look_at, get, get_in, sets, env}
 use denote.RattleType.{owns}
-use denote.Builtin.{u8}
 use denote.RawPtr.{Ptr, block_ptr, in_a_block, ◌+ₚ◌}
 use denote.Signature.{types_at}
 use denote.Steps.{nothing, heard}
-use denote.Triple.Call.{calls_at}
 use denote.Triple.Entry.{alive}
-use denote.Triple.Table.{framed}
 use denote.Triple.Walked.{Stays, stay_dropped, walk_of, Goes-dropped}
 use Rattle.std.proofs.alloc.Calls.{Goes-blank}
 use Rattle.std.proofs.raw_atomic.Walks.{proved_at, leaves}
-use Rattle.std_alloc.proofs.vec.lodged.Vec+T+Lodged.dislodge.Met as callee
 use Rattle.nm_region.specs.Parts.{bytes_of, parts, parts_at}
-use Rattle.nm_region.proofs.Lodging.{byte_laws, Housed, housed-laws, Dislodges, at_dislodge, dislodge_goes, dislodge_gives}
+use Rattle.nm_region.proofs.Lodging.{memory, memory_room}
 use Rattle.nm_region.proofs.Parts.{put}
-use Rattle.nm_region.proofs.Values.{block_val, block_own, block_told, block_made}
-use Rattle.nm_region.proofs.Walks.{slot_at, tells}
+use Rattle.nm_region.proofs.Values.{block_val, block_own, block_told, block_made, part_val, part_told}
+use Rattle.nm_region.proofs.Walks.{slot_at}
 use Rattle.nm_region.specs.contracts.block.Block as block
 use Rattle.nm_region.specs.contracts.block.Block.take_back.{ended, clauses}
 use Rattle.nm_region.specs.contracts.block.Block.take_back.Key.{name as #self}
@@ -54,25 +50,21 @@ take_back_spec 𝓤 𝓛 𝓜 𝓡 wired =
     let k = a.1.1.0 in
     let told = block_told x.start n vss.0 are.0.0 in
     let fits = told.1 in
+    let told' = part_told d.at vss.1.0 are.1.0.0 in
     let fk = are.1.1.0.1 in
     let home : List Bool = set x.home k true in
-    let Asked : Type 0 = (k < length x.home) × (d.cap ≡ 2048) × (d.ptr ≡ x.start +ₚ k * 2048) in
+    let Asked : Type 0 = (k < length x.home) × (length d.items ≤ 2048) × (d.at ≡ x.start +ₚ k * 2048) in
     qed 𝓛 ((raw (alive 𝓛 En₀.signature z.0.0 z.0.1) ⊛ ‵ (owns (types_at En₀.signature.params z.0.0) a vss)) ∷ raw (fact 𝓤 Asked) ∷ []) ∵
     move ! (1 ∷ []) $ heard ! Asked (λ asked. split ! $ move ! (1 ∷ []) $
     fsplit ! $ fsplit ! $ drop ! $
-    in_a_block ! x.start (λ p. parts_at p x.home) (id⊢ 𝓤 (never 𝓤)) (λ b o at. move ! (1 ∷ []) $ fsplit ! $
-    tells ! Housed housed-laws d vss.1.0 (λ u is good. move ! (1 ∷ []) $ drop ! $
+    in_a_block ! x.start (λ p. parts_at p x.home) (id⊢ 𝓤 (never 𝓤)) (λ b o at. move ! (1 ∷ []) $ fsplit ! $ fsplit ! $ drop ! $ fsplit ! $ drop ! $
+    let there : d.at ≡ block_ptr b (o + k * 2048) = asked.2 ∙ ap (λ (p : Ptr). p +ₚ k * 2048) at in
+    rewrite ! 0 (λ (p : Ptr). ‵ (memory p (length d.items) 2048 d.items)) there refl $
+    use1 𝓛 (‵ (froom (bytes_of 2048) b (o + k * 2048))) (memory_room 𝓛 b (o + k * 2048) (length d.items) 2048 d.items asked.1 (lit< tt)) $ move ! (1 ∷ []) $ drop ! $
     -- [the part; the other parts; the tokens]
-    let there : d.ptr ≡ block_ptr b (o + k * 2048) = asked.2 ∙ ap (λ (p : Ptr). p +ₚ k * 2048) at in
-    regoal ! (λ (us : List Val). prop (WpFn 𝓤 H C Λ fn us Post)) (λ i. (told.0 ∙ ap (λ (p : Ptr). block_val p n ∷ []) at) i ++ (is i ++ (are.1.1.0.0 i ++ []))) refl $
-    enter ! C Λ fn (block_val (block_ptr b o) n ∷ u ∷ vint w64 k ∷ []) Post $
-    alloc_all ! (λ l. pass_all ! refl ((tt, (tt, (record { fits = fits }, tt))), (good, ((tt, record { fits = fk }), tt))) $ let En : Env 𝓤 𝓛.H = env fn.locals l in
-    sets ! (of_opd ! (get ! refl)) refl good $
-    use1 𝓛 (raw ((Dislodges 𝓛 𝓜.mem 𝓡.returns).pre (at_dislodge 𝓛 𝓜.mem 𝓡.returns d u))) (dislodge_goes 𝓛 𝓜.mem 𝓡.returns d u) $
-    calls_at ! (framed 𝓤 𝓛.H 𝓜 (tables 𝓤 𝓛.H 𝓜 𝓡 𝓡.env)) (Dislodges 𝓛 𝓜.mem 𝓡.returns) (callee.met 𝓤 𝓛 𝓜 𝓡 (compiled.calls-std_alloc::vec::lodged::Vec+T+Lodged::dislodge 𝓡.env wired) u8 byte_laws) (at_dislodge 𝓛 𝓜.mem 𝓡.returns d u)
-    (and_then ! (get ! refl) (no_more !)) (λ w.
-    use1 𝓛 (later (given ((w ≡ vint w64 d.len) × (d.len < 2 ^ 64)) (‵ (froom (bytes_of 2048) b (o + k * 2048))))) (dislodge_gives 𝓛 𝓜.mem 𝓡.returns d u b (o + k * 2048) 2048 asked.1 (lit< tt) there w) $ await ! tt $ learn ! (λ got.
-    lands_as ! got.0 refl (tt, record { fits = got.1 }) $
+    regoal ! (λ (us : List Val). prop (WpFn 𝓤 H C Λ fn us Post)) (λ i. (told.0 ∙ ap (λ (p : Ptr). block_val p n ∷ []) at) i ++ ((told' ∙ ap (λ (p : Ptr). part_val p ∷ []) there) i ++ (are.1.1.0.0 i ++ []))) refl $
+    enter ! C Λ fn (block_val (block_ptr b o) n ∷ part_val (block_ptr b (o + k * 2048)) ∷ vint w64 k ∷ []) Post $
+    alloc_all ! (λ l. pass_all ! refl ((tt, (tt, (record { fits = fits }, tt))), ((tt, (tt, tt)), ((tt, record { fits = fk }), tt))) $ let En : Env 𝓤 𝓛.H = env fn.locals l in
     sets ! (of_opd ! (get_in ! (fld ! refl (stop !)) (sub ! 0 refl (whole !)))) refl (tt, tt) $
     sets ! (of_opd ! (get_in ! (fld ! refl (stop !)) (sub ! 1 refl (whole !)))) refl (tt, record { fits = fits }) $
     sets ! (agg ! (and_then ! (get ! refl) (and_then ! (get ! refl) (no_more !)))) refl (tt, (tt, (record { fits = fits }, tt))) $
@@ -83,4 +75,4 @@ take_back_spec 𝓤 𝓛 𝓜 𝓡 wired =
     use2 𝓛 (‵ (parts 2048 b o home)) (put 𝓛 2048 b x.home k o asked.0) $
     use0 𝓛 (‵ (block_own y.start n (block_val y.start n ∷ []))) (block_made 𝓛 y.start n fits) $ fjoin ! $
     use0 𝓛 (raw (fact 𝓤 Said)) (fact_i 𝓤 Said (emp 𝓤) (sym at, refl, refl)) $ nothing ! $ nothing ! $ fjoin ! $ nothing ! $ fjoin ! $ nothing ! $ fjoin ! $ move ! (3 ∷ 0 ∷ 2 ∷ 1 ∷ []) $
-    by ! (leaves 𝓛 En₀ stays c z (block_val y.start n) y (tt, (tt, (tt, tt))) (tt, (tt, (tt, tt)))))))))))
+    by ! (leaves 𝓛 En₀ stays c z (block_val y.start n) y (tt, (tt, (tt, tt))) (tt, (tt, (tt, tt))))))))

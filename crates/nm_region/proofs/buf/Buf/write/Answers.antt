@@ -1,4 +1,4 @@
-use Rattle.std.proofs.Common.{ℕ, ◌≡◌, ◌≤◌, length, take, drop, ◌++◌, ap, sym, ◌∙◌, subst, arith}
+use Rattle.std.proofs.Common.{◌≡◌, ◌≤◌, length, take, drop, ◌++◌, ap, sym, ◌∙◌, subst, arith}
 use Rattle.std.specs.Prelude.{max}
 use Rattle.std.proofs.Math.Nat.{le-max_left, le-max_right, max-le}
 use Rattle.nm_region.specs.Marked.{IsMarked, written_front}
@@ -19,13 +19,12 @@ invariant_of-self c =
     let within = mark.within in
     let fits = c.requires in
     let is_max = c.max-self-inside.ensures in
-    let front : room ≡ written_front bytes old = c.put_front.ensures ∙ ap (written_front bytes) c.as_mut_slice.ensures.value in
+    let front : room ≡ written_front bytes old = c.put_front.ensures ∙ ap (written_front bytes) c.bytes_mut.ensures.value in
     let count : length room ≡ length old = ap length front ∙ length-front bytes old (omega (arith, fits, size)) in
-    let whole : take part.len (room ++ drop (length room) old) ≡ written_front bytes old =
-    ap (λ (k : ℕ). take k (room ++ drop (length room) old)) part.ok.0 ∙ (written_over_is old room count ∙ front) in
+    let whole : take (length old) (room ++ drop (length room) old) ≡ written_front bytes old = written_over_is old room count ∙ front in
     let later : used ≤ m = (let most = le-max_left used (length bytes) in omega (arith, most, is_max)) in
     let long : length bytes ≤ m = (let most = le-max_right used (length bytes) in omega (arith, most, is_max)) in
     let most : m ≤ 2048 = (let both : max used (length bytes) ≤ 2048 = max-le within fits in omega (arith, both, is_max)) in
     let marked = subst (IsMarked m) (sym whole) (marked-front used m bytes old mark later long most) in
-    kept-full m c.self.inside.index (take part.len (room ++ drop (length room) old)) part.cap part.ptr marked.size marked c.fill.ensures.room
-    (placed-still c.self.inside.index part.ptr c.self.inside.bytes.ptr c.fill.ensures.place c.self.invariant.place)
+    kept-full m c.self.inside.index (take (length old) (room ++ drop (length room) old)) part.at marked.size marked
+    (placed-still c.self.inside.index part.at c.self.inside.part.at c.fill.ensures.place c.self.invariant.place)

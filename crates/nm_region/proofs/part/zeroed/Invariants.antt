@@ -1,6 +1,6 @@
 use Rattle.std.proofs.Common.{◌≡◌, replicate}
 use Rattle.std.specs.Vec.{vec_len, vec_capacity, vec_ptr}
-use Rattle.nm_region.proofs.buf.zeroed.Given as goal
+use Rattle.nm_region.proofs.part.zeroed.Given as goal
 
 abbrev pub invariant-loop : goal.invariant-loop
 invariant-loop l = record {
