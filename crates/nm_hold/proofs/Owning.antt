@@ -1,10 +1,10 @@
 -- What stands side by side, each with the index that owns its position: after something comes, goes or
 -- is written.
-use Rattle.std.proofs.Common.{ℕ, zero, suc, ◌≡◌, ◌≢◌, ◌<◌, ◌+◌, ◌-◌, nat_eq, false, List, [], ◌∷◌, ◌++◌, length, replicate, get_or, slice_set, Option, Some, None, inl, inr, refl, sym, ◌∙◌, ap, arith}
+use Rattle.std.proofs.Common.{ℕ, zero, suc, ◌≡◌, ◌≢◌, ◌<◌, ◌+◌, ◌-◌, nat_eq, false, List, [], ◌∷◌, ◌++◌, length, replicate, get_or, slice_set, Option, Some, None, inl, inr, refl, sym, ◌∙◌, ap, subst, arith}
 use Rattle.std.specs.Prelude.{IsSome, slice_get, slice_index, count_by, cond}
 use Rattle.std.proofs.lemmas.Bool.{cases_eq}
 use Rattle.std.proofs.lemmas.Bool.Decides.{nat_tests}
-use Rattle.std.proofs.lemmas.List.{length-set, length-map, length_push, get_or-set_same, get_or-set_other, get_or_push, get_or_append_left, get_or_read, ext_get_or}
+use Rattle.std.proofs.lemmas.List.{length-set, length-map, length_push, get_or-set_same, get_or-set_other, get_or_push, get_or_append_left, get_or_read, ext_get_or, set-set}
 use Rattle.std.proofs.lemmas.List.Sums.{sum_by-cons, sum_by-set}
 use Rattle.std.proofs.lemmas.Option.{slice_get-get_or}
 use Rattle.nm_hold.specs.declared.standing.Standing.{Standing}
@@ -344,3 +344,34 @@ module _ (at owners new : List ℕ) (idx k last : ℕ) (own : AreOwners at owner
 
     pub cells_taken : cells_of without after ≡ slice_set (cells_of at held) idx None
     cells_taken = changed at without held after idx None (length-set with_last idx 0 ∙ length-set at last (suc k)) idx_within (ap (named_by after) at_idx) named_there
+
+-- what stands last goes
+module _ (at owners new : List ℕ) (idx x : ℕ) (own : AreOwners at owners) (is : number_of at idx ≡ suc (length new)) (are : owners ≡ new ++ x ∷ []) where
+  count : length new + 1 ≡ length owners
+  count = sym (ap (λ (xs : List ℕ). length xs) are ∙ length_push new x)
+
+  not_below : {X : Type 0} (n : ℕ) → n < n → X
+  not_below n h = absurd (omega (arith, h))
+
+  kept : (j : ℕ) → j ≢ length new → j < length new → slice_index new j ≡ slice_index owners j
+  kept j other below = sym (ap (λ (xs : List ℕ). slice_index xs j) are ∙ get_or_append_left new (x ∷ []) 0 j below)
+
+  pub owners_ended : AreOwners (slice_set at idx 0) new
+  owners_ended = subst (λ (numbers : List ℕ). AreOwners numbers new) (set-set at idx (suc (length new)) 0)
+      (owners_taken at owners new idx (length new) idx own is count (own.owned idx (length new) is).1 (λ below. not_below (length new) below) kept)
+
+  module _ (held after : List Standing) (s : Standing) (both : length held ≡ length owners) (all : held ≡ after ++ s ∷ []) where
+    fewer : length after + 1 ≡ length held
+    fewer = sym (ap (λ (xs : List Standing). length xs) all ∙ length_push after s)
+
+    spot : length after ≡ length new
+    spot = omega (arith, fewer, both, count)
+
+    pub cells_ended : cells_of (slice_set at idx 0) after ≡ slice_set (cells_of at held) idx None
+    cells_ended = subst (λ (numbers : List ℕ). cells_of numbers after ≡ slice_set (cells_of at held) idx None) (set-set at idx (suc (length new)) 0)
+        (cells_taken at owners new idx (length new) idx own is count (own.owned idx (length new) is).1 (λ below. not_below (length new) below) kept held after s both fewer
+        (λ below. absurd (omega (arith, below, spot)))
+        (λ j other below. sym (ap (λ (xs : List Standing). get_or xs j s) all ∙ get_or_append_left after (s ∷ []) s j below)))
+
+    pub ended_read : cell_at (cells_of at held) idx ≡ Some s
+    ended_read = standing_read at held idx (length new) s is (omega (arith, fewer, spot)) (sym (ap (λ (xs : List Standing). get_or xs (length new) s) all ∙ get_or_push after s s (length new) spot))

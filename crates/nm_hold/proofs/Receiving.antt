@@ -1,14 +1,15 @@
 -- A number that is put at a receive slot of a row's port.
-use Rattle.std.proofs.Common.{ℕ, ◌≡◌, ◌<◌, ◌+◌, true, false, length, Option, Some, None, refl, sym, ◌∙◌, ap, arith}
-use Rattle.std.specs.Prelude.{All, IfSome, List, option_map, is_some}
+use Rattle.std.proofs.Common.{ℕ, ◌≡◌, ◌<◌, ◌+◌, true, false, [], ◌∷◌, length, Option, Some, None, refl, sym, ◌∙◌, ap, arith}
+use Rattle.std.specs.Prelude.{All, IfSome, List, option_map, is_some, slice_index_or}
 use Rattle.std.specs.Vec.{with_item}
 use Rattle.nm_types.specs.declared.id.PortId.{PortId}
+use Rattle.nm_types.specs.declared.place.Place.{Place}
 use Rattle.nm_types.specs.declared.place.Place.TheVariants.{Rx}
 use Rattle.nm_hold.specs.declared.table.PortTable.{PortTable}
 use Rattle.nm_hold.specs.Offsets.{offset_of, has_place}
-use Rattle.nm_hold.specs.Indexed.{tables_present, row_at, IsIndexed}
+use Rattle.nm_hold.specs.Indexed.{tables_present, row_at, port_in, port_at, IsIndexed}
 use Rattle.nm_hold.specs.Tables.{IsTable, ports_of, put_in}
-use Rattle.nm_hold.proofs.Finding.{row_is_table, apart-indexed, place-row}
+use Rattle.nm_hold.proofs.Finding.{row_is_table, row_read, apart-indexed, place-row}
 use Rattle.nm_hold.proofs.Spots.{rx_stands, offset-within}
 
 -- the slot is one of the row's places, behind the transmit slots
@@ -38,3 +39,12 @@ pub spot_found : (rows : List (Option PortTable)) (index : ℕ → Option ℕ) (
     → has_place (ports_of (tables_present rows)) (Rx port slot) ≡ true → IsReceiveSpot (row_at rows at) port slot number
 spot_found rows index at port slot number is found all has =
     receive_spot (row_at rows at) port slot number (row_is_table rows at all) (place-row rows at (Rx port slot) (apart-indexed rows index is) (is.there at port.0 found) has)
+
+-- there is a row where a place is one of the ports'
+pub has_row : (rows : List (Option PortTable)) (place : Place) → has_place (ports_of (tables_present rows)) place ≡ true → 0 < length rows
+has_row [] place has = absurd (let no : false ≡ true = has in cc)
+has_row (row ∷ rows) place has = omega arith
+
+-- the port of the first row, as it is read there
+pub first_port : (rows : List (Option PortTable)) (row : Option PortTable) (port : ℕ) → 0 < length rows → row ≡ slice_index_or rows 0 row → port_in row ≡ Some port → port_at rows 0 ≡ Some port
+first_port rows row port h read is = ap port_in (sym (row_read rows 0 row h read)) ∙ is

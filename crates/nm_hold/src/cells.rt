@@ -1,5 +1,7 @@
 ghost use Rattle.std.specs.Prelude.{ℕ, ◌≡◌, ◌<◌, ◌≤◌, IfOk, IsSome, length, None, replicate, slice_set};
-ghost use Rattle.std.specs.Prelude.{Some};
+ghost use Rattle.std.specs.Prelude.{Some, ◌≢◌, ◌+◌, ◌-◌, slice_index_or};
+ghost use Rattle.std.specs.Vec.{vec_len, vec_capacity};
+ghost use Rattle.nm_hold.specs.declared.cells.Owned.{Owned};
 ghost use Rattle.std.specs.Borrow.{sem};
 ghost use Rattle.std.specs.Option.{option_copied};
 ghost use Rattle.nm_hold.specs.Holds.{cell_at};
@@ -10,6 +12,7 @@ use crate::standing::Standing;
 use nm_region::Buf;
 use std::alloc::{AllocError, Global};
 use std::marker::Model;
+use std::mem::replace;
 
 /// At each index of a pool the buffer that stands there, or nothing. It cannot be dropped:
 /// `destroy` ends it once nothing stands.
@@ -41,6 +44,22 @@ impl Model for Cells {
     ghost view = { λ c. cells_of c.at (standings_in c.held.items) };
 
     ghost invariant = { IsSparse };
+}
+
+/// Takes out what stands at a position before the last one. What stands last takes that position.
+fn swap_out(held: &mut Vec<Owned>, position: usize) -> Owned
+    requires { position + 1 < vec_len held.old }
+    ensures value { result ≡ slice_index_or held.old.items position result }
+    ensures len { vec_len held.new + 1 ≡ vec_len held.old }
+    ensures capacity { vec_capacity held.new ≡ vec_capacity held.old }
+    ensures by_index { ((d : Owned) → position + 1 < vec_len held.old
+        → slice_index_or held.new.items position d
+        ≡ slice_index_or held.old.items (vec_len held.old - 1) d)
+        × ((k : ℕ) (d : Owned) → k ≢ position → k + 1 < vec_len held.old
+        → slice_index_or held.new.items k d ≡ slice_index_or held.old.items k d) }
+{
+    let end = held.take_last();
+    replace(&mut held[position], end)
 }
 
 impl Cells {
@@ -117,13 +136,22 @@ impl Cells {
         self.at.set(idx, self.held.len() as u32);
     }
 
-    /// Takes out the buffer that stands at an index. What stands last takes its position.
+    /// Takes out the buffer that stands at an index. What stands last takes its position, unless it is
+    /// the one that goes.
     pub(crate) fn take(&mut self, idx: u32) -> Buf
         requires { IsSome (cell_at self.old idx) }
         ensures buffer { buf_in (cell_at self.old idx) ≡ Some result }
         ensures cells { self.new ≡ slice_set self.old idx None }
     {
         let number = self.at.given(idx);
+        if number as usize == self.held.len() {
+            self.at.change(idx, 0);
+            let Owned {
+                index: _,
+                standing: Standing { home: _, buf },
+            } = self.held.take_last();
+            return buf;
+        }
         let position = (number - 1) as usize;
         let last = self.held[self.held.len() - 1].index;
         self.at.change(last, number);
@@ -131,7 +159,7 @@ impl Cells {
         let Owned {
             index: _,
             standing: Standing { home: _, buf },
-        } = self.held.swap_remove(position);
+        } = swap_out(&mut self.held, position);
         buf
     }
 

@@ -119,7 +119,7 @@ impl Ports {
         requires there { has_place (ports_of self.old.tables) (Rx port slot) ≡ true }
         ensures { self.new.tables ≡ map (put_in (Rx port slot) number) self.old.tables }
     {
-        if is_first(&self.rows, port) {
+        if is_of(&self.rows[0], port) {
             put_received_at(&mut self.rows[0], slot, number);
             return;
         }

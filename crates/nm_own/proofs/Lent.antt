@@ -41,7 +41,7 @@ module _ (s : SideState) (lent : List Buffer) (l : LentBack) (x : IsLentBack s l
   few_lent = let few = few_pushed x.r ring_lent in omega (arith, x.lent_count)
 
   pub few_replaced : length l.replaced.items ≤ 1024
-  few_replaced = let few = few_pushed x.r ring_lent in omega (arith, x.count)
+  few_replaced = let few = few_pushed x.r ring_lent in omega (arith, x.few)
 
   -- the ports once the push is accepted
   abbrev pub around : Among l.ports.items l.port.0 lends.0

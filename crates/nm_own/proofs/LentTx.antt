@@ -239,4 +239,4 @@ module _ (s : SideState) (lent : List Buffer) (l : LentOffers) (x : IsLentOffers
   few_lent = let few = few_offered x.was l.ports.items l.port lends.0 x.r lends.1 in let most = ring_lent.is_size.1 in omega (arith, x.lent_count)
 
   pub few_replaced : length l.replaced.items ≤ 1024
-  few_replaced = let few = few_pushed x.r ring_lent in omega (arith, x.count)
+  few_replaced = let few = few_pushed x.r ring_lent in omega (arith, x.few)

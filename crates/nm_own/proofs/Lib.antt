@@ -17,6 +17,7 @@ pub mod Passing
 pub mod OnePort
 pub mod Received
 pub mod RxPlaces
+pub mod NamedSlots
 pub mod GivenBack
 pub mod PutOne
 pub mod Published

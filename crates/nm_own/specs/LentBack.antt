@@ -1,5 +1,5 @@
 -- The own side of a receive push whose buffers are lent out: they go back for good, or come back.
-use Rattle.std.specs.Prelude.{◌≡◌, List, length, reverse, Some, None}
+use Rattle.std.specs.Prelude.{◌≡◌, ◌≤◌, List, length, reverse, Some, None}
 use Rattle.nm_types.specs.declared.id.Side.TheVariants.{Rx}
 use Rattle.nm_region.specs.Buffers.{Buffer}
 use Rattle.nm_hold.specs.Holds.{HoldState}
@@ -31,6 +31,6 @@ pub record IsLentBack (s : SideState) (lent : List Buffer) (l : LentBack) : Type
   pub exchange : AreExchanged was exchanged l.port r (pushed_count_of r)
   pub swapped : AreSwapped was l.port r (reverse l.replaced.items) exchanged
   pub taken : AreTaken exchanged l.hold (user_places l.port r (pushed_count_of r)) earlier later
-  pub count : length l.replaced.items ≡ pushed_count_of r
+  pub few : length l.replaced.items ≤ pushed_count_of r
   pub lent_count : length lent ≡ pushed_count_of r
   pub out : AreOut exchanged (back_run l r) 0 (reverse lent) l.hold

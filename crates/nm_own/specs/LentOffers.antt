@@ -48,7 +48,7 @@ pub record IsLentOffers (s : SideState) (lent : List Buffer) (l : LentOffers) : 
   pub passes : refusal_at Tx l.port.0 (own_seen was l.ports.items) ≡ None
   pub exchange : AreExchanged was exchanged l.port r (pushed_count_of r)
   pub swapped : AreSwapped was l.port r (reverse l.replaced.items) exchanged
-  pub count : length l.replaced.items ≡ pushed_count_of r
+  pub few : length l.replaced.items ≤ pushed_count_of r
   pub lent_count : length lent ≡ offered_count_of r
   pub out : AreOut exchanged (offer_run l r) (pending_count_of r) (reverse lent) l.hold
 

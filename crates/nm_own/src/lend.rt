@@ -26,7 +26,8 @@ pub struct LentBack {
     pub(crate) ports: Vec<UserPort>,
     pub(crate) marks: Marks,
     pub(crate) port: PortId,
-    /// The buffers that stood in the places of the pushed slots.
+    /// The buffers that stood in the places of the pushed slots; none if each slot names the one in its
+    /// place.
     pub(crate) replaced: Vec<u32>,
 }
 

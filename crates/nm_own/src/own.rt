@@ -39,7 +39,7 @@ use crate::open::{NewPort, add_last};
 use crate::slot_lent::{index_of_port, slot_in};
 use nm_extra::relink;
 use nm_hold::Hold;
-use nm_port::checks::check_ring;
+use nm_port::checks::check_named_ring;
 use nm_port::close::{empty_port, take_port};
 use nm_port::exchange::{accept_pushes, send_out};
 use nm_port::fill::{Row, fill};
@@ -357,7 +357,7 @@ impl OwnSide {
         ensures same { self.new ≡ self.old }
     {
         match ring_at(&self.ports, port, side) {
-            Some(ring) => check_ring(&self.hold, port, ring, &mut self.marks),
+            Some(ring) => check_named_ring(&self.hold, port, ring, &mut self.marks),
             None => unreachable!(),
         }
     }

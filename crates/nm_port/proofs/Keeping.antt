@@ -1,23 +1,23 @@
 -- A push each of whose slots keeps the buffer in its place: no slot of it is refused.
 use Rattle.std.proofs.Common.{ℕ, zero, suc, ◌≡◌, ◌<◌, ◌≤◌, ◌+◌, Bool, true, false, nat_eq, List, [], ◌∷◌, ◌++◌, map, Option, Some, None, inl, inr, refl, sym, ◌∙◌, ap, subst, arith}
-use Rattle.std.specs.Prelude.{◌||◌, slice_get, unwrap_or}
+use Rattle.std.specs.Prelude.{◌||◌, unwrap_or}
 use Rattle.std.proofs.lemmas.Bool.{cases_Bool}
 use Rattle.std.proofs.lemmas.List.{map-append}
-use Rattle.std.proofs.lemmas.Option.{unwrap_or-slice_get}
 use Rattle.nm_types.specs.declared.id.PortId.{PortId}
 use Rattle.nm_types.specs.declared.id.Side.{Side}
 use Rattle.nm_types.specs.declared.id.Side.TheVariants.{Tx, Rx}
 use Rattle.nm_types.specs.Positions.{IsRing, FitsRing, slots_from}
 use Rattle.nm_types.specs.Slots.{Pushed, pushed_names}
-use Rattle.nm_types.specs.SyncChecks.{slots_refusal, seen_of, contains_index, PassesSlot}
-use Rattle.nm_types.proofs.SlotChecks.{PassesSlot-from_none, slot_refusal-passes}
-use Rattle.nm_hold.specs.Holds.{HoldState, buffers_of, index_at, slot_on, IsHold, AreNumbers}
+use Rattle.nm_types.specs.SyncChecks.{is_tx, slots_refusal, seen_of, contains_index, PassesSlot}
+use Rattle.nm_types.proofs.SlotChecks.{slot_refusal-passes}
+use Rattle.nm_hold.specs.Holds.{HoldState, buffers_of, index_at, is_named_at, slot_on, IsHold, AreNumbers}
 use Rattle.nm_hold.proofs.Spots.{nat_eq-is}
 use Rattle.nm_port.specs.RingSlots.{RingSlots, slot_at}
-use Rattle.nm_port.specs.Sides.{place_on, number_at, name_at, pushed_seen_at, AreNamed, seen_alone, KeepsBuffer}
-use Rattle.nm_port.specs.Exchanges.{pushed_count_of, user_position, user_place}
+use Rattle.nm_port.specs.Sides.{place_on, number_at, name_at, pushed_seen_at, AreNamed, HaveNamed, IsPlain}
+use Rattle.nm_port.specs.Exchanges.{pushed_count_of, user_position, user_place, KeepAll}
 use Rattle.nm_port.proofs.Judging.{passed_more, contains_more, false_true}
-use Rattle.nm_port.proofs.Pushes.{seen_more}
+use Rattle.nm_port.proofs.Pushes.{pushed_is_user, seen_more}
+use Rattle.nm_port.proofs.Plain.{named_within}
 use Rattle.nm_port.proofs.Exchanged.{one_place, user_apart}
 
 pub slot_is_place : (side : Side) (id : PortId) (at : ℕ) → slot_on side id at ≡ place_on side id at
@@ -29,23 +29,24 @@ index_from None idx e low = let none : 0 ≡ idx = e in absurd (omega (arith, no
 index_from (Some i) idx e low = ap (λ (n : ℕ). Some n) e
 
 module _ (h : HoldState) (id : PortId) (r : RingSlots) (numbers : List ℕ) (is : IsRing r.ring) (fits : FitsRing r.ring r.ring.head r.ring.cur) (numbered : AreNumbers h r.side id numbers)
-    (kept : (k : ℕ) → k < pushed_count_of r → KeepsBuffer h (buffers_of h + 1) r numbers (user_position r k)) where
+    (named_there : HaveNamed h id r) (kept : KeepAll r numbers (pushed_count_of r)) where
   abbrev own_name : ℕ → ℕ
   own_name k = name_at r (user_position r k)
-
-  passes_alone : (k : ℕ) → k < pushed_count_of r
-      → PassesSlot r.side (seen_alone h (buffers_of h + 1) (own_name k)) (slot_at r (user_position r k))
-  passes_alone k below = PassesSlot-from_none r.side (seen_alone h (buffers_of h + 1) (own_name k)) (user_position r k) (slot_at r (user_position r k)) (kept k below).passes
 
   number_there : (k : ℕ) → k < pushed_count_of r → number_at h (user_place id r k) ≡ own_name k
   number_there k below =
       let at = user_position r k in
-      let there : slice_get numbers at ≡ Some (own_name k) = index_from (slice_get numbers at) (own_name k) (unwrap_or-slice_get numbers at 0 ∙ (kept k below).own) (passes_alone k below).least in
-      ap (number_at h) (sym (slot_is_place r.side id at)) ∙ numbered at (own_name k) there
+      ap (number_at h) (sym (slot_is_place r.side id at)) ∙ numbered at (own_name k) (kept k below)
 
-  -- the buffer that a slot names stands in the slot's place
+  -- the buffer that a slot names stands in the slot's place, and is a named one
+  stands : (k : ℕ) → k < pushed_count_of r → (index_at h (user_place id r k) ≡ Some (own_name k)) × (is_named_at h (own_name k) ≡ true)
+  stands k below =
+      let x = named_there (user_position r k) (pushed_is_user r.ring k is fits below) in
+      let same : x.0 ≡ own_name k = sym (ap (λ (o : Option ℕ). unwrap_or o 0) x.1.0) ∙ number_there k below in
+      (x.1.0 ∙ ap (λ (n : ℕ). Some n) same, ap (is_named_at h) (sym same) ∙ x.1.1)
+
   stands_there : (k : ℕ) → k < pushed_count_of r → index_at h (user_place id r k) ≡ Some (own_name k)
-  stands_there k below = index_from (index_at h (user_place id r k)) (own_name k) (number_there k below) (passes_alone k below).least
+  stands_there k below = (stands k below).0
 
   abbrev pub seen : ℕ → List Pushed
   seen n = map (pushed_seen_at h id r) (slots_from r.ring.size r.ring.accepted_head n)
@@ -68,7 +69,7 @@ module _ (h : HoldState) (id : PortId) (r : RingSlots) (numbers : List ℕ) (is 
       or_left true b e f = refl
       or_left false b e f = false_true (sym f ∙ e)
 
-  module _ (is_hold : IsHold h) where
+  module _ (is_hold : IsHold h) (plain : is_tx r.side ≡ true → (k : ℕ) → k < pushed_count_of r → IsPlain (slot_at r (user_position r k))) where
     names_apart : (n : ℕ) → n < pushed_count_of r → contains_index (pushed_names (seen n)) (own_name n) ≡ false
     names_apart n below = elim (cases_Bool (contains_index (pushed_names (seen n)) (own_name n))) [
       | inl there ↦ (let before = named_before (own_name n) n there in
@@ -83,16 +84,17 @@ module _ (h : HoldState) (id : PortId) (r : RingSlots) (numbers : List ℕ) (is 
         let next : suc n ≡ n + 1 = omega arith in
         let below : n < pushed_count_of r = omega (arith, few) in
         let x = pushed_seen_at h id r (user_position r n) in
-        let passes = passes_alone n below in
+        let named_one = (stands n below).1 in
+        let index = named_within h (own_name n) is_hold named_one in
         let here : PassesSlot r.side (seen_of (buffers_of h) named (pushed_names (seen n)) x) x.slot = record {
-          direct = passes.direct;
-          least = passes.least;
-          most = passes.most;
-          held = sym (well is_hold (own_name n) passes.least) ∙ passes.held;
+          direct = λ tx. (plain tx n below).direct;
+          least = index.least;
+          most = index.most;
+          held = sym (well is_hold (own_name n) index.least) ∙ named_one;
           once = names_apart n below;
           announced = λ differs. absurd (differs (sym (number_there n below)));
-          fits_buffer = passes.fits_buffer;
-          whole = passes.whole;
+          fits_buffer = λ tx. (plain tx n below).fits;
+          whole = λ tx. (plain tx n below).whole;
         } in
         let passed = passed_more r.side (buffers_of h) named (seen n) x (kept_passes named well n (omega (arith, few)))
         (slot_refusal-passes r.side (seen_of (buffers_of h) named (pushed_names (seen n)) x) x.at x.slot here) in

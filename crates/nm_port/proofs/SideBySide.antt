@@ -1,6 +1,6 @@
 -- Slots that lie side by side, and loops over a ring that go on by as many slots at a time.
 use Rattle.std.proofs.Common.{ℕ, zero, fold, set, suc, ◌≡◌, ◌<◌, ◌≤◌, ◌+◌, ◌-◌, List, [], ◌∷◌, ◌++◌, length, map, inl, inr, refl, sym, ◌∙◌, ap, subst, arith}
-use Rattle.std.specs.Prelude.{min, slice_index_or}
+use Rattle.std.specs.Prelude.{min, slice_get, slice_index_or, Some}
 use Rattle.std.specs.List.{range_with_len}
 use Rattle.std.proofs.lemmas.Bool.{cases_lt}
 use Rattle.std.proofs.lemmas.List.{set-get_or, map-append, length-append, get_or_append_left, get_or-append-add}
@@ -12,11 +12,10 @@ use Rattle.nm_types.specs.Slots.{SlotState, slot_after_push}
 use Rattle.nm_types.specs.OwnSyncs.{with_push_cleared}
 use Rattle.nm_types.specs.OwnPorts.{index_of, blank_slot}
 use Rattle.nm_types.proofs.RingSteps.{dist-below, dist-step_on, step_on-below, step_on-step_on, slots_from-add}
-use Rattle.nm_hold.specs.Holds.{HoldState}
 use Rattle.nm_port.proofs.SlotLists.{fold-slots_from}
 use Rattle.nm_port.specs.RingSlots.{RingSlots, IsRingSlots, slot_count, slot_at, AreSideBySide}
-use Rattle.nm_port.specs.Sides.{name_at, KeepsSlot, KeepsBuffer}
-use Rattle.nm_port.specs.Exchanges.{user_position, KeepFirst}
+use Rattle.nm_port.specs.Sides.{name_at, IsPlain}
+use Rattle.nm_port.specs.Exchanges.{user_position, KeepAll, KeepFirst}
 
 -- what holds of the first numbers and of as many more behind them
 pub below_more : (P : ℕ → Type 0) (k n : ℕ) → ((j : ℕ) → j < k → P j) → ((j : ℕ) → j < n → P (k + j)) → (j : ℕ) → j < k + n → P j
@@ -73,20 +72,23 @@ module _ (r : RingSlots) (steps : ℕ) (slots : List SlotState) (are : AreSideBy
     number_here : (j : ℕ) → j < length slots → slice_index_or numbers (user_position r (steps + j)) 0 ≡ slice_index_or rest j 0
     number_here j below = ap (λ (at : ℕ). slice_index_or numbers at 0) (are.positions j below) ∙ sym (from j)
 
-    pub keeps_here : (h : HoldState) (top j : ℕ) → j < length slots → KeepsSlot h top r.side (slice_index_or rest j 0) (slice_index_or slots j blank_slot) → KeepsBuffer h top r numbers (user_position r (steps + j))
-    keeps_here h top j below keeps =
-        let at = user_position r (steps + j) in
-        let slot = are.stand j below in
-        record {
-          own = number_here j below ∙ (keeps.own ∙ ap (λ (s : SlotState). s.buf_idx) slot);
-          passes = rw slot at (keeps.passes at);
-        }
-
     names_here : (j : ℕ) → j < length slots → slice_index_or rest j 0 ≡ (slice_index_or slots j blank_slot).buf_idx → slice_index_or numbers (user_position r (steps + j)) 0 ≡ name_at r (user_position r (steps + j))
     names_here j below own = number_here j below ∙ (own ∙ ap (λ (s : SlotState). s.buf_idx) (are.stand j below))
 
     pub names_more : (n : ℕ) → n ≤ length slots → KeepFirst r numbers steps → ((j : ℕ) → j < n → slice_index_or rest j 0 ≡ (slice_index_or slots j blank_slot).buf_idx) → KeepFirst r numbers (steps + n)
     names_more n few before here = below_more (λ (j : ℕ). slice_index_or numbers (user_position r j) 0 ≡ name_at r (user_position r j)) steps n before (λ j below. names_here j (omega (arith, below, few)) (here j below))
+
+  -- slots that name the buffers in their places, as these numbers tell, behind others that do
+  pub matched_more : (numbers rest : List ℕ) → ((j : ℕ) → slice_get rest j ≡ slice_get numbers (user_position r steps + j)) → KeepAll r numbers steps
+      → ((j : ℕ) → j < length slots → slice_get rest j ≡ Some (slice_index_or slots j blank_slot).buf_idx) → KeepAll r numbers (steps + length slots)
+  matched_more numbers rest from before here =
+      below_more (λ (j : ℕ). slice_get numbers (user_position r j) ≡ Some (name_at r (user_position r j))) steps (length slots) before
+      (λ j below. ap (slice_get numbers) (are.positions j below) ∙ (sym (from j) ∙ (here j below ∙ ap (λ (s : SlotState). Some s.buf_idx) (are.stand j below))))
+
+  -- slots that neither marks nor lengths refuse, behind others
+  pub plain_more : ((k : ℕ) → k < steps → IsPlain (slot_at r (user_position r k))) → ((j : ℕ) → j < length slots → IsPlain (slice_index_or slots j blank_slot))
+      → (k : ℕ) → k < steps + length slots → IsPlain (slot_at r (user_position r k))
+  plain_more before here = below_more (λ (k : ℕ). IsPlain (slot_at r (user_position r k))) steps (length slots) before (λ j below. subst IsPlain (are.stand j below) (here j below))
 
 -- the least of two numbers
 min_left : (a b : ℕ) → min a b ≤ a

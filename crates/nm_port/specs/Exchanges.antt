@@ -1,5 +1,5 @@
 -- A push in a hold: the exchange of its slots, and which buffers are the user's to name afterwards.
-use Rattle.std.specs.Prelude.{ℕ, Bool, true, false, ◌≡◌, ◌≢◌, ◌<◌, ◌≤◌, is_some, IsSome, if◌then◌else◌, List, map, fold, Option, Some, None, slice_index_or}
+use Rattle.std.specs.Prelude.{ℕ, Bool, true, false, ◌≡◌, ◌≢◌, ◌<◌, ◌≤◌, is_some, IsSome, if◌then◌else◌, List, map, fold, Option, Some, None, slice_get, slice_index_or}
 use Rattle.std.specs.List.{list_any}
 use Rattle.nm_types.specs.declared.id.PortId.{PortId}
 use Rattle.nm_types.specs.declared.id.Side.TheVariants.{Tx}
@@ -31,6 +31,10 @@ user_place id r k = place_on r.side id (user_position r k)
 -- each of the first pushed slots names the buffer in its place, as these numbers of all places tell
 abbrev pub KeepFirst : RingSlots → List ℕ → ℕ → Type 0
 KeepFirst r numbers count = (k : ℕ) → k < count → slice_index_or numbers (user_position r k) 0 ≡ name_at r (user_position r k)
+
+-- the same, of numbers that there are
+abbrev pub KeepAll : RingSlots → List ℕ → ℕ → Type 0
+KeepAll r numbers count = (k : ℕ) → k < count → slice_get numbers (user_position r k) ≡ Some (name_at r (user_position r k))
 
 -- each pushed slot's place holds a named buffer, and the slot names one, which no other does
 pub record CanExchange (h : HoldState) (id : PortId) (r : RingSlots) : Type 0 where

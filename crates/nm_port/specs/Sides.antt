@@ -6,9 +6,9 @@ use Rattle.nm_types.specs.declared.id.Side.{Side}
 use Rattle.nm_types.specs.declared.id.Side.TheVariants.{Tx, Rx}
 use Rattle.nm_types.specs.declared.place.Place.{Place}
 use Rattle.nm_types.specs.declared.place.Place.TheVariants as place
-use Rattle.nm_types.specs.Positions.{pushed_slots}
-use Rattle.nm_types.specs.Slots.{SlotState, Pushed}
-use Rattle.nm_types.specs.declared.slot.Seen.{Seen}
+use Rattle.nm_types.specs.Limits.{buffer_bytes}
+use Rattle.nm_types.specs.Positions.{is_user_slot, pushed_slots}
+use Rattle.nm_types.specs.Slots.{SlotState, Pushed, has_flag, indirect, more_fragments}
 use Rattle.nm_types.specs.SyncChecks.{contains_index, slot_refusal, seen_of}
 use Rattle.nm_types.specs.declared.refusal.SlotFault.{SlotFault}
 use Rattle.nm_types.specs.declared.fault.SyncFault.{SyncFault}
@@ -73,18 +73,12 @@ abbrev pub TellsRefusal : Result ⊤ SyncFault → Option SyncFault → Type 0
 TellsRefusal (Ok _) refusal = refusal ≡ None
 TellsRefusal (Err fault) refusal = refusal ≡ Some fault
 
--- what a sync knows of a slot that names the buffer in its place, and which no other slot names; `top` is
--- the greatest index of a buffer
-abbrev pub seen_alone : HoldState → ℕ → ℕ → Seen
-seen_alone h top idx = record { was = idx; top = top; held = is_named_at h idx; doubled = false }
+-- neither the marks nor the length of a transmit slot refuse it
+pub record IsPlain (slot : SlotState) : Type 0 where
+  pub direct : has_flag indirect slot ≡ false
+  pub whole : has_flag more_fragments slot ≡ false
+  pub fits : slot.len ≤ buffer_bytes
 
--- a slot that names the buffer of this index, the one in its place, and passes all checks that do not ask
--- for other slots
-pub record KeepsSlot (h : HoldState) (top : ℕ) (side : Side) (number : ℕ) (slot : SlotState) : Type 0 where
-  pub own : number ≡ slot.buf_idx
-  pub passes : (at : ℕ) → slot_refusal side (seen_alone h top slot.buf_idx) at slot ≡ None
-
--- a pushed slot that does, as these numbers of all places tell
-pub record KeepsBuffer (h : HoldState) (top : ℕ) (r : RingSlots) (numbers : List ℕ) (at : ℕ) : Type 0 where
-  pub own : slice_index_or numbers at 0 ≡ name_at r at
-  pub passes : slot_refusal r.side (seen_alone h top (name_at r at)) at (slot_at r at) ≡ None
+-- each of the user's slots has a named buffer in its place
+abbrev pub HaveNamed : HoldState → PortId → RingSlots → Type 0
+HaveNamed h id r = (at : ℕ) → is_user_slot r.ring at ≡ true → (idx : ℕ) × ((index_at h (place_on r.side id at) ≡ Some idx) × (is_named_at h idx ≡ true))

@@ -3,20 +3,19 @@ ghost use Rattle.std.specs.Prelude.{OnErr, MatchResult};
 ghost use Rattle.std.specs.Prelude.{None, Some, true, false, length, replicate, slice_index_or};
 ghost use Rattle.std.specs.Prelude.{slice_set, ◌+◌};
 ghost use Rattle.nm_types.specs.Positions.{FitsRing, is_user_slot};
-ghost use Rattle.nm_types.specs.Limits.{buffer_bytes};
 ghost use Rattle.nm_types.specs.OwnPorts.{blank_slot};
-ghost use Rattle.nm_types.specs.Slots.{pushed_names, has_flag, indirect, more_fragments};
+ghost use Rattle.nm_types.specs.Slots.{pushed_names};
 ghost use Rattle.nm_types.specs.SyncFaults.{ring_sync_fault, slot_sync_fault};
-ghost use Rattle.nm_types.specs.SyncChecks.{is_tx, slot_refusal, seen_of, slots_refusal, refusal_of};
+ghost use Rattle.nm_types.specs.SyncChecks.{is_tx, slots_refusal, refusal_of};
 ghost use Rattle.nm_hold.specs.Holds.{buffers_of, is_named_at, IsHold};
 ghost use Rattle.nm_port.specs.Sides.{place_on, number_at, pushed_seen_at, pushed_seen};
 ghost use Rattle.nm_port.specs.Sides.{names_pushed, AreNamed, AreMarked, AreMarkedOf, AreCleared};
 ghost use Rattle.nm_port.specs.Sides.{JudgesSlot, JudgesAll, TellsRefusal, marks_after};
-ghost use Rattle.nm_port.specs.Sides.{KeepsBuffer, KeepsSlot, seen_alone};
+ghost use Rattle.nm_port.specs.Sides.{HaveNamed, IsPlain};
 ghost use Rattle.nm_port.specs.Exchanges.{pushed_count_of, user_position};
 ghost use Rattle.nm_port.specs.RingSlots.{IsRingSlots, slot_at};
 
-use crate::kept::numbers_from;
+use crate::kept::ring_matches;
 use crate::marks::Marks;
 use crate::slot_ring::SlotRing;
 use bitflags::Flags;
@@ -134,57 +133,29 @@ fn judge_pushed(
     Ok(())
 }
 
-/// Whether neither the marks nor the length of a slot refuse it; those of a receive slot never do.
-fn is_plain(side: Side, slot: &Slot) -> bool
-    ensures direct { result ≡ true → is_tx side ≡ true → has_flag indirect slot.now ≡ false }
-    ensures whole { result ≡ true → is_tx side ≡ true
-        → has_flag more_fragments slot.now ≡ false }
-    ensures fits { result ≡ true → is_tx side ≡ true → slot.now.len ≤ buffer_bytes }
+/// Whether neither the marks nor the length of a transmit slot refuse it.
+fn is_plain(slot: &Slot) -> bool
+    ensures { result ≡ true → IsPlain slot.now }
 {
     let flags = SlotFlags::from_bits_retain(slot.flags);
-    match side {
-        Side::Tx => {
-            !flags.contains(SlotFlags::INDIRECT)
-                && !flags.contains(SlotFlags::MORE_FRAGMENTS)
-                && slot.len as usize <= BUFFER_BYTES
-        }
-        Side::Rx => true,
-    }
+    !flags.contains(SlotFlags::INDIRECT)
+        && !flags.contains(SlotFlags::MORE_FRAGMENTS)
+        && slot.len as usize <= BUFFER_BYTES
 }
 
-/// Whether a slot passes the checks if it names the buffer in its place, and no other slot names
-/// that one.
-fn passes_alone(hold: &Hold, side: Side, slot: &Slot) -> bool
-    ensures { result ≡ true → (at : ℕ) → slot_refusal side
-        (seen_alone hold.now (buffers_of hold.now + 1) slot.now.buf_idx) at slot.now ≡ None }
-{
-    if is_plain(side, slot) {
-        hold.named(slot.buf_idx)
-    } else {
-        false
-    }
-}
-
-/// Whether each of some slots names the buffer in its place, a named one, and passes the other
-/// checks. `numbers` begins with the index of the buffer in the place of each.
-fn slots_keep(hold: &Hold, side: Side, slots: &[Slot], numbers: &[u32]) -> bool
+/// Whether neither the marks nor the length of any of some transmit slots refuse it.
+fn are_plain(slots: &[Slot]) -> bool
     ensures { result ≡ true → (j : ℕ) → j < length slots.now
-        → KeepsSlot hold.now (buffers_of hold.now + 1) side
-        (slice_index_or numbers.now j 0) (slice_index_or slots.now j blank_slot) }
+        → IsPlain (slice_index_or slots.now j blank_slot) }
 {
-    slots.len() <= numbers.len()
-        && slots.iter().zip(numbers).all(|(slot, number)| *number == slot.buf_idx
-            && passes_alone(hold, side, slot))
+    slots.iter().all(|slot| is_plain(slot))
 }
 
-/// Whether each pushed slot names the buffer in its place, a named one, and passes the other checks.
-/// `numbers` has the index of the buffer in each place of the ring.
-fn each_keeps(hold: &Hold, ring: &SlotRing, numbers: &[u32]) -> bool
+/// Whether neither the marks nor the length of any pushed slot of a transmit ring refuse it.
+fn is_plain_push(ring: &SlotRing) -> bool
     requires { FitsRing ring.now.ring ring.now.ring.head ring.now.ring.cur }
-    ensures keeps { result ≡ true → (k : ℕ) → k < pushed_count_of ring.now
-        → KeepsBuffer hold.now (buffers_of hold.now + 1) ring.now numbers.now
-        (user_position ring.now k) }
-    ensures ring { IsRingSlots ring.now }
+    ensures { result ≡ true → (k : ℕ) → k < pushed_count_of ring.now
+        → IsPlain (slot_at ring.now (user_position ring.now k)) }
 {
     let (first, count) = ring.pushed();
     let size = ring.ring().size();
@@ -192,7 +163,7 @@ fn each_keeps(hold: &Hold, ring: &SlotRing, numbers: &[u32]) -> bool
     while k < count {
         let at = step_on(size, first, k);
         let slots = ring.side_by_side(at, k, count - k);
-        if !slots_keep(hold, ring.side(), slots, numbers_from(numbers, at)) {
+        if !are_plain(slots) {
             return false;
         }
         k += slots.len() as u32;
@@ -200,16 +171,32 @@ fn each_keeps(hold: &Hold, ring: &SlotRing, numbers: &[u32]) -> bool
     true
 }
 
-/// Whether each pushed slot keeps the buffer in its place and passes the other checks: no two of
-/// them then name one buffer, and none of them is refused.
-fn all_keep(hold: &Hold, port: PortId, ring: &SlotRing) -> bool
+/// Whether neither the marks nor the length of any pushed slot refuse it; those of a receive slot
+/// never do.
+fn is_plain_on(ring: &SlotRing) -> bool
     requires { FitsRing ring.now.ring ring.now.ring.head ring.now.ring.cur }
+    ensures { result ≡ true → is_tx ring.now.side ≡ true
+        → (k : ℕ) → k < pushed_count_of ring.now
+        → IsPlain (slot_at ring.now (user_position ring.now k)) }
+{
+    match ring.side() {
+        Side::Tx => is_plain_push(ring),
+        Side::Rx => true,
+    }
+}
+
+/// Whether each pushed slot keeps the buffer in its place, a named one, and passes the other checks:
+/// no two of them then name one buffer, and none of them is refused. It does not look at what stands
+/// in the places, as the user's slots have named buffers in theirs.
+fn all_keep(hold: &Hold, port: PortId, ring: &SlotRing) -> bool
+    requires fits { FitsRing ring.now.ring ring.now.ring.head ring.now.ring.cur }
+    requires named { HaveNamed hold.now port ring.now }
     ensures { result ≡ true → (named : List ℕ) → AreNamed hold.now named
         → slots_refusal ring.now.side (buffers_of hold.now) named []
         (pushed_seen hold.now port ring.now) ≡ None }
 {
     match hold.numbers(port, ring.side()) {
-        Some(numbers) => each_keeps(hold, ring, numbers),
+        Some(numbers) => is_plain_on(ring) && ring_matches(ring, numbers),
         None => false,
     }
 }
@@ -245,13 +232,36 @@ pub fn check_ring(
     if let Err(fault) = positions.check(positions.head(), positions.cur()) {
         return Err(ring_sync_fault(fault));
     }
-    if all_keep(hold, port, ring) {
-        return Ok(());
-    }
     let judged = judge_pushed(hold, port, ring, marks);
     clear_marks(ring, marks);
     match judged {
         Ok(()) => Ok(()),
         Err(fault) => Err(slot_sync_fault(fault)),
     }
+}
+
+/// Does what `check_ring` does for a ring of which each of the user's slots has a named buffer in its
+/// place. If all pushed slots keep the buffers in their places, none of these is looked at.
+pub fn check_named_ring(
+    hold: &Hold,
+    port: PortId,
+    ring: &SlotRing,
+    marks: &mut Marks,
+) -> Result<(), SyncFault>
+    requires blank { marks.old ≡ replicate (buffers_of hold.now + 2) false }
+    requires named { HaveNamed hold.now port ring.now }
+    ensures refusal { (named : List ℕ) → AreNamed hold.now named
+        → TellsRefusal result (refusal_of ring.now.side (buffers_of hold.now) named ring.now.ring
+        (pushed_seen hold.now port ring.now)) }
+    ensures same { marks.new ≡ marks.old }
+    ensures slots { IsRingSlots ring.now }
+{
+    let positions = ring.ring();
+    if let Err(fault) = positions.check(positions.head(), positions.cur()) {
+        return Err(ring_sync_fault(fault));
+    }
+    if all_keep(hold, port, ring) {
+        return Ok(());
+    }
+    check_ring(hold, port, ring, marks)
 }

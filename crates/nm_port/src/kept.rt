@@ -1,12 +1,14 @@
 ghost use Rattle.std.specs.Prelude.{ℕ, ◌≡◌, ◌<◌, ◌≤◌, ◌+◌, ◌++◌, [], length, map, reverse};
-ghost use Rattle.std.specs.Prelude.{slice_index_or};
+ghost use Rattle.std.specs.Prelude.{slice_get, slice_index_or, true, Some};
 ghost use Rattle.std.specs.Vec.{vec_capacity};
 ghost use Rattle.nm_types.specs.Slots.{SlotState};
 ghost use Rattle.nm_types.specs.OwnPorts.{blank_slot};
 ghost use Rattle.nm_types.specs.Positions.{IsRing, FitsRing, slots_from};
 ghost use Rattle.nm_port.specs.Sides.{name_at};
-ghost use Rattle.nm_port.specs.Exchanges.{CanExchange, AreExchanged, KeepFirst, pushed_count_of};
+ghost use Rattle.nm_port.specs.Exchanges.{CanExchange, AreExchanged, KeepFirst, KeepAll};
+ghost use Rattle.nm_port.specs.Exchanges.{pushed_count_of};
 ghost use Rattle.nm_port.specs.Lending.{AreSwapped};
+ghost use Rattle.nm_port.specs.RingSlots.{IsRingSlots};
 
 use crate::slot_ring::SlotRing;
 use nm_hold::{Hold, step_on};
@@ -14,12 +16,66 @@ use nm_types::{PortId, Slot};
 
 /// The numbers from a position on.
 pub(crate) fn numbers_from(numbers: &[u32], at: u32) -> &[u32]
-    ensures { (j : ℕ) → slice_index_or result.now j 0 ≡ slice_index_or numbers.now (at + j) 0 }
+    ensures read { (j : ℕ) → slice_index_or result.now j 0
+        ≡ slice_index_or numbers.now (at + j) 0 }
+    ensures get { (j : ℕ) → slice_get result.now j ≡ slice_get numbers.now (at + j) }
 {
     if (at as usize) < numbers.len() {
         &numbers[at as usize..]
     } else {
         &[]
+    }
+}
+
+/// Whether each of some slots names the buffer in its place. `numbers` begins with the index of the
+/// buffer in the place of each. Looks at all of them without a stop, so that several are compared at
+/// once.
+fn slots_match(slots: &[Slot], numbers: &[u32]) -> bool
+    ensures { result ≡ true → (j : ℕ) → j < length slots.now
+        → slice_get numbers.now j ≡ Some (slice_index_or slots.now j blank_slot).buf_idx }
+{
+    if numbers.len() < slots.len() {
+        return false;
+    }
+    let mut matches = true;
+    for k in 0..slots.len() {
+        matches &= slots[k].buf_idx == numbers[k];
+    }
+    matches
+}
+
+/// Whether each pushed slot names the buffer in its place. `numbers` has the index of the buffer in
+/// each place of the ring.
+pub(crate) fn ring_matches(ring: &SlotRing, numbers: &[u32]) -> bool
+    requires { FitsRing ring.now.ring ring.now.ring.head ring.now.ring.cur }
+    ensures keeps { result ≡ true → KeepAll ring.now numbers.now (pushed_count_of ring.now) }
+    ensures ring { IsRingSlots ring.now }
+{
+    let (first, count) = ring.pushed();
+    let size = ring.ring().size();
+    let mut k = 0;
+    while k < count {
+        let at = step_on(size, first, k);
+        let slots = ring.side_by_side(at, k, count - k);
+        if !slots_match(slots, numbers_from(numbers, at)) {
+            return false;
+        }
+        k += slots.len() as u32;
+    }
+    true
+}
+
+/// Whether each pushed slot names the buffer in its place, so that nothing changes where these are
+/// exchanged.
+pub(crate) fn is_kept(hold: &Hold, port: PortId, ring: &SlotRing) -> bool
+    requires can { CanExchange hold.now port ring.now }
+    requires ring { IsRing ring.now.ring }
+    ensures { result ≡ true
+        → AreExchanged hold.now hold.now port ring.now (pushed_count_of ring.now) }
+{
+    match hold.numbers(port, ring.side()) {
+        Some(numbers) => ring_matches(ring, numbers),
+        None => false,
     }
 }
 

@@ -430,7 +430,7 @@ impl SlotRing {
           slots = self.old.slots ++ published_slot buffer len ∷ [];
         } }
     {
-        let tail = self.next(self.ring.tail());
+        let tail = step_on(self.ring.size(), self.ring.tail(), 1);
         self.ring.advance(self.ring.head(), self.ring.cur(), tail);
         self.slots.push_back_reserved(Slot {
             buf_idx: buffer,

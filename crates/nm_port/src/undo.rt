@@ -10,7 +10,7 @@ ghost use Rattle.nm_port.specs.Lending.{AreSwapped, AreOut, AreNamedAs, place_of
 
 use crate::checks::place_on;
 use crate::fill::put;
-use crate::kept::note_kept;
+use crate::kept::{is_kept, note_kept};
 use crate::slot_ring::SlotRing;
 use nm_hold::{Hold, SlotRun};
 use nm_region::Buf;
@@ -27,9 +27,9 @@ fn index_in(hold: &Hold, place: Place) -> u32
     }
 }
 
-/// Exchanges, for each pushed slot in order, the buffer in its place and the one that it names, and
-/// keeps the index of the one that stood there.
-pub fn exchange_noted(hold: &mut Hold, port: PortId, ring: &SlotRing, was: &mut Vec<u32>)
+/// Does what `exchange_noted` does, where a slot may name another buffer. Keeps an index for each
+/// pushed slot.
+fn exchange_changed(hold: &mut Hold, port: PortId, ring: &SlotRing, was: &mut Vec<u32>)
     requires can { CanExchange hold.old port ring.now }
     requires ring { IsRing ring.now.ring }
     requires empty { was.old.items ≡ [] }
@@ -46,6 +46,23 @@ pub fn exchange_noted(hold: &mut Hold, port: PortId, ring: &SlotRing, was: &mut 
         let place = place_on(side, port, at);
         was.push_reserved(index_in(hold, place));
         hold.exchange(place, ring.user_slot(at).buf_idx);
+    }
+}
+
+/// Exchanges, for each pushed slot in order, the buffer in its place and the one that it names, and
+/// keeps the index of the one that stood there. It keeps none if each slot names the one in its
+/// place, so that nothing changes.
+pub fn exchange_noted(hold: &mut Hold, port: PortId, ring: &SlotRing, was: &mut Vec<u32>)
+    requires can { CanExchange hold.old port ring.now }
+    requires ring { IsRing ring.now.ring }
+    requires empty { was.old.items ≡ [] }
+    requires room { pushed_count_of ring.now ≤ vec_capacity was.old }
+    ensures exchanged { AreExchanged hold.old hold.new port ring.now (pushed_count_of ring.now) }
+    ensures swapped { AreSwapped hold.old port ring.now (reverse was.new.items) hold.new }
+    ensures few { length was.new.items ≤ pushed_count_of ring.now }
+{
+    if !is_kept(hold, port, ring) {
+        exchange_changed(hold, port, ring, was);
     }
 }
 

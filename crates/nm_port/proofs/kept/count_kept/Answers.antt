@@ -12,7 +12,7 @@ loop-k-preserved c =
     let at : c.step_on-at.result ≡ user_position r k = rw (c.step_on-at.ensures, c.pushed-first.ensures.first, c.size-size.ensures.size, c.ring.ensures.ring) refl in
     let before : KeepFirst r numbers k = (λ j below. rw (c.pushed-first.ensures.first, c.size-size.ensures.size, c.ring.ensures.ring) at (c.loop-k.invariant.1 j below)) in
     let more : KeepFirst r numbers (k + c.slots_kept-kept.result) = names_more r k c.side_by_side-slots.result.now c.side_by_side-slots.ensures.slots numbers c.numbers_from.result.now
-    (λ i. c.numbers_from.ensures i ∙ ap (λ (a : ℕ). slice_index_or numbers (a + i) 0) at) c.slots_kept-kept.result c.slots_kept-kept.ensures.few before c.slots_kept-kept.ensures.kept in (
+    (λ i. c.numbers_from.ensures.read i ∙ ap (λ (a : ℕ). slice_index_or numbers (a + i) 0) at) c.slots_kept-kept.result c.slots_kept-kept.ensures.few before c.slots_kept-kept.ensures.kept in (
       omega (arith, c.slots_kept-kept.ensures.few, c.side_by_side-slots.ensures.few, c.loop-k-test.true),
       λ j below. rw (c.pushed-first.ensures.first, c.size-size.ensures.size, c.ring.ensures.ring) (more j below),
     )
@@ -25,5 +25,5 @@ returns-then-kept-slots-clause-kept c =
     let at : c.step_on-at.result ≡ user_position r k = rw (c.step_on-at.ensures, c.pushed-first.ensures.first, c.size-size.ensures.size, c.ring.ensures.ring) refl in
     let before : KeepFirst r numbers k = (λ j below. rw (c.pushed-first.ensures.first, c.size-size.ensures.size, c.ring.ensures.ring) at (c.loop-k.invariant.1 j below)) in
     let more : KeepFirst r numbers (k + c.slots_kept-kept.result) = names_more r k c.side_by_side-slots.result.now c.side_by_side-slots.ensures.slots numbers c.numbers_from.result.now
-    (λ i. c.numbers_from.ensures i ∙ ap (λ (a : ℕ). slice_index_or numbers (a + i) 0) at) c.slots_kept-kept.result c.slots_kept-kept.ensures.few before c.slots_kept-kept.ensures.kept in
+    (λ i. c.numbers_from.ensures.read i ∙ ap (λ (a : ℕ). slice_index_or numbers (a + i) 0) at) c.slots_kept-kept.result c.slots_kept-kept.ensures.few before c.slots_kept-kept.ensures.kept in
     more

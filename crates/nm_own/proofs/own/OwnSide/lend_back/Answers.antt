@@ -94,7 +94,7 @@ returns-clause-lent c =
       exchange = c.exchange_noted.ensures.exchanged;
       swapped = c.exchange_noted.ensures.swapped;
       taken = s.taken;
-      count = c.exchange_noted.ensures.count;
+      few = c.exchange_noted.ensures.few;
       lent_count = lent_count h ports id s.p r s.passes c.exchange_noted.new.hold c.take_slots.new.hold c.exchange_noted.ensures.exchanged c.args.back.now.items c.take_slots.new.back.items s.taken;
       out = out 0 (λ k below. rw (all_named k) (c.exchange_noted.ensures.exchanged.there (user_place id r k) (can.there k below)));
     }

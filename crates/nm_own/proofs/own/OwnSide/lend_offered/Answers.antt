@@ -112,7 +112,7 @@ returns-clause-lent c =
       passes = s.passes.passes;
       exchange = c.exchange_noted.ensures.exchanged;
       swapped = c.exchange_noted.ensures.swapped;
-      count = c.exchange_noted.ensures.count;
+      few = c.exchange_noted.ensures.few;
       lent_count = lent_number h ports id s.p r s.passes c.exchange_noted.new.hold c.take_slots.new.hold c.exchange_noted.ensures.exchanged c.args.pending.now.items c.take_slots.new.back.items s.taken;
       out = out (pending_count_of r) (offered_flags h ports id s.p r s.passes c.exchange_noted.new.hold c.exchange_noted.ensures.exchanged);
     }

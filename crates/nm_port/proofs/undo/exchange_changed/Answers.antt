@@ -9,7 +9,7 @@ use Rattle.nm_port.specs.Lending.{AreChanged}
 use Rattle.nm_port.proofs.Pushes.{pushed_is_user}
 use Rattle.nm_port.proofs.Exchanged.{held_now, named_now, exchanged_next}
 use Rattle.nm_port.proofs.Undoing.{one_more_change}
-use Rattle.nm_port.proofs.undo.exchange_noted.Goals as goal
+use Rattle.nm_port.proofs.undo.exchange_changed.Goals as goal
 
 pub index_in-requires : goal.index_in-requires
 index_in-requires c =

@@ -2,7 +2,7 @@ use Rattle.std.proofs.Common.{◌≡◌, length, reverse}
 use Rattle.std.specs.Vec.{vec_capacity}
 use Rattle.nm_port.specs.Exchanges.{AreExchanged}
 use Rattle.nm_port.specs.Lending.{AreSwapped}
-use Rattle.nm_port.proofs.undo.exchange_noted.Given as goal
+use Rattle.nm_port.proofs.undo.exchange_changed.Given as goal
 
 abbrev pub invariant-loop-k : goal.invariant-loop-k
 invariant-loop-k l =
