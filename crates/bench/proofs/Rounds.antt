@@ -1,6 +1,6 @@
 -- A round of a line, in which frames are granted, filled, completed and synced.
 use Rattle.std.proofs.Common.{ℕ, zero, suc, ◌≡◌, ◌-◌, ◌≤◌, List, [], ◌∷◌, ◌++◌, length, take, drop, map, replicate, Some, inl, inr, refl, sym, ◌∙◌, ap, arith}
-use Rattle.std.specs.Prelude.{All, sum, nat_le, IsPermutation}
+use Rattle.std.specs.Prelude.{All, sum, nat_le, IsPermutation, ◌==◌}
 use Rattle.std.proofs.lemmas.Bool.{cases_Bool, eq-eqb}
 use Rattle.std.proofs.lemmas.List.{append-nil, append_assoc, length-append, length-take, length-drop, length-map, map-append, take-append-drop, length-take-le}
 use Rattle.std.proofs.lemmas.List.Elements.{All-head, All-tail, All-nil, All-cons, All-replicate}
@@ -14,9 +14,16 @@ use Rattle.vale_line.specs.declared.got.Got.{Got}
 use Rattle.vale_line.specs.Fitting.{IsFrameSize, fitting_sizes}
 use Rattle.vale_line.specs.Gots.{buffers_of, gots_of_parts, gots_with}
 use Rattle.vale_line.specs.Leased.{Leased, buffer_count, first_size, next_of, with_frame}
-use Rattle.vale_line.specs.Lines.{HeldLot, LineState, completed, new_line, opened_lot, with_lease, given_by_sync, ready_gots, space_of, granted_sizes, leased, out_of, slots_out}
+use Rattle.vale_line.specs.Lines.{HeldLot, LineState, completed, new_line, opened_lot, with_lease, given_by_sync, done_lots, ready_gots, room_to_sync, space_of, granted_sizes, leased, out_of, slots_out}
 use Rattle.vale_line.proofs.FittingLemmas.{sum-cons}
 use Rattle.bench.specs.Rounds.{IsOne, IsAtRest}
+
+-- a sync wants no more room than for what it gives
+pub room-most : (lots : List HeldLot) → room_to_sync lots ≤ length (ready_gots lots)
+room-most lots = elim (cases_Bool (length (done_lots lots) == 1)) [
+  | inl here ↦ rw here (omega arith)
+  | inr other ↦ rw other (omega arith)
+]
 
 -- frames of one slot, of those that fit
 pub record AreOnes (most : ℕ) (sizes : List ℕ) : Type 0 where

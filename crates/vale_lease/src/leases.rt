@@ -1,4 +1,4 @@
-ghost use Rattle.std.specs.Prelude.{All, ◌≡◌, ◌+◌, ◌-◌, ◌<◌, ◌≤◌, ◌^◌, [], ◌∷◌, ◌++◌, IfOk, IfSome, IfNone, IsTrue, false, length, map, slice_get};
+ghost use Rattle.std.specs.Prelude.{All, ◌≡◌, ◌+◌, ◌-◌, ◌<◌, ◌≤◌, ◌^◌, [], ◌∷◌, ◌++◌, IfOk, IfSome, IfNone, IsTrue, false, length, map, drop, slice_get};
 ghost use Rattle.std.specs.VecDeque.{deque_capacity};
 ghost use Rattle.vale_lease.specs.Leases.{has_id, is_there, is_lease_out, slots_of, done_prefix, behind_done, first_done, out_count, completed, AreLeases, IsLeaseRing};
 
@@ -47,6 +47,20 @@ fn first_done(leases: &VecDeque<LeaseSlots>) -> Option<u32>
     }
 }
 
+/// Removes the first lease. The next one then stands where the only one stood, so that a queue which
+/// is emptied again and again touches no more memory than it had leases at once.
+fn remove_first(leases: &mut VecDeque<LeaseSlots>)
+    requires { 1 ≤ length leases.old.items }
+    ensures rest { leases.new.items ≡ drop 1 leases.old.items }
+    ensures capacity { deque_capacity leases.new ≡ deque_capacity leases.old }
+{
+    if leases.len() == 1 {
+        leases.pop_back();
+    } else {
+        leases.pop_front();
+    }
+}
+
 #[tactic(auto, using(crate::proofs::LeaseLemmas::leases))]
 fn take_done(leases: &mut VecDeque<LeaseSlots>) -> u32
     requires { slots_of leases.old.items < 2 ^ 32 }
@@ -56,7 +70,7 @@ fn take_done(leases: &mut VecDeque<LeaseSlots>) -> u32
 {
     let mut taken = 0;
     while let Some(slots) = first_done(leases) {
-        leases.pop_front();
+        remove_first(leases);
         taken += slots;
     }
     taken

@@ -4,7 +4,7 @@ use Rattle.std.proofs.lemmas.List.{append_assoc, reverse-append, length-append, 
 use Rattle.nm_reach.specs.Cells.{refilled}
 use Rattle.nm_region.specs.Buffers.{Buffer}
 use Rattle.vale_line.specs.declared.got.Got.{Got}
-use Rattle.vale_line.specs.Cells.{gots_in, AreFull, AreEmpty, emptied, with_got, with_buffer}
+use Rattle.vale_line.specs.Cells.{gots_in, AreFull, AreEmpty, emptied, with_buffer}
 use Rattle.vale_line.specs.Gots.{blank}
 
 abbrev Cells : Type 0
@@ -19,10 +19,6 @@ pub gots-most : (xs : Cells) → length (gots_in xs) ≤ length xs
 gots-most [] = omega arith
 gots-most (None ∷ xs) = let rest = gots-most xs in omega (arith, rest)
 gots-most (Some got ∷ xs) = let rest = gots-most xs in omega (arith, rest)
-
-pub gots-full : (gs : List Got) → gots_in (map with_got gs) ≡ gs
-gots-full [] = refl
-gots-full (g ∷ gs) = ap (λ (l : List Got). g ∷ l) (gots-full gs)
 
 pub gots-blank : (bs : List Buffer) → gots_in (map with_buffer bs) ≡ map blank bs
 gots-blank [] = refl
@@ -294,6 +290,6 @@ module _ {G : Type 0} (f : G → Option Got) (xs cells : Cells) (gs : List G) (k
         empty = empty-less xs (at - 1) (subst (λ (n : ℕ). AreEmpty (take n xs)) next empty);
       }
 
-pub ruleset cells = (gots-append, gots-full, gots-blank, gots-emptied, gots-take-more)
+pub ruleset cells = (gots-append, gots-blank, gots-emptied, gots-take-more)
 
-pub ruleset runs = (gots-append, gots-full, gots-blank, gots-emptied)
+pub ruleset runs = (gots-append, gots-blank, gots-emptied)

@@ -1,15 +1,18 @@
 -- Frames written into the buffers of a lease.
-use Rattle.std.proofs.Common.{ℕ, zero, suc, ◌≡◌, ◌+◌, ◌<◌, ◌≤◌, List, [], ◌∷◌, ◌++◌, length, take, drop, get_or, slice_set, inl, inr, refl, sym, ◌∙◌, ap, arith}
-use Rattle.std.specs.Prelude.{min, nat_le, sum}
+use Rattle.std.proofs.Common.{ℕ, zero, suc, ◌≡◌, ◌+◌, ◌<◌, ◌≤◌, List, [], ◌∷◌, ◌++◌, length, take, drop, map, get_or, slice_set, inl, inr, refl, sym, ◌∙◌, ap, arith}
+use Rattle.std.specs.Prelude.{All, min, nat_le, sum}
 use Rattle.vale_line.proofs.FittingLemmas.{sum-cons}
 use Rattle.std.proofs.Math.Seq.{take-append-add, drop-append-add}
 use Rattle.std.proofs.lemmas.Bool.{cases_Bool, leb-true, leb-false}
 use Rattle.nm_frag.proofs.PartLemmas.{length-parts}
 use Rattle.std.proofs.lemmas.List.{length-append, length-drop, drop-drop, drop-map, length-map, length-take-le, take_all, drop_all, append-nil}
+use Rattle.std.proofs.lemmas.List.Elements.{All-head, All-tail}
+use Rattle.nm_region.specs.Buffers.{Buffer}
 use Rattle.nm_frag.specs.Parts.{slots_of_length, first_parts, parts_of}
 use Rattle.vale_line.specs.declared.got.Got.{Got}
-use Rattle.vale_line.specs.Gots.{got_of, buffer_of, buffers_of, gots_of_parts, gots_with, written_parts}
-use Rattle.vale_line.specs.Leased.{first_size}
+use Rattle.vale_line.specs.Fitting.{IsFrameSize}
+use Rattle.vale_line.specs.Gots.{blank, got_of, buffer_of, buffers_of, gots_of_parts, gots_with, written_parts}
+use Rattle.vale_line.specs.Leased.{first_size, sizes_behind, sizes_in}
 use Rattle.vale_line.proofs.FrameLemmas.{length-parts_of}
 
 -- parts written into the first buffers
@@ -100,18 +103,86 @@ filled-in gots new at bytes is room =
 pub drop-buffers : (n : ℕ) (gots : List Got) → buffers_of (drop n gots) ≡ drop n (buffers_of gots)
 drop-buffers n gots = sym (drop-map buffer_of n gots)
 
--- the sizes behind the first one
-pub sizes-more : (sizes : List ℕ) (i d : ℕ) → i < length sizes → (first_size (drop i sizes) ≡ get_or sizes i d) × (drop 1 (drop i sizes) ≡ drop (i + 1) sizes) × (sum (drop i sizes) ≡ get_or sizes i d + sum (drop (i + 1) sizes))
-sizes-more [] i d h = absurd (omega (arith, h))
-sizes-more (x ∷ xs) zero d h = (refl, refl, sum-cons x xs)
-sizes-more (x ∷ xs) (suc i) d h = let next : suc i + 1 ≡ suc (i + 1) = omega arith in rw next (sizes-more xs i d (omega (arith, h)))
+-- the sizes that buffers tell behind some others
+pub sizes-skip : (gots : List Got) (k : ℕ) → sizes_behind gots k ≡ sizes_in (drop k gots)
+sizes-skip gots zero = refl
+sizes-skip [] (suc k) = refl
+sizes-skip (g ∷ gs) (suc k) = sizes-skip gs k
 
--- a size that is wanted next is there
-pub sizes-there : (sizes : List ℕ) (i : ℕ) → 1 ≤ first_size (drop i sizes) → i < length sizes
-sizes-there [] zero h = absurd (omega (arith, h))
-sizes-there [] (suc i) h = absurd (omega (arith, h))
-sizes-there (x ∷ xs) zero h = omega arith
-sizes-there (x ∷ xs) (suc i) h = let rest = sizes-there xs i h in omega (arith, rest)
+-- the first size, and those behind the buffers of its frame
+pub sizes-first : (gots : List Got) (n : ℕ) → n ≡ first_size (sizes_in gots) → 1 ≤ n → (1 ≤ length gots) × ((d : Got) → suc (get_or gots 0 d).rest ≡ n) × (sizes_in gots ≡ n ∷ sizes_in (drop n gots))
+sizes-first [] n is some = absurd (omega (arith, is, some))
+sizes-first (g ∷ gs) n is some =
+    let same : n ≡ suc g.rest = is in
+    (omega arith, (λ d. sym same), rw same (ap (λ (ns : List ℕ). suc g.rest ∷ ns) (sizes-skip gs g.rest)))
+
+pub get-drop : (gots : List Got) (i : ℕ) (d : Got) → get_or (drop i gots) 0 d ≡ get_or gots i d
+get-drop gots zero d = refl
+get-drop [] (suc i) d = refl
+get-drop (g ∷ gs) (suc i) d = get-drop gs i d
+
+-- few buffers behind as many others tell nothing
+pub sizes-none : (gots : List Got) (k : ℕ) → length gots ≤ k → sizes_behind gots k ≡ []
+sizes-none [] k few = refl
+sizes-none (g ∷ gs) zero few = absurd (omega (arith, few))
+sizes-none (g ∷ gs) (suc k) few = sizes-none gs k (omega (arith, few))
+
+length-take : (k : ℕ) (gots : List Got) → length (take k gots) ≤ k
+length-take zero gots = omega arith
+length-take (suc k) [] = omega arith
+length-take (suc k) (g ∷ gs) = let rest = length-take k gs in omega (arith, rest)
+
+-- the next buffer tells the size of its frame
+pub sizes-marked : (gots : List Got) (skip at s : ℕ) (g : Got) → at + s ≤ length gots → 1 ≤ s → suc g.rest ≡ s → sum (sizes_behind (take at gots) skip) + skip ≡ at
+    → sizes_behind (take (at + s) (slice_set gots at g)) skip ≡ sizes_behind (take at gots) skip ++ s ∷ []
+sizes-marked [] skip at s g room some same sums = absurd (omega (arith, room, some))
+sizes-marked (x ∷ xs) zero zero s g room some same sums =
+    let next : 0 + s ≡ suc g.rest = omega (arith, same) in
+    rw next (ap (λ (ns : List ℕ). suc g.rest ∷ ns) (sizes-none (take g.rest xs) g.rest (length-take g.rest xs)) ∙ ap (λ (n : ℕ). n ∷ []) same)
+sizes-marked (x ∷ xs) (suc skip) zero s g room some same sums = absurd (omega (arith, sums))
+sizes-marked (x ∷ xs) zero (suc at) s g room some same sums =
+    let next : suc at + s ≡ suc (at + s) = omega arith in
+    let whole = sum-cons (suc x.rest) (sizes_behind (take at xs) x.rest) in
+    rw next (ap (λ (ns : List ℕ). suc x.rest ∷ ns) (sizes-marked xs x.rest at s g (omega (arith, room)) some same (omega (arith, whole, sums))))
+sizes-marked (x ∷ xs) (suc skip) (suc at) s g room some same sums =
+    let next : suc at + s ≡ suc (at + s) = omega arith in
+    rw next (sizes-marked xs skip at s g (omega (arith, room)) some same (omega (arith, sums)))
+
+pub buffers-set : (gots : List Got) (at : ℕ) (g d : Got) → at < length gots → g.buf ≡ (get_or gots at d).buf → buffers_of (slice_set gots at g) ≡ buffers_of gots
+buffers-set [] at g d within same = refl
+buffers-set (x ∷ xs) zero g d within same = ap (λ (b : Buffer). b ∷ buffers_of xs) same
+buffers-set (x ∷ xs) (suc at) g d within same = ap (λ (bs : List Buffer). x.buf ∷ bs) (buffers-set xs at g d (omega (arith, within)) same)
+
+pub size-at : (ns : List ℕ) (i : ℕ) → All IsFrameSize ns → i < length ns → IsFrameSize (get_or ns i 0)
+size-at [] i all within = absurd (omega (arith, within))
+size-at (n ∷ ns) zero all within = All-head IsFrameSize n ns all
+size-at (n ∷ ns) (suc i) all within = size-at ns i (All-tail IsFrameSize n ns all) (omega (arith, within))
+
+-- sizes are at least as many as their sum where each is one
+pub ones-most : (ns : List ℕ) → All IsFrameSize ns → length ns ≤ sum ns
+ones-most [] all = omega arith
+ones-most (n ∷ ns) all = let rest = ones-most ns (All-tail IsFrameSize n ns all) in let whole = sum-cons n ns in let some = (All-head IsFrameSize n ns all).0 in omega (arith, rest, whole, some)
+
+blanks-tell : (ns : List ℕ) (bufs : List Buffer) → All IsFrameSize ns → sum ns ≡ length bufs → length bufs ≤ length ns → sizes_in (map blank bufs) ≡ ns
+blanks-tell [] [] all total many = refl
+blanks-tell [] (b ∷ bs) all total many = absurd (omega (arith, total))
+blanks-tell (n ∷ ns) [] all total many = absurd (let most = ones-most (n ∷ ns) all in omega (arith, total, most))
+blanks-tell (n ∷ ns) (b ∷ bs) all total many =
+    let rest_all = All-tail IsFrameSize n ns all in
+    let most = ones-most ns rest_all in
+    let whole = sum-cons n ns in
+    let some = (All-head IsFrameSize n ns all).0 in
+    let one : n ≡ 1 = omega (arith, most, whole, some, total, many) in
+    let rest = blanks-tell ns bs rest_all (omega (arith, whole, one, total)) (omega (arith, many)) in
+    ap (λ (l : List ℕ). suc 0 ∷ l) rest ∙ ap (λ (k : ℕ). k ∷ ns) (sym one)
+
+-- buffers with no frames tell of frames of one buffer
+pub blank-sizes : (ns : List ℕ) (gots : List Got) → All IsFrameSize ns → sum ns ≡ length gots → length gots ≤ length ns → gots ≡ map blank (buffers_of gots) → sizes_in gots ≡ ns
+blank-sizes ns gots all total many blanks =
+    let long = length-map gots buffer_of in
+    ap sizes_in blanks ∙ blanks-tell ns (buffers_of gots) all (omega (arith, total, long)) (omega (arith, many, long))
+
+pub ruleset marks = (blank-sizes, ones-most)
 
 pub ruleset filling = (length-map)
 

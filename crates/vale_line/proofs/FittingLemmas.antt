@@ -1,5 +1,5 @@
 -- The longest prefix of sizes that fits.
-use Rattle.std.proofs.Common.{ℕ, ◌≡◌, ◌+◌, ◌-◌, ◌≤◌, List, [], ◌∷◌, ◌++◌, length, drop, Some, None, inl, inr, refl, ◌∙◌, ap, arith}
+use Rattle.std.proofs.Common.{ℕ, zero, suc, ◌≡◌, ◌+◌, ◌-◌, ◌≤◌, List, [], ◌∷◌, ◌++◌, length, take, drop, Some, None, inl, inr, refl, ◌∙◌, ap, arith}
 use Rattle.std.specs.Prelude.{nat_le, sum, All}
 use Rattle.std.proofs.lemmas.Bool.{cases_Bool, leb-true}
 use Rattle.std.proofs.lemmas.List.Elements.{All-head, All-tail}
@@ -15,6 +15,7 @@ sum-push ns n = sum_by_push (λ (k : ℕ). k) ns n
 -- the first size fits: it is given, and what fits behind it
 pub record Fits (room size : ℕ) (sizes : List ℕ) : Type 0 where
   pub within : size ≤ room
+  pub is_first : sizes ≡ size ∷ drop 1 sizes
   pub given : fitting_sizes room sizes ≡ size ∷ fitting_sizes (room - size) (drop 1 sizes)
   pub sum : sum sizes ≡ size + sum (drop 1 sizes)
   pub some : 1 ≤ length sizes
@@ -31,6 +32,7 @@ first-fits room size (s ∷ ss) is = elim (cases_Bool (nat_le s room)) [
       let given : fitting_sizes room (s ∷ ss) ≡ s ∷ fitting_sizes (room - s) ss = rw here refl in
       record {
         within = omega (arith, within, same);
+        is_first = ap (λ (n : ℕ). n ∷ ss) same;
         given = given ∙ ap (λ (n : ℕ). n ∷ fitting_sizes (room - n) ss) same;
         sum = sum-cons s ss ∙ ap (λ (n : ℕ). n + sum ss) same;
         some = omega arith;
@@ -39,6 +41,17 @@ first-fits room size (s ∷ ss) is = elim (cases_Bool (nat_le s room)) [
       }
   | inr other ↦ absurd (let wrong : None ≡ Some size = rw other at is in cc)
 ]
+
+-- one more of the first
+pub take-one : (sizes : List ℕ) (n size : ℕ) (rest : List ℕ) → drop n sizes ≡ size ∷ rest → (take (n + 1) sizes ≡ take n sizes ++ size ∷ []) × (drop (n + 1) sizes ≡ rest) × (n + 1 ≤ length sizes)
+take-one [] zero size rest is = absurd (let wrong : [] ≡ size ∷ rest = is in cc)
+take-one [] (suc n) size rest is = absurd (let wrong : [] ≡ size ∷ rest = is in cc)
+take-one (s ∷ ss) zero size rest is = let first : s ≡ size = cc in let same : ss ≡ rest = cc in (ap (λ (k : ℕ). k ∷ []) first, same, omega arith)
+take-one (s ∷ ss) (suc n) size rest is =
+    let next : suc n + 1 ≡ suc (n + 1) = omega arith in
+    let more = take-one ss n size rest is in
+    let long = more.2 in
+    (rw next (ap (λ (ns : List ℕ). s ∷ ns) more.0), rw next more.1, omega (arith, long))
 
 pub none-fits : (room : ℕ) (sizes : List ℕ) → first_fitting room sizes ≡ None → fitting_sizes room sizes ≡ []
 none-fits room [] is = refl

@@ -1,5 +1,5 @@
 -- What a line's lots and its ring of leases have in common.
-use Rattle.std.proofs.Common.{ℕ, zero, suc, Bool, true, false, ◌≡◌, ◌+◌, ◌-◌, ◌<◌, ◌≤◌, List, [], ◌∷◌, ◌++◌, length, drop, map, Option, Some, None, inl, inr, slice_set, get_or, if◌then◌else◌, not, ◌||◌, refl, sym, ◌∙◌, ap, arith}
+use Rattle.std.proofs.Common.{ℕ, zero, suc, Bool, true, false, ◌≡◌, ◌+◌, ◌-◌, ◌<◌, ◌≤◌, List, [], ◌∷◌, ◌++◌, length, drop, map, Option, Some, None, inl, inr, slice_set, get_or, if◌then◌else◌, not, ◌||◌, append-nil, refl, sym, ◌∙◌, ap, arith}
 use Rattle.std.specs.Prelude.{All, flat_map, IfSome, is_some, slice_get}
 use Rattle.std.specs.Prelude.{◌==◌}
 use Rattle.std.specs.List.{prefix_len, list_any}
@@ -131,6 +131,38 @@ given lots done =
       some = first-some lots (gots_of_first lots) first;
       count = ap length ready ∙ length-append (gots_of_first lots) (ready_gots (drop 1 lots));
     }
+
+-- where one lot is done, what is ready is in it
+pub record OneDone (lots : List HeldLot) : Type 0 where
+  pub first : is_some (first_gots lots) ≡ true
+  pub ready : ready_gots lots ≡ gots_of_first lots
+  pub behind : behind_done lots ≡ drop 1 lots
+
+pub done-cons : (lot : HeldLot) (lots : List HeldLot) → is_done lot ≡ true → done_lots (lot ∷ lots) ≡ lot ∷ done_lots lots
+done-cons lot lots done = let next : 1 + prefix_len is_done lots ≡ suc (prefix_len is_done lots) = omega arith in rw (done, next) refl
+
+pub one-done : (lots : List HeldLot) → length (done_lots lots) ≡ 1 → OneDone lots
+one-done [] is = absurd (omega (arith, is))
+one-done (lot ∷ lots) is = elim (cases_Bool (is_done lot)) [
+  | inl here ↦
+      let count = ap length (done-cons lot lots here) in
+      let none : length (done_lots lots) ≡ 0 = omega (arith, count, is) in
+      let step = given (lot ∷ lots) here in
+      let other = none-done lots none in
+      record {
+        first = here;
+        ready = step.ready ∙ (ap (λ (gs : List Got). gots_of_first (lot ∷ lots) ++ gs) (none-ready lots other) ∙ append-nil (gots_of_first (lot ∷ lots)));
+        behind = step.behind ∙ none-behind lots other;
+      }
+  | inr other ↦ absurd (let none : done_lots (lot ∷ lots) ≡ [] = rw other refl in let zero_is = ap length none in omega (arith, zero_is, is))
+]
+  where
+    none-done : (lots : List HeldLot) → length (done_lots lots) ≡ 0 → first_gots lots ≡ None
+    none-done [] none = refl
+    none-done (l ∷ ls) none = elim (cases_Bool (is_done l)) [
+      | inl here ↦ absurd (let count = ap length (done-cons l ls here) in omega (arith, count, none))
+      | inr other ↦ first-none (l ∷ ls) other
+    ]
 
 -- the lots that are ready have as many buffers as slots
 length-first : (lot : HeldLot) (gots : List Got) → lot.gots ≡ Some gots → IsLot lot → length gots ≡ lot.slots

@@ -1,7 +1,8 @@
 -- Runs of a ring's cells, one behind the other.
-use Rattle.std.proofs.Common.{ℕ, zero, suc, true, false, ◌≡◌, ◌+◌, ◌-◌, ◌<◌, ◌≤◌, List, [], ◌∷◌, ◌++◌, length, take, drop, map, Option, Some, None, Global, inl, inr, get_or, slice_set, refl, sym, ◌∙◌, ap, subst, arith}
-use Rattle.std.specs.Prelude.{All, nat_lt, IfSome, slice_get, is_some}
+use Rattle.std.proofs.Common.{ℕ, zero, suc, true, false, ◌≡◌, ◌+◌, ◌-◌, ◌<◌, ◌≤◌, List, [], ◌∷◌, ◌++◌, length, take, drop, map, Option, Some, None, Vec, Global, inl, inr, get_or, slice_set, refl, sym, ◌∙◌, ap, subst, arith}
+use Rattle.std.specs.Prelude.{All, nat_lt, IfSome, slice_get, is_some, option_map}
 use Rattle.std.specs.List.{list_any}
+use Rattle.std.specs.Option.{option_map_or}
 use Rattle.std.specs.VecDeque.{deque_capacity}
 use Rattle.std.specs.declared.collections.VecDeque.{VecDeque}
 use Rattle.std.proofs.lemmas.Bool.{cases_Bool, ltb-true, ltb-false, lt-ltb, le-ltb, or_from}
@@ -10,17 +11,17 @@ use Rattle.std.proofs.lemmas.List.Sums.{sum_by-cons}
 use Rattle.std.proofs.lemmas.List.Elements.{All-nil, All-push, All-cons, All-head, All-tail}
 use denote.RawPtr.{Ptr}
 use Rattle.nm_region.specs.Buffers.{Buffer}
-use Rattle.nm_reach.specs.Fields.{Run, FieldState, round, end_of}
+use Rattle.nm_reach.specs.Fields.{Run, FieldState, Meet, round, end_of}
 use Rattle.vale_lease.specs.Leases.{AreLeases}
 use Rattle.vale_line.specs.declared.got.Got.{Got}
 use Rattle.vale_line.specs.declared.lot.Lot.{Lot}
 use Rattle.vale_line.specs.declared.ring.Ring.{Ring}
 use Rattle.vale_line.specs.Cells.{gots_in, AreFull, AreEmpty, SameCells}
 use Rattle.vale_line.specs.Gots.{blank, buffers_of, buffer_of}
-use Rattle.vale_line.specs.Lines.{HeldLot, IsLine, slots_of, completed, leases_of, is_out_at, slots_out, first_gots}
-use Rattle.vale_line.specs.Rings.{held, held_lots, IsHeld, IsAt, Chain, ring_state, IsRing}
+use Rattle.vale_line.specs.Lines.{HeldLot, IsLine, slots_of, completed, leases_of, is_out_at, slots_out, first_gots, gots_of_first}
+use Rattle.vale_line.specs.Rings.{held, held_lots, items_of, IsHeld, IsAt, Chain, ring_state, IsRing}
 use Rattle.vale_line.proofs.CellLemmas.{gots-append, gots-most, full-parts, full-both, empty-both, empty-parts}
-use Rattle.vale_line.proofs.LotLemmas.{few-lots, slots_of-push, slots-at, set-completed-lot}
+use Rattle.vale_line.proofs.LotLemmas.{few-lots, none-of-out, slots_of-push, slots-at, set-completed-lot}
 use Rattle.vale_line.proofs.Moving.{buffers-blank}
 
 abbrev Cells : Type 0
@@ -374,30 +375,79 @@ pub some-lot : (lots : List Lot) → is_some (first_gots (held_lots lots)) ≡ t
 some-lot [] done = absurd (let wrong : false ≡ true = done in cc)
 some-lot (lot ∷ lots) done = omega arith
 
+-- what a lot has told of its buffers
+pub mapped-some : (o : Option (Vec Got Global)) → is_some (option_map items_of o) ≡ is_some o
+mapped-some None = refl
+mapped-some (Some v) = refl
+
+pub mapped-none : (o : Option (Vec Got Global)) → option_map items_of o ≡ None → o ≡ None
+mapped-none None e = refl
+mapped-none (Some v) e = absurd (let wrong : true ≡ false = ap is_some e in cc)
+
+-- the first lot, if that is done, and its buffers
+pub first-some : (lots : List Lot) (first : Lot) → IfSome (slice_get lots 0) (λ (lot : Lot). first ≡ lot) → is_some (first_gots (held_lots lots)) ≡ true
+    → is_some first.gots ≡ true
+first-some [] first told done = absurd (let wrong : false ≡ true = done in cc)
+first-some (lot ∷ lots) first told done = ap (λ (l : Lot). is_some l.gots) told ∙ (sym (mapped-some lot.gots) ∙ done)
+
+pub first-held : (lots : List Lot) (first : Lot) (v : Vec Got Global) → 1 ≤ length lots → IfSome (slice_get lots 0) (λ (lot : Lot). first ≡ lot) → first.gots ≡ Some v
+    → gots_of_first (held_lots lots) ≡ v.items
+first-held [] first v some told is = absurd (omega (arith, some))
+first-held (lot ∷ lots) first v some told is =
+    ap (λ (o : Option (Vec Got Global)). option_map_or (λ (gots : List Got). gots) (option_map items_of o) []) (ap (λ (l : Lot). l.gots) (sym told) ∙ is)
+
+pub same-run : (run : Run (Option Got)) → SameCells run run
+same-run run = record { field = refl; size = refl; start = refl; count = refl }
+
 -- the same, told of the first lot only
-pub published-first : (r s : Ring) (first run given : Run (Option Got)) → IsRing r → 1 ≤ length r.lots.items
-    → IfSome (slice_get r.lots.items 0) (λ (lot : Lot). first ≡ lot.reach) → s.lots.items ≡ drop 1 r.lots.items
+pub published-first : (r s : Ring) (first : Lot) (given : Run (Option Got)) → IsRing r → 1 ≤ length r.lots.items
+    → IfSome (slice_get r.lots.items 0) (λ (lot : Lot). first ≡ lot) → s.lots.items ≡ drop 1 r.lots.items
     → deque_capacity s.lots ≡ deque_capacity r.lots → s.field ≡ r.field → s.given ≡ r.given → s.idle ≡ r.idle → s.lent ≡ r.lent
-    → SameCells first run → AreEmpty run.values
-    → given ≡ record s.given { values = s.given.values ++ run.values }
+    → given ≡ record s.given { values = s.given.values ++ first.reach.values }
     → IsRing (ring_with s.field given s.idle s.lots s.lent)
-published-first r s first run given is some told now same_room same_field same_given same_idle same_lent cells empty given_is = by r.lots.items refl
+published-first r s first given is some told now same_room same_field same_given same_idle same_lent given_is = by r.lots.items refl
   where
     by : (items : List Lot) → r.lots.items ≡ items → IsRing (ring_with s.field given s.idle s.lots s.lent)
     by [] e = absurd (let none = ap length e in omega (arith, none, some))
     by (lot ∷ lots) e =
-        let same : first ≡ lot.reach = subst (λ (ls : List Lot). IfSome (slice_get ls 0) (λ (l : Lot). first ≡ l.reach)) e told in
-        published r s lots lot run given is e (now ∙ ap (λ (ls : List Lot). drop 1 ls) e) same_room same_field same_given same_idle same_lent
-        (subst (λ (f : Run (Option Got)). SameCells f run) same cells) empty given_is
+        let same : first ≡ lot = subst (λ (ls : List Lot). IfSome (slice_get ls 0) (λ (l : Lot). first ≡ l)) e told in
+        published r s lots lot lot.reach given is e (now ∙ ap (λ (ls : List Lot). drop 1 ls) e) same_room same_field same_given same_idle same_lent
+        (same-run lot.reach) (All-head IsHeld lot lots (subst (λ (ls : List Lot). All IsHeld ls) e is.held))
+        (given_is ∙ ap (λ (l : Lot). record s.given { values = s.given.values ++ l.reach.values }) same)
+
+-- the first lot's cells begin where those that were given end
+pub first-meets : (r s : Ring) (first : Lot) (run : Run (Option Got)) → IsRing r → 1 ≤ length r.lots.items
+    → IfSome (slice_get r.lots.items 0) (λ (lot : Lot). first ≡ lot) → s.given ≡ r.given → run ≡ first.reach → Meet s.given run
+first-meets r s first run is some told same_given same_run = by r.lots.items refl
+  where
+    by : (items : List Lot) → r.lots.items ≡ items → Meet s.given run
+    by [] e = absurd (let none = ap length e in omega (arith, none, some))
+    by (lot ∷ lots) e =
+        let same : first ≡ lot = subst (λ (ls : List Lot). IfSome (slice_get ls 0) (λ (l : Lot). first ≡ l)) e told in
+        let chain : Chain r.field.field r.field.size (end_of r.given) (lot ∷ lots) r.idle.start =
+        subst (λ (ls : List Lot). Chain r.field.field r.field.size (end_of r.given) ls r.idle.start) e is.lots in
+        let slots = ap (λ (ls : List Lot). slots_of (held_lots ls)) e ∙ slots-first lot lots in
+        let whole = is.all in
+        let size = is.given.size in
+        let meet : Meet r.given lot.reach = record {
+          field = chain.0.field ∙ sym is.given.field;
+          size = chain.0.size ∙ sym is.given.size;
+          start = chain.0.start;
+          room = omega (arith, whole, slots, size);
+        } in
+        subst (λ (g : Run (Option Got)). Meet g run) (sym same_given)
+        (subst (λ (n : Run (Option Got)). Meet r.given n) (sym (same_run ∙ ap (λ (l : Lot). l.reach) same)) meet)
 
 -- a lot that was completed
 pub done_at : (r : Ring) (lots : VecDeque Lot Global) (at : ℕ) (d now : Lot) → IsRing r → at < length r.lots.items → lots.items ≡ slice_set r.lots.items at now
-    → deque_capacity lots ≡ deque_capacity r.lots → SameCells (get_or r.lots.items at d).reach now.reach → now.is_done ≡ true → AreFull now.reach.values
+    → deque_capacity lots ≡ deque_capacity r.lots → now.reach ≡ (get_or r.lots.items at d).reach
     → IsRing (ring_with r.field r.given r.idle lots r.lent)
-done_at r lots at d now is within set same_room cells done full =
+done_at r lots at d now is within set same_room same =
     let n = r.field.size in
     let whole = is.all in
+    let cells : SameCells (get_or r.lots.items at d).reach now.reach = subst (λ (run : Run (Option Got)). SameCells (get_or r.lots.items at d).reach run) (sym same) (same-run (get_or r.lots.items at d).reach) in
     let slots = ap (λ (ls : List Lot). slots_of (held_lots ls)) set ∙ slots-set r.lots.items at d now within cells.count in
+    let empty : IsHeld now = subst (λ (run : Run (Option Got)). AreEmpty run.values) (sym same) (all-get IsHeld r.lots.items at d within is.held) in
     record {
       given = is.given;
       lots = subst (λ (ls : List Lot). Chain r.field.field n (end_of r.given) ls r.idle.start) (sym set) (chain-set r.field.field n (end_of r.given) r.lots.items at d now r.idle.start within cells is.lots);
@@ -408,7 +458,7 @@ done_at r lots at d now is within set same_room cells done full =
       few = is.few;
       all = omega (arith, whole, slots);
       none = is.none;
-      held = subst (λ (ls : List Lot). All IsHeld ls) (sym set) (all-set IsHeld r.lots.items at now ((λ _. full), (λ (other : now.is_done ≡ false). absurd (let wrong : true ≡ false = sym done ∙ other in cc))) is.held);
+      held = subst (λ (ls : List Lot). All IsHeld ls) (sym set) (all-set IsHeld r.lots.items at now empty is.held);
       lent_within = is.lent_within;
       lent = is.lent;
       full = is.full;
@@ -484,17 +534,20 @@ abbrev done_with : List Got → HeldLot → HeldLot
 done_with gots lot = record lot { gots = Some gots }
 
 -- what is held once a lot was completed
-pub held-completed : (lots : List Lot) (id at : ℕ) (gots : List Got) (d now : Lot) → AreLeases (leases_of (held_lots lots)) → at < length lots
-    → is_out_at id (held (get_or lots at d)) ≡ true → now.id ≡ (get_or lots at d).id → now.is_done ≡ true
-    → length now.reach.values ≡ length (get_or lots at d).reach.values → gots_in now.reach.values ≡ gots
-    → held_lots (slice_set lots at now) ≡ map (completed id gots) (held_lots lots)
-held-completed lots id at gots d now are within out same_id done count same =
+pub held-completed : (lots : List Lot) (id at : ℕ) (v : Vec Got Global) (d now : Lot) → AreLeases (leases_of (held_lots lots)) → at < length lots
+    → is_out_at id (held (get_or lots at d)) ≡ true → now ≡ record (get_or lots at d) { gots = Some v }
+    → held_lots (slice_set lots at now) ≡ map (completed id v.items) (held_lots lots)
+held-completed lots id at v d now are within out is =
     let place = held-get lots at d in
     let found : is_out_at id (get_or (held_lots lots) at (held d)) ≡ true = ap (λ (l : HeldLot). is_out_at id l) place ∙ out in
     let long : length (held_lots lots) ≡ length lots = length-map lots held in
-    let set = set-completed-lot (held_lots lots) id at gots (held d) are (omega (arith, within, long)) found in
-    let is : held now ≡ done_with gots (held (get_or lots at d)) = rw (same_id, done, count, same) refl in
-    held-set lots at now ∙ (ap (λ (l : HeldLot). slice_set (held_lots lots) at l) (is ∙ ap (λ (l : HeldLot). done_with gots l) (sym place)) ∙ set)
+    let set = set-completed-lot (held_lots lots) id at v.items (held d) are (omega (arith, within, long)) found in
+    let same : held now ≡ done_with v.items (held (get_or lots at d)) = ap held is in
+    held-set lots at now ∙ (ap (λ (l : HeldLot). slice_set (held_lots lots) at l) (same ∙ ap (λ (l : HeldLot). done_with v.items l) (sym place)) ∙ set)
+
+-- the lot that was found has no buffers
+pub none-found : (id : ℕ) (lots : List Lot) (at : ℕ) (d : Lot) → at < length lots → IfSome (slice_get lots at) (λ (lot : Lot). is_out_at id (held lot) ≡ true) → (get_or lots at d).gots ≡ None
+none-found id lots at d within found = mapped-none (get_or lots at d).gots (none-of-out id (held (get_or lots at d)) (held-found id lots at d within found))
 
 -- a ring whose idle buffers were moved
 pub shifted : (r : Ring) (k : ℕ) (idle given : Run (Option Got)) → IsRing r → k ≤ r.lent + length r.given.values → IsAt r.idle.field r.idle.size r.idle.start idle

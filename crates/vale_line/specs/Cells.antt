@@ -20,9 +20,6 @@ AreEmpty cells = gots_in cells ≡ []
 abbrev pub emptied : Option Got → Option Got
 emptied cell = None
 
-abbrev pub with_got : Got → Option Got
-with_got got = Some got
-
 abbrev pub with_buffer : Buffer → Option Got
 with_buffer buffer = Some (blank buffer)
 

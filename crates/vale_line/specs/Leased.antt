@@ -1,5 +1,5 @@
 -- A lease: buffers of a receive ring that a sender fills, frame by frame.
-use Rattle.std.specs.Prelude.{ℕ, ◌+◌, List, [], ◌∷◌, ◌++◌, length, drop}
+use Rattle.std.specs.Prelude.{ℕ, zero, suc, ◌+◌, List, [], ◌∷◌, ◌++◌, length, drop}
 use Rattle.nm_frag.specs.Parts.{slots_of_length}
 use Rattle.nm_region.specs.Buffers.{Buffer}
 use Rattle.vale_line.specs.declared.got.Got.{Got}
@@ -25,6 +25,16 @@ count_of lease = length (contents lease) + length lease.sizes
 -- how many buffers a lease has
 abbrev pub buffer_count : Leased → ℕ
 buffer_count lease = length lease.filled + length lease.empty
+
+-- the slots of each frame that is to lie in these buffers, behind so many of another frame: the first
+-- buffer of each tells how many more it takes
+abbrev pub sizes_behind : List Got → ℕ → List ℕ
+sizes_behind [] skip = []
+sizes_behind (got ∷ gots) zero = suc got.rest ∷ sizes_behind gots got.rest
+sizes_behind (got ∷ gots) (suc skip) = sizes_behind gots skip
+
+abbrev pub sizes_in : List Got → List ℕ
+sizes_in gots = sizes_behind gots zero
 
 abbrev pub first_size : List ℕ → ℕ
 first_size [] = 0

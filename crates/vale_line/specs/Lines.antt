@@ -49,6 +49,10 @@ behind_done lots = drop (prefix_len is_done lots) lots
 abbrev pub ready_gots : List HeldLot → List Got
 ready_gots lots = flat_map gots_of (done_lots lots)
 
+-- how many buffers a sync wants room for: none where it gives one lot, whose own vector serves
+abbrev pub room_to_sync : List HeldLot → ℕ
+room_to_sync lots = if length (done_lots lots) == 1 then 0 else length (ready_gots lots)
+
 -- the frames of a lot, which its lease keeps until it is done
 abbrev pub frames_of_lot : HeldLot → List (List ℕ)
 frames_of_lot lot = frames_in (gots_of lot)

@@ -1,5 +1,6 @@
 -- How the cells of a ring and the rights to them are kept.
-use Rattle.std.specs.Prelude.{ℕ, ◌≡◌, ◌+◌, ◌≤◌, ◌<◌, true, false, if◌then◌else◌, List, [], ◌∷◌, length, take, drop, map, All, Option, Some, None}
+use Rattle.std.specs.Prelude.{ℕ, ◌≡◌, ◌+◌, ◌≤◌, ◌<◌, List, [], ◌∷◌, length, take, drop, map, option_map, All, Option, Vec}
+use Rattle.std.specs.declared.alloc.Global.{Global}
 use Rattle.std.specs.VecDeque.{deque_capacity}
 use denote.RawPtr.{Ptr}
 use Rattle.nm_reach.specs.Fields.{Run, round, end_of}
@@ -10,20 +11,23 @@ use Rattle.vale_line.specs.Cells.{gots_in, AreFull, AreEmpty}
 use Rattle.vale_line.specs.Gots.{blank, buffers_of}
 use Rattle.vale_line.specs.Lines.{HeldLot, LineState, slots_of}
 
+abbrev pub items_of : Vec Got Global → List Got
+items_of gots = gots.items
+
 -- what a lot holds
 abbrev pub held : Lot → HeldLot
 held lot = record {
   id = lot.id;
   slots = length lot.reach.values;
-  gots = if lot.is_done then Some (gots_in lot.reach.values) else None;
+  gots = option_map items_of lot.gots;
 }
 
 abbrev pub held_lots : List Lot → List HeldLot
 held_lots lots = map held lots
 
--- all cells of a done lot have their buffers, and of another lot none
+-- the cells of a lot are empty
 abbrev pub IsHeld : Lot → Type 0
-IsHeld lot = (lot.is_done ≡ true → AreFull lot.reach.values) × (lot.is_done ≡ false → AreEmpty lot.reach.values)
+IsHeld lot = AreEmpty lot.reach.values
 
 -- a run that begins at the cell `start` of a field
 pub record IsAt (base : Ptr) (n from : ℕ) (r : Run (Option Got)) : Type 0 where

@@ -1,7 +1,8 @@
-ghost use Rattle.std.specs.Prelude.{◌≡◌, ◌≤◌, ◌<◌, ◌+◌, [], ◌∷◌, ◌++◌, length, take, drop, sum, IfOk, vec_capacity};
+ghost use Rattle.std.specs.Prelude.{◌≡◌, ◌≤◌, ◌<◌, ◌+◌, [], ◌∷◌, ◌++◌, All, length, map, take, drop, sum, IfOk, vec_capacity};
 ghost use Rattle.nm_frag.specs.Parts.{slots_of_length, parts_of};
-ghost use Rattle.vale_line.specs.Gots.{buffers_of, written_parts, HoldWholeFrames};
-ghost use Rattle.vale_line.specs.Leased.{contents, count_of, buffer_count, next_of, with_frame};
+ghost use Rattle.vale_line.specs.Fitting.{IsFrameSize};
+ghost use Rattle.vale_line.specs.Gots.{blank, buffers_of, written_parts, HoldWholeFrames};
+ghost use Rattle.vale_line.specs.Leased.{contents, count_of, buffer_count, next_of, sizes_in, with_frame};
 
 use crate::got::Got;
 use nm_frag::slots;
@@ -13,7 +14,6 @@ use std::marker::Model;
 pub struct LeaseRoom {
     slots: u32,
     gots: Vec<Got>,
-    sizes: Vec<u8>,
 }
 
 impl Model for LeaseRoom {
@@ -23,8 +23,7 @@ impl Model for LeaseRoom {
 
     ghost view = { λ r. r.slots };
 
-    ghost invariant = { λ r. (r.gots.items ≡ []) × (r.sizes.items ≡ [])
-        × (r.slots ≤ vec_capacity r.gots) × (r.slots ≤ vec_capacity r.sizes) };
+    ghost invariant = { λ r. (r.gots.items ≡ []) × (r.slots ≤ vec_capacity r.gots) };
 }
 
 impl LeaseRoom {
@@ -32,33 +31,54 @@ impl LeaseRoom {
     pub fn new(alloc: Global, n: u32) -> Result<LeaseRoom, NoMemory>
         ensures { IfOk result (λ room. room ≡ n) }
     {
-        let sizes = Vec::with_capacity(alloc, n as usize)?;
         Ok(LeaseRoom {
             slots: n,
             gots: Vec::with_capacity(alloc, n as usize)?,
-            sizes,
         })
     }
 
-    pub(crate) fn into_vecs(self) -> (Vec<Got>, Vec<u8>)
-        ensures gots { result.0.items ≡ [] }
-        ensures sizes { result.1.items ≡ [] }
-        ensures gots_room { self ≤ vec_capacity result.0 }
-        ensures sizes_room { self ≤ vec_capacity result.1 }
+    pub(crate) fn into_vec(self) -> Vec<Got>
+        ensures none { result.items ≡ [] }
+        ensures room { self ≤ vec_capacity result }
     {
-        let LeaseRoom {
-            slots: _,
-            gots,
-            sizes,
-        } = self;
-        (gots, sizes)
+        let LeaseRoom { slots: _, gots } = self;
+        gots
     }
 }
 
 impl Drop for LeaseRoom {
     fn drop(self) {
-        let (gots, _) = self.into_vecs();
-        gots.destroy_empty();
+        self.into_vec().destroy_empty();
+    }
+}
+
+/// Has the first buffer of each frame tell how many more the frame takes.
+fn mark_sizes(gots: &mut Vec<Got>, sizes: &[u32])
+    requires sizes { All IsFrameSize sizes.now }
+    requires room { sum sizes.now ≡ length gots.old.items }
+    ensures buffers { buffers_of gots.new.items ≡ buffers_of gots.old.items }
+    ensures sizes { sizes_in gots.new.items ≡ sizes.now }
+{
+    let mut at = 0;
+    for i in 0..sizes.len() {
+        let size = sizes[i];
+        gots[at].rest = (size - 1) as u8;
+        at += size as usize;
+    }
+}
+
+/// The same of buffers with no frames, which tell of none more: nothing is written where each frame
+/// takes one.
+#[tactic(auto, using(crate::proofs::Filling::marks))]
+fn mark_blank(gots: &mut Vec<Got>, sizes: &[u32])
+    requires sizes { All IsFrameSize sizes.now }
+    requires room { sum sizes.now ≡ length gots.old.items }
+    requires blank { gots.old.items ≡ map blank (buffers_of gots.old.items) }
+    ensures buffers { buffers_of gots.new.items ≡ buffers_of gots.old.items }
+    ensures sizes { sizes_in gots.new.items ≡ sizes.now }
+{
+    if sizes.len() < gots.len() {
+        mark_sizes(gots, sizes);
     }
 }
 
@@ -99,8 +119,9 @@ pub struct Lease {
     to: PortId,
     gots: Vec<Got>,
     filled: usize,
-    sizes: Vec<u8>,
-    frames: usize,
+    /// How many frames it is for, and how many are filled in.
+    count: u32,
+    frames: u32,
 }
 
 impl Model for Lease {
@@ -116,26 +137,29 @@ impl Model for Lease {
 }
 
 impl Lease {
-    /// A lease of these buffers, none of which is filled, for frames of these sizes in slots.
+    /// A lease of these buffers, none of which has a frame, for frames of these sizes in slots.
     #[tactic(auto, using(crate::proofs::Filling::filling))]
-    pub(crate) fn new(id: LeaseId, to: PortId, gots: Vec<Got>, sizes: Vec<u8>) -> Lease
+    pub(crate) fn new(id: LeaseId, to: PortId, mut gots: Vec<Got>, sizes: &[u32]) -> Lease
         requires few { length gots.items ≤ 1024 }
-        requires few_frames { length sizes.items ≤ 1024 }
-        requires room { sum sizes.items ≡ length gots.items }
+        requires few_frames { length sizes.now ≤ 1024 }
+        requires blank { gots.items ≡ map blank (buffers_of gots.items) }
+        requires sizes { All IsFrameSize sizes.now }
+        requires room { sum sizes.now ≡ length gots.items }
         ensures { result ≡ record {
           id = id.0;
           to = to.0;
           filled = [];
-          sizes = sizes.items;
+          sizes = sizes.now;
           empty = buffers_of gots.items;
         } }
     {
+        mark_blank(&mut gots, sizes);
         Lease {
             id,
             to,
             gots,
             filled: 0,
-            sizes,
+            count: sizes.len() as u32,
             frames: 0,
         }
     }
@@ -159,14 +183,14 @@ impl Lease {
     pub fn count(&self) -> u32
         ensures { result ≡ count_of self.now }
     {
-        self.sizes.len() as u32
+        self.count
     }
 
     /// The number of frames that were filled in.
     pub fn filled(&self) -> u32
         ensures { result ≡ length (contents self.now) }
     {
-        self.frames as u32
+        self.frames
     }
 
     /// The number of buffers.
@@ -183,7 +207,7 @@ impl Lease {
         requires { 1 ≤ length self.now.sizes }
         ensures { result ≡ next_of self.now }
     {
-        u32::from(self.sizes[self.frames])
+        u32::from(self.gots[self.filled].rest) + 1
     }
 
     /// Copies a frame of the next size into the next buffers. A full lease has no next size.
@@ -195,7 +219,7 @@ impl Lease {
         ensures contents { contents self.new ≡ contents self.old ++ bytes.now ∷ [] }
         ensures count { buffer_count self.new ≡ buffer_count self.old }
     {
-        let size = usize::from(self.sizes[self.frames]);
+        let size = usize::from(self.gots[self.filled].rest) + 1;
         fill_parts(&mut self.gots, self.filled, bytes);
         self.filled += size;
         self.frames += 1;
@@ -227,7 +251,7 @@ impl Lease {
             to: _,
             gots,
             filled: _,
-            sizes: _,
+            count: _,
             frames: _,
         } = self;
         gots

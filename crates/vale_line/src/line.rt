@@ -6,7 +6,7 @@ ghost use Rattle.vale_line.specs.Fitting.{IsFrameSize, first_fitting, fitting_si
 ghost use Rattle.vale_line.specs.Rings.{ring_state, IsRing};
 ghost use Rattle.vale_line.specs.Gots.{blank, buffers_of, frames_in, IsSingle, HoldWholeFrames};
 ghost use Rattle.vale_line.specs.Leased.{buffer_count};
-ghost use Rattle.vale_line.specs.Lines.{is_out_at, slots_out, first_gots, IsLine, space_of, out_of, slots_of, leases_of, done_lots, behind_done, ready_gots, ready_frames, completed, new_line, granted_sizes, with_lease, leased, given_by_sync, with_put, held_gots};
+ghost use Rattle.vale_line.specs.Lines.{is_out_at, slots_out, first_gots, IsLine, space_of, out_of, slots_of, leases_of, done_lots, behind_done, ready_gots, ready_frames, room_to_sync, completed, new_line, granted_sizes, with_lease, leased, given_by_sync, with_put, held_gots};
 
 use crate::got::Got;
 use crate::lease::{Lease, LeaseRoom};
@@ -52,13 +52,33 @@ fn give_done(ring: &mut Ring, gots: Vec<Got>) -> Vec<Got>
     ensures line { ring_state ring.new ≡ record (ring_state ring.old) {
       lots = behind_done (ring_state ring.old).lots;
     } }
-    ensures capacity { vec_capacity result ≡ vec_capacity gots }
+    ensures capacity { vec_capacity gots ≤ vec_capacity result }
 {
     let mut got = gots;
     while ring.is_first_done() {
         got = ring.publish_first(got);
     }
     got
+}
+
+/// Gives the buffers of the longest prefix of done lots, in the vector of the only one or in
+/// `room`.
+fn give_ready(ring: &mut Ring, room: Vec<Got>) -> Vec<Got>
+    requires ring { IsRing ring.old }
+    requires none { room.items ≡ [] }
+    requires room { room_to_sync (ring_state ring.old).lots ≤ vec_capacity room }
+    ensures ring { IsRing ring.new }
+    ensures got { result.items ≡ ready_gots (ring_state ring.old).lots }
+    ensures line { ring_state ring.new ≡ record (ring_state ring.old) {
+      lots = behind_done (ring_state ring.old).lots;
+    } }
+    ensures capacity { vec_capacity room ≤ vec_capacity result }
+{
+    if ring.is_one_done() {
+        ring.publish_first(room)
+    } else {
+        give_done(ring, room)
+    }
 }
 
 /// Gives the buffers of the longest prefix of done lots behind others, without their frames. Returns
@@ -102,24 +122,22 @@ fn behind_first(sizes: &[u32]) -> &[u32]
     &sizes[1..]
 }
 
-/// Puts the longest prefix of sizes whose sum is at most `room` into an empty vector. Returns the
-/// sum.
+/// How many of the first sizes have a sum of at most `room`, and that sum.
 #[tactic(auto, using(crate::proofs::FittingLemmas::fitting))]
-fn take_fitting(sizes: &mut Vec<u8>, want: &[u32], room: u32) -> u32
-    requires none { sizes.old.items ≡ [] }
-    requires sizes { All IsFrameSize want.now }
-    requires capacity { min (sum want.now) room ≤ vec_capacity sizes.old }
-    ensures sizes { sizes.new.items ≡ fitting_sizes room want.now }
-    ensures sum { result ≡ sum (fitting_sizes room want.now) }
+fn count_fitting(want: &[u32], room: u32) -> (usize, u32)
+    ensures within { result.0 ≤ length want.now }
+    ensures sizes { take result.0 want.now ≡ fitting_sizes room want.now }
+    ensures sum { result.1 ≡ sum (fitting_sizes room want.now) }
 {
+    let mut count = 0;
     let mut rest = want;
     let mut left = room;
     while let Some(size) = first_fitting(rest, left) {
-        sizes.push_reserved(size as u8);
+        count += 1;
         left -= size;
         rest = behind_first(rest);
     }
-    room - left
+    (count, room - left)
 }
 
 impl Line {
@@ -171,6 +189,18 @@ impl Line {
         self.leases.ready()
     }
 
+    /// The number of buffers for which a sync wants room: none where it hands out one lot, whose own
+    /// vector serves.
+    pub fn room_to_sync(&self) -> u32
+        ensures { result ≡ room_to_sync self.now.lots }
+    {
+        if self.ring.is_one_done() {
+            0
+        } else {
+            self.ready()
+        }
+    }
+
     /// The number of lots that are not done.
     pub fn out(&self) -> u32
         ensures { result ≡ out_count (leases_of self.now.lots) }
@@ -196,15 +226,15 @@ impl Line {
             self.new ≡ with_lease id (sum (granted_sizes want.now self.old)) self.old) }
         ensures line { IsLine self.old }
     {
-        let (gots, mut sizes) = room.into_vecs();
-        let count = take_fitting(&mut sizes, want, self.space());
+        let gots = room.into_vec();
+        let (frames, count) = count_fitting(want, self.space());
         if count == 0 {
             gots.destroy_empty();
             return None;
         }
         self.leases.open(id, count);
         let gots = self.ring.lease(id, count, gots, &mut self.room);
-        Some(Lease::new(id, to, gots, sizes))
+        Some(Lease::new(id, to, gots, &want[..frames]))
     }
 
     /// Completes a lot with its lease, which is full.
@@ -223,12 +253,12 @@ impl Line {
     }
 
     /// Takes buffers back, and hands out those of the longest prefix of done lots, with their
-    /// frames, in `room`.
+    /// frames, in `room`, or in a vector that is not smaller.
     #[tactic(auto, using(crate::proofs::LotLemmas::lots))]
     pub fn sync(&mut self, back: Vec<Buf>, room: Vec<Got>) -> Vec<Got>
         requires returned { length back.items ≤ out_of self.old }
         requires none { room.items ≡ [] }
-        requires room { length (ready_gots self.old.lots) ≤ vec_capacity room }
+        requires room { room_to_sync self.old.lots ≤ vec_capacity room }
         ensures line { self.new ≡ given_by_sync back.items self.old }
         ensures got { result.items ≡ ready_gots self.old.lots }
         ensures frames { frames_in result.items ≡ ready_frames self.old.lots }
@@ -237,7 +267,7 @@ impl Line {
     {
         self.leases.take();
         self.ring.take_back(back, &mut self.room);
-        give_done(&mut self.ring, room)
+        give_ready(&mut self.ring, room)
     }
 
     /// Lends the first `k` idle buffers in `room`, for a put that gives others in their place.

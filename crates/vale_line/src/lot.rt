@@ -1,32 +1,48 @@
-ghost use Rattle.std.specs.Prelude.{◌≡◌, true, false, length};
-ghost use Rattle.vale_line.specs.Cells.{AreEmpty, SameCells, gots_in};
-ghost use Rattle.vale_line.specs.Lines.{is_out_at};
+ghost use Rattle.std.specs.Prelude.{◌≡◌, true, Some, None, is_some};
+ghost use Rattle.vale_line.specs.Lines.{is_done, is_out_at};
 ghost use Rattle.vale_line.specs.Rings.{held};
 
 use crate::got::Got;
-use crate::moves::{Cell, put_run};
+use crate::moves::Cell;
 use nm_reach::Reach;
 use nm_types::LeaseId;
 
-/// A lot of a line, with the right to its cells. Its lease has its buffers until it is done.
+/// A lot of a line, with the right to its cells, which are empty: its buffers are with its lease,
+/// and once that is done in the vector in which they came back.
 pub(crate) struct Lot {
     id: LeaseId,
     reach: Reach<Cell>,
-    is_done: bool,
+    gots: Option<Vec<Got>>,
 }
 
 impl Lot {
+    /// A lot whose lease is out.
     pub(crate) fn new(id: LeaseId, reach: Reach<Cell>) -> Lot
         ensures { result ≡ record {
           id = id;
           reach = reach;
-          is_done = false;
+          gots = None;
         } }
     {
         Lot {
             id,
             reach,
-            is_done: false,
+            gots: None,
+        }
+    }
+
+    /// A done lot.
+    pub(crate) fn done(id: LeaseId, reach: Reach<Cell>, gots: Vec<Got>) -> Lot
+        ensures { result ≡ record {
+          id = id;
+          reach = reach;
+          gots = Some gots;
+        } }
+    {
+        Lot {
+            id,
+            reach,
+            gots: Some(gots),
         }
     }
 
@@ -34,38 +50,39 @@ impl Lot {
     pub(crate) fn is_out_at(&self, id: LeaseId) -> bool
         ensures { result ≡ is_out_at id.0 (held self.now) }
     {
-        self.id == id && !self.is_done
+        self.id == id && !self.is_done()
     }
 
     pub(crate) fn is_done(&self) -> bool
-        ensures { result ≡ self.now.is_done }
+        ensures { result ≡ is_done (held self.now) }
     {
-        self.is_done
+        match &self.gots {
+            Some(_) => true,
+            None => false,
+        }
     }
 
     /// Completes the lot with the filled buffers of its lease.
-    pub(crate) fn complete(&mut self, mut gots: Vec<Got>)
-        requires empty { AreEmpty self.old.reach.values }
-        requires count { length gots.items ≡ length self.old.reach.values }
-        ensures id { self.new.id ≡ self.old.id }
-        ensures done { self.new.is_done ≡ true }
-        ensures cells { SameCells self.old.reach self.new.reach }
-        ensures gots { gots_in self.new.reach.values ≡ gots.items }
+    pub(crate) fn complete(&mut self, gots: Vec<Got>)
+        requires out { self.old.gots ≡ None }
+        ensures { self.new ≡ record self.old { gots = Some gots } }
     {
-        put_run(&mut self.reach, &mut gots);
-        gots.destroy_empty();
-        self.is_done = true;
+        match self.gots.replace(gots) {
+            None => (),
+            Some(_other) => unreachable!(),
+        }
     }
 
-    /// The right to the lot's cells.
-    pub(crate) fn into_reach(self) -> Reach<Cell>
-        ensures { result ≡ self.reach }
+    /// The right to the cells of a done lot, and its buffers.
+    pub(crate) fn into_parts(self) -> (Reach<Cell>, Vec<Got>)
+        requires done { is_some self.gots ≡ true }
+        ensures reach { result.0 ≡ self.reach }
+        ensures gots { self.gots ≡ Some result.1 }
     {
-        let Lot {
-            id: _,
-            reach,
-            is_done: _,
-        } = self;
-        reach
+        let Lot { id: _, reach, gots } = self;
+        match gots {
+            Some(gots) => (reach, gots),
+            None => unreachable!(),
+        }
     }
 }

@@ -1,6 +1,6 @@
 //! Buffers that are moved into the cells of a run, and out of them.
 ghost use Rattle.std.specs.Prelude.{◌≡◌, ◌+◌, ◌-◌, ◌<◌, ◌≤◌, ◌^◌, [], ◌++◌, length, take, drop, map, sum_by, vec_len, vec_capacity};
-ghost use Rattle.vale_line.specs.Cells.{AreFull, AreEmpty, SameCells, emptied, with_got, with_buffer, gots_in};
+ghost use Rattle.vale_line.specs.Cells.{AreFull, AreEmpty, SameCells, emptied, with_buffer, gots_in};
 ghost use Rattle.vale_line.specs.Gots.{blank, buffers_of, last_count};
 
 use crate::got::Got;
@@ -45,23 +45,6 @@ fn take_bufs(cells: &mut [Cell], bufs: &mut Vec<Buf>) -> u32
         bufs.push_reserved(got.into_buf());
     }
     count
-}
-
-/// Moves the last buffers into empty cells.
-#[tactic(auto, using(crate::proofs::CellLemmas::cells))]
-fn put_gots(cells: &mut [Cell], gots: &mut Vec<Got>)
-    requires empty { AreEmpty cells.old }
-    requires enough { length cells.old ≤ length gots.old.items }
-    ensures cells { cells.new
-        ≡ map with_got (drop (length gots.old.items - length cells.old) gots.old.items) }
-    ensures rest { gots.new.items ≡ take (length gots.old.items - length cells.old) gots.old.items }
-    ensures capacity { vec_capacity gots.new ≡ vec_capacity gots.old }
-{
-    let mut at = cells.len();
-    while at > 0 {
-        at -= 1;
-        cells[at].put(gots.take_last());
-    }
 }
 
 /// Moves the last buffers, which have no frames, into empty cells.
@@ -111,19 +94,6 @@ pub(crate) fn take_run_bufs(run: &mut Reach<Cell>, bufs: &mut Vec<Buf>) -> u32
     front + take_bufs(run.back_mut(), bufs)
 }
 
-/// Moves as many buffers as there are cells into those of a run.
-#[tactic(auto, using(crate::proofs::CellLemmas::runs))]
-pub(crate) fn put_run(run: &mut Reach<Cell>, gots: &mut Vec<Got>)
-    requires empty { AreEmpty run.old.values }
-    requires count { length gots.old.items ≡ length run.old.values }
-    ensures cells { SameCells run.old run.new }
-    ensures gots { gots_in run.new.values ≡ gots.old.items }
-    ensures none { gots.new.items ≡ [] }
-{
-    put_gots(run.back_mut(), gots);
-    put_gots(run.front_mut(), gots);
-}
-
 /// Moves as many buffers as there are cells, which have no frames, into those of a run.
 #[tactic(auto, using(crate::proofs::CellLemmas::runs))]
 pub(crate) fn put_run_bufs(run: &mut Reach<Cell>, bufs: &mut Vec<Buf>)
@@ -136,4 +106,41 @@ pub(crate) fn put_run_bufs(run: &mut Reach<Cell>, bufs: &mut Vec<Buf>)
 {
     put_bufs(run.back_mut(), bufs);
     put_bufs(run.front_mut(), bufs);
+}
+
+/// The buffers of both vectors, those of the second behind those of the first. The second is handed
+/// out as it is where the first is empty and not larger.
+pub(crate) fn joined(mut gots: Vec<Got>, mut next: Vec<Got>) -> Vec<Got>
+    requires room { 0 < vec_len gots → vec_len gots + vec_len next ≤ vec_capacity gots }
+    ensures gots { result.items ≡ gots.items ++ next.items }
+    ensures capacity { vec_capacity gots ≤ vec_capacity result }
+{
+    if gots.is_empty() && gots.capacity() <= next.capacity() {
+        gots.destroy_empty();
+        return next;
+    }
+    match gots.append(&mut next) {
+        Ok(()) => next.destroy_empty(),
+        Err(_) => unreachable!(),
+    }
+    gots
+}
+
+/// Moves buffers, without their frames, to the end of others. Returns how many frames ended in
+/// them.
+pub(crate) fn discard(mut gots: Vec<Got>, bufs: &mut Vec<Buf>) -> u32
+    requires few { length gots.items < 2 ^ 32 }
+    requires room { vec_len bufs.old + length gots.items ≤ vec_capacity bufs.old }
+    ensures bufs { bufs.new.items ≡ bufs.old.items ++ buffers_of gots.items }
+    ensures count { result ≡ sum_by last_count gots.items }
+    ensures capacity { vec_capacity bufs.new ≡ vec_capacity bufs.old }
+{
+    let mut count = 0;
+    gots.reverse();
+    while let Some(got) = gots.pop() {
+        count += got.last_count();
+        bufs.push_reserved(got.into_buf());
+    }
+    gots.destroy_empty();
+    count
 }

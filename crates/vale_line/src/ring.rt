@@ -1,16 +1,16 @@
 //! The cells of a receive ring, and the rights to them.
-ghost use Rattle.std.specs.Prelude.{◌≡◌, ◌+◌, ◌-◌, ◌≤◌, ◌<◌, ◌^◌, [], ◌∷◌, ◌++◌, All, Some, length, take, drop, map, false, is_some, vec_len, vec_capacity, sum_by, slice_get, IfOk, IfErr, IfSome, IfNone, IsTrue};
+ghost use Rattle.std.specs.Prelude.{◌≡◌, ◌+◌, ◌-◌, ◌≤◌, ◌<◌, ◌==◌, ◌^◌, [], ◌∷◌, ◌++◌, All, Some, length, take, drop, map, true, false, is_some, vec_len, vec_capacity, sum_by, slice_get, IfOk, IfErr, IfSome, IfNone, IsTrue};
 ghost use Rattle.std.specs.VecDeque.{deque_capacity};
 ghost use Rattle.nm_reach.specs.Fields.{Meet, end_of};
 ghost use Rattle.vale_lease.specs.Leases.{AreLeases};
 ghost use Rattle.vale_line.specs.Cells.{AreFull, AreEmpty, gots_in, with_buffer};
 ghost use Rattle.vale_line.specs.Gots.{blank, buffers_of, last_count};
-ghost use Rattle.vale_line.specs.Lines.{is_out_at, leases_of, slots_out, completed, first_gots, gots_of_first, out_of, new_line, with_lease, put_lot};
+ghost use Rattle.vale_line.specs.Lines.{is_out_at, leases_of, slots_out, completed, done_lots, first_gots, gots_of_first, out_of, new_line, with_lease, put_lot};
 ghost use Rattle.vale_line.specs.Rings.{held, ring_state, IsAt, IsRing};
 
 use crate::got::Got;
 use crate::lot::Lot;
-use crate::moves::{Cell, put_run_bufs, take_run, take_run_bufs};
+use crate::moves::{Cell, discard, joined, put_run_bufs, take_run, take_run_bufs};
 use nm_reach::{Field, Reach};
 use nm_region::Buf;
 use nm_types::{LeaseId, NoMemory};
@@ -39,6 +39,22 @@ fn place_of(lots: &VecDeque<Lot>, id: LeaseId) -> Option<usize>
         (All (λ lot. is_out_at id.0 (held lot) ≡ false) lots.now.items) }
 {
     lots.iter().rposition(|lot| lot.is_out_at(id))
+}
+
+/// Takes the first lot. The next one then stands where the only one stood, so that a queue which is
+/// emptied again and again touches no more memory than it had lots at once.
+fn pop_first(lots: &mut VecDeque<Lot>) -> Option<Lot>
+    requires { 1 ≤ length lots.old.items }
+    ensures first { IfSome result (λ lot. slice_get lots.old.items 0 ≡ Some lot) }
+    ensures some { is_some result ≡ true }
+    ensures rest { lots.new.items ≡ drop 1 lots.old.items }
+    ensures capacity { deque_capacity lots.new ≡ deque_capacity lots.old }
+{
+    if lots.len() == 1 {
+        lots.pop_back()
+    } else {
+        lots.pop_front()
+    }
 }
 
 /// A full cell for each buffer. They are taken out of their vector.
@@ -324,10 +340,20 @@ impl Ring {
         }
     }
 
-    /// Takes the first lot's run out of the lots.
-    fn take_first(&mut self) -> Reach<Cell>
+    /// Whether the first lot is done and the second is not.
+    pub(crate) fn is_one_done(&self) -> bool
+        ensures { result ≡ (length (done_lots (ring_state self.now).lots) == 1) }
+    {
+        match self.lots.get(1) {
+            Some(lot) => self.is_first_done() && !lot.is_done(),
+            None => self.is_first_done(),
+        }
+    }
+
+    /// Takes the first lot out of the lots.
+    fn take_first(&mut self) -> Lot
         requires { 1 ≤ length self.old.lots.items }
-        ensures first { IfSome (slice_get self.old.lots.items 0) (λ lot. result ≡ lot.reach) }
+        ensures first { IfSome (slice_get self.old.lots.items 0) (λ lot. result ≡ lot) }
         ensures rest { self.new.lots.items ≡ drop 1 self.old.lots.items }
         ensures capacity { deque_capacity self.new.lots ≡ deque_capacity self.old.lots }
         ensures others { (self.new.field ≡ self.old.field)
@@ -335,8 +361,8 @@ impl Ring {
             × (self.new.idle ≡ self.old.idle)
             × (self.new.lent ≡ self.old.lent) }
     {
-        match self.lots.pop_front() {
-            Some(lot) => lot.into_reach(),
+        match pop_first(&mut self.lots) {
+            Some(lot) => lot,
             None => unreachable!(),
         }
     }
@@ -345,19 +371,18 @@ impl Ring {
     pub(crate) fn publish_first(&mut self, gots: Vec<Got>) -> Vec<Got>
         requires ring { IsRing self.old }
         requires done { IsTrue (is_some (first_gots (ring_state self.old).lots)) }
-        requires room { vec_len gots + length (gots_of_first (ring_state self.old).lots)
-            ≤ vec_capacity gots }
+        requires room { 0 < vec_len gots → vec_len gots
+            + length (gots_of_first (ring_state self.old).lots) ≤ vec_capacity gots }
         ensures ring { IsRing self.new }
         ensures line { ring_state self.new ≡ record (ring_state self.old) {
           lots = drop 1 (ring_state self.old).lots;
         } }
         ensures gots { result.items ≡ gots.items ++ gots_of_first (ring_state self.old).lots }
-        ensures capacity { vec_capacity result ≡ vec_capacity gots }
+        ensures capacity { vec_capacity gots ≤ vec_capacity result }
     {
-        let mut reach = self.take_first();
-        let all = take_run(&mut reach, gots);
+        let (reach, next) = self.take_first().into_parts();
         self.given.join(reach);
-        all
+        joined(gots, next)
     }
 
     /// Gives the buffers of the first lot, which is done, without their frames. Returns the number
@@ -365,6 +390,7 @@ impl Ring {
     pub(crate) fn discard_first(&mut self, bufs: &mut Vec<Buf>) -> u32
         requires ring { IsRing self.old }
         requires done { IsTrue (is_some (first_gots (ring_state self.old).lots)) }
+        requires few { length (gots_of_first (ring_state self.old).lots) < 2 ^ 32 }
         requires room { vec_len bufs.old + length (gots_of_first (ring_state self.old).lots)
             ≤ vec_capacity bufs.old }
         ensures ring { IsRing self.new }
@@ -376,10 +402,9 @@ impl Ring {
         ensures count { result ≡ sum_by last_count (gots_of_first (ring_state self.old).lots) }
         ensures capacity { vec_capacity bufs.new ≡ vec_capacity bufs.old }
     {
-        let mut reach = self.take_first();
-        let count = take_run_bufs(&mut reach, bufs);
+        let (reach, gots) = self.take_first().into_parts();
         self.given.join(reach);
-        count
+        discard(gots, bufs)
     }
 
     /// Lends the first `k` idle buffers in an empty vector that has room for them.
@@ -486,9 +511,8 @@ impl Ring {
         } }
     {
         let count = gots.len() as u32;
-        let mut lot = Lot::new(id, self.idle.split_front(count));
-        lot.complete(gots);
-        self.lots.push_back_reserved(lot);
+        let reach = self.idle.split_front(count);
+        self.lots.push_back_reserved(Lot::done(id, reach, gots));
         self.lent -= count;
     }
 

@@ -97,7 +97,7 @@ fn frames_in_lease_order(rt: HostRuntime) {
     fill(&rt, &mut first, &[1; 14]);
     complete(&rt, &mut line, first);
     assert!(rt; line.ready() == 5 && line.out() == 1);
-    let Ok(room) = Vec::with_capacity(rt.alloc(), 8) else {
+    let Ok(room) = Vec::with_capacity(rt.alloc(), line.room_to_sync() as usize) else {
         panic!(rt; "no memory");
     };
     let got = line.sync(Vec::new(rt.alloc()), room);

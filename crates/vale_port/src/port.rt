@@ -8,7 +8,7 @@ ghost use Rattle.vale_lease.specs.Leases.{is_there, out_count};
 ghost use Rattle.vale_line.specs.Fitting.{IsFrameSize};
 ghost use Rattle.vale_line.specs.Gots.{buffers_of, frames_in, IsSingle};
 ghost use Rattle.vale_line.specs.Leased.{buffer_count};
-ghost use Rattle.vale_line.specs.Lines.{out_of, leases_of, ready_gots, held_gots, slots_out, granted_sizes, completed, with_lease, leased, given_by_sync, space_of as line_space};
+ghost use Rattle.vale_line.specs.Lines.{out_of, leases_of, ready_gots, room_to_sync, held_gots, slots_out, granted_sizes, completed, with_lease, leased, given_by_sync, space_of as line_space};
 ghost use Rattle.vale_entry.specs.World.{Offer, space_of, due_of};
 ghost use Rattle.vale_entry.specs.Delivery.{delivered_frames};
 ghost use Rattle.vale_entry.specs.Closing.{leases_out, unread_count};
@@ -273,6 +273,14 @@ impl Port {
         self.line.ready()
     }
 
+    /// Returns the number of buffers for which a sync wants room: none where it hands out one lot,
+    /// whose own vector serves.
+    pub fn room_to_sync(&self) -> u32
+        ensures { result ≡ room_to_sync self.now.line.lots }
+    {
+        self.line.room_to_sync()
+    }
+
     /// Returns the number of leases that are not done.
     #[tactic(auto, using(crate::proofs::SeatTies::seats))]
     pub fn leases_out(&self) -> u32
@@ -322,7 +330,7 @@ impl Port {
     pub fn sync(&mut self, back: Vec<Buf>, room: Vec<Got>) -> Vec<Got>
         requires returned { length back.items ≤ out_of self.old.line }
         requires none { room.items ≡ [] }
-        requires room { length (ready_gots self.old.line.lots) ≤ vec_capacity room }
+        requires room { room_to_sync self.old.line.lots ≤ vec_capacity room }
         ensures seat { (seat : Seat) → IsSeatOf seat self.old
             → IsSeatOf (seat_synced (indices_of back.items) seat) self.new }
         ensures gives { (seat : Seat) → IsSeatOf seat self.old → Gives seat result.items }

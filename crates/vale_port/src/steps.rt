@@ -6,7 +6,7 @@ ghost use Rattle.vale_lease.specs.Leases.{is_there, out_count};
 ghost use Rattle.vale_line.specs.Fitting.{IsFrameSize};
 ghost use Rattle.vale_line.specs.Gots.{buffers_of, frames_in, IsSingle};
 ghost use Rattle.vale_line.specs.Leased.{buffer_count};
-ghost use Rattle.vale_line.specs.Lines.{out_of, leases_of, ready_gots, held_gots, slots_out, granted_sizes, completed, with_lease, leased, given_by_sync, space_of as line_space};
+ghost use Rattle.vale_line.specs.Lines.{out_of, leases_of, ready_gots, room_to_sync, held_gots, slots_out, granted_sizes, completed, with_lease, leased, given_by_sync, space_of as line_space};
 ghost use Rattle.vale_entry.specs.World.{Offer};
 ghost use Rattle.vale_entry.specs.Pipe.{taken_count};
 ghost use Rattle.vale_entry.specs.Closing.{unread_count};
@@ -80,7 +80,7 @@ pub fn sync_at(ports: &mut Vec<Port>, place: usize, back: Vec<Buf>, room: Vec<Go
     requires place { place < length ports.old.items }
     requires returned { OfState (λ p. length back.items ≤ out_of p.line) ports.old.items place }
     requires none { room.items ≡ [] }
-    requires room { OfState (λ p. length (ready_gots p.line.lots) ≤ vec_capacity room)
+    requires room { OfState (λ p. room_to_sync p.line.lots ≤ vec_capacity room)
         ports.old.items place }
     ensures seats { ChangesSeat (seat_synced (indices_of back.items)) ports.old.items place
         ports.new.items }

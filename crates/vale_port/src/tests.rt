@@ -94,7 +94,7 @@ fn complete(rt: &impl Abort, port: &mut Port, lease: Lease)
 fn sync(rt: &impl Abort, alloc: Global, port: &mut Port, back: Vec<Buf>) -> Vec<Got>
     ensures { port.new.line.lots ≡ behind_done port.old.line.lots }
 {
-    let Ok(room) = Vec::with_capacity(alloc, port.ready() as usize) else {
+    let Ok(room) = Vec::with_capacity(alloc, port.room_to_sync() as usize) else {
         panic!(rt; "no memory");
     };
     assert!(rt; back.len() <= port.out() as usize);
@@ -248,7 +248,7 @@ fn sync_there(
     requires { at < length ports.old.items }
     ensures { length ports.new.items ≡ length ports.old.items }
 {
-    let Ok(room) = Vec::with_capacity(alloc, ports[at].ready() as usize) else {
+    let Ok(room) = Vec::with_capacity(alloc, ports[at].room_to_sync() as usize) else {
         panic!(rt; "no memory");
     };
     assert!(rt; back.len() <= ports[at].out() as usize);

@@ -124,6 +124,31 @@ fn copies_of(alloc: Global, monitor: Option<PortId>, items: &Items) -> Result<Ba
     }
 }
 
+/// Makes what a put gives, with memory for all of it.
+fn taking_of(alloc: Global, putting: Putting, pending: &[Got]) -> Result<Taking, NoMemory>
+    requires few { putting.took ≤ most_batch }
+    requires within { putting.took ≤ length pending.now }
+    ensures room { IfOk result (λ taking. taking.room ≡ putting.took) }
+    ensures items { IfOk result (λ taking. taking.items
+        ≡ items_of (take putting.took pending.now)) }
+    ensures copies { IfOk result (λ taking. taking.copies
+        ≡ copied putting.monitor (frames_of_items (items_of (take putting.took pending.now)))) }
+    ensures monitored { IfOk result (λ taking. taking.monitored ≡ wants_put putting) }
+    ensures size { IfOk result (λ taking.
+        bytes_of_frames (frames_of_items taking.items) ≤ 2048 * putting.took) }
+{
+    let items = items_of(alloc, &pending[..putting.took as usize])?;
+    let copies = copies_of(alloc, putting.monitor, &items)?;
+    let monitored = Monitored::new(alloc, putting.monitor, putting.took)?;
+    let room = PutRoom::new(alloc, putting.took)?;
+    Ok(Taking {
+        room,
+        items,
+        copies,
+        monitored,
+    })
+}
+
 /// Makes room for all that a put gives and records.
 fn room_to_put(
     alloc: Global,
@@ -149,17 +174,15 @@ fn room_to_put(
         (bytes_of_frames (frames_of_items (items_of (take putting.took pending.now))))) }
     ensures err { OnErr result (history.new.promised ≡ history.old.promised) }
 {
-    let items = items_of(alloc, &pending[..putting.took as usize])?;
-    let copies = copies_of(alloc, putting.monitor, &items)?;
-    let monitored = Monitored::new(alloc, putting.monitor, putting.took)?;
-    let room = PutRoom::new(alloc, putting.took)?;
-    history.reserve(1 + 2 * monitored.len(), items.size())?;
-    Ok(Taking {
-        room,
-        items,
-        copies,
-        monitored,
-    })
+    let taking = taking_of(alloc, putting, pending)?;
+    let entries = 1 + 2 * taking.monitored.len();
+    match history.reserve(entries, taking.items.size()) {
+        Ok(()) => Ok(taking),
+        Err(fault) => {
+            drop(taking);
+            Err(fault)
+        }
+    }
 }
 
 /// Counts the frames taken at both ends, and records them.

@@ -8,7 +8,7 @@ ghost use Rattle.nm_types.specs.declared.id.Side.TheVariants.{Rx};
 ghost use Rattle.nm_region.specs.Buffers.{indices_of};
 ghost use Rattle.nm_count.specs.Tallies.{counts_of, tally_after_add};
 ghost use Rattle.nm_watch.specs.Watching.{monitor_of};
-ghost use Rattle.vale_line.specs.Lines.{out_of, ready_gots, given_by_sync};
+ghost use Rattle.vale_line.specs.Lines.{out_of, ready_gots, room_to_sync, given_by_sync};
 ghost use Rattle.vale_entry.specs.declared.entry.Reply.TheVariants as replies;
 ghost use Rattle.vale_entry.specs.Delivery.{delivered_frames};
 ghost use Rattle.vale_entry.specs.Stored.{Fits, IsFull};
@@ -104,11 +104,11 @@ fn read_ask(is_pipe: bool, port: PortId, back: Numbers) -> Ask
 fn promise_read(
     alloc: Global,
     history: &mut History,
-    count: u32,
+    room: u32,
     dests: u64,
 ) -> Result<Vec<Got>, StepFault>
     requires { dests < 2 ^ 32 }
-    ensures got { IfOk result (λ got. (got.items ≡ []) × (count ≤ vec_capacity got)) }
+    ensures got { IfOk result (λ got. (got.items ≡ []) × (room ≤ vec_capacity got)) }
     ensures promised { OnOk result (history.new.promised ≡ history.old.promised + (1 + 2 * dests)) }
     ensures entries { history.new.entries ≡ history.old.entries }
     ensures limits { history.new.limits ≡ history.old.limits }
@@ -116,7 +116,7 @@ fn promise_read(
     ensures full { IfErr result (IsFull history.old (1 + 2 * dests) 0) }
     ensures err { OnErr result (history.new.promised ≡ history.old.promised) }
 {
-    let got = Vec::with_capacity(alloc, count as usize)?;
+    let got = Vec::with_capacity(alloc, room as usize)?;
     if let Err(fault) = history.reserve(1 + 2 * dests, 0) {
         got.destroy_empty();
         return Err(fault);
@@ -124,15 +124,17 @@ fn promise_read(
     Ok(got)
 }
 
-/// Makes room for all that a sync or a get gives and records.
+/// Makes room for all that a sync or a get gives and records, with room for `room` buffers, as the
+/// port wants.
 fn room_to_read(
     alloc: Global,
     history: &mut History,
     reading: Reading,
     back: &[Buf],
+    room: u32,
 ) -> Result<ReadRoom, StepFault>
-    ensures got { IfOk result (λ room. (room.got.items ≡ [])
-        × (reading.count ≤ vec_capacity room.got)) }
+    ensures got { IfOk result (λ made. (made.got.items ≡ [])
+        × (room ≤ vec_capacity made.got)) }
     ensures numbers { IfOk result (λ room. room.numbers.items ≡ indices_of back.now) }
     ensures monitored { IfOk result (λ room. room.monitored ≡ wants_read reading) }
     ensures promised { OnOk result (history.new.promised
@@ -145,7 +147,7 @@ fn room_to_read(
 {
     let numbers = indices(alloc, back)?;
     let monitored = Monitored::new(alloc, reading.monitor, reading.count)?;
-    let got = promise_read(alloc, history, reading.count, monitored.len())?;
+    let got = promise_read(alloc, history, room, monitored.len())?;
     Ok(ReadRoom {
         got,
         numbers,
@@ -227,7 +229,8 @@ pub fn read(
         × (history.new.promised ≡ history.old.promised) × (ports.new.items ≡ ports.old.items)
         × (tally.new ≡ tally.old)) }
 {
-    let room = match room_to_read(alloc, history, reading, &back) {
+    let wanted = ports[reading.place].room_to_sync();
+    let room = match room_to_read(alloc, history, reading, &back, wanted) {
         Ok(room) => room,
         Err(fault) => return Err((fault, back)),
     };

@@ -1,7 +1,7 @@
 use Rattle.std.proofs.Common.{List, ◌++◌, length, ◌∙◌, ap, arith}
 use Rattle.nm_region.specs.Buffers.{Buffer}
 use Rattle.vale_line.specs.Gots.{buffers_of}
-use Rattle.bench.proofs.Rounds.{round-granted, round-lot, round-complete, round-rest}
+use Rattle.bench.proofs.Rounds.{room-most, round-granted, round-lot, round-complete, round-rest}
 use Rattle.bench.proofs.line.play_round.Goals as goal
 
 pub fill_all-requires-clause-ones : goal.fill_all-requires-clause-ones
@@ -30,8 +30,9 @@ sync-got-requires-clause-room c =
     let is = round-granted c.args.line.now c.grant.new.self c.in-Some.lease c.args.id 0 c.in-Some.ensures.lease c.in-Some.ensures.count c.in-Some.ensures.lot in
     let all = round-complete c.args.region.now c.args.line.now c.grant.new.self c.done.new.self c.args.back.items c.in-Some.lease c.fill_all.new.lease c.args.id c.requires.rest is c.fill_all.ensures.id c.fill_all.ensures.names c.done.ensures.line in
     let few = all.few in
+    let most = room-most c.done.new.self.lots in
     let room = c.requires.gots_room in
-    omega (arith, few, room)
+    omega (arith, few, most, room)
 
 pub unwrap_all-requires : goal.unwrap_all-requires
 unwrap_all-requires c =

@@ -7,11 +7,11 @@ pub loop-slots-preserved : goal.loop-slots-preserved
 loop-slots-preserved c =
     let items = c.loop-slots.leases.items in
     let is : first_done items ≡ Some c.in-Some.slots = sym c.first_done.ensures ∙ c.in-Some.is in
-    let popped = c.pop_front.ensures.rest in
+    let popped = c.remove_first.ensures.rest in
     let more = first_done_more items c.in-Some.slots is in
     let before = c.loop-slots.invariant.slots in
     record {
       slots = rw popped (omega arith);
       rest = rw popped (sym (first_done_behind items c.in-Some.slots is) ∙ c.loop-slots.invariant.rest);
-      capacity = c.pop_front.ensures.capacity ∙ c.loop-slots.invariant.capacity;
+      capacity = c.remove_first.ensures.capacity ∙ c.loop-slots.invariant.capacity;
     }

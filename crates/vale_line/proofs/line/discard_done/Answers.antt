@@ -18,6 +18,14 @@ discard_first-count-requires-clause-room c =
     let room = c.loop-ring.invariant.room in
     omega (arith, count, room)
 
+pub discard_first-count-requires-clause-few : goal.discard_first-count-requires-clause-few
+discard_first-count-requires-clause-few c =
+    let lots = (ring_state c.loop-ring.ring).lots in
+    let done : is_some (first_gots lots) ≡ true = search rules in
+    let count = (given lots done).count in
+    let few = c.loop-ring.invariant.few in
+    omega (arith, count, few)
+
 pub overflow_add-count : goal.overflow_add-count
 overflow_add-count c =
     let lots = (ring_state c.loop-ring.ring).lots in

@@ -13,7 +13,7 @@ publish_first-got-requires-clause-room c =
     let done : is_some (first_gots lots) ≡ true = search rules in
     let count = (given lots done).count in
     let room = c.loop-ring.invariant.room in
-    omega (arith, count, room)
+    λ some. omega (arith, count, room)
 
 pub loop-ring-preserved : goal.loop-ring-preserved
 loop-ring-preserved c =
@@ -45,5 +45,5 @@ loop-ring-preserved c =
           ap (λ (l : LineState). record l { lots = behind_done l.lots }) after
           ∙ (ap (λ (ls : List HeldLot). record line { lots = ls }) (sym step.behind) ∙ inv.rest);
       room = omega (arith, count, left, long, sum, len, was, room, same);
-      capacity = same ∙ inv.capacity;
+      capacity = (let before = inv.capacity in omega (arith, before, same));
     }

@@ -10,7 +10,7 @@ invariant-loop-ring l = record {
   moved : l.got.items ++ ready_gots (ring_state l.ring).lots ≡ l.fn.gots.items ++ ready_gots (ring_state l.fn.ring).lots;
   rest : record (ring_state l.ring) { lots = behind_done (ring_state l.ring).lots } ≡ record (ring_state l.fn.ring) { lots = behind_done (ring_state l.fn.ring).lots };
   room : vec_len l.got + length (ready_gots (ring_state l.ring).lots) ≤ vec_capacity l.got;
-  capacity : vec_capacity l.got ≡ vec_capacity l.fn.gots;
+  capacity : vec_capacity l.fn.gots ≤ vec_capacity l.got;
 }
 
 abbrev pub decreases-loop-ring : goal.decreases-loop-ring

@@ -1,15 +1,15 @@
 use Rattle.std.proofs.Common.{◌≡◌, ◌∙◌, length, drop, ap, sym, arith}
 use Rattle.nm_frag.specs.Parts.{slots_of_length}
 use Rattle.nm_frag.proofs.PartLemmas.{slots-one}
-use Rattle.vale_line.specs.Leased.{first_size, next_of}
+use Rattle.vale_line.specs.Leased.{first_size, next_of, sizes_in}
 use Rattle.vale_line.proofs.FilledFrames.{HasFrame, has-frame, next-fits, seen-with}
 use Rattle.vale_line.proofs.lease.Lease.fill_one.Goals as goal
 
 pub fill_first-requires-clause-room : goal.fill_first-requires-clause-room
 fill_first-requires-clause-room c =
     let inside = c.self.inside in
-    let is : 1 ≡ first_size (drop inside.frames inside.sizes.items) = sym c.requires.next ∙ ap next_of (sym c.self.view_is) in
-    let next = next-fits inside.sizes.items inside.gots.items inside.frames inside.filled 1 0 is (omega arith) c.self.invariant.within c.self.invariant.room in
+    let is : 1 ≡ first_size (sizes_in (drop inside.filled inside.gots.items)) = sym c.requires.next ∙ ap next_of (sym c.self.view_is) in
+    let next = next-fits inside.gots.items inside.filled 1 is (omega arith) c.self.invariant.within c.self.invariant.room in
     let room = next.room in
     omega (arith, room)
 
@@ -19,7 +19,7 @@ step c =
     let inside = c.self.inside in
     let bytes = c.args.bytes.now in
     let one : slots_of_length (length bytes) ≡ 1 = slots-one (length bytes) c.requires.frame in
-    let is : slots_of_length (length bytes) ≡ first_size (drop inside.frames inside.sizes.items) = one ∙ (sym c.requires.next ∙ ap next_of (sym c.self.view_is)) in
+    let is : slots_of_length (length bytes) ≡ first_size (sizes_in (drop inside.filled inside.gots.items)) = one ∙ (sym c.requires.next ∙ ap next_of (sym c.self.view_is)) in
     has-frame inside c.fill_first.new.gots.items 1 bytes c.self.invariant (sym one) is c.fill_first.ensures
 
 pub invariant_of-self : goal.invariant_of-self
@@ -28,9 +28,8 @@ invariant_of-self c =
     record {
       within = s.within;
       few = s.few;
-      few_frames = c.self.invariant.few_frames;
       frames = s.count;
-      frames_within = s.frames_within;
+      count = s.total;
       whole = s.whole;
       room = s.room;
     }

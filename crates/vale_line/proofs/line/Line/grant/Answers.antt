@@ -1,7 +1,8 @@
-use Rattle.std.proofs.Common.{◌≡◌, ◌≤◌, List, [], ◌∷◌, ◌++◌, ap, sym, ◌∙◌, subst, length, take, ℕ, false, arith, rules, refl}
+use Rattle.std.proofs.Common.{◌≡◌, ◌≤◌, List, [], ◌∷◌, ◌++◌, ap, sym, ◌∙◌, subst, length, map, take, ℕ, false, arith, rules, refl}
 use Rattle.std.specs.Prelude.{sum}
 use Rattle.nm_region.specs.Buffers.{Buffer}
-use Rattle.vale_line.specs.Fitting.{fitting_sizes}
+use Rattle.std.proofs.lemmas.List.Elements.{All-take}
+use Rattle.vale_line.specs.Fitting.{IsFrameSize, fitting_sizes}
 use Rattle.vale_line.proofs.FittingLemmas.{fitting-sum, fitting-total, fitting-count}
 use Rattle.std.proofs.lemmas.List.{length-map, length-take-le}
 use Rattle.vale_lease.specs.declared.leases.LeaseSlots.{LeaseSlots}
@@ -27,18 +28,18 @@ lease-gots-requires-clause-lots c = few-held c.self.inside.ring c.self.invariant
 
 -- which frames are granted, and how many buffers they take
 pub record Granting (c : goal.After-new) : Type 0 where
-  pub sizes : c.take_fitting-count.new.sizes.items ≡ granted_sizes c.args.want.now (state_of c.self.inside)
-  pub count : c.take_fitting-count.result ≡ sum (granted_sizes c.args.want.now (state_of c.self.inside))
-  pub some : 1 ≤ c.take_fitting-count.result
-  pub fits : c.take_fitting-count.result ≤ space_of (state_of c.self.inside)
+  pub sizes : take c.count_fitting-frames.result.0 c.args.want.now ≡ granted_sizes c.args.want.now (state_of c.self.inside)
+  pub count : c.count_fitting-frames.result.1 ≡ sum (granted_sizes c.args.want.now (state_of c.self.inside))
+  pub some : 1 ≤ c.count_fitting-frames.result.1
+  pub fits : c.count_fitting-frames.result.1 ≤ space_of (state_of c.self.inside)
 
 granting : (c : goal.After-new) → Granting c
 granting c =
     let line = state_of c.self.inside in
-    let n = c.take_fitting-count.result in
+    let n = c.count_fitting-frames.result.1 in
     let space : c.space.result ≡ space_of line = c.space.ensures.space ∙ ap space_of (sym c.self.view_is) in
-    let sizes : c.take_fitting-count.new.sizes.items ≡ granted_sizes c.args.want.now line = c.take_fitting-count.ensures.sizes ∙ ap (λ (k : ℕ). fitting_sizes k c.args.want.now) space in
-    let count : n ≡ sum (granted_sizes c.args.want.now line) = c.take_fitting-count.ensures.sum ∙ ap (λ (k : ℕ). sum (fitting_sizes k c.args.want.now)) space in
+    let sizes : take c.count_fitting-frames.result.0 c.args.want.now ≡ granted_sizes c.args.want.now line = c.count_fitting-frames.ensures.sizes ∙ ap (λ (k : ℕ). fitting_sizes k c.args.want.now) space in
+    let count : n ≡ sum (granted_sizes c.args.want.now line) = c.count_fitting-frames.ensures.sum ∙ ap (λ (k : ℕ). sum (fitting_sizes k c.args.want.now)) space in
     let most = fitting-sum (space_of line) c.args.want.now in
     let some : 1 ≤ n = search (rules, arith) in
     record { sizes = sizes; count = count; some = some; fits = omega (arith, count, most) }
@@ -46,7 +47,7 @@ granting c =
 pub invariant_of-self : goal.invariant_of-self
 invariant_of-self c =
     let line = state_of c.self.inside in
-    let n = c.take_fitting-count.result in
+    let n = c.count_fitting-frames.result.1 in
     let g = granting c in
     let fresh : is_there c.args.id.0 (leases_of line.lots) ≡ false = ap (λ (l : LineState). is_there c.args.id.0 (leases_of l.lots)) c.self.view_is ∙ c.requires.new in
     let is = IsLine-granted line c.args.id n c.self.invariant.line g.some g.fits fresh in
@@ -78,13 +79,13 @@ returns-clause-some c =
 pub returns-clause-lease : goal.returns-clause-lease
 returns-clause-lease c =
     let line = state_of c.self.inside in
-    let n = c.take_fitting-count.result in
+    let n = c.count_fitting-frames.result.1 in
     let g = granting c in
     let lent : buffers_of c.lease-gots.result.items ≡ take n line.idle = ap buffers_of c.lease-gots.ensures.gots ∙ buffers-blank (take n line.idle) in
     let start = lease_of_buffers c.args.id.0 c.args.to.0 in
     rw (← c.self.view_is) (c.new.ensures
-    ∙ (ap (λ (bs : List Buffer). start c.take_fitting-count.new.sizes.items bs) lent
-    ∙ (ap (λ (k : ℕ). start c.take_fitting-count.new.sizes.items (take k line.idle)) g.count
+    ∙ (ap (λ (bs : List Buffer). start (take c.count_fitting-frames.result.0 c.args.want.now) bs) lent
+    ∙ (ap (λ (k : ℕ). start (take c.count_fitting-frames.result.0 c.args.want.now) (take k line.idle)) g.count
     ∙ ap (λ (ns : List ℕ). start ns (take (sum (granted_sizes c.args.want.now line)) line.idle)) g.sizes)))
 
 pub returns-clause-lot : goal.returns-clause-lot
@@ -101,7 +102,7 @@ returns-then-count-eq0-clause-none c =
     let want = c.args.want.now in
     let few = fitting-count c.space.result want c.requires.sizes in
     let none = c.if-count-eq0.true in
-    let count = c.take_fitting-count.ensures.sum in
+    let count = c.count_fitting-frames.ensures.sum in
     let all = none-left (fitting_sizes c.space.result want) (omega (arith, few, none, count)) in
     let space : c.space.result ≡ space_of c.args.self.now = c.space.ensures.space in
     (ap (λ (k : ℕ). fitting_sizes k want) (sym space) ∙ all, refl)
@@ -110,7 +111,7 @@ pub open-requires-clause-room : goal.open-requires-clause-room
 open-requires-clause-room c =
     let line = state_of c.self.inside in
     let most = fitting-sum c.space.result c.args.want.now in
-    let count = c.take_fitting-count.ensures.sum in
+    let count = c.count_fitting-frames.ensures.sum in
     let space : c.space.result ≡ space_of line = c.space.ensures.space ∙ ap space_of (sym c.self.view_is) in
     let slots = ap (λ (r : LeaseRing). ring_slots r.leases) c.self.invariant.leases ∙ leased-slots line.lots in
     let size = ap (λ (r : LeaseRing). r.size) c.self.invariant.leases in
@@ -123,18 +124,18 @@ lease-gots-requires-clause-gots_room c =
     let line = state_of c.self.inside in
     let most = fitting-sum c.space.result c.args.want.now in
     let total = fitting-total c.space.result c.args.want.now in
-    let count = c.take_fitting-count.ensures.sum in
+    let count = c.count_fitting-frames.ensures.sum in
     let space : c.space.result ≡ space_of line = c.space.ensures.space ∙ ap space_of (sym c.self.view_is) in
     let size : line.size ≡ c.args.self.now.size = ap (λ (l : LineState). l.size) c.self.view_is in
     let within = c.self.invariant.line.within in
     let room = c.requires.room in
-    let gots = c.into_vecs-gots.ensures.gots_room in
+    let gots = c.into_vec-gots.ensures.room in
     omega (arith, most, total, count, space, size, within, room, gots)
 
 pub lease-gots-requires-clause-enough : goal.lease-gots-requires-clause-enough
 lease-gots-requires-clause-enough c =
     let most = fitting-sum c.space.result c.args.want.now in
-    let count = c.take_fitting-count.ensures.sum in
+    let count = c.count_fitting-frames.ensures.sum in
     let space : c.space.result ≡ space_of (state_of c.self.inside) = c.space.ensures.space ∙ ap space_of (sym c.self.view_is) in
     omega (arith, most, count, space)
 
@@ -143,7 +144,7 @@ new-requires-clause-few_frames c =
     let line = state_of c.self.inside in
     let frames = fitting-count c.space.result c.args.want.now c.requires.sizes in
     let most = fitting-sum c.space.result c.args.want.now in
-    let sizes = ap length c.take_fitting-count.ensures.sizes in
+    let sizes = ap length c.count_fitting-frames.ensures.sizes in
     let space : c.space.result ≡ space_of line = c.space.ensures.space ∙ ap space_of (sym c.self.view_is) in
     let few = c.self.invariant.line.few in
     let within = c.self.invariant.line.within in
@@ -152,14 +153,23 @@ new-requires-clause-few_frames c =
 pub new-requires-clause-room : goal.new-requires-clause-room
 new-requires-clause-room c =
     let idle = (state_of c.self.inside).idle in
-    let n = c.take_fitting-count.result in
+    let n = c.count_fitting-frames.result.1 in
     let most = fitting-sum c.space.result c.args.want.now in
-    let sum_is = ap sum c.take_fitting-count.ensures.sizes in
-    let count = c.take_fitting-count.ensures.sum in
+    let sum_is = ap sum c.count_fitting-frames.ensures.sizes in
+    let count = c.count_fitting-frames.ensures.sum in
     let space : c.space.result ≡ space_of (state_of c.self.inside) = c.space.ensures.space ∙ ap space_of (sym c.self.view_is) in
     let enough : n ≤ length idle = omega (arith, most, count, space) in
     let blanks = ap length c.lease-gots.ensures.gots ∙ (length-map (take n idle) blank ∙ length-take-le n idle enough) in
     omega (arith, sum_is, count, blanks)
+
+pub new-requires-clause-blank : goal.new-requires-clause-blank
+new-requires-clause-blank c =
+    let bufs = take c.count_fitting-frames.result.1 (state_of c.self.inside).idle in
+    let is = c.lease-gots.ensures.gots in
+    is ∙ ap (λ (bs : List Buffer). map blank bs) (sym (ap buffers_of is ∙ buffers-blank bufs))
+
+pub new-requires-clause-sizes : goal.new-requires-clause-sizes
+new-requires-clause-sizes c = All-take IsFrameSize c.count_fitting-frames.result.0 c.args.want.now c.requires.sizes
 
 pub returns-clause-count : goal.returns-clause-count
 returns-clause-count c =

@@ -13,15 +13,15 @@ invariant_of-self c =
     let back = c.args.back.items in
     let few : length back ≤ out_of line = subst (λ (l : LineState). length back ≤ out_of l) (sym c.self.view_is) c.requires.returned in
     let is : IsLine (given_by_sync back line) = IsLine-synced line back c.self.invariant.line few in
-    let after : ring_state c.give_done.new.ring ≡ given_by_sync back line =
-    c.give_done.ensures.line ∙ ap (λ (l : LineState). record l { lots = behind_done l.lots }) c.take_back.ensures.line in
+    let after : ring_state c.give_ready.new.ring ≡ given_by_sync back line =
+    c.give_ready.ensures.line ∙ ap (λ (l : LineState). record l { lots = behind_done l.lots }) c.take_back.ensures.line in
     let size = ap (λ (l : LineState). l.size) after in
     let room = c.self.invariant.room in
     let same = c.take_back.ensures.capacity in
     record {
       size = c.self.invariant.size ∙ sym size;
       line = subst IsLine (sym after) is;
-      ring = c.give_done.ensures.ring;
+      ring = c.give_ready.ensures.ring;
       leases =
           c.take.ensures.rest
           ∙ (ap (λ (r : LeaseRing). record r { leases = behind_leases r.leases }) c.self.invariant.leases

@@ -1,4 +1,4 @@
-use Rattle.std.proofs.Common.{◌≡◌, ◌≤◌, ◌+◌, ◌-◌, ℕ, false, true, List, Option, [], ◌∷◌, ◌++◌, length, take, drop, refl, ap, sym, ◌∙◌, subst, arith}
+use Rattle.std.proofs.Common.{◌≡◌, ◌≤◌, ◌+◌, ◌-◌, ℕ, List, Option, Some, [], ◌∷◌, ◌++◌, length, take, drop, ap, sym, ◌∙◌, subst, arith}
 use Rattle.std.proofs.lemmas.List.{map-append, length-take-le, length-drop, take-append-drop}
 use Rattle.nm_reach.specs.Fields.{Run}
 use Rattle.nm_region.specs.Buffers.{Buffer}
@@ -9,7 +9,7 @@ use Rattle.vale_line.specs.Gots.{buffers_of}
 use Rattle.vale_line.specs.Lines.{HeldLot, put_lot}
 use Rattle.vale_line.specs.Rings.{held, held_lots, IsHeld}
 use Rattle.vale_line.proofs.CellLemmas.{empty-parts, gots-append}
-use Rattle.vale_line.proofs.RingLemmas.{pushed, take-more, drop-more, AreBlank}
+use Rattle.vale_line.proofs.RingLemmas.{pushed, same-run, take-more, drop-more, AreBlank}
 use Rattle.vale_line.proofs.ring.Ring.accept_front.Goals as goal
 
 -- the first k of the empty cells at the front, and what is behind them
@@ -31,17 +31,6 @@ front k lent vs few empty =
       gots = ap (λ (gs : List Got). gs ++ gots_in (drop k vs)) (sym both.0) ∙ (sym (gots-append (take k vs) (drop k vs)) ∙ ap gots_in (take-append-drop k vs));
     }
 
-pub complete-requires-clause-empty : goal.complete-requires-clause-empty
-complete-requires-clause-empty c =
-    let r = c.args.self.now in
-    let few = c.requires.few in
-    let len = c.len-count.ensures in
-    let same = c.args.gots.ok.0 in
-    let f = front c.len-count.result r.lent r.idle.values (omega (arith, few, len, same)) c.requires.ring.lent in
-    let lot = ap (λ (x : Lot). x.reach.values) c.new-lot.ensures in
-    let first = ap (λ (i : Run (Option Got)). i.values) c.split_front.ensures.first in
-    subst AreEmpty (sym (lot ∙ first)) f.empty
-
 pub returns-clause-ring : goal.returns-clause-ring
 returns-clause-ring c =
     let r = c.args.self.now in
@@ -53,15 +42,13 @@ returns-clause-ring c =
     let within = c.requires.ring.lent_within in
     let fits : k ≤ r.lent = omega (arith, few, len, same) in
     let f = front k r.lent vs fits c.requires.ring.lent in
-    let lot = c.complete.new.self in
-    let was : c.new-lot.result.reach ≡ record r.idle { values = take k vs } = ap (λ (x : Lot). x.reach) c.new-lot.ensures ∙ c.split_front.ensures.first in
-    let cells : SameCells (record r.idle { values = take k vs }) lot.reach = subst (λ (i : Run (Option Got)). SameCells i lot.reach) was c.complete.ensures.cells in
-    let full : AreFull lot.reach.values = (let gots = ap length c.complete.ensures.gots in let count = cells.count in let front = length-take-le k vs (omega (arith, fits, within)) in omega (arith, gots, count, front, len, same)) in
-    let done = c.complete.ensures.done in
-    let holds : IsHeld lot = ((λ _. full), (λ (other : lot.is_done ≡ false). absurd (let wrong : true ≡ false = sym done ∙ other in cc))) in
+    let lot = c.done.result in
+    let was : lot.reach ≡ record r.idle { values = take k vs } = ap (λ (x : Lot). x.reach) c.done.ensures ∙ c.split_front-reach.ensures.first in
+    let cells : SameCells (record r.idle { values = take k vs }) lot.reach = subst (λ (i : Run (Option Got)). SameCells (record r.idle { values = take k vs }) i) (sym was) (same-run (record r.idle { values = take k vs })) in
+    let holds : IsHeld lot = subst (λ (i : Run (Option Got)). AreEmpty i.values) (sym was) f.empty in
     let left = length-drop k vs in
-    pushed r k (r.lent - k) c.push_back_reserved.new.self lot c.split_front.new.self c.requires.ring (omega (arith, fits, within)) c.push_back_reserved.ensures.items c.push_back_reserved.ensures.capacity
-    c.split_front.ensures.rest cells holds (omega (arith, left, within, fits)) f.left (subst AreFull (sym f.rest) c.requires.ring.full)
+    pushed r k (r.lent - k) c.push_back_reserved.new.self lot c.split_front-reach.new.self c.requires.ring (omega (arith, fits, within)) c.push_back_reserved.ensures.items c.push_back_reserved.ensures.capacity
+    c.split_front-reach.ensures.rest cells holds (omega (arith, left, within, fits)) f.left (subst AreFull (sym f.rest) c.requires.ring.full)
     (subst AreBlank (sym f.gots) c.requires.ring.blank)
 
 pub returns-clause-line : goal.returns-clause-line
@@ -76,15 +63,12 @@ returns-clause-line c =
     let within = c.requires.ring.lent_within in
     let fits : k ≤ r.lent = omega (arith, few, len, same) in
     let f = front k r.lent vs fits c.requires.ring.lent in
-    let lot = c.complete.new.self in
-    let was : c.new-lot.result.reach ≡ record r.idle { values = take k vs } = ap (λ (x : Lot). x.reach) c.new-lot.ensures ∙ c.split_front.ensures.first in
-    let cells : SameCells (record r.idle { values = take k vs }) lot.reach = subst (λ (i : Run (Option Got)). SameCells i lot.reach) was c.complete.ensures.cells in
-    let now = ap (λ (i : Run (Option Got)). i.values) c.split_front.ensures.rest in
-    let idle : buffers_of (gots_in c.split_front.new.self.values) ≡ buffers_of (gots_in vs) = ap (λ (cs : List (Option Got)). buffers_of (gots_in cs)) now ∙ ap buffers_of f.gots in
+    let lot = c.done.result in
+    let now = ap (λ (i : Run (Option Got)). i.values) c.split_front-reach.ensures.rest in
+    let idle : buffers_of (gots_in c.split_front-reach.new.self.values) ≡ buffers_of (gots_in vs) = ap (λ (cs : List (Option Got)). buffers_of (gots_in cs)) now ∙ ap buffers_of f.gots in
     let front_len = length-take-le k vs (omega (arith, fits, within)) in
-    let count : length lot.reach.values ≡ length gots = cells.count ∙ omega (arith, front_len, len, same) in
-    let id : lot.id ≡ c.args.id = c.complete.ensures.id ∙ ap (λ (x : Lot). x.id) c.new-lot.ensures in
-    let put : held lot ≡ put_lot c.args.id gots = rw (c.complete.ensures.done, c.complete.ensures.gots, count, id) refl in
+    let first : length c.split_front-reach.result.values ≡ length gots = ap (λ (i : Run (Option Got)). length i.values) c.split_front-reach.ensures.first ∙ omega (arith, front_len, len, same) in
+    let put : held lot ≡ put_lot c.args.id gots = ap held c.done.ensures ∙ ap (λ (n : ℕ). record { id = c.args.id; slots = n; gots = Some gots }) first in
     let lots : held_lots c.push_back_reserved.new.self.items ≡ held_lots r.lots.items ++ put_lot c.args.id gots ∷ [] =
     ap held_lots c.push_back_reserved.ensures.items ∙ (map-append held r.lots.items (lot ∷ []) ∙ ap (λ (x : HeldLot). held_lots r.lots.items ++ x ∷ []) put) in
     ap (λ (bs : List Buffer). record { size = r.field.size; idle = bs; lots = held_lots c.push_back_reserved.new.self.items }) idle

@@ -1,4 +1,4 @@
-use Rattle.std.proofs.Common.{◌≡◌, ◌≤◌, ℕ, false, true, List, Option, [], ◌∷◌, ◌++◌, length, take, drop, refl, ap, sym, ◌∙◌, subst, arith}
+use Rattle.std.proofs.Common.{◌≡◌, ◌≤◌, ℕ, List, Option, None, [], ◌∷◌, ◌++◌, length, take, drop, refl, ap, sym, ◌∙◌, subst, arith}
 use Rattle.std.proofs.lemmas.List.{length-map, map-append, length-take-le}
 use Rattle.nm_reach.specs.Fields.{Run}
 use Rattle.nm_region.specs.Buffers.{Buffer}
@@ -16,7 +16,7 @@ pub record Leasing (c : goal.After-push_back_reserved) : Type 0 where
   pub full : AreFull c.args.self.now.idle.values
   pub enough : c.args.count ≤ length c.args.self.now.idle.values
   pub cells : SameCells (record c.args.self.now.idle { values = take c.args.count c.args.self.now.idle.values }) c.take_run-gots.new.run
-  pub lot : c.new.result ≡ record { id = c.args.id; reach = c.take_run-gots.new.run; is_done = false }
+  pub lot : c.new.result ≡ record { id = c.args.id; reach = c.take_run-gots.new.run; gots = None }
 
 leasing : (c : goal.After-push_back_reserved) → Leasing c
 leasing c =
@@ -50,8 +50,7 @@ returns-clause-ring c =
     let lot = c.new.result in
     let cells : SameCells (record r.idle { values = take k vs }) lot.reach = subst (λ (i : Run (Option Got)). SameCells (record r.idle { values = take k vs }) i) (sym (ap (λ (x : Lot). x.reach) l.lot)) l.cells in
     let empty : AreEmpty lot.reach.values = subst (λ (x : Lot). AreEmpty x.reach.values) (sym l.lot) c.take_run-gots.ensures.empty in
-    let other : lot.is_done ≡ false = ap (λ (x : Lot). x.is_done) l.lot in
-    let holds : IsHeld lot = ((λ (done : lot.is_done ≡ true). absurd (let wrong : true ≡ false = sym done ∙ other in cc)), (λ _. empty)) in
+    let holds : IsHeld lot = empty in
     pushed r k r.lent c.push_back_reserved.new.self lot c.split_front-reach.new.self c.requires.ring l.enough c.push_back_reserved.ensures.items c.push_back_reserved.ensures.capacity
     c.split_front-reach.ensures.rest cells holds (omega (arith, none))
     (subst (λ (j : ℕ). AreEmpty (take j (drop k vs))) (sym none) refl)
