@@ -1,11 +1,12 @@
 -- What was taught can be taken back, from the last to the first.
-use Rattle.std.proofs.Common.{ℕ, zero, suc, ◌≡◌, ◌+◌, List, [], ◌∷◌, ◌++◌, length, drop, Some, None, arith, ◌∙◌, ap}
+use Rattle.std.proofs.Common.{ℕ, zero, suc, ◌≡◌, ◌+◌, List, [], ◌∷◌, ◌++◌, length, drop, set, Option, Some, None, arith, ◌∙◌, ap, sym}
 use Rattle.std.specs.Prelude.{fold, slice_get}
-use Rattle.std.proofs.lemmas.List.{reverse-append}
+use Rattle.std.proofs.lemmas.List.{reverse-append, set-get_or}
 use Rattle.nm_types.specs.declared.id.Mac.{Mac}
 use Rattle.nm_types.specs.declared.id.PortId.{PortId}
-use Rattle.vale_learn.specs.AddressTable.{Entries, entry_of, learned}
-use Rattle.vale_learn.proofs.TableLaws.{restoring_undoes_learning}
+use Rattle.vale_learn.specs.AddressTable.{Entries, bucket_of, entry_of, learned, port_of_address}
+use Rattle.vale_learn.specs.declared.table.Station.{Station}
+use Rattle.vale_learn.proofs.TableLaws.{found_where_held, restoring_undoes_learning}
 use Rattle.vale_batch.specs.declared.looking.Taught.{Taught}
 use Rattle.vale_batch.specs.Looking.{untaught, untaught_all}
 
@@ -18,6 +19,18 @@ pub untaught-learned : (entries : Entries) (taughts : List Taught) (address : Ma
 untaught-learned entries taughts address port size =
     untaught-last (learned entries address port) taughts (record { address = address; before = entry_of entries address.0 })
     ∙ ap (λ (es : Entries). untaught_all es taughts) (restoring_undoes_learning entries address port size)
+
+pub same-port : (port other : PortId) → port.0 ≡ other.0 → port ≡ other
+same-port port other same = ap (λ (n : ℕ). numbered n) same
+  where
+    numbered : ℕ → PortId
+    numbered n = record { 0 = n }
+
+-- what is known of an address is not changed by learning it again
+pub known-learned : (entries : Entries) (address : Mac) (port : PortId) → port_of_address entries address.0 ≡ Some port → learned entries address port ≡ entries
+known-learned entries address port found =
+    let held : entry_of entries address.0 ≡ Some (record { address = address; port = port }) = (found_where_held entries address port).0 found in
+    ap (λ (seen : Option Station). set entries (bucket_of address.0) seen) (sym held) ∙ set-get_or entries (bucket_of address.0) None
 
 -- the frame at a place stands before those behind it
 pub drop-at : {X : Type 0} (xs : List X) (i : ℕ) (x : X) → slice_get xs i ≡ Some x → drop i xs ≡ x ∷ drop (i + 1) xs

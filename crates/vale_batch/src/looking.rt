@@ -1,5 +1,5 @@
 ghost use Rattle.std.specs.Prelude.{◌≡◌, ◌≤◌, [], ◌++◌, All, IsTrue, IfOk, OnOk, length, vec_capacity};
-ghost use Rattle.vale_learn.specs.AddressTable.{port_of_address};
+ghost use Rattle.vale_learn.specs.AddressTable.{learned, port_of_address};
 ghost use Rattle.vale_batch.specs.Addresses.{is_learnable, source_address};
 ghost use Rattle.vale_batch.specs.Looking.{destination_found, destination_of, learned_from, looked_up, looked_up_batch, learned_of_batch, untaught_all, IsAlike, IsFrame};
 
@@ -67,8 +67,18 @@ fn is_learnable(bytes: &[u8], no_learn: bool) -> bool
     bytes.len() >= HEADER_BYTES && !is_group(mac_at(bytes, 6)) && !no_learn
 }
 
-/// Learns the source of a frame, if it may be learned, and notes what its entry held. Want of
-/// memory teaches nothing.
+/// Whether a table knows an address behind a port, so that learning it there changes nothing.
+fn knows(table: &Table, address: Mac, port: PortId) -> bool
+    ensures { IsTrue result → learned table.now address port ≡ table.now }
+{
+    match table.find(address) {
+        Some(found) => found == port,
+        None => false,
+    }
+}
+
+/// Learns the source of a frame, if it may be learned, and notes what its entry held, if that is
+/// something else. Want of memory teaches nothing.
 #[tactic(auto, using(crate::proofs::Teaching::teaching))]
 fn learn(
     table: &mut Table,
@@ -82,9 +92,12 @@ fn learn(
     ensures undo { untaught_all table.new taughts.new.items
         ≡ untaught_all table.old taughts.old.items }
 {
-    if is_learnable(bytes, no_learn) {
+    if !is_learnable(bytes, no_learn) {
+        return Ok(());
+    }
+    let address = mac_at(bytes, 6);
+    if !knows(table, address, from) {
         taughts.reserve(1)?;
-        let address = mac_at(bytes, 6);
         let before = table.teach(address, from);
         taughts.push_reserved(Taught { address, before });
     }

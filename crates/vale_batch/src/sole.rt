@@ -51,14 +51,39 @@ pub(crate) fn sole_port(all: &[Looked]) -> Option<PortId>
 fn places(alloc: Global, count: u32) -> Result<Vec<u32>, AllocError>
     ensures { IfOk result (λ all. all.items ≡ range_with_len 0 count) }
 {
-    (0..count).collect(alloc)
+    let mut all = Vec::with_capacity(alloc, count as usize)?;
+    for place in 0..count {
+        all.push_reserved(place);
+    }
+    Ok(all)
 }
 
 /// How many slots each of the frames takes.
 fn sizes(alloc: Global, all: &[Looked]) -> Result<Vec<u32>, AllocError>
     ensures { IfOk result (λ sizes. sizes.items ≡ map size_of all.now) }
 {
-    all.iter().map(|looked| looked.size).collect(alloc)
+    let mut sizes = Vec::with_capacity(alloc, all.len())?;
+    for looked in all {
+        sizes.push_reserved(looked.size);
+    }
+    Ok(sizes)
+}
+
+/// What a port wants that gets all of these frames.
+fn sole_want(alloc: Global, port: PortId, all: &[Looked]) -> Result<Want, AllocError>
+    requires { length all.now < 2 ^ 32 }
+    ensures to { IfOk result (λ want. want.to ≡ port) }
+    ensures places { IfOk result (λ want.
+        want.places.items ≡ range_with_len 0 (length all.now)) }
+    ensures sizes { IfOk result (λ want. want.sizes.items ≡ map size_of all.now) }
+{
+    let places = places(alloc, all.len() as u32)?;
+    let sizes = sizes(alloc, all)?;
+    Ok(Want {
+        to: port,
+        places,
+        sizes,
+    })
 }
 
 /// What ports want of frames that all go to one port alone, which is among them or is not.
@@ -78,11 +103,8 @@ pub(crate) fn wants_of_sole(
     if !there {
         return Ok(Vec::new(alloc));
     }
+    let want = sole_want(alloc, port, all)?;
     let mut wants = Vec::with_capacity(alloc, 1)?;
-    wants.push_reserved(Want {
-        to: port,
-        places: places(alloc, all.len() as u32)?,
-        sizes: sizes(alloc, all)?,
-    });
+    wants.push_reserved(want);
     Ok(wants)
 }

@@ -159,3 +159,20 @@ fn forgotten_batch_taught_nothing(rt: HostRuntime) {
     let unlearned = send(&rt, rt.alloc(), &mut table, 5, &[(TO_A, false)]);
     assert_counts(&rt, &unlearned, 2, 0, 0);
 }
+
+/// What a port knows of itself is no news, and a forgotten batch leaves it.
+#[test]
+fn known_sender_stays_known(rt: HostRuntime) {
+    let Ok(mut table) = Table::new(rt.alloc()) else {
+        panic!(rt; "no memory");
+    };
+    let taught = send(&rt, rt.alloc(), &mut table, 4, &[(TO_SELF, false)]);
+    assert_counts(&rt, &taught, 0, 0, 1);
+    let refused = send(&rt, rt.alloc(), &mut table, 4, &[(TO_SELF, false)]);
+    refused.forget(&mut table);
+    let frame = (TO_A, false);
+    let frames = [frame, frame, frame, frame, frame, frame];
+    let sent = send(&rt, rt.alloc(), &mut table, 5, &frames);
+    assert_counts(&rt, &sent, 1, 0, 0);
+    assert!(rt; wants(&rt, rt.alloc(), &sent, 0, 4, &[0, 1, 2, 3, 4, 5], &[1; 6]));
+}

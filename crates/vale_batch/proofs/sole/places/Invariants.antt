@@ -1,0 +1,7 @@
+use Rattle.std.proofs.Common.{◌≡◌, ◌≤◌}
+use Rattle.std.specs.List.{range_with_len}
+use Rattle.std.specs.Vec.{vec_capacity}
+use Rattle.vale_batch.proofs.sole.places.Given as goal
+
+abbrev pub invariant-loop-place : goal.invariant-loop-place
+invariant-loop-place l = (l.all.items ≡ range_with_len 0 l.place) × (l.count ≤ vec_capacity l.all)
