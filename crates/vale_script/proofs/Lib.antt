@@ -1,4 +1,5 @@
 mod Causes
+mod Counts
 mod Cuts
 mod Free
 mod Keyed

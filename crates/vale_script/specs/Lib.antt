@@ -1,3 +1,4 @@
+pub mod Counts
 pub mod Drafts
 pub mod Forms
 pub mod Grammar

@@ -283,7 +283,10 @@ impl Draft {
     {
         match &mut self.block {
             Some(block) => block.lines.push(line)?,
-            None => self.units.push(Unit::Single { line })?,
+            None => {
+                self.units.reserve(1)?;
+                self.units.push_reserved(Unit::Single { line });
+            }
         }
         Ok(())
     }

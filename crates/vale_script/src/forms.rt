@@ -1,5 +1,5 @@
 //! The forms of a script's lines: a row for each.
-ghost use Rattle.std.specs.Prelude.{◌≡◌};
+ghost use Rattle.std.specs.Prelude.{◌≡◌, Some, IfSome};
 ghost use Rattle.vale_script.specs.Forms.{shown_form, form_of, verb_of};
 
 use nm_types::{BUFFER_BYTES, MAX_BATCH, MAX_COUNTS, MAX_POOL};
@@ -169,30 +169,35 @@ fn word_of(verb: Verb) -> &'static [u8]
     form_of(verb).word
 }
 
-/// What a line that begins with this word does most likely. Any answer will do, as the caller looks
-/// whether the word is that of the answer.
-fn likely_verb(word: &[u8]) -> Verb {
-    match word {
-        [b'p', b'u', ..] => Verb::Put,
-        [b't', ..] => Verb::Tx,
-        [b'r', ..] => Verb::Rx,
-        [b'h', ..] => Verb::Hex,
-        [b'f', ..] => Verb::Fwd,
-        [b'u', ..] => Verb::User,
-        [b'o', ..] => Verb::Open,
-        [b'c', ..] => Verb::Close,
-        _ => Verb::Pool,
+/// What a line does that begins with this word, if it is one of those that most lines begin with.
+fn common_verb(word: &[u8]) -> Option<Verb>
+    ensures { IfSome result (λ verb. verb_of word.now ≡ Some verb) }
+{
+    if word_of(Verb::Tx) == word {
+        return Some(Verb::Tx);
     }
+    if word_of(Verb::Rx) == word {
+        return Some(Verb::Rx);
+    }
+    if word_of(Verb::Put) == word {
+        return Some(Verb::Put);
+    }
+    if word_of(Verb::Hex) == word {
+        return Some(Verb::Hex);
+    }
+    if word_of(Verb::Fwd) == word {
+        return Some(Verb::Fwd);
+    }
+    None
 }
 
 /// What a line does that begins with this word, or none if no line does.
-#[tactic(auto, using(crate::proofs::Verbs::verbs_by_word), unfolding(crate::specs::Forms::verb_of))]
+#[tactic(auto, unfolding(crate::specs::Forms::verb_of))]
 pub fn verb_of(word: &[u8]) -> Option<Verb>
     ensures { result ≡ verb_of word.now }
 {
-    let likely = likely_verb(word);
-    if word_of(likely) == word {
-        return Some(likely);
+    if let Some(verb) = common_verb(word) {
+        return Some(verb);
     }
     VERBS.iter().copied().find(|verb| word_of(*verb) == word)
 }

@@ -1,5 +1,5 @@
 //! The users and the ports that the lines so far have named, in tables by their names.
-ghost use Rattle.std.specs.Prelude.{◌≡◌, ◌≤◌, length, Some, None, OnOk};
+ghost use Rattle.std.specs.Prelude.{◌≡◌, ◌≤◌, length, take, Some, None, OnOk};
 ghost use Rattle.nm_types.specs.Names.{IsName};
 ghost use Rattle.vale_script.specs.Keys.{packed, numbers_seen, ports_seen};
 ghost use Rattle.vale_script.specs.Rules.{port_key};
@@ -9,16 +9,40 @@ ghost use Rattle.vale_script.specs.Tables.{updated};
 use nm_types::{Name, NoMemory};
 use std::collections::HashMap;
 
+/// Above each number that eight bytes make.
+const EIGHT_BYTES: u128 = 1 << 64;
+
+/// A word of at most eight bytes as one number, with its first byte lowest.
+fn packed_few(word: &[u8]) -> u64
+    requires { length word.now ≤ 8 }
+    ensures { result ≡ packed word.now }
+{
+    let mut number = 0u64;
+    for i in 0..word.len() {
+        number = number * 256 + word[word.len() - 1 - i] as u64;
+    }
+    number
+}
+
+/// The first eight bytes of a word as one number.
+fn first_eight(word: &[u8]) -> u64
+    requires { 8 ≤ length word.now }
+    ensures { result ≡ packed (take 8 word.now) }
+{
+    let mut bytes = [0; 8];
+    bytes.copy_from_slice(&word[..8]);
+    u64::from_le_bytes(bytes)
+}
+
 /// A word of a name as one number, with its first byte lowest: what a table finds it by.
 fn packed(word: &[u8]) -> u128
     requires { length word.now ≤ 16 }
     ensures { result ≡ packed word.now }
 {
-    let mut number = 0u128;
-    for i in 0..word.len() {
-        number = number * 256 + word[word.len() - 1 - i] as u128;
+    if word.len() < 8 {
+        return packed_few(word) as u128;
     }
-    number
+    packed_few(&word[8..]) as u128 * EIGHT_BYTES + first_eight(word) as u128
 }
 
 /// What a port of a user is found by.

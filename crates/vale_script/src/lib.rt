@@ -2,6 +2,7 @@
 #![tactic(auto)]
 
 mod draft;
+mod feeds;
 mod forms;
 mod keys;
 mod places;

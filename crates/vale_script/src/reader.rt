@@ -3,12 +3,14 @@ ghost use Rattle.std.specs.Prelude.{◌≡◌, ◌+◌, ◌-◌, ◌<◌, ◌≤
 ghost use Rattle.std.specs.Str.Lines.{strip_carriage_return, lines};
 ghost use Rattle.vale_script.specs.declared.reader.ScriptFault.TheVariants.{NoMemory as OutOfMemory};
 ghost use Rattle.std.specs.Option.{IfNone};
+ghost use Rattle.vale_script.specs.Counts.{is_open};
 ghost use Rattle.vale_script.specs.Drafts.{draft_of};
 ghost use Rattle.vale_script.specs.Keeps.{IsSoundDraft};
 ghost use Rattle.vale_script.specs.Sound.{IsSound};
 ghost use Rattle.vale_script.specs.Grammar.{script_of, after_line, is_line_feed, BlamesLine, ReadsLine};
 
 use crate::draft::Draft;
+use crate::feeds::line_feeds;
 use crate::script::Script;
 use crate::statements::{LineFault, said_in};
 use memchr::memchr;
@@ -60,17 +62,20 @@ impl From<NoMemory> for ScriptFault {
     }
 }
 
+/// Whether bytes stand behind the last line feed.
+fn is_open(bytes: &[u8]) -> bool
+    ensures { result ≡ is_open bytes.now }
+{
+    !bytes.is_empty() && bytes[bytes.len() - 1] != b'\n'
+}
+
 /// How many lines a script has, silent ones too.
+#[tactic(auto, using(crate::proofs::Counts::counts))]
 pub fn line_count(bytes: &[u8]) -> usize
     ensures { result ≡ length (lines bytes.now) }
 {
-    let mut rest = bytes;
-    let mut count = 0;
-    while !rest.is_empty() {
-        rest = first_line(rest).1;
-        count += 1;
-    }
-    count
+    let ends = line_feeds(bytes);
+    if is_open(bytes) { ends + 1 } else { ends }
 }
 
 /// Adds a line, or says why it is bad.

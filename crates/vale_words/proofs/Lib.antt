@@ -1,4 +1,6 @@
+mod Ends
 mod Extends
+mod Loads
 mod Numerals
 mod Pairs
 mod Plain

@@ -1,6 +1,7 @@
 //! The words of a script's lines, each by itself: names, numbers, addresses and bytes.
 #![tactic(auto)]
 
+mod lanes;
 mod words;
 
 pub use words::{

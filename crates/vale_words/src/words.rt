@@ -1,8 +1,11 @@
 //! The words of a script's lines, each by itself.
 ghost use Rattle.std.specs.Prelude.{◌≡◌, ◌+◌, ◌*◌, ◌/◌, ◌<◌, ◌≤◌, ◌^◌, ◌++◌, ◌∷◌, [], ℕ, length, take, drop, map, filter, not, position, option_map, min, is_some, true, IsTrue, IfOk, OnOk, IfSome};
 ghost use Rattle.nm_types.specs.Names.{IsName};
+ghost use Rattle.vale_words.specs.Lanes.{AllPassBetween};
+ghost use Rattle.vale_words.specs.Pairs.{digit_read, pair_read, pairs_read};
 ghost use Rattle.vale_words.specs.Words.{is_blank, has_bytes, words_of, is_graphic, are_line_bytes, begins_with_hash, is_silent, has_up_to, is_user_name, port_name, are_graphic, is_file_name, text_of, is_digit, are_digits, is_number, number_of, number_in, is_hex, are_hex, hex_value, is_pair_at, byte_at, is_colon_at, is_hex_byte, hex_byte_of, is_digits, bytes_of, frame_bytes, are_pairs, are_joined, is_mac, mac_value, mac_of};
 
+use crate::lanes::{HALF_LANES, LANES, word_run, word_run_half};
 use nm_types::{BUFFER_BYTES, Mac, Name, NoMemory, are_word_bytes};
 use std::alloc::{AllocError, Global};
 
@@ -24,11 +27,49 @@ fn is_graphic(b: u8) -> bool
     (33..=126).contains(&b)
 }
 
+/// Where the first byte stands that is a blank or no line byte, if none does before a place.
+fn end_by_byte(bytes: &[u8], from: usize) -> Option<usize>
+    requires within { from ≤ length bytes.now }
+    requires before { AllPassBetween is_graphic bytes.now 0 from }
+    ensures { result ≡ position (λ b. not (is_graphic b)) bytes.now }
+{
+    for at in from..bytes.len() {
+        if !is_graphic(bytes[at]) {
+            return Some(at);
+        }
+    }
+    None
+}
+
+/// The same, where fewer than sixteen bytes are left.
+fn end_of_rest(bytes: &[u8], from: usize) -> Option<usize>
+    requires within { from ≤ length bytes.now }
+    requires before { AllPassBetween is_graphic bytes.now 0 from }
+    ensures { result ≡ position (λ b. not (is_graphic b)) bytes.now }
+{
+    if bytes.len() - from < HALF_LANES {
+        return end_by_byte(bytes, from);
+    }
+    let run = word_run_half(bytes, from);
+    if run < HALF_LANES {
+        return Some(from + run);
+    }
+    end_by_byte(bytes, from + HALF_LANES)
+}
+
 /// Where the first byte stands that is a blank or no line byte.
 fn end_of_word(bytes: &[u8]) -> Option<usize>
     ensures { result ≡ position (λ b. not (is_graphic b)) bytes.now }
 {
-    bytes.iter().position(|b| !is_graphic(*b))
+    let mut from = 0;
+    while bytes.len() - from >= LANES {
+        let run = word_run(bytes, from);
+        if run < LANES {
+            return Some(from + run);
+        }
+        from += LANES;
+    }
+    end_of_rest(bytes, from)
 }
 
 /// What stands before a place, and what stands behind it.
@@ -243,6 +284,23 @@ fn hex_value(b: u8) -> u8
     }
 }
 
+/// What a hexadecimal digit counts, or none if the byte is none.
+#[inline(always)]
+fn digit_of(b: u8) -> Option<u8>
+    ensures value { result ≡ digit_read b }
+    ensures low { IfSome result (λ n. n < 16) }
+{
+    if is_digit(b) {
+        Some(b - b'0')
+    } else if (b'a'..=b'f').contains(&b) {
+        Some(b - b'a' + 10)
+    } else if (b'A'..=b'F').contains(&b) {
+        Some(b - b'A' + 10)
+    } else {
+        None
+    }
+}
+
 fn is_pair_at(word: &[u8], i: usize) -> bool
     requires { i + 1 < length word.now }
     ensures { result ≡ is_pair_at word.now i }
@@ -362,30 +420,39 @@ pub fn is_mac(word: &[u8]) -> bool
     word.len() == 17 && are_pairs(word) && are_joined(word)
 }
 
-fn mac_value(word: &[u8]) -> Mac
-    requires length { length word.now ≡ 17 }
-    requires pairs { are_pairs word.now ≡ true }
-    ensures { result ≡ mac_value word.now }
+/// The byte that two digits at a place write, or none if they are no digits.
+#[inline(always)]
+fn pair_at(word: &[u8], i: usize) -> Option<u8>
+    requires { i + 1 < length word.now }
+    ensures { result ≡ pair_read word.now i }
 {
-    Mac([
-        byte_at(word, 0),
-        byte_at(word, 3),
-        byte_at(word, 6),
-        byte_at(word, 9),
-        byte_at(word, 12),
-        byte_at(word, 15),
-    ])
+    let high = digit_of(word[i])?;
+    let low = digit_of(word[i + 1])?;
+    Some(high * 16 + low)
+}
+
+/// The bytes of an address, if all its pairs are digits.
+fn mac_of_pairs(word: &[u8]) -> Option<Mac>
+    requires { length word.now ≡ 17 }
+    ensures { result ≡ pairs_read word.now }
+{
+    let a = pair_at(word, 0)?;
+    let b = pair_at(word, 3)?;
+    let c = pair_at(word, 6)?;
+    let d = pair_at(word, 9)?;
+    let e = pair_at(word, 12)?;
+    let f = pair_at(word, 15)?;
+    Some(Mac([a, b, c, d, e, f]))
 }
 
 /// An Ethernet address: six pairs of hexadecimal digits joined by colons, or none if the word is
 /// none.
-#[tactic(auto, unfolding(crate::specs::Words::mac_of))]
+#[tactic(auto, using(crate::proofs::Pairs::macs))]
 pub fn mac_of(word: &[u8]) -> Option<Mac>
     ensures { result ≡ mac_of word.now }
 {
-    if is_mac(word) {
-        Some(mac_value(word))
-    } else {
-        None
+    if word.len() != 17 || !are_joined(word) {
+        return None;
     }
+    mac_of_pairs(word)
 }
