@@ -1,6 +1,6 @@
 //! A receive sync: the buffers of the pushed slots go back, and what was granted to the port is
 //! published in its ring.
-ghost use Rattle.std.specs.Prelude.{ℕ, true, ◌≡◌, ◌≤◌, ◌<◌, ◌^◌, [], length, fold};
+ghost use Rattle.std.specs.Prelude.{ℕ, true, ◌≡◌, ◌≤◌, ◌<◌, ◌^◌, [], length, take, fold};
 ghost use Rattle.std.specs.Prelude.{IsSome, IfSome, IfOk, IfErr, Some, None};
 ghost use Rattle.std.specs.Vec.{vec_capacity};
 ghost use Rattle.nm_types.specs.declared.id.Side.TheVariants.{Rx};
@@ -15,7 +15,7 @@ ghost use Rattle.nm_port.specs.Own.{refusal_at};
 ghost use Rattle.nm_port.specs.Receives.{can_receive, own_with_arrival};
 ghost use Rattle.nm_port.specs.Regions.{AllOf, AreOf, IsBufferOf};
 ghost use Rattle.vale_entry.specs.Legal.{fits_fault};
-ghost use Rattle.vale_line.specs.Gots.{buffers_of};
+ghost use Rattle.vale_line.specs.Gots.{buffers_of, part_in};
 ghost use Rattle.vale_book.specs.Reading.{read_ask};
 ghost use Rattle.vale_fabric.specs.Fabrics.{IsPassIn, fixed_in, knowing, MayIn, RefusesIn};
 ghost use Rattle.nm_user.specs.Sessions.{IsThere};
@@ -28,7 +28,6 @@ use nm_own::OwnSide;
 use nm_region::Buf;
 use nm_types::{PortId, Side, StepFault, SyncFault};
 use std::alloc::{AllocError, Global};
-use std::collections::VecDeque;
 use std::sync::Wait;
 use vale_book::Synced;
 use vale_fabric::{Fabric, Frames, Pass};
@@ -138,6 +137,14 @@ fn give_and_take<R: Wait>(
     }
 }
 
+/// How many bytes of a received buffer are its frame's.
+fn frame_len(got: &Got) -> u16
+    ensures few { result ≤ 2048 }
+    ensures bytes { take result got.now.buf.bytes ≡ part_in got.now }
+{
+    got.buf.bytes().len().min(got.len as usize) as u16
+}
+
 /// Publishes a frame in the next slot of a port's receive ring. The port stands at a place in the
 /// order of the ports.
 fn publish(own: &mut OwnSide, at: usize, port: PortId, got: Got)
@@ -148,14 +155,18 @@ fn publish(own: &mut OwnSide, at: usize, port: PortId, got: Got)
     ensures region { (region : ℕ) → AllOf region own.old → IsBufferOf region got.buf
         → AllOf region own.new }
 {
-    let Got { buf, len, rest: _ } = got;
-    let frame = buf.bytes().len().min(len as usize) as u16;
-    own.receive_at(at, port, buf, frame);
+    let len = frame_len(&got);
+    let Got {
+        buf,
+        len: _,
+        rest: _,
+    } = got;
+    own.receive_at(at, port, buf, len);
 }
 
 /// Publishes frames in their order.
 #[inline(never)]
-fn publish_all(own: &mut OwnSide, port: PortId, gots: Vec<Got>)
+fn publish_all(own: &mut OwnSide, port: PortId, mut gots: Vec<Got>)
     requires come { CanCome port.0 own.old.own (arrivals_in gots.items) }
     ensures own { own.new.own
         ≡ fold (own_with_arrival port.0) own.old.own (arrivals_in gots.items) }
@@ -163,11 +174,11 @@ fn publish_all(own: &mut OwnSide, port: PortId, gots: Vec<Got>)
         → AllOf region own.new }
 {
     let at = own.place_of(port);
-    let mut rest = VecDeque::from_vec(gots);
-    while let Some(got) = rest.pop_front() {
+    gots.reverse();
+    while let Some(got) = gots.pop() {
         publish(own, at, port, got);
     }
-    rest.destroy_empty();
+    gots.destroy_empty();
 }
 
 /// Puts an own side back that was away.

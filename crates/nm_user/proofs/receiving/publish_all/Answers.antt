@@ -1,4 +1,5 @@
-use Rattle.std.proofs.Common.{rules, ◌≡◌, ◌∙◌, List, ◌∷◌, fold, sym, ap, subst}
+use Rattle.std.proofs.Common.{rules, ◌≡◌, ◌∙◌, List, [], ◌∷◌, ◌++◌, fold, reverse, sym, ap, subst}
+use Rattle.std.proofs.lemmas.List.{reverse-append}
 use Rattle.nm_types.specs.OwnPorts.{OwnState}
 use Rattle.nm_own.specs.PortPlaces.{place_with_id}
 use Rattle.nm_own.proofs.PortPlaces.{place_stays}
@@ -12,8 +13,10 @@ use Rattle.nm_user.proofs.receiving.publish_all.Goals as goal
 pub loop-got-preserved : goal.loop-got-preserved
 loop-got-preserved c =
     let id = c.args.port.0 in
-    let rest = c.pop_front.new.self.items in
-    let first : c.loop-got.rest.items ≡ c.in-Some.got ∷ rest = search rules in
+    let left = c.pop.new.self.items in
+    let rest = reverse left in
+    let had : c.loop-got.gots.items ≡ left ++ c.in-Some.got ∷ [] = search rules in
+    let first : reverse c.loop-got.gots.items ≡ c.in-Some.got ∷ rest = ap (λ (gs : List Got). reverse gs) had ∙ reverse-append left (c.in-Some.got ∷ []) in
     let come = subst (λ (gs : List Got). CanCome id c.loop-got.own.own (arrivals_in gs)) first c.loop-got.invariant.come in
     record {
       place = c.loop-got.invariant.place

@@ -1,5 +1,4 @@
-use Rattle.std.proofs.Common.{ℕ, ◌≡◌, fold}
-use Rattle.std.specs.VecDeque.{deque_len}
+use Rattle.std.proofs.Common.{ℕ, ◌≡◌, fold, length, reverse}
 use Rattle.nm_own.specs.PortPlaces.{place_with_id}
 use Rattle.nm_port.specs.Receives.{own_with_arrival}
 use Rattle.nm_port.specs.Regions.{AllOf, AreOf}
@@ -10,10 +9,10 @@ use Rattle.nm_user.proofs.receiving.publish_all.Given as goal
 abbrev pub invariant-loop-got : goal.invariant-loop-got
 invariant-loop-got l = record {
   place : l.at ≡ place_with_id l.own.own l.port.0;
-  come : CanCome l.port.0 l.own.own (arrivals_in l.rest.items);
-  rest : fold (own_with_arrival l.port.0) l.own.own (arrivals_in l.rest.items) ≡ fold (own_with_arrival l.port.0) l.fn.own.own (arrivals_in l.fn.gots.items);
-  region : (region : ℕ) → AllOf region l.fn.own → AreOf region (buffers_of l.fn.gots.items) → AllOf region l.own × AreOf region (buffers_of l.rest.items);
+  come : CanCome l.port.0 l.own.own (arrivals_in (reverse l.gots.items));
+  rest : fold (own_with_arrival l.port.0) l.own.own (arrivals_in (reverse l.gots.items)) ≡ fold (own_with_arrival l.port.0) l.fn.own.own (arrivals_in l.fn.gots.items);
+  region : (region : ℕ) → AllOf region l.fn.own → AreOf region (buffers_of l.fn.gots.items) → AllOf region l.own × AreOf region (buffers_of (reverse l.gots.items));
 }
 
 abbrev pub decreases-loop-got : goal.decreases-loop-got
-decreases-loop-got l = deque_len l.rest
+decreases-loop-got l = length l.gots.items
