@@ -60,6 +60,8 @@ pub fn exchange_noted(hold: &mut Hold, port: PortId, ring: &SlotRing, was: &mut 
     ensures exchanged { AreExchanged hold.old hold.new port ring.now (pushed_count_of ring.now) }
     ensures swapped { AreSwapped hold.old port ring.now (reverse was.new.items) hold.new }
     ensures few { length was.new.items ≤ pushed_count_of ring.now }
+    ensures none { length was.new.items < pushed_count_of ring.now
+        → (was.new.items ≡ []) × (hold.new ≡ hold.old) }
 {
     if !is_kept(hold, port, ring) {
         exchange_changed(hold, port, ring, was);
