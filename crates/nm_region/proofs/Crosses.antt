@@ -11,7 +11,7 @@ use denote.Param.Send.{IsSend, IsSync, AllSend, owning_send, struct_send, struct
 use Rattle.std.specs.declared.alloc.Allocator.{Ghosts}
 use Rattle.std_alloc.proofs.SendSync.{FreesAnywhere, quiet, lies, seen}
 use Rattle.std_alloc.specs.Vec.Ownership.{lodged}
-use Rattle.nm_region.specs.Parts.{parts, parts_at}
+use Rattle.nm_region.specs.Parts.{lead, parts, parts_at}
 use Rattle.nm_region.specs.contracts.block.Block as Block
 use Rattle.nm_region.specs.contracts.block.Deed as Deed
 use Rattle.nm_region.specs.contracts.part.Part as Part
@@ -22,7 +22,7 @@ parts-Keyless s b o (true ∷ home) = (tt, parts-Keyless s b (o + s) home)
 parts-Keyless s b o (false ∷ home) = parts-Keyless s b (o + s) home
 
 at-Keyless : (p : Ptr) (home : List Bool) → Keyless (parts_at p home)
-at-Keyless (block_ptr b o) home = parts-Keyless 2048 b o home
+at-Keyless (block_ptr b o) home = (tt, parts-Keyless 2048 b (o + lead) home)
 at-Keyless null_ptr home = tt
 
 pub Block-send : IsSend Block.the_row

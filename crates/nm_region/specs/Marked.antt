@@ -1,9 +1,10 @@
 -- A buffer knows up to where it was written: all bytes behind that are zero. Before it is written for
 -- the first time its memory holds no bytes, and all of them count as zero.
-use Rattle.std.specs.Prelude.{ℕ, ◌≡◌, ◌-◌, ◌*◌, ◌≤◌, Bool, true, false, List, [], ◌++◌, length, take, drop, replicate}
+use Rattle.std.specs.Prelude.{ℕ, ◌≡◌, ◌+◌, ◌-◌, ◌*◌, ◌≤◌, Bool, true, false, List, [], ◌++◌, length, take, drop, replicate}
 use denote.RawPtr.{Ptr, block_ptr, block_of}
 use Rattle.nm_types.specs.Buffers.{cleared_but}
 use Rattle.nm_region.specs.Buffers.{Buffer}
+use Rattle.nm_region.specs.Parts.{lead}
 
 -- bytes written over the first ones of others
 abbrev pub written_front : List ℕ → List ℕ → List ℕ
@@ -27,7 +28,7 @@ AreWritten false items = items ≡ []
 
 -- where the part of a buffer's index lies, in the block at whose start p lies too
 abbrev pub place_of : ℕ → ℕ → Ptr
-place_of region index = block_ptr region ((index - 2) * 2048)
+place_of region index = block_ptr region ((index - 2) * 2048 + lead)
 
 -- a buffer as it lies in memory: `used` is its mark, and the bytes `items` are written from `at` on
 pub record IsKept (used index : ℕ) (is_written : Bool) (items : List ℕ) (at : Ptr) : Type 0 where

@@ -1,5 +1,5 @@
 -- The parts of a region's block.
-use Rattle.std.specs.Prelude.{ℕ, ◌≡◌, ◌+◌, ◌*◌, ◌%◌, ◌^◌, ◌<◌, Bool, true, false, List, [], ◌∷◌, length}
+use Rattle.std.specs.Prelude.{ℕ, ◌≡◌, ◌+◌, ◌*◌, ◌^◌, ◌<◌, Bool, true, false, List, [], ◌∷◌, length}
 use mir.Syntax.{Ty, w8, ty_int, ty_array}
 use base.Fml.{Fml, ftrue, ffalse, fsep, froom}
 use denote.RawPtr.{Ptr, block_ptr, null_ptr}
@@ -15,14 +15,15 @@ module _ (s b : ℕ) where
   parts o (true ∷ home) = fsep (froom (bytes_of s) b o) (parts (o + s) home)
   parts o (false ∷ home) = parts (o + s) home
 
-abbrev pub parts_at : Ptr → List Bool → Fml
-parts_at (block_ptr b o) home = parts 2048 b o home
-parts_at null_ptr home = ffalse
+-- how many bytes into the block its parts begin: behind the 16 bytes that the C library puts in front of a block
+-- that it maps by itself, two parts are then one page
+abbrev pub lead : ℕ
+lead = 4080
 
--- as many bytes as some parts have
-abbrev pub IsBlockSize : ℕ → Type 0
-IsBlockSize n = (n % 2048 ≡ 0) × (n < 2 ^ 63)
+abbrev pub parts_at : Ptr → List Bool → Fml
+parts_at (block_ptr b o) home = fsep (froom (bytes_of lead) b o) (parts 2048 b (o + lead) home)
+parts_at null_ptr home = ffalse
 
 -- the list has an entry for each part
 abbrev pub IsBlock : ℕ → List Bool → Type 0
-IsBlock size home = (size ≡ length home * 2048) × (size < 2 ^ 63)
+IsBlock size home = (size ≡ length home * 2048 + lead) × (size < 2 ^ 63)

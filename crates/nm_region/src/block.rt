@@ -1,11 +1,15 @@
-ghost use Rattle.std.specs.Prelude.{◌≡◌, ◌*◌, ◌/◌, ◌<◌, ◌≤◌, ℕ, List, Bool, true, false, [], length, replicate, get_or, slice_set, IfSome};
+ghost use Rattle.std.specs.Prelude.{◌≡◌, ◌+◌, ◌*◌, ◌<◌, ◌≤◌, ℕ, List, Bool, true, false, [], length, replicate, get_or, slice_set, IfSome};
 ghost use denote.RawPtr.{Ptr, block_ptr, block_of, count_of, ◌+ₚ◌};
-ghost use Rattle.nm_region.specs.Parts.{bytes_of, parts_at, IsBlockSize, IsBlock};
+ghost use Rattle.nm_region.specs.Parts.{bytes_of, lead, parts_at, IsBlock};
 
 use crate::part::Part;
 use nm_types::BUFFER_BYTES;
 use std::alloc::{Allocator, Global};
 use std::marker::{Model, PhantomData};
+
+/// The parts begin so many bytes into the block: the C library puts 16 bytes in front of a block
+/// that it maps by itself, so two parts are then one page. Nothing rests on it but speed.
+const LEAD: usize = 4080;
 
 /// One block of memory, cut into parts of 2048 bytes. It owns the parts that are at home; the
 /// others are out.
@@ -39,17 +43,17 @@ unsafe impl Send for Block {}
 unsafe impl<A: Allocator + Send> Send for Deed<A> {}
 
 impl Block {
-    /// A block of `size` bytes, none of which is written. All its parts are at home.
-    pub(crate) fn new<A: Allocator>(alloc: &A, size: usize) -> Option<(Block, Deed<A>)>
-        requires { IsBlockSize size }
+    /// A block of so many parts, none of which is written. All of them are at home.
+    pub(crate) fn new<A: Allocator>(alloc: &A, parts: usize) -> Option<(Block, Deed<A>)>
+        requires { parts ≤ 65536 }
         ensures { IfSome result (λ made.
-            (made.0.home ≡ replicate (size / 2048) true)
-            × (made.0.size ≡ size)
+            (made.0.home ≡ replicate parts true)
             × (made.0.start ≡ block_ptr (block_of made.0.start) (count_of made.0.start))
             × (made.1.alloc ≡ alloc.now)
             × (made.1.start ≡ made.0.start)
-            × (made.1.size ≡ size)) }
+            × (made.1.size ≡ made.0.size)) }
     {
+        let size = parts * BUFFER_BYTES + LEAD;
         match alloc.allocate(size, 1) {
             Ok(start) => {
                 let marker = PhantomData;
@@ -64,7 +68,7 @@ impl Block {
         requires { (deed.alloc ≡ alloc.now)
             × (deed.start ≡ self.start)
             × (deed.size ≡ self.size)
-            × (self.home ≡ replicate (self.size / 2048) true) }
+            × (self.home ≡ replicate (length self.home) true) }
     {
         let Block { start, size } = self;
         let Deed { marker: _ } = deed;
@@ -78,10 +82,10 @@ impl Block {
             × (result.0.size ≡ self.size)
             × (result.0.home ≡ slice_set self.home at false)
             × (result.1.items ≡ [])
-            × (result.1.at ≡ self.start +ₚ at * 2048) }
+            × (result.1.at ≡ self.start +ₚ (at * 2048 + lead)) }
     {
         let Block { start, size } = self;
-        let place = unsafe { start.add(at * BUFFER_BYTES) };
+        let place = unsafe { start.add(at * BUFFER_BYTES + LEAD) };
         (Block { start, size }, Part { at: place })
     }
 
@@ -89,7 +93,7 @@ impl Block {
     pub(crate) fn take_back(self, part: Part, at: usize) -> Block
         requires { (at < length self.home)
             × (length part.items ≤ 2048)
-            × (part.at ≡ self.start +ₚ at * 2048) }
+            × (part.at ≡ self.start +ₚ (at * 2048 + lead)) }
         ensures { (result.start ≡ self.start)
             × (result.size ≡ self.size)
             × (result.home ≡ slice_set self.home at true) }

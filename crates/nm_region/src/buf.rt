@@ -154,6 +154,17 @@ impl Buf {
         self.part.bytes_mut()
     }
 
+    /// Writes the zeros of a buffer of which nothing is written, and tells whether it did: its first
+    /// write then takes no longer than a later one. The bytes stay what they are.
+    pub fn prepare(&mut self) -> bool
+        ensures kept { self.new ≡ self.old }
+    {
+        let is_fresh = !self.is_written;
+        fill(&mut self.part, self.is_written);
+        self.is_written = true;
+        is_fresh
+    }
+
     /// Writes `bytes` over the first ones of the buffer.
     #[tactic(auto, using(crate::proofs::Marks::marks))]
     pub fn write(&mut self, bytes: &[u8])

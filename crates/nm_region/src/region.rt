@@ -8,7 +8,7 @@ ghost use Rattle.nm_region.specs.Returned.{AreComing, IsOf, IsWhole};
 
 use crate::block::{Block, Deed};
 use crate::buf::Buf;
-use nm_types::{BUFFER_BYTES, NoMemory};
+use nm_types::NoMemory;
 use std::alloc::Global;
 use std::marker::Model;
 
@@ -49,7 +49,7 @@ impl Region {
         ensures all { IfOk result (λ made. made.1.items ≡ opened_buffers made.0) }
     {
         let all = Vec::with_capacity(alloc, n as usize)?;
-        let Some((block, deed)) = Block::new(&alloc, n as usize * BUFFER_BYTES) else {
+        let Some((block, deed)) = Block::new(&alloc, n as usize) else {
             all.destroy_empty();
             return Err(NoMemory);
         };

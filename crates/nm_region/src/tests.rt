@@ -35,6 +35,17 @@ fn first_byte(buf: &Buf) -> u8 {
     buf.bytes()[0]
 }
 
+/// Writes the zeros of a buffer twice, and tells whether only the first time did so.
+#[tactic(auto, using(crate::proofs::Named::named))]
+fn prepares_once(bufs: &mut Vec<Buf>, at: usize) -> bool
+    requires { at < length bufs.old.items }
+    ensures names { names_of bufs.new.items ≡ names_of bufs.old.items }
+    ensures count { length bufs.new.items ≡ length bufs.old.items }
+{
+    let buf = &mut bufs[at];
+    buf.prepare() && !buf.prepare() && is_zero(buf)
+}
+
 fn is_sendable<T: Send>(_: &T) -> bool {
     true
 }
@@ -54,6 +65,7 @@ fn three_buffers_of_their_own(rt: HostRuntime) -> Result<(), Fail> {
     assert_eq!(rt; first_byte(&all[0]), 0);
     assert_eq!(rt; first_byte(&all[1]), 7);
     assert_eq!(rt; first_byte(&all[2]), 0);
+    assert!(rt; prepares_once(&mut all, 2));
     region.close(all);
     Ok(())
 }

@@ -6,6 +6,7 @@ use Rattle.std.proofs.lemmas.List.FromFn.{map-range_with_len_more}
 use denote.RawPtr.{Ptr, block_ptr, null_ptr, block_of, ◌+ₚ◌}
 use Rattle.nm_types.specs.Buffers.{cleared}
 use Rattle.nm_region.specs.Buffers.{Buffer, RegionState, opened_buffer}
+use Rattle.nm_region.specs.Parts.{lead}
 use Rattle.nm_region.proofs.Marks.{same-buffer}
 use Rattle.nm_region.proofs.region.cut_all.Goals as goal
 
@@ -23,7 +24,7 @@ loop-at-preserved c =
     let cut = c.cut-rest.ensures in
     let inv = c.loop-at.invariant in
     let r : RegionState = record { region = block_of c.args.block.start; buffers = c.args.n } in
-    let region : block_of (part.at) ≡ r.region = ap block_of cut.4 ∙ (same-block was.start (at * 2048) ∙ ap block_of inv.start) in
+    let region : block_of (part.at) ≡ r.region = ap block_of cut.4 ∙ (same-block was.start (at * 2048 + lead) ∙ ap block_of inv.start) in
     let made : c.new.result ≡ opened_buffer r (at + 2) = c.new.ensures ∙ same-buffer (record { region = block_of (part.at); index = at + 2; bytes = cleared }) (opened_buffer r (at + 2)) region refl refl in
     let next : 2 + at ≡ at + 2 = omega arith in
     record {

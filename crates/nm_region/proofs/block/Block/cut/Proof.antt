@@ -26,9 +26,9 @@ use Rattle.std.proofs.alloc.Shapes.{after}
 use Rattle.std.proofs.raw_atomic.Walks.{proved_at, leaves}
 use Rattle.std_alloc.proofs.Pairs.{pair_of, pair_val}
 use Rattle.std_alloc.specs.Vec.Ownership.{lodged}
-use Rattle.nm_region.specs.Parts.{bytes_of, parts, parts_at}
+use Rattle.nm_region.specs.Parts.{bytes_of, lead, parts_at}
 use Rattle.nm_region.proofs.Lodging.{unwritten}
-use Rattle.nm_region.proofs.Parts.{taken}
+use Rattle.nm_region.proofs.Parts.{taken_behind}
 use Rattle.nm_region.proofs.Values.{block_val, block_own, block_told, block_made, part_val, part_own, part_made}
 use Rattle.nm_region.proofs.Walks.{slot_at, big}
 use Rattle.nm_region.specs.contracts.block.Block as block
@@ -63,11 +63,13 @@ cut_spec 𝓤 𝓛 𝓜 𝓡 wired =
     move ! (1 ∷ []) $ heard ! Asked (λ asked. split ! $ move ! (1 ∷ []) $
     fsplit ! $ fsplit ! $ drop ! $ move ! (1 ∷ []) $ drop ! $
     in_a_block ! x.start (λ p. parts_at p x.home) (id⊢ 𝓤 (never 𝓤)) (λ b o at.
-    use1 𝓛 (‵ (froom (bytes_of 2048) b (o + k * 2048)) ⊛ ‵ (parts 2048 b o home)) (taken 𝓛 2048 b x.home k o asked.0 asked.1) $ split ! $
-    rewrite ! 0 (λ (j : ℕ). ‵ (froom (bytes_of 2048) b j)) (add_comm o (k * 2048)) refl $
-    -- [the room of the part; the other parts; the tokens]
+    let place : ℕ = k * 2048 + lead + o in
+    let behind : o + lead + k * 2048 ≡ place = omega arith in
+    use1 𝓛 (‵ (froom (bytes_of 2048) b (o + lead + k * 2048)) ⊛ ‵ (parts_at (block_ptr b o) home)) (taken_behind 𝓛 2048 b lead x.home k o asked.0 asked.1) $ split ! $
+    rewrite ! 0 (λ (j : ℕ). ‵ (froom (bytes_of 2048) b j)) behind refl $
+    -- [the room of the part; the lead and the other parts; the tokens]
     let far : k * 2048 < 2 ^ 64 = omega (arith, asked.0, x.fits.0, x.fits.1) in
-    let place : ℕ = k * 2048 + o in
+    let further : k * 2048 + lead < 2 ^ 64 = omega (arith, asked.0, x.fits.0, x.fits.1) in
     regoal ! (λ (us : List Val). prop (WpFn 𝓤 H C Λ fn us Post)) (λ i. (told.0 ∙ ap (λ (p : Ptr). block_val p n ∷ []) at) i ++ (are.1.0.0 i ++ [])) refl $
     enter ! C Λ fn (block_val (block_ptr b o) n ∷ vint w64 k ∷ []) Post $
     alloc_all ! (λ l. pass_all ! refl ((tt, (tt, (record { fits = fits }, tt))), ((tt, record { fits = fk }), tt)) $ let En : Env 𝓤 𝓛.H = env fn.locals l in
@@ -75,6 +77,7 @@ cut_spec 𝓤 𝓛 𝓜 𝓡 wired =
     sets ! (of_opd ! (get_in ! (fld ! refl (stop !)) (sub ! 1 refl (whole !)))) refl (tt, record { fits = fits }) $
     first ! $ blocks ! $
     sets ! (bin ! (get ! refl) (big ! (lit< tt)) (record { fits = far })) refl (tt, record { fits = far }) $
+    sets ! (bin ! (get ! refl) (big ! (lit< tt)) (record { fits = further })) refl (tt, record { fits = further }) $
     sets_last ! (bin ! (get ! refl) (get ! refl) tt) refl (tt, tt) $
     exec ! C Λ En (after 3 fn.body) (at_ret En Post) $
     sets ! (of_opd ! (get ! refl)) refl (tt, tt) $
@@ -87,8 +90,8 @@ cut_spec 𝓤 𝓛 𝓜 𝓡 wired =
     let v : Val = part_val r.at in
     sets ! (agg ! (and_then ! (get ! refl) (and_then ! (get ! refl) (no_more !)))) refl (tt, ((tt, (record { fits = fits }, tt)), ((tt, tt), tt))) $
     returns ! (look_at ! 0 refl) $ free_all ! refl $
-    let there : r.at ≡ x.start +ₚ k * 2048 = ap (λ (j : ℕ). block_ptr b j) (add_comm (k * 2048) o) ∙ ap (λ (p : Ptr). p +ₚ k * 2048) (sym at) in
-    let Said : Type 0 = (y.start ≡ x.start) × (n ≡ n) × (home ≡ home) × (r.items ≡ r.items) × (r.at ≡ x.start +ₚ k * 2048) in
+    let there : r.at ≡ x.start +ₚ (k * 2048 + lead) = ap (λ (j : ℕ). block_ptr b j) (add_comm (k * 2048 + lead) o) ∙ ap (λ (p : Ptr). p +ₚ (k * 2048 + lead)) (sym at) in
+    let Said : Type 0 = (y.start ≡ x.start) × (n ≡ n) × (home ≡ home) × (r.items ≡ r.items) × (r.at ≡ x.start +ₚ (k * 2048 + lead)) in
     use1 𝓛 (‵ (lodged u8 r.at 0 2048 [])) (unwritten 𝓛 b place 2048 (lit< tt) (lit< tt)) $
     use0 𝓛 (‵ (part_own r.at (v ∷ []))) (part_made 𝓛 r.at) $ fjoin ! $ move ! (1 ∷ []) $
     use0 𝓛 (‵ (block_own y.start n (w ∷ []))) (block_made 𝓛 y.start n fits) $ fjoin ! $

@@ -1,5 +1,5 @@
 -- `free` gives the allocator its block and its token. Assumes `Logic`.
-use Rattle.std.proofs.Common.{◌≡◌, ℕ, ◌*◌, ◌/◌, List, [], ◌∷◌, ◌++◌, refl, ap, ◌∙◌, arith, lit<}
+use Rattle.std.proofs.Common.{◌≡◌, ℕ, ◌+◌, ◌*◌, List, [], ◌∷◌, ◌++◌, refl, ap, ◌∙◌, arith, lit<}
 use mir.Syntax.{Ty, Fn, Args, a_type, dcons, dnil, place}
 use mir.Val.{Val, vptr, vunit}
 use mir.MapTy.{inst_fn}
@@ -28,10 +28,10 @@ use denote.Triple.Table.{framed}
 use Rattle.std.proofs.raw_atomic.Walks.{proved_at, leaves}
 use Rattle.nm_region.proofs.Walks.{slot_at, then_runs, out_of_block}
 use Rattle.nm_region.proofs.Values.{block_val, block_told, deed_val, deed_told}
-use Rattle.nm_region.specs.Parts.{bytes_of, parts, parts_at}
-use Rattle.nm_region.proofs.Parts.{whole as all_home}
+use Rattle.nm_region.specs.Parts.{bytes_of, lead, parts_at}
+use Rattle.nm_region.proofs.Parts.{whole_behind}
 use lib.ListN.{replicate}
-use Rattle.std.proofs.Common.{true, Bool}
+use Rattle.std.proofs.Common.{true, Bool, length}
 use Rattle.nm_region.specs.contracts.block.Block.free.{ended, clauses}
 use Rattle.nm_region.specs.contracts.block.Block.free.Key.{name as #self}
 use Rattle.nm_region.proofs.block.Block.free.Statement.{statement}
@@ -64,12 +64,12 @@ free_spec 𝓤 𝓛 𝓜 𝓡 wired A L g d dd met md =
     let h = a.1.1.0.now in
     let handle = a.1.1.0.ref_ptr in
     let τ : Ty = bytes_of n in
-    let exact : n / 2048 * 2048 ≡ n = omega (arith, x.fits.0) in
-    let Asked : Type 0 = (k.alloc ≡ h) × (k.start ≡ x.start) × (k.size ≡ n) × (x.home ≡ replicate (n / 2048) true) in
+    let exact : lead + length x.home * 2048 ≡ n = omega (arith, x.fits.0) in
+    let Asked : Type 0 = (k.alloc ≡ h) × (k.start ≡ x.start) × (k.size ≡ n) × (x.home ≡ replicate (length x.home) true) in
     qed 𝓛 ((raw (alive 𝓛 En₀.signature z.0.0 z.0.1) ⊛ ‵ (owns (types_at En₀.signature.params z.0.0) a vss)) ∷ (raw (fact 𝓤 (z.0.0.1.0 ⊑ A.lives)) ⊛ raw (fact 𝓤 Asked)) ∷ []) ∵
     move ! (1 ∷ []) $ split ! $ heard ! (z.0.0.1.0 ⊑ A.lives) (λ le. heard ! Asked (λ asked. split ! $ move ! (1 ∷ []) $
     fsplit3 ! $ fsplit ! $ drop ! $ in_a_block ! x.start (λ p. parts_at p x.home) (id⊢ 𝓤 (never 𝓤)) (λ b o at.
-    rewrite ! 0 (λ (home : List Bool). ‵ (parts 2048 b o home)) asked.3 refl $ use1 𝓛 (‵ (froom (bytes_of (n / 2048 * 2048)) b o)) (all_home 𝓛 2048 b (n / 2048) o) $ rewrite ! 0 (λ (k : ℕ). ‵ (froom (bytes_of k) b o)) exact refl $ move ! (1 ∷ []) $ fsplit ! $ drop ! $
+    rewrite ! 0 (λ (home : List Bool). ‵ (parts_at (block_ptr b o) home)) asked.3 refl $ use1 𝓛 (‵ (froom (bytes_of (lead + length x.home * 2048)) b o)) (whole_behind 𝓛 2048 b lead (length x.home) o) $ rewrite ! 0 (λ (k : ℕ). ‵ (froom (bytes_of k) b o)) exact refl $ move ! (1 ∷ []) $ fsplit ! $ drop ! $
     rewrite ! 0 (λ (u : A.Denot × ℕ × Ptr). ‵ (g.dealloc_token u.0 (bytes_of u.1) u.2)) (λ i. (asked.0 i, asked.2 i, (asked.1 ∙ at) i)) refl $
     move ! (2 ∷ []) $ fsplit ! $ fsplit ! $ drop ! $ move ! (1 ∷ []) $ drop ! $ use1 𝓛 (‵ (seen Y κ handle h)) (id⊢ 𝓤 _) $ move ! (3 ∷ []) $ use1 𝓛 (‵ (flft κ q) ⊛ ‵ (flft z.0.0.1.0 z.0.1.1.0) ⊛ ‵ ftrue) (id⊢ 𝓤 _) $ split ! $ move ! (2 ∷ 0 ∷ []) $ join ! $ move ! (3 ∷ 2 ∷ []) $
     let y = at_gives Y 𝓛 𝓜.mem 𝓡.returns κ q handle h b o n 1 τ in

@@ -1,5 +1,5 @@
--- `new` asks the allocator for as many bytes, and has them as parts. Assumes `Logic`.
-use Rattle.std.proofs.Common.{◌≡◌, ℕ, true, ◌*◌, ◌/◌, List, [], ◌∷◌, ◌++◌, refl, ◌∙◌, arith, lit<, w64, Some, None}
+-- `new` asks the allocator for the lead and as many parts, and has all of them at home. Assumes `Logic`.
+use Rattle.std.proofs.Common.{◌≡◌, ℕ, true, ◌+◌, ◌*◌, ◌^◌, ◌<◌, ◌≤◌, List, [], ◌∷◌, ◌++◌, refl, ◌∙◌, arith, lit<, w64, Some, None}
 use mir.Syntax.{Ty, Fn, Args, a_type, dcons, dnil}
 use mir.Val.{Val, vint, vptr, vcons, vnil}
 use mir.MapTy.{inst_fn}
@@ -13,7 +13,7 @@ use contract.Running.{tables}
 use types.Kit.{‵, raw, ◌⊛◌, later, prop, at_ret, ◌$◌, ◌∵◌, !, qed, by, move, drop, use0, use1, use2, rewrite, split, join, regoal, fsplit, fjoin, await}
 use types.Part.{whole, agg}
 use types.Match.{live, vrt, in_variant}
-use types.Run.{stop, fld, lit, of_opd, no_more, and_then, first, switches_on, exec, returns, enter}
+use types.Run.{stop, fld, lit, bin, of_opd, no_more, and_then, first, switches_on, exec, returns, enter}
 use types.ByLocal.{alloc_all, pass_all, free_all, look_at, get, get_in, get_tag, sets, sets_last, lands_as, env}
 use denote.RattleType.{RattleType, owns}
 use denote.RawPtr.{Ptr, block_ptr, block_of, count_of}
@@ -30,10 +30,10 @@ use denote.Triple.Table.{framed}
 use Rattle.std.proofs.option.Made.{Some-of, none_of}
 use Rattle.std_alloc.proofs.Pairs.{pair_of, pair_val}
 use Rattle.std.proofs.raw_atomic.Walks.{proved_at, leaves}
-use Rattle.nm_region.proofs.Walks.{slot_at, then_runs}
+use Rattle.nm_region.proofs.Walks.{slot_at, then_runs, big}
 use Rattle.nm_region.proofs.Values.{block_val, block_own, block_made, deed_val, deed_own, deed_made}
-use Rattle.nm_region.specs.Parts.{bytes_of, parts, IsBlockSize}
-use Rattle.nm_region.proofs.Parts.{made}
+use Rattle.nm_region.specs.Parts.{bytes_of, lead, parts_at}
+use Rattle.nm_region.proofs.Parts.{made_behind}
 use lib.ListN.{replicate, length, length-replicate}
 use Rattle.nm_region.specs.contracts.block.Block as block
 use Rattle.nm_region.specs.contracts.block.Deed as deed
@@ -64,43 +64,46 @@ new_spec 𝓤 𝓛 𝓜 𝓡 wired A L g d dd met md =
     let h = a.0.now in
     let at = a.0.ref_ptr in
     let n = a.1.0 in
-    let τ : Ty = bytes_of n in
-    let y = at_takes Y 𝓛 𝓜.mem 𝓡.returns κ q at h n 1 τ in
+    let m : ℕ = n * 2048 + lead in
+    let τ : Ty = bytes_of m in
+    let y = at_takes Y 𝓛 𝓜.mem 𝓡.returns κ q at h m 1 τ in
     let Out : RattleType = type_at En₀.signature.result z.0.0 in
     let Pair : RattleType = Tuple (block.the_row ∷ deed.the_row Z g ∷ []) in
-    let Asked : Type 0 = IsBlockSize n in
+    let Asked : Type 0 = n ≤ 65536 in
     qed 𝓛 ((raw (alive 𝓛 En₀.signature z.0.0 z.0.1) ⊛ ‵ (owns (types_at En₀.signature.params z.0.0) a vss)) ∷ (raw (fact 𝓤 (z.0.0.1.0 ⊑ A.lives)) ⊛ raw (fact 𝓤 Asked)) ∷ []) ∵
     move ! (1 ∷ []) $ split ! $ heard ! (z.0.0.1.0 ⊑ A.lives) (λ le. heard ! Asked (λ asked. split ! $ move ! (1 ∷ []) $
-    fsplit ! $ fsplit ! $ drop ! $ move ! (1 ∷ []) $ drop ! $ use1 𝓛 (‵ (seen Y κ at h)) (id⊢ 𝓤 _) $ move ! (1 ∷ []) $ use1 𝓛 (‵ (flft κ q) ⊛ ‵ (flft z.0.0.1.0 z.0.1.1.0) ⊛ ‵ ftrue) (id⊢ 𝓤 _) $ split ! $ move ! (2 ∷ 0 ∷ []) $ let even = asked.0 in let small = asked.1 in let exact : n ≡ n / 2048 * 2048 = omega (arith, even) in let count : length (replicate (n / 2048) true) ≡ n / 2048 = length-replicate (n / 2048) true in
+    fsplit ! $ fsplit ! $ drop ! $ move ! (1 ∷ []) $ drop ! $ use1 𝓛 (‵ (seen Y κ at h)) (id⊢ 𝓤 _) $ move ! (1 ∷ []) $ use1 𝓛 (‵ (flft κ q) ⊛ ‵ (flft z.0.0.1.0 z.0.1.1.0) ⊛ ‵ ftrue) (id⊢ 𝓤 _) $ split ! $ move ! (2 ∷ 0 ∷ []) $ let small : m < 2 ^ 63 = omega (arith, asked) in let near : n * 2048 < 2 ^ 64 = omega (arith, asked) in let fits : m < 2 ^ 64 = omega (arith, asked) in let exact : m ≡ lead + n * 2048 = omega arith in let count : length (replicate n true) ≡ n = length-replicate n true in
     regoal ! (λ (us : List Val). prop (WpFn 𝓤 H C Λ fn us Post)) (λ i. are.0.0 i ++ (are.1.0.0 i ++ [])) refl $
     enter ! C Λ fn (vptr at.0 at.1 ∷ vint w64 n ∷ []) Post $
     alloc_all ! (λ l. pass_all ! refl ((tt, tt), ((tt, record { fits = are.1.0.1 }), tt)) $ let En : Env 𝓤 𝓛.H = env fn.locals l in
-    use2 𝓛 (raw ((Takes Y 𝓛 𝓜.mem 𝓡.returns).pre y)) (Takes-goes Y 𝓛 𝓜.mem 𝓡.returns κ q at h (⊑_trans κ z.0.0.1.0 A.lives z.0.2.0 le) n 1 τ (capped_is (n * 1) (omega arith) ∙ omega arith) refl are.1.0.1 (lit< tt)) $
+    sets ! (bin ! (get ! refl) (big ! (lit< tt)) (record { fits = near })) refl (tt, record { fits = near }) $
+    sets ! (bin ! (get ! refl) (big ! (lit< tt)) (record { fits = fits })) refl (tt, record { fits = fits }) $
+    use2 𝓛 (raw ((Takes Y 𝓛 𝓜.mem 𝓡.returns).pre y)) (Takes-goes Y 𝓛 𝓜.mem 𝓡.returns κ q at h (⊑_trans κ z.0.0.1.0 A.lives z.0.2.0 le) m 1 τ (capped_is (m * 1) (omega (arith, small)) ∙ omega arith) refl fits (lit< tt)) $
     calls_at ! (framed 𝓤 𝓛.H 𝓜 (tables 𝓤 𝓛.H 𝓜 𝓡 𝓡.env)) (Takes Y 𝓛 𝓜.mem 𝓡.returns) (met.allocate dd) y (and_then ! (get ! refl) (and_then ! (get ! refl) (and_then ! (lit ! tt) (no_more !)))) (λ v.
-    use1 𝓛 (later (raw (Answered Y 𝓛 𝓜.mem 𝓡.returns h τ v) ⊛ ‵ (flft κ q))) (Takes-gives Y 𝓛 𝓜.mem 𝓡.returns κ q at h n 1 τ v) $ await ! tt $ split ! $
+    use1 𝓛 (later (raw (Answered Y 𝓛 𝓜.mem 𝓡.returns h τ v) ⊛ ‵ (flft κ q))) (Takes-gives Y 𝓛 𝓜.mem 𝓡.returns κ q at h m 1 τ v) $ await ! tt $ split ! $
     answers Y ! 𝓜.mem 𝓡.returns h τ v
     (λ b o e. move ! (2 ∷ 3 ∷ []) $ join ! $ move ! (1 ∷ 2 ∷ []) $ lands_as ! (e) refl (tt, (record { fits = lit< tt }, (tt, tt))) $
-    first ! $ switches_on ! (get_tag ! (vrt ! refl (fld ! refl (stop !))) (whole !)) $ exec ! C Λ En (arm_body 0 (head (after 1 fn.body))) (then_runs 𝓛 C Λ En (after 2 fn.body) (at_ret En Post)) $
+    first ! $ switches_on ! (get_tag ! (vrt ! refl (fld ! refl (stop !))) (whole !)) $ exec ! C Λ En (arm_body 0 (head (after 3 fn.body))) (then_runs 𝓛 C Λ En (after 4 fn.body) (at_ret En Post)) $
     sets ! (of_opd ! (get_in ! (vrt ! refl (fld ! refl (stop !))) (in_variant ! 0 0 refl refl (whole !)))) refl (tt, tt) $
     sets ! (agg ! (no_more !)) refl (tt, tt) $
-    sets ! (agg ! (and_then ! (get ! refl) (and_then ! (get ! refl) (no_more !)))) refl (tt, (tt, (record { fits = are.1.0.1 }, tt))) $
+    sets ! (agg ! (and_then ! (get ! refl) (and_then ! (get ! refl) (no_more !)))) refl (tt, (tt, (record { fits = fits }, tt))) $
     sets ! (agg ! (and_then ! (get ! refl) (no_more !))) refl (tt, (tt, tt)) $
-    sets ! (agg ! (and_then ! (get ! refl) (and_then ! (get ! refl) (no_more !)))) refl (tt, ((tt, (record { fits = are.1.0.1 }, tt)), ((tt, tt), tt))) $
-    sets_last ! (agg ! (and_then ! (lit ! tt) (and_then ! (get ! refl) (no_more !)))) refl (tt, (record { fits = lit< tt }, (((tt, (record { fits = are.1.0.1 }, tt)), ((tt, tt), tt)), tt))) $
-    exec ! C Λ En (after 2 fn.body) (at_ret En Post) $
-    sets ! (of_opd ! (get ! refl)) refl (tt, (record { fits = lit< tt }, (((tt, (record { fits = are.1.0.1 }, tt)), ((tt, tt), tt)), tt))) $
+    sets ! (agg ! (and_then ! (get ! refl) (and_then ! (get ! refl) (no_more !)))) refl (tt, ((tt, (record { fits = fits }, tt)), ((tt, tt), tt))) $
+    sets_last ! (agg ! (and_then ! (lit ! tt) (and_then ! (get ! refl) (no_more !)))) refl (tt, (record { fits = lit< tt }, (((tt, (record { fits = fits }, tt)), ((tt, tt), tt)), tt))) $
+    exec ! C Λ En (after 4 fn.body) (at_ret En Post) $
+    sets ! (of_opd ! (get ! refl)) refl (tt, (record { fits = lit< tt }, (((tt, (record { fits = fits }, tt)), ((tt, tt), tt)), tt))) $
     returns ! (look_at ! 0 refl) $ free_all ! refl $
-    let p : Ptr = block_ptr b o in let x : (block.the_row).Denot = record { start = p; size = n; home = replicate (n / 2048) true; fits = (omega (arith, exact, count), small) } in let k : (deed.the_row Z g).Denot = record { marker = record {}; alloc = h; start = p; size = n } in
-    let Said : Type 0 = (x.home ≡ replicate (n / 2048) true) × (n ≡ n) × (p ≡ block_ptr (block_of p) (count_of p)) × (h ≡ h) × (p ≡ p) × (n ≡ n) in
-    let v : Val = pair_val (block_val p n) deed_val in
-    rewrite ! 0 (λ (k : ℕ). ‵ (froom (bytes_of k) b o)) exact refl $ use1 𝓛 (‵ (parts 2048 b o (replicate (n / 2048) true))) (made 𝓛 2048 b (n / 2048) o) $
-    use0 𝓛 (‵ (block_own p n (block_val p n ∷ []))) (block_made 𝓛 p n are.1.0.1) $ fjoin ! $ move ! (1 ∷ []) $ use0 𝓛 (‵ (deed_own (deed_val ∷ []))) (deed_made 𝓛 tt) $ fjoin ! $ move ! (1 ∷ 0 ∷ []) $ use2 𝓛 (‵ ((Tuple (block.the_row ∷ deed.the_row Z g ∷ [])).own_val (x, k) (pair_val (block_val p n) (deed_val) ∷ []))) (pair_of 𝓛 (block.the_row) (deed.the_row Z g) (x) (k) (block_val p n) (deed_val)) $
-    use1 𝓛 (‵ (Out.own_val (Some (x, k)) (live 1 (vcons v vnil) ∷ []))) (Some-of 𝓛 Pair (x, k) v) $ use0 𝓛 (raw (fact 𝓤 Said)) (fact_i 𝓤 Said (emp 𝓤) (refl, refl, refl, refl, refl, refl)) $ nothing ! $ nothing ! $ fjoin ! $ nothing ! $ fjoin ! $ move ! (3 ∷ 0 ∷ 2 ∷ 1 ∷ []) $
+    let p : Ptr = block_ptr b o in let x : (block.the_row).Denot = record { start = p; size = m; home = replicate n true; fits = (omega (arith, count), small) } in let k : (deed.the_row Z g).Denot = record { marker = record {}; alloc = h; start = p; size = m } in
+    let Said : Type 0 = (x.home ≡ replicate n true) × (p ≡ block_ptr (block_of p) (count_of p)) × (h ≡ h) × (p ≡ p) × (m ≡ m) in
+    let v : Val = pair_val (block_val p m) deed_val in
+    rewrite ! 0 (λ (k : ℕ). ‵ (froom (bytes_of k) b o)) exact refl $ use1 𝓛 (‵ (parts_at p (replicate n true))) (made_behind 𝓛 2048 b lead n o) $
+    use0 𝓛 (‵ (block_own p m (block_val p m ∷ []))) (block_made 𝓛 p m fits) $ fjoin ! $ move ! (1 ∷ []) $ use0 𝓛 (‵ (deed_own (deed_val ∷ []))) (deed_made 𝓛 tt) $ fjoin ! $ move ! (1 ∷ 0 ∷ []) $ use2 𝓛 (‵ ((Tuple (block.the_row ∷ deed.the_row Z g ∷ [])).own_val (x, k) (pair_val (block_val p m) (deed_val) ∷ []))) (pair_of 𝓛 (block.the_row) (deed.the_row Z g) (x) (k) (block_val p m) (deed_val)) $
+    use1 𝓛 (‵ (Out.own_val (Some (x, k)) (live 1 (vcons v vnil) ∷ []))) (Some-of 𝓛 Pair (x, k) v) $ use0 𝓛 (raw (fact 𝓤 Said)) (fact_i 𝓤 Said (emp 𝓤) (refl, refl, refl, refl, refl)) $ nothing ! $ nothing ! $ fjoin ! $ nothing ! $ fjoin ! $ move ! (3 ∷ 0 ∷ 2 ∷ 1 ∷ []) $
     by ! (leaves 𝓛 En₀ stays c z (live 1 (vcons v vnil)) (Some (x, k)) (tt, (tt, tt)) (tt, (tt, tt))))
     (λ e. join ! $ lands_as ! (e) refl (tt, (record { fits = lit< tt }, (tt, tt))) $
-    first ! $ switches_on ! (get_tag ! (vrt ! refl (fld ! refl (stop !))) (whole !)) $ exec ! C Λ En (arm_body 1 (head (after 1 fn.body))) (then_runs 𝓛 C Λ En (after 2 fn.body) (at_ret En Post)) $
+    first ! $ switches_on ! (get_tag ! (vrt ! refl (fld ! refl (stop !))) (whole !)) $ exec ! C Λ En (arm_body 1 (head (after 3 fn.body))) (then_runs 𝓛 C Λ En (after 4 fn.body) (at_ret En Post)) $
     sets_last ! (agg ! (and_then ! (lit ! tt) (no_more !))) refl (tt, (record { fits = lit< tt }, tt)) $
-    exec ! C Λ En (after 2 fn.body) (at_ret En Post) $
+    exec ! C Λ En (after 4 fn.body) (at_ret En Post) $
     sets ! (of_opd ! (get ! refl)) refl (tt, (record { fits = lit< tt }, tt)) $
     returns ! (look_at ! 0 refl) $ free_all ! refl $
     use0 𝓛 (‵ (Out.own_val None (live 0 vnil ∷ []))) (none_of 𝓛 Pair) $ use0 𝓛 (raw (fact 𝓤 (Unit {0}))) (fact_i 𝓤 (Unit {0}) (emp 𝓤) (tt)) $ nothing ! $ nothing ! $ fjoin ! $ nothing ! $ fjoin ! $ move ! (3 ∷ 0 ∷ 2 ∷ 1 ∷ []) $

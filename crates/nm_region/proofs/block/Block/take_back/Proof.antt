@@ -1,5 +1,5 @@
 -- `take_back` has the room of the part, whatever is written there. Assumes `Logic`.
-use Rattle.std.proofs.Common.{◌≡◌, ◌+◌, ◌*◌, ◌<◌, ◌≤◌, Bool, true, List, [], ◌∷◌, ◌++◌, length, refl, sym, ap, ◌∙◌, arith, lit<, w64}
+use Rattle.std.proofs.Common.{◌≡◌, ℕ, ◌+◌, ◌*◌, ◌<◌, ◌≤◌, Bool, true, List, [], ◌∷◌, ◌++◌, length, refl, sym, ap, ◌∙◌, arith, lit<, w64}
 use lib.ListN.{set, length-set}
 use mir.Syntax.{Fn}
 use mir.Val.{Val, vint}
@@ -20,9 +20,9 @@ use denote.Triple.Entry.{alive}
 use denote.Triple.Walked.{Stays, stay_dropped, walk_of, Goes-dropped}
 use Rattle.std.proofs.alloc.Calls.{Goes-blank}
 use Rattle.std.proofs.raw_atomic.Walks.{proved_at, leaves}
-use Rattle.nm_region.specs.Parts.{bytes_of, parts, parts_at}
+use Rattle.nm_region.specs.Parts.{bytes_of, lead, parts_at}
 use Rattle.nm_region.proofs.Lodging.{memory, memory_room}
-use Rattle.nm_region.proofs.Parts.{put}
+use Rattle.nm_region.proofs.Parts.{put_behind}
 use Rattle.nm_region.proofs.Values.{block_val, block_own, block_told, block_made, part_val, part_told}
 use Rattle.nm_region.proofs.Walks.{slot_at}
 use Rattle.nm_region.specs.contracts.block.Block as block
@@ -53,17 +53,19 @@ take_back_spec 𝓤 𝓛 𝓜 𝓡 wired =
     let told' = part_told d.at vss.1.0 are.1.0.0 in
     let fk = are.1.1.0.1 in
     let home : List Bool = set x.home k true in
-    let Asked : Type 0 = (k < length x.home) × (length d.items ≤ 2048) × (d.at ≡ x.start +ₚ k * 2048) in
+    let Asked : Type 0 = (k < length x.home) × (length d.items ≤ 2048) × (d.at ≡ x.start +ₚ (k * 2048 + lead)) in
     qed 𝓛 ((raw (alive 𝓛 En₀.signature z.0.0 z.0.1) ⊛ ‵ (owns (types_at En₀.signature.params z.0.0) a vss)) ∷ raw (fact 𝓤 Asked) ∷ []) ∵
     move ! (1 ∷ []) $ heard ! Asked (λ asked. split ! $ move ! (1 ∷ []) $
     fsplit ! $ fsplit ! $ drop ! $
     in_a_block ! x.start (λ p. parts_at p x.home) (id⊢ 𝓤 (never 𝓤)) (λ b o at. move ! (1 ∷ []) $ fsplit ! $ fsplit ! $ drop ! $ fsplit ! $ drop ! $
-    let there : d.at ≡ block_ptr b (o + k * 2048) = asked.2 ∙ ap (λ (p : Ptr). p +ₚ k * 2048) at in
+    let place : ℕ = o + lead + k * 2048 in
+    let behind : o + (k * 2048 + lead) ≡ place = omega arith in
+    let there : d.at ≡ block_ptr b place = asked.2 ∙ (ap (λ (p : Ptr). p +ₚ (k * 2048 + lead)) at ∙ ap (λ (j : ℕ). block_ptr b j) behind) in
     rewrite ! 0 (λ (p : Ptr). ‵ (memory p (length d.items) 2048 d.items)) there refl $
-    use1 𝓛 (‵ (froom (bytes_of 2048) b (o + k * 2048))) (memory_room 𝓛 b (o + k * 2048) (length d.items) 2048 d.items asked.1 (lit< tt)) $ move ! (1 ∷ []) $ drop ! $
-    -- [the part; the other parts; the tokens]
+    use1 𝓛 (‵ (froom (bytes_of 2048) b place)) (memory_room 𝓛 b place (length d.items) 2048 d.items asked.1 (lit< tt)) $ move ! (1 ∷ []) $ drop ! $
+    -- [the part; the lead and the other parts; the tokens]
     regoal ! (λ (us : List Val). prop (WpFn 𝓤 H C Λ fn us Post)) (λ i. (told.0 ∙ ap (λ (p : Ptr). block_val p n ∷ []) at) i ++ ((told' ∙ ap (λ (p : Ptr). part_val p ∷ []) there) i ++ (are.1.1.0.0 i ++ []))) refl $
-    enter ! C Λ fn (block_val (block_ptr b o) n ∷ part_val (block_ptr b (o + k * 2048)) ∷ vint w64 k ∷ []) Post $
+    enter ! C Λ fn (block_val (block_ptr b o) n ∷ part_val (block_ptr b place) ∷ vint w64 k ∷ []) Post $
     alloc_all ! (λ l. pass_all ! refl ((tt, (tt, (record { fits = fits }, tt))), ((tt, (tt, tt)), ((tt, record { fits = fk }), tt))) $ let En : Env 𝓤 𝓛.H = env fn.locals l in
     sets ! (of_opd ! (get_in ! (fld ! refl (stop !)) (sub ! 0 refl (whole !)))) refl (tt, tt) $
     sets ! (of_opd ! (get_in ! (fld ! refl (stop !)) (sub ! 1 refl (whole !)))) refl (tt, record { fits = fits }) $
@@ -72,7 +74,7 @@ take_back_spec 𝓤 𝓛 𝓜 𝓡 wired =
     let same : length home ≡ length x.home = length-set x.home k true in
     let y : (block.the_row).Denot = record { start = block_ptr b o; size = n; home = home; fits = (omega (arith, same, x.fits.0), x.fits.1) } in
     let Said : Type 0 = (block_ptr b o ≡ x.start) × (n ≡ n) × (home ≡ home) in
-    use2 𝓛 (‵ (parts 2048 b o home)) (put 𝓛 2048 b x.home k o asked.0) $
+    use2 𝓛 (‵ (parts_at (block_ptr b o) home)) (put_behind 𝓛 2048 b lead x.home k o asked.0) $
     use0 𝓛 (‵ (block_own y.start n (block_val y.start n ∷ []))) (block_made 𝓛 y.start n fits) $ fjoin ! $
     use0 𝓛 (raw (fact 𝓤 Said)) (fact_i 𝓤 Said (emp 𝓤) (sym at, refl, refl)) $ nothing ! $ nothing ! $ fjoin ! $ nothing ! $ fjoin ! $ nothing ! $ fjoin ! $ move ! (3 ∷ 0 ∷ 2 ∷ 1 ∷ []) $
     by ! (leaves 𝓛 En₀ stays c z (block_val y.start n) y (tt, (tt, (tt, tt))) (tt, (tt, (tt, tt))))))))
