@@ -114,6 +114,16 @@ impl Cells {
         self.standing_mut(idx).bytes_mut()
     }
 
+    /// Writes the zeros of the buffer at an index, if one stands there of which nothing is written.
+    pub(crate) fn prepare(&mut self, idx: u32)
+        ensures { self.new ≡ self.old }
+    {
+        let number = self.at.number(idx);
+        if number > 0 {
+            self.held[(number - 1) as usize].standing.buf.prepare();
+        }
+    }
+
     /// Makes the buffer at an index, at which one stands, a named one, or one that is not named.
     pub(crate) fn rename(&mut self, idx: u32, named: bool)
         requires { IsSome (cell_at self.old idx) }

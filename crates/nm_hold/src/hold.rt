@@ -266,8 +266,26 @@ impl Hold {
         ensures places { SamePlaces (places_of self.old) (places_of self.new) }
         ensures hold { IsHold self.new }
     {
+        if self.write_at(idx, bytes) {
+            // the other buffer of its page
+            self.cells.prepare(idx ^ 1);
+        }
+    }
+
+    /// Writes bytes over the first ones of a named buffer, and tells whether they are the first ones
+    /// that are written there.
+    fn write_at(&mut self, idx: u32, bytes: &[u8]) -> bool
+        requires named { is_named_at self.old idx ≡ true }
+        requires fits { length bytes.now ≤ 2048 }
+        ensures cell { self.new
+            ≡ with_cell self.old idx (cell_fronted bytes.now (standing_at self.old idx)) }
+        ensures places { SamePlaces (places_of self.old) (places_of self.new) }
+        ensures hold { IsHold self.new }
+    {
         let standing = self.cells.standing_mut(idx);
+        let is_fresh = standing.buf.prepare();
         standing.buf.write(bytes);
+        is_fresh
     }
 
     /// Puts a buffer into an empty place of one of the hold's ports. It is not a named buffer yet.

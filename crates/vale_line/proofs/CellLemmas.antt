@@ -65,7 +65,7 @@ empty-both xs ys first second = gots-append xs ys ∙ (ap (λ (gs : List Got). g
 pub full-head : (x : Option Got) (xs : Cells) → AreFull (x ∷ xs) → AreFull (x ∷ [])
 full-head x xs full = (full-parts (x ∷ []) xs full).0
 
-full-some : (x : Option Got) → AreFull (x ∷ []) → is_some x ≡ true
+pub full-some : (x : Option Got) → AreFull (x ∷ []) → is_some x ≡ true
 full-some None full = absurd (omega (arith, full))
 full-some (Some g) full = refl
 

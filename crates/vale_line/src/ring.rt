@@ -10,7 +10,7 @@ ghost use Rattle.vale_line.specs.Rings.{held, ring_state, IsAt, IsRing};
 
 use crate::got::Got;
 use crate::lot::Lot;
-use crate::moves::{Cell, discard, joined, put_run_bufs, take_run, take_run_bufs};
+use crate::moves::{Cell, discard, joined, prepare, put_run_bufs, take_run, take_run_bufs};
 use nm_reach::{Field, Reach};
 use nm_region::Buf;
 use nm_types::{LeaseId, NoMemory};
@@ -54,6 +54,15 @@ fn pop_first(lots: &mut VecDeque<Lot>) -> Option<Lot>
         lots.pop_back()
     } else {
         lots.pop_front()
+    }
+}
+
+/// Whether the last buffer is the first of two that lie in one page, so that the other one is quick to
+/// write while that page is at hand.
+fn ends_in_page(gots: &[Got]) -> bool {
+    match gots {
+        [.., got] => got.buf.index() % 2 == 0,
+        [] => false,
     }
 }
 
@@ -267,6 +276,32 @@ impl Ring {
 
     /// Completes the lot of a lease that is out with the lease's buffers.
     pub(crate) fn complete(&mut self, id: LeaseId, gots: Vec<Got>)
+        requires ring { IsRing self.old }
+        requires leases { AreLeases (leases_of (ring_state self.old).lots) }
+        requires out { slots_out id.0 (ring_state self.old).lots ≡ Some (length gots.items) }
+        ensures ring { IsRing self.new }
+        ensures line { ring_state self.new ≡ record (ring_state self.old) {
+          lots = map (completed id.0 gots.items) (ring_state self.old).lots;
+        } }
+    {
+        if ends_in_page(&gots) {
+            self.prepare_next();
+        }
+        self.complete_lot(id, gots);
+    }
+
+    /// Writes the zeros of the first idle buffer, if nothing is written there.
+    fn prepare_next(&mut self)
+        requires { IsRing self.old }
+        ensures { self.new ≡ self.old }
+    {
+        if self.lent == 0 && self.idle.len() > 0 {
+            prepare(self.idle.get_mut(0));
+        }
+    }
+
+    /// Completes the lot of a lease, and does nothing else.
+    fn complete_lot(&mut self, id: LeaseId, gots: Vec<Got>)
         requires ring { IsRing self.old }
         requires leases { AreLeases (leases_of (ring_state self.old).lots) }
         requires out { slots_out id.0 (ring_state self.old).lots ≡ Some (length gots.items) }

@@ -1,11 +1,12 @@
-use Rattle.std.proofs.Common.{slice_set, ap, refl, Some}
+use Rattle.std.proofs.Common.{slice_set, ap, refl, ◌∙◌, Some}
 use Rattle.std.proofs.lemmas.List.{length-set}
 use Rattle.nm_region.specs.Buffers.{Buffer}
+use Rattle.nm_region.specs.Marked.{with_front}
 use Rattle.nm_hold.specs.declared.standing.Standing.{Standing}
 use Rattle.nm_hold.proofs.Tied.{tied-kept}
 use Rattle.nm_hold.proofs.Shown.{IsHold-stored}
 use Rattle.nm_hold.proofs.Steps.{same_places}
-use Rattle.nm_hold.proofs.hold.Hold.write.Goals as goal
+use Rattle.nm_hold.proofs.hold.Hold.write_at.Goals as goal
 
 pub invariant_of-self : goal.invariant_of-self
 invariant_of-self c =
@@ -14,7 +15,7 @@ invariant_of-self c =
     let s = c.standing_mut-standing.result.now in
     let new : Standing = record { home = s.home; buf = c.write.new.self } in
     let count = length-set cells c.args.idx (Some new) in
-    let index = ap (λ (b : Buffer). b.index) c.write.ensures in
+    let index = ap (λ (b : Buffer). b.index) (c.write.ensures ∙ ap (with_front c.args.bytes.now) c.prepare-is_fresh.ensures.kept) in
     record {
       low = rw count inv.low;
       high = rw count inv.high;

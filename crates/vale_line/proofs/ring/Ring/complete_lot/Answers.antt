@@ -9,7 +9,7 @@ use Rattle.vale_line.specs.Lines.{HeldLot, is_out_at}
 use Rattle.vale_line.specs.Rings.{held_lots}
 use Rattle.vale_line.proofs.LotLemmas.{slots-out}
 use Rattle.vale_line.proofs.RingLemmas.{held-found, held-none, held-completed, none-found, done_at}
-use Rattle.vale_line.proofs.ring.Ring.complete.Goals as goal
+use Rattle.vale_line.proofs.ring.Ring.complete_lot.Goals as goal
 
 pub unreachable-requires : goal.unreachable-requires
 unreachable-requires c =
