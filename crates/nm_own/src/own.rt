@@ -74,6 +74,7 @@ impl Model for OwnSide {
 }
 
 /// The port of an id.
+#[inline(never)]
 fn port_at(ports: &[UserPort], id: PortId) -> Option<&UserPort>
     ensures { option_copied result ≡ port_at ports.now id.0 }
 {

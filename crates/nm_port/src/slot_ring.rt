@@ -345,6 +345,7 @@ impl SlotRing {
     }
 
     /// The first of the slots that a sync at the ring's head pushes, and the number of them.
+    #[inline(never)]
     pub fn pushed(&self) -> (u32, u32)
         requires { self.now.ring.head < self.now.ring.size }
         ensures first { result.0 ≡ self.now.ring.accepted_head }
@@ -527,6 +528,7 @@ impl SlotRing {
 
     /// Some of the user's slots that lie side by side, at most so many, from the position on that is so
     /// many steps behind the accepted head.
+    #[inline(never)]
     pub(crate) fn side_by_side(&self, at: u32, steps: u32, most: u32) -> &[Slot]
         requires there { at ≡ step_on self.now.ring.size self.now.ring.accepted_head steps }
         requires user { steps + most

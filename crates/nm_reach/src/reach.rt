@@ -109,6 +109,7 @@ impl<T> Reach<T> {
     }
 
     /// Takes the first `k` cells as a right of their own. No value is changed.
+    #[inline(never)]
     pub fn split_front(&mut self, k: u32) -> Reach<T>
         requires { k ≤ length self.old.values }
         ensures first { result ≡ record self.old { values = take k self.old.values } }
@@ -130,6 +131,7 @@ impl<T> Reach<T> {
     }
 
     /// Joins the right to the cells that begin where this run ends. No value is changed.
+    #[inline(never)]
     pub fn join(&mut self, next: Reach<T>)
         requires { Meet self.old next }
         ensures { self.new ≡ record self.old { values = self.old.values ++ next.values } }

@@ -146,6 +146,7 @@ impl Ring {
     /// the tail, else `CurOut` if the cur is not a slot of the ring or, seen from the head, is past the
     /// tail.
     #[tactic(auto, using(nm_types::proofs::RingChecks::ring_checks))]
+    #[inline(never)]
     pub fn check(&self, head: u32, cur: u32) -> Result<(), RingFault>
         ensures refusal { MatchResult result
             (λ _. ring_refusal self.now head cur ≡ None)

@@ -82,6 +82,7 @@ impl Fabric {
     }
 
     /// Grants the next of the offers of these frames, and fills and completes what that gave.
+    #[inline(never)]
     fn settle_next<R: Wait, G: Gate>(
         &self,
         rt: &R,
