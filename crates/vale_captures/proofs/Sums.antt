@@ -3,6 +3,12 @@ use Rattle.std.proofs.Common.{ℕ, ◌+◌, ◌≤◌, ◌≡◌, List, [], ◌�
 use Rattle.std.proofs.lemmas.Grind.{flat_map-append}
 use Rattle.std.proofs.lemmas.List.{map-append, append-nil}
 use Rattle.std.proofs.lemmas.List.Sums.{sum_by-append, sum_by-cons}
+use Rattle.vale_script.specs.declared.script.Act.{Act}
+use Rattle.vale_script.specs.declared.script.Act.TheVariants as acts
+use Rattle.vale_script.specs.Script.{Program}
+use Rattle.vale_replay.specs.Saved.{acts_of_unit}
+use Rattle.vale_captures.specs.Counting.{frames_by, frames_played}
+use Rattle.vale_captures.specs.Inputs.{InputFile}
 use Rattle.vale_captures.proofs.Pages.{taken-next, cut-at}
 use Rattle.std.proofs.lemmas.Option.{slice_get_read}
 
@@ -40,3 +46,19 @@ module _ {X A : Type 0} (g : X → A) (f : A → ℕ) where
       let all : sum_by f (map g (take k xs)) + sum_by f (map g (drop k xs)) ≡ sum_by f (map g xs) =
       sym (sum_by-append f (map g (take k xs)) (map g (drop k xs))) ∙ (ap (λ (ys : List A). sum_by f ys) (sym (map-append g (take k xs) (drop k xs))) ∙ ap (λ (ys : List X). sum_by f (map g ys)) (cut-at xs k)) in
       omega (arith, all)
+
+-- no capture has a frame that is played
+none-by : (act : Act) → frames_by [] act ≡ 0
+none-by (acts.Play name file batch) = refl
+none-by act = refl
+
+none-among : (all : List Act) → sum_by (frames_by []) all ≡ 0
+none-among [] = refl
+none-among (act ∷ all) =
+    let next = sum_by-cons (frames_by []) act all in
+    let this = none-by act in
+    let rest = none-among all in
+    omega (arith, next, this, rest)
+
+pub none_played : (program : Program) (played : List InputFile) → played ≡ [] → frames_played program played ≡ 0
+none_played program played none = ap (frames_played program) none ∙ none-among (flat_map acts_of_unit program.units)

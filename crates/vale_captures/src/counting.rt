@@ -89,9 +89,8 @@ fn frames_of_unit(played: &Inputs, unit: &Unit) -> u64
     }
 }
 
-/// The frames of captures that the lines of a script play: those of a file once for each line that
-/// plays it, also those too long to be put.
-pub fn frames_played(script: &Script, played: &Inputs) -> u64
+/// The frames of captures that the lines of a script play.
+fn frames_by_lines(script: &Script, played: &Inputs) -> u64
     requires { frames_played script.now played.now < 2 ^ 64 }
     ensures { result ≡ frames_played script.now played.now }
 {
@@ -100,6 +99,18 @@ pub fn frames_played(script: &Script, played: &Inputs) -> u64
         count += frames_of_unit(played, unit);
     }
     count
+}
+
+/// The frames of captures that the lines of a script play: those of a file once for each line that
+/// plays it, also those too long to be put.
+pub fn frames_played(script: &Script, played: &Inputs) -> u64
+    requires { frames_played script.now played.now < 2 ^ 64 }
+    ensures { result ≡ frames_played script.now played.now }
+{
+    if played.is_empty() {
+        return 0;
+    }
+    frames_by_lines(script, played)
 }
 
 /// A script of at most so many lines puts and forwards few frames.

@@ -1,5 +1,5 @@
 //! The captures that a script plays.
-ghost use Rattle.std.specs.Prelude.{◌≡◌, ◌≤◌, ℕ, List, map, IfOk, IfErr};
+ghost use Rattle.std.specs.Prelude.{◌≡◌, ◌≤◌, ◌↔◌, ℕ, List, [], map, IfOk, IfErr, IsTrue};
 ghost use Rattle.vale_captures.specs.Inputs.{captured, records_in, IsInput, AreInputs, BlamesFile, StopsReading};
 
 use nm_io::{ReadError, Shelf, read_all};
@@ -48,6 +48,13 @@ impl From<Vec<Input>> for Inputs {
 }
 
 impl Inputs {
+    /// Whether there is no file.
+    pub(crate) fn is_empty(&self) -> bool
+        ensures { IsTrue result ↔ (self.now ≡ []) }
+    {
+        self.files.is_empty()
+    }
+
     /// The records of a file; none if it is not among the files.
     pub fn records(&self, file: &str) -> &[Record]
         ensures { map captured result.now ≡ records_in self.now file.now }

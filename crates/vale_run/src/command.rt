@@ -371,7 +371,11 @@ fn run_script<R: AllocGlobal + Threads + Wait + Sync, S: Shelf, K: Sink, G: Gate
         };
     }
     match parse(rt.alloc(), bytes) {
-        Ok(script) => run_accepted(rt, &script, shelf, out, gate, remains),
+        Ok(script) => {
+            let status = run_accepted(rt, &script, shelf, out, gate, remains);
+            remains.keep_script(script);
+            status
+        }
         Err(ScriptFault::BadLine { line, cause }) => Status::BadScript { line, cause },
         Err(ScriptFault::NoMemory) => Status::NoMemory,
     }
