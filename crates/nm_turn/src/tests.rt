@@ -102,8 +102,8 @@ fn add<R: Wait>(
     if made { Ok(()) } else { Err(NoMemory) }
 }
 
-/// Adds `count` numbers from `first` on, each 2 more than the one before. Returns the pass, and
-/// whether there was memory.
+/// Adds `count` numbers from `first` on, each 2 more than the one before, and lets others go on.
+/// Returns the pass, and whether there was memory.
 fn add_all<R: Wait>(
     rt: &R,
     turn: &Turn<Numbers>,
@@ -121,6 +121,7 @@ fn add_all<R: Wait>(
             return (pass, Err(NoMemory));
         }
     }
+    turn.rest();
     (pass, Ok(()))
 }
 

@@ -26,18 +26,15 @@ const WAITING: usize = 2;
 /// The place of the value.
 const VALUE: usize = 0;
 
-/// How often a thread looks at a turn that is taken before it sleeps.
-const LOOKS: u32 = 1000;
+/// How often a thread looks at a turn that is taken before it sleeps: for about as long as one
+/// pass or two have it.
+const LOOKS: u32 = 4000;
 
 /// A thread that waits is woken whenever the history has got this many entries more.
-const ENTRIES_A_WAKE: u64 = 16;
+const ENTRIES_A_WAKE: u64 = 64;
 
-/// How many microseconds a thread that waits sleeps before it looks at the turn again, when it
-/// first finds it taken.
-const FIRST_SLEEP: u64 = 20;
-
-/// How many microseconds it sleeps at most, when it has found it taken again and again.
-const LONGEST_SLEEP: u64 = 200;
+/// How many microseconds a thread that waits sleeps at most before it looks at the turn again.
+const LONGEST_SLEEP: u64 = 1000;
 
 /// A lock over one value, which stands for one history of all callers. It must be closed, so that
 /// the value is not lost.
@@ -96,25 +93,26 @@ impl<B: Kept> Turn<B> {
     }
 
     /// Waits until the turn is free, and takes it. A thread that finds it taken looks on for a short
-    /// while, is counted then and sleeps. `wake` wakes it, but nothing rests on that: it looks again
-    /// by itself, and sleeps twice as long each time that it finds the turn taken, up to
-    /// `LONGEST_SLEEP`.
+    /// while, is counted then and sleeps; where others sleep already, it sleeps behind them at once.
+    /// `rest` wakes it, but nothing rests on that: it looks again by itself after `LONGEST_SLEEP`.
     fn take<R: Wait>(&self, rt: &R, pass: &mut Pass<B>)
         requires pass { IsPassOf B.fixed self.now pass.old }
         requires outside { IsOutside pass.old }
         ensures { HasTurn pass.old pass.new }
     {
         let shared = &self.table.shared;
-        let mut sleep = FIRST_SLEEP;
+        let mut queues = shared.peek(WAITING) > 0;
         for _ in rt.forever() {
-            self.look();
+            if !queues {
+                self.look();
+            }
             if shared.compare_exchange::<TakeTurn>(&mut pass.seat, TURN, 0, 1) == 0 {
                 return;
             }
             shared.fetch_add::<Awaits>(&mut pass.seat, WAITING, 1);
-            shared.park_timeout(rt, TURN, 1, Duration::from_micros(sleep));
+            shared.park_timeout(rt, TURN, 1, Duration::from_micros(LONGEST_SLEEP));
             shared.fetch_sub::<Awaits>(&mut pass.seat, WAITING, 1);
-            sleep = LONGEST_SLEEP.min(sleep.saturating_mul(2));
+            queues = false;
         }
         unreachable!()
     }
@@ -156,18 +154,27 @@ impl<B: Kept> Turn<B> {
         }
     }
 
-    /// Wakes one thread that waits for the turn, if some do and the history came to a number of
-    /// entries at which one is woken.
+    /// Wakes the thread that has waited for the turn longest, if some do. A caller that makes no more
+    /// entries for a while says so by this call; without it, those who wait may go on a millisecond
+    /// later.
+    pub fn rest(&self) {
+        let shared = &self.table.shared;
+        if shared.peek(WAITING) > 0 {
+            shared.wake_one(TURN);
+        }
+    }
+
+    /// Wakes a thread that waits, if the history came to a number of entries at which one is woken.
     ///
     /// Not every leave wakes a thread. Whoever leaves mostly comes again before a woken thread
-    /// runs, which then finds the turn taken and sleeps again, so a wake at each leave costs two
-    /// switches of threads and lets nobody go on sooner. A wake that is left out or comes too early
-    /// leaves no thread asleep for good: while others make entries, each lot of them wakes one
-    /// thread, and where none are made, a thread that looks again by itself finds the turn free.
+    /// runs, which then finds the turn taken and sleeps again, and what the value touches has to go
+    /// from one processor to another each time. So a thread goes on for some entries, and the others
+    /// follow it in the order in which they came. A wake that is left out or comes too early leaves
+    /// no thread asleep for good: while others make entries, each lot of them wakes one thread, and
+    /// where none are made, a thread that looks again by itself finds the turn free.
     fn wake(&self) {
-        let shared = &self.table.shared;
-        if shared.peek(WAITING) > 0 && shared.peek(COUNT) % ENTRIES_A_WAKE == 0 {
-            shared.wake_one(TURN);
+        if self.table.shared.peek(COUNT) % ENTRIES_A_WAKE == 0 {
+            self.rest();
         }
     }
 

@@ -83,9 +83,10 @@ fn first_fault(seats: &[Seat]) -> Result<(), StepFault>
     Ok(())
 }
 
-/// Each user does its own lines on a thread.
+/// Each user does its own lines on a thread, which lets others go on when it is done.
 fn run_all<R: Threads + Wait + Sync, G: Gate>(
     rt: &R,
+    fabric: &Fabric,
     seats: &mut [Seat],
     lines: &[Line],
     inputs: &Inputs,
@@ -105,7 +106,10 @@ fn run_all<R: Threads + Wait + Sync, G: Gate>(
         &|_: usize, seat: &mut Seat|
             requires { AreDoable lines.now }
             ensures { HasRun (records_in inputs.entry.now) lines.entry.now seat.old seat.new }
-        { seat.run_lines(rt, lines, inputs, gate) },
+        {
+            seat.run_lines(rt, lines, inputs, gate);
+            fabric.rest();
+        },
     );
 }
 
@@ -133,7 +137,7 @@ pub(crate) fn run_block<'f, R: Threads + Wait + Sync, G: Gate>(
     ensures leaves { CanStillLeave (knowing main.old) (knowing main.new) seats.old seats.new }
 {
     meet_all(fabric, main, seats);
-    run_all(rt, seats, lines, inputs, gate);
+    run_all(rt, fabric, seats, lines, inputs, gate);
     tell_all(fabric, main, seats);
     first_fault(seats)
 }

@@ -66,6 +66,12 @@ impl Fabric {
         self.buffers
     }
 
+    /// Lets the thread that has waited for the fabric longest go on, if some do. A caller that makes no
+    /// call for a while says so; without it, those who wait may go on a millisecond later.
+    pub fn rest(&self) {
+        self.turn.rest();
+    }
+
     /// Takes the turn and the book.
     pub(crate) fn take<R: Wait>(&self, rt: &R, pass: &mut Pass) -> Box<Book>
         requires { IsPassIn self.now pass.old }

@@ -22,7 +22,7 @@ const LIMITS: Limits = Limits {
 /// A pass, and whether its user came and left.
 type Came = (Pass, Result<(), StepFault>);
 
-/// A user comes through this pass and leaves.
+/// A user comes through this pass, leaves, and lets others go on.
 fn come_and_leave<R: Wait>(rt: &R, fabric: &Fabric, mut pass: Pass, user: u64) -> Came
     requires { IsPassIn fabric.now pass }
     ensures pass { IsPassIn fabric.now result.0
@@ -33,6 +33,7 @@ fn come_and_leave<R: Wait>(rt: &R, fabric: &Fabric, mut pass: Pass, user: u64) -
     match fabric.enter(rt, &mut pass, user) {
         Ok(session) => {
             fabric.leave(rt, &mut pass, session);
+            fabric.rest();
             (pass, Ok(()))
         }
         Err(fault) => (pass, Err(fault)),
