@@ -2,6 +2,8 @@
 #![tactic(auto)]
 
 mod lanes;
+#[cfg(test)]
+mod tests;
 mod words;
 
 pub use words::{
