@@ -16,11 +16,9 @@ use Rattle.nm_own.specs.declared.own.OwnSide.TheInside.{Inside}
 use Rattle.nm_port.specs.Own.{own_seen, AreWhole}
 use Rattle.nm_own.specs.Kept.{IsKept}
 use Rattle.nm_own.specs.WrittenBytes.{with_all_written}
+use Rattle.nm_own.proofs.Tests.{some_is}
 use Rattle.nm_own.proofs.Filled.{is_named_seen}
 use Rattle.nm_own.proofs.Written.{fronted_is_seen, fronted_keeps, flagged_kept, filled_kept, whole_kept}
-
-some_is : {X : Type 0} (x y : X) → Some x ≡ Some y → x ≡ y
-some_is x y e = cc
 
 -- the bytes of a named buffer are all that a buffer has
 pub lent_size : (h : HoldState) (idx : ℕ) (bytes : List ℕ) → AreWhole h → named_bytes_at h idx ≡ Some bytes → length bytes ≡ 2048

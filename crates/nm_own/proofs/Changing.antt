@@ -12,7 +12,8 @@ use Rattle.nm_types.specs.OwnPorts.{OwnRing, OwnPort, OwnState, port_if, with_ri
 use Rattle.nm_hold.specs.Holds.{HoldState, buffers_of}
 use Rattle.nm_port.specs.declared.port.UserPort.{UserPort}
 use Rattle.nm_port.specs.RingSlots.{RingSlots}
-use Rattle.nm_port.specs.Own.{bytes_in_cell, ring_seen, port_seen, own_seen, named_ring_places, named_tx_places, named_places_of, named_places, AreSided, AreRings, AreFlagged, AreFilled, HasPlaces, size_if, is_filled, is_filled_in, places_of_port, IsTxSide, IsRingIf, port_changed, port_changed_if, HasBackRoom, HaveBackRoom}
+use Rattle.nm_port.specs.Own.{bytes_in_cell, ring_seen, port_seen, own_seen, named_ring_places, named_tx_places, AreSided, AreRings, size_if, is_filled_in, IsTxSide, IsRingIf, port_changed, port_changed_if}
+use Rattle.nm_own.proofs.KeptPorts.{KeepsPlaces, KeepsPort, keeps_port_if}
 
 -- a ring that has the same slots, of which the same are the user's
 pub record SameUse (new ring : RingState) : Type 0 where
@@ -56,107 +57,66 @@ module _ (h : HoldState) (side : Side) (f : PortId → RingSlots → RingSlots) 
   seen_changed id ports sided rings =
       ap (λ (seen : List OwnPort). let s : OwnState = record { pool = buffers_of h; ports = seen; bytes = map bytes_in_cell h.cells } in s) (seen_ports id ports sided rings)
 
+-- a change of the transmit ring that keeps its side and its size keeps the places
+module _ (f : PortId → RingSlots → RingSlots) (keeps_side : (id : PortId) (r : RingSlots) → (f id r).side ≡ r.side) (keeps_size : (id : PortId) (r : RingSlots) → (f id r).ring.size ≡ r.ring.size) where
   tx_side : (id : PortId) (tx : Option RingSlots) → IsTxSide tx → IsTxSide (option_map (f id) tx)
   tx_side id None is = tt
-  tx_side id (Some r) is = keeps.sides id r ∙ is
-
-  tx_ring : (id : PortId) (tx : Option RingSlots) → IsRingIf tx → IsRingIf (option_map (f id) tx)
-  tx_ring id None is = tt
-  tx_ring id (Some r) is = keeps.rings id r is
-
-  tx_places : (id : PortId) (tx : Option RingSlots) → named_tx_places id (option_map (f id) tx) ≡ named_tx_places id tx
-  tx_places id None = refl
-  tx_places id (Some r) = keeps.places id r
-
-  -- what is kept of the fields
-  pub sided_changed : (id : ℕ) (ports : List UserPort) → AreSided ports → AreSided (map (port_changed_if id side f) ports)
-  sided_changed id [] sided = tt
-  sided_changed id (p ∷ ports) sided = (
-    elim (cases_Bool (nat_eq p.id.0 id)) [
-      | inl here ↦ rw here (on side)
-      | inr other ↦ rw other sided.0
-    ],
-    sided_changed id ports sided.1,
-  )
-    where
-      on : (s : Side) → IsTxSide (port_changed s f p).tx × ((port_changed s f p).rx.side ≡ Rx)
-      on Tx = (tx_side p.id p.tx sided.0.0, sided.0.1)
-      on Rx = (sided.0.0, keeps.sides p.id p.rx ∙ sided.0.1)
-
-  pub rings_changed : (id : ℕ) (ports : List UserPort) → AreRings ports → AreRings (map (port_changed_if id side f) ports)
-  rings_changed id [] rings = tt
-  rings_changed id (p ∷ ports) rings = (
-    elim (cases_Bool (nat_eq p.id.0 id)) [
-      | inl here ↦ rw here (on side)
-      | inr other ↦ rw other rings.0
-    ],
-    rings_changed id ports rings.1,
-  )
-    where
-      on : (s : Side) → IsRingIf (port_changed s f p).tx × IsRing (port_changed s f p).rx.ring
-      on Tx = (tx_ring p.id p.tx rings.0.0, rings.0.1)
-      on Rx = (rings.0.0, keeps.rings p.id p.rx rings.0.1)
-
-  port_places : (s : Side) (p : UserPort) → named_places_of (port_changed s f p) ≡ named_places_of p
-  port_places Tx p = ap (λ (places : List Place). places ++ (named_ring_places p.id p.rx ++ map (place.Extra p.id) (range_with_len 0 p.extra))) (tx_places p.id p.tx)
-  port_places Rx p = ap (λ (places : List Place). named_tx_places p.id p.tx ++ (places ++ map (place.Extra p.id) (range_with_len 0 p.extra))) (keeps.places p.id p.rx)
-
-  named_changed : (id : ℕ) (ports : List UserPort) → named_places (map (port_changed_if id side f) ports) ≡ named_places ports
-  named_changed id [] = refl
-  named_changed id (p ∷ ports) = elim (cases_Bool (nat_eq p.id.0 id)) [
-    | inl here ↦ rw (here, port_places side p, named_changed id ports) refl
-    | inr other ↦ rw (other, named_changed id ports) refl
-  ]
-
-  pub flagged_changed : (id : ℕ) (ports : List UserPort) → AreFlagged h ports → AreFlagged h (map (port_changed_if id side f) ports)
-  flagged_changed id ports flagged idx s there = rw (named_changed id ports) (flagged idx s there)
+  tx_side id (Some r) is = keeps_side id r ∙ is
 
   tx_size : (id : PortId) (tx : Option RingSlots) → size_if (option_map (f id) tx) ≡ size_if tx
   tx_size id None = refl
-  tx_size id (Some r) = (keeps.same id r).size
+  tx_size id (Some r) = keeps_size id r
 
-  port_places_same : (s : Side) (p : UserPort) → places_of_port (port_changed s f p) ≡ places_of_port p
-  port_places_same Tx p = rw (tx_size p.id p.tx) refl
-  port_places_same Rx p = rw ((keeps.same p.id p.rx).size) refl
+  tx_filled : (q : Place) (p : UserPort) → is_filled_in q (port_changed Tx f p) ≡ is_filled_in q p
+  tx_filled (place.Tx port at) p = rw (tx_size p.id p.tx) refl
+  tx_filled (place.Rx port at) p = refl
+  tx_filled (place.Extra port at) p = refl
 
-  pub places_changed : (id : ℕ) (ports : List UserPort) → HasPlaces h ports → HasPlaces h (map (port_changed_if id side f) ports)
-  places_changed id ports has = has ∙ sym (over ports)
+  pub tx_keeps : KeepsPlaces (port_changed Tx f)
+  tx_keeps = record {
+    sided = λ p is. (tx_side p.id p.tx is.0, is.1);
+    places = λ p. rw (tx_size p.id p.tx) refl;
+    filled = tx_filled;
+    back = λ p room. rw (tx_size p.id p.tx) room;
+  }
+
+-- a change of a ring keeps what is asked of a port
+module _ (h : HoldState) (f : PortId → RingSlots → RingSlots) (g : OwnRing → OwnRing) where
+  tx_port : Keeps h Tx f g → KeepsPort (port_changed Tx f)
+  tx_port keeps = record {
+    stays = tx_keeps f keeps.sides (λ id r. (keeps.same id r).size);
+    rings = λ p are. (ring p.id p.tx are.0, are.1);
+    named = λ p. ap (λ (places : List Place). places ++ (named_ring_places p.id p.rx ++ map (place.Extra p.id) (range_with_len 0 p.extra))) (places p.id p.tx);
+  }
     where
-      over : (ports : List UserPort) → map places_of_port (map (port_changed_if id side f) ports) ≡ map places_of_port ports
-      over [] = refl
-      over (p ∷ ports) = elim (cases_Bool (nat_eq p.id.0 id)) [
-        | inl here ↦ rw (here, port_places_same side p, over ports) refl
-        | inr other ↦ rw (other, over ports) refl
-      ]
+      ring : (id : PortId) (tx : Option RingSlots) → IsRingIf tx → IsRingIf (option_map (f id) tx)
+      ring id None is = tt
+      ring id (Some r) is = keeps.rings id r is
 
-  back_port : (s : Side) (p : UserPort) → HasBackRoom p → HasBackRoom (port_changed s f p)
-  back_port Tx p room = rw (tx_size p.id p.tx) room
-  back_port Rx p room = rw ((keeps.same p.id p.rx).size) room
+      places : (id : PortId) (tx : Option RingSlots) → named_tx_places id (option_map (f id) tx) ≡ named_tx_places id tx
+      places id None = refl
+      places id (Some r) = keeps.places id r
 
-  pub back_changed : (id : ℕ) (ports : List UserPort) → HaveBackRoom ports → HaveBackRoom (map (port_changed_if id side f) ports)
-  back_changed id [] have = tt
-  back_changed id (p ∷ ports) have = (
-    elim (cases_Bool (nat_eq p.id.0 id)) [
-      | inl here ↦ rw here (back_port side p have.0)
-      | inr other ↦ rw other have.0
-    ],
-    back_changed id ports have.1,
-  )
-
-  filled_port : (s : Side) (q : Place) (p : UserPort) → is_filled_in q (port_changed s f p) ≡ is_filled_in q p
-  filled_port Tx (place.Tx port at) p = rw (tx_size p.id p.tx) refl
-  filled_port Tx (place.Rx port at) p = refl
-  filled_port Tx (place.Extra port at) p = refl
-  filled_port Rx (place.Tx port at) p = refl
-  filled_port Rx (place.Rx port at) p = rw (user_same (f p.id p.rx).ring p.rx.ring at (keeps.same p.id p.rx)) refl
-  filled_port Rx (place.Extra port at) p = refl
-
-  pub filled_changed : (id : ℕ) (ports : List UserPort) → AreFilled h ports → AreFilled h (map (port_changed_if id side f) ports)
-  filled_changed id ports filled q = filled q ∙ sym (over ports)
+  rx_port : Keeps h Rx f g → KeepsPort (port_changed Rx f)
+  rx_port keeps = record {
+    stays = record {
+      sided = λ p is. (is.0, keeps.sides p.id p.rx ∙ is.1);
+      places = λ p. rw ((keeps.same p.id p.rx).size) refl;
+      filled = filled;
+      back = λ p room. rw ((keeps.same p.id p.rx).size) room;
+    };
+    rings = λ p are. (are.0, keeps.rings p.id p.rx are.1);
+    named = λ p. ap (λ (places : List Place). named_tx_places p.id p.tx ++ (places ++ map (place.Extra p.id) (range_with_len 0 p.extra))) (keeps.places p.id p.rx);
+  }
     where
-      over : (ports : List UserPort) → is_filled (map (port_changed_if id side f) ports) q ≡ is_filled ports q
-      over [] = refl
-      over (p ∷ ports) = elim (cases_Bool (nat_eq p.id.0 id)) [
-        | inl here ↦ rw (here, filled_port side q p, over ports) refl
-        | inr other ↦ rw (other, over ports) refl
-      ]
+      filled : (q : Place) (p : UserPort) → is_filled_in q (port_changed Rx f p) ≡ is_filled_in q p
+      filled (place.Tx port at) p = refl
+      filled (place.Rx port at) p = rw (user_same (f p.id p.rx).ring p.rx.ring at (keeps.same p.id p.rx)) refl
+      filled (place.Extra port at) p = refl
+
+by_side : (h : HoldState) (side : Side) (f : PortId → RingSlots → RingSlots) (g : OwnRing → OwnRing) → Keeps h side f g → KeepsPort (port_changed side f)
+by_side h Tx f g keeps = tx_port h f g keeps
+by_side h Rx f g keeps = rx_port h f g keeps
+
+pub change_keeps : {h : HoldState} {side : Side} {f : PortId → RingSlots → RingSlots} {g : OwnRing → OwnRing} → Keeps h side f g → (id : ℕ) → KeepsPort (port_changed_if id side f)
+change_keeps {h = h} {side = side} {f = f} {g = g} keeps id = keeps_port_if id (port_changed side f) (by_side h side f g keeps)

@@ -39,6 +39,7 @@ use Rattle.nm_own.specs.declared.own.OwnSide.TheInside.{Inside}
 use Rattle.nm_port.specs.Closing.{user_count, place_count, held_place, held_places, others, buffers_with_id, bytes_of_buffers, AreTaken}
 use Rattle.nm_port.proofs.Judging.{false_true}
 use Rattle.nm_port.proofs.Checked.{bytes_are_seen, id_of_found}
+use Rattle.nm_own.proofs.Tests.{some_is, turned}
 use Rattle.nm_own.proofs.Filled.{all_append, all_range, all_slots}
 use Rattle.nm_port.proofs.Seeing.{port_same}
 use Rattle.nm_port.proofs.PortOut.{IsOther, lacks_port, rest_other}
@@ -80,9 +81,6 @@ others_places id (p ∷ ports) = elim (cases_Bool (nat_eq p.id.0 id)) [
   | inr other ↦ rw other (ap (λ (xs : List PortPlaces). places_of_port p ∷ xs) (others_places id ports))
 ]
 
-some_is : {X : Type 0} (x y : X) → Some x ≡ Some y → x ≡ y
-some_is x y e = cc
-
 -- the places of the port of an id are filled as that port says
 pub filled_one : (ports : List UserPort) (id : ℕ) (p : UserPort) (q : Place) → port_at ports id ≡ Some p → ArePortsOnce (map places_of_port ports) → port_of q ≡ id → is_filled ports q ≡ is_filled_in q p
 filled_one [] id p q found once at = absurd cc
@@ -97,9 +95,6 @@ filled_one (x ∷ ports) id p q found once at = elim (cases_Bool (nat_eq x.id.0 
     or_none : (b : Bool) → (b || false) ≡ b
     or_none true = refl
     or_none false = refl
-
-turned : (a b : ℕ) → nat_eq a b ≡ false → nat_eq b a ≡ false
-turned a b e = grind (arith, nat_tests)
 
 -- the places of other ports are filled as before
 filled_others : (ports : List UserPort) (id : ℕ) (q : Place) → nat_eq (port_of q) id ≡ false → is_filled (others id ports) q ≡ is_filled ports q

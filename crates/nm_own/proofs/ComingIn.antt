@@ -23,11 +23,9 @@ use Rattle.nm_port.specs.Sides.{place_on}
 use Rattle.nm_port.specs.Lending.{IsOut, Run, place_of_run, AreOut}
 use Rattle.nm_port.proofs.Judging.{false_true, same_eq}
 use Rattle.nm_port.proofs.Filling.{within_pool}
+use Rattle.nm_own.proofs.Tests.{some_is}
 use Rattle.nm_own.proofs.Filled.{all_append}
 use Rattle.nm_own.proofs.PutOne.{stands_here, stood_there}
-
-some_is : {X : Type 0} (x y : X) → Some x ≡ Some y → x ≡ y
-some_is x y e = cc
 
 same_turned : (p q : Place) → is_same_place p q ≡ is_same_place q p
 same_turned p q = elim (cases_Bool (is_same_place p q)) [

@@ -1,9 +1,8 @@
 -- The places that hold a buffer, and the named buffers among those of all indices.
-use Rattle.std.proofs.Common.{ℕ, zero, suc, ◌≡◌, ◌<◌, ◌+◌, ◌&&◌, ◌||◌, Bool, true, false, nat_eq, nat_lt, List, [], ◌∷◌, ◌++◌, map, replicate, Option, Some, None, inl, inr, refl, sym, ◌∙◌, ap, arith, rules}
+use Rattle.std.proofs.Common.{ℕ, zero, suc, ◌≡◌, ◌<◌, ◌+◌, ◌||◌, Bool, true, false, nat_eq, nat_lt, List, [], ◌∷◌, ◌++◌, map, replicate, Option, Some, None, inl, inr, refl, sym, ◌∙◌, ap, arith, rules}
 use Rattle.std.specs.Prelude.{is_some, unwrap_or}
 use Rattle.std.specs.List.{AllByRecursion, range_with_len}
 use Rattle.std.proofs.lemmas.Bool.{cases_Bool, cases_lt}
-use Rattle.std.proofs.lemmas.Bool.Decides.{nat_tests}
 use Rattle.std.proofs.lemmas.List.{length-replicate}
 use Rattle.nm_types.specs.declared.id.Side.TheVariants.{Rx}
 use Rattle.nm_types.specs.declared.place.Place.{Place}
@@ -21,17 +20,8 @@ use Rattle.nm_port.specs.RingSlots.{RingSlots}
 use Rattle.nm_port.specs.Sides.{place_on, number_at}
 use Rattle.nm_port.specs.Own.{own_seen, named_ring_places, named_tx_places, named_places_of, named_places, size_if, is_filled, is_filled_in, AreWhole, AreFilled, AreFlagged, AreRings, AreSided, IsTxSide, IsRingIf}
 use Rattle.nm_port.proofs.Judging.{same_eq, false_true}
+use Rattle.nm_own.proofs.Tests.{or_second, less_true, both_true}
 use Rattle.nm_own.proofs.Naming.{are_named, named_is_seen}
-
-both_true : (a b : Bool) → a ≡ true → b ≡ true → (a && b) ≡ true
-both_true a b e f = rw (e, f) refl
-
-less_true : (a b : ℕ) → a < b → nat_lt a b ≡ true
-less_true a b h = grind (arith, nat_tests)
-
-or_second : (a b : Bool) → b ≡ true → (a || b) ≡ true
-or_second true b e = refl
-or_second false b e = e
 
 pub all_append : {X : Type 0} (P : X → Type 0) (xs ys : List X) → AllByRecursion P xs → AllByRecursion P ys → AllByRecursion P (xs ++ ys)
 all_append P [] ys left right = right

@@ -1,6 +1,6 @@
 -- A receive push that passes: its slots' buffers are exchanged and taken out, and the slots are the
 -- kernel side's.
-use Rattle.std.proofs.Common.{ℕ, zero, suc, ◌≡◌, ◌<◌, ◌≤◌, ◌+◌, ◌-◌, ◌&&◌, Bool, true, false, nat_eq, nat_lt, if◌then◌else◌, List, [], ◌∷◌, ◌++◌, length, map, fold, take, drop, Option, Some, None, inl, inr, refl, sym, ◌∙◌, ap, arith, rules}
+use Rattle.std.proofs.Common.{ℕ, zero, suc, ◌≡◌, ◌<◌, ◌≤◌, ◌+◌, ◌-◌, ◌&&◌, Bool, true, false, nat_eq, nat_lt, if◌then◌else◌, List, [], ◌∷◌, ◌++◌, length, map, fold, take, drop, Option, Some, None, inl, inr, refl, sym, ◌∙◌, ap, arith}
 use Rattle.std.specs.Prelude.{is_some, unwrap_or, IsSome}
 use Rattle.std.specs.List.{AllByRecursion, range_with_len}
 use Rattle.std.proofs.Math.Seq.{drop-append_seam, take-append_seam}
@@ -32,6 +32,7 @@ use Rattle.nm_port.proofs.SlotLists.{accepted_ring, tail_stays}
 use Rattle.nm_port.proofs.Seeing.{map-slots, pushed_is_seen, port_same}
 use Rattle.nm_port.proofs.Pushes.{pushed_is_user}
 use Rattle.nm_port.proofs.Checked.{ring_found}
+use Rattle.nm_own.proofs.Tests.{some_is, turned, some_of}
 use Rattle.nm_own.proofs.Offered.{back_is_seen}
 use Rattle.nm_own.proofs.Closing.{bytes_found}
 use Rattle.nm_port.proofs.Buffers.{buf_by_index, cells_by_bufs, count_by_bufs, whole_by_bufs}
@@ -39,12 +40,6 @@ use Rattle.nm_own.proofs.Passing.{Passes, ring_is, own_side, positions_fit, port
 use Rattle.nm_port.proofs.Ranges.{is_slot_from, among_slots}
 use Rattle.nm_own.proofs.OnePort.{Among, among, ChangesPort, filled_at, named_at, seen_with, tx_side_of, tx_ring_of}
 use Rattle.nm_own.proofs.RxPlaces.{rx_elsewhere, rx_not_tx, rx_not_extra, rx_named, named_alike, with_rx, user_left, seen_with_rx}
-
-some_is : {X : Type 0} (x y : X) → Some x ≡ Some y → x ≡ y
-some_is x y e = cc
-
-turned : (a b : ℕ) → nat_eq a b ≡ false → nat_eq b a ≡ false
-turned a b e = grind (arith, nat_tests)
 
 port_of_id : (port id : PortId) → port.0 ≡ id.0 → port ≡ id
 port_of_id port id e = ap (λ (n : ℕ). let i : PortId = record { 0 = n } in i) e
@@ -55,10 +50,6 @@ is_some_if false o = refl
 
 same_bool : (a b c : Bool) → a ≡ true → (if b then false else (a && (true && c))) ≡ (if b then false else c)
 same_bool a b c e = rw e refl
-
-some_of : (o : Option ℕ) → is_some o ≡ true → IsSome o
-some_of None e = absurd cc
-some_of (Some i) e = search rules
 
 module _ (h : HoldState) (ports : List UserPort) (id : PortId) (p : UserPort) (r : RingSlots) (x : Passes h ports Rx id p r) where
   is_ring : IsRing r.ring

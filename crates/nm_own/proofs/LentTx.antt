@@ -1,6 +1,6 @@
 -- Puts whose buffers are lent out.
-use Rattle.std.proofs.Common.{ℕ, zero, suc, map, fold, take, drop, nat_eq, ◌≡◌, ◌<◌, ◌≤◌, ◌+◌, ◌-◌, true, false, nat_le, nat_lt, List, [], ◌∷◌, ◌++◌, length, Option, Some, None, inl, inr, refl, sym, ◌∙◌, ap, arith, rules}
-use Rattle.std.specs.Prelude.{is_some, IsSome}
+use Rattle.std.proofs.Common.{ℕ, zero, suc, map, fold, take, drop, nat_eq, ◌≡◌, ◌<◌, ◌≤◌, ◌+◌, ◌-◌, true, false, nat_le, nat_lt, List, [], ◌∷◌, ◌++◌, length, Option, Some, None, inl, inr, refl, sym, ◌∙◌, ap, arith}
+use Rattle.std.specs.Prelude.{IsSome}
 use Rattle.std.specs.List.{range_with_len}
 use Rattle.std.proofs.Math.Seq.{drop-append_seam, take-append_seam}
 use Rattle.std.proofs.lemmas.List.{length-map}
@@ -33,6 +33,7 @@ use Rattle.nm_port.specs.Puts.{offered_slot}
 use Rattle.nm_port.specs.Lending.{AreNamedAs}
 use Rattle.nm_port.specs.Closing.{AreTaken, bytes_of_buffers}
 use Rattle.nm_own.specs.LentOffers.{pending_count_of, offered_count_of, offered_count, offered_buffers, IsLentOffers}
+use Rattle.nm_own.proofs.Tests.{some_is, some_of, some_true}
 use Rattle.nm_own.proofs.Closing.{sided_one, bytes_found}
 use Rattle.nm_port.proofs.Buffers.{buf_by_index}
 use Rattle.nm_port.proofs.Checked.{ring_found}
@@ -46,9 +47,6 @@ use Rattle.nm_own.proofs.Passing.{Passes, passes_of, ring_is, own_side, position
 use Rattle.nm_port.proofs.Ranges.{is_slot_from}
 use Rattle.nm_own.proofs.Pushed.{among_tx, rest_not_tx, slots_held, can_exchange}
 
-some_is : {X : Type 0} (x y : X) → Some x ≡ Some y → x ≡ y
-some_is x y e = cc
-
 not_less : (a b : ℕ) → b ≤ a → nat_lt a b ≡ false
 not_less a b e = grind (arith, nat_tests)
 
@@ -57,14 +55,6 @@ is_least a b e = grind (arith, nat_tests)
 
 is_more : (a b : ℕ) → b < a → nat_le a b ≡ false
 is_more a b e = grind (arith, nat_tests)
-
-some_of : (o : Option ℕ) → is_some o ≡ true → IsSome o
-some_of None e = absurd cc
-some_of (Some i) e = search rules
-
-some_true : (o : Option ℕ) → IsSome o → is_some o ≡ true
-some_true None some = absurd cc
-some_true (Some i) some = refl
 
 module _ (h : HoldState) (ports : List UserPort) (id : PortId) (p : UserPort) (r : RingSlots) (x : Passes h ports side.Tx id p r) where
   abbrev size : ℕ

@@ -1,6 +1,8 @@
+pub mod Tests
 pub mod Naming
 pub mod Editing
 pub mod Resetting
+pub mod KeptPorts
 pub mod Changing
 pub mod Forwarding
 pub mod Filled

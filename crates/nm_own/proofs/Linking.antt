@@ -1,5 +1,5 @@
 -- The head of a port's list of extra buffers, and the links in these, over what is seen.
-use Rattle.std.proofs.Common.{ℕ, zero, suc, ◌≡◌, ◌<◌, ◌≤◌, ◌&&◌, ◌||◌, Bool, true, false, nat_eq, if◌then◌else◌, List, [], ◌∷◌, ◌++◌, length, map, get_or, Option, Some, None, inl, inr, refl, sym, ◌∙◌, ap, arith}
+use Rattle.std.proofs.Common.{ℕ, zero, suc, ◌≡◌, ◌<◌, ◌≤◌, ◌&&◌, Bool, true, false, nat_eq, if◌then◌else◌, List, [], ◌∷◌, ◌++◌, length, map, get_or, Option, Some, None, inl, inr, refl, sym, ◌∙◌, ap, arith}
 use Rattle.std.specs.Prelude.{nat_le, option_and_then, slice_index, flat_map}
 use Rattle.std.specs.List.{range_with_len}
 use Rattle.std.proofs.lemmas.Bool.{cases_Bool}
@@ -19,9 +19,11 @@ use Rattle.nm_hold.specs.declared.standing.Standing.{Standing}
 use Rattle.nm_hold.specs.Holds.{HoldState, buffers_of, standing_at, named_bytes_at, is_named_at, IsHold}
 use Rattle.nm_port.specs.declared.port.UserPort.{UserPort}
 use Rattle.nm_port.specs.Sides.{number_at}
-use Rattle.nm_port.specs.Own.{extra_number_at, port_seen, own_seen, bytes_in_cell, bytes_in_hold, named_places, named_places_of, is_filled, is_filled_in, places_of_port, AreFilled, AreFlagged, AreSided, AreRings, HasPlaces, HaveBackRoom}
+use Rattle.nm_port.specs.Own.{extra_number_at, port_seen, own_seen, bytes_in_cell, bytes_in_hold, is_filled_in, AreFilled, AreFlagged, AreSided, AreRings}
 use Rattle.nm_own.specs.ExtraChain.{extra_at, extra_numbered, port_headed_if, named_bytes}
+use Rattle.nm_own.proofs.Tests.{some_is, or_second}
 use Rattle.nm_own.proofs.Filled.{is_named_seen}
+use Rattle.nm_own.proofs.KeptPorts.{KeepsPort, keeps_port_if}
 use Rattle.nm_port.proofs.Checked.{bytes_are_seen}
 
 -- ports of which one has another head
@@ -29,70 +31,17 @@ module _ (id idx : ℕ) where
   abbrev headed : List UserPort → List UserPort
   headed ports = map (port_headed_if id idx) ports
 
-  pub sided_headed : (ports : List UserPort) → AreSided ports → AreSided (headed ports)
-  sided_headed [] sided = tt
-  sided_headed (p ∷ ports) sided = (
-    elim (cases_Bool (nat_eq p.id.0 id)) [
-      | inl here ↦ rw here sided.0
-      | inr other ↦ rw other sided.0
-    ],
-    sided_headed ports sided.1,
-  )
+  head_filled : (q : Place) (p : UserPort) → is_filled_in q (record p { extra_head = idx }) ≡ is_filled_in q p
+  head_filled (place.Tx port at) p = refl
+  head_filled (place.Rx port at) p = refl
+  head_filled (place.Extra port at) p = refl
 
-  pub rings_headed : (ports : List UserPort) → AreRings ports → AreRings (headed ports)
-  rings_headed [] rings = tt
-  rings_headed (p ∷ ports) rings = (
-    elim (cases_Bool (nat_eq p.id.0 id)) [
-      | inl here ↦ rw here rings.0
-      | inr other ↦ rw other rings.0
-    ],
-    rings_headed ports rings.1,
-  )
-
-  pub back_headed : (ports : List UserPort) → HaveBackRoom ports → HaveBackRoom (headed ports)
-  back_headed [] have = tt
-  back_headed (p ∷ ports) have = (
-    elim (cases_Bool (nat_eq p.id.0 id)) [
-      | inl here ↦ rw here have.0
-      | inr other ↦ rw other have.0
-    ],
-    back_headed ports have.1,
-  )
-
-  named_headed : (ports : List UserPort) → named_places (headed ports) ≡ named_places ports
-  named_headed [] = refl
-  named_headed (p ∷ ports) = elim (cases_Bool (nat_eq p.id.0 id)) [
-    | inl here ↦ rw here (ap (λ (xs : List Place). named_places_of p ++ xs) (named_headed ports))
-    | inr other ↦ rw other (ap (λ (xs : List Place). named_places_of p ++ xs) (named_headed ports))
-  ]
-
-  pub flagged_headed : (h : HoldState) (ports : List UserPort) → AreFlagged h ports → AreFlagged h (headed ports)
-  flagged_headed h ports flagged i s there = rw (named_headed ports) (flagged i s there)
-
-  pub places_headed : (h : HoldState) (ports : List UserPort) → HasPlaces h ports → HasPlaces h (headed ports)
-  places_headed h ports has = has ∙ sym (over ports)
-    where
-      over : (ports : List UserPort) → map places_of_port (headed ports) ≡ map places_of_port ports
-      over [] = refl
-      over (p ∷ ports) = elim (cases_Bool (nat_eq p.id.0 id)) [
-        | inl here ↦ rw (here, over ports) refl
-        | inr other ↦ rw (other, over ports) refl
-      ]
-
-  filled_port : (q : Place) (p : UserPort) → is_filled_in q (record p { extra_head = idx }) ≡ is_filled_in q p
-  filled_port (place.Tx port at) p = refl
-  filled_port (place.Rx port at) p = refl
-  filled_port (place.Extra port at) p = refl
-
-  pub filled_headed : (h : HoldState) (ports : List UserPort) → AreFilled h ports → AreFilled h (headed ports)
-  filled_headed h ports filled q = filled q ∙ sym (over ports)
-    where
-      over : (ports : List UserPort) → is_filled (headed ports) q ≡ is_filled ports q
-      over [] = refl
-      over (p ∷ ports) = elim (cases_Bool (nat_eq p.id.0 id)) [
-        | inl here ↦ rw (here, filled_port q p, over ports) refl
-        | inr other ↦ rw (other, over ports) refl
-      ]
+  pub head_keeps : KeepsPort (port_headed_if id idx)
+  head_keeps = keeps_port_if id (λ (p : UserPort). record p { extra_head = idx }) (record {
+    stays = record { sided = λ p is. is; places = λ p. refl; filled = head_filled; back = λ p room. room };
+    rings = λ p are. are;
+    named = λ p. refl;
+  })
 
   pub seen_headed : (h : HoldState) (ports : List UserPort) → own_seen h (headed ports) ≡ with_head_of_chain id idx (own_seen h ports)
   seen_headed h ports = ap (λ (seen : List OwnPort). let s : OwnState = record { pool = buffers_of h; ports = seen; bytes = map bytes_in_cell h.cells } in s) (over ports)
@@ -105,13 +54,6 @@ module _ (id idx : ℕ) where
       ]
 
 -- an extra buffer is one that the user may name
-or_second : (a b : Bool) → b ≡ true → (a || b) ≡ true
-or_second true b e = refl
-or_second false b e = e
-
-some_is : {X : Type 0} (x y : X) → Some x ≡ Some y → x ≡ y
-some_is x y e = cc
-
 in_list : (xs : List ℕ) (at : ℕ) → at < length xs → contains_index xs (get_or xs at 0) ≡ true
 in_list [] at below = absurd (omega arith)
 in_list (x ∷ xs) zero below = rw (same_self x) refl

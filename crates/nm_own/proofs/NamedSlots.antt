@@ -1,9 +1,8 @@
 -- Each of the user's slots has a named buffer in its place.
-use Rattle.std.proofs.Common.{ℕ, ◌≡◌, ◌<◌, ◌&&◌, ◌||◌, Bool, true, false, nat_eq, nat_lt, List, [], ◌∷◌, ◌++◌, map, Option, Some, None, inl, inr, refl, sym, ◌∙◌, ap, arith}
+use Rattle.std.proofs.Common.{ℕ, ◌≡◌, true, nat_eq, nat_lt, List, [], ◌∷◌, ◌++◌, map, Option, Some, None, inl, inr, refl, sym, ◌∙◌, ap, arith}
 use Rattle.std.specs.Prelude.{is_some}
 use Rattle.std.specs.List.{range_with_len}
 use Rattle.std.proofs.lemmas.Bool.{cases_Bool}
-use Rattle.std.proofs.lemmas.Bool.Decides.{nat_tests}
 use Rattle.std.proofs.lemmas.List.Folds.{list_any-append}
 use Rattle.nm_types.specs.declared.id.PortId.{PortId}
 use Rattle.nm_types.specs.declared.id.Side.{Side}
@@ -26,27 +25,10 @@ use Rattle.nm_port.proofs.Checked.{found, side_found, tx_ring_found}
 use Rattle.nm_port.proofs.Ranges.{is_slot_from, among_slots}
 use Rattle.nm_own.specs.declared.own.OwnSide.TheInside.{Inside}
 use Rattle.nm_own.specs.Kept.{IsKept}
+use Rattle.nm_own.proofs.Tests.{some_is, or_second, or_first, less_is, and-is}
 use Rattle.nm_own.proofs.Closing.{filled_in_one}
 use Rattle.nm_own.proofs.Offered.{rx_ring_found}
 use Rattle.nm_own.proofs.RxPlaces.{rx_named}
-
-some_is : {X : Type 0} (x y : X) → Some x ≡ Some y → x ≡ y
-some_is x y e = cc
-
-and-is : (a b : Bool) → (a && b) ≡ true → (a ≡ true) × (b ≡ true)
-and-is true true e = (refl, refl)
-and-is true false e = cc
-and-is false b e = cc
-
-less_is : (a b : ℕ) → nat_lt a b ≡ true → a < b
-less_is a b e = grind (arith, nat_tests)
-
-or_first : (a b : Bool) → a ≡ true → (a || b) ≡ true
-or_first a b e = rw e refl
-
-or_second : (a b : Bool) → b ≡ true → (a || b) ≡ true
-or_second true b e = refl
-or_second false b e = e
 
 -- the named places of a port are among those of all
 named_in_one : (ports : List UserPort) (id : ℕ) (p : UserPort) (q : Place) → port_at ports id ≡ Some p → is_among (named_places_of p) q ≡ true → is_among (named_places ports) q ≡ true

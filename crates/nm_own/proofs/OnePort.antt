@@ -1,10 +1,9 @@
 -- One port of a session changed: its own places are filled and named as it says, those of the other
 -- ports as they were.
-use Rattle.std.proofs.Common.{ℕ, ◌≡◌, ◌≤◌, ◌+◌, subst, ◌||◌, Bool, true, false, nat_eq, if◌then◌else◌, List, [], ◌∷◌, ◌++◌, map, replicate, Some, inl, inr, refl, sym, ◌∙◌, ap, arith}
+use Rattle.std.proofs.Common.{ℕ, ◌≡◌, ◌≤◌, ◌+◌, subst, ◌||◌, Bool, false, nat_eq, if◌then◌else◌, List, [], ◌∷◌, ◌++◌, map, replicate, Some, inl, inr, refl, sym, ◌∙◌, ap}
 use Rattle.std.specs.Prelude.{is_some}
 use Rattle.std.specs.List.{AllByRecursion}
 use Rattle.std.proofs.lemmas.Bool.{cases_Bool}
-use Rattle.std.proofs.lemmas.Bool.Decides.{nat_tests}
 use Rattle.std.proofs.lemmas.List.Folds.{list_any-append}
 use Rattle.nm_types.specs.declared.id.PortId.{PortId}
 use Rattle.nm_types.specs.declared.id.Side.TheVariants.{Rx}
@@ -23,21 +22,9 @@ use Rattle.nm_port.specs.Own.{port_seen, port_at, named_places_of, named_places,
 use Rattle.nm_own.specs.Kept.{IsKept}
 use Rattle.nm_port.specs.Exchanges.{is_among}
 use Rattle.nm_port.proofs.PortOut.{IsOther, rest_other}
+use Rattle.nm_own.proofs.Tests.{some_is, turned, or_none, same_true}
 use Rattle.nm_own.proofs.Opening.{unfilled_in, unfilled}
 use Rattle.nm_own.proofs.Closing.{named_of_port, none_same}
-
-some_is : {X : Type 0} (x y : X) → Some x ≡ Some y → x ≡ y
-some_is x y e = cc
-
-turned : (a b : ℕ) → nat_eq a b ≡ false → nat_eq b a ≡ false
-turned a b e = grind (arith, nat_tests)
-
-same_true : (a b : ℕ) → a ≡ b → nat_eq a b ≡ true
-same_true a b e = grind (arith, nat_tests)
-
-or_none : (b : Bool) → (b || false) ≡ b
-or_none true = refl
-or_none false = refl
 
 -- a port among others, none of which has its id
 pub record Among (ports : List UserPort) (id : ℕ) (p : UserPort) : Type 0 where

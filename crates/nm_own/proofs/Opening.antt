@@ -28,12 +28,7 @@ use Rattle.nm_own.specs.Opening.{blank_arrival, blank_arrivals}
 use Rattle.nm_port.proofs.Filling.{row_apart}
 use Rattle.nm_port.proofs.Judging.{false_true}
 use Rattle.nm_port.proofs.PortOut.{IsOther}
-
-turned : (a b : ℕ) → nat_eq a b ≡ false → nat_eq b a ≡ false
-turned a b e = grind (arith, nat_tests)
-
-same_true : (a b : ℕ) → a ≡ b → nat_eq a b ≡ true
-same_true a b e = grind (arith, nat_tests)
+use Rattle.nm_own.proofs.Tests.{turned, or_second, less_true, same_true}
 
 -- no port has this id
 pub no_port : (h : HoldState) (ports : List UserPort) (id : ℕ) → port_with_id (own_seen h ports) id ≡ None → AllByRecursion (IsOther id) ports
@@ -68,16 +63,6 @@ none_if None e = refl
 none_if (Some x) e = absurd cc
 
 -- the new port has its places
-or_second : (a b : Bool) → b ≡ true → (a || b) ≡ true
-or_second true b e = refl
-or_second false b e = e
-
-both_true : (a b : Bool) → a ≡ true → b ≡ true → (a && b) ≡ true
-both_true a b e f = rw (e, f) refl
-
-less_true : (a b : ℕ) → a < b → nat_lt a b ≡ true
-less_true a b h = grind (arith, nat_tests)
-
 pub has_new : (ports : List PortPlaces) (new : PortPlaces) (q : Place) → is_some (offset_of new q) ≡ true → has_place (ports ++ new ∷ []) q ≡ true
 has_new [] new q e = rw e refl
 has_new (p ∷ ports) new q e = or_second (is_some (offset_of p q)) (has_place (ports ++ new ∷ []) q) (has_new ports new q e)

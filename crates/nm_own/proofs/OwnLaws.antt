@@ -1,5 +1,5 @@
 -- The frames of a receive sync come one after another.
-use Rattle.std.proofs.Common.{ℕ, ◌≡◌, ◌<◌, ◌≤◌, ◌+◌, ◌-◌, ◌&&◌, ◌||◌, Bool, true, false, nat_eq, nat_lt, nat_le, List, [], ◌∷◌, ◌++◌, length, map, fold, drop, Option, Some, None, option_map, inl, inr, refl, sym, ◌∙◌, ap, arith, append_assoc, length-append}
+use Rattle.std.proofs.Common.{ℕ, ◌≡◌, ◌<◌, ◌≤◌, ◌+◌, ◌-◌, ◌||◌, true, false, nat_eq, nat_lt, nat_le, List, [], ◌∷◌, ◌++◌, length, map, fold, drop, Option, Some, None, option_map, inl, inr, refl, sym, ◌∙◌, ap, arith, append_assoc, length-append}
 use Rattle.std.specs.Prelude.{option_and_then}
 use Rattle.std.specs.Option.{option_map_or}
 use Rattle.std.proofs.lemmas.Bool.{cases_Bool}
@@ -17,6 +17,7 @@ use Rattle.nm_slot.proofs.CheckLaws.{passed_positions_fit}
 use Rattle.nm_port.specs.Receives.{has_free_slot, ring_with_arrival, own_with_arrival}
 use Rattle.nm_own.specs.Laws.{FramesComeOneByOne, RoomForFrames}
 use Rattle.nm_port.proofs.Judging.{same_eq}
+use Rattle.nm_own.proofs.Tests.{less_true}
 
 -- one frame more
 module _ (done : List Arrival) (a : Arrival) where
@@ -85,12 +86,6 @@ received_positions id came (p ∷ ports) = elim (cases_Bool (nat_eq p.id.0 id)) 
 free_by_positions : (o : Option OwnRing) → option_map_or (λ (r : OwnRing). has_free_slot r.ring) o false ≡ option_map_or has_free_slot (option_map (λ (r : OwnRing). r.ring) o) false
 free_by_positions None = refl
 free_by_positions (Some r) = refl
-
-both_true : (a b : Bool) → a ≡ true → b ≡ true → (a && b) ≡ true
-both_true a b e f = rw (e, f) refl
-
-less_true : (a b : ℕ) → a < b → nat_lt a b ≡ true
-less_true a b e = grind (arith, nat_tests)
 
 not_beyond : (size from to at : ℕ) → at < size → dist size from at ≤ dist size from to → is_beyond size from to at ≡ false
 not_beyond size from to at inside reach = over (dist size from to) (dist size from at) reach

@@ -1,6 +1,5 @@
 -- The own side of a push that passes the checks, and what its exchange asks.
-use Rattle.std.proofs.Common.{ℕ, zero, suc, ◌≡◌, ◌≢◌, ◌<◌, ◌≤◌, ◌+◌, true, nat_eq, List, ◌∷◌, [], ◌++◌, length, map, get_or, Option, Some, None, refl, sym, ◌∙◌, ap, arith, rules}
-use Rattle.std.specs.Prelude.{is_some, IsSome}
+use Rattle.std.proofs.Common.{ℕ, zero, suc, ◌≡◌, ◌≢◌, ◌<◌, ◌≤◌, ◌+◌, true, nat_eq, List, ◌∷◌, [], ◌++◌, length, map, get_or, Option, Some, None, refl, sym, ◌∙◌, ap, arith}
 use Rattle.std.specs.List.{IsDistinct, range_with_len}
 use Rattle.std.proofs.lemmas.List.{length-map}
 use Rattle.std.proofs.lemmas.Map.Keys.{apart_from_distinct}
@@ -26,6 +25,7 @@ use Rattle.nm_port.specs.Own.{own_seen, port_at, slots_on, slots_at, refusal_at,
 use Rattle.nm_own.specs.Kept.{IsKept}
 use Rattle.nm_port.specs.Exchanges.{IsNamedThere, pushed_count_of, user_position, user_place, is_among, CanExchange}
 use Rattle.nm_port.proofs.Judging.{false_true, same_eq}
+use Rattle.nm_own.proofs.Tests.{some_of}
 use Rattle.nm_own.proofs.Naming.{are_named}
 use Rattle.nm_port.proofs.Seeing.{get-slots}
 use Rattle.nm_port.proofs.Pushes.{names-seen}
@@ -62,10 +62,6 @@ pub passes_of : (o : Inside) (side : Side) (id : PortId) (r : RingSlots) → IsK
 passes_of o side id r kept at passes =
     let f = found o.ports.items side id r at in
     (f.p, record { sided = kept.sided; rings = kept.rings; flagged = kept.flagged; is_hold = kept.hold; places = kept.places; filled = kept.filled; there = f.there; on = f.on; same_id = f.id; at = at; passes = passes })
-
-some_of : (o : Option ℕ) → is_some o ≡ true → IsSome o
-some_of None e = absurd cc
-some_of (Some i) e = search rules
 
 module _ (h : HoldState) (ports : List UserPort) (side : Side) (id : PortId) (p : UserPort) (r : RingSlots) (x : Passes h ports side id p r) where
   pub ring_is : IsRing r.ring

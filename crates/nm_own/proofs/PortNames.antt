@@ -7,9 +7,7 @@ use Rattle.nm_hold.specs.Holds.{HoldState}
 use Rattle.nm_port.specs.declared.port.UserPort.{UserPort}
 use Rattle.nm_port.specs.Own.{port_seen, own_seen}
 use Rattle.nm_own.specs.PortNames.{port_named}
-
-some_is : {X : Type 0} (x y : X) → Some x ≡ Some y → x ≡ y
-some_is x y e = cc
+use Rattle.nm_own.proofs.Tests.{some_is}
 
 pub name_found : (h : HoldState) (ports : List UserPort) (name : List ℕ) (p : UserPort) → port_named ports name ≡ Some p → port_with_name (own_seen h ports) name ≡ Some (port_seen h p)
 name_found h [] name p found = absurd cc

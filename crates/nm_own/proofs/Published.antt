@@ -35,6 +35,7 @@ use Rattle.nm_port.specs.Exchanges.{is_among}
 use Rattle.nm_port.specs.Receives.{has_free_slot, can_receive, ring_with_arrival, own_with_arrival, ring_published, HasRoom}
 use Rattle.nm_port.proofs.Judging.{false_true, same_eq}
 use Rattle.nm_port.proofs.PortOut.{IsOther}
+use Rattle.nm_own.proofs.Tests.{some_is, less_true, less_is, or_none, and-is}
 use Rattle.nm_own.proofs.Opening.{none_if}
 use Rattle.nm_port.proofs.SlotLists.{accepted_ring}
 use Rattle.nm_port.proofs.Seeing.{map-slots, port_same}
@@ -46,26 +47,8 @@ use Rattle.nm_own.proofs.OnePort.{Among, among, ChangesPort, filled_at, named_at
 use Rattle.nm_own.proofs.RxPlaces.{filled_named, named_alike, with_rx, seen_with_rx}
 use Rattle.nm_own.proofs.PutOne.{stands_here, stood_there, bytes_with_one, count_with_one, ports_with_one, whole_with_one}
 
-some_is : {X : Type 0} (x y : X) → Some x ≡ Some y → x ≡ y
-some_is x y e = cc
-
-and-is : (a b : Bool) → (a && b) ≡ true → (a ≡ true) × (b ≡ true)
-and-is true true e = (refl, refl)
-and-is true false e = cc
-and-is false b e = cc
-
-less_is : (a b : ℕ) → nat_lt a b ≡ true → a < b
-less_is a b e = grind (arith, nat_tests)
-
-less_true : (a b : ℕ) → a < b → nat_lt a b ≡ true
-less_true a b e = grind (arith, nat_tests)
-
 not_itself : (n : ℕ) → nat_lt n n ≡ false
 not_itself n = grind (arith, nat_tests)
-
-or_none : (b : Bool) → (b || false) ≡ b
-or_none true = refl
-or_none false = refl
 
 port_of_id : (port id : PortId) → port.0 ≡ id.0 → port ≡ id
 port_of_id port id e = ap (λ (n : ℕ). let i : PortId = record { 0 = n } in i) e

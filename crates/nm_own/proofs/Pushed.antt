@@ -23,21 +23,22 @@ use Rattle.nm_port.specs.declared.port.UserPort.{UserPort}
 use Rattle.nm_own.specs.declared.own.OwnSide.TheInside.{Inside}
 use Rattle.nm_port.specs.RingSlots.{RingSlots}
 use Rattle.nm_port.specs.Sides.{place_on, pushed_seen}
-use Rattle.nm_port.specs.Own.{ring_seen, port_seen, own_seen, port_at, slots_at, bytes_in_cell, named_ring_places, named_tx_places, named_places_of, named_places, size_if, is_filled, is_filled_in, places_of_port, AreFlagged, AreSided, AreRings, AreWhole, IsTxSide, IsRingIf, port_changed, port_changed_if, HaveBackRoom}
+use Rattle.nm_port.specs.Own.{ring_seen, port_seen, own_seen, port_at, slots_at, bytes_in_cell, named_ring_places, named_tx_places, named_places_of, named_places, is_filled, is_filled_in, places_of_port, AreFlagged, AreSided, AreRings, AreWhole, IsRingIf, port_changed, port_changed_if}
 use Rattle.nm_own.specs.Kept.{IsKept}
 use Rattle.nm_port.specs.Exchanges.{pushed_count_of, user_position, CanExchange, ArePushedOut, is_among, named_after_push, tx_places, ring_pushed_out, CanPushOut, CanPushOutIf, CanAccept}
 use Rattle.nm_port.proofs.Judging.{false_true, same_eq}
 use Rattle.nm_port.proofs.PortOut.{IsOther, rest_other}
+use Rattle.nm_own.proofs.Tests.{some_is}
 use Rattle.nm_own.proofs.Closing.{none_same, named_of_port, filled_in_one, filled_one}
 use Rattle.nm_port.proofs.SlotLists.{accepted_ring}
 use Rattle.nm_port.proofs.Seeing.{pushed_is_seen}
 use Rattle.nm_port.proofs.Checked.{ring_found}
 use Rattle.nm_port.proofs.Buffers.{cells_by_bufs, count_by_bufs, whole_by_bufs}
 use Rattle.nm_own.proofs.Passing.{Passes, ring_is, own_side, positions_fit, ports_once, can_exchange_at}
+use Rattle.nm_own.proofs.OnePort.{others_stay}
+use Rattle.nm_own.proofs.KeptPorts.{KeepsPlaces, keeps_places_if, sided_by, places_by, filled_by, back_by}
+use Rattle.nm_own.proofs.Changing.{tx_keeps}
 use Rattle.nm_port.proofs.Ranges.{is_slot_from}
-
-some_is : {X : Type 0} (x y : X) → Some x ≡ Some y → x ≡ y
-some_is x y e = cc
 
 -- where a slot stands, seen from three positions
 pub seen_from : (size a h x : ℕ) → a < size → h < size → x < size → (dist size h x + dist size a h ≡ dist size a x) ⊎ (dist size h x + dist size a h ≡ dist size a x + size)
@@ -170,61 +171,6 @@ module _ (id : PortId) (r : RingSlots) (taken : ℕ) (is : IsRing r.ring) (can :
       (seen_from size r.ring.accepted_head r.ring.head at is.accepted can.fits.head_within inside) (seen_from size r.ring.accepted_head r.ring.last_tail at is.accepted tail_within inside)
       ∙ sym (rw (in_freed, in_pushed, old) refl)))
 
--- ports none of which has the id are as they were
-module _ (id : PortId) (f : PortId → RingSlots → RingSlots) where
-  others_same : (ports : List UserPort) → AllByRecursion (IsOther id.0) ports → map (port_changed_if id.0 side.Tx f) ports ≡ ports
-  others_same [] other = refl
-  others_same (p ∷ ports) other = rw other.0 (ap (λ (xs : List UserPort). p ∷ xs) (others_same ports other.1))
-
-  -- whatever the change of a transmit ring, if it keeps the side and the size
-  module _ (keeps_side : (p : PortId) (r : RingSlots) → (f p r).side ≡ r.side) (keeps_size : (p : PortId) (r : RingSlots) → (f p r).ring.size ≡ r.ring.size) where
-    size_same : (p : PortId) (tx : Option RingSlots) → size_if (option_map (f p) tx) ≡ size_if tx
-    size_same p None = refl
-    size_same p (Some r) = keeps_size p r
-
-    side_same : (p : PortId) (tx : Option RingSlots) → IsTxSide tx → IsTxSide (option_map (f p) tx)
-    side_same p None is = tt
-    side_same p (Some r) is = keeps_side p r ∙ is
-
-    pub sided_after : (ports : List UserPort) → AreSided ports → AreSided (map (port_changed_if id.0 side.Tx f) ports)
-    sided_after [] sided = tt
-    sided_after (p ∷ ports) sided = (
-      elim (cases_Bool (nat_eq p.id.0 id.0)) [
-        | inl here ↦ rw here ((side_same p.id p.tx sided.0.0, sided.0.1))
-        | inr other ↦ rw other sided.0
-      ],
-      sided_after ports sided.1,
-    )
-
-    filled_port : (q : Place) (p : UserPort) → is_filled_in q (port_changed side.Tx f p) ≡ is_filled_in q p
-    filled_port (place.Tx port at) p = rw (size_same p.id p.tx) refl
-    filled_port (place.Rx port at) p = refl
-    filled_port (place.Extra port at) p = refl
-
-    pub filled_after : (ports : List UserPort) (q : Place) → is_filled (map (port_changed_if id.0 side.Tx f) ports) q ≡ is_filled ports q
-    filled_after [] q = refl
-    filled_after (p ∷ ports) q = elim (cases_Bool (nat_eq p.id.0 id.0)) [
-      | inl here ↦ rw (here, filled_port q p, filled_after ports q) refl
-      | inr other ↦ rw (other, filled_after ports q) refl
-    ]
-
-    pub places_after : (ports : List UserPort) → map places_of_port (map (port_changed_if id.0 side.Tx f) ports) ≡ map places_of_port ports
-    places_after [] = refl
-    places_after (p ∷ ports) = elim (cases_Bool (nat_eq p.id.0 id.0)) [
-      | inl here ↦ rw (here, size_same p.id p.tx, places_after ports) refl
-      | inr other ↦ rw (other, places_after ports) refl
-    ]
-
-    pub back_after : (ports : List UserPort) → HaveBackRoom ports → HaveBackRoom (map (port_changed_if id.0 side.Tx f) ports)
-    back_after [] have = tt
-    back_after (p ∷ ports) have = (
-      elim (cases_Bool (nat_eq p.id.0 id.0)) [
-        | inl here ↦ rw (here, size_same p.id p.tx) have.0
-        | inr other ↦ rw other have.0
-      ],
-      back_after ports have.1,
-    )
-
 -- tests of booleans
 pass_by : (f p u v : Bool) → (p ≡ true → u ≡ false) → (u || (if f then true else if p then false else v)) ≡ (if f then true else if p then false else (u || v))
 pass_by true p true v h = refl
@@ -326,7 +272,7 @@ module _ (id : PortId) (r : RingSlots) (taken : ℕ) (is : IsRing r.ring) (can :
         let tx_x : x.tx ≡ Some r = ap (λ (y : UserPort). y.tx) is_p ∙ tx in
         let id_x : x.id ≡ id = ap (λ (n : ℕ). let i : PortId = record { 0 = n } in i) (nat_eq-is x.id.0 id.0 here) in
         let rest = rest_other ports id.0 (rw (nat_eq-is x.id.0 id.0 here) at once.0) in
-        let same = others_same id change ports rest in
+        let same = others_stay id.0 (port_changed side.Tx change) ports rest in
         let tail = is_among (rest_of x) q || is_among (named_places ports) q in
         let apart : is_among pushed q ≡ true → tail ≡ false = (λ e. both (pushed_not_rest x q sided.0.1 e) (named_of_others ports q (pushed_here q e) rest)) in
         let places_new : named_places_of (port_changed side.Tx change x) ≡ named_ring_places id (ring_pushed_out taken r) ++ rest_of x =
@@ -455,6 +401,9 @@ module _ (h : HoldState) (ports : List UserPort) (id : PortId) (p : UserPort) (r
     abbrev after : List UserPort
     after = map (port_changed_if id.0 side.Tx moved) ports
 
+    keeps : KeepsPlaces (port_changed_if id.0 side.Tx moved)
+    keeps = keeps_places_if id.0 (port_changed side.Tx moved) (tx_keeps moved (λ q r. refl) (λ q r. refl))
+
     rings_after : AreRings after
     rings_after = over ports x.rings can_accept
       where
@@ -506,15 +455,15 @@ module _ (h : HoldState) (ports : List UserPort) (id : PortId) (p : UserPort) (r
           let blank : o.marks ≡ replicate (buffers_of h + 2) false = rw (← hold_is) kept.blank in
           let whole : AreWhole h = rw (← hold_is) kept.whole in
           record {
-            sided = rw ports_new (sided_after id moved (λ q r. refl) (λ q r. refl) ports x.sided);
+            sided = rw ports_new (sided_by keeps ports x.sided);
             rings = rw ports_new rings_after;
             flagged = rw (hold_new, ports_new) flagged_after;
             hold = rw hold_new out.is_hold;
-            places = rw (hold_new, ports_new) (out.ports ∙ (x.places ∙ sym (places_after id moved (λ q r. refl) (λ q r. refl) ports)));
-            filled = rw (hold_new, ports_new) (λ q. out.held q ∙ (x.filled q ∙ sym (filled_after id moved (λ q r. refl) (λ q r. refl) ports q)));
+            places = rw (hold_new, ports_new) (out.ports ∙ (x.places ∙ sym (places_by keeps ports)));
+            filled = rw (hold_new, ports_new) (λ q. out.held q ∙ (x.filled q ∙ sym (filled_by keeps ports q)));
             whole = rw hold_new (whole_by_bufs h h3 out.bufs whole);
             blank = rw hold_new (marks ∙ (blank ∙ ap (λ (n : ℕ). replicate (n + 2) false) (sym count_same)));
-            back = rw ports_new (back_after id moved (λ q r. refl) (λ q r. refl) ports (rw (← ports_are) kept.back));
+            back = rw ports_new (back_by keeps ports (rw (← ports_are) kept.back));
           }
 
       ring_moved : ring_seen h3 id (ring_pushed_out taken r) ≡ record (ring_seen h3 id r) { ring = accepted taken r.ring; slots = slots_after_push r.ring r.slots }
@@ -531,7 +480,7 @@ module _ (h : HoldState) (ports : List UserPort) (id : PortId) (p : UserPort) (r
             let rest = rest_other all id.0 (rw (nat_eq-is y.id.0 id.0 here) at once.0) in
             let tx_is : option_map (ring_seen h3 y.id) (option_map (moved y.id) y.tx) ≡ option_map g (option_map (ring_seen h3 y.id) y.tx) = rw (tx_y, id_y) (ap (λ (o : OwnRing). Some o) made) in
             rw here (ap (λ (o : Option OwnRing). record (port_seen h3 y) { tx = o } ∷ map (port_seen h3) (map (port_changed_if id.0 side.Tx moved) all)) tx_is
-            ∙ ap (λ (xs : List OwnPort). record (port_seen h3 y) { tx = option_map g (option_map (ring_seen h3 y.id) y.tx) } ∷ xs) (ap (map (port_seen h3)) (others_same id moved all rest) ∙ sym (seen_others g all rest))))
+            ∙ ap (λ (xs : List OwnPort). record (port_seen h3 y) { tx = option_map g (option_map (ring_seen h3 y.id) y.tx) } ∷ xs) (ap (map (port_seen h3)) (others_stay id.0 (port_changed side.Tx moved) all rest) ∙ sym (seen_others g all rest))))
         | inr other ↦ rw other (ap (λ (xs : List OwnPort). port_seen h3 y ∷ xs) (ports_seen g made all once.1 (rw other at there)))
       ]
         where

@@ -23,12 +23,13 @@ use Rattle.nm_own.specs.declared.edit.RingEdit.TheVariants.{Frame}
 use Rattle.std.specs.Vec.{with_item}
 use Rattle.nm_own.specs.declared.own.OwnSide.TheInside.{Inside}
 use Rattle.nm_own.specs.Kept.{IsKept}
-use Rattle.nm_own.specs.Edits.{edited, ring_edit, ring_framed, port_edited_if}
+use Rattle.nm_own.specs.Edits.{edited, ring_framed, port_edited_if}
 use Rattle.nm_own.specs.Acts.{head_slot_in}
 use Rattle.nm_own.specs.Copies.{with_copies, FindRoom, AreCopies}
 use Rattle.nm_own.specs.CopiesIn.{ring_behind, named_at_head, IsFronted, AreWritten, ArePutOn}
 use Rattle.nm_own.specs.LentSlots.{index_of_port}
-use Rattle.nm_own.proofs.Changing.{sided_changed, rings_changed, flagged_changed, places_changed, filled_changed, back_changed}
+use Rattle.nm_own.proofs.KeptPorts.{sided_by, rings_by, flagged_by, places_by, filled_by, back_by}
+use Rattle.nm_own.proofs.Changing.{change_keeps}
 use Rattle.nm_own.proofs.Editing.{edits_keep, seen_edited}
 use Rattle.nm_own.proofs.OnePort.{changed_if}
 use Rattle.nm_own.proofs.SlotsLent.{first_changed, first_is}
@@ -86,18 +87,16 @@ module _ (count : ℕ) (h new : HoldState) (ports : List UserPort) (idx : ℕ) (
 -- a frame's length in the slot at the head
 sound_framed : (count : ℕ) (h : HoldState) (ports : List UserPort) (id len : ℕ) → AreSound count h ports → AreSound count h (map (port_edited_if id Tx (Frame len)) ports)
 sound_framed count h ports id len sound =
-    let change : PortId → RingSlots → RingSlots = (λ port. edited (Frame len)) in
-    let seen = ring_edit Tx (Frame len) in
-    let keeps = edits_keep h Tx (Frame len) in
+    let keeps = change_keeps (edits_keep h Tx (Frame len)) id in
     record {
-      sided = sided_changed h Tx change seen keeps id ports sound.sided;
-      rings = rings_changed h Tx change seen keeps id ports sound.rings;
-      flagged = flagged_changed h Tx change seen keeps id ports sound.flagged;
+      sided = sided_by keeps.stays ports sound.sided;
+      rings = rings_by keeps ports sound.rings;
+      flagged = flagged_by keeps h ports sound.flagged;
       hold = sound.hold;
-      places = places_changed h Tx change seen keeps id ports sound.places;
-      filled = filled_changed h Tx change seen keeps id ports sound.filled;
+      places = sound.places ∙ sym (places_by keeps.stays ports);
+      filled = λ q. sound.filled q ∙ sym (filled_by keeps.stays ports q);
       whole = sound.whole;
-      back = back_changed h Tx change seen keeps id ports sound.back;
+      back = back_by keeps.stays ports sound.back;
       size = sound.size;
     }
 

@@ -1,6 +1,6 @@
 -- The places of a port's receive ring: those of the user's slots, each filled and named; and a port whose
 -- receive ring alone is changed.
-use Rattle.std.proofs.Common.{ℕ, ◌≡◌, ◌<◌, ◌+◌, ◌-◌, ◌&&◌, ◌||◌, Bool, true, false, nat_eq, nat_lt, if◌then◌else◌, List, [], ◌∷◌, ◌++◌, map, Option, Some, None, option_map, refl, sym, ◌∙◌, ap, arith}
+use Rattle.std.proofs.Common.{ℕ, ◌≡◌, ◌<◌, ◌+◌, ◌-◌, ◌||◌, Bool, true, false, nat_eq, nat_lt, if◌then◌else◌, List, [], ◌∷◌, ◌++◌, map, Option, Some, None, option_map, refl, sym, ◌∙◌, ap, arith}
 use Rattle.std.specs.List.{range_with_len}
 use Rattle.std.proofs.lemmas.Bool.Decides.{nat_tests}
 use Rattle.std.proofs.lemmas.List.Folds.{list_any-append}
@@ -21,6 +21,7 @@ use Rattle.nm_port.specs.Exchanges.{is_among}
 use Rattle.nm_port.proofs.Seeing.{map-same}
 use Rattle.nm_port.proofs.SlotLists.{tail_stays}
 use Rattle.nm_port.proofs.Ranges.{is_slot_from, among_slots}
+use Rattle.nm_own.proofs.Tests.{or_second, or_first, less_is, and-is}
 use Rattle.nm_own.proofs.Pushed.{flag_is, seen_from}
 
 -- slots of a receive ring are no other places
@@ -38,14 +39,6 @@ pub rx_not_extra : (id port : PortId) (ats : List ℕ) (at : ℕ) → is_among (
 rx_not_extra id port [] at = refl
 rx_not_extra id port (x ∷ ats) at = rx_not_extra id port ats at
 
-and-is : (a b : Bool) → (a && b) ≡ true → (a ≡ true) × (b ≡ true)
-and-is true true e = (refl, refl)
-and-is true false e = cc
-and-is false b e = cc
-
-less_is : (a b : ℕ) → nat_lt a b ≡ true → a < b
-less_is a b e = grind (arith, nat_tests)
-
 none_below : (c : ℕ) → nat_lt c 0 ≡ false
 none_below c = grind (arith, nat_tests)
 
@@ -57,13 +50,6 @@ module _ (id : PortId) (r : RingSlots) (side : r.side ≡ Rx) (is : IsRing r.rin
       let inside = less_is at r.ring.size both.0 in
       let few = dist-below r.ring.size r.ring.accepted_head r.ring.last_tail is.accepted in
       rw side (among_slots Rx id (user_slots r.ring) at ∙ (is_slot_from r.ring.size r.ring.accepted_head (dist r.ring.size r.ring.accepted_head r.ring.last_tail) at is.accepted (omega arith) inside ∙ both.1))
-
-or_first : (a b : Bool) → a ≡ true → (a || b) ≡ true
-or_first a b e = rw e refl
-
-or_second : (a b : Bool) → b ≡ true → (a || b) ≡ true
-or_second true b e = refl
-or_second false b e = e
 
 pub rx_named : (p : UserPort) (at : ℕ) → p.rx.side ≡ Rx → IsRing p.rx.ring → is_user_slot p.rx.ring at ≡ true → is_among (named_places_of p) (place.Rx p.id at) ≡ true
 rx_named p at side is user =

@@ -12,7 +12,6 @@ use Rattle.std.proofs.lemmas.Option.{slice_get_read, slice_get_cases, get_or_fro
 use Rattle.std.specs.declared.vec.Vec.{Vec}
 use Rattle.std.specs.declared.alloc.Global.{Global}
 use Rattle.std.specs.Vec.{with_item}
-use Rattle.nm_types.specs.declared.id.PortId.{PortId}
 use Rattle.nm_types.specs.declared.id.Side.{Side}
 use Rattle.nm_types.specs.Slots.{SlotState}
 use Rattle.nm_types.specs.OwnPorts.{OwnRing}
@@ -26,10 +25,11 @@ use Rattle.nm_own.specs.declared.own.OwnSide.TheInside.{Inside}
 use Rattle.nm_own.specs.Kept.{IsKept}
 use Rattle.nm_port.specs.declared.port.UserPort.{UserPort}
 use Rattle.nm_port.specs.RingSlots.{RingSlots}
-use Rattle.nm_port.specs.Own.{own_seen, port_at, places_of_port, ring_seen, slots_on, AreSided, AreRings, AreFlagged, AreFilled, HasPlaces, HaveBackRoom}
-use Rattle.nm_own.specs.Edits.{edited, ring_edit, port_edited, port_edited_if}
+use Rattle.nm_port.specs.Own.{own_seen, port_at, places_of_port, ring_seen, slots_on, AreSided}
+use Rattle.nm_own.specs.Edits.{port_edited, port_edited_if}
 use Rattle.nm_own.specs.LentSlots.{with_port_in, index_of_port, slot_of_port}
-use Rattle.nm_own.proofs.Changing.{sided_changed, rings_changed, flagged_changed, places_changed, filled_changed, back_changed}
+use Rattle.nm_own.proofs.KeptPorts.{kept_by}
+use Rattle.nm_own.proofs.Changing.{change_keeps}
 use Rattle.nm_port.proofs.Checked.{slot_is_seen}
 use Rattle.nm_port.proofs.PortOut.{rest_other, first_here, first_next}
 use Rattle.nm_own.proofs.Editing.{edits_keep}
@@ -114,23 +114,7 @@ slot_edited o kept id k side at is slot =
 
 -- an edit of the port of an id keeps what holds of the fields
 pub kept_edited : (o : Inside) (ports : Vec UserPort Global) (id : ℕ) (side : Side) (edit : RingEdit) → IsKept o → ports.items ≡ map (port_edited_if id side edit) o.ports.items → IsKept (record o { ports = ports })
-kept_edited o ports id side edit kept are =
-    let h = o.hold in
-    let was = o.ports.items in
-    let change : PortId → RingSlots → RingSlots = (λ port. edited edit) in
-    let seen = ring_edit side edit in
-    let keeps = edits_keep h side edit in
-    record {
-      sided = subst AreSided (sym are) (sided_changed h side change seen keeps id was kept.sided);
-      rings = subst AreRings (sym are) (rings_changed h side change seen keeps id was kept.rings);
-      flagged = subst (AreFlagged h) (sym are) (flagged_changed h side change seen keeps id was kept.flagged);
-      hold = kept.hold;
-      places = subst (HasPlaces h) (sym are) (places_changed h side change seen keeps id was kept.places);
-      filled = subst (AreFilled h) (sym are) (filled_changed h side change seen keeps id was kept.filled);
-      whole = kept.whole;
-      blank = kept.blank;
-      back = subst HaveBackRoom (sym are) (back_changed h side change seen keeps id was kept.back);
-    }
+kept_edited o ports id side edit kept are = kept_by (change_keeps (edits_keep o.hold side edit) id) o (record o { ports = ports }) kept refl are refl
 
 -- and so does the same list
 pub kept_same : (o : Inside) (ports : Vec UserPort Global) → IsKept o → ports.items ≡ o.ports.items → IsKept (record o { ports = ports })

@@ -2,7 +2,6 @@
 use Rattle.std.proofs.Common.{ℕ, ◌≡◌, ◌<◌, ◌≤◌, ◌-◌, Bool, true, false, nat_lt, nat_eq, if◌then◌else◌, List, [], ◌∷◌, ◌++◌, length, map, take, drop, reverse, Option, Some, None, refl, sym, ◌∙◌, ap, arith, subst}
 use Rattle.std.specs.Prelude.{IsSome}
 use Rattle.std.specs.List.{AllByRecursion, IsDistinct}
-use Rattle.std.proofs.lemmas.Bool.Decides.{nat_tests}
 use Rattle.std.proofs.lemmas.List.{length-map, length-reverse, length-drop, length-take-le, reverse-append, reverse-reverse, take-append-drop}
 use Rattle.nm_types.specs.declared.id.PortId.{PortId}
 use Rattle.nm_types.specs.declared.id.Side.TheVariants.{Tx}
@@ -32,6 +31,7 @@ use Rattle.nm_port.specs.Puts.{offered_slot, cleared, ring_taken}
 use Rattle.nm_port.specs.Lending.{Run, AreOut, place_of_run}
 use Rattle.nm_own.specs.LentOffers.{pending_count_of, offered_count_of, IsLentOffers}
 use Rattle.nm_port.proofs.Judging.{same_eq}
+use Rattle.nm_own.proofs.Tests.{some_is, less_true}
 use Rattle.nm_own.proofs.OnePort.{Among, ChangesPort, changed_are, kept_with}
 use Rattle.nm_port.proofs.Buffers.{buf_by_index, count_by_bufs}
 use Rattle.nm_own.proofs.Passing.{Passes, ring_is, own_side}
@@ -43,12 +43,6 @@ use Rattle.nm_own.proofs.LentTx.{lends, first_within, few_offered}
 use Rattle.nm_own.proofs.TakenTx.{offers_have_room, slots_filled, others, with_taken, changes, taken_is_seen, regions_now}
 use Rattle.nm_own.proofs.ComingIn.{CanCome, come_in, all_turned, away_turned, once_turned}
 use Rattle.nm_own.proofs.Refilled.{IsCleared, out_taken, split_out, run_behind}
-
-some_is : {X : Type 0} (x y : X) → Some x ≡ Some y → x ≡ y
-some_is x y e = cc
-
-less_true : (a b : ℕ) → a < b → nat_lt a b ≡ true
-less_true a b e = grind (arith, nat_tests)
 
 -- buffers that are cleared
 pub all_cleared : (bufs : List Buffer) → AllByRecursion IsCleared (map cleared bufs)

@@ -1,10 +1,9 @@
 -- A put of whose frames the first ones were taken: other buffers stand in their places, the push is
 -- accepted, and its tail goes on.
-use Rattle.std.proofs.Common.{ℕ, zero, suc, ◌≡◌, ◌≢◌, ◌<◌, ◌≤◌, ◌+◌, Bool, true, false, nat_eq, nat_lt, if◌then◌else◌, List, [], ◌∷◌, ◌++◌, length, map, fold, set, take, reverse, Option, Some, None, option_map, inl, inr, refl, sym, ◌∙◌, ap, arith, rules}
+use Rattle.std.proofs.Common.{ℕ, zero, suc, ◌≡◌, ◌≢◌, ◌<◌, ◌≤◌, ◌+◌, Bool, true, false, nat_eq, if◌then◌else◌, List, [], ◌∷◌, ◌++◌, length, map, fold, set, take, reverse, Option, Some, None, option_map, inl, inr, refl, sym, ◌∙◌, ap, arith}
 use Rattle.std.specs.Prelude.{is_some, unwrap_or, IsSome}
 use Rattle.std.specs.List.{AllByRecursion, list_any, range_with_len, zip}
 use Rattle.std.proofs.lemmas.Bool.{cases_Bool}
-use Rattle.std.proofs.lemmas.Bool.Decides.{nat_tests}
 use Rattle.std.proofs.lemmas.List.{length-map, length-reverse, reverse-reverse}
 use Rattle.std.proofs.lemmas.List.FromFn.{take-map-range_with_len}
 use Rattle.nm_types.specs.declared.id.PortId.{PortId}
@@ -38,6 +37,7 @@ use Rattle.nm_port.proofs.Judging.{same_eq}
 use Rattle.nm_port.proofs.PortOut.{IsOther}
 use Rattle.nm_port.proofs.SlotLists.{accepted_ring}
 use Rattle.nm_port.proofs.Seeing.{map-same, port_same}
+use Rattle.nm_own.proofs.Tests.{turned, less_is, some_of, some_true}
 use Rattle.nm_own.proofs.Closing.{sided_one, ring_one}
 use Rattle.nm_port.proofs.Buffers.{cells_by_bufs, count_by_bufs, whole_by_bufs}
 use Rattle.nm_port.proofs.Pushes.{offered_are}
@@ -48,26 +48,6 @@ use Rattle.nm_own.proofs.LentTx.{first_within, few_offered, exchanged_seen, take
 use Rattle.nm_port.proofs.Regions.{holds_same, holds_taken}
 use Rattle.nm_own.proofs.ComingIn.{all_turned}
 use Rattle.nm_own.proofs.Refilled.{IsCleared, out_taken, out_there, flags_out, flags_in, whole_in, region_in, came_bytes, among_first}
-
-some_is : {X : Type 0} (x y : X) → Some x ≡ Some y → x ≡ y
-some_is x y e = cc
-
-less_true : (a b : ℕ) → a < b → nat_lt a b ≡ true
-less_true a b e = grind (arith, nat_tests)
-
-less_is : (a b : ℕ) → nat_lt a b ≡ true → a < b
-less_is a b e = grind (arith, nat_tests)
-
-some_of : (o : Option ℕ) → is_some o ≡ true → IsSome o
-some_of None e = absurd cc
-some_of (Some i) e = search rules
-
-some_true : (o : Option ℕ) → IsSome o → is_some o ≡ true
-some_true None some = absurd cc
-some_true (Some i) some = refl
-
-turned : (a b : ℕ) → nat_eq a b ≡ false → nat_eq b a ≡ false
-turned a b e = grind (arith, nat_tests)
 
 differ : (a b : ℕ) → a ≢ b → nat_eq a b ≡ false
 differ a b other = elim (cases_Bool (nat_eq a b)) [

@@ -1,11 +1,10 @@
-use Rattle.std.proofs.Common.{◌≡◌, ◌∙◌, List, length, map, refl, sym, ap}
-use Rattle.std.proofs.lemmas.List.{with_items_is, length-map}
+use Rattle.std.proofs.Common.{◌≡◌, ◌∙◌, map, refl, ap}
 use Rattle.std.specs.Vec.{with_items}
 use Rattle.nm_types.specs.declared.id.PortId.{PortId}
 use Rattle.nm_types.specs.declared.id.Side.TheVariants.{Rx}
-use Rattle.nm_port.specs.declared.port.UserPort.{UserPort}
 use Rattle.nm_port.specs.Own.{own_seen, port_changed_if}
 use Rattle.nm_port.specs.Receives.{ring_given_back}
+use Rattle.nm_own.proofs.KeptPorts.{changed_over}
 use Rattle.nm_own.proofs.OnePort.{kept_with}
 use Rattle.nm_own.proofs.GivenBack.{can_give_back, changes}
 use Rattle.nm_own.proofs.Lent.{before_lending, lends, around, now_back, ports_accepted, received_is_seen, received_of}
@@ -19,12 +18,7 @@ accept_backs-requires c =
 
 -- the ports once the push is accepted
 accepted : (c : goal.After-ports-2-1) → (with_items c.args.self.ports c.accept_backs.new.ports).items ≡ map (port_changed_if c.args.self.port.0 Rx (λ (of : PortId). ring_given_back)) c.args.self.ports.items
-accepted c =
-    let ports = c.args.self.ports in
-    let change = port_changed_if c.args.self.port.0 Rx (λ (of : PortId). ring_given_back) in
-    let new : c.accept_backs.new.ports ≡ map change ports.items = rw c.deref_mut.ensures.value at c.accept_backs.ensures in
-    let count : length c.accept_backs.new.ports ≡ ports.len = ap (λ (p : List UserPort). length p) new ∙ (length-map ports.items change ∙ sym (ports.ok.0)) in
-    with_items_is ports c.accept_backs.new.ports count ∙ new
+accepted c = changed_over c.args.self.ports (port_changed_if c.args.self.port.0 Rx (λ (of : PortId). ring_given_back)) c.accept_backs.new.ports (rw c.deref_mut.ensures.value at c.accept_backs.ensures)
 
 pub invariant_of-result : goal.invariant_of-result
 invariant_of-result c =

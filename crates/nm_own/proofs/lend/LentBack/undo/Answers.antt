@@ -1,11 +1,9 @@
 use Rattle.std.proofs.Common.{◌≡◌, ◌∙◌, Some, None}
 use Rattle.nm_types.specs.declared.id.Side.TheVariants.{Rx}
 use Rattle.nm_port.specs.Own.{slots_at}
+use Rattle.nm_own.proofs.Tests.{some_is}
 use Rattle.nm_own.proofs.Lent.{fits_lent, few_lent, few_replaced}
 use Rattle.nm_own.proofs.lend.LentBack.undo.Goals as goal
-
-some_is : {X : Type 0} (x y : X) → Some x ≡ Some y → x ≡ y
-some_is x y e = cc
 
 clash : {X : Type 0} (x : X) → None ≡ Some x → ⊥
 clash x e = cc

@@ -1,11 +1,9 @@
 use Rattle.std.proofs.Common.{◌≡◌, ◌∙◌, Some}
 use Rattle.nm_types.specs.declared.id.Side.TheVariants.{Tx}
 use Rattle.nm_port.specs.Own.{slots_at}
+use Rattle.nm_own.proofs.Tests.{some_is}
 use Rattle.nm_own.proofs.LentTx.{fits_lent, few_lent, few_replaced}
 use Rattle.nm_own.proofs.lend_offers.LentOffers.undo.Goals as goal
-
-some_is : {X : Type 0} (x y : X) → Some x ≡ Some y → x ≡ y
-some_is x y e = cc
 
 pub put_slots-requires-clause-few : goal.put_slots-requires-clause-few
 put_slots-requires-clause-few c = few_lent c.requires.0 c.args.pending.now.items c.args.self c.requires.1

@@ -1,45 +1,21 @@
-use Rattle.std.proofs.Common.{◌≡◌, ◌∙◌, List, length, map, refl, sym, ap, subst}
-use Rattle.std.proofs.lemmas.List.{with_items_is, length-map}
+use Rattle.std.proofs.Common.{◌≡◌, ◌∙◌, map, refl, ap}
 use Rattle.std.specs.Vec.{with_items}
-use Rattle.nm_port.specs.declared.port.UserPort.{UserPort}
-use Rattle.nm_own.specs.Edits.{edited, ring_edit, port_edited_if, own_edited}
-use Rattle.nm_types.specs.declared.id.PortId.{PortId}
-use Rattle.nm_own.proofs.Changing.{sided_changed, rings_changed, flagged_changed, places_changed, filled_changed, back_changed}
-use Rattle.nm_port.specs.Own.{own_seen, AreSided, AreRings, AreFlagged, AreFilled, HasPlaces, HaveBackRoom}
+use Rattle.nm_own.specs.Edits.{port_edited_if, own_edited}
+use Rattle.nm_own.proofs.Changing.{change_keeps}
+use Rattle.nm_port.specs.Own.{own_seen}
 use Rattle.nm_own.proofs.Editing.{edits_keep, seen_edited}
+use Rattle.nm_own.proofs.KeptPorts.{changed_over, kept_by}
 use Rattle.nm_port.proofs.Regions.{same_side}
 use Rattle.nm_own.proofs.own.OwnSide.edit.Goals as goal
 
 -- the ports once the edit is made
 ports_are : (c : goal.After-self-1) → (with_items c.self.inside.ports c.edit_rings.new.ports).items ≡ map (port_edited_if c.args.port.0 c.args.side c.args.edit) c.self.inside.ports.items
 ports_are c =
-    let ports = c.self.inside.ports in
-    let new : c.edit_rings.new.ports ≡ map (port_edited_if c.args.port.0 c.args.side c.args.edit) ports.items = c.edit_rings.ensures ∙ ap (map (port_edited_if c.args.port.0 c.args.side c.args.edit)) c.deref_mut.ensures.value in
-    let count : length c.edit_rings.new.ports ≡ ports.len = ap (λ (p : List UserPort). length p) new ∙ (length-map ports.items (port_edited_if c.args.port.0 c.args.side c.args.edit) ∙ sym (ports.ok.0)) in
-    with_items_is ports c.edit_rings.new.ports count ∙ new
+    let change = port_edited_if c.args.port.0 c.args.side c.args.edit in
+    changed_over c.self.inside.ports change c.edit_rings.new.ports (c.edit_rings.ensures ∙ ap (map change) c.deref_mut.ensures.value)
 
 pub invariant_of-self : goal.invariant_of-self
-invariant_of-self c =
-    let ports = c.self.inside.ports.items in
-    let kept = c.self.invariant in
-    let id = c.args.port.0 in
-    let are = sym (ports_are c) in
-    let h = c.self.inside.hold in
-    let keeps = edits_keep h c.args.side c.args.edit in
-    let Flagged : List UserPort → Type 0 = AreFlagged c.self.inside.hold in
-    let Placed : List UserPort → Type 0 = HasPlaces c.self.inside.hold in
-    let Filled : List UserPort → Type 0 = AreFilled c.self.inside.hold in
-    record {
-      sided = subst AreSided are (sided_changed h c.args.side (λ (id : PortId). edited c.args.edit) (ring_edit c.args.side c.args.edit) keeps id ports kept.sided);
-      rings = subst AreRings are (rings_changed h c.args.side (λ (id : PortId). edited c.args.edit) (ring_edit c.args.side c.args.edit) keeps id ports kept.rings);
-      flagged = subst Flagged are (flagged_changed h c.args.side (λ (id : PortId). edited c.args.edit) (ring_edit c.args.side c.args.edit) keeps id ports kept.flagged);
-      hold = kept.hold;
-      places = subst Placed are (places_changed h c.args.side (λ (id : PortId). edited c.args.edit) (ring_edit c.args.side c.args.edit) keeps id ports kept.places);
-      filled = subst Filled are (filled_changed h c.args.side (λ (id : PortId). edited c.args.edit) (ring_edit c.args.side c.args.edit) keeps id ports kept.filled);
-      whole = kept.whole;
-      blank = kept.blank;
-      back = subst HaveBackRoom are (back_changed h c.args.side (λ (id : PortId). edited c.args.edit) (ring_edit c.args.side c.args.edit) keeps id ports kept.back);
-    }
+invariant_of-self c = kept_by (change_keeps (edits_keep c.self.inside.hold c.args.side c.args.edit) c.args.port.0) c.self.inside _ c.self.invariant refl (ports_are c) refl
 
 pub returns : goal.returns
 returns c =

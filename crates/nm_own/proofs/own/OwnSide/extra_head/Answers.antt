@@ -1,15 +1,10 @@
-use Rattle.std.proofs.Common.{◌≡◌, Some, None, refl, sym}
-use Rattle.nm_port.specs.Own.{port_at}
+use Rattle.std.proofs.Common.{refl, sym}
 use Rattle.nm_own.proofs.Closing.{port_found}
 use Rattle.nm_port.proofs.PortOut.{lacks_port}
 use Rattle.nm_own.proofs.own.OwnSide.extra_head.Goals as goal
 
 pub returns-in-Some : goal.returns-in-Some
-returns-in-Some c =
-    let there : port_at c.self.inside.ports.items c.args.port.0 ≡ Some c.in-Some.own.now = sym (rw (c.in-Some.is, c.deref.ensures.value) at c.port_at.ensures) in
-    rw (← c.self.view_is, port_found c.self.inside.hold c.self.inside.ports.items c.args.port.0 c.in-Some.own.now there) refl
+returns-in-Some c = rw (← c.self.view_is, port_found c.self.inside.hold c.self.inside.ports.items c.args.port.0 c.in-Some.own.now (sym (rw (c.in-Some.is, c.deref.ensures.value) at c.port_at.ensures))) refl
 
 pub returns-in-None : goal.returns-in-None
-returns-in-None c =
-    let none : None ≡ port_at c.self.inside.ports.items c.args.port.0 = rw (c.in-None.is, c.deref.ensures.value) at c.port_at.ensures in
-    rw (← c.self.view_is, lacks_port c.self.inside.hold c.self.inside.ports.items c.args.port.0 (sym none)) refl
+returns-in-None c = rw (← c.self.view_is, lacks_port c.self.inside.hold c.self.inside.ports.items c.args.port.0 (sym (rw (c.in-None.is, c.deref.ensures.value) at c.port_at.ensures))) refl

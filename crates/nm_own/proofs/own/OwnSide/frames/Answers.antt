@@ -13,11 +13,9 @@ gather-requires c = passes_fit c.self.inside Tx c.args.port c.in-Some.ring.now c
 
 pub returns : goal.returns
 returns c =
-    let h = c.self.inside.hold in
+    let r = c.in-Some.ring.now in
     let ports = c.self.inside.ports.items in
     let kept = c.self.invariant in
-    let there : Some c.in-Some.ring.now ≡ slots_at Tx ports c.args.port.0 = rw (c.in-Some.is, c.deref.ensures.value) at c.ring_at.ensures in
-    let is = tx_ring_found ports c.args.port c.in-Some.ring.now kept.rings (sym there) in
-    let passes = rw (← c.self.view_is) at c.requires.passes in
-    let fits = passes_fit c.self.inside Tx c.args.port c.in-Some.ring.now kept (sym there) passes in
-    rw (← c.self.view_is, ← (frames_are_seen h ports c.args.port c.in-Some.ring.now kept.sided is (sym there) fits)) c.gather.ensures
+    let there : slots_at Tx ports c.args.port.0 ≡ Some r = sym (rw (c.in-Some.is, c.deref.ensures.value) at c.ring_at.ensures) in
+    let fits = passes_fit c.self.inside Tx c.args.port r kept there (rw (← c.self.view_is) at c.requires.passes) in
+    rw (← c.self.view_is, ← (frames_are_seen c.self.inside.hold ports c.args.port r kept.sided (tx_ring_found ports c.args.port r kept.rings there) there fits)) c.gather.ensures

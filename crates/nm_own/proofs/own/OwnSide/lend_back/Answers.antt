@@ -1,4 +1,4 @@
-use Rattle.std.proofs.Common.{ℕ, nat_le, ◌≡◌, ◌<◌, Some, None, true, length, drop, reverse, sym, arith}
+use Rattle.std.proofs.Common.{ℕ, nat_le, ◌≡◌, ◌<◌, None, true, length, drop, reverse, sym, arith}
 use Rattle.std.proofs.lemmas.Bool.Decides.{nat_tests}
 use Rattle.nm_types.specs.declared.id.Side.TheVariants.{Rx}
 use Rattle.nm_port.specs.declared.port.UserPort.{UserPort}
@@ -12,23 +12,25 @@ use Rattle.nm_own.proofs.Passing.{Passes, passes_of}
 use Rattle.nm_own.proofs.GivenBack.{can_exchange, pushed_ring, pushed_fits, back_count, before_stays, indices_come, bytes_come, lent_count}
 use Rattle.nm_port.proofs.Regions.{of_seen, holds_same, taken_of}
 use Rattle.nm_own.proofs.own.OwnSide.lend_back.Goals as goal
+use Rattle.nm_own.proofs.own.OwnSide.lend_back.Goals.{In-Some}
+
+-- the ring that was found passes the checks
+passing : (c : In-Some) → (p : UserPort) × Passes c.self.inside.hold c.self.inside.ports.items Rx c.args.port p c.in-Some.ring.now
+passing c = passes_of c.self.inside Rx c.args.port c.in-Some.ring.now c.self.invariant (sym (rw (c.in-Some.is, c.deref.ensures.value) at c.ring_at.ensures)) (rw (← c.self.view_is) at c.requires.passes)
 
 pub exchange_noted-requires-clause-can : goal.exchange_noted-requires-clause-can
 exchange_noted-requires-clause-can c =
-    let there : slots_at Rx c.self.inside.ports.items c.args.port.0 ≡ Some c.in-Some.ring.now = sym (rw (c.in-Some.is, c.deref.ensures.value) at c.ring_at.ensures) in
-    let x = passes_of c.self.inside Rx c.args.port c.in-Some.ring.now c.self.invariant there (rw (← c.self.view_is) at c.requires.passes) in
+    let x = passing (goal.at.exchange_noted-requires-clause-can c).In-Some in
     can_exchange c.self.inside.hold c.self.inside.ports.items c.args.port x.0 c.in-Some.ring.now x.1
 
 pub exchange_noted-requires-clause-ring : goal.exchange_noted-requires-clause-ring
 exchange_noted-requires-clause-ring c =
-    let there : slots_at Rx c.self.inside.ports.items c.args.port.0 ≡ Some c.in-Some.ring.now = sym (rw (c.in-Some.is, c.deref.ensures.value) at c.ring_at.ensures) in
-    let x = passes_of c.self.inside Rx c.args.port c.in-Some.ring.now c.self.invariant there (rw (← c.self.view_is) at c.requires.passes) in
+    let x = passing (goal.at.exchange_noted-requires-clause-ring c).In-Some in
     pushed_ring c.self.inside.hold c.self.inside.ports.items c.args.port x.0 c.in-Some.ring.now x.1
 
 pub exchange_noted-requires-clause-room : goal.exchange_noted-requires-clause-room
 exchange_noted-requires-clause-room c =
-    let there : slots_at Rx c.self.inside.ports.items c.args.port.0 ≡ Some c.in-Some.ring.now = sym (rw (c.in-Some.is, c.deref.ensures.value) at c.ring_at.ensures) in
-    let x = passes_of c.self.inside Rx c.args.port c.in-Some.ring.now c.self.invariant there (rw (← c.self.view_is) at c.requires.passes) in
+    let x = passing (goal.at.exchange_noted-requires-clause-room c).In-Some in
     rw (← (back_count c.self.inside.hold c.self.inside.ports.items c.args.port x.0 c.in-Some.ring.now x.1)) (rw (← c.self.view_is) at c.requires.notes)
 
 pub unreachable-requires : goal.unreachable-requires
@@ -38,30 +40,25 @@ unreachable-requires c =
 
 pub pushed-first-requires : goal.pushed-first-requires
 pushed-first-requires c =
-    let there : slots_at Rx c.self.inside.ports.items c.args.port.0 ≡ Some c.in-Some.ring.now = sym (rw (c.in-Some.is, c.deref.ensures.value) at c.ring_at.ensures) in
-    let x = passes_of c.self.inside Rx c.args.port c.in-Some.ring.now c.self.invariant there (rw (← c.self.view_is) at c.requires.passes) in
+    let x = passing (goal.at.pushed-first-requires c).In-Some in
     (pushed_fits c.self.inside.hold c.self.inside.ports.items c.args.port x.0 c.in-Some.ring.now x.1).head_within
 
 pub take_slots-requires-clause-room : goal.take_slots-requires-clause-room
 take_slots-requires-clause-room c =
-    let there : slots_at Rx c.self.inside.ports.items c.args.port.0 ≡ Some c.in-Some.ring.now = sym (rw (c.in-Some.is, c.deref.ensures.value) at c.ring_at.ensures) in
-    let x = passes_of c.self.inside Rx c.args.port c.in-Some.ring.now c.self.invariant there (rw (← c.self.view_is) at c.requires.passes) in
+    let x = passing (goal.at.take_slots-requires-clause-room c).In-Some in
     rw (c.pushed-first.ensures.count, ← (back_count c.self.inside.hold c.self.inside.ports.items c.args.port x.0 c.in-Some.ring.now x.1)) (rw (← c.self.view_is) at c.requires.room)
 
 -- what was lent
 record Step (c : goal.After-take_slots) : Type 0 where
   p : UserPort
-  there : slots_at Rx c.self.inside.ports.items c.args.port.0 ≡ Some c.in-Some.ring.now
   passes : Passes c.self.inside.hold c.self.inside.ports.items Rx c.args.port p c.in-Some.ring.now
   taken : AreTaken c.exchange_noted.new.hold c.take_slots.new.hold (user_places c.args.port c.in-Some.ring.now (pushed_count_of c.in-Some.ring.now)) c.args.back.now.items c.take_slots.new.back.items
 
 step : (c : goal.After-take_slots) → Step c
 step c =
-    let there : slots_at Rx c.self.inside.ports.items c.args.port.0 ≡ Some c.in-Some.ring.now = sym (rw (c.in-Some.is, c.deref.ensures.value) at c.ring_at.ensures) in
-    let x = passes_of c.self.inside Rx c.args.port c.in-Some.ring.now c.self.invariant there (rw (← c.self.view_is) at c.requires.passes) in
+    let x = passes_of c.self.inside Rx c.args.port c.in-Some.ring.now c.self.invariant (sym (rw (c.in-Some.is, c.deref.ensures.value) at c.ring_at.ensures)) (rw (← c.self.view_is) at c.requires.passes) in
     record {
       p = x.0;
-      there = there;
       passes = x.1;
       taken = rw (c.side-side.ensures, c.size-size.ensures.size, c.ring.ensures.ring, c.pushed-first.ensures.first, c.pushed-first.ensures.count) at c.take_slots.ensures.taken;
     }
@@ -89,7 +86,7 @@ returns-clause-lent c =
       later = c.take_slots.new.back.items;
       seen = sym c.self.view_is;
       kept = c.self.invariant;
-      ring = s.there;
+      ring = s.passes.at;
       passes = s.passes.passes;
       exchange = c.exchange_noted.ensures.exchanged;
       swapped = c.exchange_noted.ensures.swapped;

@@ -1,4 +1,4 @@
-use Rattle.std.proofs.Common.{ℕ, nat_le, ◌≡◌, ◌<◌, ◌≤◌, map, Some, None, length, drop, reverse, sym, arith}
+use Rattle.std.proofs.Common.{ℕ, nat_le, ◌≡◌, ◌<◌, ◌≤◌, map, None, length, drop, reverse, sym, arith}
 use Rattle.nm_types.specs.declared.id.Side.TheVariants.{Tx}
 use Rattle.nm_port.specs.declared.port.UserPort.{UserPort}
 use Rattle.nm_port.specs.Own.{slots_at}
@@ -15,23 +15,25 @@ use Rattle.nm_own.proofs.Pushed.{can_exchange}
 use Rattle.nm_own.proofs.LentTx.{ring_of_put, fits_of_put, first_within, few_offered, offered_held, offered_flags, offered_number, before_stays, indices_go, bytes_go, lent_number}
 use Rattle.nm_port.proofs.Regions.{of_seen, holds_same, taken_of}
 use Rattle.nm_own.proofs.own.OwnSide.lend_offered.Goals as goal
+use Rattle.nm_own.proofs.own.OwnSide.lend_offered.Goals.{In-Some}
+
+-- the ring that was found passes the checks
+passing : (c : In-Some) → (p : UserPort) × Passes c.self.inside.hold c.self.inside.ports.items Tx c.args.port p c.in-Some.ring.now
+passing c = passes_of c.self.inside Tx c.args.port c.in-Some.ring.now c.self.invariant (sym (rw (c.in-Some.is, c.deref.ensures.value) at c.ring_at.ensures)) (rw (← c.self.view_is) at c.requires.passes)
 
 pub exchange_noted-requires-clause-can : goal.exchange_noted-requires-clause-can
 exchange_noted-requires-clause-can c =
-    let there : slots_at Tx c.self.inside.ports.items c.args.port.0 ≡ Some c.in-Some.ring.now = sym (rw (c.in-Some.is, c.deref.ensures.value) at c.ring_at.ensures) in
-    let x = passes_of c.self.inside Tx c.args.port c.in-Some.ring.now c.self.invariant there (rw (← c.self.view_is) at c.requires.passes) in
+    let x = passing (goal.at.exchange_noted-requires-clause-can c).In-Some in
     can_exchange c.self.inside.hold c.self.inside.ports.items c.args.port x.0 c.in-Some.ring.now x.1
 
 pub exchange_noted-requires-clause-ring : goal.exchange_noted-requires-clause-ring
 exchange_noted-requires-clause-ring c =
-    let there : slots_at Tx c.self.inside.ports.items c.args.port.0 ≡ Some c.in-Some.ring.now = sym (rw (c.in-Some.is, c.deref.ensures.value) at c.ring_at.ensures) in
-    let x = passes_of c.self.inside Tx c.args.port c.in-Some.ring.now c.self.invariant there (rw (← c.self.view_is) at c.requires.passes) in
+    let x = passing (goal.at.exchange_noted-requires-clause-ring c).In-Some in
     ring_of_put c.self.inside.hold c.self.inside.ports.items c.args.port x.0 c.in-Some.ring.now x.1
 
 pub exchange_noted-requires-clause-room : goal.exchange_noted-requires-clause-room
 exchange_noted-requires-clause-room c =
-    let there : slots_at Tx c.self.inside.ports.items c.args.port.0 ≡ Some c.in-Some.ring.now = sym (rw (c.in-Some.is, c.deref.ensures.value) at c.ring_at.ensures) in
-    let x = passes_of c.self.inside Tx c.args.port c.in-Some.ring.now c.self.invariant there (rw (← c.self.view_is) at c.requires.passes) in
+    let x = passing (goal.at.exchange_noted-requires-clause-room c).In-Some in
     let count = offered_number c.self.inside.hold c.self.inside.ports.items c.args.port x.0 c.in-Some.ring.now x.1 in
     let room : offered_count_of c.in-Some.ring.now ≤ vec_capacity c.args.notes = rw (← count) (rw (← c.self.view_is) at c.requires.notes) in
     omega (arith, room)
@@ -43,50 +45,42 @@ unreachable-requires c =
 
 pub offered-first-requires : goal.offered-first-requires
 offered-first-requires c =
-    let there : slots_at Tx c.self.inside.ports.items c.args.port.0 ≡ Some c.in-Some.ring.now = sym (rw (c.in-Some.is, c.deref.ensures.value) at c.ring_at.ensures) in
-    let x = passes_of c.self.inside Tx c.args.port c.in-Some.ring.now c.self.invariant there (rw (← c.self.view_is) at c.requires.passes) in
+    let x = passing (goal.at.offered-first-requires c).In-Some in
     (fits_of_put c.self.inside.hold c.self.inside.ports.items c.args.port x.0 c.in-Some.ring.now x.1).head_within
 
 pub take_slots-requires-clause-room : goal.take_slots-requires-clause-room
 take_slots-requires-clause-room c =
-    let there : slots_at Tx c.self.inside.ports.items c.args.port.0 ≡ Some c.in-Some.ring.now = sym (rw (c.in-Some.is, c.deref.ensures.value) at c.ring_at.ensures) in
-    let x = passes_of c.self.inside Tx c.args.port c.in-Some.ring.now c.self.invariant there (rw (← c.self.view_is) at c.requires.passes) in
+    let x = passing (goal.at.take_slots-requires-clause-room c).In-Some in
     rw (c.offered-first.ensures.count, c.offered-first.ensures.first, ← (offered_number c.self.inside.hold c.self.inside.ports.items c.args.port x.0 c.in-Some.ring.now x.1)) (rw (← c.self.view_is) at c.requires.room)
 
 pub take_slots-requires-clause-count : goal.take_slots-requires-clause-count
 take_slots-requires-clause-count c =
-    let there : slots_at Tx c.self.inside.ports.items c.args.port.0 ≡ Some c.in-Some.ring.now = sym (rw (c.in-Some.is, c.deref.ensures.value) at c.ring_at.ensures) in
-    let x = passes_of c.self.inside Tx c.args.port c.in-Some.ring.now c.self.invariant there (rw (← c.self.view_is) at c.requires.passes) in
+    let x = passing (goal.at.take_slots-requires-clause-count c).In-Some in
     let few = few_offered c.self.inside.hold c.self.inside.ports.items c.args.port x.0 c.in-Some.ring.now x.1 in
     rw (c.size-size.ensures.size, c.ring.ensures.ring, c.offered-first.ensures.count, c.offered-first.ensures.first) (omega (arith, few))
 
 pub take_slots-requires-clause-first : goal.take_slots-requires-clause-first
 take_slots-requires-clause-first c =
-    let there : slots_at Tx c.self.inside.ports.items c.args.port.0 ≡ Some c.in-Some.ring.now = sym (rw (c.in-Some.is, c.deref.ensures.value) at c.ring_at.ensures) in
-    let x = passes_of c.self.inside Tx c.args.port c.in-Some.ring.now c.self.invariant there (rw (← c.self.view_is) at c.requires.passes) in
+    let x = passing (goal.at.take_slots-requires-clause-first c).In-Some in
     rw (c.size-size.ensures.size, c.ring.ensures.ring, c.offered-first.ensures.first) (first_within c.self.inside.hold c.self.inside.ports.items c.args.port x.0 c.in-Some.ring.now x.1)
 
 pub take_slots-requires-clause-held : goal.take_slots-requires-clause-held
 take_slots-requires-clause-held c k below =
-    let there : slots_at Tx c.self.inside.ports.items c.args.port.0 ≡ Some c.in-Some.ring.now = sym (rw (c.in-Some.is, c.deref.ensures.value) at c.ring_at.ensures) in
-    let x = passes_of c.self.inside Tx c.args.port c.in-Some.ring.now c.self.invariant there (rw (← c.self.view_is) at c.requires.passes) in
+    let x = passing (goal.at.take_slots-requires-clause-held c).In-Some in
     rw (c.side-side.ensures, c.size-size.ensures.size, c.ring.ensures.ring, c.offered-first.ensures.first)
     (offered_held c.self.inside.hold c.self.inside.ports.items c.args.port x.0 c.in-Some.ring.now x.1 c.exchange_noted.new.hold c.exchange_noted.ensures.exchanged k)
 
 -- what was lent
 record Step (c : goal.After-take_slots) : Type 0 where
   p : UserPort
-  there : slots_at Tx c.self.inside.ports.items c.args.port.0 ≡ Some c.in-Some.ring.now
   passes : Passes c.self.inside.hold c.self.inside.ports.items Tx c.args.port p c.in-Some.ring.now
   taken : AreTaken c.exchange_noted.new.hold c.take_slots.new.hold (map (place_on c.in-Some.ring.now.side c.args.port) (slots_from c.in-Some.ring.now.ring.size (offered_slot c.in-Some.ring.now.ring) (offered_count_of c.in-Some.ring.now))) c.args.pending.now.items c.take_slots.new.back.items
 
 step : (c : goal.After-take_slots) → Step c
 step c =
-    let there : slots_at Tx c.self.inside.ports.items c.args.port.0 ≡ Some c.in-Some.ring.now = sym (rw (c.in-Some.is, c.deref.ensures.value) at c.ring_at.ensures) in
-    let x = passes_of c.self.inside Tx c.args.port c.in-Some.ring.now c.self.invariant there (rw (← c.self.view_is) at c.requires.passes) in
+    let x = passes_of c.self.inside Tx c.args.port c.in-Some.ring.now c.self.invariant (sym (rw (c.in-Some.is, c.deref.ensures.value) at c.ring_at.ensures)) (rw (← c.self.view_is) at c.requires.passes) in
     record {
       p = x.0;
-      there = there;
       passes = x.1;
       taken = rw (c.side-side.ensures, c.size-size.ensures.size, c.ring.ensures.ring, c.offered-first.ensures.count, c.offered-first.ensures.first) at c.take_slots.ensures.taken;
     }
@@ -108,7 +102,7 @@ returns-clause-lent c =
       r = r;
       seen = sym c.self.view_is;
       kept = c.self.invariant;
-      ring = s.there;
+      ring = s.passes.at;
       passes = s.passes.passes;
       exchange = c.exchange_noted.ensures.exchanged;
       swapped = c.exchange_noted.ensures.swapped;
