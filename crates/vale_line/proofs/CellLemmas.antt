@@ -97,6 +97,16 @@ emptied-more [] i within = absurd (omega (arith, within))
 emptied-more (x ∷ xs) zero within = refl
 emptied-more (x ∷ xs) (suc i) within = let next : suc i + 1 ≡ suc (i + 1) = omega arith in rw next (ap (λ (cs : Cells). None ∷ cs) (emptied-more xs i (omega (arith, within))))
 
+-- cells of which the first were emptied are as many as before
+emptied-within : (xs cells : Cells) (i : ℕ) → cells ≡ map emptied (take i xs) ++ drop i xs → i < length cells → i < length xs
+emptied-within xs cells i are within =
+    let same = ap length are in
+    let parts = length-append (map emptied (take i xs)) (drop i xs) in
+    let count = length-map (take i xs) emptied in
+    let whole = ap length (take-append-drop i xs) in
+    let both = length-append (take i xs) (drop i xs) in
+    omega (arith, same, parts, count, whole, both, within)
+
 -- what is known once the buffer of the cell i was taken
 pub record Emptied (xs : Cells) (i : ℕ) (g : Got) : Type 0 where
   pub cells : slice_set (map emptied (take i xs) ++ drop i xs) i None ≡ map emptied (take (i + 1) xs) ++ drop (i + 1) xs
@@ -106,12 +116,7 @@ pub record Emptied (xs : Cells) (i : ℕ) (g : Got) : Type 0 where
 
 pub emptied-at : (xs cells : Cells) (i : ℕ) (d : Option Got) (g : Got) → cells ≡ map emptied (take i xs) ++ drop i xs → i < length cells → AreFull (drop i xs) → get_or cells i d ≡ Some g → Emptied xs i g
 emptied-at xs cells i d g are within full is =
-    let same = ap length are in
-    let parts = length-append (map emptied (take i xs)) (drop i xs) in
-    let count = length-map (take i xs) emptied in
-    let whole = ap length (take-append-drop i xs) in
-    let both = length-append (take i xs) (drop i xs) in
-    let inside : i < length xs = omega (arith, same, parts, count, whole, both, within) in
+    let inside = emptied-within xs cells i are within in
     let there : get_or (map emptied (take i xs) ++ drop i xs) i d ≡ Some g = rw (← are) is in
     let rest = drop-at xs i d g inside there in
     record {
@@ -123,12 +128,7 @@ emptied-at xs cells i d g are within full is =
 
 pub full-next : (xs cells : Cells) (i : ℕ) (d : Option Got) → cells ≡ map emptied (take i xs) ++ drop i xs → i < length cells → AreFull (drop i xs) → is_some (get_or cells i d) ≡ true
 full-next xs cells i d are within full =
-    let same = ap length are in
-    let parts = length-append (map emptied (take i xs)) (drop i xs) in
-    let count = length-map (take i xs) emptied in
-    let whole = ap length (take-append-drop i xs) in
-    let both = length-append (take i xs) (drop i xs) in
-    let inside : i < length xs = omega (arith, same, parts, count, whole, both, within) in
+    let inside = emptied-within xs cells i are within in
     full-some (get_or cells i d) (subst (λ (cs : Cells). AreFull (get_or cs i d ∷ [])) (sym are) (full-at xs i d inside full))
 
 -- the cell that is filled next

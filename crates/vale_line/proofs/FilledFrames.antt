@@ -1,6 +1,8 @@
 -- A lease once one frame more is filled into its buffers.
 use Rattle.std.proofs.Common.{suc, ◌≡◌, ◌+◌, ◌-◌, ◌<◌, ◌≤◌, ◌++◌, ◌∷◌, [], ℕ, List, length, take, drop, get_or, ap, refl, sym, ◌∙◌, subst, arith}
 use Rattle.std.specs.Prelude.{sum}
+use Rattle.std.specs.declared.vec.Vec.{Vec}
+use Rattle.std.specs.declared.alloc.Global.{Global}
 use Rattle.std.proofs.lemmas.List.{length-append, length-drop, length-map, drop-drop}
 use Rattle.nm_region.specs.Buffers.{Buffer}
 use Rattle.nm_frag.specs.Parts.{slots_of_length, parts_of}
@@ -106,3 +108,7 @@ lease_of l new n = record { id = l.id.0; to = l.to.0; filled = take (l.filled + 
 -- the lease that is seen then
 pub seen-with : (l : Inside) (new : List Got) (n : ℕ) (bytes : List ℕ) → HasFrame l new n bytes → lease_of l new n ≡ with_frame bytes (lease_state l)
 seen-with l new n bytes f = rw (f.filled, f.left, f.empty) refl
+
+-- and what holds of its fields
+pub still-stored : (l : Inside) (gots : Vec Got Global) (n : ℕ) (bytes : List ℕ) → HasFrame l gots.items n bytes → IsStoredLease (record l { gots = gots; filled = l.filled + n; frames = l.frames + 1 })
+still-stored l gots n bytes f = record { within = f.within; few = f.few; frames = f.count; count = f.total; whole = f.whole; room = f.room }

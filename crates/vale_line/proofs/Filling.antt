@@ -5,7 +5,7 @@ use Rattle.vale_line.proofs.FittingLemmas.{sum-cons}
 use Rattle.std.proofs.Math.Seq.{take-append-add, drop-append-add}
 use Rattle.std.proofs.lemmas.Bool.{cases_Bool, leb-true, leb-false}
 use Rattle.nm_frag.proofs.PartLemmas.{length-parts}
-use Rattle.std.proofs.lemmas.List.{length-append, length-drop, drop-drop, drop-map, length-map, length-take-le, take_all, drop_all, append-nil}
+use Rattle.std.proofs.lemmas.List.{length-append, length-drop, drop-drop, drop-map, length-map, length-take-le, take_all, drop_all}
 use Rattle.std.proofs.lemmas.List.Elements.{All-head, All-tail}
 use Rattle.nm_region.specs.Buffers.{Buffer}
 use Rattle.nm_frag.specs.Parts.{slots_of_length, first_parts, parts_of}
@@ -44,29 +44,24 @@ written-more (x ∷ xs) (suc at) left rest g h e =
     let next : suc at + 1 ≡ suc (at + 1) = omega arith in
     rw next (ap (λ (ys : List Got). x ∷ ys) (written-more xs at left rest g (omega (arith, h)) e))
 
-pub take-min : (n : ℕ) (xs : List ℕ) → take (min (length xs) n) xs ≡ take n xs
-take-min n xs = elim (cases_Bool (nat_le (length xs) n)) [
+-- a cut at the length is one at any number behind it
+at-min : {X : Type 0} (f : ℕ → X) (len n : ℕ) → (len ≤ n → f len ≡ f n) → f (min len n) ≡ f n
+at-min f len n all = elim (cases_Bool (nat_le len n)) [
   | inl here ↦
-      let few : length xs ≤ n = leb-true (length xs) n here in
-      let same : min (length xs) n ≡ length xs = omega (arith, few) in
-      ap (λ (k : ℕ). take k xs) same ∙ (take_all (length xs) xs (omega arith) ∙ sym (take_all n xs few))
+      let few : len ≤ n = leb-true len n here in
+      let same : min len n ≡ len = omega (arith, few) in
+      ap f same ∙ all few
   | inr other ↦
-      let many : n < length xs = leb-false (length xs) n other in
-      let same : min (length xs) n ≡ n = omega (arith, many) in
-      ap (λ (k : ℕ). take k xs) same
+      let many : n < len = leb-false len n other in
+      let same : min len n ≡ n = omega (arith, many) in
+      ap f same
 ]
 
+pub take-min : (n : ℕ) (xs : List ℕ) → take (min (length xs) n) xs ≡ take n xs
+take-min n xs = at-min (λ k. take k xs) (length xs) n (λ few. take_all (length xs) xs (omega arith) ∙ sym (take_all n xs few))
+
 pub drop-min : (n : ℕ) (xs : List ℕ) → drop (min (length xs) n) xs ≡ drop n xs
-drop-min n xs = elim (cases_Bool (nat_le (length xs) n)) [
-  | inl here ↦
-      let few : length xs ≤ n = leb-true (length xs) n here in
-      let same : min (length xs) n ≡ length xs = omega (arith, few) in
-      ap (λ (k : ℕ). drop k xs) same ∙ (drop_all (length xs) xs (omega arith) ∙ sym (drop_all n xs few))
-  | inr other ↦
-      let many : n < length xs = leb-false (length xs) n other in
-      let same : min (length xs) n ≡ n = omega (arith, many) in
-      ap (λ (k : ℕ). drop k xs) same
-]
+drop-min n xs = at-min (λ k. drop k xs) (length xs) n (λ few. drop_all (length xs) xs (omega arith) ∙ sym (drop_all n xs few))
 
 -- a lease's buffers, once a frame is filled in behind the filled ones: what stands before, what it
 -- takes, and what is left

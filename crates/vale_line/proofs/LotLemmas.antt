@@ -5,7 +5,7 @@ use Rattle.std.specs.Prelude.{◌==◌}
 use Rattle.std.specs.List.{prefix_len, list_any}
 use Rattle.std.specs.Option.{option_map_or}
 use Rattle.std.proofs.lemmas.Bool.{cases_Bool, eq-eqb, or_parts, or_from, and_parts, both_ways, eqb-true}
-use Rattle.std.proofs.lemmas.List.{map-append, length-append, length-map, length-drop}
+use Rattle.std.proofs.lemmas.List.{append_assoc, map-append, length-append, length-map, length-drop}
 use Rattle.std.proofs.lemmas.List.Sums.{sum_by-cons, sum_by_push, sum_by-take-drop}
 use Rattle.std.proofs.lemmas.List.Folds.{list_any_at}
 use Rattle.std.proofs.lemmas.List.Elements.{All-push, All-same, All-cons, All-head, All-tail, All-drop}
@@ -131,6 +131,17 @@ given lots done =
       some = first-some lots (gots_of_first lots) first;
       count = ap length ready ∙ length-append (gots_of_first lots) (ready_gots (drop 1 lots));
     }
+
+-- what is then behind others that were given before, and what is left of the line
+pub moved-first : {X : Type 0} (f : List Got → List X) → ((gs hs : List Got) → f (gs ++ hs) ≡ f gs ++ f hs) → (lots now : List HeldLot) → Given lots → now ≡ drop 1 lots → (had all : List X) → all ≡ had ++ f (gots_of_first lots)
+    → all ++ f (ready_gots now) ≡ had ++ f (ready_gots lots)
+moved-first {X = X} f parts lots now step rest had all is =
+    ap (λ (xs : List X). xs ++ f (ready_gots now)) is
+    ∙ (ap (λ (ls : List HeldLot). (had ++ f (gots_of_first lots)) ++ f (ready_gots ls)) rest
+    ∙ (append_assoc had (f (gots_of_first lots)) (f (ready_gots (drop 1 lots))) ∙ ap (λ (xs : List X). had ++ xs) (sym (parts (gots_of_first lots) (ready_gots (drop 1 lots))) ∙ ap f (sym step.ready))))
+
+pub behind-first : (line now : LineState) → Given line.lots → now ≡ record line { lots = drop 1 line.lots } → record now { lots = behind_done now.lots } ≡ record line { lots = behind_done line.lots }
+behind-first line now step is = ap (λ (l : LineState). record l { lots = behind_done l.lots }) is ∙ ap (λ (ls : List HeldLot). record line { lots = ls }) (sym step.behind)
 
 -- where one lot is done, what is ready is in it
 pub record OneDone (lots : List HeldLot) : Type 0 where

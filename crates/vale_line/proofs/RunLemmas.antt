@@ -19,15 +19,20 @@ front-most n vs front is =
     omega (arith, same, whole, parts)
 
 -- the first part is emptied, then the second
-module _ (n : ℕ) (vs front w back : Cells) (front_is : front ≡ take n vs) (w_is : w ≡ map emptied front) (back_is : back ≡ drop n (first_written n vs w)) where
+pub record FrontEmptied (n : ℕ) (vs front w back : Cells) : Type 0 where
+  pub front_is : front ≡ take n vs
+  pub w_is : w ≡ map emptied front
+  pub back_is : back ≡ drop n (first_written n vs w)
+
+module _ {n : ℕ} {vs front w back : Cells} (e : FrontEmptied n vs front w back) where
   w_at : w ≡ map emptied (take n vs)
-  w_at = w_is ∙ ap (λ (cs : Cells). map emptied cs) front_is
+  w_at = e.w_is ∙ ap (λ (cs : Cells). map emptied cs) e.front_is
 
   back_at : back ≡ drop n vs
-  back_at = back_is ∙ taken-back n vs w w_at
+  back_at = e.back_is ∙ taken-back n vs w w_at
 
   both : front ++ back ≡ vs
-  both = ap (λ (cs : Cells). cs ++ back) front_is ∙ (ap (λ (cs : Cells). take n vs ++ cs) back_at ∙ take-append-drop n vs)
+  both = ap (λ (cs : Cells). cs ++ back) e.front_is ∙ (ap (λ (cs : Cells). take n vs ++ cs) back_at ∙ take-append-drop n vs)
 
   pub back-full : AreFull vs → AreFull back
   back-full full = subst AreFull (sym back_at) (full-parts (take n vs) (drop n vs) (subst AreFull (sym (take-append-drop n vs)) full)).1
@@ -39,7 +44,7 @@ module _ (n : ℕ) (vs front w back : Cells) (front_is : front ≡ take n vs) (w
   gots-both = sym (gots-append front back) ∙ ap gots_in both
 
   pub all-empty : (w2 : Cells) → w2 ≡ map emptied back → AreEmpty (second_written n (first_written n vs w) w2)
-  all-empty w2 is = subst AreEmpty (sym (taken-all n vs w w2 w_at (is ∙ ap (λ (cs : Cells). map emptied cs) back_is))) (gots-emptied vs)
+  all-empty w2 is = subst AreEmpty (sym (taken-all n vs w w2 w_at (is ∙ ap (λ (cs : Cells). map emptied cs) e.back_is))) (gots-emptied vs)
 
   -- what is in both parts comes behind others
   pub moved-both : {X : Type 0} (f : List Got → List X) → ((gs hs : List Got) → f (gs ++ hs) ≡ f gs ++ f hs) → (given middle all : List X)

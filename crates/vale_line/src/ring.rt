@@ -402,6 +402,21 @@ impl Ring {
         }
     }
 
+    /// Gives the cells of the first lot, which is done. Returns its buffers.
+    fn give_first(&mut self) -> Vec<Got>
+        requires ring { IsRing self.old }
+        requires done { IsTrue (is_some (first_gots (ring_state self.old).lots)) }
+        ensures ring { IsRing self.new }
+        ensures line { ring_state self.new ≡ record (ring_state self.old) {
+          lots = drop 1 (ring_state self.old).lots;
+        } }
+        ensures gots { result.items ≡ gots_of_first (ring_state self.old).lots }
+    {
+        let (reach, gots) = self.take_first().into_parts();
+        self.given.join(reach);
+        gots
+    }
+
     /// Gives the buffers of the first lot, which is done, behind others.
     pub(crate) fn publish_first(&mut self, gots: Vec<Got>) -> Vec<Got>
         requires ring { IsRing self.old }
@@ -415,9 +430,7 @@ impl Ring {
         ensures gots { result.items ≡ gots.items ++ gots_of_first (ring_state self.old).lots }
         ensures capacity { vec_capacity gots ≤ vec_capacity result }
     {
-        let (reach, next) = self.take_first().into_parts();
-        self.given.join(reach);
-        joined(gots, next)
+        joined(gots, self.give_first())
     }
 
     /// Gives the buffers of the first lot, which is done, without their frames. Returns the number
@@ -437,9 +450,7 @@ impl Ring {
         ensures count { result ≡ sum_by last_count (gots_of_first (ring_state self.old).lots) }
         ensures capacity { vec_capacity bufs.new ≡ vec_capacity bufs.old }
     {
-        let (reach, gots) = self.take_first().into_parts();
-        self.given.join(reach);
-        discard(gots, bufs)
+        discard(self.give_first(), bufs)
     }
 
     /// Lends the first `k` idle buffers in an empty vector that has room for them.

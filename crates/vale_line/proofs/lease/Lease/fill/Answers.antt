@@ -1,11 +1,11 @@
-use Rattle.std.proofs.Common.{◌≡◌, ◌+◌, ◌∙◌, length, drop, ap, sym, arith, rules}
+use Rattle.std.proofs.Common.{◌≡◌, ◌+◌, ◌∙◌, length, drop, ap, sym, arith}
 use Rattle.std.proofs.lemmas.List.{length-drop, length-map, length-take-le}
 use Rattle.nm_frag.specs.Parts.{slots_of_length}
 use Rattle.nm_frag.proofs.PartLemmas.{slots-some}
 use Rattle.vale_line.specs.declared.got.Got.{Got}
 use Rattle.vale_line.specs.Gots.{buffer_of}
 use Rattle.vale_line.specs.Leased.{first_size, next_of, sizes_in}
-use Rattle.vale_line.proofs.FilledFrames.{HasFrame, has-frame, next-fits, seen-with}
+use Rattle.vale_line.proofs.FilledFrames.{HasFrame, has-frame, next-fits, seen-with, still-stored}
 use Rattle.vale_line.proofs.lease.Lease.fill.Goals as goal
 
 pub fill_parts-requires-clause-room : goal.fill_parts-requires-clause-room
@@ -27,16 +27,7 @@ step c =
     has-frame inside c.fill_parts.new.gots.items (c.from-size.result + 1) bytes c.self.invariant size is c.fill_parts.ensures
 
 pub invariant_of-self : goal.invariant_of-self
-invariant_of-self c =
-    let s = step c in
-    record {
-      within = s.within;
-      few = s.few;
-      frames = s.count;
-      count = s.total;
-      whole = s.whole;
-      room = s.room;
-    }
+invariant_of-self c = still-stored c.self.inside c.fill_parts.new.gots (c.from-size.result + 1) c.args.bytes.now (step c)
 
 pub returns-clause-lease : goal.returns-clause-lease
 returns-clause-lease c = rw (← c.self.view_is) (seen-with c.self.inside c.fill_parts.new.gots.items (c.from-size.result + 1) c.args.bytes.now (step c))

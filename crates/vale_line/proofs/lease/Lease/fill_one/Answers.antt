@@ -2,7 +2,7 @@ use Rattle.std.proofs.Common.{◌≡◌, ◌∙◌, length, drop, ap, sym, arith
 use Rattle.nm_frag.specs.Parts.{slots_of_length}
 use Rattle.nm_frag.proofs.PartLemmas.{slots-one}
 use Rattle.vale_line.specs.Leased.{first_size, next_of, sizes_in}
-use Rattle.vale_line.proofs.FilledFrames.{HasFrame, has-frame, next-fits, seen-with}
+use Rattle.vale_line.proofs.FilledFrames.{HasFrame, has-frame, next-fits, seen-with, still-stored}
 use Rattle.vale_line.proofs.lease.Lease.fill_one.Goals as goal
 
 pub fill_first-requires-clause-room : goal.fill_first-requires-clause-room
@@ -23,16 +23,7 @@ step c =
     has-frame inside c.fill_first.new.gots.items 1 bytes c.self.invariant (sym one) is c.fill_first.ensures
 
 pub invariant_of-self : goal.invariant_of-self
-invariant_of-self c =
-    let s = step c in
-    record {
-      within = s.within;
-      few = s.few;
-      frames = s.count;
-      count = s.total;
-      whole = s.whole;
-      room = s.room;
-    }
+invariant_of-self c = still-stored c.self.inside c.fill_first.new.gots 1 c.args.bytes.now (step c)
 
 pub returns-clause-lease : goal.returns-clause-lease
 returns-clause-lease c = rw (← c.self.view_is) (seen-with c.self.inside c.fill_first.new.gots.items 1 c.args.bytes.now (step c))

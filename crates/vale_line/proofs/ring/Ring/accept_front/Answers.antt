@@ -11,6 +11,7 @@ use Rattle.vale_line.specs.Rings.{held, held_lots, IsHeld}
 use Rattle.vale_line.proofs.CellLemmas.{empty-parts, gots-append}
 use Rattle.vale_line.proofs.RingLemmas.{pushed, same-run, take-more, drop-more, AreBlank}
 use Rattle.vale_line.proofs.ring.Ring.accept_front.Goals as goal
+use Rattle.vale_line.proofs.ring.Ring.accept_front.Goals.{After-len-count}
 
 -- the first k of the empty cells at the front, and what is behind them
 pub record Front (k lent : ℕ) (vs : List (Option Got)) : Type 0 where
@@ -31,24 +32,24 @@ front k lent vs few empty =
       gots = ap (λ (gs : List Got). gs ++ gots_in (drop k vs)) (sym both.0) ∙ (sym (gots-append (take k vs) (drop k vs)) ∙ ap gots_in (take-append-drop k vs));
     }
 
+fits : (c : After-len-count) → c.len-count.result ≤ c.args.self.now.lent
+fits c = let few = c.requires.few in let len = c.len-count.ensures in let same = c.args.gots.ok.0 in omega (arith, few, len, same)
+
 pub returns-clause-ring : goal.returns-clause-ring
 returns-clause-ring c =
     let r = c.args.self.now in
     let k = c.len-count.result in
     let vs = r.idle.values in
-    let few = c.requires.few in
-    let len = c.len-count.ensures in
-    let same = c.args.gots.ok.0 in
     let within = c.requires.ring.lent_within in
-    let fits : k ≤ r.lent = omega (arith, few, len, same) in
-    let f = front k r.lent vs fits c.requires.ring.lent in
+    let few = fits (goal.at.returns-clause-ring c).After-len-count in
+    let f = front k r.lent vs few c.requires.ring.lent in
     let lot = c.done.result in
     let was : lot.reach ≡ record r.idle { values = take k vs } = ap (λ (x : Lot). x.reach) c.done.ensures ∙ c.split_front-reach.ensures.first in
     let cells : SameCells (record r.idle { values = take k vs }) lot.reach = subst (λ (i : Run (Option Got)). SameCells (record r.idle { values = take k vs }) i) (sym was) (same-run (record r.idle { values = take k vs })) in
     let holds : IsHeld lot = subst (λ (i : Run (Option Got)). AreEmpty i.values) (sym was) f.empty in
     let left = length-drop k vs in
-    pushed r k (r.lent - k) c.push_back_reserved.new.self lot c.split_front-reach.new.self c.requires.ring (omega (arith, fits, within)) c.push_back_reserved.ensures.items c.push_back_reserved.ensures.capacity
-    c.split_front-reach.ensures.rest cells holds (omega (arith, left, within, fits)) f.left (subst AreFull (sym f.rest) c.requires.ring.full)
+    pushed r k (r.lent - k) c.push_back_reserved.new.self lot c.split_front-reach.new.self c.requires.ring (omega (arith, few, within)) c.push_back_reserved.ensures.items c.push_back_reserved.ensures.capacity
+    c.split_front-reach.ensures.rest cells holds (omega (arith, left, within, few)) f.left (subst AreFull (sym f.rest) c.requires.ring.full)
     (subst AreBlank (sym f.gots) c.requires.ring.blank)
 
 pub returns-clause-line : goal.returns-clause-line
@@ -57,16 +58,15 @@ returns-clause-line c =
     let k = c.len-count.result in
     let vs = r.idle.values in
     let gots = c.args.gots.items in
-    let few = c.requires.few in
     let len = c.len-count.ensures in
     let same = c.args.gots.ok.0 in
     let within = c.requires.ring.lent_within in
-    let fits : k ≤ r.lent = omega (arith, few, len, same) in
-    let f = front k r.lent vs fits c.requires.ring.lent in
+    let few = fits (goal.at.returns-clause-line c).After-len-count in
+    let f = front k r.lent vs few c.requires.ring.lent in
     let lot = c.done.result in
     let now = ap (λ (i : Run (Option Got)). i.values) c.split_front-reach.ensures.rest in
     let idle : buffers_of (gots_in c.split_front-reach.new.self.values) ≡ buffers_of (gots_in vs) = ap (λ (cs : List (Option Got)). buffers_of (gots_in cs)) now ∙ ap buffers_of f.gots in
-    let front_len = length-take-le k vs (omega (arith, fits, within)) in
+    let front_len = length-take-le k vs (omega (arith, few, within)) in
     let first : length c.split_front-reach.result.values ≡ length gots = ap (λ (i : Run (Option Got)). length i.values) c.split_front-reach.ensures.first ∙ omega (arith, front_len, len, same) in
     let put : held lot ≡ put_lot c.args.id gots = ap held c.done.ensures ∙ ap (λ (n : ℕ). record { id = c.args.id; slots = n; gots = Some gots }) first in
     let lots : held_lots c.push_back_reserved.new.self.items ≡ held_lots r.lots.items ++ put_lot c.args.id gots ∷ [] =

@@ -1,36 +1,12 @@
-use Rattle.std.proofs.Common.{◌++◌, List, Option, length, ap, sym, ◌∙◌, arith}
-use Rattle.nm_reach.specs.Fields.{Run}
+use Rattle.std.proofs.Common.{◌++◌, List, length, ap, ◌∙◌, arith}
 use Rattle.vale_line.specs.declared.got.Got.{Got}
-use Rattle.vale_line.proofs.RingLemmas.{published-first, some-lot, first-some, first-held, first-meets}
 use Rattle.vale_line.proofs.ring.Ring.publish_first.Goals as goal
-
-pub into_parts-reach-requires : goal.into_parts-reach-requires
-into_parts-reach-requires c = record { done = first-some c.args.self.now.lots.items c.take_first.result c.take_first.ensures.first c.requires.done }
 
 pub joined-requires : goal.joined-requires
 joined-requires c =
-    let lots = c.args.self.now.lots.items in
-    let held = ap length (first-held lots c.take_first.result c.into_parts-reach.result.1 (some-lot lots c.requires.done) c.take_first.ensures.first c.into_parts-reach.ensures.gots) in
-    let len = c.into_parts-reach.result.1.ok.0 in
+    let held = ap length c.give_first.ensures.gots in
+    let len = c.give_first.result.ok.0 in
     record { room = λ some. let room = c.requires.room some in omega (arith, held, room, len) }
 
-pub join-requires : goal.join-requires
-join-requires c =
-    let r = c.args.self.now in
-    first-meets r c.take_first.new.self c.take_first.result c.into_parts-reach.result.0 c.requires.ring (some-lot r.lots.items c.requires.done)
-    c.take_first.ensures.first c.take_first.ensures.others.1 c.into_parts-reach.ensures.reach
-
-pub returns-clause-ring : goal.returns-clause-ring
-returns-clause-ring c =
-    let r = c.args.self.now in
-    let took = c.take_first.ensures in
-    let s = c.take_first.new.self in
-    let others = took.others in
-    published-first r s c.take_first.result c.join.new.self c.requires.ring (some-lot r.lots.items c.requires.done) took.first took.rest took.capacity
-    others.0 others.1 others.2 others.3 (c.join.ensures ∙ ap (λ (run : Run (Option Got)). record s.given { values = s.given.values ++ run.values }) c.into_parts-reach.ensures.reach)
-
 pub returns-clause-gots : goal.returns-clause-gots
-returns-clause-gots c =
-    let lots = c.args.self.now.lots.items in
-    c.joined.ensures.gots ∙ ap (λ (gs : List Got). c.args.gots.items ++ gs)
-    (sym (first-held lots c.take_first.result c.into_parts-reach.result.1 (some-lot lots c.requires.done) c.take_first.ensures.first c.into_parts-reach.ensures.gots))
+returns-clause-gots c = c.joined.ensures.gots ∙ ap (λ (gs : List Got). c.args.gots.items ++ gs) c.give_first.ensures.gots
