@@ -21,7 +21,7 @@ use Rattle.vale_names.specs.Switches.{is_for, is_vacant, ports_on, ArePlaces, pl
 use Rattle.vale_names.specs.Named.{all_ports, AreNamed}
 use Rattle.vale_names.specs.PortNames.{HaveNamesOnce, IsNames}
 use Rattle.nm_types.specs.Openings as rules
-use Rattle.vale_names.proofs.PortLemmas.{any_in_filter, find_in_filter, filter_none_pass, all_exclude, all_joined, all_map, all_filter, pipe_no_switch_port, monitor_no_switch_port, monitor_no_pipe, beside_switch_port, beside_pipe, beside_monitor, beside_others, joins_behind, joins_before, group_fits, beside_itself_switch_port, beside_itself_pipe, beside_itself_monitor}
+use Rattle.vale_names.proofs.PortLemmas.{any_in_filter, find_in_filter, filter_none_pass, all_exclude, all_joined, all_map, all_filter, pipe_alone, monitor_alone, beside_switch_port, beside_pipe, beside_monitor, beside_others, joins_behind, joins_before, group_fits, beside_itself_switch_port, beside_itself_pipe, beside_itself_monitor}
 use Rattle.vale_names.proofs.SwitchLemmas.{FoundPlace, finds_beside, place_found, place_missed, places_none, places_switch_names, place_at, switch_count, switches_append, some_count, some_all, some_fewer, places_shut, places_without, ports_on-shut, ports_on-without, name_kept, few_on, few_on_switch, some_at_most}
 use Rattle.nm_types.specs.Openings.{most_beside, are_sizes, open_refusal}
 use Rattle.vale_names.proofs.PortRules.{has_switch_name, is_on_switch, is_beside, switches_of, finds_switches_full, name_refusal, finds_ports_full, switches_counted, count_of_names, refusal_of_names}
@@ -75,8 +75,8 @@ no_switch_names : (b c : List NamedPort) → list_all has_pipe_name b ≡ true �
 no_switch_names b c pipes monitors =
     list_any-append has_switch_name b c
     ∙ or_from (list_any has_switch_name b) (list_any has_switch_name c)
-    (all_exclude has_switch_name has_pipe_name b (λ p is. pipe_no_switch_port p.name is) pipes)
-    (all_exclude has_switch_name has_monitor_name c (λ p is. monitor_no_switch_port p.name is) monitors)
+    (all_exclude has_switch_name has_pipe_name b (λ p is. (pipe_alone p.name is).0) pipes)
+    (all_exclude has_switch_name has_monitor_name c (λ p is. (monitor_alone p.name is).0) monitors)
 
 pub names_find_switch : (s : List Switch) (p m : PortGroup) (name : List ℕ) → AreNamed s p m → is_switch_port_name name ≡ true → open_port_of (all_ports s p m) name ≡ open_port_of (ports_on s) name
 names_find_switch s p m name are kind =
@@ -100,14 +100,14 @@ not_full ports name other = rw other refl
 pub names_refuse_pipe : (s : List Switch) (p m : PortGroup) (name : List ℕ) → AreNamed s p m → is_pipe_name name ≡ true → name_refusal (all_ports s p m) name ≡ group_refusal p name
 names_refuse_pipe s p m name are kind =
     let beside = beside_pipe name (ports_on s) p.ports m.ports kind (places_switch_names s are.places) are.pipe_ends are.monitor_ports in
-    let other = pipe_no_switch_port name kind in
+    let other = (pipe_alone name kind).0 in
     group_told (all_ports s p m) name p beside (are.pipes_most ∙ rw (other, kind) refl) (beside_itself_pipe name kind) (not_full (all_ports s p m) name other)
 
 pub names_refuse_monitor : (s : List Switch) (p m : PortGroup) (name : List ℕ) → AreNamed s p m → is_monitor_name name ≡ true → name_refusal (all_ports s p m) name ≡ group_refusal m name
 names_refuse_monitor s p m name are kind =
     let beside = beside_monitor name (ports_on s) p.ports m.ports kind (places_switch_names s are.places) are.pipe_ends are.monitor_ports in
-    let other = monitor_no_switch_port name kind in
-    let no_pipe = monitor_no_pipe name kind in
+    let other = (monitor_alone name kind).0 in
+    let no_pipe = (monitor_alone name kind).1 in
     group_told (all_ports s p m) name m beside (are.monitors_most ∙ rw (other, no_pipe) refl) (beside_itself_monitor name kind) (not_full (all_ports s p m) name other)
 
 all_switches : (s : List Switch) (p m : PortGroup) → AreNamed s p m → length (switches_of (all_ports s p m)) ≡ some_count s

@@ -1,5 +1,5 @@
 -- Lists of ports, and what a name's kind tells of the ports beside it.
-use Rattle.std.proofs.Common.{ℕ, zero, suc, Bool, true, false, cond, List, [], ◌∷◌, ◌++◌, ◌≡◌, ◌<◌, ◌≤◌, ◌+◌, Option, Some, None, length, map, get_or, append_assoc, refl, sym, ◌∙◌, ap, arith, ◌||◌, inl, inr}
+use Rattle.std.proofs.Common.{ℕ, zero, suc, Bool, true, false, cond, List, [], ◌∷◌, ◌++◌, ◌≡◌, ◌<◌, ◌≤◌, ◌+◌, Option, Some, None, length, map, get_or, append_assoc, refl, sym, ◌∙◌, ap, arith, ◌&&◌, ◌||◌, inl, inr}
 use Rattle.std.specs.Prelude.{filter, find, bytes_eq, nat_le}
 use Rattle.std.specs.List.{list_any, list_all}
 use Rattle.std.proofs.lemmas.Bool.{cases_Bool, and_parts, and_from, or_parts, or_from, both_ways, false≢true, false_from_ne_true, leb-false}
@@ -155,71 +155,36 @@ pub vale_is_switch_port : (name : List ℕ) → kind_of name ≡ Some Vale → i
 unfolding is_switch_port_name
 vale_is_switch_port name kind = ap is_switch_port_kind kind
 
-pub switch_port_no_pipe : (name : List ℕ) → is_switch_port_name name ≡ true → is_pipe_name name ≡ false
-unfolding is_switch_port_name is_pipe_name
-switch_port_no_pipe name is = apart (kind_of name) is
-  where
-    apart : (kind : Option Kind) → is_switch_port_kind kind ≡ true → is_pipe_kind kind ≡ false
-    apart (Some Vale) h = refl
-    apart (Some Master) h = absurd (false≢true h)
-    apart (Some Slave) h = absurd (false≢true h)
-    apart (Some Monitor) h = refl
-    apart None h = refl
+-- no kind is one of two
+one_kind : (kind : Option Kind) → ((is_switch_port_kind kind && is_pipe_kind kind) ≡ false) × ((is_switch_port_kind kind && is_monitor_kind kind) ≡ false) × ((is_pipe_kind kind && is_monitor_kind kind) ≡ false)
+one_kind (Some Vale) = (refl, refl, refl)
+one_kind (Some Master) = (refl, refl, refl)
+one_kind (Some Slave) = (refl, refl, refl)
+one_kind (Some Monitor) = (refl, refl, refl)
+one_kind None = (refl, refl, refl)
 
-pub switch_port_no_monitor : (name : List ℕ) → is_switch_port_name name ≡ true → is_monitor_name name ≡ false
-unfolding is_switch_port_name is_monitor_name
-switch_port_no_monitor name is = apart (kind_of name) is
-  where
-    apart : (kind : Option Kind) → is_switch_port_kind kind ≡ true → is_monitor_kind kind ≡ false
-    apart (Some Vale) h = refl
-    apart (Some Master) h = refl
-    apart (Some Slave) h = refl
-    apart (Some Monitor) h = absurd (false≢true h)
-    apart None h = refl
+no_second : (a b : Bool) → (a && b) ≡ false → a ≡ true → b ≡ false
+no_second true b none is = none
+no_second false b none is = absurd (false≢true is)
 
-pub pipe_no_switch_port : (name : List ℕ) → is_pipe_name name ≡ true → is_switch_port_name name ≡ false
-unfolding is_switch_port_name is_pipe_name
-pipe_no_switch_port name is = apart (kind_of name) is
-  where
-    apart : (kind : Option Kind) → is_pipe_kind kind ≡ true → is_switch_port_kind kind ≡ false
-    apart (Some Vale) h = absurd (false≢true h)
-    apart (Some Master) h = refl
-    apart (Some Slave) h = refl
-    apart (Some Monitor) h = refl
-    apart None h = refl
+no_first : (a b : Bool) → (a && b) ≡ false → b ≡ true → a ≡ false
+no_first true b none is = absurd (false≢true (sym none ∙ is))
+no_first false b none is = refl
 
-pub pipe_no_monitor : (name : List ℕ) → is_pipe_name name ≡ true → is_monitor_name name ≡ false
-unfolding is_pipe_name is_monitor_name
-pipe_no_monitor name is = apart (kind_of name) is
-  where
-    apart : (kind : Option Kind) → is_pipe_kind kind ≡ true → is_monitor_kind kind ≡ false
-    apart (Some Vale) h = refl
-    apart (Some Master) h = refl
-    apart (Some Slave) h = refl
-    apart (Some Monitor) h = absurd (false≢true h)
-    apart None h = refl
+pub switch_port_alone : (name : List ℕ) → is_switch_port_name name ≡ true → (is_pipe_name name ≡ false) × (is_monitor_name name ≡ false)
+unfolding is_switch_port_name is_pipe_name is_monitor_name
+switch_port_alone name is = let k = kind_of name in let one = one_kind k in
+    (no_second (is_switch_port_kind k) (is_pipe_kind k) one.0 is, no_second (is_switch_port_kind k) (is_monitor_kind k) one.1 is)
 
-pub monitor_no_switch_port : (name : List ℕ) → is_monitor_name name ≡ true → is_switch_port_name name ≡ false
-unfolding is_switch_port_name is_monitor_name
-monitor_no_switch_port name is = apart (kind_of name) is
-  where
-    apart : (kind : Option Kind) → is_monitor_kind kind ≡ true → is_switch_port_kind kind ≡ false
-    apart (Some Vale) h = absurd (false≢true h)
-    apart (Some Master) h = refl
-    apart (Some Slave) h = refl
-    apart (Some Monitor) h = refl
-    apart None h = refl
+pub pipe_alone : (name : List ℕ) → is_pipe_name name ≡ true → (is_switch_port_name name ≡ false) × (is_monitor_name name ≡ false)
+unfolding is_switch_port_name is_pipe_name is_monitor_name
+pipe_alone name is = let k = kind_of name in let one = one_kind k in
+    (no_first (is_switch_port_kind k) (is_pipe_kind k) one.0 is, no_second (is_pipe_kind k) (is_monitor_kind k) one.2 is)
 
-pub monitor_no_pipe : (name : List ℕ) → is_monitor_name name ≡ true → is_pipe_name name ≡ false
-unfolding is_pipe_name is_monitor_name
-monitor_no_pipe name is = apart (kind_of name) is
-  where
-    apart : (kind : Option Kind) → is_monitor_kind kind ≡ true → is_pipe_kind kind ≡ false
-    apart (Some Vale) h = refl
-    apart (Some Master) h = absurd (false≢true h)
-    apart (Some Slave) h = absurd (false≢true h)
-    apart (Some Monitor) h = refl
-    apart None h = refl
+pub monitor_alone : (name : List ℕ) → is_monitor_name name ≡ true → (is_switch_port_name name ≡ false) × (is_pipe_name name ≡ false)
+unfolding is_switch_port_name is_pipe_name is_monitor_name
+monitor_alone name is = let k = kind_of name in let one = one_kind k in
+    (no_first (is_switch_port_kind k) (is_monitor_kind k) one.1 is, no_first (is_pipe_kind k) (is_monitor_kind k) one.2 is)
 
 pub master_is_pipe : (name : List ℕ) → kind_of name ≡ Some Master → is_pipe_name name ≡ true
 unfolding is_pipe_name
@@ -252,8 +217,8 @@ on_own_switch name port kind has =
 pub beside_switch_port : (name : List ℕ) (a b c : List NamedPort) → is_switch_port_name name ≡ true → list_all has_pipe_name b ≡ true → list_all has_monitor_name c ≡ true
     → filter (is_beside name) (a ++ (b ++ c)) ≡ filter (is_on_switch (switch_of name)) a
 beside_switch_port name a b c kind pipes monitors =
-    let no_b = filter_none_pass (is_on_switch (switch_of name)) b (all_exclude (is_on_switch (switch_of name)) has_pipe_name b (λ p is. rw (pipe_no_switch_port p.name is) refl) pipes) in
-    let no_c = filter_none_pass (is_on_switch (switch_of name)) c (all_exclude (is_on_switch (switch_of name)) has_monitor_name c (λ p is. rw (monitor_no_switch_port p.name is) refl) monitors) in
+    let no_b = filter_none_pass (is_on_switch (switch_of name)) b (all_exclude (is_on_switch (switch_of name)) has_pipe_name b (λ p is. rw (pipe_alone p.name is).0 refl) pipes) in
+    let no_c = filter_none_pass (is_on_switch (switch_of name)) c (all_exclude (is_on_switch (switch_of name)) has_monitor_name c (λ p is. rw (monitor_alone p.name is).0 refl) monitors) in
     filter_agree (is_beside name) (is_on_switch (switch_of name)) (λ p. rw kind refl) (a ++ (b ++ c))
     ∙ (filter-append (is_on_switch (switch_of name)) a (b ++ c)
     ∙ (ap (λ (rest : List NamedPort). filter (is_on_switch (switch_of name)) a ++ rest) (filter-append (is_on_switch (switch_of name)) b c ∙ rw (no_b, no_c) refl)
@@ -262,10 +227,10 @@ beside_switch_port name a b c kind pipes monitors =
 pub beside_pipe : (name : List ℕ) (a b c : List NamedPort) → is_pipe_name name ≡ true → list_all has_switch_name a ≡ true → list_all has_pipe_name b ≡ true → list_all has_monitor_name c ≡ true
     → filter (is_beside name) (a ++ (b ++ c)) ≡ b
 beside_pipe name a b c kind switches pipes monitors =
-    let no_a = filter_none_pass has_pipe_name a (all_exclude has_pipe_name has_switch_name a (λ p is. switch_port_no_pipe p.name is) switches) in
+    let no_a = filter_none_pass has_pipe_name a (all_exclude has_pipe_name has_switch_name a (λ p is. (switch_port_alone p.name is).0) switches) in
     let all_b = filter_all_pass has_pipe_name b pipes in
-    let no_c = filter_none_pass has_pipe_name c (all_exclude has_pipe_name has_monitor_name c (λ p is. monitor_no_pipe p.name is) monitors) in
-    let no_switch = pipe_no_switch_port name kind in
+    let no_c = filter_none_pass has_pipe_name c (all_exclude has_pipe_name has_monitor_name c (λ p is. (monitor_alone p.name is).1) monitors) in
+    let no_switch = (pipe_alone name kind).0 in
     filter_agree (is_beside name) has_pipe_name (λ p. rw (no_switch, kind) refl) (a ++ (b ++ c))
     ∙ (filter-append has_pipe_name a (b ++ c)
     ∙ rw no_a (filter-append has_pipe_name b c ∙ rw (all_b, no_c) (append-nil b)))
@@ -273,8 +238,8 @@ beside_pipe name a b c kind switches pipes monitors =
 pub beside_others : (name : List ℕ) (a b c : List NamedPort) → is_switch_port_name name ≡ false → is_pipe_name name ≡ false → list_all has_switch_name a ≡ true → list_all has_pipe_name b ≡ true → list_all has_monitor_name c ≡ true
     → filter (is_beside name) (a ++ (b ++ c)) ≡ c
 beside_others name a b c no_switch no_pipe switches pipes monitors =
-    let no_a = filter_none_pass has_monitor_name a (all_exclude has_monitor_name has_switch_name a (λ p is. switch_port_no_monitor p.name is) switches) in
-    let no_b = filter_none_pass has_monitor_name b (all_exclude has_monitor_name has_pipe_name b (λ p is. pipe_no_monitor p.name is) pipes) in
+    let no_a = filter_none_pass has_monitor_name a (all_exclude has_monitor_name has_switch_name a (λ p is. (switch_port_alone p.name is).1) switches) in
+    let no_b = filter_none_pass has_monitor_name b (all_exclude has_monitor_name has_pipe_name b (λ p is. (pipe_alone p.name is).1) pipes) in
     let all_c = filter_all_pass has_monitor_name c monitors in
     filter_agree (is_beside name) has_monitor_name (λ p. rw (no_switch, no_pipe) refl) (a ++ (b ++ c))
     ∙ (filter-append has_monitor_name a (b ++ c)
@@ -283,7 +248,7 @@ beside_others name a b c no_switch no_pipe switches pipes monitors =
 pub beside_monitor : (name : List ℕ) (a b c : List NamedPort) → is_monitor_name name ≡ true → list_all has_switch_name a ≡ true → list_all has_pipe_name b ≡ true → list_all has_monitor_name c ≡ true
     → filter (is_beside name) (a ++ (b ++ c)) ≡ c
 beside_monitor name a b c kind switches pipes monitors =
-    beside_others name a b c (monitor_no_switch_port name kind) (monitor_no_pipe name kind) switches pipes monitors
+    beside_others name a b c (monitor_alone name kind).0 (monitor_alone name kind).1 switches pipes monitors
 
 -- a port of a name is among those beside the name
 pub beside_itself_switch_port : (name : List ℕ) → is_switch_port_name name ≡ true → (port : NamedPort) → has_name name port ≡ true → is_beside name port ≡ true
@@ -291,11 +256,11 @@ beside_itself_switch_port name kind port has = rw kind (on_own_switch name port 
 
 pub beside_itself_pipe : (name : List ℕ) → is_pipe_name name ≡ true → (port : NamedPort) → has_name name port ≡ true → is_beside name port ≡ true
 beside_itself_pipe name kind port has =
-    let no_switch = pipe_no_switch_port name kind in
+    let no_switch = (pipe_alone name kind).0 in
     rw (no_switch, kind) (ap is_pipe_name (named name port has) ∙ kind)
 
 pub beside_itself_monitor : (name : List ℕ) → is_monitor_name name ≡ true → (port : NamedPort) → has_name name port ≡ true → is_beside name port ≡ true
 beside_itself_monitor name kind port has =
-    let no_switch = monitor_no_switch_port name kind in
-    let no_pipe = monitor_no_pipe name kind in
+    let no_switch = (monitor_alone name kind).0 in
+    let no_pipe = (monitor_alone name kind).1 in
     rw (no_switch, no_pipe) (ap is_monitor_name (named name port has) ∙ kind)
