@@ -51,6 +51,9 @@ within_rows (s ∷ rows) (suc at) port e = omega (arith, within_rows rows at por
 abbrev pub AreApart : List (Option PortTable) → Type 0
 AreApart rows = (at other port : ℕ) → port_at rows at ≡ Some port → port_at rows other ≡ Some port → at ≡ other
 
+pub row_within : (rows : List (Option PortTable)) (index : ℕ → Option ℕ) (at port : ℕ) → IsIndexed rows index → index port ≡ Some at → at < length rows
+row_within rows index at port is found = within_rows rows at port (is.there at port found)
+
 pub apart-indexed : (rows : List (Option PortTable)) (index : ℕ → Option ℕ) → IsIndexed rows index → AreApart rows
 apart-indexed rows index is at other port e f = some_is at other (sym (is.found at port e) ∙ is.found other port f)
 
@@ -256,6 +259,10 @@ number-row rows index at place is found =
     let apart = apart-indexed rows index is in
     let row = find-row rows at (port_of place) apart (is.there at (port_of place) found) in
     ap (λ (o : Option PortTable). number_in_row o place) (sym row) ∙ sym (number-found (tables_present rows) place (once-apart rows apart))
+
+pub number-read : (rows : List (Option PortTable)) (index : ℕ → Option ℕ) (at : ℕ) (place : Place) (row : Option PortTable) → IsIndexed rows index → index (port_of place) ≡ Some at → row ≡ row_at rows at
+    → number_in_row row place ≡ number_at (tables_present rows) place
+number-read rows index at place row is found read = ap (λ (o : Option PortTable). number_in_row o place) read ∙ number-row rows index at place is found
 
 pub number-none : (rows : List (Option PortTable)) (index : ℕ → Option ℕ) (place : Place) → IsIndexed rows index → index (port_of place) ≡ None → number_at (tables_present rows) place ≡ 0
 number-none rows index place is none = number-absent (tables_present rows) place (no_index rows index (port_of place) is none)

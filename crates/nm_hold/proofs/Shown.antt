@@ -1,6 +1,6 @@
 -- What a hold shows of its cells and tables.
 use Rattle.std.proofs.Common.{Bool, filter, not, ℕ, zero, suc, ◌≡◌, ◌<◌, ◌≤◌, true, false, nat_eq, List, [], ◌∷◌, ◌++◌, length, find, Option, Some, None, inl, inr, refl, sym, ◌∙◌, ap, arith}
-use Rattle.std.specs.Prelude.{All, ◌||◌, IsSome, option_map}
+use Rattle.std.specs.Prelude.{All, ◌||◌, is_some, IsSome, option_map}
 use Rattle.std.specs.List.{AllByRecursion}
 use Rattle.std.specs.Option.{option_map_or}
 use Rattle.std.proofs.lemmas.Bool.{cases_Bool}
@@ -16,12 +16,12 @@ use Rattle.nm_hold.specs.declared.table.PortPlaces.{PortPlaces}
 use Rattle.nm_hold.specs.declared.table.PortTable.{PortTable}
 use Rattle.nm_hold.specs.Offsets.{AreSizes, ArePortsOnce, has_port, has_place, offset_of}
 use Rattle.nm_hold.specs.Tables.{IsTable, ports_of, number_at}
-use Rattle.nm_hold.specs.Holds.{places_in, extra_of, is_named_in, IsHold}
+use Rattle.nm_hold.specs.Holds.{cell_at, places_in, extra_of, is_named_in, IsHold}
 use Rattle.nm_hold.specs.Ties.{IsTied}
 use Rattle.nm_hold.specs.Stored.{IsStored}
 use Rattle.nm_hold.specs.declared.hold.Hold.TheInside.{Inside}
 use Rattle.nm_hold.proofs.Numbers.{has_place-from_number}
-use Rattle.nm_hold.proofs.Tied.{number_if, number_if-some, held-number}
+use Rattle.nm_hold.proofs.Tied.{number_if, number_if-some, held-number, standing_by_number}
 
 pub standing_of : (cell : Option Standing) → IsSome cell → (s : Standing) × (cell ≡ Some s)
 standing_of None h = cc
@@ -87,6 +87,10 @@ held_has_number cells tables p tied some = by_number (number_at tables p) (rw (h
     by_number : (n : ℕ) → IsSome (number_if n) → 0 < n
     by_number zero h = cc
     by_number (suc n) h = omega arith
+
+-- and a buffer stands under it
+pub cell_there : (cells : List (Option Standing)) (tables : List PortTable) (p : Place) (n : ℕ) → IsTied cells tables → IsSome (held_at (places_in cells) p) → n ≡ number_at tables p → is_some (cell_at cells n) ≡ true
+cell_there cells tables p n tied held is = ap is_some (ap (cell_at cells) is ∙ (standing_by_number cells tables p tied (held_has_number cells tables p tied held)).1)
 
 -- a buffer that is named stands somewhere
 pub named_stands : (cell : Option Standing) → is_named_in cell ≡ true → (s : Standing) × (cell ≡ Some s)

@@ -1,9 +1,14 @@
-use Rattle.std.proofs.Common.{◌≡◌, ◌-◌, ◌∙◌, suc, refl, ap, arith}
+use Rattle.std.proofs.Common.{◌≡◌, ◌-◌, ◌∙◌, refl, ap, arith}
 use Rattle.nm_hold.specs.declared.cells.Owned.{Owned}
 use Rattle.nm_hold.specs.Sparse.{cells_of, owners_in, standings_in}
 use Rattle.nm_hold.proofs.Owned.{standings_long, standing_of, standings_set, owners_stay}
-use Rattle.nm_hold.proofs.Owning.{position, standing_read, cells_lent}
+use Rattle.nm_hold.proofs.Owning.{Position, position, standing_read, cells_lent}
 use Rattle.nm_hold.proofs.cells.Cells.standing_mut.Goals as goal
+use Rattle.nm_hold.proofs.cells.Cells.standing_mut.Goals.{After-given}
+
+-- where the buffer stands
+found : (c : After-given) → Position c.self.inside.at (standings_in c.self.inside.held.items) c.args.idx
+found c = position c.self.inside.at (standings_in c.self.inside.held.items) c.args.idx (rw (← c.self.view_is) at c.requires)
 
 pub given-requires : goal.given-requires
 given-requires c =
@@ -12,10 +17,8 @@ given-requires c =
 
 pub index_mut-requires : goal.index_mut-requires
 index_mut-requires c =
-    let held = c.self.inside.held.items in
-    let p = position c.self.inside.at (standings_in held) c.args.idx (rw (← c.self.view_is) at c.requires) in
-    let number : c.given.result ≡ suc p.k = c.given.ensures ∙ p.number in
-    omega (arith, number, p.within, standings_long held)
+    let p = found (goal.at.index_mut-requires c).After-given in
+    omega (arith, c.given.ensures, p.number, p.within, standings_long c.self.inside.held.items)
 
 pub invariant_of-self-lent : goal.invariant_of-self-lent
 invariant_of-self-lent c w =
@@ -30,9 +33,8 @@ pub returns : goal.returns
 returns c =
     let at = c.self.inside.at in
     let held = c.self.inside.held.items in
-    let p = position at (standings_in held) c.args.idx (rw (← c.self.view_is) at c.requires) in
-    let number : c.given.result ≡ suc p.k = c.given.ensures ∙ p.number in
-    let spot : c.given.result - 1 ≡ p.k = omega (arith, number) in (
+    let p = found (goal.at.returns c).After-given in
+    let spot : c.given.result - 1 ≡ p.k = omega (arith, c.given.ensures, p.number) in (
       (
         refl,
         λ w. (let put : Owned = record { index = c.index_mut.result.now.index; standing = w } in

@@ -9,11 +9,8 @@ standing c = record { home = record { place = Rx c.args.port c.args.slot; named 
 
 step : (c : goal.After-put_received) → Added c.self.inside.cells c.self.inside.ports.tables (standing c) c.put.new.self c.put_received.new.self.tables
 step c =
-    let has = rw (← c.self.view_is) at c.requires.belongs in
-    let unheld = rw (← c.self.view_is) at c.requires.empty in
-    let index = rw (← c.self.view_is) at c.requires.index in
-    let unused = rw (← c.self.view_is) at c.requires.apart in
-    added c.self.inside.cells c.self.inside.ports.tables (standing c) c.index-idx.result c.put.new.self c.put_received.new.self.tables c.self.invariant has unheld index unused c.index-idx.ensures c.put.ensures c.put_received.ensures
+    added c.self.inside.cells c.self.inside.ports.tables (standing c) c.index-idx.result c.put.new.self c.put_received.new.self.tables c.self.invariant
+    (rw (← c.self.view_is) at c.requires.belongs) (rw (← c.self.view_is) at c.requires.empty) (rw (← c.self.view_is) at c.requires.index) (rw (← c.self.view_is) at c.requires.apart) c.index-idx.ensures c.put.ensures c.put_received.ensures
 
 pub invariant_of-self : goal.invariant_of-self
 invariant_of-self c = (step c).whole

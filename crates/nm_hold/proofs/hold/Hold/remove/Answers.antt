@@ -1,25 +1,16 @@
-use Rattle.std.proofs.Common.{ℕ, ◌≡◌, slice_set, Option, Some, None, refl, ◌∙◌, ap}
-use Rattle.std.specs.Prelude.{is_some}
+use Rattle.std.proofs.Common.{ℕ, slice_set, None, refl, ◌∙◌, ap}
 use Rattle.std.proofs.lemmas.List.{length-set}
-use Rattle.nm_hold.specs.declared.standing.Standing.{Standing}
 use Rattle.nm_hold.specs.Standings.{buf_in}
 use Rattle.nm_hold.specs.Tables.{number_at}
 use Rattle.nm_hold.specs.Holds.{cell_at}
 use Rattle.nm_hold.proofs.Numbers.{ports_of-put}
-use Rattle.nm_hold.proofs.Tied.{number_if-some, held-number, standing_by_number}
-use Rattle.nm_hold.proofs.Shown.{held_has_number, IsHold-stored}
+use Rattle.nm_hold.proofs.Tied.{number_if-some, held-number}
+use Rattle.nm_hold.proofs.Shown.{cell_there, IsHold-stored}
 use Rattle.nm_hold.proofs.Steps.{removed, put_are_tables, removed_places}
 use Rattle.nm_hold.proofs.hold.Hold.remove.Goals as goal
 
 pub take-requires : goal.take-requires
-take-requires c =
-    let cells = c.self.inside.cells in
-    let tables = c.self.inside.ports.tables in
-    let number = c.replace-idx.ensures.number in
-    let some = held_has_number cells tables c.args.place c.self.invariant.tied (rw (← c.self.view_is) at c.requires) in
-    let found = standing_by_number cells tables c.args.place c.self.invariant.tied some in
-    let there : cell_at cells c.replace-idx.result ≡ Some found.0 = ap (cell_at cells) number ∙ found.1 in
-    ap (λ (cell : Option Standing). is_some cell) there
+take-requires c = cell_there c.self.inside.cells c.self.inside.ports.tables c.args.place c.replace-idx.result c.self.invariant.tied (rw (← c.self.view_is) at c.requires) c.replace-idx.ensures.number
 
 pub invariant_of-self : goal.invariant_of-self
 invariant_of-self c =
