@@ -25,6 +25,11 @@ pushed_is_user ring k is fits below =
 pub seen_more : {X : Type 0} (f : ℕ → X) (size first k : ℕ) → map f (slots_from size first (k + 1)) ≡ map f (slots_from size first k) ++ f (step_on size first k) ∷ []
 seen_more f size first k = ap (map f) (map-range_with_len_more (step_on size first) 0 k k (omega arith)) ∙ map-append f (slots_from size first k) (step_on size first k ∷ [])
 
+pub listed_more : {X : Type 0} (f : ℕ → X) (size first k : ℕ) (old new : List X) (x : X) → new ≡ old ++ x ∷ [] → old ≡ map f (slots_from size first k) → x ≡ f (step_on size first k)
+    → new ≡ map f (slots_from size first (k + 1))
+listed_more {X = X} f size first k old new x added are is =
+    added ∙ (ap (λ (xs : List X). xs ++ x ∷ []) are ∙ (ap (λ (y : X). map f (slots_from size first k) ++ y ∷ []) is ∙ sym (seen_more f size first k)))
+
 -- all slots from one of them on
 pub seen_split : {X : Type 0} (f : ℕ → X) (size first count k : ℕ) → k < count
     → map f (slots_from size first count) ≡ (map f (slots_from size first k) ++ f (step_on size first k) ∷ []) ++ map f (slots_from size (step_on size first (k + 1)) (count - (k + 1)))

@@ -100,87 +100,97 @@ min_right a b = omega arith
 min_some : (a b : ℕ) → 0 < a → 0 < b → 0 < min a b
 min_some a b first second = omega arith
 
--- the slots from a position on that is so many steps behind the accepted head
-module _ (r : RingSlots) (is : IsRingSlots r) (at steps most : ℕ) (there : at ≡ step_on r.ring.size r.ring.accepted_head steps) (user : steps + most ≤ dist r.ring.size r.ring.accepted_head r.ring.last_tail) (some : 0 < most) where
+-- the slots from a position on that is so many steps behind the accepted head, in a list that lies in two
+-- parts
+pub record Cut (r : RingSlots) (at steps most : ℕ) (front back : List SlotState) (size part index : ℕ) : Type 0 where
+  pub is : IsRingSlots r
+  pub there : at ≡ step_on r.ring.size r.ring.accepted_head steps
+  pub user : steps + most ≤ dist r.ring.size r.ring.accepted_head r.ring.last_tail
+  pub some : 0 < most
+  pub items : front ++ back ≡ r.slots
+  pub sized : size ≡ r.ring.size
+  pub is_part : part ≡ min most (size - at)
+  pub is_index : index ≡ index_of r.side r.ring at
+
+module _ {r : RingSlots} {at steps most : ℕ} {front back : List SlotState} {size part index : ℕ} (cut : Cut r at steps most front back size part index) where
   at_below : at < r.ring.size
-  at_below = rw there (step_on-below r.ring.size r.ring.accepted_head steps is.ring.accepted)
+  at_below = rw (cut.there) (step_on-below r.ring.size r.ring.accepted_head steps cut.is.ring.accepted)
 
   steps_below : steps + most < r.ring.size
-  steps_below = let all = dist-below r.ring.size r.ring.accepted_head r.ring.last_tail is.ring.accepted in omega arith
+  steps_below = let all = dist-below r.ring.size r.ring.accepted_head r.ring.last_tail cut.is.ring.accepted in omega (arith, all, cut.user)
 
   position_more : (j : ℕ) → at + j < r.ring.size → step_on r.ring.size r.ring.accepted_head (steps + j) ≡ at + j
-  position_more j below = sym (step_on-step_on r.ring.size r.ring.accepted_head steps j) ∙ (ap (λ (i : ℕ). step_on r.ring.size i j) (sym there) ∙ mod-eq_of_lt below)
+  position_more j below = sym (step_on-step_on r.ring.size r.ring.accepted_head steps j) ∙ (ap (λ (i : ℕ). step_on r.ring.size i j) (sym cut.there) ∙ mod-eq_of_lt below)
+
+  steps_there : dist r.ring.size r.ring.accepted_head at ≡ steps
+  steps_there = ap (dist r.ring.size r.ring.accepted_head) cut.there ∙ dist-step_on r.ring.size r.ring.accepted_head steps cut.is.ring.accepted (omega (arith, steps_below))
 
   index_on : (side : Side) (j : ℕ) → j < most → at + j < r.ring.size → index_of side r.ring (step_on r.ring.size r.ring.accepted_head (steps + j)) ≡ index_of side r.ring at + j
   index_on Tx j few below = position_more j below
   index_on Rx j few below =
-      let here : dist r.ring.size r.ring.accepted_head at ≡ steps = ap (dist r.ring.size r.ring.accepted_head) there ∙ dist-step_on r.ring.size r.ring.accepted_head steps is.ring.accepted (omega (arith, steps_below)) in
-      let more : dist r.ring.size r.ring.accepted_head (step_on r.ring.size r.ring.accepted_head (steps + j)) ≡ steps + j = dist-step_on r.ring.size r.ring.accepted_head (steps + j) is.ring.accepted (omega (arith, steps_below, few)) in
-      more ∙ sym (ap (λ (i : ℕ). i + j) here)
+      let more : dist r.ring.size r.ring.accepted_head (step_on r.ring.size r.ring.accepted_head (steps + j)) ≡ steps + j = dist-step_on r.ring.size r.ring.accepted_head (steps + j) cut.is.ring.accepted (omega (arith, steps_below, few)) in
+      more ∙ sym (ap (λ (i : ℕ). i + j) steps_there)
 
   within_on : (side : Side) → index_of side r.ring at < slot_count side r.ring
   within_on Tx = at_below
-  within_on Rx =
-      let here : dist r.ring.size r.ring.accepted_head at ≡ steps = ap (dist r.ring.size r.ring.accepted_head) there ∙ dist-step_on r.ring.size r.ring.accepted_head steps is.ring.accepted (omega (arith, steps_below)) in
-      omega (arith, here, user, some)
+  within_on Rx = omega (arith, steps_there, cut.user, cut.some)
 
   index_within : index_of r.side r.ring at < length r.slots
-  index_within = rw is.count (within_on r.side)
+  index_within = rw (cut.is.count) (within_on r.side)
 
   are_side_by_side : (slots : List SlotState) → length slots ≤ most → at + length slots ≤ r.ring.size
       → ((j : ℕ) → j < length slots → slice_index_or slots j blank_slot ≡ slice_index_or r.slots (index_of r.side r.ring at + j) blank_slot) → AreSideBySide r steps slots
   are_side_by_side slots few around reads = record {
     stand = λ j below. reads j below ∙ ap (λ (i : ℕ). slice_index_or r.slots i blank_slot) (sym (index_on r.side j (omega (arith, below, few)) (omega (arith, below, around))));
-    positions = λ j below. position_more j (omega (arith, below, around)) ∙ ap (λ (i : ℕ). i + j) there;
+    positions = λ j below. position_more j (omega (arith, below, around)) ∙ ap (λ (i : ℕ). i + j) cut.there;
   }
 
-  -- the slots of a list that lies in two parts
-  module _ (front back : List SlotState) (size part : ℕ) (items : front ++ back ≡ r.slots) (sized : size ≡ r.ring.size) (is_part : part ≡ min most (size - at)) where
-    part_few : part ≤ most
-    part_few = let left = min_left most (size - at) in omega (arith, is_part, left)
+  part_few : part ≤ most
+  part_few = let left = min_left most (size - at) in omega (arith, cut.is_part, left)
 
-    part_around : at + part ≤ r.ring.size
-    part_around = let right = min_right most (size - at) in let below = at_below in omega (arith, is_part, right, sized, below)
+  part_around : at + part ≤ r.ring.size
+  part_around = let right = min_right most (size - at) in let below = at_below in omega (arith, cut.is_part, right, cut.sized, below)
 
-    part_some : 0 < part
-    part_some = let below = at_below in let more = min_some most (size - at) some (omega (arith, sized, below)) in omega (arith, is_part, more)
+  part_some : 0 < part
+  part_some = let below = at_below in let more = min_some most (size - at) cut.some (omega (arith, cut.sized, below)) in omega (arith, cut.is_part, more)
 
-    inside : index_of r.side r.ring at < length front + length back
-    inside =
-        let count : length r.slots ≡ length front + length back = sym (ap (λ (xs : List SlotState). length xs) items) ∙ length-append front back in
-        let within = index_within in
-        omega (arith, count, within)
+  inside : index_of r.side r.ring at < length front + length back
+  inside =
+      let count : length r.slots ≡ length front + length back = sym (ap (λ (xs : List SlotState). length xs) cut.items) ∙ length-append front back in
+      let within = index_within in
+      omega (arith, count, within)
 
-    module _ (index : ℕ) (is_index : index ≡ index_of r.side r.ring at) where
-      pub in_front : (slots : List SlotState) → index < length front → length slots ≡ min part (length front - index)
-          → ((j : ℕ) → j < length slots → slice_index_or slots j blank_slot ≡ slice_index_or front (index + j) blank_slot) → AreSideBySide r steps slots
-      in_front slots first count reads =
-          let left = min_left part (length front - index) in
-          let right = min_right part (length front - index) in
+  read_on : (j : ℕ) → slice_index_or (front ++ back) (index + j) blank_slot ≡ slice_index_or r.slots (index_of r.side r.ring at + j) blank_slot
+  read_on j = ap (λ (xs : List SlotState). slice_index_or xs (index + j) blank_slot) cut.items ∙ ap (λ (i : ℕ). slice_index_or r.slots (i + j) blank_slot) cut.is_index
+
+  pub in_front : (slots : List SlotState) → index < length front → length slots ≡ min part (length front - index)
+      → ((j : ℕ) → j < length slots → slice_index_or slots j blank_slot ≡ slice_index_or front (index + j) blank_slot) → AreSideBySide r steps slots
+  in_front slots first count reads =
+      let left = min_left part (length front - index) in
+      let right = min_right part (length front - index) in
+      let few = part_few in
+      let around = part_around in
+      are_side_by_side slots (omega (arith, count, left, few)) (omega (arith, count, left, around))
+      (λ j below. (let within : index + j < length front = omega (arith, count, right, below, first) in
+      reads j below ∙ (sym (get_or_append_left front back blank_slot (index + j) within) ∙ read_on j)))
+
+  module _ (behind : length front ≤ index) where
+    pub back_within : index - length front < length back
+    back_within = let within = inside in omega (arith, within, cut.is_index, behind)
+
+    module _ (slots : List SlotState) (count : length slots ≡ min part (length back - (index - length front))) where
+      pub back_some : 0 < length slots
+      back_some =
+          let within = back_within in
+          let some = part_some in
+          let more = min_some part (length back - (index - length front)) some (omega (arith, within)) in
+          omega (arith, count, more)
+
+      pub in_back : ((j : ℕ) → j < length slots → slice_index_or slots j blank_slot ≡ slice_index_or back (index - length front + j) blank_slot) → AreSideBySide r steps slots
+      in_back reads =
+          let left = min_left part (length back - (index - length front)) in
           let few = part_few in
           let around = part_around in
           are_side_by_side slots (omega (arith, count, left, few)) (omega (arith, count, left, around))
-          (λ j below. (let within : index + j < length front = omega (arith, count, right, below, first) in
-          reads j below ∙ (sym (get_or_append_left front back blank_slot (index + j) within) ∙ (ap (λ (xs : List SlotState). slice_index_or xs (index + j) blank_slot) items ∙ ap (λ (i : ℕ). slice_index_or r.slots (i + j) blank_slot) is_index))))
-
-      module _ (behind : length front ≤ index) where
-        pub back_within : index - length front < length back
-        back_within = let within = inside in omega (arith, within, is_index, behind)
-
-        module _ (slots : List SlotState) (count : length slots ≡ min part (length back - (index - length front))) where
-          pub back_some : 0 < length slots
-          back_some =
-              let within = back_within in
-              let some = part_some in
-              let more = min_some part (length back - (index - length front)) some (omega (arith, within)) in
-              omega (arith, count, more)
-
-          pub in_back : ((j : ℕ) → j < length slots → slice_index_or slots j blank_slot ≡ slice_index_or back (index - length front + j) blank_slot) → AreSideBySide r steps slots
-          in_back reads =
-              let left = min_left part (length back - (index - length front)) in
-              let few = part_few in
-              let around = part_around in
-              are_side_by_side slots (omega (arith, count, left, few)) (omega (arith, count, left, around))
-              (λ j below. (let place : length front + (index - length front + j) ≡ index + j = omega (arith, behind) in
-              reads j below ∙ (sym (get_or-append-add front back (index - length front + j) blank_slot)
-              ∙ (ap (λ (i : ℕ). slice_index_or (front ++ back) i blank_slot) place ∙ (ap (λ (xs : List SlotState). slice_index_or xs (index + j) blank_slot) items ∙ ap (λ (i : ℕ). slice_index_or r.slots (i + j) blank_slot) is_index)))))
+          (λ j below. (let place : length front + (index - length front + j) ≡ index + j = omega (arith, behind) in
+          reads j below ∙ (sym (get_or-append-add front back (index - length front + j) blank_slot) ∙ (ap (λ (i : ℕ). slice_index_or (front ++ back) i blank_slot) place ∙ read_on j))))

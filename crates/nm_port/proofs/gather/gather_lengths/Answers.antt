@@ -1,22 +1,16 @@
-use Rattle.std.proofs.Common.{ℕ, List, [], ◌∷◌, ◌++◌, ◌≡◌, ◌∙◌, length, map, sym, ap, arith, length-append}
-use Rattle.nm_types.specs.Positions.{step_on, slots_from, pending_slots, pushed_slots}
+use Rattle.std.proofs.Common.{ℕ, List, [], ◌∷◌, ◌++◌, ◌≡◌, ◌∙◌, length, map, ap, arith, length-append}
+use Rattle.nm_types.specs.Positions.{slots_from, pending_slots, pushed_slots}
 use Rattle.nm_types.specs.Slots.{SlotState}
 use Rattle.nm_port.specs.Offers.{length_seen}
-use Rattle.nm_port.proofs.Pushes.{seen_more, offered_are}
+use Rattle.nm_port.proofs.Pushes.{listed_more, offered_are}
 use Rattle.nm_port.proofs.gather.gather_lengths.Goals as goal
 
 pub loop-k-preserved : goal.loop-k-preserved
 loop-k-preserved c =
-    let f = length_seen c.args.ring.now in
-    let size = c.size-size.result in
-    let first = c.offered-first.result.0 in
-    let k = c.loop-k.k in
     let inv = c.loop-k.invariant in
-    let lengths = c.loop-k.lengths.items in
     let len = c.any_slot.result.len in
-    let is : len ≡ f (step_on size first k) = ap (λ (s : SlotState). s.len) c.any_slot.ensures in
-    let count = ap (λ (xs : List ℕ). length xs) c.push_reserved.ensures.items ∙ length-append lengths (len ∷ []) in (
-      c.push_reserved.ensures.items ∙ (ap (λ (xs : List ℕ). xs ++ len ∷ []) inv.0 ∙ (ap (λ (n : ℕ). map f (slots_from size first k) ++ n ∷ []) is ∙ sym (seen_more f size first k))),
+    let count = ap (λ (xs : List ℕ). length xs) c.push_reserved.ensures.items ∙ length-append c.loop-k.lengths.items (len ∷ []) in (
+      listed_more (length_seen c.args.ring.now) c.size-size.result c.offered-first.result.0 c.loop-k.k c.loop-k.lengths.items c.push_reserved.new.self.items len c.push_reserved.ensures.items inv.0 (ap (λ (s : SlotState). s.len) c.any_slot.ensures),
       rw c.push_reserved.ensures.capacity inv.1,
       omega (arith, count, inv.2),
     )

@@ -1,20 +1,14 @@
-use Rattle.std.proofs.Common.{List, [], ◌∷◌, ◌++◌, ◌≡◌, ◌∙◌, false, map, refl, sym, ap, arith}
-use Rattle.nm_types.specs.Positions.{step_on, slots_from, pending_slots, pushed_slots}
+use Rattle.std.proofs.Common.{◌++◌, ◌≡◌, ◌∙◌, false, map, refl, ap, arith}
+use Rattle.nm_types.specs.Positions.{slots_from, pending_slots, pushed_slots}
 use Rattle.nm_types.specs.Frames.{Frame}
 use Rattle.nm_port.specs.Offers.{offer_seen}
-use Rattle.nm_port.proofs.Pushes.{seen_more, offered_are}
+use Rattle.nm_port.proofs.Pushes.{listed_more, offered_are}
 use Rattle.nm_port.proofs.gather.gather_offered.Goals as goal
 
 pub loop-k-preserved : goal.loop-k-preserved
 loop-k-preserved c =
-    let f = offer_seen c.args.hold.now c.args.ring.now in
-    let size = c.size-size.result in
-    let first = c.offered-first.result.0 in
-    let k = c.loop-k.k in
     let made : Frame = record { bytes = c.frame_bytes.result.now; no_learn = false } in
-    let is : made ≡ f (step_on size first k) = rw (c.frame_bytes.ensures, c.any_slot-slot.ensures) refl in
-    let done : List Frame = map f (slots_from size first k) in
-    c.in_ok-push.ensures.ok ∙ (ap (λ (b : List Frame). b ++ made ∷ []) c.loop-k.invariant ∙ (ap (λ (frame : Frame). done ++ frame ∷ []) is ∙ sym (seen_more f size first k)))
+    listed_more (offer_seen c.args.hold.now c.args.ring.now) c.size-size.result c.offered-first.result.0 c.loop-k.k _ _ made c.in_ok-push.ensures.ok c.loop-k.invariant (rw (c.frame_bytes.ensures, c.any_slot-slot.ensures) refl)
 
 pub returns : goal.returns
 returns c =
