@@ -21,6 +21,7 @@ use Rattle.nm_own.proofs.Published.{Receives, belongs, empty, others, with_frame
 use Rattle.nm_own.proofs.ReceivedAt.{within, receives_here, set_there, one_port}
 use Rattle.nm_own.proofs.RxPlaces.{with_rx}
 use Rattle.nm_own.proofs.own.OwnSide.receive_at.Goals as goal
+use Rattle.nm_own.proofs.own.OwnSide.receive_at.Goals.{After-index, After-index_mut, After-tail-slot}
 
 pub index-requires : goal.index-requires
 index-requires c = within c.self.inside c.self.invariant c.args.self.now c.self.view_is c.args.port c.args.at c.requires.place c.requires.room
@@ -28,37 +29,39 @@ index-requires c = within c.self.inside c.self.invariant c.args.self.now c.self.
 pub index_mut-requires : goal.index_mut-requires
 index_mut-requires c = within c.self.inside c.self.invariant c.args.self.now c.self.view_is c.args.port c.args.at c.requires.place c.requires.room
 
+-- the port has a free slot, at its tail
+receives : (c : After-index) → Receives c.self.inside.hold c.self.inside.ports.items c.args.port c.index.result.now c.index.result.now.rx
+receives c = receives_here c.self.inside c.self.invariant c.args.self.now c.self.view_is c.args.port c.args.at c.requires.place c.requires.room c.index.result.now c.index.ensures
+
+at_tail : (c : After-tail-slot) → c.tail-slot.result ≡ c.index.result.now.rx.ring.last_tail
+at_tail c = c.tail-slot.ensures.tail ∙ (ap (λ (ring : RingState). ring.tail) c.ring.ensures.ring ∙ c.ring.ensures.slots.ring.one_tail)
+
+still_receives : (c : After-index_mut) → Receives c.self.inside.hold c.self.inside.ports.items c.args.port c.index_mut.result.now c.index_mut.result.now.rx
+still_receives c = receives_here c.self.inside c.self.invariant c.args.self.now c.self.view_is c.args.port c.args.at c.requires.place c.requires.room c.index_mut.result.now c.index_mut.ensures.value
+
 pub add_received-requires-clause-belongs : goal.add_received-requires-clause-belongs
 add_received-requires-clause-belongs c =
     let h = c.self.inside.hold in
-    let p = c.index.result.now in
-    let x = receives_here c.self.inside c.self.invariant c.args.self.now c.self.view_is c.args.port c.args.at c.requires.place c.requires.room p c.index.ensures in
-    let tail : c.tail-slot.result ≡ p.rx.ring.last_tail = c.tail-slot.ensures.tail ∙ (ap (λ (ring : RingState). ring.tail) c.ring.ensures.ring ∙ c.ring.ensures.slots.ring.one_tail) in
-    ap (λ (n : ℕ). has_place h.ports (place.Rx c.args.port n)) tail ∙ belongs h c.self.inside.ports.items c.args.port p p.rx x
+    let to = goal.at.add_received-requires-clause-belongs c in
+    ap (λ (n : ℕ). has_place h.ports (place.Rx c.args.port n)) (at_tail to.After-tail-slot) ∙ belongs h c.self.inside.ports.items c.args.port c.index.result.now c.index.result.now.rx (receives to.After-index)
 
 pub add_received-requires-clause-empty : goal.add_received-requires-clause-empty
 add_received-requires-clause-empty c =
     let h = c.self.inside.hold in
-    let p = c.index.result.now in
-    let x = receives_here c.self.inside c.self.invariant c.args.self.now c.self.view_is c.args.port c.args.at c.requires.place c.requires.room p c.index.ensures in
-    let tail : c.tail-slot.result ≡ p.rx.ring.last_tail = c.tail-slot.ensures.tail ∙ (ap (λ (ring : RingState). ring.tail) c.ring.ensures.ring ∙ c.ring.ensures.slots.ring.one_tail) in
-    ap (λ (n : ℕ). index_at h (place.Rx c.args.port n)) tail ∙ empty h c.self.inside.ports.items c.args.port p p.rx x
+    let to = goal.at.add_received-requires-clause-empty c in
+    ap (λ (n : ℕ). index_at h (place.Rx c.args.port n)) (at_tail to.After-tail-slot) ∙ empty h c.self.inside.ports.items c.args.port c.index.result.now c.index.result.now.rx (receives to.After-index)
 
 pub publish-requires-clause-side : goal.publish-requires-clause-side
-publish-requires-clause-side c =
-    (receives_here c.self.inside c.self.invariant c.args.self.now c.self.view_is c.args.port c.args.at c.requires.place c.requires.room c.index_mut.result.now c.index_mut.ensures.value).room.side
+publish-requires-clause-side c = (still_receives (goal.at.publish-requires-clause-side c).After-index_mut).room.side
 
 pub publish-requires-clause-fits : goal.publish-requires-clause-fits
-publish-requires-clause-fits c =
-    (receives_here c.self.inside c.self.invariant c.args.self.now c.self.view_is c.args.port c.args.at c.requires.place c.requires.room c.index_mut.result.now c.index_mut.ensures.value).room.fits
+publish-requires-clause-fits c = (still_receives (goal.at.publish-requires-clause-fits c).After-index_mut).room.fits
 
 pub publish-requires-clause-accepted : goal.publish-requires-clause-accepted
-publish-requires-clause-accepted c =
-    (receives_here c.self.inside c.self.invariant c.args.self.now c.self.view_is c.args.port c.args.at c.requires.place c.requires.room c.index_mut.result.now c.index_mut.ensures.value).room.accepted
+publish-requires-clause-accepted c = (still_receives (goal.at.publish-requires-clause-accepted c).After-index_mut).room.accepted
 
 pub publish-requires-clause-room : goal.publish-requires-clause-room
-publish-requires-clause-room c =
-    (receives_here c.self.inside c.self.invariant c.args.self.now c.self.view_is c.args.port c.args.at c.requires.place c.requires.room c.index_mut.result.now c.index_mut.ensures.value).room.free
+publish-requires-clause-room c = (still_receives (goal.at.publish-requires-clause-room c).After-index_mut).room.free
 
 -- what is known once the frame is published
 record Step (c : goal.After-self-1) : Type 0 where
