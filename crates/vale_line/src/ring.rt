@@ -284,35 +284,21 @@ impl Ring {
           lots = map (completed id.0 gots.items) (ring_state self.old).lots;
         } }
     {
-        if ends_in_page(&gots) {
-            self.prepare_next();
-        }
-        self.complete_lot(id, gots);
-    }
-
-    /// Writes the zeros of the first idle buffer, if nothing is written there.
-    fn prepare_next(&mut self)
-        requires { IsRing self.old }
-        ensures { self.new ≡ self.old }
-    {
-        if self.lent == 0 && self.idle.len() > 0 {
-            prepare(self.idle.get_mut(0));
-        }
-    }
-
-    /// Completes the lot of a lease, and does nothing else.
-    fn complete_lot(&mut self, id: LeaseId, gots: Vec<Got>)
-        requires ring { IsRing self.old }
-        requires leases { AreLeases (leases_of (ring_state self.old).lots) }
-        requires out { slots_out id.0 (ring_state self.old).lots ≡ Some (length gots.items) }
-        ensures ring { IsRing self.new }
-        ensures line { ring_state self.new ≡ record (ring_state self.old) {
-          lots = map (completed id.0 gots.items) (ring_state self.old).lots;
-        } }
-    {
+        self.prepare_behind(&gots);
         match place_of(&self.lots, id) {
             Some(at) => self.lots[at].complete(gots),
             None => unreachable!(),
+        }
+    }
+
+    /// Writes the zeros of the first idle buffer, if nothing is written there and the last of these
+    /// buffers lies in front of one in its page.
+    fn prepare_behind(&mut self, gots: &[Got])
+        requires { IsRing self.old }
+        ensures { self.new ≡ self.old }
+    {
+        if ends_in_page(gots) && self.lent == 0 && self.idle.len() > 0 {
+            prepare(self.idle.get_mut(0));
         }
     }
 

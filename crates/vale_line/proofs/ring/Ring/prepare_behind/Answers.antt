@@ -1,8 +1,8 @@
-use Rattle.std.proofs.Common.{◌≡◌, ◌<◌, ℕ, zero, List, Option, None, Some, [], ◌∷◌, length, drop, get_or, true, is_some, refl, sym, ap, ◌∙◌, subst, arith}
+use Rattle.std.proofs.Common.{◌≡◌, ◌<◌, ℕ, List, Option, [], ◌∷◌, length, drop, get_or, true, is_some, ap, ◌∙◌, subst, arith}
 use Rattle.vale_line.specs.declared.got.Got.{Got}
 use Rattle.vale_line.specs.Cells.{AreFull}
 use Rattle.vale_line.proofs.CellLemmas.{full-head, full-some}
-use Rattle.vale_line.proofs.ring.Ring.prepare_next.Goals as goal
+use Rattle.vale_line.proofs.ring.Ring.prepare_behind.Goals as goal
 
 -- the first of some full cells is full
 first-full : (xs : List (Option Got)) (d : Option Got) → 0 < length xs → AreFull xs → is_some (get_or xs 0 d) ≡ true
