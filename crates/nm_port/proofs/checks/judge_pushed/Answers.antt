@@ -9,6 +9,11 @@ use Rattle.nm_port.specs.Sides.{pushed_seen_at, pushed_seen}
 use Rattle.nm_port.proofs.Judging.{passed_more, refused_at, marked_more}
 use Rattle.nm_port.proofs.Pushes.{pushed_is_user, seen_more, seen_split, names_taken}
 use Rattle.nm_port.proofs.checks.judge_pushed.Goals as goal
+use Rattle.nm_port.proofs.checks.judge_pushed.Goals.{After-size-size}
+
+-- the pushed slots, as they are gone through
+seen : (c : After-size-size) → pushed_seen c.args.hold.now c.args.port c.args.ring.now ≡ map (pushed_seen_at c.args.hold.now c.args.port c.args.ring.now) (slots_from c.size-size.result c.pushed-first.result.0 c.pushed-first.result.1)
+seen c = rw (c.pushed-first.ensures.first, c.pushed-first.ensures.count, c.size-size.ensures.size, c.ring.ensures.ring) refl
 
 pub judge_slot-requires-clause-user : goal.judge_slot-requires-clause-user
 judge_slot-requires-clause-user c =
@@ -28,8 +33,7 @@ returns-in_err-judge_slot-clause-refusal c named well =
     let all = refused_at c.args.ring.now.side (buffers_of h) named (map f (slots_from size first k)) (map f (slots_from size (step_on size first (k + 1)) (c.pushed-first.result.1 - (k + 1)))) (f (step_on size first k)) fault (c.loop-k.invariant.passed named well) here in
     let whole = seen_split f size first c.pushed-first.result.1 k c.loop-k-test.true in
     let p = err_from_is_err_and c.from_residual.result c.from_residual.ensures.1 in
-    let is : pushed_seen h c.args.port c.args.ring.now ≡ map f (slots_from size first c.pushed-first.result.1) =
-    rw (c.pushed-first.ensures.first, c.pushed-first.ensures.count, c.size-size.ensures.size, c.ring.ensures.ring) refl in
+    let is = seen (goal.at.returns-in_err-judge_slot-clause-refusal c).After-size-size in
     rw (p.1, p.2) (ap (slots_refusal c.args.ring.now.side (buffers_of h) named []) (is ∙ whole) ∙ all)
 
 pub returns-in_err-judge_slot-clause-marks : goal.returns-in_err-judge_slot-clause-marks
@@ -40,8 +44,7 @@ returns-in_err-judge_slot-clause-marks c =
     let first = c.pushed-first.result.0 in
     let k = c.loop-k.k in
     let below : k ≤ c.pushed-first.result.1 = omega (arith, c.loop-k-test.true) in
-    let is : pushed_seen h c.args.port c.args.ring.now ≡ map f (slots_from size first c.pushed-first.result.1) =
-    rw (c.pushed-first.ensures.first, c.pushed-first.ensures.count, c.size-size.ensures.size, c.ring.ensures.ring) refl in
+    let is = seen (goal.at.returns-in_err-judge_slot-clause-marks c).After-size-size in
     let marks : c.judge_slot.new.marks ≡ c.loop-k.marks = c.in_err-judge_slot.ensures.marks in
     (k, rw (marks, is, ← names_taken f size first c.pushed-first.result.1 k below) c.loop-k.invariant.marked)
 
@@ -70,6 +73,5 @@ returns-clause-marks c =
     let first = c.pushed-first.result.0 in
     let k = c.loop-k.k in
     let below : k ≤ c.pushed-first.result.1 = omega (arith, c.loop-k.auto.k-end) in
-    let is : pushed_seen h c.args.port c.args.ring.now ≡ map f (slots_from size first c.pushed-first.result.1) =
-    rw (c.pushed-first.ensures.first, c.pushed-first.ensures.count, c.size-size.ensures.size, c.ring.ensures.ring) refl in
+    let is = seen (goal.at.returns-clause-marks c).After-size-size in
     (k, rw (is, ← names_taken f size first c.pushed-first.result.1 k below) c.loop-k.invariant.marked)
