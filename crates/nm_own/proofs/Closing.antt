@@ -27,7 +27,7 @@ use Rattle.nm_hold.specs.Standings.{buf_in}
 use Rattle.nm_hold.specs.declared.standing.Standing.{Standing}
 use Rattle.nm_hold.specs.declared.table.PortPlaces.{PortPlaces}
 use Rattle.nm_hold.specs.Offsets.{ArePortsOnce, AreSizes}
-use Rattle.nm_hold.specs.Holds.{HoldState, buffers_of, index_at, standing_at, stands_at, buffer_at, cell_at, places_in, port_of, extra_of, HoldsNothing, IsHold}
+use Rattle.nm_hold.specs.Holds.{HoldState, buffers_of, bufs_of, index_at, standing_at, stands_at, buffer_at, cell_at, places_in, port_of, extra_of, HoldsNothing, IsHold}
 use Rattle.nm_hold.proofs.Spots.{nat_eq-is, same_place-is, same_place-refl}
 use Rattle.nm_extra.specs.Extras.{extras_of, link_at}
 use Rattle.nm_port.specs.declared.port.UserPort.{UserPort}
@@ -38,6 +38,7 @@ use Rattle.nm_own.specs.Kept.{IsKept}
 use Rattle.nm_own.specs.declared.own.OwnSide.TheInside.{Inside}
 use Rattle.nm_port.specs.Closing.{user_count, place_count, held_place, held_places, others, buffers_with_id, bytes_of_buffers, AreTaken}
 use Rattle.nm_port.proofs.Judging.{false_true}
+use Rattle.nm_port.proofs.Buffers.{buf_by_index}
 use Rattle.nm_port.proofs.Checked.{bytes_are_seen, id_of_found}
 use Rattle.nm_own.proofs.Tests.{some_is, turned}
 use Rattle.nm_own.proofs.Filled.{all_append, all_range, all_slots}
@@ -332,6 +333,25 @@ bytes_found h ports (b ∷ out) (idx ∷ idxs) e =
         by_cell None there = absurd (let none = e ∙ ap buf_in there in cc)
         by_cell (Some s) there = (let same : Some b ≡ Some s.buf = e ∙ ap buf_in there in ap (λ (x : Buffer). x.bytes) (some_is b s.buf same) ∙ sym (ap bytes_in_cell there))
 
+-- buffers that were taken out of places, behind others that were out before
+module _ {h now : HoldState} {places : List Place} {before after : List Buffer} (taken : AreTaken h now places before after) where
+  pub out_behind : drop (length before) after ≡ taken.out
+  out_behind = ap (drop (length before)) taken.joined ∙ drop-append_seam before taken.out
+
+  pub out_before : take (length before) after ≡ before
+  out_before = ap (take (length before)) taken.joined ∙ take-append_seam before taken.out
+
+  pub out_indices : (idxs : List ℕ) → map (number_at h) places ≡ idxs → indices_of (drop (length before) after) ≡ idxs
+  out_indices idxs are = ap indices_of out_behind ∙ (taken.indices ∙ are)
+
+  pub out_bytes : (was : HoldState) (ports : List UserPort) → bufs_of h ≡ bufs_of was → (idxs : List ℕ) → map (number_at h) places ≡ idxs
+      → bytes_of_buffers (drop (length before) after) ≡ map (bytes_at (own_seen was ports)) idxs
+  out_bytes was ports same idxs are = ap bytes_of_buffers out_behind ∙ bytes_found was ports taken.out idxs (taken.each ∙ (ap (map (buffer_at h)) are ∙ same_buffers idxs))
+    where
+      same_buffers : (idxs : List ℕ) → map (buffer_at h) idxs ≡ map (buffer_at was) idxs
+      same_buffers [] = refl
+      same_buffers (i ∷ idxs) = ap (λ (b : Option Buffer). b ∷ map (buffer_at h) idxs) (buf_by_index h.cells was.cells i same) ∙ ap (λ (bs : List (Option Buffer)). buffer_at was i ∷ bs) (same_buffers idxs)
+
 module _ (h : HoldState) (ports : List UserPort) (id : PortId) (p : UserPort) (has : Has h ports id p) where
   ring : IsRing p.rx.ring
   ring = ring_one ports id.0 p has.found has.rings
@@ -410,17 +430,11 @@ module _ (h : HoldState) (ports : List UserPort) (id : PortId) (p : UserPort) (h
     numbers : map (number_at h) (held_places p (place_count p)) ≡ buffers_with_id (own_seen h ports) id.0
     numbers = sym numbers_are
 
-    out_is : drop (length before) after ≡ taken.out
-    out_is = ap (drop (length before)) taken.joined ∙ drop-append_seam before taken.out
-
-    pub before_stays : take (length before) after ≡ before
-    before_stays = ap (take (length before)) taken.joined ∙ take-append_seam before taken.out
-
     pub indices_come : indices_of (drop (length before) after) ≡ buffers_with_id (own_seen h ports) id.0
-    indices_come = ap indices_of out_is ∙ (taken.indices ∙ numbers)
+    indices_come = out_indices taken (buffers_with_id (own_seen h ports) id.0) numbers
 
     pub bytes_come : bytes_of_buffers (drop (length before) after) ≡ map (bytes_at (own_seen h ports)) (buffers_with_id (own_seen h ports) id.0)
-    bytes_come = ap bytes_of_buffers out_is ∙ bytes_found h ports taken.out (buffers_with_id (own_seen h ports) id.0) (taken.each ∙ ap (map (buffer_at h)) numbers)
+    bytes_come = out_bytes taken h ports refl (buffers_with_id (own_seen h ports) id.0) numbers
 
     pub holds_nothing : HoldsNothing now id.0
     holds_nothing q at = taken.index q ∙ (elim (cases_Bool (is_filled_in q p)) [

@@ -1,9 +1,8 @@
 -- A receive push that passes: its slots' buffers are exchanged and taken out, and the slots are the
 -- kernel side's.
-use Rattle.std.proofs.Common.{ℕ, zero, suc, ◌≡◌, ◌<◌, ◌≤◌, ◌+◌, ◌-◌, ◌&&◌, Bool, true, false, nat_eq, nat_lt, if◌then◌else◌, List, [], ◌∷◌, ◌++◌, length, map, fold, take, drop, Option, Some, None, inl, inr, refl, sym, ◌∙◌, ap, arith}
+use Rattle.std.proofs.Common.{ℕ, zero, suc, ◌≡◌, ◌<◌, ◌≤◌, ◌+◌, ◌-◌, ◌&&◌, Bool, true, false, nat_eq, nat_lt, if◌then◌else◌, List, [], ◌∷◌, ◌++◌, length, map, fold, drop, Option, Some, None, inl, inr, refl, sym, ◌∙◌, ap, arith}
 use Rattle.std.specs.Prelude.{is_some, unwrap_or, IsSome}
 use Rattle.std.specs.List.{AllByRecursion, range_with_len}
-use Rattle.std.proofs.Math.Seq.{drop-append_seam, take-append_seam}
 use Rattle.std.proofs.lemmas.Bool.{cases_Bool}
 use Rattle.std.proofs.lemmas.Bool.Decides.{nat_tests}
 use Rattle.std.proofs.lemmas.List.{append-nil, drop-map, length-map}
@@ -18,7 +17,7 @@ use Rattle.nm_types.specs.OwnSyncs.{after_slot, after_exchange, ring_after_recei
 use Rattle.nm_types.proofs.RingSteps.{dist-below, dist-step_on, step_on-below, step_on-dist, step_on-step_on, dist_split, length-slots_from, drop-slots_from}
 use Rattle.nm_region.specs.Buffers.{Buffer, indices_of}
 use Rattle.nm_hold.specs.declared.standing.Standing.{Standing}
-use Rattle.nm_hold.specs.Holds.{HoldState, index_at, buffer_at, standing_at, port_of}
+use Rattle.nm_hold.specs.Holds.{HoldState, index_at, standing_at, port_of}
 use Rattle.nm_port.specs.declared.port.UserPort.{UserPort}
 use Rattle.nm_port.specs.RingSlots.{RingSlots}
 use Rattle.nm_port.specs.Sides.{place_on, number_at, name_at, names_pushed, pushed_seen}
@@ -34,8 +33,8 @@ use Rattle.nm_port.proofs.Pushes.{pushed_is_user}
 use Rattle.nm_port.proofs.Checked.{ring_found}
 use Rattle.nm_own.proofs.Tests.{some_is, turned, some_of}
 use Rattle.nm_own.proofs.Offered.{back_is_seen}
-use Rattle.nm_own.proofs.Closing.{bytes_found}
-use Rattle.nm_port.proofs.Buffers.{buf_by_index, cells_by_bufs, count_by_bufs, whole_by_bufs}
+use Rattle.nm_own.proofs.Closing.{out_indices, out_bytes}
+use Rattle.nm_port.proofs.Buffers.{cells_by_bufs, count_by_bufs, whole_by_bufs}
 use Rattle.nm_own.proofs.Passing.{Passes, ring_is, own_side, positions_fit, ports_once, can_exchange_at}
 use Rattle.nm_port.proofs.Ranges.{is_slot_from, among_slots}
 use Rattle.nm_own.proofs.OnePort.{Among, among, ChangesPort, filled_at, named_at, seen_with, tx_side_of, tx_ring_of}
@@ -145,24 +144,14 @@ module _ (h : HoldState) (ports : List UserPort) (id : PortId) (p : UserPort) (r
             ap (λ (i : ℕ). i ∷ map (number_at h1) (map (place_on r.side id) (map (step_on size r.ring.accepted_head) (range_with_len (a + 1) n)))) (ap (λ (o : Option ℕ). unwrap_or o 0) (exchange.names a (omega arith)))
             ∙ ap (λ (is : List ℕ). name_at r (step_on size r.ring.accepted_head a) ∷ is) (over (a + 1) n (omega arith))
 
-    out_is : drop (length before) after ≡ taken.out
-    out_is = ap (drop (length before)) taken.joined ∙ drop-append_seam before taken.out
-
-    pub before_stays : take (length before) after ≡ before
-    before_stays = ap (take (length before)) taken.joined ∙ take-append_seam before taken.out
-
     pub indices_come : indices_of (drop (length before) after) ≡ back_on id.0 (own_seen h ports)
-    indices_come = ap indices_of out_is ∙ (taken.indices ∙ numbers_are)
+    indices_come = out_indices taken (back_on id.0 (own_seen h ports)) numbers_are
 
     pub lent_count : length (drop (length before) after) ≡ count
     lent_count = sym (length-map (drop (length before) after) (λ (b : Buffer). b.index)) ∙ (ap (λ (is : List ℕ). length is) indices_come ∙ back_count)
 
     pub bytes_come : bytes_of_buffers (drop (length before) after) ≡ map (bytes_at (own_seen h ports)) (back_on id.0 (own_seen h ports))
-    bytes_come = ap bytes_of_buffers out_is ∙ bytes_found h ports taken.out (back_on id.0 (own_seen h ports)) (taken.each ∙ (ap (map (buffer_at h1)) numbers_are ∙ same_buffers (back_on id.0 (own_seen h ports))))
-      where
-        same_buffers : (idxs : List ℕ) → map (buffer_at h1) idxs ≡ map (buffer_at h) idxs
-        same_buffers [] = refl
-        same_buffers (i ∷ idxs) = ap (λ (b : Option Buffer). b ∷ map (buffer_at h1) idxs) (buf_by_index h1.cells h.cells i exchange.bufs) ∙ ap (λ (bs : List (Option Buffer)). buffer_at h i ∷ bs) (same_buffers idxs)
+    bytes_come = out_bytes taken h ports exchange.bufs (back_on id.0 (own_seen h ports)) numbers_are
 
     gone_is : gone ≡ map (place_on Rx id) (slots_from size r.ring.accepted_head count)
     gone_is = ap (λ (s : Side). map (place_on s id) (slots_from size r.ring.accepted_head count)) rx_side

@@ -2,7 +2,6 @@
 use Rattle.std.proofs.Common.{ℕ, zero, suc, map, fold, take, drop, nat_eq, ◌≡◌, ◌<◌, ◌≤◌, ◌+◌, ◌-◌, true, false, nat_le, nat_lt, List, [], ◌∷◌, ◌++◌, length, Option, Some, None, inl, inr, refl, sym, ◌∙◌, ap, arith}
 use Rattle.std.specs.Prelude.{IsSome}
 use Rattle.std.specs.List.{range_with_len}
-use Rattle.std.proofs.Math.Seq.{drop-append_seam, take-append_seam}
 use Rattle.std.proofs.lemmas.List.{length-map}
 use Rattle.std.proofs.lemmas.List.FromFn.{get_or-map-range_with_len, take-map-range_with_len}
 use Rattle.std.proofs.lemmas.Bool.{cases_Bool, cases_lt}
@@ -19,7 +18,7 @@ use Rattle.nm_types.specs.Positions.{IsRing, FitsRing, dist, step_on, slots_from
 use Rattle.nm_types.proofs.RingSteps.{dist-below, dist-add, dist_behind, step_on-below, step_on-dist, step_on-step_on, length-slots_from}
 use Rattle.nm_region.specs.Buffers.{Buffer, indices_of}
 use Rattle.nm_hold.specs.declared.standing.Standing.{Standing}
-use Rattle.nm_hold.specs.Holds.{HoldState, index_at, buffer_at, standing_at, stands_at, is_named_in}
+use Rattle.nm_hold.specs.Holds.{HoldState, index_at, standing_at, stands_at, is_named_in}
 use Rattle.nm_hold.proofs.Spots.{same_place-is}
 use Rattle.nm_port.specs.declared.port.UserPort.{UserPort}
 use Rattle.nm_own.specs.declared.lend_offers.LentOffers.{LentOffers}
@@ -34,8 +33,7 @@ use Rattle.nm_port.specs.Lending.{AreNamedAs}
 use Rattle.nm_port.specs.Closing.{AreTaken, bytes_of_buffers}
 use Rattle.nm_own.specs.LentOffers.{pending_count_of, offered_count_of, offered_count, offered_buffers, IsLentOffers}
 use Rattle.nm_own.proofs.Tests.{some_is, some_of, some_true}
-use Rattle.nm_own.proofs.Closing.{sided_one, bytes_found}
-use Rattle.nm_port.proofs.Buffers.{buf_by_index}
+use Rattle.nm_own.proofs.Closing.{sided_one, out_behind, out_indices, out_bytes}
 use Rattle.nm_port.proofs.Checked.{ring_found}
 use Rattle.nm_port.proofs.Seeing.{pushed_is_seen}
 use Rattle.nm_port.specs.Offers.{length_seen}
@@ -185,30 +183,18 @@ module _ (h : HoldState) (ports : List UserPort) (id : PortId) (p : UserPort) (r
       ∙ (ap (λ (ats : List ℕ). length ats) (sym (offered_are r.ring is_ring)) ∙ length-slots_from size first (offered_count_of r)))
 
   module _ (h1 h2 : HoldState) (exchange : AreExchanged h h1 id r (pushed_count_of r)) (before after : List Buffer) (taken : AreTaken h1 h2 (map (place_on r.side id) (slots_from size first (offered_count_of r))) before after) where
-    out_is : drop (length before) after ≡ taken.out
-    out_is = ap (drop (length before)) taken.joined ∙ drop-append_seam before taken.out
-
-    pub before_stays : take (length before) after ≡ before
-    before_stays = ap (take (length before)) taken.joined ∙ take-append_seam before taken.out
+    numbers_go : map (number_at h1) (map (place_on r.side id) (slots_from size first (offered_count_of r))) ≡ offered_buffers id.0 (own_seen h ports)
+    numbers_go = sym (taken_numbers h1 exchange (offered_count_of r) (omega arith)) ∙ ap (taken_on id.0 (after_exchange side.Tx id.0 (own_seen h ports)).ports) (sym offered_number)
 
     pub indices_go : indices_of (drop (length before) after) ≡ offered_buffers id.0 (own_seen h ports)
-    indices_go =
-        ap indices_of out_is ∙ (taken.indices ∙ (sym (taken_numbers h1 exchange (offered_count_of r) (omega arith))
-        ∙ ap (taken_on id.0 (after_exchange side.Tx id.0 (own_seen h ports)).ports) (sym offered_number)))
+    indices_go = out_indices taken (offered_buffers id.0 (own_seen h ports)) numbers_go
 
     pub bytes_go : bytes_of_buffers (drop (length before) after) ≡ map (bytes_at (own_seen h ports)) (offered_buffers id.0 (own_seen h ports))
-    bytes_go =
-        let idxs = map (number_at h1) (map (place_on r.side id) (slots_from size first (offered_count_of r))) in
-        let same : idxs ≡ offered_buffers id.0 (own_seen h ports) = sym taken.indices ∙ (ap indices_of (sym out_is) ∙ indices_go) in
-        ap bytes_of_buffers out_is ∙ (bytes_found h ports taken.out idxs (taken.each ∙ same_buffers idxs) ∙ ap (map (bytes_at (own_seen h ports))) same)
-      where
-        same_buffers : (idxs : List ℕ) → map (buffer_at h1) idxs ≡ map (buffer_at h) idxs
-        same_buffers [] = refl
-        same_buffers (i ∷ idxs) = ap (λ (b : Option Buffer). b ∷ map (buffer_at h1) idxs) (buf_by_index h1.cells h.cells i exchange.bufs) ∙ ap (λ (bs : List (Option Buffer)). buffer_at h i ∷ bs) (same_buffers idxs)
+    bytes_go = out_bytes taken h ports exchange.bufs (offered_buffers id.0 (own_seen h ports)) numbers_go
 
     pub lent_number : length (drop (length before) after) ≡ offered_count_of r
     lent_number =
-        ap (λ (bs : List Buffer). length bs) out_is ∙ (sym (length-map taken.out (λ (b : Buffer). b.index)) ∙ (ap (λ (is : List ℕ). length is) taken.indices
+        ap (λ (bs : List Buffer). length bs) (out_behind taken) ∙ (sym (length-map taken.out (λ (b : Buffer). b.index)) ∙ (ap (λ (is : List ℕ). length is) taken.indices
         ∙ (length-map (map (place_on r.side id) (slots_from size first (offered_count_of r))) (number_at h1)
         ∙ (length-map (slots_from size first (offered_count_of r)) (place_on r.side id) ∙ length-slots_from size first (offered_count_of r)))))
 
