@@ -39,6 +39,8 @@ use Rattle.nm_own.specs.declared.own.OwnSide.TheInside.{Inside}
 use Rattle.nm_port.specs.Closing.{user_count, place_count, held_place, held_places, others, buffers_with_id, bytes_of_buffers, AreTaken}
 use Rattle.nm_port.proofs.Judging.{false_true}
 use Rattle.nm_port.proofs.Buffers.{buf_by_index}
+use Rattle.nm_port.proofs.Regions.{of_seen, holds_same, taken_of}
+use Rattle.nm_port.specs.Regions.{SideState, AllOf, AreOf, side_seen}
 use Rattle.nm_port.proofs.Checked.{bytes_are_seen, id_of_found}
 use Rattle.nm_own.proofs.Tests.{some_is, turned}
 use Rattle.nm_own.proofs.Filled.{all_append, all_range, all_slots}
@@ -343,6 +345,9 @@ module _ {h now : HoldState} {places : List Place} {before after : List Buffer} 
 
   pub out_indices : (idxs : List ℕ) → map (number_at h) places ≡ idxs → indices_of (drop (length before) after) ≡ idxs
   out_indices idxs are = ap indices_of out_behind ∙ (taken.indices ∙ are)
+
+  pub out_regions : (region : ℕ) (was : HoldState) (ports : List UserPort) (side : SideState) → side_seen was ports ≡ side → bufs_of h ≡ bufs_of was → AllOf region side → AreOf region (drop (length before) after)
+  out_regions region was ports side seen same of = taken_of region h now places before after taken (holds_same region was h same (of_seen region was ports side seen of))
 
   pub out_bytes : (was : HoldState) (ports : List UserPort) → bufs_of h ≡ bufs_of was → (idxs : List ℕ) → map (number_at h) places ≡ idxs
       → bytes_of_buffers (drop (length before) after) ≡ map (bytes_at (own_seen was ports)) idxs

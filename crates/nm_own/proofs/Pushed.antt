@@ -28,7 +28,7 @@ use Rattle.nm_own.specs.Kept.{IsKept}
 use Rattle.nm_port.specs.Exchanges.{pushed_count_of, user_position, CanExchange, ArePushedOut, is_among, named_after_push, tx_places, ring_pushed_out, CanPushOut, CanPushOutIf, CanAccept}
 use Rattle.nm_port.proofs.Judging.{false_true, same_eq}
 use Rattle.nm_port.proofs.PortOut.{IsOther, rest_other}
-use Rattle.nm_own.proofs.Tests.{some_is}
+use Rattle.nm_own.proofs.Tests.{some_is, or_second, less_true}
 use Rattle.nm_own.proofs.Closing.{none_same, named_of_port, filled_in_one, filled_one}
 use Rattle.nm_port.proofs.SlotLists.{accepted_ring}
 use Rattle.nm_port.proofs.Seeing.{pushed_is_seen}
@@ -62,11 +62,11 @@ seen_from size a h x al hl xl =
 pub flag_is : (size a b c h t n : ℕ) → a < size → b < size → c < size → h ≤ t → t < size → n + (t - h) < size → (b + h ≡ a) ⊎ (b + h ≡ a + size) → (c + t ≡ a) ⊎ (c + t ≡ a + size)
     → nat_lt b (t - h + n) ≡ (if nat_lt c n then true else if nat_lt a h then false else nat_lt a t)
 flag_is size a b c h t n al bl cl reach tl room near far = elim (cases_Bool (nat_lt c n)) [
-  | inl freed ↦ rw freed (yes_lt b (t - h + n) (in_freed (is_lt c n freed)))
+  | inl freed ↦ rw freed (less_true b (t - h + n) (in_freed (is_lt c n freed)))
   | inr not_freed ↦ rw not_freed (elim (cases_Bool (nat_lt a h)) [
     | inl pushed ↦ rw pushed (no_lt b (t - h + n) (in_pushed (is_lt a h pushed) (is_ge c n not_freed)))
     | inr not_pushed ↦ rw not_pushed (elim (cases_Bool (nat_lt a t)) [
-      | inl old ↦ rw old (yes_lt b (t - h + n) (in_old (is_ge a h not_pushed) (is_lt a t old)))
+      | inl old ↦ rw old (less_true b (t - h + n) (in_old (is_ge a h not_pushed) (is_lt a t old)))
       | inr out ↦ rw out (no_lt b (t - h + n) (is_out (is_ge a h not_pushed) (is_ge a t out) (is_ge c n not_freed)))
     ])
   ])
@@ -77,9 +77,6 @@ flag_is size a b c h t n al bl cl reach tl room near far = elim (cases_Bool (nat
 
     is_ge : (x y : ℕ) → nat_lt x y ≡ false → y ≤ x
     is_ge x y e = grind (arith, nat_tests)
-
-    yes_lt : (x y : ℕ) → x < y → nat_lt x y ≡ true
-    yes_lt x y e = grind (arith, nat_tests)
 
     no_lt : (x y : ℕ) → y ≤ x → nat_lt x y ≡ false
     no_lt x y e = grind (arith, nat_tests)
@@ -312,10 +309,7 @@ module _ (h : HoldState) (ports : List UserPort) (id : PortId) (p : UserPort) (r
 
   -- all its slots hold a buffer
   slot_filled : (at : ℕ) → at < r.ring.size → is_filled_in (place.Tx id at) p ≡ true
-  slot_filled at inside = rw (x.same_id, x.on, same_eq id.0 id.0 refl) (yes_lt at r.ring.size inside)
-    where
-      yes_lt : (a b : ℕ) → a < b → nat_lt a b ≡ true
-      yes_lt a b e = grind (arith, nat_tests)
+  slot_filled at inside = rw (x.same_id, x.on, same_eq id.0 id.0 refl) (less_true at r.ring.size inside)
 
   pub slots_held : (at : ℕ) → at < r.ring.size → IsSome (index_at h (place.Tx id at))
   slots_held at inside = some_of (index_at h (place.Tx id at)) (x.filled (place.Tx id at) ∙ filled_in_one ports id.0 p (place.Tx id at) x.there (slot_filled at inside))
@@ -335,18 +329,11 @@ module _ (h : HoldState) (ports : List UserPort) (id : PortId) (p : UserPort) (r
         ∙ ap (λ (i : PortId). named_ring_places i r ++ (named_ring_places p.id p.rx ++ map (place.Extra p.id) (range_with_len 0 p.extra))) x.same_id) in
         let t = dist-below r.ring.size r.ring.accepted_head r.ring.last_tail is_ring.accepted in
         let in_ring : is_among (named_ring_places id r) (place.Tx id at) ≡ true =
-        rw tx_side (among_tx id (user_slots r.ring) at ∙ (is_slot_from r.ring.size r.ring.accepted_head (dist r.ring.size r.ring.accepted_head r.ring.last_tail) at is_ring.accepted (omega arith) inside ∙ yes_lt (dist r.ring.size r.ring.accepted_head at) (dist r.ring.size r.ring.accepted_head r.ring.last_tail) user)) in
+        rw tx_side (among_tx id (user_slots r.ring) at ∙ (is_slot_from r.ring.size r.ring.accepted_head (dist r.ring.size r.ring.accepted_head r.ring.last_tail) at is_ring.accepted (omega arith) inside ∙ less_true (dist r.ring.size r.ring.accepted_head at) (dist r.ring.size r.ring.accepted_head r.ring.last_tail) user)) in
         ap (λ (xs : List Place). is_among (xs ++ named_places all) (place.Tx id at)) places
         ∙ (split_among (named_ring_places id r) (named_ring_places p.id p.rx ++ map (place.Extra p.id) (range_with_len 0 p.extra)) (named_places all) (place.Tx id at) ∙ rw in_ring refl))
     | inr other ↦ list_any-append (λ z. is_same_place z (place.Tx id at)) (named_places_of y) (named_places all) ∙ or_second (is_among (named_places_of y) (place.Tx id at)) (is_among (named_places all) (place.Tx id at)) (user_named all (rw other at e) at inside user)
   ]
-    where
-      yes_lt : (a b : ℕ) → a < b → nat_lt a b ≡ true
-      yes_lt a b e = grind (arith, nat_tests)
-
-      or_second : (a b : Bool) → b ≡ true → (a || b) ≡ true
-      or_second true b e = refl
-      or_second false b e = e
 
   pub can_exchange : CanExchange h id r
   can_exchange = can_exchange_at h ports side.Tx id p r x

@@ -8,10 +8,9 @@ use Rattle.nm_port.specs.Exchanges.{pushed_count_of, user_place}
 use Rattle.nm_port.specs.Receives.{user_places}
 use Rattle.nm_port.specs.Lending.{Run, AreOut, AreNamedAs, place_of_run}
 use Rattle.nm_port.proofs.Checked.{no_ring}
-use Rattle.nm_own.proofs.Closing.{out_before}
+use Rattle.nm_own.proofs.Closing.{out_before, out_regions}
 use Rattle.nm_own.proofs.Passing.{Passes, passes_of}
 use Rattle.nm_own.proofs.GivenBack.{can_exchange, pushed_ring, pushed_fits, back_count, indices_come, bytes_come, lent_count}
-use Rattle.nm_port.proofs.Regions.{of_seen, holds_same, taken_of}
 use Rattle.nm_own.proofs.own.OwnSide.lend_back.Goals as goal
 use Rattle.nm_own.proofs.own.OwnSide.lend_back.Goals.{In-Some}
 
@@ -98,10 +97,7 @@ returns-clause-lent c =
     }
 
 pub returns-clause-out : goal.returns-clause-out
-returns-clause-out c region of =
-    let s = step c in
-    taken_of region c.exchange_noted.new.hold c.take_slots.new.hold _ c.args.back.now.items c.take_slots.new.back.items s.taken
-    (holds_same region c.self.inside.hold c.exchange_noted.new.hold c.exchange_noted.ensures.exchanged.bufs (of_seen region c.self.inside.hold c.self.inside.ports.items c.args.self c.self.view_is of))
+returns-clause-out c region of = out_regions (step c).taken region c.self.inside.hold c.self.inside.ports.items c.args.self c.self.view_is c.exchange_noted.ensures.exchanged.bufs of
 
 pub returns-clause-before : goal.returns-clause-before
 returns-clause-before c = out_before (step c).taken
