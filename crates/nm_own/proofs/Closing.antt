@@ -1,5 +1,5 @@
 -- A session once a port of it is closed.
-use Rattle.std.proofs.Common.{ℕ, zero, suc, ◌≡◌, ◌<◌, ◌≤◌, ◌+◌, ◌-◌, ◌||◌, Bool, true, false, nat_eq, nat_lt, if◌then◌else◌, List, [], ◌∷◌, ◌++◌, length, map, fold, Option, Some, None, option_map, inl, inr, refl, sym, ◌∙◌, ap, arith, append_assoc, rules}
+use Rattle.std.proofs.Common.{ℕ, zero, suc, ◌≡◌, ◌<◌, ◌≤◌, ◌+◌, ◌-◌, ◌||◌, Bool, true, false, nat_eq, nat_lt, if◌then◌else◌, List, [], ◌∷◌, ◌++◌, length, map, fold, Option, Some, None, option_map, inl, inr, refl, sym, ◌∙◌, ap, arith, append_assoc}
 use Rattle.std.specs.Prelude.{is_some, unwrap_or, IsSome, filter, not, take, drop}
 use Rattle.std.specs.Option.{option_map_or}
 use Rattle.std.specs.List.{AllByRecursion, IsDistinct, list_any, range_with_len, filter_map}
@@ -42,7 +42,7 @@ use Rattle.nm_port.proofs.Buffers.{buf_by_index}
 use Rattle.nm_port.proofs.Regions.{of_seen, holds_same, taken_of}
 use Rattle.nm_port.specs.Regions.{SideState, AllOf, AreOf, side_seen}
 use Rattle.nm_port.proofs.Checked.{bytes_are_seen, id_of_found}
-use Rattle.nm_own.proofs.Tests.{some_is, turned}
+use Rattle.nm_own.proofs.Tests.{some_is, turned, or_none, less_true, or_second, some_of}
 use Rattle.nm_own.proofs.Filled.{all_append, all_range, all_slots}
 use Rattle.nm_port.proofs.Seeing.{port_same}
 use Rattle.nm_port.proofs.PortOut.{IsOther, lacks_port, rest_other}
@@ -94,10 +94,6 @@ filled_one (x ∷ ports) id p q found once at = elim (cases_Bool (nat_eq x.id.0 
       rw (rest, ← is) (or_none (is_filled_in q x)))
   | inr other ↦ rw (unfilled_in x id q at other) (filled_one ports id p q (rw other at found) once.1 at)
 ]
-  where
-    or_none : (b : Bool) → (b || false) ≡ b
-    or_none true = refl
-    or_none false = refl
 
 -- the places of other ports are filled as before
 filled_others : (ports : List UserPort) (id : ℕ) (q : Place) → nat_eq (port_of q) id ≡ false → is_filled (others id ports) q ≡ is_filled ports q
@@ -193,9 +189,6 @@ module _ (h : HoldState) (p : UserPort) (tx_side : IsTxSide p.tx) (rx_side : p.r
   abbrev number : ℕ → ℕ
   number k = number_at h (held_place p k)
 
-  less_true : (a b : ℕ) → a < b → nat_lt a b ≡ true
-  less_true a b below = grind (arith, nat_tests)
-
   less_false : (a b n : ℕ) → a ≡ b + n → nat_lt a b ≡ false
   less_false a b n above = grind (arith, nat_tests)
 
@@ -287,10 +280,6 @@ filled_in_one (x ∷ ports) id p q found filled = elim (cases_Bool (nat_eq x.id.
   | inl here ↦ (let is : x ≡ p = some_is x p (rw here at found) in rw (is, filled) refl)
   | inr other ↦ or_second (is_filled_in q x) (is_filled ports q) (filled_in_one ports id p q (rw other at found) filled)
 ]
-  where
-    or_second : (a b : Bool) → b ≡ true → (a || b) ≡ true
-    or_second true b e = refl
-    or_second false b e = e
 
 pub sided_one : (ports : List UserPort) (id : ℕ) (p : UserPort) → port_at ports id ≡ Some p → AreSided ports → IsTxSide p.tx × (p.rx.side ≡ side.Rx)
 sided_one [] id p found sided = absurd cc
@@ -366,10 +355,6 @@ module _ (h : HoldState) (ports : List UserPort) (id : PortId) (p : UserPort) (h
 
   pub is_held : (k : ℕ) → k < place_count p → IsSome (index_at h (held_place p k))
   is_held k below = some_of (index_at h (held_place p k)) (has.filled (held_place p k) ∙ filled_in_one ports id.0 p (held_place p k) has.found (held_filled p k ring below))
-    where
-      some_of : (o : Option ℕ) → is_some o ≡ true → IsSome o
-      some_of None e = absurd cc
-      some_of (Some x) e = search rules
 
   pub numbers_are : buffers_with_id (own_seen h ports) id.0 ≡ map (number_at h) (held_places p (place_count p))
   numbers_are = (let sides = sided_one ports id.0 p has.found has.sided in

@@ -3,7 +3,6 @@
 use Rattle.std.proofs.Common.{ℕ, zero, suc, nat_le, ◌≡◌, ◌≢◌, ◌<◌, ◌≤◌, ◌⊎◌, Bool, true, false, nat_eq, if◌then◌else◌, List, [], ◌∷◌, ◌++◌, length, set, reverse, Option, Some, None, inl, inr, refl, sym, ◌∙◌, ap, arith}
 use Rattle.std.specs.List.{AllByRecursion, IsDistinct}
 use Rattle.std.proofs.lemmas.Bool.{cases_Bool}
-use Rattle.std.proofs.lemmas.Bool.Decides.{nat_tests}
 use Rattle.std.proofs.lemmas.List.{length-set, get_or-set_same, get_or-set_other, reverse-append}
 use Rattle.nm_types.specs.declared.id.PortId.{PortId}
 use Rattle.nm_types.specs.declared.id.Side.{Side}
@@ -23,7 +22,7 @@ use Rattle.nm_port.specs.Sides.{place_on}
 use Rattle.nm_port.specs.Lending.{IsOut, Run, place_of_run, AreOut}
 use Rattle.nm_port.proofs.Judging.{false_true, same_eq}
 use Rattle.nm_port.proofs.Filling.{within_pool}
-use Rattle.nm_own.proofs.Tests.{some_is}
+use Rattle.nm_own.proofs.Tests.{some_is, turned}
 use Rattle.nm_own.proofs.Filled.{all_append}
 use Rattle.nm_own.proofs.PutOne.{stands_here, stood_there}
 
@@ -232,9 +231,6 @@ distinct_last : (xs : List ℕ) (x : ℕ) → IsDistinct nat_eq xs → AllByRecu
 unfolding IsDistinct
 distinct_last [] x once apart = (tt, tt)
 distinct_last (y ∷ xs) x once apart = (all_append (λ z. nat_eq y z ≡ false) xs (x ∷ []) once.0 (turned x y apart.0, tt), distinct_last xs x once.1 apart.1)
-  where
-    turned : (a b : ℕ) → nat_eq a b ≡ false → nat_eq b a ≡ false
-    turned a b e = grind (arith, nat_tests)
 
 distinct_turned : (xs : List ℕ) → IsDistinct nat_eq xs → IsDistinct nat_eq (reverse xs)
 unfolding IsDistinct

@@ -1,5 +1,5 @@
 -- The places that hold a buffer, and the named buffers among those of all indices.
-use Rattle.std.proofs.Common.{ℕ, zero, suc, ◌≡◌, ◌<◌, ◌+◌, ◌||◌, Bool, true, false, nat_eq, nat_lt, List, [], ◌∷◌, ◌++◌, map, replicate, Option, Some, None, inl, inr, refl, sym, ◌∙◌, ap, arith, rules}
+use Rattle.std.proofs.Common.{ℕ, zero, suc, ◌≡◌, ◌<◌, ◌+◌, true, false, nat_eq, nat_lt, List, [], ◌∷◌, ◌++◌, map, replicate, Option, Some, None, inl, inr, refl, sym, ◌∙◌, ap, arith, rules}
 use Rattle.std.specs.Prelude.{is_some, unwrap_or}
 use Rattle.std.specs.List.{AllByRecursion, range_with_len}
 use Rattle.std.proofs.lemmas.Bool.{cases_Bool, cases_lt}
@@ -20,7 +20,7 @@ use Rattle.nm_port.specs.RingSlots.{RingSlots}
 use Rattle.nm_port.specs.Sides.{place_on, number_at}
 use Rattle.nm_port.specs.Own.{own_seen, named_ring_places, named_tx_places, named_places_of, named_places, size_if, is_filled, is_filled_in, AreWhole, AreFilled, AreFlagged, AreRings, AreSided, IsTxSide, IsRingIf}
 use Rattle.nm_port.proofs.Judging.{same_eq, false_true}
-use Rattle.nm_own.proofs.Tests.{or_second, less_true, both_true}
+use Rattle.nm_own.proofs.Tests.{or_second, less_true, both_true, or_first}
 use Rattle.nm_own.proofs.Naming.{are_named, named_is_seen}
 
 pub all_append : {X : Type 0} (P : X → Type 0) (xs ys : List X) → AllByRecursion P xs → AllByRecursion P ys → AllByRecursion P (xs ++ ys)
@@ -76,10 +76,6 @@ module _ (all : List UserPort) where
   ports_filled (p ∷ ports) sided rings there =
       all_append (HoldIn all) (named_places_of p) (named_places ports) (port_filled p sided.0.0 sided.0.1 rings.0.0 rings.0.1 (λ q here. there q (or_first (is_filled_in q p) (is_filled ports q) here)))
       (ports_filled ports sided.1 rings.1 (λ q here. there q (or_second (is_filled_in q p) (is_filled ports q) here)))
-    where
-      or_first : (a b : Bool) → a ≡ true → (a || b) ≡ true
-      or_first true b e = refl
-      or_first false b e = cc
 
 pub named_are_filled : (ports : List UserPort) → AreSided ports → AreRings ports → AllByRecursion (λ q. is_filled ports q ≡ true) (named_places ports)
 named_are_filled ports sided rings = ports_filled ports ports sided rings (λ q here. here)

@@ -31,7 +31,7 @@ use Rattle.nm_port.proofs.SlotLists.{accepted_ring, tail_stays}
 use Rattle.nm_port.proofs.Seeing.{map-slots, pushed_is_seen, port_same}
 use Rattle.nm_port.proofs.Pushes.{pushed_is_user}
 use Rattle.nm_port.proofs.Checked.{ring_found}
-use Rattle.nm_own.proofs.Tests.{some_is, turned, some_of}
+use Rattle.nm_own.proofs.Tests.{some_is, turned, some_of, less_is}
 use Rattle.nm_own.proofs.Offered.{back_is_seen}
 use Rattle.nm_own.proofs.Closing.{out_indices, out_bytes}
 use Rattle.nm_port.proofs.Buffers.{cells_by_bufs, count_by_bufs, whole_by_bufs}
@@ -186,9 +186,6 @@ module _ (h : HoldState) (ports : List UserPort) (id : PortId) (p : UserPort) (r
           | inr outside ↦ one ∙ rw (x.same_id, its_ring, same_eq id.0 id.0 refl, outside) (none_either (is_among gone q))
         ]
       where
-        less_is : (a b : ℕ) → nat_lt a b ≡ true → a < b
-        less_is a b e = grind (arith, nat_tests)
-
         none_either : (b : Bool) → (if b then false else false) ≡ false
         none_either true = refl
         none_either false = refl

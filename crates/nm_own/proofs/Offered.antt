@@ -16,6 +16,7 @@ use Rattle.nm_port.specs.Offers.{unmarked_frame, offer_seen, offers_seen, frames
 use Rattle.nm_port.proofs.Checked.{bytes_are_seen, found, ring_found, side_found}
 use Rattle.nm_port.proofs.Seeing.{pushed_is_seen}
 use Rattle.nm_port.proofs.Pushes.{names-seen}
+use Rattle.nm_own.proofs.Tests.{some_is}
 use Rattle.nm_own.proofs.Closing.{ring_one}
 
 pub offers_are_seen : (h : HoldState) (ports : List UserPort) (id : PortId) (r : RingSlots) → AreSided ports → slots_at Tx ports id.0 ≡ Some r → offers_seen h r ≡ frames_offered id.0 (own_seen h ports)
@@ -48,9 +49,6 @@ rx_ring_found ports id r rings at =
     let f = found ports Rx id r at in
     let is : f.p.rx ≡ r = some_is f.p.rx r f.on in
     rw (← is) (ring_one ports id.0 f.p f.there rings)
-  where
-    some_is : (x y : RingSlots) → Some x ≡ Some y → x ≡ y
-    some_is x y e = cc
 
 pub back_is_seen : (h : HoldState) (ports : List UserPort) (id : PortId) (r : RingSlots) → AreSided ports → IsRing r.ring → slots_at Rx ports id.0 ≡ Some r → FitsRing r.ring r.ring.head r.ring.cur
     → names_pushed r ≡ back_on id.0 (own_seen h ports)

@@ -29,6 +29,7 @@ use Rattle.nm_port.specs.Own.{number_on, held_on, extra_number_at, ring_seen, po
 use Rattle.nm_port.specs.Filling.{place_in, index_with, named_with, bytes_with, AreFilledWith}
 use Rattle.nm_own.specs.Opening.{IsTxSize, blank_arrivals, opened_slots, opened_user_port}
 use Rattle.nm_port.proofs.Judging.{false_true}
+use Rattle.nm_own.proofs.Tests.{or_none, turned}
 use Rattle.nm_own.proofs.Filled.{named_are_filled}
 use Rattle.nm_port.proofs.Seeing.{port_same}
 use Rattle.nm_port.proofs.PortOut.{IsOther}
@@ -109,10 +110,6 @@ module _ (h h1 h2 h3 : HoldState) (ports : List UserPort) (id : PortId) (name : 
   is_filled-more : (all : List UserPort) (q : Place) → is_filled (all ++ new ∷ []) q ≡ (is_filled all q || (is_filled_in q new || false))
   is_filled-more all q = list_any-append (is_filled_in q) all (new ∷ [])
 
-  or_none : (b : Bool) → (b || false) ≡ b
-  or_none true = refl
-  or_none false = refl
-
   -- of a place of the new port
   filled_here : (q : Place) → port_of q ≡ id.0 → AreFilled h ports → (b : Bool) → is_some (index_at h3 q) ≡ (b || is_some (index_at h q)) → is_filled_in q new ≡ b → is_some (index_at h3 q) ≡ is_filled (ports ++ new ∷ []) q
   filled_here q port filled b now is =
@@ -124,9 +121,6 @@ module _ (h h1 h2 h3 : HoldState) (ports : List UserPort) (id : PortId) (name : 
 
   filled_elsewhere : (q : Place) → nat_eq id.0 (port_of q) ≡ false → AreFilled h ports → is_filled_in q new ≡ false → is_some (index_at h3 q) ≡ is_filled (ports ++ new ∷ []) q
   filled_elsewhere q other filled not = ap is_some (index_elsewhere q other) ∙ (filled q ∙ sym (is_filled-more ports q ∙ rw not (or_none (is_filled ports q))))
-
-  turned : (a b : ℕ) → nat_eq a b ≡ false → nat_eq b a ≡ false
-  turned a b e = grind (arith, nat_tests)
 
   port_is : (port : PortId) → nat_eq id.0 port.0 ≡ true → port ≡ id
   port_is port e = ap (λ (n : ℕ). let i : PortId = record { 0 = n } in i) (sym (nat_eq-is id.0 port.0 e))

@@ -35,7 +35,7 @@ use Rattle.nm_port.specs.Exchanges.{is_among}
 use Rattle.nm_port.specs.Receives.{has_free_slot, can_receive, ring_with_arrival, own_with_arrival, ring_published, HasRoom}
 use Rattle.nm_port.proofs.Judging.{false_true, same_eq}
 use Rattle.nm_port.proofs.PortOut.{IsOther}
-use Rattle.nm_own.proofs.Tests.{some_is, less_true, less_is, or_none, and-is}
+use Rattle.nm_own.proofs.Tests.{some_is, less_true, less_is, or_none, and-is, or_second}
 use Rattle.nm_own.proofs.Opening.{none_if}
 use Rattle.nm_port.proofs.SlotLists.{accepted_ring}
 use Rattle.nm_port.proofs.Seeing.{map-slots, port_same}
@@ -105,10 +105,6 @@ has_place_of (y ∷ ports) id p q found e = elim (cases_Bool (nat_eq y.id.0 id))
   | inl here ↦ (let is : y ≡ p = some_is y p (rw here at found) in rw (is, e) refl)
   | inr other ↦ or_second (is_some (offset_of (places_of_port y) q)) (has_place (map places_of_port ports) q) (has_place_of ports id p q (rw other at found) e)
 ]
-  where
-    or_second : (a b : Bool) → b ≡ true → (a || b) ≡ true
-    or_second true b e = refl
-    or_second false b e = e
 
 module _ (h : HoldState) (ports : List UserPort) (id : PortId) (p : UserPort) (r : RingSlots) (x : Receives h ports id p r) where
   abbrev size : ℕ

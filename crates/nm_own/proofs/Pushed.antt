@@ -1,6 +1,6 @@
 -- A transmit push that is accepted, over what is seen: the buffers that its slots name stand in their
 -- places, the slots pushed are the kernel side's, and those behind the tail the user's.
-use Rattle.std.proofs.Common.{ℕ, ◌≡◌, ◌<◌, ◌≤◌, ◌+◌, ◌-◌, ◌||◌, ◌⊎◌, Bool, true, false, nat_eq, nat_lt, if◌then◌else◌, List, [], ◌∷◌, ◌++◌, map, fold, replicate, Option, Some, None, option_map, inl, inr, refl, sym, ◌∙◌, ap, arith, rules}
+use Rattle.std.proofs.Common.{ℕ, ◌≡◌, ◌<◌, ◌≤◌, ◌+◌, ◌-◌, ◌||◌, ◌⊎◌, Bool, true, false, nat_eq, nat_lt, if◌then◌else◌, List, [], ◌∷◌, ◌++◌, map, fold, replicate, Option, Some, None, option_map, inl, inr, refl, sym, ◌∙◌, ap, arith}
 use Rattle.std.specs.Prelude.{is_some, IsSome}
 use Rattle.std.specs.List.{AllByRecursion, list_any, range_with_len}
 use Rattle.std.proofs.lemmas.Bool.{cases_Bool, cases_lt}
@@ -28,7 +28,7 @@ use Rattle.nm_own.specs.Kept.{IsKept}
 use Rattle.nm_port.specs.Exchanges.{pushed_count_of, user_position, CanExchange, ArePushedOut, is_among, named_after_push, tx_places, ring_pushed_out, CanPushOut, CanPushOutIf, CanAccept}
 use Rattle.nm_port.proofs.Judging.{false_true, same_eq}
 use Rattle.nm_port.proofs.PortOut.{IsOther, rest_other}
-use Rattle.nm_own.proofs.Tests.{some_is, or_second, less_true}
+use Rattle.nm_own.proofs.Tests.{some_is, or_second, less_true, turned, some_of}
 use Rattle.nm_own.proofs.Closing.{none_same, named_of_port, filled_in_one, filled_one}
 use Rattle.nm_port.proofs.SlotLists.{accepted_ring}
 use Rattle.nm_port.proofs.Seeing.{pushed_is_seen}
@@ -203,9 +203,6 @@ module _ (id : PortId) (r : RingSlots) (taken : ℕ) (is : IsRing r.ring) (can :
   named_of_others (p ∷ ports) q at other =
       list_any-append (λ x. is_same_place x q) (named_places_of p) (named_places ports)
       ∙ rw (none_same (named_places_of p) p.id.0 q (named_of_port p) (rw at (turned p.id.0 id.0 other.0)), named_of_others ports q at other.1) refl
-    where
-      turned : (a b : ℕ) → nat_eq a b ≡ false → nat_eq b a ≡ false
-      turned a b e = grind (arith, nat_tests)
 
   pushed_here : (q : Place) → is_among pushed q ≡ true → port_of q ≡ id.0
   pushed_here q e = elim (cases_Bool (nat_eq id.0 (port_of q))) [
@@ -291,9 +288,6 @@ module _ (id : PortId) (r : RingSlots) (taken : ℕ) (is : IsRing r.ring) (can :
         ∙ ap (λ (b : Bool). if is_among freed q then true else if is_among pushed q then false else b) (sym (list_any-append (λ y. is_same_place y q) (named_places_of x) (named_places ports)))))))
   ]
     where
-      turned : (a b : ℕ) → nat_eq a b ≡ false → nat_eq b a ≡ false
-      turned a b e = grind (arith, nat_tests)
-
       both : {a b : Bool} → a ≡ false → b ≡ false → (a || b) ≡ false
       both e f = rw (e, f) refl
 
@@ -313,10 +307,6 @@ module _ (h : HoldState) (ports : List UserPort) (id : PortId) (p : UserPort) (r
 
   pub slots_held : (at : ℕ) → at < r.ring.size → IsSome (index_at h (place.Tx id at))
   slots_held at inside = some_of (index_at h (place.Tx id at)) (x.filled (place.Tx id at) ∙ filled_in_one ports id.0 p (place.Tx id at) x.there (slot_filled at inside))
-    where
-      some_of : (o : Option ℕ) → is_some o ≡ true → IsSome o
-      some_of None e = absurd cc
-      some_of (Some i) e = search rules
 
   -- and those of the user a named one
   user_named : (all : List UserPort) → port_at all id.0 ≡ Some p → (at : ℕ) → at < r.ring.size → dist r.ring.size r.ring.accepted_head at < dist r.ring.size r.ring.accepted_head r.ring.last_tail
