@@ -22,6 +22,11 @@ pushed_is_user ring k is fits below =
     both : (a b c d : ℕ) → a < b → c < d → (nat_lt a b && nat_lt c d) ≡ true
     both a b c d h k = let left : nat_lt a b ≡ true = grind (arith, nat_tests) in let right : nat_lt c d ≡ true = grind (arith, nat_tests) in rw (left, right) refl
 
+-- as a loop over the pushed slots reads the ring
+pub user_at : (ring read : RingState) (size first count k : ℕ) → size ≡ read.size → read ≡ ring → first ≡ ring.accepted_head → count ≡ dist ring.size ring.accepted_head ring.head → IsRing ring → FitsRing ring ring.head ring.cur → k < count
+    → is_user_slot ring (step_on size first k) ≡ true
+user_at ring read size first count k sized same from number is fits below = rw (sized, same, from) (pushed_is_user ring k is fits (omega (arith, number, below)))
+
 pub seen_more : {X : Type 0} (f : ℕ → X) (size first k : ℕ) → map f (slots_from size first (k + 1)) ≡ map f (slots_from size first k) ++ f (step_on size first k) ∷ []
 seen_more f size first k = ap (map f) (map-range_with_len_more (step_on size first) 0 k k (omega arith)) ∙ map-append f (slots_from size first k) (step_on size first k ∷ [])
 

@@ -1,17 +1,14 @@
-use Rattle.std.proofs.Common.{◌≡◌, ◌<◌, ◌∙◌, map, slice_set, false, ap, refl, arith}
+use Rattle.std.proofs.Common.{◌≡◌, ◌∙◌, map, slice_set, false, ap, refl, arith}
 use Rattle.std.proofs.lemmas.List.{length-set}
-use Rattle.nm_types.specs.Positions.{step_on, slots_from, dist}
+use Rattle.nm_types.specs.Positions.{step_on, slots_from}
 use Rattle.nm_types.specs.Slots.{SlotState}
 use Rattle.nm_port.specs.Sides.{name_at, names_pushed}
 use Rattle.nm_port.proofs.Judging.{unmarked_next}
-use Rattle.nm_port.proofs.Pushes.{pushed_is_user, seen_more}
+use Rattle.nm_port.proofs.Pushes.{user_at, seen_more}
 use Rattle.nm_port.proofs.checks.clear_marks.Goals as goal
 
 pub user_slot-requires : goal.user_slot-requires
-user_slot-requires c =
-    let ring = c.args.ring.now.ring in
-    let below : c.loop-k.k < dist ring.size ring.accepted_head ring.head = omega (arith, c.loop-k-test.true, c.pushed-first.ensures.count) in
-    rw (c.pushed-first.ensures.first, c.size-size.ensures.size, c.ring.ensures.ring) (pushed_is_user ring c.loop-k.k c.pushed-first.ensures.slots.ring c.requires below)
+user_slot-requires c = user_at c.args.ring.now.ring _ _ _ _ c.loop-k.k c.size-size.ensures.size c.ring.ensures.ring c.pushed-first.ensures.first c.pushed-first.ensures.count c.pushed-first.ensures.slots.ring c.requires c.loop-k-test.true
 
 pub loop-k-preserved : goal.loop-k-preserved
 loop-k-preserved c =

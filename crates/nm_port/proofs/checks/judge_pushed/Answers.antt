@@ -1,13 +1,13 @@
-use Rattle.std.proofs.Common.{[], ◌∷◌, ◌++◌, ◌≡◌, ◌<◌, ◌≤◌, ◌+◌, ◌-◌, ◌∙◌, map, true, ap, refl, arith}
+use Rattle.std.proofs.Common.{[], ◌∷◌, ◌++◌, ◌≡◌, ◌≤◌, ◌+◌, ◌-◌, ◌∙◌, map, true, ap, refl, arith}
 use Rattle.std.proofs.lemmas.List.{map-append, length-set}
 use Rattle.std.proofs.lemmas.Result.{err_from_is_err_and}
-use Rattle.nm_types.specs.Positions.{step_on, slots_from, dist}
+use Rattle.nm_types.specs.Positions.{step_on, slots_from}
 use Rattle.nm_types.specs.Slots.{Pushed, pushed_names}
 use Rattle.nm_types.specs.SyncChecks.{slots_refusal}
 use Rattle.nm_hold.specs.Holds.{buffers_of}
 use Rattle.nm_port.specs.Sides.{pushed_seen_at, pushed_seen}
 use Rattle.nm_port.proofs.Judging.{passed_more, refused_at, marked_more}
-use Rattle.nm_port.proofs.Pushes.{pushed_is_user, seen_more, seen_split, names_taken}
+use Rattle.nm_port.proofs.Pushes.{user_at, seen_more, seen_split, names_taken}
 use Rattle.nm_port.proofs.checks.judge_pushed.Goals as goal
 use Rattle.nm_port.proofs.checks.judge_pushed.Goals.{After-size-size}
 
@@ -16,10 +16,7 @@ seen : (c : After-size-size) → pushed_seen c.args.hold.now c.args.port c.args.
 seen c = rw (c.pushed-first.ensures.first, c.pushed-first.ensures.count, c.size-size.ensures.size, c.ring.ensures.ring) refl
 
 pub judge_slot-requires-clause-user : goal.judge_slot-requires-clause-user
-judge_slot-requires-clause-user c =
-    let ring = c.args.ring.now.ring in
-    let below : c.loop-k.k < dist ring.size ring.accepted_head ring.head = omega (arith, c.loop-k-test.true, c.pushed-first.ensures.count) in
-    rw (c.pushed-first.ensures.first, c.size-size.ensures.size, c.ring.ensures.ring) (pushed_is_user ring c.loop-k.k c.pushed-first.ensures.slots.ring c.requires.fits below)
+judge_slot-requires-clause-user c = user_at c.args.ring.now.ring _ _ _ _ c.loop-k.k c.size-size.ensures.size c.ring.ensures.ring c.pushed-first.ensures.first c.pushed-first.ensures.count c.pushed-first.ensures.slots.ring c.requires.fits c.loop-k-test.true
 
 pub returns-in_err-judge_slot-clause-refusal : goal.returns-in_err-judge_slot-clause-refusal
 returns-in_err-judge_slot-clause-refusal c named well =

@@ -1,16 +1,12 @@
 use Rattle.std.proofs.Common.{◌≡◌, ◌<◌, refl, arith}
-use Rattle.nm_types.specs.Positions.{dist}
 use Rattle.nm_port.specs.RingSlots.{slot_at}
 use Rattle.nm_port.specs.Exchanges.{pushed_count_of, user_position, user_place}
-use Rattle.nm_port.proofs.Pushes.{pushed_is_user}
+use Rattle.nm_port.proofs.Pushes.{user_at}
 use Rattle.nm_port.proofs.Exchanged.{held_now, named_now, exchanged_next}
 use Rattle.nm_port.proofs.exchange.exchange_pushed.Goals as goal
 
 pub user_slot-requires : goal.user_slot-requires
-user_slot-requires c =
-    let ring = c.args.ring.now.ring in
-    let below : c.loop-k.k < dist ring.size ring.accepted_head ring.head = omega (arith, c.loop-k-test.true, c.pushed-first.ensures.count) in
-    rw (c.pushed-first.ensures.first, c.size-size.ensures.size, c.ring.ensures.ring) (pushed_is_user ring c.loop-k.k c.requires.ring c.requires.can.fits below)
+user_slot-requires c = user_at c.args.ring.now.ring _ _ _ _ c.loop-k.k c.size-size.ensures.size c.ring.ensures.ring c.pushed-first.ensures.first c.pushed-first.ensures.count c.requires.ring c.requires.can.fits c.loop-k-test.true
 
 pub exchange-requires-clause-held : goal.exchange-requires-clause-held
 exchange-requires-clause-held c =

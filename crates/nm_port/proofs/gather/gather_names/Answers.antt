@@ -1,15 +1,11 @@
-use Rattle.std.proofs.Common.{ℕ, List, [], ◌∷◌, ◌<◌, ◌∙◌, length, ap, arith, length-append}
-use Rattle.nm_types.specs.Positions.{dist}
+use Rattle.std.proofs.Common.{ℕ, List, [], ◌∷◌, ◌∙◌, length, ap, arith, length-append}
 use Rattle.nm_types.specs.Slots.{SlotState}
 use Rattle.nm_port.specs.Sides.{name_at}
-use Rattle.nm_port.proofs.Pushes.{pushed_is_user, listed_more}
+use Rattle.nm_port.proofs.Pushes.{user_at, listed_more}
 use Rattle.nm_port.proofs.gather.gather_names.Goals as goal
 
 pub user_slot-slot-requires : goal.user_slot-slot-requires
-user_slot-slot-requires c =
-    let ring = c.args.ring.now.ring in
-    let below : c.loop-k.k < dist ring.size ring.accepted_head ring.head = omega (arith, c.loop-k-test.true, c.pushed-first.ensures.count) in
-    rw (c.pushed-first.ensures.first, c.size-size.ensures.size, c.ring.ensures.ring) (pushed_is_user ring c.loop-k.k c.pushed-first.ensures.slots.ring c.requires below)
+user_slot-slot-requires c = user_at c.args.ring.now.ring _ _ _ _ c.loop-k.k c.size-size.ensures.size c.ring.ensures.ring c.pushed-first.ensures.first c.pushed-first.ensures.count c.pushed-first.ensures.slots.ring c.requires c.loop-k-test.true
 
 pub loop-k-preserved : goal.loop-k-preserved
 loop-k-preserved c =

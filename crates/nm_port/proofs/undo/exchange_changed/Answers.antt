@@ -1,12 +1,11 @@
 use Rattle.std.proofs.Common.{ℕ, ◌≡◌, ◌∙◌, ◌∷◌, ◌+◌, ◌<◌, [], length, List, Some, refl, ap, arith, length-append}
 use Rattle.std.specs.Vec.{vec_capacity}
-use Rattle.nm_types.specs.Positions.{dist}
 use Rattle.nm_hold.specs.Holds.{index_at}
 use Rattle.nm_port.specs.RingSlots.{slot_at}
 use Rattle.nm_port.specs.Sides.{name_at}
 use Rattle.nm_port.specs.Exchanges.{pushed_count_of, user_position, user_place}
 use Rattle.nm_port.specs.Lending.{AreChanged}
-use Rattle.nm_port.proofs.Pushes.{pushed_is_user}
+use Rattle.nm_port.proofs.Pushes.{user_at}
 use Rattle.nm_port.proofs.Exchanged.{held_now, named_now, exchanged_next}
 use Rattle.nm_port.proofs.Undoing.{one_more_change}
 use Rattle.nm_port.proofs.undo.exchange_changed.Goals as goal
@@ -19,10 +18,7 @@ index_in-requires c =
     (held_now c.args.hold.now c.loop-k.hold c.loop-k.hold c.args.port r c.loop-k.k c.requires.ring c.requires.can c.loop-k.invariant.0 below)
 
 pub user_slot-requires : goal.user_slot-requires
-user_slot-requires c =
-    let ring = c.args.ring.now.ring in
-    let below : c.loop-k.k < dist ring.size ring.accepted_head ring.head = omega (arith, c.loop-k-test.true, c.pushed-first.ensures.count) in
-    rw (c.pushed-first.ensures.first, c.size-size.ensures.size, c.ring.ensures.ring) (pushed_is_user ring c.loop-k.k c.requires.ring c.requires.can.fits below)
+user_slot-requires c = user_at c.args.ring.now.ring _ _ _ _ c.loop-k.k c.size-size.ensures.size c.ring.ensures.ring c.pushed-first.ensures.first c.pushed-first.ensures.count c.requires.ring c.requires.can.fits c.loop-k-test.true
 
 pub exchange-requires-clause-named : goal.exchange-requires-clause-named
 exchange-requires-clause-named c =
