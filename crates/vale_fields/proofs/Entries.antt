@@ -5,11 +5,11 @@ use Rattle.std.proofs.lemmas.Bool.{and_parts, eqb-true, false_from_ne_true}
 use Rattle.std.proofs.lemmas.Slice.Eq.{bytes_eq-Decides}
 use Rattle.nm_types.specs.Names.{is_name}
 use Rattle.nm_types.specs.declared.fault.OpenFault.TheVariants.{BadSize, SwitchesFull, PortsFull, NameTaken, NoBuffers, RecordFull, NoMemory}
+use Rattle.nm_types.specs.declared.fault.OpenFault.{OpenFault}
+use Rattle.nm_types.specs.declared.fault.SyncFault.{SyncFault}
 use Rattle.nm_types.specs.declared.fault.SyncFault.TheVariants as checks
 use Rattle.nm_types.specs.declared.id.SessionId.{SessionId}
 use Rattle.nm_types.specs.declared.id.PortId.{PortId}
-use Rattle.nm_types.specs.declared.id.LeaseId.{LeaseId}
-use Rattle.nm_types.specs.declared.id.Chain.{Chain}
 use Rattle.nm_types.specs.declared.id.Counts.{Counts}
 use Rattle.nm_types.specs.declared.id.Side.{Side}
 use Rattle.nm_types.specs.declared.id.Side.TheVariants as rings
@@ -21,10 +21,9 @@ use Rattle.vale_entry.specs.declared.entry.Ask.TheVariants.{Enter, Open, Send, G
 use Rattle.vale_entry.specs.declared.entry.Reply.{Reply}
 use Rattle.vale_entry.specs.declared.entry.Reply.TheVariants.{Made, Opened, Refused, Offered, Shared, Gave, Took, PeerGone, Unread, Watching, NoTarget, Watched, Counted}
 use Rattle.vale_entry.specs.declared.entry.Entry.{Entry}
-use Rattle.vale_entry.specs.Transcript.{is_unmarked, dests_rise, is_printable, side_word, sides_word, frames_text, numbers_text, dests_text, items_text}
-use Rattle.vale_fields.specs.Fields.{long_of, short_of, half_of, name_of, side_of, sides_of}
-use Rattle.vale_fields.specs.Lists.{numbers_of, dests_of, items_of, frames_of}
-use Rattle.vale_fields.specs.Rows.{entry_of, row_of, open_with, watch_with}
+use Rattle.vale_entry.specs.Transcript.{is_unmarked, is_refusal, dests_rise, is_printable, side_word, sides_word, frames_text, numbers_text, dests_text, items_text}
+use Rattle.vale_fields.specs.Fields.{long_of, short_of, name_of, side_of, sides_of, word_at}
+use Rattle.vale_fields.specs.Rows.{entry_of, row_of, open_answer, open_with, fault_by, watch_answer, watch_with}
 use Rattle.vale_fields.specs.Laws.{words_with, WordsAreRead}
 use Rattle.vale_fields.specs.Widths.{Is32, Is64, FitsAsk, FitsReply, FitsCounts}
 use Rattle.vale_fields.proofs.Back.{numbers-back, dests-back, items-back, frames-back}
@@ -59,8 +58,15 @@ unmarked-each (x ∷ xs) h =
 no-truth : {X : Type 0} → false ≡ true → X
 no-truth e = absurd cc
 
+abbrev entry_with : SessionId → Ask → Reply → Entry
+entry_with session ask reply = record { session = session; ask = ask; reply = reply }
+
+abbrev words_of : List ℕ → SessionId → Ask → Reply → List (List ℕ)
+words_of first session ask reply = words_with first (entry_with session ask reply)
+
 abbrev IsRead : ℕ → List ℕ → SessionId → Ask → Reply → Type 0
-IsRead n first session ask reply = entry_of n (words_with first (record { session = session; ask = ask; reply = reply })) ≡ Some (record { session = session; ask = ask; reply = reply })
+IsRead n first session ask reply =
+    entry_of n (words_of first session ask reply) ≡ Some (entry_with session ask reply)
 
 enter-back : (n : ℕ) (first : List ℕ) (session : SessionId) (user : ℕ) → session.0 ≡ n → Is64 user → IsRead n first session (Enter user) Made
 unfolding entry_of
@@ -74,15 +80,13 @@ enter-back n first session user same fits =
 port-back : (port : PortId) → Is32 port.0 → record { 0 = short_of (decimal port.0) } ≡ port
 port-back port fits = ap (λ (n : ℕ). record port { 0 = n }) (short-back port.0 fits)
 
-lease-back : (lease : LeaseId) → Is32 lease.0 → record { 0 = short_of (decimal lease.0) } ≡ lease
-lease-back lease fits = ap (λ (n : ℕ). record lease { 0 = n }) (short-back lease.0 fits)
-
 session-back : (n : ℕ) (session : SessionId) → n ≡ session.0 → record { 0 = n } ≡ session
 session-back n session e = ap (λ (k : ℕ). record session { 0 = k }) e
 
-chain-back : (chain : Chain) → Is32 chain.found → Is32 chain.astray → record { found = short_of (decimal chain.found); astray = short_of (decimal chain.astray) } ≡ chain
-chain-back chain f g =
-    ap (λ (n : ℕ). record chain { found = n; astray = short_of (decimal chain.astray) }) (short-back chain.found f) ∙ ap (λ (n : ℕ). record chain { astray = n }) (short-back chain.astray g)
+session-read : (session : SessionId) → Is32 session.0
+    → record { 0 = short_of (decimal session.0) } ≡ session
+session-read session fits =
+    session-back (short_of (decimal session.0)) session (short-back session.0 fits)
 
 counts-back : (counts : Counts) → FitsCounts counts
     → record { sent = long_of (decimal counts.sent); short = long_of (decimal counts.short); lone = long_of (decimal counts.lone); given = long_of (decimal counts.given); full = long_of (decimal counts.full); read = long_of (decimal counts.read) } ≡ counts
@@ -95,289 +99,170 @@ counts-back counts fits =
     let e5 = long-back counts.read fits.5 in
     rw (e0, e1, e2, e3, e4, e5) refl
 
-abbrev entry_with : SessionId → Ask → Reply → Entry
-entry_with session ask reply = record { session = session; ask = ask; reply = reply }
-
 entry-same : {s t : SessionId} {a b : Ask} {p q : Reply} → s ≡ t → a ≡ b → p ≡ q → Some (entry_with s a p) ≡ Some (entry_with t b q)
 entry-same e0 e1 e2 = cc
 
-pub read-back : (n : ℕ) (first : List ℕ) (session : SessionId) (ask : Ask) (reply : Reply) → is_printable n session.0 ask reply ≡ true → Is32 session.0 → FitsAsk ask → FitsReply reply
+-- an opening is read, with the answer of which its last words tell
+abbrev IsOpenRead : ℕ → List (List ℕ) → SessionId → Ask → Type 0
+IsOpenRead n words session ask =
+    entry_of n words ≡ Some (entry_with session ask (open_answer (word_at 8 words) words))
+
+open-back : (n : ℕ) (first : List ℕ) (session who : SessionId) (name : List ℕ) (tx rx extra : ℕ)
+    (reply : Reply) → session.0 ≡ who.0 → is_name name ≡ true → Is32 session.0
+    → FitsAsk (Open who name tx rx extra)
+    → IsOpenRead n (words_of first session (Open who name tx rx extra) reply) session
+    (Open who name tx rx extra)
+unfolding entry_of
+open-back n first session who name tx rx extra reply one is fs fa =
+    let s = session-read session fs in
+    let same = session-back (short_of (decimal session.0)) who (short-back session.0 fs ∙ one) in
+    let e0 = short-back tx fa.0 in
+    let e1 = short-back rx fa.1 in
+    let e2 = short-back extra fa.2 in
+    let asked : Open (record { 0 = short_of (decimal session.0) }) name (short_of (decimal tx))
+    (short_of (decimal rx)) (short_of (decimal extra)) ≡ Open who name tx rx extra = cc in
+    let words = words_of first session (Open who name tx rx extra) reply in
+    ap (option_map (open_with words)) (name-back name is) ∙ entry-same s asked refl
+
+refused-back : (n : ℕ) (first : List ℕ) (session who : SessionId) (name : List ℕ) (tx rx extra : ℕ)
+    (fault : OpenFault)
+    → is_printable n session.0 (Open who name tx rx extra) (Refused fault) ≡ true → Is32 session.0
+    → FitsAsk (Open who name tx rx extra)
+    → IsOpenRead n (words_of first session (Open who name tx rx extra) (Refused fault)) session
+    (Open who name tx rx extra)
+refused-back n first session who name tx rx extra fault h fs fa =
+    let parts = and_parts (session.0 == who.0) (is_name name && is_refusal fault) h in
+    open-back n first session who name tx rx extra (Refused fault)
+    (eqb-true session.0 who.0 parts.0) (and_parts (is_name name) (is_refusal fault) parts.1).0 fs fa
+
+-- a reset is read, once its fault is
+reset-back : (n : ℕ) (first : List ℕ) (session : SessionId) (port : PortId) (side : Side)
+    (fault : SyncFault) → Is32 session.0 → Is32 port.0
+    → fault_by (word_at 5 (words_of first session (Reset port side fault) Made))
+    (words_of first session (Reset port side fault) Made) ≡ fault
+    → IsRead n first session (Reset port side fault) Made
+unfolding entry_of
+reset-back n first session port side fault fs fp same =
+    let e0 = port-back port fp in
+    let e1 = side-back side in
+    let words = words_of first session (Reset port side fault) Made in
+    let asked : Reset (record { 0 = short_of (decimal port.0) }) (side_of (side_word side))
+    (fault_by (word_at 5 words) words) ≡ Reset port side fault = cc in
+    entry-same (session-read session fs) asked refl
+
+-- a watch is read, with the answer of which its last words tell
+watch-back : (n : ℕ) (first : List ℕ) (session : SessionId) (monitor : PortId) (target : List ℕ)
+    (sides : Sides) (reply : Reply) → is_name target ≡ true → Is32 session.0 → Is32 monitor.0
+    → watch_answer (word_at 7 (words_of first session (Watch monitor target sides) reply))
+    (words_of first session (Watch monitor target sides) reply) ≡ reply
+    → IsRead n first session (Watch monitor target sides) reply
+unfolding entry_of
+watch-back n first session monitor target sides reply is fs fm same =
+    let e0 = port-back monitor fm in
+    let e1 = sides-back sides in
+    let asked : Watch (record { 0 = short_of (decimal monitor.0) }) target
+    (sides_of (sides_word sides)) ≡ Watch monitor target sides = cc in
+    let words = words_of first session (Watch monitor target sides) reply in
+    ap (option_map (watch_with words)) (name-back target is)
+    ∙ entry-same (session-read session fs) asked same
+
+pub read-back : (n : ℕ) (first : List ℕ) (session : SessionId) (ask : Ask) (reply : Reply)
+    → is_printable n session.0 ask reply ≡ true → Is32 session.0 → FitsAsk ask → FitsReply reply
     → IsRead n first session ask reply
 unfolding entry_of
-read-back n first session (Enter user) Made h fs fa fr = enter-back n first session user (eqb-true session.0 n h) fa
+read-back n first session (Enter user) Made h fs fa fr =
+    enter-back n first session user (eqb-true session.0 n h) fa
 read-back n first session (Open who name tx rx extra) Opened h fs fa fr =
-    let s = session-back (short_of (decimal session.0)) session (short-back session.0 fs) in
     let parts = and_parts (session.0 == who.0) (is_name name) h in
-    let one = eqb-true session.0 who.0 parts.0 in
-    let is = name-back name parts.1 in
-    let same = session-back (short_of (decimal session.0)) who (short-back session.0 fs ∙ one) in
-    let e0 = short-back tx fa.0 in
-    let e1 = short-back rx fa.1 in
-    let e2 = short-back extra fa.2 in
-    let asked : Open (record { 0 = short_of (decimal session.0) }) name (short_of (decimal tx)) (short_of (decimal rx)) (short_of (decimal extra)) ≡ Open who name tx rx extra = cc in
-    let ws : List (List ℕ) = words_with first (record { session = session; ask = Open who name tx rx extra; reply = Opened }) in
-    ap (option_map (open_with ws)) is ∙ entry-same s asked refl
+    open-back n first session who name tx rx extra Opened (eqb-true session.0 who.0 parts.0) parts.1
+    fs fa
 read-back n first session (Open who name tx rx extra) (Refused BadSize) h fs fa fr =
-    let s = session-back (short_of (decimal session.0)) session (short-back session.0 fs) in
-    let parts = and_parts (session.0 == who.0) (is_name name && true) h in
-    let more = and_parts (is_name name) true parts.1 in
-    let one = eqb-true session.0 who.0 parts.0 in
-    let is = name-back name more.0 in
-    let same = session-back (short_of (decimal session.0)) who (short-back session.0 fs ∙ one) in
-    let e0 = short-back tx fa.0 in
-    let e1 = short-back rx fa.1 in
-    let e2 = short-back extra fa.2 in
-    let asked : Open (record { 0 = short_of (decimal session.0) }) name (short_of (decimal tx)) (short_of (decimal rx)) (short_of (decimal extra)) ≡ Open who name tx rx extra = cc in
-    let ws : List (List ℕ) = words_with first (record { session = session; ask = Open who name tx rx extra; reply = (Refused BadSize) }) in
-    ap (option_map (open_with ws)) is ∙ entry-same s asked refl
+    refused-back n first session who name tx rx extra BadSize h fs fa
 read-back n first session (Open who name tx rx extra) (Refused SwitchesFull) h fs fa fr =
-    let s = session-back (short_of (decimal session.0)) session (short-back session.0 fs) in
-    let parts = and_parts (session.0 == who.0) (is_name name && true) h in
-    let more = and_parts (is_name name) true parts.1 in
-    let one = eqb-true session.0 who.0 parts.0 in
-    let is = name-back name more.0 in
-    let same = session-back (short_of (decimal session.0)) who (short-back session.0 fs ∙ one) in
-    let e0 = short-back tx fa.0 in
-    let e1 = short-back rx fa.1 in
-    let e2 = short-back extra fa.2 in
-    let asked : Open (record { 0 = short_of (decimal session.0) }) name (short_of (decimal tx)) (short_of (decimal rx)) (short_of (decimal extra)) ≡ Open who name tx rx extra = cc in
-    let ws : List (List ℕ) = words_with first (record { session = session; ask = Open who name tx rx extra; reply = (Refused SwitchesFull) }) in
-    ap (option_map (open_with ws)) is ∙ entry-same s asked refl
+    refused-back n first session who name tx rx extra SwitchesFull h fs fa
 read-back n first session (Open who name tx rx extra) (Refused PortsFull) h fs fa fr =
-    let s = session-back (short_of (decimal session.0)) session (short-back session.0 fs) in
-    let parts = and_parts (session.0 == who.0) (is_name name && true) h in
-    let more = and_parts (is_name name) true parts.1 in
-    let one = eqb-true session.0 who.0 parts.0 in
-    let is = name-back name more.0 in
-    let same = session-back (short_of (decimal session.0)) who (short-back session.0 fs ∙ one) in
-    let e0 = short-back tx fa.0 in
-    let e1 = short-back rx fa.1 in
-    let e2 = short-back extra fa.2 in
-    let asked : Open (record { 0 = short_of (decimal session.0) }) name (short_of (decimal tx)) (short_of (decimal rx)) (short_of (decimal extra)) ≡ Open who name tx rx extra = cc in
-    let ws : List (List ℕ) = words_with first (record { session = session; ask = Open who name tx rx extra; reply = (Refused PortsFull) }) in
-    ap (option_map (open_with ws)) is ∙ entry-same s asked refl
+    refused-back n first session who name tx rx extra PortsFull h fs fa
 read-back n first session (Open who name tx rx extra) (Refused NameTaken) h fs fa fr =
-    let s = session-back (short_of (decimal session.0)) session (short-back session.0 fs) in
-    let parts = and_parts (session.0 == who.0) (is_name name && true) h in
-    let more = and_parts (is_name name) true parts.1 in
-    let one = eqb-true session.0 who.0 parts.0 in
-    let is = name-back name more.0 in
-    let same = session-back (short_of (decimal session.0)) who (short-back session.0 fs ∙ one) in
-    let e0 = short-back tx fa.0 in
-    let e1 = short-back rx fa.1 in
-    let e2 = short-back extra fa.2 in
-    let asked : Open (record { 0 = short_of (decimal session.0) }) name (short_of (decimal tx)) (short_of (decimal rx)) (short_of (decimal extra)) ≡ Open who name tx rx extra = cc in
-    let ws : List (List ℕ) = words_with first (record { session = session; ask = Open who name tx rx extra; reply = (Refused NameTaken) }) in
-    ap (option_map (open_with ws)) is ∙ entry-same s asked refl
+    refused-back n first session who name tx rx extra NameTaken h fs fa
 read-back n first session (Open who name tx rx extra) (Refused (NoBuffers want have)) h fs fa fr =
-    let s = session-back (short_of (decimal session.0)) session (short-back session.0 fs) in
-    let parts = and_parts (session.0 == who.0) (is_name name && true) h in
-    let more = and_parts (is_name name) true parts.1 in
-    let one = eqb-true session.0 who.0 parts.0 in
-    let is = name-back name more.0 in
-    let same = session-back (short_of (decimal session.0)) who (short-back session.0 fs ∙ one) in
-    let e0 = short-back tx fa.0 in
-    let e1 = short-back rx fa.1 in
-    let e2 = short-back extra fa.2 in
-    let e3 = short-back want fr.0 in
-    let e4 = short-back have fr.1 in
-    let asked : Open (record { 0 = short_of (decimal session.0) }) name (short_of (decimal tx)) (short_of (decimal rx)) (short_of (decimal extra)) ≡ Open who name tx rx extra = cc in
-    let answered : Refused (NoBuffers (short_of (decimal want)) (short_of (decimal have))) ≡ (Refused (NoBuffers want have)) = cc in
-    let ws : List (List ℕ) = words_with first (record { session = session; ask = Open who name tx rx extra; reply = (Refused (NoBuffers want have)) }) in
-    ap (option_map (open_with ws)) is ∙ entry-same s asked answered
+    let answered : Refused (NoBuffers (short_of (decimal want)) (short_of (decimal have)))
+    ≡ Refused (NoBuffers want have) = rw (short-back want fr.0, short-back have fr.1) refl in
+    refused-back n first session who name tx rx extra (NoBuffers want have) h fs fa
+    ∙ entry-same refl refl answered
 read-back n first session (Open who name tx rx extra) (Refused (RecordFull what used want)) h fs fa fr =
     no-truth (and_parts (is_name name) false (and_parts (session.0 == who.0) (is_name name && false) h).1).1
 read-back n first session (Open who name tx rx extra) (Refused NoMemory) h fs fa fr =
     no-truth (and_parts (is_name name) false (and_parts (session.0 == who.0) (is_name name && false) h).1).1
 read-back n first session (Send port frames) (Offered short lone to) h fs fa fr =
-    let s = session-back (short_of (decimal session.0)) session (short-back session.0 fs) in
-    let e0 = port-back port fa.0 in
-    let e1 = frames-back frames fa.1 in
-    let e2 = short-back short fr.0 in
-    let e3 = short-back lone fr.1 in
-    let e4 = dests-back to fr.2 in
-    let asked : Send (record { 0 = short_of (decimal port.0) }) (frames_of (frames_text frames)) ≡ Send port frames = cc in
-    let answered : Offered (short_of (decimal short)) (short_of (decimal lone)) (dests_of (dests_text to)) ≡ (Offered short lone to) = cc in
-    entry-same s asked answered
+    rw (short-back session.0 fs, short-back port.0 fa.0, frames-back frames fa.1)
+    (rw (short-back short fr.0, short-back lone fr.1, dests-back to fr.2) refl)
 read-back n first session (Grant origin to) (Shared given full gone) h fs fa fr =
-    let s = session-back (short_of (decimal session.0)) session (short-back session.0 fs) in
-    let e0 = short-back origin fa.0 in
-    let e1 = port-back to fa.1 in
-    let e2 = short-back given fr.0 in
-    let e3 = short-back full fr.1 in
-    let e4 = short-back gone fr.2 in
-    let asked : Grant (short_of (decimal origin)) (record { 0 = short_of (decimal to.0) }) ≡ Grant origin to = cc in
-    let answered : Shared (short_of (decimal given)) (short_of (decimal full)) (short_of (decimal gone)) ≡ (Shared given full gone) = cc in
-    entry-same s asked answered
+    rw (short-back session.0 fs, short-back origin fa.0, short-back to.0 fa.1)
+    (rw (short-back given fr.0, short-back full fr.1, short-back gone fr.2) refl)
 read-back n first session (Done lease) Made h fs fa fr =
-    let s = session-back (short_of (decimal session.0)) session (short-back session.0 fs) in
-    let e0 = lease-back lease fa in
-    let asked : Done (record { 0 = short_of (decimal lease.0) }) ≡ Done lease = cc in
-    entry-same s asked refl
+    rw (short-back session.0 fs, short-back lease.0 fa) refl
 read-back n first session (Sync port back) (Gave count to) h fs fa fr =
-    let s = session-back (short_of (decimal session.0)) session (short-back session.0 fs) in
-    let e0 = port-back port fa.0 in
-    let e1 = numbers-back back fa.1 in
-    let e2 = short-back count fr.0 in
-    let e3 = dests-back to fr.1 in
-    let asked : Sync (record { 0 = short_of (decimal port.0) }) (numbers_of (numbers_text back)) ≡ Sync port back = cc in
-    let answered : Gave (short_of (decimal count)) (dests_of (dests_text to)) ≡ (Gave count to) = cc in
-    entry-same s asked answered
+    rw (short-back session.0 fs, short-back port.0 fa.0, numbers-back back fa.1)
+    (rw (short-back count fr.0, dests-back to fr.1) refl)
 read-back n first session (Shut port) Made h fs fa fr =
-    let s = session-back (short_of (decimal session.0)) session (short-back session.0 fs) in
-    let e0 = port-back port fa in
-    let asked : Shut (record { 0 = short_of (decimal port.0) }) ≡ Shut port = cc in
-    entry-same s asked refl
+    rw (short-back session.0 fs, short-back port.0 fa) refl
 read-back n first session (Finish port bufs chain) (Unread count) h fs fa fr =
-    let s = session-back (short_of (decimal session.0)) session (short-back session.0 fs) in
-    let e0 = port-back port fa.0 in
-    let e1 = numbers-back bufs fa.1 in
-    let e2 = chain-back chain fa.2 fa.3 in
-    let e4 = short-back count fr in
-    let asked : Finish (record { 0 = short_of (decimal port.0) }) (numbers_of (numbers_text bufs)) (record { found = short_of (decimal chain.found); astray = short_of (decimal chain.astray) }) ≡ Finish port bufs chain = cc in
-    let answered : Unread (short_of (decimal count)) ≡ (Unread count) = cc in
-    entry-same s asked answered
+    rw (short-back session.0 fs, short-back port.0 fa.0, numbers-back bufs fa.1)
+    (rw (short-back chain.found fa.2, short-back chain.astray fa.3, short-back count fr) refl)
 read-back n first session (Leave who) Made h fs fa fr =
-    let s = session-back (short_of (decimal session.0)) session (short-back session.0 fs) in
-    let e0 = session-back (short_of (decimal session.0)) who (short-back session.0 fs ∙ eqb-true session.0 who.0 h) in
-    let asked : Leave (record { 0 = short_of (decimal session.0) }) ≡ Leave who = cc in
-    entry-same s asked refl
+    entry-same (session-read session fs) (ap Leave (session-back (short_of (decimal session.0)) who
+    (short-back session.0 fs ∙ eqb-true session.0 who.0 h))) refl
 read-back n first session (Reset port side (checks.HeadOut head from to)) Made h fs fa fr =
-    let s = session-back (short_of (decimal session.0)) session (short-back session.0 fs) in
-    let e0 = port-back port fa.0 in
-    let e1 = side-back side in
-    let e2 = short-back head fa.1.0 in
-    let e3 = short-back from fa.1.1 in
-    let e4 = short-back to fa.1.2 in
-    let asked : Reset (record { 0 = short_of (decimal port.0) }) (side_of (side_word side)) (checks.HeadOut (short_of (decimal head)) (short_of (decimal from)) (short_of (decimal to))) ≡ Reset port side (checks.HeadOut head from to) = cc in
-    entry-same s asked refl
+    reset-back n first session port side (checks.HeadOut head from to) fs fa.0
+    (rw (short-back head fa.1.0, short-back from fa.1.1, short-back to fa.1.2) refl)
 read-back n first session (Reset port side (checks.CurOut cur from to)) Made h fs fa fr =
-    let s = session-back (short_of (decimal session.0)) session (short-back session.0 fs) in
-    let e0 = port-back port fa.0 in
-    let e1 = side-back side in
-    let e2 = short-back cur fa.1.0 in
-    let e3 = short-back from fa.1.1 in
-    let e4 = short-back to fa.1.2 in
-    let asked : Reset (record { 0 = short_of (decimal port.0) }) (side_of (side_word side)) (checks.CurOut (short_of (decimal cur)) (short_of (decimal from)) (short_of (decimal to))) ≡ Reset port side (checks.CurOut cur from to) = cc in
-    entry-same s asked refl
+    reset-back n first session port side (checks.CurOut cur from to) fs fa.0
+    (rw (short-back cur fa.1.0, short-back from fa.1.1, short-back to fa.1.2) refl)
 read-back n first session (Reset port side (checks.Indirect slot)) Made h fs fa fr =
-    let s = session-back (short_of (decimal session.0)) session (short-back session.0 fs) in
-    let e0 = port-back port fa.0 in
-    let e1 = side-back side in
-    let e2 = short-back slot fa.1 in
-    let asked : Reset (record { 0 = short_of (decimal port.0) }) (side_of (side_word side)) (checks.Indirect (short_of (decimal slot))) ≡ Reset port side (checks.Indirect slot) = cc in
-    entry-same s asked refl
+    reset-back n first session port side (checks.Indirect slot) fs fa.0
+    (rw (short-back slot fa.1) refl)
 read-back n first session (Reset port side (checks.IndexOut slot idx)) Made h fs fa fr =
-    let s = session-back (short_of (decimal session.0)) session (short-back session.0 fs) in
-    let e0 = port-back port fa.0 in
-    let e1 = side-back side in
-    let e2 = short-back slot fa.1.0 in
-    let e3 = short-back idx fa.1.1 in
-    let asked : Reset (record { 0 = short_of (decimal port.0) }) (side_of (side_word side)) (checks.IndexOut (short_of (decimal slot)) (short_of (decimal idx))) ≡ Reset port side (checks.IndexOut slot idx) = cc in
-    entry-same s asked refl
+    reset-back n first session port side (checks.IndexOut slot idx) fs fa.0
+    (rw (short-back slot fa.1.0, short-back idx fa.1.1) refl)
 read-back n first session (Reset port side (checks.NotHeld slot idx)) Made h fs fa fr =
-    let s = session-back (short_of (decimal session.0)) session (short-back session.0 fs) in
-    let e0 = port-back port fa.0 in
-    let e1 = side-back side in
-    let e2 = short-back slot fa.1.0 in
-    let e3 = short-back idx fa.1.1 in
-    let asked : Reset (record { 0 = short_of (decimal port.0) }) (side_of (side_word side)) (checks.NotHeld (short_of (decimal slot)) (short_of (decimal idx))) ≡ Reset port side (checks.NotHeld slot idx) = cc in
-    entry-same s asked refl
+    reset-back n first session port side (checks.NotHeld slot idx) fs fa.0
+    (rw (short-back slot fa.1.0, short-back idx fa.1.1) refl)
 read-back n first session (Reset port side (checks.Doubled slot idx)) Made h fs fa fr =
-    let s = session-back (short_of (decimal session.0)) session (short-back session.0 fs) in
-    let e0 = port-back port fa.0 in
-    let e1 = side-back side in
-    let e2 = short-back slot fa.1.0 in
-    let e3 = short-back idx fa.1.1 in
-    let asked : Reset (record { 0 = short_of (decimal port.0) }) (side_of (side_word side)) (checks.Doubled (short_of (decimal slot)) (short_of (decimal idx))) ≡ Reset port side (checks.Doubled slot idx) = cc in
-    entry-same s asked refl
+    reset-back n first session port side (checks.Doubled slot idx) fs fa.0
+    (rw (short-back slot fa.1.0, short-back idx fa.1.1) refl)
 read-back n first session (Reset port side (checks.Unannounced slot idx was)) Made h fs fa fr =
-    let s = session-back (short_of (decimal session.0)) session (short-back session.0 fs) in
-    let e0 = port-back port fa.0 in
-    let e1 = side-back side in
-    let e2 = short-back slot fa.1.0 in
-    let e3 = short-back idx fa.1.1 in
-    let e4 = short-back was fa.1.2 in
-    let asked : Reset (record { 0 = short_of (decimal port.0) }) (side_of (side_word side)) (checks.Unannounced (short_of (decimal slot)) (short_of (decimal idx)) (short_of (decimal was))) ≡ Reset port side (checks.Unannounced slot idx was) = cc in
-    entry-same s asked refl
+    reset-back n first session port side (checks.Unannounced slot idx was) fs fa.0
+    (rw (short-back slot fa.1.0, short-back idx fa.1.1, short-back was fa.1.2) refl)
 read-back n first session (Reset port side (checks.LongLen slot len)) Made h fs fa fr =
-    let s = session-back (short_of (decimal session.0)) session (short-back session.0 fs) in
-    let e0 = port-back port fa.0 in
-    let e1 = side-back side in
-    let e2 = short-back slot fa.1.0 in
-    let e3 = half-back len fa.1.1 in
-    let asked : Reset (record { 0 = short_of (decimal port.0) }) (side_of (side_word side)) (checks.LongLen (short_of (decimal slot)) (half_of (decimal len))) ≡ Reset port side (checks.LongLen slot len) = cc in
-    entry-same s asked refl
+    reset-back n first session port side (checks.LongLen slot len) fs fa.0
+    (rw (short-back slot fa.1.0, half-back len fa.1.1) refl)
 read-back n first session (Reset port side (checks.Fragment slot)) Made h fs fa fr =
-    let s = session-back (short_of (decimal session.0)) session (short-back session.0 fs) in
-    let e0 = port-back port fa.0 in
-    let e1 = side-back side in
-    let e2 = short-back slot fa.1 in
-    let asked : Reset (record { 0 = short_of (decimal port.0) }) (side_of (side_word side)) (checks.Fragment (short_of (decimal slot))) ≡ Reset port side (checks.Fragment slot) = cc in
-    entry-same s asked refl
+    reset-back n first session port side (checks.Fragment slot) fs fa.0
+    (rw (short-back slot fa.1) refl)
 read-back n first session (Reset port side checks.PeerGone) Made h fs fa fr = no-truth h
-read-back n first session (Reset port side (checks.RecordFull what used want)) Made h fs fa fr = no-truth h
+read-back n first session (Reset port side (checks.RecordFull what used want)) Made h fs fa fr =
+    no-truth h
 read-back n first session (Reset port side checks.NoMemory) Made h fs fa fr = no-truth h
 read-back n first session (PutKept port offered) (Took items to) h fs fa fr =
-    let s = session-back (short_of (decimal session.0)) session (short-back session.0 fs) in
     let parts = and_parts (list_all is_unmarked items) (dests_rise to) h in
-    let e0 = port-back port fa.0 in
-    let e1 = short-back offered fa.1 in
-    let e2 = items-back items fr.0 (unmarked-each items parts.0) in
-    let e3 = dests-back to fr.1 in
-    let asked : PutKept (record { 0 = short_of (decimal port.0) }) (short_of (decimal offered)) ≡ PutKept port offered = cc in
-    let answered : Took (items_of (items_text items)) (dests_of (dests_text to)) ≡ (Took items to) = cc in
-    entry-same s asked answered
+    rw (short-back session.0 fs, short-back port.0 fa.0, short-back offered fa.1)
+    (rw (items-back items fr.0 (unmarked-each items parts.0), dests-back to fr.1) refl)
 read-back n first session (PutKept port offered) PeerGone h fs fa fr =
-    let s = session-back (short_of (decimal session.0)) session (short-back session.0 fs) in
-    let e0 = port-back port fa.0 in
-    let e1 = short-back offered fa.1 in
-    let asked : PutKept (record { 0 = short_of (decimal port.0) }) (short_of (decimal offered)) ≡ PutKept port offered = cc in
-    entry-same s asked refl
+    rw (short-back session.0 fs, short-back port.0 fa.0, short-back offered fa.1) refl
 read-back n first session (Get port back) (Gave count to) h fs fa fr =
-    let s = session-back (short_of (decimal session.0)) session (short-back session.0 fs) in
-    let e0 = port-back port fa.0 in
-    let e1 = numbers-back back fa.1 in
-    let e2 = short-back count fr.0 in
-    let e3 = dests-back to fr.1 in
-    let asked : Get (record { 0 = short_of (decimal port.0) }) (numbers_of (numbers_text back)) ≡ Get port back = cc in
-    let answered : Gave (short_of (decimal count)) (dests_of (dests_text to)) ≡ (Gave count to) = cc in
-    entry-same s asked answered
+    rw (short-back session.0 fs, short-back port.0 fa.0, numbers-back back fa.1)
+    (rw (short-back count fr.0, dests-back to fr.1) refl)
 read-back n first session (Watch monitor target sides) (Watching port) h fs fa fr =
-    let s = session-back (short_of (decimal session.0)) session (short-back session.0 fs) in
-    let is = name-back target h in
-    let e0 = port-back monitor fa in
-    let e1 = sides-back sides in
-    let e2 = port-back port fr in
-    let asked : Watch (record { 0 = short_of (decimal monitor.0) }) target (sides_of (sides_word sides)) ≡ Watch monitor target sides = cc in
-    let answered : Watching (record { 0 = short_of (decimal port.0) }) ≡ (Watching port) = cc in
-    let ws : List (List ℕ) = words_with first (record { session = session; ask = Watch monitor target sides; reply = (Watching port) }) in
-    ap (option_map (watch_with ws)) is ∙ entry-same s asked answered
+    watch-back n first session monitor target sides (Watching port) h fs fa
+    (rw (short-back port.0 fr) refl)
 read-back n first session (Watch monitor target sides) NoTarget h fs fa fr =
-    let s = session-back (short_of (decimal session.0)) session (short-back session.0 fs) in
-    let is = name-back target h in
-    let e0 = port-back monitor fa in
-    let e1 = sides-back sides in
-    let asked : Watch (record { 0 = short_of (decimal monitor.0) }) target (sides_of (sides_word sides)) ≡ Watch monitor target sides = cc in
-    let ws : List (List ℕ) = words_with first (record { session = session; ask = Watch monitor target sides; reply = NoTarget }) in
-    ap (option_map (watch_with ws)) is ∙ entry-same s asked refl
+    watch-back n first session monitor target sides NoTarget h fs fa refl
 read-back n first session (Watch monitor target sides) (Watched by) h fs fa fr =
-    let s = session-back (short_of (decimal session.0)) session (short-back session.0 fs) in
-    let is = name-back target h in
-    let e0 = port-back monitor fa in
-    let e1 = sides-back sides in
-    let e2 = port-back by fr in
-    let asked : Watch (record { 0 = short_of (decimal monitor.0) }) target (sides_of (sides_word sides)) ≡ Watch monitor target sides = cc in
-    let answered : Watched (record { 0 = short_of (decimal by.0) }) ≡ (Watched by) = cc in
-    let ws : List (List ℕ) = words_with first (record { session = session; ask = Watch monitor target sides; reply = (Watched by) }) in
-    ap (option_map (watch_with ws)) is ∙ entry-same s asked answered
+    watch-back n first session monitor target sides (Watched by) h fs fa
+    (rw (short-back by.0 fr) refl)
 read-back n first session (Stat port) (Counted counts) h fs fa fr =
-    let s = session-back (short_of (decimal session.0)) session (short-back session.0 fs) in
-    let e0 = port-back port fa in
-    let e1 = counts-back counts fr in
-    let asked : Stat (record { 0 = short_of (decimal port.0) }) ≡ Stat port = cc in
-    let answered : Counted (record { sent = long_of (decimal counts.sent); short = long_of (decimal counts.short); lone = long_of (decimal counts.lone); given = long_of (decimal counts.given); full = long_of (decimal counts.full); read = long_of (decimal counts.read) }) ≡ (Counted counts) = cc in
-    entry-same s asked answered
+    entry-same (session-read session fs) (ap Stat (port-back port fa))
+    (ap Counted (counts-back counts fr))
 read-back n first session ask reply h fs fa fr = no-truth h
 
 pub words-read : WordsAreRead
