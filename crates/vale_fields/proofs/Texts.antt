@@ -8,10 +8,27 @@ use Rattle.nm_types.specs.Frames.{Frame}
 use Rattle.vale_entry.specs.declared.entry.Dest.{Dest}
 use Rattle.vale_entry.specs.declared.entry.Item.{Item}
 use Rattle.vale_entry.specs.Transcript.{is_unmarked, item_text, items_text}
-use Rattle.vale_entry.specs.Transcript.{hex_digit, hex_byte, hex_text, frame_text, frames_text, numbers_text, dest_text, dests_text}
+use Rattle.vale_entry.specs.Transcript.{hex_digit, hex_byte, hex_text, list_text, frame_text, frames_text, numbers_text, dest_text, dests_text}
 use Rattle.vale_entry.specs.Fits.{FitsU64, FitsDest, FitsItem}
 use Rattle.vale_entry.proofs.Each.{each-weaker, each-append, each-map}
 use Rattle.vale_fields.proofs.Cuts.{cut, IsWordByte, IsWord, IsItemByte, IsItem, list-same, list-word, map-apart}
+
+-- Lists of texts.
+
+-- lists are told apart where their elements are
+lists-same : {X : Type 0} (text : X → List ℕ) (Fits : X → Type 0)
+    → ((x : X) → Fits x → IsItem (text x))
+    → ((x y : X) → Fits x → Fits y → text x ≡ text y → x ≡ y)
+    → (xs ys : List X) → Each Fits xs → Each Fits ys
+    → list_text (map text xs) ≡ list_text (map text ys) → xs ≡ ys
+lists-same text Fits item same xs ys px py e =
+    map-apart text Fits same xs ys px py (list-same (map text xs) (map text ys)
+    (each-map Fits IsItem text item xs px) (each-map Fits IsItem text item ys py) e)
+
+lists-word : {X : Type 0} (text : X → List ℕ) (Fits : X → Type 0)
+    → ((x : X) → Fits x → IsItem (text x)) → (xs : List X) → Each Fits xs
+    → IsWord (list_text (map text xs))
+lists-word text Fits item xs px = list-word (map text xs) (each-map Fits IsItem text item xs px)
 
 -- Decimal numbers.
 
@@ -65,12 +82,10 @@ pub decimal-same : (m n : ℕ) → FitsU64 m → FitsU64 n → decimal m ≡ dec
 decimal-same m n = decimal_injective m n
 
 pub numbers-same : (xs ys : List ℕ) → Each FitsU64 xs → Each FitsU64 ys → numbers_text xs ≡ numbers_text ys → xs ≡ ys
-numbers-same xs ys px py e =
-    map-apart decimal FitsU64 decimal-same xs ys px py
-    (list-same (map decimal xs) (map decimal ys) (each-map FitsU64 IsItem decimal (λ n h. decimal-item n) xs px) (each-map FitsU64 IsItem decimal (λ n h. decimal-item n) ys py) e)
+numbers-same = lists-same decimal FitsU64 (λ n h. decimal-item n) decimal-same
 
 pub numbers-word : (xs : List ℕ) → Each FitsU64 xs → IsWord (numbers_text xs)
-numbers-word xs px = list-word (map decimal xs) (each-map FitsU64 IsItem decimal (λ n h. decimal-item n) xs px)
+numbers-word = lists-word decimal FitsU64 (λ n h. decimal-item n)
 
 -- Destinations.
 
@@ -89,12 +104,10 @@ dest-same d e pd pe same =
     ap (λ (n : ℕ). record d { to = record { 0 = n } }) to ∙ ap (λ (n : ℕ). record e { count = n }) count
 
 pub dests-same : (xs ys : List Dest) → Each FitsDest xs → Each FitsDest ys → dests_text xs ≡ dests_text ys → xs ≡ ys
-dests-same xs ys px py e =
-    map-apart dest_text FitsDest dest-same xs ys px py
-    (list-same (map dest_text xs) (map dest_text ys) (each-map FitsDest IsItem dest_text (λ d h. dest-item d) xs px) (each-map FitsDest IsItem dest_text (λ d h. dest-item d) ys py) e)
+dests-same = lists-same dest_text FitsDest (λ d h. dest-item d) dest-same
 
 pub dests-word : (xs : List Dest) → Each FitsDest xs → IsWord (dests_text xs)
-dests-word xs px = list-word (map dest_text xs) (each-map FitsDest IsItem dest_text (λ d h. dest-item d) xs px)
+dests-word = lists-word dest_text FitsDest (λ d h. dest-item d)
 
 -- Frames.
 
@@ -193,11 +206,11 @@ any-each (x ∷ xs) = (tt, any-each xs)
 
 pub frames-same : (fs gs : List Frame) → frames_text fs ≡ frames_text gs → fs ≡ gs
 frames-same fs gs e =
-    map-apart frame_text (λ (f : Frame). Unit {0}) (λ f g pf pg same. frame-same f g same) fs gs (any-each fs) (any-each gs)
-    (list-same (map frame_text fs) (map frame_text gs) (frames-items fs) (frames-items gs) e)
+    lists-same frame_text (λ f. Unit {0}) (λ f h. frame-item f) (λ f g pf pg. frame-same f g) fs gs
+    (any-each fs) (any-each gs) e
 
 pub frames-word : (fs : List Frame) → IsWord (frames_text fs)
-frames-word fs = list-word (map frame_text fs) (frames-items fs)
+frames-word fs = lists-word frame_text (λ f. Unit {0}) (λ f h. frame-item f) fs (any-each fs)
 
 -- Frames that a pipe took, with their buffers; none is marked.
 
@@ -232,9 +245,7 @@ plain-items (x ∷ xs) fits plain =
     ((fits.0, parts.0), plain-items xs fits.1 parts.1)
 
 pub items-same : (xs ys : List Item) → Each IsPlainItem xs → Each IsPlainItem ys → items_text xs ≡ items_text ys → xs ≡ ys
-items-same xs ys px py e =
-    map-apart item_text IsPlainItem item-same xs ys px py
-    (list-same (map item_text xs) (map item_text ys) (each-map IsPlainItem IsItem item_text (λ i h. item-item i) xs px) (each-map IsPlainItem IsItem item_text (λ i h. item-item i) ys py) e)
+items-same = lists-same item_text IsPlainItem (λ i h. item-item i) item-same
 
 pub items-word : (xs : List Item) → Each IsPlainItem xs → IsWord (items_text xs)
-items-word xs px = list-word (map item_text xs) (each-map IsPlainItem IsItem item_text (λ i h. item-item i) xs px)
+items-word = lists-word item_text IsPlainItem (λ i h. item-item i)

@@ -44,24 +44,8 @@ abbrev pub back_of : List ℕ → List ℕ → List ℕ
 back_of hs ls = at hs ls 8 ∷ at hs ls 24 ∷ at hs ls 9 ∷ at hs ls 25 ∷ at hs ls 10 ∷ at hs ls 26 ∷ at hs ls 11 ∷ at hs ls 27 ∷ at hs ls 12 ∷ at hs ls 28 ∷ at hs ls 13 ∷ at hs ls 29 ∷ at hs ls 14 ∷ at hs ls 30 ∷ at hs ls 15 ∷ at hs ls 31 ∷ []
 
 spelled : (xs : List ℕ) → length xs ≡ 16 → front_of (map hex_digit (map (λ x. x / 16) xs)) (map hex_digit (map (λ x. x % 16) xs)) ++ back_of (map hex_digit (map (λ x. x / 16) xs)) (map hex_digit (map (λ x. x % 16) xs)) ≡ flat_map hex_byte xs
-spelled [] e = absurd (omega arith)
-spelled (x0 ∷ []) e = absurd (omega arith)
-spelled (x0 ∷ x1 ∷ []) e = absurd (omega arith)
-spelled (x0 ∷ x1 ∷ x2 ∷ []) e = absurd (omega arith)
-spelled (x0 ∷ x1 ∷ x2 ∷ x3 ∷ []) e = absurd (omega arith)
-spelled (x0 ∷ x1 ∷ x2 ∷ x3 ∷ x4 ∷ []) e = absurd (omega arith)
-spelled (x0 ∷ x1 ∷ x2 ∷ x3 ∷ x4 ∷ x5 ∷ []) e = absurd (omega arith)
-spelled (x0 ∷ x1 ∷ x2 ∷ x3 ∷ x4 ∷ x5 ∷ x6 ∷ []) e = absurd (omega arith)
-spelled (x0 ∷ x1 ∷ x2 ∷ x3 ∷ x4 ∷ x5 ∷ x6 ∷ x7 ∷ []) e = absurd (omega arith)
-spelled (x0 ∷ x1 ∷ x2 ∷ x3 ∷ x4 ∷ x5 ∷ x6 ∷ x7 ∷ x8 ∷ []) e = absurd (omega arith)
-spelled (x0 ∷ x1 ∷ x2 ∷ x3 ∷ x4 ∷ x5 ∷ x6 ∷ x7 ∷ x8 ∷ x9 ∷ []) e = absurd (omega arith)
-spelled (x0 ∷ x1 ∷ x2 ∷ x3 ∷ x4 ∷ x5 ∷ x6 ∷ x7 ∷ x8 ∷ x9 ∷ x10 ∷ []) e = absurd (omega arith)
-spelled (x0 ∷ x1 ∷ x2 ∷ x3 ∷ x4 ∷ x5 ∷ x6 ∷ x7 ∷ x8 ∷ x9 ∷ x10 ∷ x11 ∷ []) e = absurd (omega arith)
-spelled (x0 ∷ x1 ∷ x2 ∷ x3 ∷ x4 ∷ x5 ∷ x6 ∷ x7 ∷ x8 ∷ x9 ∷ x10 ∷ x11 ∷ x12 ∷ []) e = absurd (omega arith)
-spelled (x0 ∷ x1 ∷ x2 ∷ x3 ∷ x4 ∷ x5 ∷ x6 ∷ x7 ∷ x8 ∷ x9 ∷ x10 ∷ x11 ∷ x12 ∷ x13 ∷ []) e = absurd (omega arith)
-spelled (x0 ∷ x1 ∷ x2 ∷ x3 ∷ x4 ∷ x5 ∷ x6 ∷ x7 ∷ x8 ∷ x9 ∷ x10 ∷ x11 ∷ x12 ∷ x13 ∷ x14 ∷ []) e = absurd (omega arith)
 spelled (x0 ∷ x1 ∷ x2 ∷ x3 ∷ x4 ∷ x5 ∷ x6 ∷ x7 ∷ x8 ∷ x9 ∷ x10 ∷ x11 ∷ x12 ∷ x13 ∷ x14 ∷ x15 ∷ []) e = refl
-spelled (x0 ∷ x1 ∷ x2 ∷ x3 ∷ x4 ∷ x5 ∷ x6 ∷ x7 ∷ x8 ∷ x9 ∷ x10 ∷ x11 ∷ x12 ∷ x13 ∷ x14 ∷ x15 ∷ y ∷ ys) e = absurd (omega arith)
+spelled xs e = absurd (omega arith)
 
 pub placed-twice : (buf front back : List ℕ) (here : ℕ) → length front ≡ 16 → length back ≡ 16 → here + 32 ≤ length buf → Placed buf (put_chunk (here + 16) (put_chunk here buf front) back) here (front ++ back) (here + 32)
 placed-twice buf front back here f b room =

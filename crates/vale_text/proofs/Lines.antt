@@ -328,37 +328,44 @@ refusal-same r q pr pq e = absurd (omega (arith, ap (mark_at 0) e))
 
 fault-same : (f g : SyncFault) → IsSaidFault f → IsSaidFault g → fault_words f ≡ fault_words g → f ≡ g
 fault-same (checks.HeadOut a b c) (checks.HeadOut x y z) pf pg e =
-    let e0 : a ≡ x = decimal-same a x pf.1.0 pg.1.0 (ap (word_at 1) e) in
-    let e1 : b ≡ y = decimal-same b y pf.1.1 pg.1.1 (ap (word_at 2) e) in
-    let e2 : c ≡ z = decimal-same c z pf.1.2 pg.1.2 (ap (word_at 3) e) in
-    cc
+    rw (
+      decimal-same a x pf.1.0 pg.1.0 (ap (word_at 1) e),
+      decimal-same b y pf.1.1 pg.1.1 (ap (word_at 2) e),
+      decimal-same c z pf.1.2 pg.1.2 (ap (word_at 3) e),
+    ) refl
 fault-same (checks.CurOut a b c) (checks.CurOut x y z) pf pg e =
-    let e0 : a ≡ x = decimal-same a x pf.1.0 pg.1.0 (ap (word_at 1) e) in
-    let e1 : b ≡ y = decimal-same b y pf.1.1 pg.1.1 (ap (word_at 2) e) in
-    let e2 : c ≡ z = decimal-same c z pf.1.2 pg.1.2 (ap (word_at 3) e) in
-    cc
+    rw (
+      decimal-same a x pf.1.0 pg.1.0 (ap (word_at 1) e),
+      decimal-same b y pf.1.1 pg.1.1 (ap (word_at 2) e),
+      decimal-same c z pf.1.2 pg.1.2 (ap (word_at 3) e),
+    ) refl
 fault-same (checks.Indirect a) (checks.Indirect x) pf pg e = ap checks.Indirect (decimal-same a x pf.1 pg.1 (ap (word_at 1) e))
 fault-same (checks.IndexOut a b) (checks.IndexOut x y) pf pg e =
-    let e0 : a ≡ x = decimal-same a x pf.1.0 pg.1.0 (ap (word_at 1) e) in
-    let e1 : b ≡ y = decimal-same b y pf.1.1 pg.1.1 (ap (word_at 2) e) in
-    cc
+    rw (
+      decimal-same a x pf.1.0 pg.1.0 (ap (word_at 1) e),
+      decimal-same b y pf.1.1 pg.1.1 (ap (word_at 2) e),
+    ) refl
 fault-same (checks.NotHeld a b) (checks.NotHeld x y) pf pg e =
-    let e0 : a ≡ x = decimal-same a x pf.1.0 pg.1.0 (ap (word_at 1) e) in
-    let e1 : b ≡ y = decimal-same b y pf.1.1 pg.1.1 (ap (word_at 2) e) in
-    cc
+    rw (
+      decimal-same a x pf.1.0 pg.1.0 (ap (word_at 1) e),
+      decimal-same b y pf.1.1 pg.1.1 (ap (word_at 2) e),
+    ) refl
 fault-same (checks.Doubled a b) (checks.Doubled x y) pf pg e =
-    let e0 : a ≡ x = decimal-same a x pf.1.0 pg.1.0 (ap (word_at 1) e) in
-    let e1 : b ≡ y = decimal-same b y pf.1.1 pg.1.1 (ap (word_at 2) e) in
-    cc
+    rw (
+      decimal-same a x pf.1.0 pg.1.0 (ap (word_at 1) e),
+      decimal-same b y pf.1.1 pg.1.1 (ap (word_at 2) e),
+    ) refl
 fault-same (checks.Unannounced a b c) (checks.Unannounced x y z) pf pg e =
-    let e0 : a ≡ x = decimal-same a x pf.1.0 pg.1.0 (ap (word_at 1) e) in
-    let e1 : b ≡ y = decimal-same b y pf.1.1 pg.1.1 (ap (word_at 2) e) in
-    let e2 : c ≡ z = decimal-same c z pf.1.2 pg.1.2 (ap (word_at 3) e) in
-    cc
+    rw (
+      decimal-same a x pf.1.0 pg.1.0 (ap (word_at 1) e),
+      decimal-same b y pf.1.1 pg.1.1 (ap (word_at 2) e),
+      decimal-same c z pf.1.2 pg.1.2 (ap (word_at 3) e),
+    ) refl
 fault-same (checks.LongLen a b) (checks.LongLen x y) pf pg e =
-    let e0 : a ≡ x = decimal-same a x pf.1.0 pg.1.0 (ap (word_at 1) e) in
-    let e1 : b ≡ y = decimal-same b y pf.1.1 pg.1.1 (ap (word_at 2) e) in
-    cc
+    rw (
+      decimal-same a x pf.1.0 pg.1.0 (ap (word_at 1) e),
+      decimal-same b y pf.1.1 pg.1.1 (ap (word_at 2) e),
+    ) refl
 fault-same (checks.Fragment a) (checks.Fragment x) pf pg e = ap checks.Fragment (decimal-same a x pf.1 pg.1 (ap (word_at 1) e))
 fault-same checks.PeerGone g pf pg e = let no : false ≡ true = pf.0 in absurd cc
 fault-same (checks.RecordFull what used want) g pf pg e = let no : false ≡ true = pf.0 in absurd cc
@@ -422,112 +429,105 @@ words-same (entered u) (entered v) px py e = let same = decimal-same u v px py (
 words-same (entered u) y px py e = absurd (not-number (decimal (said_session y)) 101 (drop 1 (codes "enter")) (decimal-digits (said_session y)) (omega arith) (sym (ap (word_at 0) e)))
 words-same x (entered v) px py e = absurd (not-number (decimal (said_session x)) 101 (drop 1 (codes "enter")) (decimal-digits (said_session x)) (omega arith) (ap (word_at 0) e))
 words-same (opened s name tx rx extra r) (opened t other ux sx more q) px py e =
-    let e0 : s ≡ t = decimal-same s t px.0 py.0 (ap (word_at 0) e) in
-    let e1 : name ≡ other = ap (word_at 2) e in
-    let e2 : tx ≡ ux = decimal-same tx ux px.2 py.2 (ap (word_at 3) e) in
-    let e3 : rx ≡ sx = decimal-same rx sx px.3 py.3 (ap (word_at 4) e) in
-    let e4 : extra ≡ more = decimal-same extra more px.4 py.4 (ap (word_at 5) e) in
-    let e5 : r ≡ q = refusal-same r q px.5 py.5 (ap (drop 7) e) in
-    opened-with e0 e1 e2 e3 e4 e5
-  where
-    opened-with : {s t tx ux rx sx extra more : ℕ} {name other : List ℕ} {r q : Option OpenFault} → s ≡ t → name ≡ other → tx ≡ ux → rx ≡ sx → extra ≡ more → r ≡ q
-        → opened s name tx rx extra r ≡ opened t other ux sx more q
-    opened-with e0 e1 e2 e3 e4 e5 = cc
+    rw (
+      decimal-same s t px.0 py.0 (ap (word_at 0) e),
+      ap (word_at 2) e,
+      decimal-same tx ux px.2 py.2 (ap (word_at 3) e),
+      decimal-same rx sx px.3 py.3 (ap (word_at 4) e),
+      decimal-same extra more px.4 py.4 (ap (word_at 5) e),
+      refusal-same r q px.5 py.5 (ap (drop 7) e),
+    ) refl
 words-same (sent s port frames short lone to) (sent t gate others few single dests) px py e =
-    let e0 : s ≡ t = decimal-same s t px.0 py.0 (ap (word_at 0) e) in
-    let e1 : port ≡ gate = decimal-same port gate px.1 py.1 (ap (word_at 2) e) in
-    let e2 : frames ≡ others = frames-same frames others (ap (word_at 3) e) in
-    let e3 : short ≡ few = decimal-same short few px.2 py.2 (ap (word_at 6) e) in
-    let e4 : lone ≡ single = decimal-same lone single px.3 py.3 (ap (word_at 8) e) in
-    let e5 : to ≡ dests = dests-same to dests px.4 py.4 (ap (word_at 10) e) in
-    sent-with e0 e1 e2 e3 e4 e5
-  where
-    sent-with : {s t port gate short few lone single : ℕ} {frames others : List Frame} {to dests : List Dest} → s ≡ t → port ≡ gate → frames ≡ others → short ≡ few → lone ≡ single → to ≡ dests
-        → sent s port frames short lone to ≡ sent t gate others few single dests
-    sent-with e0 e1 e2 e3 e4 e5 = cc
+    rw (
+      decimal-same s t px.0 py.0 (ap (word_at 0) e),
+      decimal-same port gate px.1 py.1 (ap (word_at 2) e),
+      frames-same frames others (ap (word_at 3) e),
+      decimal-same short few px.2 py.2 (ap (word_at 6) e),
+      decimal-same lone single px.3 py.3 (ap (word_at 8) e),
+      dests-same to dests px.4 py.4 (ap (word_at 10) e),
+    ) refl
 words-same (granted s origin to given full gone) (granted t source at some over left) px py e =
-    let e0 : s ≡ t = decimal-same s t px.0 py.0 (ap (word_at 0) e) in
-    let e1 : origin ≡ source = decimal-same origin source px.1 py.1 (ap (word_at 2) e) in
-    let e2 : to ≡ at = decimal-same to at px.2 py.2 (ap (word_at 3) e) in
-    let e3 : given ≡ some = decimal-same given some px.3 py.3 (ap (word_at 6) e) in
-    let e4 : full ≡ over = decimal-same full over px.4 py.4 (ap (word_at 8) e) in
-    let e5 : gone ≡ left = decimal-same gone left px.5 py.5 (ap (word_at 10) e) in
-    granted-with e0 e1 e2 e3 e4 e5
-  where
-    granted-with : {s t origin source to at given some full over gone left : ℕ} → s ≡ t → origin ≡ source → to ≡ at → given ≡ some → full ≡ over → gone ≡ left
-        → granted s origin to given full gone ≡ granted t source at some over left
-    granted-with e0 e1 e2 e3 e4 e5 = cc
+    rw (
+      decimal-same s t px.0 py.0 (ap (word_at 0) e),
+      decimal-same origin source px.1 py.1 (ap (word_at 2) e),
+      decimal-same to at px.2 py.2 (ap (word_at 3) e),
+      decimal-same given some px.3 py.3 (ap (word_at 6) e),
+      decimal-same full over px.4 py.4 (ap (word_at 8) e),
+      decimal-same gone left px.5 py.5 (ap (word_at 10) e),
+    ) refl
 words-same (completed s lease) (completed t other) px py e =
-    let e0 : s ≡ t = decimal-same s t px.0 py.0 (ap (word_at 0) e) in
-    let e1 : lease ≡ other = decimal-same lease other px.1 py.1 (ap (word_at 2) e) in
-    ap (λ (k : ℕ). completed k lease) e0 ∙ ap (completed t) e1
+    rw (
+      decimal-same s t px.0 py.0 (ap (word_at 0) e),
+      decimal-same lease other px.1 py.1 (ap (word_at 2) e),
+    ) refl
 words-same (synced s port back count to) (synced t gate others few dests) px py e =
-    let e0 : s ≡ t = decimal-same s t px.0 py.0 (ap (word_at 0) e) in
-    let e1 : port ≡ gate = decimal-same port gate px.1 py.1 (ap (word_at 2) e) in
-    let e2 : back ≡ others = numbers-same back others px.2 py.2 (ap (word_at 3) e) in
-    let e3 : count ≡ few = decimal-same count few px.3 py.3 (ap (word_at 6) e) in
-    let e4 : to ≡ dests = dests-same to dests px.4 py.4 (ap (word_at 8) e) in
-    synced-with e0 e1 e2 e3 e4
-  where
-    synced-with : {s t port gate count few : ℕ} {back others : List ℕ} {to dests : List Dest} → s ≡ t → port ≡ gate → back ≡ others → count ≡ few → to ≡ dests
-        → synced s port back count to ≡ synced t gate others few dests
-    synced-with e0 e1 e2 e3 e4 = cc
+    rw (
+      decimal-same s t px.0 py.0 (ap (word_at 0) e),
+      decimal-same port gate px.1 py.1 (ap (word_at 2) e),
+      numbers-same back others px.2 py.2 (ap (word_at 3) e),
+      decimal-same count few px.3 py.3 (ap (word_at 6) e),
+      dests-same to dests px.4 py.4 (ap (word_at 8) e),
+    ) refl
 words-same (closed s port) (closed t gate) px py e =
-    let e0 : s ≡ t = decimal-same s t px.0 py.0 (ap (word_at 0) e) in
-    let e1 : port ≡ gate = decimal-same port gate px.1 py.1 (ap (word_at 2) e) in
-    ap (λ (k : ℕ). closed k port) e0 ∙ ap (closed t) e1
+    rw (
+      decimal-same s t px.0 py.0 (ap (word_at 0) e),
+      decimal-same port gate px.1 py.1 (ap (word_at 2) e),
+    ) refl
 words-same (finished s port bufs found astray count) (finished t gate others seen missed few) px py e =
-    let e0 : s ≡ t = decimal-same s t px.0 py.0 (ap (word_at 0) e) in
-    let e1 : port ≡ gate = decimal-same port gate px.1 py.1 (ap (word_at 2) e) in
-    let e2 : bufs ≡ others = numbers-same bufs others px.2 py.2 (ap (word_at 3) e) in
-    let e3 : found ≡ seen = decimal-same found seen px.3 py.3 (ap (word_at 5) e) in
-    let e4 : astray ≡ missed = decimal-same astray missed px.4 py.4 (ap (word_at 7) e) in
-    let e5 : count ≡ few = decimal-same count few px.5 py.5 (ap (word_at 10) e) in
-    finished-with e0 e1 e2 e3 e4 e5
-  where
-    finished-with : {s t port gate found seen astray missed count few : ℕ} {bufs others : List ℕ} → s ≡ t → port ≡ gate → bufs ≡ others → found ≡ seen → astray ≡ missed → count ≡ few
-        → finished s port bufs found astray count ≡ finished t gate others seen missed few
-    finished-with e0 e1 e2 e3 e4 e5 = cc
+    rw (
+      decimal-same s t px.0 py.0 (ap (word_at 0) e),
+      decimal-same port gate px.1 py.1 (ap (word_at 2) e),
+      numbers-same bufs others px.2 py.2 (ap (word_at 3) e),
+      decimal-same found seen px.3 py.3 (ap (word_at 5) e),
+      decimal-same astray missed px.4 py.4 (ap (word_at 7) e),
+      decimal-same count few px.5 py.5 (ap (word_at 10) e),
+    ) refl
 words-same (departed s) (departed t) px py e = ap departed (decimal-same s t px py (ap (word_at 0) e))
 words-same (reset s port side fault) (reset t gate ring other) px py e =
-    let e0 : s ≡ t = decimal-same s t px.0 py.0 (ap (word_at 0) e) in
-    let e1 : port ≡ gate = decimal-same port gate px.1 py.1 (ap (word_at 2) e) in
-    let e2 : side ≡ ring = side-same side ring (ap (word_at 3) e) in
-    let e3 : fault ≡ other = fault-same fault other px.2 py.2 (ap (drop 4) e) in
-    cc
+    rw (
+      decimal-same s t px.0 py.0 (ap (word_at 0) e),
+      decimal-same port gate px.1 py.1 (ap (word_at 2) e),
+      side-same side ring (ap (word_at 3) e),
+      fault-same fault other px.2 py.2 (ap (drop 4) e),
+    ) refl
 words-same (took s port offered items to) (took t gate count others dests) px py e =
-    let e0 : s ≡ t = decimal-same s t px.0 py.0 (ap (word_at 0) e) in
-    let e1 : port ≡ gate = decimal-same port gate px.1 py.1 (ap (word_at 2) e) in
-    let e2 : offered ≡ count = decimal-same offered count px.2 py.2 (ap (word_at 3) e) in
-    let e3 : items ≡ others = items-same items others px.3 py.3 (ap (word_at 6) e) in
-    let e4 : to ≡ dests = dests-same to dests px.4 py.4 (ap (word_at 8) e) in
-    cc
+    rw (
+      decimal-same s t px.0 py.0 (ap (word_at 0) e),
+      decimal-same port gate px.1 py.1 (ap (word_at 2) e),
+      decimal-same offered count px.2 py.2 (ap (word_at 3) e),
+      items-same items others px.3 py.3 (ap (word_at 6) e),
+      dests-same to dests px.4 py.4 (ap (word_at 8) e),
+    ) refl
 words-same (took s port offered items to) (lost t gate count) px py e = absurd (omega (arith, ap (mark_at 5) e))
 words-same (lost s port offered) (took t gate count others dests) px py e = absurd (omega (arith, ap (mark_at 5) e))
 words-same (lost s port offered) (lost t gate count) px py e =
-    let e0 : s ≡ t = decimal-same s t px.0 py.0 (ap (word_at 0) e) in
-    let e1 : port ≡ gate = decimal-same port gate px.1 py.1 (ap (word_at 2) e) in
-    let e2 : offered ≡ count = decimal-same offered count px.2 py.2 (ap (word_at 3) e) in
-    cc
+    rw (
+      decimal-same s t px.0 py.0 (ap (word_at 0) e),
+      decimal-same port gate px.1 py.1 (ap (word_at 2) e),
+      decimal-same offered count px.2 py.2 (ap (word_at 3) e),
+    ) refl
 words-same (received s port back count to) (received t gate others few dests) px py e =
-    let e0 : s ≡ t = decimal-same s t px.0 py.0 (ap (word_at 0) e) in
-    let e1 : port ≡ gate = decimal-same port gate px.1 py.1 (ap (word_at 2) e) in
-    let e2 : back ≡ others = numbers-same back others px.2 py.2 (ap (word_at 3) e) in
-    let e3 : count ≡ few = decimal-same count few px.3 py.3 (ap (word_at 6) e) in
-    let e4 : to ≡ dests = dests-same to dests px.4 py.4 (ap (word_at 8) e) in
-    cc
+    rw (
+      decimal-same s t px.0 py.0 (ap (word_at 0) e),
+      decimal-same port gate px.1 py.1 (ap (word_at 2) e),
+      numbers-same back others px.2 py.2 (ap (word_at 3) e),
+      decimal-same count few px.3 py.3 (ap (word_at 6) e),
+      dests-same to dests px.4 py.4 (ap (word_at 8) e),
+    ) refl
 words-same (monitored s monitor name sides answer) (monitored t other target more reply) px py e =
-    let e0 : s ≡ t = decimal-same s t px.0 py.0 (ap (word_at 0) e) in
-    let e1 : monitor ≡ other = decimal-same monitor other px.1 py.1 (ap (word_at 2) e) in
-    let e2 : name ≡ target = ap (word_at 3) e in
-    let e3 : sides ≡ more = sides-same sides more (ap (word_at 4) e) in
-    let e4 : answer ≡ reply = answer-same answer reply px.3 py.3 (ap (drop 6) e) in
-    cc
+    rw (
+      decimal-same s t px.0 py.0 (ap (word_at 0) e),
+      decimal-same monitor other px.1 py.1 (ap (word_at 2) e),
+      ap (word_at 3) e,
+      sides-same sides more (ap (word_at 4) e),
+      answer-same answer reply px.3 py.3 (ap (drop 6) e),
+    ) refl
 words-same (counted s port counts) (counted t gate others) px py e =
-    let e0 : s ≡ t = decimal-same s t px.0 py.0 (ap (word_at 0) e) in
-    let e1 : port ≡ gate = decimal-same port gate px.1 py.1 (ap (word_at 2) e) in
-    let e2 : counts ≡ others = counts-same counts others px.2 py.2 (ap (drop 4) e) in
-    cc
+    rw (
+      decimal-same s t px.0 py.0 (ap (word_at 0) e),
+      decimal-same port gate px.1 py.1 (ap (word_at 2) e),
+      counts-same counts others px.2 py.2 (ap (drop 4) e),
+    ) refl
 words-same x y px py e = absurd (omega (arith, ap (mark_at 1) e))
 
 -- What a printable entry says.

@@ -1,4 +1,4 @@
-use Rattle.std.proofs.Common.{List, ℕ, ◌++◌, length, subst}
+use Rattle.std.proofs.Common.{List, ℕ, [], ◌≡◌, ◌++◌, length, Option, subst}
 use Rattle.std.proofs.lemmas.Result.{err_from_is_err_and}
 use Rattle.nm_io.specs.Gathered.{Gathered}
 use Rattle.nm_io.specs.Held.{GrowsByPrefix}
@@ -6,42 +6,47 @@ use Rattle.nm_io.proofs.Gathering.{gathered_more, gathered_fails, gathered_all, 
 use Rattle.vale_entry.specs.Transcript.{entry_lines, end_line}
 use Rattle.vale_text.proofs.transcript.put_rest.Goals as goal
 
+-- the lines of the entries and the last one were gathered behind nothing
+all-lines : (old middle new : Option (List ℕ)) (p q r lines last : List ℕ) → p ≡ []
+    → Gathered old middle p q lines → Gathered middle new q r last
+    → Gathered old new [] r (lines ++ last)
+all-lines old middle new p q r lines last empty first second =
+    subst (λ (bytes : List ℕ). Gathered old new bytes r (lines ++ last)) empty
+    (gathered_more old middle new p q r lines last first second)
+
 pub returns-in_err-put_line-clause-writes : goal.returns-in_err-put_line-clause-writes
 returns-in_err-put_line-clause-writes g c =
-    let p = err_from_is_err_and c.from_residual-in_err-put_line.result c.from_residual-in_err-put_line.ensures.1 in
     let old = g.K.Sink.holds c.args.out.now in
-    let middle = g.K.Sink.holds c.put_entries.new.out in
     let new = g.K.Sink.holds c.put_line.new.out in
     let lines : List ℕ = entry_lines 1 c.args.entries.now in
     let last : List ℕ = end_line (length c.args.entries.now) c.args.free in
-    rw (p.1) (subst (λ (bytes : List ℕ). GrowsByPrefix old new (bytes ++ (lines ++ last))) c.requires.empty
-    (gathered_fails old middle new c.args.lines.now.bytes c.put_entries.new.lines.bytes lines last c.in_ok-put_entries.ensures.gathers c.in_err-put_line.ensures.gathers))
+    rw ((err_from_is_err_and c.from_residual-in_err-put_line.result c.from_residual-in_err-put_line.ensures.1).1)
+    (subst (λ (bytes : List ℕ). GrowsByPrefix old new (bytes ++ (lines ++ last))) c.requires.empty
+    (gathered_fails old (g.K.Sink.holds c.put_entries.new.out) new c.args.lines.now.bytes
+    c.put_entries.new.lines.bytes lines last c.in_ok-put_entries.ensures.gathers
+    c.in_err-put_line.ensures.gathers))
 
 pub returns-in_err-put_gathered-clause-writes : goal.returns-in_err-put_gathered-clause-writes
 returns-in_err-put_gathered-clause-writes g c =
-    let p = err_from_is_err_and c.from_residual-in_err-put_gathered.result c.from_residual-in_err-put_gathered.ensures.1 in
     let old = g.K.Sink.holds c.args.out.now in
-    let middle = g.K.Sink.holds c.put_entries.new.out in
     let then = g.K.Sink.holds c.put_line.new.out in
-    let new = g.K.Sink.holds c.put_gathered.new.out in
     let lines : List ℕ = entry_lines 1 c.args.entries.now in
     let last : List ℕ = end_line (length c.args.entries.now) c.args.free in
-    let all : Gathered old then c.args.lines.now.bytes c.put_line.new.lines.bytes (lines ++ last) =
-    gathered_more old middle then c.args.lines.now.bytes c.put_entries.new.lines.bytes c.put_line.new.lines.bytes lines last c.in_ok-put_entries.ensures.gathers c.in_ok-put_line.ensures.gathers in
-    rw (p.1) (gathered_some old then new c.put_line.new.lines.bytes (lines ++ last)
-    (subst (λ (bytes : List ℕ). Gathered old then bytes c.put_line.new.lines.bytes (lines ++ last)) c.requires.empty all)
+    rw ((err_from_is_err_and c.from_residual-in_err-put_gathered.result c.from_residual-in_err-put_gathered.ensures.1).1)
+    (gathered_some old then (g.K.Sink.holds c.put_gathered.new.out) c.put_line.new.lines.bytes
+    (lines ++ last) (all-lines old (g.K.Sink.holds c.put_entries.new.out) then
+    c.args.lines.now.bytes c.put_entries.new.lines.bytes c.put_line.new.lines.bytes lines last
+    c.requires.empty c.in_ok-put_entries.ensures.gathers c.in_ok-put_line.ensures.gathers)
     c.in_err-put_gathered.ensures.writes)
 
 pub returns-clause-writes : goal.returns-clause-writes
 returns-clause-writes g c =
     let old = g.K.Sink.holds c.args.out.now in
-    let middle = g.K.Sink.holds c.put_entries.new.out in
     let then = g.K.Sink.holds c.put_line.new.out in
-    let new = g.K.Sink.holds c.put_gathered.new.out in
     let lines : List ℕ = entry_lines 1 c.args.entries.now in
     let last : List ℕ = end_line (length c.args.entries.now) c.args.free in
-    let all : Gathered old then c.args.lines.now.bytes c.put_line.new.lines.bytes (lines ++ last) =
-    gathered_more old middle then c.args.lines.now.bytes c.put_entries.new.lines.bytes c.put_line.new.lines.bytes lines last c.in_ok-put_entries.ensures.gathers c.in_ok-put_line.ensures.gathers in
-    gathered_all old then new c.put_line.new.lines.bytes (lines ++ last)
-    (subst (λ (bytes : List ℕ). Gathered old then bytes c.put_line.new.lines.bytes (lines ++ last)) c.requires.empty all)
+    gathered_all old then (g.K.Sink.holds c.put_gathered.new.out) c.put_line.new.lines.bytes
+    (lines ++ last) (all-lines old (g.K.Sink.holds c.put_entries.new.out) then
+    c.args.lines.now.bytes c.put_entries.new.lines.bytes c.put_line.new.lines.bytes lines last
+    c.requires.empty c.in_ok-put_entries.ensures.gathers c.in_ok-put_line.ensures.gathers)
     c.in_ok-put_gathered.ensures.writes
