@@ -10,27 +10,12 @@ packed_fits n b i small byte few =
     omega (arith, small, byte, most)
 
 pub eight_as_number : (bytes : List ℕ) → length bytes ≡ 8 → from_le_bytes w64 bytes ≡ packed bytes
-eight_as_number [] e = absurd (omega arith)
-eight_as_number (a ∷ []) e = absurd (omega arith)
-eight_as_number (a ∷ b ∷ []) e = absurd (omega arith)
-eight_as_number (a ∷ b ∷ c ∷ []) e = absurd (omega arith)
-eight_as_number (a ∷ b ∷ c ∷ d ∷ []) e = absurd (omega arith)
-eight_as_number (a ∷ b ∷ c ∷ d ∷ f ∷ []) e = absurd (omega arith)
-eight_as_number (a ∷ b ∷ c ∷ d ∷ f ∷ g ∷ []) e = absurd (omega arith)
-eight_as_number (a ∷ b ∷ c ∷ d ∷ f ∷ g ∷ h ∷ []) e = absurd (omega arith)
 eight_as_number (a ∷ b ∷ c ∷ d ∷ f ∷ g ∷ h ∷ i ∷ []) e = omega arith
-eight_as_number (a ∷ b ∷ c ∷ d ∷ f ∷ g ∷ h ∷ i ∷ j ∷ js) e = absurd (omega arith)
+eight_as_number bytes e = absurd (omega arith)
 
 pub cut : (word : List ℕ) → 8 ≤ length word → (length (take 8 word) ≡ 8) × (packed (drop 8 word) * 2 ^ 64 + packed (take 8 word) ≡ packed word)
-cut [] e = absurd (omega arith)
-cut (a ∷ []) e = absurd (omega arith)
-cut (a ∷ b ∷ []) e = absurd (omega arith)
-cut (a ∷ b ∷ c ∷ []) e = absurd (omega arith)
-cut (a ∷ b ∷ c ∷ d ∷ []) e = absurd (omega arith)
-cut (a ∷ b ∷ c ∷ d ∷ f ∷ []) e = absurd (omega arith)
-cut (a ∷ b ∷ c ∷ d ∷ f ∷ g ∷ []) e = absurd (omega arith)
-cut (a ∷ b ∷ c ∷ d ∷ f ∷ g ∷ h ∷ []) e = absurd (omega arith)
 cut (a ∷ b ∷ c ∷ d ∷ f ∷ g ∷ h ∷ i ∷ rest) e = (refl, omega arith)
+cut word e = absurd (omega arith)
 
 -- a word of eight bytes or more
 pub packed_in_parts : (word rest : List ℕ) (n m : ℕ) → 8 ≤ length word → n ≡ packed (take 8 word) → rest ≡ drop 8 word → m ≡ packed rest → m * 2 ^ 64 + n ≡ packed word
