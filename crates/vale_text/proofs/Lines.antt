@@ -26,7 +26,7 @@ use Rattle.nm_types.specs.declared.id.Counts.{Counts}
 use Rattle.vale_entry.specs.declared.entry.Item.{Item}
 use Rattle.vale_entry.specs.Fits.{FitsU64, FitsDest, FitsRefusal, FitsFault, FitsCounts, FitsAsk, FitsReply, FitsEntry}
 use Rattle.vale_fields.proofs.Cuts.{IsWord, spell}
-use Rattle.vale_fields.proofs.Texts.{decimal-word, decimal-same, decimal-digits, not-number, numbers-same, numbers-word, dests-same, dests-word, frames-same, frames-word, IsPlainItem, plain-items, items-same, items-word}
+use Rattle.vale_fields.proofs.Texts.{decimal-word, decimal-same as equal, decimal-digits, not-number, numbers-same, numbers-word, dests-same, dests-word, frames-same, frames-word, IsPlainItem, plain-items, items-same, items-word}
 use Rattle.vale_text.proofs.NameWords.{literal, name-word}
 
 -- what a watch is answered
@@ -296,6 +296,9 @@ word_at n [] = []
 word_at zero (w ∷ ws) = w
 word_at (suc n) (w ∷ ws) = word_at n ws
 
+word : {ws vs : List (List ℕ)} → ws ≡ vs → (n : ℕ) → word_at n ws ≡ word_at n vs
+word e n = ap (word_at n) e
+
 -- the first byte and twice the second, which are another sum for each verb and for each answer
 abbrev mark_of : List ℕ → ℕ
 mark_of [] = 0
@@ -321,52 +324,31 @@ refusal-same (Some SwitchesFull) (Some SwitchesFull) pr pq e = refl
 refusal-same (Some PortsFull) (Some PortsFull) pr pq e = refl
 refusal-same (Some NameTaken) (Some NameTaken) pr pq e = refl
 refusal-same (Some (NoBuffers want have)) (Some (NoBuffers other there)) pr pq e =
-    let first : want ≡ other = decimal-same want other pr.1.0 pq.1.0 (ap (word_at 1) e) in
-    let second : have ≡ there = decimal-same have there pr.1.1 pq.1.1 (ap (word_at 2) e) in
+    let first : want ≡ other = equal want other pr.1.0 pq.1.0 (word e 1) in
+    let second : have ≡ there = equal have there pr.1.1 pq.1.1 (word e 2) in
     ap (λ (n : ℕ). Some (NoBuffers n have)) first ∙ ap (λ (n : ℕ). Some (NoBuffers other n)) second
 refusal-same r q pr pq e = absurd (omega (arith, ap (mark_at 0) e))
 
 fault-same : (f g : SyncFault) → IsSaidFault f → IsSaidFault g → fault_words f ≡ fault_words g → f ≡ g
 fault-same (checks.HeadOut a b c) (checks.HeadOut x y z) pf pg e =
-    rw (
-      decimal-same a x pf.1.0 pg.1.0 (ap (word_at 1) e),
-      decimal-same b y pf.1.1 pg.1.1 (ap (word_at 2) e),
-      decimal-same c z pf.1.2 pg.1.2 (ap (word_at 3) e),
-    ) refl
+    rw (equal a x pf.1.0 pg.1.0 (word e 1), equal b y pf.1.1 pg.1.1 (word e 2))
+    (rw (equal c z pf.1.2 pg.1.2 (word e 3)) refl)
 fault-same (checks.CurOut a b c) (checks.CurOut x y z) pf pg e =
-    rw (
-      decimal-same a x pf.1.0 pg.1.0 (ap (word_at 1) e),
-      decimal-same b y pf.1.1 pg.1.1 (ap (word_at 2) e),
-      decimal-same c z pf.1.2 pg.1.2 (ap (word_at 3) e),
-    ) refl
-fault-same (checks.Indirect a) (checks.Indirect x) pf pg e = ap checks.Indirect (decimal-same a x pf.1 pg.1 (ap (word_at 1) e))
+    rw (equal a x pf.1.0 pg.1.0 (word e 1), equal b y pf.1.1 pg.1.1 (word e 2))
+    (rw (equal c z pf.1.2 pg.1.2 (word e 3)) refl)
+fault-same (checks.Indirect a) (checks.Indirect x) pf pg e = ap checks.Indirect (equal a x pf.1 pg.1 (word e 1))
 fault-same (checks.IndexOut a b) (checks.IndexOut x y) pf pg e =
-    rw (
-      decimal-same a x pf.1.0 pg.1.0 (ap (word_at 1) e),
-      decimal-same b y pf.1.1 pg.1.1 (ap (word_at 2) e),
-    ) refl
+    rw (equal a x pf.1.0 pg.1.0 (word e 1), equal b y pf.1.1 pg.1.1 (word e 2)) refl
 fault-same (checks.NotHeld a b) (checks.NotHeld x y) pf pg e =
-    rw (
-      decimal-same a x pf.1.0 pg.1.0 (ap (word_at 1) e),
-      decimal-same b y pf.1.1 pg.1.1 (ap (word_at 2) e),
-    ) refl
+    rw (equal a x pf.1.0 pg.1.0 (word e 1), equal b y pf.1.1 pg.1.1 (word e 2)) refl
 fault-same (checks.Doubled a b) (checks.Doubled x y) pf pg e =
-    rw (
-      decimal-same a x pf.1.0 pg.1.0 (ap (word_at 1) e),
-      decimal-same b y pf.1.1 pg.1.1 (ap (word_at 2) e),
-    ) refl
+    rw (equal a x pf.1.0 pg.1.0 (word e 1), equal b y pf.1.1 pg.1.1 (word e 2)) refl
 fault-same (checks.Unannounced a b c) (checks.Unannounced x y z) pf pg e =
-    rw (
-      decimal-same a x pf.1.0 pg.1.0 (ap (word_at 1) e),
-      decimal-same b y pf.1.1 pg.1.1 (ap (word_at 2) e),
-      decimal-same c z pf.1.2 pg.1.2 (ap (word_at 3) e),
-    ) refl
+    rw (equal a x pf.1.0 pg.1.0 (word e 1), equal b y pf.1.1 pg.1.1 (word e 2))
+    (rw (equal c z pf.1.2 pg.1.2 (word e 3)) refl)
 fault-same (checks.LongLen a b) (checks.LongLen x y) pf pg e =
-    rw (
-      decimal-same a x pf.1.0 pg.1.0 (ap (word_at 1) e),
-      decimal-same b y pf.1.1 pg.1.1 (ap (word_at 2) e),
-    ) refl
-fault-same (checks.Fragment a) (checks.Fragment x) pf pg e = ap checks.Fragment (decimal-same a x pf.1 pg.1 (ap (word_at 1) e))
+    rw (equal a x pf.1.0 pg.1.0 (word e 1), equal b y pf.1.1 pg.1.1 (word e 2)) refl
+fault-same (checks.Fragment a) (checks.Fragment x) pf pg e = ap checks.Fragment (equal a x pf.1 pg.1 (word e 1))
 fault-same checks.PeerGone g pf pg e = let no : false ≡ true = pf.0 in absurd cc
 fault-same (checks.RecordFull what used want) g pf pg e = let no : false ≡ true = pf.0 in absurd cc
 fault-same checks.NoMemory g pf pg e = let no : false ≡ true = pf.0 in absurd cc
@@ -387,19 +369,19 @@ sides-same watched_sides.TR watched_sides.TR e = refl
 sides-same a b e = absurd (omega (arith, ap mark_of e))
 
 answer-same : (a b : Answer) → FitsAnswer a → FitsAnswer b → answer_words a ≡ answer_words b → a ≡ b
-answer-same (watching p) (watching q) pa pb e = ap watching (decimal-same p q pa pb (ap (word_at 1) e))
+answer-same (watching p) (watching q) pa pb e = ap watching (equal p q pa pb (word e 1))
 answer-same no_target no_target pa pb e = refl
-answer-same (watched_by p) (watched_by q) pa pb e = ap watched_by (decimal-same p q pa pb (ap (word_at 1) e))
+answer-same (watched_by p) (watched_by q) pa pb e = ap watched_by (equal p q pa pb (word e 1))
 answer-same a b pa pb e = absurd (omega (arith, ap (mark_at 0) e))
 
 counts-same : (a b : Counts) → FitsCounts a → FitsCounts b → counts_words a ≡ counts_words b → a ≡ b
 counts-same a b pa pb e =
-    let e0 = decimal-same a.sent b.sent pa.0 pb.0 (ap (word_at 1) e) in
-    let e1 = decimal-same a.short b.short pa.1 pb.1 (ap (word_at 3) e) in
-    let e2 = decimal-same a.lone b.lone pa.2 pb.2 (ap (word_at 5) e) in
-    let e3 = decimal-same a.given b.given pa.3 pb.3 (ap (word_at 7) e) in
-    let e4 = decimal-same a.full b.full pa.4 pb.4 (ap (word_at 9) e) in
-    let e5 = decimal-same a.read b.read pa.5 pb.5 (ap (word_at 11) e) in
+    let e0 = equal a.sent b.sent pa.0 pb.0 (word e 1) in
+    let e1 = equal a.short b.short pa.1 pb.1 (word e 3) in
+    let e2 = equal a.lone b.lone pa.2 pb.2 (word e 5) in
+    let e3 = equal a.given b.given pa.3 pb.3 (word e 7) in
+    let e4 = equal a.full b.full pa.4 pb.4 (word e 9) in
+    let e5 = equal a.read b.read pa.5 pb.5 (word e 11) in
     ap (λ (n : ℕ). record a { sent = n }) e0
     ∙ ap (λ (n : ℕ). record a { sent = b.sent; short = n }) e1
     ∙ ap (λ (n : ℕ). record a { sent = b.sent; short = b.short; lone = n }) e2
@@ -425,109 +407,59 @@ said_session (monitored s monitor name sides answer) = s
 said_session (counted s port counts) = s
 
 pub words-same : (x y : Said) → IsPlain x → IsPlain y → words x ≡ words y → x ≡ y
-words-same (entered u) (entered v) px py e = let same = decimal-same u v px py (ap (word_at 1) e) in ap entered same
-words-same (entered u) y px py e = absurd (not-number (decimal (said_session y)) 101 (drop 1 (codes "enter")) (decimal-digits (said_session y)) (omega arith) (sym (ap (word_at 0) e)))
-words-same x (entered v) px py e = absurd (not-number (decimal (said_session x)) 101 (drop 1 (codes "enter")) (decimal-digits (said_session x)) (omega arith) (ap (word_at 0) e))
+words-same (entered u) (entered v) px py e = let same = equal u v px py (word e 1) in ap entered same
+words-same (entered u) y px py e = absurd (not-number (decimal (said_session y)) 101 (drop 1 (codes "enter")) (decimal-digits (said_session y)) (omega arith) (sym (word e 0)))
+words-same x (entered v) px py e = absurd (not-number (decimal (said_session x)) 101 (drop 1 (codes "enter")) (decimal-digits (said_session x)) (omega arith) (word e 0))
 words-same (opened s name tx rx extra r) (opened t other ux sx more q) px py e =
-    rw (
-      decimal-same s t px.0 py.0 (ap (word_at 0) e),
-      ap (word_at 2) e,
-      decimal-same tx ux px.2 py.2 (ap (word_at 3) e),
-      decimal-same rx sx px.3 py.3 (ap (word_at 4) e),
-      decimal-same extra more px.4 py.4 (ap (word_at 5) e),
-      refusal-same r q px.5 py.5 (ap (drop 7) e),
-    ) refl
+    rw (equal s t px.0 py.0 (word e 0), word e 2, equal tx ux px.2 py.2 (word e 3))
+    (rw (equal rx sx px.3 py.3 (word e 4), equal extra more px.4 py.4 (word e 5))
+    (rw (refusal-same r q px.5 py.5 (ap (drop 7) e)) refl))
 words-same (sent s port frames short lone to) (sent t gate others few single dests) px py e =
-    rw (
-      decimal-same s t px.0 py.0 (ap (word_at 0) e),
-      decimal-same port gate px.1 py.1 (ap (word_at 2) e),
-      frames-same frames others (ap (word_at 3) e),
-      decimal-same short few px.2 py.2 (ap (word_at 6) e),
-      decimal-same lone single px.3 py.3 (ap (word_at 8) e),
-      dests-same to dests px.4 py.4 (ap (word_at 10) e),
-    ) refl
+    rw (equal s t px.0 py.0 (word e 0), equal port gate px.1 py.1 (word e 2))
+    (rw (frames-same frames others (word e 3), equal short few px.2 py.2 (word e 6))
+    (rw (equal lone single px.3 py.3 (word e 8), dests-same to dests px.4 py.4 (word e 10)) refl))
 words-same (granted s origin to given full gone) (granted t source at some over left) px py e =
-    rw (
-      decimal-same s t px.0 py.0 (ap (word_at 0) e),
-      decimal-same origin source px.1 py.1 (ap (word_at 2) e),
-      decimal-same to at px.2 py.2 (ap (word_at 3) e),
-      decimal-same given some px.3 py.3 (ap (word_at 6) e),
-      decimal-same full over px.4 py.4 (ap (word_at 8) e),
-      decimal-same gone left px.5 py.5 (ap (word_at 10) e),
-    ) refl
+    rw (equal s t px.0 py.0 (word e 0), equal origin source px.1 py.1 (word e 2))
+    (rw (equal to at px.2 py.2 (word e 3), equal given some px.3 py.3 (word e 6))
+    (rw (equal full over px.4 py.4 (word e 8), equal gone left px.5 py.5 (word e 10)) refl))
 words-same (completed s lease) (completed t other) px py e =
-    rw (
-      decimal-same s t px.0 py.0 (ap (word_at 0) e),
-      decimal-same lease other px.1 py.1 (ap (word_at 2) e),
-    ) refl
+    rw (equal s t px.0 py.0 (word e 0), equal lease other px.1 py.1 (word e 2)) refl
 words-same (synced s port back count to) (synced t gate others few dests) px py e =
-    rw (
-      decimal-same s t px.0 py.0 (ap (word_at 0) e),
-      decimal-same port gate px.1 py.1 (ap (word_at 2) e),
-      numbers-same back others px.2 py.2 (ap (word_at 3) e),
-      decimal-same count few px.3 py.3 (ap (word_at 6) e),
-      dests-same to dests px.4 py.4 (ap (word_at 8) e),
-    ) refl
+    rw (equal s t px.0 py.0 (word e 0), equal port gate px.1 py.1 (word e 2))
+    (rw (numbers-same back others px.2 py.2 (word e 3))
+    (rw (equal count few px.3 py.3 (word e 6), dests-same to dests px.4 py.4 (word e 8)) refl))
 words-same (closed s port) (closed t gate) px py e =
-    rw (
-      decimal-same s t px.0 py.0 (ap (word_at 0) e),
-      decimal-same port gate px.1 py.1 (ap (word_at 2) e),
-    ) refl
+    rw (equal s t px.0 py.0 (word e 0), equal port gate px.1 py.1 (word e 2)) refl
 words-same (finished s port bufs found astray count) (finished t gate others seen missed few) px py e =
-    rw (
-      decimal-same s t px.0 py.0 (ap (word_at 0) e),
-      decimal-same port gate px.1 py.1 (ap (word_at 2) e),
-      numbers-same bufs others px.2 py.2 (ap (word_at 3) e),
-      decimal-same found seen px.3 py.3 (ap (word_at 5) e),
-      decimal-same astray missed px.4 py.4 (ap (word_at 7) e),
-      decimal-same count few px.5 py.5 (ap (word_at 10) e),
-    ) refl
-words-same (departed s) (departed t) px py e = ap departed (decimal-same s t px py (ap (word_at 0) e))
+    rw (equal s t px.0 py.0 (word e 0), equal port gate px.1 py.1 (word e 2))
+    (rw (numbers-same bufs others px.2 py.2 (word e 3))
+    (rw (equal found seen px.3 py.3 (word e 5), equal astray missed px.4 py.4 (word e 7))
+    (rw (equal count few px.5 py.5 (word e 10)) refl)))
+words-same (departed s) (departed t) px py e = ap departed (equal s t px py (word e 0))
 words-same (reset s port side fault) (reset t gate ring other) px py e =
-    rw (
-      decimal-same s t px.0 py.0 (ap (word_at 0) e),
-      decimal-same port gate px.1 py.1 (ap (word_at 2) e),
-      side-same side ring (ap (word_at 3) e),
-      fault-same fault other px.2 py.2 (ap (drop 4) e),
-    ) refl
+    rw (equal s t px.0 py.0 (word e 0), equal port gate px.1 py.1 (word e 2))
+    (rw (side-same side ring (word e 3), fault-same fault other px.2 py.2 (ap (drop 4) e)) refl)
 words-same (took s port offered items to) (took t gate count others dests) px py e =
-    rw (
-      decimal-same s t px.0 py.0 (ap (word_at 0) e),
-      decimal-same port gate px.1 py.1 (ap (word_at 2) e),
-      decimal-same offered count px.2 py.2 (ap (word_at 3) e),
-      items-same items others px.3 py.3 (ap (word_at 6) e),
-      dests-same to dests px.4 py.4 (ap (word_at 8) e),
-    ) refl
+    rw (equal s t px.0 py.0 (word e 0), equal port gate px.1 py.1 (word e 2))
+    (rw (equal offered count px.2 py.2 (word e 3))
+    (rw (items-same items others px.3 py.3 (word e 6))
+    (rw (dests-same to dests px.4 py.4 (word e 8)) refl)))
 words-same (took s port offered items to) (lost t gate count) px py e = absurd (omega (arith, ap (mark_at 5) e))
 words-same (lost s port offered) (took t gate count others dests) px py e = absurd (omega (arith, ap (mark_at 5) e))
 words-same (lost s port offered) (lost t gate count) px py e =
-    rw (
-      decimal-same s t px.0 py.0 (ap (word_at 0) e),
-      decimal-same port gate px.1 py.1 (ap (word_at 2) e),
-      decimal-same offered count px.2 py.2 (ap (word_at 3) e),
-    ) refl
+    rw (equal s t px.0 py.0 (word e 0), equal port gate px.1 py.1 (word e 2))
+    (rw (equal offered count px.2 py.2 (word e 3)) refl)
 words-same (received s port back count to) (received t gate others few dests) px py e =
-    rw (
-      decimal-same s t px.0 py.0 (ap (word_at 0) e),
-      decimal-same port gate px.1 py.1 (ap (word_at 2) e),
-      numbers-same back others px.2 py.2 (ap (word_at 3) e),
-      decimal-same count few px.3 py.3 (ap (word_at 6) e),
-      dests-same to dests px.4 py.4 (ap (word_at 8) e),
-    ) refl
+    rw (equal s t px.0 py.0 (word e 0), equal port gate px.1 py.1 (word e 2))
+    (rw (numbers-same back others px.2 py.2 (word e 3))
+    (rw (equal count few px.3 py.3 (word e 6), dests-same to dests px.4 py.4 (word e 8)) refl))
 words-same (monitored s monitor name sides answer) (monitored t other target more reply) px py e =
-    rw (
-      decimal-same s t px.0 py.0 (ap (word_at 0) e),
-      decimal-same monitor other px.1 py.1 (ap (word_at 2) e),
-      ap (word_at 3) e,
-      sides-same sides more (ap (word_at 4) e),
-      answer-same answer reply px.3 py.3 (ap (drop 6) e),
-    ) refl
+    rw (equal s t px.0 py.0 (word e 0), equal monitor other px.1 py.1 (word e 2), word e 3)
+    (rw (sides-same sides more (word e 4))
+    (rw (answer-same answer reply px.3 py.3 (ap (drop 6) e)) refl))
 words-same (counted s port counts) (counted t gate others) px py e =
-    rw (
-      decimal-same s t px.0 py.0 (ap (word_at 0) e),
-      decimal-same port gate px.1 py.1 (ap (word_at 2) e),
-      counts-same counts others px.2 py.2 (ap (drop 4) e),
-    ) refl
+    rw (equal s t px.0 py.0 (word e 0), equal port gate px.1 py.1 (word e 2))
+    (rw (counts-same counts others px.2 py.2 (ap (drop 4) e)) refl)
 words-same x y px py e = absurd (omega (arith, ap (mark_at 1) e))
 
 -- What a printable entry says.

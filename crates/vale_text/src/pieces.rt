@@ -5,6 +5,7 @@ ghost use Rattle.nm_io.specs.Counts.{Rose};
 ghost use Rattle.nm_io.specs.Gathered.{Gathers};
 ghost use Rattle.nm_io.specs.Held.{Writes};
 ghost use Rattle.vale_entry.specs.Transcript.{frame_text, frames_text, numbers_text, dest_text, item_text, list_text};
+ghost use Rattle.vale_text.specs.Failures.{CountsFailures};
 ghost use Rattle.vale_text.specs.Pieces.{behind, part_text, parts_text, piece_text, pieces_text};
 
 use crate::strip::{
@@ -23,8 +24,7 @@ pub trait Spelled {
     fn spell<K: Sink>(&self, out: &mut K, strip: &mut Strip) -> Result<(), Failed>
         ensures gathers { Gathers (K.holds out.old) (K.holds out.new) strip.old strip.new
             result (text self.now) }
-        ensures later { K.faults out.old ≤ K.faults out.new }
-        ensures cause { OnErr result (Rose (K.faults out.old) (K.faults out.new)) };
+        ensures counts { CountsFailures K.Sink out.old out.new result };
 }
 
 /// A part of a text.
@@ -65,8 +65,7 @@ impl Spelled for Part<'_> {
 fn put_each<T: Spelled, K: Sink>(out: &mut K, strip: &mut Strip, items: &[T]) -> Result<(), Failed>
     ensures gathers { Gathers (K.holds out.old) (K.holds out.new) strip.old strip.new
         result (flat_map T.text items.now) }
-    ensures later { K.faults out.old ≤ K.faults out.new }
-    ensures cause { OnErr result (Rose (K.faults out.old) (K.faults out.new)) }
+    ensures counts { CountsFailures K.Sink out.old out.new result }
 {
     for item in items {
         item.spell(out, strip)?;
@@ -79,8 +78,7 @@ fn put_each<T: Spelled, K: Sink>(out: &mut K, strip: &mut Strip, items: &[T]) ->
 fn put_parts_on<K: Sink>(out: &mut K, strip: &mut Strip, parts: &[Part<'_>]) -> Result<(), Failed>
     ensures gathers { Gathers (K.holds out.old) (K.holds out.new) strip.old strip.new
         result (parts_text parts.now) }
-    ensures later { K.faults out.old ≤ K.faults out.new }
-    ensures cause { OnErr result (Rose (K.faults out.old) (K.faults out.new)) }
+    ensures counts { CountsFailures K.Sink out.old out.new result }
 {
     put_each(out, strip, parts)
 }
@@ -133,8 +131,7 @@ fn put_after<T: Spelled, K: Sink>(
 ) -> Result<(), Failed>
     ensures gathers { Gathers (K.holds out.old) (K.holds out.new) strip.old strip.new
         result (behind mark T.text item.now) }
-    ensures later { K.faults out.old ≤ K.faults out.new }
-    ensures cause { OnErr result (Rose (K.faults out.old) (K.faults out.new)) }
+    ensures counts { CountsFailures K.Sink out.old out.new result }
 {
     put_byte(out, strip, mark)?;
     item.spell(out, strip)
@@ -149,8 +146,7 @@ fn put_each_after<T: Spelled, K: Sink>(
 ) -> Result<(), Failed>
     ensures gathers { Gathers (K.holds out.old) (K.holds out.new) strip.old strip.new
         result (flat_map (behind mark T.text) items.now) }
-    ensures later { K.faults out.old ≤ K.faults out.new }
-    ensures cause { OnErr result (Rose (K.faults out.old) (K.faults out.new)) }
+    ensures counts { CountsFailures K.Sink out.old out.new result }
 {
     for item in items {
         put_after(out, strip, mark, item)?;
@@ -163,8 +159,7 @@ fn put_each_after<T: Spelled, K: Sink>(
 fn put_list<T: Spelled, K: Sink>(out: &mut K, strip: &mut Strip, items: &[T]) -> Result<(), Failed>
     ensures gathers { Gathers (K.holds out.old) (K.holds out.new) strip.old strip.new
         result (list_text (map T.text items.now)) }
-    ensures later { K.faults out.old ≤ K.faults out.new }
-    ensures cause { OnErr result (Rose (K.faults out.old) (K.faults out.new)) }
+    ensures counts { CountsFailures K.Sink out.old out.new result }
 {
     let Some((first, others)) = items.split_first() else {
         return put_byte(out, strip, b'-');
@@ -179,8 +174,7 @@ fn put_list<T: Spelled, K: Sink>(out: &mut K, strip: &mut Strip, items: &[T]) ->
 fn put_mark<K: Sink>(out: &mut K, strip: &mut Strip, no_learn: bool) -> Result<(), Failed>
     ensures gathers { Gathers (K.holds out.old) (K.holds out.new) strip.old strip.new
         result (if no_learn then 126 ∷ [] else []) }
-    ensures later { K.faults out.old ≤ K.faults out.new }
-    ensures cause { OnErr result (Rose (K.faults out.old) (K.faults out.new)) }
+    ensures counts { CountsFailures K.Sink out.old out.new result }
 {
     if no_learn {
         put_byte(out, strip, b'~')
@@ -198,8 +192,7 @@ fn put_frame<K: Sink>(
 ) -> Result<(), Failed>
     ensures gathers { Gathers (K.holds out.old) (K.holds out.new) strip.old strip.new
         result (frame_text (record { bytes = bytes.now; no_learn = no_learn })) }
-    ensures later { K.faults out.old ≤ K.faults out.new }
-    ensures cause { OnErr result (Rose (K.faults out.old) (K.faults out.new)) }
+    ensures counts { CountsFailures K.Sink out.old out.new result }
 {
     put_mark(out, strip, no_learn)?;
     put_hex(out, strip, bytes)
@@ -213,8 +206,7 @@ fn put_next_frame<K: Sink>(
 ) -> Result<(), Failed>
     ensures gathers { Gathers (K.holds out.old) (K.holds out.new) strip.old strip.new
         result (behind 44 frame_text (record { bytes = bytes.now; no_learn = no_learn })) }
-    ensures later { K.faults out.old ≤ K.faults out.new }
-    ensures cause { OnErr result (Rose (K.faults out.old) (K.faults out.new)) }
+    ensures counts { CountsFailures K.Sink out.old out.new result }
 {
     if bytes.len() <= SHORT_FRAME {
         return put_short_frame(out, strip, bytes, no_learn);
@@ -227,8 +219,7 @@ fn put_next_frame<K: Sink>(
 fn put_frames<K: Sink>(out: &mut K, strip: &mut Strip, frames: &Batch) -> Result<(), Failed>
     ensures gathers { Gathers (K.holds out.old) (K.holds out.new) strip.old strip.new
         result (frames_text frames.now) }
-    ensures later { K.faults out.old ≤ K.faults out.new }
-    ensures cause { OnErr result (Rose (K.faults out.old) (K.faults out.new)) }
+    ensures counts { CountsFailures K.Sink out.old out.new result }
 {
     if frames.is_empty() {
         return put_byte(out, strip, b'-');
@@ -247,8 +238,7 @@ fn put_frames<K: Sink>(out: &mut K, strip: &mut Strip, frames: &Batch) -> Result
 fn put_numbers<K: Sink>(out: &mut K, strip: &mut Strip, numbers: &[u32]) -> Result<(), Failed>
     ensures gathers { Gathers (K.holds out.old) (K.holds out.new) strip.old strip.new
         result (numbers_text numbers.now) }
-    ensures later { K.faults out.old ≤ K.faults out.new }
-    ensures cause { OnErr result (Rose (K.faults out.old) (K.faults out.new)) }
+    ensures counts { CountsFailures K.Sink out.old out.new result }
 {
     let Some((first, others)) = numbers.split_first() else {
         return put_byte(out, strip, b'-');
@@ -276,8 +266,7 @@ impl Spelled for Piece<'_> {
 fn put_word<K: Sink>(out: &mut K, strip: &mut Strip, piece: &Piece<'_>) -> Result<(), Failed>
     ensures gathers { Gathers (K.holds out.old) (K.holds out.new) strip.old strip.new
         result (behind 32 piece_text piece.now) }
-    ensures later { K.faults out.old ≤ K.faults out.new }
-    ensures cause { OnErr result (Rose (K.faults out.old) (K.faults out.new)) }
+    ensures counts { CountsFailures K.Sink out.old out.new result }
 {
     match *piece {
         Piece::Number(number) => put_number_after(out, strip, b' ', number),
@@ -294,8 +283,7 @@ pub(crate) fn put_words<K: Sink>(
 ) -> Result<(), Failed>
     ensures gathers { Gathers (K.holds out.old) (K.holds out.new) strip.old strip.new
         result (pieces_text pieces.now) }
-    ensures later { K.faults out.old ≤ K.faults out.new }
-    ensures cause { OnErr result (Rose (K.faults out.old) (K.faults out.new)) }
+    ensures counts { CountsFailures K.Sink out.old out.new result }
 {
     for piece in pieces {
         put_word(out, strip, piece)?;

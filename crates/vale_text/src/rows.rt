@@ -6,6 +6,7 @@ ghost use Rattle.nm_io.specs.Held.{Writes};
 ghost use Rattle.vale_entry.specs.Transcript.{numbers_text, side_word, sides_word, fault_words, ask_words, reply_words, words_text, entry_line, start_line, end_line};
 ghost use Rattle.vale_entry.specs.declared.entry.Ask.TheVariants.{Done, Finish, Grant, Reset, Send, Sync, Watch};
 ghost use Rattle.vale_entry.specs.declared.entry.Reply.TheVariants.{Refused, Offered, Shared, Gave, Counted};
+ghost use Rattle.vale_text.specs.Failures.{CountsFailures};
 ghost use Rattle.vale_text.specs.declared.pieces.Piece.TheVariants.{Number as NumberPiece};
 
 use crate::pieces::Piece::{Buffers, Destinations, Frames, Number, Taken, Word};
@@ -90,8 +91,7 @@ impl Text for EndLine {
 fn put_opening<K: Sink>(out: &mut K, strip: &mut Strip, fault: &OpenFault) -> Result<(), Failed>
     ensures gathers { Gathers (K.holds out.old) (K.holds out.new) strip.old strip.new
         result (words_text (reply_words (Refused fault.now))) }
-    ensures later { K.faults out.old ≤ K.faults out.new }
-    ensures cause { OnErr result (Rose (K.faults out.old) (K.faults out.new)) }
+    ensures counts { CountsFailures K.Sink out.old out.new result }
 {
     let is = Word(b"=");
     match *fault {
@@ -117,8 +117,7 @@ fn put_reset_ring<K: Sink>(
 ) -> Result<(), Failed>
     ensures gathers { Gathers (K.holds out.old) (K.holds out.new) strip.old strip.new result
         (words_text (decimal session ∷ codes "reset" ∷ decimal port.0 ∷ side_word side ∷ [])) }
-    ensures later { K.faults out.old ≤ K.faults out.new }
-    ensures cause { OnErr result (Rose (K.faults out.old) (K.faults out.new)) }
+    ensures counts { CountsFailures K.Sink out.old out.new result }
 {
     let (port, side) = (short(port.0), Word(side_word(side)));
     put_words(out, strip, &[short(session), Word(b"reset"), port, side])
@@ -134,8 +133,7 @@ fn put_two<K: Sink>(
 ) -> Result<(), Failed>
     ensures gathers { Gathers (K.holds out.old) (K.holds out.new) strip.old strip.new result
         (words_text (word.now ∷ decimal first ∷ decimal second ∷ [])) }
-    ensures later { K.faults out.old ≤ K.faults out.new }
-    ensures cause { OnErr result (Rose (K.faults out.old) (K.faults out.new)) }
+    ensures counts { CountsFailures K.Sink out.old out.new result }
 {
     put_words(out, strip, &[Word(word), short(first), short(second)])
 }
@@ -151,8 +149,7 @@ fn put_three<K: Sink>(
 ) -> Result<(), Failed>
     ensures gathers { Gathers (K.holds out.old) (K.holds out.new) strip.old strip.new result
         (words_text (word.now ∷ decimal first ∷ decimal second ∷ decimal third ∷ [])) }
-    ensures later { K.faults out.old ≤ K.faults out.new }
-    ensures cause { OnErr result (Rose (K.faults out.old) (K.faults out.new)) }
+    ensures counts { CountsFailures K.Sink out.old out.new result }
 {
     put_words(
         out,
@@ -165,8 +162,7 @@ fn put_three<K: Sink>(
 fn put_fault<K: Sink>(out: &mut K, strip: &mut Strip, fault: &SyncFault) -> Result<(), Failed>
     ensures gathers { Gathers (K.holds out.old) (K.holds out.new) strip.old strip.new
         result (words_text (fault_words fault.now)) }
-    ensures later { K.faults out.old ≤ K.faults out.new }
-    ensures cause { OnErr result (Rose (K.faults out.old) (K.faults out.new)) }
+    ensures counts { CountsFailures K.Sink out.old out.new result }
 {
     match *fault {
         SyncFault::HeadOut { head, from, to } => put_three(out, strip, b"headout", head, from, to),
@@ -197,8 +193,7 @@ fn put_reset<K: Sink>(
 ) -> Result<(), Failed>
     ensures gathers { Gathers (K.holds out.old) (K.holds out.new) strip.old strip.new result
         (words_text (ask_words session (Reset port side fault.now))) }
-    ensures later { K.faults out.old ≤ K.faults out.new }
-    ensures cause { OnErr result (Rose (K.faults out.old) (K.faults out.new)) }
+    ensures counts { CountsFailures K.Sink out.old out.new result }
 {
     put_reset_ring(out, strip, session, port, side)?;
     put_fault(out, strip, fault)
@@ -216,8 +211,7 @@ fn put_open<K: Sink>(
     ensures gathers { Gathers (K.holds out.old) (K.holds out.new) strip.old strip.new result
         (words_text (decimal session ∷ codes "open" ∷ name.now ∷ decimal tx ∷ decimal rx
         ∷ decimal extra ∷ [])) }
-    ensures later { K.faults out.old ≤ K.faults out.new }
-    ensures cause { OnErr result (Rose (K.faults out.old) (K.faults out.new)) }
+    ensures counts { CountsFailures K.Sink out.old out.new result }
 {
     let (s, name) = (short(session), Word(name.as_bytes()));
     let (tx, rx, extra) = (short(tx), short(rx), short(extra));
@@ -235,8 +229,7 @@ fn put_pair<K: Sink>(
 ) -> Result<(), Failed>
     ensures gathers { Gathers (K.holds out.old) (K.holds out.new) strip.old strip.new result
         (words_text (decimal session ∷ word.now ∷ decimal first ∷ decimal second ∷ [])) }
-    ensures later { K.faults out.old ≤ K.faults out.new }
-    ensures cause { OnErr result (Rose (K.faults out.old) (K.faults out.new)) }
+    ensures counts { CountsFailures K.Sink out.old out.new result }
 {
     put_words(
         out,
@@ -256,8 +249,7 @@ fn put_buffers<K: Sink>(
 ) -> Result<(), Failed>
     ensures gathers { Gathers (K.holds out.old) (K.holds out.new) strip.old strip.new result
         (words_text (decimal session ∷ word.now ∷ decimal port.0 ∷ numbers_text numbers.now ∷ [])) }
-    ensures later { K.faults out.old ≤ K.faults out.new }
-    ensures cause { OnErr result (Rose (K.faults out.old) (K.faults out.new)) }
+    ensures counts { CountsFailures K.Sink out.old out.new result }
 {
     let (port, numbers) = (short(port.0), Buffers(numbers.as_slice()));
     put_words(out, strip, &[short(session), Word(word), port, numbers])
@@ -273,8 +265,7 @@ fn put_finish<K: Sink>(
 ) -> Result<(), Failed>
     ensures gathers { Gathers (K.holds out.old) (K.holds out.new) strip.old strip.new result
         (words_text (ask_words session (Finish port bufs.now chain))) }
-    ensures later { K.faults out.old ≤ K.faults out.new }
-    ensures cause { OnErr result (Rose (K.faults out.old) (K.faults out.new)) }
+    ensures counts { CountsFailures K.Sink out.old out.new result }
 {
     put_words(
         out,
@@ -302,8 +293,7 @@ fn put_watch<K: Sink>(
 ) -> Result<(), Failed>
     ensures gathers { Gathers (K.holds out.old) (K.holds out.new) strip.old strip.new result
         (words_text (ask_words session (Watch monitor target.now sides))) }
-    ensures later { K.faults out.old ≤ K.faults out.new }
-    ensures cause { OnErr result (Rose (K.faults out.old) (K.faults out.new)) }
+    ensures counts { CountsFailures K.Sink out.old out.new result }
 {
     let (target, sides) = (Word(target.as_bytes()), Word(sides_word(sides)));
     put_words(
@@ -332,8 +322,7 @@ fn put_grant<K: Sink>(
 ) -> Result<(), Failed>
     ensures gathers { Gathers (K.holds out.old) (K.holds out.new) strip.old strip.new
         result (words_text (ask_words session (Grant origin to))) }
-    ensures later { K.faults out.old ≤ K.faults out.new }
-    ensures cause { OnErr result (Rose (K.faults out.old) (K.faults out.new)) }
+    ensures counts { CountsFailures K.Sink out.old out.new result }
 {
     make_room(out, strip, SHORT_WORDS)?;
     strip.labelled(*b" ", session);
@@ -353,8 +342,7 @@ fn put_call<K: Sink>(
 ) -> Result<(), Failed>
     ensures gathers { Gathers (K.holds out.old) (K.holds out.new) strip.old strip.new
         result ((codes " " ++ decimal session) ++ (call ++ decimal number)) }
-    ensures later { K.faults out.old ≤ K.faults out.new }
-    ensures cause { OnErr result (Rose (K.faults out.old) (K.faults out.new)) }
+    ensures counts { CountsFailures K.Sink out.old out.new result }
 {
     make_room(out, strip, SHORT_WORDS)?;
     strip.labelled(*b" ", session);
@@ -370,8 +358,7 @@ fn put_done<K: Sink>(
 ) -> Result<(), Failed>
     ensures gathers { Gathers (K.holds out.old) (K.holds out.new) strip.old strip.new
         result (words_text (ask_words session (Done lease))) }
-    ensures later { K.faults out.old ≤ K.faults out.new }
-    ensures cause { OnErr result (Rose (K.faults out.old) (K.faults out.new)) }
+    ensures counts { CountsFailures K.Sink out.old out.new result }
 {
     put_call(out, strip, session, *b" done ", lease.0)
 }
@@ -385,8 +372,7 @@ fn put_send<K: Sink>(
 ) -> Result<(), Failed>
     ensures gathers { Gathers (K.holds out.old) (K.holds out.new) strip.old strip.new
         result (words_text (ask_words session (Send port frames.now))) }
-    ensures later { K.faults out.old ≤ K.faults out.new }
-    ensures cause { OnErr result (Rose (K.faults out.old) (K.faults out.new)) }
+    ensures counts { CountsFailures K.Sink out.old out.new result }
 {
     put_call(out, strip, session, *b" send ", port.0)?;
     put_words(out, strip, &[Frames(frames)])
@@ -401,8 +387,7 @@ fn put_sync<K: Sink>(
 ) -> Result<(), Failed>
     ensures gathers { Gathers (K.holds out.old) (K.holds out.new) strip.old strip.new
         result (words_text (ask_words session (Sync port back.now))) }
-    ensures later { K.faults out.old ≤ K.faults out.new }
-    ensures cause { OnErr result (Rose (K.faults out.old) (K.faults out.new)) }
+    ensures counts { CountsFailures K.Sink out.old out.new result }
 {
     put_call(out, strip, session, *b" sync ", port.0)?;
     put_words(out, strip, &[Buffers(back.as_slice())])
@@ -418,8 +403,7 @@ fn put_other_ask<K: Sink>(
 ) -> Result<(), Failed>
     ensures gathers { Gathers (K.holds out.old) (K.holds out.new) strip.old strip.new result
         (words_text (ask_words session ask.now)) }
-    ensures later { K.faults out.old ≤ K.faults out.new }
-    ensures cause { OnErr result (Rose (K.faults out.old) (K.faults out.new)) }
+    ensures counts { CountsFailures K.Sink out.old out.new result }
 {
     let s = short(session);
     match ask {
@@ -455,8 +439,7 @@ fn put_other_ask<K: Sink>(
 fn put_ask<K: Sink>(out: &mut K, strip: &mut Strip, session: u32, ask: &Ask) -> Result<(), Failed>
     ensures gathers { Gathers (K.holds out.old) (K.holds out.new) strip.old strip.new result
         (words_text (ask_words session ask.now)) }
-    ensures later { K.faults out.old ≤ K.faults out.new }
-    ensures cause { OnErr result (Rose (K.faults out.old) (K.faults out.new)) }
+    ensures counts { CountsFailures K.Sink out.old out.new result }
 {
     match ask {
         Ask::Send { port, frames } => put_send(out, strip, session, *port, frames),
@@ -470,8 +453,7 @@ fn put_ask<K: Sink>(out: &mut K, strip: &mut Strip, session: u32, ask: &Ask) -> 
 fn put_counts<K: Sink>(out: &mut K, strip: &mut Strip, counts: &Counts) -> Result<(), Failed>
     ensures gathers { Gathers (K.holds out.old) (K.holds out.new) strip.old strip.new result
         (words_text (reply_words (Counted counts.now))) }
-    ensures later { K.faults out.old ≤ K.faults out.new }
-    ensures cause { OnErr result (Rose (K.faults out.old) (K.faults out.new)) }
+    ensures counts { CountsFailures K.Sink out.old out.new result }
 {
     put_words(
         out,
@@ -498,8 +480,7 @@ fn put_counts<K: Sink>(out: &mut K, strip: &mut Strip, counts: &Counts) -> Resul
 fn put_left<K: Sink>(out: &mut K, strip: &mut Strip, lines: u32, lone: u32) -> Result<(), Failed>
     ensures gathers { Gathers (K.holds out.old) (K.holds out.new) strip.old strip.new
         result (words_text (codes "=" ∷ codes "short" ∷ decimal lines ∷ codes "lone" ∷ decimal lone ∷ codes "to" ∷ [])) }
-    ensures later { K.faults out.old ≤ K.faults out.new }
-    ensures cause { OnErr result (Rose (K.faults out.old) (K.faults out.new)) }
+    ensures counts { CountsFailures K.Sink out.old out.new result }
 {
     make_room(out, strip, SHORT_WORDS)?;
     strip.labelled(*b" = short ", lines);
@@ -517,8 +498,7 @@ fn put_offered<K: Sink>(
 ) -> Result<(), Failed>
     ensures gathers { Gathers (K.holds out.old) (K.holds out.new) strip.old strip.new
         result (words_text (reply_words (Offered lines lone to.now))) }
-    ensures later { K.faults out.old ≤ K.faults out.new }
-    ensures cause { OnErr result (Rose (K.faults out.old) (K.faults out.new)) }
+    ensures counts { CountsFailures K.Sink out.old out.new result }
 {
     put_left(out, strip, lines, lone)?;
     put_words(out, strip, &[Destinations(to.as_slice())])
@@ -533,8 +513,7 @@ fn put_shared<K: Sink>(
 ) -> Result<(), Failed>
     ensures gathers { Gathers (K.holds out.old) (K.holds out.new) strip.old strip.new
         result (words_text (reply_words (Shared given full gone))) }
-    ensures later { K.faults out.old ≤ K.faults out.new }
-    ensures cause { OnErr result (Rose (K.faults out.old) (K.faults out.new)) }
+    ensures counts { CountsFailures K.Sink out.old out.new result }
 {
     make_room(out, strip, SHORT_WORDS)?;
     strip.labelled(*b" = given ", given);
@@ -547,8 +526,7 @@ fn put_shared<K: Sink>(
 fn put_given<K: Sink>(out: &mut K, strip: &mut Strip, count: u32) -> Result<(), Failed>
     ensures gathers { Gathers (K.holds out.old) (K.holds out.new) strip.old strip.new
         result (words_text (codes "=" ∷ codes "gave" ∷ decimal count ∷ codes "to" ∷ [])) }
-    ensures later { K.faults out.old ≤ K.faults out.new }
-    ensures cause { OnErr result (Rose (K.faults out.old) (K.faults out.new)) }
+    ensures counts { CountsFailures K.Sink out.old out.new result }
 {
     make_room(out, strip, SHORT_WORDS)?;
     strip.labelled(*b" = gave ", count);
@@ -559,8 +537,7 @@ fn put_given<K: Sink>(out: &mut K, strip: &mut Strip, count: u32) -> Result<(), 
 fn put_gave<K: Sink>(out: &mut K, strip: &mut Strip, count: u32, to: &Dests) -> Result<(), Failed>
     ensures gathers { Gathers (K.holds out.old) (K.holds out.new) strip.old strip.new
         result (words_text (reply_words (Gave count to.now))) }
-    ensures later { K.faults out.old ≤ K.faults out.new }
-    ensures cause { OnErr result (Rose (K.faults out.old) (K.faults out.new)) }
+    ensures counts { CountsFailures K.Sink out.old out.new result }
 {
     put_given(out, strip, count)?;
     put_words(out, strip, &[Destinations(to.as_slice())])
@@ -571,8 +548,7 @@ fn put_gave<K: Sink>(out: &mut K, strip: &mut Strip, count: u32, to: &Dests) -> 
 fn put_other_reply<K: Sink>(out: &mut K, strip: &mut Strip, reply: &Reply) -> Result<(), Failed>
     ensures gathers { Gathers (K.holds out.old) (K.holds out.new) strip.old strip.new
         result (words_text (reply_words reply.now)) }
-    ensures later { K.faults out.old ≤ K.faults out.new }
-    ensures cause { OnErr result (Rose (K.faults out.old) (K.faults out.new)) }
+    ensures counts { CountsFailures K.Sink out.old out.new result }
 {
     match reply {
         Reply::Opened => put_words(out, strip, &[Word(b"="), Word(b"ok")]),
@@ -614,8 +590,7 @@ fn put_other_reply<K: Sink>(out: &mut K, strip: &mut Strip, reply: &Reply) -> Re
 fn put_reply<K: Sink>(out: &mut K, strip: &mut Strip, reply: &Reply) -> Result<(), Failed>
     ensures gathers { Gathers (K.holds out.old) (K.holds out.new) strip.old strip.new
         result (words_text (reply_words reply.now)) }
-    ensures later { K.faults out.old ≤ K.faults out.new }
-    ensures cause { OnErr result (Rose (K.faults out.old) (K.faults out.new)) }
+    ensures counts { CountsFailures K.Sink out.old out.new result }
 {
     match reply {
         Reply::Made => Ok(()),
@@ -632,8 +607,7 @@ fn put_entry<K: Sink>(out: &mut K, strip: &mut Strip, entry: &Entry) -> Result<(
     ensures gathers { Gathers (K.holds out.old) (K.holds out.new) strip.old strip.new
         result (words_text
         (ask_words entry.now.session.0 entry.now.ask ++ reply_words entry.now.reply)) }
-    ensures later { K.faults out.old ≤ K.faults out.new }
-    ensures cause { OnErr result (Rose (K.faults out.old) (K.faults out.new)) }
+    ensures counts { CountsFailures K.Sink out.old out.new result }
 {
     put_ask(out, strip, entry.session.0, &entry.ask)?;
     put_reply(out, strip, &entry.reply)
@@ -657,8 +631,7 @@ fn put_entry_line<K: Sink>(
 ) -> Result<(), Failed>
     ensures gathers { Gathers (K.holds out.old) (K.holds out.new) strip.old strip.new
         result (entry_line number entry.now) }
-    ensures later { K.faults out.old ≤ K.faults out.new }
-    ensures cause { OnErr result (Rose (K.faults out.old) (K.faults out.new)) }
+    ensures counts { CountsFailures K.Sink out.old out.new result }
 {
     put_number(out, strip, number as u64)?;
     put_entry(out, strip, entry)?;
@@ -675,8 +648,7 @@ pub(crate) fn put_whole_line<K: Sink>(
 ) -> Result<(), Failed>
     requires { strip.old ≡ [] }
     ensures writes { Writes (K.holds out.old) (K.holds out.new) result (entry_line number entry.now) }
-    ensures later { K.faults out.old ≤ K.faults out.new }
-    ensures cause { OnErr result (Rose (K.faults out.old) (K.faults out.new)) }
+    ensures counts { CountsFailures K.Sink out.old out.new result }
     ensures emptied { OnOk result (strip.new ≡ []) }
 {
     put_entry_line(out, strip, number, entry)?;

@@ -1,10 +1,10 @@
 //! Bytes gathered on a strip of a fixed size, on their way to a sink.
-ghost use Rattle.std.specs.Prelude.{◌≡◌, ◌≤◌, ◌<◌, ◌*◌, ◌+◌, ◌++◌, ◌∷◌, [], if◌then◌else◌, ℕ, List, length, take, decimal, OnOk, OnErr};
+ghost use Rattle.std.specs.Prelude.{◌≡◌, ◌≤◌, ◌<◌, ◌*◌, ◌+◌, ◌++◌, ◌∷◌, [], if◌then◌else◌, ℕ, List, length, take, decimal, OnOk};
 ghost use Rattle.std.specs.List.{flat_map};
-ghost use Rattle.nm_io.specs.Counts.{Rose};
 ghost use Rattle.nm_io.specs.Gathered.{Gathers};
 ghost use Rattle.nm_io.specs.Held.{Writes};
 ghost use Rattle.vale_entry.specs.Transcript.{frame_text, hex_byte, hex_text};
+ghost use Rattle.vale_text.specs.Failures.{CountsFailures};
 ghost use Rattle.vale_text.specs.Pieces.{behind};
 
 use crate::hex::{place_digits, place_next_frame};
@@ -144,8 +144,7 @@ impl Strip {
 /// Writes what a strip holds, and empties it.
 pub(crate) fn put_strip<K: Sink>(out: &mut K, strip: &mut Strip) -> Result<(), Failed>
     ensures writes { Writes (K.holds out.old) (K.holds out.new) result strip.old }
-    ensures later { K.faults out.old ≤ K.faults out.new }
-    ensures cause { OnErr result (Rose (K.faults out.old) (K.faults out.new)) }
+    ensures counts { CountsFailures K.Sink out.old out.new result }
     ensures emptied { OnOk result (strip.new ≡ []) }
 {
     put_all(out, strip.bytes())?;
@@ -160,8 +159,7 @@ pub(crate) fn make_room<K: Sink>(out: &mut K, strip: &mut Strip, count: usize) -
     requires { count ≤ ROOM }
     ensures gathers { Gathers (K.holds out.old) (K.holds out.new) strip.old strip.new
         result ([]) }
-    ensures later { K.faults out.old ≤ K.faults out.new }
-    ensures cause { OnErr result (Rose (K.faults out.old) (K.faults out.new)) }
+    ensures counts { CountsFailures K.Sink out.old out.new result }
     ensures room { OnOk result (length strip.new + count ≤ ROOM) }
 {
     if strip.len() + count > ROOM {
@@ -176,8 +174,7 @@ pub(crate) fn make_room<K: Sink>(out: &mut K, strip: &mut Strip, count: usize) -
 pub(crate) fn put_byte<K: Sink>(out: &mut K, strip: &mut Strip, byte: u8) -> Result<(), Failed>
     ensures gathers { Gathers (K.holds out.old) (K.holds out.new) strip.old strip.new
         result (byte ∷ []) }
-    ensures later { K.faults out.old ≤ K.faults out.new }
-    ensures cause { OnErr result (Rose (K.faults out.old) (K.faults out.new)) }
+    ensures counts { CountsFailures K.Sink out.old out.new result }
 {
     make_room(out, strip, 1)?;
     strip.push(byte);
@@ -189,8 +186,7 @@ pub(crate) fn put_byte<K: Sink>(out: &mut K, strip: &mut Strip, byte: u8) -> Res
 fn put_long<K: Sink>(out: &mut K, strip: &mut Strip, text: &[u8]) -> Result<(), Failed>
     ensures gathers { Gathers (K.holds out.old) (K.holds out.new) strip.old strip.new
         result (text.now) }
-    ensures later { K.faults out.old ≤ K.faults out.new }
-    ensures cause { OnErr result (Rose (K.faults out.old) (K.faults out.new)) }
+    ensures counts { CountsFailures K.Sink out.old out.new result }
 {
     put_strip(out, strip)?;
     put_all(out, text)
@@ -201,8 +197,7 @@ fn put_long<K: Sink>(out: &mut K, strip: &mut Strip, text: &[u8]) -> Result<(), 
 pub(crate) fn put_text<K: Sink>(out: &mut K, strip: &mut Strip, text: &[u8]) -> Result<(), Failed>
     ensures gathers { Gathers (K.holds out.old) (K.holds out.new) strip.old strip.new
         result (text.now) }
-    ensures later { K.faults out.old ≤ K.faults out.new }
-    ensures cause { OnErr result (Rose (K.faults out.old) (K.faults out.new)) }
+    ensures counts { CountsFailures K.Sink out.old out.new result }
 {
     if text.len() > ROOM {
         return put_long(out, strip, text);
@@ -222,8 +217,7 @@ pub(crate) fn put_text_after<K: Sink>(
 ) -> Result<(), Failed>
     ensures gathers { Gathers (K.holds out.old) (K.holds out.new) strip.old strip.new
         result (mark ∷ text.now) }
-    ensures later { K.faults out.old ≤ K.faults out.new }
-    ensures cause { OnErr result (Rose (K.faults out.old) (K.faults out.new)) }
+    ensures counts { CountsFailures K.Sink out.old out.new result }
 {
     if text.len() >= ROOM {
         put_byte(out, strip, mark)?;
@@ -240,8 +234,7 @@ pub(crate) fn put_text_after<K: Sink>(
 pub(crate) fn put_number<K: Sink>(out: &mut K, strip: &mut Strip, number: u64) -> Result<(), Failed>
     ensures gathers { Gathers (K.holds out.old) (K.holds out.new) strip.old strip.new
         result (decimal number) }
-    ensures later { K.faults out.old ≤ K.faults out.new }
-    ensures cause { OnErr result (Rose (K.faults out.old) (K.faults out.new)) }
+    ensures counts { CountsFailures K.Sink out.old out.new result }
 {
     make_room(out, strip, DIGITS)?;
     strip.number(number);
@@ -258,8 +251,7 @@ pub(crate) fn put_number_after<K: Sink>(
 ) -> Result<(), Failed>
     ensures gathers { Gathers (K.holds out.old) (K.holds out.new) strip.old strip.new
         result (mark ∷ decimal number) }
-    ensures later { K.faults out.old ≤ K.faults out.new }
-    ensures cause { OnErr result (Rose (K.faults out.old) (K.faults out.new)) }
+    ensures counts { CountsFailures K.Sink out.old out.new result }
 {
     make_room(out, strip, DIGITS + 1)?;
     strip.push(mark);
@@ -274,8 +266,7 @@ fn put_some_numbers<K: Sink>(out: &mut K, strip: &mut Strip, numbers: &[u32]) ->
     requires { 21 * length numbers.now ≤ ROOM }
     ensures gathers { Gathers (K.holds out.old) (K.holds out.new) strip.old strip.new
         result (flat_map (behind 44 decimal) numbers.now) }
-    ensures later { K.faults out.old ≤ K.faults out.new }
-    ensures cause { OnErr result (Rose (K.faults out.old) (K.faults out.new)) }
+    ensures counts { CountsFailures K.Sink out.old out.new result }
 {
     make_room(out, strip, 21 * numbers.len())?;
     strip.numbers(numbers);
@@ -291,8 +282,7 @@ pub(crate) fn put_more_numbers<K: Sink>(
 ) -> Result<(), Failed>
     ensures gathers { Gathers (K.holds out.old) (K.holds out.new) strip.old strip.new
         result (flat_map (behind 44 decimal) numbers.now) }
-    ensures later { K.faults out.old ≤ K.faults out.new }
-    ensures cause { OnErr result (Rose (K.faults out.old) (K.faults out.new)) }
+    ensures counts { CountsFailures K.Sink out.old out.new result }
 {
     let mut done = 0;
     while done < numbers.len() {
@@ -310,8 +300,7 @@ fn put_part<K: Sink>(out: &mut K, strip: &mut Strip, bytes: &[u8]) -> Result<(),
     requires { 2 * length bytes.now ≤ ROOM }
     ensures gathers { Gathers (K.holds out.old) (K.holds out.new) strip.old strip.new
         result (flat_map hex_byte bytes.now) }
-    ensures later { K.faults out.old ≤ K.faults out.new }
-    ensures cause { OnErr result (Rose (K.faults out.old) (K.faults out.new)) }
+    ensures counts { CountsFailures K.Sink out.old out.new result }
 {
     make_room(out, strip, 2 * bytes.len())?;
     strip.digits(bytes);
@@ -322,8 +311,7 @@ fn put_part<K: Sink>(out: &mut K, strip: &mut Strip, bytes: &[u8]) -> Result<(),
 fn put_digits<K: Sink>(out: &mut K, strip: &mut Strip, bytes: &[u8]) -> Result<(), Failed>
     ensures gathers { Gathers (K.holds out.old) (K.holds out.new) strip.old strip.new
         result (flat_map hex_byte bytes.now) }
-    ensures later { K.faults out.old ≤ K.faults out.new }
-    ensures cause { OnErr result (Rose (K.faults out.old) (K.faults out.new)) }
+    ensures counts { CountsFailures K.Sink out.old out.new result }
 {
     let mut done = 0;
     while done < bytes.len() {
@@ -338,8 +326,7 @@ fn put_digits<K: Sink>(out: &mut K, strip: &mut Strip, bytes: &[u8]) -> Result<(
 pub(crate) fn put_hex<K: Sink>(out: &mut K, strip: &mut Strip, bytes: &[u8]) -> Result<(), Failed>
     ensures gathers { Gathers (K.holds out.old) (K.holds out.new) strip.old strip.new
         result (hex_text bytes.now) }
-    ensures later { K.faults out.old ≤ K.faults out.new }
-    ensures cause { OnErr result (Rose (K.faults out.old) (K.faults out.new)) }
+    ensures counts { CountsFailures K.Sink out.old out.new result }
 {
     if bytes.is_empty() {
         put_byte(out, strip, b'.')
@@ -362,8 +349,7 @@ pub(crate) fn put_short_frame<K: Sink>(
     requires { length bytes.now ≤ SHORT_FRAME }
     ensures gathers { Gathers (K.holds out.old) (K.holds out.new) strip.old strip.new
         result (behind 44 frame_text (record { bytes = bytes.now; no_learn = no_learn })) }
-    ensures later { K.faults out.old ≤ K.faults out.new }
-    ensures cause { OnErr result (Rose (K.faults out.old) (K.faults out.new)) }
+    ensures counts { CountsFailures K.Sink out.old out.new result }
 {
     make_room(out, strip, 2 * bytes.len() + 3)?;
     strip.next_frame(bytes, no_learn);
