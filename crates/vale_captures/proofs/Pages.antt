@@ -37,23 +37,33 @@ one r = record_text r.seconds r.fraction r.bytes
 more-text : (xs ys : List Record) → capture_text (xs ++ ys) ≡ capture_text xs ++ flat_map one ys
 more-text xs ys = ap (λ (t : List ℕ). header_text ++ t) (flat_map-append one xs ys) ∙ sym (append_assoc header_text (flat_map one xs) (flat_map one ys))
 
-pub text-next : (rs : List Record) (k : ℕ) (r : Record) → slice_get rs k ≡ Some r → capture_text (take (k + 1) rs) ≡ capture_text (take k rs) ++ record_text r.seconds r.fraction r.bytes
+text-next : (rs : List Record) (k : ℕ) (r : Record) → slice_get rs k ≡ Some r → capture_text (take (k + 1) rs) ≡ capture_text (take k rs) ++ record_text r.seconds r.fraction r.bytes
 text-next rs k r there =
     ap capture_text (taken-next rs k r there) ∙ (more-text (take k rs) (r ∷ []) ∙ ap (λ (t : List ℕ). capture_text (take k rs) ++ t) (append-nil (one r)))
 
-pub text-longer : (old new : Option Files) (name : List ℕ) (rs : List Record) (k : ℕ) → AppendsPrefix old new name (capture_text (take k rs)) → AppendsPrefix old new name (capture_text rs)
+text-longer : (old new : Option Files) (name : List ℕ) (rs : List Record) (k : ℕ) → AppendsPrefix old new name (capture_text (take k rs)) → AppendsPrefix old new name (capture_text rs)
 text-longer old new name rs k part =
     let all : capture_text (take k rs) ++ flat_map one (drop k rs) ≡ capture_text rs = sym (more-text (take k rs) (drop k rs)) ∙ ap capture_text (cut-at rs k) in
     subst (AppendsPrefix old new name) all (appends_longer old new name (capture_text (take k rs)) (flat_map one (drop k rs)) part)
 
 -- ---- what has gone
 
-pub put-gone : (old now : Option Files) (name text left more : List ℕ) → HasGone old now name text left → HasGone old now name (text ++ more) (left ++ more)
+put-gone : (old now : Option Files) (name text left more : List ℕ) → HasGone old now name text left → HasGone old now name (text ++ more) (left ++ more)
 put-gone old now name text left more g = record {
   done = g.done;
   whole = sym (append_assoc g.done left more) ∙ ap (λ (t : List ℕ). t ++ more) g.whole;
   files = g.files;
 }
+
+-- the next record was put on the page
+pub record-gone : (old now : Option Files) (name left page : List ℕ) (rs : List Record) (k : ℕ)
+    (r : Record) → slice_get rs k ≡ Some r → page ≡ left ++ one r
+    → HasGone old now name (capture_text (take k rs)) left
+    → HasGone old now name (capture_text (take (k + 1) rs)) page
+record-gone old now name left page rs k r there is g =
+    subst (λ (t : List ℕ). HasGone old now name t page) (sym (text-next rs k r there))
+    (subst (HasGone old now name (capture_text (take k rs) ++ one r)) (sym is)
+    (put-gone old now name (capture_text (take k rs)) left (one r) g))
 
 pub all-went : (old middle new : Option Files) (name text left : List ℕ) → HasGone old middle name text left → new ≡ appended_told middle name left → new ≡ appended_told old name text
 all-went old middle new name text left g is = by g.files
@@ -76,7 +86,7 @@ flushed-gone old middle new name text left rest g (inr went) = record {
   files = inr (all-went old middle new name text left g went.0);
 }
 
-pub stops-gone : (old now : Option Files) (name text left : List ℕ) → HasGone old now name text left → AppendsPrefix old now name text
+stops-gone : (old now : Option Files) (name text left : List ℕ) → HasGone old now name text left → AppendsPrefix old now name text
 stops-gone old now name text left g = subst (AppendsPrefix old now name) g.whole (by g.files)
   where
     by : ((now ≡ old) × (g.done ≡ [])) ⊎ (now ≡ appended_told old name g.done) → AppendsPrefix old now name (g.done ++ left)
@@ -87,7 +97,7 @@ stops-gone old now name text left g = subst (AppendsPrefix old now name) g.whole
       files = inr (some ∙ ap (appended_told old name) (sym (take-append-le (length g.done) g.done left (le_refl (length g.done)) ∙ take_all (length g.done) g.done (le_refl (length g.done)))));
     }
 
-pub stops-flush : (old middle new : Option Files) (name text left : List ℕ) → HasGone old middle name text left → AppendsPrefix middle new name left → AppendsPrefix old new name text
+stops-flush : (old middle new : Option Files) (name text left : List ℕ) → HasGone old middle name text left → AppendsPrefix middle new name left → AppendsPrefix old new name text
 stops-flush old middle new name text left g part = by g.files
   where
     by : ((middle ≡ old) × (g.done ≡ [])) ⊎ (middle ≡ appended_told old name g.done) → AppendsPrefix old new name text
@@ -95,6 +105,21 @@ stops-flush old middle new name text left g part = by g.files
         let left_is : left ≡ text = ap (λ (t : List ℕ). t ++ left) (sym none.1) ∙ g.whole in
         subst (AppendsPrefix old new name) left_is (subst (λ (f : Option Files). AppendsPrefix f new name left) none.0 part)
     by (inr some) = subst (AppendsPrefix old new name) g.whole (appends_more old middle new name g.done left some part)
+
+-- no more records were put behind the first ones
+pub page-kept : (old now : Option Files) (name left : List ℕ) (rs : List Record) (k : ℕ)
+    → HasGone old now name (capture_text (take k rs)) left
+    → AppendsPrefix old now name (capture_text rs)
+page-kept old now name left rs k g =
+    text-longer old now name rs k (stops-gone old now name (capture_text (take k rs)) left g)
+
+-- the page of the first records did not go out
+pub page-stops : (old middle new : Option Files) (name left : List ℕ) (rs : List Record) (k : ℕ)
+    → HasGone old middle name (capture_text (take k rs)) left → AppendsPrefix middle new name left
+    → AppendsPrefix old new name (capture_text rs)
+page-stops old middle new name left rs k g part =
+    text-longer old new name rs k
+    (stops-flush old middle new name (capture_text (take k rs)) left g part)
 
 -- ---- files one after another
 

@@ -1,4 +1,5 @@
 pub mod Counting
+pub mod Counts
 pub mod Faults
 pub mod Inputs
 pub mod Outputs

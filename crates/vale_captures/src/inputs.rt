@@ -1,5 +1,6 @@
 //! The captures that a script plays.
 ghost use Rattle.std.specs.Prelude.{◌≡◌, ◌≤◌, ◌↔◌, ℕ, List, [], map, IfOk, IfErr, IsTrue};
+ghost use Rattle.vale_captures.specs.Counts.{CountsRise};
 ghost use Rattle.vale_captures.specs.Inputs.{captured, records_in, IsInput, AreInputs, BlamesFile, StopsReading};
 
 use nm_io::{ReadError, Shelf, read_all};
@@ -130,10 +131,7 @@ fn read_input<S: Shelf>(
     ensures blames { IfErr result (BlamesFile (S.files shelf.old) name.now left
         (S.read_faults shelf.old name.now) (S.read_faults shelf.new name.now)) }
     ensures files { S.files shelf.new ≡ S.files shelf.old }
-    ensures reads_later { (other : List ℕ) →
-        S.read_faults shelf.old other ≤ S.read_faults shelf.new other }
-    ensures appends_later { (other : List ℕ) →
-        S.append_faults shelf.old other ≤ S.append_faults shelf.new other }
+    ensures later { CountsRise S.Shelf shelf.old shelf.new }
 {
     let bytes = read_all(alloc, shelf, name, left)?;
     let records = read(alloc, &bytes)?;

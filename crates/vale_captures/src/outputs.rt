@@ -5,6 +5,7 @@ ghost use Rattle.nm_io.specs.Counts.{Rose};
 ghost use Rattle.nm_io.specs.Files.{Appends, AppendsPrefix};
 ghost use Rattle.pcap_io.specs.Limits.{most_captured};
 ghost use Rattle.pcap_io.specs.Written.{header_text, record_text, capture_text};
+ghost use Rattle.vale_captures.specs.Counts.{CountsRise};
 ghost use Rattle.vale_captures.specs.Outputs.{text_of, all_appended, IsWritable, IsShortRecord, IsFlushed, StopsWriting, has_failed};
 
 use nm_io::{Failed, Shelf, append_all};
@@ -119,10 +120,7 @@ impl CapturePage {
         ensures appends { Appends (S.files shelf.old) (S.files shelf.new) name.now result
             self.old.bytes.items }
         ensures emptied { OnOk result (self.new.bytes.items ≡ []) }
-        ensures reads_later { (other : List ℕ) →
-            S.read_faults shelf.old other ≤ S.read_faults shelf.new other }
-        ensures appends_later { (other : List ℕ) →
-            S.append_faults shelf.old other ≤ S.append_faults shelf.new other }
+        ensures later { CountsRise S.Shelf shelf.old shelf.new }
         ensures cause { OnErr result
             (Rose (S.append_faults shelf.old name.now) (S.append_faults shelf.new name.now)) }
     {
@@ -137,10 +135,7 @@ impl CapturePage {
             self.old.bytes.items self.new.bytes.items) }
         ensures part { OnErr result (AppendsPrefix (S.files shelf.old) (S.files shelf.new) name.now
             self.old.bytes.items) }
-        ensures reads_later { (other : List ℕ) →
-            S.read_faults shelf.old other ≤ S.read_faults shelf.new other }
-        ensures appends_later { (other : List ℕ) →
-            S.append_faults shelf.old other ≤ S.append_faults shelf.new other }
+        ensures later { CountsRise S.Shelf shelf.old shelf.new }
         ensures cause { OnErr result
             (Rose (S.append_faults shelf.old name.now) (S.append_faults shelf.new name.now)) }
     {
@@ -161,10 +156,7 @@ fn write_saved<S: Shelf>(
     requires { AllByRecursion IsShortRecord records.now }
     ensures appends { Appends (S.files shelf.old) (S.files shelf.new) name.now result
         (capture_text records.now) }
-    ensures reads_later { (other : List ℕ) →
-        S.read_faults shelf.old other ≤ S.read_faults shelf.new other }
-    ensures appends_later { (other : List ℕ) →
-        S.append_faults shelf.old other ≤ S.append_faults shelf.new other }
+    ensures later { CountsRise S.Shelf shelf.old shelf.new }
     ensures cause { IfErr result (λ fault. has_failed fault ≡ true
         → Rose (S.append_faults shelf.old name.now) (S.append_faults shelf.new name.now)) }
 {
@@ -182,10 +174,7 @@ impl Saved {
         requires { IsWritable self.now }
         ensures appends { Appends (S.files shelf.old) (S.files shelf.new) self.now.file result
             (text_of self.now) }
-        ensures reads_later { (other : List ℕ) →
-            S.read_faults shelf.old other ≤ S.read_faults shelf.new other }
-        ensures appends_later { (other : List ℕ) →
-            S.append_faults shelf.old other ≤ S.append_faults shelf.new other }
+        ensures later { CountsRise S.Shelf shelf.old shelf.new }
         ensures cause { IfErr result (λ fault. has_failed fault ≡ true → Rose
             (S.append_faults shelf.old self.now.file) (S.append_faults shelf.new self.now.file)) }
     {
@@ -199,10 +188,7 @@ fn write_each<S: Shelf>(alloc: Global, shelf: &mut S, files: &[Saved]) -> Result
     ensures all { OnOk result (S.files shelf.new ≡ all_appended (S.files shelf.old) files.now) }
     ensures stops { IfErr result (StopsWriting (S.files shelf.old) (S.files shelf.new) files.now
         (λ name. (S.append_faults shelf.old name, S.append_faults shelf.new name))) }
-    ensures reads_later { (other : List ℕ) →
-        S.read_faults shelf.old other ≤ S.read_faults shelf.new other }
-    ensures appends_later { (other : List ℕ) →
-        S.append_faults shelf.old other ≤ S.append_faults shelf.new other }
+    ensures later { CountsRise S.Shelf shelf.old shelf.new }
 {
     for saved in files {
         match saved.write(alloc, shelf) {
