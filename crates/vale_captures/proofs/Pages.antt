@@ -1,6 +1,7 @@
 -- A capture on its way to a file by pages.
 use Rattle.std.proofs.Common.{◌≡◌, ◌⊎◌, ◌+◌, ◌≤◌, inl, inr, ℕ, zero, suc, List, [], ◌∷◌, ◌++◌, length, take, drop, Option, Some, slice_get, flat_map, refl, sym, ap, ◌∙◌, subst, arith, le_refl, append_assoc, length-append}
-use Rattle.std.proofs.lemmas.List.{append-nil, take-append-le, take_all}
+use Rattle.std.proofs.lemmas.List.{append-nil, take-append-drop, take-append-le, take_all, take_more}
+use Rattle.std.proofs.lemmas.Option.{get_or_from_slice_get, slice_get_within}
 use Rattle.std.proofs.lemmas.Grind.{flat_map-append}
 use Rattle.nm_io.specs.Counts.{Rose}
 use Rattle.nm_io.specs.Files.{Files, appended_told, AppendsPrefix}
@@ -18,16 +19,9 @@ pub record HasGone (old now : Option Files) (name text left : List ℕ) : Type 0
 -- ---- lists
 
 pub taken-next : {X : Type 0} (xs : List X) (n : ℕ) (x : X) → slice_get xs n ≡ Some x → take (n + 1) xs ≡ take n xs ++ x ∷ []
-taken-next [] n x e = absurd cc
-taken-next {X} (y ∷ ys) zero x e = let same : y ≡ x = cc in ap (λ (z : X). z ∷ []) same
-taken-next {X} (y ∷ ys) (suc n) x e =
-    let next : suc n + 1 ≡ suc (n + 1) = omega arith in
-    ap (λ (k : ℕ). take k (y ∷ ys)) next ∙ ap (λ (zs : List X). y ∷ zs) (taken-next ys n x e)
-
-pub cut-at : {X : Type 0} (xs : List X) (n : ℕ) → take n xs ++ drop n xs ≡ xs
-cut-at xs zero = refl
-cut-at [] (suc n) = refl
-cut-at {X} (x ∷ xs) (suc n) = ap (λ (zs : List X). x ∷ zs) (cut-at xs n)
+taken-next {X} xs n x e =
+    take_more xs n x (slice_get_within xs n x e)
+    ∙ ap (λ (z : X). take n xs ++ z ∷ []) (get_or_from_slice_get xs n x x e)
 
 -- ---- captures
 
@@ -43,7 +37,7 @@ text-next rs k r there =
 
 text-longer : (old new : Option Files) (name : List ℕ) (rs : List Record) (k : ℕ) → AppendsPrefix old new name (capture_text (take k rs)) → AppendsPrefix old new name (capture_text rs)
 text-longer old new name rs k part =
-    let all : capture_text (take k rs) ++ flat_map one (drop k rs) ≡ capture_text rs = sym (more-text (take k rs) (drop k rs)) ∙ ap capture_text (cut-at rs k) in
+    let all : capture_text (take k rs) ++ flat_map one (drop k rs) ≡ capture_text rs = sym (more-text (take k rs) (drop k rs)) ∙ ap capture_text (take-append-drop k rs) in
     subst (AppendsPrefix old new name) all (appends_longer old new name (capture_text (take k rs)) (flat_map one (drop k rs)) part)
 
 -- ---- what has gone

@@ -1,7 +1,7 @@
 -- Sums over the lines of a script, one line after another, and that they are few.
 use Rattle.std.proofs.Common.{ℕ, ◌+◌, ◌≤◌, ◌≡◌, List, [], ◌∷◌, ◌++◌, map, take, drop, flat_map, sum_by, Some, slice_get, sym, ◌∙◌, ap, arith, ◌<◌, ◌^◌, length, get_or, refl, subst}
 use Rattle.std.proofs.lemmas.Grind.{flat_map-append}
-use Rattle.std.proofs.lemmas.List.{map-append, append-nil}
+use Rattle.std.proofs.lemmas.List.{take-append-drop, map-append, append-nil}
 use Rattle.std.proofs.lemmas.List.Sums.{sum_by-append, sum_by-cons}
 use Rattle.vale_script.specs.declared.script.Act.{Act}
 use Rattle.vale_script.specs.declared.script.Act.TheVariants as acts
@@ -9,7 +9,7 @@ use Rattle.vale_script.specs.Script.{Program}
 use Rattle.vale_replay.specs.Saved.{acts_of_unit}
 use Rattle.vale_captures.specs.Counting.{frames_by, frames_played}
 use Rattle.vale_captures.specs.Inputs.{InputFile}
-use Rattle.vale_captures.proofs.Pages.{taken-next, cut-at}
+use Rattle.vale_captures.proofs.Pages.{taken-next}
 use Rattle.std.proofs.lemmas.Option.{slice_get_read}
 
 module _ {X A : Type 0} (g : X → List A) (f : A → ℕ) where
@@ -22,7 +22,7 @@ module _ {X A : Type 0} (g : X → List A) (f : A → ℕ) where
   pub flat-within : (xs : List X) (k : ℕ) → sum_by f (flat_map g (take k xs)) ≤ sum_by f (flat_map g xs)
   flat-within xs k =
       let all : sum_by f (flat_map g (take k xs)) + sum_by f (flat_map g (drop k xs)) ≡ sum_by f (flat_map g xs) =
-      sym (sum_by-append f (flat_map g (take k xs)) (flat_map g (drop k xs))) ∙ (ap (λ (ys : List A). sum_by f ys) (sym (flat_map-append g (take k xs) (drop k xs))) ∙ ap (λ (ys : List X). sum_by f (flat_map g ys)) (cut-at xs k)) in
+      sym (sum_by-append f (flat_map g (take k xs)) (flat_map g (drop k xs))) ∙ (ap (λ (ys : List A). sum_by f ys) (sym (flat_map-append g (take k xs) (drop k xs))) ∙ ap (λ (ys : List X). sum_by f (flat_map g ys)) (take-append-drop k xs)) in
       omega (arith, all)
 
   -- what an element adds to the sum of those before it is within the sum of all
@@ -44,7 +44,7 @@ module _ {X A : Type 0} (g : X → A) (f : A → ℕ) where
   pub map-within : (xs : List X) (k : ℕ) → sum_by f (map g (take k xs)) ≤ sum_by f (map g xs)
   map-within xs k =
       let all : sum_by f (map g (take k xs)) + sum_by f (map g (drop k xs)) ≡ sum_by f (map g xs) =
-      sym (sum_by-append f (map g (take k xs)) (map g (drop k xs))) ∙ (ap (λ (ys : List A). sum_by f ys) (sym (map-append g (take k xs) (drop k xs))) ∙ ap (λ (ys : List X). sum_by f (map g ys)) (cut-at xs k)) in
+      sym (sum_by-append f (map g (take k xs)) (map g (drop k xs))) ∙ (ap (λ (ys : List A). sum_by f ys) (sym (map-append g (take k xs) (drop k xs))) ∙ ap (λ (ys : List X). sum_by f (map g ys)) (take-append-drop k xs)) in
       omega (arith, all)
 
 -- no capture has a frame that is played
