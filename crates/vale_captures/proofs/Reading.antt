@@ -1,5 +1,6 @@
 -- Files read one after another.
-use Rattle.std.proofs.Common.{◌≡◌, ◌+◌, ◌≤◌, ℕ, List, [], ◌∷◌, ◌++◌, take, Option, Some, slice_get, refl, arith, sym, subst}
+use Rattle.std.proofs.Common.{◌≡◌, ◌+◌, ◌≤◌, ◌<◌, ℕ, List, [], ◌∷◌, ◌++◌, length, take, get_or, Option, Some, slice_get, refl, arith, sym, ap, ◌∙◌, subst}
+use Rattle.std.proofs.lemmas.Option.{slice_get_read}
 use Rattle.nm_io.specs.Files.{Files}
 use Rattle.vale_captures.specs.Inputs.{InputFile, IsInput, AreInputs, BlamesFile, StopsAtFile, StopsReading}
 use Rattle.vale_captures.specs.declared.inputs.InputFault.{InputFault}
@@ -14,6 +15,13 @@ inputs-next files [] (i ∷ inputs) size name input more are one = absurd are
 inputs-next files (n ∷ names) (i ∷ inputs) size name input more are one =
     let total = are.2.1.1 in
     (are.0, are.1 + more, (are.2.0, (inputs-next files names inputs are.1 name input more are.2.1.0 one, omega (arith, total))))
+
+-- the name of the file at a place
+pub named-at : (names : List (List ℕ)) (at : ℕ) (word name : List ℕ) → at < length names
+    → word ≡ get_or names at word → name ≡ word → slice_get names at ≡ Some name
+named-at names at word name within is same =
+    slice_get_read names (length names) at word refl within is
+    ∙ ap (λ (n : List ℕ). Some n) (sym same)
 
 pub inputs-taken : (files : Option Files) (names : List (List ℕ)) (at : ℕ) (inputs : List InputFile) (size : ℕ) (name : List ℕ) (input : InputFile) (more : ℕ)
     → slice_get names at ≡ Some name → AreInputs files (take at names) inputs size → IsInput files name input more

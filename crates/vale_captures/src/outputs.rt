@@ -182,23 +182,6 @@ impl Saved {
     }
 }
 
-/// Appends each capture to its file, one after another.
-fn write_each<S: Shelf>(alloc: Global, shelf: &mut S, files: &[Saved]) -> Result<(), SaveFault>
-    requires { AllByRecursion IsWritable files.now }
-    ensures all { OnOk result (S.files shelf.new ≡ all_appended (S.files shelf.old) files.now) }
-    ensures stops { IfErr result (StopsWriting (S.files shelf.old) (S.files shelf.new) files.now
-        (λ name. (S.append_faults shelf.old name, S.append_faults shelf.new name))) }
-    ensures later { CountsRise S.Shelf shelf.old shelf.new }
-{
-    for saved in files {
-        match saved.write(alloc, shelf) {
-            Ok(()) => {}
-            Err(fault) => return Err(fault),
-        }
-    }
-    Ok(())
-}
-
 /// Appends each capture to its file, one after another; makes a file if there is none. A file is
 /// begun only once all before it were written whole.
 pub fn write_outputs<S: Shelf>(
@@ -215,5 +198,11 @@ pub fn write_outputs<S: Shelf>(
     ensures appends_later { (other : List ℕ) →
         S.append_faults shelf.old other ≤ S.append_faults shelf.new other }
 {
-    write_each(alloc, shelf, &outputs.saved)
+    for saved in &outputs.saved {
+        match saved.write(alloc, shelf) {
+            Ok(()) => {}
+            Err(fault) => return Err(fault),
+        }
+    }
+    Ok(())
 }

@@ -1,8 +1,7 @@
-use Rattle.std.proofs.Common.{rules, ◌≡◌, ◌+◌, ◌-◌, ℕ, List, take, length, Some, slice_get, Option, refl, arith, sym, ap, ◌∙◌, subst}
-use Rattle.std.proofs.lemmas.Option.{slice_get_read}
+use Rattle.std.proofs.Common.{rules, ◌≡◌, ◌+◌, ◌-◌, ℕ, take, List, Option, arith, sym, ◌∙◌, subst}
 use Rattle.nm_io.specs.Files.{Files}
 use Rattle.vale_captures.specs.Inputs.{InputFile, IsInput, AreInputs, BlamesFile}
-use Rattle.vale_captures.proofs.Reading.{inputs-taken, blames-since, stops-at}
+use Rattle.vale_captures.proofs.Reading.{inputs-taken, named-at, blames-since, stops-at}
 use Rattle.vale_captures.proofs.inputs.read_inputs.Goals as goal
 
 pub returns-in-Err-clause-stops : goal.returns-in-Err-clause-stops
@@ -11,7 +10,6 @@ returns-in-Err-clause-stops g c =
     let names = c.args.names.now in
     let at = c.loop-at.at in
     let name = c.as_str.result.now in
-    let there : slice_get names at ≡ Some name = slice_get_read names (length names) at c.index-names-at.result refl (omega (arith, c.loop-at-test.true)) c.index-names-at.is ∙ ap (λ (n : List ℕ). Some n) (sym c.as_str.ensures) in
     let size = c.loop-at.invariant.size in
     let before = g.S.Shelf.read_faults c.args.shelf.now name in
     let now = g.S.Shelf.read_faults c.read_input.new.shelf name in
@@ -25,7 +23,7 @@ returns-in-Err-clause-stops g c =
       read = c.loop-at.invariant.read;
       within = let sum = c.loop-at.invariant.left in omega (arith, sum);
       name = name;
-      there = there;
+      there = named-at names at c.index-names-at.result name (omega (arith, c.loop-at-test.true)) c.index-names-at.is c.as_str.ensures;
       blames = blames-since files name (c.args.limit - size) before (g.S.Shelf.read_faults c.loop-at.shelf name) now c.in-Err.fault (c.loop-at.invariant.reads_later name) blames;
     })
 
@@ -33,16 +31,15 @@ pub loop-at-preserved : goal.loop-at-preserved
 loop-at-preserved g c =
     let files = g.S.Shelf.files c.args.shelf.now in
     let names = c.args.names.now in
-    let at = c.loop-at.at in
     let name = c.as_str.result.now in
-    let there : slice_get names at ≡ Some name = slice_get_read names (length names) at c.index-names-at.result refl (omega (arith, c.loop-at-test.true)) c.index-names-at.is ∙ ap (λ (n : List ℕ). Some n) (sym c.as_str.ensures) in
     let size = c.loop-at.invariant.size in
     let one : IsInput files name c.in-Ok.input c.in-Ok.size = subst (λ (f : Option Files). IsInput f name c.in-Ok.input c.in-Ok.size) c.loop-at.invariant.files c.in-Ok.ensures.read in
-    let more = inputs-taken files names at c.loop-at.files.items size name c.in-Ok.input c.in-Ok.size
-    there c.loop-at.invariant.read one in
+    let more = inputs-taken files names c.loop-at.at c.loop-at.files.items size name c.in-Ok.input c.in-Ok.size
+    (named-at names c.loop-at.at c.index-names-at.result name (omega (arith, c.loop-at-test.true)) c.index-names-at.is c.as_str.ensures)
+    c.loop-at.invariant.read one in
     record {
       size = size + c.in-Ok.size;
-      read = subst (λ (is : List InputFile). AreInputs files (take (at + 1) names) is (size + c.in-Ok.size)) (sym c.in-Ok-push.ensures.items) more;
+      read = subst (λ (is : List InputFile). AreInputs files (take (c.loop-at.at + 1) names) is (size + c.in-Ok.size)) (sym c.in-Ok-push.ensures.items) more;
       left = let sum = c.loop-at.invariant.left in let within = c.in-Ok.ensures.within in omega (arith, sum, within);
       files = c.in-Ok.ensures.files ∙ c.loop-at.invariant.files;
       reads_later = search rules;
