@@ -9,14 +9,7 @@ use Rattle.nm_types.specs.declared.id.Sides.{Sides}
 use Rattle.nm_types.specs.declared.id.Sides.TheVariants as watched
 use Rattle.vale_entry.specs.declared.entry.Dest.{Dest}
 use Rattle.vale_entry.specs.declared.entry.Item.{Item}
-
--- the number that digits write behind those of `n`
-abbrev pub number_after : ℕ → List ℕ → ℕ
-number_after n [] = n
-number_after n (b ∷ bs) = number_after (n * 10 + (b - 48)) bs
-
-abbrev pub number_of : List ℕ → ℕ
-number_of word = number_after 0 word
+use Rattle.vale_words.specs.Words.{number_of}
 
 -- a number of 64 bits, of 32 and of 16; a greater one is read as the greatest of its width
 unfoldable pub long_of : List ℕ → ℕ

@@ -1,6 +1,6 @@
 //! Single fields.
 ghost use Rattle.std.specs.Prelude.{◌≡◌, ◌<◌, ◌++◌, ◌∷◌, [], map, min, length, IsTrue, IfOk, OnOk};
-ghost use Rattle.vale_fields.specs.Fields.{number_of, long_of, short_of, half_of, hex_value, bytes_of, is_marked, frame_of, front_by, back_by, mark_in, dest_of, item_of, name_of, side_of, sides_of, word_at};
+ghost use Rattle.vale_fields.specs.Fields.{long_of, short_of, half_of, hex_value, bytes_of, is_marked, frame_of, front_by, back_by, mark_in, dest_of, item_of, name_of, side_of, sides_of, word_at};
 
 use nm_types::{Batch, Frame, Name, NoMemory, PortId, Side, Sides};
 use std::alloc::Global;

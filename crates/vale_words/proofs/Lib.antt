@@ -1,7 +1,7 @@
 mod Ends
 mod Extends
 mod Loads
-mod Numerals
+pub mod Numerals
 mod Pairs
 mod Plain
 pub mod Positions

@@ -4,7 +4,7 @@ use Rattle.std.proofs.lemmas.List.{take_more}
 use Rattle.std.proofs.lemmas.Bool.{and_parts}
 use Rattle.vale_words.specs.Words.{number_after, number_of, is_hex, are_hex, is_pair_at}
 
-number_after-push : (n : ℕ) (bs : List ℕ) (b : ℕ) → number_after n (bs ++ b ∷ []) ≡ number_after n bs * 10 + (b - 48)
+pub number_after-push : (n : ℕ) (bs : List ℕ) (b : ℕ) → number_after n (bs ++ b ∷ []) ≡ number_after n bs * 10 + (b - 48)
 number_after-push n [] b = refl
 number_after-push n (c ∷ cs) b = number_after-push (n * 10 + (c - 48)) cs b
 

@@ -1,5 +1,5 @@
 use Rattle.std.proofs.Common.{◌≡◌, take, min}
-use Rattle.vale_fields.specs.Fields.{number_of}
+use Rattle.vale_words.specs.Words.{number_of}
 use Rattle.vale_fields.proofs.fields.long_of.Given as goal
 
 abbrev pub invariant-loop-b : goal.invariant-loop-b
