@@ -21,7 +21,7 @@ use Rattle.vale_entry.specs.declared.entry.Ask.TheVariants.{Enter, Open, Send, G
 use Rattle.vale_entry.specs.declared.entry.Reply.{Reply}
 use Rattle.vale_entry.specs.declared.entry.Reply.TheVariants.{Made, Opened, Refused, Offered, Shared, Gave, Took, PeerGone, Unread, Watching, NoTarget, Watched, Counted}
 use Rattle.vale_entry.specs.declared.entry.Entry.{Entry}
-use Rattle.vale_entry.specs.Transcript.{is_unmarked, is_refusal, dests_rise, is_printable, side_word, sides_word, frames_text, numbers_text, dests_text, items_text}
+use Rattle.vale_entry.specs.Transcript.{is_unmarked, is_refusal, dests_rise, is_printable, side_word, sides_word}
 use Rattle.vale_fields.specs.Fields.{long_of, short_of, name_of, side_of, sides_of, word_at}
 use Rattle.vale_fields.specs.Rows.{entry_of, row_of, open_answer, open_with, fault_by, watch_answer, watch_with}
 use Rattle.vale_fields.specs.Laws.{words_with, WordsAreRead}
