@@ -7,7 +7,7 @@ mod tests;
 
 ghost use Rattle.std.specs.Prelude.{◌≡◌, map, string_bytes, option_map};
 ghost use Rattle.vale.specs.Command.{help_text, version_text, answer_to, Answers};
-ghost use Rattle.vale_run.specs.Run.{script_name};
+ghost use Rattle.vale_run.specs.Run.{io_of, script_name};
 ghost use Rattle.vale_run.specs.Load.{load_number};
 ghost use Rattle.vale_run.specs.Complete.{Completes};
 
@@ -97,24 +97,9 @@ fn run_command<R: AllocGlobal + Threads + Wait + Sync, S: Shelf, K: Sink>(
 ) -> Status
     ensures answers { Answers Limits.VERSION_1 (answer_to (map string_bytes words.now))
         (script_name (map string_bytes words.now)) (load_number (map string_bytes words.now))
-        (record {
-          files = S.files shelf.old;
-          new_files = S.files shelf.new;
-          reads = λ name. (S.read_faults shelf.old name, S.read_faults shelf.new name);
-          appends = λ name. (S.append_faults shelf.old name, S.append_faults shelf.new name);
-          holds = K.holds out.old;
-          new_holds = K.holds out.new;
-          writes = (K.faults out.old, K.faults out.new);
-        }) result }
-    ensures completes { Completes (script_name (map string_bytes words.now)) (record {
-      files = S.files shelf.old;
-      new_files = S.files shelf.new;
-      reads = λ name. (S.read_faults shelf.old name, S.read_faults shelf.new name);
-      appends = λ name. (S.append_faults shelf.old name, S.append_faults shelf.new name);
-      holds = K.holds out.old;
-      new_holds = K.holds out.new;
-      writes = (K.faults out.old, K.faults out.new);
-    }) result }
+        (io_of S.Shelf K.Sink shelf.old shelf.new out.old out.new) result }
+    ensures completes { Completes (script_name (map string_bytes words.now))
+        (io_of S.Shelf K.Sink shelf.old shelf.new out.old out.new) result }
 {
     let Some(text) = answer(words) else {
         return run_leaving(rt, words, shelf, out, &NoGate, remains);

@@ -1,6 +1,8 @@
 -- How a run ends since an earlier call: the files were the same then, and no count of faults was greater.
 use Rattle.std.proofs.Common.{ℕ, ◌-◌, Bool, true, false, ◌≡◌, ◌≤◌, ◌⊎◌, inl, inr, List, string_bytes, Option, subst}
 use Rattle.nm_io.specs.Files.{Files}
+use Rattle.nm_io.specs.declared.shelf.Shelf as shelves
+use Rattle.nm_io.specs.declared.sink.Sink as sinks
 use Rattle.nm_types.specs.declared.limits.Limits.{Limits}
 use Rattle.vale_captures.specs.declared.inputs.InputFault.{InputFault}
 use Rattle.vale_captures.specs.declared.inputs.InputFault.TheVariants as inputs
@@ -8,46 +10,32 @@ use Rattle.vale_captures.specs.Inputs.{StopsAtFile}
 use Rattle.vale_captures.specs.Outputs.{OutputFile, StopsAtOutput}
 use Rattle.vale_captures.proofs.Pages.{rose-since}
 use Rattle.vale_captures.proofs.Reading.{blames-since}
-use Rattle.vale_run.specs.Run.{Io, HasRisen, WritesNothing, StopsAtInput, WritesPart, Ends, most_inputs, text_in, saved_in}
+use Rattle.vale_run.specs.Run.{Io, io_of, HasRisen, WritesNothing, StopsAtInput, WritesPart, Ends, most_inputs, text_in, saved_in}
 use Rattle.vale_run.specs.declared.status.What.TheVariants.{Script, Lines, Counts, Inputs, Frames, Entries, Bytes}
 use Rattle.vale_run.specs.declared.status.Status.{Status}
 use Rattle.vale_run.specs.declared.status.Status.TheVariants.{Done, Usage, BadScript, ReadFault, WriteFault, BadPcap, Over, NoMemory}
 
--- a shelf's files and its counts, and the sink
-abbrev pub io_of : Option Files → Option Files → (List ℕ → ℕ) → (List ℕ → ℕ) → (List ℕ → ℕ)
-    → (List ℕ → ℕ) → Option (List ℕ) → Option (List ℕ) → ℕ × ℕ → Io
-io_of files new_files reads now_reads appends now_appends holds new_holds writes = record {
-  files = files;
-  new_files = new_files;
-  reads = λ name. (reads name, now_reads name);
-  appends = λ name. (appends name, now_appends name);
-  holds = holds;
-  new_holds = new_holds;
-  writes = writes;
-}
-
-module _ (files new : Option Files) (first_reads reads now_reads first_appends appends now_appends :
-    List ℕ → ℕ)
-    (holds new_holds : Option (List ℕ)) (writes : ℕ × ℕ)
-    (reads_later : (other : List ℕ) → first_reads other ≤ reads other)
-    (appends_later : (other : List ℕ) → first_appends other ≤ appends other) where
-  abbrev later : Io
-  later = io_of files new reads now_reads appends now_appends holds new_holds writes
-
+module _ (io : Io) (first_reads first_appends : List ℕ → ℕ)
+    (reads_later : (other : List ℕ) → first_reads other ≤ (io.reads other).0)
+    (appends_later : (other : List ℕ) → first_appends other ≤ (io.appends other).0) where
+  -- the same, seen from an earlier call on
   abbrev first : Io
-  first = io_of files new first_reads now_reads first_appends now_appends holds new_holds writes
+  first = record io {
+    reads = λ name. (first_reads name, (io.reads name).1);
+    appends = λ name. (first_appends name, (io.appends name).1);
+  }
 
-  nothing-since : WritesNothing later → WritesNothing first
+  nothing-since : WritesNothing io → WritesNothing first
   nothing-since w = record { sink = w.sink; shelf = w.shelf }
 
   stops-since : (names : List (List ℕ)) (at : ℕ) (fault : InputFault)
-      (s : StopsAtFile files names most_inputs later.reads at fault)
-      → StopsAtFile files names most_inputs first.reads at fault
+      (s : StopsAtFile io.files names most_inputs io.reads at fault)
+      → StopsAtFile io.files names most_inputs first.reads at fault
   stops-since names at fault s = record {
     before = s.before;
     used = s.used;
-    blames = blames-since files s.name (most_inputs - s.used) (first_reads s.name) (reads s.name)
-        (now_reads s.name) fault (reads_later s.name) s.blames;
+    blames = blames-since io.files s.name (most_inputs - s.used) (first_reads s.name)
+        (io.reads s.name).0 (io.reads s.name).1 fault (reads_later s.name) s.blames;
     read = s.read;
     within = s.within;
     name = s.name;
@@ -55,8 +43,8 @@ module _ (files new : Option Files) (first_reads reads now_reads first_appends a
   }
 
   input-since : (name : List ℕ) (fault : InputFault) (which : List ℕ)
-      → StopsAtInput files later.reads name fault which
-      → StopsAtInput files first.reads name fault which
+      → StopsAtInput io.files io.reads name fault which
+      → StopsAtInput io.files first.reads name fault which
   unfolding stops-since
   input-since name fault which s = record {
     program = s.program;
@@ -67,43 +55,42 @@ module _ (files new : Option Files) (first_reads reads now_reads first_appends a
   }
 
   output-since : (saved : List OutputFile) (failed : Bool)
-      → StopsAtOutput files new saved later.appends failed
-      → StopsAtOutput files new saved first.appends failed
+      → StopsAtOutput io.files io.new_files saved io.appends failed
+      → StopsAtOutput io.files io.new_files saved first.appends failed
   output-since saved failed s = record {
     at = s.at;
     output = s.output;
     there = s.there;
     part = s.part;
-    rose = λ is. rose-since (first_appends s.output.file) (appends s.output.file)
-        (now_appends s.output.file) (appends_later s.output.file) (s.rose is);
+    rose = λ is. rose-since (first_appends s.output.file) (io.appends s.output.file).0
+        (io.appends s.output.file).1 (appends_later s.output.file) (s.rose is);
   }
 
   part-since : (text : List ℕ) (saved : List OutputFile) (failed : Bool)
-      → WritesPart text saved later failed → WritesPart text saved first failed
+      → WritesPart text saved io failed → WritesPart text saved first failed
   part-since text saved failed (inl w) = inl
       (record { sink = w.sink; shelf = w.shelf; rose = w.rose })
   part-since text saved failed (inr w) = inr
       (record { sink = w.sink; shelf = output-since saved failed w.shelf })
 
   read-since : (name : List ℕ) (which : List ℕ)
-      → ((which ≡ name) × HasRisen (later.reads name)) ⊎ StopsAtInput files later.reads name
+      → ((which ≡ name) × HasRisen (io.reads name)) ⊎ StopsAtInput io.files io.reads name
       inputs.Failed which
-      → ((which ≡ name) × HasRisen (first.reads name)) ⊎ StopsAtInput files first.reads name
+      → ((which ≡ name) × HasRisen (first.reads name)) ⊎ StopsAtInput io.files first.reads name
       inputs.Failed which
   read-since name which (inl one) = inl (
     one.0,
-    rose-since (first_reads name) (reads name)
-        (now_reads name) (reads_later name) one.1,
+    rose-since (first_reads name) (io.reads name).0 (io.reads name).1 (reads_later name) one.1,
   )
   read-since name which (inr s) = inr (input-since name inputs.Failed which s)
 
-  memory-since : (limits : Limits) (name : List ℕ) → Ends limits later name NoMemory
+  memory-since : (limits : Limits) (name : List ℕ) → Ends limits io name NoMemory
       → Ends limits first name NoMemory
   memory-since limits name (inl w) = inl (nothing-since w)
   memory-since limits name (inr w) = inr (w.0, part-since (text_in w.0) (saved_in w.0) false w.1)
 
   pub ends-first : (limits : Limits) (name : List ℕ) (status : Status)
-      → Ends limits later name status → Ends limits first name status
+      → Ends limits io name status → Ends limits first name status
   ends-first limits name Usage e = absurd e
   ends-first limits name (ReadFault which) e =
       (read-since name (string_bytes which) e.0, nothing-since e.1)
@@ -145,19 +132,15 @@ module _ (files new : Option Files) (first_reads reads now_reads first_appends a
   ends-first limits name NoMemory e = memory-since limits name e
   ends-first limits name Done e = (e.0, record { sink = e.1.sink; shelf = e.1.shelf })
 
-pub ends-since : (limits : Limits) (old mid new : Option Files)
-    (first_reads reads now_reads first_appends appends now_appends : List ℕ → ℕ)
-    (holds new_holds : Option (List ℕ)) (writes : ℕ × ℕ) (name : List ℕ) (status : Status)
-    → mid ≡ old → ((other : List ℕ) → first_reads other ≤ reads other)
-    → ((other : List ℕ) → first_appends other ≤ appends other)
-    → Ends limits (io_of mid new reads now_reads appends now_appends holds new_holds writes) name
-    status
-    → Ends limits (io_of old new first_reads now_reads first_appends now_appends holds new_holds
-    writes) name status
-ends-since limits old mid new first_reads reads now_reads first_appends appends now_appends holds
-    new_holds writes name status same reads_later appends_later ends =
-    ends-first old new first_reads reads now_reads first_appends appends now_appends holds new_holds
-    writes reads_later appends_later limits name status
-    (subst (λ (files : Option Files). Ends limits
-    (io_of files new reads now_reads appends now_appends holds new_holds writes) name status)
-    same ends)
+pub ends-since : {S K : Type 0} (s : shelves.Ghosts S) (k : sinks.Ghosts K) (old mid new : S)
+    (out new_out : K) (limits : Limits) (name : List ℕ) (status : Status)
+    → s.files mid ≡ s.files old
+    → ((other : List ℕ) → s.read_faults old other ≤ s.read_faults mid other)
+    → ((other : List ℕ) → s.append_faults old other ≤ s.append_faults mid other)
+    → Ends limits (io_of s k mid new out new_out) name status
+    → Ends limits (io_of s k old new out new_out) name status
+ends-since s k old mid new out new_out limits name status same reads_later appends_later ends =
+    subst (λ (files : Option Files).
+    Ends limits (record (io_of s k old new out new_out) { files = files }) name status) same
+    (ends-first (io_of s k mid new out new_out) (s.read_faults old) (s.append_faults old)
+    reads_later appends_later limits name status ends)

@@ -4,6 +4,8 @@ use Rattle.std.specs.Str.Lines.{lines}
 use Rattle.nm_io.specs.Counts.{Rose}
 use Rattle.nm_io.specs.Files.{Files}
 use Rattle.nm_io.specs.Held.{grown, GrowsByPrefix}
+use Rattle.nm_io.specs.declared.shelf.Shelf as shelves
+use Rattle.nm_io.specs.declared.sink.Sink as sinks
 use Rattle.nm_types.specs.declared.limits.Limits.{Limits}
 use Rattle.nm_types.specs.declared.fault.Part.{Part}
 use Rattle.nm_types.specs.declared.fault.Part.TheVariants as parts
@@ -65,6 +67,24 @@ pub record Io : Type 0 where
   pub holds : Option (List ℕ)
   pub new_holds : Option (List ℕ)
   pub writes : ℕ × ℕ
+
+-- this, of a shelf and a sink before a call and after it
+abbrev pub io_of : {S K : Type 0} → shelves.Ghosts S → sinks.Ghosts K → S → S → K → K → Io
+io_of s k shelf new_shelf out new_out = record {
+  files = s.files shelf;
+  new_files = s.files new_shelf;
+  reads = λ name. (s.read_faults shelf name, s.read_faults new_shelf name);
+  appends = λ name. (s.append_faults shelf name, s.append_faults new_shelf name);
+  holds = k.holds out;
+  new_holds = k.holds new_out;
+  writes = (k.faults out, k.faults new_out);
+}
+
+-- no count of faults falls
+pub record CountsRise (io : Io) : Type 0 where
+  pub reads : (other : List ℕ) → (io.reads other).0 ≤ (io.reads other).1
+  pub appends : (other : List ℕ) → (io.appends other).0 ≤ (io.appends other).1
+  pub writes : io.writes.0 ≤ io.writes.1
 
 -- a count rose
 abbrev pub HasRisen : ℕ × ℕ → Type 0

@@ -8,7 +8,7 @@ ghost use Rattle.vale_captures.specs.Outputs.{IsWritable};
 ghost use Rattle.vale_entry.specs.Transcript.{transcript_text};
 ghost use Rattle.vale_entry.specs.World.{free_count};
 ghost use Rattle.vale_script.specs.Sound.{IsSound};
-ghost use Rattle.vale_run.specs.Run.{script_name, Ends, IsScript, IsAccepted, IsCounted, HasInputs, IsReady};
+ghost use Rattle.vale_run.specs.Run.{io_of, CountsRise, script_name, Ends, IsScript, IsAccepted, IsCounted, HasInputs, IsReady};
 ghost use Rattle.vale_run.specs.Load.{load_number};
 ghost use Rattle.vale_run.specs.Commands.{Runs};
 ghost use Rattle.vale_run.specs.Complete.{Completes};
@@ -141,20 +141,9 @@ fn write<S: Shelf, K: Sink>(
     requires whole { free_count (standing book).world ≡ book.pool }
     requires writable { AllByRecursion IsWritable outputs.now }
     ensures small { book.pool < 2 ^ 32 }
-    ensures written { Written (transcript_text book.pool book.entries) outputs.now (record {
-      files = S.files shelf.old;
-      new_files = S.files shelf.new;
-      reads = λ name. (S.read_faults shelf.old name, S.read_faults shelf.new name);
-      appends = λ name. (S.append_faults shelf.old name, S.append_faults shelf.new name);
-      holds = K.holds out.old;
-      new_holds = K.holds out.new;
-      writes = (K.faults out.old, K.faults out.new);
-    }) result }
-    ensures reads_later { (other : List ℕ) →
-        S.read_faults shelf.old other ≤ S.read_faults shelf.new other }
-    ensures appends_later { (other : List ℕ) →
-        S.append_faults shelf.old other ≤ S.append_faults shelf.new other }
-    ensures later { K.faults out.old ≤ K.faults out.new }
+    ensures written { Written (transcript_text book.pool book.entries) outputs.now
+        (io_of S.Shelf K.Sink shelf.old shelf.new out.old out.new) result }
+    ensures later { CountsRise (io_of S.Shelf K.Sink shelf.old shelf.new out.old out.new) }
 {
     let (pool, free) = (book.buffers(), book.free());
     let history = book.close();
@@ -181,20 +170,9 @@ fn run_ready<R: AllocGlobal + Threads + Wait + Sync, S: Shelf, K: Sink, G: Gate>
     requires sound { IsSound script.now }
     requires files { map name_of inputs.now ≡ script.now.files }
     ensures ends { (name : List ℕ) → IsReady (S.files shelf.old) name script.now inputs.now
-        → Ends Limits.VERSION_1 (record {
-          files = S.files shelf.old;
-          new_files = S.files shelf.new;
-          reads = λ name. (S.read_faults shelf.old name, S.read_faults shelf.new name);
-          appends = λ name. (S.append_faults shelf.old name, S.append_faults shelf.new name);
-          holds = K.holds out.old;
-          new_holds = K.holds out.new;
-          writes = (K.faults out.old, K.faults out.new);
-        }) name result }
-    ensures reads_later { (other : List ℕ) →
-        S.read_faults shelf.old other ≤ S.read_faults shelf.new other }
-    ensures appends_later { (other : List ℕ) →
-        S.append_faults shelf.old other ≤ S.append_faults shelf.new other }
-    ensures later { K.faults out.old ≤ K.faults out.new }
+        → Ends Limits.VERSION_1
+        (io_of S.Shelf K.Sink shelf.old shelf.new out.old out.new) name result }
+    ensures later { CountsRise (io_of S.Shelf K.Sink shelf.old shelf.new out.old out.new) }
 {
     let Ok((book, played)) = play_recorded(rt, script, inputs, gate) else {
         return Status::NoMemory;
@@ -239,20 +217,9 @@ fn run_inputs<R: AllocGlobal + Threads + Wait + Sync, S: Shelf, K: Sink, G: Gate
     requires files { map name_of inputs.now ≡ script.now.files }
     requires few { frames_played script.now inputs.now < 2 ^ 64 }
     ensures ends { (name : List ℕ) → HasInputs (S.files shelf.old) name script.now inputs.now
-        → Ends Limits.VERSION_1 (record {
-          files = S.files shelf.old;
-          new_files = S.files shelf.new;
-          reads = λ name. (S.read_faults shelf.old name, S.read_faults shelf.new name);
-          appends = λ name. (S.append_faults shelf.old name, S.append_faults shelf.new name);
-          holds = K.holds out.old;
-          new_holds = K.holds out.new;
-          writes = (K.faults out.old, K.faults out.new);
-        }) name result }
-    ensures reads_later { (other : List ℕ) →
-        S.read_faults shelf.old other ≤ S.read_faults shelf.new other }
-    ensures appends_later { (other : List ℕ) →
-        S.append_faults shelf.old other ≤ S.append_faults shelf.new other }
-    ensures later { K.faults out.old ≤ K.faults out.new }
+        → Ends Limits.VERSION_1
+        (io_of S.Shelf K.Sink shelf.old shelf.new out.old out.new) name result }
+    ensures later { CountsRise (io_of S.Shelf K.Sink shelf.old shelf.new out.old out.new) }
 {
     let count = frames_played(script, inputs);
     if count > MAX_FRAMES {
@@ -277,20 +244,9 @@ fn run_counted<R: AllocGlobal + Threads + Wait + Sync, S: Shelf, K: Sink, G: Gat
     requires sound { IsSound script.now }
     requires said { IsSaid script.now }
     ensures ends { (name : List ℕ) → IsCounted (S.files shelf.old) name script.now
-        → Ends Limits.VERSION_1 (record {
-          files = S.files shelf.old;
-          new_files = S.files shelf.new;
-          reads = λ name. (S.read_faults shelf.old name, S.read_faults shelf.new name);
-          appends = λ name. (S.append_faults shelf.old name, S.append_faults shelf.new name);
-          holds = K.holds out.old;
-          new_holds = K.holds out.new;
-          writes = (K.faults out.old, K.faults out.new);
-        }) name result }
-    ensures reads_later { (other : List ℕ) →
-        S.read_faults shelf.old other ≤ S.read_faults shelf.new other }
-    ensures appends_later { (other : List ℕ) →
-        S.append_faults shelf.old other ≤ S.append_faults shelf.new other }
-    ensures later { K.faults out.old ≤ K.faults out.new }
+        → Ends Limits.VERSION_1
+        (io_of S.Shelf K.Sink shelf.old shelf.new out.old out.new) name result }
+    ensures later { CountsRise (io_of S.Shelf K.Sink shelf.old shelf.new out.old out.new) }
 {
     match read_inputs(rt.alloc(), shelf, script.files(), MAX_INPUTS) {
         Ok(inputs) => run_inputs(rt, script, &inputs, shelf, out, gate, remains),
@@ -310,20 +266,9 @@ fn run_accepted<R: AllocGlobal + Threads + Wait + Sync, S: Shelf, K: Sink, G: Ga
     requires sound { IsSound script.now }
     requires said { IsSaid script.now }
     ensures ends { (name : List ℕ) → IsAccepted (S.files shelf.old) name script.now
-        → Ends Limits.VERSION_1 (record {
-          files = S.files shelf.old;
-          new_files = S.files shelf.new;
-          reads = λ name. (S.read_faults shelf.old name, S.read_faults shelf.new name);
-          appends = λ name. (S.append_faults shelf.old name, S.append_faults shelf.new name);
-          holds = K.holds out.old;
-          new_holds = K.holds out.new;
-          writes = (K.faults out.old, K.faults out.new);
-        }) name result }
-    ensures reads_later { (other : List ℕ) →
-        S.read_faults shelf.old other ≤ S.read_faults shelf.new other }
-    ensures appends_later { (other : List ℕ) →
-        S.append_faults shelf.old other ≤ S.append_faults shelf.new other }
-    ensures later { K.faults out.old ≤ K.faults out.new }
+        → Ends Limits.VERSION_1
+        (io_of S.Shelf K.Sink shelf.old shelf.new out.old out.new) name result }
+    ensures later { CountsRise (io_of S.Shelf K.Sink shelf.old shelf.new out.old out.new) }
 {
     let count = counts_of(script);
     if count > MAX_COUNTS {
@@ -347,20 +292,9 @@ fn run_script<R: AllocGlobal + Threads + Wait + Sync, S: Shelf, K: Sink, G: Gate
 ) -> Status
     requires { length bytes.now ≤ MAX_SCRIPT }
     ensures ends { (name : List ℕ) → HasContents (S.files shelf.old) name bytes.now
-        → Ends Limits.VERSION_1 (record {
-          files = S.files shelf.old;
-          new_files = S.files shelf.new;
-          reads = λ name. (S.read_faults shelf.old name, S.read_faults shelf.new name);
-          appends = λ name. (S.append_faults shelf.old name, S.append_faults shelf.new name);
-          holds = K.holds out.old;
-          new_holds = K.holds out.new;
-          writes = (K.faults out.old, K.faults out.new);
-        }) name result }
-    ensures reads_later { (other : List ℕ) →
-        S.read_faults shelf.old other ≤ S.read_faults shelf.new other }
-    ensures appends_later { (other : List ℕ) →
-        S.append_faults shelf.old other ≤ S.append_faults shelf.new other }
-    ensures later { K.faults out.old ≤ K.faults out.new }
+        → Ends Limits.VERSION_1
+        (io_of S.Shelf K.Sink shelf.old shelf.new out.old out.new) name result }
+    ensures later { CountsRise (io_of S.Shelf K.Sink shelf.old shelf.new out.old out.new) }
 {
     let count = line_count(bytes) as u64;
     if count > MAX_LINES {
@@ -390,20 +324,9 @@ fn run_file<R: AllocGlobal + Threads + Wait + Sync, S: Shelf, K: Sink, G: Gate>(
     gate: &G,
     remains: &mut Remains,
 ) -> Status
-    ensures ends { Ends Limits.VERSION_1 (record {
-      files = S.files shelf.old;
-      new_files = S.files shelf.new;
-      reads = λ name. (S.read_faults shelf.old name, S.read_faults shelf.new name);
-      appends = λ name. (S.append_faults shelf.old name, S.append_faults shelf.new name);
-      holds = K.holds out.old;
-      new_holds = K.holds out.new;
-      writes = (K.faults out.old, K.faults out.new);
-    }) name.now result }
-    ensures reads_later { (other : List ℕ) →
-        S.read_faults shelf.old other ≤ S.read_faults shelf.new other }
-    ensures appends_later { (other : List ℕ) →
-        S.append_faults shelf.old other ≤ S.append_faults shelf.new other }
-    ensures later { K.faults out.old ≤ K.faults out.new }
+    ensures ends { Ends Limits.VERSION_1
+        (io_of S.Shelf K.Sink shelf.old shelf.new out.old out.new) name.now result }
+    ensures later { CountsRise (io_of S.Shelf K.Sink shelf.old shelf.new out.old out.new) }
 {
     match read_all(rt.alloc(), shelf, name, MAX_SCRIPT) {
         Ok(bytes) => run_script(rt, &bytes, shelf, out, gate, remains),
@@ -427,29 +350,11 @@ pub fn run_leaving<R: AllocGlobal + Threads + Wait + Sync, S: Shelf, K: Sink, G:
     remains: &mut Remains,
 ) -> Status
     ensures runs { Runs Limits.VERSION_1 (script_name (map string_bytes words.now))
-        (load_number (map string_bytes words.now)) (record {
-          files = S.files shelf.old;
-          new_files = S.files shelf.new;
-          reads = λ name. (S.read_faults shelf.old name, S.read_faults shelf.new name);
-          appends = λ name. (S.append_faults shelf.old name, S.append_faults shelf.new name);
-          holds = K.holds out.old;
-          new_holds = K.holds out.new;
-          writes = (K.faults out.old, K.faults out.new);
-        }) result }
-    ensures completes { Completes (script_name (map string_bytes words.now)) (record {
-      files = S.files shelf.old;
-      new_files = S.files shelf.new;
-      reads = λ name. (S.read_faults shelf.old name, S.read_faults shelf.new name);
-      appends = λ name. (S.append_faults shelf.old name, S.append_faults shelf.new name);
-      holds = K.holds out.old;
-      new_holds = K.holds out.new;
-      writes = (K.faults out.old, K.faults out.new);
-    }) result }
-    ensures reads_later { (other : List ℕ) →
-        S.read_faults shelf.old other ≤ S.read_faults shelf.new other }
-    ensures appends_later { (other : List ℕ) →
-        S.append_faults shelf.old other ≤ S.append_faults shelf.new other }
-    ensures later { K.faults out.old ≤ K.faults out.new }
+        (load_number (map string_bytes words.now))
+        (io_of S.Shelf K.Sink shelf.old shelf.new out.old out.new) result }
+    ensures completes { Completes (script_name (map string_bytes words.now))
+        (io_of S.Shelf K.Sink shelf.old shelf.new out.old out.new) result }
+    ensures later { CountsRise (io_of S.Shelf K.Sink shelf.old shelf.new out.old out.new) }
 {
     match script_name(words) {
         Some(name) => run_file(rt, name, shelf, out, gate, remains),
@@ -473,29 +378,11 @@ pub fn run<R: AllocGlobal + Threads + Wait + Sync, S: Shelf, K: Sink, G: Gate>(
     gate: &G,
 ) -> Status
     ensures runs { Runs Limits.VERSION_1 (script_name (map string_bytes words.now))
-        (load_number (map string_bytes words.now)) (record {
-          files = S.files shelf.old;
-          new_files = S.files shelf.new;
-          reads = λ name. (S.read_faults shelf.old name, S.read_faults shelf.new name);
-          appends = λ name. (S.append_faults shelf.old name, S.append_faults shelf.new name);
-          holds = K.holds out.old;
-          new_holds = K.holds out.new;
-          writes = (K.faults out.old, K.faults out.new);
-        }) result }
-    ensures completes { Completes (script_name (map string_bytes words.now)) (record {
-      files = S.files shelf.old;
-      new_files = S.files shelf.new;
-      reads = λ name. (S.read_faults shelf.old name, S.read_faults shelf.new name);
-      appends = λ name. (S.append_faults shelf.old name, S.append_faults shelf.new name);
-      holds = K.holds out.old;
-      new_holds = K.holds out.new;
-      writes = (K.faults out.old, K.faults out.new);
-    }) result }
-    ensures reads_later { (other : List ℕ) →
-        S.read_faults shelf.old other ≤ S.read_faults shelf.new other }
-    ensures appends_later { (other : List ℕ) →
-        S.append_faults shelf.old other ≤ S.append_faults shelf.new other }
-    ensures later { K.faults out.old ≤ K.faults out.new }
+        (load_number (map string_bytes words.now))
+        (io_of S.Shelf K.Sink shelf.old shelf.new out.old out.new) result }
+    ensures completes { Completes (script_name (map string_bytes words.now))
+        (io_of S.Shelf K.Sink shelf.old shelf.new out.old out.new) result }
+    ensures later { CountsRise (io_of S.Shelf K.Sink shelf.old shelf.new out.old out.new) }
 {
     run_leaving(rt, words, shelf, out, gate, &mut Remains::new())
 }

@@ -4,10 +4,10 @@ use Rattle.nm_io.specs.Files.{Files}
 use Rattle.nm_types.specs.declared.limits.TheConstants.Limits.{VERSION_1}
 use Rattle.vale_captures.specs.Inputs.{AreInputs, StopsReading}
 use Rattle.vale_captures.proofs.Few.{plays-few}
-use Rattle.vale_run.specs.Run.{Io, HasInputs, most_inputs}
+use Rattle.vale_run.specs.Run.{Io, io_of, HasInputs, most_inputs}
 use Rattle.vale_run.proofs.Histories.{inputs-named}
 use Rattle.vale_run.proofs.Endings.{stops-there, ends-input}
-use Rattle.vale_run.proofs.Since.{io_of, ends-since}
+use Rattle.vale_run.proofs.Since.{ends-since}
 use Rattle.vale_run.proofs.command.run_counted.Goals as goal
 
 pub run_inputs-requires-clause-files : goal.run_inputs-requires-clause-files
@@ -53,15 +53,8 @@ returns-in-Ok-clause-ends g c = λ name counted.
           c.in-Ok.inputs read.0) c.files.ensures read.1.0;
       within = read.1.1;
     } in
-    ends-since VERSION_1 (g.S.Shelf.files c.args.shelf.now)
-    (g.S.Shelf.files c.read_inputs.new.shelf) (g.S.Shelf.files c.run_inputs.new.shelf)
-    (g.S.Shelf.read_faults c.args.shelf.now) (g.S.Shelf.read_faults c.read_inputs.new.shelf)
-    (g.S.Shelf.read_faults c.run_inputs.new.shelf)
-    (g.S.Shelf.append_faults c.args.shelf.now) (g.S.Shelf.append_faults c.read_inputs.new.shelf)
-    (g.S.Shelf.append_faults c.run_inputs.new.shelf)
-    (g.K.Sink.holds c.args.out.now) (g.K.Sink.holds c.run_inputs.new.out)
-    (g.K.Sink.faults c.args.out.now, g.K.Sink.faults c.run_inputs.new.out) name
-    c.run_inputs.result
+    ends-since g.S.Shelf g.K.Sink c.args.shelf.now c.read_inputs.new.shelf c.run_inputs.new.shelf
+    c.args.out.now c.run_inputs.new.out VERSION_1 name c.run_inputs.result
     c.read_inputs.ensures.files c.read_inputs.ensures.reads_later
     c.read_inputs.ensures.appends_later
     (c.run_inputs.ensures.ends name (subst
@@ -70,11 +63,8 @@ returns-in-Ok-clause-ends g c = λ name counted.
 
 pub returns-in-Err-clause-ends : goal.returns-in-Err-clause-ends
 returns-in-Err-clause-ends g c = λ name counted.
-    let io : Io = io_of (g.S.Shelf.files c.args.shelf.now) (g.S.Shelf.files c.read_inputs.new.shelf)
-    (g.S.Shelf.read_faults c.args.shelf.now) (g.S.Shelf.read_faults c.read_inputs.new.shelf)
-    (g.S.Shelf.append_faults c.args.shelf.now) (g.S.Shelf.append_faults c.read_inputs.new.shelf)
-    (g.K.Sink.holds c.args.out.now) (g.K.Sink.holds c.args.out.now)
-    (g.K.Sink.faults c.args.out.now, g.K.Sink.faults c.args.out.now) in
+    let io : Io = io_of g.S.Shelf g.K.Sink c.args.shelf.now c.read_inputs.new.shelf c.args.out.now
+    c.args.out.now in
     ends-input VERSION_1 io name c.args.script.now counted
     (record { sink = refl; shelf = c.read_inputs.ensures.files }) c.in-Err.at c.in-Err.fault
     c.input_fault.result

@@ -10,15 +10,8 @@ returns-in-Ok-clause-ends g c =
     let told : HasContents (g.S.Shelf.files c.args.shelf.now) c.args.name.now c.deref.result.now =
     subst (HasContents (g.S.Shelf.files c.args.shelf.now) c.args.name.now)
     (sym c.deref.ensures.value) c.in-Ok.ensures.ok in
-    ends-since VERSION_1 (g.S.Shelf.files c.args.shelf.now) (g.S.Shelf.files c.read_all.new.shelf)
-    (g.S.Shelf.files c.run_script.new.shelf)
-    (g.S.Shelf.read_faults c.args.shelf.now) (g.S.Shelf.read_faults c.read_all.new.shelf)
-    (g.S.Shelf.read_faults c.run_script.new.shelf)
-    (g.S.Shelf.append_faults c.args.shelf.now) (g.S.Shelf.append_faults c.read_all.new.shelf)
-    (g.S.Shelf.append_faults c.run_script.new.shelf)
-    (g.K.Sink.holds c.args.out.now) (g.K.Sink.holds c.run_script.new.out)
-    (g.K.Sink.faults c.args.out.now, g.K.Sink.faults c.run_script.new.out) c.args.name.now
-    c.run_script.result
+    ends-since g.S.Shelf g.K.Sink c.args.shelf.now c.read_all.new.shelf c.run_script.new.shelf
+    c.args.out.now c.run_script.new.out VERSION_1 c.args.name.now c.run_script.result
     c.read_all.ensures.files c.read_all.ensures.reads_later c.read_all.ensures.appends_later
     (c.run_script.ensures.ends c.args.name.now
     (subst (λ (files : Option Files). HasContents files c.args.name.now c.deref.result.now)

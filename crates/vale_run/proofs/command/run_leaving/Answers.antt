@@ -1,18 +1,14 @@
 use Rattle.std.proofs.Common.{List, ℕ, ◌≡◌, map, string_bytes, Option, Some, option_map, sym, ◌∙◌, ap, subst, arith}
 use Rattle.nm_types.specs.declared.limits.TheConstants.Limits.{VERSION_1}
-use Rattle.vale_run.specs.Run.{Io, script_name}
+use Rattle.vale_run.specs.Run.{Io, io_of, script_name}
 use Rattle.vale_run.specs.Complete.{Completes}
 use Rattle.vale_run.proofs.Completing.{named-complete}
-use Rattle.vale_run.proofs.Since.{io_of}
 use Rattle.vale_run.proofs.command.run_leaving.Goals as goal
 
 pub returns-in-Some-clause-completes : goal.returns-in-Some-clause-completes
 returns-in-Some-clause-completes g c =
-    let io : Io = io_of (g.S.Shelf.files c.args.shelf.now) (g.S.Shelf.files c.run_file.new.shelf)
-    (g.S.Shelf.read_faults c.args.shelf.now) (g.S.Shelf.read_faults c.run_file.new.shelf)
-    (g.S.Shelf.append_faults c.args.shelf.now) (g.S.Shelf.append_faults c.run_file.new.shelf)
-    (g.K.Sink.holds c.args.out.now) (g.K.Sink.holds c.run_file.new.out)
-    (g.K.Sink.faults c.args.out.now, g.K.Sink.faults c.run_file.new.out) in
+    let io : Io = io_of g.S.Shelf g.K.Sink c.args.shelf.now c.run_file.new.shelf c.args.out.now
+    c.run_file.new.out in
     let is : Some c.in-Some.name.now ≡ script_name (map string_bytes c.args.words.now) =
     sym (ap (option_map (λ name. name.now)) c.in-Some.is) ∙ c.script_name.ensures in
     subst (λ (script : Option (List ℕ)). Completes script io c.run_file.result) is

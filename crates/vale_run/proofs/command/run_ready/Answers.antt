@@ -6,10 +6,9 @@ use Rattle.vale_script.specs.Script.{Program}
 use Rattle.vale_captures.specs.Inputs.{InputFile, frames_of}
 use Rattle.vale_captures.specs.Outputs.{OutputFile}
 use Rattle.vale_act.specs.Plays.{PlaysScript, IsStoppedBy}
-use Rattle.vale_run.specs.Run.{Io, HistoryOf, Ends, saved_in}
+use Rattle.vale_run.specs.Run.{Io, io_of, HistoryOf, Ends, saved_in}
 use Rattle.vale_run.specs.Writing.{IsPlayOf, Written}
 use Rattle.vale_run.proofs.Histories.{book-is, is-history, ends-written, few-used, ends-stopped}
-use Rattle.vale_run.proofs.Since.{io_of}
 use Rattle.vale_run.proofs.command.run_ready.Goals as goal
 
 pub stopped-requires : goal.stopped-requires
@@ -35,11 +34,8 @@ returns-in-Ok-played-clause-ends g c = λ name ready.
     subst (λ r. IfOk r (PlaysScript program (map frames_of inputs) book.entries)) c.in-Ok-played.is
     p.plays in
     let small : program.pool < 2 ^ 32 = (let most = c.requires.sound.most in omega (arith, most)) in
-    let io : Io = io_of (g.S.Shelf.files c.args.shelf.now) (g.S.Shelf.files c.write.new.shelf)
-    (g.S.Shelf.read_faults c.args.shelf.now) (g.S.Shelf.read_faults c.write.new.shelf)
-    (g.S.Shelf.append_faults c.args.shelf.now) (g.S.Shelf.append_faults c.write.new.shelf)
-    (g.K.Sink.holds c.args.out.now) (g.K.Sink.holds c.write.new.out)
-    (g.K.Sink.faults c.args.out.now, g.K.Sink.faults c.write.new.out) in
+    let io : Io = io_of g.S.Shelf g.K.Sink c.args.shelf.now c.write.new.shelf c.args.out.now
+    c.write.new.out in
     let run : HistoryOf VERSION_1 io.files name = record {
       program = program;
       played = inputs;
@@ -61,11 +57,8 @@ returns-in-Err-clause-ends g c = λ name ready.
     let inputs : List InputFile = c.args.inputs.now in
     let book : Recorded = c.in-Ok.book in
     let p : IsPlayOf VERSION_1 program inputs book c.in-Ok.played = c.in-Ok.ensures in
-    let io : Io = io_of (g.S.Shelf.files c.args.shelf.now) (g.S.Shelf.files c.args.shelf.now)
-    (g.S.Shelf.read_faults c.args.shelf.now) (g.S.Shelf.read_faults c.args.shelf.now)
-    (g.S.Shelf.append_faults c.args.shelf.now) (g.S.Shelf.append_faults c.args.shelf.now)
-    (g.K.Sink.holds c.args.out.now) (g.K.Sink.holds c.args.out.now)
-    (g.K.Sink.faults c.args.out.now, g.K.Sink.faults c.args.out.now) in
+    let io : Io = io_of g.S.Shelf g.K.Sink c.args.shelf.now c.args.shelf.now c.args.out.now
+    c.args.out.now in
     subst (Ends VERSION_1 io name) (sym c.stopped.ensures)
     (ends-stopped VERSION_1 p.fixed program inputs book.entries p.pool p.limits_are
     (subst HadRoom (book-is VERSION_1 program inputs book c.in-Ok.played p) p.roomy) io name
