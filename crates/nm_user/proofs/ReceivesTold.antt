@@ -36,7 +36,8 @@ use Rattle.nm_user.specs.Calls.{MadeNone}
 use Rattle.nm_user.specs.declared.receiving.Received.{Received}
 use Rattle.nm_user.specs.Syncs.{SyncsNot}
 use Rattle.nm_user.specs.Receives.{IsReceived, ReceivesNot}
-use Rattle.nm_user.specs.Receiving.{arrivals_in, CanCome, IsRead}
+use Rattle.vale_fabric.specs.Reading.{IsRead}
+use Rattle.nm_user.specs.Receiving.{arrivals_in, CanCome}
 use Rattle.nm_user.proofs.Plain.{has-open}
 use Rattle.nm_user.proofs.Sends.{Ends, IsMadeBy, as-own, synced}
 use Rattle.nm_user.proofs.Receives.{Reads, ReadsHere, reading, mine, own-is, found-step, read-ends, read-there, come-so, came-are}

@@ -18,9 +18,10 @@ ghost use Rattle.vale_entry.specs.Legal.{fits_fault};
 ghost use Rattle.vale_line.specs.Gots.{buffers_of, part_in};
 ghost use Rattle.vale_book.specs.Reading.{read_ask};
 ghost use Rattle.vale_fabric.specs.Fabrics.{IsPassIn, fixed_in, knowing, MayIn, RefusesIn};
+ghost use Rattle.vale_fabric.specs.Reading.{IsRead};
 ghost use Rattle.nm_user.specs.Sessions.{IsThere};
 ghost use Rattle.nm_user.specs.Receives.{IsReceived, ReceivesNot};
-ghost use Rattle.nm_user.specs.Receiving.{arrival_in, arrivals_in, CanCome, IsRead};
+ghost use Rattle.nm_user.specs.Receiving.{arrival_in, arrivals_in, CanCome};
 
 use crate::session::Session;
 use nm_io::Gate;
@@ -64,32 +65,6 @@ impl BackRoom {
     }
 }
 
-/// Gives buffers back at a port, and takes what is ready there.
-fn read<R: Wait>(
-    fabric: &Fabric,
-    rt: &R,
-    pass: &mut Pass,
-    port: PortId,
-    is_pipe: bool,
-    back: Vec<Buf>,
-) -> Result<Synced, (StepFault, Vec<Buf>)>
-    requires pass { IsPassIn fabric.now pass.old }
-    requires may { MayIn fabric.now pass.old (read_ask is_pipe port (indices_of back.items)) }
-    requires region { AreOf (fixed_in fabric.now).region back.items }
-    ensures pass { IsPassIn fabric.now pass.new }
-    ensures read { IfOk result (IsRead (fixed_in fabric.now) (knowing pass.old)
-        (knowing pass.new) (read_ask is_pipe port (indices_of back.items)) port) }
-    ensures full { IfErr result (λ refused. RefusesIn fabric.now pass.old pass.new
-        (read_ask is_pipe port (indices_of back.items)) refused.0) }
-    ensures back { IfErr result (λ refused. refused.1 ≡ back) }
-{
-    if is_pipe {
-        fabric.pipe_get(rt, pass, port, back)
-    } else {
-        fabric.sync(rt, pass, port, back)
-    }
-}
-
 /// Gives back the buffers that the pushed slots of a port's receive ring name, and takes what is
 /// ready there. Answers with the own side and the number of those buffers. Where that is refused, the
 /// own side stays as it was.
@@ -127,7 +102,7 @@ fn give_and_take<R: Wait>(
     let BackRoom { mut back, notes } = room;
     let lent = own.lend_back(port, &mut back, notes);
     let returned = back.len() as u32;
-    match read(fabric, rt, pass, port, is_pipe, back) {
+    match fabric.read(rt, pass, port, is_pipe, back) {
         Ok(synced) => (lent.received(), returned, Ok(synced)),
         Err((fault, mut back)) => {
             let own = lent.undo(&mut back);

@@ -13,8 +13,13 @@ use vale_port::open_port;
 use vale_steps::reading::{Synced, read, reading_at};
 
 impl Book {
-    /// A sync of a switch port or a monitor, or a get of a pipe end.
-    fn read(
+    /// Buffers come back to the receive ring of a switch port or a monitor, and those of its frames
+    /// that are ready go to its session. A monitor of the port's receive side is offered all of
+    /// these frames; room for the grant of that offer, and for the completion of its lease, is
+    /// promised. Of a pipe end it is recorded as a get, and else as a sync.
+    ///
+    /// A full record and want of memory change nothing, and the buffers are handed back.
+    pub fn read(
         &mut self,
         port: PortId,
         is_pipe: bool,
@@ -54,12 +59,7 @@ impl Book {
         )
     }
 
-    /// Buffers come back to the receive ring of a switch port or a monitor, and those of its frames
-    /// that are ready go to its session. A monitor of the port's receive side is offered all of
-    /// these frames; room for the grant of that offer, and for the completion of its lease, is
-    /// promised.
-    ///
-    /// A full record and want of memory change nothing, and the buffers are handed back.
+    /// `read` of a switch port or a monitor, which is recorded as a sync.
     pub fn sync(&mut self, port: PortId, back: Vec<Buf>) -> Result<Synced, (StepFault, Vec<Buf>)>
         requires enabled { IsEnabled (standing self.old) (asks.Sync port (indices_of back.items)) }
         requires of { AreOf self.old.region back.items }
@@ -82,7 +82,7 @@ impl Book {
         self.read(port, false, back)
     }
 
-    /// `sync` of a pipe end, which is recorded as a get.
+    /// `read` of a pipe end, which is recorded as a get.
     pub fn pipe_get(
         &mut self,
         port: PortId,

@@ -10,7 +10,7 @@ use Rattle.nm_types.specs.declared.id.PortId.{PortId}
 use Rattle.nm_turn.specs.Shares.{IsWhole}
 use Rattle.vale_batch.specs.Wants.{Wanted}
 use Rattle.vale_entry.specs.declared.entry.Ask.{Ask}
-use Rattle.vale_entry.specs.declared.entry.Ask.TheVariants.{Send, Sync, Get, Put, PutKept}
+use Rattle.vale_entry.specs.declared.entry.Ask.TheVariants.{Send, Put, PutKept}
 use Rattle.vale_entry.specs.declared.entry.Item.{Item}
 use Rattle.vale_entry.specs.declared.entry.Reply.{Reply}
 use Rattle.vale_entry.specs.declared.entry.Reply.TheVariants.{Took}
@@ -33,14 +33,16 @@ use Rattle.vale_port.specs.Kept.{bytes_of}
 use Rattle.vale_book.specs.Monitored.{IsOfferedTo}
 use Rattle.vale_book.specs.Putting.{copied}
 use Rattle.vale_book.specs.Offering.{OffersState}
-use Rattle.vale_book.specs.Recorded.{Recorded, standing, after_ask, entry_of}
+use Rattle.vale_book.specs.Reading.{read_ask}
+use Rattle.vale_book.specs.Recorded.{Recorded, standing, entry_of}
 use Rattle.vale_fabric.specs.declared.kept.Fixed.{Fixed}
 use Rattle.vale_fabric.specs.Fabrics.{Knowing, MayAsk, fixed_in}
 use Rattle.vale_fabric.specs.declared.fabric.Fabric.{Fabric}
 use Rattle.vale_fabric.specs.Settling.{HasBytes, IsAtHand}
-use Rattle.vale_fabric.specs.Steps.{IsTaken}
+use Rattle.vale_fabric.specs.Steps.{IsTaken, IsPutBack}
+use Rattle.vale_fabric.proofs.Acting.{Acts, acted}
 use Rattle.vale_fabric.proofs.FewWanted.{offered, few-started, wanted-sum}
-use Rattle.vale_fabric.proofs.Making.{Steps, Made, stored, whose-now, may-now}
+use Rattle.vale_fabric.proofs.Making.{stored, whose-now, may-now}
 use Rattle.vale_fabric.proofs.OffersHeld.{Next, next-of}
 use Rattle.vale_fabric.proofs.Speaking.{speaks-on, offers-by}
 
@@ -59,14 +61,12 @@ sends-settled session port frames own e =
     let two = and_parts (is_switch_port_name x.0.name) _ x.1 in
     (and_parts (is_settled_own own) _ two.1).0
 
-pub syncs-settled : (session : ℕ) (port : PortId) (back : List ℕ) → IsOfSettled session (Sync port back)
-syncs-settled session port back own e =
+pub reads-settled : (session : ℕ) (pipe : Bool) (port : PortId) (back : List ℕ) → IsOfSettled session (read_ask pipe port back)
+reads-settled session false port back own e =
     let x = met (may_sync own back) (open_port own.ports port.0) e in
     let two = and_parts (is_switch_port_name x.0.name || is_monitor_name x.0.name) (may_receive own back x.0) x.1 in
     (and_parts (is_settled_own own) _ two.1).0
-
-pub gets-settled : (session : ℕ) (port : PortId) (back : List ℕ) → IsOfSettled session (Get port back)
-gets-settled session port back own e =
+reads-settled session true port back own e =
     let x = met (may_get own back) (open_port own.ports port.0) e in
     let two = and_parts (is_pipe_name x.0.name) (may_receive own back x.0) x.1 in
     (and_parts (is_settled_own own) _ two.1).0
@@ -90,11 +90,9 @@ kept-at change (Some x) own all = all x
 pub sends-keep : (s : Standing) (port : PortId) (frames : List Frame) (reply : Reply) → KeepsLeases s (Send port frames) reply
 sends-keep s port frames reply own = kept-at (own_sent s frames own) (open_port s.world.ports port.0) own (λ p. refl)
 
-pub syncs-keep : (s : Standing) (port : PortId) (back : List ℕ) (reply : Reply) → KeepsLeases s (Sync port back) reply
-syncs-keep s port back reply own = kept-at (own_received s back own) (open_port s.world.ports port.0) own (λ p. refl)
-
-pub gets-keep : (s : Standing) (port : PortId) (back : List ℕ) (reply : Reply) → KeepsLeases s (Get port back) reply
-gets-keep s port back reply own = kept-at (own_received s back own) (open_port s.world.ports port.0) own (λ p. refl)
+pub reads-keep : (s : Standing) (pipe : Bool) (port : PortId) (back : List ℕ) (reply : Reply) → KeepsLeases s (read_ask pipe port back) reply
+reads-keep s true port back reply own = kept-at (own_received s back own) (open_port s.world.ports port.0) own (λ p. refl)
+reads-keep s false port back reply own = kept-at (own_received s back own) (open_port s.world.ports port.0) own (λ p. refl)
 
 pub puts-keep : (s : Standing) (port : PortId) (offered items : List Item) (reply : Reply) (to : _) → reply ≡ Took items to → KeepsLeases s (Put port offered) reply
 puts-keep s port offered items reply to said own =
@@ -121,10 +119,14 @@ low-pool fabric =
     omega (arith, is, most)
 
 pub hand-on : {fixed : Fixed} {v entered w : Knowing} {b after : Recorded} {ask : Ask} (o : OffersState) (bytes : List (List ℕ)) (may : MayAsk fixed v ask) → fixed.pool ≤ 65536 → IsTaken fixed v entered b
-    → is_enter ask ≡ false → (steps : Steps b ask) → after ≡ after_ask b ask → IsLegal after.pool after.entries → Made fixed v w b after ask → HasBytes (standing after) o bytes → o.entry ≡ length after.entries
-    → IsOfSettled may.session ask → KeepsLeases (standing b) ask steps.makes.reply → 1 ≤ length o.wants → IsAtHand fixed w o bytes
-hand-on {fixed} {v} {entered} {w} {b} {after} {ask} o bytes may low taken other steps grown legal m has last settles keeps some =
+    → is_enter ask ≡ false → (acts : Acts b after ask) → IsPutBack entered w after → HasBytes (standing after) o bytes → o.entry ≡ length after.entries
+    → IsOfSettled may.session ask → KeepsLeases (standing b) ask acts.steps.makes.reply → 1 ≤ length o.wants → IsAtHand fixed w o bytes
+hand-on {fixed} {v} {entered} {w} {b} {after} {ask} o bytes may low taken other acts back has last settles keeps some =
     let session = may.session in
+    let steps = acts.steps in
+    let grown = acts.grown in
+    let legal = back.legal in
+    let m = acted taken back acts in
     let st = has.stand.stand in
     let s = standing b in
     let own = own_of session s in
@@ -156,7 +158,7 @@ hand-on {fixed} {v} {entered} {w} {b} {after} {ask} o bytes may low taken other 
     let most = few-started b.pool b.entries e (omega (arith, pool, low)) taken.legal follows in
     record {
       stands = λ next. subst (λ (r : Recorded). HasBytes (standing r) o bytes) (sym m.now) has;
-      speaks = speaks-on o may taken other steps grown legal m st last some;
+      speaks = speaks-on o may taken other acts back st last some;
       leases = subst (λ (r : Recorded). (own_of o.session (standing r)).leases ≡ []) (sym m.now) (subst (λ (k : ℕ). (own_of k (standing after)).leases ≡ []) (sym whose) leases);
       as_many = subst (λ (r : Recorded). length (own_of o.session (standing r)).offers ≡ length o.wants) (sym m.now) many;
       few = omega (arith, sum, most);

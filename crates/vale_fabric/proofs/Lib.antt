@@ -1,10 +1,12 @@
 pub mod Others
 pub mod Making
 pub mod Lent
+pub mod Acting
 pub mod Refusals
 pub mod OffersHeld
 pub mod OwnNow
 pub mod Speaking
+pub mod PortReads
 pub mod PutsTold
 pub mod PutsMade
 pub mod Placed

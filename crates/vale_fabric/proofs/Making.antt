@@ -1,5 +1,5 @@
 -- What a call of a fabric tells, from what the turn and the book tell.
-use Rattle.std.proofs.Common.{ℕ, ◌==◌, ◌+◌, ◌-◌, ◌<◌, ◌^◌, List, [], ◌∷◌, ◌++◌, ◌≡◌, length, inl, le_refl, refl, sym, ap, ◌∙◌, subst, Option, Some, None, Bool, true, false, ◌&&◌, is_some, arith, append-nil, length-append}
+use Rattle.std.proofs.Common.{ℕ, ◌==◌, ◌+◌, ◌-◌, ◌<◌, ◌^◌, List, [], ◌∷◌, ◌++◌, ◌≡◌, length, inl, le_refl, refl, sym, ap, ◌∙◌, subst, Option, Some, None, Result, Ok, Err, OnErr, IfErr, Bool, true, false, ◌&&◌, is_some, arith, append-nil, length-append}
 use Rattle.std.specs.Prelude.{option_map, take, min, if◌then◌else◌}
 use Rattle.std.proofs.Math.Seq.{take-append_seam}
 use Rattle.std.proofs.lemmas.Bool.{eqb-true}
@@ -284,6 +284,11 @@ pub waits : {fixed : Fixed} {v entered w : Knowing} {before after : Recorded} {a
 waits {fixed} {v} {entered} {w} {before} {after} {ask} {n} taken stays some reply back =
     let u = unmade taken stays back in
     record { none = u.none; some = some; reply_is = subst (λ (r : Recorded). reply_to (standing r) ask ≡ Some (replies.LeasesOut n)) (sym u.now) reply }
+
+pub waits-on : {X E : Type 0} {fixed : Fixed} {v entered w : Knowing} {before after : Recorded} (ask : Ask) (P : E → Type 0) (r : Result X E) (n : E → ℕ) → IsTaken fixed v entered before → OnErr r (after ≡ before)
+    → IfErr r (λ (out : E). (0 < n out) × (reply_to (standing before) ask ≡ Some (replies.LeasesOut (n out))) × P out) → IsPutBack entered w after → IfErr r (λ (out : E). Waits fixed v w ask (n out))
+waits-on ask P (Ok x) n taken stays out back = tt
+waits-on ask P (Err e) n taken stays out back = waits taken stays out.0 out.1 back
 
 -- What never changes of the book is as it was.
 pub fixed-kept : {fixed : Fixed} {v entered : Knowing} {b after : Recorded} {ask : Ask} → IsTaken fixed v entered b → Steps b ask → after ≡ after_ask b ask

@@ -1,88 +1,64 @@
 -- What a call that may be refused by an entry tells, or by none.
-use Rattle.std.proofs.Common.{◌≡◌, true, false}
+use Rattle.std.proofs.Common.{ℕ, ◌+◌, ◌≡◌, take, drop, Result, Ok, Err, OnOk, IfOk, sym, subst}
+use Rattle.nm_region.specs.Buffers.{indices_of}
 use Rattle.nm_types.specs.declared.fault.OpenFault.{OpenFault}
 use Rattle.nm_types.specs.declared.fault.OpenFault.TheVariants.{BadSize, SwitchesFull, PortsFull, NameTaken, NoBuffers, RecordFull, NoMemory}
 use Rattle.nm_types.specs.declared.fault.WatchFault.{WatchFault}
 use Rattle.nm_types.specs.declared.fault.WatchFault.TheVariants as watches
 use Rattle.vale_entry.specs.declared.entry.Ask.{Ask}
-use Rattle.vale_entry.specs.declared.entry.Reply.{Reply}
 use Rattle.vale_entry.specs.declared.entry.Reply.TheVariants as replies
 use Rattle.vale_entry.specs.Transcript.{is_refusal}
-use Rattle.vale_book.specs.Recorded.{Recorded, IsRecordedAs}
+use Rattle.vale_steps.specs.declared.opening.Opened.{Opened}
+use Rattle.vale_book.specs.BookView.{AreOf}
+use Rattle.vale_book.specs.Recorded.{Recorded, standing, IsRecordedAs}
 use Rattle.vale_book.specs.OpenAnswers.{IsUnopened}
 use Rattle.vale_book.specs.WatchAnswers.{IsUnwatched}
 use Rattle.vale_fabric.specs.declared.kept.Fixed.{Fixed}
-use Rattle.vale_fabric.specs.Fabrics.{Knowing, Answers}
-use Rattle.vale_fabric.specs.Ports.{OpensNot, WatchesNot, is_said}
+use Rattle.vale_fabric.specs.Fabrics.{Knowing, before_in}
+use Rattle.vale_fabric.specs.Ports.{Hands, OpensNot, WatchesNot, is_said}
 use Rattle.vale_fabric.specs.Steps.{IsTaken, IsPutBack}
+use Rattle.vale_fabric.proofs.Acting.{ActsIf, acted, acts-as, answers-as}
 use Rattle.vale_fabric.proofs.Making.{refused}
 
-pub recorded : (old new : Recorded) (ask : Ask) (fault : OpenFault) → true ≡ is_refusal fault → IsUnopened old new ask fault → IsRecordedAs old new ask (replies.Refused fault)
-recorded old new ask BadSize is u = u
-recorded old new ask SwitchesFull is u = u
-recorded old new ask PortsFull is u = u
-recorded old new ask NameTaken is u = u
-recorded old new ask (NoBuffers want have) is u = u
-recorded old new ask (RecordFull what used want) is u = absurd cc
-recorded old new ask NoMemory is u = absurd cc
+pub opens-act : (old new : Recorded) (ask : Ask) (fault : OpenFault) → IsUnopened old new ask fault → ActsIf (is_refusal fault) old new ask
+opens-act old new ask BadSize u = acts-as (replies.Refused BadSize) u
+opens-act old new ask SwitchesFull u = acts-as (replies.Refused SwitchesFull) u
+opens-act old new ask PortsFull u = acts-as (replies.Refused PortsFull) u
+opens-act old new ask NameTaken u = acts-as (replies.Refused NameTaken) u
+opens-act old new ask (NoBuffers want have) u = acts-as (replies.Refused (NoBuffers want have)) u
+opens-act old new ask (RecordFull what used want) u = u.0
+opens-act old new ask NoMemory u = u.0
 
-pub opens-said : (fixed : Fixed) (v w : Knowing) (ask : Ask) (fault : OpenFault) → true ≡ is_refusal fault → Answers fixed v w ask (replies.Refused fault) → OpensNot fixed v w ask fault
-opens-said fixed v w ask BadSize is m = m
-opens-said fixed v w ask SwitchesFull is m = m
-opens-said fixed v w ask PortsFull is m = m
-opens-said fixed v w ask NameTaken is m = m
-opens-said fixed v w ask (NoBuffers want have) is m = m
-opens-said fixed v w ask (RecordFull what used want) is m = absurd cc
-opens-said fixed v w ask NoMemory is m = absurd cc
-
-pub opens-same : (old new : Recorded) (ask : Ask) (fault : OpenFault) → false ≡ is_refusal fault → IsUnopened old new ask fault → new ≡ old
-opens-same old new ask BadSize is u = absurd cc
-opens-same old new ask SwitchesFull is u = absurd cc
-opens-same old new ask PortsFull is u = absurd cc
-opens-same old new ask NameTaken is u = absurd cc
-opens-same old new ask (NoBuffers want have) is u = absurd cc
-opens-same old new ask (RecordFull what used want) is u = u.0
-opens-same old new ask NoMemory is u = u.0
-
-pub opens-none : (fixed : Fixed) (v entered w : Knowing) (old new : Recorded) (ask : Ask) (fault : OpenFault) → false ≡ is_refusal fault → IsTaken fixed v entered old
-    → IsUnopened old new ask fault → IsPutBack entered w new → OpensNot fixed v w ask fault
-opens-none fixed v entered w old new ask BadSize is taken u back = absurd cc
-opens-none fixed v entered w old new ask SwitchesFull is taken u back = absurd cc
-opens-none fixed v entered w old new ask PortsFull is taken u back = absurd cc
-opens-none fixed v entered w old new ask NameTaken is taken u back = absurd cc
-opens-none fixed v entered w old new ask (NoBuffers want have) is taken u back = absurd cc
-opens-none fixed v entered w old new ask (RecordFull what used want) is taken u back = refused taken u.0 u.1 back
-opens-none fixed v entered w old new ask NoMemory is taken u back = refused taken u.0 u.1 back
+pub opens-not : {fixed : Fixed} {v entered w : Knowing} {old new : Recorded} (ask : Ask) (fault : OpenFault) → IsTaken fixed v entered old → IsPutBack entered w new
+    → IsUnopened old new ask fault → OpensNot fixed v w ask fault
+opens-not ask BadSize taken back u = answers-as taken back (replies.Refused BadSize) u
+opens-not ask SwitchesFull taken back u = answers-as taken back (replies.Refused SwitchesFull) u
+opens-not ask PortsFull taken back u = answers-as taken back (replies.Refused PortsFull) u
+opens-not ask NameTaken taken back u = answers-as taken back (replies.Refused NameTaken) u
+opens-not ask (NoBuffers want have) taken back u = answers-as taken back (replies.Refused (NoBuffers want have)) u
+opens-not ask (RecordFull what used want) taken back u = refused taken u.0 u.1 back
+opens-not ask NoMemory taken back u = refused taken u.0 u.1 back
 
 -- the same of a watch
 
-abbrev pub reply_of_watch : WatchFault → Reply
-reply_of_watch watches.NoTarget = replies.NoTarget
-reply_of_watch (watches.Watched by) = replies.Watched by
-reply_of_watch (watches.RecordFull what used want) = replies.Made
-reply_of_watch watches.NoMemory = replies.Made
+pub watches-act : (old new : Recorded) (ask : Ask) (fault : WatchFault) → IsUnwatched old new ask fault → ActsIf (is_said fault) old new ask
+watches-act old new ask watches.NoTarget u = acts-as replies.NoTarget u
+watches-act old new ask (watches.Watched by) u = acts-as (replies.Watched by) u
+watches-act old new ask (watches.RecordFull what used want) u = u.0
+watches-act old new ask watches.NoMemory u = u.0
 
-pub watch-said : (old new : Recorded) (ask : Ask) (fault : WatchFault) → true ≡ is_said fault → IsUnwatched old new ask fault → IsRecordedAs old new ask (reply_of_watch fault)
-watch-said old new ask watches.NoTarget is u = u
-watch-said old new ask (watches.Watched by) is u = u
-watch-said old new ask (watches.RecordFull what used want) is u = absurd cc
-watch-said old new ask watches.NoMemory is u = absurd cc
+pub watches-not : {fixed : Fixed} {v entered w : Knowing} {old new : Recorded} (ask : Ask) (fault : WatchFault) → IsTaken fixed v entered old → IsPutBack entered w new
+    → IsUnwatched old new ask fault → WatchesNot fixed v w ask fault
+watches-not ask watches.NoTarget taken back u = answers-as taken back replies.NoTarget u
+watches-not ask (watches.Watched by) taken back u = answers-as taken back (replies.Watched by) u
+watches-not ask (watches.RecordFull what used want) taken back u = refused taken u.0 u.1 back
+watches-not ask watches.NoMemory taken back u = refused taken u.0 u.1 back
 
-pub watches-said : (fixed : Fixed) (v w : Knowing) (ask : Ask) (fault : WatchFault) → true ≡ is_said fault → Answers fixed v w ask (reply_of_watch fault) → WatchesNot fixed v w ask fault
-watches-said fixed v w ask watches.NoTarget is m = m
-watches-said fixed v w ask (watches.Watched by) is m = m
-watches-said fixed v w ask (watches.RecordFull what used want) is m = absurd cc
-watches-said fixed v w ask watches.NoMemory is m = absurd cc
-
-pub watches-same : (old new : Recorded) (ask : Ask) (fault : WatchFault) → false ≡ is_said fault → IsUnwatched old new ask fault → new ≡ old
-watches-same old new ask watches.NoTarget is u = absurd cc
-watches-same old new ask (watches.Watched by) is u = absurd cc
-watches-same old new ask (watches.RecordFull what used want) is u = u.0
-watches-same old new ask watches.NoMemory is u = u.0
-
-pub watches-none : (fixed : Fixed) (v entered w : Knowing) (old new : Recorded) (ask : Ask) (fault : WatchFault) → false ≡ is_said fault → IsTaken fixed v entered old
-    → IsUnwatched old new ask fault → IsPutBack entered w new → WatchesNot fixed v w ask fault
-watches-none fixed v entered w old new ask watches.NoTarget is taken u back = absurd cc
-watches-none fixed v entered w old new ask (watches.Watched by) is taken u back = absurd cc
-watches-none fixed v entered w old new ask (watches.RecordFull what used want) is taken u back = refused taken u.0 u.1 back
-watches-none fixed v entered w old new ask watches.NoMemory is taken u back = refused taken u.0 u.1 back
+-- what an opening hands out
+pub hands-on : {fixed : Fixed} {v entered w : Knowing} {old new : Recorded} (ask : Ask) (tx rx extra : ℕ) (r : Result Opened OpenFault) → IsTaken fixed v entered old → IsPutBack entered w new
+    → OnOk r (IsRecordedAs old new ask replies.Opened) → IfOk r (λ (o : Opened). indices_of o.tx.items ≡ take tx (standing old).holdings.free) → IfOk r (λ (o : Opened). o.rx.items ≡ take rx (drop tx (standing old).holdings.free))
+    → IfOk r (λ (o : Opened). indices_of o.extra.items ≡ take extra (drop (tx + rx) (standing old).holdings.free)) → IfOk r (λ (o : Opened). AreOf old.region o.tx.items × AreOf old.region o.extra.items)
+    → IfOk r (Hands (before_in fixed w) tx rx extra)
+hands-on ask tx rx extra (Ok o) taken back is tx_are rx_are extra_are region =
+    subst (λ (b : Recorded). Hands b tx rx extra o) (sym (acted taken back (acts-as replies.Opened is)).was) (record { tx_are = tx_are; rx_are = rx_are; extra_are = extra_are; region_is = region })
+hands-on ask tx rx extra (Err fault) taken back is tx_are rx_are extra_are region = tt

@@ -23,8 +23,9 @@ use Rattle.vale_book.specs.Offering.{OffersState, OffersStand}
 use Rattle.vale_book.specs.Recorded.{Recorded, standing, after_ask, entry_of}
 use Rattle.vale_fabric.specs.declared.kept.Fixed.{Fixed}
 use Rattle.vale_fabric.specs.Fabrics.{Knowing, MayAsk}
-use Rattle.vale_fabric.specs.Steps.{IsTaken}
-use Rattle.vale_fabric.proofs.Making.{Steps, Made, stored, whose-now}
+use Rattle.vale_fabric.specs.Steps.{IsTaken, IsPutBack}
+use Rattle.vale_fabric.proofs.Acting.{Acts, acted}
+use Rattle.vale_fabric.proofs.Making.{Steps, stored, whose-now}
 use Rattle.vale_fabric.proofs.OffersHeld.{Next, next-of, filtered}
 
 -- offers of the last entry are of its session
@@ -58,12 +59,11 @@ offers-by {fixed} {v} {entered} {b} {after} {ask} o may taken other steps grown 
     last-by b.pool b.entries e o (subst (λ (r : Recorded). IsLegal r.pool r.entries) is legal) (subst (λ (r : Recorded). OffersStand (standing r) o) is st) (last ∙ long) some
     ∙ whose-now may taken other steps
 
-pub speaks-on : {fixed : Fixed} {v entered w : Knowing} {b after : Recorded} {ask : Ask} (o : OffersState) → MayAsk fixed v ask → IsTaken fixed v entered b → is_enter ask ≡ false → (steps : Steps b ask)
-    → after ≡ after_ask b ask → IsLegal after.pool after.entries → Made fixed v w b after ask → OffersStand (standing after) o → o.entry ≡ length after.entries → 1 ≤ length o.wants
-    → Stands o.session w.mine
-speaks-on {fixed} {v} {entered} {w} {b} {after} {ask} o may taken other steps grown legal m st last some =
-    let whose = offers-by o may taken other steps grown legal st last some in
-    subst (Stands o.session) (sym m.makes.told.mine) (Stands-left o.session v.mine _ (subst (λ (n : ℕ). Stands n v.mine) (sym whose) may.speaks))
+pub speaks-on : {fixed : Fixed} {v entered w : Knowing} {b after : Recorded} {ask : Ask} (o : OffersState) → MayAsk fixed v ask → IsTaken fixed v entered b → is_enter ask ≡ false → Acts b after ask
+    → IsPutBack entered w after → OffersStand (standing after) o → o.entry ≡ length after.entries → 1 ≤ length o.wants → Stands o.session w.mine
+speaks-on {fixed} {v} {entered} {w} {b} {after} {ask} o may taken other acts back st last some =
+    let whose = offers-by o may taken other acts.steps acts.grown back.legal st last some in
+    subst (Stands o.session) (sym (acted taken back acts).makes.told.mine) (Stands-left o.session v.mine _ (subst (λ (n : ℕ). Stands n v.mine) (sym whose) may.speaks))
 
 -- what an ask looks for is there if it makes an entry
 pub sought : {X : Type 0} (test : X → Bool) (make : X → Outcome) (found : Option X) (outcome : Outcome) → made_at test make found ≡ Some outcome → (x : X) × (found ≡ Some x)

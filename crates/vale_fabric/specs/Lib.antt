@@ -1,5 +1,6 @@
 pub mod Roots
 pub mod Fabrics
+pub mod Reading
 pub mod Steps
 pub mod Ports
 pub mod Puts

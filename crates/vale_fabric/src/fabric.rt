@@ -1,8 +1,7 @@
 ghost use Rattle.std.specs.Prelude.{◌≡◌, ◌<◌, ◌^◌, [], IfOk};
 ghost use Rattle.nm_types.specs.Buffers.{IsPoolSize};
 ghost use Rattle.nm_turn.specs.Passes.{first_view};
-ghost use Rattle.nm_turn.specs.Turns.{opened, entered, AddsOne, HasEntered, IsPassOf};
-ghost use Rattle.vale_book.specs.LegalRecords.{IsLegalRecord};
+ghost use Rattle.nm_turn.specs.Turns.{opened, HasEntered, IsPassOf};
 ghost use Rattle.vale_fabric.specs.Roots.{root_of, fixed_of};
 
 use crate::kept::{Pass, Shared};
@@ -37,7 +36,7 @@ fn boxed(alloc: Global, book: Book) -> Result<Box<Book>, NoMemory>
 
 impl Fabric {
     ghost use Rattle.vale_fabric.specs.Fabrics.{IsPassIn, fixed_in, knowing};
-    ghost use Rattle.vale_fabric.specs.Steps.{IsTaken, IsPutBack};
+    ghost use Rattle.vale_fabric.specs.Steps.{GoesBack, IsPutBack, IsTaken};
 
     /// A fabric with no entries, over a pool of so many buffers. The pass has the whole.
     pub fn new(alloc: Global, buffers: u32, limits: Limits) -> Result<(Fabric, Pass), NoMemory>
@@ -84,30 +83,14 @@ impl Fabric {
         book
     }
 
-    /// Gives the turn up, and the book back, which has one entry more.
-    pub(crate) fn give(&self, pass: &mut Pass, book: Box<Book>)
+    /// Gives the turn up, and the book back, which has one entry more if the call `made` one.
+    pub(crate) fn give(&self, pass: &mut Pass, book: Box<Book>, made: bool)
         requires pass { IsPassOf fixed_of self.now.turn pass.old }
         requires entered { HasEntered pass.old }
-        requires fixed { fixed_of book.value ≡ fixed_in self.now }
-        requires legal { IsLegalRecord book.value }
-        requires adds { AddsOne root_of (entered pass.old) (knowing pass.old).mine
-            book.value.entries }
+        requires goes { GoesBack (fixed_in self.now) (knowing pass.old) book.value made }
         ensures pass { IsPassIn self.now pass.new }
         ensures back { IsPutBack (knowing pass.old) (knowing pass.new) book.value }
     {
-        self.turn.leave(pass, Shared { book }, true);
-    }
-
-    /// Gives the turn up, and the book back as it was.
-    pub(crate) fn put_back(&self, pass: &mut Pass, book: Box<Book>)
-        requires pass { IsPassOf fixed_of self.now.turn pass.old }
-        requires entered { HasEntered pass.old }
-        requires fixed { fixed_of book.value ≡ fixed_in self.now }
-        requires legal { IsLegalRecord book.value }
-        requires same { book.value.entries ≡ entered pass.old }
-        ensures pass { IsPassIn self.now pass.new }
-        ensures back { IsPutBack (knowing pass.old) (knowing pass.new) book.value }
-    {
-        self.turn.leave(pass, Shared { book }, false);
+        self.turn.leave(pass, Shared { book }, made);
     }
 }

@@ -3,6 +3,7 @@ ghost use Rattle.std.specs.Prelude.{◌≡◌, length, OnOk, IfOk, IfErr, true, 
 ghost use Rattle.vale_entry.specs.declared.entry.Ask.TheVariants as asks;
 ghost use Rattle.vale_entry.specs.declared.entry.Reply.TheVariants as replies;
 ghost use Rattle.vale_entry.specs.Transcript.{is_refusal};
+ghost use Rattle.vale_fabric.specs.Steps.{is_made};
 ghost use Rattle.vale_fabric.specs.Ports.{Hands, OpensNot, Waits, WatchesNot, is_said};
 ghost use Rattle.vale_fabric.specs.Words.{AnswersIn, AreOf, IsPassIn, MayIn, RefusesIn, before, fixed_in, indices_of, knowing};
 
@@ -16,18 +17,24 @@ use nm_types::{
 use std::sync::Wait;
 use vale_book::{LeasesOut, Opened};
 
-/// Whether an opening that is refused so is an entry.
-fn is_recorded(fault: OpenFault) -> bool
-    ensures { result ≡ is_refusal fault }
+/// Whether an opening that is answered so is an entry.
+fn is_recorded(opened: &Result<Opened, OpenFault>) -> bool
+    ensures { result ≡ is_made is_refusal opened.now }
 {
-    !matches!(fault, OpenFault::RecordFull { .. } | OpenFault::NoMemory)
+    !matches!(
+        opened,
+        Err(OpenFault::RecordFull { .. } | OpenFault::NoMemory)
+    )
 }
 
-/// Whether a watch that is refused so is an entry.
-fn is_said(fault: WatchFault) -> bool
-    ensures { result ≡ is_said fault }
+/// Whether a watch that is answered so is an entry.
+fn is_said(watched: &Result<PortId, WatchFault>) -> bool
+    ensures { result ≡ is_made is_said watched.now }
 {
-    matches!(fault, WatchFault::NoTarget | WatchFault::Watched { .. })
+    !matches!(
+        watched,
+        Err(WatchFault::RecordFull { .. } | WatchFault::NoMemory)
+    )
 }
 
 impl Fabric {
@@ -41,16 +48,9 @@ impl Fabric {
         ensures full { IfErr result (RefusesIn self.now pass.old pass.new (asks.Stat port)) }
     {
         let mut book = self.take(rt, pass);
-        match book.stats(port) {
-            Ok(counts) => {
-                self.give(pass, book);
-                Ok(counts)
-            }
-            Err(fault) => {
-                self.put_back(pass, book);
-                Err(fault)
-            }
-        }
+        let counts = book.stats(port);
+        self.give(pass, book, counts.is_ok());
+        counts
     }
 
     /// Records that a sync of this side of the port was refused, and the ring reset.
@@ -71,16 +71,9 @@ impl Fabric {
             (asks.Reset port side fault.now)) }
     {
         let mut book = self.take(rt, pass);
-        match book.reset(port, side, fault) {
-            Ok(()) => {
-                self.give(pass, book);
-                Ok(())
-            }
-            Err(full) => {
-                self.put_back(pass, book);
-                Err(full)
-            }
-        }
+        let noted = book.reset(port, side, fault);
+        self.give(pass, book, noted.is_ok());
+        noted
     }
 
     /// The port is closed for new frames. What was granted to it can still be read.
@@ -92,7 +85,7 @@ impl Fabric {
     {
         let mut book = self.take(rt, pass);
         book.shut(port);
-        self.give(pass, book);
+        self.give(pass, book, true);
     }
 
     /// A monitor watches these sides of the port of this name. Answers which port that is. That no
@@ -114,20 +107,9 @@ impl Fabric {
             (knowing pass.new) (asks.Watch monitor target.now sides)) }
     {
         let mut book = self.take(rt, pass);
-        match book.watch(monitor, target, sides) {
-            Ok(port) => {
-                self.give(pass, book);
-                Ok(port)
-            }
-            Err(fault) => {
-                if is_said(fault) {
-                    self.give(pass, book);
-                    return Err(fault);
-                }
-                self.put_back(pass, book);
-                Err(fault)
-            }
-        }
+        let watched = book.watch(monitor, target, sides);
+        self.give(pass, book, is_said(&watched));
+        watched
     }
 
     /// Opens a port of this name for a session, and hands out its buffers, the smallest free ones.
@@ -153,20 +135,9 @@ impl Fabric {
             (knowing pass.new) (asks.Open session name.now tx rx extra)) }
     {
         let mut book = self.take(rt, pass);
-        match book.open(session, name, tx, rx, extra) {
-            Ok(opened) => {
-                self.give(pass, book);
-                Ok(opened)
-            }
-            Err(fault) => {
-                if is_recorded(fault) {
-                    self.give(pass, book);
-                    return Err(fault);
-                }
-                self.put_back(pass, book);
-                Err(fault)
-            }
-        }
+        let opened = book.open(session, name, tx, rx, extra);
+        self.give(pass, book, is_recorded(&opened));
+        opened
     }
 
     /// The port goes, and its buffers are free again, with those that its session brings back for
@@ -192,15 +163,8 @@ impl Fabric {
         ensures back { IfErr result (λ out. out.bufs.items ≡ bufs.items) }
     {
         let mut book = self.take(rt, pass);
-        match book.finish(port, bufs, chain) {
-            Ok(count) => {
-                self.give(pass, book);
-                Ok(count)
-            }
-            Err(out) => {
-                self.put_back(pass, book);
-                Err(out)
-            }
-        }
+        let unread = book.finish(port, bufs, chain);
+        self.give(pass, book, unread.is_ok());
+        unread
     }
 }

@@ -5,6 +5,7 @@ ghost use Rattle.nm_types.specs.Sendable.{fits_buffer};
 ghost use Rattle.vale_entry.specs.declared.entry.Ask.TheVariants as asks;
 ghost use Rattle.vale_entry.specs.declared.entry.Reply.TheVariants as replies;
 ghost use Rattle.vale_book.specs.Putting.{items_of, IsPut};
+ghost use Rattle.vale_fabric.specs.Steps.{is_made};
 ghost use Rattle.vale_fabric.specs.Puts.{PutsNot, is_put_said};
 ghost use Rattle.vale_fabric.specs.Words.{AnswersIn, AreOf, IsAtHand, IsPassIn, IsSingle, MayIn, Stands, before, buffers_of, bytes_of, dests_wanted, fixed_in, knowing, seen_by};
 
@@ -15,11 +16,11 @@ use std::sync::Wait;
 use vale_book::{Put, PutFault};
 use vale_line::Got;
 
-/// Whether a put that is refused so is an entry.
-fn is_put_said(fault: PutFault) -> bool
-    ensures { result ≡ is_put_said fault }
+/// Whether a put that is answered so is an entry.
+fn is_put_said(put: &Result<Put, PutFault>) -> bool
+    ensures { result ≡ is_made is_put_said put.now }
 {
-    matches!(fault, PutFault::PeerGone)
+    matches!(put, Ok(_) | Err(PutFault::PeerGone))
 }
 
 impl Fabric {
@@ -57,19 +58,8 @@ impl Fabric {
         ensures kept { OnErr result (pending.new.items ≡ pending.old.items) }
     {
         let mut book = self.take(rt, pass);
-        match book.pipe_put(port, pending) {
-            Ok(put) => {
-                self.give(pass, book);
-                Ok(put)
-            }
-            Err(fault) => {
-                if is_put_said(fault) {
-                    self.give(pass, book);
-                    return Err(fault);
-                }
-                self.put_back(pass, book);
-                Err(fault)
-            }
-        }
+        let put = book.pipe_put(port, pending);
+        self.give(pass, book, is_put_said(&put));
+        put
     }
 }

@@ -42,16 +42,9 @@ impl Fabric {
             (asks.Send port batch.now)) }
     {
         let mut book = self.take(rt, pass);
-        match book.send(port, batch) {
-            Ok(offers) => {
-                self.give(pass, book);
-                Ok(offers)
-            }
-            Err(fault) => {
-                self.put_back(pass, book);
-                Err(fault)
-            }
-        }
+        let sent = book.send(port, batch);
+        self.give(pass, book, sent.is_ok());
+        sent
     }
 
     /// Grants the next of an entry's offers, and takes it out: as many of its first frames as there
@@ -84,7 +77,7 @@ impl Fabric {
     {
         let mut book = self.take(rt, pass);
         let granted = book.grant(offers);
-        self.give(pass, book);
+        self.give(pass, book, true);
         granted
     }
 
@@ -102,6 +95,6 @@ impl Fabric {
     {
         let mut book = self.take(rt, pass);
         book.done(lease);
-        self.give(pass, book);
+        self.give(pass, book, true);
     }
 }

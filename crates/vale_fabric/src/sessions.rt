@@ -21,16 +21,9 @@ impl Fabric {
         ensures full { IfErr result (RefusesIn self.now pass.old pass.new (asks.Enter user)) }
     {
         let mut book = self.take(rt, pass);
-        match book.enter(user) {
-            Ok(session) => {
-                self.give(pass, book);
-                Ok(session)
-            }
-            Err(fault) => {
-                self.put_back(pass, book);
-                Err(fault)
-            }
-        }
+        let entered = book.enter(user);
+        self.give(pass, book, entered.is_ok());
+        entered
     }
 
     /// The session ends.
@@ -42,6 +35,6 @@ impl Fabric {
     {
         let mut book = self.take(rt, pass);
         book.leave(session);
-        self.give(pass, book);
+        self.give(pass, book, true);
     }
 }

@@ -81,39 +81,6 @@ fn room_to_read(
     })
 }
 
-/// A get of a pipe end, or a sync of another port.
-fn sync(
-    book: &mut Book,
-    port: PortId,
-    is_pipe: bool,
-    back: Vec<Buf>,
-) -> Result<Synced, (StepFault, Vec<Buf>)>
-    requires enabled { IsEnabled (standing book.old) (read_ask is_pipe port
-        (indices_of back.items)) }
-    requires of { AreOf book.old.region back.items }
-    ensures made { OnOk result (book.new ≡ after_ask book.old (read_ask is_pipe port
-        (indices_of back.items))) }
-    ensures said { IfOk result (λ synced. reply_to (standing book.old) (read_ask is_pipe port
-        (indices_of back.items))
-        ≡ Some (replies.Gave (length synced.got.items) (dests_wanted synced.offers.wants))) }
-    ensures got { IfOk result (λ synced. IsGiven book.old port synced.got.items) }
-    ensures single { IfOk result (λ synced. All IsSingle synced.got.items) }
-    ensures few { IfOk result (λ synced. length synced.got.items < most_ring) }
-    ensures offers { IfOk result (λ synced. IsOffered book.old book.new port synced.offers) }
-    ensures room { OnOk result (HasRoom book.old (read_ask is_pipe port
-        (indices_of back.items))) }
-    ensures full { IfErr result (λ refused. IsRefusal book.old (read_ask is_pipe port
-        (indices_of back.items)) refused.0) }
-    ensures back { IfErr result (λ refused. refused.1 ≡ back) }
-    ensures err { OnErr result (book.new ≡ book.old) }
-{
-    if is_pipe {
-        book.pipe_get(port, back)
-    } else {
-        book.sync(port, back)
-    }
-}
-
 /// Gives a session what was given and offered, and answers it.
 fn take_in(
     history: &History,
@@ -170,7 +137,7 @@ pub(crate) fn read(
         copies,
         to,
     } = room;
-    match sync(book, port, is_pipe, take_from(user, back, empty)) {
+    match book.read(port, is_pipe, take_from(user, back, empty)) {
         Ok(synced) => Ok(Some(take_in(book.history(), user, synced, copies, to))),
         Err((fault, bufs)) => {
             give(user, bufs);

@@ -10,7 +10,8 @@ use Rattle.vale_serve.specs.Replies.{last_dests}
 use Rattle.vale_serve.specs.Users.{IsUser}
 use Rattle.vale_serve.proofs.Acting.{unserved, user-same, settled-parts}
 use Rattle.vale_serve.proofs.Exchanges.{back-kept}
-use Rattle.vale_serve.proofs.PortReads.{read-of, read-plain, can-read-is, can-read-parts, read-enabled, read-refused, few-copies, count, few-dests, read-served, read-kept}
+use Rattle.vale_serve.proofs.PortReads.{ReadOf, read-of, read-plain, can-read-is, can-read-parts, read-enabled, read-refused, few-copies, count, few-dests, read-served, read-kept}
+use Rattle.vale_serve.proofs.reading.read.Goals.{In-Ok}
 use Rattle.vale_serve.proofs.reading.read.Goals as goal
 
 pub returns-then-not-can_read-clause-served : goal.returns-then-not-can_read-clause-served
@@ -28,29 +29,33 @@ returns-in_err-room-clause-served c =
 pub returns-in_err-room-clause-kept : goal.returns-in_err-room-clause-kept
 returns-in_err-room-clause-kept c = user-same c.args.book.now c.args.user.now c.room_to_read.new.user c.room_to_read.ensures.same c.requires.user
 
-pub sync-requires-clause-enabled : goal.sync-requires-clause-enabled
-sync-requires-clause-enabled c =
+pub read-requires-clause-enabled : goal.read-requires-clause-enabled
+read-requires-clause-enabled c =
     subst (λ (ns : List ℕ). IsEnabled (standing c.args.book.now) (read_ask c.args.is_pipe c.args.port ns)) (sym c.take_from.ensures.bufs.named_is)
     (read-enabled c.args.book.now c.args.user.now c.args.port c.args.seen c.args.is_pipe c.args.back.now c.requires.legal c.requires.user c.requires.asker
     (sym c.can_read.ensures ∙ c.if-not-can_read.false))
 
-pub sync-requires-clause-of : goal.sync-requires-clause-of
-sync-requires-clause-of c =
+pub read-requires-clause-of : goal.read-requires-clause-of
+read-requires-clause-of c =
     c.take_from.ensures.bufs.taken_of c.args.book.now.region
     (subst (λ (bs : List Buffer). AreOf c.args.book.now.region bs) (sym c.room_to_read.ensures.same.bufs) c.requires.user.region_is)
 
+-- what the read gave and left
+what-is-read : (c : In-Ok) → ReadOf c.args.book.now c.read.new.self c.room_to_read.new.user c.take_from.new.user c.args.is_pipe c.args.port c.args.back.now c.take_from.result.items c.in-Ok.synced.got.items
+    c.in-Ok.synced.offers c.ready.result
+what-is-read c =
+    read-of c.args.book.now c.read.new.self c.args.user.now c.room_to_read.new.user c.take_from.new.user c.args.is_pipe c.args.port c.args.seen c.args.back.now c.take_from.result.items c.in-Ok.synced.got.items
+    c.in-Ok.synced.offers c.ready.result c.requires.legal c.requires.user c.requires.asker (sym c.can_read.ensures ∙ c.if-not-can_read.false) c.room_to_read.ensures.same c.take_from.ensures
+    c.in-Ok.ensures.made c.in-Ok.ensures.said c.in-Ok.ensures.room c.in-Ok.ensures.got c.in-Ok.ensures.single c.in-Ok.ensures.offers c.ready.ensures
+
 pub take_in-requires-clause-copies : goal.take_in-requires-clause-copies
 take_in-requires-clause-copies c =
-    let r = read-of c.args.book.now c.sync.new.book c.args.user.now c.room_to_read.new.user c.take_from.new.user c.args.is_pipe c.args.port c.args.seen c.args.back.now c.take_from.result.items c.in-Ok.synced.got.items
-    c.in-Ok.synced.offers c.ready.result c.requires.legal c.requires.user c.requires.asker (sym c.can_read.ensures ∙ c.if-not-can_read.false) c.room_to_read.ensures.same c.take_from.ensures
-    c.in-Ok.ensures.made c.in-Ok.ensures.said c.in-Ok.ensures.room c.in-Ok.ensures.got c.in-Ok.ensures.single c.in-Ok.ensures.offers c.ready.ensures in
+    let r = what-is-read (goal.at.take_in-requires-clause-copies c).In-Ok in
     rw c.in_ok-room.ensures.room.copies (few-copies c.ready.result c.in-Ok.synced.got.items (count r))
 
 pub take_in-requires-clause-room : goal.take_in-requires-clause-room
 take_in-requires-clause-room c =
-    let r = read-of c.args.book.now c.sync.new.book c.args.user.now c.room_to_read.new.user c.take_from.new.user c.args.is_pipe c.args.port c.args.seen c.args.back.now c.take_from.result.items c.in-Ok.synced.got.items
-    c.in-Ok.synced.offers c.ready.result c.requires.legal c.requires.user c.requires.asker (sym c.can_read.ensures ∙ c.if-not-can_read.false) c.room_to_read.ensures.same c.take_from.ensures
-    c.in-Ok.ensures.made c.in-Ok.ensures.said c.in-Ok.ensures.room c.in-Ok.ensures.got c.in-Ok.ensures.single c.in-Ok.ensures.offers c.ready.ensures in
+    let r = what-is-read (goal.at.take_in-requires-clause-room c).In-Ok in
     let count' = count r in
     let fewer = c.take_from.ensures.bufs.fewer in
     let capacity = c.take_from.ensures.capacity in
@@ -64,9 +69,7 @@ take_in-requires-clause-settled c =
 
 pub take_in-requires-clause-dests : goal.take_in-requires-clause-dests
 take_in-requires-clause-dests c =
-    let r = read-of c.args.book.now c.sync.new.book c.args.user.now c.room_to_read.new.user c.take_from.new.user c.args.is_pipe c.args.port c.args.seen c.args.back.now c.take_from.result.items c.in-Ok.synced.got.items
-    c.in-Ok.synced.offers c.ready.result c.requires.legal c.requires.user c.requires.asker (sym c.can_read.ensures ∙ c.if-not-can_read.false) c.room_to_read.ensures.same c.take_from.ensures
-    c.in-Ok.ensures.made c.in-Ok.ensures.said c.in-Ok.ensures.room c.in-Ok.ensures.got c.in-Ok.ensures.single c.in-Ok.ensures.offers c.ready.ensures in
+    let r = what-is-read (goal.at.take_in-requires-clause-dests c).In-Ok in
     let few = few-dests r in
     let entries = ap (λ h. length (last_dests h)) c.history.ensures.entries in
     let room = c.in_ok-room.ensures.room.dests in
@@ -74,16 +77,12 @@ take_in-requires-clause-dests c =
 
 pub returns-in-Ok-clause-served : goal.returns-in-Ok-clause-served
 returns-in-Ok-clause-served c =
-    let r = read-of c.args.book.now c.sync.new.book c.args.user.now c.room_to_read.new.user c.take_from.new.user c.args.is_pipe c.args.port c.args.seen c.args.back.now c.take_from.result.items c.in-Ok.synced.got.items
-    c.in-Ok.synced.offers c.ready.result c.requires.legal c.requires.user c.requires.asker (sym c.can_read.ensures ∙ c.if-not-can_read.false) c.room_to_read.ensures.same c.take_from.ensures
-    c.in-Ok.ensures.made c.in-Ok.ensures.said c.in-Ok.ensures.room c.in-Ok.ensures.got c.in-Ok.ensures.single c.in-Ok.ensures.offers c.ready.ensures in
+    let r = what-is-read (goal.at.returns-in-Ok-clause-served c).In-Ok in
     read-served r c.take_in.result (rw (← c.history.ensures.entries) c.take_in.ensures.reply)
 
 pub returns-in-Ok-clause-kept : goal.returns-in-Ok-clause-kept
 returns-in-Ok-clause-kept c =
-    let r = read-of c.args.book.now c.sync.new.book c.args.user.now c.room_to_read.new.user c.take_from.new.user c.args.is_pipe c.args.port c.args.seen c.args.back.now c.take_from.result.items c.in-Ok.synced.got.items
-    c.in-Ok.synced.offers c.ready.result c.requires.legal c.requires.user c.requires.asker (sym c.can_read.ensures ∙ c.if-not-can_read.false) c.room_to_read.ensures.same c.take_from.ensures
-    c.in-Ok.ensures.made c.in-Ok.ensures.said c.in-Ok.ensures.room c.in-Ok.ensures.got c.in-Ok.ensures.single c.in-Ok.ensures.offers c.ready.ensures in
+    let r = what-is-read (goal.at.returns-in-Ok-clause-kept c).In-Ok in
     let has : HasRead c.take_from.new.user c.in-Ok.synced.got.items c.in-Ok.synced.offers (copies_of c.ready.result) c.take_in.new.user = rw (← c.in_ok-room.ensures.room.copies) c.take_in.ensures.taken in
     read-kept r c.take_in.new.user has c.in_ok-room.ensures.fits.lease
 

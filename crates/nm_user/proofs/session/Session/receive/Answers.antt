@@ -9,7 +9,7 @@ use Rattle.vale_fabric.specs.Fabrics.{Refuses, fixed_in, knowing}
 use Rattle.nm_user.specs.declared.receiving.Received.{Received}
 use Rattle.nm_user.specs.Sessions.{SessionState, IsThere, own_in, session_seen}
 use Rattle.nm_user.specs.Receives.{IsReceived, ReceivesNot}
-use Rattle.nm_user.specs.Receiving.{IsRead}
+use Rattle.vale_fabric.specs.Reading.{IsRead}
 use Rattle.nm_user.proofs.After.{there-still}
 use Rattle.nm_user.proofs.Written.{region-of}
 use Rattle.nm_user.proofs.Receives.{reading, reads-here, may-read, few-gone}

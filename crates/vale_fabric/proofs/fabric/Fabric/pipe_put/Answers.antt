@@ -1,97 +1,77 @@
-use Rattle.std.proofs.Common.{◌≡◌, sym, ◌∙◌, refl, subst}
+use Rattle.std.proofs.Common.{OnOk, refl, sym, subst}
 use Rattle.vale_entry.specs.declared.entry.Ask.TheVariants.{Put}
-use Rattle.vale_book.specs.Putting.{items_of, IsPut}
-use Rattle.vale_book.specs.Recorded.{Recorded, standing, after_ask, HasRoom}
-use Rattle.vale_fabric.specs.Fabrics.{fixed_in, knowing, before}
-use Rattle.vale_fabric.proofs.Making.{enabled-now, adds-now, step-now, made, answered, said-by}
-use Rattle.vale_fabric.proofs.PutsMade.{put-made, put-not, puts-gone, puts-none}
-use Rattle.vale_fabric.proofs.PutsTold.{put-said, copies-fit}
-use Rattle.vale_fabric.proofs.Speaking.{speaks-on}
 use Rattle.vale_port.specs.Kept.{bytes_of}
-use Rattle.vale_fabric.proofs.AtHand.{hand-on, low-pool, copies-are, puts-settled, puts-keep}
-use Rattle.vale_fabric.proofs.Lent.{as-lent, legal-made, legal-same}
+use Rattle.vale_book.specs.Putting.{items_of, IsPut}
+use Rattle.vale_book.specs.Recorded.{Recorded, standing}
+use Rattle.vale_fabric.specs.Fabrics.{before}
+use Rattle.vale_fabric.specs.Puts.{is_put_said}
+use Rattle.vale_fabric.specs.Steps.{is_made}
+use Rattle.vale_fabric.proofs.Acting.{Acts, ActsIf, acted, acts-of, if-acted, may-go}
+use Rattle.vale_fabric.proofs.AtHand.{copies-are, hand-on, low-pool, puts-keep, puts-settled}
+use Rattle.vale_fabric.proofs.Lent.{as-lent}
+use Rattle.vale_fabric.proofs.Making.{answered, enabled-now, said-by, step-now}
+use Rattle.vale_fabric.proofs.PutsMade.{puts-act, puts-not}
+use Rattle.vale_fabric.proofs.PutsTold.{copies-fit, put-said}
+use Rattle.vale_fabric.proofs.Speaking.{speaks-on}
+use Rattle.vale_fabric.proofs.fabric.Fabric.pipe_put.Given as given
+use Rattle.vale_fabric.proofs.fabric.Fabric.pipe_put.Goals.{After-pipe_put-put}
 use Rattle.vale_fabric.proofs.fabric.Fabric.pipe_put.Goals as goal
 
-pub pipe_put-requires-clause-enabled : goal.pipe_put-requires-clause-enabled
-pipe_put-requires-clause-enabled g c = enabled-now c.requires.may (as-lent c.deref_mut.ensures.value c.take-book.ensures.taken)
+did : (g : given.Over) (c : After-pipe_put-put g) → ActsIf (is_made is_put_said c.pipe_put-put.result) c.deref_mut.result.now c.pipe_put-put.new.self (Put c.args.port (items_of c.args.pending.now.items))
+did g c =
+    let e = c.pipe_put-put.ensures in
+    puts-act c.deref_mut.result.now c.pipe_put-put.new.self c.pipe_put-put.result (step-now c.requires.may (as-lent c.deref_mut.ensures.value c.take-book.ensures.taken) tt) e.made e.room e.err
 
-pub give-requires-clause-adds : goal.give-requires-clause-adds
-give-requires-clause-adds g c =
-    adds-now c.requires.may (as-lent c.deref_mut.ensures.value c.take-book.ensures.taken) refl (step-now c.requires.may (as-lent c.deref_mut.ensures.value c.take-book.ensures.taken) tt) c.in-Ok.ensures.made
+acts : (g : given.Over) (c : After-pipe_put-put g) → OnOk c.pipe_put-put.result (Acts c.deref_mut.result.now c.pipe_put-put.new.self (Put c.args.port (items_of c.args.pending.now.items)))
+acts g c = acts-of c.deref_mut.result.now c.pipe_put-put.new.self (Put c.args.port (items_of c.args.pending.now.items)) is_put_said c.pipe_put-put.result (did g c)
 
-pub returns-in-Ok-clause-made : goal.returns-in-Ok-clause-made
-returns-in-Ok-clause-made g c =
-    let steps = step-now c.requires.may (as-lent c.deref_mut.ensures.value c.take-book.ensures.taken) tt in
-    answered (made (as-lent c.deref_mut.ensures.value c.take-book.ensures.taken) steps c.in-Ok.ensures.made c.in-Ok.ensures.room c.give.ensures.back)
-    (said-by steps (put-said steps (as-lent c.deref_mut.ensures.value c.take-book.ensures.taken).legal c.in-Ok.ensures.put))
+pub pipe_put-put-requires-clause-enabled : goal.pipe_put-put-requires-clause-enabled
+pipe_put-put-requires-clause-enabled g c = enabled-now c.requires.may (as-lent c.deref_mut.ensures.value c.take-book.ensures.taken)
 
-pub returns-in-Ok-clause-fit : goal.returns-in-Ok-clause-fit
-returns-in-Ok-clause-fit g c = copies-fit (step-now c.requires.may (as-lent c.deref_mut.ensures.value c.take-book.ensures.taken) tt) c.in-Ok.ensures.put
+pub give-requires-clause-goes : goal.give-requires-clause-goes
+give-requires-clause-goes g c = may-go (as-lent c.deref_mut.ensures.value c.take-book.ensures.taken) c.is_put_said.ensures c.requires.may refl (did g (goal.at.give-requires-clause-goes g c).After-pipe_put-put)
 
-pub returns-in-Ok-clause-put : goal.returns-in-Ok-clause-put
-returns-in-Ok-clause-put g c =
-    let is = made (as-lent c.deref_mut.ensures.value c.take-book.ensures.taken) (step-now c.requires.may (as-lent c.deref_mut.ensures.value c.take-book.ensures.taken) tt) c.in-Ok.ensures.made c.in-Ok.ensures.room c.give.ensures.back in
-    subst (λ (new : Recorded). IsPut (before c.args.self.now c.give.new.pass) new c.args.port c.args.pending.now.items c.in-Ok.put) (sym is.now)
-    (subst (λ (old : Recorded). IsPut old c.pipe_put.new.self c.args.port c.args.pending.now.items c.in-Ok.put) (sym is.was) c.in-Ok.ensures.put)
+pub returns-clause-made : goal.returns-clause-made
+returns-clause-made g c =
+    let taken = (as-lent c.deref_mut.ensures.value c.take-book.ensures.taken) in
+    let back = c.give.ensures.back in
+    if-acted taken back c.pipe_put-put.result (acts g (goal.at.returns-clause-made g c).After-pipe_put-put) c.pipe_put-put.ensures.put
+    (λ put a is. answered (acted taken back a) (said-by a.steps (put-said a.steps taken.legal is)))
 
-pub give-requires-then-is_put_said-clause-adds : goal.give-requires-then-is_put_said-clause-adds
-give-requires-then-is_put_said-clause-adds g c =
-    let said = sym c.if-is_put_said.true ∙ c.is_put_said.ensures in
-    let ask = Put c.args.port (items_of c.args.pending.now.items) in
-    adds-now c.requires.may (as-lent c.deref_mut.ensures.value c.take-book.ensures.taken) refl (step-now c.requires.may (as-lent c.deref_mut.ensures.value c.take-book.ensures.taken) tt)
-    (put-made c.in-Err.fault (c.pipe_put.new.self ≡ after_ask c.deref_mut.result.now ask) said c.in-Err.ensures.made)
+pub returns-clause-put : goal.returns-clause-put
+returns-clause-put g c =
+    let taken = (as-lent c.deref_mut.ensures.value c.take-book.ensures.taken) in
+    let back = c.give.ensures.back in
+    if-acted taken back c.pipe_put-put.result (acts g (goal.at.returns-clause-put g c).After-pipe_put-put) c.pipe_put-put.ensures.put
+    (λ put a is.
+    let m = acted taken back a in
+    subst (λ (new : Recorded). IsPut (before c.args.self.now c.give.new.pass) new c.args.port c.args.pending.now.items put) (sym m.now)
+    (subst (λ (old : Recorded). IsPut old c.pipe_put-put.new.self c.args.port c.args.pending.now.items put) (sym m.was) is))
 
-pub returns-then-is_put_said-clause-refused : goal.returns-then-is_put_said-clause-refused
-returns-then-is_put_said-clause-refused g c =
-    let said = sym c.if-is_put_said.true ∙ c.is_put_said.ensures in
-    let ask = Put c.args.port (items_of c.args.pending.now.items) in
-    let grown = put-made c.in-Err.fault (c.pipe_put.new.self ≡ after_ask c.deref_mut.result.now ask) said c.in-Err.ensures.made in
-    let room = put-made c.in-Err.fault (HasRoom c.deref_mut.result.now ask) said c.in-Err.ensures.room in
-    let steps = step-now c.requires.may (as-lent c.deref_mut.ensures.value c.take-book.ensures.taken) tt in
-    let is = made (as-lent c.deref_mut.ensures.value c.take-book.ensures.taken) steps grown room c.give-then-is_put_said.ensures.back in
-    puts-gone (fixed_in c.args.self.now) (knowing c.args.pass.now) (knowing c.give-then-is_put_said.new.pass) c.deref_mut.result.now c.pipe_put.new.self c.args.port
-    (items_of c.args.pending.now.items) c.in-Err.fault said is steps c.in-Err.ensures.refused
+pub returns-clause-fit : goal.returns-clause-fit
+returns-clause-fit g c =
+    if-acted (as-lent c.deref_mut.ensures.value c.take-book.ensures.taken) c.give.ensures.back c.pipe_put-put.result (acts g (goal.at.returns-clause-fit g c).After-pipe_put-put) c.pipe_put-put.ensures.put
+    (λ put a is. copies-fit a.steps is)
 
-pub returns-else-is_put_said-clause-refused : goal.returns-else-is_put_said-clause-refused
-returns-else-is_put_said-clause-refused g c =
-    let said = sym c.if-is_put_said.false ∙ c.is_put_said.ensures in
-    let steps = step-now c.requires.may (as-lent c.deref_mut.ensures.value c.take-book.ensures.taken) tt in
-    let same = put-not c.in-Err.fault (c.pipe_put.new.self ≡ c.deref_mut.result.now) said c.in-Err.ensures.err in
-    puts-none (fixed_in c.args.self.now) (knowing c.args.pass.now) (knowing c.take-book.new.pass) (knowing c.put_back.new.pass) c.deref_mut.result.now c.pipe_put.new.self c.args.port
-    (items_of c.args.pending.now.items) c.in-Err.fault said (as-lent c.deref_mut.ensures.value c.take-book.ensures.taken) steps same c.in-Err.ensures.refused c.put_back.ensures.back
+pub returns-clause-speaks : goal.returns-clause-speaks
+returns-clause-speaks g c =
+    let taken = (as-lent c.deref_mut.ensures.value c.take-book.ensures.taken) in
+    let back = c.give.ensures.back in
+    if-acted taken back c.pipe_put-put.result (acts g (goal.at.returns-clause-speaks g c).After-pipe_put-put) c.pipe_put-put.ensures.put
+    (λ put a is some. speaks-on put.offers c.requires.may taken refl a back is.is.offers.stand is.is.offers.entry some)
 
-pub returns-in-Ok-clause-speaks : goal.returns-in-Ok-clause-speaks
-returns-in-Ok-clause-speaks g c some =
-    let steps = step-now c.requires.may (as-lent c.deref_mut.ensures.value c.take-book.ensures.taken) tt in
-    let m = made (as-lent c.deref_mut.ensures.value c.take-book.ensures.taken) steps c.in-Ok.ensures.made c.in-Ok.ensures.room c.give.ensures.back in
-    let given = c.in-Ok.ensures.put.is.offers in
-    speaks-on c.in-Ok.put.offers c.requires.may (as-lent c.deref_mut.ensures.value c.take-book.ensures.taken) refl steps c.in-Ok.ensures.made c.give.ensures.back.legal m given.stand given.entry some
-
-pub returns-in-Ok-clause-hand : goal.returns-in-Ok-clause-hand
-returns-in-Ok-clause-hand g c some =
-    let s = standing c.deref_mut.result.now in
+pub returns-clause-hand : goal.returns-clause-hand
+returns-clause-hand g c =
+    let taken = (as-lent c.deref_mut.ensures.value c.take-book.ensures.taken) in
+    let back = c.give.ensures.back in
     let items = items_of c.args.pending.now.items in
-    let steps = step-now c.requires.may (as-lent c.deref_mut.ensures.value c.take-book.ensures.taken) tt in
-    let m = made (as-lent c.deref_mut.ensures.value c.take-book.ensures.taken) steps c.in-Ok.ensures.made c.in-Ok.ensures.room c.give.ensures.back in
-    let put = c.in-Ok.ensures.put in
-    let given = put.is.offers in
-    let has = copies-are c.pipe_put.new.self put.port.session _ _ c.in-Ok.put.copies c.in-Ok.put.offers given put.is.copies some in
-    let said = put-said steps (as-lent c.deref_mut.ensures.value c.take-book.ensures.taken).legal put in
-    hand-on c.in-Ok.put.offers (bytes_of c.in-Ok.put.copies) c.requires.may (low-pool c.args.self.now) (as-lent c.deref_mut.ensures.value c.take-book.ensures.taken) refl steps c.in-Ok.ensures.made c.give.ensures.back.legal m has given.entry
-    (puts-settled c.requires.may.session c.args.port items) (puts-keep s c.args.port items _ steps.makes.reply _ said) some
+    if-acted taken back c.pipe_put-put.result (acts g (goal.at.returns-clause-hand g c).After-pipe_put-put) c.pipe_put-put.ensures.put
+    (λ put a is some.
+    let has = copies-are c.pipe_put-put.new.self is.port.session _ _ put.copies put.offers is.is.offers is.is.copies some in
+    hand-on put.offers (bytes_of put.copies) c.requires.may (low-pool c.args.self.now) taken refl a back has is.is.offers.entry
+    (puts-settled c.requires.may.session c.args.port items) (puts-keep (standing c.deref_mut.result.now) c.args.port items _ a.steps.makes.reply _ (put-said a.steps taken.legal is)) some)
 
-pub give-requires-clause-legal : goal.give-requires-clause-legal
-give-requires-clause-legal g c = legal-made (as-lent c.deref_mut.ensures.value c.take-book.ensures.taken) (step-now c.requires.may (as-lent c.deref_mut.ensures.value c.take-book.ensures.taken) tt) c.in-Ok.ensures.made c.in-Ok.ensures.room
-
-pub give-requires-then-is_put_said-clause-legal : goal.give-requires-then-is_put_said-clause-legal
-give-requires-then-is_put_said-clause-legal g c =
-    let said = sym c.if-is_put_said.true ∙ c.is_put_said.ensures in
-    let ask = Put c.args.port (items_of c.args.pending.now.items) in
-    let grown = put-made c.in-Err.fault (c.pipe_put.new.self ≡ after_ask c.deref_mut.result.now ask) said c.in-Err.ensures.made in
-    let room = put-made c.in-Err.fault (HasRoom c.deref_mut.result.now ask) said c.in-Err.ensures.room in
-    legal-made (as-lent c.deref_mut.ensures.value c.take-book.ensures.taken) (step-now c.requires.may (as-lent c.deref_mut.ensures.value c.take-book.ensures.taken) tt) grown room
-
-pub put_back-requires-clause-legal : goal.put_back-requires-clause-legal
-put_back-requires-clause-legal g c =
-    let said = sym c.if-is_put_said.false ∙ c.is_put_said.ensures in
-    legal-same (as-lent c.deref_mut.ensures.value c.take-book.ensures.taken) (put-not c.in-Err.fault (c.pipe_put.new.self ≡ c.deref_mut.result.now) said c.in-Err.ensures.err)
+pub returns-clause-refused : goal.returns-clause-refused
+returns-clause-refused g c =
+    let taken = (as-lent c.deref_mut.ensures.value c.take-book.ensures.taken) in
+    puts-not c.pipe_put-put.result taken (step-now c.requires.may taken tt) (did g (goal.at.returns-clause-refused g c).After-pipe_put-put) c.give.ensures.back c.pipe_put-put.ensures.refused

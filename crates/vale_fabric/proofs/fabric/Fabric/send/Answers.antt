@@ -1,50 +1,62 @@
 use Rattle.std.proofs.Common.{refl, sym, subst}
+use Rattle.nm_types.specs.declared.fault.StepFault.{StepFault}
+use Rattle.vale_entry.specs.declared.entry.Reply.{Reply}
+use Rattle.vale_entry.specs.declared.entry.Reply.TheVariants.{Offered}
+use Rattle.vale_parts.specs.Batches.{dests_wanted}
+use Rattle.vale_port.specs.Kept.{bytes_of}
+use Rattle.vale_book.specs.Offering.{OffersState}
 use Rattle.vale_book.specs.Recorded.{Recorded, standing}
 use Rattle.vale_book.specs.Sending.{IsSent}
-use Rattle.vale_fabric.proofs.Making.{enabled-now, adds-now, step-now, made, answered, refused}
-use Rattle.vale_fabric.proofs.Speaking.{speaks-on}
-use Rattle.vale_port.specs.Kept.{bytes_of}
+use Rattle.vale_entry.specs.declared.entry.Ask.TheVariants.{Send}
+use Rattle.vale_fabric.proofs.Acting.{acts-said, acted, if-acted, goes-said, answers-said, refuses}
 use Rattle.vale_fabric.proofs.AtHand.{hand-on, low-pool, sends-settled, sends-keep}
-use Rattle.vale_fabric.proofs.Lent.{as-lent, legal-made, legal-same}
+use Rattle.vale_fabric.proofs.Lent.{as-lent}
+use Rattle.vale_fabric.proofs.Making.{enabled-now}
+use Rattle.vale_fabric.proofs.Speaking.{speaks-on}
 use Rattle.vale_fabric.proofs.fabric.Fabric.send.Goals as goal
 
-pub send-requires : goal.send-requires
-send-requires g c = enabled-now c.requires.may (as-lent c.deref_mut.ensures.value c.take-book.ensures.taken)
+abbrev reply : OffersState → Reply
+reply o = Offered o.short o.lone (dests_wanted o.wants)
 
-pub give-requires-clause-adds : goal.give-requires-clause-adds
-give-requires-clause-adds g c =
-    adds-now c.requires.may (as-lent c.deref_mut.ensures.value c.take-book.ensures.taken) refl (step-now c.requires.may (as-lent c.deref_mut.ensures.value c.take-book.ensures.taken) tt) c.in-Ok.ensures.made
+pub send-sent-requires : goal.send-sent-requires
+send-sent-requires g c = enabled-now c.requires.may (as-lent c.deref_mut.ensures.value c.take-book.ensures.taken)
 
-pub returns-in-Ok-clause-made : goal.returns-in-Ok-clause-made
-returns-in-Ok-clause-made g c =
-    answered (made (as-lent c.deref_mut.ensures.value c.take-book.ensures.taken) (step-now c.requires.may (as-lent c.deref_mut.ensures.value c.take-book.ensures.taken) tt) c.in-Ok.ensures.made c.in-Ok.ensures.room c.give.ensures.back) c.in-Ok.ensures.said
+pub give-requires-clause-goes : goal.give-requires-clause-goes
+give-requires-clause-goes g c =
+    let e = c.send-sent.ensures in
+    goes-said (as-lent c.deref_mut.ensures.value c.take-book.ensures.taken) reply c.send-sent.result c.is_ok.ensures.value c.requires.may refl e.said e.made e.room e.err
 
-pub returns-in-Ok-clause-offers : goal.returns-in-Ok-clause-offers
-returns-in-Ok-clause-offers g c =
-    let is = made (as-lent c.deref_mut.ensures.value c.take-book.ensures.taken) (step-now c.requires.may (as-lent c.deref_mut.ensures.value c.take-book.ensures.taken) tt) c.in-Ok.ensures.made c.in-Ok.ensures.room c.give.ensures.back in
-    subst (λ (new : Recorded). IsSent new c.args.batch.now c.in-Ok.offers) (sym is.now) c.in-Ok.ensures.offers
+pub returns-clause-made : goal.returns-clause-made
+returns-clause-made g c =
+    let e = c.send-sent.ensures in
+    answers-said (Send c.args.port c.args.batch.now) (as-lent c.deref_mut.ensures.value c.take-book.ensures.taken) c.give.ensures.back reply c.send-sent.result e.said e.made e.room
 
-pub returns-in-Err-clause-full : goal.returns-in-Err-clause-full
-returns-in-Err-clause-full g c = refused (as-lent c.deref_mut.ensures.value c.take-book.ensures.taken) c.in-Err.ensures.err c.in-Err.ensures.full c.put_back.ensures.back
+pub returns-clause-offers : goal.returns-clause-offers
+returns-clause-offers g c =
+    let e = c.send-sent.ensures in
+    let taken = (as-lent c.deref_mut.ensures.value c.take-book.ensures.taken) in
+    let back = c.give.ensures.back in
+    if-acted taken back c.send-sent.result (acts-said c.deref_mut.result.now c.send-sent.new.self (Send c.args.port c.args.batch.now) reply c.send-sent.result e.said e.made e.room) e.offers
+    (λ o acts sent. subst (λ (new : Recorded). IsSent new c.args.batch.now o) (sym (acted taken back acts).now) sent)
 
-pub returns-in-Ok-clause-speaks : goal.returns-in-Ok-clause-speaks
-returns-in-Ok-clause-speaks g c some =
-    let steps = step-now c.requires.may (as-lent c.deref_mut.ensures.value c.take-book.ensures.taken) tt in
-    let m = made (as-lent c.deref_mut.ensures.value c.take-book.ensures.taken) steps c.in-Ok.ensures.made c.in-Ok.ensures.room c.give.ensures.back in
-    let sent = c.in-Ok.ensures.offers in
-    speaks-on c.in-Ok.offers c.requires.may (as-lent c.deref_mut.ensures.value c.take-book.ensures.taken) refl steps c.in-Ok.ensures.made c.give.ensures.back.legal m sent.stand sent.entry some
+pub returns-clause-speaks : goal.returns-clause-speaks
+returns-clause-speaks g c =
+    let e = c.send-sent.ensures in
+    let taken = (as-lent c.deref_mut.ensures.value c.take-book.ensures.taken) in
+    let back = c.give.ensures.back in
+    if-acted taken back c.send-sent.result (acts-said c.deref_mut.result.now c.send-sent.new.self (Send c.args.port c.args.batch.now) reply c.send-sent.result e.said e.made e.room) e.offers
+    (λ o acts sent some. speaks-on o c.requires.may taken refl acts back sent.stand sent.entry some)
 
-pub returns-in-Ok-clause-hand : goal.returns-in-Ok-clause-hand
-returns-in-Ok-clause-hand g c some =
-    let steps = step-now c.requires.may (as-lent c.deref_mut.ensures.value c.take-book.ensures.taken) tt in
-    let m = made (as-lent c.deref_mut.ensures.value c.take-book.ensures.taken) steps c.in-Ok.ensures.made c.in-Ok.ensures.room c.give.ensures.back in
-    let sent = c.in-Ok.ensures.offers in
-    hand-on c.in-Ok.offers (bytes_of c.args.batch.now) c.requires.may (low-pool c.args.self.now) (as-lent c.deref_mut.ensures.value c.take-book.ensures.taken) refl steps c.in-Ok.ensures.made c.give.ensures.back.legal m
-    (record { frames = c.args.batch.now; stand = record { stand = sent.stand; frames_are = sent.frames_are }; bytes_are = refl }) sent.entry
-    (sends-settled c.requires.may.session c.args.port c.args.batch.now) (sends-keep (standing c.deref_mut.result.now) c.args.port c.args.batch.now steps.makes.reply) some
+pub returns-clause-hand : goal.returns-clause-hand
+returns-clause-hand g c =
+    let e = c.send-sent.ensures in
+    let taken = (as-lent c.deref_mut.ensures.value c.take-book.ensures.taken) in
+    let back = c.give.ensures.back in
+    let frames = c.args.batch.now in
+    if-acted taken back c.send-sent.result (acts-said c.deref_mut.result.now c.send-sent.new.self (Send c.args.port c.args.batch.now) reply c.send-sent.result e.said e.made e.room) e.offers
+    (λ o acts sent some. hand-on o (bytes_of frames) c.requires.may (low-pool c.args.self.now) taken refl acts back
+    (record { frames = frames; stand = record { stand = sent.stand; frames_are = sent.frames_are }; bytes_are = refl }) sent.entry
+    (sends-settled c.requires.may.session c.args.port frames) (sends-keep (standing c.deref_mut.result.now) c.args.port frames acts.steps.makes.reply) some)
 
-pub give-requires-clause-legal : goal.give-requires-clause-legal
-give-requires-clause-legal g c = legal-made (as-lent c.deref_mut.ensures.value c.take-book.ensures.taken) (step-now c.requires.may (as-lent c.deref_mut.ensures.value c.take-book.ensures.taken) tt) c.in-Ok.ensures.made c.in-Ok.ensures.room
-
-pub put_back-requires-clause-legal : goal.put_back-requires-clause-legal
-put_back-requires-clause-legal g c = legal-same (as-lent c.deref_mut.ensures.value c.take-book.ensures.taken) c.in-Err.ensures.err
+pub returns-clause-full : goal.returns-clause-full
+returns-clause-full g c = refuses (Send c.args.port c.args.batch.now) (as-lent c.deref_mut.ensures.value c.take-book.ensures.taken) c.give.ensures.back c.send-sent.result (λ (fault : StepFault). fault) c.send-sent.ensures.err c.send-sent.ensures.full

@@ -7,7 +7,9 @@ use Rattle.vale_book.specs.Recorded.{standing}
 use Rattle.vale_fabric.specs.Fabrics.{fixed_in, knowing, seen_by}
 use Rattle.vale_fabric.specs.Leases.{MayFillFrom, StandOf}
 use Rattle.vale_fabric.specs.Settling.{IsAtHand, frames_wanted, shared_in}
-use Rattle.vale_fabric.proofs.GrantsSettle.{for-bytes, as-many-places, may-fill-from, settled-next}
+use Rattle.vale_fabric.proofs.GrantsSettle.{Rest, for-bytes, as-many-places, may-fill-from, settled-next}
+use Rattle.vale_fabric.proofs.fabric.Fabric.settle_next.Given as given
+use Rattle.vale_fabric.proofs.fabric.Fabric.settle_next.Goals.{After-complete}
 use Rattle.vale_fabric.proofs.fabric.Fabric.settle_next.Goals as goal
 
 pub slice_bounds-places-end : goal.slice_bounds-places-end
@@ -27,32 +29,27 @@ complete-requires-clause-held g c κs within =
     subst (λ (l : List ℕ). IfSome c.grant-given.result.lease (λ lease. MayFillFrom (fixed_in c.args.self.now) (knowing c.grant-given.new.pass) lease (bytes_from c.args.frames) (take given l))) (sym c.deref.ensures.value)
     (may-fill-from c.args.offers.now.session (bytes_from c.args.frames) (take given c.grant-given.result.want.places.items) c.grant-given.result.lease c.grant-given.ensures.made.makes c.requires.hand.speaks held)
 
+rest : (g : given.Over) (c : After-complete g) → Rest (fixed_in c.args.self.now) (knowing c.args.pass.now) (knowing c.complete.new.pass) c.args.offers.now (bytes_from c.args.frames)
+    (record { given = c.grant-given.result.given; full = c.grant-given.result.full; gone = c.grant-given.result.gone })
+rest g c =
+    let call = c.grant-given.ensures in
+    let said = c.grant-given.result in
+    let o = c.args.offers.now in
+    let stands = λ (frames : List Frame) (st : StandOf (standing (seen_by c.args.self.now c.args.pass.now)) o frames). subst (λ (x : OffersState). StandOf (standing (seen_by c.args.self.now c.grant-given.new.pass)) x frames) call.offers (call.frames frames st) in
+    settled-next o (bytes_from c.args.frames) said.to said.given said.full said.gone said.lease c.requires.hand c.requires.next call.made call.given stands call.held c.complete.ensures.none c.complete.ensures.some
+
 pub returns-clause-hand : goal.returns-clause-hand
 returns-clause-hand g c =
-    let call = c.grant-given.ensures in
-    let said = c.grant-given.result in
-    let o = c.args.offers.now in
-    let stands = λ (frames : List Frame) (st : StandOf (standing (seen_by c.args.self.now c.args.pass.now)) o frames). subst (λ (x : OffersState). StandOf (standing (seen_by c.args.self.now c.grant-given.new.pass)) x frames) call.offers (call.frames frames st) in
-    let rest = settled-next o (bytes_from c.args.frames) said.to said.given said.full said.gone said.lease c.requires.hand c.requires.next call.made call.given stands call.held c.complete.ensures.none c.complete.ensures.some in
-    subst (λ (x : OffersState). IsAtHand (fixed_in c.args.self.now) (knowing c.complete.new.pass) x (bytes_from c.args.frames)) (sym call.offers) rest.hand
+    subst (λ (x : OffersState). IsAtHand (fixed_in c.args.self.now) (knowing c.complete.new.pass) x (bytes_from c.args.frames)) (sym c.grant-given.ensures.offers) (rest g (goal.at.returns-clause-hand g c).After-complete).hand
 
 pub returns-clause-settling : goal.returns-clause-settling
-returns-clause-settling g c =
-    let call = c.grant-given.ensures in
-    let said = c.grant-given.result in
-    let o = c.args.offers.now in
-    let stands = λ (frames : List Frame) (st : StandOf (standing (seen_by c.args.self.now c.args.pass.now)) o frames). subst (λ (x : OffersState). StandOf (standing (seen_by c.args.self.now c.grant-given.new.pass)) x frames) call.offers (call.frames frames st) in
-    let rest = settled-next o (bytes_from c.args.frames) said.to said.given said.full said.gone said.lease c.requires.hand c.requires.next call.made call.given stands call.held c.complete.ensures.none c.complete.ensures.some in
-    rest.settling
+returns-clause-settling g c = (rest g (goal.at.returns-clause-settling g c).After-complete).settling
 
 pub returns-clause-all : goal.returns-clause-all
 returns-clause-all g c =
-    let call = c.grant-given.ensures in
     let said = c.grant-given.result in
-    let o = c.args.offers.now in
-    let stands = λ (frames : List Frame) (st : StandOf (standing (seen_by c.args.self.now c.args.pass.now)) o frames). subst (λ (x : OffersState). StandOf (standing (seen_by c.args.self.now c.grant-given.new.pass)) x frames) call.offers (call.frames frames st) in
-    let rest = settled-next o (bytes_from c.args.frames) said.to said.given said.full said.gone said.lease c.requires.hand c.requires.next call.made call.given stands call.held c.complete.ensures.none c.complete.ensures.some in
-    subst (λ (x : OffersState). shared_in (record { given = said.given; full = said.full; gone = said.gone }) + frames_wanted x.wants ≡ frames_wanted o.wants) (sym call.offers) rest.all
+    subst (λ (x : OffersState). shared_in (record { given = said.given; full = said.full; gone = said.gone }) + frames_wanted x.wants ≡ frames_wanted c.args.offers.now.wants) (sym c.grant-given.ensures.offers)
+    (rest g (goal.at.returns-clause-all g c).After-complete).all
 
 pub returns-clause-fewer : goal.returns-clause-fewer
 returns-clause-fewer g c =

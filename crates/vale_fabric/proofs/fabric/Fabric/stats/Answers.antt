@@ -1,25 +1,24 @@
 use Rattle.std.proofs.Common.{refl}
-use Rattle.vale_fabric.proofs.Making.{enabled-now, adds-now, step-now, made, answered, refused}
-use Rattle.vale_fabric.proofs.Lent.{as-lent, legal-made, legal-same}
+use Rattle.nm_types.specs.declared.fault.StepFault.{StepFault}
+use Rattle.vale_entry.specs.declared.entry.Reply.TheVariants.{Counted}
+use Rattle.vale_entry.specs.declared.entry.Ask.TheVariants.{Stat}
+use Rattle.vale_fabric.proofs.Acting.{goes-said, answers-said, refuses}
+use Rattle.vale_fabric.proofs.Lent.{as-lent}
+use Rattle.vale_fabric.proofs.Making.{enabled-now}
 use Rattle.vale_fabric.proofs.fabric.Fabric.stats.Goals as goal
 
-pub stats-requires : goal.stats-requires
-stats-requires g c = enabled-now c.requires.may (as-lent c.deref_mut.ensures.value c.take-book.ensures.taken)
+pub stats-counts-requires : goal.stats-counts-requires
+stats-counts-requires g c = enabled-now c.requires.may (as-lent c.deref_mut.ensures.value c.take-book.ensures.taken)
 
-pub give-requires-clause-adds : goal.give-requires-clause-adds
-give-requires-clause-adds g c =
-    adds-now c.requires.may (as-lent c.deref_mut.ensures.value c.take-book.ensures.taken) refl (step-now c.requires.may (as-lent c.deref_mut.ensures.value c.take-book.ensures.taken) tt) c.in-Ok.ensures.made
+pub give-requires-clause-goes : goal.give-requires-clause-goes
+give-requires-clause-goes g c =
+    let e = c.stats-counts.ensures in
+    goes-said (as-lent c.deref_mut.ensures.value c.take-book.ensures.taken) Counted c.stats-counts.result c.is_ok.ensures.value c.requires.may refl e.said e.made e.room e.err
 
-pub returns-in-Ok-clause-made : goal.returns-in-Ok-clause-made
-returns-in-Ok-clause-made g c =
-    let steps = step-now c.requires.may (as-lent c.deref_mut.ensures.value c.take-book.ensures.taken) tt in
-    answered (made (as-lent c.deref_mut.ensures.value c.take-book.ensures.taken) steps c.in-Ok.ensures.made c.in-Ok.ensures.room c.give.ensures.back) c.in-Ok.ensures.said
+pub returns-clause-made : goal.returns-clause-made
+returns-clause-made g c =
+    let e = c.stats-counts.ensures in
+    answers-said (Stat c.args.port) (as-lent c.deref_mut.ensures.value c.take-book.ensures.taken) c.give.ensures.back Counted c.stats-counts.result e.said e.made e.room
 
-pub returns-in-Err-clause-full : goal.returns-in-Err-clause-full
-returns-in-Err-clause-full g c = refused (as-lent c.deref_mut.ensures.value c.take-book.ensures.taken) c.in-Err.ensures.err c.in-Err.ensures.full c.put_back.ensures.back
-
-pub give-requires-clause-legal : goal.give-requires-clause-legal
-give-requires-clause-legal g c = legal-made (as-lent c.deref_mut.ensures.value c.take-book.ensures.taken) (step-now c.requires.may (as-lent c.deref_mut.ensures.value c.take-book.ensures.taken) tt) c.in-Ok.ensures.made c.in-Ok.ensures.room
-
-pub put_back-requires-clause-legal : goal.put_back-requires-clause-legal
-put_back-requires-clause-legal g c = legal-same (as-lent c.deref_mut.ensures.value c.take-book.ensures.taken) c.in-Err.ensures.err
+pub returns-clause-full : goal.returns-clause-full
+returns-clause-full g c = refuses (Stat c.args.port) (as-lent c.deref_mut.ensures.value c.take-book.ensures.taken) c.give.ensures.back c.stats-counts.result (λ (fault : StepFault). fault) c.stats-counts.ensures.err c.stats-counts.ensures.full

@@ -13,4 +13,4 @@ returns-clause-made g c =
     let many : length c.in-Ok.synced.got.items ≡ c.args.count = search rules in
     subst (λ (n : ℕ). AnswersIn c.args.fabric.now c.args.pass.now c.sync.new.pass (asks.Sync c.args.port []) (replies.Gave n [])) many
     (subst (λ (wants : List Wanted). AnswersIn c.args.fabric.now c.args.pass.now c.sync.new.pass (asks.Sync c.args.port []) (replies.Gave (length c.in-Ok.synced.got.items) (dests_wanted wants))) none
-    (subst (λ (bufs : List Buffer). AnswersIn c.args.fabric.now c.args.pass.now c.sync.new.pass (asks.Sync c.args.port (indices_of bufs)) (replies.Gave (length c.in-Ok.synced.got.items) (dests_wanted c.in-Ok.synced.offers.wants))) c.new.ensures.items c.in-Ok.ensures.made))
+    (subst (λ (bufs : List Buffer). AnswersIn c.args.fabric.now c.args.pass.now c.sync.new.pass (asks.Sync c.args.port (indices_of bufs)) (replies.Gave (length c.in-Ok.synced.got.items) (dests_wanted c.in-Ok.synced.offers.wants))) c.new.ensures.items c.in-Ok.ensures.read.made))
