@@ -15,3 +15,4 @@ pub mod LentSlots
 pub mod Copies
 pub mod CopiesIn
 pub mod PortPlaces
+pub mod Words

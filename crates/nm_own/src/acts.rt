@@ -1,7 +1,7 @@
 ghost use Rattle.std.specs.Prelude.{◌≡◌, ◌≤◌, length, is_some, unwrap_or};
-ghost use Rattle.nm_types.specs.OwnEdits.{with_positions, with_all_back, with_slot_field};
-ghost use Rattle.nm_types.specs.OwnEdits.{slot_naming, slot_of_place, with_slots_swapped};
-ghost use Rattle.nm_types.specs.OwnEdits.{has_room, with_frame, with_forwarded};
+ghost use Rattle.nm_own.specs.Words.{has_room, slot_naming, slot_of_place, with_all_back};
+ghost use Rattle.nm_own.specs.Words.{with_forwarded, with_frame, with_positions, with_slot_field};
+ghost use Rattle.nm_own.specs.Words.{with_slots_swapped};
 ghost use Rattle.nm_own.specs.Acts.{place_seen, after_one};
 
 use crate::edit::RingEdit;

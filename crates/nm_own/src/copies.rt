@@ -1,7 +1,6 @@
 //! Copies of a frame, put into a transmit ring one after another.
 ghost use Rattle.std.specs.Prelude.{◌≡◌, ◌≤◌, length};
-ghost use Rattle.nm_types.specs.declared.id.Side.TheVariants.{Tx};
-ghost use Rattle.nm_port.specs.Own.{IsTxSide, port_changed};
+ghost use Rattle.nm_own.specs.Words.{IsTxSide, Tx, port_changed};
 ghost use Rattle.nm_own.specs.Copies.{with_copies, AreCopies};
 ghost use Rattle.nm_own.specs.CopiesIn.{ring_behind, IsFronted, ArePutIn, ArePutOn};
 

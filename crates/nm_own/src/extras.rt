@@ -1,6 +1,5 @@
 ghost use Rattle.std.specs.Prelude.{◌≡◌, map};
-ghost use Rattle.nm_types.specs.OwnEdits.{with_extra_link};
-ghost use Rattle.nm_port.specs.Own.{port_seen};
+ghost use Rattle.nm_own.specs.Words.{port_seen, with_extra_link};
 ghost use Rattle.nm_own.specs.ExtraChain.{extra_at, extra_numbered, port_headed_if};
 
 use crate::own::OwnSide;

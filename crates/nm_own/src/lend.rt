@@ -1,14 +1,9 @@
 ghost use Rattle.std.specs.Prelude.{ℕ, List, ◌≡◌, ◌≤◌, ◌+◌, [], None, length, take, drop, map};
 ghost use Rattle.std.specs.Prelude.{IsSome};
-ghost use Rattle.std.specs.Vec.{vec_capacity};
-ghost use Rattle.nm_types.specs.declared.id.Side.TheVariants.{Rx};
-ghost use Rattle.nm_types.specs.OwnPorts.{bytes_at, ring_at};
-ghost use Rattle.nm_types.specs.OwnSyncs.{own_after_receive, back_on};
-ghost use Rattle.nm_region.specs.Buffers.{Buffer, indices_of};
-ghost use Rattle.nm_port.specs.Own.{refusal_at};
-ghost use Rattle.nm_port.specs.Closing.{bytes_of_buffers};
+ghost use Rattle.nm_own.specs.Words.{AllOf, AreOf, Buffer, Rx, SideState, back_on, bytes_at};
+ghost use Rattle.nm_own.specs.Words.{bytes_of_buffers, indices_of, own_after_receive, refusal_at};
+ghost use Rattle.nm_own.specs.Words.{ring_at, vec_capacity};
 ghost use Rattle.nm_own.specs.LentBack.{IsLentBack};
-ghost use Rattle.nm_port.specs.Regions.{SideState, AllOf, AreOf};
 
 use crate::own::{OwnSide, ring_at};
 use nm_hold::Hold;

@@ -1,17 +1,10 @@
 ghost use Rattle.std.specs.Prelude.{ℕ, List, ◌≡◌, ◌≤◌, ◌+◌, [], None, length, take, drop, map};
 ghost use Rattle.std.specs.Prelude.{IsSome, IfOk};
-ghost use Rattle.std.specs.Vec.{vec_capacity};
-ghost use Rattle.nm_types.specs.declared.id.Side.TheVariants.{Tx};
-ghost use Rattle.nm_types.specs.OwnPorts.{bytes_at, ring_at};
-ghost use Rattle.nm_types.specs.OwnSyncs.{own_after_put};
-ghost use Rattle.nm_region.specs.Buffers.{Buffer, indices_of};
-ghost use Rattle.nm_port.specs.Own.{refusal_at};
-ghost use Rattle.nm_port.specs.Closing.{bytes_of_buffers};
-ghost use Rattle.nm_port.specs.Offers.{offered_lengths};
+ghost use Rattle.nm_own.specs.Words.{AllOf, AreOf, Buffer, SideState, Tx, bytes_at};
+ghost use Rattle.nm_own.specs.Words.{bytes_of_buffers, cleared, indices_of, offered_lengths};
+ghost use Rattle.nm_own.specs.Words.{own_after_put, refusal_at, ring_at, vec_capacity};
 ghost use Rattle.nm_own.specs.Opening.{blank_arrivals};
 ghost use Rattle.nm_own.specs.LentOffers.{IsLentOffers, CanBeTaken, offered_buffers};
-ghost use Rattle.nm_port.specs.Puts.{cleared};
-ghost use Rattle.nm_port.specs.Regions.{SideState, AllOf, AreOf};
 
 use crate::own::{OwnSide, ring_at};
 use nm_hold::Hold;

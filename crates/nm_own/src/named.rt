@@ -1,7 +1,6 @@
 //! The ports of an own side by their names.
 ghost use Rattle.std.specs.Prelude.{◌≡◌, option_map};
-ghost use Rattle.std.specs.Option.{option_copied};
-ghost use Rattle.nm_types.specs.OwnPorts.{OwnPort, port_with_name};
+ghost use Rattle.nm_own.specs.Words.{OwnPort, option_copied, port_with_name};
 ghost use Rattle.nm_own.specs.PortNames.{port_named};
 
 use crate::own::OwnSide;

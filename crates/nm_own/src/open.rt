@@ -1,9 +1,6 @@
 ghost use Rattle.std.specs.Prelude.{◌≡◌, ◌<◌, ◌≤◌, ◌++◌, ◌∷◌, [], IfOk, length};
-ghost use Rattle.std.specs.Vec.{vec_capacity};
-ghost use Rattle.std.specs.VecDeque.{deque_capacity};
-ghost use Rattle.nm_types.specs.Positions.{IsRingSize};
-ghost use Rattle.nm_types.specs.Chain.{chain_head};
-ghost use Rattle.nm_region.specs.Buffers.{indices_of};
+ghost use Rattle.nm_own.specs.Words.{IsRingSize, chain_head, deque_capacity, indices_of};
+ghost use Rattle.nm_own.specs.Words.{vec_capacity};
 ghost use Rattle.nm_own.specs.Opening.{IsTxSize, opened_slots, opened_user_port};
 
 use nm_hold::{Hold, PortRoom};

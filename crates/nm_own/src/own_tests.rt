@@ -1,8 +1,5 @@
 ghost use Rattle.std.specs.Prelude.{◌≡◌, ◌≤◌, ◌∷◌, [], IsSome, true};
-ghost use Rattle.std.specs.Vec.{vec_capacity};
-ghost use Rattle.nm_types.specs.Buffers.{IsPoolSize};
-ghost use Rattle.nm_types.specs.OwnPorts.{empty_own};
-ghost use Rattle.nm_region.specs.Buffers.{indices_of};
+ghost use Rattle.nm_own.specs.Words.{IsPoolSize, empty_own, indices_of, vec_capacity};
 ghost use Rattle.nm_own.specs.LentOffers.{IsLentOffers};
 
 use crate::{LentOffers, OwnSide, SlotPlace};

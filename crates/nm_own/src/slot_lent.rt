@@ -1,6 +1,5 @@
 ghost use Rattle.std.specs.Prelude.{◌≡◌, slice_get, option_and_then};
-ghost use Rattle.std.specs.Borrow.{sem};
-ghost use Rattle.std.specs.Option.{option_copied_mut};
+ghost use Rattle.nm_own.specs.Words.{option_copied_mut, sem};
 ghost use Rattle.nm_own.specs.LentSlots.{LendsPortSlot, LendsSlotIn, slot_of_port};
 ghost use Rattle.nm_own.specs.LentSlots.{index_of_port};
 

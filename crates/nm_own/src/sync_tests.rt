@@ -1,9 +1,6 @@
 ghost use Rattle.std.specs.Prelude.{◌≡◌, ◌≤◌, ◌∷◌, []};
-ghost use Rattle.std.specs.Vec.{vec_capacity};
-ghost use Rattle.nm_types.specs.OwnPorts.{empty_own};
+ghost use Rattle.nm_own.specs.Words.{SideState, empty_own, indices_of, vec_capacity};
 ghost use Rattle.nm_own.specs.LentBack.{IsLentBack};
-ghost use Rattle.nm_port.specs.Regions.{SideState};
-ghost use Rattle.nm_region.specs.Buffers.{indices_of};
 
 use crate::own_tests::{FRAME, PORT, first_four, lend_frames, numbers, room, start, starts_with};
 use crate::{LentBack, OwnSide, SlotPlace};

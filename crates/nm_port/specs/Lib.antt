@@ -12,3 +12,4 @@ pub mod Puts
 pub mod Lending
 pub mod LentSlots
 pub mod MarkLists
+pub mod Words

@@ -1,5 +1,5 @@
 ghost use Rattle.std.specs.Prelude.{◌≡◌, [], IfOk};
-ghost use Rattle.std.specs.Vec.{vec_capacity};
+ghost use Rattle.nm_port.specs.Words.{vec_capacity};
 
 use nm_region::Buf;
 use std::alloc::{AllocError, Global};

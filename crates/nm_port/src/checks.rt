@@ -2,12 +2,9 @@ ghost use Rattle.std.specs.Prelude.{ℕ, List, ◌≡◌, ◌<◌, ◌≤◌, �
 ghost use Rattle.std.specs.Prelude.{OnErr, MatchResult};
 ghost use Rattle.std.specs.Prelude.{None, Some, true, false, length, replicate, slice_index_or};
 ghost use Rattle.std.specs.Prelude.{slice_set, ◌+◌};
-ghost use Rattle.nm_types.specs.Positions.{FitsRing, is_user_slot};
-ghost use Rattle.nm_types.specs.OwnPorts.{blank_slot};
-ghost use Rattle.nm_types.specs.Slots.{pushed_names};
-ghost use Rattle.nm_types.specs.SyncFaults.{ring_sync_fault, slot_sync_fault};
-ghost use Rattle.nm_types.specs.SyncChecks.{is_tx, slots_refusal, refusal_of};
-ghost use Rattle.nm_hold.specs.Holds.{buffers_of, is_named_at, IsHold};
+ghost use Rattle.nm_port.specs.Words.{FitsRing, IsHold, blank_slot, buffers_of, is_named_at, is_tx};
+ghost use Rattle.nm_port.specs.Words.{is_user_slot, pushed_names, refusal_of, ring_sync_fault};
+ghost use Rattle.nm_port.specs.Words.{slot_sync_fault, slots_refusal};
 ghost use Rattle.nm_port.specs.Sides.{place_on, number_at, pushed_seen_at, pushed_seen};
 ghost use Rattle.nm_port.specs.Sides.{names_pushed, AreNamed, AreMarked, AreMarkedOf, AreCleared};
 ghost use Rattle.nm_port.specs.Sides.{JudgesSlot, JudgesAll, TellsRefusal, marks_after};

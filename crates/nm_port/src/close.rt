@@ -1,10 +1,6 @@
 ghost use Rattle.std.specs.Prelude.{ℕ, ◌≡◌, ◌<◌, ◌≤◌, ◌+◌, [], Some, length, map, position, IsSome};
-ghost use Rattle.std.specs.Vec.{vec_capacity};
-ghost use Rattle.nm_types.specs.Positions.{IsRing};
-ghost use Rattle.nm_types.specs.Chain.{chain_of};
-ghost use Rattle.nm_hold.specs.Holds.{index_at, IsHold};
-ghost use Rattle.nm_extra.specs.Extras.{extras_of, link_at};
-ghost use Rattle.nm_hold.specs.Offsets.{ArePortsOnce};
+ghost use Rattle.nm_port.specs.Words.{ArePortsOnce, IsHold, IsRing, chain_of, extras_of, index_at};
+ghost use Rattle.nm_port.specs.Words.{link_at, vec_capacity};
 ghost use Rattle.nm_port.specs.Own.{size_if, port_at, places_of_port, HasBackRoom};
 ghost use Rattle.nm_port.specs.Closing.{place_count, held_place, held_places, AreTaken};
 ghost use Rattle.nm_port.specs.Closing.{has_id, others};

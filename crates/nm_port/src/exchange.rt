@@ -1,10 +1,7 @@
 ghost use Rattle.std.specs.Prelude.{ℕ, ◌≡◌, ◌<◌, ◌≤◌, IsSome, map};
-ghost use Rattle.std.specs.List.{AllByRecursion};
-ghost use Rattle.nm_types.specs.declared.id.Side.TheVariants.{Tx};
-ghost use Rattle.nm_types.specs.declared.id.PortId.{PortId};
+ghost use Rattle.nm_port.specs.Words.{AllByRecursion, IsHold, IsRing, PortId, Tx, index_at};
+ghost use Rattle.nm_port.specs.Words.{step_on};
 ghost use Rattle.nm_types.specs.declared.place.Place.TheVariants as place;
-ghost use Rattle.nm_types.specs.Positions.{IsRing, step_on};
-ghost use Rattle.nm_hold.specs.Holds.{index_at, IsHold};
 ghost use Rattle.nm_port.specs.Own.{port_changed_if};
 ghost use Rattle.nm_port.specs.Exchanges.{CanExchange, AreExchanged, pushed_count_of, AreRenamed};
 ghost use Rattle.nm_port.specs.Exchanges.{tx_places, ArePushedOut, ring_pushed_out, CanAccept};

@@ -1,12 +1,8 @@
 ghost use Rattle.std.specs.Prelude.{ℕ, ◌≡◌, ◌<◌, ◌≤◌, None, Some, length, nat_eq, true};
-ghost use Rattle.std.specs.List.{AllByRecursion, IsDistinct};
-ghost use Rattle.nm_types.specs.declared.place.Place.{Place};
-ghost use Rattle.nm_types.specs.Places.{is_same_place};
-ghost use Rattle.nm_types.specs.Buffers.{IsBufferIndex};
+ghost use Rattle.nm_port.specs.Words.{AllByRecursion, IsBufferIndex, IsDistinct, IsHold, Place};
+ghost use Rattle.nm_port.specs.Words.{buffers_of, has_place, index_at, indices_of, is_same_place};
+ghost use Rattle.nm_port.specs.Words.{standing_at, with_cell};
 ghost use Rattle.std.specs.Prelude.{if◌then◌else◌};
-ghost use Rattle.nm_region.specs.Buffers.{indices_of};
-ghost use Rattle.nm_hold.specs.Offsets.{has_place};
-ghost use Rattle.nm_hold.specs.Holds.{buffers_of, index_at, standing_at, with_cell, IsHold};
 ghost use Rattle.nm_port.specs.Regions.{AreOf, HoldsOf};
 ghost use Rattle.nm_port.specs.Filling.{place_in, first_bytes, placed, IsAway, AreFilledWith};
 

@@ -1,6 +1,5 @@
 ghost use Rattle.std.specs.Prelude.{◌≡◌, ◌++◌, IfOk, OnOk, map, take, []};
-ghost use Rattle.nm_types.specs.Positions.{FitsRing};
-ghost use Rattle.nm_types.specs.Slots.{frame_at, no_learn, has_flag};
+ghost use Rattle.nm_port.specs.Words.{FitsRing, frame_at, has_flag, no_learn};
 ghost use Rattle.nm_port.specs.Sides.{names_pushed};
 ghost use Rattle.nm_port.specs.Own.{bytes_in_hold, frames_seen};
 ghost use Rattle.nm_port.specs.Offers.{offers_seen, lengths_seen};

@@ -1,9 +1,7 @@
 ghost use Rattle.std.specs.Prelude.{ℕ, ◌≡◌, ◌<◌, ◌≤◌, ◌+◌, ◌++◌, [], length, map, reverse};
 ghost use Rattle.std.specs.Prelude.{slice_get, slice_index_or, true, Some};
-ghost use Rattle.std.specs.Vec.{vec_capacity};
-ghost use Rattle.nm_types.specs.Slots.{SlotState};
-ghost use Rattle.nm_types.specs.OwnPorts.{blank_slot};
-ghost use Rattle.nm_types.specs.Positions.{IsRing, FitsRing, slots_from};
+ghost use Rattle.nm_port.specs.Words.{FitsRing, IsRing, SlotState, blank_slot, slots_from};
+ghost use Rattle.nm_port.specs.Words.{vec_capacity};
 ghost use Rattle.nm_port.specs.Sides.{name_at};
 ghost use Rattle.nm_port.specs.Exchanges.{CanExchange, AreExchanged, KeepFirst, KeepAll};
 ghost use Rattle.nm_port.specs.Exchanges.{pushed_count_of};

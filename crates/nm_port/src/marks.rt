@@ -1,6 +1,6 @@
 ghost use Rattle.std.specs.Prelude.{◌≡◌, ◌≤◌, ◌+◌, ◌++◌, IfOk, length, replicate, true, false};
 ghost use Rattle.std.specs.Prelude.{slice_index_or, slice_set};
-ghost use Rattle.std.specs.Vec.{vec_capacity};
+ghost use Rattle.nm_port.specs.Words.{vec_capacity};
 ghost use Rattle.nm_port.specs.MarkLists.{blanks};
 
 use std::alloc::{AllocError, Global};

@@ -1,16 +1,11 @@
 ghost use Rattle.std.specs.Prelude.{ℕ, ◌≡◌, ◌<◌, ◌≤◌, ◌+◌, length, map, IsSome};
-ghost use Rattle.std.specs.List.{AllByRecursion};
-ghost use Rattle.std.specs.Vec.{vec_capacity};
-ghost use Rattle.nm_types.specs.declared.id.Side.TheVariants.{Rx};
-ghost use Rattle.nm_types.specs.declared.id.PortId.{PortId};
-ghost use Rattle.nm_types.specs.Positions.{IsRing, FitsRing};
-ghost use Rattle.nm_hold.specs.Holds.{index_at, IsHold};
+ghost use Rattle.nm_port.specs.Words.{AllByRecursion, FitsRing, IsHold, IsRing, PortId, Rx};
+ghost use Rattle.nm_port.specs.Words.{cleared_but, index_at, vec_capacity};
 ghost use Rattle.nm_port.specs.Own.{port_changed_if};
 ghost use Rattle.nm_port.specs.Closing.{AreTaken};
 ghost use Rattle.nm_port.specs.Exchanges.{pushed_count_of, user_place};
 ghost use Rattle.nm_port.specs.Receives.{user_places, ring_given_back, CanGiveBack};
 ghost use Rattle.std.specs.Prelude.{take};
-ghost use Rattle.nm_types.specs.Buffers.{cleared_but};
 
 use crate::checks::place_on;
 use crate::port::UserPort;

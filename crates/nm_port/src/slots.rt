@@ -1,11 +1,7 @@
 ghost use Rattle.std.specs.Prelude.{ℕ, ◌≡◌, ◌<◌, ◌≤◌, [], drop, false, fold, length, map};
 ghost use Rattle.std.specs.Prelude.{slice_index_or};
-ghost use Rattle.std.specs.VecDeque.{deque_capacity};
-ghost use Rattle.nm_types.specs.Positions.{slots_from};
-ghost use Rattle.nm_types.specs.Slots.{slot_after_push};
-ghost use Rattle.nm_types.specs.OwnPorts.{blank_slot};
-ghost use Rattle.nm_types.specs.OwnSyncs.{with_push_cleared, opened_slot};
-ghost use Rattle.nm_region.specs.Buffers.{indices_of};
+ghost use Rattle.nm_port.specs.Words.{blank_slot, deque_capacity, indices_of, opened_slot};
+ghost use Rattle.nm_port.specs.Words.{slot_after_push, slots_from, with_push_cleared};
 ghost use Rattle.nm_port.specs.RingSlots.{slot_framed};
 
 use bitflags::Flags;

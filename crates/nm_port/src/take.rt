@@ -1,8 +1,5 @@
 ghost use Rattle.std.specs.Prelude.{◌≡◌, ◌<◌, ◌≤◌, map, fold};
-ghost use Rattle.std.specs.List.{AllByRecursion};
-ghost use Rattle.nm_types.specs.declared.id.Side.TheVariants.{Tx};
-ghost use Rattle.nm_types.specs.declared.id.PortId.{PortId};
-ghost use Rattle.nm_types.specs.Positions.{slots_from};
+ghost use Rattle.nm_port.specs.Words.{AllByRecursion, PortId, Tx, slots_from};
 ghost use Rattle.nm_port.specs.Own.{port_changed_if};
 ghost use Rattle.nm_port.specs.Exchanges.{CanPushOut, CanAccept};
 ghost use Rattle.nm_port.specs.Puts.{with_slot_named, ring_taken};

@@ -1,6 +1,5 @@
 ghost use Rattle.std.specs.Prelude.{◌≡◌, ◌+◌, ◌<◌, true, false, replicate, None, Some};
-ghost use Rattle.nm_hold.specs.Holds.{buffers_of};
-ghost use Rattle.nm_hold.specs.Offsets.{has_place};
+ghost use Rattle.nm_port.specs.Words.{buffers_of, has_place};
 ghost use Rattle.nm_types.specs.declared.place.Place.TheVariants as place;
 
 use crate::checks::{check_ring, place_on};

@@ -1,8 +1,7 @@
 ghost use Rattle.std.specs.Prelude.{ℕ, ◌≡◌, ◌<◌, ◌≤◌, ◌+◌, [], length, map, reverse, drop};
 ghost use Rattle.std.specs.Prelude.{Some, IsSome, nat_le};
-ghost use Rattle.std.specs.Vec.{vec_capacity};
-ghost use Rattle.nm_types.specs.Positions.{IsRing, slots_from};
-ghost use Rattle.nm_hold.specs.Holds.{HoldState, index_at, IsHold};
+ghost use Rattle.nm_port.specs.Words.{HoldState, IsHold, IsRing, index_at, slots_from};
+ghost use Rattle.nm_port.specs.Words.{vec_capacity};
 ghost use Rattle.nm_port.specs.Sides.{place_on};
 ghost use Rattle.nm_port.specs.Closing.{AreTaken};
 ghost use Rattle.nm_port.specs.Exchanges.{CanExchange, AreExchanged, pushed_count_of};

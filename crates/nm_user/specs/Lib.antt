@@ -11,3 +11,4 @@ pub mod Saving
 pub mod PortReads
 pub mod LentSides
 pub mod LentBytes
+pub mod Words

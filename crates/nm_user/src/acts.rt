@@ -1,9 +1,8 @@
 //! What a user does on its rings between its calls, as the lines of a script do it.
 ghost use Rattle.std.specs.Prelude.{◌≡◌, ◌≤◌, length};
-ghost use Rattle.nm_types.specs.OwnEdits.{with_positions, with_all_back, with_slot_field};
-ghost use Rattle.nm_types.specs.OwnEdits.{with_slots_swapped, has_room, with_frame};
-ghost use Rattle.nm_types.specs.OwnEdits.{with_forwarded, with_extra_link};
-ghost use Rattle.nm_own.specs.Acts.{place_seen};
+ghost use Rattle.nm_user.specs.Words.{has_room, place_seen, with_all_back, with_extra_link};
+ghost use Rattle.nm_user.specs.Words.{with_forwarded, with_frame, with_positions, with_slot_field};
+ghost use Rattle.nm_user.specs.Words.{with_slots_swapped};
 
 use crate::session::Session;
 use nm_own::SlotPlace;

@@ -1,6 +1,6 @@
 //! Copies of a frame, put into a transmit ring one after another.
 ghost use Rattle.std.specs.Prelude.{◌≡◌, ◌≤◌, length};
-ghost use Rattle.nm_own.specs.Copies.{with_copies, AreCopies};
+ghost use Rattle.nm_user.specs.Words.{AreCopies, with_copies};
 
 use crate::session::Session;
 use nm_types::PortId;

@@ -1,13 +1,10 @@
 //! A session's ports are closed, and it leaves.
 ghost use Rattle.std.specs.Prelude.{◌≡◌, None, IsSome, option_map, slice_get, map, nat_eq};
-ghost use Rattle.std.specs.List.{IsDistinct};
-ghost use Rattle.nm_types.specs.OwnPorts.{OwnPort, port_with_id};
-ghost use Rattle.nm_region.specs.Buffers.{indices_of};
+ghost use Rattle.nm_user.specs.Words.{AnswersIn, IsDistinct, IsPassIn, OwnPort, fixed_in, id_of};
+ghost use Rattle.nm_user.specs.Words.{indices_of, knowing, port_with_id};
 ghost use Rattle.vale_entry.specs.declared.entry.Ask.TheVariants as asks;
 ghost use Rattle.vale_entry.specs.declared.entry.Reply.TheVariants as replies;
-ghost use Rattle.vale_own.specs.Side.{id_of};
 ghost use Rattle.vale_book.specs.BookView.{AreOf};
-ghost use Rattle.vale_fabric.specs.Fabrics.{IsPassIn, fixed_in, knowing, AnswersIn};
 ghost use Rattle.nm_user.specs.Sessions.{IsThere};
 ghost use Rattle.nm_user.specs.Leaving.{MayWait, IsDetached, IsLeft};
 

@@ -1,11 +1,7 @@
 //! Ports are opened, with all memory taken first.
 ghost use Rattle.std.specs.Prelude.{ℕ, ◌≡◌, ◌++◌, length, IfOk, IfErr, IfSome, OnOk, Some};
-ghost use Rattle.nm_types.specs.Names.{IsName};
-ghost use Rattle.nm_types.specs.Openings.{are_sizes, is_ring_size};
-ghost use Rattle.nm_types.specs.OwnSyncs.{own_after_open};
-ghost use Rattle.nm_region.specs.Buffers.{indices_of};
-ghost use Rattle.nm_own.specs.Opening.{blank_arrivals};
-ghost use Rattle.nm_port.specs.Regions.{AllOf, AreOf};
+ghost use Rattle.nm_user.specs.Words.{AllOf, AreOf, IsName, are_sizes, blank_arrivals, indices_of};
+ghost use Rattle.nm_user.specs.Words.{is_ring_size, own_after_open};
 ghost use Rattle.vale_entry.specs.declared.entry.Ask.TheVariants as asks;
 ghost use Rattle.vale_entry.specs.declared.entry.Reply.TheVariants as replies;
 ghost use Rattle.nm_user.specs.Calls.{Made};

@@ -1,9 +1,7 @@
 //! A session's pass: cut in two, and made one again.
 ghost use Rattle.std.specs.Prelude.{◌≡◌, None};
-ghost use Rattle.nm_turn.specs.Passes.{HasAll, Knows, forked_view, joined_view, kept_view};
-ghost use Rattle.nm_turn.specs.Shares.{IsWhole};
-ghost use Rattle.vale_fabric.specs.Roots.{root_of};
-ghost use Rattle.vale_fabric.specs.Fabrics.{IsPassIn, knowing};
+ghost use Rattle.nm_user.specs.Words.{HasAll, IsPassIn, IsWhole, Knows, forked_view, joined_view};
+ghost use Rattle.nm_user.specs.Words.{kept_view, knowing, root_of};
 ghost use Rattle.nm_user.specs.Sessions.{IsThere};
 
 use crate::session::Session;

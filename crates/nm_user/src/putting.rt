@@ -1,19 +1,10 @@
 //! A transmit sync of a pipe end: what is pushed is offered to the other end.
 ghost use Rattle.std.specs.Prelude.{ℕ, true, ◌≡◌, ◌≤◌, List, [], length, map, None};
 ghost use Rattle.std.specs.Prelude.{IsSome, IfOk, IfErr};
-ghost use Rattle.std.specs.Vec.{vec_capacity};
-ghost use Rattle.nm_types.specs.declared.id.Side.TheVariants.{Tx};
-ghost use Rattle.nm_types.specs.OwnPorts.{bytes_at, ring_at};
-ghost use Rattle.nm_types.specs.OwnSyncs.{own_after_put};
-ghost use Rattle.nm_region.specs.Buffers.{indices_of};
-ghost use Rattle.nm_port.specs.Own.{refusal_at};
-ghost use Rattle.nm_port.specs.Offers.{offered_lengths};
-ghost use Rattle.nm_own.specs.Opening.{blank_arrivals};
-ghost use Rattle.nm_own.specs.LentOffers.{offered_buffers};
-ghost use Rattle.nm_port.specs.Closing.{bytes_of_buffers};
-ghost use Rattle.nm_port.specs.Regions.{SideState, AllOf, AreOf};
-ghost use Rattle.vale_line.specs.declared.got.Got.{Got};
-ghost use Rattle.vale_line.specs.Gots.{buffers_of};
+ghost use Rattle.nm_user.specs.Words.{AllOf, AreOf, Got, SideState, Tx, blank_arrivals, buffers_of};
+ghost use Rattle.nm_user.specs.Words.{bytes_at, bytes_of_buffers, indices_of, offered_buffers};
+ghost use Rattle.nm_user.specs.Words.{offered_lengths, own_after_put, refusal_at, ring_at};
+ghost use Rattle.nm_user.specs.Words.{vec_capacity};
 ghost use Rattle.nm_user.specs.Sessions.{IsThere};
 ghost use Rattle.nm_user.specs.Offering.{gots_of, side_after_fault, sync_fault_of_put};
 ghost use Rattle.nm_user.specs.Offering.{IsOffering, CanTake};

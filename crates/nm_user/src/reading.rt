@@ -1,11 +1,8 @@
 //! What a user reads of its own side.
 ghost use Rattle.std.specs.Prelude.{◌≡◌, false, None, is_some, option_map, option_and_then};
-ghost use Rattle.std.specs.Option.{option_copied, option_map_or};
-ghost use Rattle.nm_types.specs.Names.{is_monitor_name};
-ghost use Rattle.nm_types.specs.OwnPorts.{OwnPort, ring_at, port_with_id, port_with_name};
-ghost use Rattle.nm_types.specs.OwnEdits.{user_slot_at};
-ghost use Rattle.nm_port.specs.Own.{ring_of};
-ghost use Rattle.nm_own.specs.ExtraChain.{head_of_extras, extra_at, named_bytes};
+ghost use Rattle.nm_user.specs.Words.{OwnPort, extra_at, head_of_extras, is_monitor_name};
+ghost use Rattle.nm_user.specs.Words.{named_bytes, option_copied, option_map_or, port_with_id};
+ghost use Rattle.nm_user.specs.Words.{port_with_name, ring_at, ring_of, user_slot_at};
 ghost use Rattle.nm_user.specs.Sessions.{IsThere};
 
 use crate::session::Session;

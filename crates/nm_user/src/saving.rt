@@ -1,9 +1,7 @@
 //! The frames that a receive sync brought, read from the ring.
 ghost use Rattle.std.specs.Prelude.{◌≡◌, ◌<◌, ◌^◌, length, map, take, IfOk, IfSome};
 ghost use Rattle.std.specs.Prelude.{option_and_then};
-ghost use Rattle.std.specs.Option.{option_copied};
-ghost use Rattle.nm_types.specs.declared.id.Side.TheVariants.{Rx};
-ghost use Rattle.nm_types.specs.OwnPorts.{ring_at};
+ghost use Rattle.nm_user.specs.Words.{Rx, option_copied, ring_at};
 ghost use Rattle.nm_user.specs.Saving.{before_tail, slot_before_tail, frame_of_slot};
 ghost use Rattle.nm_user.specs.Saving.{frame_before_tail, frames_before_tail, bytes_or_none};
 ghost use Rattle.nm_user.specs.Saving.{bytes_of_frame};

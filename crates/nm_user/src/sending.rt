@@ -1,13 +1,9 @@
 //! A transmit sync: what was pushed is sent, or put to a pipe's other end, and what it offers is
 //! settled.
 ghost use Rattle.std.specs.Prelude.{false, true, ◌≡◌, IsSome, IfOk, IfErr, OnOk, None, Some};
-ghost use Rattle.nm_types.specs.declared.id.Side.TheVariants.{Tx};
-ghost use Rattle.nm_types.specs.OwnPorts.{ring_at};
-ghost use Rattle.nm_port.specs.Own.{refusal_at};
-ghost use Rattle.nm_port.specs.Sides.{TellsRefusal};
+ghost use Rattle.nm_user.specs.Words.{TellsRefusal, Tx, fits_fault, refusal_at, ring_at};
 ghost use Rattle.vale_entry.specs.declared.entry.Ask.TheVariants as asks;
 ghost use Rattle.vale_entry.specs.declared.entry.Reply.TheVariants as replies;
-ghost use Rattle.vale_entry.specs.Legal.{fits_fault};
 ghost use Rattle.nm_user.specs.Sessions.{IsThere};
 ghost use Rattle.nm_user.specs.Calls.{Made, MadeNone};
 ghost use Rattle.nm_user.specs.Syncs.{IsSent, IsTransmitted, IsUnsent, PassesTx, TransmitsNot};

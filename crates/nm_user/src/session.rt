@@ -1,8 +1,8 @@
 ghost use Rattle.std.specs.Prelude.{◌≡◌, length, IsSome, IfOk, IfErr};
-ghost use Rattle.nm_types.specs.OwnPorts.{empty_own, port_with_id};
+ghost use Rattle.nm_user.specs.Words.{Answers, IsPassIn, empty_own, fixed_in, knowing};
+ghost use Rattle.nm_user.specs.Words.{port_with_id};
 ghost use Rattle.vale_entry.specs.declared.entry.Ask.TheVariants as asks;
 ghost use Rattle.vale_entry.specs.declared.entry.Reply.TheVariants as replies;
-ghost use Rattle.vale_fabric.specs.Fabrics.{IsPassIn, fixed_in, knowing, Answers};
 ghost use Rattle.nm_user.specs.Calls.{Made, MadeNone, IsRefused};
 
 use nm_own::OwnSide;

@@ -1,6 +1,6 @@
 //! Sessions on one fabric, from coming to leaving.
 ghost use Rattle.std.specs.Prelude.{◌≡◌};
-ghost use Rattle.vale_fabric.specs.Fabrics.{IsPassIn};
+ghost use Rattle.nm_user.specs.Words.{IsPassIn};
 
 use crate::Session;
 use nm_io::NoGate;

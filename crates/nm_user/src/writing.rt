@@ -1,11 +1,8 @@
 //! What a user writes on its own side between its calls: positions, slots and bytes.
 ghost use Rattle.std.specs.Prelude.{◌≡◌, ◌≤◌, is_some, length, IfSome, IsSome, Some, option_and_then};
-ghost use Rattle.std.specs.Borrow.{sem};
-ghost use Rattle.std.specs.Option.{option_copied_mut};
-ghost use Rattle.nm_types.specs.OwnPorts.{ring_at, port_with_id};
-ghost use Rattle.nm_types.specs.OwnEdits.{with_head, with_cur, with_user_slot, with_written};
-ghost use Rattle.nm_types.specs.OwnEdits.{with_head_of_chain, user_slot_at};
-ghost use Rattle.nm_own.specs.ExtraChain.{named_bytes};
+ghost use Rattle.nm_user.specs.Words.{named_bytes, option_copied_mut, port_with_id, ring_at, sem};
+ghost use Rattle.nm_user.specs.Words.{user_slot_at, with_cur, with_head, with_head_of_chain};
+ghost use Rattle.nm_user.specs.Words.{with_user_slot, with_written};
 ghost use Rattle.nm_user.specs.LentSides.{LendsBytesIn, LendsSlotIn, bytes_in, slot_in};
 
 use crate::session::Session;

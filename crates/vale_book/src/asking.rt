@@ -1,9 +1,6 @@
 ghost use Rattle.std.specs.Prelude.{◌≡◌, ◌<◌, length, Some};
-ghost use Rattle.nm_types.specs.Frames.{size_of_frames};
-ghost use Rattle.vale_entry.specs.World.{Port as Seen, open_port};
-ghost use Rattle.vale_entry.specs.Delivery.{delivered_frames};
-ghost use Rattle.vale_entry.specs.Closing.{shutting_port};
-ghost use Rattle.vale_port.specs.Lists.{OfSeat};
+ghost use Rattle.vale_book.specs.Words.{OfSeat, Port as Seen, delivered_frames, open_port};
+ghost use Rattle.vale_book.specs.Words.{shutting_port, size_of_frames};
 ghost use Rattle.vale_book.specs.Asking.{IsSeen, IsSeenAs, IsReady};
 ghost use Rattle.vale_book.specs.Recorded.{standing};
 

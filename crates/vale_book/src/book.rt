@@ -1,8 +1,5 @@
 ghost use Rattle.std.specs.Prelude.{◌≡◌, ◌<◌, ◌≤◌, ◌^◌, [], length, IfOk};
-ghost use Rattle.nm_types.specs.Buffers.{IsPoolSize};
-ghost use Rattle.vale_entry.specs.World.{free_count};
-ghost use Rattle.vale_entry.specs.Legal.{IsLegal};
-ghost use Rattle.vale_entry.specs.Room.{promised_of};
+ghost use Rattle.vale_book.specs.Words.{IsLegal, IsPoolSize, free_count, promised_of};
 ghost use Rattle.vale_book.specs.Recorded.{standing, HadRoom, IsWithinLimits};
 
 use nm_count::Tally;

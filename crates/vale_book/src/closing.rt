@@ -1,7 +1,5 @@
 ghost use Rattle.std.specs.Prelude.{◌≡◌};
-ghost use Rattle.vale_entry.specs.World.{free_count};
-ghost use Rattle.vale_entry.specs.Legal.{IsLegal};
-ghost use Rattle.vale_entry.specs.Room.{promised_of};
+ghost use Rattle.vale_book.specs.Words.{IsLegal, free_count, promised_of};
 ghost use Rattle.vale_book.specs.Recorded.{standing, HadRoom};
 
 use crate::book::Book;

@@ -2,7 +2,7 @@ ghost use Rattle.std.specs.Prelude.{◌≡◌, ◌+◌, ◌<◌, ◌^◌, [], �
 ghost use Rattle.std.specs.Prelude.{IfErr};
 ghost use Rattle.vale_entry.specs.declared.entry.Ask.TheVariants as asks;
 ghost use Rattle.vale_entry.specs.declared.entry.Reply.TheVariants as replies;
-ghost use Rattle.vale_entry.specs.Stored.{Fits, IsFull};
+ghost use Rattle.vale_book.specs.Words.{Fits, IsFull};
 ghost use Rattle.vale_book.specs.Recorded.{after_ask, IsRefusal, HasRoom};
 
 use crate::book::Book;

@@ -1,16 +1,10 @@
 ghost use Rattle.std.specs.Prelude.{◌≡◌, ◌<◌, ◌≤◌, ◌+◌, ◌-◌, [], ◌∷◌, ◌++◌, length, map, slice_get, slice_set, Some};
 ghost use Rattle.vale_entry.specs.declared.entry.Ask.TheVariants as asks;
 ghost use Rattle.vale_entry.specs.declared.entry.Reply.TheVariants as replies;
-ghost use Rattle.vale_entry.specs.declared.entry.Entry.{Entry as Stored};
-ghost use Rattle.vale_line.specs.Leased.{buffer_count};
-ghost use Rattle.vale_line.specs.Lines.{slots_out, completed};
-ghost use Rattle.vale_port.specs.Laws.{with_line};
-ghost use Rattle.vale_port.specs.Lists.{ChangesSeatIf, OfState};
-ghost use Rattle.vale_port.specs.Ports.{IsFilledFor};
-ghost use Rattle.vale_port.specs.Seat.{seat_done};
-ghost use Rattle.vale_steps.specs.Granting.{lease_id};
-ghost use Rattle.vale_steps.specs.Offering.{IsFilledIn};
-ghost use Rattle.vale_book.specs.Words.{AreOf, HasRoom, after_ask, buffers_of, standing};
+ghost use Rattle.vale_book.specs.Words.{AreOf, ChangesSeatIf, Entry as Stored, HasRoom};
+ghost use Rattle.vale_book.specs.Words.{IsFilledFor, IsFilledIn, OfState, after_ask, buffer_count};
+ghost use Rattle.vale_book.specs.Words.{buffers_of, completed, lease_id, seat_done, slots_out};
+ghost use Rattle.vale_book.specs.Words.{standing, with_line};
 
 use crate::book::Book;
 use nm_types::{LeaseId, SessionId};

@@ -1,11 +1,9 @@
 ghost use Rattle.std.specs.Prelude.{◌≡◌, ◌<◌, length, Some, OnOk, OnErr, IfOk, IfErr};
-ghost use Rattle.vale_lease.specs.Leases.{out_count};
-ghost use Rattle.vale_line.specs.Lines.{leases_of};
+ghost use Rattle.vale_book.specs.Words.{AreOf, HasRoom, IsEnabled, OfSeat, OfState, after_ask};
+ghost use Rattle.vale_book.specs.Words.{indices_of, leases_of, leases_out, out_count, reply_to};
+ghost use Rattle.vale_book.specs.Words.{standing};
 ghost use Rattle.vale_entry.specs.declared.entry.Ask.TheVariants as asks;
 ghost use Rattle.vale_entry.specs.declared.entry.Reply.TheVariants as replies;
-ghost use Rattle.vale_entry.specs.Closing.{leases_out};
-ghost use Rattle.vale_port.specs.Lists.{OfSeat, OfState};
-ghost use Rattle.vale_book.specs.Words.{AreOf, HasRoom, IsEnabled, after_ask, indices_of, reply_to, standing};
 
 use crate::book::Book;
 use crate::noting::session_at;

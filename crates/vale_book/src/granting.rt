@@ -1,13 +1,8 @@
 ghost use Rattle.std.specs.Prelude.{◌≡◌, ◌≤◌, length, drop, slice_get, Some, IfSome, option_map};
-ghost use Rattle.vale_batch.specs.Wants.{wanted};
+ghost use Rattle.vale_book.specs.Words.{HasRoom, IsLeaseOf, Offer, OffersStand, after_ask};
+ghost use Rattle.vale_book.specs.Words.{first_offer, given_by, reply_of, standing, step, wanted};
 ghost use Rattle.vale_entry.specs.declared.entry.Ask.TheVariants as asks;
 ghost use Rattle.vale_entry.specs.declared.entry.Reply.TheVariants as replies;
-ghost use Rattle.vale_entry.specs.World.{Offer};
-ghost use Rattle.vale_entry.specs.Grant.{first_offer};
-ghost use Rattle.vale_entry.specs.Legal.{step, reply_of};
-ghost use Rattle.vale_steps.specs.Offering.{OffersStand, IsLeaseOf};
-ghost use Rattle.vale_steps.specs.Granting.{given_by};
-ghost use Rattle.vale_book.specs.Words.{HasRoom, after_ask, standing};
 
 use crate::book::Book;
 use vale_port::open_port;

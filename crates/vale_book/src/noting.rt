@@ -1,10 +1,8 @@
 ghost use Rattle.std.specs.Prelude.{◌≡◌, ◌<◌, [], ◌∷◌, ◌++◌, length, Some, OnOk, OnErr, IfOk, IfErr};
 ghost use Rattle.vale_entry.specs.declared.entry.Ask.TheVariants as asks;
 ghost use Rattle.vale_entry.specs.declared.entry.Reply.TheVariants as replies;
-ghost use Rattle.vale_entry.specs.Room.{bytes_of_entry};
-ghost use Rattle.vale_entry.specs.Stored.{Fits, IsFull};
-ghost use Rattle.vale_port.specs.Lists.{OfState};
-ghost use Rattle.vale_book.specs.Words.{HasRoom, IsEnabled, IsRefusal, after_ask, reply_to, standing};
+ghost use Rattle.vale_book.specs.Words.{Fits, HasRoom, IsEnabled, IsFull, IsRefusal, OfState};
+ghost use Rattle.vale_book.specs.Words.{after_ask, bytes_of_entry, reply_to, standing};
 
 use crate::book::Book;
 use nm_types::{Counts, PortId, SessionId, Side, StepFault, SyncFault};

@@ -1,10 +1,9 @@
 ghost use Rattle.std.specs.Prelude.{◌≡◌, ◌<◌, ◌-◌, All, drop, vec_capacity, Some, None, OnOk, OnErr, IfOk, IfErr, IfSome, IfNone};
 ghost use Rattle.vale_entry.specs.declared.entry.Ask.TheVariants as asks;
-ghost use Rattle.vale_entry.specs.Pipe.{peer_at};
+ghost use Rattle.vale_book.specs.Words.{AreOf, HasRoom, IsEnabled, IsRefusal, IsSingle, after_ask};
+ghost use Rattle.vale_book.specs.Words.{buffers_of, items_of, peer_at, standing, took_of};
 ghost use Rattle.vale_book.specs.PutFaults.{IfMade, IfNotMade, IsPutRefusal};
-ghost use Rattle.vale_steps.specs.Putting.{items_of, took_of};
 ghost use Rattle.vale_book.specs.Putting.{IsPut};
-ghost use Rattle.vale_book.specs.Words.{AreOf, HasRoom, IsEnabled, IsRefusal, IsSingle, after_ask, buffers_of, standing};
 
 use crate::book::Book;
 use crate::fault::PutFault;

@@ -1,10 +1,10 @@
 ghost use Rattle.std.specs.Prelude.{◌≡◌, ◌<◌, ◌-◌, length, All, Some, OnOk, OnErr, IfOk, IfErr};
-ghost use Rattle.nm_types.specs.Limits.{most_ring};
+ghost use Rattle.vale_book.specs.Words.{AreOf, HasRoom, IsEnabled, IsRefusal, IsSingle, after_ask};
+ghost use Rattle.vale_book.specs.Words.{dests_wanted, indices_of, most_ring, read_ask, reply_to};
+ghost use Rattle.vale_book.specs.Words.{standing};
 ghost use Rattle.vale_entry.specs.declared.entry.Ask.TheVariants as asks;
 ghost use Rattle.vale_entry.specs.declared.entry.Reply.TheVariants as replies;
-ghost use Rattle.vale_steps.specs.Reading.{read_ask};
 ghost use Rattle.vale_book.specs.Reading.{IsGiven, IsOffered};
-ghost use Rattle.vale_book.specs.Words.{AreOf, HasRoom, IsEnabled, IsRefusal, IsSingle, after_ask, dests_wanted, indices_of, reply_to, standing};
 
 use crate::book::Book;
 use nm_region::Buf;

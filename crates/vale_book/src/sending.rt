@@ -1,9 +1,9 @@
 ghost use Rattle.std.specs.Prelude.{◌≡◌, ◌<◌, ◌-◌, option_map, Some, OnOk, OnErr, IfOk, IfErr};
 ghost use Rattle.vale_entry.specs.declared.entry.Ask.TheVariants as asks;
 ghost use Rattle.vale_entry.specs.declared.entry.Reply.TheVariants as replies;
-ghost use Rattle.vale_entry.specs.Legal.{step, reply_of};
+ghost use Rattle.vale_book.specs.Words.{HasRoom, IsEnabled, IsRefusal, after_ask, dests_wanted};
+ghost use Rattle.vale_book.specs.Words.{reply_of, standing, step};
 ghost use Rattle.vale_book.specs.Sending.{IsSent};
-ghost use Rattle.vale_book.specs.Words.{HasRoom, IsEnabled, IsRefusal, after_ask, dests_wanted, standing};
 
 use crate::book::Book;
 use crate::noting::session_at;

@@ -1,9 +1,8 @@
 ghost use Rattle.std.specs.Prelude.{◌≡◌, ◌<◌, true, false, length, position, IsSome};
-ghost use Rattle.nm_types.specs.Names.{switch_of, is_switch_port_name};
+ghost use Rattle.vale_book.specs.Words.{HasRoom, IsEnabled, IsForgottenAt, IsForgottenOn, OfState};
+ghost use Rattle.vale_book.specs.Words.{after_ask, is_for_switch, is_switch_port_name, standing};
+ghost use Rattle.vale_book.specs.Words.{switch_of};
 ghost use Rattle.vale_entry.specs.declared.entry.Ask.TheVariants as asks;
-ghost use Rattle.vale_port.specs.Lists.{OfState};
-ghost use Rattle.vale_steps.specs.NamedTables.{is_for_switch, IsForgottenAt, IsForgottenOn};
-ghost use Rattle.vale_book.specs.Words.{HasRoom, IsEnabled, after_ask, standing};
 
 use crate::book::Book;
 use crate::noting::session_at;

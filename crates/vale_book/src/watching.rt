@@ -1,12 +1,10 @@
 ghost use Rattle.std.specs.Prelude.{◌≡◌, ◌+◌, ◌<◌, [], ◌∷◌, ◌++◌, None, Some, OnErr, IfOk, IfErr};
 ghost use Rattle.vale_entry.specs.declared.entry.Ask.TheVariants as asks;
-ghost use Rattle.vale_entry.specs.declared.entry.Reply.{Reply as Answer};
+ghost use Rattle.vale_book.specs.Words.{Fits, IsEnabled, IsFull, IsRecordedAs, Reply as Answer};
+ghost use Rattle.vale_book.specs.Words.{bytes_of, standing};
 ghost use Rattle.vale_entry.specs.declared.entry.Reply.TheVariants as replies;
-ghost use Rattle.vale_entry.specs.Room.{bytes_of};
-ghost use Rattle.vale_entry.specs.Stored.{Fits, IsFull};
 ghost use Rattle.vale_book.specs.WatchAnswers.{IsUnwatched};
 ghost use Rattle.vale_book.specs.WatchSteps.{reply_of_watch, IsWatch, IsNoWatch};
-ghost use Rattle.vale_book.specs.Words.{IsEnabled, IsRecordedAs, standing};
 
 use crate::book::Book;
 use crate::noting::session_at;

@@ -1,10 +1,8 @@
 //! Leases are filled, outside the turn.
 ghost use Rattle.std.specs.Prelude.{ℕ, ◌≡◌, ◌≤◌, ◌<◌, ◌+◌, [], ◌∷◌, ◌++◌, All, length};
 ghost use Rattle.std.specs.Prelude.{slice_get, Some};
-ghost use Rattle.vale_line.specs.Gots.{buffers_of, frames_in, IsSingle};
-ghost use Rattle.vale_line.specs.Leased.{contents, next_of, with_frame};
-ghost use Rattle.vale_book.specs.BookView.{AreOf};
-ghost use Rattle.vale_book.specs.Recorded.{Recorded};
+ghost use Rattle.vale_fabric.specs.Words.{AreOf, IsSingle, Recorded, buffers_of, contents};
+ghost use Rattle.vale_fabric.specs.Words.{frames_in, next_of, with_frame};
 ghost use Rattle.vale_fabric.specs.Filling.{AreFitting, IsFilling, bytes_from};
 ghost use Rattle.vale_fabric.specs.Leases.{IsFilledBy, IsHeldFor, IsToFill};
 

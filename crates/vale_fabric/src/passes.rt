@@ -1,9 +1,7 @@
 //! Passes: cut in two, and made one again.
 ghost use Rattle.std.specs.Prelude.{◌≡◌, ◌<◌, ◌^◌, length};
-ghost use Rattle.nm_turn.specs.Passes.{HasAll, Knows, forked_view, joined_view, kept_view};
-ghost use Rattle.nm_turn.specs.Shares.{IsWhole};
-ghost use Rattle.vale_entry.specs.Legal.{IsLegal};
-ghost use Rattle.vale_book.specs.Recorded.{HadRoom};
+ghost use Rattle.vale_fabric.specs.Words.{HadRoom, HasAll, IsLegal, IsWhole, Knows, forked_view};
+ghost use Rattle.vale_fabric.specs.Words.{joined_view, kept_view};
 ghost use Rattle.vale_fabric.specs.Roots.{root_of};
 ghost use Rattle.vale_fabric.specs.Fabrics.{IsPassIn, fixed_in, knowing, record_in};
 

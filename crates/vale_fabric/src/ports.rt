@@ -2,10 +2,10 @@
 ghost use Rattle.std.specs.Prelude.{◌≡◌, length, OnOk, IfOk, IfErr, true, false};
 ghost use Rattle.vale_entry.specs.declared.entry.Ask.TheVariants as asks;
 ghost use Rattle.vale_entry.specs.declared.entry.Reply.TheVariants as replies;
-ghost use Rattle.vale_entry.specs.Transcript.{is_refusal};
+ghost use Rattle.vale_fabric.specs.Words.{AnswersIn, AreOf, IsPassIn, MayIn, RefusesIn, before};
+ghost use Rattle.vale_fabric.specs.Words.{fixed_in, indices_of, is_refusal, knowing};
 ghost use Rattle.vale_fabric.specs.Steps.{is_made};
 ghost use Rattle.vale_fabric.specs.Ports.{Hands, OpensNot, Waits, WatchesNot, is_said};
-ghost use Rattle.vale_fabric.specs.Words.{AnswersIn, AreOf, IsPassIn, MayIn, RefusesIn, before, fixed_in, indices_of, knowing};
 
 use crate::fabric::Fabric;
 use crate::kept::Pass;

@@ -1,13 +1,13 @@
 //! Frames are offered to a pipe's other end.
 ghost use Rattle.std.specs.Prelude.{true, ◌≡◌, ◌≤◌, All, take, drop, length, vec_capacity, OnErr, IfOk, IfErr};
-ghost use Rattle.std.specs.List.{list_all};
-ghost use Rattle.nm_types.specs.Sendable.{fits_buffer};
+ghost use Rattle.vale_fabric.specs.Words.{AnswersIn, AreOf, IsAtHand, IsPassIn, IsPut, IsSingle};
+ghost use Rattle.vale_fabric.specs.Words.{MayIn, Stands, before, buffers_of, bytes_of};
+ghost use Rattle.vale_fabric.specs.Words.{dests_wanted, fits_buffer, fixed_in, items_of, knowing};
+ghost use Rattle.vale_fabric.specs.Words.{list_all, seen_by};
 ghost use Rattle.vale_entry.specs.declared.entry.Ask.TheVariants as asks;
 ghost use Rattle.vale_entry.specs.declared.entry.Reply.TheVariants as replies;
-ghost use Rattle.vale_book.specs.Putting.{items_of, IsPut};
 ghost use Rattle.vale_fabric.specs.Steps.{is_made};
 ghost use Rattle.vale_fabric.specs.Puts.{PutsNot, is_put_said};
-ghost use Rattle.vale_fabric.specs.Words.{AnswersIn, AreOf, IsAtHand, IsPassIn, IsSingle, MayIn, Stands, before, buffers_of, bytes_of, dests_wanted, fixed_in, knowing, seen_by};
 
 use crate::fabric::Fabric;
 use crate::kept::Pass;

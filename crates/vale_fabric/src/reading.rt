@@ -1,9 +1,9 @@
 //! What a port was granted is read.
 ghost use Rattle.std.specs.Prelude.{◌≡◌, ◌≤◌, length, IfOk, IfErr};
 ghost use Rattle.vale_entry.specs.declared.entry.Ask.TheVariants as asks;
-ghost use Rattle.vale_book.specs.Reading.{read_ask};
+ghost use Rattle.vale_fabric.specs.Words.{AreOf, IsPassIn, MayIn, RefusesIn, Stands, fixed_in};
+ghost use Rattle.vale_fabric.specs.Words.{indices_of, knowing, read_ask};
 ghost use Rattle.vale_fabric.specs.Reading.{IsRead};
-ghost use Rattle.vale_fabric.specs.Words.{AreOf, IsPassIn, MayIn, RefusesIn, Stands, fixed_in, indices_of, knowing};
 
 use crate::fabric::Fabric;
 use crate::kept::Pass;

@@ -1,14 +1,12 @@
 //! Frames are sent, and what ports want of them is granted and completed.
 ghost use Rattle.std.specs.Prelude.{List, ◌≡◌, ◌≤◌, [], drop, length, slice_get, take, Some, IfOk, IfErr, IfSome};
-ghost use Rattle.nm_types.specs.Frames.{Frame};
+ghost use Rattle.vale_fabric.specs.Words.{AnswersIn, AreOf, Frame, IsAtHand, IsPassIn, IsSent};
+ghost use Rattle.vale_fabric.specs.Words.{MayIn, OffersStand, RefusesIn, Stands, before};
+ghost use Rattle.vale_fabric.specs.Words.{buffers_of, bytes_of, dests_wanted, fixed_in, given_by};
+ghost use Rattle.vale_fabric.specs.Words.{knowing, lease_id, seen_by, standing, wanted};
 ghost use Rattle.vale_entry.specs.declared.entry.Ask.TheVariants as asks;
 ghost use Rattle.vale_entry.specs.declared.entry.Reply.TheVariants as replies;
-ghost use Rattle.vale_batch.specs.Wants.{wanted};
-ghost use Rattle.vale_book.specs.Granting.{given_by, lease_id};
-ghost use Rattle.vale_book.specs.Offering.{OffersStand};
-ghost use Rattle.vale_book.specs.Sending.{IsSent};
 ghost use Rattle.vale_fabric.specs.Leases.{IsHeldBy, IsHeldFor, IsLeaseBy, MayFill, StandOf};
-ghost use Rattle.vale_fabric.specs.Words.{AnswersIn, AreOf, IsAtHand, IsPassIn, MayIn, RefusesIn, Stands, before, buffers_of, bytes_of, dests_wanted, fixed_in, knowing, seen_by, standing};
 
 use crate::fabric::Fabric;
 use crate::kept::Pass;

@@ -3,7 +3,7 @@ ghost use Rattle.std.specs.Prelude.{◌≡◌, ◌≤◌, ◌<◌, ◌+◌, ◌^
 ghost use Rattle.std.specs.Prelude.{IfSome, IfNone};
 ghost use Rattle.vale_entry.specs.declared.entry.Ask.TheVariants as asks;
 ghost use Rattle.vale_entry.specs.declared.entry.Reply.TheVariants as replies;
-ghost use Rattle.vale_book.specs.Granting.{lease_id};
+ghost use Rattle.vale_fabric.specs.Words.{lease_id};
 ghost use Rattle.vale_fabric.specs.Fabrics.{IsPassIn, fixed_in, knowing, AnswersIn};
 ghost use Rattle.vale_fabric.specs.Filling.{AreFitting, bytes_from};
 ghost use Rattle.vale_fabric.specs.Leases.{MayFillFrom};

@@ -1,6 +1,6 @@
 //! Users on threads of their own, through passes of one fabric.
 ghost use Rattle.std.specs.Prelude.{◌≡◌, ◌+◌, length, IfOk, OnOk};
-ghost use Rattle.nm_turn.specs.Passes.{first_view};
+ghost use Rattle.vale_fabric.specs.Words.{first_view};
 ghost use Rattle.vale_fabric.specs.Fabrics.{IsPassIn, fixed_in, knowing};
 
 use crate::{Book, Fabric, Pass};

@@ -9,3 +9,4 @@ pub mod Deeds
 pub mod Syncing
 pub mod Saving
 pub mod Kept
+pub mod Words

@@ -2,8 +2,7 @@
 //! a port of a name.
 ghost use Rattle.std.specs.Prelude.{◌≡◌, ◌≤◌, false, OnOk, OnErr};
 ghost use Rattle.vale_script.specs.declared.script.Act.TheVariants as acts;
-ghost use Rattle.vale_script.specs.Sound.{most_of};
-ghost use Rattle.vale_replay.specs.Edits.{field_written};
+ghost use Rattle.vale_player.specs.Words.{field_written, most_of};
 ghost use Rattle.vale_player.specs.Players.{with_act, with_save};
 
 use crate::player::{Player, SaveFile};

@@ -1,10 +1,8 @@
 //! What a user does that makes one entry, at its ports by their names. Nothing is made where it has
 //! not the port.
 ghost use Rattle.std.specs.Prelude.{◌≡◌, [], ◌∷◌, true, None, OnOk, IfErr};
-ghost use Rattle.nm_types.specs.Names.{is_monitor_name};
-ghost use Rattle.nm_user.specs.Ports.{IsWatchable};
-ghost use Rattle.nm_user.specs.Sessions.{IsThere};
-ghost use Rattle.vale_replay.specs.Tasks.{OpenPort, WatchPort, ReadCounts};
+ghost use Rattle.vale_player.specs.Words.{IsThere, IsWatchable, OpenPort, ReadCounts, WatchPort};
+ghost use Rattle.vale_player.specs.Words.{is_monitor_name};
 ghost use Rattle.vale_player.specs.Players.{Does, IsStill, StopsAt};
 ghost use Rattle.vale_player.specs.Stopping.{open_stop_of, watch_stop_of};
 

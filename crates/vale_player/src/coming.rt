@@ -1,13 +1,9 @@
 //! How a user comes, closes its ports and leaves, and how its pass is cut in two and made one again.
 ghost use Rattle.std.specs.Prelude.{◌≡◌, [], ◌∷◌, IfOk, IfErr, None};
-ghost use Rattle.nm_turn.specs.Passes.{Knows, forked_view, joined_view, kept_view};
+ghost use Rattle.vale_player.specs.Words.{FinishPort, IsLeft, IsPassIn, IsRefused, IsThere, Knows};
+ghost use Rattle.vale_player.specs.Words.{ShutPort, fixed_in, forked_view, joined_view, kept_view};
+ghost use Rattle.vale_player.specs.Words.{knowing, root_of};
 ghost use Rattle.vale_entry.specs.declared.entry.Ask.TheVariants as asks;
-ghost use Rattle.vale_fabric.specs.Fabrics.{IsPassIn, fixed_in, knowing};
-ghost use Rattle.vale_fabric.specs.Roots.{root_of};
-ghost use Rattle.nm_user.specs.Calls.{IsRefused};
-ghost use Rattle.nm_user.specs.Leaving.{IsLeft};
-ghost use Rattle.nm_user.specs.Sessions.{IsThere};
-ghost use Rattle.vale_replay.specs.Tasks.{ShutPort, FinishPort};
 ghost use Rattle.vale_player.specs.Kept.{AreWhole};
 ghost use Rattle.vale_player.specs.Players.{Does, HasEntered, IsStill};
 

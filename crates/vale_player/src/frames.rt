@@ -3,18 +3,14 @@
 //! port, or the port not the ring.
 ghost use Rattle.std.specs.Prelude.{ℕ, List, ◌≡◌, ◌≤◌, [], ◌∷◌, length, map, replicate, true};
 ghost use Rattle.std.specs.Prelude.{None, Some, IsSome, IfSome, OnOk, IfOk, IfErr};
-ghost use Rattle.nm_types.specs.declared.id.Side.TheVariants.{Tx};
-ghost use Rattle.nm_types.specs.OwnPorts.{port_with_id, ring_at};
-ghost use Rattle.nm_types.specs.OwnEdits.{has_room};
-ghost use Rattle.nm_user.specs.Sessions.{IsThere};
-ghost use Rattle.nm_user.specs.Syncs.{IsUnsent};
-ghost use Rattle.vale_replay.specs.Tasks.{PutFrame, SendFrames, TakeFrames, frame_of_put, played};
+ghost use Rattle.vale_player.specs.Words.{IsThere, IsUnsent, PutFrame, SendFrames, TakeFrames, Tx};
+ghost use Rattle.vale_player.specs.Words.{captured, frame_of_put, has_room, played, port_with_id};
+ghost use Rattle.vale_player.specs.Words.{ring_at};
 ghost use Rattle.vale_player.specs.Players.{Does, DoesOrEnds, DoesLine, Stops, StopsAt, IsStill};
 ghost use Rattle.vale_player.specs.Syncing.{sender_named, sync_end_of, EndsTx, RxMadeNone};
 ghost use Rattle.vale_player.specs.Kept.{SavesBy, CameRx, sync_stop_of};
 ghost use Rattle.vale_player.specs.Syncing.{has_passed, leaves_room, with_put, NeedsNoneOrEnds};
 ghost use Rattle.vale_player.specs.Syncing.{playing, PlaysOn};
-ghost use Rattle.vale_captures.specs.Inputs.{captured};
 
 use crate::kept::keep_received;
 use crate::player::Player;

@@ -1,8 +1,7 @@
 //! The frames that are kept of a user's ports, for the files into which they go.
 ghost use Rattle.std.specs.Prelude.{◌≡◌, ◌<◌, ◌^◌, ◌++◌, [], ◌∷◌, map, length, None};
 ghost use Rattle.std.specs.Prelude.{OnOk, OnErr, IfOk};
-ghost use Rattle.nm_user.specs.Saving.{frame_before_tail, bytes_or_none};
-ghost use Rattle.nm_user.specs.Sessions.{SessionState, IsThere};
+ghost use Rattle.vale_player.specs.Words.{IsThere, SessionState, bytes_or_none, frame_before_tail};
 ghost use Rattle.vale_player.specs.Kept.{AreKept, SavesBy, record_at, new_records, grown_if};
 
 use nm_types::{Name, NoMemory, OpenFault, PortId, Side};

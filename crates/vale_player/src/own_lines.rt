@@ -1,9 +1,7 @@
 //! What a user does of its own lines.
 ghost use Rattle.std.specs.Prelude.{◌≡◌, ◌≤◌, [], ◌∷◌, length, map, replicate, OnOk, IfErr};
-ghost use Rattle.vale_captures.specs.Inputs.{captured};
-ghost use Rattle.vale_script.specs.Sound.{IsSoundAct};
-ghost use Rattle.vale_replay.specs.Tasks.{PutFrame, SaveFrames, tasks_of, tasks_of_lines};
-ghost use Rattle.vale_replay.specs.Replay.{acts_of, has_line};
+ghost use Rattle.vale_player.specs.Words.{IsSoundAct, PutFrame, SaveFrames, acts_of, captured};
+ghost use Rattle.vale_player.specs.Words.{has_line, tasks_of, tasks_of_lines};
 ghost use Rattle.vale_player.specs.Players.{Does, DoesLine, Stops, IsStill, RunsLines, with_act};
 ghost use Rattle.vale_player.specs.Inputs.{records_in};
 ghost use Rattle.vale_player.specs.Deeds.{IsSoundWatch, IsOnRings, AreDoable, receive_tasks};

@@ -1,6 +1,6 @@
 //! A user's life, call by call.
 ghost use Rattle.std.specs.Prelude.{◌≡◌};
-ghost use Rattle.vale_fabric.specs.Fabrics.{IsPassIn};
+ghost use Rattle.vale_player.specs.Words.{IsPassIn};
 
 use crate::{Player, SaveFile};
 use nm_io::NoGate;

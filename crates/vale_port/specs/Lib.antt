@@ -5,3 +5,4 @@ pub mod Laws
 pub mod Stored
 pub mod Rooms
 pub mod Lists
+pub mod Words

@@ -1,9 +1,6 @@
 ghost use Rattle.std.specs.Prelude.{◌≡◌, ◌==◌, find, position, IfOk, IfSome, IfNone};
-ghost use Rattle.std.specs.List.{list_any};
-ghost use Rattle.nm_types.specs.Names.{switch_of};
-ghost use Rattle.vale_entry.specs.World.{open_port};
-ghost use Rattle.vale_entry.specs.Closing.{shutting_port, is_port_of};
-ghost use Rattle.vale_entry.specs.Delivered.{port_at};
+ghost use Rattle.vale_port.specs.Words.{is_port_of, list_any, open_port, port_at, shutting_port};
+ghost use Rattle.vale_port.specs.Words.{switch_of};
 ghost use Rattle.vale_port.specs.Lists.{IsFoundAt, IsNotFound, AreOpenOn};
 ghost use Rattle.vale_port.specs.Ports.{open_ids, is_state_of, is_state_of_session, is_open_id_on, is_open_state, is_shutting_state};
 

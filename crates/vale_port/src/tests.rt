@@ -1,9 +1,6 @@
 ghost use Rattle.std.specs.Prelude.{◌≡◌, ◌≤◌, ◌<◌, ◌+◌, [], ◌∷◌, ◌++◌, All, length, map, sum, vec_capacity, false, Some};
-ghost use Rattle.vale_lease.specs.Leases.{is_there};
-ghost use Rattle.vale_line.specs.Fitting.{IsFrameSize};
-ghost use Rattle.vale_line.specs.Gots.{IsSingle};
-ghost use Rattle.vale_line.specs.Leased.{buffer_count};
-ghost use Rattle.vale_line.specs.Lines.{slots_out, behind_done, completed, leases_of, opened_lot};
+ghost use Rattle.vale_port.specs.Words.{IsFrameSize, IsSingle, behind_done, buffer_count};
+ghost use Rattle.vale_port.specs.Words.{completed, is_there, leases_of, opened_lot, slots_out};
 ghost use Rattle.vale_port.specs.Lists.{OfState};
 
 use crate::{

@@ -8,3 +8,4 @@ pub mod Monitored
 pub mod Reading
 pub mod Sending
 pub mod Putting
+pub mod Words

@@ -1,6 +1,5 @@
 ghost use Rattle.std.specs.Prelude.{◌≡◌, ◌≤◌, [], length, vec_capacity, IfOk};
-ghost use Rattle.nm_region.specs.Buffers.{indices_of};
-ghost use Rattle.vale_parts.specs.FreeBuffers.{CanAllBeGiven, pool_with_all};
+ghost use Rattle.vale_steps.specs.Words.{CanAllBeGiven, indices_of, pool_with_all};
 
 use nm_pool::Pool;
 use nm_region::Buf;

@@ -1,18 +1,10 @@
 ghost use Rattle.std.specs.Prelude.{false, ◌≡◌, ◌<◌, ◌≤◌, ◌+◌, ◌==◌, ◌^◌, [], ◌∷◌, ◌++◌, All, length, sum, IsSome, slice_set, Some, if◌then◌else◌, IfSome, IfNone};
-ghost use Rattle.vale_batch.specs.Wants.{wanted};
-ghost use Rattle.vale_line.specs.Fitting.{IsFrameSize};
-ghost use Rattle.vale_line.specs.Leased.{buffer_count};
-ghost use Rattle.vale_line.specs.Lines.{leases_of, leased, granted_sizes, with_lease};
-ghost use Rattle.vale_lease.specs.Leases.{is_there};
+ghost use Rattle.vale_steps.specs.Words.{ChangesSeat, FitsIn, IsFrameSize, IsLeaseFor, OfSeat};
+ghost use Rattle.vale_steps.specs.Words.{OfState, Offer, buffer_count, count_shared, counts_of};
+ghost use Rattle.vale_steps.specs.Words.{given_frames, granted_sizes, is_there, leased, leases_of};
+ghost use Rattle.vale_steps.specs.Words.{seat_given, sizes_of, tally_after_add, wanted, with_lease};
+ghost use Rattle.vale_steps.specs.Words.{with_line};
 ghost use Rattle.vale_entry.specs.declared.entry.Reply.TheVariants as replies;
-ghost use Rattle.vale_entry.specs.World.{Offer};
-ghost use Rattle.vale_entry.specs.Counters.{count_shared};
-ghost use Rattle.nm_count.specs.Tallies.{counts_of, tally_after_add};
-ghost use Rattle.vale_parts.specs.Adding.{FitsIn};
-ghost use Rattle.vale_port.specs.Laws.{with_line};
-ghost use Rattle.vale_port.specs.Lists.{ChangesSeat, OfSeat, OfState};
-ghost use Rattle.vale_port.specs.Ports.{IsLeaseFor, sizes_of};
-ghost use Rattle.vale_port.specs.Seat.{given_frames, seat_given};
 ghost use Rattle.vale_steps.specs.Granting.{given_by, grant_entry, lease_id};
 
 use nm_count::Tally;

@@ -1,6 +1,5 @@
 ghost use Rattle.std.specs.Prelude.{◌≡◌, All, length, map, IfOk};
-ghost use Rattle.vale_batch.specs.Wants.{wanted};
-ghost use Rattle.vale_parts.specs.Batches.{dests_wanted};
+ghost use Rattle.vale_steps.specs.Words.{dests_wanted, wanted};
 ghost use Rattle.vale_steps.specs.Monitored.{wants_by, offers_to};
 ghost use Rattle.vale_steps.specs.Wanting.{IsSmallWant};
 

@@ -1,5 +1,5 @@
 ghost use Rattle.std.specs.Prelude.{◌≡◌, ◌≤◌, ◌<◌, ◌^◌, [], ◌∷◌, All, length, map, reverse, slice_get, option_map, Some, IfOk, IfSome, IfNone};
-ghost use Rattle.vale_batch.specs.Wants.{wanted};
+ghost use Rattle.vale_steps.specs.Words.{wanted};
 ghost use Rattle.vale_steps.specs.Offering.{slots_in, slots_wanted};
 
 use nm_types::{NoMemory, SessionId};

@@ -1,14 +1,9 @@
 ghost use Rattle.std.specs.Prelude.{◌≡◌, ◌<◌, ◌≤◌, ◌^◌, ◌+◌, ◌-◌, [], ◌∷◌, ◌++◌, true, All, IsSome, length, map, count_by, OnOk, OnErr, IfOk, IfErr};
-ghost use Rattle.nm_types.specs.Frames.{bytes_of_frames};
-ghost use Rattle.nm_types.specs.Names.{switch_of};
-ghost use Rattle.nm_types.specs.Sendable.{is_sendable};
-ghost use Rattle.vale_batch.specs.Addresses.{is_short};
-ghost use Rattle.vale_batch.specs.Looking.{IsFrame, learned_of_batch, looked_up_batch, untaught_all};
-ghost use Rattle.vale_batch.specs.Wants.{IsRising, is_lone, is_short_destination, port_number, wants_of as ports_want};
-ghost use Rattle.nm_count.specs.Tallies.{counts_of, tally_after_add};
-ghost use Rattle.vale_parts.specs.Adding.{FitsIn};
-ghost use Rattle.vale_entry.specs.Stored.{Fits, IsFull};
-ghost use Rattle.vale_port.specs.Ports.{open_ids};
+ghost use Rattle.vale_steps.specs.Words.{Fits, FitsIn, IsFrame, IsFull, IsRising, bytes_of_frames};
+ghost use Rattle.vale_steps.specs.Words.{counts_of, is_lone, is_sendable, is_short};
+ghost use Rattle.vale_steps.specs.Words.{is_short_destination, learned_of_batch, looked_up_batch};
+ghost use Rattle.vale_steps.specs.Words.{open_ids, port_number, switch_of, tally_after_add};
+ghost use Rattle.vale_steps.specs.Words.{untaught_all, wants_of as ports_want};
 ghost use Rattle.vale_steps.specs.Sending.{all_wants, classed_among, send_entry, send_room, send_offers, sent_counts};
 ghost use Rattle.vale_steps.specs.Wanting.{IsSmall};
 

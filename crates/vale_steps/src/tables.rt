@@ -1,5 +1,5 @@
 ghost use Rattle.std.specs.Prelude.{◌≡◌, position};
-ghost use Rattle.nm_types.specs.Names.{switch_of};
+ghost use Rattle.vale_steps.specs.Words.{switch_of};
 ghost use Rattle.vale_steps.specs.NamedTables.{is_for_switch};
 
 use nm_types::Name;

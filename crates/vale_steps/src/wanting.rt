@@ -1,9 +1,7 @@
 ghost use Rattle.std.specs.Prelude.{◌≡◌, List, All, length, map, option_map, position, replicate};
 ghost use Rattle.std.specs.Prelude.{reverse, IfOk, OnOk};
-ghost use Rattle.std.specs.List.{range_with_len};
-ghost use Rattle.nm_types.specs.Frames.{Frame};
-ghost use Rattle.vale_batch.specs.Wants.{port_number, wanted};
-ghost use Rattle.vale_parts.specs.Batches.{dests_wanted, with_want, wants_monitored};
+ghost use Rattle.vale_steps.specs.Words.{Frame, dests_wanted, port_number, range_with_len, wanted};
+ghost use Rattle.vale_steps.specs.Words.{wants_monitored, with_want};
 ghost use Rattle.vale_steps.specs.Wanting.{IsSmall, IsSmallWant, want_all, dest_in, is_behind};
 
 use nm_types::{NoMemory, PortId};

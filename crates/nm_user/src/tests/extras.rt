@@ -1,5 +1,5 @@
 //! Chains of extra buffers, whole and broken, as a closed port tells them.
-ghost use Rattle.vale_fabric.specs.Fabrics.{IsPassIn};
+ghost use Rattle.nm_user.specs.Words.{IsPassIn};
 
 use super::enter;
 use super::lines::{LIMITS, recorded};

@@ -1,6 +1,6 @@
 //! What other users do while one is held between a grant and its completion. The gate that holds the
 //! one has the others, so all is on one thread.
-ghost use Rattle.vale_fabric.specs.Fabrics.{IsPassIn};
+ghost use Rattle.nm_user.specs.Words.{IsPassIn};
 
 use super::lines::{LIMITS, Line, NONE, are_lines, recorded, three_passes};
 use super::{FRAME, enter, open};

@@ -1,5 +1,5 @@
 //! What a history has, entry by entry, and the history of users who have left.
-ghost use Rattle.vale_fabric.specs.Fabrics.{IsPassIn};
+ghost use Rattle.nm_user.specs.Words.{IsPassIn};
 
 use nm_types::{Chain, Limits, Side, SyncFault};
 use std::process::Abort;

@@ -1,5 +1,5 @@
 //! Syncs that a check refuses: each is recorded as a reset, and the next frame is sent.
-ghost use Rattle.vale_fabric.specs.Fabrics.{IsPassIn};
+ghost use Rattle.nm_user.specs.Words.{IsPassIn};
 
 use super::lines::{LIMITS, Line, NONE, are_lines, recorded};
 use super::{FRAME, enter, open};

@@ -1,6 +1,6 @@
 //! Two users of one switch, each on a thread of its own.
 ghost use Rattle.std.specs.Prelude.{◌≡◌};
-ghost use Rattle.vale_fabric.specs.Fabrics.{IsPassIn};
+ghost use Rattle.nm_user.specs.Words.{IsPassIn};
 
 use super::enter;
 use crate::{Received, Sent, Session};

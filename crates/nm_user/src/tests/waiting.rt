@@ -1,6 +1,6 @@
 //! A port with a lease out is closed on another thread: it is shut at once, and goes once the lease
 //! is completed.
-ghost use Rattle.vale_fabric.specs.Fabrics.{IsPassIn};
+ghost use Rattle.nm_user.specs.Words.{IsPassIn};
 
 use super::gates::send;
 use super::lines::{LIMITS, Line, NONE, are_lines, recorded, three_passes};

@@ -1,12 +1,10 @@
 //! The calls of a book that a test takes to succeed.
 
 ghost use Rattle.std.specs.Prelude.{false, ◌≡◌, [], ◌∷◌, length, take, option_map, Some};
-ghost use Rattle.nm_region.specs.Buffers.{indices_of};
+ghost use Rattle.vale_book.specs.Words.{AreOf, IsEnabled, dests_wanted, indices_of, reply_of};
+ghost use Rattle.vale_book.specs.Words.{reply_to, step};
 ghost use Rattle.vale_entry.specs.declared.entry.Ask.TheVariants as asks;
 ghost use Rattle.vale_entry.specs.declared.entry.Reply.TheVariants as replies;
-ghost use Rattle.vale_entry.specs.Legal.{IsEnabled, reply_to, reply_of, step};
-ghost use Rattle.vale_parts.specs.Batches.{dests_wanted};
-ghost use Rattle.nm_region.specs.Regions.{AreOf};
 ghost use Rattle.vale_book.specs.Reading.{IsGiven, IsOffered};
 ghost use Rattle.vale_book.specs.Recorded.{standing, after_ask};
 ghost use Rattle.vale_book.specs.Sending.{IsSent};

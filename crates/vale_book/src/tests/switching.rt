@@ -1,8 +1,6 @@
 ghost use Rattle.std.specs.Prelude.{◌≡◌, [], ◌∷◌};
-ghost use Rattle.nm_region.specs.Buffers.{indices_of};
-ghost use Rattle.vale_entry.specs.RowWords.{session, port, dest, frame_h};
-ghost use Rattle.vale_parts.specs.Batches.{dests_wanted};
-ghost use Rattle.nm_region.specs.Regions.{AreOf};
+ghost use Rattle.vale_book.specs.Words.{AreOf, dest, dests_wanted, frame_h, indices_of, port};
+ghost use Rattle.vale_book.specs.Words.{session};
 ghost use Rattle.vale_book.specs.Lives.{life, first_bufs, second_bufs, two_ports, sent_one, filled_one, read_one};
 ghost use Rattle.vale_book.specs.Sending.{IsSent};
 

@@ -1,7 +1,5 @@
 ghost use Rattle.std.specs.Prelude.{◌≡◌};
-ghost use Rattle.nm_region.specs.Buffers.{indices_of};
-ghost use Rattle.vale_entry.specs.RowWords.{session, port};
-ghost use Rattle.nm_region.specs.Regions.{AreOf};
+ghost use Rattle.vale_book.specs.Words.{AreOf, indices_of, port, session};
 ghost use Rattle.vale_book.specs.Lives.{life, first_bufs, monitored, watched_nobody, reset};
 
 use super::steps::{Held, enter, fresh, name, open};

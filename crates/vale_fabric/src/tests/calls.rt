@@ -1,17 +1,10 @@
 //! The calls of one pass that a test takes to succeed.
 ghost use Rattle.std.specs.Prelude.{false, true, ◌≡◌, ◌≤◌, [], ◌∷◌, drop, length};
-ghost use Rattle.std.specs.List.{list_all};
-ghost use Rattle.nm_types.specs.Sendable.{fits_buffer};
-ghost use Rattle.nm_turn.specs.Numbered.{Stands};
+ghost use Rattle.vale_fabric.specs.Words.{AreOf, IsSent, Stands, buffers_of, dests_wanted};
+ghost use Rattle.vale_fabric.specs.Words.{fits_buffer, indices_of, list_all, no_chain, port};
+ghost use Rattle.vale_fabric.specs.Words.{standing};
 ghost use Rattle.vale_entry.specs.declared.entry.Ask.TheVariants as asks;
 ghost use Rattle.vale_entry.specs.declared.entry.Reply.TheVariants as replies;
-ghost use Rattle.nm_region.specs.Buffers.{indices_of};
-ghost use Rattle.vale_entry.specs.RowWords.{no_chain, port};
-ghost use Rattle.vale_parts.specs.Batches.{dests_wanted};
-ghost use Rattle.vale_line.specs.Gots.{buffers_of};
-ghost use Rattle.vale_book.specs.BookView.{AreOf};
-ghost use Rattle.vale_book.specs.Recorded.{standing};
-ghost use Rattle.vale_book.specs.Sending.{IsSent};
 ghost use Rattle.vale_fabric.specs.Fabrics.{IsPassIn, before, fixed_in, knowing, seen_by};
 ghost use Rattle.vale_fabric.specs.Fabrics.{AnswersIn, MakesNone, MayIn};
 ghost use Rattle.vale_fabric.specs.Leases.{IsFilledBy, StandOf};

@@ -1,10 +1,7 @@
 //! Worked examples of leases, as calls of one pass.
 ghost use Rattle.std.specs.Prelude.{◌≡◌, [], ◌∷◌, length, take};
-ghost use Rattle.nm_region.specs.Buffers.{indices_of};
-ghost use Rattle.vale_entry.specs.RowWords.{frame_f};
-ghost use Rattle.vale_entry.specs.Rows.{published_in_lease_order, offer_to_reopened_port};
-ghost use Rattle.vale_entry.specs.Rows.{finish_waits_for_leases};
-ghost use Rattle.vale_book.specs.BookView.{AreOf};
+ghost use Rattle.vale_fabric.specs.Words.{AreOf, finish_waits_for_leases, frame_f, indices_of};
+ghost use Rattle.vale_fabric.specs.Words.{offer_to_reopened_port, published_in_lease_order};
 ghost use Rattle.vale_fabric.specs.Fabrics.{fixed_in};
 ghost use Rattle.vale_fabric.specs.Alone.{IsAlone, IsKept, AreKept};
 ghost use Rattle.vale_fabric.specs.Alone.{finish_waits_for_both, third_bufs};
