@@ -122,21 +122,34 @@ dist_behind size head tail h t =
         → (s + e ≡ head) ⊎ (s + e ≡ head + size) → e ≡ size - 1 - d
     found e d s size head tail below less small ahead stepped there = grind arith
 
+-- where a slot stands, seen from three positions
+pub seen_from : (size a h x : ℕ) → a < size → h < size → x < size → (dist size h x + dist size a h ≡ dist size a x) ⊎ (dist size h x + dist size a h ≡ dist size a x + size)
+seen_from size a h x al hl xl =
+    let near = dist-cases size a h al hl in
+    let far = dist-cases size a x al xl in
+    let rest = dist-cases size h x hl xl in
+    let near_less = dist-below size a h al in
+    let far_less = dist-below size a x al in
+    let rest_less = dist-below size h x hl in
+    met (dist size a h) (dist size h x) (dist size a x) size a h x hl xl near_less rest_less far_less near rest far
+  where
+    met : (d e f size a h x : ℕ) → h < size → x < size → d < size → e < size → f < size → (a + d ≡ h) ⊎ (a + d ≡ h + size) → (h + e ≡ x) ⊎ (h + e ≡ x + size)
+        → (a + f ≡ x) ⊎ (a + f ≡ x + size) → (e + d ≡ f) ⊎ (e + d ≡ f + size)
+    met d e f size a h x hs xs dl el fl near rest far = elim (cases_lt f d) [
+      | inl below ↦ inr (grind arith)
+      | inr above ↦ inl (grind arith)
+    ]
+
 -- steps from an accepted head to a head within its reach, and from there to the tail
 pub dist_split : (size accepted head tail : ℕ) → accepted < size → head < size → tail < size
     → dist size accepted head ≤ dist size accepted tail → dist size accepted head + dist size head tail ≡ dist size accepted tail
 dist_split size accepted head tail a h t reach =
-    let near = dist-cases size accepted head a h in
-    let far = dist-cases size accepted tail a t in
-    let rest = dist-cases size head tail h t in
-    let near_less = dist-below size accepted head a in
-    let far_less = dist-below size accepted tail a in
+    let seen = seen_from size accepted head tail a h t in
     let rest_less = dist-below size head tail h in
-    found (dist size accepted head) (dist size head tail) (dist size accepted tail) size accepted head tail h t near_less rest_less far_less reach near rest far
+    found (dist size accepted head) (dist size head tail) (dist size accepted tail) size rest_less reach seen
   where
-    found : (d e f size a h t : ℕ) → h < size → t < size → d < size → e < size → f < size → d ≤ f → (a + d ≡ h) ⊎ (a + d ≡ h + size) → (h + e ≡ t) ⊎ (h + e ≡ t + size)
-        → (a + f ≡ t) ⊎ (a + f ≡ t + size) → d + e ≡ f
-    found d e f size a h t hs ts dl el fl reach near rest far = grind arith
+    found : (d e f size : ℕ) → e < size → d ≤ f → (e + d ≡ f) ⊎ (e + d ≡ f + size) → d + e ≡ f
+    found d e f size less reach seen = grind arith
 
 -- slots of a ring, cut in two
 slots_shift : (size at k start count : ℕ) → map (step_on size at) (range_with_len (k + start) count) ≡ map (step_on size (step_on size at k)) (range_with_len start count)

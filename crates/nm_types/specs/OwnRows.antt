@@ -42,6 +42,14 @@ held_on side id s = option_map (λ (r : OwnRing). r.held) (ring_at side s id)
 abbrev positions_on : Side → ℕ → OwnState → Option RingState
 positions_on side id s = option_map (λ (r : OwnRing). r.ring) (ring_at side s id)
 
+-- what a port's transmit ring holds, and its positions
+abbrev transmit_on : ℕ → OwnState → Option (List ℕ) × Option RingState
+transmit_on id s = (held_on Tx id s, positions_on Tx id s)
+
+-- the refusals of a push of a port's transmit ring up to a head, from each of some states
+abbrev push_refusals : ℕ → ℕ → List OwnState → List (Option SyncFault)
+push_refusals id head = map (λ s. refusal_on Tx id (with_positions Tx id head head s))
+
 abbrev positions : ℕ → ℕ → ℕ → ℕ → RingState
 positions size head cur tail = record { size = size; head = head; cur = cur; tail = tail; accepted_head = head; last_tail = tail }
 
@@ -174,12 +182,9 @@ third_taken head = own_after_send 2 (with_user_slot Tx 2 0 (record { buf_idx = 4
 third_place : held_on Tx 2 (third_taken 2) ≡ Some (4 ∷ 3 ∷ 2 ∷ 5 ∷ [])
 third_place = refl
 
-third_unannounced : refusal_on Tx 2 (with_positions Tx 2 3 3 (third_taken 2)) ≡ Some (Unannounced 2 4 2)
-third_unannounced = refl
-
 -- where the buffer stands in the slot that the kernel side keeps, it is no named one
-third_not_named : refusal_on Tx 2 (with_positions Tx 2 3 3 (third_taken 1)) ≡ Some (NotHeld 2 4)
-third_not_named = refl
+third_refusals : push_refusals 2 3 (third_taken 2 ∷ third_taken 1 ∷ []) ≡ Some (Unannounced 2 4 2) ∷ Some (NotHeld 2 4) ∷ []
+third_refusals = refl
 
 -- A port that got a frame swaps the buffer into its transmit ring and sends it without copying it.
 
@@ -290,11 +295,8 @@ pipe_pushed = with_frame 3 broadcast (with_frame 3 broadcast (own_after_open 3 (
 abbrev one_taken : OwnState
 one_taken = own_after_put 3 (arrival 12 ∷ []) pipe_pushed
 
-one_taken_places : held_on Tx 3 one_taken ≡ Some (12 ∷ 3 ∷ 4 ∷ 5 ∷ [])
-one_taken_places = refl
-
-one_taken_positions : positions_on Tx 3 one_taken ≡ Some (positions 4 2 2 0)
-one_taken_positions = refl
+one_taken_stands : transmit_on 3 one_taken ≡ (Some (12 ∷ 3 ∷ 4 ∷ 5 ∷ []), Some (positions 4 2 2 0))
+one_taken_stands = refl
 
 -- the frame that was not taken is offered again, and its buffer is named by nobody meanwhile
 one_offered : option_map offered_slots (ring_at Tx one_taken 3) ≡ Some (1 ∷ [])
@@ -312,11 +314,8 @@ none_taken_offered = refl
 abbrev both_taken : OwnState
 both_taken = own_after_put 3 (arrival 13 ∷ []) none_taken
 
-both_taken_places : held_on Tx 3 both_taken ≡ Some (12 ∷ 13 ∷ 4 ∷ 5 ∷ [])
-both_taken_places = refl
-
-both_taken_positions : positions_on Tx 3 both_taken ≡ Some (positions 4 2 2 1)
-both_taken_positions = refl
+both_taken_stands : transmit_on 3 both_taken ≡ (Some (12 ∷ 13 ∷ 4 ∷ 5 ∷ []), Some (positions 4 2 2 1))
+both_taken_stands = refl
 
 -- the slot of a frame that was taken keeps its length, and the buffer's bytes are zero
 taken_slot : user_slot_at Tx (with_positions Tx 3 1 1 both_taken) 3 0 ≡ Some (record { buf_idx = 12; len = 14; flags = 0; ptr = 0 })
@@ -351,11 +350,8 @@ across_places_there : held_on Tx 3 (across 2) ≡ Some (10 ∷ 2 ∷ 12 ∷ 13 �
 across_places_there = refl
 
 -- the slot there keeps naming the buffer that left
-across_unannounced : refusal_on Tx 3 (with_positions Tx 3 2 2 (across 2)) ≡ Some (Unannounced 1 11 2)
-across_unannounced = refl
-
-across_not_named : refusal_on Tx 3 (with_positions Tx 3 2 2 (across 1)) ≡ Some (NotHeld 1 11)
-across_not_named = refl
+across_refusals : push_refusals 3 2 (across 2 ∷ across 1 ∷ []) ≡ Some (Unannounced 1 11 2) ∷ Some (NotHeld 1 11) ∷ []
+across_refusals = refl
 
 -- a detach names what stands in the port's places, wherever it came from
 across_detached : detached (across 2) 3 ≡ Some (10 ∷ 2 ∷ 12 ∷ 13 ∷ [], chain 0 0)

@@ -1,6 +1,6 @@
 use crate::{
-    Batch, Frame, Kind, Name, NoMemory, OpenFault, Part, PortId, Side, Sides, StepFault, SyncFault,
-    WatchFault,
+    Batch, Frame, Kind, Name, NoMemory, OpenFault, Part, PortId, Side, Sides, SlotFault, StepFault,
+    SyncFault, WatchFault,
 };
 use std::test::Fail;
 
@@ -107,6 +107,10 @@ fn faults_say_what_to_do(rt: HostRuntime) -> Result<(), Fail> {
         (
             format!(in alloc; "{head}")?,
             "head 9 is not between 1 and the tail 3",
+        ),
+        (
+            format!(in alloc; "{}", SlotFault::LongLen { slot: 1, len: 2049 })?,
+            "slot 1 has 2049 bytes, more than a buffer",
         ),
         (format!(in alloc; "{watched}")?, "port 5 is watching it"),
         (
