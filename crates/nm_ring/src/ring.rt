@@ -20,36 +20,16 @@ pub struct Ring {
 }
 
 impl Model for Ring {
-    ghost use Rattle.nm_types.specs.Positions.{RingState, IsRing};
+    ghost use Rattle.nm_types.specs.Positions.{RingState};
+    ghost use Rattle.nm_ring.specs.Stored.{seen, fields, IsStored};
 
     ghost Value = { RingState };
 
-    ghost view = { λ r. record {
-      size = r.size;
-      head = r.head;
-      cur = r.cur;
-      tail = r.tail;
-      accepted_head = r.accepted_head;
-      last_tail = r.last_tail;
-    } };
+    ghost view = { seen };
 
-    ghost invariant = { λ r. IsRing (record {
-      size = r.size;
-      head = r.head;
-      cur = r.cur;
-      tail = r.tail;
-      accepted_head = r.accepted_head;
-      last_tail = r.last_tail;
-    }) };
+    ghost invariant = { IsStored };
 
-    ghost inverse = { λ r. record {
-      size = r.size;
-      head = r.head;
-      cur = r.cur;
-      tail = r.tail;
-      accepted_head = r.accepted_head;
-      last_tail = r.last_tail;
-    } };
+    ghost inverse = { fields };
 }
 
 /// How many steps it is from one position to another, going round.
