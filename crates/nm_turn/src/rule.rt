@@ -3,6 +3,8 @@
 //! (`Awaits`), the value is taken out (`TakeValue`), an entry is counted (`Commit`), the value is
 //! put back (`PutValue`), the turn is given up (`Release`), a pass is cut in two (`Halve`), and two
 //! passes are made one (`Add`, and `Learn`, which tells what the rule knows of both).
+ghost use Rattle.nm_turn.specs.Plays.{takes_turn, awaits, takes_value, commits, puts_value, releases, learns};
+
 use crate::kept::Kept;
 use crate::view::PassView;
 use atomic_table::{Join, Play, Split, TableRule};
@@ -30,8 +32,6 @@ impl<B: Kept> TableRule<Option<B>, View<B>, Snapshot<B>> for Law<B> {
 pub(crate) struct TakeTurn;
 
 impl<B: Kept> Play<Option<B>, View<B>> for TakeTurn {
-    ghost use Rattle.nm_turn.specs.Plays.{takes_turn};
-
     ghost then = { takes_turn };
 }
 
@@ -39,8 +39,6 @@ impl<B: Kept> Play<Option<B>, View<B>> for TakeTurn {
 pub(crate) struct Awaits;
 
 impl<B: Kept> Play<Option<B>, View<B>> for Awaits {
-    ghost use Rattle.nm_turn.specs.Plays.{awaits};
-
     ghost then = { awaits };
 }
 
@@ -50,8 +48,6 @@ pub(crate) struct TakeValue<B> {
 }
 
 impl<B: Kept> Play<Option<B>, View<B>> for TakeValue<B> {
-    ghost use Rattle.nm_turn.specs.Plays.{takes_value};
-
     ghost then = { takes_value B.entries B.fixed B.root };
 }
 
@@ -61,8 +57,6 @@ pub(crate) struct Commit<B> {
 }
 
 impl<B: Kept> Play<Option<B>, View<B>> for Commit<B> {
-    ghost use Rattle.nm_turn.specs.Plays.{commits};
-
     ghost then = { commits B.entries B.root };
 }
 
@@ -72,8 +66,6 @@ pub(crate) struct PutValue<B> {
 }
 
 impl<B: Kept> Play<Option<B>, View<B>> for PutValue<B> {
-    ghost use Rattle.nm_turn.specs.Plays.{puts_value};
-
     ghost then = { puts_value B.root };
 }
 
@@ -81,8 +73,6 @@ impl<B: Kept> Play<Option<B>, View<B>> for PutValue<B> {
 pub(crate) struct Release;
 
 impl<B: Kept> Play<Option<B>, View<B>> for Release {
-    ghost use Rattle.nm_turn.specs.Plays.{releases};
-
     ghost then = { releases };
 }
 
@@ -92,8 +82,6 @@ pub(crate) struct Learn<B> {
 }
 
 impl<B: Kept> Play<Option<B>, View<B>> for Learn<B> {
-    ghost use Rattle.nm_turn.specs.Plays.{learns};
-
     ghost then = { learns B.root };
 }
 
