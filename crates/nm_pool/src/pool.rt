@@ -1,6 +1,7 @@
 ghost use Rattle.std.specs.Prelude.{◌≡◌, ◌≢◌, ◌≤◌, ◌<◌, ◌*◌, length, take, drop, All, IfOk, IfErr, OnOk, OnErr, ℕ, [], ◌++◌, None, get_or, slice_set};
 ghost use Rattle.std.specs.Option.{option_to_list};
 ghost use Rattle.std.specs.Vec.{vec_capacity};
+ghost use Rattle.nm_pool.specs.declared.pool.TakeFault.TheVariants.{NoMemory as OutOfMemory};
 ghost use Rattle.nm_pool.specs.Bits.{AreBits};
 ghost use Rattle.nm_pool.specs.Free.{with_buffer, AreWhole, IsPool};
 ghost use Rattle.nm_pool.specs.Kept.{buffers_in, ArePlaced};
@@ -23,9 +24,7 @@ pub enum TakeFault {
 }
 
 impl From<AllocError> for TakeFault {
-    ghost use Rattle.nm_pool.specs.declared.pool.TakeFault.TheVariants as faults;
-
-    ghost from_gives = { λ _ e. e ≡ faults.NoMemory };
+    ghost from_gives = { λ _ e. e ≡ OutOfMemory };
 
     fn from(_: AllocError) -> Self {
         TakeFault::NoMemory
