@@ -5,6 +5,7 @@ ghost use Rattle.nm_hold.specs.declared.cells.Owned.{Owned};
 ghost use Rattle.std.specs.Borrow.{sem};
 ghost use Rattle.std.specs.Option.{option_copied};
 ghost use Rattle.nm_hold.specs.Holds.{cell_at};
+ghost use Rattle.nm_hold.specs.Sparse.{cells_of, number_of, standings_in};
 ghost use Rattle.nm_hold.specs.Standings.{buf_in, bytes_in, cell_named};
 
 use crate::number_table::NumberTable;
@@ -62,6 +63,15 @@ fn swap_out(held: &mut Vec<Owned>, position: usize) -> Owned
     replace(&mut held[position], end)
 }
 
+/// The position of what stands at an index, at which something stands.
+fn position_of(at: &NumberTable, held: &[Owned], idx: u32) -> usize
+    requires { IsSome (cell_at (cells_of at.now (standings_in held.now)) idx) }
+    ensures number { number_of at.now idx ≡ result + 1 }
+    ensures within { result < length held.now }
+{
+    (at.given(idx) - 1) as usize
+}
+
 impl Cells {
     ghost use Rattle.nm_hold.specs.CellLends.{LendsStandingAt, LendsBytesIn};
 
@@ -93,7 +103,8 @@ impl Cells {
         requires { IsSome (cell_at self.now idx) }
         ensures { cell_at self.now idx ≡ Some result.now }
     {
-        &self.held[(self.at.given(idx) - 1) as usize].standing
+        let position = position_of(&self.at, &self.held, idx);
+        &self.held[position].standing
     }
 
     /// The same, to be changed.
@@ -102,7 +113,8 @@ impl Cells {
         ensures* writes_back { sem 𝓛 (LendsStandingAt self.entry idx result) }
         ensures standing { cell_at self.old idx ≡ Some result.now }
     {
-        &mut self.held[(self.at.given(idx) - 1) as usize].standing
+        let position = position_of(&self.at, &self.held, idx);
+        &mut self.held[position].standing
     }
 
     /// The bytes of the buffer at an index, to be written.

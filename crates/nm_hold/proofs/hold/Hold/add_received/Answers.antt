@@ -15,11 +15,5 @@ step c =
 pub invariant_of-self : goal.invariant_of-self
 invariant_of-self c = (step c).whole
 
-pub returns-clause-cell : goal.returns-clause-cell
-returns-clause-cell c = rw (← c.self.view_is) (step c).cell
-
-pub returns-clause-places : goal.returns-clause-places
-returns-clause-places c p = rw (← c.self.view_is) ((step c).places p)
-
-pub returns-clause-hold : goal.returns-clause-hold
-returns-clause-hold c = (step c).hold
+pub returns : goal.returns
+returns c = let s = step c in record { cell = rw (← c.self.view_is) s.cell; places = λ p. rw (← c.self.view_is) (s.places p); hold = s.hold }
