@@ -2,6 +2,7 @@
 use Rattle.std.proofs.Common.{ℕ, zero, suc, ◌≡◌, ◌≢◌, ◌+◌, ◌-◌, ◌<◌, ◌≤◌, Bool, true, false, not, nat_eq, List, [], ◌∷◌, ◌++◌, length, slice_set, get_or, Some, None, inl, inr, refl, sym, ◌∙◌, ap, arith}
 use Rattle.std.specs.Prelude.{◌||◌}
 use Rattle.std.proofs.lemmas.Bool.{cases_Bool}
+use Rattle.std.proofs.Math.Bool.{or-true, or-false}
 use Rattle.std.proofs.lemmas.Bool.Decides.{nat_tests}
 use Rattle.std.proofs.lemmas.List.{length_push, get_or-set_same, get_or-set_other}
 use Rattle.nm_types.specs.declared.id.PortId.{PortId}
@@ -23,11 +24,7 @@ pub record Walked (h : HoldState) (port : PortId) (head : ℕ) (extras found at 
   pub marks : (idx k : ℕ) → position_at h port idx ≡ Some k → get_or met k false ≡ contains_index seen idx
 
 contains-push : (seen : List ℕ) (x idx : ℕ) → contains_index (seen ++ x ∷ []) idx ≡ (contains_index seen idx || nat_eq x idx)
-contains-push [] x idx = or_false (nat_eq x idx)
-  where
-    or_false : (b : Bool) → (b || false) ≡ b
-    or_false true = refl
-    or_false false = refl
+contains-push [] x idx = or-false (nat_eq x idx)
 contains-push (y ∷ seen) x idx = either (nat_eq y idx) (contains-push seen x idx)
   where
     either : (b : Bool) → contains_index (seen ++ x ∷ []) idx ≡ (contains_index seen idx || nat_eq x idx) → (b || contains_index (seen ++ x ∷ []) idx) ≡ ((b || contains_index seen idx) || nat_eq x idx)
@@ -67,11 +64,11 @@ walk_goes h port head extras found at here met hold w more there unmet within =
             let other = position-some h port idx k hold e in
             let one : at ≡ idx = some_is at idx (sym stands.there ∙ (ap (λ (n : ℕ). index_at h (Extra port n)) (sym k_is) ∙ other.there)) in
             let eq : nat_eq at idx ≡ true = grind (arith, nat_tests) in
-            rw (k_is, get_or-set_same met here true false within, contains-push w.seen at idx, eq) (sym (or_true (contains_index w.seen idx))))
+            rw (k_is, get_or-set_same met here true false within, contains-push w.seen at idx, eq) (sym (or-true (contains_index w.seen idx))))
         | inr differs ↦ (let apart : k ≢ here = apart_from k here differs in
             let other = position-some h port idx k hold e in
             let eq : nat_eq at idx ≡ false = differ at idx k here there e apart in
-            rw (get_or-set_other met here k true false apart, contains-push w.seen at idx, eq) (w.marks idx k e ∙ sym (or_false (contains_index w.seen idx))))
+            rw (get_or-set_other met here k true false apart, contains-push w.seen at idx, eq) (w.marks idx k e ∙ sym (or-false (contains_index w.seen idx))))
       ];
     }
   where
@@ -83,14 +80,6 @@ walk_goes h port head extras found at here met hold w more there unmet within =
 
     apart_from : (i j : ℕ) → nat_eq i j ≡ false → i ≢ j
     apart_from i j e f = let same : nat_eq i j ≡ true = grind (arith, nat_tests) in true_false (sym same ∙ e)
-
-    or_true : (b : Bool) → (b || true) ≡ true
-    or_true true = refl
-    or_true false = refl
-
-    or_false : (b : Bool) → (b || false) ≡ b
-    or_false true = refl
-    or_false false = refl
 
     differ : (a b k j : ℕ) → position_at h port a ≡ Some j → position_at h port b ≡ Some k → k ≢ j → nat_eq a b ≡ false
     differ a b k j e f apart = elim (cases_Bool (nat_eq a b)) [
@@ -119,9 +108,5 @@ pub walk_meets : (h : HoldState) (port : PortId) (head extras found at here : �
     → get_or met here false ≡ true → (record { found = found; astray = extras - found }) ≡ chain_of (extras_of h port) (link_at h) head
 walk_meets h port head extras found at here met w all there seen =
     let again : contains_index w.seen at ≡ true = sym (w.marks at here there) ∙ seen in
-    let out : (not (contains_index (extras_of h port) at) || contains_index w.seen at) ≡ true = rw again (or_true (not (contains_index (extras_of h port) at))) in
+    let out : (not (contains_index (extras_of h port) at) || contains_index w.seen at) ≡ true = rw again (or-true (not (contains_index (extras_of h port) at))) in
     chain_is h port head extras found all (ended h port head extras found at met w all (stops (extras_of h port) (link_at h) (extras - found) at w.seen out))
-  where
-    or_true : (b : Bool) → (b || true) ≡ true
-    or_true true = refl
-    or_true false = refl

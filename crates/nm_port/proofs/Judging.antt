@@ -2,6 +2,7 @@
 use Rattle.std.proofs.Common.{ℕ, zero, suc, ◌≡◌, ◌≢◌, ◌<◌, Bool, true, false, nat_eq, List, [], ◌∷◌, ◌++◌, length, take, get_or, set, replicate, if◌then◌else◌, Option, Some, None, option_map, refl, sym, ◌∙◌, ap, arith, append_assoc}
 use Rattle.std.specs.Prelude.{◌||◌}
 use Rattle.std.proofs.lemmas.Bool.Decides.{nat_tests}
+use Rattle.std.proofs.Math.Bool.{or-true, or-false}
 use Rattle.std.proofs.lemmas.List.{append-nil, length-replicate, length-set, get_or-set_same, get_or-set_other, get_or-replicate, same_lists, get_or_read}
 use Rattle.std.proofs.lemmas.List.Folds.{list_any-append}
 use Rattle.nm_hold.proofs.Spots.{nat_eq-is}
@@ -45,14 +46,6 @@ refused_at side pool named xs ys x fault passed here =
 pub marked_none : (count : ℕ) → AreMarked (replicate count false) []
 marked_none count idx within = get_or-replicate count idx false false (rw length-replicate at within)
 
-or_true : (b : Bool) → (b || true) ≡ true
-or_true true = refl
-or_true false = refl
-
-or_none : (b : Bool) → (b || false) ≡ b
-or_none true = refl
-or_none false = refl
-
 pub same_eq : (a b : ℕ) → a ≡ b → nat_eq a b ≡ true
 same_eq a b e = grind (arith, nat_tests)
 
@@ -60,11 +53,7 @@ pub false_true : {X : Type 0} → false ≡ true → X
 false_true e = cc
 
 pub contains_more : (names : List ℕ) (name idx : ℕ) → contains_index (names ++ name ∷ []) idx ≡ (contains_index names idx || nat_eq name idx)
-contains_more names name idx = list_any-append (λ (b : ℕ). nat_eq b idx) names (name ∷ []) ∙ ap (λ (b : Bool). contains_index names idx || b) (or_false (nat_eq name idx))
-  where
-    or_false : (b : Bool) → (b || false) ≡ b
-    or_false true = refl
-    or_false false = refl
+contains_more names name idx = list_any-append (λ (b : ℕ). nat_eq b idx) names (name ∷ []) ∙ ap (λ (b : Bool). contains_index names idx || b) (or-false (nat_eq name idx))
 
 pub marked_more : (marks : List Bool) (names : List ℕ) (name : ℕ) → AreMarked marks names → AreMarked (set marks name true) (names ++ name ∷ [])
 marked_more marks names name marked idx within =
@@ -76,11 +65,11 @@ marked_more marks names name marked idx within =
     contains inside true e =
         let at : name ≡ idx = nat_eq-is name idx e in
         ap (λ (i : ℕ). get_or (set marks name true) i false) (sym at) ∙ (get_or-set_same marks name true false (rw at inside)
-        ∙ sym (contains_more names name idx ∙ (ap (λ (b : Bool). contains_index names idx || b) e ∙ or_true (contains_index names idx))))
+        ∙ sym (contains_more names name idx ∙ (ap (λ (b : Bool). contains_index names idx || b) e ∙ or-true (contains_index names idx))))
     contains inside false e =
         let other : idx ≢ name = (λ same. false_true (sym e ∙ same_eq name idx (sym same))) in
         get_or-set_other marks name idx true false other ∙ (marked idx inside
-        ∙ sym (contains_more names name idx ∙ (ap (λ (b : Bool). contains_index names idx || b) e ∙ or_none (contains_index names idx))))
+        ∙ sym (contains_more names name idx ∙ (ap (λ (b : Bool). contains_index names idx || b) e ∙ or-false (contains_index names idx))))
 
 -- one mark less, of a name; and no mark is left once those of all names are cleared
 pub unmarked_next : (marks now : List Bool) (done : List ℕ) (name : ℕ)
@@ -92,11 +81,11 @@ unmarked_next marks now done name count before idx within = contains (nat_eq nam
     contains true e =
         let at : name ≡ idx = nat_eq-is name idx e in
         let inside : name < length now = rw (at, count) within in
-        let in_all : contains_index (done ++ name ∷ []) idx ≡ true = contains_more done name idx ∙ (ap (λ (b : Bool). contains_index done idx || b) e ∙ or_true (contains_index done idx)) in
+        let in_all : contains_index (done ++ name ∷ []) idx ≡ true = contains_more done name idx ∙ (ap (λ (b : Bool). contains_index done idx || b) e ∙ or-true (contains_index done idx)) in
         ap (λ (i : ℕ). get_or (set now name false) i false) (sym at) ∙ (get_or-set_same now name false false inside ∙ rw in_all refl)
     contains false e =
         let other : idx ≢ name = (λ same. false_true (sym e ∙ same_eq name idx (sym same))) in
-        let in_all : contains_index (done ++ name ∷ []) idx ≡ contains_index done idx = contains_more done name idx ∙ (ap (λ (b : Bool). contains_index done idx || b) e ∙ or_none (contains_index done idx)) in
+        let in_all : contains_index (done ++ name ∷ []) idx ≡ contains_index done idx = contains_more done name idx ∙ (ap (λ (b : Bool). contains_index done idx || b) e ∙ or-false (contains_index done idx)) in
         get_or-set_other now name idx false false other ∙ (before idx within ∙ rw in_all refl)
 
 contains_first : (k : ℕ) (names : List ℕ) (idx : ℕ) → contains_index names idx ≡ false → contains_index (take k names) idx ≡ false

@@ -68,6 +68,11 @@ offered_are ring is =
     slots_from-add ring.size first pending pushed
     ∙ ap (λ (at : ℕ). slots_from ring.size first pending ++ slots_from ring.size at pushed) (step_on-dist ring.size first ring.accepted_head within is.accepted)
 
+-- what is read of all slots offered
+pub offered_seen : {X : Type 0} (f : ℕ → X) (ring at : RingState) (size first count : ℕ) → IsRing ring → size ≡ at.size → at ≡ ring → first ≡ step_on ring.size ring.last_tail 1
+    → count ≡ dist ring.size first ring.accepted_head + dist ring.size ring.accepted_head ring.head → map f (slots_from size first count) ≡ map f (pending_slots ring ++ pushed_slots ring ring.head)
+offered_seen f ring at size first count is sized same there all = rw (all, there, sized, same) (ap (map f) (offered_are ring is))
+
 -- the next pushed slot of a loop over them: it is one of the user's, so many steps behind the accepted head
 pub record IsNext (ring : RingState) (k at : ℕ) : Type 0 where
   pub user : is_user_slot ring at ≡ true

@@ -1,6 +1,7 @@
 -- A push in a hold: the exchange of its slots, and which buffers are the user's to name afterwards.
-use Rattle.std.specs.Prelude.{ℕ, Bool, true, false, ◌≡◌, ◌≢◌, ◌<◌, ◌≤◌, is_some, IsSome, if◌then◌else◌, List, map, fold, Option, Some, None, slice_get, slice_index_or}
+use Rattle.std.specs.Prelude.{ℕ, Bool, true, false, ◌≡◌, ◌≢◌, ◌<◌, ◌≤◌, is_some, IsSome, if◌then◌else◌, List, [], Vec, map, fold, Option, Some, None, slice_get, slice_index_or}
 use Rattle.std.specs.List.{list_any}
+use Rattle.std.specs.Vec.{vec_capacity}
 use Rattle.nm_types.specs.declared.id.PortId.{PortId}
 use Rattle.nm_types.specs.declared.id.Side.TheVariants.{Tx}
 use Rattle.nm_types.specs.declared.place.Place.{Place}
@@ -44,6 +45,13 @@ pub record CanExchange (h : HoldState) (id : PortId) (r : RingSlots) : Type 0 wh
   pub named : (k : ℕ) → k < pushed_count_of r → is_named_at h (name_at r (user_position r k)) ≡ true
   pub once : (j k : ℕ) → j < k → k < pushed_count_of r → name_at r (user_position r j) ≢ name_at r (user_position r k)
   pub is_hold : IsHold h
+
+-- what is exchanged can be noted, an index for each pushed slot
+pub record CanNote {X : Type 0} (h : HoldState) (id : PortId) (r : RingSlots) (was : Vec ℕ X) : Type 0 where
+  pub can : CanExchange h id r
+  pub ring : IsRing r.ring
+  pub empty : was.items ≡ []
+  pub room : pushed_count_of r ≤ vec_capacity was
 
 -- for each of the first pushed slots the buffer in its place, and the one that it names, have changed
 -- places; their places hold what they name

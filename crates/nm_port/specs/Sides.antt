@@ -9,11 +9,11 @@ use Rattle.nm_types.specs.declared.place.Place.TheVariants as place
 use Rattle.nm_types.specs.Limits.{buffer_bytes}
 use Rattle.nm_types.specs.Positions.{is_user_slot, pushed_slots}
 use Rattle.nm_types.specs.Slots.{SlotState, Pushed, has_flag, indirect, more_fragments}
-use Rattle.nm_types.specs.SyncChecks.{contains_index, slot_refusal, seen_of}
+use Rattle.nm_types.specs.SyncChecks.{contains_index, slot_refusal, seen_of, refusal_of}
 use Rattle.nm_types.specs.declared.refusal.SlotFault.{SlotFault}
 use Rattle.nm_types.specs.declared.fault.SyncFault.{SyncFault}
 use Rattle.nm_types.specs.SyncFaults.{slot_sync_fault}
-use Rattle.nm_hold.specs.Holds.{HoldState, index_at, is_named_at, IsHold}
+use Rattle.nm_hold.specs.Holds.{HoldState, buffers_of, index_at, is_named_at, IsHold}
 use Rattle.nm_port.specs.RingSlots.{RingSlots, slot_at}
 
 abbrev pub place_on : Side → PortId → ℕ → Place
@@ -72,6 +72,10 @@ AreCleared marks now names = (idx : ℕ) → idx < length marks → slice_index_
 abbrev pub TellsRefusal : Result ⊤ SyncFault → Option SyncFault → Type 0
 TellsRefusal (Ok _) refusal = refusal ≡ None
 TellsRefusal (Err fault) refusal = refusal ≡ Some fault
+
+-- a check of a port's ring at its own head and cur answers what refuses a sync of it
+abbrev pub TellsCheck : Result ⊤ SyncFault → HoldState → PortId → RingSlots → Type 0
+TellsCheck result h id r = (named : List ℕ) → AreNamed h named → TellsRefusal result (refusal_of r.side (buffers_of h) named r.ring (pushed_seen h id r))
 
 -- neither the marks nor the length of a transmit slot refuse it
 pub record IsPlain (slot : SlotState) : Type 0 where

@@ -3,11 +3,10 @@ ghost use Rattle.std.specs.Prelude.{OnErr, MatchResult};
 ghost use Rattle.std.specs.Prelude.{None, Some, true, false, length, replicate, slice_index_or};
 ghost use Rattle.std.specs.Prelude.{slice_set, ◌+◌};
 ghost use Rattle.nm_port.specs.Words.{FitsRing, IsHold, blank_slot, buffers_of, is_named_at, is_tx};
-ghost use Rattle.nm_port.specs.Words.{is_user_slot, pushed_names, refusal_of, ring_sync_fault};
-ghost use Rattle.nm_port.specs.Words.{slot_sync_fault, slots_refusal};
+ghost use Rattle.nm_port.specs.Words.{is_user_slot, pushed_names, slots_refusal};
 ghost use Rattle.nm_port.specs.Sides.{place_on, number_at, pushed_seen_at, pushed_seen};
 ghost use Rattle.nm_port.specs.Sides.{names_pushed, AreNamed, AreMarked, AreMarkedOf, AreCleared};
-ghost use Rattle.nm_port.specs.Sides.{JudgesSlot, JudgesAll, TellsRefusal, marks_after};
+ghost use Rattle.nm_port.specs.Sides.{JudgesSlot, JudgesAll, TellsCheck, marks_after};
 ghost use Rattle.nm_port.specs.Sides.{HaveNamed, IsPlain};
 ghost use Rattle.nm_port.specs.Exchanges.{pushed_count_of, user_position};
 ghost use Rattle.nm_port.specs.RingSlots.{IsRingSlots, slot_at};
@@ -16,11 +15,9 @@ use crate::kept::ring_matches;
 use crate::marks::Marks;
 use crate::slot_ring::SlotRing;
 use bitflags::Flags;
-use nm_hold::{Hold, step_on};
+use nm_hold::Hold;
 use nm_slot::judge;
-use nm_types::{
-    BUFFER_BYTES, Place, PortId, RingFault, Seen, Side, Slot, SlotFault, SlotFlags, SyncFault,
-};
+use nm_types::{BUFFER_BYTES, Place, PortId, Seen, Side, Slot, SlotFault, SlotFlags, SyncFault};
 
 /// The place of a slot.
 pub(crate) fn place_on(side: Side, port: PortId, slot: u32) -> Place
@@ -37,31 +34,6 @@ pub fn number_at(hold: &Hold, place: Place) -> u32
     ensures { result ≡ number_at hold.now place }
 {
     hold.index(place).unwrap_or(0)
-}
-
-/// The refusal of positions, as a sync tells it.
-fn ring_sync_fault(fault: RingFault) -> SyncFault
-    ensures { result ≡ ring_sync_fault fault }
-{
-    match fault {
-        RingFault::HeadOut { head, from, to } => SyncFault::HeadOut { head, from, to },
-        RingFault::CurOut { cur, from, to } => SyncFault::CurOut { cur, from, to },
-    }
-}
-
-/// The refusal of a slot, as a sync tells it.
-fn slot_sync_fault(fault: SlotFault) -> SyncFault
-    ensures { result ≡ slot_sync_fault fault }
-{
-    match fault {
-        SlotFault::Indirect { slot } => SyncFault::Indirect { slot },
-        SlotFault::IndexOut { slot, idx } => SyncFault::IndexOut { slot, idx },
-        SlotFault::NotHeld { slot, idx } => SyncFault::NotHeld { slot, idx },
-        SlotFault::Doubled { slot, idx } => SyncFault::Doubled { slot, idx },
-        SlotFault::Unannounced { slot, idx, was } => SyncFault::Unannounced { slot, idx, was },
-        SlotFault::LongLen { slot, len } => SyncFault::LongLen { slot, len },
-        SlotFault::Fragment { slot } => SyncFault::Fragment { slot },
-    }
 }
 
 /// What a sync knows of a pushed slot. `marks` has each index that an earlier slot names.
@@ -154,12 +126,10 @@ fn is_plain_push(ring: &SlotRing) -> bool
     ensures { result ≡ true → (k : ℕ) → k < pushed_count_of ring.now
         → IsPlain (slot_at ring.now (user_position ring.now k)) }
 {
-    let (first, count) = ring.pushed();
-    let size = ring.ring().size();
+    let (_, count) = ring.pushed();
     let mut k = 0;
     while k < count {
-        let at = step_on(size, first, k);
-        let slots = ring.side_by_side(at, k, count - k);
+        let slots = ring.side_by_side(k, count - k);
         if !are_plain(slots) {
             return false;
         }
@@ -219,22 +189,15 @@ pub fn check_ring(
     marks: &mut Marks,
 ) -> Result<(), SyncFault>
     requires { marks.old ≡ replicate (buffers_of hold.now + 2) false }
-    ensures refusal { (named : List ℕ) → AreNamed hold.now named
-        → TellsRefusal result (refusal_of ring.now.side (buffers_of hold.now) named ring.now.ring
-        (pushed_seen hold.now port ring.now)) }
+    ensures refusal { TellsCheck result hold.now port ring.now }
     ensures same { marks.new ≡ marks.old }
     ensures slots { IsRingSlots ring.now }
 {
     let positions = ring.ring();
-    if let Err(fault) = positions.check(positions.head(), positions.cur()) {
-        return Err(ring_sync_fault(fault));
-    }
+    positions.check(positions.head(), positions.cur())?;
     let judged = judge_pushed(hold, port, ring, marks);
     clear_marks(ring, marks);
-    match judged {
-        Ok(()) => Ok(()),
-        Err(fault) => Err(slot_sync_fault(fault)),
-    }
+    Ok(judged?)
 }
 
 /// Does what `check_ring` does for a ring of which each of the user's slots has a named buffer in its
@@ -247,16 +210,12 @@ pub fn check_named_ring(
 ) -> Result<(), SyncFault>
     requires blank { marks.old ≡ replicate (buffers_of hold.now + 2) false }
     requires named { HaveNamed hold.now port ring.now }
-    ensures refusal { (named : List ℕ) → AreNamed hold.now named
-        → TellsRefusal result (refusal_of ring.now.side (buffers_of hold.now) named ring.now.ring
-        (pushed_seen hold.now port ring.now)) }
+    ensures refusal { TellsCheck result hold.now port ring.now }
     ensures same { marks.new ≡ marks.old }
     ensures slots { IsRingSlots ring.now }
 {
     let positions = ring.ring();
-    if let Err(fault) = positions.check(positions.head(), positions.cur()) {
-        return Err(ring_sync_fault(fault));
-    }
+    positions.check(positions.head(), positions.cur())?;
     if all_keep(hold, port, ring) {
         return Ok(());
     }

@@ -4,9 +4,10 @@ ghost use Rattle.nm_port.specs.Sides.{names_pushed};
 ghost use Rattle.nm_port.specs.Own.{bytes_in_hold, frames_seen};
 ghost use Rattle.nm_port.specs.Offers.{offers_seen, lengths_seen};
 
+use crate::kept::note_first;
 use crate::slot_ring::SlotRing;
 use bitflags::Flags;
-use nm_hold::{Hold, step_on};
+use nm_hold::Hold;
 use nm_types::{BUFFER_BYTES, Batch, NoMemory, Slot, SlotFlags};
 use std::alloc::Global;
 
@@ -61,12 +62,10 @@ pub fn gather(alloc: Global, hold: &Hold, ring: &SlotRing) -> Result<Batch, NoMe
     ensures { IfOk result (λ batch. batch ≡ frames_seen hold.now ring.now) }
 {
     let (first, count) = ring.pushed();
-    let size = ring.ring().size();
     let mut batch = batch_for(alloc, count, &ring.any_slot(first))?;
     let mut k = 0;
     while k < count {
-        let at = step_on(size, first, k);
-        let slots = ring.side_by_side(at, k, count - k);
+        let slots = ring.side_by_side(k, count - k);
         gather_slots(hold, slots, &mut batch)?;
         k += slots.len() as u32;
     }
@@ -78,13 +77,9 @@ pub fn gather_names(alloc: Global, ring: &SlotRing) -> Result<Vec<u32>, NoMemory
     requires { FitsRing ring.now.ring ring.now.ring.head ring.now.ring.cur }
     ensures { IfOk result (λ names. names.items ≡ names_pushed ring.now) }
 {
-    let (first, count) = ring.pushed();
-    let size = ring.ring().size();
+    let (_, count) = ring.pushed();
     let mut names = Vec::with_capacity(alloc, count as usize)?;
-    for k in 0..count {
-        let slot = ring.user_slot((first + k) % size);
-        names.push_reserved(slot.buf_idx);
-    }
+    note_first(ring, count, &mut names);
     Ok(names)
 }
 

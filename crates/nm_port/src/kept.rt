@@ -3,13 +3,13 @@ ghost use Rattle.std.specs.Prelude.{slice_get, slice_index_or, true, Some};
 ghost use Rattle.nm_port.specs.Words.{FitsRing, IsRing, SlotState, blank_slot, slots_from};
 ghost use Rattle.nm_port.specs.Words.{vec_capacity};
 ghost use Rattle.nm_port.specs.Sides.{name_at};
-ghost use Rattle.nm_port.specs.Exchanges.{CanExchange, AreExchanged, KeepFirst, KeepAll};
+ghost use Rattle.nm_port.specs.Exchanges.{CanExchange, CanNote, AreExchanged, KeepFirst, KeepAll};
 ghost use Rattle.nm_port.specs.Exchanges.{pushed_count_of};
 ghost use Rattle.nm_port.specs.Lending.{AreSwapped};
 ghost use Rattle.nm_port.specs.RingSlots.{IsRingSlots};
 
 use crate::slot_ring::SlotRing;
-use nm_hold::{Hold, step_on};
+use nm_hold::Hold;
 use nm_types::{PortId, Slot};
 
 /// The numbers from a position on.
@@ -49,13 +49,11 @@ pub(crate) fn ring_matches(ring: &SlotRing, numbers: &[u32]) -> bool
     ensures keeps { result ≡ true → KeepAll ring.now numbers.now (pushed_count_of ring.now) }
     ensures ring { IsRingSlots ring.now }
 {
-    let (first, count) = ring.pushed();
-    let size = ring.ring().size();
+    let (_, count) = ring.pushed();
     let mut k = 0;
     while k < count {
-        let at = step_on(size, first, k);
-        let slots = ring.side_by_side(at, k, count - k);
-        if !slots_match(slots, numbers_from(numbers, at)) {
+        let slots = ring.side_by_side(k, count - k);
+        if !slots_match(slots, numbers_from(numbers, ring.position_behind(k))) {
             return false;
         }
         k += slots.len() as u32;
@@ -101,13 +99,11 @@ fn count_kept(ring: &SlotRing, numbers: &[u32]) -> u32
     ensures few { result ≤ pushed_count_of ring.now }
     ensures kept { KeepFirst ring.now numbers.now result }
 {
-    let (first, count) = ring.pushed();
-    let size = ring.ring().size();
+    let (_, count) = ring.pushed();
     let mut k = 0;
     while k < count {
-        let at = step_on(size, first, k);
-        let slots = ring.side_by_side(at, k, count - k);
-        let kept = slots_kept(slots, numbers_from(numbers, at));
+        let slots = ring.side_by_side(k, count - k);
+        let kept = slots_kept(slots, numbers_from(numbers, ring.position_behind(k)));
         k += kept as u32;
         if kept < slots.len() {
             return k;
@@ -143,7 +139,7 @@ fn note_slots(slots: &[Slot], was: &mut Vec<u32>)
 }
 
 /// Keeps the names in the first `count` pushed slots.
-fn note_first(ring: &SlotRing, count: u32, was: &mut Vec<u32>)
+pub(crate) fn note_first(ring: &SlotRing, count: u32, was: &mut Vec<u32>)
     requires fits { FitsRing ring.now.ring ring.now.ring.head ring.now.ring.cur }
     requires few { count ≤ pushed_count_of ring.now }
     requires empty { was.old.items ≡ [] }
@@ -152,12 +148,9 @@ fn note_first(ring: &SlotRing, count: u32, was: &mut Vec<u32>)
         (slots_from ring.now.ring.size ring.now.ring.accepted_head count) }
     ensures capacity { vec_capacity was.new ≡ vec_capacity was.old }
 {
-    let (first, _) = ring.pushed();
-    let size = ring.ring().size();
     let mut k = 0;
     while k < count {
-        let at = step_on(size, first, k);
-        let slots = ring.side_by_side(at, k, count - k);
+        let slots = ring.side_by_side(k, count - k);
         note_slots(slots, was);
         k += slots.len() as u32;
     }
@@ -184,10 +177,7 @@ fn note_names(ring: &SlotRing, numbers: &[u32], was: &mut Vec<u32>) -> u32
 /// How many of the first pushed slots name the buffers in their places, so that nothing changes
 /// where these are exchanged. Keeps the indices of these buffers.
 pub(crate) fn note_kept(hold: &Hold, port: PortId, ring: &SlotRing, was: &mut Vec<u32>) -> u32
-    requires can { CanExchange hold.now port ring.now }
-    requires ring { IsRing ring.now.ring }
-    requires empty { was.old.items ≡ [] }
-    requires room { pushed_count_of ring.now ≤ vec_capacity was.old }
+    requires { CanNote hold.now port ring.now was.old }
     ensures few { result ≤ pushed_count_of ring.now }
     ensures exchanged { AreExchanged hold.now hold.now port ring.now result }
     ensures swapped { AreSwapped hold.now port ring.now (reverse was.new.items) hold.now }

@@ -11,7 +11,7 @@ ghost use Rattle.nm_port.specs.RingSlots.{with_slot_of_user, with_slot_reset_at,
 ghost use Rattle.nm_port.specs.RingSlots.{slot_at, with_slot_at, both_stepped, head_stepped};
 ghost use Rattle.nm_port.specs.RingSlots.{slot_framed, head_has_slot, slots_ahead, count_behind_tail};
 ghost use Rattle.nm_port.specs.RingSlots.{AreSideBySide};
-ghost use Rattle.nm_port.specs.Exchanges.{CanPushOut, ring_pushed_out};
+ghost use Rattle.nm_port.specs.Exchanges.{CanPushOut, ring_pushed_out, user_position};
 ghost use Rattle.nm_port.specs.Receives.{has_free_slot};
 
 use crate::slots::{BLANK, any_announces, clear_if_announced, drop_front, framed, opened_slots};
@@ -62,6 +62,16 @@ fn dist(size: u32, from: u32, to: u32) -> u32
     } else {
         ((to as u64 + (size - from) as u64) % size as u64) as u32
     }
+}
+
+/// Accepts a ring's own positions, which fit. The tail stays.
+fn accept(ring: &mut Ring)
+    requires { FitsRing ring.old ring.old.head ring.old.cur }
+    ensures accepted { ring.new ≡ accepted 0 ring.old }
+    ensures ring { IsRing ring.new }
+{
+    let (head, cur, tail) = (ring.head(), ring.cur(), ring.tail());
+    ring.advance(head, cur, tail);
 }
 
 /// The slots of a list from one on, at most so many.
@@ -305,12 +315,10 @@ impl SlotRing {
         requires fits { FitsRing self.now.ring self.now.ring.head self.now.ring.cur }
         ensures { result ≡ false → slots_after_push self.now.ring self.now.slots ≡ self.now.slots }
     {
-        let (first, count) = self.pushed();
-        let size = self.ring.size();
+        let (_, count) = self.pushed();
         let mut k = 0;
         while k < count {
-            let at = step_on(size, first, k);
-            let slots = self.side_by_side(at, k, count - k);
+            let slots = self.side_by_side(k, count - k);
             if any_announces(slots) {
                 return true;
             }
@@ -332,8 +340,7 @@ impl SlotRing {
         let (first, count) = self.pushed();
         let (size, announced) = (self.ring.size(), self.announces());
         clear_if_announced(&mut self.slots, size, first, count, announced);
-        let (head, cur, tail) = (self.ring.head(), self.ring.cur(), self.ring.tail());
-        self.ring.advance(head, cur, tail);
+        accept(&mut self.ring);
     }
 
     /// The first of the slots that a sync at the ring's head pushes, and the number of them.
@@ -408,8 +415,7 @@ impl SlotRing {
     {
         let (_, count) = self.pushed();
         drop_front(&mut self.slots, count);
-        let (head, cur, tail) = (self.ring.head(), self.ring.cur(), self.ring.tail());
-        self.ring.advance(head, cur, tail);
+        accept(&mut self.ring);
     }
 
     /// Publishes a received frame in the slot at the tail of a receive ring whose head is accepted.
@@ -518,11 +524,20 @@ impl SlotRing {
         self.slots[self.index_behind(at, steps)]
     }
 
+    /// The position so many steps behind the accepted head, which is at most that of the last tail.
+    pub(crate) fn position_behind(&self, steps: u32) -> u32
+        requires { steps
+            ≤ dist self.now.ring.size self.now.ring.accepted_head self.now.ring.last_tail }
+        ensures { result ≡ user_position self.now steps }
+    {
+        let (first, _) = self.ring.user_range();
+        step_on(self.ring.size(), first, steps)
+    }
+
     /// Some of the user's slots that lie side by side, at most so many, from the position on that is so
     /// many steps behind the accepted head.
     #[inline(never)]
-    pub(crate) fn side_by_side(&self, at: u32, steps: u32, most: u32) -> &[Slot]
-        requires there { at ≡ step_on self.now.ring.size self.now.ring.accepted_head steps }
+    pub(crate) fn side_by_side(&self, steps: u32, most: u32) -> &[Slot]
         requires user { steps + most
             ≤ dist self.now.ring.size self.now.ring.accepted_head self.now.ring.last_tail }
         requires some { 0 < most }
@@ -530,6 +545,7 @@ impl SlotRing {
         ensures few { length result.now ≤ most }
         ensures slots { AreSideBySide self.now steps result.now }
     {
+        let at = self.position_behind(steps);
         let most = most.min(self.ring.size() - at) as usize;
         let index = self.index_behind(at, steps);
         let (front, back) = self.slots.as_slices();

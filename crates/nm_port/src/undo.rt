@@ -4,7 +4,7 @@ ghost use Rattle.nm_port.specs.Words.{HoldState, IsHold, IsRing, index_at, slots
 ghost use Rattle.nm_port.specs.Words.{vec_capacity};
 ghost use Rattle.nm_port.specs.Sides.{place_on};
 ghost use Rattle.nm_port.specs.Closing.{AreTaken};
-ghost use Rattle.nm_port.specs.Exchanges.{CanExchange, AreExchanged, pushed_count_of};
+ghost use Rattle.nm_port.specs.Exchanges.{CanExchange, CanNote, AreExchanged, pushed_count_of};
 ghost use Rattle.nm_port.specs.Lending.{AreSwapped, AreOut, AreNamedAs, place_of_run};
 
 use crate::checks::place_on;
@@ -29,10 +29,7 @@ fn index_in(hold: &Hold, place: Place) -> u32
 /// Does what `exchange_noted` does, where a slot may name another buffer. Keeps an index for each
 /// pushed slot.
 fn exchange_changed(hold: &mut Hold, port: PortId, ring: &SlotRing, was: &mut Vec<u32>)
-    requires can { CanExchange hold.old port ring.now }
-    requires ring { IsRing ring.now.ring }
-    requires empty { was.old.items ≡ [] }
-    requires room { pushed_count_of ring.now ≤ vec_capacity was.old }
+    requires { CanNote hold.old port ring.now was.old }
     ensures exchanged { AreExchanged hold.old hold.new port ring.now (pushed_count_of ring.now) }
     ensures swapped { AreSwapped hold.old port ring.now (reverse was.new.items) hold.new }
     ensures count { length was.new.items ≡ pushed_count_of ring.now }

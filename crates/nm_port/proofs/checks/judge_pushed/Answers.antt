@@ -1,11 +1,11 @@
-use Rattle.std.proofs.Common.{[], ◌∷◌, ◌++◌, ◌≡◌, ◌≤◌, ◌+◌, ◌-◌, ◌∙◌, map, true, ap, refl, arith}
+use Rattle.std.proofs.Common.{ℕ, Bool, List, [], ◌∷◌, ◌++◌, ◌≡◌, ◌≤◌, ◌+◌, ◌-◌, ◌∙◌, map, true, ap, refl, arith}
 use Rattle.std.proofs.lemmas.List.{map-append, length-set}
 use Rattle.std.proofs.lemmas.Result.{err_from_is_err_and}
 use Rattle.nm_types.specs.Positions.{step_on, slots_from}
 use Rattle.nm_types.specs.Slots.{Pushed, pushed_names}
 use Rattle.nm_types.specs.SyncChecks.{slots_refusal}
 use Rattle.nm_hold.specs.Holds.{buffers_of}
-use Rattle.nm_port.specs.Sides.{pushed_seen_at, pushed_seen}
+use Rattle.nm_port.specs.Sides.{AreMarked, AreMarkedOf, pushed_seen_at, pushed_seen}
 use Rattle.nm_port.proofs.Judging.{passed_more, refused_at, marked_more}
 use Rattle.nm_port.proofs.Pushes.{user_at, seen_more, seen_split, names_taken}
 use Rattle.nm_port.proofs.checks.judge_pushed.Goals as goal
@@ -14,6 +14,12 @@ use Rattle.nm_port.proofs.checks.judge_pushed.Goals.{After-size-size}
 -- the pushed slots, as they are gone through
 seen : (c : After-size-size) → pushed_seen c.args.hold.now c.args.port c.args.ring.now ≡ map (pushed_seen_at c.args.hold.now c.args.port c.args.ring.now) (slots_from c.size-size.result c.pushed-first.result.0 c.pushed-first.result.1)
 seen c = rw (c.pushed-first.ensures.first, c.pushed-first.ensures.count, c.size-size.ensures.size, c.ring.ensures.ring) refl
+
+-- the names that are marked are the first ones of these
+marked_first : (c : After-size-size) (marks : List Bool) (k : ℕ) → k ≤ c.pushed-first.result.1
+    → AreMarked marks (pushed_names (map (pushed_seen_at c.args.hold.now c.args.port c.args.ring.now) (slots_from c.size-size.result c.pushed-first.result.0 k)))
+    → AreMarkedOf marks (pushed_names (pushed_seen c.args.hold.now c.args.port c.args.ring.now))
+marked_first c marks k below marked = (k, rw (seen c, ← names_taken (pushed_seen_at c.args.hold.now c.args.port c.args.ring.now) c.size-size.result c.pushed-first.result.0 c.pushed-first.result.1 k below) marked)
 
 pub judge_slot-requires-clause-user : goal.judge_slot-requires-clause-user
 judge_slot-requires-clause-user c = user_at c.args.ring.now.ring _ _ _ _ c.loop-k.k c.size-size.ensures.size c.ring.ensures.ring c.pushed-first.ensures.first c.pushed-first.ensures.count c.pushed-first.ensures.slots.ring c.requires.fits c.loop-k-test.true
@@ -35,15 +41,8 @@ returns-in_err-judge_slot-clause-refusal c named well =
 
 pub returns-in_err-judge_slot-clause-marks : goal.returns-in_err-judge_slot-clause-marks
 returns-in_err-judge_slot-clause-marks c =
-    let h = c.args.hold.now in
-    let f = pushed_seen_at h c.args.port c.args.ring.now in
-    let size = c.size-size.result in
-    let first = c.pushed-first.result.0 in
-    let k = c.loop-k.k in
-    let below : k ≤ c.pushed-first.result.1 = omega (arith, c.loop-k-test.true) in
-    let is = seen (goal.at.returns-in_err-judge_slot-clause-marks c).After-size-size in
     let marks : c.judge_slot.new.marks ≡ c.loop-k.marks = c.in_err-judge_slot.ensures.marks in
-    (k, rw (marks, is, ← names_taken f size first c.pushed-first.result.1 k below) c.loop-k.invariant.marked)
+    rw marks (marked_first (goal.at.returns-in_err-judge_slot-clause-marks c).After-size-size c.loop-k.marks c.loop-k.k (omega (arith, c.loop-k-test.true)) c.loop-k.invariant.marked)
 
 pub loop-k-preserved : goal.loop-k-preserved
 loop-k-preserved c =
@@ -63,12 +62,4 @@ loop-k-preserved c =
     }
 
 pub returns-clause-marks : goal.returns-clause-marks
-returns-clause-marks c =
-    let h = c.args.hold.now in
-    let f = pushed_seen_at h c.args.port c.args.ring.now in
-    let size = c.size-size.result in
-    let first = c.pushed-first.result.0 in
-    let k = c.loop-k.k in
-    let below : k ≤ c.pushed-first.result.1 = omega (arith, c.loop-k.auto.k-end) in
-    let is = seen (goal.at.returns-clause-marks c).After-size-size in
-    (k, rw (is, ← names_taken f size first c.pushed-first.result.1 k below) c.loop-k.invariant.marked)
+returns-clause-marks c = marked_first (goal.at.returns-clause-marks c).After-size-size c.loop-k.marks c.loop-k.k (omega (arith, c.loop-k.auto.k-end)) c.loop-k.invariant.marked

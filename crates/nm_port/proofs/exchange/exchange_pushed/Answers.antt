@@ -10,17 +10,13 @@ user_slot-requires c = user_at c.args.ring.now.ring _ _ _ _ c.loop-k.k c.size-si
 
 pub exchange-requires-clause-held : goal.exchange-requires-clause-held
 exchange-requires-clause-held c =
-    let r = c.args.ring.now in
-    let below : c.loop-k.k < pushed_count_of r = omega (arith, c.loop-k-test.true, c.pushed-first.ensures.count) in
     rw (c.place_on.ensures, c.side-side.ensures, c.pushed-first.ensures.first, c.size-size.ensures.size, c.ring.ensures.ring)
-    (held_now c.args.hold.now c.loop-k.hold c.loop-k.hold c.args.port r c.loop-k.k c.requires.ring c.requires.can c.loop-k.invariant below)
+    (held_now c.args.hold.now c.loop-k.hold c.loop-k.hold c.args.port c.args.ring.now c.loop-k.k c.requires.ring c.requires.can c.loop-k.invariant (omega (arith, c.loop-k-test.true, c.pushed-first.ensures.count)))
 
 pub exchange-requires-clause-named : goal.exchange-requires-clause-named
 exchange-requires-clause-named c =
-    let r = c.args.ring.now in
-    let below : c.loop-k.k < pushed_count_of r = omega (arith, c.loop-k-test.true, c.pushed-first.ensures.count) in
     rw (c.user_slot.ensures, c.pushed-first.ensures.first, c.size-size.ensures.size, c.ring.ensures.ring)
-    (named_now c.args.hold.now c.loop-k.hold c.loop-k.hold c.args.port r c.loop-k.k c.requires.ring c.requires.can c.loop-k.invariant below)
+    (named_now c.args.hold.now c.loop-k.hold c.loop-k.hold c.args.port c.args.ring.now c.loop-k.k c.requires.ring c.requires.can c.loop-k.invariant (omega (arith, c.loop-k-test.true, c.pushed-first.ensures.count)))
 
 -- the place of the next slot, and the buffer that it names
 record Next (c : goal.After-exchange) : Type 0 where

@@ -13,6 +13,6 @@ loop-k-preserved c =
     let slots = c.side_by_side-slots.result.now in
     let k = c.loop-k.k in
     let frames = map (frame_at (bytes_in_hold h)) slots in
-    let more : map (frame_seen h r) (slots_from c.size-size.result c.pushed-first.result.0 (k + length slots)) ≡ map (frame_seen h r) (slots_from c.size-size.result c.pushed-first.result.0 k) ++ frames =
-    rw (c.pushed-first.ensures.first, c.size-size.ensures.size, c.ring.ensures.ring) (slots_more r k slots c.side_by_side-slots.ensures.slots (frame_at (bytes_in_hold h))) in
+    let more : map (frame_seen h r) (slots_from r.ring.size r.ring.accepted_head (k + length slots)) ≡ map (frame_seen h r) (slots_from r.ring.size r.ring.accepted_head k) ++ frames =
+    slots_more r k slots c.side_by_side-slots.ensures.slots (frame_at (bytes_in_hold h)) in
     (omega (arith, c.side_by_side-slots.ensures.few, c.loop-k-test.true), c.in_ok-gather_slots.ensures ∙ (ap (λ (b : List Frame). b ++ frames) c.loop-k.invariant.1 ∙ sym more))

@@ -1,8 +1,7 @@
-use Rattle.std.proofs.Common.{ℕ, List, [], ◌∷◌, ◌++◌, ◌≡◌, ◌∙◌, length, map, ap, arith, length-append}
-use Rattle.nm_types.specs.Positions.{slots_from, pending_slots, pushed_slots}
+use Rattle.std.proofs.Common.{ℕ, List, [], ◌∷◌, ◌≡◌, ◌∙◌, length, ap, arith, length-append}
 use Rattle.nm_types.specs.Slots.{SlotState}
 use Rattle.nm_port.specs.Offers.{length_seen}
-use Rattle.nm_port.proofs.Pushes.{listed_more, offered_are}
+use Rattle.nm_port.proofs.Pushes.{listed_more, offered_seen}
 use Rattle.nm_port.proofs.gather.gather_lengths.Goals as goal
 
 pub loop-k-preserved : goal.loop-k-preserved
@@ -17,8 +16,6 @@ loop-k-preserved c =
 
 pub returns : goal.returns
 returns c =
-    let ring = c.args.ring.now.ring in
     let end : c.loop-k.k ≡ c.offered-first.result.1 = omega (arith, c.loop-k-test.false, c.loop-k.auto.k-end) in
-    let slots : slots_from c.size-size.result c.offered-first.result.0 c.loop-k.k ≡ pending_slots ring ++ pushed_slots ring ring.head =
-    rw (end, c.offered-first.ensures.count, c.offered-first.ensures.first, c.size-size.ensures.size, c.ring.ensures.ring) (offered_are ring c.offered-first.ensures.slots.ring) in
-    c.loop-k.invariant.0 ∙ ap (map (length_seen c.args.ring.now)) slots
+    c.loop-k.invariant.0 ∙ rw end (offered_seen (length_seen c.args.ring.now) c.args.ring.now.ring c.ring.result.now c.size-size.result c.offered-first.result.0 c.offered-first.result.1 c.offered-first.ensures.slots.ring
+    c.size-size.ensures.size c.ring.ensures.ring c.offered-first.ensures.first c.offered-first.ensures.count)

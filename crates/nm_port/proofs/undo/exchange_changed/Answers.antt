@@ -12,20 +12,16 @@ use Rattle.nm_port.proofs.undo.exchange_changed.Goals as goal
 
 pub index_in-requires : goal.index_in-requires
 index_in-requires c =
-    let r = c.args.ring.now in
-    let below : c.loop-k.k < pushed_count_of r = omega (arith, c.loop-k-test.true, c.pushed-first.ensures.count) in
     rw (c.place_on-place.ensures, c.side-side.ensures, c.pushed-first.ensures.first, c.size-size.ensures.size, c.ring.ensures.ring)
-    (held_now c.args.hold.now c.loop-k.hold c.loop-k.hold c.args.port r c.loop-k.k c.requires.ring c.requires.can c.loop-k.invariant.0 below)
+    (held_now c.args.hold.now c.loop-k.hold c.loop-k.hold c.args.port c.args.ring.now c.loop-k.k c.requires.ring c.requires.can c.loop-k.invariant.0 (omega (arith, c.loop-k-test.true, c.pushed-first.ensures.count)))
 
 pub user_slot-requires : goal.user_slot-requires
 user_slot-requires c = user_at c.args.ring.now.ring _ _ _ _ c.loop-k.k c.size-size.ensures.size c.ring.ensures.ring c.pushed-first.ensures.first c.pushed-first.ensures.count c.requires.ring c.requires.can.fits c.loop-k-test.true
 
 pub exchange-requires-clause-named : goal.exchange-requires-clause-named
 exchange-requires-clause-named c =
-    let r = c.args.ring.now in
-    let below : c.loop-k.k < pushed_count_of r = omega (arith, c.loop-k-test.true, c.pushed-first.ensures.count) in
     rw (c.user_slot.ensures, c.pushed-first.ensures.first, c.size-size.ensures.size, c.ring.ensures.ring)
-    (named_now c.args.hold.now c.loop-k.hold c.loop-k.hold c.args.port r c.loop-k.k c.requires.ring c.requires.can c.loop-k.invariant.0 below)
+    (named_now c.args.hold.now c.loop-k.hold c.loop-k.hold c.args.port c.args.ring.now c.loop-k.k c.requires.ring c.requires.can c.loop-k.invariant.0 (omega (arith, c.loop-k-test.true, c.pushed-first.ensures.count)))
 
 pub loop-k-preserved : goal.loop-k-preserved
 loop-k-preserved c =

@@ -6,10 +6,10 @@ use Rattle.nm_port.proofs.slot_ring.SlotRing.side_by_side.Goals.{After-as_slices
 
 -- where the slots lie
 cut : (c : After-as_slices)
-    → Cut c.args.self.now c.args.at c.args.steps c.args.most c.as_slices.result.0.now c.as_slices.result.1.now c.size.result c.min-most.result c.index_behind-index.result
+    → Cut c.args.self.now c.position_behind-at.result c.args.steps c.args.most c.as_slices.result.0.now c.as_slices.result.1.now c.size.result c.min-most.result c.index_behind-index.result
 cut c = record {
   is = subst (λ (x : RingSlots). IsRingSlots x) c.self.view_is c.self.invariant.0;
-  there = c.requires.there;
+  there = c.position_behind-at.ensures;
   user = c.requires.user;
   some = c.requires.some;
   items = c.as_slices.ensures.items ∙ ap (λ (x : RingSlots). x.slots) c.self.view_is;
