@@ -1,4 +1,4 @@
-use Rattle.std.specs.Prelude.{ℕ, List, Contains}
+use Rattle.std.specs.Prelude.{◌≡◌, ◌⊎◌, ℕ, List, Contains}
 use Rattle.nm_io.specs.Counts.{raised}
 
 -- the calls that an in-memory shelf or sink had: the numbers of those that are to fail, from 1 on,
@@ -32,3 +32,11 @@ after_want c = record c { wants = raised c.wants }
 -- a call failed because memory ran out
 abbrev pub after_refused : CallState → CallState
 after_refused c = after_fault (after_want c)
+
+-- a call was answered, which it is only if it is not to fail
+abbrev pub WasAnswered : CallState → CallState → Type 0
+WasAnswered old new = ¬ IsListed old × (new ≡ after_call old)
+
+-- a call failed, as it was to fail or as memory ran out
+abbrev pub WasRefused : CallState → CallState → Type 0
+WasRefused old new = (IsListed old × (new ≡ after_fault old)) ⊎ (new ≡ after_refused old)

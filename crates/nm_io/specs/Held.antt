@@ -5,6 +5,10 @@ abbrev pub grown : Option (List ℕ) → List ℕ → Option (List ℕ)
 grown None bytes = None
 grown (Some held) bytes = Some (held ++ bytes)
 
+-- it grew by the first `n` of the bytes
+abbrev pub GrewBy : Option (List ℕ) → Option (List ℕ) → List ℕ → ℕ → Type 0
+GrewBy old new bytes n = new ≡ grown old (take n bytes)
+
 -- it grew by a prefix of the bytes, which may be none or all of them
 pub record GrowsByPrefix (old new : Option (List ℕ)) (bytes : List ℕ) : Type 0 where
   pub count : ℕ

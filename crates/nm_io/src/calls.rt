@@ -1,4 +1,4 @@
-ghost use Rattle.std.specs.Prelude.{◌≡◌, ◌≤◌, ◌↔◌, IsTrue};
+ghost use Rattle.std.specs.Prelude.{◌≡◌, ◌≤◌, ◌↔◌, IsTrue, OnOk, OnErr};
 ghost use Rattle.nm_io.specs.Calls.{CallState, IsListed, no_calls, after_call};
 ghost use Rattle.nm_io.specs.Calls.{after_fault, after_refused, after_want};
 
@@ -46,6 +46,18 @@ impl Calls {
         ensures { IsTrue result ↔ IsListed self.now }
     {
         self.fail.contains(&self.made.saturating_add(1))
+    }
+
+    /// Fails the next call, and counts it, if it is to fail.
+    pub(crate) fn pass(&mut self) -> Result<(), Failed>
+        ensures passed { OnOk result (¬ IsListed self.old × (self.new ≡ self.old)) }
+        ensures failed { OnErr result (IsListed self.old × (self.new ≡ after_fault self.old)) }
+        ensures later { self.old.faults ≤ self.new.faults }
+    {
+        if self.is_listed() {
+            return Err(self.fault());
+        }
+        Ok(())
     }
 
     /// Counts a call.

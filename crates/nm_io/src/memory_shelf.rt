@@ -3,8 +3,8 @@ ghost use Rattle.std.specs.Prelude.{string_bytes, Option, Some, None, IfOk, OnOk
 ghost use Rattle.std.specs.Option.{option_map};
 ghost use Rattle.nm_io.specs.Counts.{Rose};
 ghost use Rattle.nm_io.specs.Files.{Files, appended_told, replaced, ReadsPart};
-ghost use Rattle.nm_io.specs.Calls.{IsListed, no_calls, after_call, after_fault};
-ghost use Rattle.nm_io.specs.Calls.{after_refused, after_want};
+ghost use Rattle.nm_io.specs.Calls.{IsListed, no_calls, after_fault, after_want};
+ghost use Rattle.nm_io.specs.Calls.{WasAnswered, WasRefused};
 ghost use Rattle.nm_io.specs.ShelfState.{ShelfState, files_of, seen_entries};
 
 use crate::calls::Calls;
@@ -93,15 +93,12 @@ impl Shelf for MemoryShelf {
         ensures cause { OnErr result (Rose self.old.calls.faults self.new.calls.faults) }
 
         // It fails only if it is listed or there is no such file.
-        ensures answered { OnOk result
-            (¬ IsListed self.old.calls × (self.new.calls ≡ after_call self.old.calls)) }
+        ensures answered { OnOk result (WasAnswered self.old.calls self.new.calls) }
         ensures failed { OnErr result
             ((IsListed self.old.calls ⊎ (files_of self.old.entries name.now ≡ None))
             × (self.new.calls ≡ after_fault self.old.calls)) }
     {
-        if self.calls.is_listed() {
-            return Err(self.calls.fault());
-        }
+        self.calls.pass()?;
         match stored::contents(&self.stored, name) {
             Some(contents) => {
                 let count = copy_part(contents, at, room);
@@ -126,15 +123,10 @@ impl Shelf for MemoryShelf {
 
         // It fails only if it is listed or out of memory, and otherwise takes every byte.
         ensures taken { IfOk result (λ n. n ≡ length bytes.now) }
-        ensures answered { OnOk result
-            (¬ IsListed self.old.calls × (self.new.calls ≡ after_call self.old.calls)) }
-        ensures failed { OnErr result
-            ((IsListed self.old.calls × (self.new.calls ≡ after_fault self.old.calls))
-            ⊎ (self.new.calls ≡ after_refused self.old.calls)) }
+        ensures answered { OnOk result (WasAnswered self.old.calls self.new.calls) }
+        ensures failed { OnErr result (WasRefused self.old.calls self.new.calls) }
     {
-        if self.calls.is_listed() {
-            return Err(self.calls.fault());
-        }
+        self.calls.pass()?;
         if stored::extend(self.alloc, &mut self.stored, name, bytes).is_err() {
             return Err(self.calls.refuse());
         }

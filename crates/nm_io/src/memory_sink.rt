@@ -1,8 +1,8 @@
-ghost use Rattle.std.specs.Prelude.{◌≡◌, ◌<◌, ◌≤◌, ◌++◌, ◌⊎◌, ℕ, List, [], length, take};
+ghost use Rattle.std.specs.Prelude.{◌≡◌, ◌<◌, ◌≤◌, ◌++◌, ℕ, List, [], length};
 ghost use Rattle.std.specs.Prelude.{Option, Some, IfOk, OnOk, OnErr};
 ghost use Rattle.nm_io.specs.Counts.{Rose};
-ghost use Rattle.nm_io.specs.Held.{grown};
-ghost use Rattle.nm_io.specs.Calls.{IsListed, no_calls, after_call, after_fault, after_refused};
+ghost use Rattle.nm_io.specs.Held.{GrewBy};
+ghost use Rattle.nm_io.specs.Calls.{no_calls, WasAnswered, WasRefused};
 ghost use Rattle.nm_io.specs.SinkState.{SinkState};
 
 use crate::calls::Calls;
@@ -57,23 +57,17 @@ impl Sink for MemorySink {
     fn put(&mut self, bytes: &[u8]) -> Result<usize, Failed>
         ensures within { IfOk result (λ n. n ≤ length bytes.now) }
         ensures moves { IfOk result (λ n. 0 < length bytes.now → 0 < n) }
-        ensures grown { IfOk result (λ n.
-            Some self.new.bytes ≡ grown (Some self.old.bytes) (take n bytes.now)) }
+        ensures grown { IfOk result (GrewBy (Some self.old.bytes) (Some self.new.bytes) bytes.now) }
         ensures err { OnErr result (Some self.new.bytes ≡ Some self.old.bytes) }
         ensures later { self.old.calls.faults ≤ self.new.calls.faults }
         ensures cause { OnErr result (Rose self.old.calls.faults self.new.calls.faults) }
 
         // It fails only if it is listed or out of memory, and otherwise takes every byte.
         ensures taken { IfOk result (λ n. n ≡ length bytes.now) }
-        ensures answered { OnOk result
-            (¬ IsListed self.old.calls × (self.new.calls ≡ after_call self.old.calls)) }
-        ensures failed { OnErr result
-            ((IsListed self.old.calls × (self.new.calls ≡ after_fault self.old.calls))
-            ⊎ (self.new.calls ≡ after_refused self.old.calls)) }
+        ensures answered { OnOk result (WasAnswered self.old.calls self.new.calls) }
+        ensures failed { OnErr result (WasRefused self.old.calls self.new.calls) }
     {
-        if self.calls.is_listed() {
-            return Err(self.calls.fault());
-        }
+        self.calls.pass()?;
         if self.bytes.extend_from_slice(bytes).is_err() {
             return Err(self.calls.refuse());
         }

@@ -2,7 +2,7 @@ ghost use Rattle.std.specs.Prelude.{◌≡◌, ◌+◌, ◌<◌, ◌≤◌, ◌+
 ghost use Rattle.std.specs.Prelude.{vec_capacity, Option, Some, IsErr, IfOk, OnOk, OnErr};
 ghost use Rattle.nm_io.specs.Counts.{Rose, raised};
 ghost use Rattle.nm_io.specs.Gathered.{Gathers};
-ghost use Rattle.nm_io.specs.Held.{grown, Writes};
+ghost use Rattle.nm_io.specs.Held.{GrewBy, Writes};
 ghost use Rattle.nm_io.specs.PageState.{PageState};
 
 use crate::{Failed, Sink, put_all};
@@ -62,8 +62,7 @@ impl Sink for Page {
     fn put(&mut self, bytes: &[u8]) -> Result<usize, Failed>
         ensures within { IfOk result (λ n. n ≤ length bytes.now) }
         ensures moves { IfOk result (λ n. 0 < length bytes.now → 0 < n) }
-        ensures grown { IfOk result (λ n.
-            Some self.new.bytes ≡ grown (Some self.old.bytes) (take n bytes.now)) }
+        ensures grown { IfOk result (GrewBy (Some self.old.bytes) (Some self.new.bytes) bytes.now) }
         ensures err { OnErr result (Some self.new.bytes ≡ Some self.old.bytes) }
         ensures later { self.old.faults ≤ self.new.faults }
         ensures cause { OnErr result (Rose self.old.faults self.new.faults) }

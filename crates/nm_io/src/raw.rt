@@ -1,7 +1,7 @@
-ghost use Rattle.std.specs.Prelude.{◌≡◌, ◌<◌, ◌≤◌, ℕ, List, length, take, Option, Some};
+ghost use Rattle.std.specs.Prelude.{◌≡◌, ◌<◌, ◌≤◌, ℕ, List, length, Option, Some};
 ghost use Rattle.std.specs.Prelude.{IfOk, OnOk, OnErr, IfSome};
 ghost use Rattle.nm_io.specs.Files.{ReadsPart};
-ghost use Rattle.nm_io.specs.Held.{grown};
+ghost use Rattle.nm_io.specs.Held.{GrewBy};
 
 use crate::Failed;
 use std::io;
@@ -16,8 +16,7 @@ pub trait RawWrite {
     /// Writes some of `bytes`, from the first on, by one call, and returns how many.
     fn write_once(&mut self, bytes: &[u8]) -> io::Result<usize>
         ensures within { IfOk result (λ n. n ≤ length bytes.now) }
-        ensures grown { IfOk result (λ n.
-            written self.new ≡ grown (written self.old) (take n bytes.now)) }
+        ensures grown { IfOk result (GrewBy (written self.old) (written self.new) bytes.now) }
         ensures err { OnErr result (written self.new ≡ written self.old) };
 }
 
@@ -49,8 +48,7 @@ pub trait RawRead {
 pub(crate) fn write_part<W: RawWrite>(to: &mut W, bytes: &[u8]) -> Result<usize, Failed>
     ensures within { IfOk result (λ n. n ≤ length bytes.now) }
     ensures moves { IfOk result (λ n. 0 < length bytes.now → 0 < n) }
-    ensures grown { IfOk result (λ n.
-        W.written to.new ≡ grown (W.written to.old) (take n bytes.now)) }
+    ensures grown { IfOk result (GrewBy (W.written to.old) (W.written to.new) bytes.now) }
     ensures err { OnErr result (W.written to.new ≡ W.written to.old) }
 {
     'tries: for _ in 0..u64::MAX {

@@ -1,6 +1,5 @@
-ghost use Rattle.std.specs.Prelude.{◌≡◌, ◌<◌, ◌≤◌, length, take, IfOk, OnErr};
+ghost use Rattle.std.specs.Prelude.{◌≡◌, ◌<◌, ◌≤◌, length, IfOk, OnErr};
 ghost use Rattle.nm_io.specs.Counts.{Rose};
-ghost use Rattle.nm_io.specs.Held.{grown};
 
 use crate::raw::write_part;
 use crate::{Failed, RawWrite, Sink};

@@ -1,6 +1,6 @@
 ghost use Rattle.std.specs.Prelude.{◌≡◌, ◌<◌, ◌≤◌, ℕ, List, length, take, Option};
 ghost use Rattle.std.specs.Prelude.{IfOk, OnErr, IfSome};
-ghost use Rattle.nm_io.specs.Counts.{Rose};
+ghost use Rattle.nm_io.specs.Counts.{NoneFell, Rose};
 ghost use Rattle.nm_io.specs.Files.{Files, appended_told, ReadsPart};
 
 use crate::Failed;
@@ -23,10 +23,8 @@ pub trait Shelf {
         ensures reads { IfOk result (λ n.
             IfSome (files self.old) (λ all. ReadsPart (all name.now) at n room.new)) }
         ensures files { files self.new ≡ files self.old }
-        ensures reads_later { (other : List ℕ) →
-            read_faults self.old other ≤ read_faults self.new other }
-        ensures appends_later { (other : List ℕ) →
-            append_faults self.old other ≤ append_faults self.new other }
+        ensures reads_later { NoneFell (read_faults self.old) (read_faults self.new) }
+        ensures appends_later { NoneFell (append_faults self.old) (append_faults self.new) }
         ensures cause { OnErr result
             (Rose (read_faults self.old name.now) (read_faults self.new name.now)) };
 
@@ -38,10 +36,8 @@ pub trait Shelf {
         ensures grown { IfOk result (λ n.
             files self.new ≡ appended_told (files self.old) name.now (take n bytes.now)) }
         ensures err { OnErr result (files self.new ≡ files self.old) }
-        ensures reads_later { (other : List ℕ) →
-            read_faults self.old other ≤ read_faults self.new other }
-        ensures appends_later { (other : List ℕ) →
-            append_faults self.old other ≤ append_faults self.new other }
+        ensures reads_later { NoneFell (read_faults self.old) (read_faults self.new) }
+        ensures appends_later { NoneFell (append_faults self.old) (append_faults self.new) }
         ensures cause { OnErr result
             (Rose (append_faults self.old name.now) (append_faults self.new name.now)) };
 }

@@ -1,6 +1,6 @@
-ghost use Rattle.std.specs.Prelude.{◌≡◌, ◌<◌, ◌≤◌, ℕ, List, length, take, Option, IfOk, OnErr};
+ghost use Rattle.std.specs.Prelude.{◌≡◌, ◌<◌, ◌≤◌, ℕ, List, length, Option, IfOk, OnErr};
 ghost use Rattle.nm_io.specs.Counts.{Rose};
-ghost use Rattle.nm_io.specs.Held.{grown};
+ghost use Rattle.nm_io.specs.Held.{GrewBy};
 
 use crate::Failed;
 
@@ -17,8 +17,7 @@ pub trait Sink {
     fn put(&mut self, bytes: &[u8]) -> Result<usize, Failed>
         ensures within { IfOk result (λ n. n ≤ length bytes.now) }
         ensures moves { IfOk result (λ n. 0 < length bytes.now → 0 < n) }
-        ensures grown { IfOk result (λ n.
-            holds self.new ≡ grown (holds self.old) (take n bytes.now)) }
+        ensures grown { IfOk result (GrewBy (holds self.old) (holds self.new) bytes.now) }
         ensures err { OnErr result (holds self.new ≡ holds self.old) }
         ensures later { faults self.old ≤ faults self.new }
         ensures cause { OnErr result (Rose (faults self.old) (faults self.new)) };

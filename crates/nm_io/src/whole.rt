@@ -1,5 +1,5 @@
-ghost use Rattle.std.specs.Prelude.{◌≡◌, ◌≤◌, ℕ, List, length, Some, IfSome, IfOk, IfErr, OnErr};
-ghost use Rattle.nm_io.specs.Counts.{Rose};
+ghost use Rattle.std.specs.Prelude.{◌≡◌, ◌≤◌, length, Some, IfSome, IfOk, IfErr, OnErr};
+ghost use Rattle.nm_io.specs.Counts.{NoneFell, Rose};
 ghost use Rattle.nm_io.specs.Files.{Appends};
 ghost use Rattle.nm_io.specs.Held.{Writes};
 ghost use Rattle.nm_io.specs.Whole.{Blames};
@@ -29,10 +29,8 @@ pub fn put_all<K: Sink>(out: &mut K, bytes: &[u8]) -> Result<(), Failed>
 #[tactic(auto, using(crate::proofs::Appending::appending))]
 pub fn append_all<S: Shelf>(shelf: &mut S, name: &str, bytes: &[u8]) -> Result<(), Failed>
     ensures appends { Appends (S.files shelf.old) (S.files shelf.new) name.now result bytes.now }
-    ensures reads_later { (other : List ℕ) →
-        S.read_faults shelf.old other ≤ S.read_faults shelf.new other }
-    ensures appends_later { (other : List ℕ) →
-        S.append_faults shelf.old other ≤ S.append_faults shelf.new other }
+    ensures reads_later { NoneFell (S.read_faults shelf.old) (S.read_faults shelf.new) }
+    ensures appends_later { NoneFell (S.append_faults shelf.old) (S.append_faults shelf.new) }
     ensures cause { OnErr result
         (Rose (S.append_faults shelf.old name.now) (S.append_faults shelf.new name.now)) }
 {
@@ -57,10 +55,8 @@ pub fn read_all<S: Shelf>(
     ensures err { IfErr result (Blames (S.files shelf.old) name.now limit
         (S.read_faults shelf.old name.now) (S.read_faults shelf.new name.now)) }
     ensures files { S.files shelf.new ≡ S.files shelf.old }
-    ensures reads_later { (other : List ℕ) →
-        S.read_faults shelf.old other ≤ S.read_faults shelf.new other }
-    ensures appends_later { (other : List ℕ) →
-        S.append_faults shelf.old other ≤ S.append_faults shelf.new other }
+    ensures reads_later { NoneFell (S.read_faults shelf.old) (S.read_faults shelf.new) }
+    ensures appends_later { NoneFell (S.append_faults shelf.old) (S.append_faults shelf.new) }
 {
     let mut contents = Vec::new(alloc);
     let mut room = [0; PART];
