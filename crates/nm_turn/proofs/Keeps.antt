@@ -213,8 +213,7 @@ module _ {B E F : Type 0} (entries : B → List E) (fixed_of : B → F) (root : 
   -- word 2 may be any number
   waiting : (s : S) (r : Rule s) (n : ℕ) → Rule record { words = set s.words 2 n; homes = s.homes; views = s.views }
   waiting s r n =
-      let first : get_or (set s.words 2 n) 0 0 ≡ get_or s.words 0 0 = get_or-set_other s.words 2 0 n 0 (λ e. omega arith) in
-      let second : get_or (set s.words 2 n) 1 0 ≡ get_or s.words 1 0 = get_or-set_other s.words 2 1 n 0 (λ e. omega arith) in record {
+      let first : get_or (set s.words 2 n) 0 0 ≡ get_or s.words 0 0 = get_or-set_other s.words 2 0 n 0 (λ e. omega arith) in record {
         history = r.history;
         holder = r.holder;
         out = r.out;
@@ -224,7 +223,7 @@ module _ {B E F : Type 0} (entries : B → List E) (fixed_of : B → F) (root : 
           subst (λ (m : ℕ). MatchOption r.holder (m ≡ 0) (λ j. (m ≡ 1) × (j < length s.views))) (sym first) r.one_holder.0,
           r.one_holder.1,
         );
-        counted = second ∙ r.counted;
+        counted = get_or-set_other s.words 2 1 n 0 (λ e. omega arith) ∙ r.counted;
         stands_for = r.stands_for;
         holder_only = r.holder_only;
         seen_prefix = r.seen_prefix;
