@@ -4,6 +4,7 @@ use Rattle.std.proofs.Math.Seq.{take-append_seam, drop-append_seam}
 use Rattle.std.proofs.lemmas.List.{take_all, drop_all}
 use Rattle.nm_reach.proofs.Lists.{none}
 use denote.RawPtr.{Ptr}
+use Rattle.nm_reach.specs.Fields.{Run}
 use Rattle.nm_reach.specs.Sides.{values_of, IsOneRun, IsRound, IsRun}
 use Rattle.nm_reach.specs.declared.sides.Sides.{Sides}
 
@@ -32,6 +33,10 @@ after_front s r k room e h l len same =
     let n = length s.back.values in
     let h' : k ≤ m + n = omega (arith, h, length-append s.front.values s.back.values) in
     past_front s.front.size s.front.at m n k room len r.one r.within e h' l same
+
+-- a run of these sides, with other values in its cells
+abbrev pub run_with : {T : Type 0} → Sides T → ℕ → ℕ → List T → Run T
+run_with s size start values = record { field = s.front.base; size = size; start = start; values = values }
 
 -- the values of a run up to the end of the field, and those behind it
 pub record Halves {T : Type 0} (s : Sides T) (k : ℕ) : Type 0 where
