@@ -9,13 +9,14 @@ use Rattle.nm_types.specs.Names.{is_name, is_switch_port_name, is_pipe_name, is_
 use Rattle.nm_types.specs.OwnPorts.{OwnPort, OwnState, Arrival, empty_own, port_with_id}
 use Rattle.nm_types.specs.OwnEdits.{SlotPlace, with_positions, with_all_back, with_slots_swapped, with_frame, with_extra_link}
 use Rattle.vale_entry.specs.declared.entry.Ask.{Ask}
-use Rattle.vale_entry.specs.declared.entry.Ask.TheVariants.{Enter, Open, Send, Grant, Done, Sync, Reset, Finish, Put, PutKept}
-use Rattle.vale_entry.specs.declared.entry.Reply.TheVariants.{Made, Opened, Offered, Shared, Gave, Took, PeerGone}
+use Rattle.vale_entry.specs.declared.entry.Ask.TheVariants.{Open, Send, Sync, Reset, Finish, Put, PutKept}
+use Rattle.vale_entry.specs.declared.entry.Reply.TheVariants.{Opened, Offered, Gave, Took, PeerGone}
 use Rattle.vale_entry.specs.declared.entry.Item.{Item}
 use Rattle.vale_entry.specs.declared.entry.Entry.{Entry}
 use Rattle.vale_entry.specs.Legal.{standing_of}
 use Rattle.vale_entry.specs.Arrivals.{arrivals_of}
-use Rattle.vale_entry.specs.RowWords.{entry, port, dest, frame_f}
+use Rattle.vale_entry.specs.RowWords.{entry, port, frame_f}
+use Rattle.vale_entry.specs.Rows.{first_run_of}
 use Rattle.vale_entry.specs.OwnCalls.{tx_call, rx_call, finish_call, own_after}
 
 abbrev item : ℕ → Item
@@ -38,16 +39,7 @@ abbrev opening : ℕ → List ℕ → Ask
 opening session name = Open (record { 0 = session }) name 4 4 0
 
 abbrev history : List Entry
-history =
-    entry 1 (Enter 1) Made
-    ∷ entry 2 (Enter 2) Made
-    ∷ entry 1 (opening 1 (codes "vale0:a")) Opened
-    ∷ entry 2 (opening 2 (codes "vale0:b")) Opened
-    ∷ entry 1 (Send (port 3) (frame_f ∷ [])) (Offered 0 0 (dest 4 1 ∷ []))
-    ∷ entry 1 (Grant 5 (port 4)) (Shared 1 0 0)
-    ∷ entry 1 (Done (record { 0 = 6 })) Made
-    ∷ entry 2 (Sync (port 4) []) (Gave 1 [])
-    ∷ []
+history = first_run_of frame_f
 
 -- what a session has after the entry of this number, which is one of its own
 abbrev own_from : ℕ → Option Entry → OwnState → OwnState
