@@ -4,9 +4,9 @@ use Rattle.std.specs.List.{AllByRecursion as Each}
 use Rattle.std.proofs.lemmas.List.Elements.{filter-append}
 use Rattle.std.proofs.lemmas.Bool.{eq-eqb, ne_eqb}
 use Rattle.vale_entry.specs.declared.entry.Ask.{Ask}
-use Rattle.vale_entry.specs.declared.entry.Ask.TheVariants.{Enter, Open, Send, Grant, Done, Sync, Reset, Shut, Finish, Leave, Put, PutKept, Get, Watch, Stat}
+use Rattle.vale_entry.specs.declared.entry.Ask.TheVariants.{PutKept}
 use Rattle.vale_entry.specs.declared.entry.Reply.{Reply}
-use Rattle.vale_entry.specs.declared.entry.Reply.TheVariants.{Made, Opened, Refused, Offered, Shared, Gave, Took, PeerGone, Unread, LeasesOut, Watching, NoTarget, Watched, Counted}
+use Rattle.vale_entry.specs.declared.entry.Reply.TheVariants.{Took}
 use Rattle.vale_entry.specs.declared.entry.Entry.{Entry}
 use Rattle.vale_entry.specs.World.{World}
 use Rattle.vale_entry.specs.Pipe.{puts_to_port}
@@ -34,19 +34,7 @@ IsOrigin number brought = brought.origin ≡ number
 
 taken-origin : (number : ℕ) (reply : Reply) → Each (IsOrigin number) (taken_of number reply)
 taken-origin number (Took items to) = (refl, tt)
-taken-origin number Made = tt
-taken-origin number Opened = tt
-taken-origin number (Refused fault) = tt
-taken-origin number (Offered short lone to) = tt
-taken-origin number (Shared given full gone) = tt
-taken-origin number (Gave count to) = tt
-taken-origin number PeerGone = tt
-taken-origin number (Unread count) = tt
-taken-origin number (LeasesOut n) = tt
-taken-origin number (Watching target) = tt
-taken-origin number NoTarget = tt
-taken-origin number (Watched by) = tt
-taken-origin number (Counted counts) = tt
+taken-origin number _ = tt
 
 origin_if :
     (number : ℕ) (reply : Reply) (b : Bool)
@@ -57,22 +45,9 @@ origin_if number reply false = tt
 put-origin :
     (to : ℕ) (w : World) (ask : Ask) (reply : Reply)
     → Each (IsOrigin (w.entry_count + 1)) (put_by to w ask reply)
-put-origin to w (Enter user) reply = tt
-put-origin to w (Open session name tx rx extra) reply = tt
-put-origin to w (Send from frames) reply = tt
-put-origin to w (Grant origin at) reply = tt
-put-origin to w (Done lease) reply = tt
-put-origin to w (Sync at back) reply = tt
-put-origin to w (Reset at side fault) reply = tt
-put-origin to w (Shut at) reply = tt
-put-origin to w (Finish at bufs chain) reply = tt
-put-origin to w (Leave session) reply = tt
-put-origin to w (Put at offered) reply = tt
 put-origin to w (PutKept at offered) reply =
     origin_if (w.entry_count + 1) reply (puts_to_port w.ports at.0 to)
-put-origin to w (Get at back) reply = tt
-put-origin to w (Watch monitor target sides) reply = tt
-put-origin to w (Stat at) reply = tt
+put-origin to w _ reply = tt
 
 -- the origins of what entries put stand between the numbers of the first and of the last
 abbrev IsBetween : ℕ → ℕ → Brought → Type 0

@@ -3,7 +3,7 @@
 use Rattle.std.specs.Prelude.{ℕ, Bool, ◌==◌, ◌+◌, if◌then◌else◌, List, [], ◌∷◌, ◌++◌, length, find, flat_map, Option, Some, None}
 use Rattle.nm_types.specs.Frames.{Frame}
 use Rattle.vale_entry.specs.declared.entry.Ask.{Ask}
-use Rattle.vale_entry.specs.declared.entry.Ask.TheVariants.{Enter, Open, Send, Grant, Done, Sync, Reset, Shut, Finish, Leave, Put, PutKept, Get, Watch, Stat}
+use Rattle.vale_entry.specs.declared.entry.Ask.TheVariants.{Grant, Sync, Finish, PutKept, Get}
 use Rattle.vale_entry.specs.declared.entry.Reply.{Reply}
 use Rattle.vale_entry.specs.declared.entry.Reply.TheVariants.{Shared, Gave, Took, Unread}
 use Rattle.vale_entry.specs.declared.entry.Entry.{Entry}
@@ -57,22 +57,9 @@ granted_of_offer w (Some offer) =
 
 -- what an ask grants to a port
 abbrev pub granted_by : ℕ → World → Ask → List Brought
-granted_by port w (Enter user) = []
-granted_by port w (Open session name tx rx extra) = []
-granted_by port w (Send from frames) = []
 granted_by port w (Grant origin to) =
     if to.0 == port then granted_of_offer w (first_offer w origin) else []
-granted_by port w (Done lease) = []
-granted_by port w (Sync at back) = []
-granted_by port w (Reset at side fault) = []
-granted_by port w (Shut at) = []
-granted_by port w (Finish at bufs chain) = []
-granted_by port w (Leave session) = []
-granted_by port w (Put at offered) = []
-granted_by port w (PutKept at offered) = []
-granted_by port w (Get at back) = []
-granted_by port w (Watch monitor target sides) = []
-granted_by port w (Stat at) = []
+granted_by port w _ = []
 
 abbrev pub granted_in : ℕ → World → Entry → List Brought
 granted_in port w entry = granted_by port w entry.ask
@@ -88,22 +75,9 @@ taken_of number _ = []
 
 -- what a Put brings to a port: what the port took as the other end
 abbrev pub put_by : ℕ → World → Ask → Reply → List Brought
-put_by port w (Enter user) reply = []
-put_by port w (Open session name tx rx extra) reply = []
-put_by port w (Send from frames) reply = []
-put_by port w (Grant origin to) reply = []
-put_by port w (Done lease) reply = []
-put_by port w (Sync at back) reply = []
-put_by port w (Reset at side fault) reply = []
-put_by port w (Shut at) reply = []
-put_by port w (Finish at bufs chain) reply = []
-put_by port w (Leave session) reply = []
-put_by port w (Put at offered) reply = []
 put_by port w (PutKept at offered) reply =
     if puts_to_port w.ports at.0 port then taken_of (w.entry_count + 1) reply else []
-put_by port w (Get at back) reply = []
-put_by port w (Watch monitor target sides) reply = []
-put_by port w (Stat at) reply = []
+put_by port w _ reply = []
 
 abbrev pub put_in : ℕ → World → Entry → List Brought
 put_in port w entry = put_by port w entry.ask entry.reply
@@ -125,23 +99,11 @@ given_frames pool history port = flat_map frames_brought (brought_to pool histor
 
 -- what an ask reads at a port
 abbrev pub read_by : ℕ → World → Ask → List Frame
-read_by port w (Enter user) = []
-read_by port w (Open session name tx rx extra) = []
-read_by port w (Send from frames) = []
-read_by port w (Grant origin to) = []
-read_by port w (Done lease) = []
 read_by port w (Sync at back) =
     if at.0 == port then frames_at delivered_frames (open_port w.ports at.0) else []
-read_by port w (Reset at side fault) = []
-read_by port w (Shut at) = []
-read_by port w (Finish at bufs chain) = []
-read_by port w (Leave session) = []
-read_by port w (Put at offered) = []
-read_by port w (PutKept at offered) = []
 read_by port w (Get at back) =
     if at.0 == port then frames_at delivered_frames (open_port w.ports at.0) else []
-read_by port w (Watch monitor target sides) = []
-read_by port w (Stat at) = []
+read_by port w _ = []
 
 abbrev pub read_in : ℕ → World → Entry → List Frame
 read_in port w entry = read_by port w entry.ask
