@@ -6,7 +6,7 @@ use Rattle.std.proofs.lemmas.Bool.{and_parts, eqb-true, eqb-false, eq-eqb, ne_eq
 use Rattle.nm_types.specs.Frames.{Frame}
 use Rattle.nm_types.specs.Names.{is_pipe_name, is_monitor_name, kind_of, is_pipe_kind, is_monitor_kind}
 use Rattle.nm_types.specs.declared.name.Kind.{Kind}
-use Rattle.nm_types.specs.declared.name.Kind.TheVariants.{Vale, Master, Slave, Monitor}
+use Rattle.nm_types.specs.declared.name.Kind.TheVariants.{Monitor}
 use Rattle.vale_entry.specs.declared.entry.Entry.{Entry}
 use Rattle.nm_types.specs.declared.id.Side.TheVariants.{Tx}
 use Rattle.nm_types.specs.Sides.{watches_side}
@@ -34,11 +34,8 @@ use Rattle.vale_entry.proofs.HistoryLaws.{history-stands}
 -- A monitor's name is no pipe's.
 
 kinds_apart : (kind : Option Kind) → is_pipe_kind kind ≡ true → is_monitor_kind kind ≡ true → ⊥
-kinds_apart None pipe monitor = absurd cc
-kinds_apart (Some Vale) pipe monitor = absurd cc
-kinds_apart (Some Master) pipe monitor = absurd cc
-kinds_apart (Some Slave) pipe monitor = absurd cc
 kinds_apart (Some Monitor) pipe monitor = absurd cc
+kinds_apart _ pipe monitor = absurd cc
 
 names-apart : (name : List ℕ) → is_pipe_name name ≡ true → is_monitor_name name ≡ true → ⊥
 unfolding is_pipe_name is_monitor_name

@@ -3,7 +3,7 @@
 use Rattle.std.proofs.Common.{ℕ, ◌≡◌, Bool, true, false, cond, List, Option, Some, None, refl, sym, ◌∙◌, ap}
 use Rattle.std.specs.Prelude.{option_map}
 use Rattle.vale_entry.specs.declared.entry.Ask.{Ask}
-use Rattle.vale_entry.specs.declared.entry.Ask.TheVariants.{Enter, Open, Send, Grant, Done, Sync, Reset, Shut, Finish, Leave, Put, PutKept, Get, Watch, Stat}
+use Rattle.vale_entry.specs.declared.entry.Ask.TheVariants.{Grant, Done, Shut, Finish, Leave}
 use Rattle.vale_entry.specs.World.{Port, open_port}
 use Rattle.vale_entry.specs.Grant.{first_offer}
 use Rattle.vale_entry.specs.Delivery.{lease_at}
@@ -13,21 +13,12 @@ use Rattle.vale_entry.specs.Legal.{Standing, Outcome, recorded_step, made_at, is
 
 -- the asks whose room is promised before they are made
 abbrev pub is_owed : Ask → Bool
-is_owed (Enter user) = false
-is_owed (Open session name tx rx extra) = false
-is_owed (Send port frames) = false
 is_owed (Grant origin to) = true
 is_owed (Done lease) = true
-is_owed (Sync port back) = false
-is_owed (Reset port side fault) = false
 is_owed (Shut port) = true
 is_owed (Finish port bufs chain) = true
 is_owed (Leave session) = true
-is_owed (Put port offered) = false
-is_owed (PutKept port offered) = false
-is_owed (Get port back) = false
-is_owed (Watch monitor target sides) = false
-is_owed (Stat port) = false
+is_owed _ = false
 
 none_if :
     (b : Bool) (made found : Outcome) → made.want ≡ 0 → cond b (Some made) None ≡ Some found
@@ -58,17 +49,12 @@ none_of_finish s bufs false found made e = absurd cc
 pub want-owed :
     (s : Standing) (ask : Ask) (made : Outcome) → is_owed ask ≡ true
     → recorded_step s ask made.reply ≡ Some made → (made.want ≡ 0) × (bytes_of ask made.reply ≡ 0)
-want-owed s (Enter user) made owed e = absurd cc
-want-owed s (Open session name tx rx extra) made owed e = absurd cc
-want-owed s (Send port frames) made owed e = absurd cc
 want-owed s (Grant origin to) made owed e = (
   none_at (is_offer_next to.0) (grant_step s) (first_offer s.world origin) made (λ offer. refl) e,
   refl,
 )
 want-owed s (Done lease) made owed e =
     (none_of (done_step s lease.0) (lease_at s.world.ports lease.0) made (λ lot. refl) e, refl)
-want-owed s (Sync port back) made owed e = absurd cc
-want-owed s (Reset port side fault) made owed e = absurd cc
 want-owed s (Shut port) made owed e = (
   none_at (can_shut s.world) (shut_step s) (open_port s.world.ports port.0) made (λ p. refl) e,
   refl,
@@ -77,8 +63,4 @@ want-owed s (Finish port bufs chain) made owed e =
     (none_of_finish s bufs (fits_chain chain) (shutting_port s.world.ports port.0) made e, refl)
 want-owed s (Leave session) made owed e =
     (none_if (can_leave s.world session.0) (leave_step s session.0) made refl e, refl)
-want-owed s (Put port offered) made owed e = absurd cc
-want-owed s (PutKept port offered) made owed e = absurd cc
-want-owed s (Get port back) made owed e = absurd cc
-want-owed s (Watch monitor target sides) made owed e = absurd cc
-want-owed s (Stat port) made owed e = absurd cc
+want-owed s _ made owed e = absurd cc

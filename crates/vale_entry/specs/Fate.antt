@@ -4,7 +4,7 @@ use Rattle.std.specs.Prelude.{ℕ, Bool, true, false, ◌&&◌, ◌==◌, ◌+�
 use Rattle.std.specs.List.{range_with_len, list_any}
 use Rattle.nm_types.specs.Frames.{Frame}
 use Rattle.vale_entry.specs.declared.entry.Ask.{Ask}
-use Rattle.vale_entry.specs.declared.entry.Ask.TheVariants.{Enter, Open, Send, Grant, Done, Sync, Reset, Shut, Finish, Leave, Put, PutKept, Get, Watch, Stat}
+use Rattle.vale_entry.specs.declared.entry.Ask.TheVariants.{Send, Grant, Sync, PutKept, Get}
 use Rattle.vale_entry.specs.declared.entry.Reply.{Reply}
 use Rattle.vale_entry.specs.declared.entry.Reply.TheVariants.{Shared, Took}
 use Rattle.vale_entry.specs.declared.entry.Entry.{Entry}
@@ -37,22 +37,12 @@ wanted_of_put w frames to (Some sender) =
 
 -- the frames of an entry that are wanted at a port, by the world before it
 abbrev pub wanted_by : World → Ask → Reply → ℕ → List Frame
-wanted_by w (Enter user) reply to = []
-wanted_by w (Open session name tx rx extra) reply to = []
 wanted_by w (Send from frames) reply to = wanted_of_send w frames to (open_port w.ports from.0)
-wanted_by w (Grant origin at) reply to = []
-wanted_by w (Done lease) reply to = []
 wanted_by w (Sync at back) reply to = wanted_of_sync w to (open_port w.ports at.0)
-wanted_by w (Reset at side fault) reply to = []
-wanted_by w (Shut at) reply to = []
-wanted_by w (Finish at bufs chain) reply to = []
-wanted_by w (Leave session) reply to = []
-wanted_by w (Put at offered) reply to = []
 wanted_by w (PutKept from offered) reply to =
     wanted_of_put w (frames_of_items (kept_items reply)) to (open_port w.ports from.0)
 wanted_by w (Get at back) reply to = wanted_of_sync w to (open_port w.ports at.0)
-wanted_by w (Watch monitor target sides) reply to = []
-wanted_by w (Stat at) reply to = []
+wanted_by w _ reply to = []
 
 -- the same where the entry bears this number
 abbrev pub wanted_in : ℕ → ℕ → World → Entry → List Frame
@@ -149,21 +139,11 @@ was_taken _ = false
 
 -- whether an entry's frames come from this port
 abbrev pub is_sent_by : ℕ → Ask → Reply → Bool
-is_sent_by port (Enter user) reply = false
-is_sent_by port (Open session name tx rx extra) reply = false
 is_sent_by port (Send from frames) reply = from.0 == port
-is_sent_by port (Grant origin to) reply = false
-is_sent_by port (Done lease) reply = false
 is_sent_by port (Sync at back) reply = at.0 == port
-is_sent_by port (Reset at side fault) reply = false
-is_sent_by port (Shut at) reply = false
-is_sent_by port (Finish at bufs chain) reply = false
-is_sent_by port (Leave session) reply = false
-is_sent_by port (Put at offered) reply = false
 is_sent_by port (PutKept at offered) reply = (at.0 == port) && was_taken reply
 is_sent_by port (Get at back) reply = at.0 == port
-is_sent_by port (Watch monitor target sides) reply = false
-is_sent_by port (Stat at) reply = false
+is_sent_by port _ reply = false
 
 -- the number of an entry whose frames come from a port
 abbrev pub numbers_in : ℕ → World → Entry → List ℕ

@@ -5,7 +5,7 @@ use Rattle.nm_types.specs.declared.id.PortId.{PortId}
 use Rattle.nm_types.specs.declared.id.Chain.{Chain}
 use Rattle.vale_entry.specs.Closing.{leases_out, shutting_port}
 use Rattle.vale_entry.specs.Room.{promised_of, room_used}
-use Rattle.vale_entry.specs.declared.entry.Reply.TheVariants.{Made, Opened, Refused, Offered, Shared, Gave, Took, PeerGone, Unread, LeasesOut, Watching, NoTarget, Watched, Counted}
+use Rattle.vale_entry.specs.declared.entry.Reply.TheVariants.{Shared, LeasesOut}
 use Rattle.vale_entry.specs.declared.entry.Reply.{Reply}
 use Rattle.vale_entry.specs.declared.entry.Ask.{Ask}
 use Rattle.vale_entry.specs.declared.entry.Ask.TheVariants.{Grant, Finish, Put, PutKept}
@@ -197,20 +197,8 @@ OffersAreOfOneEntry offers =
 
 -- a grant that gives nothing needs no Done: that one's room comes back
 abbrev pub room_back : Reply → ℕ
-room_back Made = 0
-room_back Opened = 0
-room_back (Refused fault) = 0
-room_back (Offered short lone to) = 0
 room_back (Shared given full gone) = if given == 0 then 1 else 0
-room_back (Gave count to) = 0
-room_back (Took items to) = 0
-room_back PeerGone = 0
-room_back (Unread count) = 0
-room_back (LeasesOut n) = 0
-room_back (Watching target) = 0
-room_back NoTarget = 0
-room_back (Watched by) = 0
-room_back (Counted counts) = 0
+room_back _ = 0
 
 -- an entry takes one of those promised before or wanted by its step, and leaves the others promised
 abbrev pub IsPromised : World → World → Outcome → Type 0

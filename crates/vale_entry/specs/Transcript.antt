@@ -190,13 +190,9 @@ dests_rise (dest ∷ []) = true
 dests_rise (dest ∷ next ∷ dests) = nat_lt dest.to.0 next.to.0 && dests_rise (next ∷ dests)
 
 abbrev pub is_refusal : OpenFault → Bool
-is_refusal BadSize = true
-is_refusal SwitchesFull = true
-is_refusal PortsFull = true
-is_refusal NameTaken = true
-is_refusal (NoBuffers want have) = true
 is_refusal (RecordFull what used want) = false
 is_refusal NoMemory = false
+is_refusal _ = true
 
 abbrev pub is_unmarked : Item → Bool
 is_unmarked item = not item.bytes.no_learn
