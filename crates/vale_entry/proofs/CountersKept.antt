@@ -58,12 +58,7 @@ pub moved-quiet :
     (s : Standing) (number : ℕ) (ask : Ask) (session : ℕ) (reply : Reply) (cs : List PortCounts)
     → IsQuiet s ask session reply → counts_moved number ask reply cs ≡ cs
 moved-quiet s number _ _ _ cs (refused_open session name tx rx extra fault can e) = refl
-moved-quiet s number _ _ _ cs (resets at side fault port e can) = refl
-moved-quiet s number _ _ _ cs (finds_no_peer at offered port e few gone) = refl
-moved-quiet s number _ _ _ cs (finds_no_target at target sides port e can none) = refl
-moved-quiet s number _ _ _ cs (finds_watched at target sides port found watch e can there some) =
-    refl
-moved-quiet s number _ _ _ cs (counts at port e) = refl
+moved-quiet s number _ _ _ cs _ = refl
 
 pub moved-read :
     (number : ℕ) (ask : Ask) (at : PortId) (back : List ℕ) (reply : Reply) (cs : List PortCounts)

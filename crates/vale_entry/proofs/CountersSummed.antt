@@ -425,24 +425,16 @@ tells-quiet :
     (s : Standing) (id : ℕ) (ask : Ask) (session : ℕ) (reply : Reply) → IsQuiet s ask session reply
     → Tells id s.world (entry_made ask (unchanged s session reply))
     (counted_in id s.world (entry_made ask (unchanged s session reply)))
-tells-quiet s id _ _ _ (refused_open session name tx rx extra fault can e) = nothing
-tells-quiet s id _ _ _ (resets at side fault port e can) = nothing
 tells-quiet s id _ _ _ (finds_no_peer at offered port e few gone) =
     tells-gone (s.world.entry_count + 1) (at.0 == id) (puts_to_port s.world.ports at.0 id)
-tells-quiet s id _ _ _ (finds_no_target at target sides port e can none) = nothing
-tells-quiet s id _ _ _ (finds_watched at target sides port found watch e can there some) = nothing
-tells-quiet s id _ _ _ (counts at port e) = nothing
+tells-quiet s id _ _ _ _ = nothing
 
 counts-quiet :
     (s : Standing) (id : ℕ) (ask : Ask) (session : ℕ) (reply : Reply) → IsQuiet s ask session reply
     → counted_in id s.world (entry_made ask (unchanged s session reply)) ≡ zero_counts
-counts-quiet s id _ _ _ (refused_open session name tx rx extra fault can e) = refl
-counts-quiet s id _ _ _ (resets at side fault port e can) = refl
 counts-quiet s id _ _ _ (finds_no_peer at offered port e few gone) =
     none_gone (at.0 == id) (puts_to_port s.world.ports at.0 id)
-counts-quiet s id _ _ _ (finds_no_target at target sides port e can none) = refl
-counts-quiet s id _ _ _ (finds_watched at target sides port found watch e can there some) = refl
-counts-quiet s id _ _ _ (counts at port e) = refl
+counts-quiet s id _ _ _ _ = refl
 
 tells-granted : (w : World) (offer : Offer) (found : Option Offer) (hit : Bool) → found ≡ Some offer
     → TellsAs [] [] [] (cond hit (granted_of_offer w found) [] ++ [])

@@ -76,22 +76,9 @@ pub has-enabled : (s : Standing) (ask : Ask) → has_step s ask ≡ true → IsE
 has-enabled s ask e = enabled-step s ask ∙ e
 
 replied : (s : Standing) (ask : Ask) → has_step s ask ≡ is_some (reply_to s ask)
-replied s (Enter user) = mapped-some reply_of (step s (Enter user))
-replied s (Open session name tx rx extra) =
-    mapped-some reply_of (step s (Open session name tx rx extra))
-replied s (Send port frames) = mapped-some reply_of (step s (Send port frames))
-replied s (Grant origin to) = mapped-some reply_of (step s (Grant origin to))
-replied s (Done lease) = mapped-some reply_of (step s (Done lease))
-replied s (Sync port back) = mapped-some reply_of (step s (Sync port back))
-replied s (Reset port side fault) = mapped-some reply_of (step s (Reset port side fault))
-replied s (Shut port) = mapped-some reply_of (step s (Shut port))
 replied s (Finish port bufs chain) = refl
-replied s (Leave session) = mapped-some reply_of (step s (Leave session))
-replied s (Put port offered) = mapped-some reply_of (step s (Put port offered))
 replied s (PutKept port offered) = refl
-replied s (Get port back) = mapped-some reply_of (step s (Get port back))
-replied s (Watch monitor target sides) = mapped-some reply_of (step s (Watch monitor target sides))
-replied s (Stat port) = mapped-some reply_of (step s (Stat port))
+replied s ask = mapped-some reply_of (step s ask)
 
 pub asks-answered : AsksAreAnswered
 asks-answered s ask = enabled-step s ask ∙ replied s ask

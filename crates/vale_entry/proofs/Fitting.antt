@@ -126,9 +126,7 @@ fault-fits (faults.LongLen slot len) e =
     let short = ltb-true len 65536 parts.1 in
     (small slot parts.0, omega (arith, short))
 fault-fits (faults.Fragment slot) e = small slot e
-fault-fits faults.PeerGone e = tt
-fault-fits (faults.RecordFull what used want) e = tt
-fault-fits faults.NoMemory e = tt
+fault-fits _ e = tt
 
 -- Buffers that a session holds.
 

@@ -323,11 +323,7 @@ quiet-back :
     (s : Standing) (ask : Ask) (session : ℕ) (reply : Reply) → IsQuiet s ask session reply
     → room_back reply ≡ 0
 quiet-back s _ _ _ (refused_open session name tx rx extra fault can e) = refl
-quiet-back s _ _ _ (resets at side fault port e can) = refl
-quiet-back s _ _ _ (finds_no_peer at offered port e few gone) = refl
-quiet-back s _ _ _ (finds_no_target at target sides port e can none) = refl
-quiet-back s _ _ _ (finds_watched at target sides port found watch e can there some) = refl
-quiet-back s _ _ _ (counts at port e) = refl
+quiet-back s _ _ _ _ = refl
 
 promised_kinds :
     (s : Standing) → Numbered s → Single s → EachKind s (λ ask made. PromisedNext s.world made)

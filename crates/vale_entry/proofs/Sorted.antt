@@ -164,10 +164,8 @@ pub front-given :
     → map frames_brought granted ≡ map (λ (share : Share). take share.given wanted) shares
     → flat_map frames_brought granted ≡ take (given_count shares) wanted
 front-given wanted [] [] few e = refl
-front-given wanted [] (x ∷ xs) few e = absurd cc
-front-given wanted (share ∷ []) [] few e = absurd cc
 front-given wanted (share ∷ []) (x ∷ []) few e =
     let front : x.frames ≡ take share.given wanted = cc in
     append-nil x.frames ∙ front
-front-given wanted (share ∷ []) (x ∷ y ∷ zs) few e = absurd cc
 front-given wanted (share ∷ other ∷ shares) granted few e = absurd (omega (arith, few))
+front-given wanted _ _ few e = absurd cc

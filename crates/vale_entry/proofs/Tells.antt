@@ -54,8 +54,6 @@ none_wanted w to (Some port) = at_port (port_at w.ports to)
 pub tells-nothing :
     (s : Standing) (ask : Ask) (session : ℕ) (reply : Reply) → IsQuiet s ask session reply
     → TellsNothing s.world (entry_made ask (unchanged s session reply))
-tells-nothing s _ _ _ (refused_open session name tx rx extra fault can e) = search rules
-tells-nothing s _ _ _ (resets at side fault port e can) = search rules
 tells-nothing s _ _ _ (finds_no_peer at offered sender e few gone) = record {
   granted = λ port. refl;
   put = λ port. same_if (puts_to_port s.world.ports at.0 port) [];
@@ -72,9 +70,7 @@ tells-nothing s _ _ _ (finds_no_peer at offered sender e few gone) = record {
       λ port. ap (λ (b : Bool). cond b ((s.world.entry_count + 1) ∷ []) [])
       (and-false (at.0 == port));
 }
-tells-nothing s _ _ _ (finds_no_target at target sides port e can none) = search rules
-tells-nothing s _ _ _ (finds_watched at target sides port found watch e can there some) = search rules
-tells-nothing s _ _ _ (counts at port e) = search rules
+tells-nothing s _ _ _ _ = search rules
 
 -- an entry that gives what is ready at a port
 pub record TellsReceived (w : World) (at : ℕ) (back : List ℕ) (e : Entry) : Type 0 where

@@ -96,11 +96,7 @@ ComesFrom s ask reply = (b : ℕ) → count_of b (buffers_of_arrivals (arrivals_
 
 comes-quiet : (s : Standing) (ask : Ask) (by : ℕ) (reply : Reply) → IsQuiet s ask by reply → ComesFrom s ask reply
 comes-quiet s ask by reply (refused_open session name tx rx extra fault can e) = λ b. omega arith
-comes-quiet s ask by reply (resets at side fault port e can) = λ b. omega arith
-comes-quiet s ask by reply (finds_no_peer at offered port e few none) = λ b. omega arith
-comes-quiet s ask by reply (finds_no_target at target sides port e can none) = λ b. omega arith
-comes-quiet s ask by reply (finds_watched at target sides port found watch e can there some) = λ b. omega arith
-comes-quiet s ask by reply (counts at port e) = λ b. omega arith
+comes-quiet s ask by reply _ = λ b. omega arith
 
 comes-given : (s : Standing) (at : PortId) (port : Port) → open_port s.world.ports at.0 ≡ Some port → Numbered s → Held s
     → (b : ℕ) → count_of b (buffers_of_arrivals (given_at s at.0)) ≤ count_of b s.holdings.free + sum_by (at_port b) s.holdings.ports

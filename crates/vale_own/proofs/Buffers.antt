@@ -153,11 +153,7 @@ Moves s ask session reply =
 
 moves-quiet : (s : Standing) (ask : Ask) (by : ℕ) (reply : Reply) → IsQuiet s ask by reply → Moves s ask by reply
 moves-quiet s ask by reply (refused_open session name tx rx extra fault can e) = still (own_of by s).buffers
-moves-quiet s ask by reply (resets at side fault port e can) = still (own_of by s).buffers
-moves-quiet s ask by reply (finds_no_peer at offered port e few none) = still (own_of by s).buffers
-moves-quiet s ask by reply (finds_no_target at target sides port e can none) = still (own_of by s).buffers
-moves-quiet s ask by reply (finds_watched at target sides port found watch e can there some) = still (own_of by s).buffers
-moves-quiet s ask by reply (counts at port e) = still (own_of by s).buffers
+moves-quiet s ask by reply _ = still (own_of by s).buffers
 
 -- what is found keeps the buffers
 kept-found : {X : Type 0} (f : X → Own) (own : Own) (found : Option X) → ((x : X) → (f x).buffers ≡ own.buffers) → (option_map_or f found own).buffers ≡ own.buffers

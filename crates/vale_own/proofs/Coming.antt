@@ -129,11 +129,7 @@ record IsPlain (session : ℕ) (ask : Ask) : Type 0 where
 
 plain-quiet : (session : ℕ) (s : Standing) (ask : Ask) (by : ℕ) (reply : Reply) → IsQuiet s ask by reply → IsPlain session ask
 plain-quiet session s ask by reply (refused_open at name tx rx extra fault can e) = record { comes = refl; stays = refl }
-plain-quiet session s ask by reply (resets at side fault port e can) = record { comes = refl; stays = refl }
-plain-quiet session s ask by reply (finds_no_peer at offered port e few none) = record { comes = refl; stays = refl }
-plain-quiet session s ask by reply (finds_no_target at target sides port e can none) = record { comes = refl; stays = refl }
-plain-quiet session s ask by reply (finds_watched at target sides port found watch e can there some) = record { comes = refl; stays = refl }
-plain-quiet session s ask by reply (counts at port e) = record { comes = refl; stays = refl }
+plain-quiet session s ask by reply _ = record { comes = refl; stays = refl }
 
 plain-receives : (session : ℕ) (ask : Ask) (at : PortId) (back : List ℕ) → Receives ask at back → IsPlain session ask
 plain-receives session ask at back (by_sync at' back') = record { comes = refl; stays = refl }

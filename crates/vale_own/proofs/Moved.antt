@@ -24,11 +24,7 @@ HoldsGiven s ask session reply = holds_all s.holdings session (given_up ask repl
 
 given-quiet : (s : Standing) (ask : Ask) (by : ℕ) (reply : Reply) → IsQuiet s ask by reply → HoldsGiven s ask by reply
 given-quiet s ask by reply (counts at port e) = refl
-given-quiet s ask by reply (refused_open session name tx rx extra fault can e) = refl
-given-quiet s ask by reply (resets at side fault port e can) = refl
-given-quiet s ask by reply (finds_no_peer at offered port e few none) = refl
-given-quiet s ask by reply (finds_no_target at target sides port e can none) = refl
-given-quiet s ask by reply (finds_watched at target sides port found watch e can there some) = refl
+given-quiet s ask by reply _ = refl
 
 given-receives : (s : Standing) (ask : Ask) (at : PortId) (back : List ℕ) (port : Port) → Receives ask at back → CanReceive s back port → HoldsGiven s ask port.session (sync_step s back port).reply
 given-receives s ask at back port (by_sync at' back') can = can.held

@@ -157,11 +157,7 @@ at-found f own made found x e is = rw e is
 
 quiet-makes : (s : Standing) (ask : Ask) (by : ℕ) (reply : Reply) → IsQuiet s ask by reply → Makes s ask (unchanged s by reply)
 quiet-makes s ask by reply (resets at side fault port e can) = refl
-quiet-makes s ask by reply (refused_open session name tx rx extra fault can e) = refl
-quiet-makes s ask by reply (finds_no_peer at offered port e few none) = refl
-quiet-makes s ask by reply (finds_no_target at target sides port e can none) = refl
-quiet-makes s ask by reply (finds_watched at target sides port found watch e can there some) = refl
-quiet-makes s ask by reply (counts at port e) = refl
+quiet-makes s ask by reply _ = refl
 
 receives-makes : (s : Standing) (ask : Ask) (at : PortId) (back : List ℕ) (port : Port) → Receives ask at back → open_port s.world.ports at.0 ≡ Some port → Numbered s → Held s
     → Makes s ask (sync_step s back port)

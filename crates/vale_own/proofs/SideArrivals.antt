@@ -84,11 +84,7 @@ module _ (pool : ℕ) (s : Standing) (shut : Option ℕ) (side : OwnState) (stan
 
   many-quiet : (ask : Ask) (by : ℕ) (reply : Reply) → IsQuiet s ask by reply → AsMany ask by reply
   many-quiet ask by reply (refused_open session name tx rx extra fault can e) of = refl
-  many-quiet ask by reply (resets at sd fault port e can) of = refl
-  many-quiet ask by reply (finds_no_peer at offered port e few none) of = refl
-  many-quiet ask by reply (finds_no_target at target sides port e can none) of = refl
-  many-quiet ask by reply (finds_watched at target sides port found watch e can there some) of = refl
-  many-quiet ask by reply (counts at port e) of = refl
+  many-quiet ask by reply _ of = refl
 
   many-receives : (ask : Ask) (at : PortId) (back : List ℕ) (port : Port) → Receives ask at back → open_port s.world.ports at.0 ≡ Some port → AsMany ask port.session (sync_step s back port).reply
   many-receives ask at back port (by_sync at' back') e of = λ p found. given-room pool s shut side at port p stands known of e found

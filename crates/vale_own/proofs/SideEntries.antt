@@ -7,7 +7,7 @@ use Rattle.nm_types.specs.declared.id.PortId.{PortId}
 use Rattle.nm_types.specs.declared.id.Side.TheVariants.{Tx, Rx}
 use Rattle.nm_types.specs.declared.fault.SyncFault.{SyncFault}
 use Rattle.nm_types.specs.OwnPorts.{bytes_at, pushed_in, refusal_in}
-use Rattle.vale_entry.specs.declared.entry.Ask.TheVariants.{Enter, Open, Send, Grant, Done, Sync, Reset, Shut, Finish, Leave, Put, PutKept, Get, Watch, Stat}
+use Rattle.vale_entry.specs.declared.entry.Ask.TheVariants.{Enter, Send, Sync, Put, PutKept, Get}
 use Rattle.vale_entry.specs.declared.entry.Ask.{Ask}
 use Rattle.vale_entry.specs.declared.entry.Item.{Item}
 use Rattle.vale_entry.specs.declared.entry.Reply.{Reply}
@@ -69,41 +69,16 @@ made-as (Some made) session reply e =
 
 -- its entry follows
 follows-as : (s : Standing) (ask : Ask) (session : ℕ) (reply : Reply) → option_map session_and_reply (step s ask) ≡ Some (session, reply) → Follows s (entry_by session ask reply)
-follows-as s (Enter user) session reply e = e
-follows-as s (Open by name tx rx extra) session reply e = e
-follows-as s (Send port frames) session reply e = e
-follows-as s (Grant origin to) session reply e = e
-follows-as s (Done lease) session reply e = e
-follows-as s (Sync port back) session reply e = e
-follows-as s (Reset port side fault) session reply e = e
-follows-as s (Shut port) session reply e = e
-follows-as s (Finish port bufs chain) session reply e = e
-follows-as s (Leave by) session reply e = e
 follows-as s (Put port offered) session reply e =
     let m = made-as (step s (Put port offered)) session reply e in
     let kept : recorded_step s (PutKept port (length offered)) reply ≡ Some m.made = ap (recorded_step s (PutKept port (length offered))) (sym m.reply_is) ∙ puts-kept s port offered m.made m.is in
     ap (option_map session_and_reply) kept ∙ (sym (ap (option_map session_and_reply) m.is) ∙ e)
 follows-as s (PutKept port offered) session reply e = absurd cc
-follows-as s (Get port back) session reply e = e
-follows-as s (Watch monitor target sides) session reply e = e
-follows-as s (Stat port) session reply e = e
+follows-as s _ session reply e = e
 
 no-enter : (session : ℕ) (own : Own) (ask : Ask) → may_ask session own ask ≡ true → is_enter ask ≡ false
 no-enter session own (Enter user) e = absurd cc
-no-enter session own (Open by name tx rx extra) e = refl
-no-enter session own (Send port frames) e = refl
-no-enter session own (Grant origin to) e = refl
-no-enter session own (Done lease) e = refl
-no-enter session own (Sync port back) e = refl
-no-enter session own (Reset port side fault) e = refl
-no-enter session own (Shut port) e = refl
-no-enter session own (Finish port bufs chain) e = refl
-no-enter session own (Leave by) e = refl
-no-enter session own (Put port offered) e = refl
-no-enter session own (PutKept port offered) e = refl
-no-enter session own (Get port back) e = refl
-no-enter session own (Watch monitor target sides) e = refl
-no-enter session own (Stat port) e = refl
+no-enter session own _ e = refl
 
 pub calls-own : CallsAreOwn
 calls-own pool past session by ask reply legal may e =

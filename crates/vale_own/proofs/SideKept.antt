@@ -207,14 +207,11 @@ module _ (pool : ℕ) (s : Standing) (shut : Option ℕ) (side : OwnState) (stan
 
   -- what changes nothing for others
   kept-quiet : (ask : Ask) (by : ℕ) (reply : Reply) → IsQuiet s ask by reply → Kept pool s shut side ask by reply
-  kept-quiet ask by reply (refused_open session name tx rx extra fault can e) k = k.of
   kept-quiet ask by reply (resets at sd fault port e can) k =
       kept-by pool port.session shut shut (own_of port.session s) (own_of port.session s) side (own_after_reset at.0 sd side) [] [] k.of refl
       (k.of.of.ports ∙ sym (reset-ports at.0 sd side port.session shut)) k.moved k.new (reset-moved at.0 sd side k.of.sound)
   kept-quiet ask by reply (finds_no_peer at offered port e few none) k = kept-put at offered [] port PeerGone [] e k refl refl refl refl refl refl
-  kept-quiet ask by reply (finds_no_target at target sides port e can none) k = k.of
-  kept-quiet ask by reply (finds_watched at target sides port found watch e can there some) k = k.of
-  kept-quiet ask by reply (counts at port e) k = k.of
+  kept-quiet ask by reply _ k = k.of
 
   -- an opening
   over-ids : (ports : List OwnPort) → Each (λ (q : OwnPort). q.id.0 < s.world.entry_count + 1) ports → Each (λ (n : ℕ). n < s.world.entry_count + 1) (map id_of ports)
