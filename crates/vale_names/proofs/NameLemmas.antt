@@ -374,4 +374,4 @@ are_names s p m are = record {
       omega arith;
 }
 
-pub ruleset names = (group_told, group_finds)
+pub ruleset names = (group_told, group_finds, all_shut, all_without)

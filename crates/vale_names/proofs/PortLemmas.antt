@@ -158,10 +158,7 @@ vale_is_switch_port name kind = ap is_switch_port_kind kind
 -- no kind is one of two
 one_kind : (kind : Option Kind) → ((is_switch_port_kind kind && is_pipe_kind kind) ≡ false) × ((is_switch_port_kind kind && is_monitor_kind kind) ≡ false) × ((is_pipe_kind kind && is_monitor_kind kind) ≡ false)
 one_kind (Some Vale) = (refl, refl, refl)
-one_kind (Some Master) = (refl, refl, refl)
-one_kind (Some Slave) = (refl, refl, refl)
-one_kind (Some Monitor) = (refl, refl, refl)
-one_kind None = (refl, refl, refl)
+one_kind _ = (refl, refl, refl)
 
 no_second : (a b : Bool) → (a && b) ≡ false → a ≡ true → b ≡ false
 no_second true b none is = none

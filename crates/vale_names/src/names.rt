@@ -1,3 +1,5 @@
+#![tactic(auto, using(crate::proofs::NameLemmas::names))]
+
 ghost use Rattle.std.specs.Prelude.{◌≡◌, [], None, Some, IfOk, OnOk, OnErr, MatchResult};
 ghost use Rattle.nm_types.specs.Openings.{are_sizes, is_ring_size, open_refusal};
 ghost use Rattle.vale_names.specs.Ports.{names_of, open_port_of, fresh_port, Joins};
@@ -77,7 +79,6 @@ impl Names {
     /// has no port and 4 switches have one; `PortsFull` if its switch has 16 ports or, for a name
     /// of that kind, there are 32 pipe ends or 32 monitors; `NameTaken` if an open or shutting port
     /// has this name. No other fault is answered.
-    #[tactic(auto, using(crate::proofs::NameLemmas::names))]
     pub fn open(
         &mut self,
         name: &Name,
@@ -104,7 +105,6 @@ impl Names {
     }
 
     /// Finds the open port of this name.
-    #[tactic(auto, using(crate::proofs::NameLemmas::names))]
     pub fn find(&self, name: &Name) -> Option<PortId>
         ensures port { result ≡ open_port_of self.now name.now }
         ensures names { IsNames self.now }
@@ -118,7 +118,6 @@ impl Names {
 
     /// Marks the port as shutting: its name stays taken, and finds nothing. Does nothing if no port
     /// has this id.
-    #[tactic(auto, using(crate::proofs::NameLemmas::names))]
     pub fn shut(&mut self, id: PortId)
         ensures { self.new ≡ shut_in id.0 self.old }
     {
@@ -128,7 +127,6 @@ impl Names {
     }
 
     /// Removes the port and frees its name. Does nothing if no port has this id.
-    #[tactic(auto, using(crate::proofs::NameLemmas::names))]
     pub fn gone(&mut self, id: PortId)
         ensures { self.new ≡ ports_without id.0 self.old }
     {

@@ -65,6 +65,20 @@ impl Switch {
         }
         opened
     }
+
+    /// Marks the port of this id as shutting, if it is here.
+    fn shut(&mut self, id: PortId)
+        ensures { self.new ≡ shut_place id.0 self.old }
+    {
+        self.group.shut(id);
+    }
+
+    /// Removes the port of this id, if it is here.
+    fn gone(&mut self, id: PortId)
+        ensures { self.new ≡ place_without id.0 self.old }
+    {
+        self.group.gone(id);
+    }
 }
 
 /// The place of the name's switch.
@@ -127,27 +141,13 @@ pub(crate) fn find_on_switch(places: &[Switch], name: &Name) -> Option<PortId>
     }
 }
 
-/// Marks the port of this id as shutting, if it is here.
-fn shut_place(place: &mut Switch, id: PortId)
-    ensures { place.new ≡ shut_place id.0 place.old }
-{
-    place.group.shut(id);
-}
-
 /// Marks the port of this id as shutting, if it is on a switch.
 pub(crate) fn shut_on_switches(places: &mut [Switch], id: PortId)
     ensures { places.new ≡ map (shut_place id.0) places.old }
 {
     for place in places.iter_mut() {
-        shut_place(place, id);
+        place.shut(id);
     }
-}
-
-/// Removes the port of this id, if it is here.
-fn leave_place(place: &mut Switch, id: PortId)
-    ensures { place.new ≡ place_without id.0 place.old }
-{
-    place.group.gone(id);
 }
 
 /// Removes the port of this id, if it is on a switch.
@@ -155,6 +155,6 @@ pub(crate) fn leave_switches(places: &mut [Switch], id: PortId)
     ensures { places.new ≡ map (place_without id.0) places.old }
 {
     for place in places.iter_mut() {
-        leave_place(place, id);
+        place.gone(id);
     }
 }

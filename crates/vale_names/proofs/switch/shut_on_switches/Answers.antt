@@ -5,7 +5,5 @@ use Rattle.vale_names.proofs.switch.shut_on_switches.Goals as goal
 
 pub loop-place-preserved : goal.loop-place-preserved
 loop-place-preserved c =
-    let place = c.place-item.result in
-    let is = c.place-item.is in
-    let changed : c.shut_place.new.place ≡ shut_place c.args.id.0 place = rw (← is) at c.shut_place.ensures in
-    rw changed (map_over_more (shut_place c.args.id.0) c.args.places.now c.loop-place.places c.loop-place.place-index place (omega arith) c.loop-place.invariant is)
+    let changed : c.shut.new.self ≡ shut_place c.args.id.0 c.place-item.result = rw (← c.place-item.is) at c.shut.ensures in
+    rw changed (map_over_more (shut_place c.args.id.0) c.args.places.now c.loop-place.places c.loop-place.place-index c.place-item.result (omega arith) c.loop-place.invariant c.place-item.is)

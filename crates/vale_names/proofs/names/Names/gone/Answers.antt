@@ -1,12 +1,5 @@
-use Rattle.vale_names.proofs.NameLemmas.{named_without, all_without}
+use Rattle.vale_names.proofs.NameLemmas.{named_without}
 use Rattle.vale_names.proofs.names.Names.gone.Goals as goal
 
 pub invariant_of-self : goal.invariant_of-self
-invariant_of-self c =
-    rw (c.leave_switches.ensures, c.gone.ensures, c.gone-2.ensures)
-    (named_without c.args.id.0 c.self.inside.switches c.self.inside.pipes c.self.inside.monitors c.self.invariant)
-
-pub returns : goal.returns
-returns c =
-    rw (← c.self.view_is) (rw (c.leave_switches.ensures, c.gone.ensures, c.gone-2.ensures)
-    (all_without c.args.id.0 c.self.inside.switches c.self.inside.pipes c.self.inside.monitors))
+invariant_of-self c = rw (c.leave_switches.ensures, c.gone.ensures, c.gone-2.ensures) (named_without c.args.id.0 _ _ _ c.self.invariant)

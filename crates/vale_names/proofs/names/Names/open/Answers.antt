@@ -2,7 +2,7 @@ use Rattle.std.proofs.Common.{◌≡◌, ◌∙◌, sym, ap, List, Option, Some,
 use Rattle.std.proofs.lemmas.Result.{on_ok_weaker}
 use Rattle.nm_types.specs.Names.{is_switch_port_name, is_pipe_name, is_monitor_name}
 use Rattle.nm_types.specs.declared.fault.OpenFault.{OpenFault}
-use Rattle.vale_names.specs.Ports.{names_of, fresh_port}
+use Rattle.vale_names.specs.Ports.{names_of}
 use Rattle.nm_types.specs.Openings.{open_refusal}
 use Rattle.vale_names.specs.declared.switch.Switch.{Switch}
 use Rattle.vale_names.specs.Groups.{PortGroup}
@@ -83,41 +83,22 @@ returns-in-Monitor-clause-names c =
 pub returns-in-Vale-clause-refusal : goal.returns-in-Vale-clause-refusal
 returns-in-Vale-clause-refusal c =
     let at = goal.at.returns-in-Vale-clause-refusal c in
-    let s = c.self.inside.switches in
-    let p = c.self.inside.pipes in
-    let m = c.self.inside.monitors in
-    told at.After-kind s p m c.open_on_switch.result _ c.self.view_is (names_refuse_switch s p m c.args.name.now c.self.invariant (switch_name at.In-Vale)) c.open_on_switch.ensures.refusal
+    told at.After-kind c.self.inside.switches c.self.inside.pipes c.self.inside.monitors c.open_on_switch.result _ c.self.view_is (names_refuse_switch _ _ _ c.args.name.now c.self.invariant (switch_name at.In-Vale)) c.open_on_switch.ensures.refusal
 
 pub returns-in-Master-clause-refusal : goal.returns-in-Master-clause-refusal
 returns-in-Master-clause-refusal c =
     let at = goal.at.returns-in-Master-clause-refusal c in
-    let s = c.self.inside.switches in
-    let p = c.self.inside.pipes in
-    let m = c.self.inside.monitors in
-    told at.After-kind s p m c.open.result _ c.self.view_is (names_refuse_pipe s p m c.args.name.now c.self.invariant (pipe_name at.In-Master)) c.open.ensures.refusal
+    told at.After-kind c.self.inside.switches c.self.inside.pipes c.self.inside.monitors c.open.result _ c.self.view_is (names_refuse_pipe _ _ _ c.args.name.now c.self.invariant (pipe_name at.In-Master)) c.open.ensures.refusal
 
 pub returns-in-Monitor-clause-refusal : goal.returns-in-Monitor-clause-refusal
 returns-in-Monitor-clause-refusal c =
     let at = goal.at.returns-in-Monitor-clause-refusal c in
-    let s = c.self.inside.switches in
-    let p = c.self.inside.pipes in
-    let m = c.self.inside.monitors in
-    told at.After-kind s p m c.open-in-Monitor.result _ c.self.view_is (names_refuse_monitor s p m c.args.name.now c.self.invariant (monitor_name at.In-Monitor)) c.open-in-Monitor.ensures.refusal
+    told at.After-kind c.self.inside.switches c.self.inside.pipes c.self.inside.monitors c.open-in-Monitor.result _ c.self.view_is (names_refuse_monitor _ _ _ c.args.name.now c.self.invariant (monitor_name at.In-Monitor)) c.open-in-Monitor.ensures.refusal
 
 pub returns-in-Master-clause-opened : goal.returns-in-Master-clause-opened
 returns-in-Master-clause-opened c =
-    let s = c.self.inside.switches in
-    let p = c.self.inside.pipes in
-    let m = c.self.inside.monitors in
-    let port = fresh_port c.args.name.now c.args.id in
-    rw (← c.self.view_is) (on_ok_weaker c.open.result
-    (λ joins. joins_behind (ports_on s) _ port _ (joins_before p.ports port c.open.new.self.ports m.ports joins)) c.open.ensures.joined)
+    rw (← c.self.view_is) (on_ok_weaker c.open.result (λ joins. joins_behind (ports_on c.self.inside.switches) _ _ _ (joins_before c.self.inside.pipes.ports _ c.open.new.self.ports c.self.inside.monitors.ports joins)) c.open.ensures.joined)
 
 pub returns-in-Monitor-clause-opened : goal.returns-in-Monitor-clause-opened
 returns-in-Monitor-clause-opened c =
-    let s = c.self.inside.switches in
-    let p = c.self.inside.pipes in
-    let m = c.self.inside.monitors in
-    let port = fresh_port c.args.name.now c.args.id in
-    rw (← c.self.view_is) (on_ok_weaker c.open-in-Monitor.result
-    (λ joins. joins_behind (ports_on s) _ port _ (joins_behind p.ports m.ports port c.open-in-Monitor.new.self.ports joins)) c.open-in-Monitor.ensures.joined)
+    rw (← c.self.view_is) (on_ok_weaker c.open-in-Monitor.result (λ joins. joins_behind (ports_on c.self.inside.switches) _ _ _ (joins_behind c.self.inside.pipes.ports c.self.inside.monitors.ports _ c.open-in-Monitor.new.self.ports joins)) c.open-in-Monitor.ensures.joined)
