@@ -1,8 +1,8 @@
 -- What six pairs of hexadecimal digits are, read one after another.
-use Rattle.std.proofs.Common.{◌≡◌, ℕ, ◌+◌, ◌*◌, ◌==◌, Bool, true, false, ◌&&◌, cond, List, [], ◌∷◌, length, slice_index, Option, Some, None, refl, ap, sym, ◌∙◌}
+use Rattle.std.proofs.Common.{◌≡◌, ℕ, ◌+◌, ◌*◌, ◌==◌, Bool, true, false, ◌&&◌, cond, List, [], ◌∷◌, length, slice_index, Option, Some, None, refl, ◌∙◌}
 use Rattle.nm_types.specs.declared.id.Mac.{Mac}
 use Rattle.vale_words.specs.Words.{is_hex, hex_value, is_pair_at, byte_at, are_pairs, are_joined, is_mac, mac_value, mac_of}
-use Rattle.vale_words.specs.Pairs.{◌>>=◌, digit_read, pair_read, pairs_read}
+use Rattle.vale_words.specs.Pairs.{◌>>=◌, pair_read, pairs_read}
 
 two : (p q : Bool) (m n : ℕ) → (cond p (Some m) None >>= (λ (high : ℕ). cond q (Some n) None >>= (λ (low : ℕ). Some (high * 16 + low)))) ≡ cond (p && q) (Some (m * 16 + n)) None
 two true true m n = refl

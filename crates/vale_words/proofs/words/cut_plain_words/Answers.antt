@@ -1,4 +1,4 @@
-use Rattle.std.proofs.Common.{◌≡◌, ℕ, ◌+◌, Bool, true, not, List, [], ◌∷◌, ◌++◌, take, drop, get_or, map, filter, Some, sym, ◌∙◌, rules}
+use Rattle.std.proofs.Common.{◌≡◌, ℕ, ◌+◌, true, not, List, [], ◌∷◌, ◌++◌, take, drop, get_or, map, filter, Some, ◌∙◌, rules}
 use Rattle.std.specs.List.{position}
 use Rattle.vale_words.specs.Words.{is_blank, has_bytes, words_of, is_graphic, are_line_bytes}
 use Rattle.vale_words.proofs.Plain.{line_goes_on, one_more}
