@@ -239,6 +239,12 @@ ArePrintable number (entry ∷ entries) = IsPrintable number entry × ArePrintab
 abbrev pub AsksAreAnswered : Type 0
 AsksAreAnswered = (s : Standing) (ask : Ask) → is_enabled s ask ≡ is_some (reply_to s ask)
 
+-- what holds wherever a legal history leads
+abbrev pub WhereverLegal : (ℕ → Standing → Type 0) → Type 0
+WhereverLegal Holds =
+    (pool : ℕ) (history : List Entry) → IsLegal pool history
+    → Holds pool (standing_of pool history)
+
 -- what a Put makes is what its entry records
 abbrev pub PutsAreKept : Type 0
 PutsAreKept =
@@ -253,14 +259,10 @@ NumbersRise =
     (world_of pool history).offers
 
 abbrev pub PortsAreWithinSizes : Type 0
-PortsAreWithinSizes =
-    (pool : ℕ) (history : List Entry) → IsLegal pool history
-    → IsWithinSizes pool (world_of pool history)
+PortsAreWithinSizes = WhereverLegal (λ (pool : ℕ) (s : Standing). IsWithinSizes pool s.world)
 
 abbrev pub FreeBuffersRise : Type 0
-FreeBuffersRise =
-    (pool : ℕ) (history : List Entry) → IsLegal pool history
-    → AreSmallestFirst pool (world_of pool history) (holdings_of pool history)
+FreeBuffersRise = WhereverLegal (λ (pool : ℕ) (s : Standing). AreSmallestFirst pool s.world s.holdings)
 
 -- what was taken from the front of the free buffers and is given back leaves them as they were
 abbrev pub FreeBuffersReturn : Type 0
@@ -269,19 +271,13 @@ FreeBuffersReturn =
     → all_with_free (take n free) (drop n free) ≡ free
 
 abbrev pub BuffersAreParted : Type 0
-BuffersAreParted =
-    (pool : ℕ) (history : List Entry) → IsLegal pool history
-    → IsParted pool (holdings_of pool history)
+BuffersAreParted = WhereverLegal (λ (pool : ℕ) (s : Standing). IsParted pool s.holdings)
 
 abbrev pub HoldingsAgree : Type 0
-HoldingsAgree =
-    (pool : ℕ) (history : List Entry) → IsLegal pool history
-    → Agrees (world_of pool history) (holdings_of pool history)
+HoldingsAgree = WhereverLegal (λ (pool : ℕ) (s : Standing). Agrees s.world s.holdings)
 
 abbrev pub SessionsHaveOneUnsettled : Type 0
-SessionsHaveOneUnsettled =
-    (pool : ℕ) (history : List Entry) → IsLegal pool history
-    → OffersAreOfOneEntry (world_of pool history).offers
+SessionsHaveOneUnsettled = WhereverLegal (λ (pool : ℕ) (s : Standing). OffersAreOfOneEntry s.world.offers)
 
 abbrev pub FinishWaitsForLeases : Type 0
 FinishWaitsForLeases =
@@ -290,27 +286,20 @@ FinishWaitsForLeases =
     → IsWaiting (shutting_port s.world.ports port.0) n
 
 abbrev pub NamesDiffer : Type 0
-NamesDiffer =
-    (pool : ℕ) (history : List Entry) → IsLegal pool history
-    → AreNamedApart (world_of pool history).ports
+NamesDiffer = WhereverLegal (λ (pool : ℕ) (s : Standing). AreNamedApart s.world.ports)
 
 abbrev pub OffersClimb : Type 0
-OffersClimb =
-    (pool : ℕ) (history : List Entry) → IsLegal pool history
-    → Climb 0 (world_of pool history).offers
+OffersClimb = WhereverLegal (λ (pool : ℕ) (s : Standing). Climb 0 s.world.offers)
 
 abbrev pub CountersAreKept : Type 0
-CountersAreKept =
-    (pool : ℕ) (history : List Entry) → IsLegal pool history → AreCountedAt (world_of pool history)
+CountersAreKept = WhereverLegal (λ (pool : ℕ) (s : Standing). AreCountedAt s.world)
 
 abbrev pub PairsAreOfSwitch : Type 0
 PairsAreOfSwitch =
     (pool : ℕ) (history : List Entry) → ArePairsOf (world_of pool history)
 
 abbrev pub WatchesAreOpen : Type 0
-WatchesAreOpen =
-    (pool : ℕ) (history : List Entry) → IsLegal pool history
-    → AreWatches (world_of pool history).ports (world_of pool history).watches
+WatchesAreOpen = WhereverLegal (λ (pool : ℕ) (s : Standing). AreWatches s.world.ports s.world.watches)
 
 abbrev pub LotsAreOfEntries : Type 0
 LotsAreOfEntries =
@@ -319,9 +308,7 @@ LotsAreOfEntries =
     (world_of pool history).ports
 
 abbrev pub LotsAreSingle : Type 0
-LotsAreSingle =
-    (pool : ℕ) (history : List Entry) → IsLegal pool history
-    → AreSingle (world_of pool history).ports
+LotsAreSingle = WhereverLegal (λ (pool : ℕ) (s : Standing). AreSingle s.world.ports)
 
 -- an entry's own place and those that it leaves promised are those promised before and those that
 -- its step wants
