@@ -17,8 +17,8 @@ use Rattle.vale_entry.proofs.Each.{each-weaker, each-both, each-all, each-drop, 
 use Rattle.vale_own.specs.Side.{buffers_on, port_of_side, IsPending, IsTxRing, IsSoundPort, IsSound}
 use Rattle.vale_own.proofs.Trading.{ring_renamed, port_renamed}
 use Rattle.vale_own.proofs.SidePlaces.{each-slot, in-port, in-ports}
-use Rattle.vale_own.proofs.SideExchange.{traded, fits, exchanged-ports, exchanged-counts}
-use Rattle.vale_own.proofs.SideSound.{exchanged-sound, find-renamed}
+use Rattle.vale_own.proofs.SideExchange.{traded, fits, exchanged-counts}
+use Rattle.vale_own.proofs.SideSound.{Exchanged, exchanged}
 use Rattle.vale_own.proofs.SideOffers.{exchanged-is, offered-pending, ring-is, first, total, total-few, first-in, offered-are, accepted-ring, left-pending, pushed-length, slot-seen}
 use Rattle.vale_own.proofs.SideMoves.{changed-each, changed-ids, changed-counts, changed-same, Moved}
 use Rattle.vale_own.proofs.SideReceives.{arrivals-length}
@@ -141,14 +141,8 @@ module _ (id : ℕ) (s : OwnState) (p : OwnPort) (r : OwnRing) (sound : IsSound 
   abbrev ats : List ℕ
   ats = take (length bufs) (offered_slots r)
 
-  now-sound : IsSound (after_exchange Tx id s)
-  now-sound = exchanged-sound Tx id s p r sound once found has passes
-
-  now-ports : (after_exchange Tx id s).ports ≡ map (port_renamed to) s.ports
-  now-ports = exchanged-ports Tx id s p r sound once found has passes
-
-  now-found : find (λ (q : OwnPort). q.id.0 == id) (after_exchange Tx id s).ports ≡ Some (port_renamed to p)
-  now-found = rw now-ports (find-renamed to id s.ports p found)
+  traded-side : Exchanged Tx id s p to
+  traded-side = exchanged Tx id s p r sound once found has passes
 
   now-has : (port_renamed to p).tx ≡ Some now
   now-has = ap (option_map (ring_renamed to)) has
@@ -207,7 +201,7 @@ module _ (id : ℕ) (s : OwnState) (p : OwnPort) (r : OwnRing) (sound : IsSound 
   -- the buffers of the first slots offered go
   pub gone-on : taken_on id (after_exchange Tx id s).ports (length came) ≡ map (λ (at : ℕ). get_or now.held at 0) ats
   gone-on =
-      taken-on-is id (length came) (after_exchange Tx id s).ports (port_renamed to p) now now-found now-has
+      taken-on-is id (length came) (after_exchange Tx id s).ports (port_renamed to p) now traded-side.found now-has
       ∙ ap (λ (n : ℕ). map (λ (at : ℕ). get_or now.held at 0) (take n (offered_slots r))) (sym (arrivals-length came))
 
   pub gone-are : map (λ (at : ℕ). get_or now.held at 0) ats ≡ indices_of (take (length came) (offered_items s r))
@@ -244,24 +238,24 @@ module _ (id : ℕ) (s : OwnState) (p : OwnPort) (r : OwnRing) (sound : IsSound 
   pub put-moved : Moved s (own_after_put id came s) (indices_of (take (length came) (offered_items s r))) came
   put-moved = record {
     pool_is = refl;
-    each = changed-each id (with_ring_on Tx (ring_after_put bufs)) (after_exchange Tx id s).ports (port_renamed to p) now-sound.apart now-found now-sound.each
-        (record { tx = rw now-has put-ring; rx = (each-find IsSoundPort (λ (x : OwnPort). x.id.0 == id) (after_exchange Tx id s).ports (port_renamed to p) now-sound.each now-found).rx });
-    apart = rw (changed-ids id (with_ring_on Tx (ring_after_put bufs)) (ring-keeps-id Tx (ring_after_put bufs)) (after_exchange Tx id s).ports) now-sound.apart;
+    each = changed-each id (with_ring_on Tx (ring_after_put bufs)) (after_exchange Tx id s).ports (port_renamed to p) traded-side.sound.apart traded-side.found traded-side.sound.each
+        (record { tx = rw now-has put-ring; rx = (each-find IsSoundPort (λ (x : OwnPort). x.id.0 == id) (after_exchange Tx id s).ports (port_renamed to p) traded-side.sound.each traded-side.found).rx });
+    apart = rw (changed-ids id (with_ring_on Tx (ring_after_put bufs)) (ring-keeps-id Tx (ring_after_put bufs)) (after_exchange Tx id s).ports) traded-side.sound.apart;
     bytes = ap (λ (gone : List ℕ). bytes_after gone came s.bytes) gone-list;
     less = λ b.
         let some = count-placed b ats now.held (distinct-taken (length bufs) (offered_slots r) offered-apart) (each-front (λ (at : ℕ). at < length now.held) (length bufs) (offered_slots r) offered-inside) in
         let gone = ap (count_of b) gone-are in
         let port = in-port Tx (port_renamed to p) now b now-has in
-        let all = in-ports id (after_exchange Tx id s).ports (port_renamed to p) b now-found in
+        let all = in-ports id (after_exchange Tx id s).ports (port_renamed to p) b traded-side.found in
         let same = now-counts b in
         omega (arith, some, gone, port, all, same);
     moved = λ b.
         let same = now-counts b in
-        let all = changed-counts id (with_ring_on Tx (ring_after_put bufs)) b (count_of b (indices_of (take (length came) (offered_items s r)))) (count_of b bufs) (after_exchange Tx id s).ports (port_renamed to p) now-sound.apart now-found (port-counts b) in
+        let all = changed-counts id (with_ring_on Tx (ring_after_put bufs)) b (count_of b (indices_of (take (length came) (offered_items s r)))) (count_of b bufs) (after_exchange Tx id s).ports (port_renamed to p) traded-side.sound.apart traded-side.found (port-counts b) in
         omega (arith, same, all);
   }
 
   pub put-ports : (session : ℕ) (shut : Option ℕ) → map (port_of_side session shut) (own_after_put id came s).ports ≡ map (port_of_side session shut) s.ports
   put-ports session shut =
       changed-same id (with_ring_on Tx (ring_after_put bufs)) (port_of_side session shut) (tx-seen session shut (ring_after_put bufs) (λ t. refl)) (after_exchange Tx id s).ports
-      ∙ (ap (map (port_of_side session shut)) now-ports ∙ renamed-seen session shut to s.ports)
+      ∙ (ap (map (port_of_side session shut)) traded-side.ports ∙ renamed-seen session shut to s.ports)

@@ -16,8 +16,8 @@ use Rattle.vale_own.specs.OwnEntries.{received_port}
 use Rattle.vale_own.specs.Side.{buffers_on, port_of_side, IsRxRing, IsSoundPort, IsSound}
 use Rattle.vale_own.proofs.Trading.{ring_renamed, port_renamed}
 use Rattle.vale_own.proofs.SidePlaces.{in-port, in-ports}
-use Rattle.vale_own.proofs.SideExchange.{traded, fits, sound-port, holds-names, exchanged-ports, exchanged-counts}
-use Rattle.vale_own.proofs.SideSound.{exchanged-sound, find-renamed}
+use Rattle.vale_own.proofs.SideExchange.{traded, fits, sound-port, holds-names, exchanged-counts}
+use Rattle.vale_own.proofs.SideSound.{Exchanged, exchanged}
 use Rattle.vale_own.proofs.SideOffers.{accepted-ring}
 use Rattle.vale_own.proofs.SideMoves.{changed-each, changed-ids, changed-counts, changed-seen, Moved}
 use Rattle.vale_own.proofs.SideSends.{renamed-seen, ring-keeps-id}
@@ -67,14 +67,8 @@ module _ (id : ℕ) (s : OwnState) (p : OwnPort) (sound : IsSound s) (once : (b 
       let held = port-is.rx.held in
       omega (arith, count, reach, held)
 
-  now-sound : IsSound (after_exchange Rx id s)
-  now-sound = exchanged-sound Rx id s p p.rx sound once found refl passes
-
-  now-ports : (after_exchange Rx id s).ports ≡ map (port_renamed to) s.ports
-  now-ports = exchanged-ports Rx id s p p.rx sound once found refl passes
-
-  now-found : find (λ (q : OwnPort). q.id.0 == id) (after_exchange Rx id s).ports ≡ Some (port_renamed to p)
-  now-found = rw now-ports (find-renamed to id s.ports p found)
+  traded-side : Exchanged Rx id s p to
+  traded-side = exchanged Rx id s p p.rx sound once found refl passes
 
   received-ring : IsRxRing (ring_after_receive came (ring_renamed to p.rx))
   received-ring =
@@ -132,27 +126,27 @@ module _ (id : ℕ) (s : OwnState) (p : OwnPort) (sound : IsSound s) (once : (b 
   pub received-moved : Moved s (own_after_receive id came s) (back_in p) came
   received-moved = record {
     pool_is = refl;
-    each = changed-each id (with_ring_on Rx (ring_after_receive came)) (after_exchange Rx id s).ports (port_renamed to p) now-sound.apart now-found now-sound.each
-        (record { tx = (each-find IsSoundPort (λ (x : OwnPort). x.id.0 == id) (after_exchange Rx id s).ports (port_renamed to p) now-sound.each now-found).tx; rx = received-ring });
-    apart = rw (changed-ids id (with_ring_on Rx (ring_after_receive came)) (ring-keeps-id Rx (ring_after_receive came)) (after_exchange Rx id s).ports) now-sound.apart;
+    each = changed-each id (with_ring_on Rx (ring_after_receive came)) (after_exchange Rx id s).ports (port_renamed to p) traded-side.sound.apart traded-side.found traded-side.sound.each
+        (record { tx = (each-find IsSoundPort (λ (x : OwnPort). x.id.0 == id) (after_exchange Rx id s).ports (port_renamed to p) traded-side.sound.each traded-side.found).tx; rx = received-ring });
+    apart = rw (changed-ids id (with_ring_on Rx (ring_after_receive came)) (ring-keeps-id Rx (ring_after_receive came)) (after_exchange Rx id s).ports) traded-side.sound.apart;
     bytes = ap (λ (gone : List ℕ). bytes_after gone came s.bytes) back-names;
     less = λ b.
         let cut = count-taken b back (map to p.rx.held) in
         let gone = ap (count_of b) gone-are in
         let port = in-port Rx (port_renamed to p) (ring_renamed to p.rx) b refl in
-        let all = in-ports id (after_exchange Rx id s).ports (port_renamed to p) b now-found in
+        let all = in-ports id (after_exchange Rx id s).ports (port_renamed to p) b traded-side.found in
         let same = now-counts b in
         omega (arith, cut, gone, port, all, same);
     moved = λ b.
         let same = now-counts b in
-        let all = changed-counts id (with_ring_on Rx (ring_after_receive came)) b (count_of b (back_in p)) (count_of b (buffers_of_arrivals came)) (after_exchange Rx id s).ports (port_renamed to p) now-sound.apart now-found (port-counts b) in
+        let all = changed-counts id (with_ring_on Rx (ring_after_receive came)) b (count_of b (back_in p)) (count_of b (buffers_of_arrivals came)) (after_exchange Rx id s).ports (port_renamed to p) traded-side.sound.apart traded-side.found (port-counts b) in
         omega (arith, same, all);
   }
 
   pub received-ports : (session : ℕ) (shut : Option ℕ) → map (port_of_side session shut) (own_after_receive id came s).ports ≡ changed_at id (received_port (length came) (length (back_in p))) (map (port_of_side session shut) s.ports)
   received-ports session shut =
-      changed-seen id (with_ring_on Rx (ring_after_receive came)) (port_of_side session shut) (received_port (length came) (length (back_in p))) (λ q. refl) (after_exchange Rx id s).ports (port_renamed to p) now-sound.apart now-found seen
-      ∙ ap (changed_at id (received_port (length came) (length (back_in p)))) (ap (map (port_of_side session shut)) now-ports ∙ renamed-seen session shut to s.ports)
+      changed-seen id (with_ring_on Rx (ring_after_receive came)) (port_of_side session shut) (received_port (length came) (length (back_in p))) (λ q. refl) (after_exchange Rx id s).ports (port_renamed to p) traded-side.sound.apart traded-side.found seen
+      ∙ ap (changed_at id (received_port (length came) (length (back_in p)))) (ap (map (port_of_side session shut)) traded-side.ports ∙ renamed-seen session shut to s.ports)
     where
       names-length : length (back_in p) ≡ back
       names-length = length-map (pushed_in Rx p.rx) (λ x. x.slot.buf_idx) ∙ length-map (pushed_slots ring ring.head) _

@@ -13,8 +13,8 @@ use Rattle.vale_entry.proofs.Counting.{count_of}
 use Rattle.vale_entry.proofs.Each.{each-weaker, each-drop, each-find}
 use Rattle.vale_own.specs.Side.{buffers_on, size_if, port_of_side, IsPending, IsTxRing, IsSoundPort, IsSound}
 use Rattle.vale_own.proofs.Trading.{ring_renamed, port_renamed}
-use Rattle.vale_own.proofs.SideExchange.{traded, fits, exchanged-ports, exchanged-counts}
-use Rattle.vale_own.proofs.SideSound.{exchanged-sound, find-renamed}
+use Rattle.vale_own.proofs.SideExchange.{traded, fits, exchanged-counts}
+use Rattle.vale_own.proofs.SideSound.{Exchanged, exchanged}
 use Rattle.vale_own.proofs.SideOffers.{exchanged-is, offered-pending, accepted-ring, left-pending, pushed-length, slot-seen}
 use Rattle.vale_own.proofs.SideMoves.{changed-each, changed-ids, changed-counts, changed-same, Moved}
 
@@ -46,14 +46,8 @@ module _ (id : ℕ) (s : OwnState) (p : OwnPort) (r : OwnRing) (sound : IsSound 
   abbrev to : ℕ → ℕ
   to = traded Tx id s p r sound once found has passes
 
-  now-sound : IsSound (after_exchange Tx id s)
-  now-sound = exchanged-sound Tx id s p r sound once found has passes
-
-  now-ports : (after_exchange Tx id s).ports ≡ map (port_renamed to) s.ports
-  now-ports = exchanged-ports Tx id s p r sound once found has passes
-
-  now-found : find (λ (q : OwnPort). q.id.0 == id) (after_exchange Tx id s).ports ≡ Some (port_renamed to p)
-  now-found = rw now-ports (find-renamed to id s.ports p found)
+  traded-side : Exchanged Tx id s p to
+  traded-side = exchanged Tx id s p r sound once found has passes
 
   now-has : (port_renamed to p).tx ≡ Some (ring_renamed to r)
   now-has = ap (option_map (ring_renamed to)) has
@@ -82,22 +76,22 @@ module _ (id : ℕ) (s : OwnState) (p : OwnPort) (r : OwnRing) (sound : IsSound 
   pub sent-moved : Moved s (own_after_send id s) [] []
   sent-moved = record {
     pool_is = refl;
-    each = changed-each id (with_ring_on Tx ring_after_send) (after_exchange Tx id s).ports (port_renamed to p) now-sound.apart now-found now-sound.each
-        (record { tx = rw now-has sent-ring; rx = (sound-of (port_renamed to p) now-found).rx });
-    apart = rw (changed-ids id (with_ring_on Tx ring_after_send) (ring-keeps-id Tx ring_after_send) (after_exchange Tx id s).ports) now-sound.apart;
+    each = changed-each id (with_ring_on Tx ring_after_send) (after_exchange Tx id s).ports (port_renamed to p) traded-side.sound.apart traded-side.found traded-side.sound.each
+        (record { tx = rw now-has sent-ring; rx = (sound-of (port_renamed to p) traded-side.found).rx });
+    apart = rw (changed-ids id (with_ring_on Tx ring_after_send) (ring-keeps-id Tx ring_after_send) (after_exchange Tx id s).ports) traded-side.sound.apart;
     bytes = refl;
     less = λ b. omega arith;
     moved = λ b.
         let same = exchanged-counts Tx id s p r sound once found has passes b in
         let held : count_of b (buffers_in (with_ring_on Tx ring_after_send (port_renamed to p))) ≡ count_of b (buffers_in (port_renamed to p)) = rw now-has refl in
-        let all = changed-counts id (with_ring_on Tx ring_after_send) b 0 0 (after_exchange Tx id s).ports (port_renamed to p) now-sound.apart now-found (omega (arith, held)) in
+        let all = changed-counts id (with_ring_on Tx ring_after_send) b 0 0 (after_exchange Tx id s).ports (port_renamed to p) traded-side.sound.apart traded-side.found (omega (arith, held)) in
         omega (arith, same, all);
   }
     where
       sound-of : (q : OwnPort) → find (λ (x : OwnPort). x.id.0 == id) (after_exchange Tx id s).ports ≡ Some q → IsSoundPort q
-      sound-of q e = each-find IsSoundPort (λ (x : OwnPort). x.id.0 == id) (after_exchange Tx id s).ports q now-sound.each e
+      sound-of q e = each-find IsSoundPort (λ (x : OwnPort). x.id.0 == id) (after_exchange Tx id s).ports q traded-side.sound.each e
 
   pub sent-ports : (session : ℕ) (shut : Option ℕ) → map (port_of_side session shut) (own_after_send id s).ports ≡ map (port_of_side session shut) s.ports
   sent-ports session shut =
       changed-same id (with_ring_on Tx ring_after_send) (port_of_side session shut) (tx-seen session shut ring_after_send (λ r. refl)) (after_exchange Tx id s).ports
-      ∙ (ap (map (port_of_side session shut)) now-ports ∙ renamed-seen session shut to s.ports)
+      ∙ (ap (map (port_of_side session shut)) traded-side.ports ∙ renamed-seen session shut to s.ports)

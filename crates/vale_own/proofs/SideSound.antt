@@ -156,7 +156,7 @@ pub renamed-ids : (g : ℕ → ℕ) (ports : List OwnPort) → map id_of (map (p
 renamed-ids g [] = refl
 renamed-ids g (p ∷ ports) = ap (λ (ids : List ℕ). p.id.0 ∷ ids) (renamed-ids g ports)
 
-pub find-renamed : (g : ℕ → ℕ) (id : ℕ) (ports : List OwnPort) (p : OwnPort) → find (λ (q : OwnPort). q.id.0 == id) ports ≡ Some p → find (λ (q : OwnPort). q.id.0 == id) (map (port_renamed g) ports) ≡ Some (port_renamed g p)
+find-renamed : (g : ℕ → ℕ) (id : ℕ) (ports : List OwnPort) (p : OwnPort) → find (λ (q : OwnPort). q.id.0 == id) ports ≡ Some p → find (λ (q : OwnPort). q.id.0 == id) (map (port_renamed g) ports) ≡ Some (port_renamed g p)
 find-renamed g id [] p found = absurd cc
 find-renamed g id (q ∷ ports) p found = elim (cases_Bool (q.id.0 == id)) [
   | inl here ↦ (let is : q ≡ p = (let first : Some q ≡ Some p = rw here at found in cc) in rw here (ap (λ (x : OwnPort). Some (port_renamed g x)) is))
@@ -164,15 +164,24 @@ find-renamed g id (q ∷ ports) p found = elim (cases_Bool (q.id.0 == id)) [
 ]
 
 -- the side after the exchange of a push that no check refuses
-pub exchanged-sound : (side : Side) (id : ℕ) (s : OwnState) (p : OwnPort) (r : OwnRing) → IsSound s → ((b : ℕ) → count_of b (buffers_on s) ≤ 1) → port_with_id s id ≡ Some p → ring_on side p ≡ Some r → refusal_in side s r ≡ None
-    → IsSound (after_exchange side id s)
-exchanged-sound side id s p r sound once found has passes =
+pub record Exchanged (side : Side) (id : ℕ) (s : OwnState) (p : OwnPort) (g : ℕ → ℕ) : Type 0 where
+  pub sound : IsSound (after_exchange side id s)
+  pub ports : (after_exchange side id s).ports ≡ map (port_renamed g) s.ports
+  pub found : port_with_id (after_exchange side id s) id ≡ Some (port_renamed g p)
+
+pub exchanged : (side : Side) (id : ℕ) (s : OwnState) (p : OwnPort) (r : OwnRing) (sound : IsSound s) (once : (b : ℕ) → count_of b (buffers_on s) ≤ 1) (found : port_with_id s id ≡ Some p) (has : ring_on side p ≡ Some r) (passes : refusal_in side s r ≡ None)
+    → Exchanged side id s p (traded side id s p r sound once found has passes)
+exchanged side id s p r sound once found has passes =
     let g = traded side id s p r sound once found has passes in
     let ports = exchanged-ports side id s p r sound once found has passes in
     let counts = exchanged-counts side id s p r sound once found has passes in
     record {
-      each = rw ports (renamed-sound s sound once g (trades side id s p r sound once found has passes).fixed);
-      apart = rw (ap (map id_of) ports ∙ renamed-ids g s.ports) sound.apart;
-      cells = sound.cells;
-      blank = λ b none. sound.blank b (sym (counts b) ∙ none);
+      sound = record {
+        each = rw ports (renamed-sound s sound once g (trades side id s p r sound once found has passes).fixed);
+        apart = rw (ap (map id_of) ports ∙ renamed-ids g s.ports) sound.apart;
+        cells = sound.cells;
+        blank = λ b none. sound.blank b (sym (counts b) ∙ none);
+      };
+      ports = ports;
+      found = rw ports (find-renamed g id s.ports p found);
     }
