@@ -2,7 +2,7 @@
 use Rattle.std.proofs.Common.{ℕ, zero, suc, ◌+◌, ◌-◌, ◌*◌, ◌≤◌, ◌≡◌, Bool, true, false, cond, List, [], ◌∷◌, ◌++◌, length, map, flat_map, refl, sym, ap, ◌∙◌, arith, add-one, append_assoc, append-nil, length-append}
 use Rattle.std.specs.List.{range_with_len}
 use Rattle.std.proofs.lemmas.Grind.{flat_map-append}
-use Rattle.std.proofs.lemmas.List.FromFn.{map-range_with_len_more}
+use Rattle.std.proofs.lemmas.List.FromFn.{map-range_with_len_more, length-map-range_with_len}
 use Rattle.vale_script.specs.declared.script.Line.{Line}
 use Rattle.vale_gen.specs.Load.{Deed, syncs, is_followed, frame_deeds, user_deeds, numbered}
 use Rattle.vale_gen.specs.Sheets.{Sheet, with_deeds}
@@ -67,6 +67,11 @@ pub users_more : (f : ℕ → Deed) (s : Sheet) (user : ℕ) → 1 ≤ user → 
 users_more f s user least =
     with_more s (map f (range_with_len 1 (user - 1))) (f user ∷ [])
     ∙ ap (λ (deeds : List Deed). with_deeds s deeds) (map_users_more f user least)
+
+-- each of those before has a number
+pub users_next : (f : ℕ → Deed) (start now : Sheet) (count : ℕ) → now ≡ with_deeds start (map f (range_with_len 1 count)) → now.next ≡ start.next + count
+users_next f start now count is =
+    ap (λ (s : Sheet). s.next) is ∙ ap (λ (k : ℕ). start.next + k) (length-map-range_with_len f 1 count)
 
 -- How many lines there are.
 

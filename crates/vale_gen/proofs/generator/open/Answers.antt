@@ -1,10 +1,8 @@
-use Rattle.std.proofs.Common.{ℕ, List, ◌-◌, ◌≡◌, [], ◌∷◌, map, sym, ap, ◌∙◌, arith}
-use Rattle.std.specs.List.{range_with_len}
-use Rattle.std.proofs.lemmas.List.FromFn.{length-map-range_with_len}
+use Rattle.std.proofs.Common.{ℕ, List, ◌-◌, ◌≡◌, [], ◌∷◌, sym, ap, ◌∙◌, arith}
 use Rattle.vale_script.specs.declared.script.Act.TheVariants.{Open}
 use Rattle.vale_gen.specs.Load.{opens}
 use Rattle.vale_gen.specs.Sheets.{Sheet, with_deeds}
-use Rattle.vale_gen.proofs.Adding.{users_more, with_none}
+use Rattle.vale_gen.proofs.Adding.{users_more, users_next, with_none}
 use Rattle.vale_gen.proofs.generator.open.Goals as goal
 
 pub loop-user-init : goal.loop-user-init
@@ -19,12 +17,7 @@ loop-user-preserved c =
     ∙ users_more opens c.args.sheet.now c.loop-user.user c.loop-user.auto.user
 
 pub add-requires : goal.add-requires
-add-requires c =
-    let next = ap (λ (s : Sheet). s.next) c.loop-user.invariant in
-    let count = length-map-range_with_len opens 1 (c.loop-user.user - 1) in
-    omega (arith, next, count)
+add-requires c = let next = users_next opens c.args.sheet.now _ _ c.loop-user.invariant in omega (arith, next)
 
 pub returns : goal.returns
-returns c =
-    let last : c.loop-user.user - 1 ≡ 4 = omega arith in
-    c.loop-user.invariant ∙ ap (λ (k : ℕ). with_deeds c.args.sheet.now (map opens (range_with_len 1 k))) last
+returns c = let last : c.loop-user.user - 1 ≡ 4 = omega arith in rw last at c.loop-user.invariant
