@@ -10,7 +10,7 @@ use Rattle.nm_count.specs.Tallies.{is_port, counts_of, tally_after_add}
 use Rattle.nm_count.specs.Laws.{sum_if_port}
 use Rattle.nm_count.proofs.TallyLaws.{adding_sums}
 use Rattle.vale_entry.specs.declared.entry.Ask.{Ask}
-use Rattle.vale_entry.specs.declared.entry.Ask.TheVariants.{Enter, Open, Send, Grant, Done, Sync, Reset, Shut, Finish, Leave, Put, PutKept, Get, Watch, Stat}
+use Rattle.vale_entry.specs.declared.entry.Ask.TheVariants.{Send, Grant, Sync, PutKept, Get}
 use Rattle.vale_entry.specs.declared.entry.Reply.{Reply}
 use Rattle.vale_entry.specs.World.{World, Port, PortCounts}
 use Rattle.vale_entry.specs.Pipe.{peer_at, is_port_at}
@@ -89,24 +89,15 @@ put_own w ask reply at put more tally all counted c e =
     first_fits c put more (subst (SumFits c) same (fits_at w ask reply tally at all c e))
 
 adds_fit : (w : World) (ask : Ask) (reply : Reply) (tally : List Tallied) → AllFit w ask reply tally → AddsFit w ask reply tally
-adds_fit w (Enter user) reply tally all = tt
-adds_fit w (Open session name tx rx extra) reply tally all = tt
 adds_fit w (Send from frames) reply tally all = one_fits w (Send from frames) reply tally from.0 (count_sent frames reply) all refl
 adds_fit w (Grant origin to) reply tally all = one_fits w (Grant origin to) reply tally to.0 (count_shared reply) all refl
-adds_fit w (Done lease) reply tally all = tt
 adds_fit w (Sync at back) reply tally all = one_fits w (Sync at back) reply tally at.0 (count_gave_at reply) all refl
-adds_fit w (Reset at side fault) reply tally all = tt
-adds_fit w (Shut at) reply tally all = tt
-adds_fit w (Finish at bufs chain) reply tally all = tt
-adds_fit w (Leave session) reply tally all = tt
-adds_fit w (Put at offered) reply tally all = tt
 adds_fit w (PutKept at offered) reply tally all = (
   put_own w (PutKept at offered) reply at.0 (count_put reply) (counts_if (is_port_at at.0 (peer_at w.ports at.0)) (count_taken_at reply)) tally all refl,
   put_peer w (PutKept at offered) reply at.0 (count_put reply) (count_taken_at reply) tally (peer_at w.ports at.0) all (λ port. refl),
 )
 adds_fit w (Get at back) reply tally all = one_fits w (Get at back) reply tally at.0 (count_gave_at reply) all refl
-adds_fit w (Watch monitor target sides) reply tally all = tt
-adds_fit w (Stat at) reply tally all = tt
+adds_fit w _ reply tally all = tt
 
 pub additions_fit : AdditionsFit
 additions_fit pool h e tally low legal follows most are =

@@ -8,7 +8,7 @@ use Rattle.nm_types.specs.Names.{switch_of, is_switch_port_name}
 use Rattle.vale_learn.specs.AddressTable.{Entries, forgotten}
 use Rattle.vale_batch.specs.Looking.{learned_of_batch}
 use Rattle.vale_entry.specs.declared.entry.Ask.{Ask}
-use Rattle.vale_entry.specs.declared.entry.Ask.TheVariants.{Enter, Open, Send, Grant, Done, Sync, Reset, Shut, Finish, Leave, Put, PutKept, Get, Watch, Stat}
+use Rattle.vale_entry.specs.declared.entry.Ask.TheVariants.{Send, Shut}
 use Rattle.vale_entry.specs.World.{World, Port, open_port}
 use Rattle.vale_entry.specs.Opening.{is_on_switch}
 use Rattle.vale_entry.specs.Legal.{world_of, is_met}
@@ -53,21 +53,9 @@ all_same change same [] = refl
 all_same change same (t ∷ ts) = ap (λ (u : SwitchTable). u ∷ map change ts) (same t) ∙ ap (λ (us : List SwitchTable). t ∷ us) (all_same change same ts)
 
 table_stays : (w : World) (ask : Ask) → changes_tables ask ≡ false → (t : SwitchTable) → table_with w ask t ≡ t
-table_stays w (Enter user) stays t = refl
-table_stays w (Open session name tx rx extra) stays t = refl
 table_stays w (Send from frames) stays t = absurd cc
-table_stays w (Grant origin to) stays t = refl
-table_stays w (Done lease) stays t = refl
-table_stays w (Sync at back) stays t = refl
-table_stays w (Reset at side fault) stays t = refl
 table_stays w (Shut at) stays t = absurd cc
-table_stays w (Finish at bufs chain) stays t = refl
-table_stays w (Leave session) stays t = refl
-table_stays w (Put at offered) stays t = refl
-table_stays w (PutKept at offered) stays t = refl
-table_stays w (Get at back) stays t = refl
-table_stays w (Watch monitor target sides) stays t = refl
-table_stays w (Stat at) stays t = refl
+table_stays w _ stays t = refl
 
 pub tables_stay : TablesStay
 tables_stay w ask tables stays = all_same (table_with w ask) (table_stays w ask stays) tables

@@ -10,7 +10,7 @@ use Rattle.nm_types.specs.declared.id.Side.TheVariants.{Tx, Rx}
 use Rattle.nm_types.specs.Names.{switch_of, kind_of, is_switch_port_name, is_monitor_name, is_switch_port_kind, is_monitor_kind}
 use Rattle.nm_types.specs.Sendable.{is_sendable, fits_buffer}
 use Rattle.nm_types.specs.declared.name.Kind.{Kind}
-use Rattle.nm_types.specs.declared.name.Kind.TheVariants.{Vale, Master, Slave, Monitor}
+use Rattle.nm_types.specs.declared.name.Kind.TheVariants.{Vale}
 use Rattle.nm_types.specs.declared.id.PortId.{PortId}
 use Rattle.vale_learn.specs.AddressTable.{Entries}
 use Rattle.vale_batch.specs.declared.looking.Looked.{Looked}
@@ -47,11 +47,8 @@ use Rattle.vale_parts.proofs.WantOffers.{IsPlain, IsOther, IsItself, plain, moni
 -- ---- the monitor's port
 
 kinds_apart : (kind : Option Kind) → is_monitor_kind kind ≡ true → is_switch_port_kind kind ≡ false
-kinds_apart None is = refl
 kinds_apart (Some Vale) is = absurd cc
-kinds_apart (Some Master) is = refl
-kinds_apart (Some Slave) is = refl
-kinds_apart (Some Monitor) is = refl
+kinds_apart _ is = refl
 
 monitor_no_switch : (name : List ℕ) → is_monitor_name name ≡ true → is_switch_port_name name ≡ false
 unfolding is_monitor_name is_switch_port_name

@@ -89,11 +89,7 @@ free_counted pool h state legal is =
 
 quiet_pool : (s : Standing) (state next : PoolState) (ask : Ask) (session : ℕ) (reply : Reply) → IsQuiet s ask session reply → IsPoolAfter s.holdings ask reply state next → next ≡ state
 quiet_pool s state next _ _ _ (refused_open session name tx rx extra fault can e) is = is
-quiet_pool s state next _ _ _ (resets at side fault port e can) is = is
-quiet_pool s state next _ _ _ (finds_no_peer at offered port e few gone) is = is
-quiet_pool s state next _ _ _ (finds_no_target at target sides port e can none) is = is
-quiet_pool s state next _ _ _ (finds_watched at target sides port found watch e can there some) is = is
-quiet_pool s state next _ _ _ (counts at port e) is = is
+quiet_pool s state next _ _ _ _ is = is
 
 read_pool : (x : Holdings) (state next : PoolState) (ask : Ask) (at : PortId) (back : List ℕ) (reply : Reply) → Receives ask at back → IsPoolAfter x ask reply state next → next ≡ state
 read_pool x state next _ _ _ reply (by_sync at back) is = is
@@ -140,8 +136,7 @@ module _ (s : Standing) (n : Numbered s) (state next : PoolState) (are : FreeAre
 
 pub free_follow : FreeFollow
 free_follow pool h e state next follows are made =
-    let s = standing_of pool h in
-    subst (λ (t : Standing). FreeAre t.holdings next) (sym (standing-push pool h e)) (kept s (world-numbered pool h) state next are e follows made)
+    subst (λ (t : Standing). FreeAre t.holdings next) (sym (standing-push pool h e)) (kept (standing_of pool h) (world-numbered pool h) state next are e follows made)
 
 -- ---- giving back
 
@@ -200,11 +195,7 @@ module _ (s : Standing) (n : Numbered s) where
   quiet_freed : (free : List ℕ) (ask : Ask) (session : ℕ) (reply : Reply) → IsQuiet s ask session reply → (at : PortId) (bufs : List ℕ) (chain : Chain) → ask ≡ Finish at bufs chain
       → free ≡ all_with_free (buffers_of_port at.0 s.holdings.ports ++ bufs) s.holdings.free
   quiet_freed free _ _ _ (refused_open session name tx rx extra fault can e) at bufs chain is = absurd cc
-  quiet_freed free _ _ _ (resets at side fault port e can) a bufs chain is = absurd cc
-  quiet_freed free _ _ _ (finds_no_peer at offered port e few gone) a bufs chain is = absurd cc
-  quiet_freed free _ _ _ (finds_no_target at target sides port e can none) a bufs chain is = absurd cc
-  quiet_freed free _ _ _ (finds_watched at target sides port found watch e can there some) a bufs chain is = absurd cc
-  quiet_freed free _ _ _ (counts at port e) a bufs chain is = absurd cc
+  quiet_freed free _ _ _ _ at bufs chain is = absurd cc
 
   read_freed : (free : List ℕ) (ask : Ask) (from : PortId) (back : List ℕ) → Receives ask from back → (at : PortId) (bufs : List ℕ) (chain : Chain) → ask ≡ Finish at bufs chain
       → free ≡ all_with_free (buffers_of_port at.0 s.holdings.ports ++ bufs) s.holdings.free

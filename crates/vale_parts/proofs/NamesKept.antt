@@ -106,11 +106,7 @@ joined ports new names next permutes joins =
 
 quiet_names : (s : Standing) (number : ℕ) (names next : List NamedPort) (ask : Ask) (session : ℕ) (reply : Reply) → IsQuiet s ask session reply → AreNamesAfter number ask reply names next → next ≡ names
 quiet_names s number names next _ _ _ (refused_open session name tx rx extra fault can e) is = is
-quiet_names s number names next _ _ _ (resets at side fault port e can) is = is
-quiet_names s number names next _ _ _ (finds_no_peer at offered port e few gone) is = is
-quiet_names s number names next _ _ _ (finds_no_target at target sides port e can none) is = is
-quiet_names s number names next _ _ _ (finds_watched at target sides port found watch e can there some) is = is
-quiet_names s number names next _ _ _ (counts at port e) is = is
+quiet_names s number names next _ _ _ _ is = is
 
 read_names : (number : ℕ) (names next : List NamedPort) (ask : Ask) (at : PortId) (back : List ℕ) (reply : Reply) → Receives ask at back → AreNamesAfter number ask reply names next → next ≡ names
 read_names number names next _ _ _ reply (by_sync at back) is = is
@@ -166,5 +162,4 @@ module _ (s : Standing) (n : Numbered s) (names next : List NamedPort) (are : Na
 
 pub names_follow : NamesFollow
 names_follow pool h e names next follows are made =
-    let s = standing_of pool h in
-    subst (λ (t : Standing). NamesAre t.world next) (sym (standing-push pool h e)) (kept s (world-numbered pool h) names next are e follows made)
+    subst (λ (t : Standing). NamesAre t.world next) (sym (standing-push pool h e)) (kept (standing_of pool h) (world-numbered pool h) names next are e follows made)

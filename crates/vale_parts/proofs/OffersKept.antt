@@ -118,11 +118,7 @@ module _ (s : Standing) (n : Numbered s) where
 
   quiet_started : (ask : Ask) (session : ℕ) (reply : Reply) → IsQuiet s ask session reply → offers_at w (w.entry_count + 1) ≡ offers_started w ask reply
   quiet_started _ _ _ (counts at port e) = none_new
-  quiet_started _ _ _ (refused_open session name tx rx extra fault can e) = none_new
-  quiet_started _ _ _ (resets at side fault port e can) = none_new
-  quiet_started _ _ _ (finds_no_peer at offered port e few gone) = none_new
-  quiet_started _ _ _ (finds_no_target at target sides port e can none) = none_new
-  quiet_started _ _ _ (finds_watched at target sides port found watch e can there some) = none_new
+  quiet_started _ _ _ _ = none_new
 
   read_started : (ask : Ask) (at : PortId) (back : List ℕ) (reply : Reply) (port : Port) → Receives ask at back → open_port w.ports at.0 ≡ Some port
       → filter (is_offer_of (w.entry_count + 1)) (w.offers ++ offers_of_sync w port) ≡ offers_started w ask reply
@@ -186,11 +182,7 @@ module _ (s : Standing) (n : Numbered s) where
 
     quiet_kept : (ask : Ask) (session : ℕ) (reply : Reply) → IsQuiet s ask session reply → OffersAre w origin frames (wants_after origin ask wants)
     quiet_kept _ _ _ (resets at side fault port e can) = are
-    quiet_kept _ _ _ (refused_open session name tx rx extra fault can e) = are
-    quiet_kept _ _ _ (finds_no_peer at offered port e few gone) = are
-    quiet_kept _ _ _ (finds_no_target at target sides port e can none) = are
-    quiet_kept _ _ _ (finds_watched at target sides port found watch e can there some) = are
-    quiet_kept _ _ _ (counts at port e) = are
+    quiet_kept _ _ _ _ = are
 
     read_kept : (ask : Ask) (at : PortId) (back : List ℕ) (offers : List Offer) → Receives ask at back → AreOffersOf frames wants offers → AreOffersOf frames (wants_after origin ask wants) offers
     read_kept _ _ _ offers (by_sync at back) all = all

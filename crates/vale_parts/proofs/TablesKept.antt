@@ -15,7 +15,7 @@ use Rattle.vale_batch.specs.Looking.{learned_from}
 use Rattle.std.proofs.lemmas.List.{length-map, length-replicate}
 use Rattle.vale_batch.specs.Looking.{learned_of_batch as table_learned_batch}
 use Rattle.vale_entry.specs.declared.entry.Ask.{Ask}
-use Rattle.vale_entry.specs.declared.entry.Ask.TheVariants.{Enter, Open, Send, Grant, Done, Sync, Reset, Shut, Finish, Leave, Put, PutKept, Get, Watch, Stat}
+use Rattle.vale_entry.specs.declared.entry.Ask.TheVariants.{Send, Shut}
 use Rattle.vale_entry.specs.declared.entry.Reply.{Reply}
 use Rattle.vale_entry.specs.declared.entry.Entry.{Entry}
 use Rattle.vale_entry.specs.World.{World, Port, Pair, open_port, is_open, is_settled, changed_at}
@@ -42,11 +42,7 @@ use Rattle.vale_entry.specs.Laws.{IsPairOf, ArePairsOf}
 
 quiet_table : (s : Standing) (switch : List ℕ) (entries : Entries) (ask : Ask) (session : ℕ) (reply : Reply) → IsQuiet s ask session reply → table_after s.world switch ask entries ≡ entries
 quiet_table s switch entries _ _ _ (refused_open session name tx rx extra fault can e) = refl
-quiet_table s switch entries _ _ _ (resets at side fault port e can) = refl
-quiet_table s switch entries _ _ _ (finds_no_peer at offered port e few gone) = refl
-quiet_table s switch entries _ _ _ (finds_no_target at target sides port e can none) = refl
-quiet_table s switch entries _ _ _ (finds_watched at target sides port found watch e can there some) = refl
-quiet_table s switch entries _ _ _ (counts at port e) = refl
+quiet_table s switch entries _ _ _ _ = refl
 
 read_table : (w : World) (switch : List ℕ) (entries : Entries) (ask : Ask) (at : PortId) (back : List ℕ) → Receives ask at back → table_after w switch ask entries ≡ entries
 read_table w switch entries _ _ _ (by_sync at back) = refl
@@ -187,23 +183,11 @@ size_if true next entries one two = one
 size_if false next entries one two = two
 
 pub sizes_kept : TablesKeepTheirSize
-sizes_kept w switch (Enter user) entries size = size
-sizes_kept w switch (Open session name tx rx extra) entries size = size
 sizes_kept w switch (Send from frames) entries size =
     size_if (is_met (is_on_switch switch) (open_port w.ports from.0)) (table_learned_batch from entries frames) entries (batch_size from entries frames size) size
-sizes_kept w switch (Grant origin to) entries size = size
-sizes_kept w switch (Done lease) entries size = size
-sizes_kept w switch (Sync at back) entries size = size
-sizes_kept w switch (Reset at side fault) entries size = size
 sizes_kept w switch (Shut at) entries size =
     size_if (is_met (is_on_switch switch) (open_port w.ports at.0)) (forgotten entries at) entries (length-map entries (without_port at) ∙ size) size
-sizes_kept w switch (Finish at bufs chain) entries size = size
-sizes_kept w switch (Leave session) entries size = size
-sizes_kept w switch (Put at offered) entries size = size
-sizes_kept w switch (PutKept at offered) entries size = size
-sizes_kept w switch (Get at back) entries size = size
-sizes_kept w switch (Watch monitor target sides) entries size = size
-sizes_kept w switch (Stat at) entries size = size
+sizes_kept w switch _ entries size = size
 
 pub frames_learned : FramesAreLearned
 frames_learned ports sender pairs entries frame size up finds = frame-finds ports sender pairs entries frame size up finds

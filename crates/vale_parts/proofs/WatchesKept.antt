@@ -27,11 +27,7 @@ AreSame watching next = (port : ℕ) → watch_of next port ≡ watch_of watchin
 
 quiet_watches : (s : Standing) (watching next : Watching) (ask : Ask) (session : ℕ) (reply : Reply) → IsQuiet s ask session reply → AreWatchesAfter ask reply watching next → AreSame watching next
 quiet_watches s watching next _ _ _ (counts at port e) same = same
-quiet_watches s watching next _ _ _ (refused_open session name tx rx extra fault can e) same = same
-quiet_watches s watching next _ _ _ (resets at side fault port e can) same = same
-quiet_watches s watching next _ _ _ (finds_no_peer at offered port e few gone) same = same
-quiet_watches s watching next _ _ _ (finds_no_target at target sides port e can none) same = same
-quiet_watches s watching next _ _ _ (finds_watched at target sides port found watch e can there some) same = same
+quiet_watches s watching next _ _ _ _ same = same
 
 read_watches : (watching next : Watching) (ask : Ask) (at : PortId) (back : List ℕ) (reply : Reply) → Receives ask at back → AreWatchesAfter ask reply watching next → AreSame watching next
 read_watches watching next _ _ _ reply (by_sync at back) same = same
