@@ -18,7 +18,7 @@ use Rattle.vale_names.specs.declared.switch.Switch.{Switch}
 use Rattle.vale_names.specs.Ports.{has_name, has_pipe_name, has_monitor_name, is_open_as, open_port_of, names_of, fresh_port, Joins, has_id, shut_at, shut_in, ports_without}
 use Rattle.vale_names.specs.Groups.{PortGroup, group_refusal}
 use Rattle.vale_names.specs.Switches.{is_for, is_vacant, ports_on, ArePlaces, place_for, no_place, refusal_at, place_refusal, shut_place, place_without}
-use Rattle.vale_names.specs.Named.{all_ports, AreNamed}
+use Rattle.vale_names.specs.Named.{all_ports, IsGroupOf, AreNamed}
 use Rattle.vale_names.specs.PortNames.{HaveNamesOnce, IsNames}
 use Rattle.nm_types.specs.Openings as rules
 use Rattle.vale_names.proofs.PortLemmas.{any_in_filter, find_in_filter, filter_none_pass, all_exclude, all_joined, all_map, all_filter, pipe_alone, monitor_alone, beside_switch_port, beside_pipe, beside_monitor, beside_others, joins_behind, joins_before, group_fits, beside_itself_switch_port, beside_itself_pipe, beside_itself_monitor}
@@ -80,18 +80,18 @@ no_switch_names b c pipes monitors =
 
 pub names_find_switch : (s : List Switch) (p m : PortGroup) (name : List ℕ) → AreNamed s p m → is_switch_port_name name ≡ true → open_port_of (all_ports s p m) name ≡ open_port_of (ports_on s) name
 names_find_switch s p m name are kind =
-    let beside = beside_switch_port name (ports_on s) p.ports m.ports kind are.pipe_ends are.monitor_ports in
+    let beside = beside_switch_port name (ports_on s) p.ports m.ports kind are.pipe_ends.kind are.monitor_ports.kind in
     group_finds (all_ports s p m) name (filter (is_on_switch (switch_of name)) (ports_on s)) beside (beside_itself_switch_port name kind)
     ∙ sym (finds_beside (ports_on s) name (filter (is_on_switch (switch_of name)) (ports_on s)) kind refl)
 
 pub names_find_pipe : (s : List Switch) (p m : PortGroup) (name : List ℕ) → AreNamed s p m → is_pipe_name name ≡ true → open_port_of (all_ports s p m) name ≡ open_port_of p.ports name
 names_find_pipe s p m name are kind =
-    let beside = beside_pipe name (ports_on s) p.ports m.ports kind (places_switch_names s are.places) are.pipe_ends are.monitor_ports in
+    let beside = beside_pipe name (ports_on s) p.ports m.ports kind (places_switch_names s are.places) are.pipe_ends.kind are.monitor_ports.kind in
     group_finds (all_ports s p m) name p.ports beside (beside_itself_pipe name kind)
 
 pub names_find_monitor : (s : List Switch) (p m : PortGroup) (name : List ℕ) → AreNamed s p m → is_monitor_name name ≡ true → open_port_of (all_ports s p m) name ≡ open_port_of m.ports name
 names_find_monitor s p m name are kind =
-    let beside = beside_monitor name (ports_on s) p.ports m.ports kind (places_switch_names s are.places) are.pipe_ends are.monitor_ports in
+    let beside = beside_monitor name (ports_on s) p.ports m.ports kind (places_switch_names s are.places) are.pipe_ends.kind are.monitor_ports.kind in
     group_finds (all_ports s p m) name m.ports beside (beside_itself_monitor name kind)
 
 not_full : (ports : List NamedPort) (name : List ℕ) → is_switch_port_name name ≡ false → finds_switches_full ports name ≡ false
@@ -99,20 +99,20 @@ not_full ports name other = rw other refl
 
 pub names_refuse_pipe : (s : List Switch) (p m : PortGroup) (name : List ℕ) → AreNamed s p m → is_pipe_name name ≡ true → name_refusal (all_ports s p m) name ≡ group_refusal p name
 names_refuse_pipe s p m name are kind =
-    let beside = beside_pipe name (ports_on s) p.ports m.ports kind (places_switch_names s are.places) are.pipe_ends are.monitor_ports in
+    let beside = beside_pipe name (ports_on s) p.ports m.ports kind (places_switch_names s are.places) are.pipe_ends.kind are.monitor_ports.kind in
     let other = (pipe_alone name kind).0 in
-    group_told (all_ports s p m) name p beside (are.pipes_most ∙ rw (other, kind) refl) (beside_itself_pipe name kind) (not_full (all_ports s p m) name other)
+    group_told (all_ports s p m) name p beside (are.pipe_ends.most_is ∙ rw (other, kind) refl) (beside_itself_pipe name kind) (not_full (all_ports s p m) name other)
 
 pub names_refuse_monitor : (s : List Switch) (p m : PortGroup) (name : List ℕ) → AreNamed s p m → is_monitor_name name ≡ true → name_refusal (all_ports s p m) name ≡ group_refusal m name
 names_refuse_monitor s p m name are kind =
-    let beside = beside_monitor name (ports_on s) p.ports m.ports kind (places_switch_names s are.places) are.pipe_ends are.monitor_ports in
+    let beside = beside_monitor name (ports_on s) p.ports m.ports kind (places_switch_names s are.places) are.pipe_ends.kind are.monitor_ports.kind in
     let other = (monitor_alone name kind).0 in
     let no_pipe = (monitor_alone name kind).1 in
-    group_told (all_ports s p m) name m beside (are.monitors_most ∙ rw (other, no_pipe) refl) (beside_itself_monitor name kind) (not_full (all_ports s p m) name other)
+    group_told (all_ports s p m) name m beside (are.monitor_ports.most_is ∙ rw (other, no_pipe) refl) (beside_itself_monitor name kind) (not_full (all_ports s p m) name other)
 
 all_switches : (s : List Switch) (p m : PortGroup) → AreNamed s p m → length (switches_of (all_ports s p m)) ≡ some_count s
 all_switches s p m are =
-    ap (λ (ps : List NamedPort). length ps) (switches_append (ports_on s) (p.ports ++ m.ports) (no_switch_names p.ports m.ports are.pipe_ends are.monitor_ports))
+    ap (λ (ps : List NamedPort). length ps) (switches_append (ports_on s) (p.ports ++ m.ports) (no_switch_names p.ports m.ports are.pipe_ends.kind are.monitor_ports.kind))
     ∙ switch_count s are.places
 
 -- a switch that has a place finds no want of switches
@@ -132,7 +132,7 @@ has_room s p m name i are kind found (port ∷ ports) some beside =
 no_room : (s : List Switch) (p m : PortGroup) (name : List ℕ) → AreNamed s p m → is_switch_port_name name ≡ true → list_any (is_for (switch_of name)) s ≡ false → list_any is_vacant s ≡ false
     → finds_switches_full (all_ports s p m) name ≡ true
 no_room s p m name are kind none full =
-    let beside = beside_switch_port name (ports_on s) p.ports m.ports kind are.pipe_ends are.monitor_ports in
+    let beside = beside_switch_port name (ports_on s) p.ports m.ports kind are.pipe_ends.kind are.monitor_ports.kind in
     let away = filter_none_pass (is_on_switch (switch_of name)) (ports_on s) (places_none (switch_of name) s are.places none) in
     let nothing = none_filtered (is_beside name) (all_ports s p m) (beside ∙ away) in
     let all = some_all s full in
@@ -148,7 +148,7 @@ told_at s p m name None are kind told =
     rw (no_room s p m name are kind missed.0 missed.1) refl
 told_at s p m name (Some i) are kind told =
     let found = place_found s (switch_of name) i are.places told in
-    let beside = beside_switch_port name (ports_on s) p.ports m.ports kind are.pipe_ends are.monitor_ports ∙ found.ports in
+    let beside = beside_switch_port name (ports_on s) p.ports m.ports kind are.pipe_ends.kind are.monitor_ports.kind ∙ found.ports in
     let most = (place_at s i no_place are.places found.within).most in
     group_told (all_ports s p m) name (get_or s i no_place).group beside (most ∙ rw kind refl) (beside_itself_switch_port name kind)
     (has_room s p m name i are kind found (get_or s i no_place).group.ports refl beside)
@@ -252,85 +252,75 @@ named_switch s new p m name id (Ok done) are kind places same refusal joined err
   places = places;
   four = same ∙ are.four;
   pipe_ends = are.pipe_ends;
-  pipes_most = are.pipes_most;
-  few_pipes = are.few_pipes;
   monitor_ports = are.monitor_ports;
-  monitors_most = are.monitors_most;
-  few_monitors = are.few_monitors;
   once = once_joined (all_ports s p m) name id (all_ports new p m) are.once (names_refuse_switch s p m name are kind ∙ refusal)
       (joins_before (ports_on s) (fresh_port name id) (ports_on new) (p.ports ++ m.ports) joined);
 }
 named_switch s new p m name id (Err fault) are kind places same refusal joined err = rw err are
 
-pub named_pipe : (s : List Switch) (p new m : PortGroup) (name : List ℕ) (id : PortId) (r : Result (Unit {0}) OpenFault) → AreNamed s p m → is_pipe_name name ≡ true → new.most ≡ p.most
-    → MatchResult r (λ _. group_refusal p name ≡ None) (λ fault. group_refusal p name ≡ Some fault)
-    → OnOk r (Joins p.ports (fresh_port name id) new.ports) → OnErr r (new ≡ p) → AreNamed s new m
-named_pipe s p new m name id (Ok done) are kind most refusal joined err =
-    let fits = group_fits p new name (fresh_port name id) refusal joined in
-    let was = are.pipes_most in
-    record {
-      places = are.places;
-      four = are.four;
-      pipe_ends = all_joined has_pipe_name p.ports (fresh_port name id) new.ports joined are.pipe_ends kind;
-      pipes_most = most ∙ are.pipes_most;
-      few_pipes = omega arith;
-      monitor_ports = are.monitor_ports;
-      monitors_most = are.monitors_most;
-      few_monitors = are.few_monitors;
-      once = once_joined (all_ports s p m) name id (all_ports s new m) are.once (names_refuse_pipe s p m name are kind ∙ refusal)
-          (joins_behind (ports_on s) _ (fresh_port name id) _ (joins_before p.ports (fresh_port name id) new.ports m.ports joined));
-    }
-named_pipe s p new m name id (Err fault) are kind most refusal joined err = rw err are
+-- what an opening makes of a group
+abbrev pub Opens : PortGroup → PortGroup → List ℕ → PortId → Result (Unit {0}) OpenFault → Type 0
+Opens g new name id r =
+    (new.most ≡ g.most) × MatchResult r (λ _. group_refusal g name ≡ None) (λ fault. group_refusal g name ≡ Some fault)
+    × OnOk r (Joins g.ports (fresh_port name id) new.ports) × OnErr r (new ≡ g)
 
-pub named_monitor : (s : List Switch) (p m new : PortGroup) (name : List ℕ) (id : PortId) (r : Result (Unit {0}) OpenFault) → AreNamed s p m → is_monitor_name name ≡ true → new.most ≡ m.most
-    → MatchResult r (λ _. group_refusal m name ≡ None) (λ fault. group_refusal m name ≡ Some fault)
-    → OnOk r (Joins m.ports (fresh_port name id) new.ports) → OnErr r (new ≡ m) → AreNamed s p new
-named_monitor s p m new name id (Ok done) are kind most refusal joined err =
-    let fits = group_fits m new name (fresh_port name id) refusal joined in
-    let was = are.monitors_most in
-    record {
-      places = are.places;
-      four = are.four;
-      pipe_ends = are.pipe_ends;
-      pipes_most = are.pipes_most;
-      few_pipes = are.few_pipes;
-      monitor_ports = all_joined has_monitor_name m.ports (fresh_port name id) new.ports joined are.monitor_ports kind;
-      monitors_most = most ∙ are.monitors_most;
-      few_monitors = omega arith;
-      once = once_joined (all_ports s p m) name id (all_ports s p new) are.once (names_refuse_monitor s p m name are kind ∙ refusal)
-          (joins_behind (ports_on s) _ (fresh_port name id) _ (joins_behind p.ports m.ports (fresh_port name id) new.ports joined));
-    }
-named_monitor s p m new name id (Err fault) are kind most refusal joined err = rw err are
+group_opened : (has_kind : NamedPort → Bool) (most : ℕ) (g new : PortGroup) (name : List ℕ) (id : PortId) → IsGroupOf has_kind most g → has_kind (fresh_port name id) ≡ true → Opens g new name id (Ok tt) → IsGroupOf has_kind most new
+group_opened has_kind most g new name id are kind opened =
+    let fits = group_fits g new name (fresh_port name id) opened.1 opened.2 in
+    let was = are.most_is in
+    record { kind = all_joined has_kind g.ports (fresh_port name id) new.ports opened.2 are.kind kind; most_is = opened.0 ∙ are.most_is; few = omega arith }
+
+pub named_pipe : (s : List Switch) (p new m : PortGroup) (name : List ℕ) (id : PortId) (r : Result (Unit {0}) OpenFault) → AreNamed s p m → is_pipe_name name ≡ true → Opens p new name id r → AreNamed s new m
+named_pipe s p new m name id (Ok done) are kind opened = record {
+  places = are.places;
+  four = are.four;
+  pipe_ends = group_opened has_pipe_name most_pipe_ends p new name id are.pipe_ends kind opened;
+  monitor_ports = are.monitor_ports;
+  once = once_joined (all_ports s p m) name id (all_ports s new m) are.once (names_refuse_pipe s p m name are kind ∙ opened.1)
+      (joins_behind (ports_on s) _ (fresh_port name id) _ (joins_before p.ports (fresh_port name id) new.ports m.ports opened.2));
+}
+named_pipe s p new m name id (Err fault) are kind opened = rw opened.3 are
+
+pub named_monitor : (s : List Switch) (p m new : PortGroup) (name : List ℕ) (id : PortId) (r : Result (Unit {0}) OpenFault) → AreNamed s p m → is_monitor_name name ≡ true → Opens m new name id r → AreNamed s p new
+named_monitor s p m new name id (Ok done) are kind opened = record {
+  places = are.places;
+  four = are.four;
+  pipe_ends = are.pipe_ends;
+  monitor_ports = group_opened has_monitor_name most_monitors m new name id are.monitor_ports kind opened;
+  once = once_joined (all_ports s p m) name id (all_ports s p new) are.once (names_refuse_monitor s p m name are kind ∙ opened.1)
+      (joins_behind (ports_on s) _ (fresh_port name id) _ (joins_behind p.ports m.ports (fresh_port name id) new.ports opened.2));
+}
+named_monitor s p m new name id (Err fault) are kind opened = rw opened.3 are
+
+group_shut : (has_kind : NamedPort → Bool) (most id : ℕ) (g : PortGroup) → ((port : NamedPort) → has_kind (shut_at id port) ≡ has_kind port) → IsGroupOf has_kind most g → IsGroupOf has_kind most (record g { ports = shut_in id g.ports })
+group_shut has_kind most id g same are = record {
+  kind = all_map has_kind (shut_at id) g.ports same are.kind;
+  most_is = are.most_is;
+  few = rw (length-map g.ports (shut_at id)) are.few;
+}
 
 pub named_shut : (id : ℕ) (s : List Switch) (p m : PortGroup) → AreNamed s p m → AreNamed (map (shut_place id) s) (record p { ports = shut_in id p.ports }) (record m { ports = shut_in id m.ports })
 named_shut id s p m are = record {
   places = places_shut id s are.places;
   four = length-map s (shut_place id) ∙ are.four;
-  pipe_ends = all_map has_pipe_name (shut_at id) p.ports (λ port. ap is_pipe_name (name_kept id port)) are.pipe_ends;
-  pipes_most = are.pipes_most;
-  few_pipes = rw (length-map p.ports (shut_at id)) are.few_pipes;
-  monitor_ports = all_map has_monitor_name (shut_at id) m.ports (λ port. ap is_monitor_name (name_kept id port)) are.monitor_ports;
-  monitors_most = are.monitors_most;
-  few_monitors = rw (length-map m.ports (shut_at id)) are.few_monitors;
+  pipe_ends = group_shut has_pipe_name most_pipe_ends id p (λ port. ap is_pipe_name (name_kept id port)) are.pipe_ends;
+  monitor_ports = group_shut has_monitor_name most_monitors id m (λ port. ap is_monitor_name (name_kept id port)) are.monitor_ports;
   once = rw (all_shut id s p m) (once_shut id (all_ports s p m) are.once);
 }
 
-fewer_without : (id : ℕ) (ports : List NamedPort) (most : ℕ) → length ports ≤ most → length (ports_without id ports) ≤ most
-fewer_without id ports most few =
-    let kept = length-filter (λ q. not (has_id id q)) ports in
-    let less = count_by-le-length (λ q. not (has_id id q)) ports in
-    omega arith
+group_without : (has_kind : NamedPort → Bool) (most id : ℕ) (g : PortGroup) → IsGroupOf has_kind most g → IsGroupOf has_kind most (record g { ports = ports_without id g.ports })
+group_without has_kind most id g are =
+    let kept = length-filter (λ q. not (has_id id q)) g.ports in
+    let less = count_by-le-length (λ q. not (has_id id q)) g.ports in
+    let few = are.few in
+    record { kind = all_filter has_kind (λ q. not (has_id id q)) g.ports are.kind; most_is = are.most_is; few = omega arith }
 
 pub named_without : (id : ℕ) (s : List Switch) (p m : PortGroup) → AreNamed s p m → AreNamed (map (place_without id) s) (record p { ports = ports_without id p.ports }) (record m { ports = ports_without id m.ports })
 named_without id s p m are = record {
   places = places_without id s are.places;
   four = length-map s (place_without id) ∙ are.four;
-  pipe_ends = all_filter has_pipe_name (λ q. not (has_id id q)) p.ports are.pipe_ends;
-  pipes_most = are.pipes_most;
-  few_pipes = fewer_without id p.ports most_pipe_ends are.few_pipes;
-  monitor_ports = all_filter has_monitor_name (λ q. not (has_id id q)) m.ports are.monitor_ports;
-  monitors_most = are.monitors_most;
-  few_monitors = fewer_without id m.ports most_monitors are.few_monitors;
+  pipe_ends = group_without has_pipe_name most_pipe_ends id p are.pipe_ends;
+  monitor_ports = group_without has_monitor_name most_monitors id m are.monitor_ports;
   once = rw (all_without id s p m) (once_without id (all_ports s p m) are.once);
 }
 
@@ -339,17 +329,17 @@ named_without id s p m are = record {
 few_beside : (s : List Switch) (p m : PortGroup) (name : List ℕ) → AreNamed s p m → length (filter (is_beside name) (all_ports s p m)) ≤ most_beside name
 few_beside s p m name are = elim (cases_Bool (is_switch_port_name name)) [
   | inl is ↦
-      let beside = beside_switch_port name (ports_on s) p.ports m.ports is are.pipe_ends are.monitor_ports in
+      let beside = beside_switch_port name (ports_on s) p.ports m.ports is are.pipe_ends.kind are.monitor_ports.kind in
       let few = few_on_switch (switch_of name) s are.places in
       rw (beside, is) few
   | inr other ↦ elim (cases_Bool (is_pipe_name name)) [
     | inl is ↦
-        let beside = beside_pipe name (ports_on s) p.ports m.ports is (places_switch_names s are.places) are.pipe_ends are.monitor_ports in
-        let few = are.few_pipes in
+        let beside = beside_pipe name (ports_on s) p.ports m.ports is (places_switch_names s are.places) are.pipe_ends.kind are.monitor_ports.kind in
+        let few = are.pipe_ends.few in
         rw (beside, other, is) few
     | inr no_pipe ↦
-        let beside = beside_others name (ports_on s) p.ports m.ports other no_pipe (places_switch_names s are.places) are.pipe_ends are.monitor_ports in
-        let few = are.few_monitors in
+        let beside = beside_others name (ports_on s) p.ports m.ports other no_pipe (places_switch_names s are.places) are.pipe_ends.kind are.monitor_ports.kind in
+        let few = are.monitor_ports.few in
         rw (beside, other, no_pipe) few
   ]
 ]
@@ -367,8 +357,8 @@ are_names s p m are = record {
   few =
       let on = few_on s are.places in
       let four = are.four in
-      let pipes = are.few_pipes in
-      let monitors = are.few_monitors in
+      let pipes = are.pipe_ends.few in
+      let monitors = are.monitor_ports.few in
       let front = length-append (ports_on s) (p.ports ++ m.ports) in
       let back = length-append p.ports m.ports in
       omega arith;

@@ -43,12 +43,12 @@ on_switch c kind =
 as_pipe : (c : After-open) → is_pipe_name c.args.name.now ≡ true → AreNamed c.self.inside.switches c.open.new.self c.self.inside.monitors
 as_pipe c kind =
     named_pipe c.self.inside.switches c.self.inside.pipes c.open.new.self c.self.inside.monitors c.args.name.now c.args.id c.open.result c.self.invariant kind
-    c.open.ensures.most c.open.ensures.refusal c.open.ensures.joined c.open.ensures.err
+    (c.open.ensures.most, c.open.ensures.refusal, c.open.ensures.joined, c.open.ensures.err)
 
 as_monitor : (c : After-open-in-Monitor) → is_monitor_name c.args.name.now ≡ true → AreNamed c.self.inside.switches c.self.inside.pipes c.open-in-Monitor.new.self
 as_monitor c kind =
     named_monitor c.self.inside.switches c.self.inside.pipes c.self.inside.monitors c.open-in-Monitor.new.self c.args.name.now c.args.id c.open-in-Monitor.result c.self.invariant kind
-    c.open-in-Monitor.ensures.most c.open-in-Monitor.ensures.refusal c.open-in-Monitor.ensures.joined c.open-in-Monitor.ensures.err
+    (c.open-in-Monitor.ensures.most, c.open-in-Monitor.ensures.refusal, c.open-in-Monitor.ensures.joined, c.open-in-Monitor.ensures.err)
 
 pub open_on_switch-requires-clause-kind : goal.open_on_switch-requires-clause-kind
 open_on_switch-requires-clause-kind c = switch_name (goal.at.open_on_switch-requires-clause-kind c).In-Vale
