@@ -7,7 +7,7 @@ use Rattle.std.proofs.lemmas.Bool.{eqb-true, eq-eqb, cases_Bool, cases_lt}
 use Rattle.nm_types.specs.declared.id.SessionId.{SessionId}
 use Rattle.nm_types.specs.OwnPorts.{Arrival}
 use Rattle.vale_entry.specs.declared.entry.Ask.{Ask}
-use Rattle.vale_entry.specs.declared.entry.Ask.TheVariants.{Enter, Open, Send, Grant, Done, Sync, Reset, Shut, Finish, Leave, Put, PutKept, Get, Watch, Stat}
+use Rattle.vale_entry.specs.declared.entry.Ask.TheVariants.{Enter, Leave}
 use Rattle.vale_entry.specs.declared.entry.Entry.{Entry}
 use Rattle.vale_entry.specs.Arrivals.{arrivals_of}
 use Rattle.vale_entry.specs.World.{World, Lot, Offer, is_session}
@@ -18,7 +18,7 @@ use Rattle.vale_own.specs.Asker.{is_enter}
 use Rattle.vale_own.specs.There.{is_coming, is_leave_of, is_leaving, has_come, has_left}
 use Rattle.vale_own.proofs.Coming.{there-come}
 use Rattle.vale_script.specs.Script.{Program}
-use Rattle.vale_replay.specs.Tasks.{Captures, Task, Arrive, OpenPort, PutFrame, SendFrames, TakeFrames, ChangeOwn, SaveFrames, WatchPort, ReadCounts, ShutPort, FinishPort, Depart, EndLine}
+use Rattle.vale_replay.specs.Tasks.{Captures, Task, Arrive, Depart}
 use Rattle.vale_replay.specs.Machine.{Machine, settling_call, owed_lot, next_offer, done_call, grant_call, enter_call, call_of_tasks, next_call, with_tasks, answered, is_settling}
 use Rattle.vale_replay.specs.Replay.{UnitShare, ScriptUnit, TakesTurn, TakesTurns, EachShare, ReplaysShare, ReplaysUnit, ReplaysUnits, AreSplit, HasPlayed, Reaches, IsUnderWay, standing_before, starting, units_of, users_of, with_afters}
 use Rattle.vale_replay.proofs.Turns.{some-same}
@@ -33,26 +33,15 @@ use Rattle.vale_replay.proofs.Joins.{split-has, units-apart, take-apart, apart-a
 tasks-stay : (n : ℕ) (entry : Entry) (user next : Machine) (tasks : List Task) (x : SessionId) (ask : Ask)
     → user.session ≡ Some x → next.session ≡ Some x → call_of_tasks user tasks ≡ Some ask
     → is_leave_of x.0 (kept_ask ask) ≡ false → (with_tasks n entry next tasks).session ≡ Some x
-tasks-stay n entry user next [] x ask is is' call stays = is'
 tasks-stay n entry user next (Arrive ∷ rest) x ask is is' call stays =
     let none : None ≡ Some ask = ap (enter_call user.number) (sym is) ∙ call in
     absurd cc
-tasks-stay n entry user next (OpenPort name tx rx extra ∷ rest) x ask is is' call stays = is'
-tasks-stay n entry user next (PutFrame name bytes ∷ rest) x ask is is' call stays = is'
-tasks-stay n entry user next (SendFrames name ∷ rest) x ask is is' call stays = is'
-tasks-stay n entry user next (TakeFrames name ∷ rest) x ask is is' call stays = is'
-tasks-stay n entry user next (ChangeOwn act ∷ rest) x ask is is' call stays = is'
-tasks-stay n entry user next (SaveFrames name file ∷ rest) x ask is is' call stays = is'
-tasks-stay n entry user next (WatchPort monitor target sides ∷ rest) x ask is is' call stays = is'
-tasks-stay n entry user next (ReadCounts name ∷ rest) x ask is is' call stays = is'
-tasks-stay n entry user next (ShutPort name ∷ rest) x ask is is' call stays = is'
-tasks-stay n entry user next (FinishPort name ∷ rest) x ask is is' call stays = is'
 tasks-stay n entry user next (Depart ∷ rest) x ask is is' call stays =
     let same : Leave x ≡ ask = some-same (Leave x) ask (ap (option_map Leave) (sym is) ∙ call) in
     let hit : is_leave_of x.0 (kept_ask ask) ≡ true = ap (λ (a : Ask). is_leave_of x.0 (kept_ask a)) (sym same) ∙ eq-eqb x.0 x.0 refl in
     let clash : true ≡ false = sym hit ∙ stays in
     absurd cc
-tasks-stay n entry user next (EndLine ∷ rest) x ask is is' call stays = is'
+tasks-stay n entry user next _ x ask is is' call stays = is'
 
 settles-or : (lot : Option Lot) (offer : Option Offer) (call : Option Ask) (ask : Ask)
     → option_or (option_or (option_map done_call lot) (option_map grant_call offer)) call ≡ Some ask
@@ -113,36 +102,11 @@ tasks-come : (n name : ℕ) (entry : Entry) (w : World) (user next : Machine) (t
     → next_call w (record user { tasks = tasks }) ≡ Some (Enter name)
     → (with_tasks n entry next tasks).session ≡ Some (record { 0 = n })
 tasks-come n name entry w user next (Arrive ∷ rest) call = refl
-tasks-come n name entry w user next [] call = absurd (apart-next name (call-enters w (record user { number = suc name; tasks = [] }) name call))
-tasks-come n name entry w user next (OpenPort a tx rx extra ∷ rest) call = absurd (apart-next name (call-enters w (record user { number = suc name; tasks = OpenPort a tx rx extra ∷ rest }) name call))
-tasks-come n name entry w user next (PutFrame a bytes ∷ rest) call = absurd (apart-next name (call-enters w (record user { number = suc name; tasks = PutFrame a bytes ∷ rest }) name call))
-tasks-come n name entry w user next (SendFrames a ∷ rest) call = absurd (apart-next name (call-enters w (record user { number = suc name; tasks = SendFrames a ∷ rest }) name call))
-tasks-come n name entry w user next (TakeFrames a ∷ rest) call = absurd (apart-next name (call-enters w (record user { number = suc name; tasks = TakeFrames a ∷ rest }) name call))
-tasks-come n name entry w user next (ChangeOwn act ∷ rest) call = absurd (apart-next name (call-enters w (record user { number = suc name; tasks = ChangeOwn act ∷ rest }) name call))
-tasks-come n name entry w user next (SaveFrames a file ∷ rest) call = absurd (apart-next name (call-enters w (record user { number = suc name; tasks = SaveFrames a file ∷ rest }) name call))
-tasks-come n name entry w user next (WatchPort a target sides ∷ rest) call = absurd (apart-next name (call-enters w (record user { number = suc name; tasks = WatchPort a target sides ∷ rest }) name call))
-tasks-come n name entry w user next (ReadCounts a ∷ rest) call = absurd (apart-next name (call-enters w (record user { number = suc name; tasks = ReadCounts a ∷ rest }) name call))
-tasks-come n name entry w user next (ShutPort a ∷ rest) call = absurd (apart-next name (call-enters w (record user { number = suc name; tasks = ShutPort a ∷ rest }) name call))
-tasks-come n name entry w user next (FinishPort a ∷ rest) call = absurd (apart-next name (call-enters w (record user { number = suc name; tasks = FinishPort a ∷ rest }) name call))
-tasks-come n name entry w user next (Depart ∷ rest) call = absurd (apart-next name (call-enters w (record user { number = suc name; tasks = Depart ∷ rest }) name call))
-tasks-come n name entry w user next (EndLine ∷ rest) call = absurd (apart-next name (call-enters w (record user { number = suc name; tasks = EndLine ∷ rest }) name call))
+tasks-come n name entry w user next tasks call = absurd (apart-next name (call-enters w (record user { number = suc name; tasks = tasks }) name call))
 
 pub enter-of : (ask : Ask) → is_enter (kept_ask ask) ≡ true → (name : ℕ) × (ask ≡ Enter name)
 enter-of (Enter name) e = (name, refl)
-enter-of (Open session name tx rx extra) e = absurd cc
-enter-of (Send port frames) e = absurd cc
-enter-of (Grant origin to) e = absurd cc
-enter-of (Done lease) e = absurd cc
-enter-of (Sync port back) e = absurd cc
-enter-of (Reset port side fault) e = absurd cc
-enter-of (Shut port) e = absurd cc
-enter-of (Finish port bufs chain) e = absurd cc
-enter-of (Leave session) e = absurd cc
-enter-of (Put port offered) e = absurd cc
-enter-of (PutKept port offered) e = absurd cc
-enter-of (Get port back) e = absurd cc
-enter-of (Watch monitor target sides) e = absurd cc
-enter-of (Stat port) e = absurd cc
+enter-of _ e = absurd cc
 
 turn-comes : (pool : ℕ) (h : List Entry) (before : Machine) (n : ℕ) (after : Machine) (turn : TakesTurn pool h before n after)
     → is_coming turn.entry ≡ true → after.session ≡ Some (record { 0 = n })

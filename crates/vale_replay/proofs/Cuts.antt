@@ -121,10 +121,7 @@ shares-cut R S users (share ∷ shares) count (ns ∷ lists) (a ∷ afters) f ea
     let one = f share each.0.0 ns a each.0.2 in
     let rest = shares-cut R S users shares count lists afters f each.1 in
     record { nows = one.0 ∷ rest.nows; each = ((each.0.0, each.0.1, one.1), rest.each) }
-shares-cut R S users [] count [] (a ∷ afters) f each = absurd each
-shares-cut R S users [] count (ns ∷ lists) afters f each = absurd each
-shares-cut R S users (share ∷ shares) count [] afters f each = absurd each
-shares-cut R S users (share ∷ shares) count (ns ∷ lists) [] f each = absurd each
+shares-cut R S users _ count _ _ f each = absurd each
 
 -- how often a number stands in the cut lists
 among-low : (pool : ℕ) (h : List Entry) (users : List Machine) (unit : ScriptUnit) (count : ℕ) (lists : List (List ℕ)) (afters : List Machine) (b : ℕ)
@@ -136,10 +133,7 @@ among-low pool h users (share ∷ shares) count (ns ∷ lists) (a ∷ afters) b 
     let cut = among-cons b (up_to count ns) (map (up_to count) lists) in
     let all = among-cons b ns lists in
     omega (arith, one, rest, cut, all)
-among-low pool h users [] count [] (a ∷ afters) b each within = absurd each
-among-low pool h users [] count (ns ∷ lists) afters b each within = absurd each
-among-low pool h users (share ∷ shares) count [] afters b each within = absurd each
-among-low pool h users (share ∷ shares) count (ns ∷ lists) [] b each within = absurd each
+among-low pool h users _ count _ _ b each within = absurd each
 
 among-high : (count b : ℕ) (lists : List (List ℕ)) → count < b
     → times_among b (map (up_to count) lists) ≡ 0
@@ -176,10 +170,7 @@ shares-read pool h users (share ∷ shares) count (ns ∷ lists) (a ∷ afters) 
     last : (ms : List ℕ) → ((b : ℕ) → 1 ≤ count_of b ms → b ≤ count) → last_of ms ≤ count
     last [] f = omega arith
     last (m ∷ ms) f = f (last_behind m ms) (last-counted m ms)
-shares-read pool h users [] count [] (a ∷ afters) within each = absurd each
-shares-read pool h users [] count (ns ∷ lists) afters within each = absurd each
-shares-read pool h users (share ∷ shares) count [] afters within each = absurd each
-shares-read pool h users (share ∷ shares) count (ns ∷ lists) [] within each = absurd each
+shares-read pool h users _ count _ _ within each = absurd each
 
 unit-cut : (pool : ℕ) (h : List Entry) (users : List Machine) (first : ℕ) (unit : ScriptUnit) (next : List Machine) (last count : ℕ)
     → last ≤ count → ReplaysUnit pool h users first unit next last → ReplaysUnit pool (take count h) users first unit next last

@@ -12,7 +12,7 @@ use Rattle.nm_types.specs.OwnPorts.{OwnRing, OwnPort, OwnState, bytes_at, pushed
 use Rattle.nm_types.specs.OwnEdits.{has_slot}
 use Rattle.nm_types.specs.Slots.{pushed_frames}
 use Rattle.vale_entry.specs.declared.entry.Ask.{Ask}
-use Rattle.vale_entry.specs.declared.entry.Ask.TheVariants.{Enter, Open, Send, Grant, Done, Sync, Reset, Shut, Finish, Leave, Put, PutKept, Get, Watch, Stat}
+use Rattle.vale_entry.specs.declared.entry.Ask.TheVariants.{Enter, Open, Send, Sync, Shut, Leave, Put, Get, Watch, Stat}
 use Rattle.vale_entry.specs.declared.entry.Entry.{Entry}
 use Rattle.vale_entry.specs.World.{World}
 use Rattle.vale_entry.specs.Legal.{Outcome, kept_ask, step}
@@ -124,20 +124,7 @@ enters-by n w user (Enter name) entry asked is e =
     let same : record { 0 = n } ≡ entry.session = some-same (record { 0 = n }) entry.session e in
     let number : name ≡ user.number = call-enters w user name asked in
     inr (record { session = ap (λ (x : SessionId). x.0) (sym same); ask = is ∙ ap Enter number })
-enters-by n w user (Open session name tx rx extra) entry asked is e = inl e
-enters-by n w user (Send port frames) entry asked is e = inl e
-enters-by n w user (Grant origin to) entry asked is e = inl e
-enters-by n w user (Done lease) entry asked is e = inl e
-enters-by n w user (Sync port back) entry asked is e = inl e
-enters-by n w user (Reset port side fault) entry asked is e = inl e
-enters-by n w user (Shut port) entry asked is e = inl e
-enters-by n w user (Finish port bufs chain) entry asked is e = inl e
-enters-by n w user (Leave session) entry asked is e = inl e
-enters-by n w user (Put port offered) entry asked is e = inl e
-enters-by n w user (PutKept port offered) entry asked is e = inl e
-enters-by n w user (Get port back) entry asked is e = inl e
-enters-by n w user (Watch monitor target sides) entry asked is e = inl e
-enters-by n w user (Stat port) entry asked is e = inl e
+enters-by n w user _ entry asked is e = inl e
 
 pub turn-enters : (pool : ℕ) (h : List Entry) (before : Machine) (n : ℕ) (after : Machine) (turn : TakesTurn pool h before n after)
     → (before.session ≡ Some turn.entry.session) ⊎ Enters n before turn.entry

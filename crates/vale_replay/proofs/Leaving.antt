@@ -17,7 +17,7 @@ use Rattle.vale_entry.specs.Legal.{Standing, standing_of}
 use Rattle.vale_entry.specs.OwnCalls.{own_after}
 use Rattle.vale_entry.proofs.Numbered.{world-numbered}
 use Rattle.vale_script.specs.Script.{Program}
-use Rattle.vale_replay.specs.Tasks.{Captures, Task, Arrive, OpenPort, PutFrame, SendFrames, TakeFrames, ChangeOwn, SaveFrames, WatchPort, ReadCounts, ShutPort, FinishPort, Depart, EndLine, records_of}
+use Rattle.vale_replay.specs.Tasks.{Captures, Task, ShutPort, FinishPort, Depart, records_of}
 use Rattle.vale_replay.specs.Machine.{Machine, new_machine, closing_of, closing_tasks, call_of_task, call_of_tasks, at_rest, resting, settling_call, with_tasks, answered, is_settling}
 use Rattle.vale_replay.specs.Replay.{UnitShare, ScriptUnit, TakesTurn, TakesTurns, ReplaysUnit, ReplaysUnits, NeedsNoCall, HasPlayed, standing_before, shares_of, closing_unit, starting, units_of, user_count, users_of, with_afters}
 use Rattle.vale_replay.specs.Laws.{HasNoSession, UsersLeave}
@@ -68,18 +68,7 @@ rest-leaves user (ShutPort name ∷ tasks) leave =
 rest-leaves user (FinishPort name ∷ tasks) leave =
     rest-by user (at_rest user tasks) (FinishPort name ∷ tasks) (is_some (call_of_task user (FinishPort name))) (λ e. (leave, e)) (rest-leaves user tasks leave)
 rest-leaves user (Depart ∷ []) leave = depart-by user (is_some (option_map Leave user.session)) refl
-rest-leaves user [] leave = absurd leave
-rest-leaves user (Depart ∷ task ∷ tasks) leave = absurd leave
-rest-leaves user (Arrive ∷ tasks) leave = absurd leave
-rest-leaves user (OpenPort a tx rx extra ∷ tasks) leave = absurd leave
-rest-leaves user (PutFrame a bytes ∷ tasks) leave = absurd leave
-rest-leaves user (SendFrames a ∷ tasks) leave = absurd leave
-rest-leaves user (TakeFrames a ∷ tasks) leave = absurd leave
-rest-leaves user (ChangeOwn act ∷ tasks) leave = absurd leave
-rest-leaves user (SaveFrames a file ∷ tasks) leave = absurd leave
-rest-leaves user (WatchPort a target sides ∷ tasks) leave = absurd leave
-rest-leaves user (ReadCounts a ∷ tasks) leave = absurd leave
-rest-leaves user (EndLine ∷ tasks) leave = absurd leave
+rest-leaves user _ leave = absurd leave
 
 -- an entry of its calls
 tasks-leave : (n : ℕ) (entry : Entry) (user : Machine) (tasks : List Task) → LeaveAtLast tasks
@@ -87,18 +76,7 @@ tasks-leave : (n : ℕ) (entry : Entry) (user : Machine) (tasks : List Task) →
 tasks-leave n entry user (ShutPort name ∷ tasks) leave = rest-leaves (record user { tasks = tasks }) tasks leave
 tasks-leave n entry user (FinishPort name ∷ tasks) leave = rest-leaves (record user { tasks = tasks }) tasks leave
 tasks-leave n entry user (Depart ∷ []) leave = inr (refl, refl)
-tasks-leave n entry user [] leave = absurd leave
-tasks-leave n entry user (Depart ∷ task ∷ tasks) leave = absurd leave
-tasks-leave n entry user (Arrive ∷ tasks) leave = absurd leave
-tasks-leave n entry user (OpenPort a tx rx extra ∷ tasks) leave = absurd leave
-tasks-leave n entry user (PutFrame a bytes ∷ tasks) leave = absurd leave
-tasks-leave n entry user (SendFrames a ∷ tasks) leave = absurd leave
-tasks-leave n entry user (TakeFrames a ∷ tasks) leave = absurd leave
-tasks-leave n entry user (ChangeOwn act ∷ tasks) leave = absurd leave
-tasks-leave n entry user (SaveFrames a file ∷ tasks) leave = absurd leave
-tasks-leave n entry user (WatchPort a target sides ∷ tasks) leave = absurd leave
-tasks-leave n entry user (ReadCounts a ∷ tasks) leave = absurd leave
-tasks-leave n entry user (EndLine ∷ tasks) leave = absurd leave
+tasks-leave n entry user _ leave = absurd leave
 
 answer-by : (n : ℕ) (entry : Entry) (own : OwnState) (user : Machine) (b : Bool) → LeaveAtLast user.tasks
     → IsLeaving (resting (cond b user (with_tasks n entry (record user { own = own }) user.tasks)))

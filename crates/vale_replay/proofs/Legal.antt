@@ -95,10 +95,7 @@ pub shares-follow : (pool : ℕ) (h : List Entry) (b : ℕ) (users : List Machin
 shares-follow pool h b users [] [] [] each some = absurd (omega (arith, some))
 shares-follow pool h b users (share ∷ shares) (ns ∷ lists) (after ∷ afters) each some =
     one-or_others pool h b ns lists some (turns-follow pool h b (starting share each.0.0) ns after each.0.2.turns) (shares-follow pool h b users shares lists afters each.1)
-shares-follow pool h b users [] [] (after ∷ afters) each some = absurd each
-shares-follow pool h b users [] (ns ∷ lists) afters each some = absurd each
-shares-follow pool h b users (share ∷ shares) [] afters each some = absurd each
-shares-follow pool h b users (share ∷ shares) (ns ∷ lists) [] each some = absurd each
+shares-follow pool h b users _ _ _ each some = absurd each
 
 split-follows : (pool : ℕ) (h : List Entry) (users : List Machine) (first : ℕ) (unit : ScriptUnit) (lists : List (List ℕ)) (afters : List Machine) (last b : ℕ)
     → AreSplit first last lists → EachShare (ReplaysShare pool h) users unit lists afters → first < b → b ≤ last → FollowsAt pool h b

@@ -108,10 +108,7 @@ member R users users' (share ∷ shares) (ns ∷ lists) (a ∷ afters) i after a
         → Member R users (share ∷ shares) (ns ∷ lists) i after
     by_here (inl e) rest = member-here R users users' share shares ns lists a afters i after each.0.0 apart.0 e each.0.1 each.0.2 same found
     by_here (inr e) rest = member-there R users share shares ns lists i after e (rest (get-other users' (place_of share) i a e ∙ same) found)
-member R users users' [] [] (a ∷ afters) i after apart each same found = absurd each
-member R users users' [] (ns ∷ lists) afters i after apart each same found = absurd each
-member R users users' (share ∷ shares) [] afters i after apart each same found = absurd each
-member R users users' (share ∷ shares) (ns ∷ lists) [] i after apart each same found = absurd each
+member R users users' _ _ _ i after apart each same found = absurd each
 
 -- Numbers of two users are different ones.
 
@@ -218,10 +215,7 @@ has-member R users (share ∷ shares) (ns ∷ lists) (a ∷ afters) b apart each
     by_here (inr none) rest =
         let all = among-cons b ns lists in
         has-there R users share shares ns lists b apart.0 (rest (omega (arith, all, none, some)))
-has-member R users [] [] (a ∷ afters) b apart each some = absurd each
-has-member R users [] (ns ∷ lists) afters b apart each some = absurd each
-has-member R users (share ∷ shares) [] afters b apart each some = absurd each
-has-member R users (share ∷ shares) (ns ∷ lists) [] b apart each some = absurd each
+has-member R users _ _ _ b apart each some = absurd each
 
 -- What holds of each share.
 
@@ -231,10 +225,7 @@ pub each-weaker : (R S : UnitShare → Machine → List ℕ → Machine → Type
 each-weaker R S users [] [] [] f each = tt
 each-weaker R S users (share ∷ shares) (ns ∷ lists) (a ∷ afters) f each =
     ((each.0.0, each.0.1, f share each.0.0 ns a each.0.2), each-weaker R S users shares lists afters f each.1)
-each-weaker R S users [] [] (a ∷ afters) f each = absurd each
-each-weaker R S users [] (ns ∷ lists) afters f each = absurd each
-each-weaker R S users (share ∷ shares) [] afters f each = absurd each
-each-weaker R S users (share ∷ shares) (ns ∷ lists) [] f each = absurd each
+each-weaker R S users _ _ _ f each = absurd each
 
 -- the places of the shares have the same users as before
 abbrev pub HaveSame : List Machine → List Machine → ScriptUnit → Type 0
@@ -273,10 +264,7 @@ all-afters R P Q users users' (share ∷ shares) (ns ∷ lists) (a ∷ afters) a
   where
     new : slice_get (with_afters (share ∷ shares) (a ∷ afters) users') (place_of share) ≡ Some a
     new = after-elsewhere (place_of share) shares afters (slice_set users' (place_of share) a) apart.0 ∙ get-same users' (place_of share) a each.0.0 (same.0 ∙ each.0.1)
-all-afters R P Q users users' [] [] (a ∷ afters) apart each f same all = absurd each
-all-afters R P Q users users' [] (ns ∷ lists) afters apart each f same all = absurd each
-all-afters R P Q users users' (share ∷ shares) [] afters apart each f same all = absurd each
-all-afters R P Q users users' (share ∷ shares) (ns ∷ lists) [] apart each f same all = absurd each
+all-afters R P Q users users' _ _ _ apart each f same all = absurd each
 
 -- a user that has a share in the unit, behind it
 pub record HasShare (R : UnitShare → Machine → List ℕ → Machine → Type 0) (afters next : List Machine) (user : ℕ) : Type 0 where
@@ -311,10 +299,7 @@ has-share R users users' (share ∷ shares) (ns ∷ lists) (a ∷ nows) user apa
         let later : list_any (is_share_of user) shares ≡ true = ap (λ (b : Bool). b || list_any (is_share_of user) shares) (sym e) ∙ some in
         let r = rest later in
         record { share = r.share; before = r.before; ns = r.ns; now = r.now; is = r.is; order = suc r.order; at = r.at; here = r.here; goes = r.goes }
-has-share R users users' [] [] (a ∷ nows) user apart each same some = absurd each
-has-share R users users' [] (ns ∷ lists) nows user apart each same some = absurd each
-has-share R users users' (share ∷ shares) [] nows user apart each same some = absurd each
-has-share R users users' (share ∷ shares) (ns ∷ lists) [] user apart each same some = absurd each
+has-share R users users' _ _ _ user apart each same some = absurd each
 
 -- Shares whose users rise are of different users.
 

@@ -68,30 +68,21 @@ share-at pool h users (share ∷ shares) (ns ∷ lists) (a ∷ afters) zero m ea
       replays = subst (λ (x : Machine). ReplaysUser pool h x ns a) (sym is) each.0.2;
     }
 share-at pool h users (share ∷ shares) (ns ∷ lists) (a ∷ afters) (suc k) m each at = share-at pool h users shares lists afters k m each.1 at
-share-at pool h users [] [] (a ∷ afters) k m each at = absurd each
-share-at pool h users [] (ns ∷ lists) afters k m each at = absurd each
-share-at pool h users (share ∷ shares) [] afters k m each at = absurd each
-share-at pool h users (share ∷ shares) (ns ∷ lists) [] k m each at = absurd each
+share-at pool h users _ _ _ k m each at = absurd each
 
 none-at : (pool : ℕ) (h : List Entry) (users : List Machine) (unit : ScriptUnit) (lists : List (List ℕ)) (afters : List Machine) (k : ℕ)
     → EachShare (ReplaysShare pool h) users unit lists afters → slice_get (starts_of users unit) k ≡ None → slice_get afters k ≡ None
 none-at pool h users [] [] [] k each at = refl
 none-at pool h users (share ∷ shares) (ns ∷ lists) (a ∷ afters) zero each at = absurd cc
 none-at pool h users (share ∷ shares) (ns ∷ lists) (a ∷ afters) (suc k) each at = none-at pool h users shares lists afters k each.1 at
-none-at pool h users [] [] (a ∷ afters) k each at = absurd each
-none-at pool h users [] (ns ∷ lists) afters k each at = absurd each
-none-at pool h users (share ∷ shares) [] afters k each at = absurd each
-none-at pool h users (share ∷ shares) (ns ∷ lists) [] k each at = absurd each
+none-at pool h users _ _ _ k each at = absurd each
 
 rise-at : (pool : ℕ) (h : List Entry) (users : List Machine) (unit : ScriptUnit) (lists : List (List ℕ)) (afters : List Machine) (k : ℕ)
     → EachShare (ReplaysShare pool h) users unit lists afters → Rise 0 (list_at lists k) (length h)
 rise-at pool h users [] [] [] k each = omega arith
 rise-at pool h users (share ∷ shares) (ns ∷ lists) (a ∷ afters) zero each = each.0.2.rise
 rise-at pool h users (share ∷ shares) (ns ∷ lists) (a ∷ afters) (suc k) each = rise-at pool h users shares lists afters k each.1
-rise-at pool h users [] [] (a ∷ afters) k each = absurd each
-rise-at pool h users [] (ns ∷ lists) afters k each = absurd each
-rise-at pool h users (share ∷ shares) [] afters k each = absurd each
-rise-at pool h users (share ∷ shares) (ns ∷ lists) [] k each = absurd each
+rise-at pool h users _ _ _ k each = absurd each
 
 number-at : (pool : ℕ) (h : List Entry) (users : List Machine) (unit : ScriptUnit) (lists : List (List ℕ)) (afters : List Machine) (b : ℕ)
     → EachShare (ReplaysShare pool h) users unit lists afters → 1 ≤ times_among b lists → HasNumber (starts_of users unit) (list_at lists) b
@@ -107,10 +98,7 @@ number-at pool h users (share ∷ shares) (ns ∷ lists) (a ∷ afters) b each s
         let all = among-cons b ns lists in
         let later = rest (omega (arith, all, none, some)) in
         record { place = suc later.place; user = later.user; here = later.here; some = later.some }
-number-at pool h users [] [] (a ∷ afters) b each some = absurd each
-number-at pool h users [] (ns ∷ lists) afters b each some = absurd each
-number-at pool h users (share ∷ shares) [] afters b each some = absurd each
-number-at pool h users (share ∷ shares) (ns ∷ lists) [] b each some = absurd each
+number-at pool h users _ _ _ b each some = absurd each
 
 one-at : (b k : ℕ) (lists : List (List ℕ)) → count_of b (list_at lists k) ≤ times_among b lists
 one-at b k [] = omega arith

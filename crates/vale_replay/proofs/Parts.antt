@@ -9,7 +9,7 @@ use Rattle.vale_entry.specs.Arrivals.{arrivals_of}
 use Rattle.vale_entry.specs.Legal.{standing_of, IsLegal}
 use Rattle.vale_entry.proofs.Counting.{count_of, count_of-cons}
 use Rattle.vale_own.proofs.OwnKept.{legal-split}
-use Rattle.vale_replay.specs.Tasks.{Task, Arrive, OpenPort, PutFrame, SendFrames, TakeFrames, ChangeOwn, SaveFrames, WatchPort, ReadCounts, ShutPort, FinishPort, Depart, EndLine}
+use Rattle.vale_replay.specs.Tasks.{Task, Arrive}
 use Rattle.vale_replay.specs.Machine.{Machine, settling_call, call_of_task, call_of_tasks, after_task, at_rest, answered}
 use Rattle.vale_replay.specs.Replay.{UnitShare, ScriptUnit, TakesTurns, EachShare, ReplaysShare, ReplaysUnit, ReplaysUnits, AreSplit, NeedsNoCall, last_of, last_behind, standing_before, starting, times_among, units_of, users_of}
 use Rattle.vale_replay.specs.Joined.{PlaysShare, IsWithin, TurnsOfUnit, TurnsOfUnits, PlayedIsOfTurns, lists_in}
@@ -25,18 +25,7 @@ use Rattle.vale_replay.proofs.Sides.{AreForeign, each-with, foreign-at, or-secon
 pub call-same : (user : Machine) (tasks : List Task) (task : Task)
     → call_of_task (record user { tasks = tasks }) task ≡ call_of_task user task
 call-same user tasks Arrive = refl
-call-same user tasks (OpenPort name tx rx extra) = refl
-call-same user tasks (PutFrame name bytes) = refl
-call-same user tasks (SendFrames name) = refl
-call-same user tasks (TakeFrames name) = refl
-call-same user tasks (ChangeOwn act) = refl
-call-same user tasks (SaveFrames name file) = refl
-call-same user tasks (WatchPort monitor target sides) = refl
-call-same user tasks (ReadCounts name) = refl
-call-same user tasks (ShutPort name) = refl
-call-same user tasks (FinishPort name) = refl
-call-same user tasks Depart = refl
-call-same user tasks EndLine = refl
+call-same user tasks _ = refl
 
 abbrev IsRested : Machine → Type 0
 IsRested user = (user.tasks ≡ []) ⊎ (is_some (call_of_tasks user user.tasks) ≡ true)
@@ -145,10 +134,7 @@ each-placed R users (share ∷ shares) (ns ∷ lists) (a ∷ afters) apart each 
       (λ s b ms m w. later-place R users share shares ns lists s b ms m w.1.0 w.0)
       (each-with (WithPlace R users shares lists) (IsElsewhere (place_of share)) Anywhere users shares lists afters apart.0 (everywhere afters) (each-placed R users shares lists afters apart.1 each.1)),
 )
-each-placed R users [] [] (a ∷ afters) apart each = absurd each
-each-placed R users [] (ns ∷ lists) afters apart each = absurd each
-each-placed R users (share ∷ shares) [] afters apart each = absurd each
-each-placed R users (share ∷ shares) (ns ∷ lists) [] apart each = absurd each
+each-placed R users _ _ _ apart each = absurd each
 
 -- One unit.
 

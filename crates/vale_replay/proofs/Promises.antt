@@ -42,10 +42,7 @@ shares-map : (R S : UnitShare → Machine → List ℕ → Machine → Type 0) (
 shares-map R S users [] first last [] [] f inside each = tt
 shares-map R S users (share ∷ shares) first last (ns ∷ lists) (a ∷ afters) f inside each =
     ((each.0.0, each.0.1, f share each.0.0 ns a (within-last first last 0 ns (omega arith) inside.0) each.0.2), shares-map R S users shares first last lists afters f inside.1 each.1)
-shares-map R S users [] first last [] (a ∷ afters) f inside each = absurd each
-shares-map R S users [] first last (ns ∷ lists) afters f inside each = absurd each
-shares-map R S users (share ∷ shares) first last [] afters f inside each = absurd each
-shares-map R S users (share ∷ shares) first last (ns ∷ lists) [] f inside each = absurd each
+shares-map R S users _ first last _ _ f inside each = absurd each
 
 unit-read : (pool : ℕ) (h k : List Entry) (users : List Machine) (first : ℕ) (unit : ScriptUnit) (lists : List (List ℕ)) (next : List Machine) (last : ℕ)
     → ((before : Machine) (ns : List ℕ) (after : Machine) → last_of ns ≤ last → PlaysUser pool h before ns after → PlaysUser pool k before ns after)

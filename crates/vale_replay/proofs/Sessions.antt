@@ -5,12 +5,12 @@ use Rattle.std.proofs.lemmas.Bool.{eqb-true, eq-eqb, cases_Bool}
 use Rattle.nm_types.specs.declared.id.SessionId.{SessionId}
 use Rattle.nm_types.specs.OwnPorts.{Arrival}
 use Rattle.vale_entry.specs.declared.entry.Ask.{Ask}
-use Rattle.vale_entry.specs.declared.entry.Ask.TheVariants.{Enter, Open, Send, Grant, Done, Sync, Reset, Shut, Finish, Leave, Put, PutKept, Get, Watch, Stat}
+use Rattle.vale_entry.specs.declared.entry.Ask.TheVariants.{Enter}
 use Rattle.vale_entry.specs.declared.entry.Entry.{Entry}
 use Rattle.vale_entry.specs.Arrivals.{arrivals_of}
 use Rattle.vale_entry.specs.OwnCalls.{own_after}
 use Rattle.vale_entry.proofs.Counting.{count_of, count_of-cons}
-use Rattle.vale_replay.specs.Tasks.{Task, Arrive, OpenPort, PutFrame, SendFrames, TakeFrames, ChangeOwn, SaveFrames, WatchPort, ReadCounts, ShutPort, FinishPort, Depart, EndLine}
+use Rattle.vale_replay.specs.Tasks.{Task, Arrive, Depart}
 use Rattle.vale_replay.specs.Machine.{Machine, call_of_task, after_task, at_rest, resting, answered, with_tasks, is_settling}
 use Rattle.vale_replay.specs.Replay.{UnitShare, TakesTurn, TakesTurns, caller_of, standing_before, starting}
 use Rattle.vale_replay.proofs.Turns.{some-same}
@@ -23,18 +23,7 @@ pub record IsSame (user other : Machine) : Type 0 where
 
 pub after-same : (task : Task) (user : Machine) → IsSame user (after_task task user)
 after-same Arrive user = record { session = refl; number = refl }
-after-same (OpenPort name tx rx extra) user = record { session = refl; number = refl }
-after-same (PutFrame name bytes) user = record { session = refl; number = refl }
-after-same (SendFrames name) user = record { session = refl; number = refl }
-after-same (TakeFrames name) user = record { session = refl; number = refl }
-after-same (ChangeOwn act) user = record { session = refl; number = refl }
-after-same (SaveFrames name file) user = record { session = refl; number = refl }
-after-same (WatchPort monitor target sides) user = record { session = refl; number = refl }
-after-same (ReadCounts name) user = record { session = refl; number = refl }
-after-same (ShutPort name) user = record { session = refl; number = refl }
-after-same (FinishPort name) user = record { session = refl; number = refl }
-after-same Depart user = record { session = refl; number = refl }
-after-same EndLine user = record { session = refl; number = refl }
+after-same _ user = record { session = refl; number = refl }
 
 same-then : (one two three : Machine) → IsSame one two → IsSame two three → IsSame one three
 same-then one two three front back = record { session = back.session ∙ front.session; number = back.number ∙ front.number }
@@ -65,20 +54,9 @@ pub record GoesOn (n : ℕ) (before after : Machine) : Type 0 where
 
 tasks-on : (n : ℕ) (entry : Entry) (user : Machine) (tasks : List Task)
     → GoesOn n user (with_tasks n entry user tasks)
-tasks-on n entry user [] = record { session = inl refl; number = refl }
 tasks-on n entry user (Arrive ∷ tasks) = record { session = inr (inr refl); number = refl }
-tasks-on n entry user (OpenPort name tx rx extra ∷ tasks) = record { session = inl refl; number = refl }
-tasks-on n entry user (PutFrame name bytes ∷ tasks) = record { session = inl refl; number = refl }
-tasks-on n entry user (SendFrames name ∷ tasks) = record { session = inl refl; number = refl }
-tasks-on n entry user (TakeFrames name ∷ tasks) = record { session = inl refl; number = refl }
-tasks-on n entry user (ChangeOwn act ∷ tasks) = record { session = inl refl; number = refl }
-tasks-on n entry user (SaveFrames name file ∷ tasks) = record { session = inl refl; number = refl }
-tasks-on n entry user (WatchPort monitor target sides ∷ tasks) = record { session = inl refl; number = refl }
-tasks-on n entry user (ReadCounts name ∷ tasks) = record { session = inl refl; number = refl }
-tasks-on n entry user (ShutPort name ∷ tasks) = record { session = inl refl; number = refl }
-tasks-on n entry user (FinishPort name ∷ tasks) = record { session = inl refl; number = refl }
 tasks-on n entry user (Depart ∷ tasks) = record { session = inr (inl refl); number = refl }
-tasks-on n entry user (EndLine ∷ tasks) = record { session = inl refl; number = refl }
+tasks-on n entry user _ = record { session = inl refl; number = refl }
 
 answer-by : (n : ℕ) (entry : Entry) (came : List Arrival) (user : Machine) (b : Bool)
     → GoesOn n user (cond b user (with_tasks n entry (record user { own = own_after n entry came user.own }) user.tasks))
@@ -103,20 +81,7 @@ caller-is : (n : ℕ) (user : Machine) (ask : Ask) (s : SessionId) → caller_of
 caller-is n user (Enter name) s e =
     let same : record { 0 = n } ≡ s = some-same (record { 0 = n }) s e in
     inr (ap (λ (x : SessionId). x.0) (sym same))
-caller-is n user (Open session name tx rx extra) s e = inl e
-caller-is n user (Send port frames) s e = inl e
-caller-is n user (Grant origin to) s e = inl e
-caller-is n user (Done lease) s e = inl e
-caller-is n user (Sync port back) s e = inl e
-caller-is n user (Reset port side fault) s e = inl e
-caller-is n user (Shut port) s e = inl e
-caller-is n user (Finish port bufs chain) s e = inl e
-caller-is n user (Leave session) s e = inl e
-caller-is n user (Put port offered) s e = inl e
-caller-is n user (PutKept port offered) s e = inl e
-caller-is n user (Get port back) s e = inl e
-caller-is n user (Watch monitor target sides) s e = inl e
-caller-is n user (Stat port) s e = inl e
+caller-is n user _ s e = inl e
 
 pub turn-on : (pool : ℕ) (h : List Entry) (before : Machine) (n : ℕ) (after : Machine)
     → TakesTurn pool h before n after → GoesOn n before after

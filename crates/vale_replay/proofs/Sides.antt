@@ -23,7 +23,7 @@ use Rattle.vale_script.specs.declared.script.Line.{Line}
 use Rattle.vale_script.specs.declared.script.Unit.{Unit as ReadUnit}
 use Rattle.vale_script.specs.declared.script.Unit.TheVariants as parts
 use Rattle.vale_script.specs.Script.{Program}
-use Rattle.vale_replay.specs.Tasks.{Captures, Task, Arrive, OpenPort, PutFrame, SendFrames, TakeFrames, ChangeOwn, SaveFrames, WatchPort, ReadCounts, ShutPort, FinishPort, Depart, EndLine, records_of}
+use Rattle.vale_replay.specs.Tasks.{Captures, Task, FinishPort, records_of}
 use Rattle.vale_replay.specs.Machine.{Machine, new_machine, settling_call, call_of_task, call_of_tasks}
 use Rattle.vale_replay.specs.Replay.{UnitShare, ScriptUnit, TakesTurn, TakesTurns, EachShare, ReplaysShare, ReplaysUnit, ReplaysUnits, AreSplit, NeedsNoCall, HasPlayed, Reaches, IsUnderWay, times_among, acts_of, has_line, share_of, shares_of, closing_unit, starting, user_count, units_of, users_of, with_afters}
 use Rattle.vale_replay.specs.Owners.{HoldsItsOwn, UsersHoldTheirOwn, times_in}
@@ -114,10 +114,7 @@ pub each-with : (R : UnitShare → Machine → List ℕ → Machine → Type 0) 
 each-with R P Q users [] [] [] ps qs each = tt
 each-with R P Q users (share ∷ shares) (ns ∷ lists) (a ∷ afters) ps qs each =
     ((each.0.0, each.0.1, (each.0.2, (ps.0, qs.0))), each-with R P Q users shares lists afters ps.1 qs.1 each.1)
-each-with R P Q users [] [] (a ∷ afters) ps qs each = absurd each
-each-with R P Q users [] (ns ∷ lists) afters ps qs each = absurd each
-each-with R P Q users (share ∷ shares) [] afters ps qs each = absurd each
-each-with R P Q users (share ∷ shares) (ns ∷ lists) [] ps qs each = absurd each
+each-with R P Q users _ _ _ ps qs each = absurd each
 
 with-both : (pool : ℕ) (h : List Entry) (Q : Machine → Type 0) (users : List Machine) (unit : ScriptUnit) (lists : List (List ℕ)) (afters : List Machine)
     → AllByRecursion IsPairedShare unit → AllByRecursion Q afters
@@ -208,19 +205,7 @@ keeps-ends pool h u ended keeps = by_shut keeps.shut u.tasks none keeps.side kee
         let call : call_of_task u (FinishPort name) ≡ Some (finish_call u.own order.0.0) = ap (option_map (finish_call u.own)) order.0.1 in
         let clash : None ≡ Some (finish_call u.own order.0.0) = sym e ∙ call in
         absurd cc
-    by_shut (Some id) [] e side order = absurd order
-    by_shut (Some id) (Arrive ∷ tasks) e side order = absurd order
-    by_shut (Some id) (OpenPort other tx rx extra ∷ tasks) e side order = absurd order
-    by_shut (Some id) (PutFrame other bytes ∷ tasks) e side order = absurd order
-    by_shut (Some id) (SendFrames other ∷ tasks) e side order = absurd order
-    by_shut (Some id) (TakeFrames other ∷ tasks) e side order = absurd order
-    by_shut (Some id) (ChangeOwn act ∷ tasks) e side order = absurd order
-    by_shut (Some id) (SaveFrames other file ∷ tasks) e side order = absurd order
-    by_shut (Some id) (WatchPort monitor target sides ∷ tasks) e side order = absurd order
-    by_shut (Some id) (ReadCounts other ∷ tasks) e side order = absurd order
-    by_shut (Some id) (ShutPort other ∷ tasks) e side order = absurd order
-    by_shut (Some id) (Depart ∷ tasks) e side order = absurd order
-    by_shut (Some id) (EndLine ∷ tasks) e side order = absurd order
+    by_shut (Some id) _ e side order = absurd order
 
 -- Units one after another.
 

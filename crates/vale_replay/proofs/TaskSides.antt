@@ -12,7 +12,7 @@ use Rattle.vale_own.specs.Side.{IsSoundSideOf}
 use Rattle.vale_own.specs.SideEdits.{KeepsSides}
 use Rattle.vale_own.proofs.SideEditing.{edits-keep}
 use Rattle.vale_replay.specs.Edits.{change_found, at_port, field_written, poked, changed_by}
-use Rattle.vale_replay.specs.Tasks.{Task, Arrive, OpenPort, PutFrame, SendFrames, TakeFrames, ChangeOwn, SaveFrames, WatchPort, ReadCounts, ShutPort, FinishPort, Depart, EndLine, lines_left, fits_a_buffer, frame_of_put, played_before_sync, tasks_of, tasks_of_line, tasks_of_lines}
+use Rattle.vale_replay.specs.Tasks.{Task, PutFrame, SendFrames, TakeFrames, ChangeOwn, ShutPort, FinishPort, Depart, EndLine, lines_left, fits_a_buffer, frame_of_put, played_before_sync, tasks_of, tasks_of_line, tasks_of_lines}
 use Rattle.vale_replay.specs.Machine.{Machine, call_of_task, after_task, at_rest, resting, closing_of, closing_tasks}
 
 -- Edits.
@@ -40,35 +40,12 @@ act-keeps (acts.Swap name side slot other other_side other_slot quiet) =
     (λ id. port-keeps other (λ other_id. with_slots_swapped (not quiet) (record { side = side; port = id; at = slot }) (record { side = other_side; port = other_id; at = other_slot }))
     (λ other_id. edits-keep.slots_swapped (not quiet) (record { side = side; port = id; at = slot }) (record { side = other_side; port = other_id; at = other_slot })))
 act-keeps (acts.Extra name i j) = port-keeps name (λ id. with_extra_link id i j) (λ id. edits-keep.extra_link id i j)
-act-keeps acts.Enter = λ pool session shut own s of. of
-act-keeps (acts.Open name tx rx extra) = λ pool session shut own s of. of
-act-keeps (acts.Put name count to from len fill) = λ pool session shut own s of. of
-act-keeps (acts.Hex name frame) = λ pool session shut own s of. of
-act-keeps (acts.Play name file batch) = λ pool session shut own s of. of
-act-keeps (acts.Tx name) = λ pool session shut own s of. of
-act-keeps (acts.Watch monitor target sides) = λ pool session shut own s of. of
-act-keeps (acts.Stat name) = λ pool session shut own s of. of
-act-keeps (acts.Save name file) = λ pool session shut own s of. of
-act-keeps (acts.Close name) = λ pool session shut own s of. of
+act-keeps _ = λ pool session shut own s of. of
 
 -- without ports there is nothing to edit
 act-empty : (pool : ℕ) (act : Act) → changed_by act (empty_own pool) ≡ empty_own pool
 act-empty pool (acts.Rx name keep) = refl
-act-empty pool (acts.Fwd from to count) = refl
-act-empty pool (acts.Poke name side slot field value) = refl
-act-empty pool (acts.Move name side head cur) = refl
-act-empty pool (acts.Swap name side slot other other_side other_slot quiet) = refl
-act-empty pool (acts.Extra name i j) = refl
-act-empty pool acts.Enter = refl
-act-empty pool (acts.Open name tx rx extra) = refl
-act-empty pool (acts.Put name count to from len fill) = refl
-act-empty pool (acts.Hex name frame) = refl
-act-empty pool (acts.Play name file batch) = refl
-act-empty pool (acts.Tx name) = refl
-act-empty pool (acts.Watch monitor target sides) = refl
-act-empty pool (acts.Stat name) = refl
-act-empty pool (acts.Save name file) = refl
-act-empty pool (acts.Close name) = refl
+act-empty pool _ = refl
 
 -- what a user has on its side, with the port of it that is shut: its session's, or nothing
 abbrev pub SideOf : ℕ → Standing → Option SessionId → Option ℕ → OwnState → Type 0
@@ -88,19 +65,9 @@ frame-side pool s (Some x) shut own name bytes side =
 
 task-side : (pool : ℕ) (s : Standing) (user : Machine) (shut : Option ℕ) (task : Task)
     → SideOf pool s user.session shut user.own → SideOf pool s (after_task task user).session shut (after_task task user).own
-task-side pool s user shut Arrive side = side
-task-side pool s user shut (OpenPort name tx rx extra) side = side
 task-side pool s user shut (PutFrame name bytes) side = frame-side pool s user.session shut user.own name bytes side
-task-side pool s user shut (SendFrames name) side = side
-task-side pool s user shut (TakeFrames name) side = side
 task-side pool s user shut (ChangeOwn act) side = act-side pool s user.session shut user.own act side
-task-side pool s user shut (SaveFrames name file) side = side
-task-side pool s user shut (WatchPort monitor target sides) side = side
-task-side pool s user shut (ReadCounts name) side = side
-task-side pool s user shut (ShutPort name) side = side
-task-side pool s user shut (FinishPort name) side = side
-task-side pool s user shut Depart side = side
-task-side pool s user shut EndLine side = side
+task-side pool s user shut _ side = side
 
 -- A port is shut and then finished, with nothing in between.
 
@@ -152,42 +119,10 @@ pub rest-side : (pool : ℕ) (s : Standing) (user : Machine) (tasks : List Task)
 rest-side pool s user [] side paired = record { shut = None; side = side; order = tt }
 rest-side pool s user (ShutPort name ∷ FinishPort other ∷ tasks) side paired =
     pass-by pool s user name other tasks (port_with_name user.own name) side paired.0 paired.1 refl (rest-side pool s user tasks side paired.1)
-rest-side pool s user (Arrive ∷ tasks) side paired =
-    rest-by pool s user Arrive tasks (is_some (call_of_task user Arrive)) side paired (rest-side pool s (after_task Arrive user) tasks (task-side pool s user None Arrive side) paired)
-rest-side pool s user (OpenPort name tx rx extra ∷ tasks) side paired =
-    rest-by pool s user (OpenPort name tx rx extra) tasks (is_some (call_of_task user (OpenPort name tx rx extra))) side paired (rest-side pool s (after_task (OpenPort name tx rx extra) user) tasks (task-side pool s user None (OpenPort name tx rx extra) side) paired)
-rest-side pool s user (PutFrame name bytes ∷ tasks) side paired =
-    rest-by pool s user (PutFrame name bytes) tasks (is_some (call_of_task user (PutFrame name bytes))) side paired (rest-side pool s (after_task (PutFrame name bytes) user) tasks (task-side pool s user None (PutFrame name bytes) side) paired)
-rest-side pool s user (SendFrames name ∷ tasks) side paired =
-    rest-by pool s user (SendFrames name) tasks (is_some (call_of_task user (SendFrames name))) side paired (rest-side pool s (after_task (SendFrames name) user) tasks (task-side pool s user None (SendFrames name) side) paired)
-rest-side pool s user (TakeFrames name ∷ tasks) side paired =
-    rest-by pool s user (TakeFrames name) tasks (is_some (call_of_task user (TakeFrames name))) side paired (rest-side pool s (after_task (TakeFrames name) user) tasks (task-side pool s user None (TakeFrames name) side) paired)
-rest-side pool s user (ChangeOwn act ∷ tasks) side paired =
-    rest-by pool s user (ChangeOwn act) tasks (is_some (call_of_task user (ChangeOwn act))) side paired (rest-side pool s (after_task (ChangeOwn act) user) tasks (task-side pool s user None (ChangeOwn act) side) paired)
-rest-side pool s user (SaveFrames name file ∷ tasks) side paired =
-    rest-by pool s user (SaveFrames name file) tasks (is_some (call_of_task user (SaveFrames name file))) side paired (rest-side pool s (after_task (SaveFrames name file) user) tasks (task-side pool s user None (SaveFrames name file) side) paired)
-rest-side pool s user (WatchPort monitor target sides ∷ tasks) side paired =
-    rest-by pool s user (WatchPort monitor target sides) tasks (is_some (call_of_task user (WatchPort monitor target sides))) side paired (rest-side pool s (after_task (WatchPort monitor target sides) user) tasks (task-side pool s user None (WatchPort monitor target sides) side) paired)
-rest-side pool s user (ReadCounts name ∷ tasks) side paired =
-    rest-by pool s user (ReadCounts name) tasks (is_some (call_of_task user (ReadCounts name))) side paired (rest-side pool s (after_task (ReadCounts name) user) tasks (task-side pool s user None (ReadCounts name) side) paired)
-rest-side pool s user (Depart ∷ tasks) side paired =
-    rest-by pool s user Depart tasks (is_some (call_of_task user Depart)) side paired (rest-side pool s (after_task Depart user) tasks (task-side pool s user None Depart side) paired)
-rest-side pool s user (EndLine ∷ tasks) side paired =
-    rest-by pool s user EndLine tasks (is_some (call_of_task user EndLine)) side paired (rest-side pool s (after_task EndLine user) tasks (task-side pool s user None EndLine side) paired)
-rest-side pool s user (ShutPort name ∷ []) side paired = absurd paired
-rest-side pool s user (ShutPort name ∷ Arrive ∷ tasks) side paired = absurd paired
-rest-side pool s user (ShutPort name ∷ OpenPort other tx rx extra ∷ tasks) side paired = absurd paired
-rest-side pool s user (ShutPort name ∷ PutFrame other bytes ∷ tasks) side paired = absurd paired
-rest-side pool s user (ShutPort name ∷ SendFrames other ∷ tasks) side paired = absurd paired
-rest-side pool s user (ShutPort name ∷ TakeFrames other ∷ tasks) side paired = absurd paired
-rest-side pool s user (ShutPort name ∷ ChangeOwn act ∷ tasks) side paired = absurd paired
-rest-side pool s user (ShutPort name ∷ SaveFrames other file ∷ tasks) side paired = absurd paired
-rest-side pool s user (ShutPort name ∷ WatchPort monitor target sides ∷ tasks) side paired = absurd paired
-rest-side pool s user (ShutPort name ∷ ReadCounts other ∷ tasks) side paired = absurd paired
-rest-side pool s user (ShutPort name ∷ ShutPort other ∷ tasks) side paired = absurd paired
-rest-side pool s user (ShutPort name ∷ Depart ∷ tasks) side paired = absurd paired
-rest-side pool s user (ShutPort name ∷ EndLine ∷ tasks) side paired = absurd paired
-rest-side pool s user (FinishPort name ∷ tasks) side paired = absurd paired
+rest-side pool s user (ShutPort name ∷ _) side paired = absurd paired
+rest-side pool s user (FinishPort name ∷ _) side paired = absurd paired
+rest-side pool s user (task ∷ tasks) side paired =
+    rest-by pool s user task tasks (is_some (call_of_task user task)) side paired (rest-side pool s (after_task task user) tasks (task-side pool s user None task side) paired)
 
 -- a user that has gone as far as it can without a call is in order still
 pub keeps-rest : (pool : ℕ) (s : Standing) (user : Machine) → KeepsSide pool s user
@@ -206,79 +141,24 @@ keeps-rest pool s user keeps = by_shut keeps.shut user.tasks keeps.side keeps.or
         → AreInOrder shut user.own tasks → KeepsSide pool s (at_rest user tasks)
     by_shut None tasks side order = rest-side pool s user tasks side order
     by_shut (Some id) (FinishPort name ∷ tasks) side order = finish id name tasks side order.0 order.1
-    by_shut (Some id) [] side order = absurd order
-    by_shut (Some id) (Arrive ∷ tasks) side order = absurd order
-    by_shut (Some id) (OpenPort other tx rx extra ∷ tasks) side order = absurd order
-    by_shut (Some id) (PutFrame other bytes ∷ tasks) side order = absurd order
-    by_shut (Some id) (SendFrames other ∷ tasks) side order = absurd order
-    by_shut (Some id) (TakeFrames other ∷ tasks) side order = absurd order
-    by_shut (Some id) (ChangeOwn act ∷ tasks) side order = absurd order
-    by_shut (Some id) (SaveFrames other file ∷ tasks) side order = absurd order
-    by_shut (Some id) (WatchPort monitor target sides ∷ tasks) side order = absurd order
-    by_shut (Some id) (ReadCounts other ∷ tasks) side order = absurd order
-    by_shut (Some id) (ShutPort other ∷ tasks) side order = absurd order
-    by_shut (Some id) (Depart ∷ tasks) side order = absurd order
-    by_shut (Some id) (EndLine ∷ tasks) side order = absurd order
+    by_shut (Some id) _ side order = absurd order
 
 -- Tasks that end a line, and those of lines.
 
 pub left-paired : (tasks : List Task) → ArePaired tasks → ArePaired (lines_left tasks)
 left-paired [] paired = tt
 left-paired (ShutPort name ∷ FinishPort other ∷ tasks) paired = left-paired tasks paired.1
+left-paired (ShutPort name ∷ _) paired = absurd paired
+left-paired (FinishPort name ∷ _) paired = absurd paired
 left-paired (EndLine ∷ tasks) paired = paired
-left-paired (Arrive ∷ tasks) paired = left-paired tasks paired
-left-paired (OpenPort name tx rx extra ∷ tasks) paired = left-paired tasks paired
-left-paired (PutFrame name bytes ∷ tasks) paired = left-paired tasks paired
-left-paired (SendFrames name ∷ tasks) paired = left-paired tasks paired
-left-paired (TakeFrames name ∷ tasks) paired = left-paired tasks paired
-left-paired (ChangeOwn act ∷ tasks) paired = left-paired tasks paired
-left-paired (SaveFrames name file ∷ tasks) paired = left-paired tasks paired
-left-paired (WatchPort monitor target sides ∷ tasks) paired = left-paired tasks paired
-left-paired (ReadCounts name ∷ tasks) paired = left-paired tasks paired
-left-paired (Depart ∷ tasks) paired = left-paired tasks paired
-left-paired (ShutPort name ∷ []) paired = absurd paired
-left-paired (ShutPort name ∷ Arrive ∷ tasks) paired = absurd paired
-left-paired (ShutPort name ∷ OpenPort other tx rx extra ∷ tasks) paired = absurd paired
-left-paired (ShutPort name ∷ PutFrame other bytes ∷ tasks) paired = absurd paired
-left-paired (ShutPort name ∷ SendFrames other ∷ tasks) paired = absurd paired
-left-paired (ShutPort name ∷ TakeFrames other ∷ tasks) paired = absurd paired
-left-paired (ShutPort name ∷ ChangeOwn act ∷ tasks) paired = absurd paired
-left-paired (ShutPort name ∷ SaveFrames other file ∷ tasks) paired = absurd paired
-left-paired (ShutPort name ∷ WatchPort monitor target sides ∷ tasks) paired = absurd paired
-left-paired (ShutPort name ∷ ReadCounts other ∷ tasks) paired = absurd paired
-left-paired (ShutPort name ∷ ShutPort other ∷ tasks) paired = absurd paired
-left-paired (ShutPort name ∷ Depart ∷ tasks) paired = absurd paired
-left-paired (ShutPort name ∷ EndLine ∷ tasks) paired = absurd paired
-left-paired (FinishPort name ∷ tasks) paired = absurd paired
+left-paired (_ ∷ tasks) paired = left-paired tasks paired
 
 pub both-paired : (xs ys : List Task) → ArePaired xs → ArePaired ys → ArePaired (xs ++ ys)
 both-paired [] ys front back = back
 both-paired (ShutPort name ∷ FinishPort other ∷ tasks) ys front back = (front.0, both-paired tasks ys front.1 back)
-both-paired (Arrive ∷ tasks) ys front back = both-paired tasks ys front back
-both-paired (OpenPort name tx rx extra ∷ tasks) ys front back = both-paired tasks ys front back
-both-paired (PutFrame name bytes ∷ tasks) ys front back = both-paired tasks ys front back
-both-paired (SendFrames name ∷ tasks) ys front back = both-paired tasks ys front back
-both-paired (TakeFrames name ∷ tasks) ys front back = both-paired tasks ys front back
-both-paired (ChangeOwn act ∷ tasks) ys front back = both-paired tasks ys front back
-both-paired (SaveFrames name file ∷ tasks) ys front back = both-paired tasks ys front back
-both-paired (WatchPort monitor target sides ∷ tasks) ys front back = both-paired tasks ys front back
-both-paired (ReadCounts name ∷ tasks) ys front back = both-paired tasks ys front back
-both-paired (Depart ∷ tasks) ys front back = both-paired tasks ys front back
-both-paired (EndLine ∷ tasks) ys front back = both-paired tasks ys front back
-both-paired (ShutPort name ∷ []) ys front back = absurd front
-both-paired (ShutPort name ∷ Arrive ∷ tasks) ys front back = absurd front
-both-paired (ShutPort name ∷ OpenPort other tx rx extra ∷ tasks) ys front back = absurd front
-both-paired (ShutPort name ∷ PutFrame other bytes ∷ tasks) ys front back = absurd front
-both-paired (ShutPort name ∷ SendFrames other ∷ tasks) ys front back = absurd front
-both-paired (ShutPort name ∷ TakeFrames other ∷ tasks) ys front back = absurd front
-both-paired (ShutPort name ∷ ChangeOwn act ∷ tasks) ys front back = absurd front
-both-paired (ShutPort name ∷ SaveFrames other file ∷ tasks) ys front back = absurd front
-both-paired (ShutPort name ∷ WatchPort monitor target sides ∷ tasks) ys front back = absurd front
-both-paired (ShutPort name ∷ ReadCounts other ∷ tasks) ys front back = absurd front
-both-paired (ShutPort name ∷ ShutPort other ∷ tasks) ys front back = absurd front
-both-paired (ShutPort name ∷ Depart ∷ tasks) ys front back = absurd front
-both-paired (ShutPort name ∷ EndLine ∷ tasks) ys front back = absurd front
-both-paired (FinishPort name ∷ tasks) ys front back = absurd front
+both-paired (ShutPort name ∷ _) ys front back = absurd front
+both-paired (FinishPort name ∷ _) ys front back = absurd front
+both-paired (_ ∷ tasks) ys front back = both-paired tasks ys front back
 
 puts-paired : (count : ℕ) (name bytes : List ℕ) → ArePaired (replicate count (PutFrame name bytes))
 puts-paired zero name bytes = tt
@@ -300,22 +180,11 @@ played-paired name batch left (bytes ∷ frames) =
     (played-paired name batch batch frames) (played-paired name batch (left - 1) frames)
 
 act-paired : (records : List ℕ → List (List ℕ)) (act : Act) → ArePaired (tasks_of records act)
-act-paired records acts.Enter = tt
-act-paired records (acts.Open name tx rx extra) = tt
 act-paired records (acts.Put name count to from len fill) = puts-paired count name (frame_of_put to from len fill)
-act-paired records (acts.Hex name frame) = tt
 act-paired records (acts.Play name file batch) = played-paired name batch batch (filter fits_a_buffer (records file))
-act-paired records (acts.Tx name) = tt
 act-paired records (acts.Rx name keep) = next-paired keep (TakeFrames name ∷ []) (ChangeOwn (acts.Rx name keep) ∷ TakeFrames name ∷ []) tt tt
-act-paired records (acts.Fwd from to count) = tt
-act-paired records (acts.Poke name side slot field value) = tt
-act-paired records (acts.Move name side head cur) = tt
-act-paired records (acts.Swap name side slot other other_side other_slot quiet) = tt
-act-paired records (acts.Extra name i j) = tt
-act-paired records (acts.Watch monitor target sides) = tt
-act-paired records (acts.Stat name) = tt
-act-paired records (acts.Save name file) = tt
 act-paired records (acts.Close name) = (refl, tt)
+act-paired records _ = tt
 
 pub lines-paired : (records : List ℕ → List (List ℕ)) (lines : List Act)
     → ArePaired (tasks_of_lines records lines)

@@ -15,7 +15,7 @@ use Rattle.nm_types.specs.Slots.{pushed_frames}
 use Rattle.nm_types.specs.OwnPorts.{OwnRing, OwnPort, OwnState, empty_own, bytes_at, pushed_in, refusal_in, buffers_in, port_with_name, port_with_id}
 use Rattle.nm_types.specs.OwnEdits.{has_slot}
 use Rattle.vale_entry.specs.declared.entry.Ask.{Ask}
-use Rattle.vale_entry.specs.declared.entry.Ask.TheVariants.{Enter, Open, Send, Grant, Done, Sync, Reset, Shut, Finish, Leave, Put, PutKept, Get, Watch, Stat}
+use Rattle.vale_entry.specs.declared.entry.Ask.TheVariants.{Enter, Open, Send, Sync, Shut, Leave, Put, Get, Watch, Stat}
 use Rattle.vale_entry.specs.declared.entry.Entry.{Entry}
 use Rattle.vale_entry.specs.World.{Port, Lot, Offer, is_session, is_settled}
 use Rattle.vale_entry.specs.Arrivals.{arrivals_of}
@@ -384,33 +384,8 @@ task-turn pool past user None (ShutPort name ∷ FinishPort other ∷ rest) ask 
 task-turn pool past user None (Depart ∷ rest) ask made m is side order call =
     leave-turn pool past user rest ask made (record { 0 = made.session }) m is side order (with-session Leave user.session (record { 0 = made.session }) ask is call)
 task-turn pool past user None (EndLine ∷ rest) ask made m is side order call = absurd cc
-task-turn pool past user None (FinishPort name ∷ rest) ask made m is side order call = absurd order
 task-turn pool past user (Some id) (FinishPort name ∷ rest) ask made m is side order call = finish-turn pool past user id name rest ask made m is side order.1 call
-task-turn pool past user (Some id) (Arrive ∷ rest) ask made m is side order call = absurd order
-task-turn pool past user (Some id) (OpenPort other tx rx extra ∷ rest) ask made m is side order call = absurd order
-task-turn pool past user (Some id) (PutFrame other bytes ∷ rest) ask made m is side order call = absurd order
-task-turn pool past user (Some id) (SendFrames other ∷ rest) ask made m is side order call = absurd order
-task-turn pool past user (Some id) (TakeFrames other ∷ rest) ask made m is side order call = absurd order
-task-turn pool past user (Some id) (ChangeOwn act ∷ rest) ask made m is side order call = absurd order
-task-turn pool past user (Some id) (SaveFrames other file ∷ rest) ask made m is side order call = absurd order
-task-turn pool past user (Some id) (WatchPort monitor target sides ∷ rest) ask made m is side order call = absurd order
-task-turn pool past user (Some id) (ReadCounts other ∷ rest) ask made m is side order call = absurd order
-task-turn pool past user (Some id) (ShutPort other ∷ rest) ask made m is side order call = absurd order
-task-turn pool past user (Some id) (Depart ∷ rest) ask made m is side order call = absurd order
-task-turn pool past user (Some id) (EndLine ∷ rest) ask made m is side order call = absurd order
-task-turn pool past user None (ShutPort name ∷ []) ask made m is side order call = absurd order
-task-turn pool past user None (ShutPort name ∷ Arrive ∷ rest) ask made m is side order call = absurd order
-task-turn pool past user None (ShutPort name ∷ OpenPort other tx rx extra ∷ rest) ask made m is side order call = absurd order
-task-turn pool past user None (ShutPort name ∷ PutFrame other bytes ∷ rest) ask made m is side order call = absurd order
-task-turn pool past user None (ShutPort name ∷ SendFrames other ∷ rest) ask made m is side order call = absurd order
-task-turn pool past user None (ShutPort name ∷ TakeFrames other ∷ rest) ask made m is side order call = absurd order
-task-turn pool past user None (ShutPort name ∷ ChangeOwn act ∷ rest) ask made m is side order call = absurd order
-task-turn pool past user None (ShutPort name ∷ SaveFrames other file ∷ rest) ask made m is side order call = absurd order
-task-turn pool past user None (ShutPort name ∷ WatchPort monitor target sides ∷ rest) ask made m is side order call = absurd order
-task-turn pool past user None (ShutPort name ∷ ReadCounts other ∷ rest) ask made m is side order call = absurd order
-task-turn pool past user None (ShutPort name ∷ ShutPort other ∷ rest) ask made m is side order call = absurd order
-task-turn pool past user None (ShutPort name ∷ Depart ∷ rest) ask made m is side order call = absurd order
-task-turn pool past user None (ShutPort name ∷ EndLine ∷ rest) ask made m is side order call = absurd order
+task-turn pool past user _ _ ask made m is side order call = absurd order
 
 -- An Enter, by a user without a session.
 
@@ -576,20 +551,7 @@ session-turn pool past user keeps ask made None None m is call =
 own-caller : (n : ℕ) (user : Machine) (ask : Ask) (s : SessionId) → is_enter ask ≡ false
     → caller_of n user ask ≡ Some s → user.session ≡ Some s
 own-caller n user (Enter name) s none e = absurd cc
-own-caller n user (Open session name tx rx extra) s none e = e
-own-caller n user (Send port frames) s none e = e
-own-caller n user (Grant origin to) s none e = e
-own-caller n user (Done lease) s none e = e
-own-caller n user (Sync port back) s none e = e
-own-caller n user (Reset port side fault) s none e = e
-own-caller n user (Shut port) s none e = e
-own-caller n user (Finish port bufs chain) s none e = e
-own-caller n user (Leave session) s none e = e
-own-caller n user (Put port offered) s none e = e
-own-caller n user (PutKept port offered) s none e = e
-own-caller n user (Get port back) s none e = e
-own-caller n user (Watch monitor target sides) s none e = e
-own-caller n user (Stat port) s none e = e
+own-caller n user _ s none e = e
 
 call-plain : (user : Machine) (x : SessionId) (ask : Ask) (lot : Option Lot) (offer : Option Offer)
     → user.session ≡ Some x
