@@ -14,7 +14,7 @@ use Rattle.vale_entry.specs.Arrivals.{arrivals_of, given_at}
 use Rattle.vale_entry.specs.Delivery.{ready_lots, delivered_frames}
 use Rattle.vale_entry.specs.Holdings.{PortBuffers, delivered_buffers, first_idle, is_buffer_index}
 use Rattle.vale_entry.specs.Legal.{Standing, standing_of, sync_step}
-use Rattle.vale_entry.proofs.Follows.{EachKind, IsQuiet, refused_open, resets, finds_no_peer, finds_no_target, finds_watched, counts, Receives, by_sync, by_get, follows-by}
+use Rattle.vale_entry.proofs.Follows.{EachKind, IsQuiet, refused_open, Receives, by_sync, by_get, follows-by}
 use Rattle.vale_entry.proofs.Numbered.{Numbered}
 use Rattle.vale_entry.proofs.Holding.{Held, at_port, times_held}
 use Rattle.vale_entry.proofs.Counting.{count_of, count_of-cons, count_of-append}

@@ -21,7 +21,7 @@ use Rattle.vale_entry.specs.Delivery.{ready_lots, delivered_frames}
 use Rattle.vale_entry.specs.Holdings.{PortBuffers, SessionBuffers, PortsAgree, is_buffer_index, buffers_without, buffers_of_session, contains, delivered_buffers, first_idle}
 use Rattle.vale_entry.specs.Laws.{Rise, id_of_held}
 use Rattle.vale_entry.specs.Legal.{Standing, standing_of, sync_step, put_step}
-use Rattle.vale_entry.proofs.Follows.{EachKind, IsQuiet, refused_open, resets, finds_no_peer, finds_no_target, finds_watched, counts, Receives, by_sync, by_get, follows-by}
+use Rattle.vale_entry.proofs.Follows.{EachKind, IsQuiet, refused_open, Receives, by_sync, by_get, follows-by}
 use Rattle.vale_entry.proofs.Agreeing.{agree-at, agree-ids, due-without}
 use Rattle.vale_entry.proofs.Places.{open-place, delivered_buffers-place}
 use Rattle.vale_entry.proofs.Numbered.{Numbered}

@@ -12,7 +12,7 @@ use Rattle.vale_entry.specs.World.{World}
 use Rattle.vale_entry.specs.Legal.{Standing, standing_of, world_of, IsLegal, Follows, is_met, enter_step}
 use Rattle.vale_entry.proofs.Worlds.{standing-push, count-world_of}
 use Rattle.vale_entry.proofs.Told.{history-by}
-use Rattle.vale_entry.proofs.Follows.{EachKind, IsQuiet, refused_open, resets, finds_no_peer, finds_no_target, finds_watched, counts, Receives, by_sync, by_get, Left, entry_made, follows-by}
+use Rattle.vale_entry.proofs.Follows.{EachKind, IsQuiet, refused_open, Receives, by_sync, by_get, Left, entry_made, follows-by}
 use Rattle.vale_entry.proofs.Numbered.{world-numbered}
 use Rattle.vale_entry.proofs.Agreeing.{among-bound}
 use Rattle.vale_own.specs.Asker.{is_enter}

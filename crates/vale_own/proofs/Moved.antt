@@ -11,7 +11,7 @@ use Rattle.vale_entry.specs.World.{Port, due_of}
 use Rattle.vale_entry.specs.Arrivals.{arrivals_of}
 use Rattle.vale_entry.specs.Holdings.{buffers_without, contains, are_distinct, holds_all, is_buffer_index}
 use Rattle.vale_entry.specs.Legal.{Standing, standing_of, sync_step}
-use Rattle.vale_entry.proofs.Follows.{EachKind, IsQuiet, refused_open, resets, finds_no_peer, finds_no_target, finds_watched, counts, Receives, by_sync, by_get, CanReceive, follows-by}
+use Rattle.vale_entry.proofs.Follows.{EachKind, IsQuiet, counts, Receives, by_sync, by_get, CanReceive, follows-by}
 use Rattle.vale_entry.proofs.Counting.{count_of, count_of-append, count-away}
 use Rattle.vale_own.specs.Own.{own_of, buffers_of_lease, all_buffers_of}
 use Rattle.vale_own.specs.OwnEntries.{given_up}

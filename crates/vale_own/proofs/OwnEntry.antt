@@ -24,7 +24,7 @@ use Rattle.vale_entry.specs.Laws.{IsThere, IsPortOf, id_of_session}
 use Rattle.vale_entry.specs.Legal.{Standing, Outcome, standing_of, unchanged, enter_step, open_step_by, send_step, done_step, sync_step, put_step, shut_step, finish_step, leave_step}
 use Rattle.vale_entry.proofs.Worlds.{standing-push}
 use Rattle.vale_entry.proofs.HistoryLaws.{history-stands}
-use Rattle.vale_entry.proofs.Follows.{EachKind, IsQuiet, refused_open, resets, finds_no_peer, finds_no_target, finds_watched, counts, Receives, by_sync, by_get, follows-by}
+use Rattle.vale_entry.proofs.Follows.{EachKind, IsQuiet, resets, Receives, by_sync, by_get, follows-by}
 use Rattle.vale_entry.proofs.Each.{each-weaker, each-find, map-changed_at}
 use Rattle.vale_entry.proofs.ListLaws.{place-of}
 use Rattle.vale_entry.proofs.Numbered.{Numbered}

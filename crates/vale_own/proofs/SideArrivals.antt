@@ -19,7 +19,7 @@ use Rattle.vale_entry.specs.Laws.{Rise, HasRoom, id_of_held}
 use Rattle.vale_entry.specs.Pipe.{peer_of}
 use Rattle.vale_entry.specs.Legal.{Standing, standing_of, sync_step}
 use Rattle.vale_entry.proofs.HistoryLaws.{Stands, history-stands}
-use Rattle.vale_entry.proofs.Follows.{EachKind, IsQuiet, refused_open, resets, finds_no_peer, finds_no_target, finds_watched, counts, Receives, by_sync, by_get, CanKeep, follows-by}
+use Rattle.vale_entry.proofs.Follows.{EachKind, IsQuiet, refused_open, Receives, by_sync, by_get, CanKeep, follows-by}
 use Rattle.vale_entry.proofs.Numbered.{Numbered}
 use Rattle.vale_entry.proofs.Holding.{Held}
 use Rattle.vale_entry.proofs.Roomy.{opened-room, delivered-size, taken-few}

@@ -31,7 +31,7 @@ use Rattle.vale_entry.specs.Pipe.{peer_of, indices_of}
 use Rattle.vale_entry.specs.Legal.{Standing, standing_of, kept_items, send_step, sync_step, put_step, finish_step}
 use Rattle.vale_entry.proofs.Worlds.{count-world_of}
 use Rattle.vale_entry.proofs.HistoryLaws.{Stands, history-stands}
-use Rattle.vale_entry.proofs.Follows.{EachKind, IsQuiet, refused_open, resets, finds_no_peer, finds_no_target, finds_watched, counts, Receives, by_sync, by_get, CanKeep, follows-by}
+use Rattle.vale_entry.proofs.Follows.{EachKind, IsQuiet, resets, finds_no_peer, Receives, by_sync, by_get, CanKeep, follows-by}
 use Rattle.vale_entry.proofs.Removals.{each-filter}
 use Rattle.vale_entry.proofs.Each.{each-map, each-unmap}
 use Rattle.vale_entry.proofs.ListLaws.{place-of}

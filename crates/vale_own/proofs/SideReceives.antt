@@ -1,6 +1,5 @@
 -- What a receive sync makes of a session's side.
 use Rattle.std.proofs.Common.{ℕ, zero, suc, ◌+◌, ◌-◌, ◌<◌, ◌≤◌, ◌≡◌, ◌==◌, List, [], ◌∷◌, ◌++◌, map, take, drop, flat_map, length, get_or, Option, Some, None, option_map, refl, sym, ◌∙◌, ap, arith, length-append}
-use Rattle.std.specs.Prelude.{find}
 use Rattle.std.specs.List.{range_with_len}
 use Rattle.std.proofs.lemmas.List.{length-map, length-drop, take-map}
 use Rattle.nm_types.specs.declared.id.Side.TheVariants.{Rx}
