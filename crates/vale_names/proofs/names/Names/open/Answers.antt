@@ -59,8 +59,7 @@ invariant_of-self c = let at = goal.at.invariant_of-self c in on_switch at.After
 pub returns-in-Vale-clause-names : goal.returns-in-Vale-clause-names
 returns-in-Vale-clause-names c =
     let at = goal.at.returns-in-Vale-clause-names c in
-    let are = on_switch at.After-open_on_switch (switch_name at.In-Vale) in
-    on_ok_weaker c.open_on_switch.result (λ joined. are_names c.open_on_switch.new.places c.self.inside.pipes c.self.inside.monitors are) c.open_on_switch.ensures.joined
+    on_ok_weaker c.open_on_switch.result (λ joined. are_names _ _ _ (on_switch at.After-open_on_switch (switch_name at.In-Vale))) c.open_on_switch.ensures.joined
 
 pub invariant_of-self-in-Master : goal.invariant_of-self-in-Master
 invariant_of-self-in-Master c = let at = goal.at.invariant_of-self-in-Master c in as_pipe at.After-open (pipe_name at.In-Master)
@@ -68,8 +67,7 @@ invariant_of-self-in-Master c = let at = goal.at.invariant_of-self-in-Master c i
 pub returns-in-Master-clause-names : goal.returns-in-Master-clause-names
 returns-in-Master-clause-names c =
     let at = goal.at.returns-in-Master-clause-names c in
-    let are = as_pipe at.After-open (pipe_name at.In-Master) in
-    on_ok_weaker c.open.result (λ joined. are_names c.self.inside.switches c.open.new.self c.self.inside.monitors are) c.open.ensures.joined
+    on_ok_weaker c.open.result (λ joined. are_names _ _ _ (as_pipe at.After-open (pipe_name at.In-Master))) c.open.ensures.joined
 
 pub invariant_of-self-in-Monitor : goal.invariant_of-self-in-Monitor
 invariant_of-self-in-Monitor c = let at = goal.at.invariant_of-self-in-Monitor c in as_monitor at.After-open-in-Monitor (monitor_name at.In-Monitor)
@@ -77,8 +75,7 @@ invariant_of-self-in-Monitor c = let at = goal.at.invariant_of-self-in-Monitor c
 pub returns-in-Monitor-clause-names : goal.returns-in-Monitor-clause-names
 returns-in-Monitor-clause-names c =
     let at = goal.at.returns-in-Monitor-clause-names c in
-    let are = as_monitor at.After-open-in-Monitor (monitor_name at.In-Monitor) in
-    on_ok_weaker c.open-in-Monitor.result (λ joined. are_names c.self.inside.switches c.self.inside.pipes c.open-in-Monitor.new.self are) c.open-in-Monitor.ensures.joined
+    on_ok_weaker c.open-in-Monitor.result (λ joined. are_names _ _ _ (as_monitor at.After-open-in-Monitor (monitor_name at.In-Monitor))) c.open-in-Monitor.ensures.joined
 
 pub returns-in-Vale-clause-refusal : goal.returns-in-Vale-clause-refusal
 returns-in-Vale-clause-refusal c =
