@@ -21,7 +21,7 @@ use Rattle.vale_entry.proofs.Worlds.{standing-push}
 use Rattle.vale_entry.proofs.Told.{history-by}
 use Rattle.vale_entry.proofs.Places.{shutting-place}
 use Rattle.vale_entry.proofs.Numbered.{Numbered, world-numbered}
-use Rattle.vale_entry.proofs.Follows.{EachKind, Left, entry_made, IsQuiet, refused_open, resets, finds_no_peer, finds_no_target, finds_watched, counts, Receives, by_sync, by_get, follows-by}
+use Rattle.vale_entry.proofs.Follows.{EachKind, Left, entry_made, IsQuiet, refused_open, Receives, by_sync, by_get, follows-by}
 
 -- counting keeps whose the counters are
 ids-counted :

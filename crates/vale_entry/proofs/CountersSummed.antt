@@ -37,7 +37,7 @@ use Rattle.vale_entry.proofs.Tells.{goes-to}
 use Rattle.vale_entry.proofs.PortAt.{found-open, port_at-below, port_at-under, found-peer}
 use Rattle.vale_entry.proofs.Numbered.{Numbered, world-numbered}
 use Rattle.vale_entry.proofs.CountersKept.{moved-quiet, moved-read, counters-kept}
-use Rattle.vale_entry.proofs.Follows.{EachKind, Left, entry_made, IsQuiet, refused_open, resets, finds_no_peer, finds_no_target, finds_watched, counts, Receives, by_sync, by_get, follows-by}
+use Rattle.vale_entry.proofs.Follows.{EachKind, Left, entry_made, IsQuiet, finds_no_peer, Receives, by_sync, by_get, follows-by}
 
 -- Counters of one port among those of all.
 

@@ -19,7 +19,7 @@ use Rattle.vale_entry.specs.Legal.{Standing, Outcome, recorded_step, after, ente
 use Rattle.vale_entry.specs.Laws.{Rise, id_of_port, bears_number, AreSingle, room_back, IsPromised}
 use Rattle.vale_entry.specs.Pipe.{frames_of_items, port_after_put}
 use Rattle.vale_entry.specs.declared.entry.Item.{Item}
-use Rattle.vale_entry.proofs.Follows.{EachKind, IfMade, IsQuiet, refused_open, resets, finds_no_peer, finds_no_target, finds_watched, counts, recorded-by}
+use Rattle.vale_entry.proofs.Follows.{EachKind, IfMade, IsQuiet, refused_open, recorded-by}
 use Rattle.vale_entry.proofs.ListLaws.{place-of, sum-set, sum-map_same, sum-flat_map, front-rest}
 use Rattle.vale_entry.proofs.Counting.{sum-add}
 use Rattle.vale_entry.proofs.Each.{sum-changed_at, changed_at-same}

@@ -16,7 +16,7 @@ use Rattle.vale_entry.specs.Delivery.{delivered_frames}
 use Rattle.vale_entry.specs.Delivered.{port_at, frames_at, granted_in, put_in, read_in, returned_in, unread_in, given_in, gave_in, count_gave}
 use Rattle.vale_entry.specs.Fate.{wanted_of_sync, wanted_of_put, wanted_in, share_in, numbers_in}
 use Rattle.vale_entry.specs.Legal.{Standing, Outcome, unchanged, put_step}
-use Rattle.vale_entry.proofs.Follows.{Receives, by_sync, by_get, IsQuiet, refused_open, resets, finds_no_peer, finds_no_target, finds_watched, counts, entry_made}
+use Rattle.vale_entry.proofs.Follows.{Receives, by_sync, by_get, IsQuiet, finds_no_peer, entry_made}
 
 -- an entry that tells nothing
 pub record TellsNothing (w : World) (e : Entry) : Type 0 where

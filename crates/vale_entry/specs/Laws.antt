@@ -1,6 +1,6 @@
 -- Laws of histories, as statements: what holds after every history, or after every legal one.
 use Rattle.vale_entry.specs.declared.entry.Entry.{Entry}
-use Rattle.vale_entry.specs.Legal.{Standing, Outcome, step, reply_to, kept_ask, is_enabled, world_of, holdings_of, standing_of, recorded_step, IsLegal, Follows}
+use Rattle.vale_entry.specs.Legal.{Standing, Outcome, step, reply_to, kept_ask, is_enabled, world_of, standing_of, recorded_step, IsLegal, Follows}
 use Rattle.nm_types.specs.declared.id.PortId.{PortId}
 use Rattle.nm_types.specs.declared.id.Chain.{Chain}
 use Rattle.vale_entry.specs.Closing.{leases_out, shutting_port}
