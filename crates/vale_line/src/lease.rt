@@ -1,8 +1,9 @@
-ghost use Rattle.std.specs.Prelude.{◌≡◌, ◌≤◌, ◌<◌, ◌+◌, [], ◌∷◌, ◌++◌, All, length, map, take, drop, sum, IfOk, vec_capacity};
+ghost use Rattle.std.specs.Prelude.{ℕ, ◌≡◌, ◌≤◌, ◌<◌, ◌+◌, [], ◌∷◌, ◌++◌, All, length, map, take, drop, sum, IfOk, vec_capacity};
 ghost use Rattle.nm_frag.specs.Parts.{slots_of_length, parts_of};
 ghost use Rattle.vale_line.specs.Fitting.{IsFrameSize};
 ghost use Rattle.vale_line.specs.Gots.{blank, buffers_of, written_parts, HoldWholeFrames};
-ghost use Rattle.vale_line.specs.Leased.{contents, count_of, buffer_count, next_of, sizes_in, with_frame};
+ghost use Rattle.vale_line.specs.Stored.{lease_state, IsStoredLease};
+ghost use Rattle.vale_line.specs.Leased.{Leased, contents, count_of, buffer_count, next_of, sizes_in, with_frame};
 
 use crate::got::Got;
 use nm_frag::slots;
@@ -17,8 +18,6 @@ pub struct LeaseRoom {
 }
 
 impl Model for LeaseRoom {
-    ghost use Rattle.std.specs.Prelude.{◌≡◌, ◌≤◌, ℕ, [], vec_capacity};
-
     ghost Value = { ℕ };
 
     ghost view = { λ r. r.slots };
@@ -125,11 +124,7 @@ pub struct Lease {
 }
 
 impl Model for Lease {
-    ghost use Rattle.vale_line.specs.Leased.{Leased};
-
     ghost Value = { Leased };
-
-    ghost use Rattle.vale_line.specs.Stored.{lease_state, IsStoredLease};
 
     ghost view = { lease_state };
 

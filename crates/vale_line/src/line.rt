@@ -6,7 +6,8 @@ ghost use Rattle.vale_line.specs.Fitting.{IsFrameSize, first_fitting, fitting_si
 ghost use Rattle.vale_line.specs.Rings.{ring_state, IsRing};
 ghost use Rattle.vale_line.specs.Gots.{blank, buffers_of, frames_in, IsSingle, HoldWholeFrames};
 ghost use Rattle.vale_line.specs.Leased.{buffer_count};
-ghost use Rattle.vale_line.specs.Lines.{is_out_at, slots_out, first_gots, IsLine, space_of, out_of, slots_of, leases_of, done_lots, behind_done, ready_gots, ready_frames, room_to_sync, completed, new_line, granted_sizes, with_lease, leased, given_by_sync, with_put, held_gots};
+ghost use Rattle.vale_line.specs.Stored.{state_of, IsStored};
+ghost use Rattle.vale_line.specs.Lines.{LineState, is_out_at, slots_out, first_gots, IsLine, space_of, out_of, slots_of, leases_of, done_lots, behind_done, ready_gots, ready_frames, room_to_sync, completed, new_line, granted_sizes, with_lease, leased, given_by_sync, with_put, held_gots};
 
 use crate::got::Got;
 use crate::lease::{Lease, LeaseRoom};
@@ -30,11 +31,7 @@ pub struct Line {
 }
 
 impl Model for Line {
-    ghost use Rattle.vale_line.specs.Lines.{LineState};
-
     ghost Value = { LineState };
-
-    ghost use Rattle.vale_line.specs.Stored.{state_of, IsStored};
 
     ghost view = { state_of };
 
