@@ -1,9 +1,11 @@
 -- How the cells of a ring and the rights to them are kept.
 use Rattle.std.specs.Prelude.{ℕ, ◌≡◌, ◌+◌, ◌≤◌, ◌<◌, List, [], ◌∷◌, length, take, drop, map, option_map, All, Option, Vec}
 use Rattle.std.specs.declared.alloc.Global.{Global}
+use Rattle.std.specs.Vec.{vec_capacity}
 use Rattle.std.specs.VecDeque.{deque_capacity}
 use denote.RawPtr.{Ptr}
 use Rattle.nm_reach.specs.Fields.{Run, round, end_of}
+use Rattle.nm_region.specs.Buffers.{Buffer}
 use Rattle.vale_line.specs.declared.got.Got.{Got}
 use Rattle.vale_line.specs.declared.lot.Lot.{Lot}
 use Rattle.vale_line.specs.declared.ring.Ring.{Ring}
@@ -63,3 +65,9 @@ pub record IsRing (r : Ring) : Type 0 where
   pub full : AreFull (drop r.lent r.idle.values)
   pub blank : gots_in r.idle.values ≡ map blank (buffers_of (gots_in r.idle.values))
   pub room : r.field.size ≤ deque_capacity r.lots
+
+-- a ring, and an empty vector with room for all its buffers
+pub record IsRingWith (r : Ring) (spare : Vec Buffer Global) : Type 0 where
+  pub ring : IsRing r
+  pub none : spare.items ≡ []
+  pub room : r.field.size ≤ vec_capacity spare

@@ -6,7 +6,7 @@ ghost use Rattle.vale_lease.specs.Leases.{AreLeases};
 ghost use Rattle.vale_line.specs.Cells.{AreFull, AreEmpty, gots_in, with_buffer};
 ghost use Rattle.vale_line.specs.Gots.{blank, buffers_of, last_count};
 ghost use Rattle.vale_line.specs.Lines.{is_out_at, leases_of, slots_out, completed, done_lots, first_gots, gots_of_first, out_of, new_line, with_lease, put_lot};
-ghost use Rattle.vale_line.specs.Rings.{held, ring_state, IsAt, IsRing};
+ghost use Rattle.vale_line.specs.Rings.{held, ring_state, IsAt, IsRing, IsRingWith};
 
 use crate::got::Got;
 use crate::lot::Lot;
@@ -193,10 +193,8 @@ impl Ring {
 
     /// Has `k` empty cells in front of the idle buffers.
     fn shift(&mut self, k: u32, room: &mut Vec<Buf>)
-        requires ring { IsRing self.old }
+        requires ring { IsRingWith self.old room.old }
         requires few { k ≤ out_of (ring_state self.old) }
-        requires none { room.old.items ≡ [] }
-        requires room { self.old.field.size ≤ vec_capacity room.old }
         ensures ring { IsRing self.new }
         ensures line { ring_state self.new ≡ ring_state self.old }
         ensures lent { self.new.lent ≡ k }
@@ -216,9 +214,7 @@ impl Ring {
 
     /// Has no empty cells in front of the idle buffers.
     fn settle(&mut self, room: &mut Vec<Buf>)
-        requires ring { IsRing self.old }
-        requires none { room.old.items ≡ [] }
-        requires room { self.old.field.size ≤ vec_capacity room.old }
+        requires ring { IsRingWith self.old room.old }
         ensures ring { IsRing self.new }
         ensures line { ring_state self.new ≡ ring_state self.old }
         ensures lent { self.new.lent ≡ 0 }
@@ -239,13 +235,11 @@ impl Ring {
         gots: Vec<Got>,
         room: &mut Vec<Buf>,
     ) -> Vec<Got>
-        requires ring { IsRing self.old }
+        requires ring { IsRingWith self.old room.old }
         requires lots { length self.old.lots.items < self.old.field.size }
         requires enough { count ≤ length (ring_state self.old).idle }
         requires gots { gots.items ≡ [] }
         requires gots_room { count ≤ vec_capacity gots }
-        requires none { room.old.items ≡ [] }
-        requires room { self.old.field.size ≤ vec_capacity room.old }
         ensures ring { IsRing self.new }
         ensures line { ring_state self.new ≡ with_lease id count (ring_state self.old) }
         ensures gots { result.items ≡ map blank (take count (ring_state self.old).idle) }
@@ -304,10 +298,8 @@ impl Ring {
 
     /// Has `count` cells whose buffers are with the user.
     fn make_room(&mut self, count: u32, room: &mut Vec<Buf>)
-        requires ring { IsRing self.old }
+        requires ring { IsRingWith self.old room.old }
         requires few { count ≤ out_of (ring_state self.old) }
-        requires none { room.old.items ≡ [] }
-        requires room { self.old.field.size ≤ vec_capacity room.old }
         ensures ring { IsRing self.new }
         ensures line { ring_state self.new ≡ ring_state self.old }
         ensures given { count ≤ length self.new.given.values }
@@ -321,10 +313,8 @@ impl Ring {
 
     /// Takes buffers back, which are then the last idle ones.
     pub(crate) fn take_back(&mut self, back: Vec<Buf>, room: &mut Vec<Buf>)
-        requires ring { IsRing self.old }
+        requires ring { IsRingWith self.old room.old }
         requires few { length back.items ≤ out_of (ring_state self.old) }
-        requires none { room.old.items ≡ [] }
-        requires room { self.old.field.size ≤ vec_capacity room.old }
         ensures ring { IsRing self.new }
         ensures line { ring_state self.new ≡ record (ring_state self.old) {
           idle = (ring_state self.old).idle ++ back.items;
@@ -441,12 +431,10 @@ impl Ring {
 
     /// Lends the first `k` idle buffers in an empty vector that has room for them.
     pub(crate) fn lend(&mut self, k: u32, lent: Vec<Buf>, room: &mut Vec<Buf>) -> Vec<Buf>
-        requires ring { IsRing self.old }
+        requires ring { IsRingWith self.old room.old }
         requires enough { k ≤ length (ring_state self.old).idle }
         requires lent { lent.items ≡ [] }
         requires lent_room { k ≤ vec_capacity lent }
-        requires none { room.old.items ≡ [] }
-        requires room { self.old.field.size ≤ vec_capacity room.old }
         ensures ring { IsRing self.new }
         ensures line { ring_state self.new ≡ record (ring_state self.old) {
           idle = drop k (ring_state self.old).idle;
@@ -484,9 +472,7 @@ impl Ring {
 
     /// Gives all idle buffers in an empty vector that has room for them.
     pub(crate) fn give_idle(&mut self, mut room: Vec<Buf>) -> Vec<Buf>
-        requires ring { IsRing self.old }
-        requires none { room.items ≡ [] }
-        requires room { self.old.field.size ≤ vec_capacity room }
+        requires ring { IsRingWith self.old room }
         ensures ring { IsRing self.new }
         ensures line { ring_state self.new ≡ record (ring_state self.old) { idle = [] } }
         ensures idle { result.items ≡ (ring_state self.old).idle }
@@ -499,10 +485,8 @@ impl Ring {
 
     /// Has at least `count` empty cells in front of the idle buffers.
     fn lend_cells(&mut self, count: u32, room: &mut Vec<Buf>)
-        requires ring { IsRing self.old }
+        requires ring { IsRingWith self.old room.old }
         requires few { count ≤ out_of (ring_state self.old) }
-        requires none { room.old.items ≡ [] }
-        requires room { self.old.field.size ≤ vec_capacity room.old }
         ensures ring { IsRing self.new }
         ensures line { ring_state self.new ≡ ring_state self.old }
         ensures lent { count ≤ self.new.lent }
@@ -516,11 +500,9 @@ impl Ring {
 
     /// Takes buffers with frames as a done lot.
     pub(crate) fn accept(&mut self, id: LeaseId, gots: Vec<Got>, room: &mut Vec<Buf>)
-        requires ring { IsRing self.old }
+        requires ring { IsRingWith self.old room.old }
         requires lots { length self.old.lots.items < self.old.field.size }
         requires few { length gots.items ≤ out_of (ring_state self.old) }
-        requires none { room.old.items ≡ [] }
-        requires room { self.old.field.size ≤ vec_capacity room.old }
         ensures ring { IsRing self.new }
         ensures line { ring_state self.new ≡ record (ring_state self.old) {
           lots = (ring_state self.old).lots ++ put_lot id gots.items ∷ [];

@@ -28,7 +28,7 @@ few-moved r k is few =
 pub moved-idle-requires-clause-few : goal.moved-idle-requires-clause-few
 moved-idle-requires-clause-few c =
     let r = c.args.self.now in
-    let few = few-moved r c.args.k c.requires.ring c.requires.few in
+    let few = few-moved r c.args.k c.requires.ring.ring c.requires.few in
     let len = c.len-given.ensures in
     let split = ap (λ (i : Run (Option Got)). length i.values) c.split_front-2.ensures.first in
     let kept = ap length (take_all c.len-given.result r.given.values (omega (arith, len))) in
@@ -37,13 +37,13 @@ moved-idle-requires-clause-few c =
 pub returns-clause-ring : goal.returns-clause-ring
 returns-clause-ring c =
     let r = c.args.self.now in
-    let is = c.requires.ring in
+    let is = c.requires.ring.ring in
     let m = c.moved-idle.ensures in
     let idle = c.moved-idle.result.idle in
     let given = c.moved-idle.result.given in
     let i = whole r.idle c.split_front.result (c.split_front.ensures.first ∙ ap (λ (n : ℕ). record r.idle { values = take n r.idle.values }) c.len-idle.ensures) in
     let g = whole r.given c.split_front-2.result (c.split_front-2.ensures.first ∙ ap (λ (n : ℕ). record r.given { values = take n r.given.values }) c.len-given.ensures) in
-    let few = few-moved r c.args.k c.requires.ring c.requires.few in
+    let few = few-moved r c.args.k c.requires.ring.ring c.requires.few in
     let ring = shifted r c.args.k idle given is few
     (subst (λ (w : Run (Option Got)). IsAt w.field w.size w.start idle) i m.idle)
     (m.idle_count ∙ ap (λ (w : Run (Option Got)). c.args.k + (length w.values - r.lent)) i)
