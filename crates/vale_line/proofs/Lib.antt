@@ -7,3 +7,4 @@ pub mod LotLemmas
 pub mod Moving
 pub mod RingLemmas
 pub mod RunLemmas
+pub mod StoredAfter

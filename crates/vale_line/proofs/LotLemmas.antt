@@ -1,12 +1,12 @@
 -- What a line's lots and its ring of leases have in common.
-use Rattle.std.proofs.Common.{ℕ, zero, suc, Bool, true, false, ◌≡◌, ◌+◌, ◌-◌, ◌<◌, ◌≤◌, List, [], ◌∷◌, ◌++◌, length, drop, map, Option, Some, None, inl, inr, slice_set, get_or, if◌then◌else◌, not, ◌||◌, append-nil, refl, sym, ◌∙◌, ap, arith}
-use Rattle.std.specs.Prelude.{All, flat_map, IfSome, is_some, slice_get}
+use Rattle.std.proofs.Common.{ℕ, zero, suc, Bool, true, false, ◌≡◌, ◌+◌, ◌-◌, ◌<◌, ◌≤◌, List, [], ◌∷◌, ◌++◌, length, take, drop, map, Option, Some, None, inl, inr, slice_set, get_or, if◌then◌else◌, not, ◌||◌, append-nil, refl, sym, ◌∙◌, ap, arith}
+use Rattle.std.specs.Prelude.{All, flat_map, IfSome, is_some, slice_get, sum_by}
 use Rattle.std.specs.Prelude.{◌==◌}
 use Rattle.std.specs.List.{prefix_len, list_any}
 use Rattle.std.specs.Option.{option_map_or}
 use Rattle.std.proofs.lemmas.Bool.{cases_Bool, eq-eqb, or_parts, or_from, and_parts, both_ways, eqb-true}
-use Rattle.std.proofs.lemmas.List.{append_assoc, map-append, length-append, length-map, length-drop}
-use Rattle.std.proofs.lemmas.List.Sums.{sum_by-cons, sum_by_push, sum_by-take-drop}
+use Rattle.std.proofs.lemmas.List.{append_assoc, map-append, length-append, length-map, length-drop, take-map, drop-map}
+use Rattle.std.proofs.lemmas.List.Sums.{sum_by-append, sum_by-cons, sum_by_push, sum_by-take-drop}
 use Rattle.std.proofs.lemmas.List.Folds.{list_any_at}
 use Rattle.std.proofs.lemmas.List.Elements.{All-push, All-same, All-cons, All-head, All-tail, All-drop}
 use Rattle.nm_types.specs.declared.id.LeaseId.{LeaseId}
@@ -16,7 +16,7 @@ use Rattle.vale_lease.specs.Leases.{AreLeases, is_there, is_lease_out, is_out, o
 use Rattle.vale_lease.proofs.LeaseLemmas.{length-le-slots, leases-push, leases-drop, slots-completed, out_there}
 use Rattle.vale_lease.proofs.LeaseLemmas.{leases-completed as ring-completed}
 use Rattle.vale_line.specs.declared.got.Got.{Got}
-use Rattle.vale_line.specs.Gots.{frames_in, HoldWholeFrames}
+use Rattle.vale_line.specs.Gots.{frames_in, last_count, HoldWholeFrames}
 use Rattle.vale_line.proofs.FrameLemmas.{frames_in-append}
 use Rattle.vale_line.specs.Lines.{HeldLot, LineState, is_done, gots_of, lease_of, leases_of, slots_of, done_lots, behind_done, ready_gots, ready_frames, frames_of_lot, completed, opened_lot, put_lot, with_lease, given_by_sync, out_of, space_of, first_gots, gots_of_first, is_out_at, slots_out, IsLot, IsLine}
 
@@ -27,17 +27,13 @@ leased-slots (lot ∷ lots) =
     sum_by-cons (λ (l : LeaseSlots). l.slots) (lease_of lot) (leases_of lots)
     ∙ (ap (λ (n : ℕ). lot.slots + n) (leased-slots lots) ∙ sym (sum_by-cons (λ (l : HeldLot). l.slots) lot lots))
 
+-- a lot is done as its lease is, so both lists are cut at one place
+prefix-leases : (lots : List HeldLot) → prefix_len is_done_lease (leases_of lots) ≡ prefix_len is_done lots
+prefix-leases [] = refl
+prefix-leases (lot ∷ lots) = ap (λ (n : ℕ). if is_done lot then 1 + n else 0) (prefix-leases lots)
+
 pub done-leases : (lots : List HeldLot) → done_prefix (leases_of lots) ≡ leases_of (done_lots lots)
-done-leases [] = refl
-done-leases (lot ∷ lots) = elim (cases_Bool (is_done lot)) [
-  | inl here ↦
-      let one : 1 + prefix_len is_done_lease (leases_of lots) ≡ suc (prefix_len is_done_lease (leases_of lots)) = omega arith in
-      let other : 1 + prefix_len is_done lots ≡ suc (prefix_len is_done lots) = omega arith in
-      let cut : done_prefix (leases_of (lot ∷ lots)) ≡ lease_of lot ∷ done_prefix (leases_of lots) = rw (here, one) refl in
-      let cut2 : done_lots (lot ∷ lots) ≡ lot ∷ done_lots lots = rw (here, other) refl in
-      cut ∙ (ap (λ (ls : List LeaseSlots). lease_of lot ∷ ls) (done-leases lots) ∙ sym (ap leases_of cut2))
-  | inr other ↦ rw other refl
-]
+done-leases lots = ap (λ (n : ℕ). take n (leases_of lots)) (prefix-leases lots) ∙ take-map lease_of (prefix_len is_done lots) lots
 
 pub ready-slots : (lots : List HeldLot) → lease_slots (done_prefix (leases_of lots)) ≡ slots_of (done_lots lots)
 ready-slots lots = ap lease_slots (done-leases lots) ∙ leased-slots (done_lots lots)
@@ -133,15 +129,36 @@ given lots done =
     }
 
 -- what is then behind others that were given before, and what is left of the line
-pub moved-first : {X : Type 0} (f : List Got → List X) → ((gs hs : List Got) → f (gs ++ hs) ≡ f gs ++ f hs) → (lots now : List HeldLot) → Given lots → now ≡ drop 1 lots → (had all : List X) → all ≡ had ++ f (gots_of_first lots)
-    → all ++ f (ready_gots now) ≡ had ++ f (ready_gots lots)
-moved-first {X = X} f parts lots now step rest had all is =
-    ap (λ (xs : List X). xs ++ f (ready_gots now)) is
-    ∙ (ap (λ (ls : List HeldLot). (had ++ f (gots_of_first lots)) ++ f (ready_gots ls)) rest
-    ∙ (append_assoc had (f (gots_of_first lots)) (f (ready_gots (drop 1 lots))) ∙ ap (λ (xs : List X). had ++ xs) (sym (parts (gots_of_first lots) (ready_gots (drop 1 lots))) ∙ ap f (sym step.ready))))
+pub record FirstGiven {X : Type 0} (f : List Got → List X) (line now : LineState) (had all : List X) : Type 0 where
+  pub moved : all ++ f (ready_gots now.lots) ≡ had ++ f (ready_gots line.lots)
+  pub rest : record now { lots = behind_done now.lots } ≡ record line { lots = behind_done line.lots }
+  pub total : length all + length (ready_gots now.lots) ≡ length had + length (ready_gots line.lots)
+  pub few : length (ready_gots now.lots) ≤ length (ready_gots line.lots)
+  pub lasts : sum_by last_count (gots_of_first line.lots) + sum_by last_count (ready_gots now.lots) ≡ sum_by last_count (ready_gots line.lots)
 
-pub behind-first : (line now : LineState) → Given line.lots → now ≡ record line { lots = drop 1 line.lots } → record now { lots = behind_done now.lots } ≡ record line { lots = behind_done line.lots }
-behind-first line now step is = ap (λ (l : LineState). record l { lots = behind_done l.lots }) is ∙ ap (λ (ls : List HeldLot). record line { lots = ls }) (sym step.behind)
+pub first-given : {X : Type 0} (f : List Got → List X) → ((gs hs : List Got) → f (gs ++ hs) ≡ f gs ++ f hs) → ((gs : List Got) → length (f gs) ≡ length gs) → (line now : LineState) (had all : List X) → is_some (first_gots line.lots) ≡ true
+    → now ≡ record line { lots = drop 1 line.lots } → all ≡ had ++ f (gots_of_first line.lots) → FirstGiven f line now had all
+first-given {X = X} f parts long line now had all done is came =
+    let step = given line.lots done in
+    let first = gots_of_first line.lots in
+    let rest = ready_gots (drop 1 line.lots) in
+    let left : ready_gots now.lots ≡ rest = ap (λ (l : LineState). ready_gots l.lots) is in
+    let count = step.count in
+    let less = ap length left in
+    let more = ap length came ∙ length-append had (f first) in
+    let plain = long first in
+    let ends = ap (sum_by last_count) left in
+    let lasts = ap (sum_by last_count) step.ready ∙ sum_by-append last_count first rest in
+    record {
+      moved =
+          ap (λ (xs : List X). xs ++ f (ready_gots now.lots)) came
+          ∙ (ap (λ (gs : List Got). (had ++ f first) ++ f gs) left
+          ∙ (append_assoc had (f first) (f rest) ∙ ap (λ (xs : List X). had ++ xs) (sym (parts first rest) ∙ ap f (sym step.ready))));
+      rest = ap (λ (l : LineState). record l { lots = behind_done l.lots }) is ∙ ap (λ (ls : List HeldLot). record line { lots = ls }) (sym step.behind);
+      total = omega (arith, count, less, more, plain);
+      few = omega (arith, count, less);
+      lasts = omega (arith, ends, lasts);
+    }
 
 -- where one lot is done, what is ready is in it
 pub record OneDone (lots : List HeldLot) : Type 0 where
@@ -200,19 +217,7 @@ ready-count lots full = ready-slots lots ∙ sym (length-ready lots full)
 
 -- what is behind the done lots is behind the done leases
 pub behind-leases : (lots : List HeldLot) → behind_leases (leases_of lots) ≡ leases_of (behind_done lots)
-behind-leases [] = refl
-behind-leases (lot ∷ lots) = elim (cases_Bool (is_done lot)) [
-  | inl here ↦
-      let one : 1 + prefix_len is_done_lease (leases_of lots) ≡ suc (prefix_len is_done_lease (leases_of lots)) = omega arith in
-      let other : 1 + prefix_len is_done lots ≡ suc (prefix_len is_done lots) = omega arith in
-      let cut : behind_leases (leases_of (lot ∷ lots)) ≡ behind_leases (leases_of lots) = rw (here, one) refl in
-      let cut2 : behind_done (lot ∷ lots) ≡ behind_done lots = rw (here, other) refl in
-      cut ∙ (behind-leases lots ∙ sym (ap leases_of cut2))
-  | inr other ↦
-      let cut : behind_leases (leases_of (lot ∷ lots)) ≡ leases_of (lot ∷ lots) = rw other refl in
-      let cut2 : behind_done (lot ∷ lots) ≡ lot ∷ lots = rw other refl in
-      cut ∙ sym (ap leases_of cut2)
-]
+behind-leases lots = ap (λ (n : ℕ). drop n (leases_of lots)) (prefix-leases lots) ∙ drop-map lease_of (prefix_len is_done lots) lots
 
 pub slots-parts : (lots : List HeldLot) → slots_of (done_lots lots) + slots_of (behind_done lots) ≡ slots_of lots
 slots-parts lots = sum_by-take-drop (λ (l : HeldLot). l.slots) lots (prefix_len is_done lots)

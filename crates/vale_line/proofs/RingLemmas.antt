@@ -65,27 +65,6 @@ round-round n a j k w h = elim (cases_Bool (nat_lt (a + j) n)) [
       ap (λ (i : ℕ). round n i k) first ∙ omega (arith, one, all, high)
 ]
 
-take-none : {X : Type 0} (j : ℕ) (xs : List X) → xs ≡ [] → take j xs ≡ []
-take-none zero xs e = refl
-take-none (suc j) [] e = refl
-take-none (suc j) (x ∷ xs) e = absurd (let wrong : x ∷ xs ≡ [] = e in cc)
-
-drop-none : {X : Type 0} (j : ℕ) (xs : List X) → xs ≡ [] → drop j xs ≡ []
-drop-none zero xs e = e
-drop-none (suc j) [] e = refl
-drop-none (suc j) (x ∷ xs) e = absurd (let wrong : x ∷ xs ≡ [] = e in cc)
-
--- a split and a take of what is left
-pub take-more : {X : Type 0} (k j : ℕ) (xs : List X) → take (k + j) xs ≡ take k xs ++ take j (drop k xs)
-take-more zero j xs = let e : 0 + j ≡ j = omega arith in rw e refl
-take-more (suc k) j [] = take-none (suc k + j) [] refl ∙ sym (take-none j [] refl)
-take-more (suc k) j (x ∷ xs) = let next : suc k + j ≡ suc (k + j) = omega arith in rw next (ap (λ ys. x ∷ ys) (take-more k j xs))
-
-pub drop-more : {X : Type 0} (k j : ℕ) (xs : List X) → drop (k + j) xs ≡ drop j (drop k xs)
-drop-more zero j xs = let e : 0 + j ≡ j = omega arith in rw e refl
-drop-more (suc k) j [] = drop-none (suc k + j) [] refl ∙ sym (drop-none j [] refl)
-drop-more (suc k) j (x ∷ xs) = let next : suc k + j ≡ suc (k + j) = omega arith in rw next (drop-more k j xs)
-
 -- the buffers in the first of full cells
 pub full-take : (k : ℕ) (vs : Cells) → AreFull vs → gots_in (take k vs) ≡ take k (gots_in vs)
 full-take zero vs full = refl
@@ -128,16 +107,6 @@ blank-both gs hs first second =
     ap (λ (l : List Got). l ++ hs) first
     ∙ (ap (λ (l : List Got). map blank (buffers_of gs) ++ l) second
     ∙ (sym (map-append blank (buffers_of gs) (buffers_of hs)) ∙ ap (λ (l : List Buffer). map blank l) (sym (map-append buffer_of gs hs))))
-
-pub buffers-drop : (k : ℕ) (gs : List Got) → buffers_of (drop k gs) ≡ drop k (buffers_of gs)
-buffers-drop zero gs = refl
-buffers-drop (suc k) [] = refl
-buffers-drop (suc k) (g ∷ gs) = buffers-drop k gs
-
-pub buffers-take : (k : ℕ) (gs : List Got) → buffers_of (take k gs) ≡ take k (buffers_of gs)
-buffers-take zero gs = refl
-buffers-take (suc k) [] = refl
-buffers-take (suc k) (g ∷ gs) = ap (λ (bs : List Buffer). buffer_of g ∷ bs) (buffers-take k gs)
 
 pub blank-front : (k : ℕ) (gs : List Got) → AreBlank gs → take k gs ≡ map blank (take k (buffers_of gs))
 blank-front zero gs are = refl
@@ -213,6 +182,39 @@ module _ (field : FieldState) (given idle : Run (Option Got)) (lots : VecDeque L
   abbrev pub ring_with : Ring
   ring_with = record { field = field; given = given; lots = lots; idle = idle; lent = lent }
 
+-- a run without its first k cells
+record Behind (p : Ptr) (n k : ℕ) (was now : Run (Option Got)) : Type 0 where
+  at : IsAt p n now.start now
+  begins : now.start ≡ round n was.start k
+  within : now.start < n
+  ends : end_of now ≡ end_of was
+  left : now.values ≡ drop k was.values
+  count : length now.values ≡ length was.values - k
+
+behind : (p : Ptr) (n k : ℕ) (was now : Run (Option Got)) → IsAt p n was.start was → was.start < n → length was.values ≤ n → k ≤ length was.values
+    → now ≡ record was { start = round was.size was.start k; values = drop k was.values } → Behind p n k was now
+behind p n k was now at start few within is =
+    let vs = was.values in
+    let begins : now.start ≡ round n was.start k = ap (λ (i : Run (Option Got)). i.start) is ∙ ap (λ (m : ℕ). round m was.start k) at.size in
+    let size : now.size ≡ n = ap (λ (i : Run (Option Got)). i.size) is ∙ at.size in
+    let left : now.values ≡ drop k vs = ap (λ (i : Run (Option Got)). i.values) is in
+    let count : length now.values ≡ length vs - k = ap length left ∙ length-drop k vs in
+    let low = round-within n was.start k start (omega (arith, few, within)) in
+    record {
+      at = record { field = ap (λ (i : Run (Option Got)). i.field) is ∙ at.field; size = size; start = refl };
+      begins = begins;
+      within = omega (arith, low, begins);
+      ends =
+          ap (λ (m : ℕ). round m now.start (length now.values)) size
+          ∙ (ap (λ (j : ℕ). round n now.start j) count
+          ∙ (ap (λ (i : ℕ). round n i (length vs - k)) begins
+          ∙ (round-round n was.start k (length vs - k) start (omega (arith, few, within))
+          ∙ (ap (λ (j : ℕ). round n was.start j) (let sum : k + (length vs - k) ≡ length vs = omega (arith, within) in sum)
+          ∙ ap (λ (m : ℕ). round m was.start (length vs)) (sym at.size)))));
+      left = left;
+      count = count;
+    }
+
 -- a lot behind the others, of the first idle cells
 pub pushed : (r : Ring) (k after : ℕ) (lots : VecDeque Lot Global) (lot : Lot) (idle : Run (Option Got)) → IsRing r → k ≤ length r.idle.values
     → lots.items ≡ r.lots.items ++ lot ∷ [] → deque_capacity lots ≡ deque_capacity r.lots
@@ -223,42 +225,38 @@ pub pushed : (r : Ring) (k after : ℕ) (lots : VecDeque Lot Global) (lot : Lot)
     → IsRing (ring_with r.field r.given idle lots after)
 pushed r k after lots lot idle is within added same_room idle_is cells holds fits empty full blanks =
     let n = r.field.size in
-    let vs = r.idle.values in
     let whole = is.all in
-    let front = length-take-le k vs within in
-    let rest = length-drop k vs in
-    let size : r.idle.size ≡ n = is.idle.size in
-    let count : length lot.reach.values ≡ k = cells.count ∙ front in
-    let begins : idle.start ≡ round n r.idle.start k = ap (λ (i : Run (Option Got)). i.start) idle_is ∙ ap (λ (m : ℕ). round m r.idle.start k) size in
-    let holds_is : idle.values ≡ drop k vs = ap (λ (i : Run (Option Got)). i.values) idle_is in
+    let b = behind r.field.field n k r.idle idle is.idle is.idle_within (omega (arith, whole)) within idle_is in
+    let count : length lot.reach.values ≡ k = cells.count ∙ length-take-le k r.idle.values within in
     let slots = ap (λ (ls : List Lot). slots_of (held_lots ls)) added ∙ slots-push r.lots.items lot in
-    let few : k ≤ n = omega (arith, whole, within) in
     record {
       given = is.given;
       lots = subst (λ (ls : List Lot). Chain r.field.field n (end_of r.given) ls idle.start) (sym added)
           (chain-push r.field.field n (end_of r.given) r.lots.items lot r.idle.start idle.start is.lots
           (record { field = cells.field ∙ is.idle.field; size = cells.size ∙ is.idle.size; start = cells.start })
-          (begins ∙ ap (λ (j : ℕ). round n r.idle.start j) (sym count)));
-      idle = record { field = ap (λ (i : Run (Option Got)). i.field) idle_is ∙ is.idle.field; size = ap (λ (i : Run (Option Got)). i.size) idle_is ∙ is.idle.size; start = refl };
-      round =
-          ap (λ (m : ℕ). round m idle.start (length idle.values)) (ap (λ (i : Run (Option Got)). i.size) idle_is ∙ is.idle.size)
-          ∙ (ap (λ (j : ℕ). round n idle.start j) (ap length holds_is ∙ rest)
-          ∙ (ap (λ (i : ℕ). round n i (length vs - k)) begins
-          ∙ (round-round n r.idle.start k (length vs - k) is.idle_within (omega (arith, whole, within))
-          ∙ (ap (λ (j : ℕ). round n r.idle.start j) (let sum : k + (length vs - k) ≡ length vs = omega (arith, within) in sum)
-          ∙ (ap (λ (m : ℕ). round m r.idle.start (length vs)) (sym size) ∙ is.round)))));
+          (b.begins ∙ ap (λ (j : ℕ). round n r.idle.start j) (sym count)));
+      idle = b.at;
+      round = b.ends ∙ is.round;
       given_within = is.given_within;
-      idle_within = (let low = round-within n r.idle.start k is.idle_within few in omega (arith, low, begins));
+      idle_within = b.within;
       few = is.few;
-      all = (let len = ap length holds_is in omega (arith, slots, count, len, rest, whole, within));
+      all = (let rest = b.count in omega (arith, slots, count, rest, whole, within));
       none = is.none;
       held = subst (λ (ls : List Lot). All IsHeld ls) (sym added) (All-push IsHeld r.lots.items lot is.held holds);
-      lent_within = subst (λ (cs : Cells). after ≤ length cs) (sym holds_is) fits;
-      lent = subst (λ (cs : Cells). AreEmpty (take after cs)) (sym holds_is) empty;
-      full = subst (λ (cs : Cells). AreFull (drop after cs)) (sym holds_is) full;
-      blank = subst (λ (cs : Cells). AreBlank (gots_in cs)) (sym holds_is) blanks;
+      lent_within = subst (λ (cs : Cells). after ≤ length cs) (sym b.left) fits;
+      lent = subst (λ (cs : Cells). AreEmpty (take after cs)) (sym b.left) empty;
+      full = subst (λ (cs : Cells). AreFull (drop after cs)) (sym b.left) full;
+      blank = subst (λ (cs : Cells). AreBlank (gots_in cs)) (sym b.left) blanks;
       room = (let room = is.room in omega (arith, room, same_room));
     }
+
+-- what the ring then holds
+pub pushed-line : (r : Ring) (after : ℕ) (lots : VecDeque Lot Global) (lot : Lot) (idle : Run (Option Got)) (bufs : List Buffer) (opened : HeldLot) → lots.items ≡ r.lots.items ++ lot ∷ []
+    → buffers_of (gots_in idle.values) ≡ bufs → held lot ≡ opened → ring_state (ring_with r.field r.given idle lots after) ≡ record { size = r.field.size; idle = bufs; lots = held_lots r.lots.items ++ opened ∷ [] }
+pushed-line r after lots lot idle bufs opened added holds is =
+    let now : held_lots lots.items ≡ held_lots r.lots.items ++ opened ∷ [] =
+    ap held_lots added ∙ (map-append held r.lots.items (lot ∷ []) ∙ ap (λ (l : HeldLot). held_lots r.lots.items ++ l ∷ []) is) in
+    rw (holds, now) refl
 
 pub seam-at : (m : ℕ) (xs ys : Cells) → m ≡ length xs → (take m (xs ++ ys) ≡ xs) × (drop m (xs ++ ys) ≡ ys)
 seam-at zero [] ys e = (refl, refl)
@@ -274,48 +272,35 @@ pub came_back : (r : Ring) (k : ℕ) (back : List Buffer) (run given idle : Run 
     → IsRing (ring_with r.field given idle r.lots r.lent)
 came_back r k back run given idle is within count given_is cells gots idle_is =
     let n = r.field.size in
-    let vs = r.given.values in
     let ws = r.idle.values in
     let whole = is.all in
-    let front = length-take-le k vs within in
-    let rest = length-drop k vs in
-    let size : r.given.size ≡ n = is.given.size in
-    let long : length run.values ≡ k = cells.count ∙ front in
-    let begins : given.start ≡ round n r.given.start k = ap (λ (i : Run (Option Got)). i.start) given_is ∙ ap (λ (m : ℕ). round m r.given.start k) size in
-    let left : given.values ≡ drop k vs = ap (λ (i : Run (Option Got)). i.values) given_is in
-    let size2 : given.size ≡ n = ap (λ (i : Run (Option Got)). i.size) given_is ∙ size in
+    let b = behind r.field.field n k r.given given is.given is.given_within (omega (arith, whole)) within given_is in
+    let long : length run.values ≡ k = cells.count ∙ length-take-le k r.given.values within in
     let now : idle.values ≡ ws ++ run.values = ap (λ (i : Run (Option Got)). i.values) idle_is in
     let start : idle.start ≡ r.idle.start = ap (λ (i : Run (Option Got)). i.start) idle_is in
-    let size3 : idle.size ≡ n = ap (λ (i : Run (Option Got)). i.size) idle_is ∙ is.idle.size in
+    let size : idle.size ≡ n = ap (λ (i : Run (Option Got)). i.size) idle_is ∙ is.idle.size in
     let more = length-append ws run.values in
     let was_within = is.lent_within in
     let full : AreFull run.values = (let blanks = ap length gots ∙ length-map back blank in omega (arith, blanks, count, long)) in
-    let ends : end_of given ≡ end_of r.given =
-    ap (λ (m : ℕ). round m given.start (length given.values)) size2
-    ∙ (ap (λ (j : ℕ). round n given.start j) (ap length left ∙ rest)
-    ∙ (ap (λ (i : ℕ). round n i (length vs - k)) begins
-    ∙ (round-round n r.given.start k (length vs - k) is.given_within (omega (arith, whole, within))
-    ∙ (ap (λ (j : ℕ). round n r.given.start j) (let sum : k + (length vs - k) ≡ length vs = omega (arith, within) in sum)
-    ∙ ap (λ (m : ℕ). round m r.given.start (length vs)) (sym size))))) in
     let cut : ws ++ run.values ≡ take r.lent ws ++ (drop r.lent ws ++ run.values) =
     ap (λ (l : Cells). l ++ run.values) (sym (take-append-drop r.lent ws)) ∙ append_assoc (take r.lent ws) (drop r.lent ws) run.values in
     let few = length-take-le r.lent ws is.lent_within in
     let parts = seam-at r.lent (take r.lent ws) (drop r.lent ws ++ run.values) (sym few) in
     record {
-      given = record { field = ap (λ (i : Run (Option Got)). i.field) given_is ∙ is.given.field; size = size2; start = refl };
-      lots = subst (λ (to : ℕ). Chain r.field.field n (end_of given) r.lots.items to) (sym start) (subst (λ (from : ℕ). Chain r.field.field n from r.lots.items r.idle.start) (sym ends) is.lots);
-      idle = record { field = ap (λ (i : Run (Option Got)). i.field) idle_is ∙ is.idle.field; size = size3; start = refl };
+      given = b.at;
+      lots = subst (λ (to : ℕ). Chain r.field.field n (end_of given) r.lots.items to) (sym start) (subst (λ (from : ℕ). Chain r.field.field n from r.lots.items r.idle.start) (sym b.ends) is.lots);
+      idle = record { field = ap (λ (i : Run (Option Got)). i.field) idle_is ∙ is.idle.field; size = size; start = refl };
       round =
-          ap (λ (m : ℕ). round m idle.start (length idle.values)) size3
+          ap (λ (m : ℕ). round m idle.start (length idle.values)) size
           ∙ (ap (λ (i : ℕ). round n i (length idle.values)) start
           ∙ (ap (λ (j : ℕ). round n r.idle.start j) (ap length now ∙ (more ∙ ap (λ (j : ℕ). length ws + j) long))
           ∙ (sym (round-round n r.idle.start (length ws) k is.idle_within (omega (arith, whole, within)))
-          ∙ (ap (λ (i : ℕ). round n i k) (ap (λ (m : ℕ). round m r.idle.start (length ws)) (sym is.idle.size) ∙ is.round) ∙ sym begins))));
-      given_within = (let low = round-within n r.given.start k is.given_within (omega (arith, whole, within)) in omega (arith, low, begins));
+          ∙ (ap (λ (i : ℕ). round n i k) (ap (λ (m : ℕ). round m r.idle.start (length ws)) (sym is.idle.size) ∙ is.round) ∙ sym b.begins))));
+      given_within = b.within;
       idle_within = (let low = is.idle_within in omega (arith, low, start));
       few = is.few;
-      all = (let one = ap length left in let two = ap length now in omega (arith, one, rest, two, more, long, whole, within));
-      none = subst AreEmpty (sym left) (empty-rest k vs is.none);
+      all = (let rest = b.count in let two = ap length now in omega (arith, rest, two, more, long, whole, within));
+      none = subst AreEmpty (sym b.left) (empty-rest k r.given.values is.none);
       held = is.held;
       lent_within = (let two = ap length now in omega (arith, two, more, was_within));
       lent = subst (λ (cs : Cells). AreEmpty (take r.lent cs)) (sym (now ∙ cut)) (subst AreEmpty (sym parts.0) is.lent);

@@ -1,4 +1,4 @@
-use Rattle.std.proofs.Common.{◌≡◌, length, take}
+use Rattle.std.proofs.Common.{◌≡◌, take}
 use Rattle.std.specs.Prelude.{sum}
 use Rattle.vale_line.specs.Gots.{buffers_of}
 use Rattle.vale_line.specs.Leased.{sizes_in}

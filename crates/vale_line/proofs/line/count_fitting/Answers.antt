@@ -1,8 +1,7 @@
-use Rattle.std.proofs.Common.{◌≡◌, ◌+◌, ◌++◌, ◌∷◌, [], List, ℕ, length, take, drop, ap, sym, ◌∙◌, arith, rules}
+use Rattle.std.proofs.Common.{◌≡◌, ◌++◌, List, ℕ, take, drop, ap, sym, ◌∙◌, arith, rules}
 use Rattle.std.specs.Prelude.{sum}
-use Rattle.std.proofs.lemmas.List.{append_assoc, append-nil}
-use Rattle.vale_line.specs.Fitting.{fitting_sizes}
-use Rattle.vale_line.proofs.FittingLemmas.{first-fits, none-fits, sum-push, take-one}
+use Rattle.std.proofs.lemmas.List.{append_assoc}
+use Rattle.vale_line.proofs.FittingLemmas.{first-fits, sum-push, take-one}
 use Rattle.vale_line.proofs.line.count_fitting.Goals as goal
 
 pub loop-size-preserved : goal.loop-size-preserved

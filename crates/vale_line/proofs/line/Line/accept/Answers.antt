@@ -1,9 +1,10 @@
-use Rattle.std.proofs.Common.{◌≡◌, ◌≤◌, List, [], ◌∷◌, ◌++◌, Vec, Global, ap, sym, ◌∙◌, subst, length, map, false, arith, rules}
+use Rattle.std.proofs.Common.{◌≡◌, ◌≤◌, List, [], ◌∷◌, ◌++◌, Vec, Global, ap, refl, sym, ◌∙◌, subst, length, map, false, arith, rules}
 use Rattle.vale_lease.specs.declared.leases.LeaseSlots.{LeaseSlots}
 use Rattle.vale_lease.specs.Leases.{LeaseRing, is_there, completed as ring_completed}
 use Rattle.vale_line.specs.declared.got.Got.{Got}
-use Rattle.vale_line.specs.Lines.{LineState, IsLine, out_of, opened_lot, put_lot, leases_of, lease_of}
+use Rattle.vale_line.specs.Lines.{LineState, out_of, opened_lot, put_lot, leases_of, lease_of}
 use Rattle.vale_line.specs.Stored.{state_of}
+use Rattle.vale_line.proofs.StoredAfter.{stored-after}
 use Rattle.vale_line.proofs.FrameLemmas.{whole-singles}
 use Rattle.vale_line.proofs.LotLemmas.{IsLine-put, leases_of-push, leases-completed, opened-done}
 use Rattle.vale_line.proofs.RingLemmas.{few-held}
@@ -25,9 +26,6 @@ invariant_of-self c =
     let is = IsLine-put line id gots (whole-singles gots c.requires.single) c.self.invariant.line some few fresh in
     let put : LineState = record line { lots = line.lots ++ put_lot id gots ∷ [] } in
     let after : state_of (record c.self.inside { ring = c.accept.new.self }) ≡ put = c.accept.ensures.line ∙ ap (λ (gs : List Got). record line { lots = line.lots ++ put_lot id gs ∷ [] }) own in
-    let size = ap (λ (l : LineState). l.size) after in
-    let room = c.self.invariant.room in
-    let same = c.accept.ensures.capacity in
     let count : c.len.result ≡ n = search rules in
     let opened : c.open.new.self ≡ record { size = line.size; leases = leases_of line.lots ++ lease_of (opened_lot id n) ∷ [] } =
     rw (← count) (c.open.ensures ∙ ap (λ (r : LeaseRing). record r { leases = r.leases ++ lease_of (opened_lot id c.len.result) ∷ [] }) c.self.invariant.leases) in
@@ -35,15 +33,6 @@ invariant_of-self c =
     ap (map (ring_completed id.0)) (sym (leases_of-push line.lots (opened_lot id n)))
     ∙ (sym (leases-completed id.0 gots (line.lots ++ opened_lot id n ∷ []))
     ∙ ap leases_of (opened-done id gots line.lots fresh)) in
-    record {
-      size = c.self.invariant.size ∙ sym size;
-      line = subst IsLine (sym after) is;
-      ring = c.accept.ensures.ring;
-      leases =
-          c.done.ensures
-          ∙ (ap (λ (r : LeaseRing). record r { leases = map (ring_completed id.0) r.leases }) opened
-          ∙ (ap (λ (ls : List LeaseSlots). record { size = line.size; leases = ls }) whole
-          ∙ ap (λ (l : LineState). record { size = l.size; leases = leases_of l.lots }) (sym after)));
-      none = c.accept.ensures.none;
-      room = omega (arith, room, same, size);
-    }
+    stored-after c.self.inside (record c.self.inside { ring = c.accept.new.self; leases = c.done.new.self; room = c.accept.new.room }) put c.self.invariant is c.accept.ensures.ring after refl refl
+    (c.done.ensures ∙ (ap (λ (r : LeaseRing). record r { leases = map (ring_completed id.0) r.leases }) opened ∙ ap (λ (ls : List LeaseSlots). record { size = line.size; leases = ls }) whole))
+    c.accept.ensures.none c.accept.ensures.capacity

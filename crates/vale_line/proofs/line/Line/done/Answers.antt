@@ -1,12 +1,13 @@
-use Rattle.std.proofs.Common.{◌≡◌, Some, true, List, length, map, ap, sym, ◌∙◌, subst, arith}
+use Rattle.std.proofs.Common.{◌≡◌, Some, true, List, length, map, ap, refl, sym, ◌∙◌, subst}
 use Rattle.std.specs.List.{list_any}
 use Rattle.vale_lease.specs.declared.leases.LeaseSlots.{LeaseSlots}
 use Rattle.vale_lease.specs.Leases.{LeaseRing, completed as ring_completed}
 use Rattle.vale_line.specs.Gots.{HoldWholeFrames}
 use Rattle.vale_line.specs.Leased.{buffer_count}
 use Rattle.vale_line.proofs.LotLemmas.{IsLine-done, leases-completed, slots-out, lease-out}
-use Rattle.vale_line.specs.Lines.{LineState, IsLine, slots_out, is_out_at, completed, leases_of}
+use Rattle.vale_line.specs.Lines.{LineState, slots_out, is_out_at, completed}
 use Rattle.vale_line.specs.Stored.{state_of}
+use Rattle.vale_line.proofs.StoredAfter.{stored-after}
 use Rattle.vale_line.proofs.line.Line.done.Goals as goal
 
 pub done-requires : goal.done-requires
@@ -32,17 +33,6 @@ invariant_of-self c =
     let done : LineState = record line { lots = map (completed id gots) lots } in
     let after : state_of (record c.self.inside { ring = c.complete.new.self }) ≡ done = rw (← same_id, ← same_gots) c.complete.ensures.line in
     let leases : c.done.new.self ≡ record c.self.inside.leases { leases = map (ring_completed id) c.self.inside.leases.leases } = rw (← same_id) c.done.ensures in
-    let size = ap (λ (l : LineState). l.size) after in
-    let room = c.self.invariant.room in
-    record {
-      size = c.self.invariant.size ∙ sym size;
-      line = subst IsLine (sym after) is;
-      ring = c.complete.ensures.ring;
-      leases =
-          leases
-          ∙ (ap (λ (r : LeaseRing). record r { leases = map (ring_completed id) r.leases }) c.self.invariant.leases
-          ∙ (ap (λ (ls : List LeaseSlots). record { size = line.size; leases = ls }) (sym (leases-completed id gots lots))
-          ∙ ap (λ (l : LineState). record { size = l.size; leases = leases_of l.lots }) (sym after)));
-      none = c.self.invariant.none;
-      room = omega (arith, room, size);
-    }
+    stored-after c.self.inside (record c.self.inside { ring = c.complete.new.self; leases = c.done.new.self }) done c.self.invariant is c.complete.ensures.ring after refl refl
+    (leases ∙ (ap (λ (r : LeaseRing). record r { leases = map (ring_completed id) r.leases }) c.self.invariant.leases ∙ ap (λ (ls : List LeaseSlots). record { size = line.size; leases = ls }) (sym (leases-completed id gots lots))))
+    c.self.invariant.none refl

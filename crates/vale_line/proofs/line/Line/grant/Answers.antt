@@ -1,4 +1,4 @@
-use Rattle.std.proofs.Common.{◌≡◌, ◌≤◌, List, [], ◌∷◌, ◌++◌, ap, sym, ◌∙◌, subst, length, map, take, ℕ, false, arith, rules, refl}
+use Rattle.std.proofs.Common.{◌≡◌, ◌≤◌, List, [], ◌∷◌, ◌++◌, ap, sym, ◌∙◌, length, map, take, ℕ, false, arith, rules, refl}
 use Rattle.std.specs.Prelude.{sum}
 use Rattle.nm_region.specs.Buffers.{Buffer}
 use Rattle.std.proofs.lemmas.List.Elements.{All-take}
@@ -9,8 +9,9 @@ use Rattle.vale_lease.specs.declared.leases.LeaseSlots.{LeaseSlots}
 use Rattle.vale_lease.specs.Leases.{LeaseRing, is_there, slots_of as ring_slots}
 use Rattle.vale_line.specs.Gots.{blank, buffers_of}
 use Rattle.vale_line.specs.Leased.{Leased, buffer_count}
-use Rattle.vale_line.specs.Lines.{LineState, with_lease, granted_sizes, space_of, IsLine, opened_lot, leases_of, lease_of}
+use Rattle.vale_line.specs.Lines.{LineState, with_lease, granted_sizes, space_of, opened_lot, leases_of, lease_of}
 use Rattle.vale_line.specs.Stored.{state_of}
+use Rattle.vale_line.proofs.StoredAfter.{stored-after}
 use Rattle.vale_line.proofs.LotLemmas.{leased-slots, IsLine-granted, leases_of-push}
 use Rattle.vale_line.proofs.RingLemmas.{few-held}
 use Rattle.vale_line.proofs.Moving.{buffers-blank}
@@ -51,22 +52,11 @@ invariant_of-self c =
     let g = granting c in
     let fresh : is_there c.args.id.0 (leases_of line.lots) ≡ false = ap (λ (l : LineState). is_there c.args.id.0 (leases_of l.lots)) c.self.view_is ∙ c.requires.new in
     let is = IsLine-granted line c.args.id n c.self.invariant.line g.some g.fits fresh in
-    let after = c.lease-gots.ensures.line in
-    let size = ap (λ (l : LineState). l.size) after in
-    let room = c.self.invariant.room in
-    let same = c.lease-gots.ensures.capacity in
-    record {
-      size = c.self.invariant.size ∙ sym size;
-      line = subst IsLine (sym after) is;
-      ring = c.lease-gots.ensures.ring;
-      leases =
-          c.open.ensures
-          ∙ (ap (λ (r : LeaseRing). record r { leases = r.leases ++ lease_of (opened_lot c.args.id n) ∷ [] }) c.self.invariant.leases
-          ∙ (ap (λ (ls : List LeaseSlots). record { size = line.size; leases = ls }) (sym (leases_of-push line.lots (opened_lot c.args.id n)))
-          ∙ ap (λ (l : LineState). record { size = l.size; leases = leases_of l.lots }) (sym after)));
-      none = c.lease-gots.ensures.none;
-      room = omega (arith, room, same, size);
-    }
+    stored-after c.self.inside (record c.self.inside { ring = c.lease-gots.new.self; leases = c.open.new.self; room = c.lease-gots.new.room }) (with_lease c.args.id n line) c.self.invariant is c.lease-gots.ensures.ring c.lease-gots.ensures.line refl refl
+    (c.open.ensures
+    ∙ (ap (λ (r : LeaseRing). record r { leases = r.leases ++ lease_of (opened_lot c.args.id n) ∷ [] }) c.self.invariant.leases
+    ∙ ap (λ (ls : List LeaseSlots). record { size = line.size; leases = ls }) (sym (leases_of-push line.lots (opened_lot c.args.id n)))))
+    c.lease-gots.ensures.none c.lease-gots.ensures.capacity
 
 pub returns-clause-some : goal.returns-clause-some
 returns-clause-some c =

@@ -1,10 +1,11 @@
-use Rattle.std.proofs.Common.{◌≡◌, ◌≤◌, List, length, ap, sym, ◌∙◌, subst, arith}
+use Rattle.std.proofs.Common.{◌≡◌, ◌≤◌, List, length, ap, refl, sym, ◌∙◌, subst}
 use Rattle.vale_lease.specs.declared.leases.LeaseSlots.{LeaseSlots}
 use Rattle.vale_lease.specs.Leases.{LeaseRing, behind_done as behind_leases}
 use Rattle.vale_line.proofs.LotLemmas.{IsLine-synced, behind-leases}
-use Rattle.vale_line.specs.Lines.{LineState, IsLine, out_of, given_by_sync, leases_of, behind_done}
+use Rattle.vale_line.specs.Lines.{LineState, IsLine, out_of, given_by_sync, behind_done}
 use Rattle.vale_line.specs.Rings.{ring_state}
 use Rattle.vale_line.specs.Stored.{state_of}
+use Rattle.vale_line.proofs.StoredAfter.{stored-after}
 use Rattle.vale_line.proofs.line.Line.sync.Goals as goal
 
 pub invariant_of-self : goal.invariant_of-self
@@ -15,18 +16,6 @@ invariant_of-self c =
     let is : IsLine (given_by_sync back line) = IsLine-synced line back c.self.invariant.line few in
     let after : ring_state c.give_ready.new.ring ≡ given_by_sync back line =
     c.give_ready.ensures.line ∙ ap (λ (l : LineState). record l { lots = behind_done l.lots }) c.take_back.ensures.line in
-    let size = ap (λ (l : LineState). l.size) after in
-    let room = c.self.invariant.room in
-    let same = c.take_back.ensures.capacity in
-    record {
-      size = c.self.invariant.size ∙ sym size;
-      line = subst IsLine (sym after) is;
-      ring = c.give_ready.ensures.ring;
-      leases =
-          c.take.ensures.rest
-          ∙ (ap (λ (r : LeaseRing). record r { leases = behind_leases r.leases }) c.self.invariant.leases
-          ∙ (ap (λ (ls : List LeaseSlots). record { size = line.size; leases = ls }) (behind-leases line.lots)
-          ∙ ap (λ (l : LineState). record { size = l.size; leases = leases_of l.lots }) (sym after)));
-      none = c.take_back.ensures.none;
-      room = omega (arith, room, same, size);
-    }
+    stored-after c.self.inside (record c.self.inside { ring = c.give_ready.new.ring; leases = c.take.new.self; room = c.take_back.new.room }) (given_by_sync back line) c.self.invariant is c.give_ready.ensures.ring after refl refl
+    (c.take.ensures.rest ∙ (ap (λ (r : LeaseRing). record r { leases = behind_leases r.leases }) c.self.invariant.leases ∙ ap (λ (ls : List LeaseSlots). record { size = line.size; leases = ls }) (behind-leases line.lots)))
+    c.take_back.ensures.none c.take_back.ensures.capacity

@@ -1,15 +1,15 @@
-use Rattle.std.proofs.Common.{◌≡◌, ◌≤◌, ◌+◌, ◌-◌, ℕ, List, Option, Some, [], ◌∷◌, ◌++◌, length, take, drop, ap, sym, ◌∙◌, subst, arith}
-use Rattle.std.proofs.lemmas.List.{map-append, length-take-le, length-drop, take-append-drop}
+use Rattle.std.proofs.Common.{◌≡◌, ◌≤◌, ◌+◌, ◌-◌, ℕ, List, Option, Some, ◌++◌, length, take, drop, ap, sym, ◌∙◌, subst, arith}
+use Rattle.std.proofs.lemmas.List.{length-take-le, length-drop, take-append-drop, drop-drop}
+use Rattle.std.proofs.Math.Seq.{take-add}
 use Rattle.nm_reach.specs.Fields.{Run}
-use Rattle.nm_region.specs.Buffers.{Buffer}
 use Rattle.vale_line.specs.declared.got.Got.{Got}
 use Rattle.vale_line.specs.declared.lot.Lot.{Lot}
 use Rattle.vale_line.specs.Cells.{AreFull, AreEmpty, SameCells, gots_in}
 use Rattle.vale_line.specs.Gots.{buffers_of}
-use Rattle.vale_line.specs.Lines.{HeldLot, put_lot}
-use Rattle.vale_line.specs.Rings.{held, held_lots, IsHeld}
+use Rattle.vale_line.specs.Lines.{put_lot}
+use Rattle.vale_line.specs.Rings.{held, IsHeld}
 use Rattle.vale_line.proofs.CellLemmas.{empty-parts, gots-append}
-use Rattle.vale_line.proofs.RingLemmas.{pushed, same-run, take-more, drop-more, AreBlank}
+use Rattle.vale_line.proofs.RingLemmas.{pushed, pushed-line, same-run, AreBlank}
 use Rattle.vale_line.proofs.ring.Ring.accept_front.Goals as goal
 use Rattle.vale_line.proofs.ring.Ring.accept_front.Goals.{After-len-count}
 
@@ -23,12 +23,12 @@ pub record Front (k lent : ℕ) (vs : List (Option Got)) : Type 0 where
 front : (k lent : ℕ) (vs : List (Option Got)) → k ≤ lent → AreEmpty (take lent vs) → Front k lent vs
 front k lent vs few empty =
     let sum : k + (lent - k) ≡ lent = omega (arith, few) in
-    let cut : take lent vs ≡ take k vs ++ take (lent - k) (drop k vs) = ap (λ (j : ℕ). take j vs) (sym sum) ∙ take-more k (lent - k) vs in
+    let cut : take lent vs ≡ take k vs ++ take (lent - k) (drop k vs) = ap (λ (j : ℕ). take j vs) (sym sum) ∙ take-add k (lent - k) vs in
     let both = empty-parts (take k vs) (take (lent - k) (drop k vs)) (subst AreEmpty cut empty) in
     record {
       empty = both.0;
       left = both.1;
-      rest = sym (drop-more k (lent - k) vs) ∙ ap (λ (j : ℕ). drop j vs) sum;
+      rest = drop-drop (lent - k) k vs ∙ ap (λ (j : ℕ). drop j vs) sum;
       gots = ap (λ (gs : List Got). gs ++ gots_in (drop k vs)) (sym both.0) ∙ (sym (gots-append (take k vs) (drop k vs)) ∙ ap gots_in (take-append-drop k vs));
     }
 
@@ -54,22 +54,15 @@ returns-clause-ring c =
 
 pub returns-clause-line : goal.returns-clause-line
 returns-clause-line c =
-    let r = c.args.self.now in
+    let few = fits (goal.at.returns-clause-line c).After-len-count in
     let k = c.len-count.result in
-    let vs = r.idle.values in
-    let gots = c.args.gots.items in
+    let vs = c.args.self.now.idle.values in
+    let within = c.requires.ring.lent_within in
+    let front_len = length-take-le k vs (omega (arith, few, within)) in
     let len = c.len-count.ensures in
     let same = c.args.gots.ok.0 in
-    let within = c.requires.ring.lent_within in
-    let few = fits (goal.at.returns-clause-line c).After-len-count in
-    let f = front k r.lent vs few c.requires.ring.lent in
-    let lot = c.done.result in
-    let now = ap (λ (i : Run (Option Got)). i.values) c.split_front-reach.ensures.rest in
-    let idle : buffers_of (gots_in c.split_front-reach.new.self.values) ≡ buffers_of (gots_in vs) = ap (λ (cs : List (Option Got)). buffers_of (gots_in cs)) now ∙ ap buffers_of f.gots in
-    let front_len = length-take-le k vs (omega (arith, few, within)) in
-    let first : length c.split_front-reach.result.values ≡ length gots = ap (λ (i : Run (Option Got)). length i.values) c.split_front-reach.ensures.first ∙ omega (arith, front_len, len, same) in
-    let put : held lot ≡ put_lot c.args.id gots = ap held c.done.ensures ∙ ap (λ (n : ℕ). record { id = c.args.id; slots = n; gots = Some gots }) first in
-    let lots : held_lots c.push_back_reserved.new.self.items ≡ held_lots r.lots.items ++ put_lot c.args.id gots ∷ [] =
-    ap held_lots c.push_back_reserved.ensures.items ∙ (map-append held r.lots.items (lot ∷ []) ∙ ap (λ (x : HeldLot). held_lots r.lots.items ++ x ∷ []) put) in
-    ap (λ (bs : List Buffer). record { size = r.field.size; idle = bs; lots = held_lots c.push_back_reserved.new.self.items }) idle
-    ∙ ap (λ (ls : List HeldLot). record { size = r.field.size; idle = buffers_of (gots_in vs); lots = ls }) lots
+    let first : length c.split_front-reach.result.values ≡ length c.args.gots.items = ap (λ (i : Run (Option Got)). length i.values) c.split_front-reach.ensures.first ∙ omega (arith, front_len, len, same) in
+    let now = ap (λ (i : Run (Option Got)). buffers_of (gots_in i.values)) c.split_front-reach.ensures.rest in
+    pushed-line c.args.self.now c.args.self.now.lent c.push_back_reserved.new.self c.done.result c.split_front-reach.new.self (buffers_of (gots_in vs)) (put_lot c.args.id c.args.gots.items)
+    c.push_back_reserved.ensures.items (now ∙ ap buffers_of (front k c.args.self.now.lent vs few c.requires.ring.lent).gots)
+    (ap held c.done.ensures ∙ ap (λ (n : ℕ). record { id = c.args.id; slots = n; gots = Some c.args.gots.items }) first)

@@ -27,11 +27,9 @@ complete-requires c =
 pub returns-clause-ring : goal.returns-clause-ring
 returns-clause-ring c =
     let r = c.prepare_behind.new.self in
-    let at = c.in-Some.at in
-    let lot = c.index_mut.result.now in
     let now = c.complete.new.self in
     let same = ap (λ (l : Lot). l.reach) c.complete.ensures ∙ ap (λ (l : Lot). l.reach) c.index_mut.ensures.value in
-    done_at r (deque_with_item r.lots at now) at lot now (subst IsRing (sym c.prepare_behind.ensures) c.requires.ring) c.in-Some.ensures.within refl refl same
+    done_at r (deque_with_item r.lots c.in-Some.at now) c.in-Some.at c.index_mut.result.now now (subst IsRing (sym c.prepare_behind.ensures) c.requires.ring) c.in-Some.ensures.within refl refl same
 
 pub returns-clause-line : goal.returns-clause-line
 returns-clause-line c =

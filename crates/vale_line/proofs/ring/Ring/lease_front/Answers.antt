@@ -1,14 +1,13 @@
-use Rattle.std.proofs.Common.{◌≡◌, ◌≤◌, ℕ, List, Option, None, [], ◌∷◌, ◌++◌, length, take, drop, refl, ap, sym, ◌∙◌, subst, arith}
-use Rattle.std.proofs.lemmas.List.{length-map, map-append, length-take-le}
+use Rattle.std.proofs.Common.{◌≡◌, ◌≤◌, ℕ, List, Option, None, ◌++◌, length, take, drop, refl, ap, sym, ◌∙◌, subst, arith}
+use Rattle.std.proofs.lemmas.List.{length-map, length-take-le, drop-map}
 use Rattle.nm_reach.specs.Fields.{Run}
-use Rattle.nm_region.specs.Buffers.{Buffer}
 use Rattle.vale_line.specs.declared.got.Got.{Got}
 use Rattle.vale_line.specs.declared.lot.Lot.{Lot}
 use Rattle.vale_line.specs.Cells.{AreFull, AreEmpty, SameCells, gots_in}
 use Rattle.vale_line.specs.Gots.{buffers_of, buffer_of}
-use Rattle.vale_line.specs.Lines.{HeldLot, opened_lot}
-use Rattle.vale_line.specs.Rings.{held, held_lots, IsHeld}
-use Rattle.vale_line.proofs.RingLemmas.{pushed, full-front, full-rest, full-take, full-drop, blank-rest, blank-front, buffers-drop, AreBlank}
+use Rattle.vale_line.specs.Lines.{opened_lot}
+use Rattle.vale_line.specs.Rings.{held, IsHeld}
+use Rattle.vale_line.proofs.RingLemmas.{pushed, pushed-line, full-front, full-rest, full-take, full-drop, blank-rest, blank-front, AreBlank}
 use Rattle.vale_line.proofs.ring.Ring.lease_front.Goals as goal
 
 -- what is known of the cells that are leased
@@ -59,27 +58,18 @@ returns-clause-ring c =
 
 pub returns-clause-line : goal.returns-clause-line
 returns-clause-line c =
-    let r = c.args.self.now in
-    let k = c.args.count in
-    let vs = r.idle.values in
     let l = leasing c in
-    let now = ap (λ (i : Run (Option Got)). i.values) c.split_front-reach.ensures.rest in
-    let idle : buffers_of (gots_in c.split_front-reach.new.self.values) ≡ drop k (buffers_of (gots_in vs)) =
-    ap (λ (cs : List (Option Got)). buffers_of (gots_in cs)) now ∙ (ap buffers_of (full-drop k vs l.full) ∙ buffers-drop k (gots_in vs)) in
+    let k = c.args.count in
+    let vs = c.args.self.now.idle.values in
+    let now = ap (λ (i : Run (Option Got)). buffers_of (gots_in i.values)) c.split_front-reach.ensures.rest in
+    let idle : buffers_of (gots_in c.split_front-reach.new.self.values) ≡ drop k (buffers_of (gots_in vs)) = now ∙ (ap buffers_of (full-drop k vs l.full) ∙ sym (drop-map buffer_of k (gots_in vs))) in
     let count : length c.take_run-gots.new.run.values ≡ k = l.cells.count ∙ length-take-le k vs l.enough in
-    let opened : held c.new.result ≡ opened_lot c.args.id k =
-    ap held l.lot ∙ ap (λ (j : ℕ). opened_lot c.args.id j) count in
-    let lots : held_lots c.push_back_reserved.new.self.items ≡ held_lots r.lots.items ++ opened_lot c.args.id k ∷ [] =
-    ap held_lots c.push_back_reserved.ensures.items ∙ (map-append held r.lots.items (c.new.result ∷ []) ∙ ap (λ (x : HeldLot). held_lots r.lots.items ++ x ∷ []) opened) in
-    ap (λ (bs : List Buffer). record { size = r.field.size; idle = bs; lots = held_lots c.push_back_reserved.new.self.items }) idle
-    ∙ ap (λ (ls : List HeldLot). record { size = r.field.size; idle = drop k (buffers_of (gots_in vs)); lots = ls }) lots
+    pushed-line c.args.self.now c.args.self.now.lent c.push_back_reserved.new.self c.new.result c.split_front-reach.new.self (drop k (buffers_of (gots_in vs))) (opened_lot c.args.id k)
+    c.push_back_reserved.ensures.items idle (ap held l.lot ∙ ap (λ (j : ℕ). opened_lot c.args.id j) count)
 
 pub returns-clause-gots : goal.returns-clause-gots
 returns-clause-gots c =
-    let r = c.args.self.now in
-    let k = c.args.count in
-    let vs = r.idle.values in
-    let l = leasing c in
+    let vs = c.args.self.now.idle.values in
     let first = ap (λ (i : Run (Option Got)). gots_in i.values) c.split_front-reach.ensures.first in
     c.take_run-gots.ensures.gots ∙ (ap (λ (gs : List Got). gs ++ gots_in c.split_front-reach.result.values) c.requires.gots
-    ∙ (first ∙ (full-take k vs l.full ∙ blank-front k (gots_in vs) c.requires.ring.blank)))
+    ∙ (first ∙ (full-take c.args.count vs (leasing c).full ∙ blank-front c.args.count (gots_in vs) c.requires.ring.blank)))

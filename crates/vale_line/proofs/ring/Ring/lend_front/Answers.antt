@@ -1,5 +1,5 @@
 use Rattle.std.proofs.Common.{◌≡◌, ℕ, List, Option, ◌++◌, drop, ap, sym, ◌∙◌, subst, arith}
-use Rattle.std.proofs.lemmas.List.{length-map}
+use Rattle.std.proofs.lemmas.List.{length-map, drop-map, take-map}
 use Rattle.nm_reach.specs.Fields.{Run}
 use Rattle.nm_region.specs.Buffers.{Buffer}
 use Rattle.vale_line.specs.declared.got.Got.{Got}
@@ -7,7 +7,7 @@ use Rattle.vale_line.specs.Cells.{AreFull, SameCells, gots_in}
 use Rattle.vale_line.specs.Gots.{buffers_of, buffer_of}
 use Rattle.vale_line.specs.Rings.{held_lots}
 use Rattle.vale_line.proofs.CellLemmas.{gots-append}
-use Rattle.vale_line.proofs.RingLemmas.{lent_out, full-front, full-take, full-drop, buffers-drop, buffers-take}
+use Rattle.vale_line.proofs.RingLemmas.{lent_out, full-front, full-take, full-drop}
 use Rattle.vale_line.proofs.ring.Ring.lend_front.Goals as goal
 
 pub take_run_bufs-requires-clause-full : goal.take_run_bufs-requires-clause-full
@@ -42,7 +42,7 @@ returns-clause-line c =
     let gots : gots_in c.join.new.self.values ≡ drop k (gots_in vs) =
     now ∙ (gots-append run.values c.split_front-lent.new.self.values
     ∙ (ap (λ (l : List Got). l ++ gots_in c.split_front-lent.new.self.values) c.take_run_bufs.ensures.empty ∙ (ap gots_in rest ∙ full-drop k vs full))) in
-    ap (λ (l : List Buffer). record { size = r.field.size; idle = l; lots = held_lots r.lots.items }) (ap buffers_of gots ∙ buffers-drop k (gots_in vs))
+    ap (λ (l : List Buffer). record { size = r.field.size; idle = l; lots = held_lots r.lots.items }) (ap buffers_of gots ∙ sym (drop-map buffer_of k (gots_in vs)))
 
 pub returns-clause-lent : goal.returns-clause-lent
 returns-clause-lent c =
@@ -52,4 +52,4 @@ returns-clause-lent c =
     let full : AreFull vs = subst (λ (l : ℕ). AreFull (drop l vs)) c.requires.settled c.requires.ring.full in
     let first = ap (λ (i : Run (Option Got)). buffers_of (gots_in i.values)) c.split_front-lent.ensures.first in
     c.take_run_bufs.ensures.bufs ∙ (ap (λ (l : List Buffer). l ++ buffers_of (gots_in c.split_front-lent.result.values)) c.requires.lent
-    ∙ (first ∙ (ap buffers_of (full-take k vs full) ∙ buffers-take k (gots_in vs))))
+    ∙ (first ∙ (ap buffers_of (full-take k vs full) ∙ sym (take-map buffer_of k (gots_in vs)))))
