@@ -1,6 +1,6 @@
 ghost use Rattle.std.specs.Prelude.{◌≡◌, ◌+◌, ◌<◌, ◌≤◌, ◌^◌, [], ◌∷◌, ◌++◌, All, Some, filter, length, map, option_map, slice_get, vec_len, vec_capacity, IfOk, IfSome, IfNone};
 ghost use Rattle.vale_batch.specs.Looking.{untaught_all};
-ghost use Rattle.vale_batch.specs.Wants.{wanted, dest_of, owned, merged, place_of, slots_of, flooded_to, want_of, want_seen, wants_some};
+ghost use Rattle.vale_batch.specs.Wants.{Classed, IsFew, wanted, dest_of, owned, merged, place_of, slots_of, flooded_to, want_of, want_seen, wants_some};
 
 use crate::alone::{Own, Placed};
 use crate::looking::{Taught, forget_taught};
@@ -39,12 +39,7 @@ pub struct Lists {
 }
 
 impl Model for Lists {
-    ghost use Rattle.vale_batch.specs.Wants.{Classed};
-
     ghost Value = { Classed };
-
-    ghost use Rattle.std.specs.Prelude.{All, map};
-    ghost use Rattle.vale_batch.specs.Wants.{IsFew, owned, want_seen};
 
     ghost view = { λ l. record {
       short = l.short;

@@ -36,38 +36,50 @@ fn batch_of(rt: &impl Abort, alloc: Global, frames: &[(&[u8], bool)]) -> Batch
     batch
 }
 
-/// Sends frames from a port of a switch with the ports 4, 5 and 6.
-fn send(
-    rt: &impl Abort,
+/// A switch with the ports 4, 5 and 6.
+#[derive(Drop)]
+struct Switch {
+    table: Table,
     alloc: Global,
-    table: &mut Table,
-    from: u32,
-    frames: &[(&[u8], bool)],
-) -> Lists
-    requires { length frames.now ≤ 8 }
-{
-    let batch = batch_of(rt, alloc, frames);
-    let ports = [PortId(4), PortId(5), PortId(6)];
-    match classify(alloc, table, &ports, PortId(from), &batch) {
-        Ok(lists) => lists,
-        Err(_) => panic!(rt; "no memory"),
-    }
 }
 
-/// The port to which all of some frames from a port go, each to it alone.
-fn sole(
-    rt: &impl Abort,
-    alloc: Global,
-    table: &mut Table,
-    from: u32,
-    frames: &[(&[u8], bool)],
-) -> Option<PortId>
-    requires { length frames.now ≤ 8 }
-{
-    let batch = batch_of(rt, alloc, frames);
-    match Lookup::new(alloc, table, PortId(from), &batch) {
-        Ok(lookup) => lookup.sole(),
-        Err(_) => panic!(rt; "no memory"),
+impl Switch {
+    fn new(rt: &impl Abort, alloc: Global) -> Switch {
+        match Table::new(alloc) {
+            Ok(table) => Switch { table, alloc },
+            Err(_) => panic!(rt; "no memory"),
+        }
+    }
+
+    /// Sends frames from a port. Asserts how many ports want some, and how many frames are short
+    /// and how many lone.
+    fn send(
+        &mut self,
+        rt: &impl Abort,
+        from: u32,
+        frames: &[(&[u8], bool)],
+        counts: (usize, u32, u32),
+    ) -> Lists
+        requires { length frames.now ≤ 8 }
+    {
+        let batch = batch_of(rt, self.alloc, frames);
+        let ports = [PortId(4), PortId(5), PortId(6)];
+        let Ok(lists) = classify(self.alloc, &mut self.table, &ports, PortId(from), &batch) else {
+            panic!(rt; "no memory");
+        };
+        assert!(rt; (lists.len(), lists.short(), lists.lone()) == counts);
+        lists
+    }
+
+    /// The port to which all of some frames from a port go, each to it alone.
+    fn sole(&mut self, rt: &impl Abort, from: u32, frames: &[(&[u8], bool)]) -> Option<PortId>
+        requires { length frames.now ≤ 8 }
+    {
+        let batch = batch_of(rt, self.alloc, frames);
+        match Lookup::new(self.alloc, &mut self.table, PortId(from), &batch) {
+            Ok(lookup) => lookup.sole(),
+            Err(_) => panic!(rt; "no memory"),
+        }
     }
 }
 
@@ -94,85 +106,56 @@ fn wants(
         && want.sizes.as_slice() == sizes
 }
 
-/// Asserts how many ports want some, and how many frames are short and lone.
-fn assert_counts(rt: &impl Abort, lists: &Lists, ports: usize, short: u32, lone: u32) {
-    assert!(rt; lists.len() == ports);
-    assert!(rt; lists.short() == short);
-    assert!(rt; lists.lone() == lone);
-}
-
 #[test]
 fn learned_before_looked_up(rt: HostRuntime) {
-    let Ok(mut table) = Table::new(rt.alloc()) else {
-        panic!(rt; "no memory");
-    };
-    let all = send(&rt, rt.alloc(), &mut table, 4, &[(TO_ALL, true)]);
-    assert_counts(&rt, &all, 2, 0, 0);
-    let unlearned = send(&rt, rt.alloc(), &mut table, 5, &[(TO_A, false)]);
-    assert_counts(&rt, &unlearned, 2, 0, 0);
+    let mut switch = Switch::new(&rt, rt.alloc());
+    switch.send(&rt, 4, &[(TO_ALL, true)], (2, 0, 0));
+    let unlearned = switch.send(&rt, 5, &[(TO_A, false)], (2, 0, 0));
     assert!(rt; wants(&rt, rt.alloc(), &unlearned, 1, 6, &[0], &[1]));
-    let own = send(
-        &rt,
-        rt.alloc(),
-        &mut table,
-        4,
-        &[(TO_SELF, false), (&TO_ALL[..13], false)],
-    );
-    assert_counts(&rt, &own, 0, 1, 1);
+    let own = [(TO_SELF, false), (&TO_ALL[..13], false)];
+    switch.send(&rt, 4, &own, (0, 1, 1));
     let frames = [
         (TO_A, false),
         (LONG, false),
         (&TO_A[..13], false),
         (TO_A, false),
     ];
-    let mixed = send(&rt, rt.alloc(), &mut table, 5, &frames);
-    assert_counts(&rt, &mixed, 2, 1, 0);
+    let mixed = switch.send(&rt, 5, &frames, (2, 1, 0));
     assert!(rt; wants(&rt, rt.alloc(), &mixed, 0, 4, &[0, 1, 3], &[1, 3, 1]));
     assert!(rt; wants(&rt, rt.alloc(), &mixed, 1, 6, &[1], &[3]));
 }
 
 #[test]
 fn all_frames_to_one_port(rt: HostRuntime) {
-    let Ok(mut table) = Table::new(rt.alloc()) else {
-        panic!(rt; "no memory");
-    };
-    let own = send(&rt, rt.alloc(), &mut table, 4, &[(TO_SELF, false)]);
-    assert_counts(&rt, &own, 0, 0, 1);
+    let mut switch = Switch::new(&rt, rt.alloc());
+    switch.send(&rt, 4, &[(TO_SELF, false)], (0, 0, 1));
     let frames = [(TO_A, false), (TO_A, false)];
-    let sent = send(&rt, rt.alloc(), &mut table, 5, &frames);
-    assert_counts(&rt, &sent, 1, 0, 0);
+    let sent = switch.send(&rt, 5, &frames, (1, 0, 0));
     assert!(rt; wants(&rt, rt.alloc(), &sent, 0, 4, &[0, 1], &[1, 1]));
-    assert!(rt; sole(&rt, rt.alloc(), &mut table, 5, &frames) == Some(PortId(4)));
+    assert!(rt; switch.sole(&rt, 5, &frames) == Some(PortId(4)));
     let mixed = [(TO_A, false), (TO_ALL, true)];
-    assert!(rt; sole(&rt, rt.alloc(), &mut table, 5, &mixed).is_none());
-    assert!(rt; sole(&rt, rt.alloc(), &mut table, 5, &[]).is_none());
+    assert!(rt; switch.sole(&rt, 5, &mixed).is_none());
+    assert!(rt; switch.sole(&rt, 5, &[]).is_none());
 }
 
 #[test]
 fn forgotten_batch_taught_nothing(rt: HostRuntime) {
-    let Ok(mut table) = Table::new(rt.alloc()) else {
-        panic!(rt; "no memory");
-    };
+    let mut switch = Switch::new(&rt, rt.alloc());
     let frames = [(TO_ALL, false), (TO_A, false)];
-    let refused = send(&rt, rt.alloc(), &mut table, 4, &frames);
-    refused.forget(&mut table);
-    let unlearned = send(&rt, rt.alloc(), &mut table, 5, &[(TO_A, false)]);
-    assert_counts(&rt, &unlearned, 2, 0, 0);
+    let refused = switch.send(&rt, 4, &frames, (2, 0, 1));
+    refused.forget(&mut switch.table);
+    switch.send(&rt, 5, &[(TO_A, false)], (2, 0, 0));
 }
 
 /// What a port knows of itself is no news, and a forgotten batch leaves it.
 #[test]
 fn known_sender_stays_known(rt: HostRuntime) {
-    let Ok(mut table) = Table::new(rt.alloc()) else {
-        panic!(rt; "no memory");
-    };
-    let taught = send(&rt, rt.alloc(), &mut table, 4, &[(TO_SELF, false)]);
-    assert_counts(&rt, &taught, 0, 0, 1);
-    let refused = send(&rt, rt.alloc(), &mut table, 4, &[(TO_SELF, false)]);
-    refused.forget(&mut table);
+    let mut switch = Switch::new(&rt, rt.alloc());
+    switch.send(&rt, 4, &[(TO_SELF, false)], (0, 0, 1));
+    let refused = switch.send(&rt, 4, &[(TO_SELF, false)], (0, 0, 1));
+    refused.forget(&mut switch.table);
     let frame = (TO_A, false);
     let frames = [frame, frame, frame, frame, frame, frame];
-    let sent = send(&rt, rt.alloc(), &mut table, 5, &frames);
-    assert_counts(&rt, &sent, 1, 0, 0);
+    let sent = switch.send(&rt, 5, &frames, (1, 0, 0));
     assert!(rt; wants(&rt, rt.alloc(), &sent, 0, 4, &[0, 1, 2, 3, 4, 5], &[1; 6]));
 }

@@ -1,6 +1,6 @@
 use Rattle.std.proofs.Common.{zero, suc, [], ◌∷◌, arith}
 use Rattle.vale_batch.specs.Wants.{IsRising}
-use Rattle.vale_batch.proofs.tests.send.Goals as goal
+use Rattle.vale_batch.proofs.tests.Switch.send.Goals as goal
 
 three : IsRising (4 ∷ 5 ∷ 6 ∷ [])
 three zero zero d less within = absurd (omega (arith, less))
