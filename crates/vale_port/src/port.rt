@@ -10,7 +10,8 @@ ghost use Rattle.vale_port.specs.Words.{taken_count, unread_count, with_lease};
 ghost use Rattle.vale_entry.specs.World.{space_of};
 ghost use Rattle.vale_port.specs.Kept.{bytes_of};
 ghost use Rattle.vale_port.specs.Laws.{with_line, line_after_put};
-ghost use Rattle.vale_port.specs.Ports.{opened_state, due_of_state, is_open_state, is_open_state_on, is_shutting_state, is_part, IsLastByte, IsSeatOf, IsLeaseFor, IsFilledFor, Gives, sizes_of};
+ghost use Rattle.vale_port.specs.Stored.{state_of, IsStored};
+ghost use Rattle.vale_port.specs.Ports.{PortState, opened_state, due_of_state, is_open_state, is_open_state_on, is_shutting_state, is_part, IsLastByte, IsSeatOf, IsLeaseFor, IsFilledFor, Gives, sizes_of};
 ghost use Rattle.vale_port.specs.Seat.{Seat, opened_seat, given_frames, seat_given, seat_done, seat_synced, seat_put, seat_shut};
 
 use crate::room::PutRoom;
@@ -54,11 +55,7 @@ pub struct Port {
 }
 
 impl Model for Port {
-    ghost use Rattle.vale_port.specs.Ports.{PortState};
-
     ghost Value = { PortState };
-
-    ghost use Rattle.vale_port.specs.Stored.{state_of, IsStored};
 
     ghost view = { state_of };
 

@@ -1,4 +1,5 @@
-ghost use Rattle.std.specs.Prelude.{◌≡◌, ◌≤◌, [], vec_capacity, IfOk};
+ghost use Rattle.std.specs.Prelude.{ℕ, ◌≡◌, ◌≤◌, [], vec_capacity, IfOk};
+ghost use Rattle.vale_port.specs.Rooms.{IsEmptyRoom};
 
 use nm_region::Buf;
 use nm_types::NoMemory;
@@ -15,13 +16,9 @@ pub struct PutRoom {
 }
 
 impl Model for PutRoom {
-    ghost use Rattle.std.specs.Prelude.{◌≡◌, ◌≤◌, ℕ, [], vec_capacity};
-
     ghost Value = { ℕ };
 
     ghost view = { λ r. r.frames };
-
-    ghost use Rattle.vale_port.specs.Rooms.{IsEmptyRoom};
 
     ghost invariant = { IsEmptyRoom };
 }
