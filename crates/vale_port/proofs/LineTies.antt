@@ -1,10 +1,10 @@
 -- A line and the world's port are seen as the same.
-use Rattle.std.proofs.Common.{ℕ, zero, suc, Bool, true, false, not, ◌≡◌, ◌+◌, List, [], ◌∷◌, ◌++◌, length, take, drop, map, Option, Some, None, inl, inr, if◌then◌else◌, refl, sym, ◌∙◌, ap, subst, arith}
+use Rattle.std.proofs.Common.{ℕ, suc, Bool, true, false, not, ◌≡◌, ◌+◌, List, [], ◌∷◌, ◌++◌, length, take, drop, map, Option, Some, None, inl, inr, if◌then◌else◌, refl, sym, ◌∙◌, ap, subst, arith}
 use Rattle.std.specs.Prelude.{flat_map, is_some, option_map, find, sum_by, ◌==◌}
 use Rattle.std.specs.Option.{option_map_or}
 use Rattle.std.specs.List.{prefix_len, take_while, list_any}
 use Rattle.std.proofs.lemmas.Bool.{cases_Bool, eqb-true, or_parts, both_ways}
-use Rattle.std.proofs.lemmas.List.{map-append, length-append, length-map}
+use Rattle.std.proofs.lemmas.List.{map-append, length-append, length-map, take-map, drop-map}
 use Rattle.std.proofs.lemmas.List.Sums.{sum_by-cons, sum_by-append}
 use Rattle.nm_types.specs.Frames.{Frame, slots_of, size_of_frames}
 use Rattle.nm_region.specs.Buffers.{Buffer, indices_of}
@@ -51,14 +51,10 @@ pub indices-append : (a b : List Buffer) → indices_of (a ++ b) ≡ indices_of 
 indices-append a b = map-append (λ (b : Buffer). b.index) a b
 
 pub indices-drop : (n : ℕ) (bufs : List Buffer) → indices_of (drop n bufs) ≡ drop n (indices_of bufs)
-indices-drop zero bufs = refl
-indices-drop (suc n) [] = refl
-indices-drop (suc n) (b ∷ bs) = indices-drop n bs
+indices-drop n bufs = sym (drop-map (λ (b : Buffer). b.index) n bufs)
 
 pub indices-take : (n : ℕ) (bufs : List Buffer) → indices_of (take n bufs) ≡ take n (indices_of bufs)
-indices-take zero bufs = refl
-indices-take (suc n) [] = refl
-indices-take (suc n) (b ∷ bs) = ap (λ (is : List ℕ). b.index ∷ is) (indices-take n bs)
+indices-take n bufs = sym (take-map (λ (b : Buffer). b.index) n bufs)
 
 -- A lot of a line with the lot that it stands for, and the buffers held for that.
 pub record TiedLot : Type 0 where
