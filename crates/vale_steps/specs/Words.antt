@@ -1,32 +1,23 @@
 -- The words of other crates that the contracts have in common, in one place.
 pub use Rattle.nm_count.specs.Tallies.{counts_of, tally_after_add}
-pub use Rattle.nm_region.specs.Buffers.{indices_of}
 pub use Rattle.nm_types.specs.Counters.{SumFits}
-pub use Rattle.nm_types.specs.Frames.{Frame, bytes_of_frames, size_of_frames}
+pub use Rattle.nm_types.specs.Frames.{bytes_of_frames}
 pub use Rattle.nm_types.specs.Ids.{lease_id}
 pub use Rattle.nm_types.specs.Limits.{most_batch}
-pub use Rattle.nm_types.specs.Names.{is_pipe_name, is_switch_port_name, peer_name, switch_of}
+pub use Rattle.nm_types.specs.Names.{is_pipe_name, is_switch_port_name, peer_name}
 pub use Rattle.nm_types.specs.Sendable.{is_sendable}
 pub use Rattle.nm_types.specs.declared.id.Side.TheVariants.{Rx}
 pub use Rattle.nm_watch.specs.Watching.{monitor_of}
-pub use Rattle.std.specs.List.{list_any, range_with_len}
+pub use Rattle.std.specs.List.{range_with_len}
 pub use Rattle.std.specs.Option.{ForSome}
 pub use Rattle.vale_batch.specs.Addresses.{is_short}
 pub use Rattle.vale_batch.specs.Looking.{IsFrame, learned_of_batch, looked_up_batch, untaught_all}
 pub use Rattle.vale_batch.specs.Wants.{IsRising, is_lone, is_short_destination, port_number, wanted}
 pub use Rattle.vale_batch.specs.Wants.{wants_of}
 pub use Rattle.vale_entry.specs.Counters.{count_shared}
-pub use Rattle.vale_entry.specs.Delivery.{delivered_frames}
-pub use Rattle.vale_entry.specs.Pipe.{frames_of_items, taken_count}
+pub use Rattle.vale_entry.specs.Pipe.{frames_of_items}
 pub use Rattle.vale_entry.specs.Room.{frame_bytes}
 pub use Rattle.vale_entry.specs.Stored.{Fits, IsFull}
-pub use Rattle.vale_entry.specs.World.{Offer}
-pub use Rattle.vale_lease.specs.Leases.{is_there}
-pub use Rattle.vale_line.specs.Fitting.{IsFrameSize}
-pub use Rattle.vale_line.specs.Gots.{IsSingle, buffers_of, frames_in}
-pub use Rattle.vale_line.specs.Leased.{buffer_count}
-pub use Rattle.vale_line.specs.Lines.{given_by_sync, granted_sizes, leased, leases_of, out_of}
-pub use Rattle.vale_line.specs.Lines.{ready_gots, room_to_sync, space_of, with_lease}
 pub use Rattle.vale_names.specs.PortNames.{IsNames}
 pub use Rattle.vale_names.specs.Ports.{Joins, fresh_port, open_port_of}
 pub use Rattle.vale_parts.specs.Adding.{FitsIn}
@@ -39,3 +30,8 @@ pub use Rattle.vale_port.specs.Laws.{line_after_put, with_line}
 pub use Rattle.vale_port.specs.Lists.{ChangesSeat, OfSeat, OfState}
 pub use Rattle.vale_port.specs.Ports.{Gives, IsLeaseFor, open_ids, opened_state, sizes_of}
 pub use Rattle.vale_port.specs.Seat.{given_frames, seat_given, seat_put, seat_synced}
+pub use Rattle.vale_port.specs.Words.{Frame, IsFrameSize, IsSingle, Offer, buffer_count, buffers_of}
+pub use Rattle.vale_port.specs.Words.{delivered_frames, frames_in, given_by_sync, granted_sizes}
+pub use Rattle.vale_port.specs.Words.{indices_of, is_there, leased, leases_of, list_any, out_of}
+pub use Rattle.vale_port.specs.Words.{ready_gots, room_to_sync, size_of_frames, space_of, switch_of}
+pub use Rattle.vale_port.specs.Words.{taken_count, with_lease}

@@ -1,6 +1,6 @@
 ghost use Rattle.std.specs.Prelude.{◌≡◌, ◌≤◌, ◌<◌, ◌^◌, [], ◌∷◌, All, length, map, reverse, slice_get, option_map, Some, IfOk, IfSome, IfNone};
 ghost use Rattle.vale_steps.specs.Words.{wanted};
-ghost use Rattle.vale_steps.specs.Offering.{slots_in, slots_wanted};
+ghost use Rattle.vale_steps.specs.Offering.{OffersState, offers_seen, IsOffers, slots_in, slots_wanted};
 
 use nm_types::{NoMemory, SessionId};
 use std::alloc::Global;
@@ -21,11 +21,7 @@ pub struct Offers {
 }
 
 impl Model for Offers {
-    ghost use Rattle.vale_steps.specs.Offering.{OffersState};
-
     ghost Value = { OffersState };
-
-    ghost use Rattle.vale_steps.specs.Offering.{offers_seen, IsOffers};
 
     ghost view = { offers_seen };
 
