@@ -1,11 +1,14 @@
 -- A put of a pipe end: its other end takes frames with their buffers, as many as it has space for, and
 -- gives as many idle buffers back.
-use Rattle.std.specs.Prelude.{ℕ, false, ◌≡◌, List, [], map, Option, Some, None}
+use Rattle.std.specs.Prelude.{ℕ, false, ◌≡◌, List, [], map, take, IsSome, Option, Some, None}
 use Rattle.nm_types.specs.declared.id.Counts.{Counts}
 use Rattle.nm_types.specs.declared.id.PortId.{PortId}
 use Rattle.nm_types.specs.declared.id.SessionId.{SessionId}
-use Rattle.nm_types.specs.Counters.{zero_counts}
+use Rattle.nm_types.specs.Counters.{SumFits, zero_counts}
 use Rattle.nm_types.specs.Frames.{Frame}
+use Rattle.std.specs.Option.{ForSome}
+use Rattle.nm_count.specs.declared.tally.Tallied.{Tallied}
+use Rattle.nm_count.specs.Tallies.{counts_of, tally_after_add}
 use Rattle.vale_batch.specs.Wants.{Wanted}
 use Rattle.vale_line.specs.declared.got.Got.{Got}
 use Rattle.vale_line.specs.Gots.{part_in}
@@ -19,6 +22,7 @@ use Rattle.vale_entry.specs.Pipe.{frames_of_items}
 use Rattle.vale_parts.specs.Batches.{dests_wanted}
 use Rattle.vale_steps.specs.declared.putting.Putting.{Putting}
 use Rattle.vale_steps.specs.declared.putting.Put.{Put}
+use Rattle.vale_steps.specs.declared.putting.Taking.{Taking}
 use Rattle.vale_steps.specs.Monitored.{wants_by, offers_to}
 
 -- a buffer's index, and the frame in its first bytes
@@ -53,10 +57,25 @@ count_sent count = record zero_counts { sent = count }
 abbrev pub count_given : ℕ → Counts
 count_given count = record zero_counts { given = count }
 
+-- both ends count the frames taken, and their counts fit
+pub record CanCount (putting : Putting) (tally : List Tallied) : Type 0 where
+  pub own : IsSome (counts_of tally putting.at.0)
+  pub own_fits : ForSome (counts_of tally putting.at.0) (λ (counts : Counts). SumFits counts (count_sent putting.took))
+  pub other : IsSome (counts_of (tally_after_add putting.at.0 (count_sent putting.took) tally) putting.peer.0)
+  pub other_fits : ForSome (counts_of (tally_after_add putting.at.0 (count_sent putting.took) tally) putting.peer.0)
+      (λ (counts : Counts). SumFits counts (count_given putting.took))
+
 -- the frames, if somebody monitors them
 abbrev pub copied : {X : Type 0} → Option X → List Frame → List Frame
 copied None frames = []
 copied (Some monitor) frames = frames
+
+-- the frames that are taken of those offered, with room for all that the put gives
+pub record IsTaking (putting : Putting) (offered : List Got) (taking : Taking) : Type 0 where
+  pub room : taking.room ≡ putting.took
+  pub items : taking.items ≡ items_of (take putting.took offered)
+  pub copies : taking.copies ≡ copied putting.monitor (frames_of_items (items_of (take putting.took offered)))
+  pub monitored : taking.monitored ≡ wants_put putting
 
 -- what the entry of this number gives
 pub record IsPutBy (putting : Putting) (number : ℕ) (taken : List Got) (put : Put) : Type 0 where

@@ -10,7 +10,7 @@ ghost use Rattle.vale_steps.specs.Words.{open_port_of, peer_name, seat_put, spac
 ghost use Rattle.vale_steps.specs.Words.{taken_count, tally_after_add, with_line};
 ghost use Rattle.vale_entry.specs.declared.entry.Ask.TheVariants as asks;
 ghost use Rattle.vale_entry.specs.declared.entry.Reply.TheVariants as replies;
-ghost use Rattle.vale_steps.specs.Putting.{item_of, items_of, wants_put, room_of_put, put_entry};
+ghost use Rattle.vale_steps.specs.Putting.{CanCount, IsTaking, item_of, items_of, room_of_put, put_entry};
 ghost use Rattle.vale_steps.specs.Putting.{gone_entry, count_sent, count_given, copied};
 ghost use Rattle.vale_steps.specs.Putting.{IfPut, IsPutBy};
 
@@ -114,12 +114,7 @@ fn copies_of(alloc: Global, monitor: Option<PortId>, items: &Items) -> Result<Ba
 fn taking_of(alloc: Global, putting: Putting, pending: &[Got]) -> Result<Taking, NoMemory>
     requires few { putting.took ≤ most_batch }
     requires within { putting.took ≤ length pending.now }
-    ensures room { IfOk result (λ taking. taking.room ≡ putting.took) }
-    ensures items { IfOk result (λ taking. taking.items
-        ≡ items_of (take putting.took pending.now)) }
-    ensures copies { IfOk result (λ taking. taking.copies
-        ≡ copied putting.monitor (frames_of_items (items_of (take putting.took pending.now)))) }
-    ensures monitored { IfOk result (λ taking. taking.monitored ≡ wants_put putting) }
+    ensures taking { IfOk result (IsTaking putting pending.now) }
     ensures size { IfOk result (λ taking.
         bytes_of_frames (frames_of_items taking.items) ≤ 2048 * putting.took) }
 {
@@ -144,12 +139,7 @@ fn room_to_put(
 ) -> Result<Taking, StepFault>
     requires few { putting.took ≤ most_batch }
     requires within { putting.took ≤ length pending.now }
-    ensures room { IfOk result (λ taking. taking.room ≡ putting.took) }
-    ensures items { IfOk result (λ taking. taking.items
-        ≡ items_of (take putting.took pending.now)) }
-    ensures copies { IfOk result (λ taking. taking.copies
-        ≡ copied putting.monitor (frames_of_items (items_of (take putting.took pending.now)))) }
-    ensures monitored { IfOk result (λ taking. taking.monitored ≡ wants_put putting) }
+    ensures taking { IfOk result (IsTaking putting pending.now) }
     ensures promised { OnOk result (history.new.promised
         ≡ history.old.promised + room_of_put putting) }
     ensures entries { history.new.entries ≡ history.old.entries }
@@ -176,14 +166,7 @@ fn record_put(history: &mut History, tally: &mut Tally, putting: Putting, items:
     requires promised { 0 < history.old.promised }
     requires room { frame_bytes history.old.entries + bytes_of_frames (frames_of_items items)
         ≤ history.old.limits.bytes }
-    requires own { IsSome (counts_of tally.old putting.at.0) }
-    requires own_fits { ForSome (counts_of tally.old putting.at.0)
-        (λ counts. SumFits counts (count_sent putting.took)) }
-    requires other { IsSome (counts_of (tally_after_add putting.at.0 (count_sent putting.took)
-        tally.old) putting.peer.0) }
-    requires other_fits { ForSome (counts_of (tally_after_add putting.at.0
-        (count_sent putting.took) tally.old) putting.peer.0)
-        (λ counts. SumFits counts (count_given putting.took)) }
+    requires counts { CanCount putting tally.old }
     ensures entries { history.new.entries ≡ history.old.entries
         ++ (record {
           session = putting.session;
