@@ -3,7 +3,7 @@
 use Rattle.std.proofs.Common.{ℕ, ◌≡◌, ◌<◌, ◌≤◌, ◌+◌, ◌-◌, ◌||◌, ◌⊎◌, Bool, true, false, nat_eq, nat_lt, if◌then◌else◌, List, [], ◌∷◌, ◌++◌, map, fold, replicate, Option, Some, None, option_map, inl, inr, refl, sym, ◌∙◌, ap, arith}
 use Rattle.std.specs.Prelude.{is_some, IsSome}
 use Rattle.std.specs.List.{AllByRecursion, list_any, range_with_len}
-use Rattle.std.proofs.lemmas.Bool.{cases_Bool, cases_lt}
+use Rattle.std.proofs.lemmas.Bool.{cases_Bool}
 use Rattle.std.proofs.lemmas.Bool.Decides.{nat_tests}
 use Rattle.std.proofs.lemmas.List.Folds.{list_any-append}
 use Rattle.nm_types.specs.declared.id.PortId.{PortId}
@@ -15,7 +15,7 @@ use Rattle.nm_types.specs.Places.{is_same_place}
 use Rattle.nm_types.specs.Positions.{IsRing, FitsRing, dist, step_on, slots_from, user_slots, kernel_count}
 use Rattle.nm_types.specs.OwnPorts.{OwnRing, OwnPort, OwnState, port_if, with_ring_on, pushed_on, pushed_count}
 use Rattle.nm_types.specs.OwnSyncs.{accepted, slots_after_push, after_slot, after_exchange, ring_after_send, own_after_send}
-use Rattle.nm_types.proofs.RingSteps.{dist-below, dist-step_on, step_on-below, dist-add, dist_split, dist-cases, length-slots_from}
+use Rattle.nm_types.proofs.RingSteps.{dist-below, dist-step_on, step_on-below, dist-add, dist_split, seen_from, length-slots_from}
 use Rattle.nm_hold.specs.Offsets.{ArePortsOnce}
 use Rattle.nm_hold.specs.Holds.{HoldState, buffers_of, index_at, port_of}
 use Rattle.nm_hold.proofs.Spots.{nat_eq-is}
@@ -39,24 +39,6 @@ use Rattle.nm_own.proofs.OnePort.{others_stay}
 use Rattle.nm_own.proofs.KeptPorts.{KeepsPlaces, keeps_places_if, sided_by, places_by, filled_by, back_by}
 use Rattle.nm_own.proofs.Changing.{tx_keeps}
 use Rattle.nm_port.proofs.Ranges.{is_slot_from}
-
--- where a slot stands, seen from three positions
-pub seen_from : (size a h x : ℕ) → a < size → h < size → x < size → (dist size h x + dist size a h ≡ dist size a x) ⊎ (dist size h x + dist size a h ≡ dist size a x + size)
-seen_from size a h x al hl xl =
-    let near = dist-cases size a h al hl in
-    let far = dist-cases size a x al xl in
-    let rest = dist-cases size h x hl xl in
-    let near_less = dist-below size a h al in
-    let far_less = dist-below size a x al in
-    let rest_less = dist-below size h x hl in
-    met (dist size a h) (dist size h x) (dist size a x) size a h x hl xl near_less rest_less far_less near rest far
-  where
-    met : (d e f size a h x : ℕ) → h < size → x < size → d < size → e < size → f < size → (a + d ≡ h) ⊎ (a + d ≡ h + size) → (h + e ≡ x) ⊎ (h + e ≡ x + size)
-        → (a + f ≡ x) ⊎ (a + f ≡ x + size) → (e + d ≡ f) ⊎ (e + d ≡ f + size)
-    met d e f size a h x hs xs dl el fl near rest far = elim (cases_lt f d) [
-      | inl below ↦ inr (grind arith)
-      | inr above ↦ inl (grind arith)
-    ]
 
 -- the user's slots after a push: those behind the tail that came, and of the old ones those not pushed
 pub flag_is : (size a b c h t n : ℕ) → a < size → b < size → c < size → h ≤ t → t < size → n + (t - h) < size → (b + h ≡ a) ⊎ (b + h ≡ a + size) → (c + t ≡ a) ⊎ (c + t ≡ a + size)

@@ -11,7 +11,7 @@ use Rattle.nm_types.specs.declared.place.Place.TheVariants as place
 use Rattle.nm_types.specs.Places.{is_same_place}
 use Rattle.nm_types.specs.Positions.{RingState, IsRing, FitsRing, dist, step_on, user_slots, is_user_slot}
 use Rattle.nm_types.specs.OwnPorts.{OwnRing}
-use Rattle.nm_types.proofs.RingSteps.{dist-below, dist_split}
+use Rattle.nm_types.proofs.RingSteps.{dist-below, dist_split, seen_from}
 use Rattle.nm_hold.specs.Holds.{HoldState, port_of}
 use Rattle.nm_port.specs.declared.port.UserPort.{UserPort}
 use Rattle.nm_port.specs.RingSlots.{RingSlots}
@@ -22,7 +22,7 @@ use Rattle.nm_port.proofs.Seeing.{map-same}
 use Rattle.nm_port.proofs.SlotLists.{tail_stays}
 use Rattle.nm_port.proofs.Ranges.{is_slot_from, among_slots}
 use Rattle.nm_own.proofs.Tests.{or_second, or_first, less_is, and-is}
-use Rattle.nm_own.proofs.Pushed.{flag_is, seen_from}
+use Rattle.nm_own.proofs.Pushed.{flag_is}
 
 -- slots of a receive ring are no other places
 pub rx_elsewhere : (id : PortId) (ats : List ℕ) (q : Place) → nat_eq id.0 (port_of q) ≡ false → is_among (map (place_on Rx id) ats) q ≡ false
