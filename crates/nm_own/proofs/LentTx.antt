@@ -61,55 +61,49 @@ module _ (h : HoldState) (ports : List UserPort) (id : PortId) (p : UserPort) (r
   abbrev first : ℕ
   first = offered_slot r.ring
 
-  is_ring : IsRing r.ring
-  is_ring = ring_is h ports side.Tx id p r x
+  pub ring_of_put : IsRing r.ring
+  ring_of_put = ring_is h ports side.Tx id p r x
 
   tx_side : r.side ≡ side.Tx
   tx_side = own_side h ports side.Tx id p r x
 
-  fits : FitsRing r.ring r.ring.head r.ring.cur
-  fits = positions_fit h ports side.Tx id p r x
+  pub fits_of_put : FitsRing r.ring r.ring.head r.ring.cur
+  fits_of_put = positions_fit h ports side.Tx id p r x
 
   tail_within : r.ring.last_tail < size
-  tail_within = let w = is_ring.within in let o = is_ring.one_tail in omega arith
-
-  pub ring_of_put : IsRing r.ring
-  ring_of_put = is_ring
-
-  pub fits_of_put : FitsRing r.ring r.ring.head r.ring.cur
-  fits_of_put = fits
+  tail_within = let w = ring_of_put.within in let o = ring_of_put.one_tail in omega arith
 
   pub first_within : first < size
   first_within = step_on-below size r.ring.last_tail 1 tail_within
 
   pending_is : pending_count_of r ≡ size - 1 - dist size r.ring.accepted_head r.ring.last_tail
-  pending_is = dist_behind size r.ring.accepted_head r.ring.last_tail is_ring.accepted tail_within
+  pending_is = dist_behind size r.ring.accepted_head r.ring.last_tail ring_of_put.accepted tail_within
 
   pub few_offered : offered_count_of r < size
   few_offered =
-      let t = dist-below size r.ring.accepted_head r.ring.last_tail is_ring.accepted in
-      let reach = fits.head_reach in
+      let t = dist-below size r.ring.accepted_head r.ring.last_tail ring_of_put.accepted in
+      let reach = fits_of_put.head_reach in
       omega (arith, pending_is)
 
   others : Among ports id.0 p
   others = among ports id.0 p x.there (ports_once h ports side.Tx id p r x)
 
   can : CanPushOut 0 r
-  can = record { side = tx_side; is_ring = is_ring; fits = fits; few = omega arith }
+  can = record { side = tx_side; is_ring = ring_of_put; fits = fits_of_put; few = omega arith }
 
   -- a slot that is still pushed is not the user's
   not_user : (k : ℕ) → k < pending_count_of r → is_among (named_places ports) (place.Tx id (step_on size first k)) ≡ false
   not_user k below =
       let at = step_on size first k in
       let q = place.Tx id at in
-      let t = dist-below size r.ring.accepted_head r.ring.last_tail is_ring.accepted in
+      let t = dist-below size r.ring.accepted_head r.ring.last_tail ring_of_put.accepted in
       let inside = step_on-below size first k first_within in
       let far : dist size r.ring.accepted_head at ≡ dist size r.ring.accepted_head r.ring.last_tail + (1 + k) =
-      ap (dist size r.ring.accepted_head) (step_on-step_on size r.ring.last_tail 1 k) ∙ dist-add size r.ring.accepted_head r.ring.last_tail (1 + k) is_ring.accepted tail_within (omega (arith, pending_is, below)) in
+      ap (dist size r.ring.accepted_head) (step_on-step_on size r.ring.last_tail 1 k) ∙ dist-add size r.ring.accepted_head r.ring.last_tail (1 + k) ring_of_put.accepted tail_within (omega (arith, pending_is, below)) in
       let in_ring : is_among (named_ring_places id r) q ≡ false =
-      rw tx_side (among_tx id (user_slots r.ring) at ∙ (is_slot_from size r.ring.accepted_head (dist size r.ring.accepted_head r.ring.last_tail) at is_ring.accepted (omega arith) inside
+      rw tx_side (among_tx id (user_slots r.ring) at ∙ (is_slot_from size r.ring.accepted_head (dist size r.ring.accepted_head r.ring.last_tail) at ring_of_put.accepted (omega arith) inside
       ∙ not_less (dist size r.ring.accepted_head at) (dist size r.ring.accepted_head r.ring.last_tail) (omega (arith, far)))) in
-      let rest = rest_not_tx id r 0 is_ring can p at (sided_one ports id.0 p x.there x.sided).1 in
+      let rest = rest_not_tx id r 0 ring_of_put can p at (sided_one ports id.0 p x.there x.sided).1 in
       ap (λ (all : List UserPort). is_among (named_places all) q) others.are
       ∙ (named_at id.0 others.before others.behind p q others.first others.rest refl
       ∙ rw (x.on, x.same_id) (list_any-append (λ y. is_same_place y q) (named_ring_places id r) _ ∙ rw in_ring (rw x.same_id at rest)))
@@ -137,7 +131,7 @@ module _ (h : HoldState) (ports : List UserPort) (id : PortId) (p : UserPort) (r
       | inr pushed ↦ (let j = k - pending_count_of r in
           let sum : k ≡ pending_count_of r + j = omega arith in
           let at : step_on size first k ≡ user_position r j =
-          ap (step_on size first) sum ∙ (sym (step_on-step_on size first (pending_count_of r) j) ∙ ap (λ (n : ℕ). step_on size n j) (step_on-dist size first r.ring.accepted_head first_within is_ring.accepted)) in
+          ap (step_on size first) sum ∙ (sym (step_on-step_on size first (pending_count_of r) j) ∙ ap (λ (n : ℕ). step_on size n j) (step_on-dist size first r.ring.accepted_head first_within ring_of_put.accepted)) in
           let there = exchange.there (user_place id r j) ((can_exchange h ports id p r x).there j (omega (arith, sum))) in
           rw (is_least (pending_count_of r) k (omega arith), at) there)
     ]
@@ -145,7 +139,7 @@ module _ (h : HoldState) (ports : List UserPort) (id : PortId) (p : UserPort) (r
     -- what is seen of the places offered
     pub exchanged_seen : map (port_seen h1) ports ≡ (after_exchange side.Tx id.0 (own_seen h ports)).ports
     exchanged_seen =
-        let pushed : pushed_on side.Tx id.0 (own_seen h ports) ≡ pushed_seen h id r = rw (ring_found h ports side.Tx id r x.at) (pushed_is_seen h id side.Tx r tx_side is_ring fits) in
+        let pushed : pushed_on side.Tx id.0 (own_seen h ports) ≡ pushed_seen h id r = rw (ring_found h ports side.Tx id r x.at) (pushed_is_seen h id side.Tx r tx_side ring_of_put fits_of_put) in
         exchange.seen ports x.sided (ap (λ (s : Side). slots_at s ports id.0) tx_side ∙ x.at)
         ∙ (ap (λ (s : Side). fold (after_slot s id.0) (map (port_seen h) ports) (pushed_seen h id r)) tx_side ∙ ap (fold (after_slot side.Tx id.0) (map (port_seen h) ports)) (sym pushed))
 
@@ -172,7 +166,7 @@ module _ (h : HoldState) (ports : List UserPort) (id : PortId) (p : UserPort) (r
     pub taken_numbers : (n : ℕ) → n ≤ offered_count_of r → taken_on id.0 (after_exchange side.Tx id.0 (own_seen h ports)).ports n ≡ map (number_at h1) (map (place_on r.side id) (slots_from size first n))
     taken_numbers n few =
         let slots : take n (pending_slots r.ring ++ pushed_slots r.ring r.ring.head) ≡ slots_from size first n =
-        ap (take n) (sym (offered_are r.ring is_ring)) ∙ take-map-range_with_len (step_on size first) 0 (offered_count_of r) n few in
+        ap (take n) (sym (offered_are r.ring ring_of_put)) ∙ take-map-range_with_len (step_on size first) 0 (offered_count_of r) n few in
         ap (λ (all : List OwnPort). taken_on id.0 all n) (sym exchanged_seen)
         ∙ (taken_seen ports n x.there ∙ (ap (map (buffer_in side.Tx (ring_seen h1 id r))) slots ∙ numbers_in 0 n))
 
@@ -180,7 +174,7 @@ module _ (h : HoldState) (ports : List UserPort) (id : PortId) (p : UserPort) (r
   offered_number =
       ap (λ (ns : List ℕ). length ns) (sym (lengths_are_seen h ports id r x.sided x.at))
       ∙ (length-map (pending_slots r.ring ++ pushed_slots r.ring r.ring.head) (length_seen r)
-      ∙ (ap (λ (ats : List ℕ). length ats) (sym (offered_are r.ring is_ring)) ∙ length-slots_from size first (offered_count_of r)))
+      ∙ (ap (λ (ats : List ℕ). length ats) (sym (offered_are r.ring ring_of_put)) ∙ length-slots_from size first (offered_count_of r)))
 
   module _ (h1 h2 : HoldState) (exchange : AreExchanged h h1 id r (pushed_count_of r)) (before after : List Buffer) (taken : AreTaken h1 h2 (map (place_on r.side id) (slots_from size first (offered_count_of r))) before after) where
     numbers_go : map (number_at h1) (map (place_on r.side id) (slots_from size first (offered_count_of r))) ≡ offered_buffers id.0 (own_seen h ports)

@@ -41,10 +41,10 @@ use Rattle.nm_own.proofs.Tests.{turned, less_is, some_of, some_true}
 use Rattle.nm_own.proofs.Closing.{sided_one, ring_one}
 use Rattle.nm_port.proofs.Buffers.{cells_by_bufs, count_by_bufs, whole_by_bufs}
 use Rattle.nm_port.proofs.Pushes.{offered_are}
-use Rattle.nm_own.proofs.Passing.{Passes, ring_is, own_side, positions_fit, ports_once}
+use Rattle.nm_own.proofs.Passing.{Passes, own_side, ports_once}
 use Rattle.nm_own.proofs.Pushed.{tx_elsewhere, among_tx, named_after, slots_held}
 use Rattle.nm_own.proofs.OnePort.{Among, among, changed_are, ChangesPort, filled_at, named_at, seen_with}
-use Rattle.nm_own.proofs.LentTx.{first_within, few_offered, exchanged_seen, taken_numbers}
+use Rattle.nm_own.proofs.LentTx.{ring_of_put, fits_of_put, first_within, few_offered, exchanged_seen, taken_numbers}
 use Rattle.nm_port.proofs.Regions.{holds_same, holds_taken}
 use Rattle.nm_own.proofs.ComingIn.{all_turned}
 use Rattle.nm_own.proofs.Refilled.{IsCleared, out_taken, out_there, flags_out, flags_in, whole_in, region_in, came_bytes, among_first}
@@ -116,13 +116,13 @@ module _ (h : HoldState) (ports : List UserPort) (id : PortId) (p : UserPort) (r
   first = offered_slot r.ring
 
   is_ring : IsRing r.ring
-  is_ring = ring_is h ports side.Tx id p r x
+  is_ring = ring_of_put h ports id p r x
 
   tx_side : r.side ≡ side.Tx
   tx_side = own_side h ports side.Tx id p r x
 
   fits : FitsRing r.ring r.ring.head r.ring.cur
-  fits = positions_fit h ports side.Tx id p r x
+  fits = fits_of_put h ports id p r x
 
   within : first < size
   within = first_within h ports id p r x

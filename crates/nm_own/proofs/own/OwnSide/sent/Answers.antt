@@ -40,11 +40,10 @@ unreachable-requires c =
 
 pub accept_pushes-requires : goal.accept_pushes-requires
 accept_pushes-requires c =
-    let h = c.self.inside.hold in
-    let ports = c.self.inside.ports.items in
-    let r = c.in-Some.ring.now in
     let x = passing (goal.at.accept_pushes-requires c).In-Some in
-    rw (c.deref_mut.ensures.value, c.send_out-taken.ensures.count) (can_accept h ports c.args.port x.0 r x.1 (pushed_count_of r) (all_have_room h ports c.args.port x.0 r x.1))
+    let r = c.in-Some.ring.now in
+    rw (c.deref_mut.ensures.value, c.send_out-taken.ensures.count)
+    (can_accept c.self.inside.hold c.self.inside.ports.items c.args.port x.0 r x.1 (pushed_count_of r) (all_have_room c.self.inside.hold c.self.inside.ports.items c.args.port x.0 r x.1))
 
 -- the ports once the push is accepted
 ports_are : (c : goal.After-self-1) → (with_items c.self.inside.ports c.accept_pushes.new.ports).items
