@@ -97,7 +97,7 @@ module _ (h : HoldState) (ports : List UserPort) (id : PortId) (p : UserPort) (r
   pushed_fits = fits
 
   pub back_are : names_pushed r ≡ back_on id.0 (own_seen h ports)
-  back_are = back_is_seen h ports id r x.sided is_ring x.at fits
+  back_are = back_is_seen h ports id r x.sided (record { at = x.at; ring = is_ring; fits = fits })
 
   pub back_count : length (back_on id.0 (own_seen h ports)) ≡ pushed_count_of r
   back_count =

@@ -2,18 +2,19 @@
 use Rattle.std.proofs.Common.{ℕ, ◌≡◌, List, [], ◌∷◌, ◌++◌, map, Some, refl, sym, ◌∙◌, ap}
 use Rattle.nm_types.specs.declared.id.PortId.{PortId}
 use Rattle.nm_types.specs.declared.id.Side.TheVariants.{Tx, Rx}
-use Rattle.nm_types.specs.Positions.{IsRing, FitsRing, pending_slots, pushed_slots}
+use Rattle.nm_types.specs.Positions.{IsRing, pending_slots, pushed_slots}
 use Rattle.nm_types.specs.Frames.{Frame}
-use Rattle.nm_types.specs.Slots.{SlotState, pushed_names}
-use Rattle.nm_types.specs.OwnPorts.{bytes_at, slot_in}
+use Rattle.nm_types.specs.Slots.{SlotState, pushed_frames, pushed_names}
+use Rattle.nm_types.specs.OwnPorts.{bytes_at, pushed_on, slot_in}
 use Rattle.nm_types.specs.OwnSyncs.{back_on}
 use Rattle.nm_hold.specs.Holds.{HoldState}
 use Rattle.nm_port.specs.declared.port.UserPort.{UserPort}
 use Rattle.nm_port.specs.RingSlots.{RingSlots, slot_at}
 use Rattle.nm_port.specs.Sides.{names_pushed}
-use Rattle.nm_port.specs.Own.{ring_seen, own_seen, slots_at, AreSided, AreRings}
+use Rattle.nm_port.specs.Own.{frames_seen, ring_seen, own_seen, slots_at, AreSided, AreRings}
 use Rattle.nm_port.specs.Offers.{unmarked_frame, offer_seen, offers_seen, frames_offered, length_seen, lengths_seen, offered_lengths}
-use Rattle.nm_port.proofs.Checked.{bytes_are_seen, found, ring_found, side_found}
+use Rattle.nm_own.specs.FittingRings.{IsFittingRing}
+use Rattle.nm_port.proofs.Checked.{bytes_are_seen, found, frames_are_seen, ring_found, side_found}
 use Rattle.nm_port.proofs.Seeing.{pushed_is_seen}
 use Rattle.nm_port.proofs.Pushes.{names-seen}
 use Rattle.nm_own.proofs.Tests.{some_is}
@@ -50,7 +51,11 @@ rx_ring_found ports id r rings at =
     let is : f.p.rx ≡ r = some_is f.p.rx r f.on in
     rw (← is) (ring_one ports id.0 f.p f.there rings)
 
-pub back_is_seen : (h : HoldState) (ports : List UserPort) (id : PortId) (r : RingSlots) → AreSided ports → IsRing r.ring → slots_at Rx ports id.0 ≡ Some r → FitsRing r.ring r.ring.head r.ring.cur
-    → names_pushed r ≡ back_on id.0 (own_seen h ports)
-back_is_seen h ports id r sided is at fits =
-    rw (ring_found h ports Rx id r at) (sym (ap pushed_names (pushed_is_seen h id Rx r (side_found ports Rx id r sided at) is fits) ∙ names-seen h id r))
+pub back_is_seen : (h : HoldState) (ports : List UserPort) (id : PortId) (r : RingSlots) → AreSided ports → IsFittingRing ports id.0 Rx r → names_pushed r ≡ back_on id.0 (own_seen h ports)
+back_is_seen h ports id r sided is =
+    rw (ring_found h ports Rx id r is.at) (sym (ap pushed_names (pushed_is_seen h id Rx r (side_found ports Rx id r sided is.at) is.ring is.fits) ∙ names-seen h id r))
+
+-- the frames that are pushed in a transmit ring
+pub frames_pushed : (h : HoldState) (ports : List UserPort) (id : PortId) (r : RingSlots) → AreSided ports → IsFittingRing ports id.0 Tx r
+    → frames_seen h r ≡ pushed_frames (bytes_at (own_seen h ports)) (pushed_on Tx id.0 (own_seen h ports))
+frames_pushed h ports id r sided is = frames_are_seen h ports id r sided is.ring is.at is.fits

@@ -1,5 +1,6 @@
 -- The own side of a push that passes the checks, and what its exchange asks.
 use Rattle.std.proofs.Common.{ℕ, zero, suc, ◌≡◌, ◌≢◌, ◌<◌, ◌≤◌, ◌+◌, true, nat_eq, List, ◌∷◌, [], ◌++◌, length, map, get_or, Option, Some, None, refl, sym, ◌∙◌, ap, arith}
+use Rattle.std.specs.Prelude.{IsSome}
 use Rattle.std.specs.List.{IsDistinct, range_with_len}
 use Rattle.std.proofs.lemmas.List.{length-map}
 use Rattle.std.proofs.lemmas.Map.Keys.{apart_from_distinct}
@@ -10,7 +11,7 @@ use Rattle.nm_types.specs.declared.place.Place.{Place}
 use Rattle.nm_types.specs.Positions.{IsRing, FitsRing, step_on, slots_from}
 use Rattle.nm_types.specs.Slots.{Pushed}
 use Rattle.nm_types.specs.SyncChecks.{contains_index, EachPasses}
-use Rattle.nm_types.specs.OwnPorts.{named_of}
+use Rattle.nm_types.specs.OwnPorts.{named_of, ring_at}
 use Rattle.nm_types.proofs.RingSteps.{length-slots_from}
 use Rattle.nm_slot.proofs.CheckLaws.{passed_slots_pass, passed_names_once}
 use Rattle.nm_hold.specs.declared.standing.Standing.{Standing}
@@ -22,14 +23,16 @@ use Rattle.nm_own.specs.declared.own.OwnSide.TheInside.{Inside}
 use Rattle.nm_port.specs.RingSlots.{RingSlots}
 use Rattle.nm_port.specs.Sides.{place_on, name_at, names_pushed, pushed_seen, pushed_seen_at}
 use Rattle.nm_port.specs.Own.{own_seen, port_at, slots_on, slots_at, refusal_at, named_places, places_of_port, is_filled, AreFilled, AreFlagged, AreSided, AreRings, HasPlaces}
+use Rattle.nm_port.specs.Regions.{SideState, side_seen}
 use Rattle.nm_own.specs.Kept.{IsKept}
+use Rattle.nm_own.specs.FittingRings.{IsFittingRing}
 use Rattle.nm_port.specs.Exchanges.{IsNamedThere, pushed_count_of, user_position, user_place, is_among, CanExchange}
 use Rattle.nm_port.proofs.Judging.{false_true, same_eq}
 use Rattle.nm_own.proofs.Tests.{some_of}
 use Rattle.nm_own.proofs.Naming.{are_named}
 use Rattle.nm_port.proofs.Seeing.{get-slots}
 use Rattle.nm_port.proofs.Pushes.{names-seen}
-use Rattle.nm_port.proofs.Checked.{found, side_found, refusal_is_seen, passed_fits, tx_ring_found}
+use Rattle.nm_port.proofs.Checked.{found, no_ring, side_found, refusal_is_seen, passed_fits, tx_ring_found}
 use Rattle.nm_own.proofs.Offered.{rx_ring_found}
 
 -- what is asked of a ring whose push passes the checks
@@ -122,7 +125,13 @@ module _ (h : HoldState) (ports : List UserPort) (side : Side) (id : PortId) (p 
     is_hold = x.is_hold;
   }
 
--- the positions of a ring that a check passed fit it
-pub passes_fit : (o : Inside) (side : Side) (id : PortId) (r : RingSlots) → IsKept o → slots_at side o.ports.items id.0 ≡ Some r → refusal_at side id.0 (own_seen o.hold o.ports.items) ≡ None
-    → FitsRing r.ring r.ring.head r.ring.cur
-passes_fit o side id r kept at passes = let x = passes_of o side id r kept at passes in positions_fit o.hold o.ports.items side id x.0 r x.1
+-- a ring whose check passes is there, and its positions fit
+pub passing_ring : (o : Inside) (s : SideState) (side : Side) (id : PortId) → IsKept o → side_seen o.hold o.ports.items ≡ s → IsSome (ring_at side s.own id.0) → refusal_at side id.0 s.own ≡ None
+    → (r : RingSlots) × IsFittingRing o.ports.items id.0 side r
+passing_ring o s side id kept seen there passes = by_ring (slots_at side o.ports.items id.0) refl
+  where
+    by_ring : (found : Option RingSlots) → slots_at side o.ports.items id.0 ≡ found → (r : RingSlots) × IsFittingRing o.ports.items id.0 side r
+    by_ring None none = absurd (no_ring o.hold o.ports.items side id.0 none (rw (← seen) at there))
+    by_ring (Some r) at =
+        let x = passes_of o side id r kept at (rw (← seen) at passes) in
+        (r, record { at = at; ring = ring_is o.hold o.ports.items side id x.0 r x.1; fits = positions_fit o.hold o.ports.items side id x.0 r x.1 })

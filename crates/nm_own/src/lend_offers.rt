@@ -6,7 +6,7 @@ ghost use Rattle.nm_own.specs.Words.{own_after_put, refusal_at, ring_at, vec_cap
 ghost use Rattle.nm_own.specs.Opening.{blank_arrivals};
 ghost use Rattle.nm_own.specs.LentOffers.{IsLentOffers, CanBeTaken, offered_buffers};
 
-use crate::own::{OwnSide, ring_at};
+use crate::own::{OwnSide, fitting_ring, ring_at};
 use nm_hold::Hold;
 use nm_port::exchange::name_slots;
 use nm_port::gather::gather_lengths;
@@ -38,10 +38,7 @@ impl OwnSide {
         requires passes { refusal_at Tx port.0 self.now.own ≡ None }
         ensures { IfOk result (λ lengths. lengths.items ≡ offered_lengths port.0 self.now.own) }
     {
-        match ring_at(&self.ports, port, Side::Tx) {
-            Some(ring) => gather_lengths(alloc, ring),
-            None => unreachable!(),
-        }
+        gather_lengths(alloc, fitting_ring(&self.ports, port, Side::Tx))
     }
 
     /// Lends the buffers of the frames that a put of a transmit ring offers, for a push that no check

@@ -1,12 +1,14 @@
-ghost use Rattle.std.specs.Prelude.{◌≡◌, ◌<◌, ◌≤◌, ◌++◌, ◌∷◌, [], IfOk, length};
+ghost use Rattle.std.specs.Prelude.{◌≡◌, ◌<◌, ◌≤◌, ◌++◌, ◌∷◌, [], IfOk, length, min};
 ghost use Rattle.nm_own.specs.Words.{IsRingSize, chain_head, deque_capacity, indices_of};
 ghost use Rattle.nm_own.specs.Words.{vec_capacity};
+ghost use Rattle.nm_own.specs.NewPorts.{NewPortState};
+ghost use Rattle.nm_own.specs.Prepared.{IsPrepared};
 ghost use Rattle.nm_own.specs.Opening.{IsTxSize, opened_slots, opened_user_port};
 
 use nm_hold::{Hold, PortRoom};
 use nm_port::{BufRoom, SlotRing, UserPort};
 use nm_region::Buf;
-use nm_types::{Name, NoMemory, PortId, Slot};
+use nm_types::{Name, NoMemory, PortId, PortSizes, Slot};
 use std::alloc::Global;
 use std::collections::VecDeque;
 use std::marker::Model;
@@ -25,13 +27,7 @@ pub struct NewPort {
 }
 
 impl Model for NewPort {
-    ghost use Rattle.std.specs.Prelude.{min};
-    ghost use Rattle.std.specs.Vec.{vec_capacity};
-    ghost use Rattle.nm_own.specs.NewPorts.{NewPortState};
-
     ghost Value = { NewPortState };
-
-    ghost use Rattle.nm_own.specs.Prepared.{IsPrepared};
 
     ghost view = { λ n. record {
       name = n.name;
@@ -49,19 +45,17 @@ impl NewPort {
         hold: &Hold,
         ports: &[UserPort],
         name: Name,
-        tx: u32,
-        rx: u32,
-        extra: u32,
+        sizes: PortSizes,
     ) -> Result<NewPort, NoMemory>
-        requires tx { IsTxSize tx }
-        requires rx { IsRingSize rx }
-        requires extra { extra ≤ 1024 }
+        requires tx { IsTxSize sizes.tx }
+        requires rx { IsRingSize sizes.rx }
+        requires extra { sizes.extra ≤ 1024 }
         requires same { length hold.now.ports ≡ length ports.now }
         ensures name { IfOk result (λ new. new.name ≡ name) }
-        ensures sizes { IfOk result
-            (λ new. new.sizes ≡ record { tx = tx; rx = rx; extra = extra }) }
+        ensures sizes { IfOk result (λ new. new.sizes ≡ sizes) }
         ensures ports { IfOk result (λ new. length ports.now < new.ports) }
     {
+        let PortSizes { tx, rx, extra } = sizes;
         Ok(NewPort {
             name,
             slots: VecDeque::with_capacity(alloc, tx as usize)?,

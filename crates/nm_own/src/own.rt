@@ -11,7 +11,9 @@ ghost use Rattle.nm_own.specs.Words.{own_with_arrival, port_at, port_with_id, pu
 ghost use Rattle.nm_own.specs.Words.{pushed_on, refusal_at, ring_at, ring_of, sem};
 ghost use Rattle.nm_own.specs.Words.{slot_before_tail, slots_at, slots_on, user_slot_at, with_cur};
 ghost use Rattle.nm_own.specs.Words.{with_head, with_head_of_chain, with_user_slot, with_written};
+ghost use Rattle.nm_port.specs.RingSlots.{RingSlots};
 ghost use Rattle.nm_own.specs.Opening.{IsTxSize, IsNew, blank_arrivals};
+ghost use Rattle.nm_own.specs.FittingRings.{IsFittingRing};
 ghost use Rattle.nm_own.specs.NewPorts.{HasRoomFor};
 ghost use Rattle.nm_own.specs.PortPlaces.{place_with_id};
 ghost use Rattle.nm_own.specs.ExtraChain.{head_of_extras, extra_at, extra_numbered, named_bytes};
@@ -19,6 +21,8 @@ ghost use Rattle.std.specs.Prelude.{ℕ, [], ◌+◌, ◌↔◌, IfSome, true, t
 ghost use Rattle.std.specs.Prelude.{option_and_then};
 ghost use Rattle.nm_own.specs.Edits.{own_edited};
 ghost use Rattle.nm_own.specs.Acts.{head_slot_in};
+ghost use Rattle.nm_own.specs.Kept.{IsKept};
+ghost use Rattle.nm_port.specs.Regions.{SideState, side_seen};
 
 use crate::edit::{RingEdit, edit_rings};
 use crate::extras::{extra_at, extra_numbered, set_heads};
@@ -36,7 +40,7 @@ use nm_port::reset::reset_rings;
 use nm_port::{Marks, SlotRing, UserPort};
 use nm_region::Buf;
 use nm_ring::Ring;
-use nm_types::{Batch, Chain, Name, NoMemory, PortId, Side, Slot, SyncFault};
+use nm_types::{Batch, Chain, Name, NoMemory, PortId, PortSizes, Side, Slot, SyncFault};
 use std::alloc::Global;
 use std::marker::Model;
 
@@ -49,11 +53,7 @@ pub struct OwnSide {
 }
 
 impl Model for OwnSide {
-    ghost use Rattle.nm_port.specs.Regions.{SideState, side_seen};
-
     ghost Value = { SideState };
-
-    ghost use Rattle.nm_own.specs.Kept.{IsKept};
 
     ghost view = { λ o. side_seen o.hold o.ports.items };
 
@@ -85,6 +85,17 @@ pub(crate) fn ring_at(ports: &[UserPort], id: PortId, side: Side) -> Option<&Slo
     match port_at(ports, id) {
         Some(port) => ring_on(port, side),
         None => None,
+    }
+}
+
+/// The ring on a side of the port of an id, which has one whose positions fit.
+pub(crate) fn fitting_ring(ports: &[UserPort], id: PortId, side: Side) -> &SlotRing
+    requires { (r : RingSlots) × IsFittingRing ports.now id.0 side r }
+    ensures { IsFittingRing ports.now id.0 side result.now }
+{
+    match ring_at(ports, id, side) {
+        Some(ring) => ring,
+        None => unreachable!(),
     }
 }
 
@@ -136,7 +147,8 @@ impl OwnSide {
             (λ new. new.sizes ≡ record { tx = tx; rx = rx; extra = extra }) }
         ensures room { IfOk result (HasRoomFor self.now.own) }
     {
-        NewPort::new(alloc, &self.hold, &self.ports, name, tx, rx, extra)
+        let sizes = PortSizes { tx, rx, extra };
+        NewPort::new(alloc, &self.hold, &self.ports, name, sizes)
     }
 
     /// Adds a port that was prepared and then opened as `id`, with these buffers in its transmit
@@ -436,10 +448,7 @@ impl OwnSide {
         ensures { IfOk result (λ batch.
             batch ≡ pushed_frames (bytes_at self.now.own) (pushed_on Tx port.0 self.now.own)) }
     {
-        match ring_at(&self.ports, port, Side::Tx) {
-            Some(ring) => gather(alloc, &self.hold, ring),
-            None => unreachable!(),
-        }
+        gather(alloc, &self.hold, fitting_ring(&self.ports, port, Side::Tx))
     }
 
     /// The frames that a put of a transmit ring offers, none of them marked, for a push that no
@@ -449,10 +458,7 @@ impl OwnSide {
         requires passes { refusal_at Tx port.0 self.now.own ≡ None }
         ensures { IfOk result (λ batch. batch ≡ frames_offered port.0 self.now.own) }
     {
-        match ring_at(&self.ports, port, Side::Tx) {
-            Some(ring) => gather_offered(alloc, &self.hold, ring),
-            None => unreachable!(),
-        }
+        gather_offered(alloc, &self.hold, fitting_ring(&self.ports, port, Side::Tx))
     }
 
     /// The indices of the buffers that a receive sync gives back, for a push that no check refuses.
@@ -461,10 +467,7 @@ impl OwnSide {
         requires passes { refusal_at Rx port.0 self.now.own ≡ None }
         ensures { IfOk result (λ names. names.items ≡ back_on port.0 self.now.own) }
     {
-        match ring_at(&self.ports, port, Side::Rx) {
-            Some(ring) => gather_names(alloc, ring),
-            None => unreachable!(),
-        }
+        gather_names(alloc, fitting_ring(&self.ports, port, Side::Rx))
     }
 
     /// Whether a port's receive ring has its positions accepted, and a slot left for a frame.
