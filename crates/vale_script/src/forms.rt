@@ -1,5 +1,5 @@
 //! The forms of a script's lines: a row for each.
-ghost use Rattle.std.specs.Prelude.{◌≡◌, Some, IfSome};
+ghost use Rattle.std.specs.Prelude.{◌≡◌, Some, IfSome, true};
 ghost use Rattle.vale_script.specs.Forms.{shown_form, form_of, verb_of};
 
 use nm_types::{BUFFER_BYTES, MAX_BATCH, MAX_COUNTS, MAX_POOL};
@@ -169,23 +169,31 @@ fn word_of(verb: Verb) -> &'static [u8]
     form_of(verb).word
 }
 
+/// Whether a line that begins with this word does what this verb says.
+#[tactic(auto, using(crate::proofs::Verbs::verbs_by_word))]
+fn is_verb(verb: Verb, word: &[u8]) -> bool
+    ensures { result ≡ true → verb_of word.now ≡ Some verb }
+{
+    word_of(verb) == word
+}
+
 /// What a line does that begins with this word, if it is one of those that most lines begin with.
 fn common_verb(word: &[u8]) -> Option<Verb>
     ensures { IfSome result (λ verb. verb_of word.now ≡ Some verb) }
 {
-    if word_of(Verb::Tx) == word {
+    if is_verb(Verb::Tx, word) {
         return Some(Verb::Tx);
     }
-    if word_of(Verb::Rx) == word {
+    if is_verb(Verb::Rx, word) {
         return Some(Verb::Rx);
     }
-    if word_of(Verb::Put) == word {
+    if is_verb(Verb::Put, word) {
         return Some(Verb::Put);
     }
-    if word_of(Verb::Hex) == word {
+    if is_verb(Verb::Hex, word) {
         return Some(Verb::Hex);
     }
-    if word_of(Verb::Fwd) == word {
+    if is_verb(Verb::Fwd, word) {
         return Some(Verb::Fwd);
     }
     None
