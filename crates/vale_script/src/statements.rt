@@ -4,6 +4,7 @@ ghost use Rattle.vale_script.specs.Places.{side_of, sides_of, field_of};
 ghost use Rattle.vale_script.specs.Keeps.{IsSoundStatement, NamesUser};
 ghost use Rattle.nm_types.specs.Names.{IsName};
 ghost use Rattle.vale_script.specs.Sound.{IsUserName, IsFileName, IsSoundDeed};
+ghost use Rattle.vale_script.specs.declared.statements.LineFault.TheVariants as faults;
 ghost use Rattle.vale_script.specs.Statements.{shown, word_at, user_at, port_at, text_at, number_at, address_at, byte_at_place, open_act, put_with, put_act, fwd_act, poke_act, move_act, swap_act, extra_act, watch_act, named_act, plain_act, hex_act, play_act, save_act, act_of, statement_of, cause_by, cause_of_words, has_form, said_by_verb, words_said, line_said, Tells, TellsSaid, shown_text};
 
 use crate::forms::{Verb, form_of, verb_of};
@@ -28,8 +29,6 @@ pub enum LineFault {
 }
 
 impl From<NoMemory> for LineFault {
-    ghost use Rattle.vale_script.specs.declared.statements.LineFault.TheVariants as faults;
-
     ghost from_gives = { λ _ e. e ≡ faults.NoMemory };
 
     fn from(_: NoMemory) -> Self {
@@ -38,8 +37,6 @@ impl From<NoMemory> for LineFault {
 }
 
 impl From<AllocError> for LineFault {
-    ghost use Rattle.vale_script.specs.declared.statements.LineFault.TheVariants as faults;
-
     ghost from_gives = { λ _ e. e ≡ faults.NoMemory };
 
     fn from(_: AllocError) -> Self {
@@ -48,8 +45,6 @@ impl From<AllocError> for LineFault {
 }
 
 impl From<LineCause> for LineFault {
-    ghost use Rattle.vale_script.specs.declared.statements.LineFault.TheVariants as faults;
-
     ghost from_gives = { λ cause e. e ≡ faults.Bad cause };
 
     fn from(cause: LineCause) -> Self {
