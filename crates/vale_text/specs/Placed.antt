@@ -1,8 +1,13 @@
 -- Bytes at a place of a buffer.
-use Rattle.std.specs.Prelude.{◌≡◌, ℕ, ◌+◌, List, ◌++◌, length, take}
+use Rattle.std.specs.Prelude.{◌≡◌, ◌≤◌, ℕ, ◌+◌, List, ◌++◌, length, take}
 
 -- new has xs behind the first `at` bytes of old, up to `end`
 pub record Placed (old new : List ℕ) (at : ℕ) (xs : List ℕ) (end : ℕ) : Type 0 where
   pub bytes : take end new ≡ take at old ++ xs
   pub moved : end ≡ at + length xs
   pub len : length new ≡ length old
+
+-- and xs has at most so many bytes
+pub record PlacedFew (old new : List ℕ) (at : ℕ) (xs : List ℕ) (end most : ℕ) : Type 0 where
+  pub placed : Placed old new at xs end
+  pub within : end ≤ at + most

@@ -2,7 +2,7 @@
 ghost use Rattle.std.specs.Prelude.{◌≡◌, ◌≤◌, ◌<◌, ◌*◌, ◌/◌, ◌%◌, ◌+◌, ◌∷◌, [], length, decimal};
 ghost use Rattle.std.specs.List.{flat_map};
 ghost use Rattle.vale_text.specs.Pieces.{behind};
-ghost use Rattle.vale_text.specs.Placed.{Placed};
+ghost use Rattle.vale_text.specs.Placed.{Placed, PlacedFew};
 
 use itoa::write_digits;
 use std::simd::prelude::*;
@@ -28,8 +28,7 @@ fn place_pair(buf: &mut [u8], at: usize, number: u64)
 #[inline(always)]
 fn place_first(buf: &mut [u8], at: usize, number: u64) -> usize
     requires { (number < 100) × (at + 2 ≤ length buf.old) }
-    ensures placed { Placed buf.old buf.new at (decimal number) result }
-    ensures within { result ≤ at + 2 }
+    ensures { PlacedFew buf.old buf.new at (decimal number) result 2 }
 {
     if number < 10 {
         buf[at] = b'0' + number as u8;
@@ -43,8 +42,7 @@ fn place_first(buf: &mut [u8], at: usize, number: u64) -> usize
 #[inline(always)]
 fn place_middle(buf: &mut [u8], at: usize, number: u64) -> usize
     requires { (100 ≤ number) × (number < 10000) × (at + 4 ≤ length buf.old) }
-    ensures placed { Placed buf.old buf.new at (decimal number) result }
-    ensures within { result ≤ at + 4 }
+    ensures { PlacedFew buf.old buf.new at (decimal number) result 4 }
 {
     let (high, low) = (number / 100, number % 100);
     if high < 10 {
@@ -63,8 +61,7 @@ fn place_middle(buf: &mut [u8], at: usize, number: u64) -> usize
 #[inline(always)]
 fn place_short(buf: &mut [u8], at: usize, number: u64) -> usize
     requires { (number < 10000) × (at + 4 ≤ length buf.old) }
-    ensures placed { Placed buf.old buf.new at (decimal number) result }
-    ensures within { result ≤ at + 4 }
+    ensures { PlacedFew buf.old buf.new at (decimal number) result 4 }
 {
     if number < 100 {
         return place_first(buf, at, number);
@@ -75,8 +72,7 @@ fn place_short(buf: &mut [u8], at: usize, number: u64) -> usize
 /// Writes a number from 10,000 to 99,999,999, and returns where its digits end.
 fn place_wide(buf: &mut [u8], at: usize, number: u64) -> usize
     requires { (10000 ≤ number) × (number < 100000000) × (at + 8 ≤ length buf.old) }
-    ensures placed { Placed buf.old buf.new at (decimal number) result }
-    ensures within { result ≤ at + 8 }
+    ensures { PlacedFew buf.old buf.new at (decimal number) result 8 }
 {
     let end = place_short(buf, at, number / 10_000);
     let low = number % 10_000;
@@ -88,8 +84,7 @@ fn place_wide(buf: &mut [u8], at: usize, number: u64) -> usize
 /// Writes any number, and returns where its digits end. The bytes behind them may change.
 fn place_long(buf: &mut [u8], at: usize, number: u64) -> usize
     requires { at + 20 ≤ length buf.old }
-    ensures placed { Placed buf.old buf.new at (decimal number) result }
-    ensures within { result ≤ at + 20 }
+    ensures { PlacedFew buf.old buf.new at (decimal number) result 20 }
 {
     let mut digits = [0; 2 * DIGITS];
     let start = write_digits(number, &mut digits, DIGITS);
@@ -102,8 +97,7 @@ fn place_long(buf: &mut [u8], at: usize, number: u64) -> usize
 /// change.
 fn place_large(buf: &mut [u8], at: usize, number: u64) -> usize
     requires { (10000 ≤ number) × (at + 20 ≤ length buf.old) }
-    ensures placed { Placed buf.old buf.new at (decimal number) result }
-    ensures within { result ≤ at + 20 }
+    ensures { PlacedFew buf.old buf.new at (decimal number) result 20 }
 {
     if number < 100_000_000 {
         return place_wide(buf, at, number);
@@ -115,8 +109,7 @@ fn place_large(buf: &mut [u8], at: usize, number: u64) -> usize
 #[inline(always)]
 pub(crate) fn place_number(buf: &mut [u8], at: usize, number: u64) -> usize
     requires { at + 20 ≤ length buf.old }
-    ensures placed { Placed buf.old buf.new at (decimal number) result }
-    ensures within { result ≤ at + 20 }
+    ensures { PlacedFew buf.old buf.new at (decimal number) result 20 }
 {
     if number < 10_000 {
         return place_short(buf, at, number);
@@ -128,8 +121,7 @@ pub(crate) fn place_number(buf: &mut [u8], at: usize, number: u64) -> usize
 #[inline(always)]
 fn place_four(buf: &mut [u8], at: usize, high: u64, low: u64) -> usize
     requires { (10 ≤ high) × (high < 100) × (low < 100) × (at + 4 ≤ length buf.old) }
-    ensures placed { Placed buf.old buf.new at (decimal (high * 100 + low)) result }
-    ensures within { result ≤ at + 4 }
+    ensures { PlacedFew buf.old buf.new at (decimal (high * 100 + low)) result 4 }
 {
     place_pair(buf, at, high);
     place_pair(buf, at + 2, low);

@@ -2,6 +2,9 @@ use Rattle.std.proofs.Common.{arith}
 use Rattle.vale_text.proofs.Pairs.{placed-four}
 use Rattle.vale_text.proofs.numerals.place_wide.Goals as goal
 
-pub returns-clause-placed : goal.returns-clause-placed
-returns-clause-placed c =
-    placed-four c.args.number c.requires.0 (omega (arith, c.requires.1)) c.place_short-end.ensures.placed c.place_pair.ensures c.place_pair-2.ensures
+pub returns : goal.returns
+returns c =
+    record {
+      placed = placed-four c.args.number c.requires.0 (omega (arith, c.requires.1)) c.place_short-end.ensures.placed c.place_pair.ensures c.place_pair-2.ensures;
+      within = omega arith;
+    }
