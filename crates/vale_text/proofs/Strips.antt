@@ -59,20 +59,14 @@ pub words_fail : (old new : Option (List ℕ)) (p : List ℕ) (a b : List (List 
 words_fail old new p a b part =
     subst (λ (text : List ℕ). GrowsByPrefix old new (p ++ text)) (sym (flat_map-append after_blank a b)) (grows_past old new p (words_text a) (words_text b) part)
 
--- who calls, what, and the number of what it is called for
-pub call_text : (session call number : List ℕ) → (32 ∷ session) ++ ((32 ∷ call) ++ (32 ∷ number)) ≡ words_text (session ∷ call ∷ number ∷ [])
-call_text session call number = ap (λ (text : List ℕ). (32 ∷ session) ++ ((32 ∷ call) ++ text)) (sym (append-nil (32 ∷ number)))
+-- who calls, what and where, and then what goes with it
+call_with : (who call at more : List ℕ) → (who ++ (call ++ at)) ++ more ≡ who ++ (call ++ (at ++ more))
+call_with who call at more = append_assoc who (call ++ at) more ∙ ap (λ (text : List ℕ). who ++ text) (append_assoc call at more)
 
-pub call_after : {T E : Type 0} (old middle new : Option (List ℕ)) (p q r session call number : List ℕ) (more : List (List ℕ)) (result : Result T E)
-    → Gathered old middle p q ((32 ∷ session) ++ ((32 ∷ call) ++ (32 ∷ number))) → Gathers middle new q r result (words_text more)
-    → Gathers old new p r result (words_text (session ∷ call ∷ number ∷ more))
-call_after old middle new p q r session call number more result first second =
-    words_after old middle new p q r (session ∷ call ∷ number ∷ []) more result (subst (Gathered old middle p q) (call_text session call number) first) second
-
-pub call_fail : (old new : Option (List ℕ)) (p session call number : List ℕ) (more : List (List ℕ))
-    → GrowsByPrefix old new (p ++ ((32 ∷ session) ++ ((32 ∷ call) ++ (32 ∷ number)))) → GrowsByPrefix old new (p ++ words_text (session ∷ call ∷ number ∷ more))
-call_fail old new p session call number more part =
-    words_fail old new p (session ∷ call ∷ number ∷ []) more (subst (λ (text : List ℕ). GrowsByPrefix old new (p ++ text)) (call_text session call number) part)
+pub call_after : {T E : Type 0} (old middle new : Option (List ℕ)) (p q r who call at more : List ℕ) (result : Result T E) → Gathered old middle p q (who ++ (call ++ at)) → Gathers middle new q r result more → Gathers old new p r result (who ++ (call ++ (at ++ more)))
+call_after old middle new p q r who call at more result first second =
+    subst (λ (text : List ℕ). Gathers old new p r result text) (call_with who call at more)
+    (gathers_after old middle new p q r (who ++ (call ++ at)) more result first second)
 
 -- texts added one after another
 pub adds_two : (p q r a b : List ℕ) → q ≡ p ++ a → r ≡ q ++ b → r ≡ p ++ (a ++ b)

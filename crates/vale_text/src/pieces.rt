@@ -2,10 +2,9 @@
 ghost use Rattle.std.specs.Prelude.{◌≡◌, ◌≤◌, ℕ, List, [], ◌∷◌, map, decimal, OnErr, if◌then◌else◌};
 ghost use Rattle.std.specs.List.{flat_map};
 ghost use Rattle.nm_io.specs.Counts.{Rose};
-ghost use Rattle.nm_io.specs.Gathered.{Gathers};
 ghost use Rattle.nm_io.specs.Held.{Writes};
 ghost use Rattle.vale_entry.specs.Transcript.{frame_text, frames_text, numbers_text, dest_text, item_text, list_text};
-ghost use Rattle.vale_text.specs.Failures.{CountsFailures};
+ghost use Rattle.vale_text.specs.Failures.{Puts, CountsFailures};
 ghost use Rattle.vale_text.specs.Pieces.{behind, part_text, parts_text, piece_text, pieces_text};
 
 use crate::strip::{
@@ -22,8 +21,7 @@ pub trait Spelled {
     ghost text: { Self → List ℕ };
 
     fn spell<K: Sink>(&self, out: &mut K, strip: &mut Strip) -> Result<(), Failed>
-        ensures gathers { Gathers (K.holds out.old) (K.holds out.new) strip.old strip.new
-            result (text self.now) }
+        ensures gathers { Puts K.Sink out.old out.new strip.old strip.new result (text self.now) }
         ensures counts { CountsFailures K.Sink out.old out.new result };
 }
 
@@ -63,8 +61,7 @@ impl Spelled for Part<'_> {
 
 /// Writes items one after another.
 fn put_each<T: Spelled, K: Sink>(out: &mut K, strip: &mut Strip, items: &[T]) -> Result<(), Failed>
-    ensures gathers { Gathers (K.holds out.old) (K.holds out.new) strip.old strip.new
-        result (flat_map T.text items.now) }
+    ensures gathers { Puts K.Sink out.old out.new strip.old strip.new result (flat_map T.text items.now) }
     ensures counts { CountsFailures K.Sink out.old out.new result }
 {
     for item in items {
@@ -76,8 +73,7 @@ fn put_each<T: Spelled, K: Sink>(out: &mut K, strip: &mut Strip, items: &[T]) ->
 /// Writes parts one after another, by way of a strip.
 #[tactic(auto, using(crate::proofs::Strips::parts_are))]
 fn put_parts_on<K: Sink>(out: &mut K, strip: &mut Strip, parts: &[Part<'_>]) -> Result<(), Failed>
-    ensures gathers { Gathers (K.holds out.old) (K.holds out.new) strip.old strip.new
-        result (parts_text parts.now) }
+    ensures gathers { Puts K.Sink out.old out.new strip.old strip.new result (parts_text parts.now) }
     ensures counts { CountsFailures K.Sink out.old out.new result }
 {
     put_each(out, strip, parts)
@@ -129,8 +125,7 @@ fn put_after<T: Spelled, K: Sink>(
     mark: u8,
     item: &T,
 ) -> Result<(), Failed>
-    ensures gathers { Gathers (K.holds out.old) (K.holds out.new) strip.old strip.new
-        result (behind mark T.text item.now) }
+    ensures gathers { Puts K.Sink out.old out.new strip.old strip.new result (behind mark T.text item.now) }
     ensures counts { CountsFailures K.Sink out.old out.new result }
 {
     put_byte(out, strip, mark)?;
@@ -144,8 +139,7 @@ fn put_each_after<T: Spelled, K: Sink>(
     mark: u8,
     items: &[T],
 ) -> Result<(), Failed>
-    ensures gathers { Gathers (K.holds out.old) (K.holds out.new) strip.old strip.new
-        result (flat_map (behind mark T.text) items.now) }
+    ensures gathers { Puts K.Sink out.old out.new strip.old strip.new result (flat_map (behind mark T.text) items.now) }
     ensures counts { CountsFailures K.Sink out.old out.new result }
 {
     for item in items {
@@ -157,8 +151,7 @@ fn put_each_after<T: Spelled, K: Sink>(
 /// Writes items with commas between them, or a dash if there are none.
 #[tactic(auto, using(crate::proofs::Strips::strips))]
 fn put_list<T: Spelled, K: Sink>(out: &mut K, strip: &mut Strip, items: &[T]) -> Result<(), Failed>
-    ensures gathers { Gathers (K.holds out.old) (K.holds out.new) strip.old strip.new
-        result (list_text (map T.text items.now)) }
+    ensures gathers { Puts K.Sink out.old out.new strip.old strip.new result (list_text (map T.text items.now)) }
     ensures counts { CountsFailures K.Sink out.old out.new result }
 {
     let Some((first, others)) = items.split_first() else {
@@ -172,8 +165,7 @@ fn put_list<T: Spelled, K: Sink>(out: &mut K, strip: &mut Strip, items: &[T]) ->
 #[tactic(auto, using(crate::proofs::Strips::strips))]
 #[inline(always)]
 fn put_mark<K: Sink>(out: &mut K, strip: &mut Strip, no_learn: bool) -> Result<(), Failed>
-    ensures gathers { Gathers (K.holds out.old) (K.holds out.new) strip.old strip.new
-        result (if no_learn then 126 ∷ [] else []) }
+    ensures gathers { Puts K.Sink out.old out.new strip.old strip.new result (if no_learn then 126 ∷ [] else []) }
     ensures counts { CountsFailures K.Sink out.old out.new result }
 {
     if no_learn {
@@ -184,16 +176,12 @@ fn put_mark<K: Sink>(out: &mut K, strip: &mut Strip, no_learn: bool) -> Result<(
 }
 
 #[tactic(auto, using(crate::proofs::Strips::strips))]
-fn put_frame<K: Sink>(
-    out: &mut K,
-    strip: &mut Strip,
-    bytes: &[u8],
-    no_learn: bool,
-) -> Result<(), Failed>
-    ensures gathers { Gathers (K.holds out.old) (K.holds out.new) strip.old strip.new
-        result (frame_text (record { bytes = bytes.now; no_learn = no_learn })) }
+fn put_frame<K: Sink>(out: &mut K, strip: &mut Strip, frame: (&[u8], bool)) -> Result<(), Failed>
+    ensures gathers { Puts K.Sink out.old out.new strip.old strip.new result
+        (frame_text (record { bytes = frame.entry.0.now; no_learn = frame.entry.1 })) }
     ensures counts { CountsFailures K.Sink out.old out.new result }
 {
+    let (bytes, no_learn) = frame;
     put_mark(out, strip, no_learn)?;
     put_hex(out, strip, bytes)
 }
@@ -201,34 +189,31 @@ fn put_frame<K: Sink>(
 fn put_next_frame<K: Sink>(
     out: &mut K,
     strip: &mut Strip,
-    bytes: &[u8],
-    no_learn: bool,
+    frame: (&[u8], bool),
 ) -> Result<(), Failed>
-    ensures gathers { Gathers (K.holds out.old) (K.holds out.new) strip.old strip.new
-        result (behind 44 frame_text (record { bytes = bytes.now; no_learn = no_learn })) }
+    ensures gathers { Puts K.Sink out.old out.new strip.old strip.new result
+        (behind 44 frame_text (record { bytes = frame.entry.0.now; no_learn = frame.entry.1 })) }
     ensures counts { CountsFailures K.Sink out.old out.new result }
 {
+    let (bytes, no_learn) = frame;
     if bytes.len() <= SHORT_FRAME {
         return put_short_frame(out, strip, bytes, no_learn);
     }
     put_byte(out, strip, b',')?;
-    put_frame(out, strip, bytes, no_learn)
+    put_frame(out, strip, frame)
 }
 
 #[tactic(auto, using(crate::proofs::Strips::lists))]
 fn put_frames<K: Sink>(out: &mut K, strip: &mut Strip, frames: &Batch) -> Result<(), Failed>
-    ensures gathers { Gathers (K.holds out.old) (K.holds out.new) strip.old strip.new
-        result (frames_text frames.now) }
+    ensures gathers { Puts K.Sink out.old out.new strip.old strip.new result (frames_text frames.now) }
     ensures counts { CountsFailures K.Sink out.old out.new result }
 {
     if frames.is_empty() {
         return put_byte(out, strip, b'-');
     }
-    let (bytes, no_learn) = frames.get(0);
-    put_frame(out, strip, bytes, no_learn)?;
+    put_frame(out, strip, frames.get(0))?;
     for i in 1..frames.len() {
-        let (bytes, no_learn) = frames.get(i);
-        put_next_frame(out, strip, bytes, no_learn)?;
+        put_next_frame(out, strip, frames.get(i))?;
     }
     Ok(())
 }
@@ -236,8 +221,7 @@ fn put_frames<K: Sink>(out: &mut K, strip: &mut Strip, frames: &Batch) -> Result
 /// Writes numbers with commas between them, or a dash if there are none.
 #[tactic(auto, using(crate::proofs::Strips::strips))]
 fn put_numbers<K: Sink>(out: &mut K, strip: &mut Strip, numbers: &[u32]) -> Result<(), Failed>
-    ensures gathers { Gathers (K.holds out.old) (K.holds out.new) strip.old strip.new
-        result (numbers_text numbers.now) }
+    ensures gathers { Puts K.Sink out.old out.new strip.old strip.new result (numbers_text numbers.now) }
     ensures counts { CountsFailures K.Sink out.old out.new result }
 {
     let Some((first, others)) = numbers.split_first() else {
@@ -264,8 +248,7 @@ impl Spelled for Piece<'_> {
 
 /// Writes a word behind a blank.
 fn put_word<K: Sink>(out: &mut K, strip: &mut Strip, piece: &Piece<'_>) -> Result<(), Failed>
-    ensures gathers { Gathers (K.holds out.old) (K.holds out.new) strip.old strip.new
-        result (behind 32 piece_text piece.now) }
+    ensures gathers { Puts K.Sink out.old out.new strip.old strip.new result (behind 32 piece_text piece.now) }
     ensures counts { CountsFailures K.Sink out.old out.new result }
 {
     match *piece {
@@ -281,8 +264,7 @@ pub(crate) fn put_words<K: Sink>(
     strip: &mut Strip,
     pieces: &[Piece<'_>],
 ) -> Result<(), Failed>
-    ensures gathers { Gathers (K.holds out.old) (K.holds out.new) strip.old strip.new
-        result (pieces_text pieces.now) }
+    ensures gathers { Puts K.Sink out.old out.new strip.old strip.new result (pieces_text pieces.now) }
     ensures counts { CountsFailures K.Sink out.old out.new result }
 {
     for piece in pieces {

@@ -1,12 +1,12 @@
 //! The lines of a transcript, one row for each kind.
 ghost use Rattle.std.specs.Prelude.{◌≡◌, ◌≤◌, [], ◌∷◌, ◌++◌, codes, decimal, OnOk, OnErr};
 ghost use Rattle.nm_io.specs.Counts.{Rose};
-ghost use Rattle.nm_io.specs.Gathered.{Gathers};
 ghost use Rattle.nm_io.specs.Held.{Writes};
-ghost use Rattle.vale_entry.specs.Transcript.{numbers_text, side_word, sides_word, fault_words, ask_words, reply_words, words_text, entry_line, start_line, end_line};
+ghost use Rattle.vale_entry.specs.Transcript.{numbers_text, side_word, sides_word, fault_words, ask_words, reply_words, entry_line, start_line, end_line};
 ghost use Rattle.vale_entry.specs.declared.entry.Ask.TheVariants.{Done, Finish, Grant, Reset, Send, Sync, Watch};
 ghost use Rattle.vale_entry.specs.declared.entry.Reply.TheVariants.{Refused, Offered, Shared, Gave, Counted};
-ghost use Rattle.vale_text.specs.Failures.{CountsFailures};
+ghost use Rattle.vale_text.specs.Failures.{Puts, PutsWords, CountsFailures};
+ghost use Rattle.vale_text.specs.Pieces.{piece_text, pieces_text};
 ghost use Rattle.vale_text.specs.declared.pieces.Piece.TheVariants.{Number as NumberPiece};
 
 use crate::pieces::Piece::{Buffers, Destinations, Frames, Number, Taken, Word};
@@ -23,22 +23,29 @@ fn short(number: u32) -> Piece<'static>
     Number(number as u64)
 }
 
-fn side_word(side: Side) -> &'static [u8]
-    ensures { result.now ≡ side_word side }
+/// A list of buffers as a word.
+fn listed(numbers: &Numbers) -> Piece<'_>
+    ensures { piece_text result ≡ numbers_text numbers.now }
+{
+    Buffers(numbers.as_slice())
+}
+
+fn side_word(side: Side) -> Piece<'static>
+    ensures { piece_text result ≡ side_word side }
 {
     match side {
-        Side::Tx => b"tx",
-        Side::Rx => b"rx",
+        Side::Tx => Word(b"tx"),
+        Side::Rx => Word(b"rx"),
     }
 }
 
-fn sides_word(sides: Sides) -> &'static [u8]
-    ensures { result.now ≡ sides_word sides }
+fn sides_word(sides: Sides) -> Piece<'static>
+    ensures { piece_text result ≡ sides_word sides }
 {
     match sides {
-        Sides::T => b"t",
-        Sides::R => b"r",
-        Sides::TR => b"tr",
+        Sides::T => Word(b"t"),
+        Sides::R => Word(b"r"),
+        Sides::TR => Word(b"tr"),
     }
 }
 
@@ -89,8 +96,7 @@ impl Text for EndLine {
 }
 
 fn put_opening<K: Sink>(out: &mut K, strip: &mut Strip, fault: &OpenFault) -> Result<(), Failed>
-    ensures gathers { Gathers (K.holds out.old) (K.holds out.new) strip.old strip.new
-        result (words_text (reply_words (Refused fault.now))) }
+    ensures gathers { PutsWords K.Sink out.old out.new strip.old strip.new result (reply_words (Refused fault.now)) }
     ensures counts { CountsFailures K.Sink out.old out.new result }
 {
     let is = Word(b"=");
@@ -107,20 +113,21 @@ fn put_opening<K: Sink>(out: &mut K, strip: &mut Strip, fault: &OpenFault) -> Re
     }
 }
 
-/// Writes the port and the side of a ring that was reset.
-fn put_reset_ring<K: Sink>(
+/// Writes what a session does with one of its ports, and a word more.
+fn put_with_port<K: Sink>(
     out: &mut K,
     strip: &mut Strip,
     session: u32,
+    word: &[u8],
     port: PortId,
-    side: Side,
+    last: Piece<'_>,
 ) -> Result<(), Failed>
-    ensures gathers { Gathers (K.holds out.old) (K.holds out.new) strip.old strip.new result
-        (words_text (decimal session ∷ codes "reset" ∷ decimal port.0 ∷ side_word side ∷ [])) }
+    ensures gathers { PutsWords K.Sink out.old out.new strip.old strip.new result
+        (decimal session ∷ word.now ∷ decimal port.0 ∷ piece_text last.entry ∷ []) }
     ensures counts { CountsFailures K.Sink out.old out.new result }
 {
-    let (port, side) = (short(port.0), Word(side_word(side)));
-    put_words(out, strip, &[short(session), Word(b"reset"), port, side])
+    let port = short(port.0);
+    put_words(out, strip, &[short(session), Word(word), port, last])
 }
 
 /// Writes a word and two numbers.
@@ -131,8 +138,8 @@ fn put_two<K: Sink>(
     first: u32,
     second: u32,
 ) -> Result<(), Failed>
-    ensures gathers { Gathers (K.holds out.old) (K.holds out.new) strip.old strip.new result
-        (words_text (word.now ∷ decimal first ∷ decimal second ∷ [])) }
+    ensures gathers { PutsWords K.Sink out.old out.new strip.old strip.new result
+        (word.now ∷ decimal first ∷ decimal second ∷ []) }
     ensures counts { CountsFailures K.Sink out.old out.new result }
 {
     put_words(out, strip, &[Word(word), short(first), short(second)])
@@ -147,8 +154,8 @@ fn put_three<K: Sink>(
     second: u32,
     third: u32,
 ) -> Result<(), Failed>
-    ensures gathers { Gathers (K.holds out.old) (K.holds out.new) strip.old strip.new result
-        (words_text (word.now ∷ decimal first ∷ decimal second ∷ decimal third ∷ [])) }
+    ensures gathers { PutsWords K.Sink out.old out.new strip.old strip.new result
+        (word.now ∷ decimal first ∷ decimal second ∷ decimal third ∷ []) }
     ensures counts { CountsFailures K.Sink out.old out.new result }
 {
     put_words(
@@ -160,8 +167,7 @@ fn put_three<K: Sink>(
 
 /// Writes why a sync was refused.
 fn put_fault<K: Sink>(out: &mut K, strip: &mut Strip, fault: &SyncFault) -> Result<(), Failed>
-    ensures gathers { Gathers (K.holds out.old) (K.holds out.new) strip.old strip.new
-        result (words_text (fault_words fault.now)) }
+    ensures gathers { PutsWords K.Sink out.old out.new strip.old strip.new result (fault_words fault.now) }
     ensures counts { CountsFailures K.Sink out.old out.new result }
 {
     match *fault {
@@ -191,11 +197,11 @@ fn put_reset<K: Sink>(
     side: Side,
     fault: &SyncFault,
 ) -> Result<(), Failed>
-    ensures gathers { Gathers (K.holds out.old) (K.holds out.new) strip.old strip.new result
-        (words_text (ask_words session (Reset port side fault.now))) }
+    ensures gathers { PutsWords K.Sink out.old out.new strip.old strip.new result
+        (ask_words session (Reset port side fault.now)) }
     ensures counts { CountsFailures K.Sink out.old out.new result }
 {
-    put_reset_ring(out, strip, session, port, side)?;
+    put_with_port(out, strip, session, b"reset", port, side_word(side))?;
     put_fault(out, strip, fault)
 }
 
@@ -208,51 +214,13 @@ fn put_open<K: Sink>(
     rx: u32,
     extra: u32,
 ) -> Result<(), Failed>
-    ensures gathers { Gathers (K.holds out.old) (K.holds out.new) strip.old strip.new result
-        (words_text (decimal session ∷ codes "open" ∷ name.now ∷ decimal tx ∷ decimal rx
-        ∷ decimal extra ∷ [])) }
+    ensures gathers { PutsWords K.Sink out.old out.new strip.old strip.new result
+        (decimal session ∷ codes "open" ∷ name.now ∷ decimal tx ∷ decimal rx ∷ decimal extra ∷ []) }
     ensures counts { CountsFailures K.Sink out.old out.new result }
 {
     let (s, name) = (short(session), Word(name.as_bytes()));
     let (tx, rx, extra) = (short(tx), short(rx), short(extra));
     put_words(out, strip, &[s, Word(b"open"), name, tx, rx, extra])
-}
-
-/// Writes a word and two numbers, of a session.
-fn put_pair<K: Sink>(
-    out: &mut K,
-    strip: &mut Strip,
-    session: u32,
-    word: &[u8],
-    first: u32,
-    second: u32,
-) -> Result<(), Failed>
-    ensures gathers { Gathers (K.holds out.old) (K.holds out.new) strip.old strip.new result
-        (words_text (decimal session ∷ word.now ∷ decimal first ∷ decimal second ∷ [])) }
-    ensures counts { CountsFailures K.Sink out.old out.new result }
-{
-    put_words(
-        out,
-        strip,
-        &[short(session), Word(word), short(first), short(second)],
-    )
-}
-
-/// Writes a word, a port and buffers, of a session.
-fn put_buffers<K: Sink>(
-    out: &mut K,
-    strip: &mut Strip,
-    session: u32,
-    word: &[u8],
-    port: PortId,
-    numbers: &Numbers,
-) -> Result<(), Failed>
-    ensures gathers { Gathers (K.holds out.old) (K.holds out.new) strip.old strip.new result
-        (words_text (decimal session ∷ word.now ∷ decimal port.0 ∷ numbers_text numbers.now ∷ [])) }
-    ensures counts { CountsFailures K.Sink out.old out.new result }
-{
-    let (port, numbers) = (short(port.0), Buffers(numbers.as_slice()));
-    put_words(out, strip, &[short(session), Word(word), port, numbers])
 }
 
 fn put_finish<K: Sink>(
@@ -263,8 +231,8 @@ fn put_finish<K: Sink>(
     bufs: &Numbers,
     chain: Chain,
 ) -> Result<(), Failed>
-    ensures gathers { Gathers (K.holds out.old) (K.holds out.new) strip.old strip.new result
-        (words_text (ask_words session (Finish port bufs.now chain))) }
+    ensures gathers { PutsWords K.Sink out.old out.new strip.old strip.new result
+        (ask_words session (Finish port bufs.now chain)) }
     ensures counts { CountsFailures K.Sink out.old out.new result }
 {
     put_words(
@@ -274,7 +242,7 @@ fn put_finish<K: Sink>(
             short(session),
             Word(b"finish"),
             short(port.0),
-            Buffers(bufs.as_slice()),
+            listed(bufs),
             Word(b"found"),
             short(chain.found),
             Word(b"astray"),
@@ -289,28 +257,41 @@ fn put_watch<K: Sink>(
     session: u32,
     monitor: PortId,
     target: &Name,
-    sides: Sides,
+    sides: Piece<'static>,
 ) -> Result<(), Failed>
-    ensures gathers { Gathers (K.holds out.old) (K.holds out.new) strip.old strip.new result
-        (words_text (ask_words session (Watch monitor target.now sides))) }
+    ensures gathers { PutsWords K.Sink out.old out.new strip.old strip.new result
+        (decimal session ∷ codes "watch" ∷ decimal monitor.0 ∷ target.now ∷ piece_text sides.entry ∷ []) }
     ensures counts { CountsFailures K.Sink out.old out.new result }
 {
-    let (target, sides) = (Word(target.as_bytes()), Word(sides_word(sides)));
+    let (monitor, target) = (short(monitor.0), Word(target.as_bytes()));
     put_words(
         out,
         strip,
-        &[
-            short(session),
-            Word(b"watch"),
-            short(monitor.0),
-            target,
-            sides,
-        ],
+        &[short(session), Word(b"watch"), monitor, target, sides],
     )
 }
 
 /// The most bytes that the numbers of a line take with the words between them.
 const SHORT_WORDS: usize = 96;
+
+/// Writes what a session calls at one of its ports, and the list that goes with it.
+fn put_at<K: Sink>(
+    out: &mut K,
+    strip: &mut Strip,
+    session: u32,
+    call: &[u8; 6],
+    port: PortId,
+    list: Piece<'_>,
+) -> Result<(), Failed>
+    ensures gathers { Puts K.Sink out.old out.new strip.old strip.new result
+        ((codes " " ++ decimal session) ++ (call.now ++ (decimal port.0 ++ pieces_text (list.entry ∷ [])))) }
+    ensures counts { CountsFailures K.Sink out.old out.new result }
+{
+    make_room(out, strip, SHORT_WORDS)?;
+    strip.labelled(*b" ", session);
+    strip.labelled(*call, port.0);
+    put_words(out, strip, &[list])
+}
 
 /// Writes who is granted room, for which send, and where.
 fn put_grant<K: Sink>(
@@ -320,8 +301,7 @@ fn put_grant<K: Sink>(
     origin: u32,
     to: PortId,
 ) -> Result<(), Failed>
-    ensures gathers { Gathers (K.holds out.old) (K.holds out.new) strip.old strip.new
-        result (words_text (ask_words session (Grant origin to))) }
+    ensures gathers { PutsWords K.Sink out.old out.new strip.old strip.new result (ask_words session (Grant origin to)) }
     ensures counts { CountsFailures K.Sink out.old out.new result }
 {
     make_room(out, strip, SHORT_WORDS)?;
@@ -331,66 +311,19 @@ fn put_grant<K: Sink>(
     Ok(())
 }
 
-/// Writes who calls, what, and the number of what it is called for.
-#[inline(always)]
-fn put_call<K: Sink>(
-    out: &mut K,
-    strip: &mut Strip,
-    session: u32,
-    call: [u8; 6],
-    number: u32,
-) -> Result<(), Failed>
-    ensures gathers { Gathers (K.holds out.old) (K.holds out.new) strip.old strip.new
-        result ((codes " " ++ decimal session) ++ (call ++ decimal number)) }
-    ensures counts { CountsFailures K.Sink out.old out.new result }
-{
-    make_room(out, strip, SHORT_WORDS)?;
-    strip.labelled(*b" ", session);
-    strip.labelled(call, number);
-    Ok(())
-}
-
 fn put_done<K: Sink>(
     out: &mut K,
     strip: &mut Strip,
     session: u32,
     lease: LeaseId,
 ) -> Result<(), Failed>
-    ensures gathers { Gathers (K.holds out.old) (K.holds out.new) strip.old strip.new
-        result (words_text (ask_words session (Done lease))) }
+    ensures gathers { PutsWords K.Sink out.old out.new strip.old strip.new result (ask_words session (Done lease)) }
     ensures counts { CountsFailures K.Sink out.old out.new result }
 {
-    put_call(out, strip, session, *b" done ", lease.0)
-}
-
-fn put_send<K: Sink>(
-    out: &mut K,
-    strip: &mut Strip,
-    session: u32,
-    port: PortId,
-    frames: &Batch,
-) -> Result<(), Failed>
-    ensures gathers { Gathers (K.holds out.old) (K.holds out.new) strip.old strip.new
-        result (words_text (ask_words session (Send port frames.now))) }
-    ensures counts { CountsFailures K.Sink out.old out.new result }
-{
-    put_call(out, strip, session, *b" send ", port.0)?;
-    put_words(out, strip, &[Frames(frames)])
-}
-
-fn put_sync<K: Sink>(
-    out: &mut K,
-    strip: &mut Strip,
-    session: u32,
-    port: PortId,
-    back: &Numbers,
-) -> Result<(), Failed>
-    ensures gathers { Gathers (K.holds out.old) (K.holds out.new) strip.old strip.new
-        result (words_text (ask_words session (Sync port back.now))) }
-    ensures counts { CountsFailures K.Sink out.old out.new result }
-{
-    put_call(out, strip, session, *b" sync ", port.0)?;
-    put_words(out, strip, &[Buffers(back.as_slice())])
+    make_room(out, strip, SHORT_WORDS)?;
+    strip.labelled(*b" ", session);
+    strip.labelled(*b" done ", lease.0);
+    Ok(())
 }
 
 /// Writes what was asked, where it is none of the calls that a frame takes.
@@ -401,8 +334,7 @@ fn put_other_ask<K: Sink>(
     session: u32,
     ask: &Ask,
 ) -> Result<(), Failed>
-    ensures gathers { Gathers (K.holds out.old) (K.holds out.new) strip.old strip.new result
-        (words_text (ask_words session ask.now)) }
+    ensures gathers { PutsWords K.Sink out.old out.new strip.old strip.new result (ask_words session ask.now) }
     ensures counts { CountsFailures K.Sink out.old out.new result }
 {
     let s = short(session);
@@ -415,21 +347,23 @@ fn put_other_ask<K: Sink>(
             extra,
             ..
         } => put_open(out, strip, session, name, *tx, *rx, *extra),
-        Ask::Send { port, frames } => put_send(out, strip, session, *port, frames),
+        Ask::Send { port, frames } => put_at(out, strip, session, b" send ", *port, Frames(frames)),
         Ask::Grant { origin, to } => put_grant(out, strip, session, *origin, *to),
         Ask::Done { lease } => put_done(out, strip, session, *lease),
-        Ask::Sync { port, back } => put_sync(out, strip, session, *port, back),
+        Ask::Sync { port, back } => put_at(out, strip, session, b" sync ", *port, listed(back)),
         Ask::Reset { port, side, fault } => put_reset(out, strip, session, *port, *side, fault),
         Ask::Shut { port } => put_words(out, strip, &[s, Word(b"shut"), short(port.0)]),
         Ask::Finish { port, bufs, chain } => put_finish(out, strip, session, *port, bufs, *chain),
         Ask::Leave { .. } => put_words(out, strip, &[s, Word(b"leave")]),
-        Ask::PutKept { port, offered } => put_pair(out, strip, session, b"put", port.0, *offered),
-        Ask::Get { port, back } => put_buffers(out, strip, session, b"get", *port, back),
+        Ask::PutKept { port, offered } => {
+            put_with_port(out, strip, session, b"put", *port, short(*offered))
+        }
+        Ask::Get { port, back } => put_with_port(out, strip, session, b"get", *port, listed(back)),
         Ask::Watch {
             monitor,
             target,
             sides,
-        } => put_watch(out, strip, session, *monitor, target, *sides),
+        } => put_watch(out, strip, session, *monitor, target, sides_word(*sides)),
         Ask::Stat { port } => put_words(out, strip, &[s, Word(b"stat"), short(port.0)]),
         Ask::Put { .. } => put_words(out, strip, &[]),
     }
@@ -437,22 +371,20 @@ fn put_other_ask<K: Sink>(
 
 /// Writes what was asked.
 fn put_ask<K: Sink>(out: &mut K, strip: &mut Strip, session: u32, ask: &Ask) -> Result<(), Failed>
-    ensures gathers { Gathers (K.holds out.old) (K.holds out.new) strip.old strip.new result
-        (words_text (ask_words session ask.now)) }
+    ensures gathers { PutsWords K.Sink out.old out.new strip.old strip.new result (ask_words session ask.now) }
     ensures counts { CountsFailures K.Sink out.old out.new result }
 {
     match ask {
-        Ask::Send { port, frames } => put_send(out, strip, session, *port, frames),
+        Ask::Send { port, frames } => put_at(out, strip, session, b" send ", *port, Frames(frames)),
         Ask::Grant { origin, to } => put_grant(out, strip, session, *origin, *to),
         Ask::Done { lease } => put_done(out, strip, session, *lease),
-        Ask::Sync { port, back } => put_sync(out, strip, session, *port, back),
+        Ask::Sync { port, back } => put_at(out, strip, session, b" sync ", *port, listed(back)),
         _ => put_other_ask(out, strip, session, ask),
     }
 }
 
 fn put_counts<K: Sink>(out: &mut K, strip: &mut Strip, counts: &Counts) -> Result<(), Failed>
-    ensures gathers { Gathers (K.holds out.old) (K.holds out.new) strip.old strip.new result
-        (words_text (reply_words (Counted counts.now))) }
+    ensures gathers { PutsWords K.Sink out.old out.new strip.old strip.new result (reply_words (Counted counts.now)) }
     ensures counts { CountsFailures K.Sink out.old out.new result }
 {
     put_words(
@@ -478,8 +410,8 @@ fn put_counts<K: Sink>(out: &mut K, strip: &mut Strip, counts: &Counts) -> Resul
 
 /// Writes how many frames were short and alone.
 fn put_left<K: Sink>(out: &mut K, strip: &mut Strip, lines: u32, lone: u32) -> Result<(), Failed>
-    ensures gathers { Gathers (K.holds out.old) (K.holds out.new) strip.old strip.new
-        result (words_text (codes "=" ∷ codes "short" ∷ decimal lines ∷ codes "lone" ∷ decimal lone ∷ codes "to" ∷ [])) }
+    ensures gathers { PutsWords K.Sink out.old out.new strip.old strip.new result
+        (codes "=" ∷ codes "short" ∷ decimal lines ∷ codes "lone" ∷ decimal lone ∷ codes "to" ∷ []) }
     ensures counts { CountsFailures K.Sink out.old out.new result }
 {
     make_room(out, strip, SHORT_WORDS)?;
@@ -496,8 +428,8 @@ fn put_offered<K: Sink>(
     lone: u32,
     to: &Dests,
 ) -> Result<(), Failed>
-    ensures gathers { Gathers (K.holds out.old) (K.holds out.new) strip.old strip.new
-        result (words_text (reply_words (Offered lines lone to.now))) }
+    ensures gathers { PutsWords K.Sink out.old out.new strip.old strip.new result
+        (reply_words (Offered lines lone to.now)) }
     ensures counts { CountsFailures K.Sink out.old out.new result }
 {
     put_left(out, strip, lines, lone)?;
@@ -511,8 +443,7 @@ fn put_shared<K: Sink>(
     full: u32,
     gone: u32,
 ) -> Result<(), Failed>
-    ensures gathers { Gathers (K.holds out.old) (K.holds out.new) strip.old strip.new
-        result (words_text (reply_words (Shared given full gone))) }
+    ensures gathers { PutsWords K.Sink out.old out.new strip.old strip.new result (reply_words (Shared given full gone)) }
     ensures counts { CountsFailures K.Sink out.old out.new result }
 {
     make_room(out, strip, SHORT_WORDS)?;
@@ -524,8 +455,8 @@ fn put_shared<K: Sink>(
 
 /// Writes how many frames a sync gave.
 fn put_given<K: Sink>(out: &mut K, strip: &mut Strip, count: u32) -> Result<(), Failed>
-    ensures gathers { Gathers (K.holds out.old) (K.holds out.new) strip.old strip.new
-        result (words_text (codes "=" ∷ codes "gave" ∷ decimal count ∷ codes "to" ∷ [])) }
+    ensures gathers { PutsWords K.Sink out.old out.new strip.old strip.new result
+        (codes "=" ∷ codes "gave" ∷ decimal count ∷ codes "to" ∷ []) }
     ensures counts { CountsFailures K.Sink out.old out.new result }
 {
     make_room(out, strip, SHORT_WORDS)?;
@@ -535,8 +466,7 @@ fn put_given<K: Sink>(out: &mut K, strip: &mut Strip, count: u32) -> Result<(), 
 }
 
 fn put_gave<K: Sink>(out: &mut K, strip: &mut Strip, count: u32, to: &Dests) -> Result<(), Failed>
-    ensures gathers { Gathers (K.holds out.old) (K.holds out.new) strip.old strip.new
-        result (words_text (reply_words (Gave count to.now))) }
+    ensures gathers { PutsWords K.Sink out.old out.new strip.old strip.new result (reply_words (Gave count to.now)) }
     ensures counts { CountsFailures K.Sink out.old out.new result }
 {
     put_given(out, strip, count)?;
@@ -546,8 +476,7 @@ fn put_gave<K: Sink>(out: &mut K, strip: &mut Strip, count: u32, to: &Dests) -> 
 /// Writes the answer, where it is none of those to the calls that a frame takes.
 #[inline(never)]
 fn put_other_reply<K: Sink>(out: &mut K, strip: &mut Strip, reply: &Reply) -> Result<(), Failed>
-    ensures gathers { Gathers (K.holds out.old) (K.holds out.new) strip.old strip.new
-        result (words_text (reply_words reply.now)) }
+    ensures gathers { PutsWords K.Sink out.old out.new strip.old strip.new result (reply_words reply.now) }
     ensures counts { CountsFailures K.Sink out.old out.new result }
 {
     match reply {
@@ -588,8 +517,7 @@ fn put_other_reply<K: Sink>(out: &mut K, strip: &mut Strip, reply: &Reply) -> Re
 
 /// Writes the answer.
 fn put_reply<K: Sink>(out: &mut K, strip: &mut Strip, reply: &Reply) -> Result<(), Failed>
-    ensures gathers { Gathers (K.holds out.old) (K.holds out.new) strip.old strip.new
-        result (words_text (reply_words reply.now)) }
+    ensures gathers { PutsWords K.Sink out.old out.new strip.old strip.new result (reply_words reply.now) }
     ensures counts { CountsFailures K.Sink out.old out.new result }
 {
     match reply {
@@ -604,9 +532,8 @@ fn put_reply<K: Sink>(out: &mut K, strip: &mut Strip, reply: &Reply) -> Result<(
 /// Writes what was asked, and the answer.
 #[tactic(auto, using(crate::proofs::Strips::strips))]
 fn put_entry<K: Sink>(out: &mut K, strip: &mut Strip, entry: &Entry) -> Result<(), Failed>
-    ensures gathers { Gathers (K.holds out.old) (K.holds out.new) strip.old strip.new
-        result (words_text
-        (ask_words entry.now.session.0 entry.now.ask ++ reply_words entry.now.reply)) }
+    ensures gathers { PutsWords K.Sink out.old out.new strip.old strip.new result
+        (ask_words entry.now.session.0 entry.now.ask ++ reply_words entry.now.reply) }
     ensures counts { CountsFailures K.Sink out.old out.new result }
 {
     put_ask(out, strip, entry.session.0, &entry.ask)?;
@@ -626,15 +553,14 @@ pub struct EntryLine<'a> {
 fn put_entry_line<K: Sink>(
     out: &mut K,
     strip: &mut Strip,
-    number: u32,
-    entry: &Entry,
+    line: &EntryLine<'_>,
 ) -> Result<(), Failed>
-    ensures gathers { Gathers (K.holds out.old) (K.holds out.new) strip.old strip.new
-        result (entry_line number entry.now) }
+    ensures gathers { Puts K.Sink out.old out.new strip.old strip.new result
+        (entry_line line.now.number line.now.entry.now) }
     ensures counts { CountsFailures K.Sink out.old out.new result }
 {
-    put_number(out, strip, number as u64)?;
-    put_entry(out, strip, entry)?;
+    put_number(out, strip, line.number as u64)?;
+    put_entry(out, strip, line.entry)?;
     put_byte(out, strip, b'\n')
 }
 
@@ -643,15 +569,15 @@ fn put_entry_line<K: Sink>(
 pub(crate) fn put_whole_line<K: Sink>(
     out: &mut K,
     strip: &mut Strip,
-    number: u32,
-    entry: &Entry,
+    line: &EntryLine<'_>,
 ) -> Result<(), Failed>
     requires { strip.old ≡ [] }
-    ensures writes { Writes (K.holds out.old) (K.holds out.new) result (entry_line number entry.now) }
+    ensures writes { Writes (K.holds out.old) (K.holds out.new) result
+        (entry_line line.now.number line.now.entry.now) }
     ensures counts { CountsFailures K.Sink out.old out.new result }
     ensures emptied { OnOk result (strip.new ≡ []) }
 {
-    put_entry_line(out, strip, number, entry)?;
+    put_entry_line(out, strip, line)?;
     put_strip(out, strip)
 }
 
@@ -659,8 +585,7 @@ impl Text for EntryLine<'_> {
     ghost text = { λ line. entry_line line.number line.entry.now };
 
     fn write<K: Sink>(&self, out: &mut K) -> Result<(), Failed> {
-        let mut strip = Strip::new();
-        put_whole_line(out, &mut strip, self.number, self.entry)
+        put_whole_line(out, &mut Strip::new(), self)
     }
 }
 

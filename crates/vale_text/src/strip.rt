@@ -1,10 +1,9 @@
 //! Bytes gathered on a strip of a fixed size, on their way to a sink.
 ghost use Rattle.std.specs.Prelude.{◌≡◌, ◌≤◌, ◌<◌, ◌*◌, ◌+◌, ◌++◌, ◌∷◌, [], if◌then◌else◌, ℕ, List, length, take, decimal, OnOk};
 ghost use Rattle.std.specs.List.{flat_map};
-ghost use Rattle.nm_io.specs.Gathered.{Gathers};
 ghost use Rattle.nm_io.specs.Held.{Writes};
 ghost use Rattle.vale_entry.specs.Transcript.{frame_text, hex_byte, hex_text};
-ghost use Rattle.vale_text.specs.Failures.{CountsFailures};
+ghost use Rattle.vale_text.specs.Failures.{Puts, CountsFailures};
 ghost use Rattle.vale_text.specs.Pieces.{behind};
 
 use crate::hex::{place_digits, place_next_frame};
@@ -157,8 +156,7 @@ pub(crate) fn put_strip<K: Sink>(out: &mut K, strip: &mut Strip) -> Result<(), F
 #[inline(always)]
 pub(crate) fn make_room<K: Sink>(out: &mut K, strip: &mut Strip, count: usize) -> Result<(), Failed>
     requires { count ≤ ROOM }
-    ensures gathers { Gathers (K.holds out.old) (K.holds out.new) strip.old strip.new
-        result ([]) }
+    ensures gathers { Puts K.Sink out.old out.new strip.old strip.new result ([]) }
     ensures counts { CountsFailures K.Sink out.old out.new result }
     ensures room { OnOk result (length strip.new + count ≤ ROOM) }
 {
@@ -172,8 +170,7 @@ pub(crate) fn make_room<K: Sink>(out: &mut K, strip: &mut Strip, count: usize) -
 #[tactic(auto, using(crate::proofs::Strips::strips))]
 #[inline(always)]
 pub(crate) fn put_byte<K: Sink>(out: &mut K, strip: &mut Strip, byte: u8) -> Result<(), Failed>
-    ensures gathers { Gathers (K.holds out.old) (K.holds out.new) strip.old strip.new
-        result (byte ∷ []) }
+    ensures gathers { Puts K.Sink out.old out.new strip.old strip.new result (byte ∷ []) }
     ensures counts { CountsFailures K.Sink out.old out.new result }
 {
     make_room(out, strip, 1)?;
@@ -184,8 +181,7 @@ pub(crate) fn put_byte<K: Sink>(out: &mut K, strip: &mut Strip, byte: u8) -> Res
 /// Writes a text that is longer than a strip.
 #[tactic(auto, using(crate::proofs::Strips::strips))]
 fn put_long<K: Sink>(out: &mut K, strip: &mut Strip, text: &[u8]) -> Result<(), Failed>
-    ensures gathers { Gathers (K.holds out.old) (K.holds out.new) strip.old strip.new
-        result (text.now) }
+    ensures gathers { Puts K.Sink out.old out.new strip.old strip.new result (text.now) }
     ensures counts { CountsFailures K.Sink out.old out.new result }
 {
     put_strip(out, strip)?;
@@ -195,8 +191,7 @@ fn put_long<K: Sink>(out: &mut K, strip: &mut Strip, text: &[u8]) -> Result<(), 
 /// Writes a text as it is.
 #[tactic(auto, using(crate::proofs::Strips::strips))]
 pub(crate) fn put_text<K: Sink>(out: &mut K, strip: &mut Strip, text: &[u8]) -> Result<(), Failed>
-    ensures gathers { Gathers (K.holds out.old) (K.holds out.new) strip.old strip.new
-        result (text.now) }
+    ensures gathers { Puts K.Sink out.old out.new strip.old strip.new result (text.now) }
     ensures counts { CountsFailures K.Sink out.old out.new result }
 {
     if text.len() > ROOM {
@@ -215,8 +210,7 @@ pub(crate) fn put_text_after<K: Sink>(
     mark: u8,
     text: &[u8],
 ) -> Result<(), Failed>
-    ensures gathers { Gathers (K.holds out.old) (K.holds out.new) strip.old strip.new
-        result (mark ∷ text.now) }
+    ensures gathers { Puts K.Sink out.old out.new strip.old strip.new result (mark ∷ text.now) }
     ensures counts { CountsFailures K.Sink out.old out.new result }
 {
     if text.len() >= ROOM {
@@ -232,8 +226,7 @@ pub(crate) fn put_text_after<K: Sink>(
 /// Writes a number in decimal digits.
 #[tactic(auto, using(crate::proofs::Strips::strips))]
 pub(crate) fn put_number<K: Sink>(out: &mut K, strip: &mut Strip, number: u64) -> Result<(), Failed>
-    ensures gathers { Gathers (K.holds out.old) (K.holds out.new) strip.old strip.new
-        result (decimal number) }
+    ensures gathers { Puts K.Sink out.old out.new strip.old strip.new result (decimal number) }
     ensures counts { CountsFailures K.Sink out.old out.new result }
 {
     make_room(out, strip, DIGITS)?;
@@ -249,8 +242,7 @@ pub(crate) fn put_number_after<K: Sink>(
     mark: u8,
     number: u64,
 ) -> Result<(), Failed>
-    ensures gathers { Gathers (K.holds out.old) (K.holds out.new) strip.old strip.new
-        result (mark ∷ decimal number) }
+    ensures gathers { Puts K.Sink out.old out.new strip.old strip.new result (mark ∷ decimal number) }
     ensures counts { CountsFailures K.Sink out.old out.new result }
 {
     make_room(out, strip, DIGITS + 1)?;
@@ -264,8 +256,7 @@ pub(crate) fn put_number_after<K: Sink>(
 #[inline(always)]
 fn put_some_numbers<K: Sink>(out: &mut K, strip: &mut Strip, numbers: &[u32]) -> Result<(), Failed>
     requires { 21 * length numbers.now ≤ ROOM }
-    ensures gathers { Gathers (K.holds out.old) (K.holds out.new) strip.old strip.new
-        result (flat_map (behind 44 decimal) numbers.now) }
+    ensures gathers { Puts K.Sink out.old out.new strip.old strip.new result (flat_map (behind 44 decimal) numbers.now) }
     ensures counts { CountsFailures K.Sink out.old out.new result }
 {
     make_room(out, strip, 21 * numbers.len())?;
@@ -280,8 +271,7 @@ pub(crate) fn put_more_numbers<K: Sink>(
     strip: &mut Strip,
     numbers: &[u32],
 ) -> Result<(), Failed>
-    ensures gathers { Gathers (K.holds out.old) (K.holds out.new) strip.old strip.new
-        result (flat_map (behind 44 decimal) numbers.now) }
+    ensures gathers { Puts K.Sink out.old out.new strip.old strip.new result (flat_map (behind 44 decimal) numbers.now) }
     ensures counts { CountsFailures K.Sink out.old out.new result }
 {
     let mut done = 0;
@@ -298,8 +288,7 @@ pub(crate) fn put_more_numbers<K: Sink>(
 #[inline(always)]
 fn put_part<K: Sink>(out: &mut K, strip: &mut Strip, bytes: &[u8]) -> Result<(), Failed>
     requires { 2 * length bytes.now ≤ ROOM }
-    ensures gathers { Gathers (K.holds out.old) (K.holds out.new) strip.old strip.new
-        result (flat_map hex_byte bytes.now) }
+    ensures gathers { Puts K.Sink out.old out.new strip.old strip.new result (flat_map hex_byte bytes.now) }
     ensures counts { CountsFailures K.Sink out.old out.new result }
 {
     make_room(out, strip, 2 * bytes.len())?;
@@ -309,8 +298,7 @@ fn put_part<K: Sink>(out: &mut K, strip: &mut Strip, bytes: &[u8]) -> Result<(),
 
 #[tactic(auto, using(crate::proofs::Strips::parts))]
 fn put_digits<K: Sink>(out: &mut K, strip: &mut Strip, bytes: &[u8]) -> Result<(), Failed>
-    ensures gathers { Gathers (K.holds out.old) (K.holds out.new) strip.old strip.new
-        result (flat_map hex_byte bytes.now) }
+    ensures gathers { Puts K.Sink out.old out.new strip.old strip.new result (flat_map hex_byte bytes.now) }
     ensures counts { CountsFailures K.Sink out.old out.new result }
 {
     let mut done = 0;
@@ -324,8 +312,7 @@ fn put_digits<K: Sink>(out: &mut K, strip: &mut Strip, bytes: &[u8]) -> Result<(
 
 /// Writes bytes as digits, or a dot if there are none.
 pub(crate) fn put_hex<K: Sink>(out: &mut K, strip: &mut Strip, bytes: &[u8]) -> Result<(), Failed>
-    ensures gathers { Gathers (K.holds out.old) (K.holds out.new) strip.old strip.new
-        result (hex_text bytes.now) }
+    ensures gathers { Puts K.Sink out.old out.new strip.old strip.new result (hex_text bytes.now) }
     ensures counts { CountsFailures K.Sink out.old out.new result }
 {
     if bytes.is_empty() {
@@ -347,8 +334,8 @@ pub(crate) fn put_short_frame<K: Sink>(
     no_learn: bool,
 ) -> Result<(), Failed>
     requires { length bytes.now ≤ SHORT_FRAME }
-    ensures gathers { Gathers (K.holds out.old) (K.holds out.new) strip.old strip.new
-        result (behind 44 frame_text (record { bytes = bytes.now; no_learn = no_learn })) }
+    ensures gathers { Puts K.Sink out.old out.new strip.old strip.new result
+        (behind 44 frame_text (record { bytes = bytes.now; no_learn = no_learn })) }
     ensures counts { CountsFailures K.Sink out.old out.new result }
 {
     make_room(out, strip, 2 * bytes.len() + 3)?;

@@ -7,7 +7,7 @@ ghost use Rattle.vale_entry.specs.Transcript.{start_line, entry_line, entry_line
 ghost use Rattle.vale_text.specs.declared.transcript.PutError.TheVariants.{Failed as PutFailed, NoMemory as OutOfMemory};
 ghost use Rattle.vale_text.specs.Written.{LineBytes, text_of, BlamesSink};
 
-use crate::rows::{EndLine, StartLine, put_whole_line};
+use crate::rows::{EndLine, EntryLine, StartLine, put_whole_line};
 use crate::strip::Strip;
 use nm_io::{Failed, Sink, Text, put_all};
 use nm_types::NoMemory;
@@ -133,17 +133,13 @@ fn put_line<K: Sink, T: Text>(out: &mut K, lines: &mut Lines, line: &T) -> Resul
 }
 
 /// Writes the line of an entry in memory, or says that there is none left.
-fn gather_entry(
-    lines: &mut Lines,
-    strip: &mut Strip,
-    number: u32,
-    entry: &Entry,
-) -> Result<(), NoMemory>
+fn gather_entry(lines: &mut Lines, strip: &mut Strip, line: &EntryLine<'_>) -> Result<(), NoMemory>
     requires { strip.old ≡ [] }
-    ensures ok { OnOk result (lines.new.bytes ≡ lines.old.bytes ++ entry_line number entry.now) }
+    ensures ok { OnOk result
+        (lines.new.bytes ≡ lines.old.bytes ++ entry_line line.now.number line.now.entry.now) }
     ensures emptied { OnOk result (strip.new ≡ []) }
 {
-    match put_whole_line(lines, strip, number, entry) {
+    match put_whole_line(lines, strip, line) {
         Ok(()) => Ok(()),
         Err(Failed) => Err(NoMemory),
     }
@@ -165,7 +161,7 @@ fn put_entry<K: Sink>(
     ensures cause { IfErr result (BlamesSink (K.faults out.old) (K.faults out.new)) }
     ensures emptied { OnOk result (strip.new ≡ []) }
 {
-    gather_entry(lines, strip, number, entry)?;
+    gather_entry(lines, strip, &EntryLine { number, entry })?;
     if lines.bytes().len() >= PAGE_BYTES {
         put_gathered(out, lines)?;
     }

@@ -8,19 +8,19 @@ use Rattle.vale_text.proofs.pieces.put_frames.Goals as goal
 pub returns-in_err-put_frame-clause-gathers : goal.returns-in_err-put_frame-clause-gathers
 returns-in_err-put_frame-clause-gathers g c =
     let p = err_from_is_err_and c.from_residual.result c.from_residual.ensures.1 in
-    let frame : Frame = record { bytes = c.get-no_learn.result.0.now; no_learn = c.get-no_learn.result.1 } in
-    rw (p.1) (list_starts (g.K.Sink.holds c.args.out.now) (g.K.Sink.holds c.put_frame.new.out) c.args.strip.now frame_text c.args.frames.now frame c.get-no_learn.ensures c.in_err-put_frame.ensures.gathers)
+    let frame : Frame = record { bytes = c.get.result.0.now; no_learn = c.get.result.1 } in
+    rw (p.1) (list_starts (g.K.Sink.holds c.args.out.now) (g.K.Sink.holds c.put_frame.new.out) c.args.strip.now frame_text c.args.frames.now frame c.get.ensures c.in_err-put_frame.ensures.gathers)
 
 pub returns-in_err-put_next_frame-clause-gathers : goal.returns-in_err-put_next_frame-clause-gathers
 returns-in_err-put_next_frame-clause-gathers g c =
     let p = err_from_is_err_and c.from_residual-in_err-put_next_frame.result c.from_residual-in_err-put_next_frame.ensures.1 in
-    let frame : Frame = record { bytes = c.get-no_learn-in-loop-i.result.0.now; no_learn = c.get-no_learn-in-loop-i.result.1 } in
-    rw (p.1) (list_fails (g.K.Sink.holds c.args.out.now) (g.K.Sink.holds c.loop-i.out) (g.K.Sink.holds c.put_next_frame.new.out) c.args.strip.now c.loop-i.strip frame_text c.args.frames.now c.loop-i.i frame (omega arith) c.get-no_learn-in-loop-i.ensures c.loop-i.invariant.gathered c.in_err-put_next_frame.ensures.gathers)
+    let frame : Frame = record { bytes = c.get-in-loop-i.result.0.now; no_learn = c.get-in-loop-i.result.1 } in
+    rw (p.1) (list_fails (g.K.Sink.holds c.args.out.now) (g.K.Sink.holds c.loop-i.out) (g.K.Sink.holds c.put_next_frame.new.out) c.args.strip.now c.loop-i.strip frame_text c.args.frames.now c.loop-i.i frame (omega arith) c.get-in-loop-i.ensures c.loop-i.invariant.gathered c.in_err-put_next_frame.ensures.gathers)
 
 pub loop-i-preserved : goal.loop-i-preserved
 loop-i-preserved g c =
-    let frame : Frame = record { bytes = c.get-no_learn-in-loop-i.result.0.now; no_learn = c.get-no_learn-in-loop-i.result.1 } in
+    let frame : Frame = record { bytes = c.get-in-loop-i.result.0.now; no_learn = c.get-in-loop-i.result.1 } in
     record {
-      gathered = list_more (g.K.Sink.holds c.args.out.now) (g.K.Sink.holds c.loop-i.out) (g.K.Sink.holds c.put_next_frame.new.out) c.args.strip.now c.loop-i.strip c.put_next_frame.new.strip frame_text c.args.frames.now c.loop-i.i frame (omega arith) c.get-no_learn-in-loop-i.ensures c.loop-i.invariant.gathered c.in_ok-put_next_frame.ensures.gathers;
+      gathered = list_more (g.K.Sink.holds c.args.out.now) (g.K.Sink.holds c.loop-i.out) (g.K.Sink.holds c.put_next_frame.new.out) c.args.strip.now c.loop-i.strip c.put_next_frame.new.strip frame_text c.args.frames.now c.loop-i.i frame (omega arith) c.get-in-loop-i.ensures c.loop-i.invariant.gathered c.in_ok-put_next_frame.ensures.gathers;
       later = search rules;
     }

@@ -1,9 +1,13 @@
-use Rattle.std.proofs.Common.{List, ℕ, codes, decimal, subst}
-use Rattle.nm_io.specs.Gathered.{Gathers}
-use Rattle.vale_text.proofs.Strips.{call_text}
+use Rattle.std.proofs.Common.{List, ℕ, [], ◌∷◌, ◌++◌, codes, decimal}
+use Rattle.std.proofs.lemmas.List.{append-nil}
+use Rattle.vale_entry.specs.Transcript.{words_text}
+use Rattle.vale_text.proofs.Strips.{adds, adds_two}
 use Rattle.vale_text.proofs.rows.put_done.Goals as goal
 
 pub returns-clause-gathers : goal.returns-clause-gathers
 returns-clause-gathers g c =
-    subst (λ (text : List ℕ). Gathers (g.K.Sink.holds c.args.out.now) (g.K.Sink.holds c.put_call.new.out) c.args.strip.now c.put_call.new.strip c.put_call.result text)
-    (call_text (decimal c.args.session) (codes "done") (decimal c.args.lease.0)) c.put_call.ensures.gathers
+    let p : List ℕ = c.make_room.new.strip in
+    let new : List ℕ = c.labelled-2.new.self in
+    let words : List (List ℕ) = decimal c.args.session ∷ codes "done" ∷ decimal c.args.lease.0 ∷ [] in
+    adds (g.K.Sink.holds c.args.out.now) (g.K.Sink.holds c.make_room.new.out) c.args.strip.now p new (words_text words) c.in_ok-make_room.ensures.gathers
+    (simp append-nil (adds_two p c.labelled.new.self new (codes " " ++ decimal c.args.session) (codes " done " ++ decimal c.args.lease.0) c.labelled.ensures.value c.labelled-2.ensures.value))
