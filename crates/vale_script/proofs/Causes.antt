@@ -13,7 +13,7 @@ use Rattle.vale_script.specs.declared.forms.Verb.{Verb}
 use Rattle.vale_script.specs.declared.forms.Verb.TheVariants as verbs
 use Rattle.vale_script.specs.Forms.{Form, form_of, any_number, frame_count}
 use Rattle.vale_script.specs.Places.{misses_number, misses_name, is_out, any_out, greatest_of}
-use Rattle.vale_script.specs.Statements.{Statement, ◌>>=◌, or_cause, word_at, text_at, user_at, port_at, address_at, byte_at_place, number_at, any_at, extra_at, frame_at, open_act, put_act, fwd_act, poke_act, move_act, swap_act, extra_act, watch_act, named_act, hex_act, play_act, save_act, act_of, does_act, statement_of, cause_of_words, has_form, said_unless}
+use Rattle.vale_script.specs.Statements.{Statement, ◌>>=◌, or_cause, word_at, text_at, user_at, port_at, address_at, byte_at_place, number_at, any_at, two_at, extra_at, frame_at, open_act, put_act, fwd_act, poke_act, move_act, swap_act, extra_act, watch_act, named_act, hex_act, play_act, save_act, act_of, does_act, statement_of, cause_of_words, has_form, said_unless}
 use Rattle.vale_words.specs.Words.{is_user_name, port_name, number_in, is_hex_byte, byte_at, frame_bytes, is_mac, mac_of, mac_value}
 
 -- a word is read at its place, behind the word before it
@@ -62,6 +62,14 @@ then-ok : {A B : Type 0} (a : Result A LineCause) (f : A → Result B LineCause)
 then-ok (Ok x) f b e = (x, refl, e)
 then-ok (Err cause) f b e = absurd cc
 
+-- two numbers that were read
+two-ok : (i : ℕ) (words : List (List ℕ)) (both : ℕ × ℕ) → two_at i words ≡ Ok both
+    → (first : ℕ) × (second : ℕ) × (any_at i words ≡ Ok first) × (any_at (i + 1) words ≡ Ok second)
+two-ok i words both e =
+    let first = then-ok (any_at i words) _ both e in
+    let second = then-ok (any_at (i + 1) words) _ both first.2 in
+    (first.0, second.0, first.1, second.1)
+
 some-ok : {A : Type 0} (cause : LineCause) (found : Option A) (x : A) → or_cause cause found ≡ Ok x → not (is_some found) ≡ false
 some-ok cause (Some y) x e = refl
 some-ok cause None x e = absurd cc
@@ -105,14 +113,14 @@ read-bytes i words before x e = (some-ok causes.Number (frame_bytes (word_at i w
 reads-open : (words : List (List ℕ)) (act : Act) → length words ≤ 6 → open_act words ≡ Ok act → AreRead (PortName ∷ any_number ∷ any_number ∷ any_number ∷ []) 1 words
 reads-open words act few e =
     let name = then-ok (port_at 2 words) _ act e in
-    let tx = then-ok (any_at 3 words) _ act name.2 in
-    let rx = then-ok (any_at 4 words) _ act tx.2 in
-    let extra = then-ok (extra_at words) _ act rx.2 in (
+    let both = then-ok (two_at 3 words) _ act name.2 in
+    let rings = two-ok 3 words both.0 both.1 in
+    let extra = then-ok (extra_at words) _ act both.2 in (
       λ _. read-port 2 words (word_at 1 words) name.0 name.1,
       (
-        λ _. read-number 0 4294967295 3 words (word_at 2 words) tx.0 tx.1,
+        λ _. read-number 0 4294967295 3 words (word_at 2 words) rings.0 rings.2,
         (
-          λ _. read-number 0 4294967295 4 words (word_at 3 words) rx.0 rx.1,
+          λ _. read-number 0 4294967295 4 words (word_at 3 words) rings.1 rings.3,
           (
             λ there. read-number 0 4294967295 5 words (word_at 4 words) extra.0 (given there extra.0 extra.1),
             tt,
@@ -217,15 +225,15 @@ reads-poke words act e =
 reads-move : (words : List (List ℕ)) (act : Act) → move_act words ≡ Ok act → AreRead (PortName ∷ Side ∷ any_number ∷ any_number ∷ []) 1 words
 reads-move words act e =
     let name = then-ok (port_at 2 words) _ act e in
-    let head = then-ok (any_at 4 words) _ act name.2 in
-    let cur = then-ok (any_at 5 words) _ act head.2 in (
+    let both = then-ok (two_at 4 words) _ act name.2 in
+    let places = two-ok 4 words both.0 both.1 in (
       λ _. read-port 2 words (word_at 1 words) name.0 name.1,
       (
         λ _. (refl, refl),
         (
-          λ _. read-number 0 4294967295 4 words (word_at 3 words) head.0 head.1,
+          λ _. read-number 0 4294967295 4 words (word_at 3 words) places.0 places.2,
           (
-            λ _. read-number 0 4294967295 5 words (word_at 4 words) cur.0 cur.1,
+            λ _. read-number 0 4294967295 5 words (word_at 4 words) places.1 places.3,
             tt,
           ),
         ),
@@ -264,13 +272,13 @@ reads-swap words act e =
 reads-extra : (words : List (List ℕ)) (act : Act) → extra_act words ≡ Ok act → AreRead (PortName ∷ any_number ∷ any_number ∷ []) 1 words
 reads-extra words act e =
     let name = then-ok (port_at 2 words) _ act e in
-    let i = then-ok (any_at 3 words) _ act name.2 in
-    let j = then-ok (any_at 4 words) _ act i.2 in (
+    let both = then-ok (two_at 3 words) _ act name.2 in
+    let places = two-ok 3 words both.0 both.1 in (
       λ _. read-port 2 words (word_at 1 words) name.0 name.1,
       (
-        λ _. read-number 0 4294967295 3 words (word_at 2 words) i.0 i.1,
+        λ _. read-number 0 4294967295 3 words (word_at 2 words) places.0 places.2,
         (
-          λ _. read-number 0 4294967295 4 words (word_at 3 words) j.0 j.1,
+          λ _. read-number 0 4294967295 4 words (word_at 3 words) places.1 places.3,
           tt,
         ),
       ),

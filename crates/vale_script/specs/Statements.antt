@@ -1,5 +1,5 @@
 -- What the words of a line say by themselves, or why they say nothing that a script may say.
-use Rattle.std.specs.Prelude.{ℕ, Bool, false, not, ◌==◌, ◌≡◌, nat_lt, nat_le, ◌||◌, ◌&&◌, if◌then◌else◌, List, [], ◌∷◌, length, slice_index_or, Option, Some, None, Result, Ok, Err}
+use Rattle.std.specs.Prelude.{ℕ, ◌+◌, Bool, false, not, ◌==◌, ◌≡◌, nat_lt, nat_le, ◌||◌, ◌&&◌, if◌then◌else◌, List, [], ◌∷◌, length, slice_index_or, Option, Some, None, Result, Ok, Err}
 use Rattle.std.specs.Borrow.{Bor}
 use Rattle.nm_types.specs.Limits.{most_counts, most_pool, buffer_bytes, most_batch}
 use Rattle.nm_types.specs.declared.id.Mac.{Mac}
@@ -51,6 +51,17 @@ number_at low high i words = or_cause causes.Number (number_in low high (word_at
 abbrev pub any_at : ℕ → List (List ℕ) → Result ℕ LineCause
 any_at i words = number_at 0 4294967295 i words
 
+-- two numbers, one behind the other
+abbrev pub two_at : ℕ → List (List ℕ) → Result (ℕ × ℕ) LineCause
+two_at i words = do
+  first ← any_at i words
+  second ← any_at (i + 1) words
+  Ok (first, second)
+
+-- the number of frames of a put or a forward
+abbrev pub count_at : ℕ → List (List ℕ) → Result ℕ LineCause
+count_at i words = number_at 0 most_counts i words
+
 -- a last word that may be left out
 abbrev pub extra_at : List (List ℕ) → Result ℕ LineCause
 extra_at words = if length words == 6 then any_at 5 words else Ok 0
@@ -58,10 +69,9 @@ extra_at words = if length words == 6 then any_at 5 words else Ok 0
 abbrev pub open_act : List (List ℕ) → Result Act LineCause
 open_act words = do
   name ← port_at 2 words
-  tx ← any_at 3 words
-  rx ← any_at 4 words
+  rings ← two_at 3 words
   extra ← extra_at words
-  Ok (acts.Open name tx rx extra)
+  Ok (acts.Open name rings.0 rings.1 extra)
 
 abbrev pub put_with : List ℕ → ℕ → List (List ℕ) → Result Act LineCause
 put_with name count words = do
@@ -74,14 +84,14 @@ put_with name count words = do
 abbrev pub put_act : List (List ℕ) → Result Act LineCause
 put_act words = do
   name ← port_at 2 words
-  count ← number_at 0 most_counts 3 words
+  count ← count_at 3 words
   put_with name count words
 
 abbrev pub fwd_act : List (List ℕ) → Result Act LineCause
 fwd_act words = do
   from ← port_at 2 words
   to ← port_at 3 words
-  count ← number_at 0 most_counts 4 words
+  count ← count_at 4 words
   Ok (acts.Fwd from to count)
 
 abbrev pub poke_act : List (List ℕ) → Result Act LineCause
@@ -94,9 +104,8 @@ poke_act words = do
 abbrev pub move_act : List (List ℕ) → Result Act LineCause
 move_act words = do
   name ← port_at 2 words
-  head ← any_at 4 words
-  cur ← any_at 5 words
-  Ok (acts.Move name (side_of (word_at 3 words)) head cur)
+  places ← two_at 4 words
+  Ok (acts.Move name (side_of (word_at 3 words)) places.0 places.1)
 
 abbrev pub swap_act : List (List ℕ) → Result Act LineCause
 swap_act words = do
@@ -109,9 +118,8 @@ swap_act words = do
 abbrev pub extra_act : List (List ℕ) → Result Act LineCause
 extra_act words = do
   name ← port_at 2 words
-  i ← any_at 3 words
-  j ← any_at 4 words
-  Ok (acts.Extra name i j)
+  places ← two_at 3 words
+  Ok (acts.Extra name places.0 places.1)
 
 abbrev pub watch_act : List (List ℕ) → Result Act LineCause
 watch_act words = do

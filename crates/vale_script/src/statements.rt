@@ -1,11 +1,11 @@
 //! What the words of a line say by themselves.
-ghost use Rattle.std.specs.Prelude.{◌≡◌, ◌≤◌, ◌^◌, ◌&&◌, nat_le, ℕ, map, slice_index_or, length, IfOk, None, Some, true, Ok};
+ghost use Rattle.std.specs.Prelude.{◌≡◌, ◌≤◌, ◌<◌, ◌^◌, ◌&&◌, nat_le, ℕ, map, slice_index_or, length, IfOk, None, Some, true, Ok};
 ghost use Rattle.vale_script.specs.Places.{side_of, sides_of, field_of};
 ghost use Rattle.vale_script.specs.Keeps.{IsSoundStatement, NamesUser};
 ghost use Rattle.nm_types.specs.Names.{IsName};
 ghost use Rattle.vale_script.specs.Sound.{IsUserName, IsFileName, IsSoundDeed};
 ghost use Rattle.vale_script.specs.declared.statements.LineFault.TheVariants as faults;
-ghost use Rattle.vale_script.specs.Statements.{shown, word_at, user_at, port_at, text_at, number_at, address_at, byte_at_place, open_act, put_with, put_act, fwd_act, poke_act, move_act, swap_act, extra_act, watch_act, named_act, plain_act, hex_act, play_act, save_act, act_of, statement_of, cause_by, cause_of_words, has_form, said_by_verb, words_said, line_said, Tells, TellsSaid, shown_text};
+ghost use Rattle.vale_script.specs.Statements.{shown, word_at, user_at, port_at, text_at, number_at, two_at, address_at, byte_at_place, open_act, put_with, put_act, fwd_act, poke_act, move_act, swap_act, extra_act, watch_act, named_act, plain_act, hex_act, play_act, save_act, act_of, statement_of, cause_by, cause_of_words, has_form, said_by_verb, words_said, line_said, Tells, TellsSaid, shown_text};
 
 use crate::forms::{Verb, form_of, verb_of};
 use crate::places::{any_out, field_of, greatest_of, has_fixed_words, side_of, sides_of};
@@ -140,6 +140,16 @@ fn any_at(words: &[&[u8]], i: usize) -> Result<u32, LineCause>
     number_at(words, i, 0, u32::MAX)
 }
 
+/// Two numbers, one behind the other.
+fn two_at(words: &[&[u8]], i: usize) -> Result<(u32, u32), LineCause>
+    requires { i < 9 }
+    ensures { result ≡ two_at i (map (λ w. w.now) words.now) }
+{
+    let first = any_at(words, i)?;
+    let second = any_at(words, i + 1)?;
+    Ok((first, second))
+}
+
 fn side_at(words: &[&[u8]], i: usize) -> Side
     ensures { result ≡ side_of (word_at i (map (λ w. w.now) words.now)) }
 {
@@ -151,8 +161,7 @@ fn open_act(words: &[&[u8]]) -> Result<Act, LineCause>
     ensures value { result ≡ open_act (map (λ w. w.now) words.now) }
 {
     let name = port_at(words, 2)?;
-    let tx = any_at(words, 3)?;
-    let rx = any_at(words, 4)?;
+    let (tx, rx) = two_at(words, 3)?;
     let extra = if words.len() == 6 {
         any_at(words, 5)?
     } else {
@@ -229,8 +238,7 @@ fn move_act(words: &[&[u8]]) -> Result<Act, LineCause>
 {
     let name = port_at(words, 2)?;
     let side = side_at(words, 3);
-    let head = any_at(words, 4)?;
-    let cur = any_at(words, 5)?;
+    let (head, cur) = two_at(words, 4)?;
     Ok(Act::Move {
         name,
         side,
@@ -263,8 +271,7 @@ fn extra_act(words: &[&[u8]]) -> Result<Act, LineCause>
     ensures value { result ≡ extra_act (map (λ w. w.now) words.now) }
 {
     let name = port_at(words, 2)?;
-    let i = any_at(words, 3)?;
-    let j = any_at(words, 4)?;
+    let (i, j) = two_at(words, 3)?;
     Ok(Act::Extra { name, i, j })
 }
 
