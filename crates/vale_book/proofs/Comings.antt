@@ -12,7 +12,8 @@ use Rattle.vale_entry.specs.Stored.{Stored, Fits}
 use Rattle.vale_entry.proofs.Worlds.{count-world_of}
 use Rattle.vale_book.specs.declared.book.Book.TheInside.{Inside}
 use Rattle.vale_book.specs.BookView.{parts_in, number_of_session, IsBook}
-use Rattle.vale_book.proofs.Moves.{Moves, before, fits-step, free-same, parts-stay}
+use Rattle.vale_book.proofs.Moves.{Moves, before, fits-step, parts-stay}
+use Rattle.vale_book.proofs.Quiet.{quiet-moves}
 
 pub enter-made : (s : Standing) (user : ℕ) → user < 2 ^ 64 → step s (Enter user) ≡ Some (enter_step s)
 enter-made s user small = let fits : fits_u64 user ≡ true = lt-ltb user (2 ^ 64) small in rw fits refl
@@ -40,18 +41,8 @@ enter-moves (Err e) b next user small k entries number promised sessions limits 
 enter-moves (Ok id) b next user small k entries number promised sessions limits fits ports parts region buffers =
     let count = count-world_of b.pool.buffers b.history.entries in
     let same : number_of_session id ≡ (before b).world.entry_count + 1 = omega (arith, count, number) in
-    record {
-      step_is = enter-made (before b) user small;
-      entries = entries ∙ ap (λ (n : ℕ). b.history.entries ++ coming user (id_of n) ∷ []) same;
-      limits = limits;
-      promised = omega (arith, promised);
-      room = fits-step b (Enter user) (enter_step (before b)) k fits;
-      sessions = ap (map number_of_session) sessions ∙ (map-append number_of_session b.sessions.items (id ∷ [])
-          ∙ (ap (λ (ns : List ℕ). ns ++ number_of_session id ∷ []) k.stands.sessions_are ∙ ap (λ (n : ℕ). (before b).world.sessions ++ n ∷ []) same));
-      ports = rw ports k.stands.ports_are;
-      parts = rw parts (parts-stay (before b) (Enter user) Made (parts_in b) refl);
-      region = region;
-      buffers = buffers;
-      free_are = free-same b next parts k.free_are;
-      lines_are = rw ports k.lines_are;
-    }
+    quiet-moves b next (Enter user) (enter_step (before b)) k (enter-made (before b) user small) k.stands.ports_are (parts-stay (before b) (Enter user) Made (parts_in b) refl)
+    (entries ∙ ap (λ (n : ℕ). b.history.entries ++ coming user (id_of n) ∷ []) same) limits (omega (arith, promised)) (fits-step b (Enter user) (enter_step (before b)) k fits)
+    (ap (map number_of_session) sessions ∙ (map-append number_of_session b.sessions.items (id ∷ [])
+    ∙ (ap (λ (ns : List ℕ). ns ++ number_of_session id ∷ []) k.stands.sessions_are ∙ ap (λ (n : ℕ). (before b).world.sessions ++ n ∷ []) same)))
+    ports parts region buffers

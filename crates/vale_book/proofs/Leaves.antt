@@ -10,7 +10,8 @@ use Rattle.vale_book.specs.declared.book.Book.TheInside.{Inside}
 use Rattle.vale_book.specs.BookView.{recorded, parts_in, number_of_session, IsBook}
 use Rattle.vale_book.specs.Recorded.{HasRoomFor}
 use Rattle.vale_book.specs.Sessions.{is_other_user, users_without}
-use Rattle.vale_book.proofs.Moves.{Moves, before, free-same, parts-stay}
+use Rattle.vale_book.proofs.Moves.{Moves, before, parts-stay}
+use Rattle.vale_book.proofs.Quiet.{quiet-moves}
 
 pub leave-made : (s : Standing) (session : SessionId) → IsEnabled s (Leave session) → step s (Leave session) ≡ Some (leave_step s session.0)
 leave-made s session enabled = rw enabled refl
@@ -36,17 +37,7 @@ pub leave-moves : (b next : Inside) (session : SessionId) → IsBook b → IsEna
     → next.sessions.items ≡ users_without session.0 b.sessions.items
     → next.ports.items ≡ b.ports.items → parts_in next ≡ parts_in b → next.region ≡ b.region → next.buffers ≡ b.buffers
     → Moves b next (Leave session) (leave_step (before b) session.0)
-leave-moves b next session k enabled room entries promised limits sessions ports parts region buffers = record {
-  step_is = leave-made (before b) session enabled;
-  entries = entries;
-  limits = limits;
-  promised = omega (arith, promised);
-  room = room;
-  sessions = ap (map number_of_session) sessions ∙ (numbers-without session.0 b.sessions.items ∙ ap (sessions_without session.0) k.stands.sessions_are);
-  ports = rw ports k.stands.ports_are;
-  parts = rw parts (parts-stay (before b) (Leave session) Made (parts_in b) refl);
-  region = region;
-  buffers = buffers;
-  free_are = free-same b next parts k.free_are;
-  lines_are = rw ports k.lines_are;
-}
+leave-moves b next session k enabled room entries promised limits sessions ports parts region buffers =
+    quiet-moves b next (Leave session) (leave_step (before b) session.0) k (leave-made (before b) session enabled) k.stands.ports_are (parts-stay (before b) (Leave session) Made (parts_in b) refl)
+    entries limits (omega (arith, promised)) room
+    (ap (map number_of_session) sessions ∙ (numbers-without session.0 b.sessions.items ∙ ap (sessions_without session.0) k.stands.sessions_are)) ports parts region buffers

@@ -1,6 +1,7 @@
 pub mod Rooms
 pub mod LegalRecords
 pub mod Moves
+pub mod Quiet
 pub mod FreshBooks
 pub mod Comings
 pub mod Standing

@@ -12,6 +12,7 @@ use Rattle.vale_book.specs.declared.book.Book.TheInside.{Inside}
 use Rattle.vale_book.specs.BookView.{recorded, parts_in, IsBook}
 use Rattle.vale_book.specs.Recorded.{entry_of, IsRefusal}
 use Rattle.vale_book.proofs.Moves.{Moves, Stays, before, fits-step, full-step}
+use Rattle.vale_book.proofs.Quiet.{quiet-moves}
 
 abbrev pub with_history : Inside → Stored → Inside
 with_history b h = record b { history = h }
@@ -32,20 +33,8 @@ pub note-moves : {A : Type 0} (r : Result A StepFault) (b : Inside) (h : Stored)
 note-moves (Err e) b h ask session reply k note entries promised limits fits = tt
 note-moves (Ok a) b h ask session reply k note entries promised limits fits =
     let none = note.none_back in
-    record {
-      step_is = note.step_is;
-      entries = entries;
-      limits = limits;
-      promised = omega (arith, promised, none);
-      room = fits-step b ask (unchanged (before b) session reply) k (fits-note b ask session reply note fits);
-      sessions = k.stands.sessions_are;
-      ports = k.stands.ports_are;
-      parts = note.parts;
-      region = refl;
-      buffers = refl;
-      free_are = k.free_are;
-      lines_are = k.lines_are;
-    }
+    quiet-moves b (with_history b h) ask (unchanged (before b) session reply) k note.step_is k.stands.ports_are note.parts entries limits (omega (arith, promised, none))
+    (fits-step b ask (unchanged (before b) session reply) k (fits-note b ask session reply note fits)) k.stands.sessions_are refl refl refl refl
 
 pub note-stays : {A : Type 0} (r : Result A StepFault) (b : Inside) (h : Stored) → OnErr r (h.entries ≡ b.history.entries) → h.promised ≡ b.history.promised → h.limits ≡ b.history.limits
     → OnErr r (Stays b (with_history b h))

@@ -1,5 +1,5 @@
 -- A port is opened.
-use Rattle.std.proofs.Common.{ℕ, Bool, true, false, not, ◌≡◌, ◌+◌, ◌≤◌, ◌<◌, List, [], ◌∷◌, ◌++◌, length, map, take, drop, cond, Option, Some, None, refl, sym, ◌∙◌, ap, subst, arith}
+use Rattle.std.proofs.Common.{ℕ, Bool, true, false, not, ◌≡◌, ◌+◌, ◌≤◌, ◌<◌, List, [], ◌∷◌, ◌++◌, length, map, take, drop, cond, Option, Some, None, refl, sym, ◌∙◌, ap, subst, arith, rules}
 use Rattle.std.proofs.lemmas.List.{length-take-le, length-drop}
 use Rattle.nm_types.specs.Limits.{most_ports, most_switches}
 use Rattle.nm_types.specs.Openings.{finds_switches_full, open_refusal as names_refusal}
@@ -133,32 +133,8 @@ tables-few b next n session name tx rx extra k none few =
 
 pub tables-kept : (b next : Inside) → IsBook b → StillTables b.ports.items b.tables.items next.tables.items → length next.tables.items ≤ most_switches → IsBook (with_tables b next)
 tables-kept b next k kept few =
-    let stands = k.stands in
-    let parts = stands.parts_are in
-    record {
-      stands = record {
-        legal = stands.legal;
-        promised_is = stands.promised_is;
-        sessions_are = stands.sessions_are;
-        ports_are = stands.ports_are;
-        parts_are = record {
-          names_are = parts.names_are;
-          tables_are = kept b.pool.buffers b.history.entries (names-agree b k) parts.tables_are;
-          watches_are = parts.watches_are;
-          counts_are = parts.counts_are;
-          free_are = parts.free_are;
-          pool_is = parts.pool_is;
-        };
-      };
-      rooms = k.rooms;
-      tables_few = few;
-      few = k.few;
-      pool_fits = k.pool_fits;
-      size = k.size;
-      region_size = k.region_size;
-      free_are = k.free_are;
-      lines_are = k.lines_are;
-    }
+    let tables = kept b.pool.buffers b.history.entries (names-agree b k) k.stands.parts_are.tables_are in
+    search rules
 
 -- ---- The port.
 
@@ -178,16 +154,8 @@ seat-opened : (n id : ℕ) (session : SessionId) (name : List ℕ) (tx rx extra 
     → IsSeatOf (record { port = opened_port id session.0 name tx rx extra; held = record { port = id; idle = take rx (drop tx held); lots = [] } }) (state_for (opening_of n session name tx extra) rx free)
 seat-opened n id session name tx rx extra free held same are enough =
     let none : out_of (new_line (take rx (drop tx free))) ≡ 0 = omega arith in
-    record {
-      id = same;
-      session = refl;
-      name = refl;
-      tx = refl;
-      extra = refl;
-      shutting = refl;
-      line = record { same = line-same (idle-length free tx rx extra enough) (idle-is free held tx rx are) refl; as_many = refl };
-      out = none;
-    }
+    let line = line-same {ls = []} (idle-length free tx rx extra enough) (idle-is free held tx rx are) refl in
+    search rules
 
 -- ---- The step.
 

@@ -8,6 +8,7 @@ use Rattle.nm_types.specs.declared.fault.OpenFault.TheVariants.{BadSize, Switche
 use Rattle.nm_types.specs.Faults.{open_fault_of}
 use Rattle.vale_entry.specs.declared.entry.Ask.{Ask}
 use Rattle.vale_entry.specs.declared.entry.Ask.TheVariants.{Open}
+use Rattle.vale_entry.specs.declared.entry.Entry.{Entry}
 use Rattle.vale_entry.specs.declared.entry.Reply.TheVariants.{Refused}
 use Rattle.vale_entry.specs.World.{World, free_count}
 use Rattle.nm_types.specs.Openings.{finds_switches_full, finds_ports_full, finds_name_taken, open_refusal as names_refusal}
@@ -22,7 +23,8 @@ use Rattle.vale_book.specs.Recorded.{IsRefusal, IsRecordedAs}
 use Rattle.vale_steps.specs.OpenFaults.{ByFault, IsRecordedFault}
 use Rattle.vale_book.specs.OpenAnswers.{IsUnopened}
 use Rattle.vale_steps.specs.OpenParts.{refusal_for, entry_for}
-use Rattle.vale_book.proofs.Moves.{Moves, Stays, before, fits-step, full-step, free-same, moved, stayed, record-moved, record-stayed, had-room}
+use Rattle.vale_book.proofs.Quiet.{quiet-moves}
+use Rattle.vale_book.proofs.Moves.{Moves, Stays, before, fits-step, full-step, moved, stayed, record-moved, record-stayed, had-room}
 use Rattle.vale_book.proofs.OpenMoves.{opening_of, open-made, refusal-is}
 
 -- ---- Faults.
@@ -86,15 +88,13 @@ recorded-as b next ask made m = record {
   room = had-room b next ask made m;
 }
 
+-- the book without what was written to its record
+abbrev pub unwritten : Inside → Inside → Inside
+unwritten b next = record next { history = record next.history { entries = b.history.entries } }
+
 -- a book whose record alone has changed
-pub record IsBeside (b next : Inside) : Type 0 where
-  pub promised : next.history.promised ≡ b.history.promised
-  pub limits : next.history.limits ≡ b.history.limits
-  pub sessions : next.sessions.items ≡ b.sessions.items
-  pub ports : next.ports.items ≡ b.ports.items
-  pub parts : parts_in next ≡ parts_in b
-  pub region : next.region ≡ b.region
-  pub buffers : next.buffers ≡ b.buffers
+abbrev pub IsBeside : Inside → Inside → Type 0
+IsBeside b next = Stays b (unwritten b next)
 
 refused-moves : (b next : Inside) (n : ℕ) (session : SessionId) (name : List ℕ) (tx rx extra : ℕ) (fault : OpenFault) → IsBook b → can_open (before b).world session.0 name tx rx extra ≡ true
     → refusal_for b.names b.pool.free (opening_of n session name tx extra) rx ≡ Some fault → IsBeside b next
@@ -104,32 +104,13 @@ refused-moves b next n session name tx rx extra fault k can is beside entries fi
     let s = before b in
     let ask = Open session name tx rx extra in
     let same = beside.promised in
-    record {
-      step_is = open-made s session name tx rx extra (Some fault) can (refusal-is b n session name tx rx extra k ∙ is);
-      entries = entries;
-      limits = beside.limits;
-      promised = omega (arith, same);
-      room = fits-step b ask (open_step_by (Some fault) s session.0 name tx rx extra) k fits;
-      sessions = rw beside.sessions k.stands.sessions_are;
-      ports = rw beside.ports k.stands.ports_are;
-      parts = rw beside.parts (record { names_next = refl; tables_wanted = tt; tables_next = sym (tables_stay s.world ask (parts_in b).tables refl); watches_next = λ port. refl; tally_next = refl; free_next = refl });
-      region = beside.region;
-      buffers = beside.buffers;
-      free_are = free-same b next beside.parts k.free_are;
-      lines_are = rw beside.ports k.lines_are;
-    }
+    quiet-moves b next ask (open_step_by (Some fault) s session.0 name tx rx extra) k (open-made s session name tx rx extra (Some fault) can (refusal-is b n session name tx rx extra k ∙ is)) k.stands.ports_are
+    (record { names_next = refl; tables_wanted = tt; tables_next = sym (tables_stay s.world ask (parts_in b).tables refl); watches_next = λ port. refl; tally_next = refl; free_next = refl })
+    entries beside.limits (omega (arith, same)) (fits-step b ask (open_step_by (Some fault) s session.0 name tx rx extra) k fits) (rw beside.sessions k.stands.sessions_are)
+    beside.ports beside.parts beside.region beside.buffers
 
 beside-stays : (b next : Inside) → IsBeside b next → next.history.entries ≡ b.history.entries → Stays b next
-beside-stays b next beside entries = record {
-  entries = entries;
-  limits = beside.limits;
-  promised = beside.promised;
-  sessions = beside.sessions;
-  ports = beside.ports;
-  parts = beside.parts;
-  region = beside.region;
-  buffers = beside.buffers;
-}
+beside-stays b next beside entries = subst (λ (h : List Entry). Stays b (record next { history = record next.history { entries = h } })) (sym entries) beside
 
 -- what a refusal says of the record
 abbrev IsEntered : Inside → Inside → Opening → ℕ → OpenFault → OpenFault → Type 0

@@ -1,5 +1,5 @@
 -- The table of a sender's switch is found among those of all switches.
-use Rattle.std.proofs.Common.{ℕ, zero, suc, true, ◌&&◌, ◌≡◌, ◌<◌, List, [], ◌∷◌, length, map, slice_get, slice_set, get_or, Option, Some, None, option_map, refl, sym, ◌∙◌, ap, subst}
+use Rattle.std.proofs.Common.{ℕ, zero, suc, true, ◌&&◌, ◌≡◌, ◌<◌, List, [], ◌∷◌, length, map, slice_get, slice_set, get_or, Option, Some, None, option_map, refl, sym, ◌∙◌, ap, subst, rules}
 use Rattle.std.specs.List.{position}
 use Rattle.std.proofs.lemmas.Bool.{and_parts, both_ways}
 use Rattle.std.proofs.lemmas.List.{map-set}
@@ -46,15 +46,8 @@ table-of w name tables place table are within here of =
     let seen : slice_get (map table_seen tables) place ≡ Some (table_seen table) = slice_get-map table_seen tables place ∙ ap (option_map table_seen) here in
     let same : switch_of table.label ≡ switch_of name = (bytes_eq-Decides (switch_of table.label) (switch_of name)).0 of in
     let in_world = each-at (IsTableIn w) (map table_seen tables) place (table_seen table) are.each seen in
-    record {
-      within = within;
-      here = here;
-      seen = seen;
-      of = of;
-      switch_is = same;
-      is = in_world;
-      finds = subst (λ (switch : List ℕ). Finds w switch table.table) same in_world.finds;
-    }
+    let finds = subst (λ (switch : List ℕ). Finds w switch table.table) same in_world.finds in
+    search rules
 
 pub table-at : (w : World) (name : List ℕ) (tables : List NamedTable) (place : ℕ) (table : NamedTable) → TablesAre w (map table_seen tables)
     → position (is_for_switch (switch_of name)) tables ≡ Some place → table ≡ get_or tables place table → IsTableAt w name tables place table

@@ -67,35 +67,25 @@ found-port : (b : Inside) (name : List ℕ) (found : Option PortId) → IsBook b
     → id_of found ≡ option_map number_of (target_in b name)
 found-port b name found k names is = ap id_of is ∙ names_find (before b).world b.names name k.stands.parts_are.names_are names
 
-none-found : (port : Option Port) → None ≡ option_map number_of port → port ≡ None
-none-found None is = refl
-none-found (Some port) is = absurd cc
+none-mapped : {A B : Type 0} (f : A → B) (found : Option A) → None ≡ option_map f found → found ≡ None
+none-mapped f None is = refl
+none-mapped f (Some it) is = absurd cc
 
-record IsTarget (port : Option Port) (id : ℕ) : Type 0 where
-  pub target : Port
-  pub target_is : port ≡ Some target
-  pub id_is : target.id ≡ id
+record IsMapped {A B : Type 0} (f : A → B) (found : Option A) (to : B) : Type 0 where
+  pub it : A
+  pub found_is : found ≡ Some it
+  pub to_is : f it ≡ to
 
-some-found : (port : Option Port) (id : ℕ) → Some id ≡ option_map number_of port → IsTarget port id
-some-found None id is = absurd cc
-some-found (Some port) id is = record { target = port; target_is = refl; id_is = let same : Some id ≡ Some port.id = is in cc }
+some-mapped : {A B : Type 0} (f : A → B) (found : Option A) (to : B) → Some to ≡ option_map f found → IsMapped f found to
+some-mapped f None to is = absurd cc
+some-mapped f (Some it) to is = record { it = it; found_is = refl; to_is = let same : Some to ≡ Some (f it) = is in cc }
 
-none-watched : (watch : Option Watcher) → None ≡ option_map (λ (w : Watcher). w.monitor) watch → watch ≡ None
-none-watched None is = refl
-none-watched (Some watch) is = absurd cc
-
-record IsBy (watch : Option Watcher) (by : ℕ) : Type 0 where
-  pub it : Watcher
-  pub watch_is : watch ≡ Some it
-  pub by_is : it.monitor ≡ by
-
-some-watched : (watch : Option Watcher) (by : ℕ) → Some by ≡ option_map (λ (w : Watcher). w.monitor) watch → IsBy watch by
-some-watched None by is = absurd cc
-some-watched (Some watch) by is = record { it = watch; watch_is = refl; by_is = let same : Some by ≡ Some watch.monitor = is in cc }
+abbrev monitor_of : Watcher → ℕ
+monitor_of watch = watch.monitor
 
 -- the watch of a port in the world
 watched-here : (b : Inside) (port : ℕ) → IsBook b
-    → option_map (λ (w : Watched). w.monitor.0) (watch_of b.watches port) ≡ option_map (λ (w : Watcher). w.monitor) (watch_in (before b).world.watches port)
+    → option_map (λ (w : Watched). w.monitor.0) (watch_of b.watches port) ≡ option_map monitor_of (watch_in (before b).world.watches port)
 watched-here b port k = watched_are_watched b.pool.buffers b.history.entries b.watches port k.stands.legal k.stands.parts_are.watches_are
 
 -- what is known of a watch that is asked
@@ -145,29 +135,29 @@ module _ (b : Inside) (monitor : PortId) (name : List ℕ) (sides : Sides) (plac
   no-target none =
       let missing : None ≡ option_map number_of (target_in b name) = ap id_of (sym none) ∙ a.found_is in
       record {
-        step_is = made-of ∙ (ap (λ (target : Option Port). Some (watch_step_of (before b) sides a.here.port target)) (none-found (target_in b name) missing)
+        step_is = made-of ∙ (ap (λ (target : Option Port). Some (watch_step_of (before b) sides a.here.port target)) (none-mapped number_of (target_in b name) missing)
             ∙ ap (λ (n : ℕ). Some (unchanged (before b) n replies.NoTarget)) a.own);
         no_bytes = refl;
         none_back = refl;
         parts = record { names_next = refl; tables_wanted = tt; tables_next = sym (tables_stay (before b).world ask (parts_in b).tables refl); watches_next = λ port. refl; tally_next = refl; free_next = refl };
       }
 
-  module _ (target : PortId) (there : IsTarget (target_in b name) target.0) where
+  module _ (target : PortId) (there : IsMapped number_of (target_in b name) target.0) where
     watch-by : (watch : Option Watcher) → watch_in (before b).world.watches target.0 ≡ watch
-        → step (before b) ask ≡ Some (watch_step_by (before b) sides a.here.port there.target watch)
+        → step (before b) ask ≡ Some (watch_step_by (before b) sides a.here.port there.it watch)
     watch-by watch is =
         let s = before b in
-        made-of ∙ (ap (λ (t : Option Port). Some (watch_step_of s sides a.here.port t)) there.target_is
-        ∙ ap (λ (w : Option Watcher). Some (watch_step_by s sides a.here.port there.target w)) (ap (watch_in s.world.watches) there.id_is ∙ is))
+        made-of ∙ (ap (λ (t : Option Port). Some (watch_step_of s sides a.here.port t)) there.found_is
+        ∙ ap (λ (w : Option Watcher). Some (watch_step_by s sides a.here.port there.it w)) (ap (watch_in s.world.watches) there.to_is ∙ is))
 
     is-watched : (by : PortId) → option_map (λ (w : Watched). w.monitor) (watch_of b.watches target.0) ≡ Some by → IsNote b ask session.0 (replies.Watched by)
     is-watched by is =
         let s = before b in
-        let watch = some-watched (watch_in s.world.watches target.0) by.0 (watch-numbers (watch_of b.watches target.0) by is ∙ watched-here b target.0 k) in
+        let watch = some-mapped monitor_of (watch_in s.world.watches target.0) by.0 (watch-numbers (watch_of b.watches target.0) by is ∙ watched-here b target.0 k) in
         record {
-          step_is = watch-by (Some watch.it) watch.watch_is
+          step_is = watch-by (Some watch.it) watch.found_is
               ∙ (ap (λ (n : ℕ). Some (unchanged s n (replies.Watched (record { 0 = watch.it.monitor })))) a.own
-              ∙ ap (λ (n : ℕ). Some (unchanged s session.0 (replies.Watched (record { 0 = n })))) watch.by_is);
+              ∙ ap (λ (n : ℕ). Some (unchanged s session.0 (replies.Watched (record { 0 = n })))) watch.to_is);
           no_bytes = refl;
           none_back = refl;
           parts = record { names_next = refl; tables_wanted = tt; tables_next = sym (tables_stay s.world ask (parts_in b).tables refl); watches_next = λ port. refl; tally_next = refl; free_next = refl };
@@ -175,25 +165,25 @@ module _ (b : Inside) (monitor : PortId) (name : List ℕ) (sides : Sides) (plac
 
     watch-moves : (h : Stored) (ws : Watching) → h.entries ≡ b.history.entries ++ watch_entry monitor name sides session.0 target.0 ∷ [] → Fits b.history 1 0
         → h.promised ≡ b.history.promised → h.limits ≡ b.history.limits → IsWatch b.watches ws found monitor sides target
-        → Moves b (with_watches b h ws) ask (watch_step (before b) sides a.here.port there.target)
+        → Moves b (with_watches b h ws) ask (watch_step (before b) sides a.here.port there.it)
     watch-moves h ws entries fits promised limits w =
         let s = before b in
         let free : None ≡ option_map (λ (x : Watched). x.monitor.0) (watch_of b.watches target.0) = sym (ap (option_map (λ (x : Watched). x.monitor.0)) w.free) in
-        let none = none-watched (watch_in s.world.watches target.0) (free ∙ watched-here b target.0 k) in
+        let none = none-mapped monitor_of (watch_in s.world.watches target.0) (free ∙ watched-here b target.0 k) in
         record {
           step_is = watch-by None none;
           entries = entries ∙ (ap (λ (n : ℕ). b.history.entries ++ watch_entry monitor name sides n target.0 ∷ []) (sym a.own)
-              ∙ ap (λ (n : ℕ). b.history.entries ++ watch_entry monitor name sides a.here.port.session n ∷ []) (sym there.id_is));
+              ∙ ap (λ (n : ℕ). b.history.entries ++ watch_entry monitor name sides a.here.port.session n ∷ []) (sym there.to_is));
           limits = limits;
           promised = omega (arith, promised);
-          room = fits-step b ask (watch_step s sides a.here.port there.target) k fits;
+          room = fits-step b ask (watch_step s sides a.here.port there.it) k fits;
           sessions = k.stands.sessions_are;
           ports = k.stands.ports_are;
           parts = record {
             names_next = refl;
             tables_wanted = tt;
             tables_next = sym (tables_stay s.world ask (parts_in b).tables refl);
-            watches_next = subst (λ (n : ℕ). (port : ℕ) → watch_of ws port ≡ watch_after_add b.watches (record { 0 = n }) monitor sides port) (sym there.id_is) w.added;
+            watches_next = subst (λ (n : ℕ). (port : ℕ) → watch_of ws port ≡ watch_after_add b.watches (record { 0 = n }) monitor sides port) (sym there.to_is) w.added;
             tally_next = refl;
             free_next = refl;
           };
@@ -203,8 +193,8 @@ module _ (b : Inside) (monitor : PortId) (name : List ℕ) (sides : Sides) (plac
           lines_are = k.lines_are;
         }
 
-  found-target : (target : PortId) → found ≡ Some target → IsTarget (target_in b name) target.0
-  found-target target is = some-found (target_in b name) target.0 (sym (ap id_of is) ∙ a.found_is)
+  found-target : (target : PortId) → found ≡ Some target → IsMapped number_of (target_in b name) target.0
+  found-target target is = some-mapped number_of (target_in b name) target.0 (sym (ap id_of is) ∙ a.found_is)
 
   by-watched : (by : PortId) (f : Option PortId) → found ≡ f → watcher_of b.watches f ≡ Some by → IsNote b ask session.0 (replies.Watched by)
   by-watched by None is watched = absurd cc
@@ -242,11 +232,11 @@ module _ (b : Inside) (monitor : PortId) (name : List ℕ) (sides : Sides) (plac
   outcomes (Ok target) h ws stores none promised limits watched unwatched same =
       let stored = stores (replies.Watching target) refl in
       let there = found-target target watched.found_is in
-      let made = watch_step (before b) sides a.here.port there.target in
+      let made = watch_step (before b) sides a.here.port there.it in
       let moves = watch-moves target there h ws stored.0 stored.1 promised limits watched in
       record {
         book = moved b (with_watches b h ws) ask made k moves;
-        watched = answered-by b (with_watches b h ws) ask made (replies.Watching target) moves (ap (λ (n : ℕ). replies.Watching (record { 0 = n })) there.id_is);
+        watched = answered-by b (with_watches b h ws) ask made (replies.Watching target) moves (ap (λ (n : ℕ). replies.Watching (record { 0 = n })) there.to_is);
         unwatched = tt;
       }
   outcomes (Err faults.NoTarget) h ws stores none promised limits watched unwatched same =

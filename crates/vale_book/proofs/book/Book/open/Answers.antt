@@ -10,6 +10,7 @@ use Rattle.vale_book.proofs.Moves.{Moves, Stays, before, moved, stayed, record-s
 use Rattle.vale_book.proofs.OpenMoves.{comes-out, can-go-back, not-counted, room-to-count, with_tables, tables-few, tables-kept, open-moves, front-is, idle-is}
 use Rattle.vale_book.proofs.OpenRefusals.{IsBeside, refused-recorded, refused-kept, refused-said, recorded-as, full-said}
 use Rattle.vale_book.proofs.book.Book.open.Goals as goal
+use Rattle.vale_book.proofs.book.Book.open.Goals.{After-add_port}
 
 pub name_port-requires : goal.name_port-requires
 name_port-requires c = record { out = comes-out c.self.inside c.len.result c.args.name.now c.self.invariant c.len.ensures.len }
@@ -26,15 +27,11 @@ open-requires-clause-room c =
 
 -- ---- The port is opened.
 
+abbrev added : After-add_port → Inside
+added c = record c.self.inside { pool = c.add_port.new.pool; history = c.add_port.new.history; ports = c.add_port.new.ports; tables = c.add_port.new.tables }
+
 abbrev opened : goal.After-open → Inside
-opened c = record c.self.inside {
-  pool = c.add_port.new.pool;
-  history = c.add_port.new.history;
-  ports = c.add_port.new.ports;
-  names = c.name_port.new.names;
-  tables = c.add_port.new.tables;
-  tally = c.open.new.self;
-}
+opened c = record (added (goal.at.invariant_of-self c).After-add_port) { names = c.name_port.new.names; tally = c.open.new.self }
 
 moves : (c : goal.After-open) → Moves (with_tables c.self.inside (opened c)) (opened c) (Open c.args.session c.args.name.now c.args.tx c.args.rx c.args.extra)
     (open_step_by None (before c.self.inside) c.args.session.0 c.args.name.now c.args.tx c.args.rx c.args.extra)
@@ -79,13 +76,7 @@ returns-in-Ok-add_port-clause-extra c =
 -- ---- There is no room for it.
 
 abbrev full : goal.After-from → Inside
-full c = record c.self.inside {
-  pool = c.add_port.new.pool;
-  history = c.add_port.new.history;
-  ports = c.add_port.new.ports;
-  names = c.gone.new.self;
-  tables = c.add_port.new.tables;
-}
+full c = record (added (goal.at.invariant_of-self-in-Err-add_port c).After-add_port) { names = c.gone.new.self }
 
 stays : (c : goal.After-from) → Stays (with_tables c.self.inside (full c)) (full c)
 stays c =
@@ -126,6 +117,7 @@ refused c = record c.self.inside { history = c.refuse.new.history; names = c.nam
 
 beside : (c : goal.After-refuse) → IsBeside c.self.inside (refused c)
 beside c = record {
+  entries = refl;
   promised = c.refuse.ensures.promised;
   limits = c.refuse.ensures.limits;
   sessions = refl;
