@@ -22,9 +22,9 @@ use Rattle.vale_parts.specs.Ids.{id_of}
 use Rattle.vale_book.proofs.Moves.{before}
 use Rattle.vale_book.proofs.Standing.{ports-rising, found-some, not-found}
 
-pub seen-found : (b : Inside) (search' : List Port → Option Port) (place : ℕ) (seen : PortSeen) → IsBook b → IsFoundAt search' b.ports.items place
+pub seen-found : {b : Inside} {search' : List Port → Option Port} {place : ℕ} {seen : PortSeen} → IsBook b → IsFoundAt search' b.ports.items place
     → OfSeat (λ (seat : Seat). IsSeen seat.port seen) b.ports.items place → IsSeenAs (search' (before b).world.ports) (Some seen)
-seen-found b search' place seen k found is =
+seen-found {b} {search'} {place} k found is =
     let pool = b.pool.buffers in
     let h = b.history.entries in
     let f = found-some pool h b search' place k.stands found in

@@ -37,8 +37,8 @@ sending c =
     whose named (sym there ∙ c.in-Some-table_of.is) c.index_mut.ensures.value open' c.of-monitor.ensures
 
 -- the step, behind what was looked up
-abbrev Sent : After-count → Type 0
-Sent c = IsSending c.self.inside c.args.port c.in-Some.place c.args.batch.now (open_ids (switch_of c.name_at-name.result) c.deref-5.result.now) c.of-monitor.result c.session_at-session.result c.in-Some-table_of.at c.index_mut.result.now
+sent : (c : After-count) → IsSending c.self.inside c.args.port c.in-Some.place c.args.batch.now (open_ids (switch_of c.name_at-name.result) c.deref-5.result.now) c.of-monitor.result c.session_at-session.result c.in-Some-table_of.at c.index_mut.result.now
+sent c = sending (goal.at.invariant_of-self c).After-send-sent
 
 abbrev next : After-count → Inside
 next c = record c.self.inside {
@@ -50,13 +50,13 @@ next c = record c.self.inside {
 abbrev ask : After-count → Ask
 ask c = Send c.args.port c.args.batch.now
 
-abbrev made : (c : After-count) → Sent c → Outcome
-made c s = send_made c.self.inside c.args.port c.in-Some.place c.args.batch.now s.here
+abbrev made : After-count → Outcome
+made c = send_made c.self.inside c.args.port c.in-Some.place c.args.batch.now (sent c).here
 
-moves : (c : After-count) → (s : Sent c) → Moves c.self.inside (next c) (ask c) (made c s)
-moves c s =
+moves : (c : After-count) → Moves c.self.inside (next c) (ask c) (made c)
+moves c =
     let e = c.in-Ok.ensures in
-    send-moves c.self.inside (next c) c.args.port c.in-Some.place c.args.batch.now (open_ids (switch_of c.name_at-name.result) c.deref-5.result.now) c.of-monitor.result c.session_at-session.result c.in-Some-table_of.at c.index_mut.result.now c.self.invariant s e.entries e.promised e.limits e.fits
+    send-moves c.self.inside (next c) c.args.port c.in-Some.place c.args.batch.now (open_ids (switch_of c.name_at-name.result) c.deref-5.result.now) c.of-monitor.result c.session_at-session.result c.in-Some-table_of.at c.index_mut.result.now c.self.invariant (sent c) e.entries e.promised e.limits e.fits
     (rw e.table refl) (c.count.ensures ∙ (rw (e.offers, c.len.ensures) refl)) refl refl refl refl refl refl
 
 pub unreachable-requires : goal.unreachable-requires
@@ -91,9 +91,7 @@ count-requires-clause-fits c =
     counts-fit_offers c.self.inside c.args.port c.in-Some.place c.args.batch.now (open_ids (switch_of c.name_at-name.result) c.deref-5.result.now) c.of-monitor.result c.session_at-session.result c.in-Some-table_of.at c.index_mut.result.now (length c.self.inside.history.entries + 1) c.len.result c.in-Ok.offers c.self.invariant s c.in-Ok.ensures.offers c.len.ensures
 
 pub invariant_of-self : goal.invariant_of-self
-invariant_of-self c =
-    let s = sending (goal.at.invariant_of-self c).After-send-sent in
-    moved c.self.inside (next c) (ask c) (made c s) c.self.invariant (moves c s)
+invariant_of-self c = moved c.self.inside (next c) (ask c) (made c) c.self.invariant (moves c)
 
 pub invariant_of-self-in-Err : goal.invariant_of-self-in-Err
 invariant_of-self-in-Err c =
@@ -116,24 +114,18 @@ invariant_of-self-in-Err c =
     })
 
 pub returns-in-Ok-clause-made : goal.returns-in-Ok-clause-made
-returns-in-Ok-clause-made c =
-    let s = sending (goal.at.returns-in-Ok-clause-made c).After-send-sent in
-    rw (← c.self.view_is) (record-moved c.self.inside (next c) (ask c) (made c s) (moves c s))
+returns-in-Ok-clause-made c = rw (← c.self.view_is) (record-moved c.self.inside (next c) (ask c) (made c) (moves c))
 
 pub returns-in-Ok-clause-said : goal.returns-in-Ok-clause-said
 returns-in-Ok-clause-said c =
-    let s = sending (goal.at.returns-in-Ok-clause-said c).After-send-sent in
-    rw (← c.self.view_is) (said-sent c.self.inside c.args.port c.in-Some.place c.args.batch.now (open_ids (switch_of c.name_at-name.result) c.deref-5.result.now) c.of-monitor.result c.session_at-session.result c.in-Some-table_of.at c.index_mut.result.now (length c.self.inside.history.entries + 1) c.in-Ok.offers c.self.invariant s c.in-Ok.ensures.offers)
+    rw (← c.self.view_is) (said-sent c.self.inside c.args.port c.in-Some.place c.args.batch.now (open_ids (switch_of c.name_at-name.result) c.deref-5.result.now) c.of-monitor.result c.session_at-session.result c.in-Some-table_of.at c.index_mut.result.now (length c.self.inside.history.entries + 1) c.in-Ok.offers c.self.invariant (sent c) c.in-Ok.ensures.offers)
 
 pub returns-in-Ok-clause-offers : goal.returns-in-Ok-clause-offers
 returns-in-Ok-clause-offers c =
-    let s = sending (goal.at.returns-in-Ok-clause-offers c).After-send-sent in
-    sent-stand c.self.inside (next c) c.args.port c.in-Some.place c.args.batch.now (open_ids (switch_of c.name_at-name.result) c.deref-5.result.now) c.of-monitor.result c.session_at-session.result c.in-Some-table_of.at c.index_mut.result.now c.in-Ok.offers c.self.invariant s refl c.in-Ok.ensures.entries c.in-Ok.ensures.offers
+    sent-stand c.self.inside (next c) c.args.port c.in-Some.place c.args.batch.now (open_ids (switch_of c.name_at-name.result) c.deref-5.result.now) c.of-monitor.result c.session_at-session.result c.in-Some-table_of.at c.index_mut.result.now c.in-Ok.offers c.self.invariant (sent c) refl c.in-Ok.ensures.entries c.in-Ok.ensures.offers
 
 pub returns-in-Ok-clause-room : goal.returns-in-Ok-clause-room
-returns-in-Ok-clause-room c =
-    let s = sending (goal.at.returns-in-Ok-clause-room c).After-send-sent in
-    rw (← c.self.view_is) (had-room c.self.inside (next c) (ask c) (made c s) (moves c s))
+returns-in-Ok-clause-room c = rw (← c.self.view_is) (had-room c.self.inside (next c) (ask c) (made c) (moves c))
 
 pub returns-in-Err-clause-full : goal.returns-in-Err-clause-full
 returns-in-Err-clause-full c =
