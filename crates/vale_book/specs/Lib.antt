@@ -15,3 +15,4 @@ pub mod PutFaults
 pub mod Lives
 pub mod Asking
 pub mod Words
+pub mod Noted

@@ -3,6 +3,8 @@ use Rattle.std.specs.Prelude.{◌≡◌, List, length, take, Some}
 use Rattle.nm_types.specs.declared.id.PortId.{PortId}
 use Rattle.nm_region.specs.Buffers.{indices_of}
 use Rattle.vale_line.specs.declared.got.Got.{Got}
+use Rattle.vale_entry.specs.declared.entry.Ask.{Ask}
+use Rattle.vale_entry.specs.declared.entry.Ask.TheVariants.{Put as Puts}
 use Rattle.vale_entry.specs.World.{Port, open_port, transmit_monitor}
 use Rattle.vale_entry.specs.Holdings.{first_idle}
 use Rattle.vale_entry.specs.Pipe.{peer_of, taken_count, frames_of_items}
@@ -11,6 +13,10 @@ pub use Rattle.vale_steps.specs.Putting.{item_of, items_of, copied}
 use Rattle.nm_region.specs.Regions.{AreOf}
 use Rattle.vale_book.specs.Monitored.{IsOfferedTo}
 use Rattle.vale_book.specs.Recorded.{Recorded, standing}
+
+-- the ask of a put of these frames
+abbrev pub put_ask : PortId → List Got → Ask
+put_ask port gots = Puts port (items_of gots)
 
 -- what a put gives: idle buffers of the other end for the frames that it took, of which the monitor of
 -- the port's transmit side is offered all

@@ -1,8 +1,9 @@
-ghost use Rattle.std.specs.Prelude.{◌≡◌, ◌<◌, [], ◌∷◌, ◌++◌, length, Some, OnOk, OnErr, IfOk, IfErr};
+ghost use Rattle.std.specs.Prelude.{◌≡◌, ◌<◌, length, Some, OnOk, OnErr, IfOk, IfErr};
 ghost use Rattle.vale_entry.specs.declared.entry.Ask.TheVariants as asks;
 ghost use Rattle.vale_entry.specs.declared.entry.Reply.TheVariants as replies;
-ghost use Rattle.vale_book.specs.Words.{Fits, HasRoom, IsEnabled, IsFull, IsRefusal, OfState};
-ghost use Rattle.vale_book.specs.Words.{after_ask, bytes_of_entry, reply_to, standing};
+ghost use Rattle.vale_book.specs.Noted.{IsNoted};
+ghost use Rattle.vale_book.specs.Words.{HasRoom, IsEnabled, IsRefusal, OfState, after_ask};
+ghost use Rattle.vale_book.specs.Words.{bytes_of_entry, reply_to, standing};
 
 use crate::book::Book;
 use nm_types::{Counts, PortId, SessionId, Side, StepFault, SyncFault};
@@ -20,12 +21,7 @@ pub(crate) fn session_at(ports: &[Port], place: usize) -> SessionId
 /// Records an entry that changes nothing else.
 pub(crate) fn note(history: &mut History, entry: Entry) -> Result<(), StepFault>
     requires { bytes_of_entry entry ≡ 0 }
-    ensures entries { OnOk result (history.new.entries ≡ history.old.entries ++ entry ∷ []) }
-    ensures promised { history.new.promised ≡ history.old.promised }
-    ensures limits { history.new.limits ≡ history.old.limits }
-    ensures fits { OnOk result (Fits history.old 1 0) }
-    ensures full { IfErr result (IsFull history.old 1 0) }
-    ensures err { OnErr result (history.new.entries ≡ history.old.entries) }
+    ensures { IsNoted history.old history.new entry result }
 {
     history.reserve(1, 0)?;
     history.push(entry);
@@ -40,16 +36,11 @@ fn note_counts(
     counts: Counts,
 ) -> Result<Counts, StepFault>
     ensures counts { IfOk result (λ told. told ≡ counts) }
-    ensures entries { OnOk result (history.new.entries ≡ history.old.entries ++ (record {
+    ensures noted { IsNoted history.old history.new (record {
       session = session;
       ask = asks.Stat port;
       reply = replies.Counted counts;
-    }) ∷ []) }
-    ensures promised { history.new.promised ≡ history.old.promised }
-    ensures limits { history.new.limits ≡ history.old.limits }
-    ensures fits { OnOk result (Fits history.old 1 0) }
-    ensures full { IfErr result (IsFull history.old 1 0) }
-    ensures err { OnErr result (history.new.entries ≡ history.old.entries) }
+    }) result }
 {
     note(
         history,

@@ -1,9 +1,8 @@
 ghost use Rattle.std.specs.Prelude.{◌≡◌, ◌<◌, ◌-◌, All, drop, vec_capacity, Some, None, OnOk, OnErr, IfOk, IfErr, IfSome, IfNone};
-ghost use Rattle.vale_entry.specs.declared.entry.Ask.TheVariants as asks;
 ghost use Rattle.vale_book.specs.Words.{AreOf, HasRoom, IsEnabled, IsRefusal, IsSingle, after_ask};
 ghost use Rattle.vale_book.specs.Words.{buffers_of, items_of, peer_at, standing, took_of};
 ghost use Rattle.vale_book.specs.PutFaults.{IfMade, IfNotMade, IsPutRefusal};
-ghost use Rattle.vale_book.specs.Putting.{IsPut};
+ghost use Rattle.vale_book.specs.Putting.{IsPut, put_ask};
 
 use crate::book::Book;
 use crate::fault::PutFault;
@@ -16,12 +15,10 @@ use vale_steps::putting::{Put, Putting, peer_of, put_nowhere, put_to_peer, taken
 impl Book {
     /// Frames are offered to the other end of a pipe. None if it is not open, which is an entry.
     fn put(&mut self, port: PortId, pending: &mut Vec<Got>) -> Result<Option<Put>, StepFault>
-        requires enabled { IsEnabled (standing self.old)
-            (asks.Put port (items_of pending.old.items)) }
+        requires enabled { IsEnabled (standing self.old) (put_ask port pending.old.items) }
         requires of { AreOf self.old.region (buffers_of pending.old.items) }
         requires single { All IsSingle pending.old.items }
-        ensures made { OnOk result (self.new
-            ≡ after_ask self.old (asks.Put port (items_of pending.old.items))) }
+        ensures made { OnOk result (self.new ≡ after_ask self.old (put_ask port pending.old.items)) }
         ensures put { IfOk result (λ made.
             IfSome made (IsPut self.old self.new port pending.old.items)) }
         ensures gone { IfOk result (λ made.
@@ -29,10 +26,8 @@ impl Book {
         ensures pending { IfOk result (λ made.
             pending.new.items ≡ drop (took_of made) pending.old.items) }
         ensures capacity { vec_capacity pending.new ≡ vec_capacity pending.old }
-        ensures room { OnOk result (HasRoom self.old
-            (asks.Put port (items_of pending.old.items))) }
-        ensures full { IfErr result (IsRefusal self.old
-            (asks.Put port (items_of pending.old.items))) }
+        ensures room { OnOk result (HasRoom self.old (put_ask port pending.old.items)) }
+        ensures full { IfErr result (IsRefusal self.old (put_ask port pending.old.items)) }
         ensures err { OnErr result (self.new ≡ self.old) }
         ensures kept { OnErr result (pending.new.items ≡ pending.old.items) }
     {
@@ -71,18 +66,15 @@ impl Book {
     /// Frames are offered to the other end of a pipe, which takes as many as it has space for, with
     /// their buffers, and gives as many of its idle buffers back. What it takes leaves `pending`.
     pub fn pipe_put(&mut self, port: PortId, pending: &mut Vec<Got>) -> Result<Put, PutFault>
-        requires enabled { IsEnabled (standing self.old)
-            (asks.Put port (items_of pending.old.items)) }
+        requires enabled { IsEnabled (standing self.old) (put_ask port pending.old.items) }
         requires of { AreOf self.old.region (buffers_of pending.old.items) }
         requires single { All IsSingle pending.old.items }
-        ensures made { IfMade result (self.new
-            ≡ after_ask self.old (asks.Put port (items_of pending.old.items))) }
+        ensures made { IfMade result (self.new ≡ after_ask self.old (put_ask port pending.old.items)) }
         ensures put { IfOk result (IsPut self.old self.new port pending.old.items) }
         ensures pending { IfOk result (λ put.
             pending.new.items ≡ drop put.took pending.old.items) }
         ensures capacity { vec_capacity pending.new ≡ vec_capacity pending.old }
-        ensures room { IfMade result (HasRoom self.old
-            (asks.Put port (items_of pending.old.items))) }
+        ensures room { IfMade result (HasRoom self.old (put_ask port pending.old.items)) }
         ensures refused { IfErr result (IsPutRefusal self.old port
             (items_of pending.old.items)) }
         ensures err { IfNotMade result (self.new ≡ self.old) }

@@ -4,7 +4,7 @@ ghost use Rattle.vale_book.specs.Words.{dests_wanted, indices_of, most_ring, rea
 ghost use Rattle.vale_book.specs.Words.{standing};
 ghost use Rattle.vale_entry.specs.declared.entry.Ask.TheVariants as asks;
 ghost use Rattle.vale_entry.specs.declared.entry.Reply.TheVariants as replies;
-ghost use Rattle.vale_book.specs.Reading.{IsGiven, IsOffered};
+ghost use Rattle.vale_book.specs.Reading.{IsGiven, IsOffered, IsRead};
 
 use crate::book::Book;
 use nm_region::Buf;
@@ -63,21 +63,8 @@ impl Book {
     pub fn sync(&mut self, port: PortId, back: Vec<Buf>) -> Result<Synced, (StepFault, Vec<Buf>)>
         requires enabled { IsEnabled (standing self.old) (asks.Sync port (indices_of back.items)) }
         requires of { AreOf self.old.region back.items }
-        ensures made { OnOk result (self.new ≡ after_ask self.old (asks.Sync port
-            (indices_of back.items))) }
-        ensures said { IfOk result (λ synced.
-            reply_to (standing self.old) (asks.Sync port (indices_of back.items))
-            ≡ Some (replies.Gave (length synced.got.items) (dests_wanted synced.offers.wants))) }
-        ensures got { IfOk result (λ synced. IsGiven self.old port synced.got.items) }
-        ensures single { IfOk result (λ synced. All IsSingle synced.got.items) }
-        ensures few { IfOk result (λ synced. length synced.got.items < most_ring) }
-        ensures offers { IfOk result (λ synced.
-            IsOffered self.old self.new port synced.offers) }
-        ensures room { OnOk result (HasRoom self.old (asks.Sync port (indices_of back.items))) }
-        ensures full { IfErr result (λ refused. IsRefusal self.old (asks.Sync port
-            (indices_of back.items)) refused.0) }
-        ensures back { IfErr result (λ refused. refused.1 ≡ back) }
-        ensures err { OnErr result (self.new ≡ self.old) }
+        ensures { IsRead self.old self.new port (asks.Sync port (indices_of back.items)) back
+            result }
     {
         self.read(port, false, back)
     }
@@ -90,21 +77,7 @@ impl Book {
     ) -> Result<Synced, (StepFault, Vec<Buf>)>
         requires enabled { IsEnabled (standing self.old) (asks.Get port (indices_of back.items)) }
         requires of { AreOf self.old.region back.items }
-        ensures made { OnOk result (self.new ≡ after_ask self.old (asks.Get port
-            (indices_of back.items))) }
-        ensures said { IfOk result (λ synced.
-            reply_to (standing self.old) (asks.Get port (indices_of back.items))
-            ≡ Some (replies.Gave (length synced.got.items) (dests_wanted synced.offers.wants))) }
-        ensures got { IfOk result (λ synced. IsGiven self.old port synced.got.items) }
-        ensures single { IfOk result (λ synced. All IsSingle synced.got.items) }
-        ensures few { IfOk result (λ synced. length synced.got.items < most_ring) }
-        ensures offers { IfOk result (λ synced.
-            IsOffered self.old self.new port synced.offers) }
-        ensures room { OnOk result (HasRoom self.old (asks.Get port (indices_of back.items))) }
-        ensures full { IfErr result (λ refused. IsRefusal self.old (asks.Get port
-            (indices_of back.items)) refused.0) }
-        ensures back { IfErr result (λ refused. refused.1 ≡ back) }
-        ensures err { OnErr result (self.new ≡ self.old) }
+        ensures { IsRead self.old self.new port (asks.Get port (indices_of back.items)) back result }
     {
         self.read(port, true, back)
     }

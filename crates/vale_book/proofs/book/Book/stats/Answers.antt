@@ -35,7 +35,7 @@ invariant_of-self c =
     let b = c.self.inside in
     let r = c.note_counts.result in
     let h = c.note_counts.new.history in
-    let e = c.note_counts.ensures in
+    let e = c.note_counts.ensures.noted in
     let session = c.session_at-session.result.0 in
     kept-on r b (with_history b h) (Stat c.args.port) (unchanged (before b) session (Counted c.in-Some-of.counts)) c.self.invariant
     (note-moves r b h (Stat c.args.port) session (Counted c.in-Some-of.counts) c.self.invariant (noted c) e.entries e.promised e.limits e.fits)
@@ -46,7 +46,7 @@ returns-clause-made c =
     let b = c.self.inside in
     let r = c.note_counts.result in
     let h = c.note_counts.new.history in
-    let e = c.note_counts.ensures in
+    let e = c.note_counts.ensures.noted in
     let session = c.session_at-session.result.0 in
     rw (← c.self.view_is) (after-on r b (with_history b h) (Stat c.args.port) (unchanged (before b) session (Counted c.in-Some-of.counts))
     (note-moves r b h (Stat c.args.port) session (Counted c.in-Some-of.counts) c.self.invariant (noted c) e.entries e.promised e.limits e.fits))
