@@ -1,7 +1,7 @@
 -- In a life of a book each ask is enabled after the entries so far, and makes the next one.
-use Rattle.std.proofs.Common.{ℕ, zero, suc, false, true, ◌≡◌, List, [], ◌∷◌, ◌++◌, length, take, drop, slice_get, refl, ◌∙◌, ap, sym, subst, arith}
-use Rattle.std.proofs.lemmas.List.{map-append}
-use Rattle.std.specs.Prelude.{option_map, Option, Some, IfSome}
+use Rattle.std.proofs.Common.{ℕ, zero, suc, false, true, ◌≡◌, ◌+◌, List, [], ◌∷◌, ◌++◌, length, take, drop, slice_get, refl, ◌∙◌, ap, sym, subst, arith, rules}
+use Rattle.std.proofs.lemmas.List.{length-append, map-append}
+use Rattle.std.specs.Prelude.{option_map, Option, Some, None, IfSome}
 use Rattle.nm_region.specs.Buffers.{Buffer, indices_of}
 use Rattle.nm_types.specs.Frames.{Frame, size_of_frames}
 use Rattle.nm_types.specs.Names.{is_name, is_switch_port_name, is_pipe_name, is_monitor_name, switch_of, peer_name}
@@ -16,16 +16,16 @@ use Rattle.nm_types.specs.declared.id.PortId.{PortId}
 use Rattle.nm_types.specs.declared.id.SessionId.{SessionId}
 use Rattle.vale_batch.specs.Wants.{Wanted}
 use Rattle.vale_entry.specs.declared.entry.Ask.{Ask}
-use Rattle.vale_entry.specs.declared.entry.Ask.TheVariants.{Enter, Open, Send, Grant, Sync, Shut, Finish, Leave, Watch, Stat, Reset}
+use Rattle.vale_entry.specs.declared.entry.Ask.TheVariants.{Enter, Open, Send, Grant, Sync, Get, Leave, Watch, Stat, Reset}
 use Rattle.vale_entry.specs.declared.entry.Dest.{Dest}
 use Rattle.vale_entry.specs.declared.entry.Entry.{Entry}
 use Rattle.vale_entry.specs.declared.entry.Reply.TheVariants.{Offered}
 use Rattle.vale_entry.specs.Grant.{first_offer, longest_fitting}
 use Rattle.vale_entry.specs.Holdings.{PortBuffers}
-use Rattle.vale_entry.specs.Legal.{IsEnabled, reply_of, step}
-use Rattle.vale_entry.specs.Opening.{opened_port}
+use Rattle.vale_entry.specs.Legal.{IsEnabled, Outcome, reply_of, step}
+use Rattle.vale_entry.specs.Opening.{open_refusal, opened_port}
 use Rattle.vale_entry.specs.World.{Port, Offer, free_count, space_of}
-use Rattle.vale_entry.specs.RowWords.{port, session, opening, completes, left, dest, no_chain, frame_h}
+use Rattle.vale_entry.specs.RowWords.{port, session, opening, completes, left, dest, frame_h}
 use Rattle.vale_line.specs.declared.got.Got.{Got}
 use Rattle.vale_line.specs.Gots.{buffers_of, got_of}
 use Rattle.vale_line.specs.Leased.{Leased, with_frame}
@@ -34,114 +34,120 @@ use Rattle.vale_port.specs.Kept.{KeptFrames, kept_gots}
 use Rattle.vale_port.specs.Ports.{sizes_of}
 use Rattle.vale_port.specs.Seat.{Seat, given_frames}
 use Rattle.nm_region.specs.Regions.{AreOf}
-use Rattle.vale_book.specs.Lives.{life, name_a, name_b, came, one_port, shut_port, first_bufs, gone_port, left_alone, shut_first, gone_first, shut_second, second_bufs, gone_second, left_both, name_m, name_x, monitored, watched, watched_again, watched_nobody, told, reset, two_ports, sent_one, granted_one, filled_one, read_one}
+use Rattle.vale_book.specs.Lives.{life, CanGo, gone, name_a, name_b, came, one_port, first_bufs, gone_port, left_alone, two_ports, sent_one, granted_one, filled_one, read_one, gone_first, second_bufs, gone_second, left_both, name_m, name_x, monitored, watched, watched_again, watched_nobody, told, reset, name_p, piped, got_none}
 use Rattle.vale_steps.specs.Offering.{OffersState, IsLeaseOf, IsFilledIn}
 use Rattle.vale_book.specs.Reading.{IsGiven, IsOffered}
-use Rattle.vale_book.specs.Recorded.{Recorded, standing, after_ask}
+use Rattle.vale_book.specs.Recorded.{Recorded, standing, after_ask, after_outcome}
 use Rattle.vale_book.specs.WatchAnswers.{IsUnwatched}
+use Rattle.vale_book.proofs.OpenMoves.{open-made}
 
 abbrev limits : Limits
 limits = record { entries = 100; bytes = 1000 }
 
-pub begun : (b : Recorded) → b.pool ≡ 20 → b.limits ≡ limits → b.entries ≡ [] → b ≡ life b.region []
+begun : (b : Recorded) → b.pool ≡ 20 → b.limits ≡ limits → b.entries ≡ [] → b ≡ life b.region []
 begun b size within none = rw (← size, ← within, ← none) refl
-
-pub stepped : (old new known next : Recorded) (ask asked : Ask) → old ≡ known → ask ≡ asked → new ≡ after_ask old ask → after_ask known asked ≡ next → new ≡ next
-stepped old new known next ask asked was same made is = made ∙ ap (λ (b : Recorded). after_ask b ask) was ∙ ap (after_ask known) same ∙ is
-
-pub enabled : (b known : Recorded) (ask asked : Ask) → b ≡ known → ask ≡ asked → IsEnabled (standing known) asked → IsEnabled (standing b) ask
-enabled b known ask asked was same is = rw (was, same) is
-
-pub session-is : (s : SessionId) (n : ℕ) → s.0 ≡ n → s ≡ session n
-session-is s n is = rw (← is) refl
-
-port-is : (p : PortId) (n : ℕ) → p.0 ≡ n → p ≡ port n
-port-is p n is = rw (← is) refl
 
 -- After some entries an ask is enabled, and the others are those with its own.
 pub record Leads (region : ℕ) (known : List Entry) (ask : Ask) (next : List Entry) : Type 0 where
   pub can : IsEnabled (standing (life region known)) ask
   pub made : after_ask (life region known) ask ≡ life region next
 
+pub may : {region : ℕ} {known next : List Entry} {asked ask : Ask} {b : Recorded} → Leads region known asked next → b ≡ life region known → ask ≡ asked → IsEnabled (standing b) ask
+may leads was same = rw (was, same) leads.can
+
+pub does : {region : ℕ} {known next : List Entry} {asked ask : Ask} {b new : Recorded} → Leads region known asked next → b ≡ life region known → ask ≡ asked → new ≡ after_ask b ask
+    → new ≡ life region next
+does leads was same made = (rw (was, same) at made) ∙ leads.made
+
+-- A port can be shut and go.
+pub record Goes (region : ℕ) (known : List Entry) (port : PortId) (bufs : List ℕ) (next : List Entry) : Type 0 where
+  pub can : CanGo (life region known) port bufs
+  pub made : gone (life region known) port bufs ≡ life region next
+
+pub may-go : {region : ℕ} {known next : List Entry} {one at : PortId} {own bufs : List ℕ} {b : Recorded} → Goes region known one own next → b ≡ life region known → at ≡ one → bufs ≡ own → CanGo b at bufs
+may-go goes was same are = rw (was, same, are) goes.can
+
+pub goes-on : {region : ℕ} {known next : List Entry} {one at : PortId} {own bufs : List ℕ} {b new : Recorded} → Goes region known one own next → b ≡ life region known → at ≡ one → bufs ≡ own
+    → new ≡ gone b at bufs → new ≡ life region next
+goes-on goes was same are made = (rw (was, same, are) at made) ∙ goes.made
+
+-- the region is the book's own
+pub here : {region : ℕ} {known : List Entry} {b : Recorded} → b ≡ life region known → b ≡ life b.region known
+here {known} is = is ∙ sym (ap (λ (k : Recorded). life k.region known) is)
+
+pub session-is : {s : SessionId} {n : ℕ} → s.0 ≡ n → s ≡ session n
+session-is is = rw (← is) refl
+
+port-is : (p : PortId) (n : ℕ) → p.0 ≡ n → p ≡ port n
+port-is p n is = rw (← is) refl
+
 -- A session comes, and opens ports.
 
 pub came-at : (b next : Recorded) → b.pool ≡ 20 → b.limits ≡ limits → b.entries ≡ [] → next ≡ after_ask b (Enter 7) → next ≡ life b.region came
-came-at b next size within none made = stepped b next (life b.region []) (life b.region came) (Enter 7) (Enter 7) (begun b size within none) refl made refl
+came-at b next size within none made = made ∙ ap (λ (k : Recorded). after_ask k (Enter 7)) (begun b size within none)
 
-pub came-as : (region : ℕ) (b : Recorded) (s : SessionId) → b ≡ life region came → s.0 ≡ length b.entries → s ≡ session 1
-came-as region b s is number = session-is s 1 (number ∙ ap (λ (r : Recorded). length r.entries) is)
+pub came-as : {region : ℕ} {b : Recorded} {s : SessionId} → b ≡ life region came → s.0 ≡ length b.entries → s ≡ session 1
+came-as is number = session-is (number ∙ ap (λ (r : Recorded). length r.entries) is)
 
-pub may-open : (region : ℕ) (known : List Entry) (b : Recorded) (s : SessionId) (name : List ℕ) (tx rx : ℕ) → b ≡ life region known → s ≡ session 1
-    → IsEnabled (standing (life region known)) (opening 1 name tx rx) → IsEnabled (standing b) (Open s name tx rx 0)
-may-open region known b s name tx rx is who may =
-    enabled b (life region known) (Open s name tx rx 0) (opening 1 name tx rx) is (ap (λ (own : SessionId). Open own name tx rx 0) who) may
+pub opens : {s : SessionId} (name : List ℕ) (tx rx : ℕ) → s ≡ session 1 → Open s name tx rx 0 ≡ opening 1 name tx rx
+opens name tx rx who = ap (λ (own : SessionId). Open own name tx rx 0) who
 
-pub opened-at : (region : ℕ) (known next : List Entry) (old new : Recorded) (s : SessionId) (name : List ℕ) (tx rx : ℕ) → old ≡ life region known → s ≡ session 1
-    → new ≡ after_ask old (Open s name tx rx 0) → after_ask (life region known) (opening 1 name tx rx) ≡ life region next → new ≡ life region next
-opened-at region known next old new s name tx rx is who made next-is =
-    stepped old new (life region known) (life region next) (Open s name tx rx 0) (opening 1 name tx rx) is (ap (λ (own : SessionId). Open own name tx rx 0) who) made next-is
+pub opened-as : {region : ℕ} {known : List Entry} {b : Recorded} {p : PortId} (n : ℕ) → b ≡ life region known → length known ≡ n → p.0 ≡ length b.entries → p ≡ port n
+opened-as {p} n is long number = port-is p n (number ∙ ap (λ (r : Recorded). length r.entries) is ∙ long)
 
-pub opened-as : (region n : ℕ) (known : List Entry) (b : Recorded) (p : PortId) → b ≡ life region known → length known ≡ n → p.0 ≡ length b.entries → p ≡ port n
-opened-as region n known b p is long number = port-is p n (number ∙ ap (λ (r : Recorded). length r.entries) is ∙ long)
-
-pub taken-of : (region tx : ℕ) (known : List Entry) (b : Recorded) (indices taken : List ℕ) → b ≡ life region known → indices ≡ take tx (standing b).holdings.free
+pub taken-of : {region : ℕ} {known : List Entry} {b : Recorded} {indices taken : List ℕ} (tx : ℕ) → b ≡ life region known → indices ≡ take tx (standing b).holdings.free
     → take tx (standing (life region known)).holdings.free ≡ taken → indices ≡ taken
-taken-of region tx known b indices taken is are free = are ∙ ap (λ (r : Recorded). take tx (standing r).holdings.free) is ∙ free
+taken-of tx is are free = are ∙ ap (λ (r : Recorded). take tx (standing r).holdings.free) is ∙ free
 
--- A port alone.
+-- Another port is opened beside those that stand.
 
-pub opened-a : (region : ℕ) → Leads region came (opening 1 name_a 4 4) one_port
+same-region : (b : Recorded) (ask : Ask) (made : Option Outcome) → (after_outcome b ask made).region ≡ b.region
+same-region b ask None = refl
+same-region b ask (Some made) = refl
+
+pub beside : (region : ℕ) (known : List Entry) (ask : Ask) (new : Recorded) → new ≡ after_ask (life region known) ask → new ≡ after_ask (life new.region known) ask
+beside region known ask new is =
+    is ∙ sym (ap (λ (r : ℕ). after_ask (life r known) ask) (ap (λ (k : Recorded). k.region) is ∙ same-region (life region known) ask (step (standing (life region known)) ask)))
+
+pub beside-as : (b new : Recorded) (name : List ℕ) (tx rx n : ℕ) (p : PortId) → IsEnabled (standing b) (opening 1 name tx rx) → new ≡ after_ask b (opening 1 name tx rx) → p.0 ≡ length new.entries
+    → length b.entries + 1 ≡ n → p ≡ port n
+beside-as b new name tx rx n p can made number long =
+    let is = open-made (standing b) (session 1) name tx rx 0 (open_refusal (standing b).world name tx rx 0) can refl in
+    port-is p n (number ∙ ap (λ (k : Recorded). length k.entries) made ∙ ap (λ (o : Option Outcome). length (after_outcome b (opening 1 name tx rx) o).entries) is ∙ length-append b.entries _ ∙ long)
+
+-- What leads from one to the next in the lives.
+pub record Lives (region : ℕ) : Type 0 where
+  pub opened_a : Leads region came (opening 1 name_a 4 4) one_port
+  pub taken_a : take 4 (standing (life region came)).holdings.free ≡ first_bufs
+  pub gone_a : Goes region one_port (port 2) first_bufs gone_port
+  pub left_a : Leads region gone_port (left 1) left_alone
+  pub free_a : free_count (standing (life region left_alone)).world ≡ 20
+  -- a frame from one port to another
+  pub opened_b : Leads region one_port (opening 1 name_b 4 4) two_ports
+  pub taken_b : take 4 (standing (life region one_port)).holdings.free ≡ second_bufs
+  pub sends : Leads region two_ports (Send (port 2) (frame_h ∷ [])) sent_one
+  pub says_sent : option_map reply_of (step (standing (life region two_ports)) (Send (port 2) (frame_h ∷ []))) ≡ Some (Offered 0 0 (dest 3 1 ∷ []))
+  pub grants : Leads region sent_one (Grant 4 (port 3)) granted_one
+  pub fills : Leads region granted_one (completes 5) filled_one
+  pub syncs : Leads region filled_one (Sync (port 3) []) read_one
+  pub goes_first : Goes region read_one (port 2) first_bufs gone_first
+  pub goes_second : Goes region gone_first (port 3) (second_bufs ++ 14 ∷ []) gone_second
+  pub leaves_both : Leads region gone_second (left 1) left_both
+  pub free_both : free_count (standing (life region left_both)).world ≡ 20
+  -- a monitor, and what is told of a port
+  pub opened_m : Leads region one_port (opening 1 name_m 0 2) monitored
+  pub watches : Leads region monitored (Watch (port 3) name_a TR) watched
+  pub watches_again : Leads region watched (Watch (port 3) name_a T) watched_again
+  pub watches_nobody : Leads region watched_again (Watch (port 3) name_x T) watched_nobody
+  pub tells : Leads region watched_nobody (Stat (port 2)) told
+  pub resets : Leads region told (Reset (port 2) Tx (Fragment 1)) reset
+  -- an end of a pipe
+  pub opened_p : Leads region one_port (opening 1 name_p 4 4) piped
+  pub gets : Leads region piped (Get (port 3) []) got_none
+
+pub lives : (region : ℕ) → Lives region
 unfolding is_name is_switch_port_name is_pipe_name is_monitor_name switch_of peer_name
-opened-a region = record { can = refl; made = refl }
-
-pub taken-a : (region : ℕ) → take 4 (standing (life region came)).holdings.free ≡ first_bufs
-taken-a region = refl
-
-pub shut-a : (region : ℕ) → Leads region one_port (Shut (port 2)) shut_port
-unfolding is_name is_switch_port_name is_pipe_name is_monitor_name switch_of peer_name
-shut-a region = record { can = refl; made = refl }
-
-pub gone-a : (region : ℕ) → Leads region shut_port (Finish (port 2) first_bufs no_chain) gone_port
-unfolding is_name is_switch_port_name is_pipe_name is_monitor_name switch_of peer_name
-gone-a region = record { can = refl; made = refl }
-
-pub left-a : (region : ℕ) → Leads region gone_port (left 1) left_alone
-unfolding is_name is_switch_port_name is_pipe_name is_monitor_name switch_of peer_name
-left-a region = record { can = refl; made = refl }
-
-pub free-a : (region : ℕ) → free_count (standing (life region left_alone)).world ≡ 20
-unfolding is_name is_switch_port_name is_pipe_name is_monitor_name switch_of peer_name
-free-a region = refl
-
--- A frame from one port to another.
-
-pub opened-b : (region : ℕ) → Leads region one_port (opening 1 name_b 4 4) two_ports
-unfolding is_name is_switch_port_name is_pipe_name is_monitor_name switch_of peer_name
-opened-b region = record { can = refl; made = refl }
-
-pub taken-b : (region : ℕ) → take 4 (standing (life region one_port)).holdings.free ≡ 10 ∷ 11 ∷ 12 ∷ 13 ∷ []
-unfolding is_name is_switch_port_name is_pipe_name is_monitor_name switch_of peer_name
-taken-b region = refl
-
-pub sent : (region : ℕ) → Leads region two_ports (Send (port 2) (frame_h ∷ [])) sent_one
-unfolding is_name is_switch_port_name is_pipe_name is_monitor_name switch_of peer_name
-sent region = record { can = refl; made = refl }
-
-pub sent-said : (region : ℕ) → option_map reply_of (step (standing (life region two_ports)) (Send (port 2) (frame_h ∷ []))) ≡ Some (Offered 0 0 (dest 3 1 ∷ []))
-unfolding is_name is_switch_port_name is_pipe_name is_monitor_name switch_of peer_name
-sent-said region = refl
-
-pub granted : (region : ℕ) → after_ask (life region sent_one) (Grant 4 (port 3)) ≡ life region granted_one
-unfolding is_name is_switch_port_name is_pipe_name is_monitor_name switch_of peer_name
-granted region = refl
-
-pub filled : (region : ℕ) → after_ask (life region granted_one) (completes 5) ≡ life region filled_one
-unfolding is_name is_switch_port_name is_pipe_name is_monitor_name switch_of peer_name
-filled region = refl
-
-pub synced : (region : ℕ) → Leads region filled_one (Sync (port 3) []) read_one
-unfolding is_name is_switch_port_name is_pipe_name is_monitor_name switch_of peer_name
-synced region = record { can = refl; made = refl }
+lives region = search rules
 
 -- What is offered goes to the second port.
 
@@ -258,6 +264,9 @@ of-one region lease next one is =
 
 -- What a sync of that port gives.
 
+pub asks-for : (ask : PortId → List ℕ → Ask) {p : PortId} {back : List Buffer} → p ≡ port 3 → back ≡ [] → ask p (indices_of back) ≡ ask (port 3) []
+asks-for ask same none = rw (same, none) refl
+
 abbrev filled_port : Port
 filled_port = record second_port { line = record { number = 5; session = 1; frames = frame_h ∷ []; is_done = true } ∷ [] }
 
@@ -293,12 +302,11 @@ last-one (got ∷ other ∷ gots) (first ∷ rest) last n are is = absurd cc
 
 -- After the grant.
 
-pub granted-at : (region : ℕ) (b next : Recorded) (origin : ℕ) (to : PortId) → b ≡ life region sent_one → origin ≡ length b.entries → to ≡ port 3
-    → next ≡ after_ask b (Grant origin to) → next ≡ life region granted_one
-granted-at region b next origin to is number same made =
+pub granted-at : {region : ℕ} {b next : Recorded} {origin : ℕ} {to : PortId} → b ≡ life region sent_one → origin ≡ length b.entries → to ≡ port 3 → next ≡ after_ask b (Grant origin to)
+    → next ≡ life region granted_one
+granted-at {region} {origin = origin} {to = to} is number same made =
     let four : origin ≡ 4 = number ∙ ap (λ (k : Recorded). length k.entries) is in
-    let asked : Grant origin to ≡ Grant 4 (port 3) = ap (λ (n : ℕ). Grant n to) four ∙ ap (Grant 4) same in
-    stepped b next (life region sent_one) (life region granted_one) (Grant origin to) (Grant 4 (port 3)) is asked made (granted region)
+    does (lives region).grants is (ap (λ (n : ℕ). Grant n to) four ∙ ap (Grant 4) same) made
 
 pub one-of : (region : ℕ) (b next : Recorded) (origin : ℕ) (given : Option Leased) (lease : Leased) → b ≡ life region sent_one → origin ≡ length b.entries
     → next ≡ life region granted_one → given ≡ Some lease
@@ -314,34 +322,11 @@ one-of region b next origin given lease is number after some leased =
 
 -- Its ports are shut and go, and the session leaves.
 
-pub may-shut : (region n : ℕ) (known : List Entry) (b : Recorded) (p : PortId) → b ≡ life region known → p ≡ port n → IsEnabled (standing (life region known)) (Shut (port n)) → IsEnabled (standing b) (Shut p)
-may-shut region n known b p is same may = enabled b (life region known) (Shut p) (Shut (port n)) is (ap (λ (q : PortId). Shut q) same) may
+pub leaves : {s : SessionId} → s ≡ session 1 → Leave s ≡ left 1
+leaves who = ap (λ (own : SessionId). Leave own) who
 
-pub shut-at : (region n : ℕ) (known next : List Entry) (b new : Recorded) (p : PortId) → b ≡ life region known → p ≡ port n → new ≡ after_ask b (Shut p)
-    → after_ask (life region known) (Shut (port n)) ≡ life region next → new ≡ life region next
-shut-at region n known next b new p is same made next-is = stepped b new (life region known) (life region next) (Shut p) (Shut (port n)) is (ap (λ (q : PortId). Shut q) same) made next-is
-
-goes-as : (n : ℕ) (p : PortId) (bufs own : List ℕ) → p ≡ port n → bufs ≡ own → Finish p bufs no_chain ≡ Finish (port n) own no_chain
-goes-as n p bufs own same are = ap (λ (q : PortId). Finish q bufs no_chain) same ∙ ap (λ (all : List ℕ). Finish (port n) all no_chain) are
-
-pub may-go : (region n : ℕ) (known : List Entry) (b : Recorded) (p : PortId) (bufs own : List ℕ) → b ≡ life region known → p ≡ port n → bufs ≡ own
-    → IsEnabled (standing (life region known)) (Finish (port n) own no_chain) → IsEnabled (standing b) (Finish p bufs no_chain)
-may-go region n known b p bufs own is same are may = enabled b (life region known) (Finish p bufs no_chain) (Finish (port n) own no_chain) is (goes-as n p bufs own same are) may
-
-pub gone-at : (region n : ℕ) (known next : List Entry) (b new : Recorded) (p : PortId) (bufs own : List ℕ) → b ≡ life region known → p ≡ port n → bufs ≡ own → new ≡ after_ask b (Finish p bufs no_chain)
-    → after_ask (life region known) (Finish (port n) own no_chain) ≡ life region next → new ≡ life region next
-gone-at region n known next b new p bufs own is same are made next-is =
-    stepped b new (life region known) (life region next) (Finish p bufs no_chain) (Finish (port n) own no_chain) is (goes-as n p bufs own same are) made next-is
-
-pub may-leave : (region : ℕ) (known : List Entry) (b : Recorded) (s : SessionId) → b ≡ life region known → s ≡ session 1 → IsEnabled (standing (life region known)) (left 1) → IsEnabled (standing b) (Leave s)
-may-leave region known b s is who may = enabled b (life region known) (Leave s) (left 1) is (ap (λ (own : SessionId). Leave own) who) may
-
-pub left-at : (region : ℕ) (known next : List Entry) (b new : Recorded) (s : SessionId) → b ≡ life region known → s ≡ session 1 → new ≡ after_ask b (Leave s)
-    → after_ask (life region known) (left 1) ≡ life region next → new ≡ life region next
-left-at region known next b new s is who made next-is = stepped b new (life region known) (life region next) (Leave s) (left 1) is (ap (λ (own : SessionId). Leave own) who) made next-is
-
-pub may-close : (region : ℕ) (known : List Entry) (b : Recorded) → b ≡ life region known → free_count (standing (life region known)).world ≡ 20 → free_count (standing b).world ≡ b.pool
-may-close region known b is free = ap (λ (k : Recorded). free_count (standing k).world) is ∙ free ∙ sym (ap (λ (k : Recorded). k.pool) is)
+pub may-close : {region : ℕ} {known : List Entry} {b : Recorded} → b ≡ life region known → free_count (standing (life region known)).world ≡ 20 → free_count (standing b).world ≡ b.pool
+may-close is free = rw (is) free
 
 pub with-buffer : (bufs all : List Buffer) (buf : Buffer) (known : List ℕ) (n : ℕ) → all ≡ bufs ++ buf ∷ [] → indices_of bufs ≡ known → buf.index ≡ n → indices_of all ≡ known ++ n ∷ []
 with-buffer bufs all buf known n is are index = ap indices_of is ∙ map-append _ bufs (buf ∷ []) ∙ ap (λ (own : List ℕ). own ++ buf.index ∷ []) are ∙ ap (λ (k : ℕ). known ++ k ∷ []) index
@@ -353,71 +338,13 @@ with-of region bufs all buf is of own = subst (AreOf region) (sym is) (more bufs
     more [] of = (own, tt)
     more (b ∷ bufs) of = (of.0, more bufs of.1)
 
-pub shut-first : (region : ℕ) → Leads region read_one (Shut (port 2)) shut_first
-unfolding is_name is_switch_port_name is_pipe_name is_monitor_name switch_of peer_name
-shut-first region = record { can = refl; made = refl }
+-- A monitor watches.
 
-pub gone-first : (region : ℕ) → Leads region shut_first (Finish (port 2) first_bufs no_chain) gone_first
-unfolding is_name is_switch_port_name is_pipe_name is_monitor_name switch_of peer_name
-gone-first region = record { can = refl; made = refl }
+pub asks-watch : {monitor : PortId} {target known : List ℕ} (sides : Sides) → monitor ≡ port 3 → target ≡ known → Watch monitor target sides ≡ Watch (port 3) known sides
+asks-watch sides same name = rw (same, name) refl
 
-pub shut-second : (region : ℕ) → Leads region gone_first (Shut (port 3)) shut_second
-unfolding is_name is_switch_port_name is_pipe_name is_monitor_name switch_of peer_name
-shut-second region = record { can = refl; made = refl }
+pub watched-by : (old new : Recorded) (ask : Ask) {fault : WatchFault} {by : PortId} → fault ≡ faults.Watched by → IsUnwatched old new ask fault → new ≡ after_ask old ask
+watched-by old new ask is answered = (subst (IsUnwatched old new ask) is answered).entry
 
-pub gone-second : (region : ℕ) → Leads region shut_second (Finish (port 3) (second_bufs ++ 14 ∷ []) no_chain) gone_second
-unfolding is_name is_switch_port_name is_pipe_name is_monitor_name switch_of peer_name
-gone-second region = record { can = refl; made = refl }
-
-pub left-both : (region : ℕ) → Leads region gone_second (left 1) left_both
-unfolding is_name is_switch_port_name is_pipe_name is_monitor_name switch_of peer_name
-left-both region = record { can = refl; made = refl }
-
-pub free-both : (region : ℕ) → free_count (standing (life region left_both)).world ≡ 20
-unfolding is_name is_switch_port_name is_pipe_name is_monitor_name switch_of peer_name
-free-both region = refl
-
--- A monitor, and what is told of a port.
-
-pub opened-m : (region : ℕ) → Leads region one_port (opening 1 name_m 0 2) monitored
-unfolding is_name is_switch_port_name is_pipe_name is_monitor_name switch_of peer_name
-opened-m region = record { can = refl; made = refl }
-
-pub now-watched : (region : ℕ) → Leads region monitored (Watch (port 3) name_a TR) watched
-unfolding is_name is_switch_port_name is_pipe_name is_monitor_name switch_of peer_name
-now-watched region = record { can = refl; made = refl }
-
-pub now-again : (region : ℕ) → Leads region watched (Watch (port 3) name_a T) watched_again
-unfolding is_name is_switch_port_name is_pipe_name is_monitor_name switch_of peer_name
-now-again region = record { can = refl; made = refl }
-
-pub now-nobody : (region : ℕ) → Leads region watched_again (Watch (port 3) name_x T) watched_nobody
-unfolding is_name is_switch_port_name is_pipe_name is_monitor_name switch_of peer_name
-now-nobody region = record { can = refl; made = refl }
-
-pub now-told : (region : ℕ) → Leads region watched_nobody (Stat (port 2)) told
-unfolding is_name is_switch_port_name is_pipe_name is_monitor_name switch_of peer_name
-now-told region = record { can = refl; made = refl }
-
-pub now-reset : (region : ℕ) → Leads region told (Reset (port 2) Tx (Fragment 1)) reset
-unfolding is_name is_switch_port_name is_pipe_name is_monitor_name switch_of peer_name
-now-reset region = record { can = refl; made = refl }
-
-pub asks-watch : (monitor : PortId) (target known : List ℕ) (sides : Sides) → monitor ≡ port 3 → target ≡ known → Watch monitor target sides ≡ Watch (port 3) known sides
-asks-watch monitor target known sides same name = ap (λ (p : PortId). Watch p target sides) same ∙ ap (λ (n : List ℕ). Watch (port 3) n sides) name
-
-pub may-watch : (region : ℕ) (known : List Entry) (b : Recorded) (monitor : PortId) (target name : List ℕ) (sides : Sides) → b ≡ life region known → monitor ≡ port 3 → target ≡ name
-    → IsEnabled (standing (life region known)) (Watch (port 3) name sides) → IsEnabled (standing b) (Watch monitor target sides)
-may-watch region known b monitor target name sides is same named may =
-    enabled b (life region known) (Watch monitor target sides) (Watch (port 3) name sides) is (asks-watch monitor target name sides same named) may
-
-pub watched-at : (region : ℕ) (known next : List Entry) (b new : Recorded) (monitor : PortId) (target name : List ℕ) (sides : Sides) → b ≡ life region known → monitor ≡ port 3 → target ≡ name
-    → new ≡ after_ask b (Watch monitor target sides) → after_ask (life region known) (Watch (port 3) name sides) ≡ life region next → new ≡ life region next
-watched-at region known next b new monitor target name sides is same named made next-is =
-    stepped b new (life region known) (life region next) (Watch monitor target sides) (Watch (port 3) name sides) is (asks-watch monitor target name sides same named) made next-is
-
-pub watched-by : (old new : Recorded) (ask : Ask) (fault : WatchFault) (by : PortId) → fault ≡ faults.Watched by → IsUnwatched old new ask fault → new ≡ after_ask old ask
-watched-by old new ask fault by is answered = (subst (IsUnwatched old new ask) is answered).entry
-
-pub watched-none : (old new : Recorded) (ask : Ask) (fault : WatchFault) → fault ≡ faults.NoTarget → IsUnwatched old new ask fault → new ≡ after_ask old ask
-watched-none old new ask fault is answered = (subst (IsUnwatched old new ask) is answered).entry
+pub watched-none : (old new : Recorded) (ask : Ask) {fault : WatchFault} → fault ≡ faults.NoTarget → IsUnwatched old new ask fault → new ≡ after_ask old ask
+watched-none old new ask is answered = (subst (IsUnwatched old new ask) is answered).entry

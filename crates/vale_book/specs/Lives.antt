@@ -4,14 +4,25 @@ use Rattle.nm_types.specs.Counters.{zero_counts}
 use Rattle.nm_types.specs.declared.fault.SyncFault.TheVariants.{Fragment}
 use Rattle.nm_types.specs.declared.id.Side.TheVariants.{Tx}
 use Rattle.nm_types.specs.declared.id.Sides.TheVariants.{T, TR}
-use Rattle.vale_entry.specs.declared.entry.Ask.TheVariants.{Enter, Send, Grant, Sync, Shut, Finish, Watch, Stat, Reset}
+use Rattle.vale_entry.specs.declared.entry.Ask.TheVariants.{Enter, Send, Grant, Sync, Get, Shut, Finish, Watch, Stat, Reset}
 use Rattle.vale_entry.specs.declared.entry.Entry.{Entry}
 use Rattle.vale_entry.specs.declared.entry.Reply.TheVariants.{Made, Opened, Offered, Shared, Gave, Unread, Watching, Watched, NoTarget, Counted}
 use Rattle.vale_entry.specs.RowWords.{entry, port, opening, completes, left, dest, no_chain, frame_h}
-use Rattle.vale_book.specs.Recorded.{Recorded}
+use Rattle.nm_types.specs.declared.id.PortId.{PortId}
+use Rattle.vale_entry.specs.Legal.{IsEnabled}
+use Rattle.vale_book.specs.Recorded.{Recorded, standing, after_ask}
 
 abbrev pub life : ℕ → List Entry → Recorded
 life region entries = record { pool = 20; region = region; limits = record { entries = 100; bytes = 1000 }; entries = entries }
+
+-- a port can be shut, and can then go with these buffers
+pub record CanGo (b : Recorded) (port : PortId) (bufs : List ℕ) : Type 0 where
+  pub shut : IsEnabled (standing b) (Shut port)
+  pub finish : IsEnabled (standing (after_ask b (Shut port))) (Finish port bufs no_chain)
+
+-- the record once it has gone
+abbrev pub gone : Recorded → PortId → List ℕ → Recorded
+gone b port bufs = after_ask (after_ask b (Shut port)) (Finish port bufs no_chain)
 
 abbrev pub name_a : List ℕ
 name_a = codes "vale0:a"
@@ -27,14 +38,11 @@ came = entry 1 (Enter 7) Made ∷ []
 abbrev pub one_port : List Entry
 one_port = came ++ entry 1 (opening 1 name_a 4 4) Opened ∷ []
 
-abbrev pub shut_port : List Entry
-shut_port = one_port ++ entry 1 (Shut (port 2)) Made ∷ []
-
 abbrev pub first_bufs : List ℕ
 first_bufs = 2 ∷ 3 ∷ 4 ∷ 5 ∷ []
 
 abbrev pub gone_port : List Entry
-gone_port = shut_port ++ entry 1 (Finish (port 2) first_bufs no_chain) (Unread 0) ∷ []
+gone_port = one_port ++ entry 1 (Shut (port 2)) Made ∷ entry 1 (Finish (port 2) first_bufs no_chain) (Unread 0) ∷ []
 
 abbrev pub left_alone : List Entry
 left_alone = gone_port ++ entry 1 (left 1) Made ∷ []
@@ -57,20 +65,14 @@ abbrev pub read_one : List Entry
 read_one = filled_one ++ entry 1 (Sync (port 3) []) (Gave 1 []) ∷ []
 
 -- then both ports are shut and go, each with the buffers of its session, which leaves
-abbrev pub shut_first : List Entry
-shut_first = read_one ++ entry 1 (Shut (port 2)) Made ∷ []
-
 abbrev pub gone_first : List Entry
-gone_first = shut_first ++ entry 1 (Finish (port 2) first_bufs no_chain) (Unread 0) ∷ []
-
-abbrev pub shut_second : List Entry
-shut_second = gone_first ++ entry 1 (Shut (port 3)) Made ∷ []
+gone_first = read_one ++ entry 1 (Shut (port 2)) Made ∷ entry 1 (Finish (port 2) first_bufs no_chain) (Unread 0) ∷ []
 
 abbrev pub second_bufs : List ℕ
 second_bufs = 10 ∷ 11 ∷ 12 ∷ 13 ∷ []
 
 abbrev pub gone_second : List Entry
-gone_second = shut_second ++ entry 1 (Finish (port 3) (second_bufs ++ 14 ∷ []) no_chain) (Unread 0) ∷ []
+gone_second = gone_first ++ entry 1 (Shut (port 3)) Made ∷ entry 1 (Finish (port 3) (second_bufs ++ 14 ∷ []) no_chain) (Unread 0) ∷ []
 
 abbrev pub left_both : List Entry
 left_both = gone_second ++ entry 1 (left 1) Made ∷ []
@@ -101,3 +103,13 @@ told = watched_nobody ++ entry 1 (Stat (port 2)) (Counted zero_counts) ∷ []
 
 abbrev pub reset : List Entry
 reset = told ++ entry 1 (Reset (port 2) Tx (Fragment 1)) Made ∷ []
+
+-- or it is an end of a pipe
+abbrev pub name_p : List ℕ
+name_p = codes "pipe0{"
+
+abbrev pub piped : List Entry
+piped = one_port ++ entry 1 (opening 1 name_p 4 4) Opened ∷ []
+
+abbrev pub got_none : List Entry
+got_none = piped ++ entry 1 (Get (port 3) []) (Gave 0 []) ∷ []

@@ -1,12 +1,13 @@
 //! The calls of a book that a test takes to succeed.
 
-ghost use Rattle.std.specs.Prelude.{false, ◌≡◌, [], ◌∷◌, length, take, option_map, Some};
-ghost use Rattle.vale_book.specs.Words.{AreOf, IsEnabled, dests_wanted, indices_of, reply_of};
-ghost use Rattle.vale_book.specs.Words.{reply_to, step};
+ghost use Rattle.std.specs.Prelude.{ℕ, ◌≡◌, length, take, option_map, Some};
+ghost use Rattle.vale_book.specs.Words.{AreOf, IsEnabled, dests_wanted, indices_of, opening, port};
+ghost use Rattle.vale_book.specs.Words.{reply_of, session, step};
 ghost use Rattle.vale_entry.specs.declared.entry.Ask.TheVariants as asks;
 ghost use Rattle.vale_entry.specs.declared.entry.Reply.TheVariants as replies;
 ghost use Rattle.vale_book.specs.Reading.{IsGiven, IsOffered};
 ghost use Rattle.vale_book.specs.Recorded.{standing, after_ask};
+ghost use Rattle.vale_book.specs.Lives.{life, CanGo, gone, came, one_port, first_bufs};
 ghost use Rattle.vale_book.specs.Sending.{IsSent};
 
 use crate::{Book, Offers, Opened, Synced};
@@ -21,28 +22,85 @@ pub(super) struct Held {
     pub(super) tx: Vec<Buf>,
 }
 
-pub(super) fn fresh(rt: &impl Abort, alloc: Global) -> Book
-    ensures pool { result.pool ≡ 20 }
-    ensures limits { result.limits ≡ record { entries = 100; bytes = 1000 } }
-    ensures entries { result.entries ≡ [] }
+/// A book that a session has come to.
+struct Entered {
+    book: Book,
+    session: SessionId,
+}
+
+fn with_session(rt: &impl Abort, alloc: Global) -> Entered
+    ensures book { result.book ≡ life result.book.region came }
+    ensures session { result.session ≡ session 1 }
 {
     let limits = Limits {
         entries: 100,
         bytes: 1000,
     };
-    match Book::new(alloc, 20, limits) {
-        Ok(book) => book,
-        Err(_) => panic!(rt; "no memory"),
+    let Ok(mut book) = Book::new(alloc, 20, limits) else {
+        panic!(rt; "no memory");
+    };
+    match book.enter(7) {
+        Ok(session) => Entered { book, session },
+        Err(_) => panic!(rt; "nobody comes"),
     }
 }
 
-pub(super) fn enter(rt: &impl Abort, book: &mut Book) -> SessionId
-    ensures made { book.new ≡ after_ask book.old (asks.Enter 7) }
-    ensures id { result.0 ≡ length book.new.entries }
+/// A book with a port of a switch.
+pub(super) struct OnePort {
+    pub(super) book: Book,
+    pub(super) session: SessionId,
+    pub(super) held: Held,
+}
+
+pub(super) fn one_port(rt: &impl Abort, alloc: Global) -> OnePort
+    ensures book { result.book ≡ life result.book.region one_port }
+    ensures session { result.session ≡ session 1 }
+    ensures port { result.held.port ≡ port 2 }
+    ensures tx { indices_of result.held.tx.items ≡ first_bufs }
+    ensures of { AreOf result.book.region result.held.tx.items }
 {
-    match book.enter(7) {
-        Ok(session) => session,
-        Err(_) => panic!(rt; "nobody comes"),
+    let Entered { mut book, session } = with_session(rt, alloc);
+    let held = open(rt, &mut book, session, "vale0:a", 4, 4);
+    OnePort {
+        book,
+        session,
+        held,
+    }
+}
+
+/// A book with a port of a switch, and another port beside it.
+pub(super) struct TwoPorts {
+    pub(super) book: Book,
+    pub(super) session: SessionId,
+    pub(super) first: Held,
+    pub(super) second: Held,
+}
+
+pub(super) fn two_ports(rt: &impl Abort, alloc: Global, text: &str, tx: u32, rx: u32) -> TwoPorts
+    requires { (region : ℕ)
+        → IsEnabled (standing (life region one_port)) (opening 1 text.now tx rx) }
+    ensures book { result.book
+        ≡ after_ask (life result.book.region one_port) (opening 1 text.now tx rx) }
+    ensures session { result.session ≡ session 1 }
+    ensures first { result.first.port ≡ port 2 }
+    ensures second { result.second.port ≡ port 3 }
+    ensures first_tx { indices_of result.first.tx.items ≡ first_bufs }
+    ensures second_tx { indices_of result.second.tx.items
+        ≡ take tx (standing (life result.book.region one_port)).holdings.free }
+    ensures first_of { AreOf result.book.region result.first.tx.items }
+    ensures second_of { AreOf result.book.region result.second.tx.items }
+{
+    let OnePort {
+        mut book,
+        session,
+        held: first,
+    } = one_port(rt, alloc);
+    let second = open(rt, &mut book, session, text, tx, rx);
+    TwoPorts {
+        book,
+        session,
+        first,
+        second,
     }
 }
 
@@ -55,14 +113,7 @@ pub(super) fn name(rt: &impl Abort, text: &str) -> Name
     }
 }
 
-pub(super) fn open(
-    rt: &impl Abort,
-    book: &mut Book,
-    session: SessionId,
-    text: &str,
-    tx: u32,
-    rx: u32,
-) -> Held
+fn open(rt: &impl Abort, book: &mut Book, session: SessionId, text: &str, tx: u32, rx: u32) -> Held
     requires { IsEnabled (standing book.old) (asks.Open session text.now tx rx 0) }
     ensures made { book.new ≡ after_ask book.old (asks.Open session text.now tx rx 0) }
     ensures port { result.port.0 ≡ length book.new.entries }
@@ -82,16 +133,6 @@ pub(super) fn open(
             Held { port, tx }
         }
         Err(_) => panic!(rt; "{text} is not opened"),
-    }
-}
-
-pub(super) fn batch(rt: &impl Abort, alloc: Global, frame: &[u8]) -> Batch
-    ensures { result ≡ record { bytes = frame.now; no_learn = false } ∷ [] }
-{
-    let mut batch = Batch::new(alloc);
-    match batch.push(frame, false) {
-        Ok(()) => batch,
-        Err(_) => panic!(rt; "no memory"),
     }
 }
 
@@ -121,23 +162,22 @@ pub(super) fn sync(rt: &impl Abort, book: &mut Book, port: PortId, back: Vec<Buf
     }
 }
 
-/// The port goes, with these buffers of its session.
-pub(super) fn finish(rt: &impl Abort, book: &mut Book, port: PortId, bufs: Vec<Buf>) -> u32
-    requires enabled { IsEnabled (standing book.old)
-        (asks.Finish port (indices_of bufs.items) (record { found = 0; astray = 0 })) }
-    requires region { AreOf book.old.region bufs.items }
-    ensures made { book.new ≡ after_ask book.old
-        (asks.Finish port (indices_of bufs.items) (record { found = 0; astray = 0 })) }
-    ensures said { reply_to (standing book.old)
-        (asks.Finish port (indices_of bufs.items) (record { found = 0; astray = 0 }))
-        ≡ Some (replies.Unread result) }
+/// The port is shut, and goes with the buffers of its session; it has nothing unread.
+pub(super) fn go(rt: &impl Abort, book: &mut Book, held: Held)
+    requires can { CanGo book.old held.port (indices_of held.tx.items) }
+    requires region { AreOf book.old.region held.tx.items }
+    ensures { book.new ≡ gone book.old held.port (indices_of held.tx.items) }
 {
+    let Held { port, tx } = held;
+    let free = book.free();
+    book.shut(port);
+    assert!(rt; book.free() == free);
     let chain = Chain {
         found: 0,
         astray: 0,
     };
-    match book.finish(port, bufs, chain) {
-        Ok(count) => count,
+    match book.finish(port, tx, chain) {
+        Ok(unread) => assert!(rt; unread == 0),
         Err(_) => panic!(rt; "a lease is out"),
     }
 }

@@ -1,12 +1,11 @@
 ghost use Rattle.std.specs.Prelude.{◌≡◌, [], ◌∷◌};
 ghost use Rattle.vale_book.specs.Words.{AreOf, dest, dests_wanted, frame_h, indices_of, port};
-ghost use Rattle.vale_book.specs.Words.{session};
 ghost use Rattle.vale_book.specs.Lives.{life, first_bufs, second_bufs, two_ports, sent_one, filled_one, read_one};
 ghost use Rattle.vale_book.specs.Sending.{IsSent};
 
-use super::steps::{Held, batch, enter, finish, fresh, open, send, sync};
+use super::steps::{Held, TwoPorts, go, send, sync, two_ports};
 use crate::{Book, Granted, Offers, Synced};
-use nm_types::{PortId, SessionId};
+use nm_types::{Batch, PortId, SessionId};
 use std::alloc::Global;
 use std::process::Abort;
 use vale_entry::History;
@@ -19,36 +18,6 @@ const FRAME: [u8; 60] = [
     17, 17, 17, 17, 17, 17, 17, 17, 17, 17, 17, 17, 17,
 ];
 
-/// A book with two ports of one switch.
-struct Switched {
-    book: Book,
-    session: SessionId,
-    first: Held,
-    second: Held,
-}
-
-fn two_ports(rt: &impl Abort, alloc: Global) -> Switched
-    ensures book { result.book ≡ life result.book.region two_ports }
-    ensures session { result.session ≡ session 1 }
-    ensures first { result.first.port ≡ port 2 }
-    ensures second { result.second.port ≡ port 3 }
-    ensures first_tx { indices_of result.first.tx.items ≡ first_bufs }
-    ensures second_tx { indices_of result.second.tx.items ≡ second_bufs }
-    ensures first_of { AreOf result.book.region result.first.tx.items }
-    ensures second_of { AreOf result.book.region result.second.tx.items }
-{
-    let mut book = fresh(rt, alloc);
-    let session = enter(rt, &mut book);
-    let first = open(rt, &mut book, session, "vale0:a", 4, 4);
-    let second = open(rt, &mut book, session, "vale0:b", 4, 4);
-    Switched {
-        book,
-        session,
-        first,
-        second,
-    }
-}
-
 /// The broadcast is sent by one port, and wanted at the other.
 fn broadcast(rt: &impl Abort, alloc: Global, book: &mut Book, from: PortId) -> Offers
     requires book { book.old ≡ life book.old.region two_ports }
@@ -57,7 +26,10 @@ fn broadcast(rt: &impl Abort, alloc: Global, book: &mut Book, from: PortId) -> O
     ensures sent { IsSent book.new (frame_h ∷ []) result }
     ensures wants { dests_wanted result.wants ≡ dest 3 1 ∷ [] }
 {
-    let frames = batch(rt, alloc, &FRAME);
+    let mut frames = Batch::new(alloc);
+    let Ok(()) = frames.push(&FRAME, false) else {
+        panic!(rt; "no memory");
+    };
     let offers = send(rt, book, from, &frames);
     assert!(rt; offers.entry() == 4 && offers.short() == 0 && offers.lone() == 0);
     match offers.next() {
@@ -133,11 +105,7 @@ fn end(
     requires got_of { got.buf.region ≡ book.region }
 {
     let mut book = book;
-    let Held { port: one, tx } = first;
-    let Held {
-        port: other,
-        tx: mut bufs,
-    } = second;
+    let Held { port, tx: mut bufs } = second;
     let Got {
         buf,
         len: _,
@@ -147,11 +115,9 @@ fn end(
         panic!(rt; "no memory");
     }
     bufs.push_reserved(buf);
-    book.shut(one);
-    let unread = finish(rt, &mut book, one, tx);
-    book.shut(other);
-    let read = finish(rt, &mut book, other, bufs);
-    assert!(rt; unread == 0 && read == 0 && book.free() == 20);
+    go(rt, &mut book, first);
+    go(rt, &mut book, Held { port, tx: bufs });
+    assert!(rt; book.free() == 20);
     book.leave(session);
     book.close()
 }
@@ -159,16 +125,32 @@ fn end(
 /// A broadcast of 60 bytes reaches the other port of the switch.
 #[test]
 fn a_broadcast_reaches_the_other_port(rt: HostRuntime) {
-    let Switched {
+    let TwoPorts {
         mut book,
         session,
         first,
         second,
-    } = two_ports(&rt, rt.alloc());
+    } = two_ports(&rt, rt.alloc(), "vale0:b", 4, 4);
     assert!(rt; first.port.0 == 2 && second.port.0 == 3 && book.free() == 4);
     let offers = broadcast(&rt, rt.alloc(), &mut book, first.port);
     deliver(&rt, &mut book, offers);
     let got = read(&rt, rt.alloc(), &mut book, second.port);
     let history = end(&rt, book, session, first, second, got);
     assert_eq!(rt; history.len(), 12);
+}
+
+/// The end of a pipe is read before the other end is open: it has nothing. The buffers stay out: the
+/// test ends by the panic that it expects.
+#[test]
+#[should_panic(expected = "the buffers stay out")]
+fn a_pipe_end_gives_nothing_alone(rt: HostRuntime) {
+    let mut two = two_ports(&rt, rt.alloc(), "pipe0{", 4, 4);
+    match two.book.pipe_get(two.second.port, Vec::new(rt.alloc())) {
+        Ok(Synced { got, offers }) => {
+            assert!(rt; got.is_empty() && offers.next().is_none());
+            assert!(rt; two.book.history().len() == 4);
+            panic!(rt; "the buffers stay out");
+        }
+        Err(_) => panic!(rt; "nothing is got"),
+    }
 }

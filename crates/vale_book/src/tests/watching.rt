@@ -1,40 +1,11 @@
 ghost use Rattle.std.specs.Prelude.{◌≡◌};
-ghost use Rattle.vale_book.specs.Words.{AreOf, indices_of, port, session};
-ghost use Rattle.vale_book.specs.Lives.{life, first_bufs, monitored, watched_nobody, reset};
+ghost use Rattle.vale_book.specs.Words.{port};
+ghost use Rattle.vale_book.specs.Lives.{life, monitored, watched_nobody, reset};
 
-use super::steps::{Held, enter, fresh, name, open};
+use super::steps::{name, two_ports};
 use crate::Book;
-use nm_types::{Counts, PortId, SessionId, Side, Sides, SyncFault, WatchFault};
-use std::alloc::Global;
+use nm_types::{Counts, PortId, Side, Sides, SyncFault, WatchFault};
 use std::process::Abort;
-
-/// A book with a port and a monitor.
-struct Monitored {
-    book: Book,
-    session: SessionId,
-    held: Held,
-    monitor: Held,
-}
-
-fn port_and_monitor(rt: &impl Abort, alloc: Global) -> Monitored
-    ensures book { result.book ≡ life result.book.region monitored }
-    ensures session { result.session ≡ session 1 }
-    ensures held { result.held.port ≡ port 2 }
-    ensures monitor { result.monitor.port ≡ port 3 }
-    ensures tx { indices_of result.held.tx.items ≡ first_bufs }
-    ensures of { AreOf result.book.region result.held.tx.items }
-{
-    let mut book = fresh(rt, alloc);
-    let session = enter(rt, &mut book);
-    let held = open(rt, &mut book, session, "vale0:a", 4, 4);
-    let monitor = open(rt, &mut book, session, "mon0", 0, 2);
-    Monitored {
-        book,
-        session,
-        held,
-        monitor,
-    }
-}
 
 /// The monitor watches the port; then another watch finds it there, and one of a name that no port
 /// has finds none.
@@ -78,14 +49,9 @@ fn tell(rt: &impl Abort, book: &mut Book, at: PortId)
 #[test]
 #[should_panic(expected = "the buffers stay out")]
 fn a_port_has_one_monitor(rt: HostRuntime) {
-    let Monitored {
-        mut book,
-        session: _,
-        held,
-        monitor,
-    } = port_and_monitor(&rt, rt.alloc());
-    watch(&rt, &mut book, monitor.port);
-    tell(&rt, &mut book, held.port);
-    assert!(rt; book.history().len() == 8);
+    let mut two = two_ports(&rt, rt.alloc(), "mon0", 0, 2);
+    watch(&rt, &mut two.book, two.second.port);
+    tell(&rt, &mut two.book, two.first.port);
+    assert!(rt; two.book.history().len() == 8);
     panic!(rt; "the buffers stay out");
 }

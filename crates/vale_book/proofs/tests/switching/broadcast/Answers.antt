@@ -1,42 +1,37 @@
-use Rattle.std.proofs.Common.{◌≡◌, ◌∙◌, List, [], ◌∷◌, ap, sym, subst}
+use Rattle.std.proofs.Common.{◌≡◌, ◌∙◌, List, [], ◌∷◌, ◌++◌, ap, refl, sym, subst}
 use Rattle.std.specs.Prelude.{option_map}
 use Rattle.nm_types.specs.Frames.{Frame}
-use Rattle.nm_types.specs.declared.id.PortId.{PortId}
 use Rattle.vale_entry.specs.declared.entry.Ask.{Ask}
 use Rattle.vale_entry.specs.declared.entry.Ask.TheVariants.{Send}
 use Rattle.vale_entry.specs.Legal.{reply_of, step}
 use Rattle.vale_entry.specs.RowWords.{port, dest, frame_h}
 use Rattle.vale_parts.specs.Batches.{dests_wanted}
-use Rattle.vale_book.specs.Lives.{life, two_ports, sent_one}
 use Rattle.vale_book.specs.Recorded.{Recorded, standing}
 use Rattle.vale_book.specs.Sending.{IsSent}
-use Rattle.vale_book.proofs.Lives.{enabled, stepped, sent, sent-said, offered-to}
+use Rattle.vale_book.proofs.Lives.{lives, may, does, offered-to}
+use Rattle.vale_book.proofs.tests.switching.broadcast.Given as given
 use Rattle.vale_book.proofs.tests.switching.broadcast.Goals as goal
+use Rattle.vale_book.proofs.tests.switching.broadcast.Goals.{In-Ok}
 
-asked-of : (from : PortId) (frames : List Frame) → from ≡ port 2 → frames ≡ frame_h ∷ [] → Send from frames ≡ Send (port 2) (frame_h ∷ [])
-asked-of from frames is are = ap (λ (p : PortId). Send p frames) is ∙ ap (Send (port 2)) are
+pushed : (g : given.Over) (c : In-Ok g) → c.push.new.self ≡ frame_h ∷ []
+pushed g c = c.in-Ok.ensures.ok ∙ ap (λ (frames : List Frame). frames ++ frame_h ∷ []) c.new-frames.ensures
+
+asked : (g : given.Over) (c : In-Ok g) → Send c.args.from c.push.new.self ≡ Send (port 2) (frame_h ∷ [])
+asked g c = rw (c.requires.from, pushed g c) refl
 
 pub send-offers-requires : goal.send-offers-requires
-send-offers-requires g c =
-    let b = c.args.book.now in
-    let asked = asked-of c.args.from c.batch-frames.result c.requires.from c.batch-frames.ensures in
-    enabled b (life b.region two_ports) (Send c.args.from c.batch-frames.result) (Send (port 2) (frame_h ∷ [])) c.requires.book asked (sent b.region).can
+send-offers-requires g c = may (lives c.args.book.now.region).sends c.requires.book (asked g (goal.at.send-offers-requires g c).In-Ok)
 
 pub returns-clause-book : goal.returns-clause-book
-returns-clause-book g c =
-    let b = c.args.book.now in
-    let asked = asked-of c.args.from c.batch-frames.result c.requires.from c.batch-frames.ensures in
-    stepped b c.send-offers.new.book (life b.region two_ports) (life b.region sent_one) (Send c.args.from c.batch-frames.result) (Send (port 2) (frame_h ∷ [])) c.requires.book asked
-    c.send-offers.ensures.made (sent b.region).made
+returns-clause-book g c = does (lives c.args.book.now.region).sends c.requires.book (asked g (goal.at.returns-clause-book g c).In-Ok) c.send-offers.ensures.made
 
 pub returns-clause-sent : goal.returns-clause-sent
-returns-clause-sent g c = subst (λ (frames : List Frame). IsSent c.send-offers.new.book frames c.send-offers.result) c.batch-frames.ensures c.send-offers.ensures.sent
+returns-clause-sent g c =
+    subst (λ (frames : List Frame). IsSent c.send-offers.new.book frames c.send-offers.result) (pushed g (goal.at.returns-clause-sent g c).In-Ok) c.send-offers.ensures.sent
 
 pub returns-clause-wants : goal.returns-clause-wants
 returns-clause-wants g c =
-    let b = c.args.book.now in
     let offers = c.send-offers.result in
-    let asked = asked-of c.args.from c.batch-frames.result c.requires.from c.batch-frames.ensures in
-    let said = sym (sent-said b.region) ∙ sym (ap (λ (k : Recorded). option_map reply_of (step (standing k) (Send (port 2) (frame_h ∷ [])))) c.requires.book)
-    ∙ sym (ap (λ (a : Ask). option_map reply_of (step (standing b) a)) asked) ∙ c.send-offers.ensures.said in
+    let said = sym (lives c.args.book.now.region).says_sent ∙ sym (ap (λ (k : Recorded). option_map reply_of (step (standing k) (Send (port 2) (frame_h ∷ [])))) c.requires.book)
+    ∙ sym (ap (λ (a : Ask). option_map reply_of (step (standing c.args.book.now) a)) (asked g (goal.at.returns-clause-wants g c).In-Ok)) ∙ c.send-offers.ensures.said in
     offered-to offers.short offers.lone (dests_wanted offers.wants) (dest 3 1 ∷ []) said

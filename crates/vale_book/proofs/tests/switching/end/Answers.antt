@@ -1,83 +1,43 @@
-use Rattle.std.proofs.Common.{◌∙◌, List, [], ◌∷◌, ◌++◌, ap, sym, subst}
+use Rattle.std.proofs.Common.{◌≡◌, ◌∙◌, List, [], ◌∷◌, ◌++◌, ap, sym, subst}
 use Rattle.nm_region.specs.Buffers.{Buffer, indices_of}
 use Rattle.nm_region.specs.Regions.{AreOf}
-use Rattle.vale_book.specs.Lives.{first_bufs, second_bufs, read_one, shut_first, gone_first, shut_second, gone_second, left_both}
+use Rattle.vale_book.specs.Lives.{life, second_bufs, gone_first}
 use Rattle.vale_book.specs.Recorded.{Recorded}
-use Rattle.vale_book.proofs.Lives.{session-is, may-shut, shut-at, may-go, gone-at, may-leave, left-at, may-close, with-buffer, with-of, shut-first, gone-first, shut-second, gone-second, left-both, free-both}
+use Rattle.vale_book.proofs.Lives.{lives, may, does, may-go, goes-on, session-is, leaves, may-close, with-buffer, with-of}
+use Rattle.vale_book.proofs.tests.switching.end.Given as given
 use Rattle.vale_book.proofs.tests.switching.end.Goals as goal
+use Rattle.vale_book.proofs.tests.switching.end.Goals.{After-go}
 
-pub shut-requires : goal.shut-requires
-shut-requires g c =
-    let b = c.args.book in
-    let r = b.region in
-    may-shut r 2 read_one b c.args.first.port c.requires.book c.requires.first (shut-first r).can
+-- the second port's buffers, with the one that was read
+more : (g : given.Over) (c : After-go g) → c.push_reserved.new.self.items ≡ c.args.second.tx.items ++ c.args.got.buf ∷ []
+more g c = c.push_reserved.ensures.items ∙ ap (λ (bufs : List Buffer). bufs ++ c.args.got.buf ∷ []) c.reserve.ensures.items
 
-pub finish-unread-requires-clause-enabled : goal.finish-unread-requires-clause-enabled
-finish-unread-requires-clause-enabled g c =
-    let b = c.args.book in
-    let r = b.region in
-    let one = shut-at r 2 read_one shut_first b c.shut.new.self c.args.first.port c.requires.book c.requires.first c.shut.ensures.made (shut-first r).made in
-    may-go r 2 shut_first c.shut.new.self c.args.first.port (indices_of c.args.first.tx.items) first_bufs one c.requires.first c.requires.first_tx (gone-first r).can
+bufs : (g : given.Over) (c : After-go g) → indices_of c.push_reserved.new.self.items ≡ second_bufs ++ 14 ∷ []
+bufs g c = with-buffer c.args.second.tx.items c.push_reserved.new.self.items c.args.got.buf second_bufs 14 (more g c) c.requires.second_tx c.requires.got
 
-pub shut-requires-2 : goal.shut-requires-2
-shut-requires-2 g c =
-    let b = c.args.book in
-    let r = b.region in
-    let one = shut-at r 2 read_one shut_first b c.shut.new.self c.args.first.port c.requires.book c.requires.first c.shut.ensures.made (shut-first r).made in
-    let bufs = indices_of c.args.first.tx.items in
-    let two = gone-at r 2 shut_first gone_first c.shut.new.self c.finish-unread.new.book c.args.first.port bufs first_bufs one c.requires.first c.requires.first_tx c.finish-unread.ensures.made (gone-first r).made in
-    may-shut r 3 gone_first c.finish-unread.new.book c.args.second.port two c.requires.second (shut-second r).can
+first : (g : given.Over) (c : After-go g) → c.go.new.book ≡ life c.args.book.region gone_first
+first g c = goes-on (lives c.args.book.region).goes_first c.requires.book c.requires.first c.requires.first_tx c.go.ensures
 
-pub finish-read-requires-clause-enabled : goal.finish-read-requires-clause-enabled
-finish-read-requires-clause-enabled g c =
-    let b = c.args.book in
-    let r = b.region in
-    let one = shut-at r 2 read_one shut_first b c.shut.new.self c.args.first.port c.requires.book c.requires.first c.shut.ensures.made (shut-first r).made in
-    let bufs = indices_of c.args.first.tx.items in
-    let two = gone-at r 2 shut_first gone_first c.shut.new.self c.finish-unread.new.book c.args.first.port bufs first_bufs one c.requires.first c.requires.first_tx c.finish-unread.ensures.made (gone-first r).made in
-    let three = shut-at r 3 gone_first shut_second c.finish-unread.new.book c.shut-2.new.self c.args.second.port two c.requires.second c.shut-2.ensures.made (shut-second r).made in
-    let all = indices_of c.push_reserved.new.self.items in
-    let added = c.push_reserved.ensures.items ∙ ap (λ (bufs : List Buffer). bufs ++ c.args.got.buf ∷ []) c.reserve.ensures.items in
-    let are = with-buffer c.args.second.tx.items c.push_reserved.new.self.items c.args.got.buf second_bufs 14 added c.requires.second_tx c.requires.got in
-    may-go r 3 shut_second c.shut-2.new.self c.args.second.port all (second_bufs ++ 14 ∷ []) three c.requires.second are (gone-second r).can
+pub go-requires-clause-can : goal.go-requires-clause-can
+go-requires-clause-can g c = may-go (lives c.args.book.region).goes_first c.requires.book c.requires.first c.requires.first_tx
+
+pub go-requires-2-clause-can : goal.go-requires-2-clause-can
+go-requires-2-clause-can g c = let at = (goal.at.go-requires-2-clause-can g c).After-go in may-go (lives c.args.book.region).goes_second (first g at) c.requires.second (bufs g at)
+
+pub go-requires-2-clause-region : goal.go-requires-2-clause-region
+go-requires-2-clause-region g c =
+    let at = (goal.at.go-requires-2-clause-region g c).After-go in
+    subst (λ (k : Recorded). AreOf k.region c.push_reserved.new.self.items) (sym (first g at))
+    (with-of c.args.book.region c.args.second.tx.items c.push_reserved.new.self.items c.args.got.buf (more g at) c.requires.second_of c.requires.got_of)
 
 pub leave-requires : goal.leave-requires
 leave-requires g c =
-    let b = c.args.book in
-    let r = b.region in
-    let one = shut-at r 2 read_one shut_first b c.shut.new.self c.args.first.port c.requires.book c.requires.first c.shut.ensures.made (shut-first r).made in
-    let bufs = indices_of c.args.first.tx.items in
-    let two = gone-at r 2 shut_first gone_first c.shut.new.self c.finish-unread.new.book c.args.first.port bufs first_bufs one c.requires.first c.requires.first_tx c.finish-unread.ensures.made (gone-first r).made in
-    let three = shut-at r 3 gone_first shut_second c.finish-unread.new.book c.shut-2.new.self c.args.second.port two c.requires.second c.shut-2.ensures.made (shut-second r).made in
-    let all = indices_of c.push_reserved.new.self.items in
-    let added = c.push_reserved.ensures.items ∙ ap (λ (bufs : List Buffer). bufs ++ c.args.got.buf ∷ []) c.reserve.ensures.items in
-    let are = with-buffer c.args.second.tx.items c.push_reserved.new.self.items c.args.got.buf second_bufs 14 added c.requires.second_tx c.requires.got in
-    let four = gone-at r 3 shut_second gone_second c.shut-2.new.self c.finish-read.new.book c.args.second.port all (second_bufs ++ 14 ∷ []) three c.requires.second are c.finish-read.ensures.made (gone-second r).made in
-    may-leave r gone_second c.finish-read.new.book c.args.session four (session-is c.args.session 1 c.requires.session) (left-both r).can
+    let at = (goal.at.leave-requires g c).After-go in
+    let l = lives c.args.book.region in
+    may l.leaves_both (goes-on l.goes_second (first g at) c.requires.second (bufs g at) c.go-2.ensures) (leaves {s = c.args.session} (session-is c.requires.session))
 
 pub close-requires : goal.close-requires
 close-requires g c =
-    let b = c.args.book in
-    let r = b.region in
-    let one = shut-at r 2 read_one shut_first b c.shut.new.self c.args.first.port c.requires.book c.requires.first c.shut.ensures.made (shut-first r).made in
-    let bufs = indices_of c.args.first.tx.items in
-    let two = gone-at r 2 shut_first gone_first c.shut.new.self c.finish-unread.new.book c.args.first.port bufs first_bufs one c.requires.first c.requires.first_tx c.finish-unread.ensures.made (gone-first r).made in
-    let three = shut-at r 3 gone_first shut_second c.finish-unread.new.book c.shut-2.new.self c.args.second.port two c.requires.second c.shut-2.ensures.made (shut-second r).made in
-    let all = indices_of c.push_reserved.new.self.items in
-    let added = c.push_reserved.ensures.items ∙ ap (λ (bufs : List Buffer). bufs ++ c.args.got.buf ∷ []) c.reserve.ensures.items in
-    let are = with-buffer c.args.second.tx.items c.push_reserved.new.self.items c.args.got.buf second_bufs 14 added c.requires.second_tx c.requires.got in
-    let four = gone-at r 3 shut_second gone_second c.shut-2.new.self c.finish-read.new.book c.args.second.port all (second_bufs ++ 14 ∷ []) three c.requires.second are c.finish-read.ensures.made (gone-second r).made in
-    let five = left-at r gone_second left_both c.finish-read.new.book c.leave.new.self c.args.session four (session-is c.args.session 1 c.requires.session) c.leave.ensures.made (left-both r).made in
-    may-close r left_both c.leave.new.self five (free-both r)
-
-pub finish-read-requires-clause-region : goal.finish-read-requires-clause-region
-finish-read-requires-clause-region g c =
-    let b = c.args.book in
-    let r = b.region in
-    let one = shut-at r 2 read_one shut_first b c.shut.new.self c.args.first.port c.requires.book c.requires.first c.shut.ensures.made (shut-first r).made in
-    let bufs = indices_of c.args.first.tx.items in
-    let two = gone-at r 2 shut_first gone_first c.shut.new.self c.finish-unread.new.book c.args.first.port bufs first_bufs one c.requires.first c.requires.first_tx c.finish-unread.ensures.made (gone-first r).made in
-    let three = shut-at r 3 gone_first shut_second c.finish-unread.new.book c.shut-2.new.self c.args.second.port two c.requires.second c.shut-2.ensures.made (shut-second r).made in
-    let added = c.push_reserved.ensures.items ∙ ap (λ (bufs : List Buffer). bufs ++ c.args.got.buf ∷ []) c.reserve.ensures.items in
-    let own = with-of r c.args.second.tx.items c.push_reserved.new.self.items c.args.got.buf added c.requires.second_of c.requires.got_of in
-    subst (λ (k : Recorded). AreOf k.region c.push_reserved.new.self.items) (sym three) own
+    let at = (goal.at.close-requires g c).After-go in
+    let l = lives c.args.book.region in
+    may-close (does l.leaves_both (goes-on l.goes_second (first g at) c.requires.second (bufs g at) c.go-2.ensures) (leaves {s = c.args.session} (session-is c.requires.session)) c.leave.ensures.made) l.free_both
