@@ -14,7 +14,7 @@ use Rattle.vale_fabric.specs.Leases.{IsHeldBy, IsHeldFor, IsLeaseBy, StandOf}
 use Rattle.vale_fabric.proofs.Acting.{Acts, acted, goes-back}
 use Rattle.vale_fabric.proofs.Making.{Made, adds-by, steps-said, answered}
 use Rattle.vale_fabric.proofs.OffersHeld.{granter}
-use Rattle.vale_fabric.proofs.LeasesHeld.{given-held, held-frames}
+use Rattle.vale_fabric.proofs.LeasesHeld.{held-frames}
 use Rattle.vale_fabric.proofs.OwnNow.{stand-now, stand-after, as-of}
 use Rattle.vale_fabric.proofs.Lent.{as-lent}
 use Rattle.vale_fabric.proofs.fabric.Fabric.grant.Given as given
@@ -36,6 +36,19 @@ acts g c =
 
 makes : (g : given.Over) (c : After-give g) → Made (fixed_in c.args.self.now) (knowing c.args.pass.now) (knowing c.give.new.pass) c.deref_mut.result.now c.grant-granted.new.self (Grant c.args.offers.now.entry c.grant-granted.result.to)
 makes g c = acted (as-lent c.deref_mut.ensures.value c.take-book.ensures.taken) c.give.ensures.back (acts g c.before.before.before)
+
+-- the lease is one of the session's own, for frames that are offered
+fills : (g : given.Over) (c : After-give g) → IfSome c.grant-granted.result.lease (λ (lease : Leased). (frames : List Frame) → StandOf (standing (seen_by c.args.self.now c.args.pass.now)) c.args.offers.now frames
+    → IsHeldFor (seen_by c.args.self.now c.give.new.pass) c.args.offers.now.session lease (bytes_of frames) (take c.grant-granted.result.given c.grant-granted.result.want.places.items))
+fills g c =
+    let granted = c.before.before.before in
+    let call = c.grant-granted.ensures in
+    let said = c.grant-granted.result in
+    let o = c.args.offers.now in
+    subst (λ (r : Recorded). IfSome said.lease (λ (lease : Leased). (frames : List Frame) → StandOf (standing (seen_by c.args.self.now c.args.pass.now)) o frames
+    → IsHeldFor r o.session lease (bytes_of frames) (take said.given said.want.places.items))) (sym (makes g c).now)
+    (held-frames o said.to (acts g granted).steps (λ (frames : List Frame). StandOf (standing (seen_by c.args.self.now c.args.pass.now)) o frames) said.lease said.given (wanted said.want)
+    (as-lent c.deref_mut.ensures.value c.take-book.ensures.taken).legal call.made c.requires.next (stood g granted.before.before) (first g granted.before.before) call.want call.given call.lease)
 
 pub grant-granted-requires-clause-stand : goal.grant-granted-requires-clause-stand
 grant-granted-requires-clause-stand g c = first g (goal.at.grant-granted-requires-clause-stand g c).After-deref_mut
@@ -71,15 +84,7 @@ returns-clause-frames g c frames of =
     (stand-after o c.grant-granted.result.to a.steps a.grown c.requires.next frames (stood g at.After-deref_mut frames of)))
 
 pub returns-clause-fills : goal.returns-clause-fills
-returns-clause-fills g c =
-    let at = goal.at.returns-clause-fills g c in
-    let call = c.grant-granted.ensures in
-    let said = c.grant-granted.result in
-    let o = c.args.offers.now in
-    subst (λ (r : Recorded). IfSome said.lease (λ (lease : Leased). (frames : List Frame) → StandOf (standing (seen_by c.args.self.now c.args.pass.now)) o frames
-    → IsHeldFor r o.session lease (bytes_of frames) (take said.given said.want.places.items))) (sym (makes g at.After-give).now)
-    (held-frames o said.to (acts g at.After-grant-granted).steps (λ (frames : List Frame). StandOf (standing (seen_by c.args.self.now c.args.pass.now)) o frames) said.lease said.given (wanted said.want)
-    (as-lent c.deref_mut.ensures.value c.take-book.ensures.taken).legal call.made c.requires.next (stood g at.After-deref_mut) (first g at.After-deref_mut) call.want call.given call.lease)
+returns-clause-fills g c = fills g (goal.at.returns-clause-fills g c).After-give
 
 pub returns-clause-lease : goal.returns-clause-lease
 returns-clause-lease g c =
@@ -90,12 +95,5 @@ returns-clause-lease g c =
 
 pub returns-clause-held : goal.returns-clause-held
 returns-clause-held g c =
-    let at = goal.at.returns-clause-held g c in
-    let call = c.grant-granted.ensures in
-    let said = c.grant-granted.result in
-    let b = c.deref_mut.result.now in
-    let o = c.args.offers.now in
-    IfSome-weaker {P = IsLeaseBy b o.entry (length c.grant-granted.new.self.entries)} {Q = IsHeldBy (seen_by c.args.self.now c.give.new.pass) o.session} said.lease
-    (λ lease gives. subst (λ (r : Recorded). IsHeldBy r o.session lease) (sym (makes g at.After-give).now)
-    (given-held o said.to (acts g at.After-grant-granted).steps lease (as-lent c.deref_mut.ensures.value c.take-book.ensures.taken).legal call.made c.requires.next (first g at.After-deref_mut) gives).is)
-    call.lease
+    IfSome-weaker {Q = IsHeldBy (seen_by c.args.self.now c.give.new.pass) c.args.offers.now.session} c.grant-granted.result.lease
+    (λ lease held. (held c.requires.stand.frames (as-of c.requires.stand)).is) (fills g (goal.at.returns-clause-held g c).After-give)

@@ -1,4 +1,4 @@
-use Rattle.std.proofs.Common.{refl, sym, subst}
+use Rattle.std.proofs.Common.{refl, sym, subst, IfOk}
 use Rattle.nm_types.specs.declared.fault.StepFault.{StepFault}
 use Rattle.vale_entry.specs.declared.entry.Reply.{Reply}
 use Rattle.vale_entry.specs.declared.entry.Reply.TheVariants.{Offered}
@@ -8,15 +8,25 @@ use Rattle.vale_book.specs.Offering.{OffersState}
 use Rattle.vale_book.specs.Recorded.{Recorded, standing}
 use Rattle.vale_book.specs.Sending.{IsSent}
 use Rattle.vale_entry.specs.declared.entry.Ask.TheVariants.{Send}
-use Rattle.vale_fabric.proofs.Acting.{acts-said, acted, if-acted, goes-said, answers-said, refuses}
+use Rattle.vale_fabric.proofs.Acting.{Acts, acts-said, acted, if-acted, goes-said, answers-said, refuses}
 use Rattle.vale_fabric.proofs.AtHand.{hand-on, low-pool, sends-settled, sends-keep}
 use Rattle.vale_fabric.proofs.Lent.{as-lent}
 use Rattle.vale_fabric.proofs.Making.{enabled-now}
 use Rattle.vale_fabric.proofs.Speaking.{speaks-on}
+use Rattle.vale_fabric.proofs.fabric.Fabric.send.Given as given
+use Rattle.vale_fabric.proofs.fabric.Fabric.send.Goals.{After-give}
 use Rattle.vale_fabric.proofs.fabric.Fabric.send.Goals as goal
 
 abbrev reply : OffersState → Reply
 reply o = Offered o.short o.lone (dests_wanted o.wants)
+
+-- what follows from offers that were sent
+if-sent : (g : given.Over) (c : After-give g) {Q : OffersState → Type 0}
+    → ((o : OffersState) → Acts c.deref_mut.result.now c.send-sent.new.self (Send c.args.port c.args.batch.now) → IsSent c.send-sent.new.self c.args.batch.now o → Q o) → IfOk c.send-sent.result Q
+if-sent g c follows =
+    let e = c.send-sent.ensures in
+    if-acted (as-lent c.deref_mut.ensures.value c.take-book.ensures.taken) c.give.ensures.back c.send-sent.result
+    (acts-said c.deref_mut.result.now c.send-sent.new.self (Send c.args.port c.args.batch.now) reply c.send-sent.result e.said e.made e.room) e.offers follows
 
 pub send-sent-requires : goal.send-sent-requires
 send-sent-requires g c = enabled-now c.requires.may (as-lent c.deref_mut.ensures.value c.take-book.ensures.taken)
@@ -33,28 +43,19 @@ returns-clause-made g c =
 
 pub returns-clause-offers : goal.returns-clause-offers
 returns-clause-offers g c =
-    let e = c.send-sent.ensures in
-    let taken = (as-lent c.deref_mut.ensures.value c.take-book.ensures.taken) in
-    let back = c.give.ensures.back in
-    if-acted taken back c.send-sent.result (acts-said c.deref_mut.result.now c.send-sent.new.self (Send c.args.port c.args.batch.now) reply c.send-sent.result e.said e.made e.room) e.offers
-    (λ o acts sent. subst (λ (new : Recorded). IsSent new c.args.batch.now o) (sym (acted taken back acts).now) sent)
+    if-sent g (goal.at.returns-clause-offers g c).After-give
+    (λ o acts sent. subst (λ (new : Recorded). IsSent new c.args.batch.now o) (sym (acted (as-lent c.deref_mut.ensures.value c.take-book.ensures.taken) c.give.ensures.back acts).now) sent)
 
 pub returns-clause-speaks : goal.returns-clause-speaks
 returns-clause-speaks g c =
-    let e = c.send-sent.ensures in
-    let taken = (as-lent c.deref_mut.ensures.value c.take-book.ensures.taken) in
-    let back = c.give.ensures.back in
-    if-acted taken back c.send-sent.result (acts-said c.deref_mut.result.now c.send-sent.new.self (Send c.args.port c.args.batch.now) reply c.send-sent.result e.said e.made e.room) e.offers
-    (λ o acts sent some. speaks-on o c.requires.may taken refl acts back sent.stand sent.entry some)
+    if-sent g (goal.at.returns-clause-speaks g c).After-give
+    (λ o acts sent some. speaks-on o c.requires.may (as-lent c.deref_mut.ensures.value c.take-book.ensures.taken) refl acts c.give.ensures.back sent.stand sent.entry some)
 
 pub returns-clause-hand : goal.returns-clause-hand
 returns-clause-hand g c =
-    let e = c.send-sent.ensures in
-    let taken = (as-lent c.deref_mut.ensures.value c.take-book.ensures.taken) in
-    let back = c.give.ensures.back in
     let frames = c.args.batch.now in
-    if-acted taken back c.send-sent.result (acts-said c.deref_mut.result.now c.send-sent.new.self (Send c.args.port c.args.batch.now) reply c.send-sent.result e.said e.made e.room) e.offers
-    (λ o acts sent some. hand-on o (bytes_of frames) c.requires.may (low-pool c.args.self.now) taken refl acts back
+    if-sent g (goal.at.returns-clause-hand g c).After-give
+    (λ o acts sent some. hand-on o (bytes_of frames) c.requires.may (low-pool c.args.self.now) (as-lent c.deref_mut.ensures.value c.take-book.ensures.taken) refl acts c.give.ensures.back
     (record { frames = frames; stand = record { stand = sent.stand; frames_are = sent.frames_are }; bytes_are = refl }) sent.entry
     (sends-settled c.requires.may.session c.args.port frames) (sends-keep (standing c.deref_mut.result.now) c.args.port frames acts.steps.makes.reply) some)
 
