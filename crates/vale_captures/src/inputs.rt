@@ -1,6 +1,8 @@
 //! The captures that a script plays.
 ghost use Rattle.std.specs.Prelude.{◌≡◌, ◌≤◌, ◌↔◌, ℕ, List, [], map, IfOk, IfErr, IsTrue};
 ghost use Rattle.vale_captures.specs.Counts.{CountsRise};
+ghost use Rattle.vale_captures.specs.Faults.{fault_of_read, fault_of_capture};
+ghost use Rattle.vale_captures.specs.declared.inputs.InputFault.TheVariants as faults;
 ghost use Rattle.vale_captures.specs.Inputs.{captured, records_in, IsInput, AreInputs, BlamesFile, StopsReading};
 
 use nm_io::{ReadError, Shelf, read_all};
@@ -82,19 +84,7 @@ pub enum InputFault {
     NoMemory,
 }
 
-impl From<AllocError> for InputFault {
-    ghost use Rattle.vale_captures.specs.declared.inputs.InputFault.TheVariants as faults;
-
-    ghost from_gives = { λ _ fault. fault ≡ faults.NoMemory };
-
-    fn from(_: AllocError) -> Self {
-        InputFault::NoMemory
-    }
-}
-
 impl From<ReadError> for InputFault {
-    ghost use Rattle.vale_captures.specs.Faults.{fault_of_read};
-
     ghost from_gives = { λ error fault. fault ≡ fault_of_read error };
 
     fn from(error: ReadError) -> Self {
@@ -107,8 +97,6 @@ impl From<ReadError> for InputFault {
 }
 
 impl From<PcapFault> for InputFault {
-    ghost use Rattle.vale_captures.specs.Faults.{fault_of_capture};
-
     ghost from_gives = { λ fault input. input ≡ fault_of_capture fault };
 
     fn from(fault: PcapFault) -> Self {
@@ -116,6 +104,14 @@ impl From<PcapFault> for InputFault {
             PcapFault::NoMemory => InputFault::NoMemory,
             _ => InputFault::BadPcap { fault },
         }
+    }
+}
+
+impl From<AllocError> for InputFault {
+    ghost from_gives = { λ _ fault. fault ≡ faults.NoMemory };
+
+    fn from(_: AllocError) -> Self {
+        InputFault::NoMemory
     }
 }
 

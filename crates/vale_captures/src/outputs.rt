@@ -6,6 +6,7 @@ ghost use Rattle.nm_io.specs.Files.{Appends, AppendsPrefix};
 ghost use Rattle.pcap_io.specs.Limits.{most_captured};
 ghost use Rattle.pcap_io.specs.Written.{header_text, record_text, capture_text};
 ghost use Rattle.vale_captures.specs.Counts.{CountsRise};
+ghost use Rattle.vale_captures.specs.declared.outputs.SaveFault.TheVariants as faults;
 ghost use Rattle.vale_captures.specs.Outputs.{text_of, all_appended, IsWritable, IsShortRecord, IsFlushed, StopsWriting, has_failed};
 
 use nm_io::{Failed, Shelf, append_all};
@@ -65,8 +66,6 @@ pub enum SaveFault {
 }
 
 impl From<Failed> for SaveFault {
-    ghost use Rattle.vale_captures.specs.declared.outputs.SaveFault.TheVariants as faults;
-
     ghost from_gives = { λ _ fault. fault ≡ faults.Failed };
 
     fn from(_: Failed) -> Self {
@@ -75,8 +74,6 @@ impl From<Failed> for SaveFault {
 }
 
 impl From<AllocError> for SaveFault {
-    ghost use Rattle.vale_captures.specs.declared.outputs.SaveFault.TheVariants as faults;
-
     ghost from_gives = { λ _ fault. fault ≡ faults.NoMemory };
 
     fn from(_: AllocError) -> Self {
