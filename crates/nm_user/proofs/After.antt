@@ -87,41 +87,42 @@ pub record IsHere (shut : Option ℕ) (s : SessionState) : Type 0 where
   pub legal : IsLegal s.fixed.pool s.knows.seen
   pub side : IsSoundSideOf s.fixed.pool s.id shut (own_of s.id (standing_seen s.fixed s.knows)) s.own
 
-pub here-after : {shut : Option ℕ} {s : SessionState} {w : Knowing} {ask : Ask} → IsThere shut s → (m : Makes s.fixed s.knows w ask) → m.session ≡ s.id
-    → IsOfSide shut s.own (kept_ask ask) m.reply → IsHere (shut_after (kept_ask ask) shut) (after_call s w ask m.reply)
-here-after {shut} {s} {w} {ask} t m whose of =
-    let pool = s.fixed.pool in
-    let e = entry_by m.session ask m.reply in
-    let b = between s.id m t.come t.speaks in
-    let l = last m in
-    let h = earlier w.seen in
-    let own-before : own_of m.session (standing_of pool h) ≡ own_of s.id (standing_of pool s.knows.seen) = ap (λ (n : ℕ). own_of n (standing_of pool h)) whose ∙ same-own b in
-    let side = subst (λ (o : Own). IsSoundSideOf pool s.id shut o s.own) (sym own-before) t.side in
-    let kept = side-kept pool h e shut s.own l.legal l.follows (subst (λ (n : ℕ). IsSoundSideOf pool n shut (own_of m.session (standing_of pool h)) s.own) (sym whose) side) of in
-    let grown : standing_of pool (h ++ e ∷ []) ≡ standing_of pool w.seen = ap (standing_of pool) (sym m.seen) in
-    let own-after : own_of m.session (standing_of pool (h ++ e ∷ [])) ≡ own_of s.id (standing_of pool w.seen) = ap (λ (n : ℕ). own_of n (standing_of pool (h ++ e ∷ []))) whose ∙ ap (own_of s.id) grown in
-    record {
-      come = omega (arith, l.count, t.come, (m.told.stand 0 (length w.seen) e refl).0);
-      speaks = subst (Stands s.id) (sym m.told.mine) (Stands-left s.id s.knows.mine _ t.speaks);
-      legal = m.legal;
-      side = subst (λ (n : ℕ). IsSoundSideOf pool s.id (shut_after (kept_ask ask) shut) (own_of s.id (standing_of pool w.seen)) (own_by n (kept_ask ask) m.reply (arrivals_of (standing_of pool h) (kept_ask ask) m.reply) s.own)) (sym l.count)
-          (subst (λ (o : Own). IsSoundSideOf pool s.id (shut_after (kept_ask ask) shut) o (own_by (length h + 1) (kept_ask ask) m.reply (arrivals_of (standing_of pool h) (kept_ask ask) m.reply) s.own)) own-after
-          (subst (λ (n : ℕ). IsSoundSideOf pool n (shut_after (kept_ask ask) shut) (own_of m.session (standing_of pool (h ++ e ∷ []))) (own_by (length h + 1) (kept_ask ask) m.reply (arrivals_of (standing_of pool h) (kept_ask ask) m.reply) s.own)) whose kept));
-    }
+module _ {shut : Option ℕ} {s : SessionState} {w : Knowing} {ask : Ask} (t : IsThere shut s) (m : Makes s.fixed s.knows w ask) (mine : m.session ≡ s.id) where
+  abbrev pool : ℕ
+  pool = s.fixed.pool
 
--- what the entry makes of the session's own
-pub own-next : {shut : Option ℕ} {s : SessionState} {w : Knowing} {ask : Ask} → IsThere shut s → (m : Makes s.fixed s.knows w ask) → m.session ≡ s.id
-    → own_of s.id (standing_of s.fixed.pool w.seen) ≡ own_after_entry (standing_of s.fixed.pool (earlier w.seen)) (kept_ask ask) m.reply (own_of s.id (standing_of s.fixed.pool s.knows.seen))
-own-next {shut} {s} {w} {ask} t m whose =
-    let pool = s.fixed.pool in
-    let e = entry_by m.session ask m.reply in
-    let b = between s.id m t.come t.speaks in
-    let l = last m in
-    let h = earlier w.seen in
-    let own-before : own_of m.session (standing_of pool h) ≡ own_of s.id (standing_of pool s.knows.seen) = ap (λ (n : ℕ). own_of n (standing_of pool h)) whose ∙ same-own b in
-    let grown : standing_of pool (h ++ e ∷ []) ≡ standing_of pool w.seen = ap (standing_of pool) (sym m.seen) in
-    let own-after : own_of m.session (standing_of pool (h ++ e ∷ [])) ≡ own_of s.id (standing_of pool w.seen) = ap (λ (n : ℕ). own_of n (standing_of pool (h ++ e ∷ []))) whose ∙ ap (own_of s.id) grown in
-    sym own-after ∙ (own-entries pool h e l.legal l.follows ∙ ap (own_after_entry (standing_of pool h) (kept_ask ask) m.reply) own-before)
+  abbrev before : List Entry
+  before = earlier w.seen
+
+  abbrev entry : Entry
+  entry = entry_by m.session ask m.reply
+
+  -- what was its own before the entry, and what is behind it
+  own-before : own_of m.session (standing_of pool before) ≡ own_of s.id (standing_of pool s.knows.seen)
+  own-before = ap (λ (n : ℕ). own_of n (standing_of pool before)) mine ∙ same-own (between s.id m t.come t.speaks)
+
+  own-behind : own_of m.session (standing_of pool (before ++ entry ∷ [])) ≡ own_of s.id (standing_of pool w.seen)
+  own-behind = ap (λ (n : ℕ). own_of n (standing_of pool (before ++ entry ∷ []))) mine ∙ ap (λ (z : List Entry). own_of s.id (standing_of pool z)) (sym m.seen)
+
+  pub here-after : IsOfSide shut s.own (kept_ask ask) m.reply → IsHere (shut_after (kept_ask ask) shut) (after_call s w ask m.reply)
+  here-after of =
+      let l = last m in
+      let side = subst (λ (o : Own). IsSoundSideOf pool s.id shut o s.own) (sym own-before) t.side in
+      let kept = side-kept pool before entry shut s.own l.legal l.follows (subst (λ (n : ℕ). IsSoundSideOf pool n shut (own_of m.session (standing_of pool before)) s.own) (sym mine) side) of in
+      record {
+        come = omega (arith, l.count, t.come, (m.told.stand 0 (length w.seen) entry refl).0);
+        speaks = subst (Stands s.id) (sym m.told.mine) (Stands-left s.id s.knows.mine _ t.speaks);
+        legal = m.legal;
+        side = subst (λ (n : ℕ). IsSoundSideOf pool s.id (shut_after (kept_ask ask) shut) (own_of s.id (standing_of pool w.seen)) (own_by n (kept_ask ask) m.reply (arrivals_of (standing_of pool before) (kept_ask ask) m.reply) s.own)) (sym l.count)
+            (subst (λ (o : Own). IsSoundSideOf pool s.id (shut_after (kept_ask ask) shut) o (own_by (length before + 1) (kept_ask ask) m.reply (arrivals_of (standing_of pool before) (kept_ask ask) m.reply) s.own)) own-behind
+            (subst (λ (n : ℕ). IsSoundSideOf pool n (shut_after (kept_ask ask) shut) (own_of m.session (standing_of pool (before ++ entry ∷ []))) (own_by (length before + 1) (kept_ask ask) m.reply (arrivals_of (standing_of pool before) (kept_ask ask) m.reply) s.own)) mine kept));
+      }
+
+  -- what the entry makes of the session's own
+  pub own-next : own_of s.id (standing_of pool w.seen) ≡ own_after_entry (standing_of pool before) (kept_ask ask) m.reply (own_of s.id (standing_of pool s.knows.seen))
+  own-next =
+      let l = last m in
+      sym own-behind ∙ (own-entries pool before entry l.legal l.follows ∙ ap (own_after_entry (standing_of pool before) (kept_ask ask) m.reply) own-before)
 
 -- and so it is there, once it is settled
 pub there-settled : {shut : Option ℕ} {s : SessionState} → IsHere shut s → is_settled_own (own_of s.id (standing_seen s.fixed s.knows)) ≡ true → IsThere shut s

@@ -23,6 +23,11 @@ pub each-get : {X : Type 0} (P : X → Type 0) (xs : List X) → ((k : ℕ) (x :
 each-get P [] all = tt
 each-get P (x ∷ xs) all = (all 0 x refl, each-get P xs (λ k y e. all (suc k) y e))
 
+-- entries of which none has a session as its root, behind so many, are others'
+others-of : (session n : ℕ) (more : List Entry) → session ≤ n → ((k : ℕ) (e : Entry) → slice_get more k ≡ Some e → ¬ (root_of e (n + k + 1) ≡ session)) → All (IsOfOther session) more
+others-of session n more come none =
+    All-from_recursion (IsOfOther session) more (each-get (IsOfOther session) more (λ k e here same. none k e here (ap (λ (m : ℕ). min m (n + k + 1)) same ∙ min-eq_left (omega arith))))
+
 -- the history at the step goes on from what the pass had seen by entries of others
 pub record Between (fixed : Fixed) (v w : Knowing) (session : ℕ) : Type 0 where
   pub more : List Entry
@@ -47,13 +52,12 @@ between {fixed} {v} {w} {ask} session m come st =
       more = more;
       is = is;
       legal = (legal-split fixed.pool (v.seen ++ more) (entry ∷ []) (subst (IsLegal fixed.pool) whole m.legal)).0;
-      others = All-from_recursion (IsOfOther session) more (each-get (IsOfOther session) more (λ k e here same.
+      others = others-of session (length v.seen) more come (λ k e here root.
           let within = slice_get_within more k e here in
           let there : slice_get w.seen (length v.seen + k) ≡ Some e = prefix_get (v.seen ++ more) w.seen (length v.seen + k) e (entry ∷ [], sym whole) (get_right v.seen more k e here) in
-          let root : root_of e (length v.seen + k + 1) ≡ session = ap (λ (n : ℕ). min n (length v.seen + k + 1)) same ∙ min-eq_left (omega arith) in
           m.told.others (length v.seen + k) e (omega arith) there
           (λ s. ⊎_elim (λ (q : length v.seen + k + 1 ≡ length w.seen). absurd (omega (arith, q, few, within))) (λ (z : ⊥). absurd z) s)
-          (subst (λ (n : ℕ). Stands n v.mine) (sym root) st)));
+          (subst (λ (n : ℕ). Stands n v.mine) (sym root) st));
     }
 
 -- so what is the session's own is what it was
@@ -68,16 +72,10 @@ pub goes-on : (history seen : List Entry) (mine : List (ℕ × Entry)) (session 
     → session ≤ length seen → Stands session mine → (more : List Entry) × ((history ≡ seen ++ more) × All (IsOfOther session) more)
 goes-on history seen mine session begins none come st =
     let more = begins.0 in
-    let is : history ≡ seen ++ more = sym begins.1 in (
-      more,
-      (
-        is,
-        All-from_recursion (IsOfOther session) more (each-get (IsOfOther session) more (λ k e here same.
-            let there : slice_get history (length seen + k) ≡ Some e = ap (λ (h : List Entry). slice_get h (length seen + k)) is ∙ get_right seen more k e here in
-            let root : root_of e (length seen + k + 1) ≡ session = ap (λ (n : ℕ). min n (length seen + k + 1)) same ∙ min-eq_left (omega arith) in
-            none (length seen + k) e (omega arith) there (subst (λ (n : ℕ). Stands n mine) (sym root) st))),
-      ),
-    )
+    let is : history ≡ seen ++ more = sym begins.1 in
+    let others = others-of session (length seen) more come (λ k e here root.
+    none (length seen + k) e (omega arith) (ap (λ (h : List Entry). slice_get h (length seen + k)) is ∙ get_right seen more k e here) (subst (λ (n : ℕ). Stands n mine) (sym root) st)) in
+    (more, (is, others))
 
 -- the history that a call without an entry found goes on by entries of others
 pub between-none : {fixed : Fixed} {v w : Knowing} (session : ℕ) → MakesNone fixed v w → session ≤ length v.seen → Stands session v.mine

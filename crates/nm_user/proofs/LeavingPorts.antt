@@ -31,7 +31,7 @@ use Rattle.vale_own.proofs.SideAsking.{shut-asked, finish-asked, leave-asked}
 use Rattle.vale_book.specs.Recorded.{standing, HasRoom}
 use Rattle.vale_fabric.specs.declared.kept.Fixed.{Fixed}
 use Rattle.vale_fabric.specs.Roots.{root_of}
-use Rattle.vale_fabric.specs.Fabrics.{Knowing, MayAsk, Answers, MakesNone, entry_by, earlier, record_in}
+use Rattle.vale_fabric.specs.Fabrics.{Knowing, MayAsk, Answers, Makes, MakesNone, entry_by, earlier, record_in}
 use Rattle.nm_user.specs.declared.leaving.Detached.{Detached}
 use Rattle.nm_user.specs.Sessions.{SessionState, IsThere, standing_seen}
 use Rattle.nm_user.specs.Leaving.{MayWait, IsMadeAt, IsDetached, AreDetached}
@@ -50,6 +50,18 @@ none-then {fixed} {v} {w} {x} m n = record {
   told = told_then root_of v w x w.seen x.seen [] [] m.told n.told;
   legal = n.legal;
   whole = λ is. n.whole (subst IsWhole (sym m.told.part) is);
+}
+
+abbrev makes-then : {fixed : Fixed} {v w x : Knowing} {ask : Ask} → MakesNone fixed v w → Makes fixed w x ask → Makes fixed v x ask
+makes-then {fixed} {v} {w} {x} {ask} none m = record {
+  session = m.session;
+  reply = m.reply;
+  seen = m.seen;
+  told = told_then root_of v w x w.seen x.seen [] ((length x.seen, entry_by m.session ask m.reply) ∷ []) none.told m.told;
+  steps = m.steps;
+  room = m.room;
+  legal = m.legal;
+  whole = λ is. m.whole (subst IsWhole (sym none.told.part) is);
 }
 
 pub waits-on : {fixed : Fixed} {v w x : Knowing} → HasWaited fixed v w → MakesNone fixed w x → HasWaited fixed v x
@@ -72,21 +84,7 @@ still-may {fixed} {v} {w} {ask} (inr none) m =
 -- and what it makes at last is all that was made
 pub made-at-last : {fixed : Fixed} {v w x : Knowing} {ask : Ask} {reply : Reply} → HasWaited fixed v w → Answers fixed w x ask reply → Answers fixed v x ask reply
 made-at-last {fixed} {v} {w} {x} {ask} {reply} (inl same) a = subst (λ (u : Knowing). Answers fixed u x ask reply) same a
-made-at-last {fixed} {v} {w} {x} {ask} {reply} (inr none) a =
-    let m = a.makes in
-    record {
-      makes = record {
-        session = m.session;
-        reply = m.reply;
-        seen = m.seen;
-        told = told_then root_of v w x w.seen x.seen [] ((length x.seen, entry_by m.session ask m.reply) ∷ []) none.told m.told;
-        steps = m.steps;
-        room = m.room;
-        legal = m.legal;
-        whole = λ is. m.whole (subst IsWhole (sym none.told.part) is);
-      };
-      reply_is = a.reply_is;
-    }
+made-at-last {fixed} {v} {w} {x} {ask} {reply} (inr none) a = record { makes = makes-then none a.makes; reply_is = a.reply_is }
 
 -- ---- a port that is shut
 

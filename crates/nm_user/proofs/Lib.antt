@@ -11,10 +11,9 @@ pub mod Sends
 pub mod LeavingPorts
 pub mod ReceivesCome
 pub mod Receives
+pub mod Resets
+pub mod Refusals
 pub mod ReceivesTold
-pub mod TransmitsReset
-pub mod Transmits
-pub mod ReceivesReset
 pub mod TransmitsPut
 pub mod TransmitsTold
 pub mod TransmitsLent

@@ -54,8 +54,10 @@ use Rattle.nm_user.proofs.Plain.{has-side, asked, there-answered}
 abbrev pub opening : SessionState → List ℕ → ℕ → ℕ → ℕ → Ask
 opening s name tx rx extra = Open (record { 0 = s.id }) name tx rx extra
 
-pub open-asks : {s : SessionState} (name : List ℕ) (tx rx extra : ℕ) → IsThere None s → is_name name ≡ true → tx < 2 ^ 32 → rx < 2 ^ 32 → extra < 2 ^ 32
-    → asks (standing_seen s.fixed s.knows) s.id (opening s name tx rx extra) ≡ true
+abbrev pub MayOpen : SessionState → List ℕ → ℕ → ℕ → ℕ → Type 0
+MayOpen s name tx rx extra = asks (standing_seen s.fixed s.knows) s.id (opening s name tx rx extra) ≡ true
+
+pub open-asks : {s : SessionState} (name : List ℕ) (tx rx extra : ℕ) → IsThere None s → is_name name ≡ true → tx < 2 ^ 32 → rx < 2 ^ 32 → extra < 2 ^ 32 → MayOpen s name tx rx extra
 open-asks {s} name tx rx extra t named first second third =
     let one : fits_u32 tx ≡ true = lt-ltb tx (2 ^ 32) first in
     let two : fits_u32 rx ≡ true = lt-ltb rx (2 ^ 32) second in
@@ -119,7 +121,7 @@ pub record IsOpened (s : SessionState) (w : Knowing) (name : List ℕ) (tx rx ex
   pub once : IsDistinct nat_eq (bufs_at (now_at s w) tx rx extra)
 
 -- a side that has something is there
-pub side-there : (own : Option SideState) (has : OwnState) → own_if own ≡ Some has → (side : SideState) × (own ≡ Some side)
+side-there : (own : Option SideState) (has : OwnState) → own_if own ≡ Some has → (side : SideState) × (own ≡ Some side)
 side-there None has is = absurd cc
 side-there (Some side) has is = (side, refl)
 
@@ -127,7 +129,14 @@ own-there : (own : Option SideState) (has : OwnState) → own_if own ≡ Some ha
 own-there None has is = absurd cc
 own-there (Some side) has is = let same : side.own ≡ has = cc in same
 
-module _ (s : SessionState) (w : Knowing) (name : List ℕ) (tx rx extra : ℕ) (t : IsThere None s) (may : asks (standing_seen s.fixed s.knows) s.id (opening s name tx rx extra) ≡ true) where
+-- the session once its own side has the port
+pub record IsAdded (s : SessionState) (w : Knowing) (own : Option SideState) (ask : Ask) : Type 0 where
+  pub side : SideState
+  pub side_is : own ≡ Some side
+  pub there : IsThere None (record s { knows = w; own = own_in own })
+  pub made : Made s (record s { knows = w; own = own_in own }) ask Opened
+
+module _ (s : SessionState) (w : Knowing) (name : List ℕ) (tx rx extra : ℕ) (t : IsThere None s) (may : MayOpen s name tx rx extra) where
   abbrev ask : Ask
   ask = opening s name tx rx extra
 
@@ -186,7 +195,7 @@ module _ (s : SessionState) (w : Knowing) (name : List ℕ) (tx rx extra : ℕ) 
     abbrev added : ℕ → List ℕ → ℕ → ℕ → List ℕ → OwnState → Option OwnState
     added n label slots places idxs side = Some (own_after_open n label slots places (blank_arrivals idxs) side)
 
-    pub own-added : (old own : Option SideState) (new : Option NewPortState) (side : SideState) → old ≡ Some side → side.own ≡ s.own → IsReady s.own name tx rx extra new
+    own-added : (old own : Option SideState) (new : Option NewPortState) (side : SideState) → old ≡ Some side → side.own ≡ s.own → IsReady s.own name tx rx extra new
         → IfSome old (λ side. IfSome new (λ port. own_if own ≡ added opened.port.0 port.name port.sizes.tx port.sizes.rx (indices_of opened.tx.items ++ indices_of opened.extra.items) side.own))
         → own_if own ≡ Some (after_call s w ask Opened).own
     own-added old own None side was same ready made = absurd (let sizes = (is-opened a).sizes in cc)
@@ -199,11 +208,19 @@ module _ (s : SessionState) (w : Knowing) (name : List ℕ) (tx rx extra : ℕ) 
         ∙ (ap (λ (z : PortSizes). added (length w.seen) name z.tx z.rx idxs s.own) ready.1
         ∙ ap (λ (all : List ℕ). added (length w.seen) name tx rx all s.own) came))))
 
-  pub opened-there : (own : Option SideState) → own_if own ≡ Some (after_call s w ask Opened).own → Answers s.fixed s.knows w ask Opened → IsThere None (record s { knows = w; own = own_in own })
-  opened-there own is a = subst (λ (o : OwnState). IsThere None (record s { knows = w; own = o })) (sym (own-there own (after_call s w ask Opened).own is)) (there-answered t may a refl refl tt)
-
-  pub opened-made : (own : Option SideState) → own_if own ≡ Some (after_call s w ask Opened).own → Answers s.fixed s.knows w ask Opened → Made s (record s { knows = w; own = own_in own }) ask Opened
-  opened-made own is a = record { answers = a; fabric = refl; fixed = refl; id = refl; own = own-there own (after_call s w ask Opened).own is }
+    pub is-added : (old own : Option SideState) (new : Option NewPortState) (side : SideState) → old ≡ Some side → side.own ≡ s.own → IsReady s.own name tx rx extra new
+        → IfSome old (λ side. IfSome new (λ port. own_if own ≡ added opened.port.0 port.name port.sizes.tx port.sizes.rx (indices_of opened.tx.items ++ indices_of opened.extra.items) side.own))
+        → IsAdded s w own ask
+    is-added old own new side was same ready made =
+        let has = own-added old own new side was same ready made in
+        let there = side-there own _ has in
+        let now = own-there own (after_call s w ask Opened).own has in
+        record {
+          side = there.0;
+          side_is = there.1;
+          there = subst (λ (o : OwnState). IsThere None (record s { knows = w; own = o })) (sym now) (there-answered t may a refl refl tt);
+          made = record { answers = a; fabric = refl; fixed = refl; id = refl; own = now };
+        }
 
   pub unopened-there : (fault : OpenFault) → FabricOpensNot s.fixed s.knows w ask fault → IsThere None (record s { knows = w })
   unopened-there BadSize a = there-answered t may a refl refl tt

@@ -61,6 +61,14 @@ use Rattle.nm_user.proofs.ReceivesCome.{arrivals-are, can-come}
 
 -- ---- the call
 
+-- a port has a receive ring
+pub has-ring : (own : OwnState) (id : ℕ) → IsSome (port_with_id own id) → IsSome (ring_at Rx own id)
+has-ring own id some = by (port_with_id own id) some
+  where
+    by : (found : Option OwnPort) → IsSome found → IsSome (option_and_then (ring_on Rx) found)
+    by None none = absurd cc
+    by (Some p) there = refl
+
 pub call-of : (pipe : Bool) (id : PortId) (back : List ℕ) → (let get : Ask = Get id back in let sync : Ask = Sync id back in if pipe then get else sync) ≡ read_ask pipe id back
 call-of true id back = refl
 call-of false id back = refl
@@ -99,14 +107,17 @@ reads own port pipe some named refused =
 abbrev pub reading : OwnState → PortId → Bool → Ask
 reading own port pipe = read_ask pipe port (back_on port.0 own)
 
-pub read-asks : {s : SessionState} {port : PortId} {pipe : Bool} → IsThere None s → Reads s.own port pipe → asks (standing_seen s.fixed s.knows) s.id (reading s.own port pipe) ≡ true
-read-asks {s} {port} {pipe} t c =
+-- the call of a receive sync, whose refusal has numbers that fit, is the session's to ask
+pub rx-asks : {s : SessionState} {port : PortId} (ask : Ask) → IsThere None s → (at : OwnPort) → port_with_id s.own port.0 ≡ Some at → at.id ≡ port → RefusalFits (refusal_in Rx s.own at.rx) → rx_call s.own at ≡ ask
+    → asks (standing_seen s.fixed s.knows) s.id ask ≡ true
+rx-asks {s} {port} ask t at found id_is fits is =
     let pool = s.fixed.pool in
-    let id : port.0 ≡ c.rx.id.0 = ap (λ (i : PortId). i.0) (sym c.id_is) in
-    let found : port_with_id s.own c.rx.id.0 ≡ Some c.rx = subst (λ (n : ℕ). port_with_id s.own n ≡ Some c.rx) id c.found in
-    let fits : RefusalFits (refusal_in Rx s.own c.rx.rx) = subst RefusalFits (sym c.passes) refl in
-    let may = receive-asked pool s.knows.seen s.id None s.own c.rx (has-side t) t.settled (found, refl) fits in
-    asked (reading s.own port pipe) t (subst (MayBeAsked pool s.knows.seen s.id) c.is may)
+    let id : port.0 ≡ at.id.0 = ap (λ (i : PortId). i.0) (sym id_is) in
+    let there : port_with_id s.own at.id.0 ≡ Some at = subst (λ (n : ℕ). port_with_id s.own n ≡ Some at) id found in
+    asked ask t (subst (MayBeAsked pool s.knows.seen s.id) is (receive-asked pool s.knows.seen s.id None s.own at (has-side t) t.settled (there, refl) fits))
+
+pub read-asks : {s : SessionState} {port : PortId} {pipe : Bool} → IsThere None s → Reads s.own port pipe → asks (standing_seen s.fixed s.knows) s.id (reading s.own port pipe) ≡ true
+read-asks {s} {port} {pipe} t c = rx-asks (reading s.own port pipe) t c.rx c.found c.id_is (subst RefusalFits (sym c.passes) refl) c.is
 
 -- ---- its entry, of either kind
 

@@ -6,7 +6,6 @@ use Rattle.nm_types.specs.Faults.{sync_fault_of}
 use Rattle.nm_types.specs.Positions.{pushed_slots}
 use Rattle.nm_types.specs.Slots.{Pushed, pushed_names}
 use Rattle.nm_types.specs.declared.fault.StepFault.{StepFault}
-use Rattle.nm_types.specs.declared.fault.StepFault.TheVariants as steps
 use Rattle.nm_types.specs.declared.fault.SyncFault.{SyncFault}
 use Rattle.nm_types.specs.declared.fault.SyncFault.TheVariants.{NoMemory}
 use Rattle.nm_types.specs.declared.id.PortId.{PortId}
@@ -34,12 +33,12 @@ use Rattle.vale_fabric.specs.Settling.{Settles}
 use Rattle.nm_user.specs.Sessions.{SessionState, IsThere}
 use Rattle.nm_user.specs.Calls.{MadeNone}
 use Rattle.nm_user.specs.declared.receiving.Received.{Received}
-use Rattle.nm_user.specs.Syncs.{SyncsNot}
 use Rattle.nm_user.specs.Receives.{IsReceived, ReceivesNot}
 use Rattle.vale_fabric.specs.Reading.{IsRead}
 use Rattle.nm_user.specs.Receiving.{arrivals_in, CanCome}
 use Rattle.nm_user.proofs.Plain.{has-open}
 use Rattle.nm_user.proofs.Sends.{Ends, IsMadeBy, as-own, synced}
+use Rattle.nm_user.proofs.Refusals.{says-full}
 use Rattle.nm_user.proofs.Receives.{Reads, ReadsHere, reading, mine, own-is, found-step, read-ends, read-there, come-so, came-are}
 
 -- ---- frames came
@@ -73,16 +72,11 @@ received-tells {s} {w} {x} {port} {pipe} {count} {to} {shares} o received t c a 
 
 -- ---- it was refused
 
--- want of room or of memory, which is no refusal of the checks
-pub none-made : {s t : SessionState} {ask : Ask} (refusal : Option SyncFault) (fault : StepFault) → MadeNone s t ask fault → SyncsNot s t ask refusal (sync_fault_of fault)
-none-made refusal (steps.RecordFull what used want) none = none
-none-made refusal steps.NoMemory none = none
-
 pub unreceived : {s : SessionState} {w : Knowing} {port : PortId} {pipe : Bool} {fault : StepFault} → Reads s.own port pipe → Refuses s.fixed s.knows w (reading s.own port pipe) fault
     → ReceivesNot s (record s { knows = w }) port.0 (sync_fault_of fault)
 unreceived {s} {w} {port} {pipe} {fault} c full = record {
   at = record { port = c.rx; found = c.found };
-  not = none-made (refusal_in Rx s.own c.rx.rx) fault (subst (λ (ask : Ask). MadeNone s (record s { knows = w }) ask fault) (sym c.is) (record { refused = inr full; same = refl }));
+  not = says-full s (record s { knows = w }) (rx_call s.own c.rx) (refusal_in Rx s.own c.rx.rx) fault (subst (λ (ask : Ask). MadeNone s (record s { knows = w }) ask fault) (sym c.is) (record { refused = inr full; same = refl }));
 }
 
 -- ---- as the session has it, frame by frame

@@ -124,29 +124,36 @@ reads-by s id session by pipe at back reply owner none port found mine = on (at.
         absurd (let bad : true ≡ false = sym t ∙ no in cc)
     on false t = rw t refl
 
-reads-ask : (s : Standing) (id session by : ℕ) (ask : Ask) (reply : Reply) → option_map session_and_reply (recorded_step s ask reply) ≡ Some (by, reply)
-    → ((port : Port) → open_port s.world.ports id ≡ Some port → port.session ≡ session) → (by ≡ session → reads_at id ask ≡ false) → read_by id s.world ask ≡ []
-reads-ask s id session by (Enter user) reply e owner none = refl
-reads-ask s id session by (Open at name tx rx extra) reply e owner none = refl
-reads-ask s id session by (Send from frames) reply e owner none = refl
-reads-ask s id session by (Grant origin to) reply e owner none = refl
-reads-ask s id session by (Done lease) reply e owner none = refl
-reads-ask s id session by (Sync at back) reply e owner none = let st = stepped false s at back by reply e in reads-by s id session by false at back reply owner none st.at st.found st.session_is
-reads-ask s id session by (Reset at side fault) reply e owner none = refl
-reads-ask s id session by (Shut at) reply e owner none = refl
-reads-ask s id session by (Finish at bufs chain) reply e owner none = refl
-reads-ask s id session by (Leave at) reply e owner none = refl
-reads-ask s id session by (Put at offered) reply e owner none = refl
-reads-ask s id session by (PutKept at offered) reply e owner none = refl
-reads-ask s id session by (Get at back) reply e owner none = let st = stepped true s at back by reply e in reads-by s id session by true at back reply owner none st.at st.found st.session_is
-reads-ask s id session by (Watch monitor target sides) reply e owner none = refl
-reads-ask s id session by (Stat at) reply e owner none = refl
+-- an ask that reads nothing, or one of the two that read
+by-reads : (P : Ask → Type 0) → ((ask : Ask) → ((w : World) (id : ℕ) → read_by id w ask ≡ []) → P ask) → ((at : PortId) (back : List ℕ) → P (Sync at back)) → ((at : PortId) (back : List ℕ) → P (Get at back)) → (ask : Ask) → P ask
+by-reads P none syncs gets (Enter user) = none (Enter user) (λ w id. refl)
+by-reads P none syncs gets (Open at name tx rx extra) = none (Open at name tx rx extra) (λ w id. refl)
+by-reads P none syncs gets (Send from frames) = none (Send from frames) (λ w id. refl)
+by-reads P none syncs gets (Grant origin to) = none (Grant origin to) (λ w id. refl)
+by-reads P none syncs gets (Done lease) = none (Done lease) (λ w id. refl)
+by-reads P none syncs gets (Sync at back) = syncs at back
+by-reads P none syncs gets (Reset at side fault) = none (Reset at side fault) (λ w id. refl)
+by-reads P none syncs gets (Shut at) = none (Shut at) (λ w id. refl)
+by-reads P none syncs gets (Finish at bufs chain) = none (Finish at bufs chain) (λ w id. refl)
+by-reads P none syncs gets (Leave at) = none (Leave at) (λ w id. refl)
+by-reads P none syncs gets (Put at offered) = none (Put at offered) (λ w id. refl)
+by-reads P none syncs gets (PutKept at offered) = none (PutKept at offered) (λ w id. refl)
+by-reads P none syncs gets (Get at back) = gets at back
+by-reads P none syncs gets (Watch monitor target sides) = none (Watch monitor target sides) (λ w id. refl)
+by-reads P none syncs gets (Stat at) = none (Stat at) (λ w id. refl)
+
+reads-ask : (s : Standing) (id session by : ℕ) (reply : Reply) → ((port : Port) → open_port s.world.ports id ≡ Some port → port.session ≡ session)
+    → (ask : Ask) → option_map session_and_reply (recorded_step s ask reply) ≡ Some (by, reply) → (by ≡ session → reads_at id ask ≡ false) → read_by id s.world ask ≡ []
+reads-ask s id session by reply owner =
+    by-reads (λ (ask : Ask). option_map session_and_reply (recorded_step s ask reply) ≡ Some (by, reply) → (by ≡ session → reads_at id ask ≡ false) → read_by id s.world ask ≡ [])
+    (λ ask silent e none. silent s.world id)
+    (λ at back e none. let st = stepped false s at back by reply e in reads-by s id session by false at back reply owner none st.at st.found st.session_is)
+    (λ at back e none. let st = stepped true s at back by reply e in reads-by s id session by true at back reply owner none st.at st.found st.session_is)
 
 pub reads-none : (pool : ℕ) (past : List Entry) (e : Entry) (session id : ℕ) → Follows (standing_of pool past) e → IsPortOf pool past session id → ReadsNot session id e → read_in id (world_of pool past) e ≡ []
 reads-none pool past e session id follows k none =
     let w = world_of pool past in
-    reads-ask (standing_of pool past) id session e.session.0 e.ask e.reply follows
-    (λ port found. k.owner port (found-open w.ports w.entry_count id port (world-numbered pool past).ports_rise found).here) none
+    reads-ask (standing_of pool past) id session e.session.0 e.reply (λ port found. k.owner port (found-open w.ports w.entry_count id port (world-numbered pool past).ports_rise found).here) e.ask follows none
 
 -- before its number nothing reads at a port
 unread-at : (w : World) (id at : ℕ) → open_port w.ports id ≡ None → cond (at == id) (frames_at delivered_frames (open_port w.ports at)) [] ≡ []
@@ -156,25 +163,11 @@ unread-at w id at none = on (at == id) refl
     on true t = rw t (ap (frames_at delivered_frames) (subst (λ (n : ℕ). open_port w.ports n ≡ None) (sym (eqb-true at id t)) none))
     on false t = rw t refl
 
-unread-ask : (w : World) (id : ℕ) (ask : Ask) → open_port w.ports id ≡ None → read_by id w ask ≡ []
-unread-ask w id (Enter user) none = refl
-unread-ask w id (Open at name tx rx extra) none = refl
-unread-ask w id (Send from frames) none = refl
-unread-ask w id (Grant origin to) none = refl
-unread-ask w id (Done lease) none = refl
-unread-ask w id (Sync at back) none = unread-at w id at.0 none
-unread-ask w id (Reset at side fault) none = refl
-unread-ask w id (Shut at) none = refl
-unread-ask w id (Finish at bufs chain) none = refl
-unread-ask w id (Leave at) none = refl
-unread-ask w id (Put at offered) none = refl
-unread-ask w id (PutKept at offered) none = refl
-unread-ask w id (Get at back) none = unread-at w id at.0 none
-unread-ask w id (Watch monitor target sides) none = refl
-unread-ask w id (Stat at) none = refl
+unread-ask : (w : World) (id : ℕ) → open_port w.ports id ≡ None → (ask : Ask) → read_by id w ask ≡ []
+unread-ask w id none = by-reads (λ (ask : Ask). read_by id w ask ≡ []) (λ ask silent. silent w id) (λ at back. unread-at w id at.0 none) (λ at back. unread-at w id at.0 none)
 
 pub unread-before : (pool : ℕ) (past : List Entry) (e : Entry) (id : ℕ) → length past < id → read_in id (world_of pool past) e ≡ []
-unread-before pool past e id before = unread-ask w id e.ask (open_port-none w.ports id (by (port_at w.ports id) refl))
+unread-before pool past e id before = unread-ask w id (open_port-none w.ports id (by (port_at w.ports id) refl)) e.ask
   where
     w : World
     w = world_of pool past

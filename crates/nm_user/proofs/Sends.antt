@@ -16,7 +16,6 @@ use Rattle.nm_types.specs.declared.fault.StepFault.{StepFault}
 use Rattle.nm_types.specs.declared.fault.SyncFault.{SyncFault}
 use Rattle.nm_types.specs.OwnPorts.{OwnPort, OwnRing, OwnState, bytes_at, port_with_id, ring_at, ring_on, refusal_in, pushed_in, pushed_on, pushed_at, pushed_count}
 use Rattle.nm_types.specs.OwnSyncs.{own_after_send}
-use Rattle.nm_port.specs.Own.{refusal_at}
 use Rattle.nm_turn.specs.Shares.{IsWhole}
 use Rattle.nm_turn.proofs.Telling.{told_then}
 use Rattle.nm_turn.specs.Passes.{Told}
@@ -71,6 +70,41 @@ has-tx own id some = by (port_with_id own id) refl some
     by None e none = absurd cc
     by (Some p) e there = has-ring own id p p.tx e refl there
 
+-- the call of a transmit sync that no check refuses, by a pipe's end or by another port
+abbrev pub as_pushed : Bool → OwnState → OwnPort → OwnRing → Ask
+as_pushed true own port ring = Put port.id (offered_items own ring)
+as_pushed false own port ring = Send port.id (pushed_frames (bytes_at own) (pushed_in Tx ring))
+
+pub record Passes (pipe : Bool) (own : OwnState) (port : PortId) : Type 0 where
+  pub tx : HasTx own port.0
+  pub id_is : tx.port.id ≡ port
+  pub ring_is : ring_at Tx own port.0 ≡ Some tx.ring
+  pub passes : refusal_in Tx own tx.ring ≡ None
+  pub is : tx_call own tx.port tx.ring ≡ as_pushed pipe own tx.port tx.ring
+
+if-pushed : (pipe : Bool) (own : OwnState) (port : OwnPort) (ring : OwnRing)
+    → (let put : Ask = as_pushed true own port ring in let send : Ask = as_pushed false own port ring in if pipe then put else send) ≡ as_pushed pipe own port ring
+if-pushed true own port ring = refl
+if-pushed false own port ring = refl
+
+pub passed : {pipe : Bool} {own : OwnState} (port : PortId) → PassesTx pipe own port.0 → Passes pipe own port
+passed {pipe} {own} port p =
+    let tx = has-tx own port.0 p.ring in
+    let at : ring_at Tx own port.0 ≡ Some tx.ring = ap (option_and_then (ring_on Tx)) tx.found ∙ tx.has in
+    let passes : refusal_in Tx own tx.ring ≡ None = sym (ap (option_and_then (refusal_in Tx own)) at) ∙ p.passes in
+    let name : is_pipe_name tx.port.name ≡ pipe = subst (λ (o : Option OwnPort). IfSome o (λ (q : OwnPort). is_pipe_name q.name ≡ pipe)) tx.found p.name in
+    let place = place-of (λ (q : OwnPort). q.id.0 == port.0) own.ports tx.port tx.found in
+    let put : Ask = as_pushed true own tx.port tx.ring in
+    let send : Ask = as_pushed false own tx.port tx.ring in
+    record {
+      tx = tx;
+      id_is = ap (λ (n : ℕ). let made : PortId = record { 0 = n } in made) (eqb-true tx.port.id.0 port.0 place.passes);
+      ring_is = at;
+      passes = passes;
+      is = ap (λ (o : Option SyncFault). or_reset o tx.port.id Tx (if is_pipe_name tx.port.name then put else send)) passes
+          ∙ (ap (λ (b : Bool). if b then put else send) name ∙ if-pushed pipe own tx.port tx.ring);
+    }
+
 -- the transmit sync of a port is a send of these frames
 pub record Sends (own : OwnState) (port : PortId) (frames : List Frame) : Type 0 where
   pub tx : HasTx own port.0
@@ -79,28 +113,19 @@ pub record Sends (own : OwnState) (port : PortId) (frames : List Frame) : Type 0
   pub is : tx_call own tx.port tx.ring ≡ Send port frames
   pub count : length frames ≡ pushed_count tx.ring
 
-pub sends : (own : OwnState) (port : PortId) (frames : List Frame) → IsSome (ring_at Tx own port.0) → IfSome (port_with_id own port.0) (λ (p : OwnPort). is_pipe_name p.name ≡ false)
-    → refusal_at Tx port.0 own ≡ None → frames ≡ pushed_frames (bytes_at own) (pushed_on Tx port.0 own) → Sends own port frames
-sends own port frames some named refused frames-are =
-    let tx = has-tx own port.0 some in
-    let at : ring_at Tx own port.0 ≡ Some tx.ring = ap (option_and_then (ring_on Tx)) tx.found ∙ tx.has in
-    let passes : refusal_in Tx own tx.ring ≡ None = sym (ap (option_and_then (refusal_in Tx own)) at) ∙ refused in
-    let pushed : pushed_on Tx port.0 own ≡ pushed_in Tx tx.ring = ap (λ (o : Option OwnRing). option_map_or (pushed_in Tx) o []) at in
-    let name : is_pipe_name tx.port.name ≡ false = subst (λ (o : Option OwnPort). IfSome o (λ (p : OwnPort). is_pipe_name p.name ≡ false)) tx.found named in
-    let place = place-of (λ (p : OwnPort). p.id.0 == port.0) own.ports tx.port tx.found in
-    let id : tx.port.id ≡ port = ap (λ (n : ℕ). let made : PortId = record { 0 = n } in made) (eqb-true tx.port.id.0 port.0 place.passes) in
-    let these : pushed_frames (bytes_at own) (pushed_in Tx tx.ring) ≡ frames = ap (pushed_frames (bytes_at own)) (sym pushed) ∙ sym frames-are in
-    let as-pipe : Ask = Put tx.port.id (offered_items own tx.ring) in
-    let as-send : Ask = Send tx.port.id (pushed_frames (bytes_at own) (pushed_in Tx tx.ring)) in
+sends : (own : OwnState) (port : PortId) (frames : List Frame) → PassesTx false own port.0 → frames ≡ pushed_frames (bytes_at own) (pushed_on Tx port.0 own) → Sends own port frames
+sends own port frames p frames-are =
+    let c = passed {pipe = false} {own = own} port p in
+    let ring = c.tx.ring in
+    let these : pushed_frames (bytes_at own) (pushed_in Tx ring) ≡ frames =
+    ap (λ (o : Option OwnRing). pushed_frames (bytes_at own) (option_map_or (pushed_in Tx) o [])) (sym c.ring_is) ∙ sym frames-are in
     record {
-      tx = tx;
-      id_is = id;
-      passes = passes;
-      is = ap (λ (o : Option SyncFault). or_reset o tx.port.id Tx (if is_pipe_name tx.port.name then as-pipe else as-send)) passes
-          ∙ (ap (λ (b : Bool). if b then as-pipe else as-send) name
-          ∙ (ap (λ (i : PortId). Send i (pushed_frames (bytes_at own) (pushed_in Tx tx.ring))) id ∙ ap (Send port) these));
+      tx = c.tx;
+      id_is = c.id_is;
+      passes = c.passes;
+      is = c.is ∙ (ap (λ (i : PortId). Send i (pushed_frames (bytes_at own) (pushed_in Tx ring))) c.id_is ∙ ap (Send port) these);
       count = ap (λ (fs : List Frame). length fs) (sym these)
-          ∙ (length-map (pushed_in Tx tx.ring) (λ (p : Pushed). frame_at (bytes_at own) p.slot) ∙ length-map (pushed_slots tx.ring.ring tx.ring.ring.head) (pushed_at Tx tx.ring));
+          ∙ (length-map (pushed_in Tx ring) (λ (q : Pushed). frame_at (bytes_at own) q.slot) ∙ length-map (pushed_slots ring.ring ring.ring.head) (pushed_at Tx ring));
     }
 
 -- the call of a transmit sync, whose refusal has numbers that fit, is the session's to ask
@@ -286,8 +311,7 @@ pub ready : {seen now : SessionState} {own : OwnState} (port : PortId) (frames :
 ready {seen} {now} {own} port frames e f there passes are =
     let at = as-own e f in
     let same : now.own ≡ own = ap (λ (s : SessionState). s.own) at in
-    let here : PassesTx false own port.0 = subst (λ (o : OwnState). PassesTx false o port.0) same passes in
-    record { there = subst (IsThere None) (e ∙ at) there; sends = sends own port frames here.ring here.name here.passes are }
+    record { there = subst (IsThere None) (e ∙ at) there; sends = sends own port frames (subst (λ (o : OwnState). PassesTx false o port.0) same passes) are }
 
 pub few-frames : {s : SessionState} {port : PortId} {frames : List Frame} → Ready s port frames → (n : ℕ) → n ≡ length frames → n < 2 ^ 32
 few-frames {s} {port} {frames} k n is =

@@ -1,7 +1,8 @@
 -- The buffers that come for the frames that a pipe's other end took are new to the session.
 use Rattle.std.proofs.Common.{ℕ, ◌≡◌, ◌≤◌, nat_eq, List, take, drop, length, sym, ap, subst, refl, ◌∙◌, arith, None}
 use Rattle.std.specs.List.{AllByRecursion as Each, IsDistinct}
-use Rattle.std.specs.Vec.{vec_capacity}
+use Rattle.std.specs.declared.alloc.Global.{Global}
+use Rattle.std.specs.declared.vec.Vec.{Vec}
 use Rattle.std.proofs.lemmas.List.{length-map, drop-map}
 use lib.ListN.{length-drop}
 use Rattle.std.proofs.lemmas.List.Elements.{recursion_from_All}
@@ -10,7 +11,6 @@ use Rattle.nm_types.specs.OwnPorts.{Arrival, OwnState}
 use Rattle.nm_types.specs.OwnSyncs.{buffers_of_arrivals}
 use Rattle.nm_region.specs.Buffers.{Buffer, indices_of}
 use Rattle.nm_own.specs.Opening.{IsNew}
-use Rattle.nm_own.specs.LentOffers.{IsLentOffers}
 use Rattle.nm_port.specs.Regions.{SideState}
 use Rattle.vale_line.specs.declared.got.Got.{Got}
 use Rattle.vale_line.specs.Gots.{buffer_of, buffers_of}
@@ -74,29 +74,28 @@ come-new {s} {w} {port} gots put t c a is =
       once = distinct-once bufs (λ x. once-by (count_of x (own_of m.session now).buffers) (count_of x bufs) (is_buffer_index pool x) (rw (← ap (count_of x) come) (arrivals-apart pool h e x l.legal l.follows)));
     }
 
--- so the first frames can be taken: `left` has the others
-pub can-take : {s : SessionState} (side : SideState) (o left : Offering) (put : GivenPut) → side.own ≡ s.own → IsOffering side o → left.lent ≡ o.lent → left.bufs ≡ o.bufs
-    → left.pending.items ≡ drop put.took o.pending.items → ComeNew s o.pending.items put → CanTake side o.pending.items left put.back.items
-can-take {s} side o left put same is lent bufs pending come =
+-- so the first frames can be taken: `pending` has the others
+pub can-take : {s : SessionState} (side : SideState) (o : Offering) (pending : Vec Got Global) (put : GivenPut) → side.own ≡ s.own → IsOffering side o → pending.items ≡ drop put.took o.pending.items → ComeNew s o.pending.items put
+    → CanTake side o.pending.items (record o { pending = pending }) put.back.items
+can-take {s} side o pending put same is left come =
     let all = o.pending.items in
     let came = length-map put.back.items (λ (b : Buffer). b.index) in
     let number = come.count in
     let count : length put.back.items ≡ put.took = omega (arith, came, number) in
-    let back : buffers_of left.pending.items ≡ drop (length put.back.items) (buffers_of all) =
-    ap buffers_of pending ∙ (sym (drop-map buffer_of put.took all) ∙ ap (λ (n : ℕ). drop n (buffers_of all)) (sym count)) in
+    let back : buffers_of pending.items ≡ drop (length put.back.items) (buffers_of all) =
+    ap buffers_of left ∙ (sym (drop-map buffer_of put.took all) ∙ ap (λ (n : ℕ). drop n (buffers_of all)) (sym count)) in
     let few = come.few in
     let long = length-map all buffer_of in
-    let rest = ap (λ (gs : List Got). length gs) pending ∙ length-drop put.took all in
+    let rest = ap (λ (gs : List Got). length gs) left ∙ length-drop put.took all in
     let room = is.room in
-    let fits : length left.pending.items ≤ vec_capacity o.bufs = omega (arith, rest, room) in
     record {
       lent = record {
-        lends = subst (IsLentOffers side (buffers_of all)) (sym lent) is.lent;
+        lends = is.lent;
         back = back;
         few = omega (arith, count, few, long);
         new = subst (λ (own : OwnState). Each (IsNew own) (indices_of put.back.items)) (sym same) come.new;
         once = come.once;
       };
-      empty = rw bufs is.empty;
-      room = rw bufs fits;
+      empty = is.empty;
+      room = omega (arith, rest, room);
     }

@@ -2,6 +2,8 @@
 use Rattle.std.proofs.Common.{ℕ, ◌+◌, ◌<◌, ◌≡◌, List, [], ◌∷◌, ◌++◌, drop, length, reverse, get_or, refl, sym, ◌∙◌, ap, arith, append_assoc, add-one, drop-cons, subst, ◌≤◌}
 use Rattle.std.proofs.lemmas.List.{reverse-append}
 use Rattle.std.specs.List.{IsDistinct}
+use Rattle.std.specs.declared.alloc.Global.{Global}
+use Rattle.std.specs.declared.vec.Vec.{Vec}
 use Rattle.nm_types.specs.declared.id.PortId.{PortId}
 use Rattle.nm_region.specs.Buffers.{Buffer}
 use Rattle.nm_own.specs.declared.lend_offers.LentOffers.{LentOffers}
@@ -62,10 +64,5 @@ take-none s o came none k =
     subst (CanTake s o.pending.items o) (sym none) (record { lent = record { lends = k.lent; back = refl; few = few; new = tt; once = tt }; empty = k.empty; room = k.room })
 
 -- frames that none took are offered still
-pub offers-still : (s : SideState) (o left : Offering) → IsOffering s o → left.lent ≡ o.lent → left.bufs ≡ o.bufs → left.pending.items ≡ o.pending.items → IsOffering s left
-offers-still s o left is lent bufs kept =
-    record {
-      lent = subst (λ (gs : List Got). IsLentOffers s (buffers_of gs) left.lent) (sym kept) (subst (IsLentOffers s (buffers_of o.pending.items)) (sym lent) is.lent);
-      empty = rw bufs is.empty;
-      room = rw (bufs, kept) is.room;
-    }
+pub offers-still : (s : SideState) (o : Offering) (pending : Vec Got Global) → IsOffering s o → pending.items ≡ o.pending.items → IsOffering s (record o { pending = pending })
+offers-still s o pending is kept = record { lent = subst (λ (gs : List Got). IsLentOffers s (buffers_of gs) o.lent) (sym kept) is.lent; empty = is.empty; room = rw kept is.room }

@@ -1,27 +1,23 @@
 -- A sync that offers what is pushed to a pipe's other end.
-use Rattle.std.proofs.Common.{ℕ, ◌≡◌, ◌≤◌, ◌==◌, ◌++◌, Bool, true, false, List, [], ◌∷◌, map, take, length, sym, ap, ap₂, subst, refl, ◌∙◌, arith, inl, inr, Option, Some, None, IsSome}
-use Rattle.std.specs.Prelude.{IfSome, find, option_map, option_and_then, if◌then◌else◌}
+use Rattle.std.proofs.Common.{ℕ, ◌≡◌, ◌≤◌, ◌==◌, ◌++◌, Bool, true, false, List, [], ◌∷◌, map, take, length, sym, ap, ap₂, subst, refl, ◌∙◌, arith, inl, inr, Option, Some, None}
+use Rattle.std.specs.Prelude.{find, option_map, option_and_then, if◌then◌else◌}
 use Rattle.std.specs.Option.{option_map_or}
 use Rattle.std.specs.List.{AllByRecursion as Each}
-use Rattle.std.proofs.lemmas.Bool.{cases_Bool, eqb-true}
+use Rattle.std.proofs.lemmas.Bool.{cases_Bool}
 use Rattle.std.proofs.lemmas.List.{length-map, length-take-le, take_all}
 use Rattle.std.proofs.Math.Nat.{min-le_left}
-use Rattle.nm_types.specs.Names.{is_pipe_name}
-use Rattle.nm_types.specs.Slots.{pushed_frames}
-use Rattle.nm_types.specs.declared.fault.SyncFault.{SyncFault}
 use Rattle.nm_types.specs.declared.id.PortId.{PortId}
 use Rattle.nm_types.specs.declared.id.Side.TheVariants.{Tx}
-use Rattle.nm_types.specs.OwnPorts.{Arrival, OwnPort, OwnRing, OwnState, bytes_at, buffer_in, slot_in, port_with_id, pushed_in, ring_at, ring_on, refusal_in}
+use Rattle.nm_types.specs.OwnPorts.{Arrival, OwnPort, OwnRing, OwnState, bytes_at, buffer_in, slot_in, port_with_id, ring_at, ring_on, refusal_in}
 use Rattle.nm_types.specs.OwnSyncs.{own_after_put, after_exchange, offered_slots, taken_from, taken_on}
 use Rattle.nm_region.specs.Buffers.{Buffer, indices_of}
-use Rattle.nm_port.specs.Own.{refusal_at}
 use Rattle.nm_port.specs.Closing.{bytes_of_buffers}
 use Rattle.nm_port.specs.Offers.{lengths_in, offered_lengths}
 use Rattle.nm_own.specs.LentOffers.{offered_buffers, offered_count}
 use Rattle.vale_line.specs.declared.got.Got.{Got}
 use Rattle.vale_line.specs.Gots.{buffers_of, IsSingle}
 use Rattle.vale_entry.specs.declared.entry.Ask.{Ask}
-use Rattle.vale_entry.specs.declared.entry.Ask.TheVariants.{Put, PutKept, Send}
+use Rattle.vale_entry.specs.declared.entry.Ask.TheVariants.{Put, PutKept}
 use Rattle.vale_entry.specs.declared.entry.Item.{Item}
 use Rattle.vale_entry.specs.declared.entry.Reply.{Reply}
 use Rattle.vale_entry.specs.declared.entry.Reply.TheVariants as replies
@@ -30,19 +26,18 @@ use Rattle.vale_entry.specs.Arrivals.{arrivals_of, blank_arrival, lent_arrivals,
 use Rattle.vale_entry.specs.Holdings.{buffers_without, first_idle}
 use Rattle.vale_entry.specs.Legal.{Standing, standing_of, kept_ask, kept_items, session_and_reply, step, made_at, can_put, put_step_at, put_step_by, offers_of_put}
 use Rattle.vale_entry.specs.Offers.{dests_of}
-use Rattle.vale_entry.specs.OwnCalls.{item_at, offered_items, or_reset, tx_call}
+use Rattle.vale_entry.specs.OwnCalls.{item_at, offered_items, tx_call}
 use Rattle.vale_entry.specs.Pipe.{indices_of as indices_of_items, peer_of, taken_count, frames_of_items}
 use Rattle.vale_entry.specs.World.{Port, open_port, space_of}
 use Rattle.vale_entry.proofs.Counting.{count_of}
-use Rattle.vale_entry.proofs.ListLaws.{place-of}
 use Rattle.vale_own.specs.Asker.{asks}
 use Rattle.vale_own.specs.Own.{Own, own_of, is_settled_own}
 use Rattle.vale_own.specs.OwnEntries.{own_after_entry, own_put_at}
 use Rattle.vale_own.specs.Side.{buffers_on, IsPending, IsSound, IsOfSide}
 use Rattle.vale_own.specs.SideAsks.{RefusalFits}
 use Rattle.vale_own.proofs.Trading.{ring_renamed, port_renamed}
-use Rattle.vale_own.proofs.SideExchange.{traded, exchanged-ports}
-use Rattle.vale_own.proofs.SideSound.{find-renamed}
+use Rattle.vale_own.proofs.SideExchange.{traded}
+use Rattle.vale_own.proofs.SideSound.{exchanged}
 use Rattle.vale_own.proofs.SideOffers.{exchanged-ring, offered-pending}
 use Rattle.vale_own.proofs.SideAsking.{once-side}
 use Rattle.vale_own.proofs.SideEntries.{transmits-of}
@@ -56,21 +51,19 @@ use Rattle.vale_fabric.specs.Fabrics.{Knowing, Answers, before_in, seen_in, earl
 use Rattle.vale_fabric.specs.Settling.{Settles}
 use Rattle.nm_user.specs.Sessions.{SessionState, IsThere, standing_seen}
 use Rattle.nm_user.specs.Offering.{gots_of}
-use Rattle.nm_user.specs.Syncs.{HasTx}
+use Rattle.nm_user.specs.Syncs.{HasTx, PassesTx}
 use Rattle.nm_user.proofs.After.{IsHere, here-after, own-next, there-settled, whose}
 use Rattle.nm_user.proofs.Plain.{has-side}
-use Rattle.nm_user.proofs.Sends.{Ends, dests-made, ends, has-tx, no-offers, still-settled, tx-asks}
+use Rattle.nm_user.proofs.Sends.{Ends, dests-made, ends, no-offers, passed, still-settled, tx-asks}
 use Rattle.nm_user.proofs.Settled.{here-settled}
 
 -- ---- the buffers of the frames offered are those that their slots name
 
-taken-on-is : (id n : ℕ) (ports : List OwnPort) (q : OwnPort) (t : OwnRing) → find (λ (x : OwnPort). x.id.0 == id) ports ≡ Some q → q.tx ≡ Some t → taken_on id ports n ≡ taken_from n t
-taken-on-is id n [] q t found has = absurd cc
-taken-on-is id n (x ∷ ports) q t found has = elim (cases_Bool (x.id.0 == id)) [
-  | inl here ↦ (let is : x ≡ q = (let first : Some x ≡ Some q = rw here at found in cc) in
-      let tx : x.tx ≡ Some t = ap (λ (y : OwnPort). y.tx) is ∙ has in
-      rw (here, tx) refl)
-  | inr other ↦ rw other (taken-on-is id n ports q t (rw other at found) has)
+taken-on-is : (id n : ℕ) (ports : List OwnPort) → taken_on id ports n ≡ option_map_or (λ (q : OwnPort). option_map_or (taken_from n) q.tx []) (find (λ (q : OwnPort). q.id.0 == id) ports) []
+taken-on-is id n [] = refl
+taken-on-is id n (x ∷ ports) = elim (cases_Bool (x.id.0 == id)) [
+  | inl here ↦ rw here refl
+  | inr other ↦ rw other (taken-on-is id n ports)
 ]
 
 abbrev name-in : OwnRing → ℕ → ℕ
@@ -85,14 +78,15 @@ offered-named : (id : ℕ) (s : OwnState) (p : OwnPort) (r : OwnRing) → IsSoun
 offered-named id s p r sound once found has passes =
     let g = traded Tx id s p r sound once found has passes in
     let now = exchanged-ring id s p r sound once found has passes in
-    let ports : find (λ (q : OwnPort). q.id.0 == id) (after_exchange Tx id s).ports ≡ Some (port_renamed g p) =
-    rw (exchanged-ports Tx id s p r sound once found has passes) (find-renamed g id s.ports p found) in
+    let ports : find (λ (q : OwnPort). q.id.0 == id) (after_exchange Tx id s).ports ≡ Some (port_renamed g p) = (exchanged Tx id s p r sound once found has passes).found in
     let ring : (port_renamed g p).tx ≡ Some now = ap (option_map (ring_renamed g)) has in
     let at : ring_at Tx s id ≡ Some r = ap (option_and_then (ring_on Tx)) found ∙ has in
     let count : offered_count id s ≡ length (offered_slots r) = ap (λ (o : Option OwnRing). length (option_map_or lengths_in o [])) at ∙ length-map (offered_slots r) (λ (k : ℕ). (slot_in Tx r k).len) in
     let all : take (offered_count id s) (offered_slots r) ≡ offered_slots r = take_all (offered_count id s) (offered_slots r) (omega (arith, count)) in
-    taken-on-is id (offered_count id s) (after_exchange Tx id s).ports (port_renamed g p) now ports ring
-    ∙ (ap (map (buffer_in Tx now)) all ∙ names-pending now (offered_slots r) (offered-pending id s p r sound once found has passes))
+    taken-on-is id (offered_count id s) (after_exchange Tx id s).ports
+    ∙ (ap (λ (o : Option OwnPort). option_map_or (λ (q : OwnPort). option_map_or (taken_from (offered_count id s)) q.tx []) o []) ports
+    ∙ (ap (λ (o : Option OwnRing). option_map_or (taken_from (offered_count id s)) o []) ring
+    ∙ (ap (map (buffer_in Tx now)) all ∙ names-pending now (offered_slots r) (offered-pending id s p r sound once found has passes))))
 
 -- ---- so the frames in buffers are those offered
 
@@ -129,29 +123,21 @@ pub record Puts (own : OwnState) (port : PortId) (items : List Item) : Type 0 wh
   pub passes : refusal_in Tx own tx.ring ≡ None
   pub is : tx_call own tx.port tx.ring ≡ Put port items
 
-pub puts : {s : SessionState} (port : PortId) (gots : List Got) → IsThere None s → IsSome (ring_at Tx s.own port.0) → IfSome (port_with_id s.own port.0) (λ (p : OwnPort). is_pipe_name p.name ≡ true)
-    → refusal_at Tx port.0 s.own ≡ None → AreOffered s.own port gots → Puts s.own port (items_of gots)
-puts {s} port gots t some named refused k =
+pub puts : {s : SessionState} (port : PortId) (gots : List Got) → IsThere None s → PassesTx true s.own port.0 → AreOffered s.own port gots → Puts s.own port (items_of gots)
+puts {s} port gots t p k =
     let own = s.own in
-    let tx = has-tx own port.0 some in
-    let at : ring_at Tx own port.0 ≡ Some tx.ring = ap (option_and_then (ring_on Tx)) tx.found ∙ tx.has in
-    let passes : refusal_in Tx own tx.ring ≡ None = sym (ap (option_and_then (refusal_in Tx own)) at) ∙ refused in
-    let name : is_pipe_name tx.port.name ≡ true = subst (λ (o : Option OwnPort). IfSome o (λ (p : OwnPort). is_pipe_name p.name ≡ true)) tx.found named in
-    let place = place-of (λ (p : OwnPort). p.id.0 == port.0) own.ports tx.port tx.found in
-    let id : tx.port.id ≡ port = ap (λ (n : ℕ). let made : PortId = record { 0 = n } in made) (eqb-true tx.port.id.0 port.0 place.passes) in
-    let names : offered_buffers port.0 own ≡ map (name-in tx.ring) (offered_slots tx.ring) = offered-named port.0 own tx.port tx.ring t.side.sound (once-side s.fixed.pool s.knows.seen s.id None own (has-side t)) tx.found tx.has passes in
-    let lens : offered_lengths port.0 own ≡ lengths_in tx.ring = ap (λ (o : Option OwnRing). option_map_or lengths_in o []) at in
-    let items : items_of gots ≡ offered_items own tx.ring =
+    let c = passed {pipe = true} {own = own} port p in
+    let ring = c.tx.ring in
+    let names : offered_buffers port.0 own ≡ map (name-in ring) (offered_slots ring) = offered-named port.0 own c.tx.port ring t.side.sound (once-side s.fixed.pool s.knows.seen s.id None own (has-side t)) c.tx.found c.tx.has c.passes in
+    let lens : offered_lengths port.0 own ≡ lengths_in ring = ap (λ (o : Option OwnRing). option_map_or lengths_in o []) c.ring_is in
+    let items : items_of gots ≡ offered_items own ring =
     ap items_of (k.gots_are ∙ ap (gots_of (buffers_of gots)) lens)
-    ∙ items-wrapped own tx.ring (offered_slots tx.ring) (buffers_of gots) (k.indices ∙ names) (k.bytes ∙ ap (map (bytes_at own)) names) in
-    let as-pipe : Ask = Put tx.port.id (offered_items own tx.ring) in
-    let as-send : Ask = Send tx.port.id (pushed_frames (bytes_at own) (pushed_in Tx tx.ring)) in
+    ∙ items-wrapped own ring (offered_slots ring) (buffers_of gots) (k.indices ∙ names) (k.bytes ∙ ap (map (bytes_at own)) names) in
     record {
-      tx = tx;
-      id_is = id;
-      passes = passes;
-      is = ap (λ (o : Option SyncFault). or_reset o tx.port.id Tx (if is_pipe_name tx.port.name then as-pipe else as-send)) passes
-          ∙ (ap (λ (b : Bool). if b then as-pipe else as-send) name ∙ (ap (λ (i : PortId). Put i (offered_items own tx.ring)) id ∙ ap (Put port) (sym items)));
+      tx = c.tx;
+      id_is = c.id_is;
+      passes = c.passes;
+      is = c.is ∙ (ap (λ (i : PortId). Put i (offered_items own ring)) c.id_is ∙ ap (Put port) (sym items));
     }
 
 pub put-asks : {s : SessionState} {port : PortId} {items : List Item} → IsThere None s → Puts s.own port items → asks (standing_seen s.fixed s.knows) s.id (Put port items) ≡ true

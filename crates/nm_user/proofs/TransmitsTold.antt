@@ -1,5 +1,5 @@
 -- What a put tells, as the caller of the sync sees it.
-use Rattle.std.proofs.Common.{◌≡◌, true, List, [], length, map, take, sym, ap, subst, refl, ◌∙◌, None, inr}
+use Rattle.std.proofs.Common.{◌≡◌, ◌≤◌, true, List, [], length, map, take, sym, ap, subst, refl, ◌∙◌, None, inr}
 use Rattle.nm_types.specs.declared.fault.StepFault.{StepFault}
 use Rattle.nm_types.specs.declared.fault.StepFault.TheVariants as steps
 use Rattle.nm_types.specs.declared.fault.SyncFault.{SyncFault}
@@ -29,7 +29,7 @@ use Rattle.vale_book.specs.Recorded.{standing}
 use Rattle.vale_fabric.specs.declared.settling.Shares.{Shares}
 use Rattle.vale_fabric.specs.Fabrics.{Knowing, Answers, MayAsk, before_in, seen_in}
 use Rattle.vale_fabric.specs.Puts.{PutsNot}
-use Rattle.vale_fabric.specs.Settling.{Settling}
+use Rattle.vale_fabric.specs.Settling.{Settling, Settles}
 use Rattle.nm_user.specs.declared.sending.Sent.{Sent}
 use Rattle.nm_user.specs.Sessions.{SessionState, IsThere}
 use Rattle.nm_user.specs.Calls.{Made, MadeNone}
@@ -38,7 +38,7 @@ use Rattle.nm_user.specs.Syncs.{IsPut, PassesTx, SyncsNot, TransmitsNot, shares_
 use Rattle.nm_user.proofs.After.{there-still, whose}
 use Rattle.nm_user.proofs.Plain.{may}
 use Rattle.nm_user.proofs.Sends.{Ends, IsMadeBy, as-own, synced}
-use Rattle.nm_user.proofs.TransmitsPut.{Puts, came-is, gone-there, put-asks, puts, taken-length}
+use Rattle.nm_user.proofs.TransmitsPut.{Puts, came-is, gone-there, put-asks, put-ends, puts, taken-length, took-there}
 
 -- the session, with the frames that its put offers
 pub record CanPut (s : SessionState) (port : PortId) (gots : List Got) : Type 0 where
@@ -53,10 +53,7 @@ can-put {seen} {now} {own} port gots e f there passes are indices bytes =
     let same : now.own ≡ own = ap (λ (s : SessionState). s.own) at in
     let here : IsThere None (record seen { own = own }) = subst (IsThere None) (e ∙ at) there in
     let tx : PassesTx true own port.0 = subst (λ (o : OwnState). PassesTx true o port.0) same passes in
-    record {
-      there = here;
-      puts_are = puts {s = record seen { own = own }} port gots here tx.ring tx.name tx.passes (record { gots_are = are; indices = indices; bytes = bytes });
-    }
+    record { there = here; puts_are = puts {s = record seen { own = own }} port gots here tx (record { gots_are = are; indices = indices; bytes = bytes }) }
 
 pub may-put : {s : SessionState} {port : PortId} {gots : List Got} → CanPut s port gots → MayAsk s.fixed s.knows (Put port (items_of gots))
 may-put k = may k.there (put-asks k.there k.puts_are)
@@ -64,7 +61,7 @@ may-put k = may k.there (put-asks k.there k.puts_are)
 -- ---- it gave nothing
 
 -- what stands of the session then
-pub fault-there : {s : SessionState} {w : Knowing} {port : PortId} {gots : List Got} (fault : PutFault) (side : SideState) → side.own ≡ s.own → CanPut s port gots → PutsNot s.fixed s.knows w port (items_of gots) fault
+fault-there : {s : SessionState} {w : Knowing} {port : PortId} {gots : List Got} (fault : PutFault) (side : SideState) → side.own ≡ s.own → CanPut s port gots → PutsNot s.fixed s.knows w port (items_of gots) fault
     → IsThere None (record s { knows = w; own = (side_after_fault fault port.0 side).own })
 fault-there {s} {w} {port} {gots} PeerGone side same k gone =
     subst (λ (o : OwnState). IsThere None (record s { knows = w; own = own_after_put port.0 [] o })) (sym same) (gone-there k.there k.puts_are gone)
@@ -94,13 +91,13 @@ module _ {s : SessionState} {port : PortId} {gots : List Got} (k : CanPut s port
   says w NoMemory side same full =
       subst (λ (o : OwnState). MadeNone s (record s { knows = w; own = o }) call steps.NoMemory) (sym same) (none-of w steps.NoMemory (record { refused = inr full; same = refl }))
 
-  pub fault-told : (w : Knowing) (fault : PutFault) (side : SideState) → side.own ≡ s.own → PutsNot s.fixed s.knows w port (items_of gots) fault
+  fault-told : (w : Knowing) (fault : PutFault) (side : SideState) → side.own ≡ s.own → PutsNot s.fixed s.knows w port (items_of gots) fault
       → TransmitsNot s (record s { knows = w; own = (side_after_fault fault port.0 side).own }) port.0 (sync_fault_of_put fault)
   fault-told w fault side same not = record { tx = k.puts_are.tx; not = says w fault side same not }
 
 -- ---- the other end took frames
 
-pub put-told : {s : SessionState} {w x : Knowing} {port : PortId} {shares : Shares} (gots : List Got) (put : GivenPut) (sent : Sent) → (k : CanPut s port gots)
+put-told : {s : SessionState} {w x : Knowing} {port : PortId} {shares : Shares} (gots : List Got) (put : GivenPut) (sent : Sent) → (k : CanPut s port gots)
     → Answers s.fixed s.knows w (Put port (items_of gots)) (Took (items_of (take put.took gots)) (dests_wanted put.offers.wants)) → IsPutOfBook (before_in s.fixed w) (seen_in s.fixed w) port gots put → Ends s w x shares
     → sent.entry ≡ put.offers.entry → sent.pushed ≡ put.took → sent.short ≡ 0 → sent.lone ≡ 0 → shares_in sent ≡ shares
     → IsPut s (record s { knows = x; own = own_after_put port.0 (map blank_arrival (indices_of put.back.items)) s.own }) port.0 sent
@@ -128,18 +125,25 @@ put-told {s} {w} {x} {port} {shares} gots put sent k a is ends entry pushed shor
 -- ---- as the caller sees it
 
 pub not-at : {seen now : SessionState} {new : OwnState} {w : Knowing} {port : PortId} {gots : List Got} (side : SideState) (fault : PutFault) (said : SyncFault) → seen ≡ now → seen.own ≡ side.own → CanPut (record seen { own = side.own }) port gots
-    → PutsNot seen.fixed seen.knows w port (items_of gots) fault → new ≡ (side_after_fault fault port.0 side).own → said ≡ sync_fault_of_put fault → TransmitsNot now (record seen { knows = w; own = new }) port.0 said
+    → PutsNot seen.fixed seen.knows w port (items_of gots) fault → new ≡ (side_after_fault fault port.0 side).own → said ≡ sync_fault_of_put fault
+    → IsThere None (record seen { knows = w; own = new }) × TransmitsNot now (record seen { knows = w; own = new }) port.0 said
 not-at {seen} {now} {new} {w} {port} side fault said e f k not made is =
-    let own = side.own in
-    subst (λ (s : SessionState). TransmitsNot s (record seen { knows = w; own = new }) port.0 said) (sym (as-own e f))
-    (subst (λ (n : OwnState). TransmitsNot (record seen { own = own }) (record seen { knows = w; own = n }) port.0 said) (sym made)
-    (subst (TransmitsNot (record seen { own = own }) (record seen { knows = w; own = (side_after_fault fault port.0 side).own }) port.0) (sym is) (fault-told k w fault side refl not)))
+    let own = side.own in (
+      subst (λ (n : OwnState). IsThere None (record seen { knows = w; own = n })) (sym made) (fault-there fault side refl k not),
+      subst (λ (s : SessionState). TransmitsNot s (record seen { knows = w; own = new }) port.0 said) (sym (as-own e f))
+          (subst (λ (n : OwnState). TransmitsNot (record seen { own = own }) (record seen { knows = w; own = n }) port.0 said) (sym made)
+          (subst (TransmitsNot (record seen { own = own }) (record seen { knows = w; own = (side_after_fault fault port.0 side).own }) port.0) (sym is) (fault-told k w fault side refl not))),
+    )
 
 pub put-at : {seen now : SessionState} {own new : OwnState} {w x : Knowing} {port : PortId} {shares : Shares} (gots : List Got) (put : GivenPut) (sent : Sent) → seen ≡ now → seen.own ≡ own → CanPut (record seen { own = own }) port gots
-    → Answers seen.fixed seen.knows w (Put port (items_of gots)) (Took (items_of (take put.took gots)) (dests_wanted put.offers.wants)) → IsPutOfBook (before_in seen.fixed w) (seen_in seen.fixed w) port gots put → Ends (record seen { own = own }) w x shares
+    → Answers seen.fixed seen.knows w (Put port (items_of gots)) (Took (items_of (take put.took gots)) (dests_wanted put.offers.wants)) → IsPutOfBook (before_in seen.fixed w) (seen_in seen.fixed w) port gots put
+    → (put.offers.wants ≡ [] → (x ≡ w) × (shares ≡ record { given = 0; full = 0; gone = 0 })) → (1 ≤ length put.offers.wants → Settles seen.fixed w x put.offers.session shares)
     → new ≡ own_after_put port.0 (map blank_arrival (indices_of put.back.items)) own → sent.entry ≡ put.offers.entry → sent.pushed ≡ put.took → sent.short ≡ 0 → sent.lone ≡ 0 → shares_in sent ≡ shares
-    → IsPut now (record seen { knows = x; own = new }) port.0 sent
-put-at {seen} {now} {own} {new} {w} {x} {port} gots put sent e f k a is ends made entry pushed short lone shares-are =
-    subst (λ (s : SessionState). IsPut s (record seen { knows = x; own = new }) port.0 sent) (sym (as-own e f))
-    (subst (λ (n : OwnState). IsPut (record seen { own = own }) (record seen { knows = x; own = n }) port.0 sent) (sym made)
-    (put-told {s = record seen { own = own }} gots put sent k a is ends entry pushed short lone shares-are))
+    → IsThere None (record seen { knows = x; own = new }) × IsPut now (record seen { knows = x; own = new }) port.0 sent
+put-at {seen} {now} {own} {new} {w} {x} {port} gots put sent e f k a is none some made entry pushed short lone shares-are =
+    let s : SessionState = record seen { own = own } in
+    let ends = put-ends {s = s} {w = w} gots put k.there k.puts_are a is none some in (
+      subst (λ (n : OwnState). IsThere None (record seen { knows = x; own = n })) (sym made) (took-there {s = s} {w = w} gots put k.there k.puts_are a is ends),
+      subst (λ (t : SessionState). IsPut t (record seen { knows = x; own = new }) port.0 sent) (sym (as-own e f))
+          (subst (λ (n : OwnState). IsPut s (record seen { knows = x; own = n }) port.0 sent) (sym made) (put-told {s = s} gots put sent k a is ends entry pushed short lone shares-are)),
+    )

@@ -10,7 +10,11 @@ use Rattle.nm_own.specs.WrittenBytes.{side_written}
 use Rattle.vale_own.specs.Own.{own_of}
 use Rattle.vale_own.specs.SideEdits.{KeepsSides}
 use Rattle.vale_own.proofs.SideEditing.{edits-keep}
-use Rattle.vale_fabric.specs.Fabrics.{fixed_in}
+use Rattle.nm_turn.specs.declared.pass.Pass.{Pass}
+use Rattle.vale_entry.specs.declared.entry.Entry.{Entry}
+use Rattle.vale_book.specs.Recorded.{Recorded}
+use Rattle.vale_fabric.specs.declared.kept.Fixed.{Fixed}
+use Rattle.vale_fabric.specs.Fabrics.{IsPassIn, fixed_in, knowing}
 use Rattle.nm_user.specs.declared.session.Session.TheInside.{Inside}
 use Rattle.nm_user.specs.Sessions.{SessionState, IsThere, IsSession, standing_seen, session_seen, own_in}
 
@@ -22,6 +26,14 @@ there-edited {shut} {s} edit keeps t = record {
   side = keeps s.fixed.pool s.id shut (own_of s.id (standing_seen s.fixed s.knows)) s.own t.side;
   settled = t.settled;
 }
+
+-- a session with what this own side has
+abbrev pub seen_with : Inside → SideState → SessionState
+seen_with i side = record (session_seen i) { own = side.own }
+
+-- a session stays one whose pass alone went on
+pub session-passed : {i : Inside} {pass : Pass Recorded Entry Fixed} → IsSession i → IsPassIn i.fabric.now pass → IsThere None (record (session_seen i) { knows = knowing pass }) → IsSession (record i { pass = pass })
+session-passed is of there = record { pass = of; own = is.own; own_is = is.own_is; region = is.region; there = there }
 
 -- the buffers of its own side are of the fabric's region
 pub region-of : (i : Inside) (was : SideState) → IsSession i → i.own ≡ Some was → AllOf (fixed_in i.fabric.now).region was

@@ -11,7 +11,6 @@ ghost use Rattle.nm_user.specs.Opening.{IsReady, CanAdd, own_if};
 use crate::session::Session;
 use nm_own::{NewPort, OwnSide};
 use nm_types::{Kind, MAX_EXTRA, MAX_RING, MIN_RING, Name, NoMemory, OpenFault, PortId};
-use std::alloc::Global;
 use std::sync::Wait;
 use vale_book::Opened;
 
@@ -33,25 +32,6 @@ fn are_sizes(name: &Name, tx: u32, rx: u32, extra: u32) -> bool
         _ => is_ring_size(tx),
     };
     is_tx && is_ring_size(rx) && extra <= MAX_EXTRA
-}
-
-/// All memory that a port will want here, if one of this name may have such sizes.
-fn room_for(
-    alloc: Global,
-    own: &OwnSide,
-    name: &Name,
-    tx: u32,
-    rx: u32,
-    extra: u32,
-) -> Result<Option<NewPort>, NoMemory>
-    ensures ready { IfOk result (IsReady own.now.own name.now tx rx extra) }
-    ensures named { IfOk result (λ new. IsName name.now) }
-{
-    if are_sizes(name, tx, rx, extra) {
-        Ok(Some(own.prepare(alloc, *name, tx, rx, extra)?))
-    } else {
-        Ok(None)
-    }
 }
 
 /// Adds the port that was opened.
@@ -79,7 +59,7 @@ fn add(own: &mut Option<OwnSide>, new: Option<NewPort>, opened: Opened) -> PortI
 }
 
 impl<'f> Session<'f> {
-    /// All memory that a port will want, if one of this name may have such sizes.
+    /// All memory that a port will want here, if one of this name may have such sizes.
     fn prepare(
         &self,
         name: &Name,
@@ -90,8 +70,11 @@ impl<'f> Session<'f> {
         ensures ready { IfOk result (IsReady self.now.own name.now tx rx extra) }
         ensures named { IfOk result (λ new. IsName name.now) }
     {
+        if !are_sizes(name, tx, rx, extra) {
+            return Ok(None);
+        }
         match &self.own {
-            Some(own) => room_for(self.alloc, own, name, tx, rx, extra),
+            Some(own) => Ok(Some(own.prepare(self.alloc, *name, tx, rx, extra)?)),
             None => unreachable!(),
         }
     }

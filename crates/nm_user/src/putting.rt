@@ -48,9 +48,10 @@ impl OfferRoom {
     fn new(alloc: Global, lengths: Vec<u16>) -> Result<OfferRoom, NoMemory>
         ensures { IfOk result (λ room. room ≡ lengths.items) }
     {
-        let notes = Vec::with_capacity(alloc, lengths.len())?;
-        let bufs = Vec::with_capacity(alloc, lengths.len())?;
-        let Ok(pending) = Vec::with_capacity(alloc, lengths.len()) else {
+        let count = lengths.len();
+        let notes = Vec::with_capacity(alloc, count)?;
+        let bufs = Vec::with_capacity(alloc, count)?;
+        let Ok(pending) = Vec::with_capacity(alloc, count) else {
             bufs.destroy_empty();
             return Err(NoMemory);
         };
@@ -161,10 +162,12 @@ impl Offering {
         }
     }
 
-    /// The own side as it was before the frames were lent, of which none was taken.
-    fn undo(self) -> OwnSide
-        requires { (s : SideState) × IsOffering s self }
-        ensures { (s : SideState) → IsOffering s self → result ≡ s }
+    /// The own side that lent the frames, and their buffers.
+    fn into_lent(self) -> (LentOffers, Vec<Buf>)
+        requires empty { self.bufs.items ≡ [] }
+        requires room { length self.pending.items ≤ vec_capacity self.bufs }
+        ensures lent { result.0 ≡ self.lent }
+        ensures bufs { result.1.items ≡ buffers_of self.pending.items }
     {
         let Offering {
             lent,
@@ -173,6 +176,15 @@ impl Offering {
         } = self;
         unwrap(&mut pending, &mut bufs);
         pending.destroy_empty();
+        (lent, bufs)
+    }
+
+    /// The own side as it was before the frames were lent, of which none was taken.
+    fn undo(self) -> OwnSide
+        requires { (s : SideState) × IsOffering s self }
+        ensures { (s : SideState) → IsOffering s self → result ≡ s }
+    {
+        let (lent, mut bufs) = self.into_lent();
         let own = lent.undo(&mut bufs);
         bufs.destroy_empty();
         own
@@ -188,13 +200,7 @@ impl Offering {
         ensures region { (s : SideState) (offered : List Got) → CanTake s offered self came.items
             → (region : ℕ) → AllOf region s → AreOf region came.items → AllOf region result }
     {
-        let Offering {
-            lent,
-            mut pending,
-            mut bufs,
-        } = self;
-        unwrap(&mut pending, &mut bufs);
-        pending.destroy_empty();
+        let (lent, mut bufs) = self.into_lent();
         let own = lent.taken(&mut bufs, came);
         bufs.destroy_empty();
         own
@@ -277,14 +283,10 @@ impl<'f> Session<'f> {
         };
         let entry = offers.entry();
         put_back(&mut self.own, offering.taken(back));
-        let shares = self.fabric.settle(
-            rt,
-            &mut self.pass,
-            gate,
-            self.user,
-            offers,
-            Frames::Batch(&copies),
-        );
+        let frames = Frames::Batch(&copies);
+        let shares = self
+            .fabric
+            .settle(rt, &mut self.pass, gate, self.user, offers, frames);
         Ok(Sent {
             entry,
             pushed: took,

@@ -3,7 +3,7 @@
 ghost use Rattle.std.specs.Prelude.{ℕ, true, ◌≡◌, ◌≤◌, ◌<◌, ◌^◌, [], length, take, fold};
 ghost use Rattle.std.specs.Prelude.{IsSome, IfSome, IfOk, IfErr, Some, None};
 ghost use Rattle.nm_user.specs.Words.{AllOf, AreOf, IsBufferOf, IsNew, IsPassIn, IsRead, MayIn};
-ghost use Rattle.nm_user.specs.Words.{RefusesIn, Rx, back_on, buffers_of, can_receive, fits_fault};
+ghost use Rattle.nm_user.specs.Words.{RefusesIn, Rx, back_on, buffers_of, can_receive};
 ghost use Rattle.nm_user.specs.Words.{fixed_in, indices_of, is_pipe_name, knowing};
 ghost use Rattle.nm_user.specs.Words.{own_after_receive, own_with_arrival, part_in, place_with_id};
 ghost use Rattle.nm_user.specs.Words.{port_with_id, read_ask, refusal_at, ring_at, sync_fault_of};
@@ -215,14 +215,9 @@ impl<'f> Session<'f> {
             }
         };
         let (entry, gave) = (offers.entry(), got.len() as u32);
-        self.fabric.settle(
-            rt,
-            &mut self.pass,
-            gate,
-            self.user,
-            offers,
-            Frames::Gots(&got),
-        );
+        let frames = Frames::Gots(&got);
+        self.fabric
+            .settle(rt, &mut self.pass, gate, self.user, offers, frames);
         publish_all(&mut own, port, got);
         put_back(&mut self.own, own);
         Ok(Received {
@@ -245,20 +240,6 @@ impl<'f> Session<'f> {
         match name {
             Some(name) => name.is_pipe(),
             None => unreachable!(),
-        }
-    }
-
-    /// Records that a check refused a receive sync, and resets the ring. Answers with that refusal,
-    /// or with what the record has no room for, which leaves the ring as it is.
-    fn refuse_receive<R: Wait>(&mut self, rt: &R, port: PortId, fault: SyncFault) -> SyncFault
-        requires refused { refusal_at Rx port.0 self.old.own ≡ Some fault }
-        requires fits { fits_fault fault ≡ true }
-        ensures not { ReceivesNot self.old self.new port.0 result }
-        ensures there { IsThere None self.new }
-    {
-        match self.reset(rt, port, Side::Rx, fault) {
-            Ok(()) => fault,
-            Err(full) => full.into(),
         }
     }
 
@@ -293,7 +274,7 @@ impl<'f> Session<'f> {
         ensures there { IsThere None self.new }
     {
         if let Err(fault) = self.check(port, Side::Rx) {
-            return Err(self.refuse_receive(rt, port, fault));
+            return Err(self.refuse(rt, port, Side::Rx, fault));
         }
         let is_pipe = self.is_pipe(port);
         Ok(self.receive(rt, port, is_pipe, gate)?)

@@ -6,6 +6,7 @@ ghost use Rattle.vale_entry.specs.declared.entry.Ask.TheVariants as asks;
 ghost use Rattle.vale_entry.specs.declared.entry.Reply.TheVariants as replies;
 ghost use Rattle.nm_user.specs.Sessions.{IsThere};
 ghost use Rattle.nm_user.specs.Calls.{Made, MadeNone};
+ghost use Rattle.nm_user.specs.Receives.{RingNot};
 ghost use Rattle.nm_user.specs.Syncs.{IsSent, IsTransmitted, IsUnsent, PassesTx, TransmitsNot};
 
 use crate::session::Session;
@@ -64,14 +65,10 @@ impl<'f> Session<'f> {
         };
         let (entry, short, lone) = (offers.entry(), offers.short(), offers.lone());
         own.sent(port);
-        let shares = self.fabric.settle(
-            rt,
-            &mut self.pass,
-            gate,
-            self.user,
-            offers,
-            Frames::Batch(&batch),
-        );
+        let frames = Frames::Batch(&batch);
+        let shares = self
+            .fabric
+            .settle(rt, &mut self.pass, gate, self.user, offers, frames);
         Ok(Sent {
             entry,
             pushed,
@@ -97,7 +94,7 @@ impl<'f> Session<'f> {
     }
 
     /// Records that a check refused a sync of a port's ring, and resets the ring.
-    pub(crate) fn reset<R: Wait>(
+    fn reset<R: Wait>(
         &mut self,
         rt: &R,
         port: PortId,
@@ -119,15 +116,21 @@ impl<'f> Session<'f> {
         Ok(())
     }
 
-    /// Records that a check refused a transmit sync, and resets the ring. Answers with that
+    /// Records that a check refused a sync of a port's ring, and resets the ring. Answers with that
     /// refusal, or with what the record has no room for, which leaves the ring as it is.
-    fn refuse_transmit<R: Wait>(&mut self, rt: &R, port: PortId, fault: SyncFault) -> SyncFault
-        requires refused { refusal_at Tx port.0 self.old.own ≡ Some fault }
+    pub(crate) fn refuse<R: Wait>(
+        &mut self,
+        rt: &R,
+        port: PortId,
+        side: Side,
+        fault: SyncFault,
+    ) -> SyncFault
+        requires refused { refusal_at side port.0 self.old.own ≡ Some fault }
         requires fits { fits_fault fault ≡ true }
-        ensures not { TransmitsNot self.old self.new port.0 result }
+        ensures not { RingNot side self.old self.new port.0 result }
         ensures there { IsThere None self.new }
     {
-        match self.reset(rt, port, Side::Tx, fault) {
+        match self.reset(rt, port, side, fault) {
             Ok(()) => fault,
             Err(full) => full.into(),
         }
@@ -176,7 +179,7 @@ impl<'f> Session<'f> {
         ensures there { IsThere None self.new }
     {
         if let Err(fault) = self.check(port, Side::Tx) {
-            return Err(self.refuse_transmit(rt, port, fault));
+            return Err(self.refuse(rt, port, Side::Tx, fault));
         }
         if self.is_pipe(port) {
             return self.put_sync(rt, port, gate);

@@ -1,8 +1,8 @@
 -- `bytes_mut` asks whether the buffer is a named one, and then lends its bytes, or nothing.
 use Rattle.std.proofs.Common.{◌≡◌, ◌∙◌, ℕ, List, [], ◌∷◌, length, true, false, refl, sym, ap, lit<, MutBor}
 use Rattle.std.proofs.raw_atomic.Walks.{proved}
-use mathlib.Core.Bool.{Bool, not}
-use lib.Dec.{T}
+use mathlib.Core.Bool.{Bool}
+use lib.Ieee.Bits.{is_true, is_false}
 use base.Fraction.{full_share}
 use base.Logic.{id⊢, wand, apply∗}
 use base.Share
@@ -52,14 +52,6 @@ use Rattle.nm_user.proofs.session.Session.lend.Met.{met as lend_met}
 
 abbrev stayed : Stays f.ended.signature.params f.ended.kept
 stayed = (stay_dropped _ no, (stay_dropped _ yes, tt))
-
-holds : (u : Bool) → T u → u ≡ true
-holds true t = refl
-holds false t = absurd t
-
-fails : (u : Bool) → T (not u) → u ≡ false
-fails true t = absurd t
-fails false t = refl
 
 nothing_there : {X : Type 0} (o : Option X) → is_some o ≡ false → o ≡ None
 nothing_there None e = refl
@@ -114,7 +106,7 @@ bytes_mut_spec 𝓤 𝓛 𝓜 𝓡 wired =
     let x : K.Ghost = ((κs, qs, bounds, a, (vs, (uint_vals w32 i, tt))), tt) in
     nothing ! $ owned ! u32 _ (uint_Makes 𝓛 w32) i _ (refl, fits) $ join ! $ move ! (1 ∷ 0 ∷ []) $ join ! $
     nothing ! $ move ! (5 ∷ 0 ∷ []) $ join ! $ move ! (2 ∷ 0 ∷ []) $ join ! $ join ! $
-    nothing ! $ use1 𝓛 (raw (fact 𝓤 (IsSome (named_bytes r.now.own i)))) (fact_i 𝓤 (IsSome (named_bytes r.now.own i)) (sem 𝓛 ftrue) (sym told ∙ holds u t)) $
+    nothing ! $ use1 𝓛 (raw (fact 𝓤 (IsSome (named_bytes r.now.own i)))) (fact_i 𝓤 (IsSome (named_bytes r.now.own i)) (sem 𝓛 ftrue) (sym told ∙ is_true u t)) $
     move ! (1 ∷ 0 ∷ []) $ use2 𝓛 (raw (K.pre x)) (id⊢ 𝓤 _) $
     calls_at ! (framed 𝓤 𝓛.H 𝓜 (tables 𝓤 𝓛.H 𝓜 𝓡 𝓡.env)) K (lend_met 𝓤 𝓛 𝓜 𝓡 (code.calls-nm_user::session::Session::lend 𝓡.env wired)) x
     (and_then ! (get ! refl) (and_then ! (get ! refl) (no_more !))) (λ v'.
@@ -145,4 +137,4 @@ bytes_mut_spec 𝓤 𝓛 𝓜 𝓡 wired =
     use0 𝓛 (‵ ((OP.the_row (MutSlice (named 0) κ u8)).own_val None (live 0 (of_list []) ∷ []))) (none_of 𝓛 (MutSlice (named 0) κ u8)) $
     suffices ! _ (ends_at 𝓛 f.ended stayed c y (live 0 (of_list [])) None (tt, (tt, tt)) (tt, (tt, tt))) $
     nothing ! $ nothing ! $ fjoin ! $ nothing ! $ fjoin ! $ join ! $ nothing ! $ move ! (3 ∷ 0 ∷ []) $ join ! $ move ! (2 ∷ 0 ∷ []) $ join ! $ join ! $ frame ! $ frame ! $ says ! tt $
-    nothing ! $ use1 𝓛 (raw (fact 𝓤 (None ≡ named_bytes r.now.own i))) (fact_i 𝓤 (None ≡ named_bytes r.now.own i) (sem 𝓛 ftrue) (sym (nothing_there (named_bytes r.now.own i) (sym told ∙ fails u t)))) $ done !)))))))))))
+    nothing ! $ use1 𝓛 (raw (fact 𝓤 (None ≡ named_bytes r.now.own i))) (fact_i 𝓤 (None ≡ named_bytes r.now.own i) (sem 𝓛 ftrue) (sym (nothing_there (named_bytes r.now.own i) (sym told ∙ is_false u t)))) $ done !)))))))))))

@@ -8,6 +8,7 @@ use Rattle.nm_user.specs.Leaving.{IsDetached}
 use Rattle.nm_user.proofs.Plain.{may}
 use Rattle.nm_user.proofs.Written.{region-of}
 use Rattle.nm_user.proofs.LeavingPorts.{shut-asks, shut-there, finishes-of, may-finish, own-finished, detached-there, is-detached}
+use Rattle.nm_user.proofs.session.Session.detach.Given as given
 use Rattle.nm_user.proofs.session.Session.detach.Goals as goal
 
 pub shut-requires-clause-may : goal.shut-requires-clause-may
@@ -25,35 +26,38 @@ finish-unread-requires-clause-may g c =
 pub finish-unread-requires-clause-region : goal.finish-unread-requires-clause-region
 finish-unread-requires-clause-region g c = c.close_port.ensures.out (fixed_in c.self.inside.fabric.now).region (region-of c.self.inside c.in-Some.own c.self.invariant c.in-Some.is)
 
-pub invariant_of-self : goal.invariant_of-self
-invariant_of-self g c =
+-- the session behind the two entries, and what they told
+abbrev after : (g : given.Over) → goal.After-finish-unread g → SessionState
+after g c = record (session_seen c.self.inside) { knows = knowing c.finish-unread.new.pass; own = c.close_port.new.self.own }
+
+abbrev told : (g : given.Over) → goal.After-finish-unread g → Detached
+told g c = record { unread = c.finish-unread.result; chain = c.close_port.result.1 }
+
+closed : (g : given.Over) (c : goal.After-finish-unread g) → IsThere None (after g c) × IsDetached (session_seen c.self.inside) (after g c) c.args.port.0 (told g c)
+closed g c =
     let s = session_seen c.self.inside in
+    let w = knowing c.shut.new.pass in
     let x = knowing c.finish-unread.new.pass in
     let bufs = indices_of c.close_port.result.0.items in
-    let told : Detached = record { unread = c.finish-unread.result; chain = c.close_port.result.1 } in
     let some = subst (λ (u : SessionState). IsSome (port_with_id u.own c.args.port.0)) (sym c.self.view_is) c.requires in
     let f = finishes-of s.own c.in-Some.own.own c.args.port bufs c.close_port.result.1 (ap own_in c.in-Some.is) some c.close_port.ensures.back c.close_port.ensures.chain in
-    let own = own-finished s.own c.in-Some.own.own c.close_port.new.self.own c.args.port bufs (ap own_in c.in-Some.is) c.close_port.ensures.back c.close_port.ensures.own in
-    record {
-      pass = c.finish-unread.ensures.pass;
-      own = c.close_port.new.self;
-      own_is = refl;
-      region = c.close_port.ensures.region (fixed_in c.self.inside.fabric.now).region (region-of c.self.inside c.in-Some.own c.self.invariant c.in-Some.is);
-      there = subst (λ (o : OwnState). IsThere None (record s { knows = x; own = o })) (sym own)
-          (detached-there s (knowing c.shut.new.pass) x c.args.port bufs c.close_port.result.1 told c.self.invariant.there some c.shut.ensures.made f c.finish-unread.ensures.made);
-    }
+    let own = own-finished s.own c.in-Some.own.own c.close_port.new.self.own c.args.port bufs (ap own_in c.in-Some.is) c.close_port.ensures.back c.close_port.ensures.own in (
+      subst (λ (o : OwnState). IsThere None (record s { knows = x; own = o })) (sym own)
+          (detached-there s w x c.args.port bufs c.close_port.result.1 (told g c) c.self.invariant.there some c.shut.ensures.made f c.finish-unread.ensures.made),
+      is-detached s w x c.args.port bufs c.close_port.result.1 (told g c) c.self.invariant.there some c.shut.ensures.made f c.finish-unread.ensures.made c.close_port.new.self.own refl own,
+    )
+
+pub invariant_of-self : goal.invariant_of-self
+invariant_of-self g c = record {
+  pass = c.finish-unread.ensures.pass;
+  own = c.close_port.new.self;
+  own_is = refl;
+  region = c.close_port.ensures.region (fixed_in c.self.inside.fabric.now).region (region-of c.self.inside c.in-Some.own c.self.invariant c.in-Some.is);
+  there = (closed g c).0;
+}
 
 pub returns-clause-detached : goal.returns-clause-detached
-returns-clause-detached g c =
-    let s = session_seen c.self.inside in
-    let x = knowing c.finish-unread.new.pass in
-    let bufs = indices_of c.close_port.result.0.items in
-    let told : Detached = record { unread = c.finish-unread.result; chain = c.close_port.result.1 } in
-    let some = subst (λ (u : SessionState). IsSome (port_with_id u.own c.args.port.0)) (sym c.self.view_is) c.requires in
-    let f = finishes-of s.own c.in-Some.own.own c.args.port bufs c.close_port.result.1 (ap own_in c.in-Some.is) some c.close_port.ensures.back c.close_port.ensures.chain in
-    let own = own-finished s.own c.in-Some.own.own c.close_port.new.self.own c.args.port bufs (ap own_in c.in-Some.is) c.close_port.ensures.back c.close_port.ensures.own in
-    subst (λ (u : SessionState). IsDetached u (record s { knows = x; own = c.close_port.new.self.own }) c.args.port.0 told) c.self.view_is
-    (is-detached s (knowing c.shut.new.pass) x c.args.port bufs c.close_port.result.1 told c.self.invariant.there some c.shut.ensures.made f c.finish-unread.ensures.made c.close_port.new.self.own refl own)
+returns-clause-detached g c = subst (λ (u : SessionState). IsDetached u (after g c) c.args.port.0 (told g c)) c.self.view_is (closed g c).1
 
 pub returns-clause-there : goal.returns-clause-there
-returns-clause-there g c = (invariant_of-self g c).there
+returns-clause-there g c = (closed g c).0

@@ -9,26 +9,29 @@ use Rattle.nm_user.specs.Calls.{Made}
 use Rattle.nm_user.specs.Ports.{OpensNot}
 use Rattle.nm_user.specs.Opening.{IsReady}
 use Rattle.nm_user.proofs.Plain.{may}
-use Rattle.nm_user.proofs.Opened.{opening, open-asks, can-add, own-added, side-there, opened-region, opened-there, opened-made, unopened-there, unopened}
+use Rattle.nm_user.proofs.Written.{session-passed}
+use Rattle.nm_user.proofs.Opened.{IsAdded, MayOpen, opening, open-asks, can-add, is-added, opened-region, unopened-there, unopened}
+use Rattle.nm_user.proofs.session.Session.open.Given as given
+use Rattle.nm_user.proofs.session.Session.open.Goals.{In_ok-new}
 use Rattle.nm_user.proofs.session.Session.open.Goals as goal
 
+-- the session may ask for it, and has all memory for it
+may-open : (g : given.Over) (c : In_ok-new g) → MayOpen (session_seen c.self.inside) c.args.name.now c.args.tx c.args.rx c.args.extra
+may-open g c =
+    open-asks {s = session_seen c.self.inside} c.args.name.now c.args.tx c.args.rx c.args.extra c.self.invariant.there c.in_ok-new.ensures.named
+    (omega (arith, c.ranges.tx)) (omega (arith, c.ranges.rx)) (omega (arith, c.ranges.extra))
+
+ready : (g : given.Over) (c : In_ok-new g) → IsReady (session_seen c.self.inside).own c.args.name.now c.args.tx c.args.rx c.args.extra c.in_ok-new.new
+ready g c = subst (λ (t : SessionState). IsReady t.own c.args.name.now c.args.tx c.args.rx c.args.extra c.in_ok-new.new) (sym c.self.view_is) c.in_ok-new.ensures.ready
+
 pub open-requires-clause-may : goal.open-requires-clause-may
-open-requires-clause-may g c =
-    let s = session_seen c.self.inside in
-    let asks = open-asks {s = s} c.args.name.now c.args.tx c.args.rx c.args.extra c.self.invariant.there c.in_ok-new.ensures.named (omega (arith, c.ranges.tx)) (omega (arith, c.ranges.rx)) (omega (arith, c.ranges.extra)) in
-    may c.self.invariant.there asks
+open-requires-clause-may g c = may c.self.invariant.there (may-open g (goal.at.open-requires-clause-may g c).In_ok-new)
 
 pub invariant_of-self : goal.invariant_of-self
 invariant_of-self g c =
-    let s = session_seen c.self.inside in
-    let asks = open-asks {s = s} c.args.name.now c.args.tx c.args.rx c.args.extra c.self.invariant.there c.in_ok-new.ensures.named (omega (arith, c.ranges.tx)) (omega (arith, c.ranges.rx)) (omega (arith, c.ranges.extra)) in
-    record {
-      pass = c.open.ensures.pass;
-      own = c.self.invariant.own;
-      own_is = c.self.invariant.own_is;
-      region = c.self.invariant.region;
-      there = unopened-there s (knowing c.open.new.pass) c.args.name.now c.args.tx c.args.rx c.args.extra c.self.invariant.there asks c.in_err-opened.field-0.0 c.in_err-opened.ensures.unopened;
-    }
+    session-passed c.self.invariant c.open.ensures.pass
+    (unopened-there (session_seen c.self.inside) (knowing c.open.new.pass) c.args.name.now c.args.tx c.args.rx c.args.extra c.self.invariant.there (may-open g (goal.at.invariant_of-self g c).In_ok-new)
+    c.in_err-opened.field-0.0 c.in_err-opened.ensures.unopened)
 
 pub returns-in_err-opened-clause-unopened : goal.returns-in_err-opened-clause-unopened
 returns-in_err-opened-clause-unopened g c =
@@ -42,40 +45,35 @@ returns-in_err-opened-clause-unopened g c =
 
 pub add-requires : goal.add-requires
 add-requires g c =
-    let s = session_seen c.self.inside in
-    let asks = open-asks {s = s} c.args.name.now c.args.tx c.args.rx c.args.extra c.self.invariant.there c.in_ok-new.ensures.named (omega (arith, c.ranges.tx)) (omega (arith, c.ranges.rx)) (omega (arith, c.ranges.extra)) in
-    let ready = subst (λ (t : SessionState). IsReady t.own c.args.name.now c.args.tx c.args.rx c.args.extra c.in_ok-new.new) (sym c.self.view_is) c.in_ok-new.ensures.ready in
-    let had : c.self.invariant.own.own ≡ s.own = ap own_in (sym c.self.invariant.own_is) in
-    can-add s (knowing c.open.new.pass) c.args.name.now c.args.tx c.args.rx c.args.extra c.self.invariant.there asks c.in_ok-opened.ensures.made c.in_ok-opened.opened c.in_ok-opened.ensures.port c.in_ok-opened.ensures.hands
-    c.self.inside.own c.in_ok-new.new c.self.invariant.own c.self.invariant.own_is had ready
+    let at = (goal.at.add-requires g c).In_ok-new in
+    let e = c.in_ok-opened.ensures in
+    can-add (session_seen c.self.inside) (knowing c.open.new.pass) c.args.name.now c.args.tx c.args.rx c.args.extra c.self.invariant.there (may-open g at) e.made c.in_ok-opened.opened e.port e.hands
+    c.self.inside.own c.in_ok-new.new c.self.invariant.own c.self.invariant.own_is (ap own_in (sym c.self.invariant.own_is)) (ready g at)
+
+-- the port is added
+added : (g : given.Over) (c : goal.After-add g) → MayOpen (session_seen c.self.inside) c.args.name.now c.args.tx c.args.rx c.args.extra → IsReady (session_seen c.self.inside).own c.args.name.now c.args.tx c.args.rx c.args.extra c.in_ok-new.new
+    → IsAdded (session_seen c.self.inside) (knowing c.open.new.pass) c.add.new.own (opening (session_seen c.self.inside) c.args.name.now c.args.tx c.args.rx c.args.extra)
+added g c may ready =
+    let e = c.in_ok-opened.ensures in
+    is-added (session_seen c.self.inside) (knowing c.open.new.pass) c.args.name.now c.args.tx c.args.rx c.args.extra c.self.invariant.there may e.made c.in_ok-opened.opened e.port e.hands
+    c.self.inside.own c.add.new.own c.in_ok-new.new c.self.invariant.own c.self.invariant.own_is (ap own_in (sym c.self.invariant.own_is)) ready c.add.ensures.own
 
 pub invariant_of-self-2 : goal.invariant_of-self-2
 invariant_of-self-2 g c =
-    let s = session_seen c.self.inside in
-    let w = knowing c.open.new.pass in
-    let asks = open-asks {s = s} c.args.name.now c.args.tx c.args.rx c.args.extra c.self.invariant.there c.in_ok-new.ensures.named (omega (arith, c.ranges.tx)) (omega (arith, c.ranges.rx)) (omega (arith, c.ranges.extra)) in
-    let ready = subst (λ (t : SessionState). IsReady t.own c.args.name.now c.args.tx c.args.rx c.args.extra c.in_ok-new.new) (sym c.self.view_is) c.in_ok-new.ensures.ready in
-    let had : c.self.invariant.own.own ≡ s.own = ap own_in (sym c.self.invariant.own_is) in
-    let added = own-added s w c.args.name.now c.args.tx c.args.rx c.args.extra c.self.invariant.there asks c.in_ok-opened.ensures.made c.in_ok-opened.opened c.in_ok-opened.ensures.port c.in_ok-opened.ensures.hands
-    c.self.inside.own c.add.new.own c.in_ok-new.new c.self.invariant.own c.self.invariant.own_is had ready c.add.ensures.own in
-    let there = side-there c.add.new.own _ added in
+    let at = (goal.at.invariant_of-self-2 g c).In_ok-new in
+    let k = added g c (may-open g at) (ready g at) in
+    let region = (fixed_in c.self.inside.fabric.now).region in
     record {
       pass = c.open.ensures.pass;
-      own = there.0;
-      own_is = there.1;
-      region = opened-region (fixed_in c.self.inside.fabric.now).region c.self.inside.own c.add.new.own c.self.invariant.own there.0 c.in_ok-opened.opened.tx.items c.in_ok-opened.opened.extra.items c.self.invariant.own_is there.1 c.self.invariant.region
-          (c.add.ensures.region (fixed_in c.self.inside.fabric.now).region) c.in_ok-opened.ensures.hands.region_is;
-      there = opened-there s w c.args.name.now c.args.tx c.args.rx c.args.extra c.self.invariant.there asks c.add.new.own added c.in_ok-opened.ensures.made;
+      own = k.side;
+      own_is = k.side_is;
+      region = opened-region region c.self.inside.own c.add.new.own c.self.invariant.own k.side c.in_ok-opened.opened.tx.items c.in_ok-opened.opened.extra.items c.self.invariant.own_is k.side_is c.self.invariant.region
+          (c.add.ensures.region region) c.in_ok-opened.ensures.hands.region_is;
+      there = k.there;
     }
 
 pub returns-clause-made : goal.returns-clause-made
 returns-clause-made g c =
-    let s = session_seen c.self.inside in
-    let w = knowing c.open.new.pass in
-    let asks = open-asks {s = s} c.args.name.now c.args.tx c.args.rx c.args.extra c.self.invariant.there c.in_ok-new.ensures.named (omega (arith, c.ranges.tx)) (omega (arith, c.ranges.rx)) (omega (arith, c.ranges.extra)) in
-    let ready = subst (λ (t : SessionState). IsReady t.own c.args.name.now c.args.tx c.args.rx c.args.extra c.in_ok-new.new) (sym c.self.view_is) c.in_ok-new.ensures.ready in
-    let had : c.self.invariant.own.own ≡ s.own = ap own_in (sym c.self.invariant.own_is) in
-    let added = own-added s w c.args.name.now c.args.tx c.args.rx c.args.extra c.self.invariant.there asks c.in_ok-opened.ensures.made c.in_ok-opened.opened c.in_ok-opened.ensures.port c.in_ok-opened.ensures.hands
-    c.self.inside.own c.add.new.own c.in_ok-new.new c.self.invariant.own c.self.invariant.own_is had ready c.add.ensures.own in
-    subst (λ (u : SessionState). Made u (record s { knows = w; own = own_in c.add.new.own }) (opening u c.args.name.now c.args.tx c.args.rx c.args.extra) Opened) c.self.view_is
-    (opened-made s w c.args.name.now c.args.tx c.args.rx c.args.extra c.self.invariant.there asks c.add.new.own added c.in_ok-opened.ensures.made)
+    let at = (goal.at.returns-clause-made g c).In_ok-new in
+    subst (λ (u : SessionState). Made u (record (session_seen c.self.inside) { knows = knowing c.open.new.pass; own = own_in c.add.new.own }) (opening u c.args.name.now c.args.tx c.args.rx c.args.extra) Opened) c.self.view_is
+    (added g c (may-open g at) (ready g at)).made

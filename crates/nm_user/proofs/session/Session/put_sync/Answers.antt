@@ -1,140 +1,135 @@
-use Rattle.std.proofs.Common.{rules, ◌≡◌, ◌≤◌, ◌∙◌, List, Some, None, length, map, refl, sym, ap, subst}
+use Rattle.std.proofs.Common.{rules, ◌≡◌, ◌∙◌, Some, None, map, refl, sym, ap, subst}
 use Rattle.std.specs.List.{AllByRecursion as Each}
-use Rattle.std.specs.Vec.{vec_capacity}
 use Rattle.std.proofs.lemmas.List.Elements.{All-from_recursion}
 use Rattle.nm_types.specs.declared.id.PortId.{PortId}
-use Rattle.nm_types.specs.OwnPorts.{OwnState}
 use Rattle.nm_types.specs.OwnSyncs.{own_after_put}
 use Rattle.nm_region.specs.Buffers.{indices_of}
-use Rattle.nm_own.specs.LentOffers.{IsLentOffers}
 use Rattle.nm_own.specs.Opening.{blank_arrivals}
-use Rattle.vale_line.specs.declared.got.Got.{Got}
+use Rattle.nm_port.specs.Regions.{AllOf}
 use Rattle.vale_line.specs.Gots.{buffers_of, IsSingle}
 use Rattle.vale_entry.specs.Arrivals.{blank_arrival}
 use Rattle.vale_fabric.specs.Fabrics.{fixed_in, knowing}
-use Rattle.nm_user.specs.declared.putting.Offering.{Offering}
 use Rattle.nm_user.specs.declared.sending.Sent.{Sent}
 use Rattle.nm_user.specs.Sessions.{SessionState, IsThere, own_in, session_seen}
-use Rattle.nm_user.specs.Offering.{IsOffering, side_after_fault}
-use Rattle.nm_user.proofs.Written.{region-of}
+use Rattle.nm_user.specs.Offering.{IsOffering, CanTake, side_after_fault}
+use Rattle.nm_user.specs.Syncs.{IsPut, TransmitsNot}
+use Rattle.nm_user.proofs.Written.{region-of, seen_with}
 use Rattle.nm_user.proofs.TransmitsLent.{offers-still}
-use Rattle.nm_user.proofs.TransmitsPut.{single-wrapped, put-ends, took-there}
-use Rattle.nm_user.proofs.TransmitsTold.{can-put, may-put, fault-there, not-at, put-at}
+use Rattle.nm_user.proofs.TransmitsPut.{single-wrapped}
+use Rattle.nm_user.proofs.TransmitsTold.{CanPut, can-put, may-put, not-at, put-at}
 use Rattle.nm_user.proofs.TransmitsCome.{come-new, can-take}
+use Rattle.nm_user.proofs.session.Session.put_sync.Given as given
+use Rattle.nm_user.proofs.session.Session.put_sync.Goals.{In-Some, In-Ok, After-new-offering, After-settle-shares}
 use Rattle.nm_user.proofs.session.Session.put_sync.Goals as goal
 
-pub pipe_put-requires-clause-may : goal.pipe_put-requires-clause-may
-pipe_put-requires-clause-may g c =
+-- the own side was there, and the frames that it offers are those pushed
+had : (g : given.Over) (c : In-Some g) → c.self.inside.own ≡ Some c.in-Some.own
+had g c = search rules
+
+all-of : (g : given.Over) (c : In-Some g) → AllOf (fixed_in c.self.inside.fabric.now).region c.in-Some.own
+all-of g c = region-of c.self.inside c.in-Some.own c.self.invariant (had g c)
+
+puts : (g : given.Over) (c : After-new-offering g) → CanPut (seen_with c.self.inside c.in-Some.own) c.args.port c.new-offering.result.pending.items
+puts g c =
     let had : c.self.inside.own ≡ Some c.in-Some.own = search rules in
-    let off = c.new-offering in
-    let gots = off.result.pending.items in
-    let k = can-put c.args.port gots c.self.view_is (ap own_in had) c.self.invariant.there c.requires off.ensures.pending off.ensures.buffers off.ensures.bytes in
-    may-put k
+    let e = c.new-offering.ensures in
+    can-put c.args.port c.new-offering.result.pending.items c.self.view_is (ap own_in had) c.self.invariant.there c.requires e.pending e.buffers e.bytes
+
+pub pipe_put-requires-clause-may : goal.pipe_put-requires-clause-may
+pipe_put-requires-clause-may g c = may-put (puts g (goal.at.pipe_put-requires-clause-may g c).After-new-offering)
 
 pub pipe_put-requires-clause-region : goal.pipe_put-requires-clause-region
 pipe_put-requires-clause-region g c =
-    let had : c.self.inside.own ≡ Some c.in-Some.own = search rules in
-    c.new-offering.ensures.out (fixed_in c.self.inside.fabric.now).region (region-of c.self.inside c.in-Some.own c.self.invariant had)
+    c.new-offering.ensures.out (fixed_in c.self.inside.fabric.now).region (all-of g (goal.at.pipe_put-requires-clause-region g c).In-Some)
 
 pub pipe_put-requires-clause-single : goal.pipe_put-requires-clause-single
 pipe_put-requires-clause-single g c =
     let gots = c.new-offering.result.pending.items in
     All-from_recursion IsSingle gots (subst (Each IsSingle) (sym c.new-offering.ensures.pending) (single-wrapped (buffers_of gots) _))
 
+-- ---- it gave nothing
+
+still : (g : given.Over) (c : goal.After-sync_fault_of g) → IsOffering c.in-Some.own (record c.new-offering.result { pending = c.pipe_put.new.pending })
+still g c = offers-still c.in-Some.own c.new-offering.result c.pipe_put.new.pending c.new-offering.ensures.offering c.in-Err.ensures.kept
+
+abbrev left : (g : given.Over) → goal.After-sync_fault_of g → SessionState
+left g c = record (session_seen c.self.inside) { knows = knowing c.pipe_put.new.pass; own = own_in c.put_back.new.away }
+
+refused : (g : given.Over) (c : goal.After-sync_fault_of g) → CanPut (seen_with c.self.inside c.in-Some.own) c.args.port c.new-offering.result.pending.items
+    → IsThere None (left g c) × TransmitsNot c.args.self.now (left g c) c.args.port.0 c.sync_fault_of.result
+refused g c k =
+    let had : c.self.inside.own ≡ Some c.in-Some.own = search rules in
+    let own-now : own_in c.put_back.new.away ≡ (side_after_fault c.in-Err.fault c.args.port.0 c.in-Some.own).own =
+    ap own_in c.put_back.ensures
+    ∙ (c.refused.ensures.own c.in-Some.own (still g c) ∙ ap (λ (p : PortId). (side_after_fault c.in-Err.fault p.0 c.in-Some.own).own) c.new-offering.ensures.port) in
+    not-at c.in-Some.own c.in-Err.fault c.sync_fault_of.result c.self.view_is (ap own_in had) k c.in-Err.ensures.refused own-now c.sync_fault_of.ensures
+
 pub invariant_of-self : goal.invariant_of-self
 invariant_of-self g c =
-    let had : c.self.inside.own ≡ Some c.in-Some.own = search rules in
-    let off = c.new-offering in
-    let gots = off.result.pending.items in
-    let k = can-put c.args.port gots c.self.view_is (ap own_in had) c.self.invariant.there c.requires off.ensures.pending off.ensures.buffers off.ensures.bytes in
-    let seen = session_seen c.self.inside in
-    let w = knowing c.pipe_put.new.pass in
-    let left : Offering = record { lent = off.result.lent; pending = c.pipe_put.new.pending; bufs = off.result.bufs } in
-    let is = offers-still c.in-Some.own off.result left off.ensures.offering refl refl c.in-Err.ensures.kept in
-    let own-now : own_in c.put_back.new.away ≡ (side_after_fault c.in-Err.fault c.args.port.0 c.in-Some.own).own =
-    ap own_in c.put_back.ensures ∙ (c.refused.ensures.own c.in-Some.own is ∙ ap (λ (p : PortId). (side_after_fault c.in-Err.fault p.0 c.in-Some.own).own) off.ensures.port) in
+    let at = goal.at.invariant_of-self g c in
     record {
       pass = c.pipe_put.ensures.pass;
       own = c.refused.result;
       own_is = c.put_back.ensures;
-      region = c.refused.ensures.region c.in-Some.own is (fixed_in c.self.inside.fabric.now).region (region-of c.self.inside c.in-Some.own c.self.invariant had);
-      there = subst (λ (o : OwnState). IsThere None (record seen { knows = w; own = o })) (sym own-now) (fault-there c.in-Err.fault c.in-Some.own refl k c.in-Err.ensures.refused);
+      region = c.refused.ensures.region c.in-Some.own (still g c) (fixed_in c.self.inside.fabric.now).region (all-of g at.In-Some);
+      there = (refused g c (puts g at.After-new-offering)).0;
     }
 
 pub returns-in-Err-clause-refused : goal.returns-in-Err-clause-refused
-returns-in-Err-clause-refused g c =
-    let had : c.self.inside.own ≡ Some c.in-Some.own = search rules in
-    let off = c.new-offering in
-    let gots = off.result.pending.items in
-    let k = can-put c.args.port gots c.self.view_is (ap own_in had) c.self.invariant.there c.requires off.ensures.pending off.ensures.buffers off.ensures.bytes in
-    let seen = session_seen c.self.inside in
-    let w = knowing c.pipe_put.new.pass in
-    let left : Offering = record { lent = off.result.lent; pending = c.pipe_put.new.pending; bufs = off.result.bufs } in
-    let is = offers-still c.in-Some.own off.result left off.ensures.offering refl refl c.in-Err.ensures.kept in
-    let own-now : own_in c.put_back.new.away ≡ (side_after_fault c.in-Err.fault c.args.port.0 c.in-Some.own).own =
-    ap own_in c.put_back.ensures ∙ (c.refused.ensures.own c.in-Some.own is ∙ ap (λ (p : PortId). (side_after_fault c.in-Err.fault p.0 c.in-Some.own).own) off.ensures.port) in
-    not-at c.in-Some.own c.in-Err.fault c.sync_fault_of.result c.self.view_is (ap own_in had) k c.in-Err.ensures.refused own-now c.sync_fault_of.ensures
+returns-in-Err-clause-refused g c = (refused g c (puts g (goal.at.returns-in-Err-clause-refused g c).After-new-offering)).1
+
+-- ---- the other end took frames
+
+taking : (g : given.Over) (c : In-Ok g) → CanPut (seen_with c.self.inside c.in-Some.own) c.args.port c.new-offering.result.pending.items
+    → CanTake c.in-Some.own c.new-offering.result.pending.items (record c.new-offering.result { pending = c.pipe_put.new.pending }) c.in-Ok.put.back.items
+taking g c k =
+    let s = seen_with c.self.inside c.in-Some.own in
+    let e = c.in-Ok.ensures in
+    can-take {s = s} c.in-Some.own c.new-offering.result c.pipe_put.new.pending c.in-Ok.put refl c.new-offering.ensures.offering e.pending
+    (come-new {s = s} {w = knowing c.pipe_put.new.pass} c.new-offering.result.pending.items c.in-Ok.put k.there k.puts_are e.made e.put)
 
 pub taken-requires : goal.taken-requires
 taken-requires g c =
+    let at = goal.at.taken-requires g c in
+    (c.in-Some.own, (c.new-offering.result.pending.items, taking g at.In-Ok (puts g at.After-new-offering)))
+
+abbrev after : (g : given.Over) → After-settle-shares g → SessionState
+after g c = record (session_seen c.self.inside) { knows = knowing c.settle-shares.new.pass; own = own_in c.put_back-2.new.away }
+
+abbrev told : (g : given.Over) → After-settle-shares g → Sent
+told g c =
+    let shares = c.settle-shares.result in
+    record { entry = c.entry-entry.result; pushed = c.in-Ok.put.took; short = 0; lone = 0; given = shares.given; full = shares.full; gone = shares.gone }
+
+put : (g : given.Over) (c : After-settle-shares g) → CanPut (seen_with c.self.inside c.in-Some.own) c.args.port c.new-offering.result.pending.items
+    → CanTake c.in-Some.own c.new-offering.result.pending.items (record c.new-offering.result { pending = c.pipe_put.new.pending }) c.in-Ok.put.back.items
+    → IsThere None (after g c) × IsPut c.args.self.now (after g c) c.args.port.0 (told g c)
+put g c k t =
     let had : c.self.inside.own ≡ Some c.in-Some.own = search rules in
-    let off = c.new-offering in
-    let gots = off.result.pending.items in
-    let k = can-put c.args.port gots c.self.view_is (ap own_in had) c.self.invariant.there c.requires off.ensures.pending off.ensures.buffers off.ensures.bytes in
-    let seen = session_seen c.self.inside in
-    let w = knowing c.pipe_put.new.pass in
-    let s : SessionState = record seen { own = c.in-Some.own.own } in
-    let put = c.in-Ok.put in
-    let e = c.in-Ok.ensures in
-    let left : Offering = record { lent = off.result.lent; pending = c.pipe_put.new.pending; bufs = off.result.bufs } in
-    let come = come-new {s = s} {w = w} gots put k.there k.puts_are e.made e.put in
-    let taking = can-take {s = s} c.in-Some.own off.result left put refl off.ensures.offering refl refl e.pending come in
-    (c.in-Some.own, (gots, taking))
+    let gots = c.new-offering.result.pending.items in
+    let back = indices_of c.in-Ok.put.back.items in
+    let own-now : own_in c.put_back-2.new.away ≡ own_after_put c.args.port.0 (map blank_arrival back) c.in-Some.own.own =
+    ap own_in c.put_back-2.ensures ∙ (c.taken.ensures.own c.in-Some.own gots t ∙ ap (λ (p : PortId). own_after_put p.0 (blank_arrivals back) c.in-Some.own.own) c.new-offering.ensures.port) in
+    put-at gots c.in-Ok.put (told g c) c.self.view_is (ap own_in had) k c.in-Ok.ensures.made c.in-Ok.ensures.put c.settle-shares.ensures.none c.settle-shares.ensures.settles own-now c.entry-entry.ensures refl refl refl refl
 
 pub invariant_of-self-2 : goal.invariant_of-self-2
 invariant_of-self-2 g c =
-    let had : c.self.inside.own ≡ Some c.in-Some.own = search rules in
-    let off = c.new-offering in
-    let gots = off.result.pending.items in
-    let k = can-put c.args.port gots c.self.view_is (ap own_in had) c.self.invariant.there c.requires off.ensures.pending off.ensures.buffers off.ensures.bytes in
-    let seen = session_seen c.self.inside in
-    let w = knowing c.pipe_put.new.pass in
-    let s : SessionState = record seen { own = c.in-Some.own.own } in
-    let put = c.in-Ok.put in
-    let e = c.in-Ok.ensures in
-    let left : Offering = record { lent = off.result.lent; pending = c.pipe_put.new.pending; bufs = off.result.bufs } in
-    let come = come-new {s = s} {w = w} gots put k.there k.puts_are e.made e.put in
-    let taking = can-take {s = s} c.in-Some.own off.result left put refl off.ensures.offering refl refl e.pending come in
-    let ends = put-ends {s = s} {w = w} gots put k.there k.puts_are e.made e.put c.settle-shares.ensures.none c.settle-shares.ensures.settles in
-    let own-now : own_in c.put_back-2.new.away ≡ own_after_put c.args.port.0 (map blank_arrival (indices_of put.back.items)) c.in-Some.own.own =
-    ap own_in c.put_back-2.ensures ∙ (c.taken.ensures.own c.in-Some.own gots taking ∙ ap (λ (p : PortId). own_after_put p.0 (blank_arrivals (indices_of put.back.items)) c.in-Some.own.own) off.ensures.port) in
+    let at = goal.at.invariant_of-self-2 g c in
+    let k = puts g at.After-new-offering in
+    let t = taking g at.In-Ok k in
     record {
       pass = c.settle-shares.ensures.pass;
       own = c.taken.result;
       own_is = c.put_back-2.ensures;
-      region = c.taken.ensures.region c.in-Some.own gots taking (fixed_in c.self.inside.fabric.now).region (region-of c.self.inside c.in-Some.own c.self.invariant had) e.put.is.back_of;
-      there = subst (λ (o : OwnState). IsThere None (record seen { knows = knowing c.settle-shares.new.pass; own = o })) (sym own-now) (took-there {s = s} {w = w} gots put k.there k.puts_are e.made e.put ends);
+      region = c.taken.ensures.region c.in-Some.own c.new-offering.result.pending.items t (fixed_in c.self.inside.fabric.now).region (all-of g at.In-Some) c.in-Ok.ensures.put.is.back_of;
+      there = (put g at.After-settle-shares k t).0;
     }
 
 pub returns-clause-put : goal.returns-clause-put
 returns-clause-put g c =
-    let had : c.self.inside.own ≡ Some c.in-Some.own = search rules in
-    let off = c.new-offering in
-    let gots = off.result.pending.items in
-    let k = can-put c.args.port gots c.self.view_is (ap own_in had) c.self.invariant.there c.requires off.ensures.pending off.ensures.buffers off.ensures.bytes in
-    let seen = session_seen c.self.inside in
-    let w = knowing c.pipe_put.new.pass in
-    let s : SessionState = record seen { own = c.in-Some.own.own } in
-    let put = c.in-Ok.put in
-    let e = c.in-Ok.ensures in
-    let left : Offering = record { lent = off.result.lent; pending = c.pipe_put.new.pending; bufs = off.result.bufs } in
-    let come = come-new {s = s} {w = w} gots put k.there k.puts_are e.made e.put in
-    let taking = can-take {s = s} c.in-Some.own off.result left put refl off.ensures.offering refl refl e.pending come in
-    let ends = put-ends {s = s} {w = w} gots put k.there k.puts_are e.made e.put c.settle-shares.ensures.none c.settle-shares.ensures.settles in
-    let own-now : own_in c.put_back-2.new.away ≡ own_after_put c.args.port.0 (map blank_arrival (indices_of put.back.items)) c.in-Some.own.own =
-    ap own_in c.put_back-2.ensures ∙ (c.taken.ensures.own c.in-Some.own gots taking ∙ ap (λ (p : PortId). own_after_put p.0 (blank_arrivals (indices_of put.back.items)) c.in-Some.own.own) off.ensures.port) in
-    let sent : Sent = record { entry = c.entry-entry.result; pushed = put.took; short = 0; lone = 0; given = c.settle-shares.result.given; full = c.settle-shares.result.full; gone = c.settle-shares.result.gone } in
-    put-at gots put sent c.self.view_is (ap own_in had) k e.made e.put ends own-now c.entry-entry.ensures refl refl refl refl
+    let at = goal.at.returns-clause-put g c in
+    let k = puts g at.After-new-offering in
+    (put g at.After-settle-shares k (taking g at.In-Ok k)).1
 
 pub returns-in-Err-clause-there : goal.returns-in-Err-clause-there
 returns-in-Err-clause-there g c = (invariant_of-self g c).there

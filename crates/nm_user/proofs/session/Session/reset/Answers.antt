@@ -1,4 +1,4 @@
-use Rattle.std.proofs.Common.{◌≡◌, ◌∙◌, true, None, Some, refl, ap, sym, subst}
+use Rattle.std.proofs.Common.{◌≡◌, ◌∙◌, None, Some, refl, ap, sym, subst}
 use Rattle.nm_types.specs.OwnPorts.{OwnState}
 use Rattle.nm_types.specs.OwnSyncs.{own_after_reset}
 use Rattle.nm_port.specs.Own.{refusal_at}
@@ -7,8 +7,8 @@ use Rattle.vale_fabric.specs.Fabrics.{knowing}
 use Rattle.nm_user.specs.Sessions.{SessionState, IsThere, own_in, session_seen}
 use Rattle.nm_user.proofs.After.{there-still}
 use Rattle.nm_user.proofs.Plain.{may}
-use Rattle.nm_user.proofs.Written.{region-kept}
-use Rattle.nm_user.proofs.TransmitsReset.{reset-asks, reset-there}
+use Rattle.nm_user.proofs.Written.{region-kept, session-passed}
+use Rattle.nm_user.proofs.Resets.{reset-asks, reset-there}
 use Rattle.nm_user.proofs.session.Session.reset.Goals as goal
 
 pub reset-requires-clause-may : goal.reset-requires-clause-may
@@ -18,13 +18,7 @@ reset-requires-clause-may g c =
     may c.self.invariant.there (reset-asks c.args.side c.args.port c.args.fault c.self.invariant.there refused fits)
 
 pub invariant_of-self : goal.invariant_of-self
-invariant_of-self g c = record {
-  pass = c.reset.ensures.pass;
-  own = c.self.invariant.own;
-  own_is = c.self.invariant.own_is;
-  region = c.self.invariant.region;
-  there = there-still c.self.invariant.there c.in_err-reset.ensures.full.none;
-}
+invariant_of-self g c = session-passed c.self.invariant c.reset.ensures.pass (there-still c.self.invariant.there c.in_err-reset.ensures.full.none)
 
 pub invariant_of-self-2 : goal.invariant_of-self-2
 invariant_of-self-2 g c =

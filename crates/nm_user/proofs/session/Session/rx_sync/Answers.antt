@@ -1,4 +1,4 @@
-use Rattle.nm_user.proofs.ReceivesReset.{has-ring}
+use Rattle.nm_user.proofs.Receives.{has-ring}
 use Rattle.nm_user.proofs.session.Session.rx_sync.Goals as goal
 
 pub check-requires : goal.check-requires

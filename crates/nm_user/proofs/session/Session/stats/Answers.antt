@@ -2,6 +2,7 @@ use Rattle.std.proofs.Common.{subst, sym, IsSome}
 use Rattle.nm_types.specs.OwnPorts.{port_with_id}
 use Rattle.nm_user.specs.Sessions.{SessionState}
 use Rattle.nm_user.proofs.Plain.{may, stat-asks, stat-there}
+use Rattle.nm_user.proofs.Written.{session-passed}
 use Rattle.nm_user.proofs.session.Session.stats.Goals as goal
 
 pub stats-requires-clause-may : goal.stats-requires-clause-may
@@ -10,10 +11,5 @@ stats-requires-clause-may g c =
 
 pub invariant_of-self : goal.invariant_of-self
 invariant_of-self g c =
-    record {
-      pass = c.stats.ensures.pass;
-      own = c.self.invariant.own;
-      own_is = c.self.invariant.own_is;
-      region = c.self.invariant.region;
-      there = stat-there c.args.port c.stats.result c.self.invariant.there (subst (λ (s : SessionState). IsSome (port_with_id s.own c.args.port.0)) (sym c.self.view_is) c.requires) c.stats.ensures.made c.stats.ensures.full;
-    }
+    session-passed c.self.invariant c.stats.ensures.pass
+    (stat-there c.args.port c.stats.result c.self.invariant.there (subst (λ (s : SessionState). IsSome (port_with_id s.own c.args.port.0)) (sym c.self.view_is) c.requires) c.stats.ensures.made c.stats.ensures.full)

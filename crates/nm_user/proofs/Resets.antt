@@ -18,11 +18,12 @@ use Rattle.vale_entry.specs.OwnCalls.{or_reset, offered_items, tx_call, rx_call,
 use Rattle.vale_entry.specs.Legal.{fits_fault}
 use Rattle.vale_entry.proofs.ListLaws.{place-of}
 use Rattle.vale_own.specs.Asker.{asks}
-use Rattle.vale_own.specs.SideAsks.{MayAsk as MayBeAsked, RefusalFits}
-use Rattle.vale_own.proofs.SideSyncing.{transmit-asked, receive-asked}
+use Rattle.vale_own.specs.SideAsks.{RefusalFits}
 use Rattle.vale_fabric.specs.Fabrics.{Knowing, Answers}
 use Rattle.nm_user.specs.Sessions.{SessionState, IsThere, standing_seen}
-use Rattle.nm_user.proofs.Plain.{has-side, asked, there-answered}
+use Rattle.nm_user.proofs.Plain.{there-answered}
+use Rattle.nm_user.proofs.Sends.{tx-asks}
+use Rattle.nm_user.proofs.Receives.{rx-asks}
 
 -- the port whose ring a check refuses
 pub record IsRefusedAt (own : OwnState) (side : Side) (port : PortId) (fault : SyncFault) : Type 0 where
@@ -56,30 +57,29 @@ refused-at own side port fault is = by (port_with_id own port.0) refl is
 same-ring : (a b : OwnRing) → Some a ≡ Some b → a ≡ b
 same-ring a b e = cc
 
-pub reset-asks : {s : SessionState} (side : Side) (port : PortId) (fault : SyncFault) → IsThere None s → refusal_at side port.0 s.own ≡ Some fault → fits_fault fault ≡ true → asks (standing_seen s.fixed s.knows) s.id (Reset port side fault) ≡ true
-reset-asks {s} Tx port fault t is fits =
-    let pool = s.fixed.pool in
-    let k = refused-at s.own Tx port fault is in
-    let found : port_with_id s.own k.at.id.0 ≡ Some k.at = subst (λ (id : PortId). port_with_id s.own id.0 ≡ Some k.at) (sym k.id_is) k.found in
-    let numbers : RefusalFits (refusal_in Tx s.own k.ring) = subst RefusalFits (sym k.is) fits in
-    let may = transmit-asked pool s.knows.seen s.id None s.own k.at k.ring (has-side t) t.settled (found, refl) k.has numbers in
-    let as-pipe : Ask = Put k.at.id (offered_items s.own k.ring) in
-    let as-send : Ask = Send k.at.id (pushed_frames (bytes_at s.own) (pushed_in Tx k.ring)) in
-    let same : tx_call s.own k.at k.ring ≡ Reset port Tx fault =
-    ap (λ (o : Option SyncFault). or_reset o k.at.id Tx (if is_pipe_name k.at.name then as-pipe else as-send)) k.is ∙ ap (λ (id : PortId). Reset id Tx fault) k.id_is in
-    asked (Reset port Tx fault) t (subst (MayBeAsked pool s.knows.seen s.id) same may)
-reset-asks {s} Rx port fault t is fits =
-    let pool = s.fixed.pool in
-    let k = refused-at s.own Rx port fault is in
-    let found : port_with_id s.own k.at.id.0 ≡ Some k.at = subst (λ (id : PortId). port_with_id s.own id.0 ≡ Some k.at) (sym k.id_is) k.found in
-    let refusal : refusal_in Rx s.own k.at.rx ≡ Some fault = ap (refusal_in Rx s.own) (same-ring k.at.rx k.ring k.has) ∙ k.is in
-    let numbers : RefusalFits (refusal_in Rx s.own k.at.rx) = subst RefusalFits (sym refusal) fits in
-    let may = receive-asked pool s.knows.seen s.id None s.own k.at (has-side t) t.settled (found, refl) numbers in
+-- a refused sync's call is the reset
+pub tx-resets : {own : OwnState} {port : PortId} {fault : SyncFault} (k : IsRefusedAt own Tx port fault) → tx_call own k.at k.ring ≡ Reset port Tx fault
+tx-resets {own} {port} {fault} k =
+    let as-pipe : Ask = Put k.at.id (offered_items own k.ring) in
+    let as-send : Ask = Send k.at.id (pushed_frames (bytes_at own) (pushed_in Tx k.ring)) in
+    ap (λ (o : Option SyncFault). or_reset o k.at.id Tx (if is_pipe_name k.at.name then as-pipe else as-send)) k.is ∙ ap (λ (id : PortId). Reset id Tx fault) k.id_is
+
+pub rx-refused : {own : OwnState} {port : PortId} {fault : SyncFault} (k : IsRefusedAt own Rx port fault) → refusal_in Rx own k.at.rx ≡ Some fault
+rx-refused {own} k = ap (refusal_in Rx own) (same-ring k.at.rx k.ring k.has) ∙ k.is
+
+pub rx-resets : {own : OwnState} {port : PortId} {fault : SyncFault} (k : IsRefusedAt own Rx port fault) → rx_call own k.at ≡ Reset port Rx fault
+rx-resets {own} {port} {fault} k =
     let as-pipe : Ask = Get k.at.id (back_in k.at) in
     let as-sync : Ask = Sync k.at.id (back_in k.at) in
-    let same : rx_call s.own k.at ≡ Reset port Rx fault =
-    ap (λ (o : Option SyncFault). or_reset o k.at.id Rx (if is_pipe_name k.at.name then as-pipe else as-sync)) refusal ∙ ap (λ (id : PortId). Reset id Rx fault) k.id_is in
-    asked (Reset port Rx fault) t (subst (MayBeAsked pool s.knows.seen s.id) same may)
+    ap (λ (o : Option SyncFault). or_reset o k.at.id Rx (if is_pipe_name k.at.name then as-pipe else as-sync)) (rx-refused k) ∙ ap (λ (id : PortId). Reset id Rx fault) k.id_is
+
+pub reset-asks : {s : SessionState} (side : Side) (port : PortId) (fault : SyncFault) → IsThere None s → refusal_at side port.0 s.own ≡ Some fault → fits_fault fault ≡ true → asks (standing_seen s.fixed s.knows) s.id (Reset port side fault) ≡ true
+reset-asks {s} Tx port fault t is fits =
+    let k = refused-at s.own Tx port fault is in
+    tx-asks (Reset port Tx fault) t (record { port = k.at; ring = k.ring; found = k.found; has = k.has }) k.id_is (subst RefusalFits (sym k.is) fits) (tx-resets k)
+reset-asks {s} Rx port fault t is fits =
+    let k = refused-at s.own Rx port fault is in
+    rx-asks (Reset port Rx fault) t k.at k.found k.id_is (subst RefusalFits (sym (rx-refused k)) fits) (rx-resets k)
 
 module _ {s : SessionState} {w : Knowing} (side : Side) (port : PortId) (fault : SyncFault) where
   pub reset-there : IsThere None s → asks (standing_seen s.fixed s.knows) s.id (Reset port side fault) ≡ true → Answers s.fixed s.knows w (Reset port side fault) replies.Made

@@ -1,9 +1,7 @@
--- What a transmit sync answers.
-use Rattle.std.proofs.Common.{ℕ, ◌≡◌, Bool, true, false, sym, ap, subst, refl, ◌∙◌, Option, Some, None, ◌&&◌}
+-- What a sync answers that failed.
+use Rattle.std.proofs.Common.{ℕ, ◌≡◌, Bool, true, false, sym, subst, refl, Option, Some, None, ◌&&◌}
 use Rattle.std.specs.Prelude.{option_map, if◌then◌else◌}
 use Rattle.std.proofs.lemmas.Bool.{and_parts}
-use Rattle.nm_types.specs.Names.{is_pipe_name}
-use Rattle.nm_types.specs.Slots.{pushed_frames}
 use Rattle.nm_types.specs.Faults.{sync_fault_of}
 use Rattle.nm_types.specs.SyncFaults.{is_check_fault}
 use Rattle.nm_types.specs.declared.fault.StepFault.{StepFault}
@@ -12,25 +10,26 @@ use Rattle.nm_types.specs.declared.fault.SyncFault.{SyncFault}
 use Rattle.nm_types.specs.declared.fault.SyncFault.TheVariants.{HeadOut, CurOut, Indirect, IndexOut, NotHeld, Doubled, Unannounced, LongLen, Fragment, PeerGone, RecordFull, NoMemory}
 use Rattle.nm_types.specs.declared.id.PortId.{PortId}
 use Rattle.nm_types.specs.declared.id.Side.{Side}
-use Rattle.nm_types.specs.declared.id.Side.TheVariants.{Tx}
-use Rattle.nm_types.specs.OwnPorts.{bytes_at, pushed_in, refusal_in}
+use Rattle.nm_types.specs.declared.id.Side.TheVariants.{Tx, Rx}
+use Rattle.nm_types.specs.OwnPorts.{refusal_in}
 use Rattle.nm_port.specs.Own.{refusal_at}
 use Rattle.vale_entry.specs.declared.entry.Ask.{Ask}
-use Rattle.vale_entry.specs.declared.entry.Ask.TheVariants.{Reset, Send, Put}
+use Rattle.vale_entry.specs.declared.entry.Ask.TheVariants.{Reset}
 use Rattle.vale_entry.specs.declared.entry.Reply.{Reply}
 use Rattle.vale_entry.specs.declared.entry.Reply.TheVariants as replies
-use Rattle.vale_entry.specs.OwnCalls.{or_reset, offered_items, tx_call}
+use Rattle.vale_entry.specs.OwnCalls.{tx_call}
 use Rattle.vale_entry.specs.World.{Port, open_port}
 use Rattle.vale_entry.specs.Legal.{Standing, session_and_reply, has_ring, can_reset, reset_step, made_at, fits_fault}
 use Rattle.vale_book.specs.Recorded.{standing}
 use Rattle.vale_fabric.specs.Fabrics.{before_in}
 use Rattle.nm_user.specs.Sessions.{SessionState}
 use Rattle.nm_user.specs.Calls.{Made, MadeNone}
-use Rattle.nm_user.specs.Syncs.{HasTx, IsUnsent, SyncsNot, TransmitsNot}
-use Rattle.nm_user.proofs.TransmitsReset.{IsRefusedAt, refused-at}
+use Rattle.nm_user.specs.Syncs.{IsUnsent, SyncsNot, TransmitsNot}
+use Rattle.nm_user.specs.Receives.{RingNot}
+use Rattle.nm_user.proofs.Resets.{refused-at, rx-refused, rx-resets, tx-resets}
 
 -- a refusal that was recorded is one of the checks'
-pub check-of : (now : Standing) (side : Side) (fault : SyncFault) (found : Option Port) (session : ℕ) (reply : Reply) → option_map session_and_reply (made_at (can_reset side fault) (reset_step now) found) ≡ Some (session, reply) → is_check_fault fault ≡ true
+check-of : (now : Standing) (side : Side) (fault : SyncFault) (found : Option Port) (session : ℕ) (reply : Reply) → option_map session_and_reply (made_at (can_reset side fault) (reset_step now) found) ≡ Some (session, reply) → is_check_fault fault ≡ true
 check-of now side fault None session reply e = absurd cc
 check-of now side fault (Some port) session reply e = by (can_reset side fault port) refl e
   where
@@ -39,7 +38,7 @@ check-of now side fault (Some port) session reply e = by (can_reset side fault p
     by false can f = absurd cc
 
 -- so it is what the sync answers
-pub says-refusal : (s t : SessionState) (ask : Ask) (refusal : Option SyncFault) (fault : SyncFault) → is_check_fault fault ≡ true → refusal ≡ Some fault → Made s t ask replies.Made → SyncsNot s t ask refusal fault
+says-refusal : (s t : SessionState) (ask : Ask) (refusal : Option SyncFault) (fault : SyncFault) → is_check_fault fault ≡ true → refusal ≡ Some fault → Made s t ask replies.Made → SyncsNot s t ask refusal fault
 says-refusal s t ask refusal (HeadOut head from to) check is made = (is, made)
 says-refusal s t ask refusal (CurOut cur from to) check is made = (is, made)
 says-refusal s t ask refusal (Indirect slot) check is made = (is, made)
@@ -57,34 +56,31 @@ pub says-full : (s t : SessionState) (ask : Ask) (refusal : Option SyncFault) (f
 says-full s t ask refusal (steps.RecordFull what used want) none = none
 says-full s t ask refusal steps.NoMemory none = none
 
-module _ (s : SessionState) (port : PortId) (fault : SyncFault) (is : refusal_at Tx port.0 s.own ≡ Some fault) where
-  abbrev k : IsRefusedAt s.own Tx port fault
-  k = refused-at s.own Tx port fault is
+-- what a sync answers that asked for the reset of its ring
+ring-not : (s t : SessionState) (side : Side) (port : PortId) (fault said : SyncFault) → refusal_at side port.0 s.own ≡ Some fault → SyncsNot s t (Reset port side fault) (Some fault) said → RingNot side s t port.0 said
+ring-not s t Tx port fault said is not =
+    let k = refused-at s.own Tx port fault is in
+    record {
+      tx = record { port = k.at; ring = k.ring; found = k.found; has = k.has };
+      not = subst (λ (ask : Ask). SyncsNot s t ask (refusal_in Tx s.own k.ring) said) (sym (tx-resets k)) (subst (λ (o : Option SyncFault). SyncsNot s t (Reset port Tx fault) o said) (sym k.is) not);
+    }
+ring-not s t Rx port fault said is not =
+    let k = refused-at s.own Rx port fault is in
+    record {
+      at = record { port = k.at; found = k.found };
+      not = subst (λ (ask : Ask). SyncsNot s t ask (refusal_in Rx s.own k.at.rx) said) (sym (rx-resets k)) (subst (λ (o : Option SyncFault). SyncsNot s t (Reset port Rx fault) o said) (sym (rx-refused k)) not);
+    }
 
-  abbrev tx : HasTx s.own port.0
-  tx = record { port = k.at; ring = k.ring; found = k.found; has = k.has }
+pub refused-not : (s t : SessionState) (side : Side) (port : PortId) (fault : SyncFault) → refusal_at side port.0 s.own ≡ Some fault → Made s t (Reset port side fault) replies.Made → RingNot side s t port.0 fault
+refused-not s t side port fault is made =
+    let m = made.answers.makes in
+    let now = standing (before_in s.fixed t.knows) in
+    let check = check-of now side fault (open_port now.world.ports port.0) m.session m.reply m.steps in
+    ring-not s t side port fault fault is (says-refusal s t (Reset port side fault) (Some fault) fault check refl made)
 
-  call : tx_call s.own k.at k.ring ≡ Reset port Tx fault
-  call =
-      let as-pipe : Ask = Put k.at.id (offered_items s.own k.ring) in
-      let as-send : Ask = Send k.at.id (pushed_frames (bytes_at s.own) (pushed_in Tx k.ring)) in
-      ap (λ (o : Option SyncFault). or_reset o k.at.id Tx (if is_pipe_name k.at.name then as-pipe else as-send)) k.is ∙ ap (λ (id : PortId). Reset id Tx fault) k.id_is
-
-  pub refused-not : (t : SessionState) → Made s t (Reset port Tx fault) replies.Made → TransmitsNot s t port.0 fault
-  refused-not t made =
-      let m = made.answers.makes in
-      let now = standing (before_in s.fixed t.knows) in
-      let check = check-of now Tx fault (open_port now.world.ports port.0) m.session m.reply m.steps in
-      record {
-        tx = tx;
-        not = says-refusal s t (tx_call s.own k.at k.ring) (refusal_in Tx s.own k.ring) fault check k.is (subst (λ (ask : Ask). Made s t ask replies.Made) (sym call) made);
-      }
-
-  pub reset-not : (t : SessionState) (full : StepFault) → MadeNone s t (Reset port Tx fault) full → TransmitsNot s t port.0 (sync_fault_of full)
-  reset-not t full none = record {
-    tx = tx;
-    not = says-full s t (tx_call s.own k.at k.ring) (refusal_in Tx s.own k.ring) full (subst (λ (ask : Ask). MadeNone s t ask full) (sym call) none);
-  }
+pub reset-not : (s t : SessionState) (side : Side) (port : PortId) (fault : SyncFault) (full : StepFault) → refusal_at side port.0 s.own ≡ Some fault → MadeNone s t (Reset port side fault) full
+    → RingNot side s t port.0 (sync_fault_of full)
+reset-not s t side port fault full is none = ring-not s t side port fault (sync_fault_of full) is (says-full s t (Reset port side fault) (Some fault) full none)
 
 pub unsent-not : (s t : SessionState) (id : ℕ) (fault : StepFault) → IsUnsent s t id fault → TransmitsNot s t id (sync_fault_of fault)
 unsent-not s t id fault u = record {
