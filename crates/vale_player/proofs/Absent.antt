@@ -87,37 +87,19 @@ module _ (user : Machine) (none : user.session ≡ None) (ports : user.own.ports
   acts-nowhere name = unnamed-acts user.own name (unnamed name)
 
   unchanged : (act : Act) → changed_by act user.own ≡ user.own
-  unchanged acts.Enter = refl
-  unchanged (acts.Open name tx rx extra) = refl
-  unchanged (acts.Put name count to from len fill) = refl
-  unchanged (acts.Hex name frame) = refl
-  unchanged (acts.Play name file batch) = refl
-  unchanged (acts.Tx name) = refl
   unchanged (acts.Rx name keep) = (acts-nowhere name).back keep
   unchanged (acts.Fwd from to count) = (acts-nowhere from).forward to count
   unchanged (acts.Poke name side slot field value) = (acts-nowhere name).poke side slot field value
   unchanged (acts.Move name side head cur) = (acts-nowhere name).move side head cur
   unchanged (acts.Swap name side slot other other_side other_slot quiet) = (acts-nowhere name).swap other side other_side slot other_slot quiet
   unchanged (acts.Extra name i j) = (acts-nowhere name).extra i j
-  unchanged (acts.Watch monitor target sides) = refl
-  unchanged (acts.Stat name) = refl
-  unchanged (acts.Save name file) = refl
-  unchanged (acts.Close name) = refl
+  unchanged _ = refl
 
   still : (task : Task) → after_task task user ≡ user
-  still Arrive = refl
-  still (OpenPort name tx rx extra) = refl
   still (PutFrame name bytes) = ap (λ (found : Option OwnPort). record user { own = change_found (λ (id : ℕ). with_frame id bytes) user.own found }) (unnamed name)
-  still (SendFrames name) = refl
-  still (TakeFrames name) = refl
   still (ChangeOwn act) = ap (λ (own : OwnState). record user { own = own }) (unchanged act)
   still (SaveFrames name file) = ap (λ (found : Option OwnPort). record user { saves = saves_with file user.saves found }) (unnamed name)
-  still (WatchPort monitor target sides) = refl
-  still (ReadCounts name) = refl
-  still (ShutPort name) = refl
-  still (FinishPort name) = refl
-  still Depart = refl
-  still EndLine = refl
+  still _ = refl
 
   idle-at : (tasks : List Task) → AllByRecursion NeedsSession tasks → at_rest user tasks ≡ record user { tasks = [] }
   idle-at [] needs = refl

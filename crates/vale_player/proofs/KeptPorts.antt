@@ -162,7 +162,7 @@ module _ (s t : SessionState) (there : IsThere None s) where
     pub detach-saves : (closed : ℕ) (detached : Detached) → IsDetached s t closed detached → SaveNothing s t
     detach-saves closed detached d id k = record {
       port = port-later s t id (record { fixed = d.fixed; id = d.id_is; begins = d.told.begins }) k;
-      saved = detach-saves-nothing s t id closed detached there after k d;
+      saved = detach-saves-nothing closed detached s t id there after k d;
     }
 
 -- a session that learns of what others did
@@ -194,18 +194,9 @@ keeping s t kept there none all = record { there = there; all = kept-stay s t ke
 -- ---- a receive sync
 
 not-later : (s t : SessionState) (ask : Ask) (refusal : Option SyncFault) (fault : SyncFault) → SyncsNot s t ask refusal fault → Later s t
-not-later s t ask refusal (faults.HeadOut head from to) not = made-later not.1
-not-later s t ask refusal (faults.CurOut cur from to) not = made-later not.1
-not-later s t ask refusal (faults.Indirect slot) not = made-later not.1
-not-later s t ask refusal (faults.IndexOut slot idx) not = made-later not.1
-not-later s t ask refusal (faults.NotHeld slot idx) not = made-later not.1
-not-later s t ask refusal (faults.Doubled slot idx) not = made-later not.1
-not-later s t ask refusal (faults.Unannounced slot idx was) not = made-later not.1
-not-later s t ask refusal (faults.LongLen slot len) not = made-later not.1
-not-later s t ask refusal (faults.Fragment slot) not = made-later not.1
-not-later s t ask refusal faults.PeerGone not = made-later not.1
 not-later s t ask refusal (faults.RecordFull what used want) not = none-later not
 not-later s t ask refusal faults.NoMemory not = none-later not
+not-later s t ask refusal _ not = made-later not.1
 
 untaken-saves : (s t : SessionState) (at : ℕ) → IsThere None s → ReceivesNothing s t at → SaveNothing s t
 untaken-saves s t at there r id k = record {

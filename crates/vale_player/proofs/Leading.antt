@@ -32,7 +32,7 @@ use Rattle.vale_player.proofs.Changes.{id-of, changed-at}
 use Rattle.vale_player.proofs.Doing.{HasNoEnd, ends-line, stops-at}
 use Rattle.vale_player.proofs.LineLaws.{calls-done, receives-done, sends-done, failed-sends, puts-sync, puts-call}
 use Rattle.vale_player.proofs.Stays.{task-done}
-use Rattle.vale_player.proofs.TaskCalls.{by-id}
+use Rattle.vale_player.proofs.TaskCalls.{by-id, room-none}
 
 or-first : (a b : Bool) → (a || b) ≡ false → a ≡ false
 or-first true b e = absurd cc
@@ -145,20 +145,7 @@ module _ (number : ℕ) (saves : List Save) (s : SessionState) (name : List ℕ)
   take-calls : (at : HasPort s.own port.0) → TaskCalls number saves s (TakeFrames name) (rx_call s.own at.port)
   take-calls at = ap (option_map (rx_call s.own)) (p.named ∙ (sym p.found ∙ at.found))
 
--- a frame for which there is room, or for which there is no ring, is put without a call
-no-room-call : (own : OwnState) (p : OwnPort) (tx : Option OwnRing) → option_map_or has_slot tx false ≡ true → option_and_then (room_call own p) tx ≡ None
-no-room-call own p None e = absurd cc
-no-room-call own p (Some r) e = ap (λ (b : Bool). cond b None (Some (tx_call own p r))) e
-
-pub room-none : (own : OwnState) (name : List ℕ) → IsSound own → has_room_at own name ≡ true → option_and_then (put_call own) (port_with_name own name) ≡ None
-room-none own name sound e = by (port_with_name own name) refl e
-  where
-    by : (found : Option OwnPort) → port_with_name own name ≡ found → option_map_or (λ (p : OwnPort). has_room own p.id.0) found false ≡ true → option_and_then (put_call own) found ≡ None
-    by None named is = refl
-    by (Some p) named is =
-        let has : option_map_or has_slot p.tx false ≡ true = sym (ap (λ (o : Option OwnPort). option_map_or has_slot (option_and_then (ring_on Tx) o) false) (by-id own name p sound named)) ∙ is in
-        no-room-call own p p.tx has
-
+-- a frame for which there is no ring is put without a call
 no-ring-call : (own : OwnState) (p : OwnPort) (tx : Option OwnRing) → option_map (id_beside p) tx ≡ None → option_and_then (room_call own p) tx ≡ None
 no-ring-call own p None e = refl
 no-ring-call own p (Some r) e = absurd cc
@@ -183,6 +170,9 @@ ringless-send own name e = by (port_with_name own name) e
 
 -- ---- tasks without a call
 
+room-sound : (own : OwnState) (name : List ℕ) → IsSound own → has_room_at own name ≡ true → option_and_then (put_call own) (port_with_name own name) ≡ None
+room-sound own name sound = room-none own name (λ p named. by-id own name p sound named)
+
 pub passes-send : (p : PlayerState) (name : List ℕ) → sender_named p.session.own name ≡ None → Does p p (SendFrames name ∷ [])
 passes-send p name none rest began first come =
     task-done p.session began first (machine_of p (SendFrames name ∷ rest)) (SendFrames name) rest come refl (ringless-send p.session.own name none)
@@ -191,7 +181,7 @@ stays-self : (p : PlayerState) (task : Task) → Leads p p (task ∷ []) (task �
 stays-self p task rest began first come = come
 
 pub room-needs : (p : PlayerState) (name bytes : List ℕ) → IsSound p.session.own → has_room_at p.session.own name ≡ true → NeedsNone p p (PutFrame name bytes)
-room-needs p name bytes sound room = record { stays = stays-self p (PutFrame name bytes); none = room-none p.session.own name sound room }
+room-needs p name bytes sound room = record { stays = stays-self p (PutFrame name bytes); none = room-sound p.session.own name sound room }
 
 pub ringless-needs : (p : PlayerState) (name bytes : List ℕ) → sender_named p.session.own name ≡ None → NeedsNone p p (PutFrame name bytes)
 ringless-needs p name bytes none = record { stays = stays-self p (PutFrame name bytes); none = ringless-put p.session.own name none }
@@ -274,7 +264,7 @@ module _ (p q : PlayerState) (here : IsThere None p.session) (there : IsThere No
     needs-room : (room : Bool) → has_room_at q.session.own name ≡ room → is_reset (kept_ask ask) ≡ false → GoesBehind → NeedsNoneOrEnds p q task room
     needs-room true room accepted goes = record {
       stays = λ rest began first come. subst (λ (tasks : List Task). HasCome began first q.session (machine_of q tasks)) (behind-is false true rest accepted room) (goes rest began first come);
-      none = room-none q.session.own name there.side.sound room;
+      none = room-sound q.session.own name there.side.sound room;
     }
     needs-room false room accepted goes = λ rest began first come.
         subst (λ (tasks : List Task). HasCome began first q.session (machine_of q tasks)) (behind-is false false rest accepted room) (goes rest began first come)

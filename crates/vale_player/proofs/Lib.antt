@@ -21,6 +21,7 @@ pub mod Doing
 pub mod Syncing
 pub mod Leading
 pub mod SenderNames
+pub mod Sending
 pub mod Playing
 pub mod PutCopies
 pub mod SoundScripts

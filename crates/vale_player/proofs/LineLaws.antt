@@ -3,34 +3,30 @@ use Rattle.std.proofs.Common.{ℕ, ◌≡◌, Bool, true, false, cond, List, [],
 use Rattle.std.specs.Prelude.{option_and_then}
 use Rattle.std.specs.Option.{option_map_or}
 use Rattle.nm_types.specs.declared.id.Side.TheVariants.{Tx}
-use Rattle.nm_types.specs.OwnPorts.{OwnRing, OwnPort, OwnState, port_with_name, ring_on}
+use Rattle.nm_types.specs.OwnPorts.{OwnPort, OwnState, port_with_name, ring_on}
 use Rattle.nm_types.specs.OwnEdits.{has_slot, with_frame}
 use Rattle.vale_entry.specs.declared.entry.Ask.{Ask}
 use Rattle.vale_entry.specs.declared.entry.Ask.TheVariants.{Shut, Watch, Stat}
 use Rattle.vale_entry.specs.declared.entry.Entry.{Entry}
-use Rattle.vale_entry.specs.OwnCalls.{tx_call, rx_call, finish_call}
+use Rattle.vale_entry.specs.OwnCalls.{rx_call, finish_call}
 use Rattle.vale_fabric.specs.Fabrics.{entry_by}
 use Rattle.nm_user.specs.Sessions.{SessionState}
 use Rattle.vale_replay.specs.Edits.{change_found}
 use Rattle.vale_replay.specs.Tasks.{Task, Arrive, OpenPort, PutFrame, SendFrames, TakeFrames, ChangeOwn, SaveFrames, WatchPort, ReadCounts, ShutPort, FinishPort, Depart, EndLine, lines_left}
-use Rattle.vale_replay.specs.Machine.{Machine, Save, room_call, put_call, send_call, call_of_task, call_of_tasks, after_task, with_tasks}
+use Rattle.vale_replay.specs.Machine.{Machine, Save, put_call, send_call, call_of_task, call_of_tasks, after_task, with_tasks}
 use Rattle.vale_player.specs.Users.{HasCome}
 use Rattle.vale_player.specs.Lines.{user_with, GoesTo, TaskCalls, is_single, behind_sync, OwnActsAreDone, FramesArePut, CallsAreDone, ReceivesAreDone, SendsAreDone, FailedSendsEnd, PutsSync, PutsCall, DetachesAreDone, PortlessTasksPass, FilesAreSaved, LinesEnd}
 use Rattle.vale_player.proofs.Detaching.{detach-turns}
 use Rattle.vale_replay.proofs.Parts.{call-same}
 use Rattle.vale_player.proofs.Stays.{task-done}
 use Rattle.vale_player.proofs.Syncs.{sync-turns}
-use Rattle.vale_player.proofs.TaskCalls.{by-id}
+use Rattle.vale_player.proofs.TaskCalls.{by-id, no-room-call}
 use Rattle.vale_player.proofs.Turns.{call-turn}
 
 -- ---- without a call
 
 pub own-acts : OwnActsAreDone
 own-acts number saves s act rest began first come = task-done s began first (user_with number saves s (ChangeOwn act ∷ rest)) (ChangeOwn act) rest come refl refl
-
-no-room-call : (own : OwnState) (p : OwnPort) (tx : Option OwnRing) → option_map_or has_slot tx false ≡ true → option_and_then (room_call own p) tx ≡ None
-no-room-call own p None e = absurd cc
-no-room-call own p (Some r) e = ap (λ (b : Bool). cond b None (Some (tx_call own p r))) e
 
 pub frames-put : FramesArePut
 frames-put number saves s name bytes p here named room rest began first come =

@@ -68,11 +68,8 @@ module _ (records : List ℕ → List (List ℕ)) (p q : PlayerState) (act arm :
   pub does-as : OnOk r (DoesLine p q (tasks_of records arm)) → OnOk r (DoesLine p q (tasks_of records act))
   does-as done = subst (λ (a : Act). OnOk r (DoesLine p q (tasks_of records a))) (sym is) done
 
-  pub done-does : IsDone p q (tasks_of records arm) r → OnOk r (DoesLine p q (tasks_of records act))
-  done-does done = does-as done.does
-
-  pub done-stops : IsDone p q (tasks_of records arm) r → IfErr r (Stops p q (tasks_of records act))
-  done-stops done = subst (λ (a : Act). IfErr r (Stops p q (tasks_of records a))) (sym is) done.stops
+  pub done-as : IsDone p q (tasks_of records arm) r → IsDone p q (tasks_of records act) r
+  done-as done = subst (λ (a : Act). IsDone p q (tasks_of records a) r) (sym is) done
 
 -- one that does nothing to a port is done on its rings
 pub on-rings : (act : Act)
@@ -85,20 +82,11 @@ pub on-rings : (act : Act)
     → IsOnRings act
 on-rings acts.Enter e o w s v c = absurd (e refl)
 on-rings (acts.Open name tx rx extra) e o w s v c = absurd (o name tx rx extra refl)
-on-rings (acts.Put name count to from len fill) e o w s v c = tt
-on-rings (acts.Hex name frame) e o w s v c = tt
-on-rings (acts.Play name file batch) e o w s v c = tt
-on-rings (acts.Tx name) e o w s v c = tt
-on-rings (acts.Rx name keep) e o w s v c = tt
-on-rings (acts.Fwd from to count) e o w s v c = tt
-on-rings (acts.Poke name side slot field value) e o w s v c = tt
-on-rings (acts.Move name side head cur) e o w s v c = tt
-on-rings (acts.Swap name side slot other other_side other_slot quiet) e o w s v c = tt
-on-rings (acts.Extra name i j) e o w s v c = tt
 on-rings (acts.Watch monitor target sides) e o w s v c = absurd (w monitor target sides refl)
 on-rings (acts.Stat name) e o w s v c = absurd (s name refl)
 on-rings (acts.Save name file) e o w s v c = absurd (v name file refl)
 on-rings (acts.Close name) e o w s v c = absurd (c name refl)
+on-rings _ e o w s v c = tt
 
 -- and one on rings that moves no frames makes no call
 pub change-only : (records : List ℕ → List (List ℕ)) (act : Act) → IsOnRings act
@@ -115,15 +103,11 @@ change-only records (acts.Hex name frame) on u h y t r = absurd (h name frame re
 change-only records (acts.Play name file batch) on u h y t r = absurd (y name file batch refl)
 change-only records (acts.Tx name) on u h y t r = absurd (t name refl)
 change-only records (acts.Rx name keep) on u h y t r = absurd (r name keep refl)
-change-only records (acts.Fwd from to count) on u h y t r = refl
-change-only records (acts.Poke name side slot field value) on u h y t r = refl
-change-only records (acts.Move name side head cur) on u h y t r = refl
-change-only records (acts.Swap name side slot other other_side other_slot quiet) on u h y t r = refl
-change-only records (acts.Extra name i j) on u h y t r = refl
 change-only records (acts.Watch monitor target sides) on u h y t r = absurd on
 change-only records (acts.Stat name) on u h y t r = absurd on
 change-only records (acts.Save name file) on u h y t r = absurd on
 change-only records (acts.Close name) on u h y t r = absurd on
+change-only records _ on u h y t r = refl
 
 -- what a receive sync makes, from here
 record IsAsFrom (p q : PlayerState) (name : List ℕ) (r : Result (Unit {0}) StepFault) (mid : PlayerState) : Type 0 where
@@ -204,6 +188,10 @@ module _ (records : List ℕ → List (List ℕ)) (number : ℕ) (p q : PlayerSt
 
 pub next-left : (lines : List Line) (i : ℕ) (line : Line) → i < length lines → line ≡ get_or lines i line → drop i lines ≡ line ∷ drop (i + 1) lines
 next-left lines i line within is = rw add-one (drop-cons lines i line within ∙ ap (λ (l : Line). l ∷ drop (suc i) lines) (sym is))
+
+pub left-from : (records : List ℕ → List (List ℕ)) (number : ℕ) (p q : PlayerState) (lines : List Line) (i : ℕ) (line : Line) → i < length lines → line ≡ get_or lines i line
+    → AreLeft records number p q (drop i lines) lines → AreLeft records number p q (line ∷ drop (i + 1) lines) lines
+left-from records number p q lines i line within is left = subst (λ (rest : List Line). AreLeft records number p q rest lines) (next-left lines i line within is) left
 
 pub lines-done : (records : List ℕ → List (List ℕ)) (number : ℕ) (p q : PlayerState) (lines : List Line) (i : ℕ) → length lines ≤ i → AreLeft records number p q (drop i lines) lines
     → Does p q (block_tasks records lines number)

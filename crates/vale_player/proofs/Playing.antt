@@ -1,5 +1,5 @@
 -- The tasks of a line that puts frames, one frame after another.
-use Rattle.std.proofs.Common.{ℕ, zero, suc, ◌≡◌, ◌≤◌, ◌<◌, ◌+◌, ◌-◌, Bool, true, false, cond, List, [], ◌∷◌, ◌++◌, length, map, drop, get_or, replicate, None, refl, sym, ◌∙◌, ap, subst, arith}
+use Rattle.std.proofs.Common.{ℕ, zero, suc, ◌≡◌, ◌≤◌, ◌<◌, ◌+◌, ◌-◌, Bool, true, false, cond, List, [], ◌∷◌, ◌++◌, length, map, drop, get_or, replicate, Some, None, IfSome, refl, sym, ◌∙◌, ap, subst, arith}
 use Rattle.std.specs.Prelude.{filter, ◌==◌}
 use Rattle.std.proofs.lemmas.Bool.{le-leb, lt-leb, eq-eqb, ne_eqb}
 use Rattle.std.proofs.lemmas.List.{at_drop_more, at_drop_all}
@@ -8,14 +8,14 @@ use Rattle.vale_replay.specs.Tasks.{Task, PutFrame, SendFrames, played_before_sy
 use Rattle.vale_captures.specs.Inputs.{captured}
 use Rattle.nm_types.specs.declared.fault.StepFault.{StepFault}
 use Rattle.nm_user.specs.Sessions.{IsThere}
-use Rattle.vale_player.specs.Players.{PlayerState, DoesLine, DoesOrEnds, Stops, StopsAt}
-use Rattle.vale_player.specs.Syncing.{Leads, playing}
+use Rattle.vale_player.specs.Players.{PlayerState, DoesLine, DoesOrEnds, Ends, Stops, StopsAt}
+use Rattle.vale_player.specs.Syncing.{Leads, playing, PlaysOn}
 use Rattle.vale_player.proofs.Doing.{HasNoEnd, does-line}
 use Rattle.vale_player.proofs.Leading.{leads-self, leads-as, leads-does, leads-ends, leads-stops}
 
 -- ---- one frame many times
 
-pub same-none : (name bytes : List ℕ) (count : ℕ) → HasNoEnd (replicate count (PutFrame name bytes))
+same-none : (name bytes : List ℕ) (count : ℕ) → HasNoEnd (replicate count (PutFrame name bytes))
 same-none name bytes zero rest = refl
 same-none name bytes (suc n) rest = same-none name bytes n rest
 
@@ -23,6 +23,26 @@ pub same-next : (task : Task) (left : ℕ) → 0 < left → replicate left task 
 same-next task left more =
     let next : left ≡ suc (left - 1) = omega (arith, more) in
     ap (λ (n : ℕ). replicate n task) next
+
+-- while copies are left, the line goes on with the next one
+module _ (p q : PlayerState) (name bytes : List ℕ) (count left : ℕ) (some : 0 < left) (leads : Leads p q (replicate count (PutFrame name bytes)) (replicate left (PutFrame name bytes))) where
+  abbrev task : Task
+  task = PutFrame name bytes
+
+  abbrev copies : List Task
+  copies = replicate count task
+
+  abbrev others : List Task
+  others = replicate (left - 1) task
+
+  pub leads-next : Leads p q copies (task ∷ others)
+  leads-next = leads-as p q copies (replicate left task) (task ∷ others) (same-next task left some) leads
+
+  pub copies-end : (r : PlayerState) → Ends q r (task ∷ []) → DoesLine p r copies
+  copies-end r ends = leads-ends p q r copies task others leads-next (same-none name bytes (left - 1)) ends
+
+  pub copies-stop : (r : PlayerState) (fault : StepFault) → IsThere None q.session → StopsAt q r task fault → Stops p r copies fault
+  copies-stop r fault here at = leads-stops p q r copies task others leads-next fault here at
 
 -- ---- frames one after another
 
@@ -109,6 +129,18 @@ module _ (p : PlayerState) (name : List ℕ) (batch left : ℕ) (bytes : List �
 
     pub put-sends : goes ≡ true → left ≡ 1 → Leads p q whole (SendFrames name ∷ playing name batch batch frames)
     put-sends on last = leads-as p q whole more (SendFrames name ∷ playing name batch batch frames) (behind-last name batch left frames last) (put-done on)
+
+-- ---- behind a sync a whole batch comes, or nothing more
+
+pub sent-plays : (p q r : PlayerState) (name : List ℕ) (batch : ℕ) (whole : List Task) (frames : List (List ℕ)) → Leads p q whole (SendFrames name ∷ playing name batch batch frames)
+    → (goes : Bool) → DoesOrEnds q r (SendFrames name ∷ []) goes → PlaysOn p r whole name batch frames (cond goes (Some batch) None)
+sent-plays p q r name batch whole frames leads true does = leads-does p q r whole (SendFrames name) (playing name batch batch frames) leads does
+sent-plays p q r name batch whole frames leads false ends =
+    leads-ends p q r whole (SendFrames name) (playing name batch batch frames) leads (played-none name batch batch (filter fits_a_buffer frames)) ends
+
+pub batch-some : (goes : Bool) (batch : ℕ) → 1 ≤ batch → IfSome (cond goes (Some batch) None) (λ n. 1 ≤ n)
+batch-some true batch some = some
+batch-some false batch some = tt
 
 -- ---- the records of a capture
 

@@ -26,6 +26,10 @@ named-id own name port f = ap (option_map id-of) f.of.named ∙ ap (λ (id : Por
 
 -- ---- a frame that is put at the port of its name
 
+-- what is known of the user asked is known of it as it stands
+pub named-before : (inside now : PlayerState) (name : List ℕ) (port : PortId) → inside ≡ now → sender_named now.session.own name ≡ Some port → sender_named inside.session.own name ≡ Some port
+named-before inside now name port same named = ap (λ (p : PlayerState). sender_named p.session.own name) same ∙ named
+
 pub put-at : (p : PlayerState) (t : SessionState) (name bytes : List ℕ) (port : PortId) → IsSound p.session.own → sender_named p.session.own name ≡ Some port
     → t ≡ record p.session { own = with_frame port.0 bytes p.session.own } → record p { session = t } ≡ with_put name bytes p
 put-at p t name bytes port sound named made =

@@ -2,7 +2,7 @@
 use Rattle.std.proofs.Common.{Bool, true, false, cond, ◌≡◌, List, [], ◌∷◌, Some, None, refl, sym, ◌∙◌, ap}
 use Rattle.std.specs.Prelude.{is_some}
 use Rattle.vale_entry.specs.declared.entry.Ask.{Ask}
-use Rattle.vale_replay.specs.Tasks.{Task, Arrive, OpenPort, PutFrame, SendFrames, TakeFrames, ChangeOwn, SaveFrames, WatchPort, ReadCounts, ShutPort, FinishPort, Depart, EndLine}
+use Rattle.vale_replay.specs.Tasks.{Task, ChangeOwn}
 use Rattle.vale_replay.specs.Machine.{Machine, call_of_task, call_of_tasks, after_task, at_rest, resting}
 use Rattle.vale_replay.proofs.Parts.{call-same}
 
@@ -27,19 +27,8 @@ passes-at user task rest e =
 
 after-same : (user : Machine) (old : List Task) (task : Task)
     → after_task task (record user { tasks = old }) ≡ record (after_task task user) { tasks = old }
-after-same user old Arrive = refl
-after-same user old (OpenPort name tx rx extra) = refl
-after-same user old (PutFrame name bytes) = refl
-after-same user old (SendFrames name) = refl
-after-same user old (TakeFrames name) = refl
 after-same user old (ChangeOwn act) = refl
-after-same user old (SaveFrames name file) = refl
-after-same user old (WatchPort monitor target sides) = refl
-after-same user old (ReadCounts name) = refl
-after-same user old (ShutPort name) = refl
-after-same user old (FinishPort name) = refl
-after-same user old Depart = refl
-after-same user old EndLine = refl
+after-same user old _ = refl
 
 at_rest-same : (user : Machine) (old tasks : List Task) → at_rest (record user { tasks = old }) tasks ≡ at_rest user tasks
 at_rest-same user old [] = refl

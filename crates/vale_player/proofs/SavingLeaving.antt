@@ -89,7 +89,7 @@ closed pool id (p ∷ ports) s t k all legal =
     record { saved = rest.saved ∙ one-closed pool id k d before; sees = rest.sees; same = rest.same ∙ d.id_is }
 
 pub detach-saves-nothing : DetachSavesNothing
-detach-saves-nothing s t id at detached there after k d =
+detach-saves-nothing at detached s t id there after k d =
     let legal : IsLegal s.fixed.pool t.knows.seen = subst (λ (fixed : Fixed). IsLegal fixed.pool t.knows.seen) d.fixed after.legal in
     ap (λ (fixed : Fixed). saved_frames fixed.pool t.knows.seen id) d.fixed ∙ one-closed s.fixed.pool id (record { come = there.come; speaks = there.speaks; port = k }) d legal
 

@@ -75,18 +75,10 @@ module _ (s t : SessionState) (id : ℕ) (ask : Ask) (refusal : Option SyncFault
   refused fault made = calls-save-nothing s t id ask replies.Made there k made.1 (resets fault made.0)
 
   sync-not : (fault : SyncFault) → SyncsNot s t ask refusal fault → Same s t id
-  sync-not (faults.HeadOut head from to) not = refused _ not
-  sync-not (faults.CurOut cur from to) not = refused _ not
-  sync-not (faults.Indirect slot) not = refused _ not
-  sync-not (faults.IndexOut slot idx) not = refused _ not
-  sync-not (faults.NotHeld slot idx) not = refused _ not
-  sync-not (faults.Doubled slot idx) not = refused _ not
-  sync-not (faults.Unannounced slot idx was) not = refused _ not
-  sync-not (faults.LongLen slot len) not = refused _ not
-  sync-not (faults.Fragment slot) not = refused _ not
   sync-not faults.PeerGone not = gone not.0 not.1
   sync-not (faults.RecordFull what used want) not = refused-save-nothing s t id ask (steps.RecordFull what used want) there k not
   sync-not faults.NoMemory not = refused-save-nothing s t id ask steps.NoMemory there k not
+  sync-not _ not = refused _ not
 
 -- ---- the laws
 
@@ -98,7 +90,7 @@ other-receives-save-nothing s t id other received there after k apart is =
     syncs-save-nothing s t id _ _ is.shares there after k is.synced (receive-elsewhere id (refusal_in Rx s.own p.rx) (is_pipe_name p.name) p.id (back_in p) elsewhere)
 
 pub transmits-save-nothing : TransmitsSaveNothing
-transmits-save-nothing s t id at sent there after k is =
+transmits-save-nothing at sent s t id there after k is =
     ⊎_elim (λ (put : IsSent s t at sent). syncs-save-nothing s t id _ _ (shares_in sent) there after k put.synced (transmits id s.own put.tx.port put.tx.ring))
     (λ (put : IsPut s t at sent). syncs-save-nothing s t id _ _ (shares_in sent) there after k put.synced (transmits id s.own put.tx.port put.tx.ring)) is
 

@@ -90,12 +90,9 @@ exchange-faces side id (x ∷ pushed) ports =
 
 -- ---- a frame that is put
 
-written-ports : (idx : ℕ) (bytes : List ℕ) (s : OwnState) → (with_written idx bytes s).ports ≡ s.ports
-written-ports idx bytes s = by (contains_index (named_of s) idx)
-  where
-    by : (b : Bool) → (cond b (with_bytes idx (bytes ++ drop (length bytes) (bytes_at s idx)) s) s).ports ≡ s.ports
-    by true = refl
-    by false = refl
+pub same-ports : (b : Bool) (t s : OwnState) → t.ports ≡ s.ports → (cond b t s).ports ≡ s.ports
+same-ports true t s same = same
+same-ports false t s same = refl
 
 frame-faces : (id : ℕ) (bytes : List ℕ) (s : OwnState) → faces (with_frame id bytes s).ports ≡ faces s.ports
 frame-faces id bytes s = on (ring_at Tx s id)
@@ -103,7 +100,7 @@ frame-faces id bytes s = on (ring_at Tx s id)
     at : (r : OwnRing) (b : Bool) → faces (cond b (with_ring Tx id (ring_with_frame bytes) (with_written (slot_in Tx r r.ring.head).buf_idx bytes s)) s).ports ≡ faces s.ports
     at r true =
         let idx = (slot_in Tx r r.ring.head).buf_idx in
-        ring-faces id (ring_with_frame bytes) (with_written idx bytes s).ports ∙ ap faces (written-ports idx bytes s)
+        ring-faces id (ring_with_frame bytes) (with_written idx bytes s).ports ∙ ap faces (same-ports (contains_index (named_of s) idx) (with_bytes idx (bytes ++ drop (length bytes) (bytes_at s idx)) s) s refl)
     at r false = refl
 
     on : (found : Option OwnRing) → faces (with_frame_on id bytes s found).ports ≡ faces s.ports

@@ -47,25 +47,11 @@ watchable name named other = by (kind_of name) named other
     by (Some Monitor) named other = absurd cc
 
 watch-sound : (draft : Draft) (user : List ℕ) (act : Act) → IsSoundAct act → cause_of draft (act_says user act) ≡ None → IsSoundWatch act
-watch-sound draft user acts.Enter sound none = tt
-watch-sound draft user (acts.Open name tx rx extra) sound none = tt
-watch-sound draft user (acts.Put name count to from len fill) sound none = tt
-watch-sound draft user (acts.Hex name frame) sound none = tt
-watch-sound draft user (acts.Play name file batch) sound none = tt
-watch-sound draft user (acts.Tx name) sound none = tt
-watch-sound draft user (acts.Rx name keep) sound none = tt
-watch-sound draft user (acts.Fwd from to count) sound none = tt
-watch-sound draft user (acts.Poke name side slot field value) sound none = tt
-watch-sound draft user (acts.Move name side head cur) sound none = tt
-watch-sound draft user (acts.Swap name side slot other other_side other_slot quiet) sound none = tt
-watch-sound draft user (acts.Extra name i j) sound none = tt
 watch-sound draft user (acts.Watch monitor target sides) sound none =
     let wrong = not-wrong draft user (acts.Watch monitor target sides) none in
     let parts = neither (not (is_monitor_name monitor)) (is_monitor_name target) wrong in
     (is-true (is_monitor_name monitor) parts.0, watchable target sound.1 parts.1)
-watch-sound draft user (acts.Stat name) sound none = tt
-watch-sound draft user (acts.Save name file) sound none = tt
-watch-sound draft user (acts.Close name) sound none = tt
+watch-sound draft user _ sound none = tt
 
 -- ---- lines, one behind another
 

@@ -95,18 +95,9 @@ module _ (id : PortId) (side : Side) (b : Bool) (one other : Ask) (first : is_re
     came-of faults.NoMemory not = tt
 
     made-none : (fault : SyncFault) → SyncsNot s t (call refusal) refusal fault → IfErr (sync_end_of fault) (MadeNone s t (call refusal))
-    made-none (faults.HeadOut head from to) not = tt
-    made-none (faults.CurOut cur from to) not = tt
-    made-none (faults.Indirect slot) not = tt
-    made-none (faults.IndexOut slot idx) not = tt
-    made-none (faults.NotHeld slot idx) not = tt
-    made-none (faults.Doubled slot idx) not = tt
-    made-none (faults.Unannounced slot idx was) not = tt
-    made-none (faults.LongLen slot len) not = tt
-    made-none (faults.Fragment slot) not = tt
-    made-none faults.PeerGone not = tt
     made-none (faults.RecordFull what used want) not = not
     made-none faults.NoMemory not = not
+    made-none _ not = tt
 
 -- ---- what comes of a transmit sync at a port
 

@@ -26,7 +26,7 @@ use Rattle.vale_fabric.specs.Roots.{root_of}
 use Rattle.vale_fabric.specs.Fabrics.{Knowing, entry_by}
 use Rattle.vale_fabric.specs.Settling.{IsSettling, IsSettlingIn, settling_by}
 use Rattle.nm_user.specs.Sessions.{SessionState, IsThere}
-use Rattle.vale_replay.specs.Tasks.{Task, Arrive, OpenPort, PutFrame, SendFrames, TakeFrames, ChangeOwn, SaveFrames, WatchPort, ReadCounts, ShutPort, FinishPort, Depart, EndLine}
+use Rattle.vale_replay.specs.Tasks.{Task, Arrive, Depart}
 use Rattle.vale_replay.specs.Machine.{Machine, call_of_tasks, settling_call, with_tasks, resting, is_settling}
 use Rattle.vale_replay.specs.Replay.{TakesTurn, TakesTurns, last_behind}
 use Rattle.vale_replay.proofs.Joins.{others-from}
@@ -113,18 +113,8 @@ settle-turns fixed session h user (made ∷ added) legal each there has still = 
 session-sync : (number : ℕ) (entry : Entry) (user : Machine) (tasks : List Task) → does_sync tasks ≡ true → (with_tasks number entry user tasks).session ≡ user.session
 session-sync number entry user [] e = refl
 session-sync number entry user (Arrive ∷ rest) e = absurd cc
-session-sync number entry user (OpenPort name tx rx extra ∷ rest) e = refl
-session-sync number entry user (PutFrame name bytes ∷ rest) e = refl
-session-sync number entry user (SendFrames name ∷ rest) e = refl
-session-sync number entry user (TakeFrames name ∷ rest) e = refl
-session-sync number entry user (ChangeOwn act ∷ rest) e = refl
-session-sync number entry user (SaveFrames name file ∷ rest) e = refl
-session-sync number entry user (WatchPort monitor target sides ∷ rest) e = refl
-session-sync number entry user (ReadCounts name ∷ rest) e = refl
-session-sync number entry user (ShutPort name ∷ rest) e = refl
-session-sync number entry user (FinishPort name ∷ rest) e = refl
 session-sync number entry user (Depart ∷ rest) e = absurd cc
-session-sync number entry user (EndLine ∷ rest) e = refl
+session-sync number entry user (task ∷ rest) e = refl
 
 -- entries of a session in what it has seen: the first of them is its call's, and each other one settles it
 module _ (s : SessionState) (w : Knowing) (number : ℕ) (made : Entry) (added : List (ℕ × Entry)) (here : IsThere None s) (legal : IsLegal s.fixed.pool w.seen) (told : Told root_of s.knows w w.seen ((number, made) ∷ added)) where

@@ -6,7 +6,7 @@ use Rattle.nm_types.specs.OwnPorts.{OwnState}
 use Rattle.nm_turn.specs.Numbered.{numbers}
 use Rattle.nm_turn.specs.Passes.{Told}
 use Rattle.vale_entry.specs.declared.entry.Ask.{Ask}
-use Rattle.vale_entry.specs.declared.entry.Ask.TheVariants.{Enter, Open, Send, Grant, Done, Sync, Reset, Shut, Finish, Leave, Put, PutKept, Get, Watch, Stat}
+use Rattle.vale_entry.specs.declared.entry.Ask.TheVariants.{Enter, Leave}
 use Rattle.vale_entry.specs.declared.entry.Entry.{Entry}
 use Rattle.vale_entry.specs.declared.entry.Reply.{Reply}
 use Rattle.vale_entry.specs.Arrivals.{arrivals_of}
@@ -23,7 +23,7 @@ use Rattle.nm_user.specs.Sessions.{SessionState, IsThere}
 use Rattle.nm_user.specs.Calls.{Made}
 use Rattle.nm_user.proofs.After.{own-next, last}
 use Rattle.nm_user.proofs.Later.{between, same-own}
-use Rattle.vale_replay.specs.Tasks.{Task, Arrive, OpenPort, PutFrame, SendFrames, TakeFrames, ChangeOwn, SaveFrames, WatchPort, ReadCounts, ShutPort, FinishPort, Depart, EndLine}
+use Rattle.vale_replay.specs.Tasks.{Task, Arrive, Depart}
 use Rattle.vale_replay.specs.Machine.{Machine, call_of_task, call_of_tasks, with_tasks, answered, resting, is_settling}
 use Rattle.vale_replay.specs.Replay.{TakesTurn, TakesTurns, entry_of, entry_made, caller_of, last_behind, last_of}
 use Rattle.vale_player.specs.Users.{IsUserOf, HasCome}
@@ -54,18 +54,7 @@ answers-own number session ask reply came now own plain made =
 pub own-on : (number : ℕ) (entry : Entry) (user : Machine) (tasks : List Task) → (with_tasks number entry user tasks).own ≡ user.own
 own-on number entry user [] = refl
 own-on number entry user (Arrive ∷ rest) = refl
-own-on number entry user (OpenPort name tx rx extra ∷ rest) = refl
-own-on number entry user (PutFrame name bytes ∷ rest) = refl
-own-on number entry user (SendFrames name ∷ rest) = refl
-own-on number entry user (TakeFrames name ∷ rest) = refl
-own-on number entry user (ChangeOwn act ∷ rest) = refl
-own-on number entry user (SaveFrames name file ∷ rest) = refl
-own-on number entry user (WatchPort monitor target sides ∷ rest) = refl
-own-on number entry user (ReadCounts name ∷ rest) = refl
-own-on number entry user (ShutPort name ∷ rest) = refl
-own-on number entry user (FinishPort name ∷ rest) = refl
-own-on number entry user (Depart ∷ rest) = refl
-own-on number entry user (EndLine ∷ rest) = refl
+own-on number entry user (task ∷ rest) = refl
 
 mapped-some : {X Y : Type 0} (f : X → Y) (found : Option X) (x : X) (y : Y) → found ≡ Some x → option_map f found ≡ Some y → f x ≡ y
 mapped-some f None x y is e = absurd cc
@@ -79,18 +68,8 @@ session-on number entry now user session (Arrive ∷ rest) ask call is stays has
     let none : call_of_task now Arrive ≡ None = rw is refl in
     let clash : None ≡ Some ask = sym none ∙ call in
     absurd cc
-session-on number entry now user session (OpenPort name tx rx extra ∷ rest) ask call is stays has = has
-session-on number entry now user session (PutFrame name bytes ∷ rest) ask call is stays has = has
-session-on number entry now user session (SendFrames name ∷ rest) ask call is stays has = has
-session-on number entry now user session (TakeFrames name ∷ rest) ask call is stays has = has
-session-on number entry now user session (ChangeOwn act ∷ rest) ask call is stays has = has
-session-on number entry now user session (SaveFrames name file ∷ rest) ask call is stays has = has
-session-on number entry now user session (WatchPort monitor target sides ∷ rest) ask call is stays has = has
-session-on number entry now user session (ReadCounts name ∷ rest) ask call is stays has = has
-session-on number entry now user session (ShutPort name ∷ rest) ask call is stays has = has
-session-on number entry now user session (FinishPort name ∷ rest) ask call is stays has = has
 session-on number entry now user session (Depart ∷ rest) ask call is stays has = absurd (stays session (mapped-some Leave now.session session ask is call))
-session-on number entry now user session (EndLine ∷ rest) ask call is stays has = has
+session-on number entry now user session (task ∷ rest) ask call is stays has = has
 
 -- ---- the turn
 
@@ -103,20 +82,7 @@ pub record TaskEntry (pool : ℕ) (h : List Entry) (session : ℕ) (number : ℕ
 
 pub caller-is : (number : ℕ) (user : Machine) (session : SessionId) (ask : Ask) → is_enter ask ≡ false → user.session ≡ Some session → caller_of number user ask ≡ Some session
 caller-is number user session (Enter name) plain is = absurd cc
-caller-is number user session (Open by name tx rx extra) plain is = is
-caller-is number user session (Send port frames) plain is = is
-caller-is number user session (Grant origin to) plain is = is
-caller-is number user session (Done lease) plain is = is
-caller-is number user session (Sync port back) plain is = is
-caller-is number user session (Reset port side fault) plain is = is
-caller-is number user session (Shut port) plain is = is
-caller-is number user session (Finish port bufs chain) plain is = is
-caller-is number user session (Leave by) plain is = is
-caller-is number user session (Put port offered) plain is = is
-caller-is number user session (PutKept port offered) plain is = is
-caller-is number user session (Get port back) plain is = is
-caller-is number user session (Watch monitor target sides) plain is = is
-caller-is number user session (Stat port) plain is = is
+caller-is number user session _ plain is = is
 
 pub task-turn : (pool : ℕ) (h : List Entry) (session number : ℕ) (ask : Ask) (reply : Reply) (now : Machine) (own : OwnState) → TaskEntry pool h session number ask reply
     → now.session ≡ Some (record { 0 = session }) → IsPlain ask → call_of_tasks now now.tasks ≡ Some ask

@@ -76,12 +76,15 @@ RefusedSaveNothing =
     → IsPortOf s.fixed.pool s.knows.seen s.id id → MadeNone s t ask fault
     → saved_frames t.fixed.pool t.knows.seen id ≡ saved_frames s.fixed.pool s.knows.seen id
 
+-- such a call adds nothing, where the session is there before and behind it
+abbrev pub AddsNothing : (SessionState → SessionState → Type 0) → Type 0
+AddsNothing Call =
+    (s t : SessionState) (id : ℕ) → IsThere None s → IsThere None t → IsPortOf s.fixed.pool s.knows.seen s.id id → Call s t
+    → saved_frames t.fixed.pool t.knows.seen id ≡ saved_frames s.fixed.pool s.knows.seen id
+
 -- nor does the closing of a port, or the closing of all ports and leaving
 abbrev pub DetachSavesNothing : Type 0
-DetachSavesNothing =
-    (s t : SessionState) (id closed : ℕ) (detached : Detached) → IsThere None s → IsThere None t
-    → IsPortOf s.fixed.pool s.knows.seen s.id id → IsDetached s t closed detached
-    → saved_frames t.fixed.pool t.knows.seen id ≡ saved_frames s.fixed.pool s.knows.seen id
+DetachSavesNothing = (closed : ℕ) (detached : Detached) → AddsNothing (λ (s t : SessionState). IsDetached s t closed detached)
 
 abbrev pub LeavingSavesNothing : Type 0
 LeavingSavesNothing =
@@ -114,10 +117,7 @@ OtherReceivesSaveNothing =
     → saved_frames t.fixed.pool t.knows.seen id ≡ saved_frames s.fixed.pool s.knows.seen id
 
 abbrev pub TransmitsSaveNothing : Type 0
-TransmitsSaveNothing =
-    (s t : SessionState) (id at : ℕ) (sent : Sent) → IsThere None s → IsThere None t
-    → IsPortOf s.fixed.pool s.knows.seen s.id id → IsTransmitted s t at sent
-    → saved_frames t.fixed.pool t.knows.seen id ≡ saved_frames s.fixed.pool s.knows.seen id
+TransmitsSaveNothing = (at : ℕ) (sent : Sent) → AddsNothing (λ (s t : SessionState). IsTransmitted s t at sent)
 
 abbrev pub FailedReceivesSaveNothing : Type 0
 FailedReceivesSaveNothing =

@@ -1,5 +1,5 @@
 -- What a sync is to the line that it stands in.
-use Rattle.std.specs.Prelude.{ℕ, Bool, true, false, ◌≡◌, List, [], ◌∷◌, ◌++◌, filter, Option, Some, None, option_map, option_and_then, Result, Ok, Err}
+use Rattle.std.specs.Prelude.{ℕ, Bool, true, false, ◌≡◌, List, [], ◌∷◌, ◌++◌, filter, Option, Some, None, option_map, option_and_then, Result, Ok, Err, IfOk, IfErr}
 use Rattle.nm_types.specs.declared.fault.StepFault.{StepFault}
 use Rattle.nm_types.specs.declared.fault.StepFault.TheVariants as steps
 use Rattle.nm_types.specs.declared.fault.SyncFault.{SyncFault}
@@ -14,18 +14,18 @@ use Rattle.vale_entry.specs.Legal.{kept_ask}
 use Rattle.vale_entry.specs.OwnCalls.{tx_call, rx_call}
 use Rattle.vale_fabric.specs.declared.settling.Shares.{Shares}
 use Rattle.vale_fabric.specs.Fabrics.{Knowing}
-use Rattle.nm_user.specs.Sessions.{SessionState}
+use Rattle.nm_user.specs.Sessions.{SessionState, IsThere}
 use Rattle.nm_user.specs.Calls.{Made, MadeNone}
-use Rattle.nm_user.specs.Syncs.{Synced, HasTx}
+use Rattle.nm_user.specs.Syncs.{Synced, HasTx, IsUnsent}
 use Rattle.nm_user.specs.Receives.{HasPort}
 use Rattle.vale_replay.specs.Edits.{at_port}
-use Rattle.vale_replay.specs.Tasks.{Task, fits_a_buffer, played_before_sync}
+use Rattle.vale_replay.specs.Tasks.{Task, SendFrames, fits_a_buffer, played_before_sync}
 use Rattle.vale_replay.specs.Machine.{Machine, call_of_task, is_reset}
 use Rattle.vale_player.specs.declared.frames.SyncEnd.{SyncEnd}
 use Rattle.vale_player.specs.declared.frames.SyncEnd.TheVariants as ends
 use Rattle.vale_player.specs.Users.{HasCome}
 use Rattle.vale_player.specs.Lines.{has_failed}
-use Rattle.vale_player.specs.Players.{PlayerState, machine_of, DoesLine, Ends}
+use Rattle.vale_player.specs.Players.{PlayerState, machine_of, DoesLine, DoesOrEnds, Ends, IsStill, StopsAt}
 
 -- the port of a name, if it has a transmit ring
 abbrev pub id_beside : OwnPort → OwnRing → PortId
@@ -82,6 +82,18 @@ pub record EndsRx (s t : SessionState) (id : ℕ) (end : SyncEnd) : Type 0 where
 pub record RxMadeNone (s t : SessionState) (id : ℕ) (fault : StepFault) : Type 0 where
   pub at : HasPort s.own id
   pub none : MadeNone s t (rx_call s.own at.port) fault
+
+-- what a transmit sync at the port of a name makes of its user
+pub record HasSent (p q : PlayerState) (name : List ℕ) (port : PortId) (r : Result SyncEnd StepFault) : Type 0 where
+  pub came : IfOk r (EndsTx p.session q.session port.0)
+  pub none : IfErr r (IsUnsent p.session q.session port.0)
+  pub same : q ≡ record p { session = q.session }
+  pub there : IsThere None p.session
+  pub stays : IsThere None q.session
+  pub named : sender_named q.session.own name ≡ Some port
+  pub does : IfOk r (λ (end : SyncEnd). DoesOrEnds p q (SendFrames name ∷ []) (has_passed end))
+  pub stops : IfErr r (StopsAt p q (SendFrames name))
+  pub still : IsStill p q
 
 -- a frame is put at the port of a name, if its transmit ring has room for it
 abbrev pub with_put : List ℕ → List ℕ → PlayerState → PlayerState

@@ -1,8 +1,8 @@
 //! What a user does with frames, at its ports by their names: it puts them into a transmit ring,
 //! sends them and takes them, with the syncs that this wants. Nothing is done where it has not the
 //! port, or the port not the ring.
-ghost use Rattle.std.specs.Prelude.{ℕ, List, ◌≡◌, ◌≤◌, [], ◌∷◌, length, map, replicate, true};
-ghost use Rattle.std.specs.Prelude.{None, Some, IsSome, IfSome, OnOk, IfOk, IfErr};
+ghost use Rattle.std.specs.Prelude.{ℕ, List, ◌≡◌, ◌≤◌, [], ◌∷◌, cond, length, map, replicate};
+ghost use Rattle.std.specs.Prelude.{true, None, Some, IsSome, IfSome, OnOk, IfOk, IfErr};
 ghost use Rattle.vale_player.specs.Words.{IsThere, IsUnsent, PutFrame, SendFrames, TakeFrames, Tx};
 ghost use Rattle.vale_player.specs.Words.{captured, frame_of_put, has_room, played, port_with_id};
 ghost use Rattle.vale_player.specs.Words.{ring_at};
@@ -10,7 +10,7 @@ ghost use Rattle.vale_player.specs.Players.{Does, DoesOrEnds, DoesLine, Stops, S
 ghost use Rattle.vale_player.specs.Syncing.{sender_named, sync_end_of, EndsTx, RxMadeNone};
 ghost use Rattle.vale_player.specs.Kept.{SavesBy, CameRx, sync_stop_of};
 ghost use Rattle.vale_player.specs.Syncing.{has_passed, leaves_room, with_put, NeedsNoneOrEnds};
-ghost use Rattle.vale_player.specs.Syncing.{playing, PlaysOn};
+ghost use Rattle.vale_player.specs.Syncing.{playing, HasSent, PlaysOn};
 
 use crate::kept::keep_received;
 use crate::player::Player;
@@ -33,14 +33,14 @@ enum SyncEnd {
 }
 
 impl SyncEnd {
-    /// Whether it went through.
-    fn has_passed(self) -> bool
-        ensures { result ≡ has_passed self }
+    /// How many frames come before the next sync: a whole batch, if this one went through.
+    fn next_batch(self, batch: u32) -> Option<u32>
+        ensures { result ≡ cond (has_passed self) (Some batch) None }
     {
         match self {
-            SyncEnd::Passed => true,
-            SyncEnd::PeerGone => false,
-            SyncEnd::Refused => false,
+            SyncEnd::Passed => Some(batch),
+            SyncEnd::PeerGone => None,
+            SyncEnd::Refused => None,
         }
     }
 
@@ -155,6 +155,29 @@ impl<'f> Player<'f> {
         self.session.put_copies(port, bytes, count)
     }
 
+    /// There is room for a frame in the transmit ring of a port.
+    fn has_room(&self, port: PortId) -> bool
+        ensures room { result ≡ has_room self.now.session.own port.0 }
+        ensures there { IsThere None self.now.session }
+    {
+        self.session.has_room(port)
+    }
+
+    /// Syncs the transmit ring of a name's port. The line ends unless the sync goes through: where a
+    /// check refuses it, and where the other end of a pipe is not open.
+    fn send<R: Wait, G: Gate>(
+        &mut self,
+        rt: &R,
+        name: &Name,
+        port: PortId,
+        gate: &G,
+    ) -> Result<SyncEnd, StepFault>
+        requires { sender_named self.old.session.own name.now ≡ Some port }
+        ensures { HasSent self.old self.new name.now port result }
+    {
+        transmit(&mut self.session, rt, port, gate)
+    }
+
     /// Syncs the transmit ring of a name's port if it has no room for a frame. The line ends where a
     /// check refused the sync, and where there is no room behind it.
     fn make_room<R: Wait, G: Gate>(
@@ -175,11 +198,11 @@ impl<'f> Player<'f> {
         ensures still { IsStill self.old self.new }
         ensures there { IsThere None self.old.session }
     {
-        if self.session.has_room(port) {
+        if self.has_room(port) {
             return Ok(true);
         }
-        match transmit(&mut self.session, rt, port, gate) {
-            Ok(end) => Ok(end.leaves_room(self.session.has_room(port))),
+        match self.send(rt, name, port, gate) {
+            Ok(end) => Ok(end.leaves_room(self.has_room(port))),
             Err(fault) => Err(fault),
         }
     }
@@ -210,28 +233,6 @@ impl<'f> Player<'f> {
                 Ok(true)
             }
             Ok(false) => Ok(false),
-            Err(fault) => Err(fault),
-        }
-    }
-
-    /// Syncs the transmit ring of a name's port. Answers whether the line goes on: it ends where a
-    /// check refused the sync, and where the other end of a pipe is not open.
-    fn send<R: Wait, G: Gate>(
-        &mut self,
-        rt: &R,
-        name: &Name,
-        port: PortId,
-        gate: &G,
-    ) -> Result<bool, StepFault>
-        requires { sender_named self.old.session.own name.now ≡ Some port }
-        ensures does { IfOk result (DoesOrEnds self.old self.new (SendFrames name.now ∷ [])) }
-        ensures named { sender_named self.new.session.own name.now ≡ Some port }
-        ensures stops { IfErr result (StopsAt self.old self.new (SendFrames name.now)) }
-        ensures still { IsStill self.old self.new }
-        ensures there { IsThere None self.old.session }
-    {
-        match transmit(&mut self.session, rt, port, gate) {
-            Ok(end) => Ok(end.has_passed()),
             Err(fault) => Err(fault),
         }
     }
@@ -335,8 +336,7 @@ impl<'f> Player<'f> {
             return Ok(Some(left - 1));
         }
         match self.send(rt, name, port, gate) {
-            Ok(true) => Ok(Some(batch)),
-            Ok(false) => Ok(None),
+            Ok(end) => Ok(end.next_batch(batch)),
             Err(fault) => Err(fault),
         }
     }

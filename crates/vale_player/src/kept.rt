@@ -101,22 +101,6 @@ fn grow_all(
     Ok(())
 }
 
-/// The same of all ports that are kept.
-fn grow(
-    session: &Session,
-    port: PortId,
-    received: Received,
-    kept: &mut Vec<KeptPort>,
-) -> Result<(), NoMemory>
-    ensures { OnOk result (kept.new.items
-        ≡ map (grown_if session.now.own port.0 received) kept.old.items) }
-{
-    match grow_all(session, port, received, kept.as_mut_slice()) {
-        Ok(()) => Ok(()),
-        Err(_) => Err(NoMemory),
-    }
-}
-
 /// Keeps what a receive sync has brought. If memory is wanting, nothing is kept any more.
 pub(crate) fn keep_received(
     session: &Session,
@@ -128,7 +112,7 @@ pub(crate) fn keep_received(
         → AreKept s kept.old.items → AreKept session.now kept.new.items }
 {
     let Some(received) = got else { return };
-    match grow(session, port, received, kept) {
+    match grow_all(session, port, received, kept.as_mut_slice()) {
         Ok(()) => {}
         Err(_) => kept.clear(),
     }

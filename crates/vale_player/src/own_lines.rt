@@ -1,15 +1,15 @@
 //! What a user does of its own lines.
 ghost use Rattle.std.specs.Prelude.{◌≡◌, ◌≤◌, [], ◌∷◌, length, map, replicate, OnOk, IfErr};
 ghost use Rattle.vale_player.specs.Words.{IsSoundAct, PutFrame, SaveFrames, acts_of, captured};
-ghost use Rattle.vale_player.specs.Words.{has_line, tasks_of, tasks_of_lines};
+ghost use Rattle.vale_player.specs.Words.{frame_of_put, has_line, tasks_of, tasks_of_lines};
 ghost use Rattle.vale_player.specs.Players.{Does, DoesLine, Stops, IsStill, RunsLines, with_act};
 ghost use Rattle.vale_player.specs.Inputs.{records_in};
-ghost use Rattle.vale_player.specs.Deeds.{IsSoundWatch, IsOnRings, AreDoable, receive_tasks};
+ghost use Rattle.vale_player.specs.Deeds.{IsSoundWatch, AreDoable, receive_tasks};
 
 use crate::frames::write_frame_of_put;
 use crate::player::Player;
 use nm_io::Gate;
-use nm_types::{Name, StepFault};
+use nm_types::{Mac, Name, StepFault};
 use pcap_io::Record;
 use std::mem;
 use std::sync::Wait;
@@ -113,71 +113,34 @@ impl<'f> Player<'f> {
         }
     }
 
-    /// A line that puts a frame so many times, whose memory is kept then.
-    fn put_kept<R: Wait, G: Gate>(
+    /// A line that puts a frame of destination, source and fill bytes so many times.
+    fn put_filled<R: Wait, G: Gate>(
         &mut self,
         rt: &R,
         name: &Name,
         count: u32,
-        frame: Vec<u8>,
+        to: Mac,
+        from: Mac,
+        len: u16,
+        fill: u8,
         gate: &G,
     ) -> Result<(), StepFault>
-        requires { length frame.items ≤ 2048 }
-        ensures does { OnOk result
-            (DoesLine self.old self.new (replicate count (PutFrame name.now frame.items))) }
-        ensures stops { IfErr result
-            (Stops self.old self.new (replicate count (PutFrame name.now frame.items))) }
+        requires { len ≤ 2048 }
+        ensures does { OnOk result (DoesLine self.old self.new
+            (replicate count (PutFrame name.now (frame_of_put to from len fill)))) }
+        ensures stops { IfErr result (Stops self.old self.new
+            (replicate count (PutFrame name.now (frame_of_put to from len fill)))) }
         ensures still { IsStill self.old self.new }
     {
+        let mut frame = self.take_frame();
+        write_frame_of_put(&mut frame, to, from, len, fill)?;
         let done = self.put(rt, name, count, &frame, gate);
         self.keep_frame(frame);
         done
     }
 
-    /// Does what a line says on the rings of ports: puts, sends and takes frames, or changes what
-    /// is on the user's own side.
-    fn act_on_rings<R: Wait, G: Gate>(
-        &mut self,
-        rt: &R,
-        act: &Act,
-        inputs: &Inputs,
-        gate: &G,
-    ) -> Result<(), StepFault>
-        requires sound { IsSoundAct act.now }
-        requires rings { IsOnRings act.now }
-        ensures does { OnOk result
-            (DoesLine self.old self.new (tasks_of (records_in inputs.now) act.now)) }
-        ensures stops { IfErr result
-            (Stops self.old self.new (tasks_of (records_in inputs.now) act.now)) }
-        ensures still { IsStill self.old self.new }
-    {
-        match act {
-            Act::Put {
-                name,
-                count,
-                to,
-                from,
-                len,
-                fill,
-            } => {
-                let mut frame = self.take_frame();
-                write_frame_of_put(&mut frame, *to, *from, *len, *fill)?;
-                self.put_kept(rt, name, *count, frame, gate)
-            }
-            Act::Hex { name, bytes } => self.put(rt, name, 1, bytes.bytes(), gate),
-            Act::Play { name, file, batch } => {
-                self.play(rt, name, records_played(inputs, file), *batch, gate)
-            }
-            Act::Tx { name } => self.tx(rt, name, gate),
-            Act::Rx { name, keep } => self.receive(rt, name, *keep, gate),
-            _ => {
-                self.change(act);
-                Ok(())
-            }
-        }
-    }
-
-    /// Does what a line says. A `user` line of a user that is there says nothing more.
+    /// Does what a line says: opens, closes and reads ports, puts, sends and takes frames, or changes
+    /// what is on the user's own side. A `user` line of a user that is there says nothing more.
     pub fn act<R: Wait, G: Gate>(
         &mut self,
         rt: &R,
@@ -212,7 +175,24 @@ impl<'f> Player<'f> {
                 self.close(rt, name);
                 Ok(())
             }
-            _ => self.act_on_rings(rt, act, inputs, gate),
+            Act::Put {
+                name,
+                count,
+                to,
+                from,
+                len,
+                fill,
+            } => self.put_filled(rt, name, *count, *to, *from, *len, *fill, gate),
+            Act::Hex { name, bytes } => self.put(rt, name, 1, bytes.bytes(), gate),
+            Act::Play { name, file, batch } => {
+                self.play(rt, name, records_played(inputs, file), *batch, gate)
+            }
+            Act::Tx { name } => self.tx(rt, name, gate),
+            Act::Rx { name, keep } => self.receive(rt, name, *keep, gate),
+            _ => {
+                self.change(act);
+                Ok(())
+            }
         }
     }
 

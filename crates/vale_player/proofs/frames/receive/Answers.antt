@@ -14,21 +14,16 @@ returns-in-Ok-clause-came g c = record { end = ends.Passed; ends = got-ends c.ar
 pub returns-in-Ok-clause-saves : goal.returns-in-Ok-clause-saves
 returns-in-Ok-clause-saves g c = (c.in-Ok.ensures.received, c.rx_sync.ensures.there)
 
-pub returns-in-Err-clause-saves : goal.returns-in-Err-clause-saves
-returns-in-Err-clause-saves g c = record { fault = c.in-Err.fault; not = c.in-Err.ensures.refused }
-
-pub returns-in-Err-clause-came : goal.returns-in-Err-clause-came
-returns-in-Err-clause-came g c =
+pub returns-in-Err : goal.returns-in-Err
+returns-in-Err g c =
     let s = c.args.session.now in
     let t = c.rx_sync.new.self in
     let id = c.args.port.0 in
-    let end = sync_end_of c.in-Err.fault in
-    subst (λ (r : Result (Unit {0}) StepFault). OnOk r (CameRx s t id)) (sym c.stop_of.ensures) (came-on s t id end (rx-ends s t id c.in-Err.fault c.in-Err.ensures.refused))
-
-pub returns-in-Err-clause-none : goal.returns-in-Err-clause-none
-returns-in-Err-clause-none g c =
-    let s = c.args.session.now in
-    let t = c.rx_sync.new.self in
-    let id = c.args.port.0 in
-    let end = sync_end_of c.in-Err.fault in
-    subst (λ (r : Result (Unit {0}) StepFault). IfErr r (RxMadeNone s t id)) (sym c.stop_of.ensures) (none-on s t id end (rx-none s t id c.in-Err.fault c.in-Err.ensures.refused))
+    let fault = c.in-Err.fault in
+    let end = sync_end_of fault in
+    record {
+      saves = record { fault = fault; not = c.in-Err.ensures.refused };
+      came = subst (λ (r : Result (Unit {0}) StepFault). OnOk r (CameRx s t id)) (sym c.stop_of.ensures) (came-on s t id end (rx-ends s t id fault c.in-Err.ensures.refused));
+      none = subst (λ (r : Result (Unit {0}) StepFault). IfErr r (RxMadeNone s t id)) (sym c.stop_of.ensures) (none-on s t id end (rx-none s t id fault c.in-Err.ensures.refused));
+      there = c.rx_sync.ensures.there;
+    }

@@ -1,7 +1,7 @@
 use Rattle.std.proofs.Common.{ℕ, ◌≤◌, ◌+◌, List, [], ◌∷◌, map, drop, Option, IfSome, sym, ◌∙◌, subst}
 use Rattle.vale_replay.specs.Tasks.{Task, SendFrames, played}
 use Rattle.vale_captures.specs.Inputs.{captured}
-use Rattle.vale_player.specs.Syncing.{Leads, playing, PlaysOn}
+use Rattle.vale_player.specs.Syncing.{has_passed, Leads, playing, PlaysOn}
 use Rattle.vale_player.proofs.Doing.{still-self, still-then, either-line}
 use Rattle.vale_player.proofs.Leading.{leads-self, leads-leads, leads-line, leads-halts, leads-stops}
 use Rattle.vale_player.proofs.Playing.{leads-record, leads-all, leads-last}
@@ -78,7 +78,7 @@ returns-in-Ok-clause-does g c =
     let name = c.args.name.now in
     let whole : List Task = played name c.args.batch (map captured c.args.records.now) in
     let leads = leads-last c.args.self.now q name c.args.batch c.loop-record.left c.args.records.now c.loop-record.record-index whole c.loop-record.invariant.leads c.loop-record-test.false c.if-left-batch.false in
-    leads-line c.args.self.now q c.send.new.self whole (SendFrames name ∷ []) leads (either-line q c.send.new.self (SendFrames name ∷ []) c.in-Ok.field-0 c.in-Ok.ensures.does)
+    leads-line c.args.self.now q c.send.new.self whole (SendFrames name ∷ []) leads (either-line q c.send.new.self (SendFrames name ∷ []) (has_passed c.in-Ok.field-0) c.in-Ok.ensures.does)
 
 pub returns-in-Err-send-clause-stops : goal.returns-in-Err-send-clause-stops
 returns-in-Err-send-clause-stops g c =

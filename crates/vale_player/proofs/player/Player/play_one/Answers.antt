@@ -1,10 +1,8 @@
-use Rattle.std.proofs.Common.{Bool, List, [], ◌∷◌, subst}
-use Rattle.std.specs.Prelude.{filter}
-use Rattle.vale_replay.specs.Tasks.{Task, SendFrames, fits_a_buffer}
-use Rattle.vale_player.specs.Players.{DoesOrEnds}
-use Rattle.vale_player.specs.Syncing.{playing}
-use Rattle.vale_player.proofs.Leading.{leads-self, leads-as, leads-does, leads-ends, leads-stops}
-use Rattle.vale_player.proofs.Playing.{played-none, plays-long, put-ends, put-goes, put-sends, put-stops-play}
+use Rattle.std.proofs.Common.{ℕ, ◌≤◌, List, ◌∷◌, Option, IfSome, sym, subst}
+use Rattle.vale_replay.specs.Tasks.{Task, SendFrames}
+use Rattle.vale_player.specs.Syncing.{has_passed, playing, PlaysOn}
+use Rattle.vale_player.proofs.Leading.{leads-self, leads-as, leads-stops}
+use Rattle.vale_player.proofs.Playing.{batch-some, plays-long, put-ends, put-goes, put-sends, put-stops-play, sent-plays}
 use Rattle.vale_player.proofs.player.Player.play_one.Goals as goal
 
 pub returns-then-bytes-gt2048-clause-plays : goal.returns-then-bytes-gt2048-clause-plays
@@ -29,22 +27,20 @@ returns-then-left-ne1-clause-plays g c frames =
     put-goes c.args.self.now c.args.name.now c.args.batch c.args.left c.args.bytes.now frames c.if-bytes-gt2048.false c.put_frame.new.self
     c.in-Ok-true.field-0 c.in-Ok-true.ensures.does c.in-Ok-true.field-0-test c.if-left-ne1.true
 
-pub returns-in-Ok-true-send-clause-plays : goal.returns-in-Ok-true-send-clause-plays
-returns-in-Ok-true-send-clause-plays g c frames =
+pub returns-in-Ok-clause-plays : goal.returns-in-Ok-clause-plays
+returns-in-Ok-clause-plays g c frames =
+    let p = c.args.self.now in
     let q = c.put_frame.new.self in
+    let r = c.send.new.self in
     let name = c.args.name.now in
-    let sends = put-sends c.args.self.now name c.args.batch c.args.left c.args.bytes.now frames c.if-bytes-gt2048.false q c.in-Ok-true.field-0 c.in-Ok-true.ensures.does c.in-Ok-true.field-0-test c.if-left-ne1.false in
-    leads-does c.args.self.now q c.send.new.self (playing name c.args.batch c.args.left (c.args.bytes.now ∷ frames)) (SendFrames name) (playing name c.args.batch c.args.batch frames) sends
-    (subst (λ (b : Bool). DoesOrEnds q c.send.new.self (SendFrames name ∷ []) b) c.in-Ok-true-send.field-0-test c.in-Ok-true-send.ensures.does)
+    let batch = c.args.batch in
+    let sends = put-sends p name batch c.args.left c.args.bytes.now frames c.if-bytes-gt2048.false q c.in-Ok-true.field-0 c.in-Ok-true.ensures.does c.in-Ok-true.field-0-test c.if-left-ne1.false in
+    let whole : List Task = playing name batch c.args.left (c.args.bytes.now ∷ frames) in
+    subst (PlaysOn p r whole name batch frames) (sym c.next_batch.ensures) (sent-plays p q r name batch whole frames sends (has_passed c.in-Ok.end) c.in-Ok.ensures.does)
 
-pub returns-in-Ok-false-send-clause-plays : goal.returns-in-Ok-false-send-clause-plays
-returns-in-Ok-false-send-clause-plays g c frames =
-    let q = c.put_frame.new.self in
-    let name = c.args.name.now in
-    let sends = put-sends c.args.self.now name c.args.batch c.args.left c.args.bytes.now frames c.if-bytes-gt2048.false q c.in-Ok-true.field-0 c.in-Ok-true.ensures.does c.in-Ok-true.field-0-test c.if-left-ne1.false in
-    leads-ends c.args.self.now q c.send.new.self (playing name c.args.batch c.args.left (c.args.bytes.now ∷ frames)) (SendFrames name) (playing name c.args.batch c.args.batch frames) sends
-    (played-none name c.args.batch c.args.batch (filter fits_a_buffer frames))
-    (subst (λ (b : Bool). DoesOrEnds q c.send.new.self (SendFrames name ∷ []) b) c.in-Ok-false-send.field-0-test c.in-Ok-false-send.ensures.does)
+pub returns-in-Ok-clause-left : goal.returns-in-Ok-clause-left
+returns-in-Ok-clause-left g c =
+    subst (λ (next : Option ℕ). IfSome next (λ n. 1 ≤ n)) (sym c.next_batch.ensures) (batch-some (has_passed c.in-Ok.end) c.args.batch c.requires.batch)
 
 pub returns-in-Err-send-clause-stops : goal.returns-in-Err-send-clause-stops
 returns-in-Err-send-clause-stops g c frames =

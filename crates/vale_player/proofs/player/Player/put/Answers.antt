@@ -2,8 +2,8 @@ use Rattle.std.proofs.Common.{ℕ, ◌≡◌, ◌-◌, Bool, List, [], ◌∷◌
 use Rattle.vale_replay.specs.Tasks.{Task, PutFrame}
 use Rattle.vale_player.specs.Syncing.{Leads, NeedsNone, NeedsNoneOrEnds}
 use Rattle.vale_player.proofs.Doing.{still-self, still-then, does-line}
-use Rattle.vale_player.proofs.Leading.{leads-self, leads-as, leads-ends, leads-stops}
-use Rattle.vale_player.proofs.Playing.{same-next, same-none}
+use Rattle.vale_player.proofs.Leading.{leads-self, leads-as}
+use Rattle.vale_player.proofs.Playing.{same-next, leads-next, copies-end, copies-stop}
 use Rattle.vale_player.proofs.PutCopies.{leads-through, leads-tasks, left-parts, passes-copies}
 use Rattle.vale_player.proofs.player.Player.put.Goals as goal
 
@@ -44,7 +44,7 @@ loop-left-preserved g c =
     let task : Task = PutFrame c.args.name.now c.args.frame.now in
     let whole : List Task = replicate c.args.count task in
     let more : List Task = replicate (left - 1) task in
-    let leads : Leads p q whole (task ∷ more) = leads-as p q whole (replicate left task) (task ∷ more) (same-next task left c.loop-left-test.true) c.loop-left.invariant.leads in
+    let leads = leads-next p q c.args.name.now c.args.frame.now c.args.count left c.loop-left-test.true c.loop-left.invariant.leads in
     let needs : NeedsNone q r task = subst (λ (b : Bool). NeedsNoneOrEnds q r task b) c.in-Ok-true.field-0-test (c.in-Ok-true.ensures.room c.args.frame.now) in
     let through : Leads p r whole (task ∷ more) = leads-through p q r whole task more leads needs.stays in
     let parted : Leads p r whole (replicate count task ++ replicate (left - count) task) =
@@ -57,28 +57,16 @@ loop-left-preserved g c =
 
 pub returns-in-Ok-false-clause-does : goal.returns-in-Ok-false-clause-does
 returns-in-Ok-false-clause-does g c =
-    let p = c.args.self.now in
-    let q = c.loop-left.self in
-    let r = c.make_room.new.self in
-    let left = c.loop-left.left in
-    let task : Task = PutFrame c.args.name.now c.args.frame.now in
-    let whole : List Task = replicate c.args.count task in
-    let more : List Task = replicate (left - 1) task in
-    let leads : Leads p q whole (task ∷ more) = leads-as p q whole (replicate left task) (task ∷ more) (same-next task left c.loop-left-test.true) c.loop-left.invariant.leads in
-    leads-ends p q r whole task more leads (same-none c.args.name.now c.args.frame.now (left - 1))
-    (subst (λ (b : Bool). NeedsNoneOrEnds q r task b) c.in-Ok-false.field-0-test (c.in-Ok-false.ensures.room c.args.frame.now))
+    let name = c.args.name.now in
+    let bytes = c.args.frame.now in
+    copies-end c.args.self.now c.loop-left.self name bytes c.args.count c.loop-left.left c.loop-left-test.true c.loop-left.invariant.leads c.make_room.new.self
+    (subst (NeedsNoneOrEnds c.loop-left.self c.make_room.new.self (PutFrame name bytes)) c.in-Ok-false.field-0-test (c.in-Ok-false.ensures.room bytes))
 
 pub returns-in-Err-clause-stops : goal.returns-in-Err-clause-stops
 returns-in-Err-clause-stops g c =
-    let p = c.args.self.now in
-    let q = c.loop-left.self in
-    let r = c.make_room.new.self in
-    let left = c.loop-left.left in
-    let task : Task = PutFrame c.args.name.now c.args.frame.now in
-    let whole : List Task = replicate c.args.count task in
-    let more : List Task = replicate (left - 1) task in
-    let leads : Leads p q whole (task ∷ more) = leads-as p q whole (replicate left task) (task ∷ more) (same-next task left c.loop-left-test.true) c.loop-left.invariant.leads in
-    leads-stops p q r whole task more leads c.in-Err.fault c.make_room.ensures.there (c.in-Err.ensures.stops c.args.frame.now)
+    let bytes = c.args.frame.now in
+    copies-stop c.args.self.now c.loop-left.self c.args.name.now bytes c.args.count c.loop-left.left c.loop-left-test.true c.loop-left.invariant.leads c.make_room.new.self
+    c.in-Err.fault c.make_room.ensures.there (c.in-Err.ensures.stops bytes)
 
 pub returns-clause-does : goal.returns-clause-does
 returns-clause-does g c =

@@ -5,8 +5,8 @@ use Rattle.vale_player.proofs.PlayerLines.{received}
 use Rattle.vale_player.proofs.player.Player.receive.Goals as goal
 use Rattle.vale_player.proofs.player.Player.receive.Goals.{then-not-keep, else-not-keep}
 
-pub returns-clause-does : goal.returns-clause-does
-returns-clause-does g c =
+pub returns : goal.returns
+returns g c =
     let p = c.args.self.now in
     let mid = c.if-not-keep.self in
     let name = c.args.name.now in
@@ -15,16 +15,5 @@ returns-clause-does g c =
       | then-not-keep w ↦ inr (w.if-not-keep.true, w.self-is ∙ w.give_all_back.ensures)
       | else-not-keep w ↦ inl (w.if-not-keep.false, w.self-is)
     ] in
-    (received p mid c.take.new.self name keep c.take.result c.take.ensures.there way c.take.ensures.does c.take.ensures.stops c.take.ensures.still).does
-
-pub returns-clause-stops : goal.returns-clause-stops
-returns-clause-stops g c =
-    let p = c.args.self.now in
-    let mid = c.if-not-keep.self in
-    let name = c.args.name.now in
-    let keep = c.args.keep in
-    let way : ((keep ≡ true) × (mid ≡ p)) ⊎ ((keep ≡ false) × (mid ≡ with_act (acts.Rx name false) p)) = elim c.if-not-keep.branch [
-      | then-not-keep w ↦ inr (w.if-not-keep.true, w.self-is ∙ w.give_all_back.ensures)
-      | else-not-keep w ↦ inl (w.if-not-keep.false, w.self-is)
-    ] in
-    (received p mid c.take.new.self name keep c.take.result c.take.ensures.there way c.take.ensures.does c.take.ensures.stops c.take.ensures.still).stops
+    let done = received p mid c.take.new.self name keep c.take.result c.take.ensures.there way c.take.ensures.does c.take.ensures.stops c.take.ensures.still in
+    record { does = done.does; stops = done.stops; still = done.still }

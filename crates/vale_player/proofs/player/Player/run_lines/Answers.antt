@@ -1,33 +1,27 @@
-use Rattle.std.proofs.Common.{◌≡◌, ◌+◌, ◌==◌, true, List, ◌∷◌, drop, sym, ap, subst, ◌∙◌, eq-eqb}
+use Rattle.std.proofs.Common.{◌≡◌, ◌+◌, ◌==◌, true, drop, sym, ap, subst, ◌∙◌, eq-eqb}
 use Rattle.std.proofs.lemmas.Bool.{ne_eqb}
 use Rattle.std.proofs.lemmas.Result.{err_from_is_err_and}
 use Rattle.nm_types.specs.declared.fault.StepFault.{StepFault}
-use Rattle.vale_script.specs.declared.script.Line.{Line}
-use Rattle.vale_replay.specs.Tasks.{tasks_of}
 use Rattle.vale_player.specs.Deeds.{AreDoable}
 use Rattle.vale_player.specs.Inputs.{records_in}
 use Rattle.vale_player.specs.Players.{PlayerState, Stops}
-use Rattle.vale_player.proofs.PlayerLines.{AreLeft, block_tasks, left-own, left-others, stops-own, next-left, lines-done}
+use Rattle.vale_player.proofs.PlayerLines.{AreLeft, block_tasks, left-own, left-others, left-from, stops-own, next-left, lines-done}
 use Rattle.vale_player.proofs.player.Player.run_lines.Goals as goal
 use Rattle.vale_player.proofs.player.Player.run_lines.Goals.{then-line-self+in_ok-act, else-line-self}
 
 pub returns-in_err-act-clause-stops : goal.returns-in_err-act-clause-stops
 returns-in_err-act-clause-stops g c =
-    let records = records_in c.args.inputs.now in
-    let lines = c.args.lines.now in
-    let i = c.loop-line.line-index in
-    let line = c.line-item.result in
     let p = c.args.self.now in
-    let q = c.loop-line.self in
-    let next : drop i lines ≡ line ∷ drop (i + 1) lines = next-left lines i line c.loop-line-test.true c.line-item.is in
-    let before : AreLeft records p.number p q (line ∷ drop (i + 1) lines) lines = subst (λ (left : List Line). AreLeft records p.number p q left lines) next c.loop-line.invariant.left in
+    let line = c.line-item.result in
+    let lines = c.args.lines.now in
+    let before = left-from (records_in c.args.inputs.now) p.number p c.loop-line.self lines c.loop-line.line-index line c.loop-line-test.true c.line-item.is c.loop-line.invariant.left in
     let number : c.self.inside.number ≡ p.number = ap (λ (x : PlayerState). x.number) c.self.view_is ∙ c.loop-line.invariant.left.still.number in
     let own : (line.user == p.number) ≡ true = eq-eqb line.user p.number (c.if-line-self.true ∙ number) in
     let e = err_from_is_err_and c.from_residual.result c.from_residual.ensures.1 in
     let fault : StepFault = c.in_err-act.field-0.0 in
-    let stops : Stops q c.act.new.self (tasks_of records line.act) fault = c.in_err-act.ensures.stops in
     let same : e.0 ≡ fault = e.2 in
-    let all : Stops p c.act.new.self (block_tasks records lines p.number) fault = stops-own records p.number p q line (drop (i + 1) lines) lines before own c.act.new.self fault stops in
+    let all : Stops p c.act.new.self (block_tasks (records_in c.args.inputs.now) lines p.number) fault =
+    stops-own (records_in c.args.inputs.now) p.number p c.loop-line.self line (drop (c.loop-line.line-index + 1) lines) lines before own c.act.new.self fault c.in_err-act.ensures.stops in
     rw (e.1, same) all
 
 pub loop-line-preserved : goal.loop-line-preserved
@@ -38,8 +32,7 @@ loop-line-preserved g c =
     let line = c.line-item.result in
     let p = c.args.self.now in
     let q = c.loop-line.self in
-    let next : drop i lines ≡ line ∷ drop (i + 1) lines = next-left lines i line c.loop-line-test.true c.line-item.is in
-    let before : AreLeft records p.number p q (line ∷ drop (i + 1) lines) lines = subst (λ (left : List Line). AreLeft records p.number p q left lines) next c.loop-line.invariant.left in
+    let before = left-from records p.number p q lines i line c.loop-line-test.true c.line-item.is c.loop-line.invariant.left in
     let number : c.self.inside.number ≡ p.number = ap (λ (x : PlayerState). x.number) c.self.view_is ∙ c.loop-line.invariant.left.still.number in
     let rest = drop (i + 1) lines in
     let left : AreLeft records p.number p c.if-line-self.self rest lines = elim c.if-line-self.branch [
@@ -48,7 +41,7 @@ loop-line-preserved g c =
       | else-line-self w ↦ subst (λ (x : PlayerState). AreLeft records p.number p x rest lines) (sym w.self-is)
           (left-others records p.number p q line rest lines before (ne_eqb line.user p.number (λ same. w.if-line-self.false (same ∙ sym number))))
     ] in
-    record { left = left; doable = (subst AreDoable next c.loop-line.invariant.doable).1 }
+    record { left = left; doable = (subst AreDoable (next-left lines i line c.loop-line-test.true c.line-item.is) c.loop-line.invariant.doable).1 }
 
 pub returns-clause-does : goal.returns-clause-does
 returns-clause-does g c =

@@ -35,12 +35,11 @@ returns-clause-does g c =
     let p : PlayerState = record { number = c.self.inside.number; session = c.self.inside.session; saves = c.self.inside.saves.items; names = c.self.inside.names.now } in
     let q : PlayerState = record p { session = c.stats.new.self } in
     let tasks : List Task = ReadCounts c.args.name.now ∷ [] in
-    let does : OnOk c.match-stats.result (Does p q tasks) = elim c.match-stats.branch [
+    subst (λ (x : PlayerState). OnOk c.match-stats.result (Does x q tasks)) c.self.view_is (elim c.match-stats.branch [
       | in-Ok w ↦ subst (λ (r : Result (Unit {0}) StepFault). OnOk r (Does p q tasks)) (sym w.result-is)
           (reads-ok p q c.self.invariant.there refl c.args.name.now c.in-Some.port (sym c.port_named.ensures ∙ c.in-Some.is) c.stats.result c.stats.ensures.made c.stats.ensures.full w.in-Ok.is)
       | in-Err w ↦ subst (λ (r : Result (Unit {0}) StepFault). OnOk r (Does p q tasks)) (sym w.result-is) tt
-    ] in
-    subst (λ (x : PlayerState). OnOk c.match-stats.result (Does x q tasks)) c.self.view_is does
+    ])
 
 pub returns-in_default-clause-there : goal.returns-in_default-clause-there
 returns-in_default-clause-there g c = subst (λ (x : PlayerState). IsThere None x.session) c.self.view_is c.self.invariant.there

@@ -29,38 +29,21 @@ pub invariant_of-self : goal.invariant_of-self
 invariant_of-self g c =
     record { there = c.receive-ended.ensures.there; all = c.keep_received.ensures c.self.inside.session c.self.invariant.there c.receive-ended.ensures.saves c.self.invariant.all }
 
-pub returns-clause-does : goal.returns-clause-does
-returns-clause-does g c =
-    let p : PlayerState = record { number = c.self.inside.number; session = c.self.inside.session; saves = c.self.inside.saves.items; names = c.self.inside.names.now } in
-    let q : PlayerState = record p { session = c.receive-ended.new.session } in
-    let name = c.args.name.now in
-    let port = c.in-Some.port in
-    let at = port-at p.session.own name port c.self.invariant.there.side.sound (sym c.port_named.ensures ∙ c.in-Some.is) in
-    let does : OnOk c.receive-ended.result.1 (Does p q (TakeFrames name ∷ [])) = takes-on p q refl name port at c.self.invariant.there c.receive-ended.ensures.there c.receive-ended.result.1 c.receive-ended.ensures.came in
-    subst (λ (x : PlayerState). OnOk c.receive-ended.result.1 (Does x q (TakeFrames name ∷ []))) c.self.view_is does
-
-pub returns-clause-stops : goal.returns-clause-stops
-returns-clause-stops g c =
-    let p : PlayerState = record { number = c.self.inside.number; session = c.self.inside.session; saves = c.self.inside.saves.items; names = c.self.inside.names.now } in
-    let q : PlayerState = record p { session = c.receive-ended.new.session } in
-    let name = c.args.name.now in
-    let port = c.in-Some.port in
-    let at = port-at p.session.own name port c.self.invariant.there.side.sound (sym c.port_named.ensures ∙ c.in-Some.is) in
-    let stops : IfErr c.receive-ended.result.1 (StopsAt p q (TakeFrames name)) = stops-on p q refl name port at c.receive-ended.result.1 c.receive-ended.ensures.none in
-    subst (λ (x : PlayerState). IfErr c.receive-ended.result.1 (StopsAt x q (TakeFrames name))) c.self.view_is stops
-
-pub returns-clause-still : goal.returns-clause-still
-returns-clause-still g c =
-    let p : PlayerState = record { number = c.self.inside.number; session = c.self.inside.session; saves = c.self.inside.saves.items; names = c.self.inside.names.now } in
-    let q : PlayerState = record p { session = c.receive-ended.new.session } in
-    let name = c.args.name.now in
-    let port = c.in-Some.port in
-    let at = port-at p.session.own name port c.self.invariant.there.side.sound (sym c.port_named.ensures ∙ c.in-Some.is) in
-    let still : IsStill p q = still-on p q refl name port at c.receive-ended.result.1 c.receive-ended.ensures.came c.receive-ended.ensures.none in
-    subst (λ (x : PlayerState). IsStill x q) c.self.view_is still
-
 pub returns-in_default-clause-there : goal.returns-in_default-clause-there
 returns-in_default-clause-there g c = subst (λ (x : PlayerState). IsThere None x.session) c.self.view_is c.self.invariant.there
 
-pub returns-clause-there : goal.returns-clause-there
-returns-clause-there g c = subst (λ (x : PlayerState). IsThere None x.session) c.self.view_is c.self.invariant.there
+pub returns : goal.returns
+returns g c =
+    let p : PlayerState = record { number = c.self.inside.number; session = c.self.inside.session; saves = c.self.inside.saves.items; names = c.self.inside.names.now } in
+    let q : PlayerState = record p { session = c.receive-ended.new.session } in
+    let name = c.args.name.now in
+    let port = c.in-Some.port in
+    let at = port-at p.session.own name port c.self.invariant.there.side.sound (sym c.port_named.ensures ∙ c.in-Some.is) in
+    let r = c.receive-ended.result.1 in
+    let call = c.receive-ended.ensures in
+    record {
+      does = subst (λ (x : PlayerState). OnOk r (Does x q (TakeFrames name ∷ []))) c.self.view_is (takes-on p q refl name port at c.self.invariant.there call.there r call.came);
+      stops = subst (λ (x : PlayerState). IfErr r (StopsAt x q (TakeFrames name))) c.self.view_is (stops-on p q refl name port at r call.none);
+      still = subst (λ (x : PlayerState). IsStill x q) c.self.view_is (still-on p q refl name port at r call.came call.none);
+      there = subst (λ (x : PlayerState). IsThere None x.session) c.self.view_is c.self.invariant.there;
+    }

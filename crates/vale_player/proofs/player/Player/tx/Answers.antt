@@ -1,5 +1,6 @@
 use Rattle.std.proofs.Common.{[], ◌∷◌, sym, ◌∙◌}
 use Rattle.vale_replay.specs.Tasks.{SendFrames}
+use Rattle.vale_player.specs.Syncing.{has_passed}
 use Rattle.vale_player.proofs.Doing.{either-line, does-line, stops-at, still-self}
 use Rattle.vale_player.proofs.Leading.{passes-send}
 use Rattle.vale_player.proofs.player.Player.tx.Goals as goal
@@ -12,7 +13,7 @@ pub returns-in_default-clause-still : goal.returns-in_default-clause-still
 returns-in_default-clause-still g c = still-self c.args.self.now
 
 pub returns-in-Ok-clause-does : goal.returns-in-Ok-clause-does
-returns-in-Ok-clause-does g c = either-line c.args.self.now c.send.new.self (SendFrames c.args.name.now ∷ []) c.in-Ok.field-0 c.in-Ok.ensures.does
+returns-in-Ok-clause-does g c = either-line c.args.self.now c.send.new.self (SendFrames c.args.name.now ∷ []) (has_passed c.in-Ok.field-0) c.in-Ok.ensures.does
 
 pub returns-in-Err-clause-stops : goal.returns-in-Err-clause-stops
 returns-in-Err-clause-stops g c = stops-at c.args.self.now c.send.new.self (SendFrames c.args.name.now) [] c.in-Err.fault c.send.ensures.there c.in-Err.ensures.stops

@@ -35,13 +35,12 @@ returns-clause-does g c =
     let p : PlayerState = record { number = c.self.inside.number; session = c.self.inside.session; saves = c.self.inside.saves.items; names = c.self.inside.names.now } in
     let q : PlayerState = record p { session = c.watch.new.self } in
     let tasks : List Task = WatchPort c.args.monitor.now c.args.target.now c.args.sides ∷ [] in
-    let does : OnOk c.match-watch.result (Does p q tasks) = elim c.match-watch.branch [
+    subst (λ (x : PlayerState). OnOk c.match-watch.result (Does x q tasks)) c.self.view_is (elim c.match-watch.branch [
       | in-Ok w ↦ subst (λ (r : Result (Unit {0}) StepFault). OnOk r (Does p q tasks)) (sym w.result-is)
           (watches-ok p q c.self.invariant.there refl c.args.monitor.now c.in-Some.port (sym c.port_named.ensures ∙ c.in-Some.is) c.args.target.now c.args.sides c.watch.result c.watch.ensures.watched c.watch.ensures.unwatched w.in-Ok.is)
       | in-Err w ↦ subst (λ (r : Result (Unit {0}) StepFault). OnOk r (Does p q tasks)) (sym (w.result-is ∙ w.unless_told.ensures))
           (watches-err p q c.self.invariant.there refl c.args.monitor.now c.in-Some.port (sym c.port_named.ensures ∙ c.in-Some.is) c.args.target.now c.args.sides c.watch.result c.watch.ensures.watched c.watch.ensures.unwatched w.in-Err.is)
-    ] in
-    subst (λ (x : PlayerState). OnOk c.match-watch.result (Does x q tasks)) c.self.view_is does
+    ])
 
 pub returns-in_default-clause-there : goal.returns-in_default-clause-there
 returns-in_default-clause-there g c = subst (λ (x : PlayerState). IsThere None x.session) c.self.view_is c.self.invariant.there
