@@ -1,41 +1,48 @@
 -- What a pass that has the whole may do it may do as well after a call that made no entry; what its calls
 -- make of the history that it knows, and what they leave at hand.
-use Rattle.std.proofs.Common.{ℕ, ◌-◌, ◌≤◌, ◌≡◌, true, List, [], ◌∷◌, ◌++◌, find, length, Some, ◌∙◌, ap, refl, sym, subst, append-nil, slice_get}
+use Rattle.std.proofs.Common.{ℕ, Bool, IfOk, Ok, Result, ◌-◌, ◌≤◌, ◌≡◌, true, List, [], ◌∷◌, ◌++◌, find, length, Some, ◌∙◌, ap, refl, sym, subst, append-nil, slice_get}
 use Rattle.std.specs.Prelude.{option_map}
 use Rattle.std.specs.List.{AllByRecursion as Each}
 use Rattle.std.proofs.lemmas.List.{map-append}
+use Rattle.nm_region.specs.Buffers.{Buffer, indices_of}
 use Rattle.nm_turn.specs.declared.pass.Pass.{Pass}
 use Rattle.nm_turn.specs.Numbered.{Stands, numbered, values}
 use Rattle.nm_turn.specs.Passes.{first_view}
 use Rattle.nm_turn.specs.Shares.{IsWhole}
 use Rattle.nm_turn.proofs.Joining.{values-numbered}
 use Rattle.nm_types.specs.Frames.{Frame}
+use Rattle.nm_types.specs.declared.fault.StepFault.{StepFault}
 use Rattle.nm_types.specs.declared.id.PortId.{PortId}
+use Rattle.vale_batch.specs.Wants.{Wanted}
 use Rattle.vale_entry.specs.declared.entry.Ask.{Ask}
 use Rattle.vale_entry.specs.declared.entry.Ask.TheVariants.{Send, Grant, Done, Finish}
 use Rattle.vale_entry.specs.declared.entry.Entry.{Entry}
 use Rattle.vale_entry.specs.declared.entry.Reply.{Reply}
-use Rattle.vale_entry.specs.declared.entry.Reply.TheVariants.{Made}
+use Rattle.vale_entry.specs.declared.entry.Reply.TheVariants.{Gave, Made, Shared}
 use Rattle.vale_entry.specs.RowWords.{port, no_chain}
 use Rattle.vale_entry.specs.World.{Offer}
 use Rattle.vale_entry.specs.Grant.{first_offer}
 use Rattle.vale_entry.specs.Legal.{session_and_reply, standing_of, world_of, step, is_met}
 use Rattle.vale_own.specs.Asker.{asks}
 use Rattle.vale_own.specs.Own.{HeldLot, own_of}
-use Rattle.vale_parts.specs.Batches.{AreOffersOf}
+use Rattle.vale_parts.specs.Batches.{AreOffersOf, dests_wanted}
 use Rattle.vale_parts.specs.Offering.{offers_at}
 use Rattle.vale_line.specs.Gots.{buffers_of}
 use Rattle.vale_line.specs.Leased.{Leased}
+use Rattle.vale_steps.specs.declared.granting.Granted.{Granted}
+use Rattle.vale_steps.specs.declared.reading.Synced.{Synced}
 use Rattle.vale_book.specs.BookView.{AreOf}
 use Rattle.vale_book.specs.Granting.{lease_id}
 use Rattle.vale_book.specs.Offering.{OffersState, IsOfferBy}
+use Rattle.vale_book.specs.Reading.{read_ask}
 use Rattle.vale_book.specs.Recorded.{Recorded, standing}
 use Rattle.vale_book.specs.Sending.{IsSent}
 use Rattle.vale_fabric.specs.declared.fabric.Fabric.{Fabric}
 use Rattle.vale_fabric.specs.declared.kept.Fixed.{Fixed}
 use Rattle.vale_fabric.specs.Alone.{IsAlone, IsKept, AreKept, book_of}
-use Rattle.vale_fabric.specs.Fabrics.{Knowing, IsPassIn, MayIn, Makes, before_in, entry_by, fixed_in, knowing, record_in, seen_by, MakesNone, MayAsk}
+use Rattle.vale_fabric.specs.Fabrics.{Answers, Knowing, IsPassIn, MayIn, Makes, before_in, entry_by, fixed_in, knowing, record_in, seen_by, MakesNone, MayAsk}
 use Rattle.vale_fabric.specs.Leases.{IsFilledBy, MayFill, StandOf, is_grant_to, is_held_as}
+use Rattle.vale_fabric.specs.Reading.{IsRead, MayRead}
 use Rattle.vale_fabric.proofs.Making.{earlier-is}
 use Rattle.vale_fabric.proofs.OffersHeld.{Next, next-of}
 
@@ -233,3 +240,32 @@ pub gone-next : {fabric : Fabric} {old : Pass Recorded Entry Fixed} {h : List En
     → option_map session_and_reply (step (standing_of 64 h) (Finish at named no_chain)) ≡ Some (by, reply) → h ++ entry_by by (Finish at named no_chain) reply ∷ [] ≡ k → IsAlone fabric new k
 gone-next {fabric} {old} new k at named by reply a pass same m is more =
     alone-next new k by reply a pass (subst (λ (bs : List ℕ). Makes (fixed_in fabric) (knowing old) (knowing new) (Finish at bs no_chain)) same m) is more
+
+-- ---- a grant that answered so
+
+pub shared-so : {fixed : Fixed} {v w : Knowing} {origin : ℕ} (said : Granted) (to given full gone : ℕ) → said.to.0 ≡ to → said.given ≡ given → said.full ≡ full → said.gone ≡ gone
+    → Answers fixed v w (Grant origin said.to) (Shared said.given said.full said.gone) → Answers fixed v w (Grant origin (port to)) (Shared given full gone)
+shared-so {fixed} {v} {w} {origin} said to given full gone at one two three made =
+    subst (λ (n : ℕ). Answers fixed v w (Grant origin (port n)) (Shared given full gone)) at
+    (subst (λ (n : ℕ). Answers fixed v w (Grant origin said.to) (Shared n full gone)) one
+    (subst (λ (n : ℕ). Answers fixed v w (Grant origin said.to) (Shared said.given n gone)) two
+    (subst (λ (n : ℕ). Answers fixed v w (Grant origin said.to) (Shared said.given said.full n)) three made)))
+
+-- ---- a read by which no buffer comes back
+
+pub may-read : {fabric : Fabric} {pass : Pass Recorded Entry Fixed} (is_pipe is : Bool) (at : PortId) (bufs : List Buffer) → is_pipe ≡ is → bufs ≡ [] → IsPassIn fabric pass → MayIn fabric pass (read_ask is_pipe at [])
+    → MayRead fabric pass (read_ask is at (indices_of bufs)) bufs
+may-read {fabric} {pass} is_pipe is at bufs same none in_it may = record {
+  pass = in_it;
+  may = subst (λ (bs : List Buffer). MayIn fabric pass (read_ask is at (indices_of bs))) (sym none) (subst (λ (b : Bool). MayIn fabric pass (read_ask b at [])) same may);
+  region = subst (AreOf (fixed_in fabric).region) (sym none) tt;
+}
+
+pub gave-so : {Bufs : Type 0} {fixed : Fixed} {v w : Knowing} (is_pipe is : Bool) (at : PortId) (bufs : List Buffer) (read : Result Synced (StepFault × Bufs)) (synced : Synced) (count : ℕ) → is_pipe ≡ is → bufs ≡ [] → read ≡ Ok synced
+    → IfOk read (IsRead fixed v w (read_ask is at (indices_of bufs)) at) → length synced.got.items ≡ count → synced.offers.wants ≡ [] → Answers fixed v w (read_ask is_pipe at []) (Gave count [])
+gave-so {Bufs} {fixed} {v} {w} is_pipe is at bufs read synced count same back ok said many none =
+    let given : IsRead fixed v w (read_ask is at (indices_of bufs)) at synced = subst (λ (r : Result Synced (StepFault × Bufs)). IfOk r (IsRead fixed v w (read_ask is at (indices_of bufs)) at)) ok said in
+    subst (λ (b : Bool). Answers fixed v w (read_ask b at []) (Gave count [])) (sym same)
+    (subst (λ (n : ℕ). Answers fixed v w (read_ask is at []) (Gave n [])) many
+    (subst (λ (wants : List Wanted). Answers fixed v w (read_ask is at []) (Gave (length synced.got.items) (dests_wanted wants))) none
+    (subst (λ (bs : List Buffer). Answers fixed v w (read_ask is at (indices_of bs)) (Gave (length synced.got.items) (dests_wanted synced.offers.wants))) back given.made)))

@@ -1,7 +1,7 @@
 //! Users on threads of their own, through passes of one fabric.
-ghost use Rattle.std.specs.Prelude.{◌≡◌, ◌+◌, length, IfOk, OnOk};
-ghost use Rattle.vale_fabric.specs.Words.{first_view};
-ghost use Rattle.vale_fabric.specs.Fabrics.{IsPassIn, fixed_in, knowing};
+ghost use Rattle.std.specs.Prelude.{◌≡◌, length, IfOk, OnOk};
+ghost use Rattle.vale_fabric.specs.Words.{IsPassIn, first_view, fixed_in, knowing};
+ghost use Rattle.vale_fabric.specs.Alone.{HasLeft};
 
 use crate::{Book, Fabric, Pass};
 use nm_types::{Limits, NoMemory, Part, StepFault};
@@ -25,10 +25,7 @@ type Came = (Pass, Result<(), StepFault>);
 /// A user comes through this pass, leaves, and lets others go on.
 fn come_and_leave<R: Wait>(rt: &R, fabric: &Fabric, mut pass: Pass, user: u64) -> Came
     requires { IsPassIn fabric.now pass }
-    ensures pass { IsPassIn fabric.now result.0
-        × ((knowing result.0).part ≡ (knowing pass).part) }
-    ensures made { OnOk result.1
-        (length (knowing result.0).mine ≡ length (knowing pass).mine + 2) }
+    ensures { HasLeft fabric.now pass result.0 result.1 }
 {
     match fabric.enter(rt, &mut pass, user) {
         Ok(session) => {
@@ -47,32 +44,19 @@ fn both_come<R: Threads + Wait + Sync>(
     one: Pass,
     two: Pass,
 ) -> (Came, Came)
-    requires one { IsPassIn fabric.now one }
-    requires two { IsPassIn fabric.now two }
-    ensures first { IsPassIn fabric.now result.0.0
-        × ((knowing result.0.0).part ≡ (knowing one).part) }
-    ensures second { IsPassIn fabric.now result.1.0
-        × ((knowing result.1.0).part ≡ (knowing two).part) }
-    ensures first_made { OnOk result.0.1
-        (length (knowing result.0.0).mine ≡ length (knowing one).mine + 2) }
-    ensures second_made { OnOk result.1.1
-        (length (knowing result.1.0).mine ≡ length (knowing two).mine + 2) }
+    requires { IsPassIn fabric.now one × IsPassIn fabric.now two }
+    ensures first { HasLeft fabric.now one result.0.0 result.0.1 }
+    ensures second { HasLeft fabric.now two result.1.0 result.1.1 }
 {
     join(
         rt,
         || -> Came
             requires { IsPassIn fabric.now one }
-            ensures pass { IsPassIn fabric.entry.now result.0
-                × ((knowing result.0).part ≡ (knowing one).part) }
-            ensures made { OnOk result.1
-                (length (knowing result.0).mine ≡ length (knowing one).mine + 2) }
+            ensures { HasLeft fabric.entry.now one result.0 result.1 }
         { come_and_leave(rt, fabric, one, 1) },
         || -> Came
             requires { IsPassIn fabric.now two }
-            ensures pass { IsPassIn fabric.entry.now result.0
-                × ((knowing result.0).part ≡ (knowing two).part) }
-            ensures made { OnOk result.1
-                (length (knowing result.0).mine ≡ length (knowing two).mine + 2) }
+            ensures { HasLeft fabric.entry.now two result.0 result.1 }
         { come_and_leave(rt, fabric, two, 2) },
     )
 }

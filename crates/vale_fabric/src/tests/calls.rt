@@ -1,8 +1,8 @@
 //! The calls of one pass that a test takes to succeed.
-ghost use Rattle.std.specs.Prelude.{false, true, ◌≡◌, ◌≤◌, [], ◌∷◌, drop, length};
-ghost use Rattle.vale_fabric.specs.Words.{AreOf, IsSent, Stands, buffers_of, dests_wanted};
-ghost use Rattle.vale_fabric.specs.Words.{fits_buffer, indices_of, list_all, no_chain, port};
-ghost use Rattle.vale_fabric.specs.Words.{standing};
+ghost use Rattle.std.specs.Prelude.{false, true, ◌≡◌, ◌≤◌, [], ◌∷◌, drop, length, Ok};
+ghost use Rattle.vale_fabric.specs.Words.{AreOf, IsSent, OffersStand, Stands, buffers_of};
+ghost use Rattle.vale_fabric.specs.Words.{dests_wanted, fits_buffer, indices_of, list_all};
+ghost use Rattle.vale_fabric.specs.Words.{no_chain, port, read_ask, standing};
 ghost use Rattle.vale_entry.specs.declared.entry.Ask.TheVariants as asks;
 ghost use Rattle.vale_entry.specs.declared.entry.Reply.TheVariants as replies;
 ghost use Rattle.vale_fabric.specs.Fabrics.{IsPassIn, before, fixed_in, knowing, seen_by};
@@ -10,7 +10,7 @@ ghost use Rattle.vale_fabric.specs.Fabrics.{AnswersIn, MakesNone, MayIn};
 ghost use Rattle.vale_fabric.specs.Leases.{IsFilledBy, StandOf};
 ghost use Rattle.vale_fabric.specs.Ports.{Hands};
 
-use crate::{Fabric, Frames, Granted, LeasesOut, Offers, Opened, Pass, Synced, fill};
+use crate::{Fabric, Frames, Granted, LeasesOut, Offers, Opened, Pass, Read, Synced, fill};
 use nm_region::Buf;
 use nm_types::{Batch, Chain, Name, PortId, SessionId};
 use std::alloc::Global;
@@ -45,10 +45,7 @@ pub(super) fn come<R: Abort + Wait>(
 fn name(rt: &impl Abort, text: &str) -> Name
     ensures { result ≡ text.now }
 {
-    match Name::parse(text) {
-        Ok(name) => name,
-        Err(_) => panic!(rt; "{text} is no name"),
-    }
+    Name::parse(text).expect(rt, text)
 }
 
 /// A port of this name is opened, with four slots in each ring.
@@ -78,10 +75,8 @@ pub(super) fn batch(rt: &impl Abort, alloc: Global, frame: &[u8]) -> Batch
     ensures { result ≡ record { bytes = frame.now; no_learn = false } ∷ [] }
 {
     let mut batch = Batch::new(alloc);
-    match batch.push(frame, false) {
-        Ok(()) => batch,
-        Err(_) => panic!(rt; "no memory"),
-    }
+    batch.push(frame, false).expect(rt, "memory");
+    batch
 }
 
 /// A batch is sent, as the entry of this number, and wanted somewhere.
@@ -158,24 +153,13 @@ pub(super) fn grant<R: Abort + Wait>(
     lease
 }
 
-/// The port is synced, with no buffer that comes back, and gives so many frames; nobody wants a
-/// copy of them.
-pub(super) fn read<R: Abort + Wait>(
-    rt: &R,
-    alloc: Global,
-    fabric: &Fabric,
-    pass: &mut Pass,
-    port: PortId,
-    count: usize,
-) -> Synced
-    requires pass { IsPassIn fabric.now pass.old }
-    requires may { MayIn fabric.now pass.old (asks.Sync port []) }
-    ensures pass { IsPassIn fabric.now pass.new }
-    ensures made { AnswersIn fabric.now pass.old pass.new (asks.Sync port [])
-        (replies.Gave count []) }
+/// What was read: so many frames, of which nobody wants a copy.
+fn taken(rt: &impl Abort, read: Read, count: usize) -> Synced
+    ensures is { read ≡ Ok result }
     ensures count { length result.got.items ≡ count }
+    ensures none { result.offers.wants ≡ [] }
 {
-    match fabric.sync(rt, pass, port, Vec::new(alloc)) {
+    match read {
         Ok(synced) => {
             assert_eq!(rt; synced.got.len(), count);
             assert!(rt; synced.offers.next().is_none());
@@ -185,17 +169,41 @@ pub(super) fn read<R: Abort + Wait>(
     }
 }
 
+/// The port is read, a pipe end by a get, with no buffer that comes back, and gives so many frames;
+/// nobody wants a copy of them.
+pub(super) fn read<R: Abort + Wait>(
+    rt: &R,
+    alloc: Global,
+    fabric: &Fabric,
+    pass: &mut Pass,
+    port: PortId,
+    is_pipe: bool,
+    count: usize,
+) -> Synced
+    requires pass { IsPassIn fabric.now pass.old }
+    requires may { MayIn fabric.now pass.old (read_ask is_pipe port []) }
+    ensures pass { IsPassIn fabric.now pass.new }
+    ensures made { AnswersIn fabric.now pass.old pass.new (read_ask is_pipe port [])
+        (replies.Gave count []) }
+    ensures count { length result.got.items ≡ count }
+{
+    let back = Vec::new(alloc);
+    if is_pipe {
+        return taken(rt, fabric.pipe_get(rt, pass, port, back), count);
+    }
+    taken(rt, fabric.sync(rt, pass, port, back), count)
+}
+
 /// The next of a batch's offers is granted at this port, which is not open any more.
 pub(super) fn miss<R: Abort + Wait>(
     rt: &R,
     fabric: &Fabric,
     pass: &mut Pass,
     offers: &mut Offers,
-    batch: &Batch,
     to: u32,
 )
     requires pass { IsPassIn fabric.now pass.old }
-    requires stand { StandOf (standing (seen_by fabric.now pass.old)) offers.old batch.now }
+    requires stand { OffersStand (standing (seen_by fabric.now pass.old)) offers.old }
     requires speaks { Stands offers.old.session (knowing pass.old).mine }
     ensures pass { IsPassIn fabric.now pass.new }
     ensures made { AnswersIn fabric.now pass.old pass.new

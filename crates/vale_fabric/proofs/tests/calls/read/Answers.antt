@@ -1,16 +1,17 @@
-use Rattle.std.proofs.Common.{rules, ℕ, ◌≡◌, List, [], length, subst}
-use Rattle.nm_region.specs.Buffers.{indices_of, Buffer}
-use Rattle.vale_batch.specs.Wants.{Wanted}
-use Rattle.vale_entry.specs.declared.entry.Ask.TheVariants as asks
-use Rattle.vale_entry.specs.declared.entry.Reply.TheVariants as replies
-use Rattle.vale_parts.specs.Batches.{dests_wanted}
-use Rattle.vale_fabric.specs.Fabrics.{AnswersIn}
+use Rattle.std.proofs.Common.{true, false}
+use Rattle.vale_fabric.proofs.Alone.{gave-so, may-read}
 use Rattle.vale_fabric.proofs.tests.calls.read.Goals as goal
+
+pub pipe_get-requires : goal.pipe_get-requires
+pipe_get-requires g c = may-read c.args.is_pipe true c.args.port c.new-back.result.items c.if-is_pipe.true c.new-back.ensures.items c.requires.pass c.requires.may
+
+pub sync-requires : goal.sync-requires
+sync-requires g c = may-read c.args.is_pipe false c.args.port c.new-back.result.items c.if-is_pipe.false c.new-back.ensures.items c.requires.pass c.requires.may
+
+pub returns-then-is_pipe-clause-made : goal.returns-then-is_pipe-clause-made
+returns-then-is_pipe-clause-made g c =
+    gave-so c.args.is_pipe true c.args.port c.new-back.result.items c.pipe_get.result c.taken.result c.args.count c.if-is_pipe.true c.new-back.ensures.items c.taken.ensures.is c.pipe_get.ensures.read c.taken.ensures.count c.taken.ensures.none
 
 pub returns-clause-made : goal.returns-clause-made
 returns-clause-made g c =
-    let none : c.in-Ok.synced.offers.wants ≡ [] = search rules in
-    let many : length c.in-Ok.synced.got.items ≡ c.args.count = search rules in
-    subst (λ (n : ℕ). AnswersIn c.args.fabric.now c.args.pass.now c.sync.new.pass (asks.Sync c.args.port []) (replies.Gave n [])) many
-    (subst (λ (wants : List Wanted). AnswersIn c.args.fabric.now c.args.pass.now c.sync.new.pass (asks.Sync c.args.port []) (replies.Gave (length c.in-Ok.synced.got.items) (dests_wanted wants))) none
-    (subst (λ (bufs : List Buffer). AnswersIn c.args.fabric.now c.args.pass.now c.sync.new.pass (asks.Sync c.args.port (indices_of bufs)) (replies.Gave (length c.in-Ok.synced.got.items) (dests_wanted c.in-Ok.synced.offers.wants))) c.new.ensures.items c.in-Ok.ensures.read.made))
+    gave-so c.args.is_pipe false c.args.port c.new-back.result.items c.sync.result c.taken-2.result c.args.count c.if-is_pipe.false c.new-back.ensures.items c.taken-2.ensures.is c.sync.ensures.read c.taken-2.ensures.count c.taken-2.ensures.none
