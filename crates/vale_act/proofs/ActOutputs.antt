@@ -50,22 +50,8 @@ file-on {E} kept save k (Err e) found is = tt
 -- ---- one act
 
 no-file : (act : Act) → ((name file : List ℕ) → act ≡ acts.Save name file → ⊥) → file_of_save act ≡ None
-no-file acts.Enter none = refl
-no-file (acts.Open name tx rx extra) none = refl
-no-file (acts.Put name count to from len fill) none = refl
-no-file (acts.Hex name frame) none = refl
-no-file (acts.Play name file batch) none = refl
-no-file (acts.Tx name) none = refl
-no-file (acts.Rx name keep) none = refl
-no-file (acts.Fwd from to count) none = refl
-no-file (acts.Poke name side slot field value) none = refl
-no-file (acts.Move name side head cur) none = refl
-no-file (acts.Swap name side slot other other_side other_slot quiet) none = refl
-no-file (acts.Extra name i j) none = refl
-no-file (acts.Watch monitor target sides) none = refl
-no-file (acts.Stat name) none = refl
 no-file (acts.Save name file) none = absurd (none name file refl)
-no-file (acts.Close name) none = refl
+no-file _ none = refl
 
 module _ (saves : List Save) (kept : List KeptFrames) (act : Act) (before : List OutputFile) where
   by-files : (files : List (List ℕ)) → filter_map file_of_save (act ∷ []) ≡ files → (after : List OutputFile)

@@ -33,22 +33,11 @@ frames-need name batch left (bytes ∷ frames) = by (left == 1) (frames-need nam
 module _ (records : List ℕ → List (List ℕ)) where
   pub act-needs : (act : Act) → IsDeed act → All (tasks_of records act)
   act-needs acts.Enter deed = absurd deed
-  act-needs (acts.Open name tx rx extra) deed = (tt, tt)
   act-needs (acts.Put name count to from len fill) deed = all-same count (PutFrame name (frame_of_put to from len fill)) tt
-  act-needs (acts.Hex name frame) deed = (tt, tt)
   act-needs (acts.Play name file batch) deed = frames-need name batch batch (filter fits_a_buffer (records file))
-  act-needs (acts.Tx name) deed = (tt, tt)
-  act-needs (acts.Rx name true) deed = (tt, tt)
   act-needs (acts.Rx name false) deed = (tt, (tt, tt))
-  act-needs (acts.Fwd from to count) deed = (tt, tt)
-  act-needs (acts.Poke name side slot field value) deed = (tt, tt)
-  act-needs (acts.Move name side head cur) deed = (tt, tt)
-  act-needs (acts.Swap name side slot other other_side other_slot quiet) deed = (tt, tt)
-  act-needs (acts.Extra name i j) deed = (tt, tt)
-  act-needs (acts.Watch monitor target sides) deed = (tt, tt)
-  act-needs (acts.Stat name) deed = (tt, tt)
-  act-needs (acts.Save name file) deed = (tt, tt)
   act-needs (acts.Close name) deed = (tt, (tt, tt))
+  act-needs _ deed = (tt, tt)
 
   pub acts-need : (list : List Act) → AllByRecursion IsDeed list → All (tasks_of_lines records list)
   acts-need [] deeds = tt

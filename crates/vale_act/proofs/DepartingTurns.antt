@@ -8,7 +8,7 @@ use Rattle.nm_types.specs.declared.id.SessionId.{SessionId}
 use Rattle.nm_types.specs.OwnPorts.{OwnState, Arrival}
 use Rattle.nm_turn.specs.Numbered.{Stands, numbers}
 use Rattle.vale_entry.specs.declared.entry.Ask.{Ask}
-use Rattle.vale_entry.specs.declared.entry.Ask.TheVariants.{Enter, Open, Send, Grant, Done, Sync, Reset, Shut, Finish, Leave, Put, PutKept, Get, Watch, Stat}
+use Rattle.vale_entry.specs.declared.entry.Ask.TheVariants.{Enter, Send, Grant, Done, Sync, Reset, Shut, Finish, Leave, Put, PutKept, Get}
 use Rattle.vale_entry.specs.declared.entry.Entry.{Entry}
 use Rattle.vale_entry.specs.Arrivals.{arrivals_of}
 use Rattle.vale_entry.specs.World.{World}
@@ -19,7 +19,7 @@ use Rattle.vale_own.specs.Asker.{is_enter}
 use Rattle.vale_own.specs.There.{is_coming}
 use Rattle.vale_script.specs.declared.script.Act.{Act}
 use Rattle.vale_script.specs.declared.script.Act.TheVariants as acts
-use Rattle.vale_replay.specs.Tasks.{Task, Arrive, OpenPort, PutFrame, SendFrames, TakeFrames, ChangeOwn, SaveFrames, WatchPort, ReadCounts, ShutPort, FinishPort, Depart, EndLine, fits_a_buffer, frame_of_put, lines_left, played_before_sync, tasks_of, tasks_of_line, tasks_of_lines}
+use Rattle.vale_replay.specs.Tasks.{Task, Arrive, PutFrame, SendFrames, TakeFrames, ChangeOwn, Depart, EndLine, fits_a_buffer, frame_of_put, lines_left, played_before_sync, tasks_of, tasks_of_line, tasks_of_lines}
 use Rattle.vale_replay.specs.Machine.{Machine, answered, at_rest, after_task, call_of_task, call_of_tasks, enter_call, has_room_at, is_peer_gone, is_reset, is_settling, next_call, resting, settling_call, with_tasks}
 use Rattle.vale_replay.specs.Replay.{TakesTurn, standing_before}
 use Rattle.vale_replay.proofs.Comers.{enter-of}
@@ -43,40 +43,19 @@ module _ (P : Task → Type 0) where
   left-all : (tasks : List Task) → AllByRecursion P tasks → AllByRecursion P (lines_left tasks)
   left-all [] all = tt
   left-all (EndLine ∷ tasks) all = all
-  left-all (Arrive ∷ tasks) all = left-all tasks all.1
-  left-all (OpenPort name tx rx extra ∷ tasks) all = left-all tasks all.1
-  left-all (PutFrame name bytes ∷ tasks) all = left-all tasks all.1
-  left-all (SendFrames name ∷ tasks) all = left-all tasks all.1
-  left-all (TakeFrames name ∷ tasks) all = left-all tasks all.1
-  left-all (ChangeOwn act ∷ tasks) all = left-all tasks all.1
-  left-all (SaveFrames name file ∷ tasks) all = left-all tasks all.1
-  left-all (WatchPort monitor target sides ∷ tasks) all = left-all tasks all.1
-  left-all (ReadCounts name ∷ tasks) all = left-all tasks all.1
-  left-all (ShutPort name ∷ tasks) all = left-all tasks all.1
-  left-all (FinishPort name ∷ tasks) all = left-all tasks all.1
-  left-all (Depart ∷ tasks) all = left-all tasks all.1
+  left-all (task ∷ tasks) all = left-all tasks all.1
 
   either-all : (b : Bool) (one other : List Task) → AllByRecursion P one → AllByRecursion P other → AllByRecursion P (cond b one other)
   either-all true one other front back = front
   either-all false one other front back = back
 
-  behind-all : (n : ℕ) (e : Entry) (user : Machine) (tasks : List Task) → AllByRecursion P user.tasks → AllByRecursion P tasks → AllByRecursion P (with_tasks n e user tasks).tasks
+  pub behind-all : (n : ℕ) (e : Entry) (user : Machine) (tasks : List Task) → AllByRecursion P user.tasks → AllByRecursion P tasks → AllByRecursion P (with_tasks n e user tasks).tasks
   behind-all n e user [] old all = old
-  behind-all n e user (Arrive ∷ rest) old all = all.1
-  behind-all n e user (OpenPort name tx rx extra ∷ rest) old all = all.1
   behind-all n e user (PutFrame name bytes ∷ rest) old all =
       either-all (is_reset e.ask || not (has_room_at user.own name)) (lines_left rest) (PutFrame name bytes ∷ rest) (left-all rest all.1) all
   behind-all n e user (SendFrames name ∷ rest) old all =
       either-all (is_reset e.ask || is_peer_gone e.reply) (lines_left rest) rest (left-all rest all.1) all.1
-  behind-all n e user (TakeFrames name ∷ rest) old all = all.1
-  behind-all n e user (ChangeOwn act ∷ rest) old all = all.1
-  behind-all n e user (SaveFrames name file ∷ rest) old all = all.1
-  behind-all n e user (WatchPort monitor target sides ∷ rest) old all = all.1
-  behind-all n e user (ReadCounts name ∷ rest) old all = all.1
-  behind-all n e user (ShutPort name ∷ rest) old all = all.1
-  behind-all n e user (FinishPort name ∷ rest) old all = all.1
-  behind-all n e user (Depart ∷ rest) old all = all.1
-  behind-all n e user (EndLine ∷ rest) old all = all.1
+  behind-all n e user (task ∷ rest) old all = all.1
 
 -- ---- a user that comes no more goes on so
 
@@ -86,18 +65,8 @@ HasSession user = (session : SessionId) × (user.session ≡ Some session)
 session-kept : (n : ℕ) (e : Entry) (user : Machine) (tasks : List Task) → HasSession user → AllByRecursion KeepsSession tasks → HasSession (with_tasks n e user tasks)
 session-kept n e user [] has all = has
 session-kept n e user (Arrive ∷ rest) has all = (record { 0 = n }, refl)
-session-kept n e user (OpenPort name tx rx extra ∷ rest) has all = has
-session-kept n e user (PutFrame name bytes ∷ rest) has all = has
-session-kept n e user (SendFrames name ∷ rest) has all = has
-session-kept n e user (TakeFrames name ∷ rest) has all = has
-session-kept n e user (ChangeOwn act ∷ rest) has all = has
-session-kept n e user (SaveFrames name file ∷ rest) has all = has
-session-kept n e user (WatchPort monitor target sides ∷ rest) has all = has
-session-kept n e user (ReadCounts name ∷ rest) has all = has
-session-kept n e user (ShutPort name ∷ rest) has all = has
-session-kept n e user (FinishPort name ∷ rest) has all = has
 session-kept n e user (Depart ∷ rest) has all = absurd all.0
-session-kept n e user (EndLine ∷ rest) has all = has
+session-kept n e user (task ∷ rest) has all = has
 
 pub rests-no-more : (user : Machine) → ComesNoMore user → ComesNoMore (resting user)
 rests-no-more user (inl all) = inl (rest-all NeedsSession user user.tasks all)
@@ -126,18 +95,7 @@ turn-no-more pool h before n after turn never =
 call-unnumbered : (user : Machine) (k : ℕ) (task : Task) → NeedsSession task ⊎ HasSession user → call_of_task (record user { number = k }) task ≡ call_of_task user task
 call-unnumbered user k Arrive (inl needs) = absurd needs
 call-unnumbered user k Arrive (inr has) = ap (enter_call k) has.1 ∙ sym (ap (enter_call user.number) has.1)
-call-unnumbered user k (OpenPort name tx rx extra) never = refl
-call-unnumbered user k (PutFrame name bytes) never = refl
-call-unnumbered user k (SendFrames name) never = refl
-call-unnumbered user k (TakeFrames name) never = refl
-call-unnumbered user k (ChangeOwn act) never = refl
-call-unnumbered user k (SaveFrames name file) never = refl
-call-unnumbered user k (WatchPort monitor target sides) never = refl
-call-unnumbered user k (ReadCounts name) never = refl
-call-unnumbered user k (ShutPort name) never = refl
-call-unnumbered user k (FinishPort name) never = refl
-call-unnumbered user k Depart never = refl
-call-unnumbered user k EndLine never = refl
+call-unnumbered user k _ never = refl
 
 calls-unnumbered : (user : Machine) (k : ℕ) (tasks : List Task) → AllByRecursion NeedsSession tasks ⊎ HasSession user → call_of_tasks (record user { number = k }) tasks ≡ call_of_tasks user tasks
 calls-unnumbered user k [] never = refl
@@ -192,23 +150,12 @@ plays-keep name batch left (bytes ∷ frames) =
     either-all KeepsSession (left == 1) (PutFrame name bytes ∷ SendFrames name ∷ played_before_sync name batch batch frames) (PutFrame name bytes ∷ played_before_sync name batch (left - 1) frames) (tt, (tt, whole)) (tt, fewer)
 
 act-keeps : (records : List ℕ → List (List ℕ)) (act : Act) → AllByRecursion KeepsSession (tasks_of records act)
-act-keeps records acts.Enter = (tt, tt)
-act-keeps records (acts.Open name tx rx extra) = (tt, tt)
 act-keeps records (acts.Put name count to from len fill) = puts-keep count name (frame_of_put to from len fill)
-act-keeps records (acts.Hex name frame) = (tt, tt)
 act-keeps records (acts.Play name file batch) = plays-keep name batch batch (filter fits_a_buffer (records file))
-act-keeps records (acts.Tx name) = (tt, tt)
 act-keeps records (acts.Rx name keep) =
     either-all KeepsSession keep (TakeFrames name ∷ []) (ChangeOwn (acts.Rx name keep) ∷ TakeFrames name ∷ []) (tt, tt) (tt, (tt, tt))
-act-keeps records (acts.Fwd from to count) = (tt, tt)
-act-keeps records (acts.Poke name side slot field value) = (tt, tt)
-act-keeps records (acts.Move name side head cur) = (tt, tt)
-act-keeps records (acts.Swap name side slot other other_side other_slot quiet) = (tt, tt)
-act-keeps records (acts.Extra name i j) = (tt, tt)
-act-keeps records (acts.Watch monitor target sides) = (tt, tt)
-act-keeps records (acts.Stat name) = (tt, tt)
-act-keeps records (acts.Save name file) = (tt, tt)
 act-keeps records (acts.Close name) = (tt, (tt, tt))
+act-keeps records _ = (tt, tt)
 
 line-keeps : (records : List ℕ → List (List ℕ)) (act : Act) → AllByRecursion KeepsSession (tasks_of_line records act)
 line-keeps records act = each-append KeepsSession (tasks_of records act) (EndLine ∷ []) (act-keeps records act) (tt, tt)

@@ -17,6 +17,7 @@ use Rattle.vale_script.specs.declared.script.Act.{Act}
 use Rattle.vale_script.specs.declared.script.Act.TheVariants as acts
 use Rattle.vale_replay.specs.Edits.{change_found, at_port, poked, field_written, changed_by}
 use Rattle.vale_own.proofs.SideExchange.{ring-passes}
+use Rattle.vale_player.proofs.SenderNames.{same-ports}
 use Rattle.vale_act.specs.Completeness.{waiting_of, waiting, IsPlainAct}
 use Rattle.vale_act.proofs.RoomViews.{View, AreTidy, IsRingIf, IsRingAt, ring_of, seen, views, weight, total, with_view, view_if, waiting-views, total-changed, each-id, ids-changed, find-seen, seen-tx, seen-rx, seen-still}
 
@@ -89,16 +90,7 @@ act-still (acts.Swap name side slot other other_side other_slot quiet) s plain =
     (λ id. still-at other (λ other_id. with_slots_swapped (not quiet) (record { side = side; port = id; at = slot }) (record { side = other_side; port = other_id; at = other_slot })) s
     (λ other_id. still-swap (not quiet) (record { side = side; port = id; at = slot }) (record { side = other_side; port = other_id; at = other_slot }) s))
 act-still (acts.Extra name i j) s plain = still-at name (λ id. with_extra_link id i j) s (λ id. still-link id i j s)
-act-still acts.Enter s plain = refl
-act-still (acts.Open name tx rx extra) s plain = refl
-act-still (acts.Put name count to from len fill) s plain = refl
-act-still (acts.Hex name frame) s plain = refl
-act-still (acts.Play name file batch) s plain = refl
-act-still (acts.Tx name) s plain = refl
-act-still (acts.Watch monitor target sides) s plain = refl
-act-still (acts.Stat name) s plain = refl
-act-still (acts.Save name file) s plain = refl
-act-still (acts.Close name) s plain = refl
+act-still _ s plain = refl
 
 -- ---- a frame that is put
 
@@ -218,10 +210,6 @@ frame-put id bytes s new p r found has slot same = record {
 pub frame-edit : (id : ℕ) (bytes : List ℕ) (s : OwnState) → IsEdit s (with_frame id bytes s) 1
 frame-edit id bytes s = by-port (port_with_id s id) refl
   where
-    written-ports : (idx : ℕ) (b : Bool) (t : OwnState) → t.ports ≡ s.ports → (cond b t s).ports ≡ s.ports
-    written-ports idx true t same = same
-    written-ports idx false t same = refl
-
     by-slot : (p : OwnPort) (r : OwnRing) (b : Bool) → port_with_id s id ≡ Some p → p.tx ≡ Some r → has_slot r ≡ b → IsEdit s (with_frame_on id bytes s (Some r)) 1
     by-slot p r false found has slot = rw slot (still-edit s s 1 refl)
     by-slot p r true found has slot =
@@ -229,7 +217,7 @@ frame-edit id bytes s = by-port (port_with_id s id) refl
         (frame-put id bytes s _ p r found has slot
         (seen-tx id (ring_with_frame bytes) stepped_ring (λ x. refl) (with_written (slot_in Tx r r.ring.head).buf_idx bytes s).ports
         ∙ ap (λ (ports : List OwnPort). map (view_if id stepped_ring) (map seen ports))
-        (written-ports (slot_in Tx r r.ring.head).buf_idx (contains_index (named_of s) (slot_in Tx r r.ring.head).buf_idx) (with_bytes (slot_in Tx r r.ring.head).buf_idx _ s) refl)))
+        (same-ports (contains_index (named_of s) (slot_in Tx r r.ring.head).buf_idx) (with_bytes (slot_in Tx r r.ring.head).buf_idx _ s) s refl)))
 
     by-ring : (p : OwnPort) (tx : Option OwnRing) → port_with_id s id ≡ Some p → p.tx ≡ tx → IsEdit s (with_frame_on id bytes s tx) 1
     by-ring p None found has = still-edit s s 1 refl

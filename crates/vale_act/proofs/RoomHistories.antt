@@ -7,7 +7,7 @@ use Rattle.nm_types.specs.declared.fault.Part.{Part}
 use Rattle.nm_types.specs.declared.fault.Part.TheVariants.{Entries, Bytes}
 use Rattle.nm_types.specs.declared.fault.StepFault.TheVariants.{RecordFull}
 use Rattle.vale_entry.specs.declared.entry.Ask.{Ask}
-use Rattle.vale_entry.specs.declared.entry.Ask.TheVariants.{Enter, Open, Send, Grant, Done, Sync, Reset, Shut, Finish, Leave, Put, PutKept, Get, Watch, Stat}
+use Rattle.vale_entry.specs.declared.entry.Ask.TheVariants.{Enter}
 use Rattle.vale_entry.specs.declared.entry.Entry.{Entry}
 use Rattle.vale_entry.specs.declared.entry.Reply.{Reply}
 use Rattle.vale_entry.specs.Room.{bytes_of, bytes_of_entry}
@@ -63,20 +63,7 @@ histories-cheap pool h legal = cheap-from pool [] h tt legal (record { room = om
 
 bytes-kept : (ask : Ask) (reply : Reply) → bytes_of (kept_ask ask) reply ≡ bytes_of ask reply
 bytes-kept (Enter user) reply = refl
-bytes-kept (Open session name tx rx extra) reply = refl
-bytes-kept (Send port frames) reply = refl
-bytes-kept (Grant origin to) reply = refl
-bytes-kept (Done lease) reply = refl
-bytes-kept (Sync port back) reply = refl
-bytes-kept (Reset port side fault) reply = refl
-bytes-kept (Shut port) reply = refl
-bytes-kept (Finish port bufs chain) reply = refl
-bytes-kept (Leave session) reply = refl
-bytes-kept (Put port offered) reply = refl
-bytes-kept (PutKept port offered) reply = refl
-bytes-kept (Get port back) reply = refl
-bytes-kept (Watch monitor target sides) reply = refl
-bytes-kept (Stat port) reply = refl
+bytes-kept _ reply = refl
 
 pub fit-room : FramesThatFitHaveRoom
 fit-room b call made legal is fit =

@@ -224,19 +224,7 @@ same-spends own = omega arith
 opens-by : (number : ℕ) (session : SessionId) (name : List ℕ) (tx rx extra : ℕ) (reply : Reply) (came : List Arrival) (own : OwnState)
     → waiting (own_by number (Open session name tx rx extra) reply came own) + 0 ≤ waiting own
 opens-by number session name tx rx extra replies.Opened came own = let same = open-spends own number name tx rx came in omega (arith, same)
-opens-by number session name tx rx extra replies.Made came own = same-spends own
-opens-by number session name tx rx extra (replies.Refused fault) came own = same-spends own
-opens-by number session name tx rx extra (replies.Offered short lone to) came own = same-spends own
-opens-by number session name tx rx extra (replies.Shared given full gone) came own = same-spends own
-opens-by number session name tx rx extra (replies.Gave count to) came own = same-spends own
-opens-by number session name tx rx extra (replies.Took items to) came own = same-spends own
-opens-by number session name tx rx extra replies.PeerGone came own = same-spends own
-opens-by number session name tx rx extra (replies.Unread count) came own = same-spends own
-opens-by number session name tx rx extra (replies.LeasesOut n) came own = same-spends own
-opens-by number session name tx rx extra (replies.Watching target) came own = same-spends own
-opens-by number session name tx rx extra replies.NoTarget came own = same-spends own
-opens-by number session name tx rx extra (replies.Watched by) came own = same-spends own
-opens-by number session name tx rx extra (replies.Counted counts) came own = same-spends own
+opens-by number session name tx rx extra _ came own = same-spends own
 
 -- what an entry takes no longer waits
 pub own-spends : (number : ℕ) (shut : Option ℕ) (ask : Ask) (reply : Reply) (came : List Arrival) (own : OwnState) → AreTidy (views own) → IsOfSide shut own ask reply → BringsAsMany ask reply came

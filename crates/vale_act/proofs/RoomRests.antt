@@ -28,17 +28,7 @@ task-edit (PutFrame name bytes) user plain = by (port_with_name user.own name)
     by None = still-edit user.own user.own 1 refl
     by (Some p) = frame-edit p.id.0 bytes user.own
 task-edit (ChangeOwn act) user plain = still-edit user.own (changed_by act user.own) 0 (act-still act user.own plain)
-task-edit (SaveFrames name file) user plain = still-edit user.own user.own 0 refl
-task-edit Arrive user plain = still-edit user.own user.own 0 refl
-task-edit (OpenPort name tx rx extra) user plain = still-edit user.own user.own 0 refl
-task-edit (SendFrames name) user plain = still-edit user.own user.own 0 refl
-task-edit (TakeFrames name) user plain = still-edit user.own user.own 0 refl
-task-edit (WatchPort monitor target sides) user plain = still-edit user.own user.own 0 refl
-task-edit (ReadCounts name) user plain = still-edit user.own user.own 0 refl
-task-edit (ShutPort name) user plain = still-edit user.own user.own 0 refl
-task-edit (FinishPort name) user plain = still-edit user.own user.own 0 refl
-task-edit Depart user plain = still-edit user.own user.own 0 refl
-task-edit EndLine user plain = still-edit user.own user.own 0 refl
+task-edit _ user plain = still-edit user.own user.own 0 refl
 
 pub record Rests (own : OwnState) (tasks : List Task) (after : Machine) : Type 0 where
   pub back : AreTidy (views after.own) → AreTidy (views own)

@@ -23,7 +23,8 @@ use Rattle.vale_act.specs.Completeness.{waiting, frames_of_task, calls_of_task, 
 use Rattle.vale_act.proofs.RoomViews.{AreTidy, views, tidy-of}
 use Rattle.vale_act.proofs.RoomOwn.{own-spends}
 use Rattle.vale_act.proofs.RoomRests.{frames_in, calls_in, ArePlain, rests, lines-left}
-use Rattle.vale_act.proofs.RoomTurns.{by-id, room-none, IsSync, tx-sync, rx-sync, TxOf, put-of, send-of, mapped, brings}
+use Rattle.vale_player.proofs.TaskCalls.{room-none}
+use Rattle.vale_act.proofs.RoomTurns.{by-id, IsSync, tx-sync, rx-sync, TxOf, put-of, send-of, mapped, brings}
 
 record SpendsFrom (tasks : List Task) (own : OwnState) (after : Machine) (ask : Ask) (reply : Reply) : Type 0 where
   frames : frames_left after + frames_taken ask reply ≤ frames_in tasks + waiting own
@@ -108,7 +109,7 @@ module _ (pool : ℕ) (past : List Entry) (legal : IsLegal pool past) (number : 
       let next : Machine = record user { own = own_next a; tasks = PutFrame name bytes ∷ rest } in
       let whole = rests next (PutFrame name bytes ∷ rest) (tt, plain) in
       let tidy-next = whole.back tidy in
-      let none : call_of_task next (PutFrame name bytes) ≡ None = room-none (own_next a) name tidy-next room in
+      let none : call_of_task next (PutFrame name bytes) ≡ None = room-none (own_next a) name (λ p named. by-id (own_next a) name p tidy-next named) room in
       let goes : resting next ≡ at_rest (after_task (PutFrame name bytes) next) rest =
       ap (λ (o : Option Ask). cond (is_some o) (record next { tasks = PutFrame name bytes ∷ rest }) (at_rest (after_task (PutFrame name bytes) next) rest)) none in
       let later = (rests (after_task (PutFrame name bytes) next) rest plain).calls in

@@ -140,19 +140,7 @@ opens-below k number session name tx rx extra reply came own above sized below =
 
     by : (r : Reply) → SizesFit (Open session name tx rx extra) r → AreBelow number (views (own_by number (Open session name tx rx extra) r came own))
     by replies.Opened fit = open-below k number own name tx rx came above fit below
-    by replies.Made fit = still
-    by (replies.Refused fault) fit = still
-    by (replies.Offered short lone to) fit = still
-    by (replies.Shared given full gone) fit = still
-    by (replies.Gave count to) fit = still
-    by (replies.Took items to) fit = still
-    by replies.PeerGone fit = still
-    by (replies.Unread count) fit = still
-    by (replies.LeasesOut n) fit = still
-    by (replies.Watching target) fit = still
-    by replies.NoTarget fit = still
-    by (replies.Watched who) fit = still
-    by (replies.Counted counts) fit = still
+    by _ fit = still
 
 pub own-below : (k number : ℕ) (ask : Ask) (reply : Reply) (came : List Arrival) (own : OwnState) → k < number → IsOfSide None own ask reply → SizesFit ask reply → AreBelow k (views own)
     → AreBelow number (views (own_by number ask reply came own))

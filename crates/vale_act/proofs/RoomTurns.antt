@@ -1,15 +1,14 @@
 -- A turn of a user spends what its entry costs.
-use Rattle.std.proofs.Common.{ℕ, ◌≡◌, Bool, true, false, cond, List, Option, Some, None, option_map, refl, sym, ◌∙◌, ap, subst}
+use Rattle.std.proofs.Common.{ℕ, ◌≡◌, Bool, true, false, cond, List, Option, Some, None, option_map, refl, subst}
 use Rattle.std.specs.Prelude.{bytes_eq, option_and_then}
-use Rattle.std.specs.Option.{option_map_or}
 use Rattle.nm_types.specs.declared.id.PortId.{PortId}
 use Rattle.nm_types.specs.declared.id.Side.{Side}
 use Rattle.nm_types.specs.declared.id.Side.TheVariants.{Tx, Rx}
 use Rattle.nm_types.specs.declared.fault.SyncFault.{SyncFault}
 use Rattle.nm_types.specs.Names.{is_pipe_name}
 use Rattle.nm_types.specs.Slots.{pushed_frames}
-use Rattle.nm_types.specs.OwnPorts.{OwnRing, OwnPort, OwnState, bytes_at, pushed_in, refusal_in, port_with_id, port_with_name, ring_on}
-use Rattle.nm_types.specs.OwnEdits.{has_slot, has_room}
+use Rattle.nm_types.specs.OwnPorts.{OwnRing, OwnPort, OwnState, bytes_at, pushed_in, refusal_in, port_with_id, port_with_name}
+use Rattle.nm_types.specs.OwnEdits.{has_slot}
 use Rattle.vale_entry.specs.declared.entry.Ask.{Ask}
 use Rattle.vale_entry.specs.declared.entry.Ask.TheVariants.{Send, Sync, Put, Get}
 use Rattle.vale_entry.specs.declared.entry.Entry.{Entry}
@@ -23,7 +22,7 @@ use Rattle.vale_entry.proofs.HistoryLaws.{history-stands}
 use Rattle.vale_book.proofs.Rooms.{step-recorded}
 use Rattle.vale_own.proofs.SideArrivals.{lent-count}
 use Rattle.vale_own.proofs.SideSound.{each-found}
-use Rattle.vale_replay.specs.Machine.{has_room_at, is_settling, put_call, room_call, send_call}
+use Rattle.vale_replay.specs.Machine.{is_settling, put_call, room_call, send_call}
 use Rattle.vale_replay.proofs.Turns.{some-same}
 use Rattle.vale_act.specs.Completeness.{calls_of_ask}
 use Rattle.vale_act.proofs.RoomViews.{AreTidy, views, ids-seen}
@@ -34,19 +33,6 @@ use Rattle.vale_act.proofs.RoomOwn.{BringsAsMany}
 pub by-id : (own : OwnState) (name : List ℕ) (p : OwnPort) → AreTidy (views own) → port_with_name own name ≡ Some p → port_with_id own p.id.0 ≡ Some p
 by-id own name p tidy named =
     each-find (λ (q : OwnPort). port_with_id own q.id.0 ≡ Some q) (λ (q : OwnPort). bytes_eq name q.name) own.ports p (each-found own.ports (rw (← ids-seen own.ports) tidy.apart)) named
-
-no-room-call : (own : OwnState) (p : OwnPort) (tx : Option OwnRing) → option_map_or has_slot tx false ≡ true → option_and_then (room_call own p) tx ≡ None
-no-room-call own p None e = absurd cc
-no-room-call own p (Some r) e = ap (λ (b : Bool). cond b None (Some (tx_call own p r))) e
-
-pub room-none : (own : OwnState) (name : List ℕ) → AreTidy (views own) → has_room_at own name ≡ true → option_and_then (put_call own) (port_with_name own name) ≡ None
-room-none own name tidy e = by (port_with_name own name) refl e
-  where
-    by : (found : Option OwnPort) → port_with_name own name ≡ found → option_map_or (λ (p : OwnPort). has_room own p.id.0) found false ≡ true → option_and_then (put_call own) found ≡ None
-    by None named is = refl
-    by (Some p) named is =
-        let has : option_map_or has_slot p.tx false ≡ true = sym (ap (λ (o : Option OwnPort). option_map_or has_slot (option_and_then (ring_on Tx) o) false) (by-id own name p tidy named)) ∙ is in
-        no-room-call own p p.tx has
 
 -- ---- the calls of syncs
 

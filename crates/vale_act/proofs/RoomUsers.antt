@@ -1,6 +1,5 @@
 -- The turns of one user, one after another.
 use Rattle.std.proofs.Common.{ℕ, ◌-◌, ◌<◌, ◌≤◌, ◌≡◌, Bool, true, false, cond, List, [], ◌∷◌, map, take, drop, Option, Some, sym, ap, subst, arith, take-append-drop}
-use Rattle.std.specs.Prelude.{◌||◌, not}
 use Rattle.std.specs.Option.{option_map_or}
 use Rattle.std.specs.List.{AllByRecursion as Each}
 use Rattle.std.proofs.lemmas.List.Sums.{sum_by-cons}
@@ -11,39 +10,18 @@ use Rattle.vale_entry.specs.Laws.{Rise}
 use Rattle.vale_entry.specs.OwnCalls.{own_after}
 use Rattle.vale_entry.specs.Legal.{Outcome, IsLegal, standing_of, step, kept_ask}
 use Rattle.vale_own.proofs.OwnKept.{legal-split}
-use Rattle.vale_replay.specs.Tasks.{Task, Arrive, OpenPort, PutFrame, SendFrames, TakeFrames, ChangeOwn, SaveFrames, WatchPort, ReadCounts, ShutPort, FinishPort, Depart, EndLine, lines_left}
-use Rattle.vale_replay.specs.Machine.{Machine, answered, has_room_at, is_peer_gone, is_reset, is_settling, resting, with_tasks}
+use Rattle.vale_replay.specs.Machine.{Machine, answered, is_settling, resting, with_tasks}
 use Rattle.vale_replay.specs.Replay.{TakesTurn, TakesTurns, entry_of}
-use Rattle.vale_act.specs.Completeness.{taken_by, call_of, taken_at, call_at, IsOpenedBy, SpendsAll, UsersSpend}
+use Rattle.vale_act.specs.Completeness.{taken_by, call_of, taken_at, call_at, IsOpenedBy, SpendsAll, UsersSpend, IsPlainTask}
+use Rattle.vale_act.proofs.DepartingTurns.{behind-all}
 use Rattle.vale_act.proofs.RoomViews.{View, AreBelow, below-later, seen, views, tidy-of}
-use Rattle.vale_act.proofs.RoomRests.{ArePlain, lines-left}
+use Rattle.vale_act.proofs.RoomRests.{ArePlain}
 use Rattle.vale_act.proofs.RoomSpends.{tidy-spends, turn-outcome}
 use Rattle.vale_act.proofs.RoomChains.{made-below}
 
-either : (b : Bool) (one other : List Task) → ArePlain one → ArePlain other → ArePlain (cond b one other)
-either true one other front back = front
-either false one other front back = back
-
-plain-with : (n : ℕ) (e : Entry) (u : Machine) (tasks : List Task) → ArePlain u.tasks → ArePlain tasks → ArePlain (with_tasks n e u tasks).tasks
-plain-with n e u [] old plain = old
-plain-with n e u (PutFrame name bytes ∷ rest) old plain =
-    either (is_reset e.ask || not (has_room_at u.own name)) (lines_left rest) (PutFrame name bytes ∷ rest) ((lines-left rest).plain plain.1) plain
-plain-with n e u (SendFrames name ∷ rest) old plain = either (is_reset e.ask || is_peer_gone e.reply) (lines_left rest) rest ((lines-left rest).plain plain.1) plain.1
-plain-with n e u (Arrive ∷ rest) old plain = plain.1
-plain-with n e u (OpenPort name tx rx extra ∷ rest) old plain = plain.1
-plain-with n e u (TakeFrames name ∷ rest) old plain = plain.1
-plain-with n e u (ChangeOwn act ∷ rest) old plain = plain.1
-plain-with n e u (SaveFrames name file ∷ rest) old plain = plain.1
-plain-with n e u (WatchPort monitor target sides ∷ rest) old plain = plain.1
-plain-with n e u (ReadCounts name ∷ rest) old plain = plain.1
-plain-with n e u (ShutPort name ∷ rest) old plain = plain.1
-plain-with n e u (FinishPort name ∷ rest) old plain = plain.1
-plain-with n e u (Depart ∷ rest) old plain = plain.1
-plain-with n e u (EndLine ∷ rest) old plain = plain.1
-
 pub plain-answered : (n : ℕ) (e : Entry) (own : OwnState) (u : Machine) (b : Bool) → ArePlain u.tasks → ArePlain (cond b u (with_tasks n e (record u { own = own }) u.tasks)).tasks
 plain-answered n e own u true plain = plain
-plain-answered n e own u false plain = plain-with n e (record u { own = own }) u.tasks plain plain
+plain-answered n e own u false plain = behind-all IsPlainTask n e (record u { own = own }) u.tasks plain plain
 
 abbrev BelowAt : ℕ → List Entry → ℕ → Machine → Machine → Entry → Type 0
 BelowAt pool past number user after e =

@@ -31,21 +31,7 @@ passed-by false x o e = refl
 -- in a block nobody comes
 deed-in-block : (draft : Draft) (user : List ℕ) (act : Act) → is_some draft.block ≡ true → cause_of draft (act_says user act) ≡ None → IsDeed act
 deed-in-block draft user acts.Enter block none = let clash : true ≡ false = sym block ∙ passed-by (is_some draft.block) _ _ none in absurd cc
-deed-in-block draft user (acts.Open name tx rx extra) block none = tt
-deed-in-block draft user (acts.Put name count to from len fill) block none = tt
-deed-in-block draft user (acts.Hex name frame) block none = tt
-deed-in-block draft user (acts.Play name file batch) block none = tt
-deed-in-block draft user (acts.Tx name) block none = tt
-deed-in-block draft user (acts.Rx name keep) block none = tt
-deed-in-block draft user (acts.Fwd from to count) block none = tt
-deed-in-block draft user (acts.Poke name side slot field value) block none = tt
-deed-in-block draft user (acts.Move name side head cur) block none = tt
-deed-in-block draft user (acts.Swap name side slot other other_side other_slot quiet) block none = tt
-deed-in-block draft user (acts.Extra name i j) block none = tt
-deed-in-block draft user (acts.Watch monitor target sides) block none = tt
-deed-in-block draft user (acts.Stat name) block none = tt
-deed-in-block draft user (acts.Save name file) block none = tt
-deed-in-block draft user (acts.Close name) block none = tt
+deed-in-block draft user _ block none = tt
 
 with-more : (o : Option Opened) (line : Line) → is_some o ≡ true → is_some (block_with o line) ≡ true
 with-more None line is = absurd cc
@@ -53,21 +39,7 @@ with-more (Some block) line is = refl
 
 still-in-block : (draft : Draft) (user : List ℕ) (act : Act) → IsDeed act → is_some draft.block ≡ true → is_some (after draft 0 (act_says user act)).block ≡ true
 still-in-block draft user acts.Enter deed block = absurd deed
-still-in-block draft user (acts.Open name tx rx extra) deed block = with-more draft.block _ block
-still-in-block draft user (acts.Put name count to from len fill) deed block = with-more draft.block _ block
-still-in-block draft user (acts.Hex name frame) deed block = with-more draft.block _ block
-still-in-block draft user (acts.Play name file batch) deed block = with-more draft.block _ block
-still-in-block draft user (acts.Tx name) deed block = with-more draft.block _ block
-still-in-block draft user (acts.Rx name keep) deed block = with-more draft.block _ block
-still-in-block draft user (acts.Fwd from to count) deed block = with-more draft.block _ block
-still-in-block draft user (acts.Poke name side slot field value) deed block = with-more draft.block _ block
-still-in-block draft user (acts.Move name side head cur) deed block = with-more draft.block _ block
-still-in-block draft user (acts.Swap name side slot other other_side other_slot quiet) deed block = with-more draft.block _ block
-still-in-block draft user (acts.Extra name i j) deed block = with-more draft.block _ block
-still-in-block draft user (acts.Watch monitor target sides) deed block = with-more draft.block _ block
-still-in-block draft user (acts.Stat name) deed block = with-more draft.block _ block
-still-in-block draft user (acts.Save name file) deed block = with-more draft.block _ block
-still-in-block draft user (acts.Close name) deed block = with-more draft.block _ block
+still-in-block draft user _ deed block = with-more draft.block _ block
 
 lines-deeds : (users : List (List ℕ)) (draft : Draft) (lines : List Line) → is_some draft.block ≡ true → MeetNoCause draft (lines_say users lines) → AllByRecursion IsDeedLine lines
 lines-deeds users draft [] block none = tt

@@ -4,6 +4,7 @@ use Rattle.std.specs.Prelude.{ℕ, ◌≡◌, ◌<◌, ◌≤◌, ◌+◌, List,
 use Rattle.std.specs.List.{AllByRecursion}
 use Rattle.std.specs.declared.alloc.Global.{Global}
 use mathlib.Core.List.{IsPrefix}
+use Rattle.nm_turn.specs.declared.pass.Pass.{Pass}
 use Rattle.nm_turn.specs.Numbered.{numbered, numbers}
 use Rattle.nm_turn.specs.Passes.{kept_view}
 use Rattle.nm_turn.specs.Shares.{IsWhole}
@@ -20,14 +21,14 @@ use Rattle.vale_player.specs.Deeds.{AreDoable, IsDoable}
 use Rattle.vale_entry.specs.declared.entry.Ask.{Ask}
 use Rattle.vale_entry.specs.declared.entry.Entry.{Entry}
 use Rattle.vale_entry.specs.declared.entry.Ask.TheVariants.{Enter}
-use Rattle.vale_book.specs.Recorded.{IsRefusal}
+use Rattle.vale_book.specs.Recorded.{IsRefusal, Recorded}
 use Rattle.nm_user.specs.Calls.{IsRefused}
 use Rattle.vale_fabric.specs.declared.kept.Fixed.{Fixed}
 use Rattle.vale_replay.specs.Machine.{Machine, Save, closing_tasks}
 use Rattle.vale_replay.specs.Tasks.{Captures, Task, tasks_of_lines}
 use Rattle.vale_replay.specs.Replay.{HasPlayed, ScriptUnit, times_among, units_of, user_count}
 use Rattle.vale_fabric.specs.declared.fabric.Fabric.{Fabric}
-use Rattle.vale_fabric.specs.Fabrics.{Knowing, record_in}
+use Rattle.vale_fabric.specs.Fabrics.{Knowing, IsPassIn, record_in}
 use Rattle.vale_player.specs.Players.{PlayerState, Does, HasEntered, IsStill, RunsLines, Stops}
 use Rattle.vale_act.specs.Units.{AreUsersFrom, HaveWhole, IsOn, HavePlayed, PlaysAt, PlaysUnit, StopsAtSeat, StopsUnit, all_know, knows_at, times_made}
 use Rattle.vale_act.specs.Plays.{IsStoppedBy}
@@ -94,6 +95,13 @@ AllAre P seats = (place : ℕ) (seat : Seat) → slice_get seats place ≡ Some 
 
 abbrev pub AllOn : Fabric → List Seat → Type 0
 AllOn fabric seats = AllAre (λ place. IsOn fabric) seats
+
+-- the main pass and the session of a seat's user, or of all users, are of this fabric
+abbrev pub IsOnFabric : Fabric → Pass Recorded Entry Fixed → Seat → Type 0
+IsOnFabric fabric main seat = IsPassIn fabric main × IsOn fabric seat
+
+abbrev pub AreOnFabric : Fabric → Pass Recorded Entry Fixed → List Seat → Type 0
+AreOnFabric fabric main seats = IsPassIn fabric main × AllOn fabric seats
 
 -- one that has come has this number, and none has left
 abbrev pub IsSeated : ℕ → Seat → Type 0

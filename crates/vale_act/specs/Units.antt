@@ -337,19 +337,19 @@ LeavingIsAt =
 abbrev pub HasMade : Seat → Knowing → Type 0
 HasMade seat v = (n : ℕ) → times_made n (knows_at seat) ≡ times_made n (v ∷ [])
 
-abbrev pub WorkIsOfBlock : Type 0
-WorkIsOfBlock =
+-- what a seat's work with the tasks of its lines is to a block
+abbrev pub IsOfBlock : (ℕ → ℕ → (Machine → List Task) → Knowing → Knowing → Knowing → Knowing → Seat → Seat → Type 0) → (ℕ → ℕ → (List ℕ → List (List ℕ)) → List Line → Knowing → Knowing → Seat → Seat → Type 0) → Type 0
+IsOfBlock InWork InBlock =
     (pool number : ℕ) (records : List ℕ → List (List ℕ)) (lines : List Line) (began knows main next : Knowing) (before after : Seat)
     → has_line lines number ≡ true → HasMade before began → HasMade after knows
-    → WorksAt pool number (lines_tasks records lines number) began knows main next before after
-    → PlaysBlockAt pool number records lines main next before after
+    → InWork pool number (lines_tasks records lines number) began knows main next before after
+    → InBlock pool number records lines main next before after
+
+abbrev pub WorkIsOfBlock : Type 0
+WorkIsOfBlock = IsOfBlock WorksAt PlaysBlockAt
 
 abbrev pub StopIsOfBlock : Type 0
-StopIsOfBlock =
-    (pool number : ℕ) (records : List ℕ → List (List ℕ)) (lines : List Line) (began knows main next : Knowing) (before after : Seat)
-    → has_line lines number ≡ true → HasMade before began → HasMade after knows
-    → StopsInWork pool number (lines_tasks records lines number) began knows main next before after
-    → ReplaysBlockAt pool number records lines main next before after
+StopIsOfBlock = IsOfBlock StopsInWork ReplaysBlockAt
 
 abbrev pub FullStopIsOfBlock : Type 0
 FullStopIsOfBlock =

@@ -2,12 +2,9 @@
 ghost use Rattle.std.specs.Prelude.{◌≡◌, OnOk, IfErr, length};
 ghost use Rattle.std.specs.List.{AllByRecursion};
 ghost use Rattle.vale_script.specs.declared.script.Unit.TheVariants as parts;
-ghost use Rattle.vale_replay.specs.Replay.{shares_of};
-ghost use Rattle.vale_fabric.specs.Fabrics.{IsPassIn, fixed_in, knowing};
-ghost use Rattle.vale_player.specs.Deeds.{AreDoable};
-ghost use Rattle.vale_player.specs.Inputs.{records_in};
+ghost use Rattle.vale_act.specs.Words.{AreDoable, fixed_in, knowing, records_in, shares_of};
 ghost use Rattle.vale_act.specs.Leaving.{CanStillLeave};
-ghost use Rattle.vale_act.specs.Seats.{AllOn, MeetAll, TellAll, HasRun, AreEach, AllAre, AreSeated, IsDeedLine, UnitAt, fault_at, HasNoFault, IsFirstFault};
+ghost use Rattle.vale_act.specs.Seats.{AreOnFabric, MeetAll, TellAll, HasRun, AreEach, AllAre, AreSeated, IsDeedLine, UnitAt, fault_at, HasNoFault, IsFirstFault};
 
 use crate::seat::Seat;
 use nm_io::Gate;
@@ -46,10 +43,8 @@ impl<'f> Seat<'f> {
 
 /// All users learn of what the main pass has seen.
 fn meet_all(fabric: &Fabric, main: &mut Pass, seats: &mut [Seat])
-    requires pass { IsPassIn fabric.now main.old }
-    requires on { AllOn fabric.now seats.old }
-    ensures pass { IsPassIn fabric.now main.new }
-    ensures on { AllOn fabric.now seats.new }
+    requires on { AreOnFabric fabric.now main.old seats.old }
+    ensures on { AreOnFabric fabric.now main.new seats.new }
     ensures meets { MeetAll (knowing main.old) (knowing main.new) seats.old seats.new }
 {
     for place in 0..seats.len() {
@@ -59,10 +54,8 @@ fn meet_all(fabric: &Fabric, main: &mut Pass, seats: &mut [Seat])
 
 /// The main pass learns of what all users have seen.
 fn tell_all(fabric: &Fabric, main: &mut Pass, seats: &mut [Seat])
-    requires pass { IsPassIn fabric.now main.old }
-    requires on { AllOn fabric.now seats.old }
-    ensures pass { IsPassIn fabric.now main.new }
-    ensures on { AllOn fabric.now seats.new }
+    requires on { AreOnFabric fabric.now main.old seats.old }
+    ensures on { AreOnFabric fabric.now main.new seats.new }
     ensures tells { TellAll (knowing main.old) (knowing main.new) seats.old seats.new }
 {
     for place in 0..seats.len() {
@@ -124,13 +117,11 @@ pub(crate) fn run_block<'f, R: Threads + Wait + Sync, G: Gate>(
     inputs: &Inputs,
     gate: &G,
 ) -> Result<(), StepFault>
-    requires pass { IsPassIn fabric.now main.old }
-    requires on { AllOn fabric.now seats.old }
+    requires on { AreOnFabric fabric.now main.old seats.old }
     requires seated { AreSeated seats.old }
     requires doable { AreDoable lines.now }
     requires deeds { AllByRecursion IsDeedLine lines.now }
-    ensures pass { IsPassIn fabric.now main.new }
-    ensures on { AllOn fabric.now seats.new }
+    ensures on { AreOnFabric fabric.now main.new seats.new }
     ensures runs { UnitAt (fixed_in fabric.now)
         (shares_of (records_in inputs.now) (length seats.old) (parts.Block lines.now))
         (knowing main.old) (knowing main.new) seats.old seats.new result }

@@ -1,11 +1,8 @@
 //! At the end all users leave.
 ghost use Rattle.std.specs.Prelude.{ℕ, List};
-ghost use Rattle.vale_entry.specs.declared.entry.Entry.{Entry};
-ghost use Rattle.vale_fabric.specs.Fabrics.{IsPassIn, fixed_in, knowing};
 ghost use Rattle.vale_act.specs.Leaving.{CanStillLeave, SeatStillLeaves};
-ghost use Rattle.vale_player.specs.Kept.{AreWhole, KeepsWhole};
-ghost use Rattle.vale_act.specs.Units.{IsOn};
-ghost use Rattle.vale_act.specs.Seats.{AllOn, AreSeated, Closes, ClosesAll};
+ghost use Rattle.vale_act.specs.Seats.{AreOnFabric, AreSeated, Closes, ClosesAll, IsOnFabric};
+ghost use Rattle.vale_act.specs.Words.{AreWhole, Entry, IsPassIn, KeepsWhole, fixed_in, knowing};
 
 use crate::seat::Seat;
 use std::mem;
@@ -25,8 +22,7 @@ fn keep_ports(kept: &mut Vec<KeptPort>, ports: Vec<KeptPort>)
 impl<'f> Seat<'f> {
     /// The user closes its ports and leaves, if it is there.
     fn close<R: Wait>(&mut self, rt: &R, fabric: &Fabric, main: &mut Pass, kept: &mut Vec<KeptPort>)
-        requires pass { IsPassIn fabric.now main.old }
-        requires on { IsOn fabric.now self.old }
+        requires on { IsOnFabric fabric.now main.old self.old }
         ensures pass { IsPassIn fabric.now main.new }
         ensures closes { Closes (fixed_in fabric.now).pool (knowing main.old) (knowing main.new) self.old self.new }
         ensures leaves { SeatStillLeaves (knowing main.old) (knowing main.new) self.old self.new }
@@ -56,8 +52,7 @@ pub(crate) fn close_all<R: Wait>(
     seats: &mut [Seat],
     kept: &mut Vec<KeptPort>,
 )
-    requires pass { IsPassIn fabric.now main.old }
-    requires on { AllOn fabric.now seats.old }
+    requires on { AreOnFabric fabric.now main.old seats.old }
     requires seated { AreSeated seats.old }
     ensures pass { IsPassIn fabric.now main.new }
     ensures closes { ClosesAll (fixed_in fabric.now).pool (knowing main.old) (knowing main.new)

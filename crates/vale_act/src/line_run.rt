@@ -1,15 +1,11 @@
 //! A line outside the blocks, at the seat of its user.
 ghost use Rattle.std.specs.Prelude.{◌≡◌, ◌≤◌, ℕ, true, false, List, length, IfOk, IfErr};
 ghost use Rattle.vale_script.specs.declared.script.Act.TheVariants as acts;
-ghost use Rattle.vale_fabric.specs.Fabrics.{IsPassIn, fixed_in, knowing};
-ghost use Rattle.vale_replay.specs.Replay.{shares_of};
 ghost use Rattle.vale_script.specs.declared.script.Unit.TheVariants as parts;
 ghost use Rattle.vale_act.specs.declared.seat.Seat.TheVariants.{Away};
-ghost use Rattle.vale_player.specs.Deeds.{IsDoable};
-ghost use Rattle.vale_player.specs.Inputs.{records_in};
+ghost use Rattle.vale_act.specs.Words.{IsDoable, IsPassIn, fixed_in, knowing, records_in, shares_of};
 ghost use Rattle.vale_act.specs.Leaving.{CanStillLeave, SeatStillLeaves};
-ghost use Rattle.vale_act.specs.Units.{IsOn};
-ghost use Rattle.vale_act.specs.Seats.{Comes, ComesNot, HasActed, LineAt, UnitAt, line_tasks, AllOn, AreSeated, IsDeed, IsSeated};
+ghost use Rattle.vale_act.specs.Seats.{Comes, ComesNot, HasActed, LineAt, UnitAt, line_tasks, AreOnFabric, AreSeated, IsDeed, IsOnFabric, IsSeated};
 
 use crate::seat::Seat;
 use nm_io::Gate;
@@ -70,8 +66,7 @@ impl<'f> Seat<'f> {
     ) -> Result<(), StepFault>
         requires pass { IsPassIn fabric.now main.old }
         requires away { self.old ≡ Away }
-        ensures pass { IsPassIn fabric.now main.new }
-        ensures on { IsOn fabric.now self.new }
+        ensures on { IsOnFabric fabric.now main.new self.new }
         ensures line { (records : List ℕ → List (List ℕ)) → LineAt (fixed_in fabric.now) number
             (line_tasks records acts.Enter) (knowing main.old) (knowing main.new)
             self.old self.new result }
@@ -95,15 +90,15 @@ impl<'f> Seat<'f> {
     fn act<R: Wait, G: Gate>(
         &mut self,
         rt: &R,
-        act: &Act,
+        line: &Line,
         inputs: &Inputs,
         gate: &G,
     ) -> Result<(), StepFault>
-        requires { IsDoable act.now }
-        ensures { HasActed (records_in inputs.now) act.now result self.old self.new }
+        requires { IsDoable line.now.act }
+        ensures { HasActed (records_in inputs.now) line.now.act result self.old self.new }
     {
         if let Seat::There { player, fault: _ } = self {
-            return player.act(rt, act, inputs, gate);
+            return player.act(rt, &line.act, inputs, gate);
         }
         Ok(())
     }
@@ -120,12 +115,10 @@ impl<'f> Seat<'f> {
         inputs: &Inputs,
         gate: &G,
     ) -> Result<(), StepFault>
-        requires pass { IsPassIn fabric.now main.old }
-        requires on { IsOn fabric.now self.old }
+        requires on { IsOnFabric fabric.now main.old self.old }
         requires seated { IsSeated line.now.user self.old }
         requires doable { IsDoable line.now.act }
-        ensures pass { IsPassIn fabric.now main.new }
-        ensures on { IsOn fabric.now self.new }
+        ensures on { IsOnFabric fabric.now main.new self.new }
         ensures line { LineAt (fixed_in fabric.now) line.now.user
             (line_tasks (records_in inputs.now) line.now.act)
             (knowing main.old) (knowing main.new) self.old self.new result }
@@ -135,7 +128,7 @@ impl<'f> Seat<'f> {
             return self.enter(alloc, rt, fabric, main, line.user as u64, names);
         }
         self.meet(fabric, main);
-        let done = self.act(rt, &line.act, inputs, gate);
+        let done = self.act(rt, line, inputs, gate);
         self.tell(fabric, main);
         done
     }
@@ -153,14 +146,12 @@ pub(crate) fn run_single<'f, R: Wait, G: Gate>(
     inputs: &Inputs,
     gate: &G,
 ) -> Result<(), StepFault>
-    requires pass { IsPassIn fabric.now main.old }
-    requires on { AllOn fabric.now seats.old }
+    requires on { AreOnFabric fabric.now main.old seats.old }
     requires seated { AreSeated seats.old }
     requires least { 1 ≤ line.now.user }
     requires most { line.now.user ≤ length seats.old }
     requires doable { IsDoable line.now.act }
-    ensures pass { IsPassIn fabric.now main.new }
-    ensures on { AllOn fabric.now seats.new }
+    ensures on { AreOnFabric fabric.now main.new seats.new }
     ensures runs { UnitAt (fixed_in fabric.now)
         (shares_of (records_in inputs.now) (length seats.old) (parts.Single line.now))
         (knowing main.old) (knowing main.new) seats.old seats.new result }

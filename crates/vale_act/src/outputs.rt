@@ -2,12 +2,8 @@
 ghost use Rattle.std.specs.Prelude.{ℕ, List, ◌≡◌, ◌==◌, ◌++◌, [], ◌∷◌, find, map, flat_map, OnOk, IfOk};
 ghost use Rattle.std.specs.List.{AllByRecursion};
 ghost use Rattle.std.specs.Option.{option_copied};
-ghost use Rattle.vale_captures.specs.Outputs.{IsShortRecord, IsWritable};
-ghost use Rattle.vale_entry.specs.declared.entry.Entry.{Entry};
-ghost use Rattle.vale_replay.specs.Machine.{Machine};
-ghost use Rattle.vale_replay.specs.Replay.{act_of};
-ghost use Rattle.vale_replay.specs.Saved.{acts_of_unit, saved_file, saves_of};
-ghost use Rattle.vale_player.specs.Kept.{KeptFrames, AreWhole};
+ghost use Rattle.vale_act.specs.Words.{AreWhole, Entry, IsShortRecord, IsWritable, KeptFrames};
+ghost use Rattle.vale_act.specs.Words.{Machine, act_of, acts_of_unit, saved_file, saves_of};
 ghost use Rattle.vale_act.specs.Outputs.{output_of, outputs_of};
 ghost use Rattle.vale_act.specs.SavedActs.{note_of, OutputsAre, name_of_save, names_of_acts, names_saved};
 

@@ -5,7 +5,7 @@ ghost use Rattle.std.specs.Vec.{vec_capacity};
 ghost use Rattle.vale_act.specs.Leaving.{AllHaveLeft, CanAllLeave, CanStillLeave};
 ghost use Rattle.vale_act.specs.Outputs.{outputs_of};
 ghost use Rattle.vale_act.specs.Plays.{HasWhole, PlaysScript, IsStoppedBy};
-ghost use Rattle.vale_act.specs.Seats.{AllOn, AreSeated, IsRunnable, UnitAt, AllAre, AreSaves, IsEmpty, ScriptDone, files_in, saves_at, AreBetween, AreNew, AreStopped, IsScriptStopped, ScriptPlayed};
+ghost use Rattle.vale_act.specs.Seats.{AreOnFabric, AreSeated, IsRunnable, UnitAt, AllAre, AreSaves, IsEmpty, ScriptDone, files_in, saves_at, AreBetween, AreNew, AreStopped, IsScriptStopped, ScriptPlayed};
 ghost use Rattle.vale_act.specs.Units.{knows_at};
 ghost use Rattle.vale_act.specs.Words.{AreWhole, Entry, IsPassIn, IsSound, IsWhole, IsWritable, Machine};
 ghost use Rattle.vale_act.specs.Words.{captures_of, fixed_in, frames_of, knowing, name_of, names_of};
@@ -39,12 +39,10 @@ fn run_unit<'f, R: Threads + Wait + Sync, G: Gate>(
     inputs: &Inputs,
     gate: &G,
 ) -> Result<(), StepFault>
-    requires pass { IsPassIn fabric.now main.old }
-    requires on { AllOn fabric.now seats.old }
+    requires on { AreOnFabric fabric.now main.old seats.old }
     requires seated { AreSeated seats.old }
     requires runnable { IsRunnable (length seats.old) unit.now }
-    ensures pass { IsPassIn fabric.now main.new }
-    ensures on { AllOn fabric.now seats.new }
+    ensures on { AreOnFabric fabric.now main.new seats.new }
     ensures runs { UnitAt (fixed_in fabric.now)
         (shares_of (records_in inputs.now) (length seats.old) unit.now)
         (knowing main.old) (knowing main.new) seats.old seats.new result }
@@ -73,15 +71,13 @@ fn run_units<'f, R: Threads + Wait + Sync, G: Gate>(
     inputs: &Inputs,
     gate: &G,
 ) -> Result<(), StepFault>
-    requires pass { IsPassIn fabric.now main.old }
-    requires on { AllOn fabric.now seats.old }
+    requires on { AreOnFabric fabric.now main.old seats.old }
     requires between { AreBetween script.now (captures_of inputs.now) 0 (knowing main.old)
         seats.old }
     requires runnable { AllByRecursion (IsRunnable (user_count script.now)) script.now.units }
     requires files { names_of inputs.now ≡ script.now.files }
     requires pool { script.now.pool ≡ (fixed_in fabric.now).pool }
-    ensures pass { IsPassIn fabric.now main.new }
-    ensures on { AllOn fabric.now seats.new }
+    ensures on { AreOnFabric fabric.now main.new seats.new }
     ensures plays { OnOk result (AreBetween script.now (captures_of inputs.now)
         (length script.now.units) (knowing main.new) seats.new) }
     ensures stops { IfErr result (AreStopped (fixed_in fabric.now) script.now
@@ -112,8 +108,7 @@ fn run_script<'f, R: Threads + Wait + Sync, G: Gate>(
     inputs: &Inputs,
     gate: &G,
 ) -> Result<(), StepFault>
-    requires pass { IsPassIn fabric.now main.old }
-    requires on { AllOn fabric.now seats.old }
+    requires on { AreOnFabric fabric.now main.old seats.old }
     requires between { AreBetween script.now (captures_of inputs.now) 0 (knowing main.old)
         seats.old }
     requires runnable { AllByRecursion (IsRunnable (user_count script.now)) script.now.units }

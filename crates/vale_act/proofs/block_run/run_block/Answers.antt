@@ -5,8 +5,10 @@ use Rattle.vale_act.proofs.BlockRuns.{block-begins, block-length, block-plays, b
 use Rattle.vale_act.proofs.DepartingScript.{block-leaving}
 use Rattle.vale_act.proofs.block_run.run_block.Goals as goal
 
-pub tell_all-requires-clause-on : goal.tell_all-requires-clause-on
-tell_all-requires-clause-on g c = ran-on (records_in c.args.inputs.now) c.args.lines.now c.args.fabric.now c.meet_all.new.seats c.run_all.new.seats c.meet_all.ensures.on c.run_all.ensures
+pub tell_all-requires : goal.tell_all-requires
+tell_all-requires g c =
+    let met = c.meet_all.ensures.on in
+    record { on = (met.0, ran-on (records_in c.args.inputs.now) c.args.lines.now c.args.fabric.now c.meet_all.new.seats c.run_all.new.seats met.1 c.run_all.ensures) }
 
 pub returns-clause-runs : goal.returns-clause-runs
 returns-clause-runs g c =
@@ -23,7 +25,7 @@ returns-clause-runs g c =
     let met = c.meet_all.ensures.meets in
     let ran = c.run_all.ensures in
     let told = c.tell_all.ensures.tells in
-    let on = c.requires.on in
+    let on = c.requires.on.1 in
     let seated = c.requires.seated in
     let deeds = c.requires.deeds in
     record {

@@ -28,7 +28,7 @@ returns-clause-closes g c =
     closing-all c.args.fabric.now (knowing c.args.main.now) (knowing s.main) c.args.seats.now s.seats s.place (omega (arith, past, low)) s.invariant.1
 
 pub loop-place-init : goal.loop-place-init
-loop-place-init g c = (c.requires.pass, closing-none c.args.fabric.now (knowing c.args.main.now) c.args.seats.now, λ can. can, λ whole. whole)
+loop-place-init g c = (c.requires.on.0, closing-none c.args.fabric.now (knowing c.args.main.now) c.args.seats.now, λ can. can, λ whole. whole)
 
 pub returns-clause-leaves : goal.returns-clause-leaves
 returns-clause-leaves g c = c.loop-place.invariant.2

@@ -27,9 +27,9 @@ loop-unit-preserved g c =
     let w = knowing c.run_unit.new.main in
     let at = next-unit c.units-all.result.now _ c.loop-unit.unit-index unit c.loop-unit-test.true c.unit-item.is c.units-all.ensures in
     let ran = subst (λ (r : Result (Unit {0}) StepFault). UnitAt (fixed_in c.args.fabric.now) (shares_of (records_in c.args.inputs.now) (length c.loop-unit.seats) unit) v w c.loop-unit.seats c.run_unit.new.seats r) c.in-Ok.is c.run_unit.ensures.runs in (
-      c.run_unit.ensures.pass,
+      c.run_unit.ensures.on.0,
       (
-        c.run_unit.ensures.on,
+        c.run_unit.ensures.on.1,
         between-next c.args.fabric.now c.args.script.now c.args.inputs.now c.requires.files c.requires.pool c.loop-unit.unit-index unit v w c.loop-unit.seats c.run_unit.new.seats at c.loop-unit.invariant.1.1 ran,
       ),
       λ can. c.run_unit.ensures.leaves (c.loop-unit.invariant.2 can),
@@ -45,7 +45,7 @@ returns-in-Err-clause-stops g c =
     between-stops c.args.fabric.now c.args.script.now c.args.inputs.now c.requires.files c.requires.pool c.loop-unit.unit-index unit v w c.loop-unit.seats c.run_unit.new.seats at c.loop-unit.invariant.1.1 c.in-Err.fault ran
 
 pub loop-unit-init : goal.loop-unit-init
-loop-unit-init g c = (c.requires.pass, (c.requires.on, c.requires.between), λ can. can)
+loop-unit-init g c = (c.requires.on.0, (c.requires.on.1, c.requires.between), λ can. can)
 
 pub returns-in-Err-clause-leaves : goal.returns-in-Err-clause-leaves
 returns-in-Err-clause-leaves g c can = c.run_unit.ensures.leaves (c.loop-unit.invariant.2 can)

@@ -17,7 +17,7 @@ returns-in-Away-clause-closes g c =
 pub returns-in-There-clause-closes : goal.returns-in-There-clause-closes
 returns-in-There-clause-closes g c =
     let is : c.meet.new.self ≡ There c.in-There.player c.in-There.fault = sym c.replace.ensures.value ∙ c.in-There.is in
-    let on = subst (IsOn c.args.fabric.now) is c.meet.ensures.on in
+    let on = subst (IsOn c.args.fabric.now) is c.meet.ensures.on.1 in
     closes-there (fixed_in c.args.fabric.now).pool (knowing c.args.main.now) (knowing c.meet.new.main) (knowing c.join.new.pass) (knowing c.leave_keeping-pass.result.0) c.args.self.now c.meet.new.self c.replace-in-There.new.dest
     c.in-There.player c.in-There.fault c.leave_keeping-pass.result.1 c.meet.ensures.meets is c.replace-in-There.ensures.after (ap (λ (f : Fixed). f.pool) on.1)
     c.leave_keeping-pass.ensures.left c.leave_keeping-pass.ensures.saves c.join.ensures.joined c.join.ensures.known c.join.ensures.whole
@@ -46,7 +46,7 @@ returns-in-Away-clause-kept g c =
 pub returns-in-There-clause-kept : goal.returns-in-There-clause-kept
 returns-in-There-clause-kept g c =
     let is : c.meet.new.self ≡ There c.in-There.player c.in-There.fault = sym c.replace.ensures.value ∙ c.in-There.is in
-    let on = subst (IsOn c.args.fabric.now) is c.meet.ensures.on in
+    let on = subst (IsOn c.args.fabric.now) is c.meet.ensures.on.1 in
     let pool = (fixed_in c.args.fabric.now).pool in
     let w = knowing c.join.new.pass in
     keeps-left pool c.in-There.player.session.fixed.pool (knowing c.args.main.now) (knowing c.meet.new.main) w (knowing c.leave_keeping-pass.result.0) c.args.self.now c.meet.new.self

@@ -17,7 +17,7 @@ returns-then-comes_by-clause-line g c =
 pub returns-clause-line : goal.returns-clause-line
 returns-clause-line g c =
     line-acts c.args.fabric.now c.args.line.now.user (records_in c.args.inputs.now) c.args.line.now.act (knowing c.args.main.now) (knowing c.meet.new.main) (knowing c.tell.new.main)
-    c.args.self.now c.meet.new.self c.act-done.new.self c.tell.new.self c.act-done.result c.requires.seated c.requires.on (c.comes_by.ensures.no c.if-comes_by.false)
+    c.args.self.now c.meet.new.self c.act-done.new.self c.tell.new.self c.act-done.result c.requires.seated c.requires.on.1 (c.comes_by.ensures.no c.if-comes_by.false)
     c.meet.ensures.meets c.act-done.ensures c.tell.ensures.tells
 
 pub returns-then-comes_by-clause-leaves : goal.returns-then-comes_by-clause-leaves
