@@ -19,6 +19,6 @@ mod tests;
 pub use fabric::Fabric;
 pub use filling::{Frames, fill};
 pub use kept::{Fixed, Pass, Shared};
-pub use reading::Read;
+pub use reading::PortRead;
 pub use settling::Shares;
 pub use vale_book::{Book, Granted, LeasesOut, Offers, Opened, Put, PutFault, Synced};

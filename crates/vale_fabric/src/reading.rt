@@ -13,7 +13,7 @@ use std::sync::Wait;
 use vale_book::Synced;
 
 /// What a port gave, or why it could not be read, with the buffers that were to go back.
-pub type Read = Result<Synced, (StepFault, Vec<Buf>)>;
+pub type PortRead = Result<Synced, (StepFault, Vec<Buf>)>;
 
 impl Fabric {
     /// Buffers come back to the receive ring of a switch port or a monitor, and those of its frames
@@ -26,7 +26,7 @@ impl Fabric {
         port: PortId,
         is_pipe: bool,
         back: Vec<Buf>,
-    ) -> Read
+    ) -> PortRead
         requires pass { IsPassIn self.now pass.old }
         requires may { MayIn self.now pass.old (read_ask is_pipe port (indices_of back.items)) }
         requires region { AreOf (fixed_in self.now).region back.items }
@@ -46,7 +46,7 @@ impl Fabric {
     }
 
     /// `read` of a switch port or a monitor, which is recorded as a sync.
-    pub fn sync<R: Wait>(&self, rt: &R, pass: &mut Pass, port: PortId, back: Vec<Buf>) -> Read
+    pub fn sync<R: Wait>(&self, rt: &R, pass: &mut Pass, port: PortId, back: Vec<Buf>) -> PortRead
         requires { MayRead self.now pass.old (asks.Sync port (indices_of back.items)) back.items }
         ensures { Reads self.now pass.old pass.new (asks.Sync port (indices_of back.items)) port
             back result }
@@ -55,7 +55,13 @@ impl Fabric {
     }
 
     /// `read` of a pipe end, which is recorded as a get.
-    pub fn pipe_get<R: Wait>(&self, rt: &R, pass: &mut Pass, port: PortId, back: Vec<Buf>) -> Read
+    pub fn pipe_get<R: Wait>(
+        &self,
+        rt: &R,
+        pass: &mut Pass,
+        port: PortId,
+        back: Vec<Buf>,
+    ) -> PortRead
         requires { MayRead self.now pass.old (asks.Get port (indices_of back.items)) back.items }
         ensures { Reads self.now pass.old pass.new (asks.Get port (indices_of back.items)) port
             back result }

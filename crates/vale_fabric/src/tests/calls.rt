@@ -10,7 +10,7 @@ ghost use Rattle.vale_fabric.specs.Fabrics.{AnswersIn, MakesNone, MayIn};
 ghost use Rattle.vale_fabric.specs.Leases.{IsFilledBy, StandOf};
 ghost use Rattle.vale_fabric.specs.Ports.{Hands};
 
-use crate::{Fabric, Frames, Granted, LeasesOut, Offers, Opened, Pass, Read, Synced, fill};
+use crate::{Fabric, Frames, Granted, LeasesOut, Offers, Opened, Pass, PortRead, Synced, fill};
 use nm_region::Buf;
 use nm_types::{Batch, Chain, Name, PortId, SessionId};
 use std::alloc::Global;
@@ -154,7 +154,7 @@ pub(super) fn grant<R: Abort + Wait>(
 }
 
 /// What was read: so many frames, of which nobody wants a copy.
-fn taken(rt: &impl Abort, read: Read, count: usize) -> Synced
+fn taken(rt: &impl Abort, read: PortRead, count: usize) -> Synced
     ensures is { read ≡ Ok result }
     ensures count { length result.got.items ≡ count }
     ensures none { result.offers.wants ≡ [] }

@@ -1,4 +1,4 @@
-use Rattle.std.proofs.Common.{ℕ, true, ◌≡◌, List, [], ◌∷◌, take, refl, sym, ap, subst, inl}
+use Rattle.std.proofs.Common.{true, ◌≡◌, List, [], ◌∷◌, take, refl, sym, ap, subst, inl}
 use Rattle.std.specs.List.{list_all}
 use Rattle.nm_types.specs.Names.{is_name, is_switch_port_name, is_pipe_name, is_monitor_name, switch_of, peer_name}
 use Rattle.nm_types.specs.Frames.{Frame}
