@@ -1,6 +1,6 @@
-ghost use Rattle.std.specs.Prelude.{◌≡◌, ◌∷◌, [], IfOk};
+ghost use Rattle.std.specs.Prelude.{◌≡◌, ◌∷◌, [], IfOk, length};
 
-use crate::{Cell, Field};
+use crate::{Cell, Field, Reach};
 use nm_types::NoMemory;
 use std::alloc::Global;
 use std::test::Fail;
@@ -21,59 +21,45 @@ fn four(alloc: Global) -> Result<Vec<u32>, NoMemory>
     Ok(values)
 }
 
-#[test]
-fn a_run_goes_round(rt: HostRuntime) -> Result<(), Fail> {
-    let values = four(rt.alloc())?;
-    let Ok((field, mut all)) = Field::new(values) else {
-        unreachable!();
-    };
-    assert!(rt; is_sendable(&all));
-    assert!(rt; is_sendable(&field));
-    let first = all.split_front(3);
-    assert_eq!(rt; first.start(), 0);
-    assert_eq!(rt; first.len(), 3);
-    assert_eq!(rt; all.start(), 3);
-    assert_eq!(rt; all.len(), 1);
-    all.join(first);
-    assert_eq!(rt; all.start(), 3);
-    assert_eq!(rt; *all.get(0), 13);
-    assert_eq!(rt; *all.get(1), 10);
-    let values = field.close(all);
-    assert!(rt; values[..] == [10, 11, 12, 13]);
-    Ok(())
+/// Whether a run begins at a cell and has these values, in its order.
+fn is_run(run: &Reach<u32>, start: u32, values: [u32; 4]) -> bool
+    requires { length run.now.values ≡ 4 }
+{
+    let mut same = run.start() == start;
+    for i in 0..4 {
+        same &= *run.get(i) == values[i as usize];
+    }
+    same
 }
 
 #[test]
-fn a_write_is_found_where_it_was(rt: HostRuntime) -> Result<(), Fail> {
+fn a_run_goes_round_and_is_written(rt: HostRuntime) -> Result<(), Fail> {
     let values = four(rt.alloc())?;
     let Ok((field, mut all)) = Field::new(values) else {
         unreachable!();
     };
+    assert!(rt; is_sendable(&all) && is_sendable(&field));
+    let first = all.split_front(3);
+    assert!(rt; first.start() == 0 && first.len() == 3);
+    assert!(rt; all.start() == 3 && all.len() == 1);
+    all.join(first);
+    assert!(rt; is_run(&all, 3, [13, 10, 11, 12]));
+    let last = all.split_front(1);
+    all.join(last);
     let mut first = all.split_front(1);
     *first.get_mut(0) = 20;
     all.join(first);
     *all.get_mut(3) += 1;
-    assert_eq!(rt; *all.get(0), 11);
-    let values = field.close(all);
-    assert!(rt; values[..] == [21, 11, 12, 13]);
-    Ok(())
-}
-
-#[test]
-fn a_run_is_written_in_two_parts(rt: HostRuntime) -> Result<(), Fail> {
-    let values = four(rt.alloc())?;
-    let Ok((field, mut all)) = Field::new(values) else {
-        unreachable!();
-    };
-    let first = all.split_front(3);
-    all.join(first);
+    assert!(rt; is_run(&all, 1, [11, 12, 13, 21]));
+    let middle = all.split_front(2);
+    all.join(middle);
     for value in all.front_mut() {
         *value = 23;
     }
     for value in all.back_mut() {
         *value = 22;
     }
-    assert!(rt; *all.get(0) == 23 && *all.get(1) == 22);
+    assert!(rt; is_run(&all, 3, [23, 22, 22, 22]));
     all.split_front(0).end();
     let values = field.close(all);
     assert!(rt; values[..] == [22, 22, 22, 23]);
