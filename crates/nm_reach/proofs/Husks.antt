@@ -20,7 +20,8 @@ use Rattle.std.specs.contracts.alloc.Global as heap
 use Rattle.std.specs.contracts.impls.GlobalAllocator.TheImpl.{ghosts}
 use Rattle.std_alloc.specs.Vec.Ownership.{owns_if, has_block}
 use Rattle.std_alloc.specs.contracts.vec.Vec as V
-use Rattle.nm_reach.specs.Cells.{Extent, extent_of, values_at}
+use Rattle.nm_reach.specs.Cells.{values_at}
+use Rattle.nm_reach.specs.Fields.{FieldState, husk_of}
 use Rattle.nm_reach.specs.contracts.parts.Husk as Husk
 use Rattle.nm_reach.proofs.Lodging.{plainly}
 use Rattle.nm_reach.proofs.Walks.{one, one_made}
@@ -30,7 +31,7 @@ Whole R = V.the_row R heap.the_row ghosts
 
 module _ (R : RattleType) {M : Type 1} {𝓤 : Ura M} (𝓛 : Logic 𝓤) (v : (Whole R).Denot) (u : Val) where
   pub carve : 0 < v.len → ent 𝓤 (sem 𝓛 ((Whole R).own_val v (u ∷ [])))
-      (sep 𝓤 (sem 𝓛 (values_at R v.ptr v.items)) (sep 𝓤 (sem 𝓛 (flt (v.len * type_size R) (2 ^ 63))) (sem 𝓛 (Husk.the_own R (extent_of v) (one u ∷ [])))))
+      (sep 𝓤 (sem 𝓛 (values_at R v.ptr v.items)) (sep 𝓤 (sem 𝓛 (flt (v.len * type_size R) (2 ^ 63))) (sem 𝓛 (Husk.the_own R (husk_of v) (one u ∷ [])))))
   carve some =
       let live : has_block v.cap ≡ true = not_from_false _ (ne_eqb v.cap 0 (λ e. omega (arith, v.ok.1))) in
       let t = ghosts.dealloc_token v.alloc in
@@ -43,8 +44,8 @@ module _ (R : RattleType) {M : Type 1} {𝓤 : Ura M} (𝓛 : Logic 𝓤) (v : (
       rewrite ! 0 (λ n. ‵ (lies_at (Array R n) full_share v.ptr v.items)) v.ok.0 refl $ frame ! $
       -- [the spare room and the right to free; the fields]
       flt_i ! (v.len * type_size R) (2 ^ 63) (times_below v.len v.cap (type_size R) (2 ^ 63) v.ok.1 fit) $ frame ! $
-      show ! (λ i. sem 𝓛 (fsep (feq Extent (extent_of i.vec) (extent_of v)) (fall (List R.Denot) (λ ys. fwand (Given ys) ((plainly (Whole R ∷ [])).own_val (with_items i.vec ys, tt) (one u ∷ [])))))) (record { vec = v }) $
-      feq_i ! Extent (extent_of v) (extent_of v) refl $ frame ! $ each ! (λ ys. wand 𝓤 (sem 𝓛 (Given ys)) (sem 𝓛 (Back ys))) (λ ys. assume ! (‵ (Given ys)) $ fsplit ! $ feq_l ! (λ long.
+      show ! (λ i. sem 𝓛 (fsep (feq FieldState (husk_of i.vec) (husk_of v)) (fall (List R.Denot) (λ ys. fwand (Given ys) ((plainly (Whole R ∷ [])).own_val (with_items i.vec ys, tt) (one u ∷ [])))))) (record { vec = v }) $
+      feq_i ! FieldState (husk_of v) (husk_of v) refl $ frame ! $ each ! (λ ys. wand 𝓤 (sem 𝓛 (Given ys)) (sem 𝓛 (Back ys))) (λ ys. assume ! (‵ (Given ys)) $ fsplit ! $ feq_l ! (λ long.
       rewrite ! 0 (λ n. ‵ (lies_at (Array R n) full_share v.ptr ys)) long refl $ fjoin ! $
       rewrite ! 0 (λ xs. ‵ (Blk v.ptr xs)) (sym (with_items_is v ys long)) refl $
       let zs = (with_items v ys).items in

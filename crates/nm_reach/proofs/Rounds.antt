@@ -26,17 +26,17 @@ past_front size start m n k room len (inl e) w r h l same = omega (arith, e.0, e
 past_front size start m n k room len (inr e) w r h l same = omega (arith, e.0, e.1, w, r, h, l, same)
 
 -- a place that is not before the end of the field is not in front
-pub after_front : {T : Type 0} (s : Sides T) → IsRun s → (k room : ℕ) → room ≡ s.front.size - s.front.at → k ≤ length (values_of s) → room ≤ k
+pub after_front : {T : Type 0} (s : Sides T) → IsRun s → (k room : ℕ) → room ≡ s.front.size - s.front.start → k ≤ length (values_of s) → room ≤ k
     → (len : ℕ) → len ≡ length s.front.values → k ≡ length s.front.values + (k - len)
 after_front s r k room e h l len same =
     let m = length s.front.values in
     let n = length s.back.values in
     let h' : k ≤ m + n = omega (arith, h, length-append s.front.values s.back.values) in
-    past_front s.front.size s.front.at m n k room len r.one r.within e h' l same
+    past_front s.front.size s.front.start m n k room len r.one r.within e h' l same
 
 -- a run of these sides, with other values in its cells
 abbrev pub run_with : {T : Type 0} → Sides T → ℕ → ℕ → List T → Run T
-run_with s size start values = record { field = s.front.base; size = size; start = start; values = values }
+run_with s size start values = record { field = s.front.field; size = size; start = start; values = values }
 
 -- the values of a run up to the end of the field, and those behind it
 pub record Halves {T : Type 0} (s : Sides T) (k : ℕ) : Type 0 where

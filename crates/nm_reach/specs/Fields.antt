@@ -2,7 +2,7 @@
 use Rattle.std.specs.Prelude.{ℕ, ◌≡◌, ◌+◌, ◌-◌, ◌≤◌, nat_lt, if◌then◌else◌, List, ◌++◌, length, take, drop, refl}
 use Rattle.std.specs.Coded.{Coded, code_by, coded×, coded_list, coded_ℕ}
 use Rattle.std.specs.Prelude.{Vec}
-use Rattle.std.specs.Vec.{vec_ptr, vec_capacity}
+use Rattle.std.specs.Vec.{vec_ptr, vec_len, vec_capacity}
 use denote.RawPtr.{Ptr, coded_ptr}
 
 -- `field` is where the cells lie: by it fields are told apart, and no caller can work it out.
@@ -19,7 +19,7 @@ field_code =
     (λ p. record { field = p.0; size = p.1.0; capacity = p.1.1 }) (λ _. refl)
 
 -- the right to the cells from `start` on, round the ring of `size` cells: as many as there are
--- values, which lie there in ring order
+-- values, which lie there in ring order. Cells that lie side by side are a run that does not go round
 pub record Run (X : Type 0) : Type 0 where
   pub field : Ptr
   pub size : ℕ
@@ -32,6 +32,10 @@ run_code {X = X} c =
     (coded× coded_ptr (coded× coded_ℕ (coded× coded_ℕ (coded_list c))))
     (λ s. (s.field, (s.size, (s.start, s.values))))
     (λ p. record { field = p.0; size = p.1.0; start = p.1.1.0; values = p.1.1.1 }) (λ _. refl)
+
+-- a vector whose values are out: where they lay, how many they were, and how many there is room for
+abbrev pub husk_of : {X Z : Type 0} → Vec X Z → FieldState
+husk_of v = record { field = vec_ptr v; size = vec_len v; capacity = vec_capacity v }
 
 -- the field of a vector's values, and the right to all its cells
 abbrev pub field_of : {X Z : Type 0} → Vec X Z → FieldState

@@ -13,13 +13,13 @@ IsOneRun size start m n = ((n ≡ 0) × (start + m ≤ size)) ⊎ ((start + m �
 -- the sides of a run from `start` on, in the field of `size` cells at `base`
 pub record IsRound {T : Type 0} (base : Ptr) (size start : ℕ) (s : Sides T) : Type 0 where
   pub within : start < size
-  pub front_base : s.front.base ≡ base
+  pub front_field : s.front.field ≡ base
   pub front_size : s.front.size ≡ size
-  pub front_at : s.front.at ≡ start
-  pub back_base : s.back.base ≡ base
+  pub front_start : s.front.start ≡ start
+  pub back_field : s.back.field ≡ base
   pub back_size : s.back.size ≡ size
-  pub back_at : s.back.at ≡ 0
+  pub back_start : s.back.start ≡ 0
   pub one : IsOneRun size start (length s.front.values) (length s.back.values)
 
 abbrev pub IsRun : {T : Type 0} → Sides T → Type 0
-IsRun s = IsRound s.front.base s.front.size s.front.at s
+IsRun s = IsRound s.front.field s.front.size s.front.start s

@@ -31,12 +31,12 @@ impl<T> Model for Field<T> {
     ghost coded = { field_code };
 
     ghost view = { λ f. record {
-      field = (manually_drop_value f.husk).ptr;
+      field = (manually_drop_value f.husk).field;
       size = f.size;
-      capacity = (manually_drop_value f.husk).cap;
+      capacity = (manually_drop_value f.husk).capacity;
     } };
 
-    ghost invariant = { λ f. (manually_drop_value f.husk).len ≡ f.size };
+    ghost invariant = { λ f. (manually_drop_value f.husk).size ≡ f.size };
 }
 
 impl<T> Field<T> {

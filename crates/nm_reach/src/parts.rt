@@ -3,7 +3,8 @@ ghost use Rattle.std.specs.Prelude.{◌≡◌, ℕ, ◌+◌, ◌^◌, ◌<◌, �
 ghost use Rattle.std.specs.Vec.{vec_capacity, vec_len, vec_ptr, with_items};
 ghost use base.Fml.{ftrue, fex, fall, fwand, fsep, feq};
 ghost use denote.RawPtr.{Ptr};
-ghost use Rattle.nm_reach.specs.Cells.{Extent, extent_code, extent_of, stands, values_at};
+ghost use Rattle.nm_reach.specs.Cells.{stands, values_at};
+ghost use Rattle.nm_reach.specs.Fields.{FieldState, field_code, husk_of};
 
 use std::marker::{Model, Move, Owns, PhantomData};
 use std_alloc::vec::{Lodged, lodge};
@@ -38,18 +39,18 @@ pub(crate) struct Husk<T> {
 }
 
 impl<T> Owns for Husk<T> {
-    ghost Value = { Extent };
+    ghost Value = { FieldState };
 
-    ghost coded = { extent_code };
+    ghost coded = { field_code };
 
     ghost shr_at = { λ _ _ _. ftrue };
 }
 
 impl<T> Move for Husk<T> {
     ghost own_val = { λ e vs. fex Inside (λ v.
-        fsep (feq Extent (extent_of v.vec) e)
+        fsep (feq FieldState (husk_of v.vec) e)
         (fall (List T.row.Denot) (λ xs.
-        fwand (fsep (feq ℕ (length xs) e.len) (values_at T.row e.ptr xs))
+        fwand (fsep (feq ℕ (length xs) e.size) (values_at T.row e.field xs))
         (Fields.own_val (record { vec = with_items v.vec xs }) vs)))) };
 }
 
@@ -80,7 +81,7 @@ pub(crate) fn detach<T>(vec: Vec<T>) -> (Values<T>, Husk<T>)
         × (result.0.spot.size ≡ vec_len vec)
         × (result.0.spot.at ≡ 0)
         × (result.0.spot.ptr ≡ vec_ptr vec)
-        × (result.1 ≡ extent_of vec) }
+        × (result.1 ≡ husk_of vec) }
 {
     let marker = PhantomData;
     let spot = Spot { marker };
@@ -89,12 +90,12 @@ pub(crate) fn detach<T>(vec: Vec<T>) -> (Values<T>, Husk<T>)
 
 /// Puts the values back into their vector.
 pub(crate) fn attach<T>(values: Values<T>, husk: Husk<T>) -> Vec<T>
-    requires { (values.spot.base ≡ husk.ptr)
+    requires { (values.spot.base ≡ husk.field)
         × (values.spot.at ≡ 0)
-        × (length values.items ≡ husk.len) }
+        × (length values.items ≡ husk.size) }
     ensures { (result.items ≡ values.items)
-        × (vec_ptr result ≡ husk.ptr)
-        × (vec_capacity result ≡ husk.cap) }
+        × (vec_ptr result ≡ husk.field)
+        × (vec_capacity result ≡ husk.capacity) }
 {
     let Values { spot: _ } = values;
     let Husk { vec } = husk;

@@ -26,7 +26,7 @@ impl<T> Model for Reach<T> {
     ghost use Rattle.nm_reach.specs.Sides.{values_of};
 
     ghost view = { λ r. record {
-      field = r.sides.front.base;
+      field = r.sides.front.field;
       size = r.size;
       start = r.start;
       values = values_of r.sides;
@@ -52,9 +52,9 @@ impl<T> Reach<T> {
 
     /// The right to all cells of a field.
     pub(crate) fn whole(size: u32, sides: Sides<T>) -> Reach<T>
-        requires { IsRound sides.front.base size 0 sides }
+        requires { IsRound sides.front.field size 0 sides }
         ensures { result ≡ record {
-          field = sides.front.base;
+          field = sides.front.field;
           size = size;
           start = 0;
           values = values_of sides;
@@ -70,8 +70,8 @@ impl<T> Reach<T> {
     /// The cells, from cell 0 on, if this is the right to all of them.
     pub(crate) fn unrolled(self) -> Stretch<T>
         requires all { length self.values ≡ self.size }
-        ensures base { result.base ≡ self.field }
-        ensures at { result.at ≡ 0 }
+        ensures field { result.field ≡ self.field }
+        ensures start { result.start ≡ 0 }
         ensures values { result.values ≡ from_first self }
     {
         let Reach {

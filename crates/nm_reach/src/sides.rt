@@ -45,12 +45,12 @@ impl<T> Sides<T> {
     /// end of the field.
     pub(crate) fn split(self, room: usize, k: usize) -> (Sides<T>, Sides<T>)
         requires run { IsRun self }
-        requires room { room ≡ self.front.size - self.front.at }
+        requires room { room ≡ self.front.size - self.front.start }
         requires within { k ≤ length (values_of self) }
-        ensures first { IsRound self.front.base self.front.size self.front.at result.0 }
+        ensures first { IsRound self.front.field self.front.size self.front.start result.0 }
         ensures first_values { values_of result.0 ≡ take k (values_of self) }
-        ensures rest { IsRound self.front.base self.front.size
-            (round self.front.size self.front.at k) result.1 }
+        ensures rest { IsRound self.front.field self.front.size
+            (round self.front.size self.front.start k) result.1 }
         ensures rest_values { values_of result.1 ≡ drop k (values_of self) }
     {
         let Sides { front, back } = self;
@@ -76,11 +76,11 @@ impl<T> Sides<T> {
     /// These cells and those of the run that begins where this one ends.
     pub(crate) fn join(self, next: Sides<T>, room: usize) -> Sides<T>
         requires run { IsRun self }
-        requires room { room ≡ self.front.size - self.front.at }
-        requires next { IsRound self.front.base self.front.size
-            (round self.front.size self.front.at (length (values_of self))) next }
+        requires room { room ≡ self.front.size - self.front.start }
+        requires next { IsRound self.front.field self.front.size
+            (round self.front.size self.front.start (length (values_of self))) next }
         requires fits { length (values_of self) + length (values_of next) ≤ self.front.size }
-        ensures run { IsRound self.front.base self.front.size self.front.at result }
+        ensures run { IsRound self.front.field self.front.size self.front.start result }
         ensures values { values_of result ≡ values_of self ++ values_of next }
     {
         let Sides { front, back } = self;
@@ -105,10 +105,10 @@ impl<T> Sides<T> {
     pub(crate) fn unrolled(self) -> Stretch<T>
         requires run { IsRun self }
         requires all { length (values_of self) ≡ self.front.size }
-        ensures base { result.base ≡ self.front.base }
-        ensures at { result.at ≡ 0 }
+        ensures field { result.field ≡ self.front.field }
+        ensures start { result.start ≡ 0 }
         ensures values { result.values ≡ self.back.values ++ self.front.values }
-        ensures room { length self.front.values ≡ self.front.size - self.front.at }
+        ensures room { length self.front.values ≡ self.front.size - self.front.start }
     {
         let Sides { front, back } = self;
         back.glue(front)

@@ -14,16 +14,16 @@ pub(crate) struct Stretch<T> {
 
 impl<T> Model for Stretch<T> {
     ghost use Rattle.std.specs.Mem.{manually_drop_value};
-    ghost use Rattle.nm_reach.specs.Cells.{Side, side_code};
+    ghost use Rattle.nm_reach.specs.Fields.{Run, run_code};
 
-    ghost Value = { Side T };
+    ghost Value = { Run T };
 
-    ghost coded = { side_code T.code };
+    ghost coded = { run_code T.code };
 
     ghost view = { λ s. record {
-      base = s.spot.base;
+      field = s.spot.base;
       size = s.spot.size;
-      at = s.spot.at;
+      start = s.spot.at;
       values = (manually_drop_value s.cells).items;
     } };
 
@@ -42,9 +42,9 @@ impl<T> Stretch<T> {
         requires within { values.spot.at + len ≤ values.spot.size }
         requires small { values.spot.size < 2 ^ 32 }
         ensures { result ≡ record {
-          base = values.spot.base;
+          field = values.spot.base;
           size = values.spot.size;
-          at = values.spot.at;
+          start = values.spot.at;
           values = values.items;
         } }
     {
@@ -73,8 +73,8 @@ impl<T> Stretch<T> {
 
     /// The values, out of their cells.
     pub(crate) fn into_values(self) -> Values<T>
-        ensures base { result.spot.base ≡ self.base }
-        ensures at { result.spot.at ≡ self.at }
+        ensures base { result.spot.base ≡ self.field }
+        ensures at { result.spot.at ≡ self.start }
         ensures values { result.items ≡ self.values }
     {
         let Stretch { cells, spot } = self;
@@ -86,7 +86,7 @@ impl<T> Stretch<T> {
         requires { k ≤ length self.values }
         ensures front { result.0 ≡ record self { values = take k self.values } }
         ensures back { result.1 ≡ record self {
-          at = self.at + k;
+          start = self.start + k;
           values = drop k self.values;
         } }
     {
@@ -103,9 +103,9 @@ impl<T> Stretch<T> {
 
     /// These cells and those right behind them.
     pub(crate) fn glue(self, next: Stretch<T>) -> Stretch<T>
-        requires base { next.base ≡ self.base }
-        requires at { next.at ≡ self.at + length self.values }
-        requires within { self.at + (length self.values + length next.values) ≤ self.size }
+        requires field { next.field ≡ self.field }
+        requires start { next.start ≡ self.start + length self.values }
+        requires within { self.start + (length self.values + length next.values) ≤ self.size }
         ensures { result ≡ record self { values = self.values ++ next.values } }
     {
         let Stretch { cells, spot } = self;

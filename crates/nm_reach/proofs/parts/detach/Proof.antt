@@ -26,7 +26,8 @@ use Rattle.std.proofs.alloc.Calls.{Goes-blank}
 use Rattle.std.proofs.raw_atomic.Walks.{proved_at, leaves}
 use Rattle.std.specs.Mem.{type_size}
 use Rattle.std.specs.Ptr.{ptr_add}
-use Rattle.nm_reach.specs.Cells.{Extent, extent_of, values_at}
+use Rattle.nm_reach.specs.Cells.{values_at}
+use Rattle.nm_reach.specs.Fields.{FieldState, husk_of}
 use Rattle.nm_reach.specs.contracts.parts.Spot as Spot
 use Rattle.nm_reach.specs.contracts.parts.Values as Values
 use Rattle.nm_reach.specs.contracts.parts.Husk as Husk
@@ -48,7 +49,7 @@ detach_spec 𝓤 𝓛 𝓜 𝓡 wired T L =
     let E = ended T in let c = clauses T 𝓛 𝓜.mem 𝓡.returns in
     let fn : Fn = inst_fn (layouts (a_type ∷ []) (T, tt)) compiled.function in
     proved_at 𝓛 E (stays E) c 𝓜 𝓡 (Goes-blank 𝓛 1 (slot_at 0 E.signature.params) E.kept.0 (λ κs x f. tt), tt) (#self (layouts (a_type ∷ []) (T, tt))) fn (compiled.unfolded 𝓤 𝓛.H 𝓜 𝓡 wired (T, tt)) (λ z are.
-    let a = z.0.3 in let vss = z.0.4 in let v = a.0 in let e : Extent = extent_of v in
+    let a = z.0.3 in let vss = z.0.4 in let v = a.0 in let e : FieldState = husk_of v in
     let R : RattleType = param 0 T in let LR : Laws R = param_laws 0 T L in
     let C = (tables 𝓤 𝓛.H 𝓜 𝓡 𝓡.env).C in let Λ = (tables 𝓤 𝓛.H 𝓜 𝓡 𝓡.env).Λ in let Post : Val → SProp 𝓤 = at_end 𝓛 E c z in
     let spot : (Spot.the_row R).Denot = record { marker = record {}; base = v.ptr; size = v.len; at = 0; ptr = v.ptr } in
