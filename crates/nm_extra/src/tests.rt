@@ -1,5 +1,5 @@
-ghost use Rattle.std.specs.Prelude.{ℕ, ◌≡◌, ◌≢◌, ◌∷◌, [], Some};
-ghost use Rattle.nm_region.specs.Buffers.{AreAllOf, name_of, names_of, opened_buffers, region_names};
+ghost use Rattle.std.specs.Prelude.{ℕ, ◌≡◌, ◌≢◌, ◌∷◌, [], Some, IfOk};
+ghost use Rattle.nm_region.specs.Buffers.{name_of, names_of, opened_buffers, region_names};
 ghost use Rattle.nm_hold.specs.Holds.{empty_hold, buffer_at};
 ghost use Rattle.nm_hold.specs.Names.{name_at};
 
@@ -7,6 +7,7 @@ use crate::{Chain, link, walk};
 use nm_hold::Hold;
 use nm_region::{Buf, Region};
 use nm_types::{NoMemory, Place, PortId};
+use std::alloc::Global;
 use std::process::Abort;
 use std::test::Fail;
 
@@ -125,40 +126,34 @@ fn play(rt: &impl Abort, region: &Region, hold: &mut Hold, all: &mut Vec<Buf>)
     all.push_reserved(eight);
 }
 
-/// A port with three extra buffers comes, and the buffers are walked in it.
-fn open_and_play(
-    rt: &impl Abort,
-    region: &Region,
-    hold: &mut Hold,
-    all: &mut Vec<Buf>,
-) -> Result<(), NoMemory>
-    requires count { region.now.buffers ≡ 7 }
-    requires hold { hold.old ≡ empty_hold 64 }
-    requires all { all.old.items ≡ opened_buffers region.now }
-    ensures { AreAllOf region.now all.new.items }
+/// A hold with a port that has three extra positions.
+fn opened(alloc: Global) -> Result<Hold, NoMemory>
+    ensures { IfOk result (λ hold. hold ≡ record (empty_hold 64) {
+      ports = record { port = record { 0 = 2 }; sizes = record { tx = 2; rx = 2; extra = 3 } } ∷ [];
+    }) }
 {
-    let room = hold.room(2, 2, 3)?;
-    hold.set_port(PORT, room);
-    play(rt, region, hold, all);
-    Ok(())
-}
-
-/// Ends a hold, after a look that no buffer is in it.
-fn close_empty(rt: &impl Abort, hold: Hold) {
-    for idx in 0..65538 {
-        assert!(rt; hold.buffer(idx).is_none());
+    let mut hold = Hold::new(alloc, 64)?;
+    match hold.room(2, 2, 3) {
+        Ok(room) => {
+            hold.set_port(PORT, room);
+            Ok(hold)
+        }
+        Err(fault) => {
+            hold.close();
+            Err(fault)
+        }
     }
-    hold.close();
 }
 
 #[test]
 fn chain_with_loop(rt: HostRuntime) -> Result<(), Fail> {
     let (region, mut all) = Region::new(rt.alloc(), 7)?;
-    let done = match Hold::new(rt.alloc(), 64) {
+    let done = match opened(rt.alloc()) {
         Ok(mut hold) => {
-            let made = open_and_play(&rt, &region, &mut hold, &mut all);
-            close_empty(&rt, hold);
-            made
+            play(&rt, &region, &mut hold, &mut all);
+            assert!(rt; hold.is_empty());
+            hold.close();
+            Ok(())
         }
         Err(fault) => Err(fault),
     };

@@ -1,9 +1,9 @@
--- What a look at each buffer of a hold tells, and that a name changes no buffer.
-use Rattle.std.proofs.Common.{ℕ, zero, suc, ◌≡◌, ◌<◌, ◌≤◌, Bool, List, [], ◌∷◌, length, slice_set, Option, Some, None, refl, arith, rules}
+-- That a name changes no buffer of a hold.
+use Rattle.std.proofs.Common.{ℕ, zero, suc, ◌≡◌, Bool, List, [], ◌∷◌, slice_set, Option, Some, None, refl, rules}
 use Rattle.std.specs.Prelude.{IsSome}
 use Rattle.nm_hold.specs.declared.standing.Standing.{Standing}
 use Rattle.nm_hold.specs.Standings.{buf_in, cell_named}
-use Rattle.nm_hold.specs.Holds.{HoldState, IsHold, cell_at, buffer_at, standing_at, with_cell}
+use Rattle.nm_hold.specs.Holds.{HoldState, cell_at, buffer_at, standing_at, with_cell}
 
 renamed_buf : (named : Bool) (cell : Option Standing) → buf_in (cell_named named cell) ≡ buf_in cell
 renamed_buf named None = refl
@@ -15,20 +15,6 @@ buffers-renamed named (c ∷ cs) zero zero = renamed_buf named c
 buffers-renamed named (c ∷ cs) zero (suc i) = refl
 buffers-renamed named (c ∷ cs) (suc k) zero = refl
 buffers-renamed named (c ∷ cs) (suc k) (suc i) = buffers-renamed named cs k i
-
-none_in : (cell : Option Standing) → buf_in cell ≡ None → cell ≡ None
-none_in None e = refl
-none_in (Some s) e = absurd cc
-
-none_past : (cells : List (Option Standing)) (n : ℕ) → length cells ≤ n → ((j : ℕ) → j < n → buf_in (cell_at cells j) ≡ None) → (idx : ℕ) → cell_at cells idx ≡ None
-none_past [] n le h idx = refl
-none_past (c ∷ cs) zero le h idx = absurd (omega arith)
-none_past (c ∷ cs) (suc n) le h zero = none_in c (h zero (omega arith))
-none_past (c ∷ cs) (suc n) le h (suc idx) = none_past cs n (omega arith) (λ j lt. h (suc j) (omega arith)) idx
-
--- no buffer at an index that a hold can have: none stands anywhere
-pub nothing-stands : (h : HoldState) (n : ℕ) → IsHold h → 65538 ≤ n → ((j : ℕ) → j < n → buffer_at h j ≡ None) → (idx : ℕ) → standing_at h idx ≡ None
-nothing-stands h n is le none idx = let pool = is.pool in none_past h.cells n (omega (arith, pool.0, pool.1)) none idx
 
 -- a place that got a name, or lost it, leaves each buffer as it was
 pub buffers-named : (h new : HoldState) (held : Option ℕ) (named : Bool) → IsSome held → ((idx : ℕ) → held ≡ Some idx → new ≡ with_cell h idx (cell_named named (standing_at h idx))) → (i : ℕ) → buffer_at new i ≡ buffer_at h i

@@ -1,5 +1,5 @@
 ghost use Rattle.std.specs.Prelude.{ℕ, ◌≡◌, ◌<◌, ◌≤◌, IfOk, IsSome, length, None, replicate, slice_set};
-ghost use Rattle.std.specs.Prelude.{Some, ◌≢◌, ◌+◌, ◌-◌, slice_index_or};
+ghost use Rattle.std.specs.Prelude.{Some, ◌≢◌, ◌+◌, ◌-◌, ◌↔◌, IsTrue, slice_index_or};
 ghost use Rattle.std.specs.Vec.{vec_len, vec_capacity};
 ghost use Rattle.nm_hold.specs.declared.cells.Owned.{Owned};
 ghost use Rattle.std.specs.Borrow.{sem};
@@ -183,6 +183,13 @@ impl Cells {
             standing: Standing { home: _, buf },
         } = swap_out(&mut self.held, position);
         buf
+    }
+
+    /// Whether nothing stands at any index.
+    pub(crate) fn is_empty(&self) -> bool
+        ensures { IsTrue result ↔ ((idx : ℕ) → cell_at self.now idx ≡ None) }
+    {
+        self.held.is_empty()
     }
 
     /// Ends cells in which nothing stands.

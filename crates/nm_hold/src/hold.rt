@@ -389,6 +389,13 @@ impl Hold {
         self.cells.standing_mut(idx).home = here;
     }
 
+    /// Whether it holds no buffer, so that it may be closed.
+    pub fn is_empty(&self) -> bool
+        ensures { IsTrue result ↔ ((idx : ℕ) → standing_at self.now idx ≡ None) }
+    {
+        self.cells.is_empty()
+    }
+
     /// Ends a hold that holds no buffer.
     pub fn close(self)
         requires { (idx : ℕ) → standing_at self idx ≡ None }

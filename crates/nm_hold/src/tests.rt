@@ -1,7 +1,5 @@
-ghost use Rattle.std.specs.Prelude.{ℕ, ◌≡◌, ◌≢◌, ◌≤◌, ◌++◌, ◌∷◌, [], false, Some, OnOk};
-ghost use Rattle.nm_region.specs.Buffers.{AreAllOf, name_of, names_of, opened_buffers, region_names};
-ghost use Rattle.nm_hold.specs.Holds.{empty_hold, buffer_at};
-ghost use Rattle.nm_hold.specs.Names.{name_at};
+ghost use Rattle.std.specs.Prelude.{◌≡◌, ◌≤◌, ◌++◌, ◌∷◌, [], false, OnOk};
+ghost use Rattle.nm_hold.specs.Holds.{empty_hold};
 ghost use Rattle.nm_hold.specs.Offsets.{has_port};
 
 use crate::Hold;
@@ -29,13 +27,12 @@ fn exchange_two(rt: &impl Abort, hold: &mut Hold, two: Buf, three: Buf)
     } }
     requires two { two.index ≡ 2 }
     requires three { three.index ≡ 3 }
-    ensures two { name_at hold.new 2 ≡ Some (name_of two) }
-    ensures three { name_at hold.new 3 ≡ Some (name_of three) }
 {
     hold.add(FIRST, two);
     assert!(rt; hold.index(SECOND).is_none() && hold.place(3).is_none());
     hold.add(SECOND, three);
     assert!(rt; !hold.named(2) && hold.bytes(2).is_none());
+    assert!(rt; hold.bytes_mut(2).is_none() && hold.bytes_mut(4).is_none());
     name(rt, hold, FIRST);
     name(rt, hold, SECOND);
     set_first_byte(rt, hold, 2);
@@ -49,120 +46,60 @@ fn exchange_two(rt: &impl Abort, hold: &mut Hold, two: Buf, three: Buf)
     assert_eq!(rt; hold.extra_count(PORT), 0);
 }
 
-fn name(rt: &impl Abort, hold: &mut Hold, place: Place)
-    ensures { (idx : ℕ) → buffer_at hold.new idx ≡ buffer_at hold.old idx }
-{
+fn name(rt: &impl Abort, hold: &mut Hold, place: Place) {
     assert!(rt; hold.index(place).is_some());
     hold.set_named(place, true);
 }
 
-fn set_first_byte(rt: &impl Abort, hold: &mut Hold, idx: u32)
-    ensures { (i : ℕ) → name_at hold.new i ≡ name_at hold.old i }
-{
+fn set_first_byte(rt: &impl Abort, hold: &mut Hold, idx: u32) {
     assert!(rt; hold.named(idx));
     let bytes = hold.lend(idx);
     assert!(rt; !bytes.is_empty());
     bytes[0] = 7;
 }
 
-/// Takes the buffer out of a place, which holds one.
-fn take(rt: &impl Abort, hold: &mut Hold, place: Place) -> Buf
-    ensures buffer { buffer_at hold.old result.index ≡ Some result }
-    ensures others { (idx : ℕ) → idx ≢ result.index → buffer_at hold.new idx ≡ buffer_at hold.old idx }
-{
-    assert!(rt; hold.index(place).is_some());
-    hold.remove(place)
+/// The first byte of a named buffer is written by a look-up that may find none.
+fn write_found(rt: &impl Abort, hold: &mut Hold, idx: u32) {
+    if let Some(byte) = hold.bytes_mut(idx).and_then(|bytes| bytes.first_mut()) {
+        *byte = 8;
+    }
+    assert_eq!(rt; hold.bytes(idx).and_then(|bytes| bytes.first()), Some(&8));
 }
 
-/// The two buffers come to the hold, change places, and go back.
-fn play(rt: &impl Abort, region: &Region, hold: &mut Hold, all: &mut Vec<Buf>)
-    requires count { region.now.buffers ≡ 2 }
-    requires hold { hold.old ≡ record (empty_hold 8) {
-      ports = record { port = record { 0 = 3 }; sizes = record { tx = 2; rx = 2; extra = 0 } } ∷ [];
-    } }
-    requires all { all.old.items ≡ opened_buffers region.now }
-    ensures { names_of all.new.items ≡ region_names region.now }
-{
+/// Takes the buffer out of a place, which holds the one of an index.
+fn take(rt: &impl Abort, hold: &mut Hold, place: Place, idx: u32) -> Buf {
+    assert!(rt; !hold.is_empty() && hold.index(place).is_some());
+    let buf = hold.remove(place);
+    assert_eq!(rt; buf.index(), idx);
+    assert_eq!(rt; hold.index(place), None);
+    buf
+}
+
+/// The buffers stay out of their region: the test ends by the panic that it expects.
+#[test]
+#[should_panic(expected = "the buffers stay out of their region")]
+fn slots_are_exchanged_and_written(rt: HostRuntime) {
+    let Ok((_region, mut all)) = Region::new(rt.alloc(), 2) else {
+        panic!(rt; "out of memory");
+    };
+    let Ok(mut hold) = Hold::new(rt.alloc(), 8) else {
+        panic!(rt; "out of memory");
+    };
+    let Ok(room) = hold.room(2, 2, 0) else {
+        panic!(rt; "out of memory");
+    };
+    hold.set_port(PORT, room);
+    assert_eq!(rt; all.len(), 2);
     let two = all.remove(0);
     let three = all.remove(0);
     assert!(rt; two.index() == 2 && three.index() == 3);
-    exchange_two(rt, hold, two, three);
-    let first = take(rt, hold, FIRST);
-    assert_eq!(rt; first.index(), 3);
-    let second = take(rt, hold, SECOND);
-    assert_eq!(rt; second.index(), 2);
-    assert_eq!(rt; hold.index(SECOND), None);
-    all.push_reserved(second);
-    all.push_reserved(first);
-}
-
-/// A port of two slots each comes, and the buffers change places in it.
-fn open_and_play(
-    rt: &impl Abort,
-    region: &Region,
-    hold: &mut Hold,
-    all: &mut Vec<Buf>,
-) -> Result<(), NoMemory>
-    requires count { region.now.buffers ≡ 2 }
-    requires hold { hold.old ≡ empty_hold 8 }
-    requires all { all.old.items ≡ opened_buffers region.now }
-    ensures { AreAllOf region.now all.new.items }
-{
-    let room = hold.room(2, 2, 0)?;
-    hold.set_port(PORT, room);
-    play(rt, region, hold, all);
-    Ok(())
-}
-
-/// Ends a hold, after a look that no buffer is in it.
-fn close_empty(rt: &impl Abort, hold: Hold) {
-    for idx in 0..65538 {
-        assert!(rt; hold.buffer(idx).is_none());
-    }
+    exchange_two(&rt, &mut hold, two, three);
+    write_found(&rt, &mut hold, 2);
+    let _three = take(&rt, &mut hold, FIRST, 3);
+    let _two = take(&rt, &mut hold, SECOND, 2);
+    assert!(rt; hold.is_empty());
     hold.close();
-}
-
-#[test]
-fn exchange_of_two_slots(rt: HostRuntime) -> Result<(), Fail> {
-    let (region, mut all) = Region::new(rt.alloc(), 2)?;
-    let done = match Hold::new(rt.alloc(), 8) {
-        Ok(mut hold) => {
-            let made = open_and_play(&rt, &region, &mut hold, &mut all);
-            close_empty(&rt, hold);
-            made
-        }
-        Err(fault) => Err(fault),
-    };
-    region.close(all);
-    Ok(done?)
-}
-
-/// The buffer stays in the hold: the test ends by the panic that it expects.
-#[test]
-#[should_panic(expected = "the buffer stays")]
-fn named_bytes_are_written(rt: HostRuntime) {
-    let Ok((_region, mut all)) = Region::new(rt.alloc(), 1) else {
-        panic!(rt; "the buffer stays out: no memory");
-    };
-    assert_eq!(rt; all.len(), 1);
-    let two = all.remove(0);
-    assert_eq!(rt; two.index(), 2);
-    let Ok(mut hold) = Hold::new(rt.alloc(), 8) else {
-        panic!(rt; "the buffer stays out: no memory");
-    };
-    let Ok(room) = hold.room(2, 2, 0) else {
-        panic!(rt; "the buffer stays out: no memory");
-    };
-    hold.set_port(PORT, room);
-    hold.add(FIRST, two);
-    assert!(rt; hold.bytes_mut(2).is_none() && hold.bytes_mut(3).is_none());
-    assert!(rt; hold.index(FIRST).is_some());
-    hold.set_named(FIRST, true);
-    if let Some(byte) = hold.bytes_mut(2).and_then(|bytes| bytes.first_mut()) {
-        *byte = 7;
-    }
-    assert_eq!(rt; hold.bytes(2).and_then(|bytes| bytes.first()), Some(&7));
-    panic!(rt; "the buffer stays in the hold");
+    panic!(rt; "the buffers stay out of their region");
 }
 
 /// Opens a port with two slots in each ring and so many extra positions.

@@ -1,0 +1,4 @@
+use Rattle.nm_hold.proofs.hold.Hold.is_empty.Goals as goal
+
+pub returns : goal.returns
+returns c = rw (← c.self.view_is) c.is_empty.ensures
