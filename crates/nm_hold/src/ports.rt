@@ -277,7 +277,8 @@ pub(crate) fn row_of(
     port: PortId,
 ) -> Option<usize>
     requires { IsIndexed rows.now (get nat_eq indices.now) }
-    ensures { result ≡ get nat_eq indices.now port.0 }
+    ensures row { result ≡ get nat_eq indices.now port.0 }
+    ensures within { IfSome result (λ at. at < length rows.now) }
 {
     if is_first(rows, port) {
         return Some(0);

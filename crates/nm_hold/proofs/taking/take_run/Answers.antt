@@ -17,26 +17,26 @@ pub returns-in_default-clause-taken : goal.returns-in_default-clause-taken
 returns-in_default-clause-taken c =
     let index = get nat_eq c.args.indices.now in
     let rows = c.args.rows.now in
-    let none : index c.args.run.port.0 ≡ None = sym c.row_of.ensures ∙ c.in_default.is in
+    let none : index c.args.run.port.0 ≡ None = sym c.row_of.ensures.row ∙ c.in_default.is in
     none_out (record { cells = c.args.cells.now; ports = ports_of (tables_present rows) }) c.args.run c.args.count c.args.back.now.items
     (none_to_take rows index c.args.run c.args.count c.requires.indexed none c.requires.held)
 
 pub offset_bounds-rows-at : goal.offset_bounds-rows-at
 offset_bounds-rows-at c =
     let index = get nat_eq c.args.indices.now in
-    let within = row_within c.args.rows.now index c.in-Some.at c.args.run 0 c.requires.indexed (sym c.row_of.ensures ∙ c.in-Some.is) in
+    let within = row_within c.args.rows.now index c.in-Some.at c.args.run 0 c.requires.indexed (sym c.row_of.ensures.row ∙ c.in-Some.is) in
     search rules
 
 pub bounds-rows-at : goal.bounds-rows-at
 bounds-rows-at c =
     let index = get nat_eq c.args.indices.now in
-    row_within c.args.rows.now index c.in-Some.at c.args.run 0 c.requires.indexed (sym c.row_of.ensures ∙ c.in-Some.is)
+    row_within c.args.rows.now index c.in-Some.at c.args.run 0 c.requires.indexed (sym c.row_of.ensures.row ∙ c.in-Some.is)
 
 pub loop-k-init : goal.loop-k-init
 loop-k-init c =
     let index = get nat_eq c.args.indices.now in
     let rows = c.args.rows.now in
-    let within = row_within rows index c.in-Some.at c.args.run 0 c.requires.indexed (sym c.row_of.ensures ∙ c.in-Some.is) in (
+    let within = row_within rows index c.in-Some.at c.args.run 0 c.requires.indexed (sym c.row_of.ensures.row ∙ c.in-Some.is) in (
       c.requires.indexed,
       c.requires.whole,
       (λ j above below. c.requires.held j below),
@@ -48,13 +48,13 @@ loop-k-init c =
 pub offset_bounds-rows-at-in-loop-k : goal.offset_bounds-rows-at-in-loop-k
 offset_bounds-rows-at-in-loop-k c =
     let index = get nat_eq c.args.indices.now in
-    let within = row_within c.loop-k.rows index c.in-Some.at c.args.run c.loop-k.k c.loop-k.invariant.0 (sym c.row_of.ensures ∙ c.in-Some.is) in
+    let within = row_within c.loop-k.rows index c.in-Some.at c.args.run c.loop-k.k c.loop-k.invariant.0 (sym c.row_of.ensures.row ∙ c.in-Some.is) in
     search rules
 
 pub bounds-rows-at-in-loop-k : goal.bounds-rows-at-in-loop-k
 bounds-rows-at-in-loop-k c =
     let index = get nat_eq c.args.indices.now in
-    row_within c.loop-k.rows index c.in-Some.at c.args.run c.loop-k.k c.loop-k.invariant.0 (sym c.row_of.ensures ∙ c.in-Some.is)
+    row_within c.loop-k.rows index c.in-Some.at c.args.run c.loop-k.k c.loop-k.invariant.0 (sym c.row_of.ensures.row ∙ c.in-Some.is)
 
 pub overflow_add-place : goal.overflow_add-place
 overflow_add-place c =
@@ -62,11 +62,11 @@ overflow_add-place c =
     omega (arith, c.places_before-ahead.ensures.few, c.slot.ensures, below, c.requires.size)
 
 pub clear_at-idx-requires : goal.clear_at-idx-requires
-clear_at-idx-requires c = spot_within c.loop-k.rows (get nat_eq c.args.indices.now) c.in-Some.at c.args.run c.loop-k.k c.loop-k.invariant.0 (sym c.row_of.ensures ∙ c.in-Some.is) c.loop-k.invariant.1.tables (c.loop-k.invariant.2 c.loop-k.k (omega arith) c.loop-k-test.true) c.index-rows-at-in-loop-k.result (c.places_before-ahead.result + c.slot.result) (spot_is (row_at c.loop-k.rows c.in-Some.at) c.args.run c.loop-k.k c.places_before-ahead.result c.slot.result c.loop-k.invariant.5 c.slot.ensures)
+clear_at-idx-requires c = spot_within c.loop-k.rows (get nat_eq c.args.indices.now) c.in-Some.at c.args.run c.loop-k.k c.loop-k.invariant.0 (sym c.row_of.ensures.row ∙ c.in-Some.is) c.loop-k.invariant.1.tables (c.loop-k.invariant.2 c.loop-k.k (omega arith) c.loop-k-test.true) c.index-rows-at-in-loop-k.result (c.places_before-ahead.result + c.slot.result) (spot_is (row_at c.loop-k.rows c.in-Some.at) c.args.run c.loop-k.k c.places_before-ahead.result c.slot.result c.loop-k.invariant.5 c.slot.ensures)
 
 pub take-requires : goal.take-requires
 take-requires c =
-    let f = cleared_spot c.loop-k.rows (get nat_eq c.args.indices.now) c.in-Some.at c.args.run c.loop-k.k c.loop-k.invariant.0 (sym c.row_of.ensures ∙ c.in-Some.is) c.loop-k.invariant.1.tables (c.loop-k.invariant.2 c.loop-k.k (omega arith) c.loop-k-test.true) c.index-rows-at-in-loop-k.result (c.places_before-ahead.result + c.slot.result) (spot_is (row_at c.loop-k.rows c.in-Some.at) c.args.run c.loop-k.k c.places_before-ahead.result c.slot.result c.loop-k.invariant.5 c.slot.ensures) c.clear_at-idx.new.row c.clear_at-idx.result c.clear_at-idx.ensures.number c.clear_at-idx.ensures.row in
+    let f = cleared_spot c.loop-k.rows (get nat_eq c.args.indices.now) c.in-Some.at c.args.run c.loop-k.k c.loop-k.invariant.0 (sym c.row_of.ensures.row ∙ c.in-Some.is) c.loop-k.invariant.1.tables (c.loop-k.invariant.2 c.loop-k.k (omega arith) c.loop-k-test.true) c.index-rows-at-in-loop-k.result (c.places_before-ahead.result + c.slot.result) (spot_is (row_at c.loop-k.rows c.in-Some.at) c.args.run c.loop-k.k c.places_before-ahead.result c.slot.result c.loop-k.invariant.5 c.slot.ensures) c.clear_at-idx.new.row c.clear_at-idx.result c.clear_at-idx.ensures.number c.clear_at-idx.ensures.row in
     let some = c.loop-k.invariant.2 c.loop-k.k (omega arith) c.loop-k-test.true in
     let found = standing_by_number c.loop-k.cells (tables_present c.loop-k.rows) (place_in c.args.run c.loop-k.k) c.loop-k.invariant.1.tied some in
     let there : cell_at c.loop-k.cells c.clear_at-idx.result ≡ Some found.0 = ap (cell_at c.loop-k.cells) f.number ∙ found.1 in
@@ -80,7 +80,7 @@ push_reserved-requires c =
 
 pub loop-k-preserved : goal.loop-k-preserved
 loop-k-preserved c =
-    let f = cleared_spot c.loop-k.rows (get nat_eq c.args.indices.now) c.in-Some.at c.args.run c.loop-k.k c.loop-k.invariant.0 (sym c.row_of.ensures ∙ c.in-Some.is) c.loop-k.invariant.1.tables (c.loop-k.invariant.2 c.loop-k.k (omega arith) c.loop-k-test.true) c.index-rows-at-in-loop-k.result (c.places_before-ahead.result + c.slot.result) (spot_is (row_at c.loop-k.rows c.in-Some.at) c.args.run c.loop-k.k c.places_before-ahead.result c.slot.result c.loop-k.invariant.5 c.slot.ensures) c.clear_at-idx.new.row c.clear_at-idx.result c.clear_at-idx.ensures.number c.clear_at-idx.ensures.row in
+    let f = cleared_spot c.loop-k.rows (get nat_eq c.args.indices.now) c.in-Some.at c.args.run c.loop-k.k c.loop-k.invariant.0 (sym c.row_of.ensures.row ∙ c.in-Some.is) c.loop-k.invariant.1.tables (c.loop-k.invariant.2 c.loop-k.k (omega arith) c.loop-k-test.true) c.index-rows-at-in-loop-k.result (c.places_before-ahead.result + c.slot.result) (spot_is (row_at c.loop-k.rows c.in-Some.at) c.args.run c.loop-k.k c.places_before-ahead.result c.slot.result c.loop-k.invariant.5 c.slot.ensures) c.clear_at-idx.new.row c.clear_at-idx.result c.clear_at-idx.ensures.number c.clear_at-idx.ensures.row in
     let some = c.loop-k.invariant.2 c.loop-k.k (omega arith) c.loop-k-test.true in
     let index = get nat_eq c.args.indices.now in
     let rows = c.loop-k.rows in
@@ -104,7 +104,7 @@ loop-k-preserved c =
       rw f.tables later,
       rw (c.take.ensures.cells, f.tables, c.push_reserved.ensures.items) taken,
       c.push_reserved.ensures.capacity ∙ inv.4,
-      inv.5 ∙ sym (ahead_stays rows index c.in-Some.at run k inv.0 (sym c.row_of.ensures ∙ c.in-Some.is) inv.1.tables some c.index-rows-at-in-loop-k.result (c.places_before-ahead.result + c.slot.result) (spot_is (row_at rows c.in-Some.at) run k c.places_before-ahead.result c.slot.result inv.5 c.slot.ensures) c.clear_at-idx.new.row idx f),
+      inv.5 ∙ sym (ahead_stays rows index c.in-Some.at run k inv.0 (sym c.row_of.ensures.row ∙ c.in-Some.is) inv.1.tables some c.index-rows-at-in-loop-k.result (c.places_before-ahead.result + c.slot.result) (spot_is (row_at rows c.in-Some.at) run k c.places_before-ahead.result c.slot.result inv.5 c.slot.ensures) c.clear_at-idx.new.row idx f),
     )
 
 pub returns-clause-indexed : goal.returns-clause-indexed
