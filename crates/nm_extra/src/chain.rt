@@ -1,9 +1,8 @@
 ghost use Rattle.std.specs.Prelude.{◌≡◌, ◌≤◌, ◌<◌, length, None, Some, IsSome, MatchOption};
 ghost use Rattle.std.specs.Prelude.{option_map, false, true};
 ghost use Rattle.nm_types.specs.Chain.{link_bytes, linked, link_of, chain_of};
-ghost use Rattle.nm_hold.specs.Holds.{IsHold, SamePlaces, places_of, with_cell, standing_at};
-ghost use Rattle.nm_hold.specs.Holds.{is_named_at};
-ghost use Rattle.nm_hold.specs.Standings.{cell_fronted};
+ghost use Rattle.nm_hold.specs.Holds.{IsHold, is_named_at};
+ghost use Rattle.nm_hold.specs.Changes.{HasWritten};
 ghost use Rattle.nm_extra.specs.Extras.{extras_of, link_at, position_at};
 
 use byteorder::{ByteOrder, LittleEndian};
@@ -23,10 +22,7 @@ pub fn link(buf: &mut Buf, next: u32)
 /// Links the named buffer of an index to the next one of its chain. 0 ends the chain.
 pub fn relink(hold: &mut Hold, idx: u32, next: u32)
     requires { is_named_at hold.old idx ≡ true }
-    ensures cell { hold.new ≡ with_cell hold.old idx
-        (cell_fronted (link_bytes next) (standing_at hold.old idx)) }
-    ensures places { SamePlaces (places_of hold.old) (places_of hold.new) }
-    ensures hold { IsHold hold.new }
+    ensures { HasWritten hold.old hold.new idx (link_bytes next) }
 {
     let mut link = [0; 4];
     put_link(&mut link, next);

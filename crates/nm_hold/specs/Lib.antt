@@ -1,4 +1,5 @@
 pub mod CellLends
+pub mod Changes
 pub mod Holds
 pub mod Indexed
 pub mod Laws

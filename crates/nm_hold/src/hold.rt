@@ -11,11 +11,12 @@ ghost use Rattle.nm_types.specs.Exchange.{exchanged, swapped};
 ghost use Rattle.nm_region.specs.Buffers.{Buffer};
 ghost use Rattle.nm_hold.specs.declared.table.PortPlaces.{PortPlaces};
 ghost use Rattle.nm_hold.specs.Offsets.{AreSizes, has_place, has_port};
-ghost use Rattle.nm_hold.specs.Standings.{home_in, cell_named, cell_fronted};
+ghost use Rattle.nm_hold.specs.Standings.{home_in, cell_named};
 ghost use Rattle.nm_hold.specs.Holds.{empty_hold, buffers_of, extra_of, place_at, IsHold};
 ghost use Rattle.nm_hold.specs.Holds.{standing_at, buffer_at, is_named_at, named_bytes_at, index_at};
 ghost use Rattle.nm_hold.specs.Holds.{places_of, bufs_of, with_cell, SamePlaces, HoldsNothing};
 ghost use Rattle.nm_hold.specs.Holds.{size_on, AreNumbers};
+ghost use Rattle.nm_hold.specs.Changes.{HasAdded, HasWritten};
 ghost use Rattle.nm_types.specs.declared.place.Place.TheVariants.{Tx, Rx};
 ghost use Rattle.nm_hold.specs.Renames.{with_places_named, tx_slots};
 ghost use Rattle.nm_hold.specs.Takes.{place_in, AreTakenBehind};
@@ -261,10 +262,7 @@ impl Hold {
     pub fn write(&mut self, idx: u32, bytes: &[u8])
         requires named { is_named_at self.old idx ≡ true }
         requires fits { length bytes.now ≤ 2048 }
-        ensures cell { self.new
-            ≡ with_cell self.old idx (cell_fronted bytes.now (standing_at self.old idx)) }
-        ensures places { SamePlaces (places_of self.old) (places_of self.new) }
-        ensures hold { IsHold self.new }
+        ensures { HasWritten self.old self.new idx bytes.now }
     {
         if self.write_at(idx, bytes) {
             // the other buffer of its page
@@ -277,10 +275,7 @@ impl Hold {
     fn write_at(&mut self, idx: u32, bytes: &[u8]) -> bool
         requires named { is_named_at self.old idx ≡ true }
         requires fits { length bytes.now ≤ 2048 }
-        ensures cell { self.new
-            ≡ with_cell self.old idx (cell_fronted bytes.now (standing_at self.old idx)) }
-        ensures places { SamePlaces (places_of self.old) (places_of self.new) }
-        ensures hold { IsHold self.new }
+        ensures { HasWritten self.old self.new idx bytes.now }
     {
         let standing = self.cells.standing_mut(idx);
         let is_fresh = standing.buf.prepare();
@@ -294,11 +289,7 @@ impl Hold {
         requires empty { index_at self.old place ≡ None }
         requires index { IsBufferIndex (buffers_of self.old) buf.index }
         requires apart { standing_at self.old buf.index ≡ None }
-        ensures cell { self.new ≡ with_cell self.old buf.index
-            (Some (record { home = record { place = place; named = false }; buf = buf })) }
-        ensures places { (p : Place) → index_at self.new p
-            ≡ (if is_same_place place p then Some buf.index else index_at self.old p) }
-        ensures hold { IsHold self.new }
+        ensures { HasAdded self.old self.new place false buf }
     {
         self.add_named(place, buf, false);
     }
@@ -309,11 +300,7 @@ impl Hold {
         requires empty { index_at self.old place ≡ None }
         requires index { IsBufferIndex (buffers_of self.old) buf.index }
         requires apart { standing_at self.old buf.index ≡ None }
-        ensures cell { self.new ≡ with_cell self.old buf.index
-            (Some (record { home = record { place = place; named = named }; buf = buf })) }
-        ensures places { (p : Place) → index_at self.new p
-            ≡ (if is_same_place place p then Some buf.index else index_at self.old p) }
-        ensures hold { IsHold self.new }
+        ensures { HasAdded self.old self.new place named buf }
     {
         let idx = buf.index();
         let home = Home { place, named };
@@ -328,11 +315,7 @@ impl Hold {
         requires empty { index_at self.old (Rx port slot) ≡ None }
         requires index { IsBufferIndex (buffers_of self.old) buf.index }
         requires apart { standing_at self.old buf.index ≡ None }
-        ensures cell { self.new ≡ with_cell self.old buf.index
-            (Some (record { home = record { place = Rx port slot; named = true }; buf = buf })) }
-        ensures places { (p : Place) → index_at self.new p
-            ≡ (if is_same_place (Rx port slot) p then Some buf.index else index_at self.old p) }
-        ensures hold { IsHold self.new }
+        ensures { HasAdded self.old self.new (Rx port slot) true buf }
     {
         let idx = buf.index();
         let place = Place::Rx { port, slot };

@@ -1,4 +1,4 @@
-use Rattle.std.proofs.Common.{slice_set, ap, refl, ◌∙◌, Some}
+use Rattle.std.proofs.Common.{slice_set, ap, refl, ◌∙◌, Some, rules}
 use Rattle.std.proofs.lemmas.List.{length-set}
 use Rattle.nm_region.specs.Buffers.{Buffer}
 use Rattle.nm_region.specs.Marked.{with_front}
@@ -24,11 +24,12 @@ invariant_of-self c =
       tied = tied-kept cells c.self.inside.ports.tables c.args.idx s new inv.tied c.standing_mut-standing.ensures.standing refl index;
     }
 
-pub returns-clause-places : goal.returns-clause-places
-returns-clause-places c q =
+pub returns : goal.returns
+returns c =
     let new : Standing = record { home = c.standing_mut-standing.result.now.home; buf = c.write.new.self } in
     let after = invariant_of-self c in
-    rw (← c.self.view_is) (same_places c.self.inside.cells (slice_set c.self.inside.cells c.args.idx (Some new)) c.self.inside.ports.tables c.self.invariant.tied after.tied q)
-
-pub returns-clause-hold : goal.returns-clause-hold
-returns-clause-hold c = let inv = invariant_of-self c in IsHold-stored _ _ inv.low inv.high inv.tables inv.once inv.tied
+    record {
+      cell = search rules;
+      places = λ q. rw (← c.self.view_is) (same_places c.self.inside.cells (slice_set c.self.inside.cells c.args.idx (Some new)) c.self.inside.ports.tables c.self.invariant.tied after.tied q);
+      hold = IsHold-stored _ _ after.low after.high after.tables after.once after.tied;
+    }
