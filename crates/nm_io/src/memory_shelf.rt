@@ -9,7 +9,7 @@ ghost use Rattle.nm_io.specs.ShelfState.{ShelfState, files_of, seen_entries};
 
 use crate::calls::Calls;
 use crate::stored::Stored;
-use crate::{Failed, Shelf, stored};
+use crate::{Failed, Shelf};
 use nm_types::NoMemory;
 use std::alloc::Global;
 use std::collections::BTreeMap;
@@ -18,7 +18,6 @@ use std::marker::Model;
 /// An in-memory shelf with injected failures. Its reads and appends are numbered together, from 1.
 #[derive(Drop)]
 pub struct MemoryShelf {
-    alloc: Global,
     stored: Stored,
     calls: Calls,
 }
@@ -26,7 +25,7 @@ pub struct MemoryShelf {
 impl Model for MemoryShelf {
     ghost Value = { ShelfState };
 
-    ghost view = { λ s. record { entries = seen_entries s.stored; calls = s.calls } };
+    ghost view = { λ s. record { entries = seen_entries s.stored.files; calls = s.calls } };
 }
 
 impl MemoryShelf {
@@ -35,8 +34,10 @@ impl MemoryShelf {
         ensures { result ≡ record { entries = []; calls = no_calls fail.items } }
     {
         MemoryShelf {
-            alloc,
-            stored: BTreeMap::new(alloc),
+            stored: Stored {
+                alloc,
+                files: BTreeMap::new(alloc),
+            },
             calls: Calls::new(fail),
         }
     }
@@ -50,7 +51,7 @@ impl MemoryShelf {
         ensures answered { OnOk result (self.new.calls ≡ self.old.calls) }
         ensures wanting { OnErr result (self.new.calls ≡ after_want self.old.calls) }
     {
-        match stored::replace(self.alloc, &mut self.stored, name, bytes) {
+        match self.stored.replace(name, bytes) {
             Ok(()) => Ok(()),
             Err(error) => {
                 self.calls.want();
@@ -64,7 +65,7 @@ impl MemoryShelf {
     pub fn file(&self, name: &str) -> Option<&[u8]>
         ensures { option_map (λ f. f.now) result ≡ files_of self.now.entries name.now }
     {
-        stored::contents(&self.stored, name)
+        self.stored.contents(name)
     }
 
     /// Counts the calls that failed because memory ran out.
@@ -99,7 +100,7 @@ impl Shelf for MemoryShelf {
             × (self.new.calls ≡ after_fault self.old.calls)) }
     {
         self.calls.pass()?;
-        match stored::contents(&self.stored, name) {
+        match self.stored.contents(name) {
             Some(contents) => {
                 let count = copy_part(contents, at, room);
                 self.calls.count();
@@ -127,7 +128,7 @@ impl Shelf for MemoryShelf {
         ensures failed { OnErr result (WasRefused self.old.calls self.new.calls) }
     {
         self.calls.pass()?;
-        if stored::extend(self.alloc, &mut self.stored, name, bytes).is_err() {
+        if self.stored.extend(name, bytes).is_err() {
             return Err(self.calls.refuse());
         }
         self.calls.count();

@@ -6,10 +6,10 @@ use Rattle.nm_io.proofs.memory_shelf.MemoryShelfShelf.append.Goals as goal
 
 pub returns-then-is_err-clause-err : goal.returns-then-is_err-clause-err
 returns-then-is_err-clause-err c =
-    let same : files_in c.extend.new.stored ≡ files_in c.self.inside.stored = search rules in
-    rw (← c.self.view_is) (ap (λ all. Some all) (seen_same c.self.inside.stored c.extend.new.stored same))
+    let same : files_in c.extend.new.self.files ≡ files_in c.self.inside.stored.files = search rules in
+    rw (← c.self.view_is) (ap (λ all. Some all) (seen_same c.self.inside.stored.files c.extend.new.self.files same))
 
 pub returns-clause-grown : goal.returns-clause-grown
 returns-clause-grown c =
-    let grown : files_in c.extend.new.stored ≡ appended (files_in c.self.inside.stored) c.args.name.now c.args.bytes.now = search rules in
-    rw (← c.self.view_is, take_all (length c.args.bytes.now) c.args.bytes.now (omega arith)) (ap (λ all. Some all) (seen_appended c.self.inside.stored c.extend.new.stored c.args.name.now c.args.bytes.now grown))
+    let grown : files_in c.extend.new.self.files ≡ appended (files_in c.self.inside.stored.files) c.args.name.now c.args.bytes.now = search rules in
+    rw (← c.self.view_is, take_all (length c.args.bytes.now) c.args.bytes.now (omega arith)) (ap (λ all. Some all) (seen_appended c.self.inside.stored.files c.extend.new.self.files c.args.name.now c.args.bytes.now grown))
