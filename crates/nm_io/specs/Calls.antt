@@ -1,4 +1,4 @@
-use Rattle.std.specs.Prelude.{◌≡◌, ◌⊎◌, ℕ, List, Contains}
+use Rattle.std.specs.Prelude.{◌≡◌, ◌≤◌, ◌⊎◌, ℕ, List, Contains}
 use Rattle.nm_io.specs.Counts.{raised}
 
 -- the calls that an in-memory shelf or sink had: the numbers of those that are to fail, from 1 on,
@@ -24,6 +24,11 @@ after_call c = record c { made = raised c.made }
 -- a call failed, but not because memory ran out
 abbrev pub after_fault : CallState → CallState
 after_fault c = record c { made = raised c.made; faults = raised c.faults }
+
+-- a call failed and was counted, and the count of those that failed did not fall
+pub record HasFailed (after old new : CallState) : Type 0 where
+  pub counted : new ≡ after
+  pub later : old.faults ≤ new.faults
 
 -- memory ran out
 abbrev pub after_want : CallState → CallState

@@ -1,6 +1,7 @@
 ghost use Rattle.std.specs.Prelude.{◌≡◌, ◌≤◌, ◌↔◌, IsTrue, OnOk, OnErr};
 ghost use Rattle.nm_io.specs.Calls.{CallState, IsListed, no_calls, after_call};
-ghost use Rattle.nm_io.specs.Calls.{after_fault, after_refused, after_want};
+ghost use Rattle.nm_io.specs.Calls.{after_fault, after_refused, after_want, HasFailed};
+ghost use Rattle.nm_io.specs.Counts.{raised};
 
 use crate::Failed;
 use std::marker::Model;
@@ -64,16 +65,15 @@ impl Calls {
     pub(crate) fn count(&mut self)
         ensures { self.new ≡ after_call self.old }
     {
-        self.made = self.made.saturating_add(1);
+        raise(&mut self.made);
     }
 
     /// Counts a call that failed.
     pub(crate) fn fault(&mut self) -> Failed
-        ensures counted { self.new ≡ after_fault self.old }
-        ensures later { self.old.faults ≤ self.new.faults }
+        ensures { HasFailed (after_fault self.old) self.old self.new }
     {
-        self.count();
-        self.faults = self.faults.saturating_add(1);
+        raise(&mut self.made);
+        raise(&mut self.faults);
         Failed
     }
 
@@ -81,15 +81,22 @@ impl Calls {
     pub(crate) fn want(&mut self)
         ensures { self.new ≡ after_want self.old }
     {
-        self.wants = self.wants.saturating_add(1);
+        raise(&mut self.wants);
     }
 
     /// Counts a call that failed because memory ran out.
     pub(crate) fn refuse(&mut self) -> Failed
-        ensures counted { self.new ≡ after_refused self.old }
-        ensures later { self.old.faults ≤ self.new.faults }
+        ensures { HasFailed (after_refused self.old) self.old self.new }
     {
         self.want();
         self.fault()
     }
+}
+
+/// Counts one more event.
+fn raise(count: &mut u64)
+    ensures counted { count.new ≡ raised count.old }
+    ensures later { count.old ≤ count.new }
+{
+    *count = count.saturating_add(1);
 }
