@@ -1,4 +1,4 @@
-use Rattle.std.proofs.Common.{ℕ, zero, suc, ◌≡◌, nat_eq, true, List, [], ◌∷◌, length, vec_len, Option, None, refl, sym, ◌∙◌, arith}
+use Rattle.std.proofs.Common.{ℕ, zero, suc, ◌≡◌, List, [], ◌∷◌, length, vec_len, None, refl, sym, ◌∙◌, arith}
 use Rattle.nm_hold.specs.declared.standing.Standing.{Standing}
 use Rattle.nm_hold.specs.Holds.{cell_at}
 use Rattle.nm_hold.specs.Sparse.{cells_of, named_by, number_of, owners_in, standings_in}

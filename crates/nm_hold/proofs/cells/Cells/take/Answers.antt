@@ -6,7 +6,7 @@ use Rattle.nm_hold.specs.Sparse.{cells_of, number_of, owners_in, standings_in, A
 use Rattle.nm_hold.specs.Standings.{buf_in}
 use Rattle.nm_hold.specs.Holds.{cell_at}
 use Rattle.nm_hold.proofs.Owned.{both_long, index_get, index_of, owners_long, owners_push, standing_get, standing_of, standings_long, standings_push}
-use Rattle.nm_hold.proofs.Owning.{position, standing_read, last_owner, last_within, last_given, owners_taken, cells_taken, owners_ended, cells_ended, ended_read}
+use Rattle.nm_hold.proofs.Owning.{position, standing_read, last_owner, last_given, owners_taken, cells_taken, owners_ended, cells_ended, ended_read}
 use Rattle.nm_hold.proofs.cells.Cells.take.Goals as goal
 
 pub given-number-requires : goal.given-number-requires

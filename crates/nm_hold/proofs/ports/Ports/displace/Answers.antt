@@ -12,7 +12,7 @@ use Rattle.nm_hold.proofs.ports.Ports.displace.Goals.{After-index_mut, After-dis
 
 -- the row that is found
 found : (c : After-index_mut) → c.index_mut.result.now ≡ row_at c.self.inside.rows.items c.in-Some.at
-found c = row_read c.self.inside.rows.items c.in-Some.at c.index_mut.result.now c.in-Some.ensures.within c.index_mut.ensures.value
+found c = row_read c.self.inside.rows.items c.in-Some.at c.index_mut.result.now (rw (c.deref.ensures.value) at c.in-Some.ensures.within) c.index_mut.ensures.value
 
 pub displace_at-requires : goal.displace_at-requires
 displace_at-requires c = rw (found (goal.at.displace_at-requires c).After-index_mut) (row_is_table c.self.inside.rows.items c.in-Some.at (rw (← c.self.view_is) at c.requires))
