@@ -298,14 +298,18 @@ ring_one (x ∷ ports) id p found rings = elim (cases_Bool (nat_eq x.id.0 id)) [
 -- an own side, and the port of an id in it
 pub record Has (h : HoldState) (ports : List UserPort) (id : PortId) (p : UserPort) : Type 0 where
   pub found : port_at ports id.0 ≡ Some p
+  pub same_id : p.id ≡ id
   pub sided : AreSided ports
   pub rings : AreRings ports
+  pub flagged : AreFlagged h ports
   pub is_hold : IsHold h
   pub places : HasPlaces h ports
   pub filled : AreFilled h ports
 
 pub has_port : (o : Inside) (id : PortId) (p : UserPort) → IsKept o → port_at o.ports.items id.0 ≡ Some p → Has o.hold o.ports.items id p
-has_port o id p kept found = record { found = found; sided = kept.sided; rings = kept.rings; is_hold = kept.hold; places = kept.places; filled = kept.filled }
+has_port o id p kept found =
+    let same_id = ap (λ (n : ℕ). let i : PortId = record { 0 = n } in i) (id_of_found o.ports.items id.0 p found) in
+    record { found = found; same_id = same_id; sided = kept.sided; rings = kept.rings; flagged = kept.flagged; is_hold = kept.hold; places = kept.places; filled = kept.filled }
 
 -- the bytes of buffers of the hold, as they are seen
 pub bytes_found : (h : HoldState) (ports : List UserPort) (out : List Buffer) (idxs : List ℕ) → map Some out ≡ map (buffer_at h) idxs → bytes_of_buffers out ≡ map (bytes_at (own_seen h ports)) idxs
@@ -349,9 +353,6 @@ module _ {h now : HoldState} {places : List Place} {before after : List Buffer} 
 module _ (h : HoldState) (ports : List UserPort) (id : PortId) (p : UserPort) (has : Has h ports id p) where
   ring : IsRing p.rx.ring
   ring = ring_one ports id.0 p has.found has.rings
-
-  same_id : p.id ≡ id
-  same_id = ap (λ (n : ℕ). let i : PortId = record { 0 = n } in i) (id_of_found ports id.0 p has.found)
 
   pub is_held : (k : ℕ) → k < place_count p → IsSome (index_at h (held_place p k))
   is_held k below = some_of (index_at h (held_place p k)) (has.filled (held_place p k) ∙ filled_in_one ports id.0 p (held_place p k) has.found (held_filled p k ring below))
@@ -398,7 +399,7 @@ module _ (h : HoldState) (ports : List UserPort) (id : PortId) (p : UserPort) (h
   pub chain_is : chain_of (extras_of h p.id) (link_at h) p.extra_head ≡ chain_in (own_seen h ports) (port_seen h p)
   chain_is =
       let size : extra_of h.ports p.id.0 ≡ p.extra =
-      ap (λ (i : PortId). extra_of h.ports i.0) same_id ∙ (ap (λ (all : List PortPlaces). extra_of all id.0) has.places ∙ extra_size ports id.0 p has.found) in
+      ap (λ (i : PortId). extra_of h.ports i.0) has.same_id ∙ (ap (λ (all : List PortPlaces). extra_of all id.0) has.places ∙ extra_size ports id.0 p has.found) in
       let extras : extras_of h p.id ≡ (port_seen h p).extra = ap (λ (n : ℕ). filter_map (λ (at : ℕ). index_at h (place.Extra p.id at)) (range_with_len 0 n)) size
       ∙ all_found (λ (at : ℕ). index_at h (place.Extra p.id at)) 0 p.extra (λ k below. has.filled (place.Extra p.id k) ∙ filled_in_one ports id.0 p (place.Extra p.id k) has.found (extra_filled k (omega arith))) in
       ap (λ (xs : List ℕ). chain_of xs (link_at h) p.extra_head) extras ∙ chain_alike (port_seen h p).extra (link_at h) (λ idx. link_of (bytes_at (own_seen h ports) idx)) p.extra_head (link_seen h ports)
@@ -415,7 +416,7 @@ module _ (h : HoldState) (ports : List UserPort) (id : PortId) (p : UserPort) (h
   -- once its buffers were taken out
   module _ (now : HoldState) (before after : List Buffer) (taken : AreTaken h now (held_places p (place_count p)) before after) where
     elsewhere : (q : Place) → nat_eq (port_of q) id.0 ≡ false → index_at now q ≡ index_at h q
-    elsewhere q other = taken.index q ∙ ap (λ (b : Bool). if b then None else index_at h q) (elsewhere_none p (place_count p) q (rw same_id other))
+    elsewhere q other = taken.index q ∙ ap (λ (b : Bool). if b then None else index_at h q) (elsewhere_none p (place_count p) q (rw has.same_id other))
 
     numbers : map (number_at h) (held_places p (place_count p)) ≡ buffers_with_id (own_seen h ports) id.0
     numbers = sym numbers_are

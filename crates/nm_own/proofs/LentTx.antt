@@ -1,5 +1,5 @@
--- Puts whose buffers are lent out.
-use Rattle.std.proofs.Common.{ℕ, zero, suc, map, fold, take, drop, nat_eq, ◌≡◌, ◌<◌, ◌≤◌, ◌+◌, ◌-◌, true, false, nat_le, nat_lt, List, [], ◌∷◌, ◌++◌, length, Option, Some, None, inl, inr, refl, sym, ◌∙◌, ap, arith}
+-- The slots that a put offers, and the buffers in their places once its push is exchanged.
+use Rattle.std.proofs.Common.{ℕ, zero, suc, map, fold, take, nat_eq, ◌≡◌, ◌<◌, ◌≤◌, ◌+◌, ◌-◌, true, false, nat_le, nat_lt, List, [], ◌∷◌, ◌++◌, length, Option, Some, None, inl, inr, refl, sym, ◌∙◌, ap, arith}
 use Rattle.std.specs.Prelude.{IsSome}
 use Rattle.std.specs.List.{range_with_len}
 use Rattle.std.proofs.lemmas.List.{length-map}
@@ -10,38 +10,32 @@ use Rattle.std.proofs.lemmas.List.Folds.{list_any-append}
 use Rattle.nm_types.specs.declared.id.PortId.{PortId}
 use Rattle.nm_types.specs.declared.id.Side.{Side}
 use Rattle.nm_types.specs.declared.id.Side.TheVariants as side
-use Rattle.nm_types.specs.OwnPorts.{OwnPort, bytes_at, buffer_in, pushed_on}
+use Rattle.nm_types.specs.OwnPorts.{OwnPort, buffer_in, pushed_on}
 use Rattle.nm_types.specs.OwnSyncs.{after_slot, after_exchange, taken_from, taken_on}
 use Rattle.nm_types.specs.declared.place.Place.TheVariants as place
 use Rattle.nm_types.specs.Places.{is_same_place}
 use Rattle.nm_types.specs.Positions.{IsRing, FitsRing, dist, step_on, slots_from, pending_slots, pushed_slots, user_slots}
 use Rattle.nm_types.proofs.RingSteps.{dist-below, dist-add, dist_behind, step_on-below, step_on-dist, step_on-step_on, length-slots_from}
-use Rattle.nm_region.specs.Buffers.{Buffer, indices_of}
 use Rattle.nm_hold.specs.declared.standing.Standing.{Standing}
 use Rattle.nm_hold.specs.Holds.{HoldState, index_at, standing_at, stands_at, is_named_in}
 use Rattle.nm_hold.proofs.Spots.{same_place-is}
 use Rattle.nm_port.specs.declared.port.UserPort.{UserPort}
-use Rattle.nm_own.specs.declared.lend_offers.LentOffers.{LentOffers}
-use Rattle.nm_own.specs.declared.own.OwnSide.TheInside.{Inside}
 use Rattle.nm_port.specs.RingSlots.{RingSlots}
-use Rattle.nm_port.specs.Regions.{SideState}
 use Rattle.nm_port.specs.Sides.{place_on, number_at, pushed_seen}
 use Rattle.nm_port.specs.Own.{number_on, ring_seen, port_seen, own_seen, port_at, slots_at, named_ring_places, named_places}
 use Rattle.nm_port.specs.Exchanges.{is_among, pushed_count_of, user_position, user_place, AreExchanged, CanPushOut}
 use Rattle.nm_port.specs.Puts.{offered_slot}
 use Rattle.nm_port.specs.Lending.{AreNamedAs}
-use Rattle.nm_port.specs.Closing.{AreTaken, bytes_of_buffers}
-use Rattle.nm_own.specs.LentOffers.{pending_count_of, offered_count_of, offered_count, offered_buffers, IsLentOffers}
+use Rattle.nm_own.specs.LentSides.{pending_count_of, offered_count_of, offered_count, offered_buffers}
 use Rattle.nm_own.proofs.Tests.{some_is, some_of, some_true}
-use Rattle.nm_own.proofs.Closing.{sided_one, out_behind, out_indices, out_bytes}
+use Rattle.nm_own.proofs.Closing.{sided_one}
 use Rattle.nm_port.proofs.Checked.{ring_found}
 use Rattle.nm_port.proofs.Seeing.{pushed_is_seen}
 use Rattle.nm_port.specs.Offers.{length_seen}
 use Rattle.nm_port.proofs.Pushes.{offered_are}
 use Rattle.nm_own.proofs.Offered.{lengths_are_seen}
-use Rattle.nm_own.proofs.Lent.{few_pushed}
 use Rattle.nm_own.proofs.OnePort.{Among, among, named_at}
-use Rattle.nm_own.proofs.Passing.{Passes, passes_of, ring_is, own_side, positions_fit, ports_once}
+use Rattle.nm_own.proofs.Passing.{Passes, ring_is, own_side, positions_fit, ports_once}
 use Rattle.nm_port.proofs.Ranges.{is_slot_from}
 use Rattle.nm_own.proofs.Pushed.{among_tx, rest_not_tx, slots_held, can_exchange}
 
@@ -86,7 +80,7 @@ module _ (h : HoldState) (ports : List UserPort) (id : PortId) (p : UserPort) (r
       omega (arith, pending_is)
 
   others : Among ports id.0 p
-  others = among ports id.0 p x.there (ports_once h ports side.Tx id p r x)
+  others = among ports id.0 p x.has.found (ports_once h ports side.Tx id p r x)
 
   can : CanPushOut 0 r
   can = record { side = tx_side; is_ring = ring_of_put; fits = fits_of_put; few = omega arith }
@@ -103,10 +97,10 @@ module _ (h : HoldState) (ports : List UserPort) (id : PortId) (p : UserPort) (r
       let in_ring : is_among (named_ring_places id r) q ≡ false =
       rw tx_side (among_tx id (user_slots r.ring) at ∙ (is_slot_from size r.ring.accepted_head (dist size r.ring.accepted_head r.ring.last_tail) at ring_of_put.accepted (omega arith) inside
       ∙ not_less (dist size r.ring.accepted_head at) (dist size r.ring.accepted_head r.ring.last_tail) (omega (arith, far)))) in
-      let rest = rest_not_tx id r 0 ring_of_put can p at (sided_one ports id.0 p x.there x.sided).1 in
+      let rest = rest_not_tx id r 0 ring_of_put can p at (sided_one ports id.0 p x.has.found x.has.sided).1 in
       ap (λ (all : List UserPort). is_among (named_places all) q) others.are
       ∙ (named_at id.0 others.before others.behind p q others.first others.rest refl
-      ∙ rw (x.on, x.same_id) (list_any-append (λ y. is_same_place y q) (named_ring_places id r) _ ∙ rw in_ring (rw x.same_id at rest)))
+      ∙ rw (x.on, x.has.same_id) (list_any-append (λ y. is_same_place y q) (named_ring_places id r) _ ∙ rw in_ring (rw x.has.same_id at rest)))
 
   module _ (h1 : HoldState) (exchange : AreExchanged h h1 id r (pushed_count_of r)) where
     pub still_held : (at : ℕ) → at < size → IsSome (index_at h1 (place.Tx id at))
@@ -123,7 +117,7 @@ module _ (h : HoldState) (ports : List UserPort) (id : PortId) (p : UserPort) (r
         by_cell (Some s) e =
             let q = place.Tx id (step_on size first k) in
             let same : q ≡ s.home.place = same_place-is q s.home.place (sym (ap (stands_at q) e) ∙ exchange.is_hold.held q i there) in
-            exchange.flags (is_among (named_places ports)) x.flagged i s e ∙ (ap (is_among (named_places ports)) (sym same) ∙ not_user k below)
+            exchange.flags (is_among (named_places ports)) x.has.flagged i s e ∙ (ap (is_among (named_places ports)) (sym same) ∙ not_user k below)
 
     pub offered_flags : (k : ℕ) → k < offered_count_of r → AreNamedAs (nat_le (pending_count_of r) k) h1 (place_on r.side id (step_on size first k))
     offered_flags k below = elim (cases_lt k (pending_count_of r)) [
@@ -140,7 +134,7 @@ module _ (h : HoldState) (ports : List UserPort) (id : PortId) (p : UserPort) (r
     pub exchanged_seen : map (port_seen h1) ports ≡ (after_exchange side.Tx id.0 (own_seen h ports)).ports
     exchanged_seen =
         let pushed : pushed_on side.Tx id.0 (own_seen h ports) ≡ pushed_seen h id r = rw (ring_found h ports side.Tx id r x.at) (pushed_is_seen h id side.Tx r tx_side ring_of_put fits_of_put) in
-        exchange.seen ports x.sided (ap (λ (s : Side). slots_at s ports id.0) tx_side ∙ x.at)
+        exchange.seen ports x.has.sided (ap (λ (s : Side). slots_at s ports id.0) tx_side ∙ x.at)
         ∙ (ap (λ (s : Side). fold (after_slot s id.0) (map (port_seen h) ports) (pushed_seen h id r)) tx_side ∙ ap (fold (after_slot side.Tx id.0) (map (port_seen h) ports)) (sym pushed))
 
     taken_seen : (all : List UserPort) (n : ℕ) → port_at all id.0 ≡ Some p → taken_on id.0 (map (port_seen h1) all) n ≡ taken_from n (ring_seen h1 id r)
@@ -148,7 +142,7 @@ module _ (h : HoldState) (ports : List UserPort) (id : PortId) (p : UserPort) (r
     taken_seen (y ∷ all) n there = elim (cases_Bool (nat_eq y.id.0 id.0)) [
       | inl here ↦ (let is_p : y ≡ p = some_is y p (rw here at there) in
           let tx_y : y.tx ≡ Some r = ap (λ (z : UserPort). z.tx) is_p ∙ x.on in
-          let id_y : y.id ≡ id = ap (λ (z : UserPort). z.id) is_p ∙ x.same_id in
+          let id_y : y.id ≡ id = ap (λ (z : UserPort). z.id) is_p ∙ x.has.same_id in
           rw (here, tx_y, id_y) refl)
       | inr other ↦ rw other (taken_seen all n (rw other at there))
     ]
@@ -168,45 +162,13 @@ module _ (h : HoldState) (ports : List UserPort) (id : PortId) (p : UserPort) (r
         let slots : take n (pending_slots r.ring ++ pushed_slots r.ring r.ring.head) ≡ slots_from size first n =
         ap (take n) (sym (offered_are r.ring ring_of_put)) ∙ take-map-range_with_len (step_on size first) 0 (offered_count_of r) n few in
         ap (λ (all : List OwnPort). taken_on id.0 all n) (sym exchanged_seen)
-        ∙ (taken_seen ports n x.there ∙ (ap (map (buffer_in side.Tx (ring_seen h1 id r))) slots ∙ numbers_in 0 n))
+        ∙ (taken_seen ports n x.has.found ∙ (ap (map (buffer_in side.Tx (ring_seen h1 id r))) slots ∙ numbers_in 0 n))
 
   pub offered_number : offered_count id.0 (own_seen h ports) ≡ offered_count_of r
   offered_number =
-      ap (λ (ns : List ℕ). length ns) (sym (lengths_are_seen h ports id r x.sided x.at))
+      ap (λ (ns : List ℕ). length ns) (sym (lengths_are_seen h ports id r x.has.sided x.at))
       ∙ (length-map (pending_slots r.ring ++ pushed_slots r.ring r.ring.head) (length_seen r)
       ∙ (ap (λ (ats : List ℕ). length ats) (sym (offered_are r.ring ring_of_put)) ∙ length-slots_from size first (offered_count_of r)))
 
-  module _ (h1 h2 : HoldState) (exchange : AreExchanged h h1 id r (pushed_count_of r)) (before after : List Buffer) (taken : AreTaken h1 h2 (map (place_on r.side id) (slots_from size first (offered_count_of r))) before after) where
-    numbers_go : map (number_at h1) (map (place_on r.side id) (slots_from size first (offered_count_of r))) ≡ offered_buffers id.0 (own_seen h ports)
-    numbers_go = sym (taken_numbers h1 exchange (offered_count_of r) (omega arith)) ∙ ap (taken_on id.0 (after_exchange side.Tx id.0 (own_seen h ports)).ports) (sym offered_number)
-
-    pub indices_go : indices_of (drop (length before) after) ≡ offered_buffers id.0 (own_seen h ports)
-    indices_go = out_indices taken (offered_buffers id.0 (own_seen h ports)) numbers_go
-
-    pub bytes_go : bytes_of_buffers (drop (length before) after) ≡ map (bytes_at (own_seen h ports)) (offered_buffers id.0 (own_seen h ports))
-    bytes_go = out_bytes taken h ports exchange.bufs (offered_buffers id.0 (own_seen h ports)) numbers_go
-
-    pub lent_number : length (drop (length before) after) ≡ offered_count_of r
-    lent_number =
-        ap (λ (bs : List Buffer). length bs) (out_behind taken) ∙ (sym (length-map taken.out (λ (b : Buffer). b.index)) ∙ (ap (λ (is : List ℕ). length is) taken.indices
-        ∙ (length-map (map (place_on r.side id) (slots_from size first (offered_count_of r))) (number_at h1)
-        ∙ (length-map (slots_from size first (offered_count_of r)) (place_on r.side id) ∙ length-slots_from size first (offered_count_of r)))))
-
-module _ (s : SideState) (lent : List Buffer) (l : LentOffers) (x : IsLentOffers s lent l) where
-  abbrev pub before_lending : Inside
-  before_lending = record { hold = x.was; ports = l.ports; marks = l.marks }
-
-  pub lends : (p : UserPort) × Passes x.was l.ports.items side.Tx l.port p x.r
-  lends = passes_of before_lending side.Tx l.port x.r x.kept x.ring x.passes
-
-  pub ring_lent : IsRing x.r.ring
-  ring_lent = ring_of_put x.was l.ports.items l.port lends.0 x.r lends.1
-
-  pub fits_lent : FitsRing x.r.ring x.r.ring.head x.r.ring.cur
-  fits_lent = fits_of_put x.was l.ports.items l.port lends.0 x.r lends.1
-
-  pub few_lent : length lent ≤ 1024
-  few_lent = let few = few_offered x.was l.ports.items l.port lends.0 x.r lends.1 in let most = ring_lent.is_size.1 in omega (arith, x.lent_count)
-
-  pub few_replaced : length l.replaced.items ≤ 1024
-  few_replaced = let few = few_pushed x.r ring_lent in omega (arith, x.few)
+  pub numbers_go : (h1 : HoldState) → AreExchanged h h1 id r (pushed_count_of r) → map (number_at h1) (map (place_on r.side id) (slots_from size first (offered_count_of r))) ≡ offered_buffers id.0 (own_seen h ports)
+  numbers_go h1 exchange = sym (taken_numbers h1 exchange (offered_count_of r) (omega arith)) ∙ ap (taken_on id.0 (after_exchange side.Tx id.0 (own_seen h ports)).ports) (sym offered_number)

@@ -24,8 +24,9 @@ pub mod GivenBack
 pub mod PutOne
 pub mod Published
 pub mod OwnLaws
-pub mod Lent
 pub mod LentTx
+pub mod LentSides
+pub mod Lent
 pub mod ComingIn
 pub mod Refilled
 pub mod TakenTx

@@ -115,13 +115,17 @@ back_with : (before behind : List UserPort) (p x : UserPort) → places_of_port 
 back_with [] behind p x sizes back have = (rw back (subst (λ (q : PortPlaces). count_of q.sizes ≤ p.back) (sym sizes) have.0), have.1)
 back_with (y ∷ before) behind p x sizes back have = (have.0, back_with before behind p x sizes back have.1)
 
--- a hold in which the places of the other ports are as they were, and those of this one as its changed port says
-pub record ChangesPort (h new : HoldState) (ports : List UserPort) (id : PortId) (p x : UserPort) : Type 0 where
+-- a port with the places of another, and rings on their sides
+pub record IsLike (p x : UserPort) : Type 0 where
   pub same_id : x.id ≡ p.id
   pub sizes : places_of_port x ≡ places_of_port p
   pub back : x.back ≡ p.back
   pub sides : IsTxSide x.tx × (x.rx.side ≡ Rx)
   pub rings : IsRingIf x.tx × IsRing x.rx.ring
+
+-- a hold in which the places of the other ports are as they were, and those of this one as its changed port says
+pub record ChangesPort (h new : HoldState) (ports : List UserPort) (id : PortId) (p x : UserPort) : Type 0 where
+  pub like : IsLike p x
   pub elsewhere : (q : Place) → nat_eq (port_of q) id.0 ≡ false → is_some (index_at new q) ≡ is_some (index_at h q)
   pub filled : (q : Place) → port_of q ≡ id.0 → is_some (index_at new q) ≡ is_filled_in q x
   pub flags_elsewhere : (i : ℕ) (s : Standing) → standing_at new i ≡ Some s → nat_eq (port_of s.home.place) id.0 ≡ false → s.home.named ≡ is_among (named_places ports) s.home.place
@@ -135,7 +139,7 @@ pub kept_with : (o new : Inside) (id : PortId) (p x : UserPort) → IsKept o →
     → new.ports.items ≡ m.before ++ x ∷ m.behind → new.marks ≡ o.marks → IsKept new
 kept_with o new id p x kept same m step ports_are marks_are =
     let p_id : p.id.0 ≡ id.0 = ap (λ (i : PortId). i.0) same in
-    let x_id : x.id.0 ≡ id.0 = ap (λ (i : PortId). i.0) step.same_id ∙ p_id in
+    let x_id : x.id.0 ≡ id.0 = ap (λ (i : PortId). i.0) step.like.same_id ∙ p_id in
     let filled : (q : Place) → is_some (index_at new.hold q) ≡ is_filled (m.before ++ x ∷ m.behind) q = (λ q. elim (cases_Bool (nat_eq (port_of q) id.0)) [
       | inl here ↦ (let at : port_of q ≡ id.0 = nat_eq-is (port_of q) id.0 here in step.filled q at ∙ sym (filled_at id.0 m.before m.behind x q m.first m.rest at))
       | inr other ↦ step.elsewhere q other ∙ (kept.filled q ∙ (ap (λ (all : List UserPort). is_filled all q) m.are ∙ filled_alike id.0 m.before m.behind p x q p_id x_id other))
@@ -145,15 +149,15 @@ kept_with o new id p x kept same m step ports_are marks_are =
       | inr other ↦ step.flags_elsewhere i s there other ∙ (ap (λ (all : List UserPort). is_among (named_places all) s.home.place) m.are ∙ named_alike id.0 m.before m.behind p x s.home.place p_id x_id other)
     ]) in
     record {
-      sided = rw ports_are (sided_with m.before m.behind p x step.sides (rw m.are at kept.sided));
-      rings = rw ports_are (rings_with m.before m.behind p x step.rings (rw m.are at kept.rings));
+      sided = rw ports_are (sided_with m.before m.behind p x step.like.sides (rw m.are at kept.sided));
+      rings = rw ports_are (rings_with m.before m.behind p x step.like.rings (rw m.are at kept.rings));
       flagged = rw ports_are flagged;
       hold = step.is_hold;
-      places = rw ports_are (step.same_ports ∙ (kept.places ∙ (ap (map places_of_port) m.are ∙ sym (places_with m.before m.behind p x step.sizes))));
+      places = rw ports_are (step.same_ports ∙ (kept.places ∙ (ap (map places_of_port) m.are ∙ sym (places_with m.before m.behind p x step.like.sizes))));
       filled = rw ports_are filled;
       whole = step.whole;
       blank = marks_are ∙ (kept.blank ∙ ap (λ (n : ℕ). replicate (n + 2) false) (sym step.count));
-      back = rw ports_are (back_with m.before m.behind p x step.sizes step.back (rw m.are at kept.back));
+      back = rw ports_are (back_with m.before m.behind p x step.like.sizes step.like.back (rw m.are at kept.back));
     }
 
 -- how it is seen

@@ -16,19 +16,20 @@ use Rattle.nm_types.proofs.RingSteps.{length-slots_from}
 use Rattle.nm_slot.proofs.CheckLaws.{passed_slots_pass, passed_names_once}
 use Rattle.nm_hold.specs.declared.standing.Standing.{Standing}
 use Rattle.nm_hold.specs.Offsets.{ArePortsOnce}
-use Rattle.nm_hold.specs.Holds.{HoldState, buffers_of, index_at, standing_at, is_named_at, is_named_in, stands_at, IsHold}
+use Rattle.nm_hold.specs.Holds.{HoldState, buffers_of, index_at, standing_at, is_named_at, is_named_in, stands_at}
 use Rattle.nm_hold.proofs.Spots.{same_place-is}
 use Rattle.nm_port.specs.declared.port.UserPort.{UserPort}
 use Rattle.nm_own.specs.declared.own.OwnSide.TheInside.{Inside}
 use Rattle.nm_port.specs.RingSlots.{RingSlots}
 use Rattle.nm_port.specs.Sides.{place_on, name_at, names_pushed, pushed_seen, pushed_seen_at}
-use Rattle.nm_port.specs.Own.{own_seen, port_at, slots_on, slots_at, refusal_at, named_places, places_of_port, is_filled, AreFilled, AreFlagged, AreSided, AreRings, HasPlaces}
+use Rattle.nm_port.specs.Own.{own_seen, slots_on, slots_at, refusal_at, named_places, places_of_port, is_filled}
 use Rattle.nm_port.specs.Regions.{SideState, side_seen}
 use Rattle.nm_own.specs.Kept.{IsKept}
 use Rattle.nm_own.specs.FittingRings.{IsFittingRing}
 use Rattle.nm_port.specs.Exchanges.{IsNamedThere, pushed_count_of, user_position, user_place, is_among, CanExchange}
 use Rattle.nm_port.proofs.Judging.{false_true, same_eq}
 use Rattle.nm_own.proofs.Tests.{some_of}
+use Rattle.nm_own.proofs.Closing.{Has, has_port}
 use Rattle.nm_own.proofs.Naming.{are_named}
 use Rattle.nm_port.proofs.Seeing.{get-slots}
 use Rattle.nm_port.proofs.Pushes.{names-seen}
@@ -48,15 +49,8 @@ each_named side pool named earlier f size first a (suc n) passes (suc k) below =
 
 -- the own side of a push that passes
 pub record Passes (h : HoldState) (ports : List UserPort) (side : Side) (id : PortId) (p : UserPort) (r : RingSlots) : Type 0 where
-  pub sided : AreSided ports
-  pub rings : AreRings ports
-  pub flagged : AreFlagged h ports
-  pub is_hold : IsHold h
-  pub places : HasPlaces h ports
-  pub filled : AreFilled h ports
-  pub there : port_at ports id.0 ≡ Some p
+  pub has : Has h ports id p
   pub on : slots_on side p ≡ Some r
-  pub same_id : p.id ≡ id
   pub at : slots_at side ports id.0 ≡ Some r
   pub passes : refusal_at side id.0 (own_seen h ports) ≡ None
 
@@ -64,36 +58,36 @@ pub passes_of : (o : Inside) (side : Side) (id : PortId) (r : RingSlots) → IsK
     → (p : UserPort) × Passes o.hold o.ports.items side id p r
 passes_of o side id r kept at passes =
     let f = found o.ports.items side id r at in
-    (f.p, record { sided = kept.sided; rings = kept.rings; flagged = kept.flagged; is_hold = kept.hold; places = kept.places; filled = kept.filled; there = f.there; on = f.on; same_id = f.id; at = at; passes = passes })
+    (f.p, record { has = has_port o id f.p kept f.there; on = f.on; at = at; passes = passes })
 
 module _ (h : HoldState) (ports : List UserPort) (side : Side) (id : PortId) (p : UserPort) (r : RingSlots) (x : Passes h ports side id p r) where
   pub ring_is : IsRing r.ring
   ring_is = by_side side x.at
     where
       by_side : (s : Side) → slots_at s ports id.0 ≡ Some r → IsRing r.ring
-      by_side Tx at = tx_ring_found ports id r x.rings at
-      by_side Rx at = rx_ring_found ports id r x.rings at
+      by_side Tx at = tx_ring_found ports id r x.has.rings at
+      by_side Rx at = rx_ring_found ports id r x.has.rings at
 
   pub own_side : r.side ≡ side
-  own_side = side_found ports side id r x.sided x.at
+  own_side = side_found ports side id r x.has.sided x.at
 
   pub positions_fit : FitsRing r.ring r.ring.head r.ring.cur
-  positions_fit = passed_fits h ports side id r x.sided ring_is x.at x.passes
+  positions_fit = passed_fits h ports side id r x.has.sided ring_is x.at x.passes
 
   pub ports_once : ArePortsOnce (map places_of_port ports)
-  ports_once = rw (← x.places) x.is_hold.once
+  ports_once = rw (← x.has.places) x.has.is_hold.once
 
   pub named_there : (q : Place) → is_among (named_places ports) q ≡ true → IsNamedThere h q
-  named_there q among i e = by_cell (standing_at h i) refl (x.is_hold.held q i e)
+  named_there q among i e = by_cell (standing_at h i) refl (x.has.is_hold.held q i e)
     where
       by_cell : (o : Option Standing) → standing_at h i ≡ o → stands_at q (standing_at h i) ≡ true → is_named_at h i ≡ true
       by_cell None none stands = false_true (ap (stands_at q) (sym none) ∙ stands)
       by_cell (Some s) some stands =
           let same : q ≡ s.home.place = same_place-is q s.home.place (sym (ap (stands_at q) some) ∙ stands) in
-          ap is_named_in some ∙ (x.flagged i s some ∙ (ap (is_among (named_places ports)) (sym same) ∙ among))
+          ap is_named_in some ∙ (x.has.flagged i s some ∙ (ap (is_among (named_places ports)) (sym same) ∙ among))
 
   slots_pass : EachPasses r.side (buffers_of h) (named_of (own_seen h ports)) [] (pushed_seen h id r)
-  slots_pass = passed_slots_pass r.side (buffers_of h) (named_of (own_seen h ports)) r.ring (pushed_seen h id r) (sym (refusal_is_seen h ports side id r x.sided ring_is x.at) ∙ x.passes)
+  slots_pass = passed_slots_pass r.side (buffers_of h) (named_of (own_seen h ports)) r.ring (pushed_seen h id r) (sym (refusal_is_seen h ports side id r x.has.sided ring_is x.at) ∙ x.passes)
 
   each : (k : ℕ) → k < pushed_count_of r → is_named_at h (name_at r (user_position r k)) ≡ true
   each k below =
@@ -101,7 +95,7 @@ module _ (h : HoldState) (ports : List UserPort) (side : Side) (id : PortId) (p 
       let one = each_named r.side (buffers_of h) named [] (pushed_seen_at h id r) r.ring.size r.ring.accepted_head 0 (pushed_count_of r) slots_pass k below in
       let first : 0 + k ≡ k = omega arith in
       let at = rw first at one in
-      are_named h ports x.sided x.rings x.flagged x.is_hold (name_at r (user_position r k)) at.1 ∙ at.0
+      are_named h ports x.has.sided x.has.rings x.has.flagged x.has.is_hold (name_at r (user_position r k)) at.1 ∙ at.0
 
   names_once : (j k : ℕ) → j < k → k < pushed_count_of r → name_at r (user_position r j) ≢ name_at r (user_position r k)
   names_once j k less below same =
@@ -118,11 +112,11 @@ module _ (h : HoldState) (ports : List UserPort) (side : Side) (id : PortId) (p 
       → CanExchange h id r
   can_exchange_at filled named = record {
     fits = positions_fit;
-    held = λ k below. some_of (index_at h (user_place id r k)) (rw own_side (x.filled (place_on side id (user_position r k)) ∙ filled k below));
+    held = λ k below. some_of (index_at h (user_place id r k)) (rw own_side (x.has.filled (place_on side id (user_position r k)) ∙ filled k below));
     there = λ k below. rw own_side (named_there (place_on side id (user_position r k)) (named k below));
     named = each;
     once = names_once;
-    is_hold = x.is_hold;
+    is_hold = x.has.is_hold;
   }
 
 -- a ring whose check passes is there, and its positions fit

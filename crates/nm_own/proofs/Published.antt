@@ -28,7 +28,7 @@ use Rattle.nm_port.specs.declared.port.UserPort.{UserPort}
 use Rattle.nm_own.specs.declared.own.OwnSide.TheInside.{Inside}
 use Rattle.nm_port.specs.RingSlots.{RingSlots}
 use Rattle.nm_port.specs.Sides.{number_at}
-use Rattle.nm_port.specs.Own.{number_on, ring_seen, port_seen, own_seen, port_at, slots_at, bytes_in_cell, named_places_of, named_places, places_of_port, is_filled, is_filled_in, AreFilled, AreFlagged, AreSided, AreRings, AreWhole, HasPlaces}
+use Rattle.nm_port.specs.Own.{number_on, ring_seen, port_seen, own_seen, port_at, slots_at, bytes_in_cell, named_places_of, named_places, places_of_port, is_filled, is_filled_in, AreWhole}
 use Rattle.nm_own.specs.Kept.{IsKept}
 use Rattle.nm_port.specs.Filling.{placed}
 use Rattle.nm_port.specs.Exchanges.{is_among}
@@ -37,14 +37,15 @@ use Rattle.nm_port.proofs.Judging.{false_true, same_eq}
 use Rattle.nm_port.proofs.PortOut.{IsOther}
 use Rattle.nm_own.proofs.Tests.{some_is, less_true, less_is, or_none, and-is, or_second}
 use Rattle.nm_own.proofs.Opening.{none_if}
+use Rattle.nm_own.proofs.Closing.{Has, has_port}
 use Rattle.nm_port.proofs.SlotLists.{accepted_ring}
 use Rattle.nm_port.proofs.Seeing.{map-slots, port_same}
 use Rattle.nm_port.proofs.Pushes.{seen_more}
 use Rattle.nm_port.proofs.Checked.{found, ring_found, ring_not_found, side_found}
 use Rattle.nm_own.proofs.Offered.{rx_ring_found}
 use Rattle.nm_port.proofs.Ranges.{is_slot_from}
-use Rattle.nm_own.proofs.OnePort.{Among, among, ChangesPort, filled_at, named_at, seen_with, tx_side_of, tx_ring_of}
-use Rattle.nm_own.proofs.RxPlaces.{filled_named, named_alike, with_rx, seen_with_rx}
+use Rattle.nm_own.proofs.OnePort.{Among, among, ChangesPort, filled_at, named_at, seen_with, tx_side_of}
+use Rattle.nm_own.proofs.RxPlaces.{like_with_rx, filled_named, named_alike, with_rx, seen_with_rx}
 use Rattle.nm_own.proofs.PutOne.{stands_here, stood_there, bytes_with_one, count_with_one, ports_with_one, whole_with_one}
 
 not_itself : (n : ℕ) → nat_lt n n ≡ false
@@ -55,15 +56,8 @@ port_of_id port id e = ap (λ (n : ℕ). let i : PortId = record { 0 = n } in i)
 
 -- an own side with a receive ring that has a free slot
 pub record Receives (h : HoldState) (ports : List UserPort) (id : PortId) (p : UserPort) (r : RingSlots) : Type 0 where
-  pub sided : AreSided ports
-  pub rings : AreRings ports
-  pub flagged : AreFlagged h ports
-  pub is_hold : IsHold h
-  pub places : HasPlaces h ports
-  pub filled : AreFilled h ports
-  pub there : port_at ports id.0 ≡ Some p
+  pub has : Has h ports id p
   pub on : p.rx ≡ r
-  pub same_id : p.id ≡ id
   pub is_ring : IsRing r.ring
   pub room : HasRoom r
 
@@ -90,7 +84,7 @@ receives_of o id r kept at can =
     let side = side_found o.ports.items Rx id r kept.sided at in
     let is = rx_ring_found o.ports.items id r kept.rings at in
     let free : has_free_slot r.ring ≡ true = sym (ap (λ (o : Option OwnRing). option_map_or (λ (t : OwnRing). has_free_slot t.ring) o false) (ring_found o.hold o.ports.items Rx id r at)) ∙ can in
-    (f.p, record { sided = kept.sided; rings = kept.rings; flagged = kept.flagged; is_hold = kept.hold; places = kept.places; filled = kept.filled; there = f.there; on = some_is f.p.rx r f.on; same_id = f.id; is_ring = is; room = room_of r side is free })
+    (f.p, record { has = has_port o id f.p kept f.there; on = some_is f.p.rx r f.on; is_ring = is; room = room_of r side is free })
 
 pub cannot_receive : (h : HoldState) (ports : List UserPort) (id : ℕ) → slots_at Rx ports id ≡ None → can_receive id (own_seen h ports) ≡ true → ⊥
 cannot_receive h ports id none can = clash (sym can ∙ ap (λ (o : Option OwnRing). option_map_or (λ (t : OwnRing). has_free_slot t.ring) o false) (ring_not_found h ports Rx id none))
@@ -129,13 +123,13 @@ module _ (h : HoldState) (ports : List UserPort) (id : PortId) (p : UserPort) (r
   its_positions = rw x.on x.is_ring
 
   same_number : p.id.0 ≡ id.0
-  same_number = ap (λ (i : PortId). i.0) x.same_id
+  same_number = ap (λ (i : PortId). i.0) x.has.same_id
 
   tail_within : tail < size
   tail_within = let e = x.is_ring.one_tail in let w = x.is_ring.within in omega arith
 
   pub others : Among ports id.0 p
-  others = among ports id.0 p x.there (rw (← x.places) x.is_hold.once)
+  others = among ports id.0 p x.has.found (rw (← x.has.places) x.has.is_hold.once)
 
   filled_here : (q : Place) → port_of q ≡ id.0 → is_filled ports q ≡ is_filled_in q p
   filled_here q at = ap (λ (all : List UserPort). is_filled all q) others.are ∙ filled_at id.0 others.before others.behind p q others.first others.rest at
@@ -145,10 +139,10 @@ module _ (h : HoldState) (ports : List UserPort) (id : PortId) (p : UserPort) (r
 
   -- the slot at the tail is empty
   pub belongs : has_place h.ports spot ≡ true
-  belongs = rw x.places (has_place_of ports id.0 p spot x.there (rw (x.same_id, x.on, same_eq id.0 id.0 refl, less_true tail size tail_within) refl))
+  belongs = rw x.has.places (has_place_of ports id.0 p spot x.has.found (rw (x.has.same_id, x.on, same_eq id.0 id.0 refl, less_true tail size tail_within) refl))
 
   pub empty : index_at h spot ≡ None
-  empty = none_if (index_at h spot) (x.filled spot ∙ (filled_here spot refl ∙ rw (x.same_id, x.on, same_eq id.0 id.0 refl, less_true tail size tail_within, not_itself (dist size r.ring.accepted_head tail)) refl))
+  empty = none_if (index_at h spot) (x.has.filled spot ∙ (filled_here spot refl ∙ rw (x.has.same_id, x.on, same_eq id.0 id.0 refl, less_true tail size tail_within, not_itself (dist size r.ring.accepted_head tail)) refl))
 
   -- one slot more is the user's
   farther : dist size first (step_on size tail 1) ≡ count + 1
@@ -201,10 +195,10 @@ module _ (h : HoldState) (ports : List UserPort) (id : PortId) (p : UserPort) (r
     filled_rx at =
         let q = place.Rx id at in
         let same : is_same_place spot q ≡ nat_eq tail at = rw (same_eq id.0 id.0 refl) refl in
-        let one : is_some (index_at new q) ≡ (is_filled_in q p || nat_eq tail at) = ap is_some (places q) ∙ (ap (λ (b : Bool). is_some (if b then Some buf.index else index_at h q)) same ∙ (is_some_if (nat_eq tail at) (index_at h q) ∙ ap (λ (b : Bool). b || nat_eq tail at) (x.filled q ∙ filled_here q refl))) in
+        let one : is_some (index_at new q) ≡ (is_filled_in q p || nat_eq tail at) = ap is_some (places q) ∙ (ap (λ (b : Bool). is_some (if b then Some buf.index else index_at h q)) same ∙ (is_some_if (nat_eq tail at) (index_at h q) ∙ ap (λ (b : Bool). b || nat_eq tail at) (x.has.filled q ∙ filled_here q refl))) in
         elim (cases_Bool (nat_lt at size)) [
-          | inl inside ↦ one ∙ rw (x.same_id, x.on, same_eq id.0 id.0 refl, inside) (sym (user_more at (less_is at size inside)))
-          | inr outside ↦ one ∙ rw (x.same_id, x.on, same_eq id.0 id.0 refl, outside) (not_tail outside)
+          | inl inside ↦ one ∙ rw (x.has.same_id, x.on, same_eq id.0 id.0 refl, inside) (sym (user_more at (less_is at size inside)))
+          | inr outside ↦ one ∙ rw (x.has.same_id, x.on, same_eq id.0 id.0 refl, outside) (not_tail outside)
         ]
       where
         is_some_if : (b : Bool) (o : Option ℕ) → is_some (if b then Some buf.index else o) ≡ (is_some o || b)
@@ -220,8 +214,8 @@ module _ (h : HoldState) (ports : List UserPort) (id : PortId) (p : UserPort) (r
         ]
 
     filled_now : (q : Place) → port_of q ≡ id.0 → is_some (index_at new q) ≡ is_filled_in q with_frame
-    filled_now (place.Tx port at) here = ap is_some (places (place.Tx port at)) ∙ (x.filled (place.Tx port at) ∙ filled_here (place.Tx port at) here)
-    filled_now (place.Extra port at) here = ap is_some (places (place.Extra port at)) ∙ (x.filled (place.Extra port at) ∙ filled_here (place.Extra port at) here)
+    filled_now (place.Tx port at) here = ap is_some (places (place.Tx port at)) ∙ (x.has.filled (place.Tx port at) ∙ filled_here (place.Tx port at) here)
+    filled_now (place.Extra port at) here = ap is_some (places (place.Extra port at)) ∙ (x.has.filled (place.Extra port at) ∙ filled_here (place.Extra port at) here)
     filled_now (place.Rx port at) here = rw (port_of_id port id here) (filled_rx at)
 
     in_spot : is_some (index_at new spot) ≡ true
@@ -229,18 +223,18 @@ module _ (h : HoldState) (ports : List UserPort) (id : PortId) (p : UserPort) (r
 
     flags_now : (i : ℕ) (s : Standing) → standing_at new i ≡ Some s → port_of s.home.place ≡ id.0 → s.home.named ≡ is_among (named_places_of with_frame) s.home.place
     flags_now i s there at = elim (cases_Bool (nat_eq buf.index i)) [
-      | inl here ↦ rw (← (stands_here h new spot true buf x.is_hold index cell i s there here)) (sym (filled_named with_frame id tail its_side ring_more (sym (filled_now spot refl) ∙ in_spot)))
+      | inl here ↦ rw (← (stands_here h new spot true buf x.has.is_hold index cell i s there here)) (sym (filled_named with_frame id tail its_side ring_more (sym (filled_now spot refl) ∙ in_spot)))
       | inr other ↦ (let q = s.home.place in
-          let stood = stood_there h new spot true buf x.is_hold index cell i s there other in
+          let stood = stood_there h new spot true buf x.has.is_hold index cell i s there other in
           let held : is_some (index_at new q) ≡ true = ap is_some (is_new.standing i s there).there in
-          let held_before : is_some (index_at h q) ≡ true = ap is_some (x.is_hold.standing i s stood).there in
-          x.flagged i s stood ∙ (named_here q at ∙ named_alike p moved q its_side its_side its_positions ring_more (sym (x.filled q ∙ filled_here q at) ∙ held_before) (sym (filled_now q at) ∙ held)))
+          let held_before : is_some (index_at h q) ≡ true = ap is_some (x.has.is_hold.standing i s stood).there in
+          x.has.flagged i s stood ∙ (named_here q at ∙ named_alike p moved q its_side its_side its_positions ring_more (sym (x.has.filled q ∙ filled_here q at) ∙ held_before) (sym (filled_now q at) ∙ held)))
     ]
 
     flags_elsewhere : (i : ℕ) (s : Standing) → standing_at new i ≡ Some s → nat_eq (port_of s.home.place) id.0 ≡ false → s.home.named ≡ is_among (named_places ports) s.home.place
     flags_elsewhere i s there differs = elim (cases_Bool (nat_eq buf.index i)) [
-      | inl here ↦ (let is = stands_here h new spot true buf x.is_hold index cell i s there here in false_true (sym differs ∙ same_eq (port_of s.home.place) id.0 (ap (λ (t : Standing). port_of t.home.place) (sym is))))
-      | inr other ↦ x.flagged i s (stood_there h new spot true buf x.is_hold index cell i s there other)
+      | inl here ↦ (let is = stands_here h new spot true buf x.has.is_hold index cell i s there here in false_true (sym differs ∙ same_eq (port_of s.home.place) id.0 (ap (λ (t : Standing). port_of t.home.place) (sym is))))
+      | inr other ↦ x.has.flagged i s (stood_there h new spot true buf x.has.is_hold index cell i s there other)
     ]
 
     all_bytes : length buf.bytes ≡ 2048
@@ -248,18 +242,14 @@ module _ (h : HoldState) (ports : List UserPort) (id : PortId) (p : UserPort) (r
 
     pub changes : AreWhole h → ChangesPort h new ports id p with_frame
     changes whole = record {
-      same_id = refl;
-      sizes = refl;
-      back = refl;
-      sides = (tx_side_of ports id.0 p x.there x.sided, its_side);
-      rings = (tx_ring_of ports id.0 p x.there x.rings, ring_more);
+      like = like_with_rx h ports id p moved x.has refl its_side ring_more;
       elsewhere = λ q other. ap is_some (elsewhere q other);
       filled = filled_now;
       flags_elsewhere = flags_elsewhere;
       flags = flags_now;
-      same_ports = ports_with_one h new spot true buf x.is_hold index cell;
-      count = count_with_one h new spot true buf x.is_hold index cell;
-      whole = whole_with_one h new spot true buf x.is_hold index cell all_bytes whole;
+      same_ports = ports_with_one h new spot true buf x.has.is_hold index cell;
+      count = count_with_one h new spot true buf x.has.is_hold index cell;
+      whole = whole_with_one h new spot true buf x.has.is_hold index cell all_bytes whole;
       is_hold = is_new;
     }
 
@@ -277,14 +267,14 @@ module _ (h : HoldState) (ports : List UserPort) (id : PortId) (p : UserPort) (r
           | inr differs ↦ differs
         ] in
         let none : is_same_place spot (place.Rx id at) ≡ false = rw (same_eq id.0 id.0 refl) other in
-        ap (λ (i : PortId). number_at new (place.Rx i at)) x.same_id
+        ap (λ (i : PortId). number_at new (place.Rx i at)) x.has.same_id
         ∙ (ap (λ (o : Option ℕ). unwrap_or o 0) (places (place.Rx id at) ∙ ap (λ (b : Bool). if b then Some buf.index else index_at h (place.Rx id at)) none)
-        ∙ ap (λ (i : PortId). number_at h (place.Rx i at)) (sym x.same_id))
+        ∙ ap (λ (i : PortId). number_at h (place.Rx i at)) (sym x.has.same_id))
 
     number_there : number_on new Rx p.id (step_on size first count) ≡ buf.index
     number_there =
         ap (number_on new Rx p.id) (step_on-dist size first tail x.room.fits.head_within tail_within)
-        ∙ (ap (λ (i : PortId). number_at new (place.Rx i tail)) x.same_id
+        ∙ (ap (λ (i : PortId). number_at new (place.Rx i tail)) x.has.same_id
         ∙ ap (λ (o : Option ℕ). unwrap_or o 0) (places spot ∙ ap (λ (b : Bool). if b then Some buf.index else index_at h spot) (same_place-refl spot)))
 
     held_more : map (number_on new Rx p.id) (slots_from size first (dist size first (step_on size tail 1)))
@@ -305,9 +295,9 @@ module _ (h : HoldState) (ports : List UserPort) (id : PortId) (p : UserPort) (r
     pub received_is_seen : own_seen new (others.before ++ with_frame ∷ others.behind) ≡ own_with_arrival id.0 (own_seen h ports) came
     received_is_seen =
         let g = with_ring_on Rx (ring_with_arrival came) in
-        let one : port_seen new with_frame ≡ g (port_seen h p) = seen_with_rx h new p (tx_side_of ports id.0 p x.there x.sided)
+        let one : port_seen new with_frame ≡ g (port_seen h p) = seen_with_rx h new p (tx_side_of ports id.0 p x.has.found x.has.sided)
         (λ at. ap (λ (o : Option ℕ). unwrap_or o 0) (places (place.Tx p.id at))) (λ at. ap (λ (o : Option ℕ). unwrap_or o 0) (places (place.Extra p.id at))) moved (ring_with_arrival came) ring_made in
         let seen = seen_with h new id g others_seen others.before others.behind p with_frame others.first others.rest same_number one in
         let bytes : map bytes_in_cell new.cells ≡ set (map bytes_in_cell h.cells) buf.index (cleared_but frame) =
-        bytes_with_one h new spot true buf x.is_hold index cell ∙ ap (set (map bytes_in_cell h.cells) buf.index) cleared in
-        rw (count_with_one h new spot true buf x.is_hold index cell, bytes, seen, ← others.are) refl
+        bytes_with_one h new spot true buf x.has.is_hold index cell ∙ ap (set (map bytes_in_cell h.cells) buf.index) cleared in
+        rw (count_with_one h new spot true buf x.has.is_hold index cell, bytes, seen, ← others.are) refl

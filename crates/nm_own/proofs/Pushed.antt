@@ -285,10 +285,10 @@ module _ (h : HoldState) (ports : List UserPort) (id : PortId) (p : UserPort) (r
 
   -- all its slots hold a buffer
   slot_filled : (at : ℕ) → at < r.ring.size → is_filled_in (place.Tx id at) p ≡ true
-  slot_filled at inside = rw (x.same_id, x.on, same_eq id.0 id.0 refl) (less_true at r.ring.size inside)
+  slot_filled at inside = rw (x.has.same_id, x.on, same_eq id.0 id.0 refl) (less_true at r.ring.size inside)
 
   pub slots_held : (at : ℕ) → at < r.ring.size → IsSome (index_at h (place.Tx id at))
-  slots_held at inside = some_of (index_at h (place.Tx id at)) (x.filled (place.Tx id at) ∙ filled_in_one ports id.0 p (place.Tx id at) x.there (slot_filled at inside))
+  slots_held at inside = some_of (index_at h (place.Tx id at)) (x.has.filled (place.Tx id at) ∙ filled_in_one ports id.0 p (place.Tx id at) x.has.found (slot_filled at inside))
 
   -- and those of the user a named one
   user_named : (all : List UserPort) → port_at all id.0 ≡ Some p → (at : ℕ) → at < r.ring.size → dist r.ring.size r.ring.accepted_head at < dist r.ring.size r.ring.accepted_head r.ring.last_tail
@@ -298,7 +298,7 @@ module _ (h : HoldState) (ports : List UserPort) (id : PortId) (p : UserPort) (r
     | inl here ↦ (let is_p : y ≡ p = some_is y p (rw here at e) in
         let places : named_places_of y ≡ named_ring_places id r ++ (named_ring_places p.id p.rx ++ map (place.Extra p.id) (range_with_len 0 p.extra)) =
         ap named_places_of is_p ∙ (ap (λ (o : Option RingSlots). named_tx_places p.id o ++ (named_ring_places p.id p.rx ++ map (place.Extra p.id) (range_with_len 0 p.extra))) x.on
-        ∙ ap (λ (i : PortId). named_ring_places i r ++ (named_ring_places p.id p.rx ++ map (place.Extra p.id) (range_with_len 0 p.extra))) x.same_id) in
+        ∙ ap (λ (i : PortId). named_ring_places i r ++ (named_ring_places p.id p.rx ++ map (place.Extra p.id) (range_with_len 0 p.extra))) x.has.same_id) in
         let t = dist-below r.ring.size r.ring.accepted_head r.ring.last_tail is_ring.accepted in
         let in_ring : is_among (named_ring_places id r) (place.Tx id at) ≡ true =
         rw tx_side (among_tx id (user_slots r.ring) at ∙ (is_slot_from r.ring.size r.ring.accepted_head (dist r.ring.size r.ring.accepted_head r.ring.last_tail) at is_ring.accepted (omega arith) inside ∙ less_true (dist r.ring.size r.ring.accepted_head at) (dist r.ring.size r.ring.accepted_head r.ring.last_tail) user)) in
@@ -309,8 +309,8 @@ module _ (h : HoldState) (ports : List UserPort) (id : PortId) (p : UserPort) (r
 
   pub can_exchange : CanExchange h id r
   can_exchange = can_exchange_at h ports side.Tx id p r x
-      (λ k below. filled_in_one ports id.0 p (place.Tx id (user_position r k)) x.there (slot_filled (user_position r k) (within k)))
-      (λ k below. user_named ports x.there (user_position r k) (within k) (user k below))
+      (λ k below. filled_in_one ports id.0 p (place.Tx id (user_position r k)) x.has.found (slot_filled (user_position r k) (within k)))
+      (λ k below. user_named ports x.has.found (user_position r k) (within k) (user k below))
     where
       within : (k : ℕ) → user_position r k < r.ring.size
       within k = step_on-below r.ring.size r.ring.accepted_head k is_ring.accepted
@@ -339,7 +339,7 @@ module _ (h : HoldState) (ports : List UserPort) (id : PortId) (p : UserPort) (r
     can = record { side = tx_side; is_ring = is_ring; fits = fits; few = few }
 
     pub can_accept : AllByRecursion (CanAccept id.0 taken) ports
-    can_accept = over ports once x.there
+    can_accept = over ports once x.has.found
       where
         none_of : (all : List UserPort) → AllByRecursion (IsOther id.0) all → AllByRecursion (CanAccept id.0 taken) all
         none_of [] other = tt
@@ -364,7 +364,7 @@ module _ (h : HoldState) (ports : List UserPort) (id : PortId) (p : UserPort) (r
     keeps = keeps_places_if id.0 (port_changed side.Tx moved) (tx_keeps moved (λ q r. refl) (λ q r. refl))
 
     rings_after : AreRings after
-    rings_after = over ports x.rings can_accept
+    rings_after = over ports x.has.rings can_accept
       where
         ring_of_new : (r : RingSlots) → CanPushOut taken r → IsRing (ring_pushed_out taken r).ring
         ring_of_new r c =
@@ -390,14 +390,14 @@ module _ (h : HoldState) (ports : List UserPort) (id : PortId) (p : UserPort) (r
       flagged_after i s there =
           let q = s.home.place in
           let held : is_some (index_at h3 q) ≡ true = ap is_some (out.is_hold.standing i s there).there in
-          let filled : is_filled ports q ≡ true = sym (x.filled q) ∙ (sym (out.held q) ∙ held) in
-          out.flags (is_among (named_places ports)) x.flagged i s there
-          ∙ sym (named_after id r taken is_ring can ports p q x.sided once x.there x.on (λ at e. inside at (sym (ap (is_filled ports) e) ∙ filled)))
+          let filled : is_filled ports q ≡ true = sym (x.has.filled q) ∙ (sym (out.held q) ∙ held) in
+          out.flags (is_among (named_places ports)) x.has.flagged i s there
+          ∙ sym (named_after id r taken is_ring can ports p q x.has.sided once x.has.found x.on (λ at e. inside at (sym (ap (is_filled ports) e) ∙ filled)))
         where
           inside : (at : ℕ) → is_filled ports (place.Tx id at) ≡ true → at < r.ring.size
           inside at e =
-              let one : is_filled_in (place.Tx id at) p ≡ true = sym (filled_one ports id.0 p (place.Tx id at) x.there once refl) ∙ e in
-              let two : nat_lt at r.ring.size ≡ true = (let test = rw (x.same_id, x.on, same_eq id.0 id.0 refl) at one in test) in
+              let one : is_filled_in (place.Tx id at) p ≡ true = sym (filled_one ports id.0 p (place.Tx id at) x.has.found once refl) ∙ e in
+              let two : nat_lt at r.ring.size ≡ true = (let test = rw (x.has.same_id, x.on, same_eq id.0 id.0 refl) at one in test) in
               is_lt at r.ring.size two
             where
               is_lt : (a b : ℕ) → nat_lt a b ≡ true → a < b
@@ -414,12 +414,12 @@ module _ (h : HoldState) (ports : List UserPort) (id : PortId) (p : UserPort) (r
           let blank : o.marks ≡ replicate (buffers_of h + 2) false = rw (← hold_is) kept.blank in
           let whole : AreWhole h = rw (← hold_is) kept.whole in
           record {
-            sided = rw ports_new (sided_by keeps ports x.sided);
+            sided = rw ports_new (sided_by keeps ports x.has.sided);
             rings = rw ports_new rings_after;
             flagged = rw (hold_new, ports_new) flagged_after;
             hold = rw hold_new out.is_hold;
-            places = rw (hold_new, ports_new) (out.ports ∙ (x.places ∙ sym (places_by keeps ports)));
-            filled = rw (hold_new, ports_new) (λ q. out.held q ∙ (x.filled q ∙ sym (filled_by keeps ports q)));
+            places = rw (hold_new, ports_new) (out.ports ∙ (x.has.places ∙ sym (places_by keeps ports)));
+            filled = rw (hold_new, ports_new) (λ q. out.held q ∙ (x.has.filled q ∙ sym (filled_by keeps ports q)));
             whole = rw hold_new (whole_by_bufs h h3 out.bufs whole);
             blank = rw hold_new (marks ∙ (blank ∙ ap (λ (n : ℕ). replicate (n + 2) false) (sym count_same)));
             back = rw ports_new (back_by keeps ports (rw (← ports_are) kept.back));
@@ -435,7 +435,7 @@ module _ (h : HoldState) (ports : List UserPort) (id : PortId) (p : UserPort) (r
       ports_seen g made (y ∷ all) once there = elim (cases_Bool (nat_eq y.id.0 id.0)) [
         | inl here ↦ (let is_p : y ≡ p = some_is y p (rw here at there) in
             let tx_y : y.tx ≡ Some r = ap (λ (z : UserPort). z.tx) is_p ∙ x.on in
-            let id_y : y.id ≡ id = ap (λ (z : UserPort). z.id) is_p ∙ x.same_id in
+            let id_y : y.id ≡ id = ap (λ (z : UserPort). z.id) is_p ∙ x.has.same_id in
             let rest = rest_other all id.0 (rw (nat_eq-is y.id.0 id.0 here) at once.0) in
             let tx_is : option_map (ring_seen h3 y.id) (option_map (moved y.id) y.tx) ≡ option_map g (option_map (ring_seen h3 y.id) y.tx) = rw (tx_y, id_y) (ap (λ (o : OwnRing). Some o) made) in
             rw here (ap (λ (o : Option OwnRing). record (port_seen h3 y) { tx = o } ∷ map (port_seen h3) (map (port_changed_if id.0 side.Tx moved) all)) tx_is
@@ -450,7 +450,7 @@ module _ (h : HoldState) (ports : List UserPort) (id : PortId) (p : UserPort) (r
       exchanged_seen : map (port_seen h3) ports ≡ (after_exchange side.Tx id.0 (own_seen h ports)).ports
       exchanged_seen =
           let pushed : pushed_on side.Tx id.0 (own_seen h ports) ≡ pushed_seen h id r = rw (ring_found h ports side.Tx id r x.at) (pushed_is_seen h id side.Tx r tx_side is_ring fits) in
-          out.seen ports x.sided (ap (λ (s : Side). slots_at s ports id.0) tx_side ∙ x.at)
+          out.seen ports x.has.sided (ap (λ (s : Side). slots_at s ports id.0) tx_side ∙ x.at)
           ∙ (ap (λ (s : Side). fold (after_slot s id.0) (map (port_seen h) ports) (pushed_seen h id r)) tx_side ∙ ap (fold (after_slot side.Tx id.0) (map (port_seen h) ports)) (sym pushed))
 
       pub sent_is_seen : taken ≡ pushed_count_of r → own_seen h3 after ≡ own_after_send id.0 (own_seen h ports)
@@ -459,4 +459,4 @@ module _ (h : HoldState) (ports : List UserPort) (id : PortId) (p : UserPort) (r
           let made : ring_seen h3 id (ring_pushed_out taken r) ≡ ring_after_send (ring_seen h3 id r) =
           ring_moved ∙ ap (λ (n : ℕ). record (ring_seen h3 id r) { ring = accepted n r.ring; slots = slots_after_push r.ring r.slots }) (sym count) in
           rw (count_same, cells_same) (ap (λ (ps : List OwnPort). let s : OwnState = record { pool = buffers_of h; ports = ps; bytes = map bytes_in_cell h.cells } in s)
-          (ports_seen ring_after_send made ports once x.there ∙ ap (map (port_if id.0 (with_ring_on side.Tx ring_after_send))) exchanged_seen))
+          (ports_seen ring_after_send made ports once x.has.found ∙ ap (map (port_if id.0 (with_ring_on side.Tx ring_after_send))) exchanged_seen))

@@ -47,7 +47,7 @@ module _ (o : Inside) (kept : IsKept o) (side : SideState) (seen : side_seen o.h
           record {
             p = x.0;
             receives = subst (λ (t : RingSlots). Receives o.hold ports id x.0 t) (sym x.1.on) x.1;
-            there = ap (slice_get ports) at_first ∙ (first_is id.0 ports ∙ x.1.there);
+            there = ap (slice_get ports) at_first ∙ (first_is id.0 ports ∙ x.1.has.found);
           }
 
   pub within : at < vec_len o.ports
@@ -76,8 +76,8 @@ module _ (o : Inside) (kept : IsKept o) (side : SideState) (seen : side_seen o.h
       let change : UserPort → UserPort = (λ y. q) in
       let once : ArePortsOnce _ = subst ArePortsOnce kept.places kept.hold.once in
       let first = index_of_port id.0 ports in
-      let found : slice_get ports first ≡ Some p = first_is id.0 ports ∙ x.there in
+      let found : slice_get ports first ≡ Some p = first_is id.0 ports ∙ x.has.found in
       ap (λ (k : ℕ). set ports k q) at_first
       ∙ (sym (ap (λ (f : Option UserPort). option_map_or (λ (y : UserPort). set ports first q) f ports) found)
       ∙ (first_changed id.0 change ports once
-      ∙ (ap (map (changed_if id.0 change)) m.are ∙ changed_are id.0 change m.before m.behind p m.first m.rest (ap (λ (i : PortId). i.0) x.same_id))))
+      ∙ (ap (map (changed_if id.0 change)) m.are ∙ changed_are id.0 change m.before m.behind p m.first m.rest (ap (λ (i : PortId). i.0) x.has.same_id))))

@@ -22,6 +22,8 @@ use Rattle.nm_port.proofs.Seeing.{map-same}
 use Rattle.nm_port.proofs.SlotLists.{tail_stays}
 use Rattle.nm_port.proofs.Ranges.{is_slot_from, among_slots}
 use Rattle.nm_own.proofs.Tests.{or_second, or_first, less_is, and-is}
+use Rattle.nm_own.proofs.Closing.{Has}
+use Rattle.nm_own.proofs.OnePort.{IsLike, tx_side_of, tx_ring_of}
 use Rattle.nm_own.proofs.Pushed.{flag_is}
 
 -- slots of a receive ring are no other places
@@ -73,6 +75,15 @@ filled_named p port at side is filled =
 -- a port with another receive ring
 abbrev pub with_rx : UserPort → RingSlots → UserPort
 with_rx p r = record p { rx = r }
+
+pub like_with_rx : (h : HoldState) (ports : List UserPort) (id : PortId) (p : UserPort) (r : RingSlots) → Has h ports id p → r.ring.size ≡ p.rx.ring.size → r.side ≡ Rx → IsRing r.ring → IsLike p (with_rx p r)
+like_with_rx h ports id p r has size side ring = record {
+  same_id = refl;
+  sizes = rw size refl;
+  back = refl;
+  sides = (tx_side_of ports id.0 p has.found has.sided, side);
+  rings = (tx_ring_of ports id.0 p has.found has.rings, ring);
+}
 
 rest_alike : (p : UserPort) (r : RingSlots) (q : Place) → is_among (named_ring_places p.id p.rx) q ≡ false → is_among (named_ring_places p.id r) q ≡ false → is_among (named_places_of p) q ≡ is_among (named_places_of (with_rx p r)) q
 rest_alike p r q one two = parts p.rx one ∙ sym (parts r two)

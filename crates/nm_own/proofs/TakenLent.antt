@@ -19,27 +19,28 @@ use Rattle.nm_port.specs.declared.port.UserPort.{UserPort}
 use Rattle.nm_own.specs.declared.lend_offers.LentOffers.{LentOffers}
 use Rattle.nm_own.specs.declared.own.OwnSide.TheInside.{Inside}
 use Rattle.nm_port.specs.RingSlots.{RingSlots}
-use Rattle.nm_port.specs.Regions.{SideState, IsBufferOf, AreOf, AllOf, HoldsOf, side_seen}
+use Rattle.nm_port.specs.Regions.{SideState, IsBufferOf, AreOf, AllOf, HoldsOf}
 use Rattle.nm_port.specs.Sides.{place_on}
-use Rattle.nm_port.specs.Own.{own_seen, slots_at, port_changed, port_changed_if}
+use Rattle.nm_port.specs.Own.{own_seen, port_changed, port_changed_if}
 use Rattle.nm_own.specs.Kept.{IsKept}
 use Rattle.nm_port.specs.Closing.{AreTaken}
 use Rattle.nm_own.specs.Opening.{IsNew, blank_arrivals}
 use Rattle.nm_port.specs.Filling.{IsAway}
-use Rattle.nm_port.specs.Exchanges.{AreExchanged, AreRenamed, tx_places, pushed_count_of}
+use Rattle.nm_port.specs.Exchanges.{AreRenamed, tx_places, pushed_count_of}
 use Rattle.nm_port.specs.Puts.{offered_slot, cleared, ring_taken}
 use Rattle.nm_port.specs.Lending.{Run, AreOut, place_of_run}
-use Rattle.nm_own.specs.LentOffers.{pending_count_of, offered_count_of, IsLentOffers}
+use Rattle.nm_own.specs.LentSides.{pending_count_of, offered_count_of}
 use Rattle.nm_port.proofs.Judging.{same_eq}
-use Rattle.nm_own.proofs.Tests.{some_is, less_true}
+use Rattle.nm_own.proofs.Tests.{less_true}
 use Rattle.nm_own.proofs.OnePort.{Among, ChangesPort, changed_are, kept_with}
 use Rattle.nm_port.proofs.Buffers.{buf_by_index, count_by_bufs}
-use Rattle.nm_own.proofs.Passing.{Passes, ring_is, own_side}
+use Rattle.nm_own.proofs.Passing.{ring_is, own_side}
 use Rattle.nm_own.proofs.Published.{has_place_of}
 use Rattle.nm_port.proofs.Ranges.{is_slot_from, among_slots}
 use Rattle.nm_own.proofs.Readied.{away_of}
 use Rattle.nm_port.proofs.Regions.{of_seen}
-use Rattle.nm_own.proofs.LentTx.{lends, first_within, few_offered}
+use Rattle.nm_own.proofs.LentTx.{first_within, few_offered}
+use Rattle.nm_own.proofs.LentSides.{LentWith}
 use Rattle.nm_own.proofs.TakenTx.{offers_have_room, slots_filled, others, with_taken, changes, taken_is_seen, regions_now}
 use Rattle.nm_own.proofs.ComingIn.{CanCome, come_in, all_turned, away_turned, once_turned}
 use Rattle.nm_own.proofs.Refilled.{IsCleared, out_taken, split_out, run_behind}
@@ -64,25 +65,7 @@ pub out_is_hold : (run : Run) (unnamed : ℕ) (h now : HoldState) (bufs : List B
 out_is_hold run unnamed h now [] out is = subst IsHold out is
 out_is_hold run unnamed h now (buf ∷ before) out is = out_is_hold run unnamed h out.0 before out.1.1 out.1.0.was_hold
 
--- what was lent of a ring
-pub record LentWith (l : LentOffers) (r : RingSlots) (s : SideState) (lent : List Buffer) : Type 0 where
-  pub was : HoldState
-  pub exchanged : HoldState
-  pub p : UserPort
-  pub seen : s ≡ side_seen was l.ports.items
-  pub kept : IsKept (record { hold = was; ports = l.ports; marks = l.marks })
-  pub passes : Passes was l.ports.items Tx l.port p r
-  pub exchange : AreExchanged was exchanged l.port r (pushed_count_of r)
-  pub lent_count : length lent ≡ offered_count_of r
-  pub out : AreOut exchanged (record { id = l.port; side = r.side; size = r.ring.size; first = offered_slot r.ring }) (pending_count_of r) (reverse lent) l.hold
-
-pub lent_with : (s : SideState) (lent : List Buffer) (l : LentOffers) (r : RingSlots) → IsLentOffers s lent l → slots_at Tx l.ports.items l.port.0 ≡ Some r → LentWith l r s lent
-lent_with s lent l r x at =
-    let same : x.r ≡ r = some_is x.r r (sym x.ring ∙ at) in
-    let passes = lends s lent l x in
-    subst (λ (t : RingSlots). LentWith l t s lent) same (record { was = x.was; exchanged = x.exchanged; p = passes.0; seen = x.seen; kept = x.kept; passes = passes.1; exchange = x.exchange; lent_count = x.lent_count; out = x.out })
-
-module _ (l : LentOffers) (r : RingSlots) (s : SideState) (lent : List Buffer) (w : LentWith l r s lent) (rest came : List Buffer) (back : rest ≡ drop (length came) lent) (few : length came ≤ length lent) where
+module _ (l : LentOffers) (r : RingSlots) (s : SideState) (lent : List Buffer) (w : LentWith Tx l.port l.lent r s lent) (rest came : List Buffer) (back : rest ≡ drop (length came) lent) (few : length came ≤ length lent) where
   abbrev size : ℕ
   size = r.ring.size
 
@@ -106,39 +89,39 @@ module _ (l : LentOffers) (r : RingSlots) (s : SideState) (lent : List Buffer) (
 
   pub few_rest : length rest ≤ size
   few_rest =
-      let all = few_offered w.was l.ports.items l.port w.p r w.passes in
+      let all = few_offered w.was l.lent.ports.items l.port w.p r w.passes in
       let left : length rest ≡ length lent - count = ap (λ (bs : List Buffer). length bs) back ∙ length-drop count lent in
       omega (arith, left, w.lent_count, all)
 
   most : size ≤ 1024
-  most = (ring_is w.was l.ports.items Tx l.port w.p r w.passes).is_size.1
+  most = (ring_is w.was l.lent.ports.items Tx l.port w.p r w.passes).is_size.1
 
   pub few_back : length rest ≤ 1024
   few_back = let least = few_rest in let top = most in omega (arith, least, top)
 
   pub few_places : count ≤ size
-  few_places = let all = few_offered w.was l.ports.items l.port w.p r w.passes in omega (arith, enough, all)
+  few_places = let all = few_offered w.was l.lent.ports.items l.port w.p r w.passes in omega (arith, enough, all)
 
   pub few_taken : count ≤ 1024
   few_taken = let least = few_places in let top = most in omega (arith, least, top)
 
   pub few_kernel : count ≤ kernel_count size r.ring.head r.ring.last_tail
-  few_kernel = rw (← (offers_have_room w.was l.ports.items l.port w.p r w.passes)) enough
+  few_kernel = rw (← (offers_have_room w.was l.lent.ports.items l.port w.p r w.passes)) enough
 
   -- the hold once the buffers of the other frames are back
-  pub went : (mid : HoldState) × (AreOut w.exchanged run (pending_count_of r) (reverse gone) mid × AreOut mid behind (pending_count_of r - count) (reverse rest) l.hold)
+  pub went : (mid : HoldState) × (AreOut w.exchanged run (pending_count_of r) (reverse gone) mid × AreOut mid behind (pending_count_of r - count) (reverse rest) l.lent.hold)
   went =
       let both : reverse lent ≡ reverse rest ++ reverse gone =
       ap (λ (bs : List Buffer). reverse bs) (sym (take-append-drop count lent)) ∙ (reverse-append gone (drop count lent) ∙ ap (λ (bs : List Buffer). reverse bs ++ reverse gone) (sym back)) in
       let number : length (reverse gone) ≡ count = length-reverse gone ∙ gone_count in
-      let x = split_out run (pending_count_of r) w.exchanged l.hold (reverse rest) (reverse gone) (subst (λ (bs : List Buffer). AreOut w.exchanged run (pending_count_of r) bs l.hold) both w.out) in
-      (x.0, (x.1.0, subst (λ (n : ℕ). AreOut x.0 (run_behind run n) (pending_count_of r - n) (reverse rest) l.hold) number x.1.1))
+      let x = split_out run (pending_count_of r) w.exchanged l.lent.hold (reverse rest) (reverse gone) (subst (λ (bs : List Buffer). AreOut w.exchanged run (pending_count_of r) bs l.lent.hold) both w.out) in
+      (x.0, (x.1.0, subst (λ (n : ℕ). AreOut x.0 (run_behind run n) (pending_count_of r - n) (reverse rest) l.lent.hold) number x.1.1))
 
   within : offered_slot r.ring < size
-  within = first_within w.was l.ports.items l.port w.p r w.passes
+  within = first_within w.was l.lent.ports.items l.port w.p r w.passes
 
   few_gone : length (reverse gone) ≤ size
-  few_gone = let all = few_offered w.was l.ports.items l.port w.p r w.passes in omega (arith, length-reverse gone, gone_count, enough, all)
+  few_gone = let all = few_offered w.was l.lent.ports.items l.port w.p r w.passes in omega (arith, length-reverse gone, gone_count, enough, all)
 
   taken_out : AreTaken w.exchanged went.0 (map (place_on r.side l.port) (slots_from size (offered_slot r.ring) count)) [] gone
   taken_out =
@@ -157,13 +140,13 @@ module _ (l : LentOffers) (r : RingSlots) (s : SideState) (lent : List Buffer) (
         by_cell None e = refl
         by_cell (Some t) e = absurd (let some = sym (ap buf_in none) ∙ (sym (buf_by_index w.exchanged.cells w.was.cells i w.exchange.bufs) ∙ ap buf_in (taken_out.stood i t e)) in cc)
 
-    away_each : (idxs : List ℕ) → AllByRecursion (IsNew (own_seen w.was l.ports.items)) idxs → AllByRecursion (IsAway went.0) idxs
+    away_each : (idxs : List ℕ) → AllByRecursion (IsNew (own_seen w.was l.lent.ports.items)) idxs → AllByRecursion (IsAway went.0) idxs
     away_each [] all = tt
-    away_each (i ∷ idxs) all = ((subst (λ (n : ℕ). IsBufferIndex n i) (sym count_same) all.0.0, stood_nowhere i (away_of w.was l.ports.items i w.kept.whole all.0.1)), away_each idxs all.1)
+    away_each (i ∷ idxs) all = ((subst (λ (n : ℕ). IsBufferIndex n i) (sym count_same) all.0.0, stood_nowhere i (away_of w.was l.lent.ports.items i w.kept.whole all.0.1)), away_each idxs all.1)
 
     away : AllByRecursion (IsAway went.0) (indices_of (map cleared came))
     away =
-        let news : AllByRecursion (IsNew (own_seen w.was l.ports.items)) (indices_of came) = subst (λ (x : SideState). AllByRecursion (IsNew x.own) (indices_of came)) w.seen new in
+        let news : AllByRecursion (IsNew (own_seen w.was l.lent.ports.items)) (indices_of came) = subst (λ (x : SideState). AllByRecursion (IsNew x.own) (indices_of came)) w.seen new in
         rw (indices_cleared came) (away_each (indices_of came) news)
 
     number : length (reverse (map cleared came)) ≡ count
@@ -174,13 +157,13 @@ module _ (l : LentOffers) (r : RingSlots) (s : SideState) (lent : List Buffer) (
 
     belongs_each : (k : ℕ) → has_place went.0.ports (place_of_run run k) ≡ true
     belongs_each k =
-        let here = has_place_of l.ports.items l.port.0 w.p (place.Tx l.port (step_on size (offered_slot r.ring) k)) w.passes.there
-        (rw (w.passes.same_id, w.passes.on, same_eq l.port.0 l.port.0 refl, less_true (step_on size (offered_slot r.ring) k) size (inside k)) refl) in
-        rw (taken_out.ports, w.exchange.ports, w.passes.places, own_side w.was l.ports.items Tx l.port w.p r w.passes) here
+        let here = has_place_of l.lent.ports.items l.port.0 w.p (place.Tx l.port (step_on size (offered_slot r.ring) k)) w.passes.has.found
+        (rw (w.passes.has.same_id, w.passes.on, same_eq l.port.0 l.port.0 refl, less_true (step_on size (offered_slot r.ring) k) size (inside k)) refl) in
+        rw (taken_out.ports, w.exchange.ports, w.passes.has.places, own_side w.was l.lent.ports.items Tx l.port w.p r w.passes) here
 
     empty_each : (k : ℕ) → k < count → index_at went.0 (place_of_run run k) ≡ None
     empty_each k below =
-        let room = few_offered w.was l.ports.items l.port w.p r w.passes in
+        let room = few_offered w.was l.lent.ports.items l.port w.p r w.passes in
         let here = among_slots r.side l.port (slots_from size (offered_slot r.ring) count) (step_on size (offered_slot r.ring) k)
         ∙ (is_slot_from size (offered_slot r.ring) count (step_on size (offered_slot r.ring) k) within (omega (arith, room, enough)) (inside k)
         ∙ (ap (λ (d : ℕ). nat_lt d count) (dist-step_on size (offered_slot r.ring) k within (omega (arith, room, enough, below))) ∙ less_true k count below)) in
@@ -190,7 +173,7 @@ module _ (l : LentOffers) (r : RingSlots) (s : SideState) (lent : List Buffer) (
     can_come = record {
       is_hold = taken_out.is_hold;
       within = within;
-      few = (let room = few_offered w.was l.ports.items l.port w.p r w.passes in omega (arith, number, enough, room));
+      few = (let room = few_offered w.was l.lent.ports.items l.port w.p r w.passes in omega (arith, number, enough, room));
       belongs = λ k below. belongs_each k;
       empty = λ k below. empty_each k (omega (arith, number, below));
       away = away_turned went.0 (map cleared came) away;
@@ -210,7 +193,7 @@ module _ (l : LentOffers) (r : RingSlots) (s : SideState) (lent : List Buffer) (
     enough_cleared = rw (length-map came cleared) enough
 
     pub filled_now : (at : ℕ) → at < size → IsSome (index_at comes.0 (place.Tx l.port at))
-    filled_now = slots_filled w.was l.ports.items l.port w.p r w.passes w.exchanged went.0 comes.0 w.exchange gone (map cleared came) same_count enough_cleared went.1.0 comes.1 comes_hold
+    filled_now = slots_filled w.was l.lent.ports.items l.port w.p r w.passes w.exchanged went.0 comes.0 w.exchange gone (map cleared came) same_count enough_cleared went.1.0 comes.1 comes_hold
 
   -- once they came, and those of the slots that are then the user's are named
   module _ (h1 h2 h3 h4 : HoldState) (there : h1 ≡ went.0) (comes_in : AreOut h2 run (pending_count_of r) (reverse (map cleared came)) h1) (is_put : IsHold h2)
@@ -227,34 +210,34 @@ module _ (l : LentOffers) (r : RingSlots) (s : SideState) (lent : List Buffer) (
     pub enough_number : going ≤ offered_count_of r
     enough_number = rw (length-map came cleared) enough
 
-    abbrev pub around : Among l.ports.items l.port.0 w.p
-    around = others w.was l.ports.items l.port w.p r w.passes
+    abbrev pub around : Among l.lent.ports.items l.port.0 w.p
+    around = others w.was l.lent.ports.items l.port w.p r w.passes
 
     abbrev pub now_taken : UserPort
-    now_taken = with_taken w.was l.ports.items l.port w.p r w.passes w.exchanged h1 h2 w.exchange gone (map cleared came) alike enough_number out comes_in is_put h3 h4 pushed freed (all_cleared came)
+    now_taken = with_taken w.was l.lent.ports.items l.port w.p r w.passes w.exchanged h1 h2 w.exchange gone (map cleared came) alike enough_number out comes_in is_put h3 h4 pushed freed (all_cleared came)
 
     abbrev pub taken_ports : List UserPort
-    taken_ports = map (port_changed_if l.port.0 Tx (λ (of : PortId). ring_taken h4 l.port going)) l.ports.items
+    taken_ports = map (port_changed_if l.port.0 Tx (λ (of : PortId). ring_taken h4 l.port going)) l.lent.ports.items
 
     pub ports_taken : taken_ports ≡ around.before ++ now_taken ∷ around.behind
     ports_taken =
         ap (map (port_changed_if l.port.0 Tx (λ (of : PortId). ring_taken h4 l.port going))) around.are
-        ∙ changed_are l.port.0 (port_changed Tx (λ (of : PortId). ring_taken h4 l.port going)) around.before around.behind w.p around.first around.rest (ap (λ (i : PortId). i.0) w.passes.same_id)
+        ∙ changed_are l.port.0 (port_changed Tx (λ (of : PortId). ring_taken h4 l.port going)) around.before around.behind w.p around.first around.rest (ap (λ (i : PortId). i.0) w.passes.has.same_id)
 
-    pub kept_now : (new : Inside) → new.hold ≡ h4 → new.ports.items ≡ taken_ports → new.marks ≡ l.marks → IsKept new
+    pub kept_now : (new : Inside) → new.hold ≡ h4 → new.ports.items ≡ taken_ports → new.marks ≡ l.lent.marks → IsKept new
     kept_now new hold ports marks =
-        let step = changes w.was l.ports.items l.port w.p r w.passes w.exchanged h1 h2 w.exchange gone (map cleared came) alike enough_number out comes_in is_put h3 h4 pushed freed (all_cleared came) w.kept.whole in
-        kept_with (record { hold = w.was; ports = l.ports; marks = l.marks }) new l.port w.p now_taken w.kept w.passes.same_id around
-        (subst (λ (x : HoldState). ChangesPort w.was x l.ports.items l.port w.p now_taken) (sym hold) step) (ports ∙ ports_taken) marks
+        let step = changes w.was l.lent.ports.items l.port w.p r w.passes w.exchanged h1 h2 w.exchange gone (map cleared came) alike enough_number out comes_in is_put h3 h4 pushed freed (all_cleared came) w.kept.whole in
+        kept_with (record { hold = w.was; ports = l.lent.ports; marks = l.lent.marks }) new l.port w.p now_taken w.kept w.passes.has.same_id around
+        (subst (λ (x : HoldState). ChangesPort w.was x l.lent.ports.items l.port w.p now_taken) (sym hold) step) (ports ∙ ports_taken) marks
 
     pub own_now : own_seen h4 taken_ports ≡ own_after_put l.port.0 (blank_arrivals (indices_of came)) s.own
     own_now =
         ap (own_seen h4) ports_taken
-        ∙ (taken_is_seen w.was l.ports.items l.port w.p r w.passes w.exchanged h1 h2 w.exchange gone (map cleared came) alike enough_number out comes_in is_put h3 h4 pushed freed (all_cleared came)
-        ∙ (ap (λ (is : List ℕ). own_after_put l.port.0 (blank_arrivals is) (own_seen w.was l.ports.items)) (indices_cleared came)
+        ∙ (taken_is_seen w.was l.lent.ports.items l.port w.p r w.passes w.exchanged h1 h2 w.exchange gone (map cleared came) alike enough_number out comes_in is_put h3 h4 pushed freed (all_cleared came)
+        ∙ (ap (λ (is : List ℕ). own_after_put l.port.0 (blank_arrivals is) (own_seen w.was l.lent.ports.items)) (indices_cleared came)
         ∙ ap (λ (o : SideState). own_after_put l.port.0 (blank_arrivals (indices_of came)) o.own) (sym w.seen)))
 
     pub region_now : (region : ℕ) → AllOf region s → AreOf region came → HoldsOf region h4
     region_now region of are =
-        regions_now w.was l.ports.items l.port w.p r w.passes w.exchanged h1 h2 w.exchange gone (map cleared came) alike enough_number out comes_in is_put h3 h4 pushed freed (all_cleared came)
-        region (of_seen region w.was l.ports.items s (sym w.seen) of) (turned_of region came are)
+        regions_now w.was l.lent.ports.items l.port w.p r w.passes w.exchanged h1 h2 w.exchange gone (map cleared came) alike enough_number out comes_in is_put h3 h4 pushed freed (all_cleared came)
+        region (of_seen region w.was l.lent.ports.items s (sym w.seen) of) (turned_of region came are)

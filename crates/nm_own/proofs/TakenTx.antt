@@ -32,7 +32,7 @@ use Rattle.nm_own.specs.Opening.{blank_arrival, blank_arrivals}
 use Rattle.nm_port.specs.Exchanges.{is_among, named_after_push, AreExchanged, AreRenamed, CanPushOut, tx_places, pushed_count_of, ring_pushed_out}
 use Rattle.nm_port.specs.Puts.{offered_slot, with_slot_named, ring_taken}
 use Rattle.nm_port.specs.Lending.{Run, AreOut}
-use Rattle.nm_own.specs.LentOffers.{pending_count_of, offered_count_of}
+use Rattle.nm_own.specs.LentSides.{pending_count_of, offered_count_of}
 use Rattle.nm_port.proofs.Judging.{same_eq}
 use Rattle.nm_port.proofs.PortOut.{IsOther}
 use Rattle.nm_port.proofs.SlotLists.{accepted_ring}
@@ -134,13 +134,13 @@ module _ (h : HoldState) (ports : List UserPort) (id : PortId) (p : UserPort) (r
   once = ports_once h ports side.Tx id p r x
 
   pub others : Among ports id.0 p
-  others = among ports id.0 p x.there once
+  others = among ports id.0 p x.has.found once
 
   same_number : p.id.0 ≡ id.0
-  same_number = ap (λ (i : PortId). i.0) x.same_id
+  same_number = ap (λ (i : PortId). i.0) x.has.same_id
 
   rx_side : p.rx.side ≡ side.Rx
-  rx_side = (sided_one ports id.0 p x.there x.sided).1
+  rx_side = (sided_one ports id.0 p x.has.found x.has.sided).1
 
   filled_here : (q : Place) → port_of q ≡ id.0 → is_filled ports q ≡ is_filled_in q p
   filled_here q at = ap (λ (all : List UserPort). is_filled all q) others.are ∙ filled_at id.0 others.before others.behind p q others.first others.rest at
@@ -206,7 +206,7 @@ module _ (h : HoldState) (ports : List UserPort) (id : PortId) (p : UserPort) (r
     flags_put : FlaggedBy h2 (is_among (named_places ports))
     flags_put =
         let was = is_among (named_places ports) in
-        let out = flags_out run (pending_count_of r) h1 mid (reverse gone) was went (exchange.flags was x.flagged) in
+        let out = flags_out run (pending_count_of r) h1 mid (reverse gone) was went (exchange.flags was x.has.flagged) in
         flags_in run (pending_count_of r) h2 mid (reverse came) was comes out.0 (λ k below. out.1 k (omega (arith, length-reverse came, length-reverse gone, same_count, below)))
 
     ports_put : h2.ports ≡ h.ports
@@ -249,17 +249,17 @@ module _ (h : HoldState) (ports : List UserPort) (id : PortId) (p : UserPort) (r
           let list = ap (map _) others.are ∙ changed_are id.0 push others.before others.behind p others.first others.rest same_number in
           ap (λ (all : List Place). is_among all q) same
           ∙ (sym (named_at id.0 others.before others.behind (push p) q others.first others.rest here)
-          ∙ (sym (ap (λ (all : List UserPort). is_among (named_places all) q) list) ∙ named_after id r count is_ring can ports p q x.sided once x.there x.on inside))
+          ∙ (sym (ap (λ (all : List UserPort). is_among (named_places all) q) list) ∙ named_after id r count is_ring can ports p q x.has.sided once x.has.found x.on inside))
 
       flags_now : (i : ℕ) (s : Standing) → standing_at h4 i ≡ Some s → port_of s.home.place ≡ id.0 → s.home.named ≡ is_among (named_places_of with_taken) s.home.place
       flags_now i s there at =
           let q = s.home.place in
           let held : is_some (index_at h4 q) ≡ true = ap is_some (freed.is_hold.standing i s there).there in
-          let filled : is_filled_in q p ≡ true = sym (same_filled q ∙ (x.filled q ∙ filled_here q at)) ∙ held in
+          let filled : is_filled_in q p ≡ true = sym (same_filled q ∙ (x.has.filled q ∙ filled_here q at)) ∙ held in
           flags_all i s there ∙ sym (named_now q at (λ n e. inside n (sym (ap (λ (y : Place). is_filled_in y p) e) ∙ filled)))
         where
           inside : (at : ℕ) → is_filled_in (place.Tx id at) p ≡ true → at < size
-          inside at e = less_is at size (rw (x.same_id, x.on, same_eq id.0 id.0 refl) at e)
+          inside at e = less_is at size (rw (x.has.same_id, x.on, same_eq id.0 id.0 refl) at e)
 
       flags_elsewhere : (i : ℕ) (s : Standing) → standing_at h4 i ≡ Some s → nat_eq (port_of s.home.place) id.0 ≡ false → s.home.named ≡ is_among (named_places ports) s.home.place
       flags_elsewhere i s there other =
@@ -273,13 +273,15 @@ module _ (h : HoldState) (ports : List UserPort) (id : PortId) (p : UserPort) (r
 
       pub changes : AreWhole h → ChangesPort h h4 ports id p with_taken
       changes whole = record {
-        same_id = refl;
-        sizes = rw x.on refl;
-        back = refl;
-        sides = (rw x.on tx_side, rx_side);
-        rings = (rw x.on (accepted_ring r.ring (step_on size r.ring.last_tail count) is_ring fits.head_within (step_on-below size r.ring.last_tail count tail_within)), ring_one ports id.0 p x.there x.rings);
+        like = record {
+          same_id = refl;
+          sizes = rw x.on refl;
+          back = refl;
+          sides = (rw x.on tx_side, rx_side);
+          rings = (rw x.on (accepted_ring r.ring (step_on size r.ring.last_tail count) is_ring fits.head_within (step_on-below size r.ring.last_tail count tail_within)), ring_one ports id.0 p x.has.found x.has.rings);
+        };
         elsewhere = λ q other. same_filled q;
-        filled = λ q at. same_filled q ∙ (x.filled q ∙ (filled_here q at ∙ filled_in_same q));
+        filled = λ q at. same_filled q ∙ (x.has.filled q ∙ (filled_here q at ∙ filled_in_same q));
         flags_elsewhere = flags_elsewhere;
         flags = flags_now;
         same_ports = freed.ports ∙ (pushed.ports ∙ ports_put);
@@ -334,7 +336,7 @@ module _ (h : HoldState) (ports : List UserPort) (id : PortId) (p : UserPort) (r
 
       port_made : port_seen h4 with_taken ≡ with_ring_on side.Tx (ring_after_put (indices_of came)) (port_seen h1 p)
       port_made =
-          let tx : option_map (ring_seen h4 p.id) (option_map (ring_taken h4 id count) p.tx) ≡ option_map (ring_after_put (indices_of came)) (option_map (ring_seen h1 p.id) p.tx) = rw (x.on, x.same_id) (ap (λ (o : OwnRing). Some o) ring_made) in
+          let tx : option_map (ring_seen h4 p.id) (option_map (ring_taken h4 id count) p.tx) ≡ option_map (ring_after_put (indices_of came)) (option_map (ring_seen h1 p.id) p.tx) = rw (x.on, x.has.same_id) (ap (λ (o : OwnRing). Some o) ring_made) in
           rw (tx, rx_same, map-same (extra_number_at h4 p.id) (extra_number_at h1 p.id) (range_with_len 0 p.extra) (λ at. number_now (place.Extra p.id at) (not_among (slots_from size first count) id p.id at).1)) refl
 
       others_seen : (y : UserPort) → IsOther id.0 y → port_seen h4 y ≡ port_seen h1 y

@@ -9,6 +9,7 @@ pub mod ExtraChain
 pub mod WrittenBytes
 pub mod LentBytes
 pub mod Laws
+pub mod LentSides
 pub mod LentBack
 pub mod LentOffers
 pub mod PortNames

@@ -1,18 +1,17 @@
-ghost use Rattle.std.specs.Prelude.{ℕ, List, ◌≡◌, ◌≤◌, ◌+◌, [], None, length, take, drop, map};
-ghost use Rattle.std.specs.Prelude.{IsSome, IfOk};
-ghost use Rattle.nm_own.specs.Words.{AllOf, AreOf, Buffer, SideState, Tx, bytes_at};
-ghost use Rattle.nm_own.specs.Words.{bytes_of_buffers, cleared, indices_of, offered_lengths};
-ghost use Rattle.nm_own.specs.Words.{own_after_put, refusal_at, ring_at, vec_capacity};
+ghost use Rattle.std.specs.Prelude.{ℕ, List, ◌≡◌, [], None, length, drop, map, IsSome, IfOk};
+ghost use Rattle.nm_own.specs.Words.{AllOf, AreOf, Buffer, SideState, Tx, cleared, indices_of};
+ghost use Rattle.nm_own.specs.Words.{offered_lengths, own_after_put, refusal_at, ring_at};
+ghost use Rattle.nm_own.specs.Words.{vec_capacity};
 ghost use Rattle.nm_own.specs.Opening.{blank_arrivals};
-ghost use Rattle.nm_own.specs.LentOffers.{IsLentOffers, CanBeTaken, offered_buffers};
+ghost use Rattle.nm_own.specs.LentOffers.{IsLentOffers, CanBeTaken};
+ghost use Rattle.nm_own.specs.LentSides.{CanLend, IsUndone, Lends};
 
+use crate::lending::{LentSide, lend, undo};
 use crate::own::{OwnSide, fitting_ring, ring_at};
-use nm_hold::Hold;
 use nm_port::exchange::name_slots;
 use nm_port::gather::gather_lengths;
 use nm_port::take::take_at;
-use nm_port::undo::{exchange_back, exchange_noted, put_slots, take_slots};
-use nm_port::{Marks, UserPort};
+use nm_port::undo::put_slots;
 use nm_region::Buf;
 use nm_types::{NoMemory, PortId, Side};
 use std::alloc::Global;
@@ -21,13 +20,8 @@ use std::alloc::Global;
 /// out. It cannot be dropped: `taken` ends it once those of the frames that were taken are gone for
 /// good and the others came back, `undo` once all of them came back.
 pub struct LentOffers {
-    pub(crate) hold: Hold,
-    pub(crate) ports: Vec<UserPort>,
-    pub(crate) marks: Marks,
     pub(crate) port: PortId,
-    /// The buffers that stood in the places of the pushed slots; none if each slot names the one in its
-    /// place.
-    pub(crate) replaced: Vec<u32>,
+    pub(crate) lent: LentSide,
 }
 
 impl OwnSide {
@@ -46,47 +40,11 @@ impl OwnSide {
     /// go to `pending`, which has room for them. `notes` is an empty vector with room for as many
     /// numbers.
     pub fn lend_offered(self, port: PortId, pending: &mut Vec<Buf>, notes: Vec<u32>) -> LentOffers
-        requires ring { IsSome (ring_at Tx self.own port.0) }
-        requires passes { refusal_at Tx port.0 self.own ≡ None }
-        requires room { length pending.old.items + length (offered_lengths port.0 self.own)
-            ≤ vec_capacity pending.old }
-        requires empty { notes.items ≡ [] }
-        requires notes { length (offered_lengths port.0 self.own) ≤ vec_capacity notes }
-        ensures lent { IsLentOffers self (drop (length pending.old.items) pending.new.items)
-            result }
-        ensures port { result.port ≡ port }
-        ensures before { take (length pending.old.items) pending.new.items
-            ≡ pending.old.items }
-        ensures buffers { indices_of (drop (length pending.old.items) pending.new.items)
-            ≡ offered_buffers port.0 self.own }
-        ensures bytes { bytes_of_buffers (drop (length pending.old.items) pending.new.items)
-            ≡ map (bytes_at self.own) (offered_buffers port.0 self.own) }
-        ensures capacity { vec_capacity pending.new ≡ vec_capacity pending.old }
-        ensures out { (region : ℕ) → AllOf region self
-            → AreOf region (drop (length pending.old.items) pending.new.items) }
+        requires { CanLend Tx port self pending.old notes }
+        ensures { Lends Tx port self pending.old pending.new result.port result.lent }
     {
-        let OwnSide {
-            mut hold,
-            ports,
-            marks,
-        } = self;
-        let mut replaced = notes;
-        match ring_at(&ports, port, Side::Tx) {
-            Some(ring) => {
-                exchange_noted(&mut hold, port, ring, &mut replaced);
-                let (first, count) = ring.offered();
-                let (side, size) = (ring.side(), ring.ring().size());
-                take_slots(&mut hold, port, side, size, first, count, pending);
-            }
-            None => unreachable!(),
-        }
-        LentOffers {
-            hold,
-            ports,
-            marks,
-            port,
-            replaced,
-        }
+        let lent = lend(self, port, Side::Tx, pending, notes);
+        LentOffers { port, lent }
     }
 }
 
@@ -116,13 +74,13 @@ impl LentOffers {
         ensures rest { rest.new.items ≡ [] }
         ensures capacity { vec_capacity rest.new ≡ vec_capacity rest.old }
     {
-        let LentOffers {
+        let LentOffers { port, lent } = self;
+        let LentSide {
             mut hold,
             mut ports,
             marks,
-            port,
             replaced: _,
-        } = self;
+        } = lent;
         let taken = came.len() as u32;
         let mut came = came;
         clear_all(&mut came);
@@ -149,26 +107,9 @@ impl LentOffers {
     /// and nothing else.
     pub fn undo(self, pending: &mut Vec<Buf>) -> OwnSide
         requires { (s : SideState) × IsLentOffers s pending.old.items self }
-        ensures own { (s : SideState) → IsLentOffers s pending.old.items self → result ≡ s }
-        ensures pending { pending.new.items ≡ [] }
-        ensures capacity { vec_capacity pending.new ≡ vec_capacity pending.old }
+        ensures { IsUndone Tx self.port self.lent pending.old pending.new result }
     {
-        let LentOffers {
-            mut hold,
-            ports,
-            marks,
-            port,
-            replaced,
-        } = self;
-        match ring_at(&ports, port, Side::Tx) {
-            Some(ring) => {
-                let (first, unnamed) = ring.pending();
-                let (side, size) = (ring.side(), ring.ring().size());
-                put_slots(&mut hold, port, side, size, first, unnamed, pending);
-                exchange_back(&mut hold, port, ring, replaced);
-            }
-            None => unreachable!(),
-        }
-        OwnSide { hold, ports, marks }
+        let LentOffers { port, lent } = self;
+        undo(lent, port, Side::Tx, pending)
     }
 }

@@ -8,6 +8,7 @@ mod extras;
 pub mod laws;
 mod lend;
 mod lend_offers;
+mod lending;
 mod named;
 mod open;
 mod own;

@@ -5,12 +5,13 @@ use Rattle.std.specs.List.{IsDistinct}
 use Rattle.std.specs.declared.alloc.Global.{Global}
 use Rattle.std.specs.declared.vec.Vec.{Vec}
 use Rattle.nm_types.specs.declared.id.PortId.{PortId}
+use Rattle.nm_types.specs.declared.id.Side.TheVariants.{Tx}
 use Rattle.nm_region.specs.Buffers.{Buffer}
 use Rattle.nm_own.specs.declared.lend_offers.LentOffers.{LentOffers}
 use Rattle.nm_port.specs.Offers.{offered_lengths}
 use Rattle.nm_own.specs.LentOffers.{IsLentOffers}
 use Rattle.nm_port.specs.Regions.{SideState}
-use Rattle.nm_own.proofs.LentTx.{lends, offered_number}
+use Rattle.nm_own.proofs.LentSides.{lent_length}
 use Rattle.vale_line.specs.declared.got.Got.{Got}
 use Rattle.vale_line.specs.Gots.{buffers_of}
 use Rattle.nm_user.specs.declared.putting.Offering.{Offering}
@@ -19,11 +20,7 @@ use Rattle.nm_user.proofs.ReceivesCome.{all-added}
 
 -- as many buffers are lent as there are frames offered
 pub lent-length : (s : SideState) (lent : List Buffer) (l : LentOffers) → IsLentOffers s lent l → length lent ≡ length (offered_lengths l.port.0 s.own)
-lent-length s lent l x =
-    let p = lends s lent l x in
-    x.lent_count
-    ∙ (sym (offered_number x.was l.ports.items l.port p.0 x.r p.1)
-    ∙ ap (λ (t : SideState). length (offered_lengths l.port.0 t.own)) (sym x.seen))
+lent-length s lent l x = lent_length Tx l.port s lent l.lent x
 
 -- buffers that were made frames, and taken out again
 pub buffers-wrapped : (bufs : List Buffer) (lens : List ℕ) → length bufs ≡ length lens → buffers_of (gots_of bufs lens) ≡ bufs

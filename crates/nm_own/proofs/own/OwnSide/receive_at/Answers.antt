@@ -111,7 +111,7 @@ invariant_of-self c =
     let p = c.index_mut.result.now in
     let buf = c.clear_behind.new.buf in
     let frame = take c.args.len c.args.buf.bytes in
-    kept_with c.self.inside _ c.args.port p (framed c) c.self.invariant s.receives.same_id (others h ports c.args.port p p.rx s.receives)
+    kept_with c.self.inside _ c.args.port p (framed c) c.self.invariant s.receives.has.same_id (others h ports c.args.port p p.rx s.receives)
     (changes h ports c.args.port p p.rx s.receives c.add_received.new.self buf frame c.args.len s.cleared c.requires.len c.clear_behind.ensures.size s.index s.cell s.places c.add_received.ensures.hold c.self.invariant.whole) (ports_are c) refl
 
 pub returns-clause-own : goal.returns-clause-own
