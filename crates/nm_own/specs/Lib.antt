@@ -1,4 +1,5 @@
 pub mod Kept
+pub mod Arriving
 pub mod FittingRings
 pub mod Edits
 pub mod Acts

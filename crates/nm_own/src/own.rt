@@ -1,23 +1,24 @@
 ghost use Rattle.std.specs.Prelude.{◌≡◌, ◌≤◌, ◌++◌, length, nat_eq, IfOk, IsSome, None, Some};
 ghost use Rattle.std.specs.Prelude.{option_map, slice_get};
-ghost use Rattle.nm_own.specs.Words.{AllByRecursion, AllOf, AreOf, IsBufferOf, IsDistinct};
+ghost use Rattle.nm_own.specs.Words.{AllByRecursion, AllOf, AreOf, IsDistinct};
 ghost use Rattle.nm_own.specs.Words.{IsPoolSize, IsRingSize, OwnPort, Rx, TellsRefusal, Tx};
 ghost use Rattle.nm_own.specs.Words.{back_on, buffers_with_id, bytes_at, bytes_of_buffers};
 ghost use Rattle.nm_own.specs.Words.{can_receive, chain_in, contains_index, empty_own};
 ghost use Rattle.nm_own.specs.Words.{frames_offered, indices_of, link_bytes, named_of};
 ghost use Rattle.nm_own.specs.Words.{option_copied, option_copied_mut, own_after_finish};
 ghost use Rattle.nm_own.specs.Words.{own_after_open, own_after_reset, own_after_send};
-ghost use Rattle.nm_own.specs.Words.{own_with_arrival, port_at, port_with_id, pushed_frames};
+ghost use Rattle.nm_own.specs.Words.{port_at, port_with_id, pushed_frames};
 ghost use Rattle.nm_own.specs.Words.{pushed_on, refusal_at, ring_at, ring_of, sem};
 ghost use Rattle.nm_own.specs.Words.{slot_before_tail, slots_at, slots_on, user_slot_at, with_cur};
 ghost use Rattle.nm_own.specs.Words.{with_head, with_head_of_chain, with_user_slot, with_written};
 ghost use Rattle.nm_port.specs.RingSlots.{RingSlots};
 ghost use Rattle.nm_own.specs.Opening.{IsTxSize, IsNew, blank_arrivals};
 ghost use Rattle.nm_own.specs.FittingRings.{IsFittingRing};
+ghost use Rattle.nm_own.specs.Arriving.{HasCome};
 ghost use Rattle.nm_own.specs.NewPorts.{HasRoomFor};
 ghost use Rattle.nm_own.specs.PortPlaces.{place_with_id};
 ghost use Rattle.nm_own.specs.ExtraChain.{head_of_extras, extra_at, extra_numbered, named_bytes};
-ghost use Rattle.std.specs.Prelude.{ℕ, [], ◌+◌, ◌↔◌, IfSome, true, take, map, is_some};
+ghost use Rattle.std.specs.Prelude.{ℕ, [], ◌+◌, ◌↔◌, IfSome, true, map, is_some};
 ghost use Rattle.std.specs.Prelude.{option_and_then};
 ghost use Rattle.nm_own.specs.Edits.{own_edited};
 ghost use Rattle.nm_own.specs.Acts.{head_slot_in};
@@ -499,10 +500,7 @@ impl OwnSide {
         requires room { can_receive port.0 self.old.own ≡ true }
         requires len { len ≤ 2048 }
         requires new { IsNew self.old.own buf.index }
-        ensures own { self.new.own ≡ own_with_arrival port.0 self.old.own
-            (record { buffer = buf.index; bytes = take len buf.bytes }) }
-        ensures region { (region : ℕ) → AllOf region self.old → IsBufferOf region buf
-            → AllOf region self.new }
+        ensures { HasCome port.0 buf len self.old self.new }
     {
         let at = self.place_of(port);
         self.receive_at(at, port, buf, len);
@@ -514,10 +512,7 @@ impl OwnSide {
         requires room { can_receive port.0 self.old.own ≡ true }
         requires len { len ≤ 2048 }
         requires new { IsNew self.old.own buf.index }
-        ensures own { self.new.own ≡ own_with_arrival port.0 self.old.own
-            (record { buffer = buf.index; bytes = take len buf.bytes }) }
-        ensures region { (region : ℕ) → AllOf region self.old → IsBufferOf region buf
-            → AllOf region self.new }
+        ensures { HasCome port.0 buf len self.old self.new }
     {
         let slot = self.ports[at].rx.ring().tail();
         let mut buf = buf;

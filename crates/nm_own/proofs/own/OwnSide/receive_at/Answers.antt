@@ -114,17 +114,16 @@ invariant_of-self c =
     kept_with c.self.inside _ c.args.port p (framed c) c.self.invariant s.receives.has.same_id (others h ports c.args.port p p.rx s.receives)
     (changes h ports c.args.port p p.rx s.receives c.add_received.new.self buf frame c.args.len s.cleared c.requires.len c.clear_behind.ensures.size s.index s.cell s.places c.add_received.ensures.hold c.self.invariant.whole) (ports_are c) refl
 
-pub returns-clause-own : goal.returns-clause-own
-returns-clause-own c =
+pub returns : goal.returns
+returns c =
     let s = step c in
+    let h = c.self.inside.hold in
     let p = c.index_mut.result.now in
     let frame = take c.args.len c.args.buf.bytes in
-    ap (own_seen c.add_received.new.self) (ports_are c)
-    ∙ (received_is_seen c.self.inside.hold c.self.inside.ports.items c.args.port p p.rx s.receives c.add_received.new.self c.clear_behind.new.buf frame c.args.len s.cleared c.requires.len c.clear_behind.ensures.size s.index s.cell s.places c.add_received.ensures.hold
-    ∙ (ap (λ (i : ℕ). let came : Arrival = record { buffer = i; bytes = frame } in own_with_arrival c.args.port.0 (own_seen c.self.inside.hold c.self.inside.ports.items) came) s.number
-    ∙ ap (λ (o : SideState). let came : Arrival = record { buffer = c.args.buf.index; bytes = frame } in own_with_arrival c.args.port.0 o.own came) c.self.view_is))
-
-pub returns-clause-region : goal.returns-clause-region
-returns-clause-region c region of own =
-    let h = c.self.inside.hold in
-    holds_added region h c.add_received.new.self c.clear_behind.new.buf.index _ (step c).cell (ap (λ (b : Buffer). b.region) c.clear_behind.ensures.cleared ∙ own) (of_seen region h c.self.inside.ports.items c.args.self.now c.self.view_is of)
+    record {
+      own = ap (own_seen c.add_received.new.self) (ports_are c)
+          ∙ (received_is_seen h c.self.inside.ports.items c.args.port p p.rx s.receives c.add_received.new.self c.clear_behind.new.buf frame c.args.len s.cleared c.requires.len c.clear_behind.ensures.size s.index s.cell s.places c.add_received.ensures.hold
+          ∙ (ap (λ (i : ℕ). let came : Arrival = record { buffer = i; bytes = frame } in own_with_arrival c.args.port.0 (own_seen h c.self.inside.ports.items) came) s.number
+          ∙ ap (λ (o : SideState). let came : Arrival = record { buffer = c.args.buf.index; bytes = frame } in own_with_arrival c.args.port.0 o.own came) c.self.view_is));
+      region = λ region of own. holds_added region h c.add_received.new.self c.clear_behind.new.buf.index _ s.cell (ap (λ (b : Buffer). b.region) c.clear_behind.ensures.cleared ∙ own) (of_seen region h c.self.inside.ports.items c.args.self.now c.self.view_is of);
+    }
