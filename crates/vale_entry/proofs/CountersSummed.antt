@@ -25,8 +25,8 @@ use Rattle.vale_entry.specs.Grant.{first_offer, longest_fitting, given_at, grant
 use Rattle.vale_entry.specs.Delivery.{delivered_frames}
 use Rattle.vale_entry.specs.Pipe.{frame_of_item, frames_of_items, puts_to_port}
 use Rattle.vale_entry.specs.Counters.{counts_if, count_sent, count_shared, count_gave_at, count_put, count_taken_at, counted_in, with_counted, counts_of}
-use Rattle.vale_entry.specs.Delivered.{has_id, port_at, frames_at, Brought, frames_brought, brought_in, brought_to, read_in, read_frames, granted_of_offer, taken_of}
-use Rattle.vale_entry.specs.Counted.{switched_in, switched_frames, piped_in, piped_frames, lone_in, lone_counts, count_full, full_in, full_counts}
+use Rattle.vale_entry.specs.Delivered.{has_id, port_at, frames_at, Brought, frames_brought, brought_by, brought_to, read_by, read_frames, granted_of_offer, taken_of, of_entry, of_entry_in, gathered}
+use Rattle.vale_entry.specs.Counted.{switched_by, piped_by, lone_by, count_full, full_by}
 use Rattle.vale_entry.specs.Legal.{Standing, after, recorded_step, standing_of, world_of, named_of, offers_of_send, offers_of_sync, offers_of_put, unchanged, enter_step, open_step_by, send_step, grant_step, done_step, sync_step, put_step, watch_step, shut_step, finish_step, leave_step, IsLegal, Follows}
 use Rattle.vale_entry.specs.Laws.{id_of_port, id_of_counted, IsTo}
 use Rattle.vale_entry.specs.DeliveryLaws.{CountersAreSums}
@@ -189,8 +189,8 @@ both s1 s2 p1 p2 l1 l2 b1 b2 f1 f2 r1 r2 c d x y =
 -- what an entry tells of a port, and counts there
 abbrev Tells : ℕ → World → Entry → Counts → Type 0
 Tells id w e c =
-    TellsAs (switched_in id e) (piped_in id e) (lone_in id e) (brought_in id w e) (full_in id e)
-    (read_in id w e) c
+    TellsAs (switched_by id e.ask e.reply) (piped_by id e.ask e.reply) (lone_by id e.ask e.reply)
+    (brought_by id w e.ask e.reply) (full_by id e.ask e.reply) (read_by id w e.ask e.reply) c
 
 tells-sent : (frames : List Frame) (lone : ℕ) (to : List Dest) (hit : Bool)
     → TellsAs (cond hit frames []) [] (cond hit (lone ∷ []) []) [] [] []
@@ -360,15 +360,18 @@ abbrev More :
     ℕ → World → Entry → List Frame → List Frame → List ℕ → List Brought → List ℕ → List Frame
     → Counts → Type 0
 More id w e s p l b f r c =
-    TellsAs (s ++ switched_in id e) (p ++ piped_in id e) (l ++ lone_in id e)
-    (b ++ brought_in id w e) (f ++ full_in id e) (r ++ read_in id w e) c
+    TellsAs (s ++ switched_by id e.ask e.reply) (p ++ piped_by id e.ask e.reply)
+    (l ++ lone_by id e.ask e.reply) (b ++ brought_by id w e.ask e.reply)
+    (f ++ full_by id e.ask e.reply) (r ++ read_by id w e.ask e.reply) c
 
 abbrev SumsMore :
     ℕ → World → Entry → List Frame → List Frame → List ℕ → List Brought → List ℕ → List Frame
     → List PortCounts → Type 0
 SumsMore id w e s p l b f r later =
-    Sums id (w.entry_count + 1) later (s ++ switched_in id e) (p ++ piped_in id e)
-    (l ++ lone_in id e) (b ++ brought_in id w e) (f ++ full_in id e) (r ++ read_in id w e)
+    Sums id (w.entry_count + 1) later (s ++ switched_by id e.ask e.reply)
+    (p ++ piped_by id e.ask e.reply)
+    (l ++ lone_by id e.ask e.reply) (b ++ brought_by id w e.ask e.reply)
+    (f ++ full_by id e.ask e.reply) (r ++ read_by id w e.ask e.reply)
 
 sums-next :
     (id : ℕ) (w : World) (e : Entry) (later : List PortCounts) (s p : List Frame) (l : List ℕ)
@@ -383,8 +386,9 @@ sums-next id w e later s p l b f r tells beyond moves k = record {
   where
     early : w.entry_count < id → More id w e s p l b f r zero_counts
     early above =
-        both s (switched_in id e) p (piped_in id e) l (lone_in id e) b (brought_in id w e) f
-        (full_in id e) r (read_in id w e) zero_counts zero_counts
+        both s (switched_by id e.ask e.reply) p (piped_by id e.ask e.reply) l
+        (lone_by id e.ask e.reply) b (brought_by id w e.ask e.reply) f
+        (full_by id e.ask e.reply) r (read_by id w e.ask e.reply) zero_counts zero_counts
         (k.future above) (subst (λ (c : Counts). Tells id w e c) (beyond above) tells)
 
     by_case :
@@ -397,8 +401,10 @@ sums-next id w e later s p l b f r tells beyond moves k = record {
         sym (there-counted w e id w.counts) ∙ stays.0 in
         subst (λ (c : Counts). More id w e s p l b f r c)
         (sym (stays.1 ∙ counts-counted w e id w.counts there))
-        (both s (switched_in id e) p (piped_in id e) l (lone_in id e) b (brought_in id w e) f
-        (full_in id e) r (read_in id w e) (counts_of w.counts id) (counted_in id w e)
+        (both s (switched_by id e.ask e.reply) p (piped_by id e.ask e.reply) l
+        (lone_by id e.ask e.reply) b (brought_by id w e.ask e.reply) f
+        (full_by id e.ask e.reply) r (read_by id w e.ask e.reply) (counts_of w.counts id)
+        (counted_in id w e)
         (k.counted there) tells)
     by_case (inr new) = subst (λ (c : Counts). More id w e s p l b f r c) (sym new.1) (early new.0)
 
@@ -572,8 +578,8 @@ module _ (s : Standing) (id : ℕ) (sent piped : List Frame) (lone : List ℕ)
 
 abbrev SumsAt : ℕ → ℕ → List Entry → Type 0
 SumsAt id pool h =
-    Sums id (world_of pool h).entry_count (world_of pool h).counts (switched_frames h id)
-    (piped_frames h id) (lone_counts h id) (brought_to pool h id) (full_counts h id)
+    Sums id (world_of pool h).entry_count (world_of pool h).counts (gathered switched_by h id)
+    (gathered piped_by h id) (gathered lone_by h id) (brought_to pool h id) (gathered full_by h id)
     (read_frames pool h id)
 
 sums-is :
@@ -590,19 +596,20 @@ sums-keeps :
 sums-keeps id pool h e legal follows k =
     let s = standing_of pool h in
     let n = world-numbered pool h in
-    let next : SumsMore id s.world e (switched_frames h id) (piped_frames h id) (lone_counts h id)
-    (brought_to pool h id) (full_counts h id) (read_frames pool h id) (after s e).world.counts =
+    let next : SumsMore id s.world e (gathered switched_by h id) (gathered piped_by h id)
+    (gathered lone_by h id) (brought_to pool h id) (gathered full_by h id) (read_frames pool h id)
+    (after s e).world.counts =
     follows-by s
-    (KeepsSums s id (switched_frames h id) (piped_frames h id) (lone_counts h id)
-    (brought_to pool h id) (full_counts h id) (read_frames pool h id) n k) e follows
-    (kinds s id (switched_frames h id) (piped_frames h id) (lone_counts h id) (brought_to pool h id)
-    (full_counts h id) (read_frames pool h id) n k) in
+    (KeepsSums s id (gathered switched_by h id) (gathered piped_by h id) (gathered lone_by h id)
+    (brought_to pool h id) (gathered full_by h id) (read_frames pool h id) n k) e follows
+    (kinds s id (gathered switched_by h id) (gathered piped_by h id) (gathered lone_by h id)
+    (brought_to pool h id) (gathered full_by h id) (read_frames pool h id) n k) in
     let count = count-standing_after s e (recorded_step s e.ask e.reply) in
     sums-is id (world_of pool (h ++ e ∷ [])) (after s e).world _ _ _ _ _ _ _ _ _ _ _ _
     (ap (λ (t : Standing). t.world) (standing-push pool h e))
-    (flat_map-push (switched_in id) h e) (flat_map-push (piped_in id) h e)
-    (flat_map-push (lone_in id) h e) (told-push (brought_in id) pool h e)
-    (flat_map-push (full_in id) h e) (told-push (read_in id) pool h e)
+    (flat_map-push (of_entry switched_by id) h e) (flat_map-push (of_entry piped_by id) h e)
+    (flat_map-push (of_entry lone_by id) h e) (told-push (of_entry_in brought_by id) pool h e)
+    (flat_map-push (of_entry full_by id) h e) (told-push (of_entry_in read_by id) pool h e)
     (rw count next)
 
 history-sums : (id pool : ℕ) (h : List Entry) → IsLegal pool h → SumsAt id pool h

@@ -11,7 +11,7 @@ use Rattle.vale_entry.specs.Grant.{first_offer, given_at, grant_reply, grant_rep
 use Rattle.vale_entry.specs.Delivery.{delivered_frames}
 use Rattle.vale_entry.specs.Legal.{Standing, standing_of, world_of, IsLegal, Follows, sync_step, offers_of_sync}
 use Rattle.vale_entry.specs.Offers.{dests_of}
-use Rattle.vale_entry.specs.Delivered.{frames_at, Brought, count_brought, granted_of_offer, brought_in, brought_to, read_in, read_frames, count_given, given_in, given_counts, count_gave, gave_in, read_counts}
+use Rattle.vale_entry.specs.Delivered.{frames_at, Brought, count_brought, granted_of_offer, brought_by, brought_to, read_by, read_frames, count_given, given_by, given_counts, count_gave, gave_by, read_counts, of_entry, of_entry_in}
 use Rattle.vale_entry.specs.DeliveryLaws.{AreCounted, RepliesCountFrames}
 use Rattle.vale_entry.specs.Pipe.{frame_of_item, frames_of_items}
 use Rattle.vale_entry.specs.declared.entry.Item.{Item}
@@ -22,7 +22,8 @@ use Rattle.vale_entry.proofs.Tells.{tells-nothing, tells-received, tells-put}
 -- what one entry grants and reads, and what its reply counts of it
 abbrev Counted : ℕ → World → Entry → Standing → Type 0
 Counted port w e left =
-    AreCounted (brought_in port w e) (given_in port w e) (read_in port w e) (gave_in port e)
+    AreCounted (brought_by port w e.ask e.reply) (given_by port w e.ask e.reply)
+    (read_by port w e.ask e.reply) (gave_by port e.ask e.reply)
 
 none : AreCounted [] [] [] []
 none = record { given_counted = refl; read_counted = refl }
@@ -128,7 +129,8 @@ replies-count pool h legal port =
         let one =
         follows-by (standing_of pool h) (Counted port (world_of pool h)) e follows
         (counts (standing_of pool h) port) in
-        counted-is _ _ _ _ _ _ _ _ (told-push (brought_in port) pool h e)
-        (told-push (given_in port) pool h e) (told-push (read_in port) pool h e)
-        (flat_map-push (gave_in port) h e)
+        counted-is _ _ _ _ _ _ _ _ (told-push (of_entry_in brought_by port) pool h e)
+        (told-push (of_entry_in given_by port) pool h e)
+        (told-push (of_entry_in read_by port) pool h e)
+        (flat_map-push (of_entry gave_by port) h e)
         (both _ _ _ _ _ _ _ _ k one)

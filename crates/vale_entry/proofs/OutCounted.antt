@@ -12,7 +12,7 @@ use Rattle.vale_entry.specs.Delivery.{port_after_done, port_after_sync, delivere
 use Rattle.vale_entry.specs.Closing.{shut, ports_without}
 use Rattle.vale_entry.specs.Pipe.{frames_of_items, port_after_put}
 use Rattle.vale_entry.specs.Legal.{Standing, standing_of, world_of, sync_step, IsLegal, Follows}
-use Rattle.vale_entry.specs.Delivered.{has_id, port_at, frames_at, read_in, read_frames, returned_in, returned_counts}
+use Rattle.vale_entry.specs.Delivered.{has_id, port_at, frames_at, read_by, read_frames, returned_by, returned_counts, of_entry, of_entry_in}
 use Rattle.vale_entry.specs.DeliveryLaws.{OutIsCounted}
 use Rattle.vale_entry.proofs.Worlds.{standing-push}
 use Rattle.vale_entry.proofs.Told.{told-push, flat_map-push, history-by}
@@ -44,7 +44,8 @@ out-still id count found later read returned same k =
 
 abbrev KeptOut : ℕ → World → List Frame → List ℕ → Entry → Standing → Type 0
 KeptOut id w read returned e left =
-    OutAt id left.world (read ++ read_in id w e) (returned ++ returned_in id e)
+    OutAt id left.world (read ++ read_by id w e.ask e.reply)
+    (returned ++ returned_by id e.ask e.reply)
 
 module _ (s : Standing) (id : ℕ) (read : List Frame) (returned : List ℕ) (n : Numbered s)
     (k : OutAt id s.world read returned) where
@@ -254,7 +255,8 @@ history-out pool id h legal =
         (kinds (standing_of pool h) id (read_frames pool h id) (returned_counts h id)
         (world-numbered pool h) k) in
         out-is id _ _ _ _ _ _ (ap (λ (s : Standing). s.world) (standing-push pool h e))
-        (told-push (read_in id) pool h e) (flat_map-push (returned_in id) h e) next
+        (told-push (of_entry_in read_by id) pool h e) (flat_map-push (of_entry returned_by id) h e)
+        next
 
 pub out-counted : OutIsCounted
 out-counted pool h legal id port e = (history-out pool id h legal).counted port e

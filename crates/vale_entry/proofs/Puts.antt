@@ -14,7 +14,7 @@ use Rattle.vale_entry.specs.World.{World, Port, Watch as Watcher, is_open_at, op
 use Rattle.vale_entry.specs.Offers.{wanted_if, monitored_frames}
 use Rattle.vale_entry.specs.Pipe.{peer_of, frames_of_items}
 use Rattle.vale_entry.specs.Legal.{Standing, standing_of, world_of, sync_step, IsLegal, Follows}
-use Rattle.vale_entry.specs.Delivered.{port_at, frames_at, Brought, frames_brought, granted_in, put_in, brought_in, brought_to}
+use Rattle.vale_entry.specs.Delivered.{port_at, frames_at, Brought, frames_brought, granted_by, put_by, brought_by, brought_to, of_entry_in}
 use Rattle.vale_entry.specs.Fate.{wanted_of_put, wanted_in, wanted_at, Share, shares_at, is_brought_of, granted_at, puts_at}
 use Rattle.vale_entry.specs.Laws.{Rise, id_of_port, is_monitor_open, IsWatch, AreWatches}
 use Rattle.vale_entry.specs.DeliveryLaws.{PutsBringOnce}
@@ -184,9 +184,9 @@ abbrev KeptPuts :
     → Type 0
 KeptPuts number to w wanted puts granted brought e left =
     IsPut number left.world.entry_count (wanted ++ wanted_in number to w e)
-    (puts ++ filter (is_brought_of number) (put_in to w e))
-    (granted ++ filter (is_brought_of number) (granted_in to w e))
-    (brought ++ filter (is_brought_of number) (brought_in to w e))
+    (puts ++ filter (is_brought_of number) (put_by to w e.ask e.reply))
+    (granted ++ filter (is_brought_of number) (granted_by to w e.ask e.reply))
+    (brought ++ filter (is_brought_of number) (brought_by to w e.ask e.reply))
 
 module _ (s : Standing) (number to : ℕ) (wanted : List Frame)
     (puts granted brought : List Brought) (n : Numbered s) (watched : Watched s)
@@ -295,9 +295,12 @@ put-keeps number to pool h e legal follows k =
     put-is number _ _ _ _ _ _ _ _ _ _
     (ap (λ (s : Standing). s.world.entry_count) (standing-push pool h e))
     (told-push (wanted_in number to) pool h e)
-    (filtered-push number to pool (put_in to) _ _ h e (told-push (put_in to) pool h e))
-    (filtered-push number to pool (granted_in to) _ _ h e (told-push (granted_in to) pool h e))
-    (filtered-push number to pool (brought_in to) _ _ h e (told-push (brought_in to) pool h e)) next
+    (filtered-push number to pool (of_entry_in put_by to) _ _ h e
+    (told-push (of_entry_in put_by to) pool h e))
+    (filtered-push number to pool (of_entry_in granted_by to) _ _ h e
+    (told-push (of_entry_in granted_by to) pool h e))
+    (filtered-push number to pool (of_entry_in brought_by to) _ _ h e
+    (told-push (of_entry_in brought_by to) pool h e)) next
 
 pub history-puts :
     (pool : ℕ) (h : List Entry) → IsLegal pool h → (number to : ℕ) → PutAt number to pool h

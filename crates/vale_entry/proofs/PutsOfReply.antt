@@ -11,7 +11,7 @@ use Rattle.vale_entry.specs.declared.entry.Entry.{Entry}
 use Rattle.vale_entry.specs.World.{World}
 use Rattle.vale_entry.specs.Pipe.{puts_to_port}
 use Rattle.vale_entry.specs.Legal.{Standing, after, recorded_step, standing_of, fresh_standing}
-use Rattle.vale_entry.specs.Delivered.{told_from, Brought, taken_of, put_by, put_in}
+use Rattle.vale_entry.specs.Delivered.{told_from, Brought, taken_of, put_by, of_entry_in}
 use Rattle.vale_entry.specs.Fate.{is_brought_of}
 use Rattle.vale_entry.specs.DeliveryLaws.{PutsAreOfReply}
 use Rattle.vale_entry.proofs.Each.{each-weaker, each-append}
@@ -27,6 +27,10 @@ told_from-append tell s (e ∷ es) rest =
     ∙ sym
     (append_assoc (tell s.world e) (told_from tell (after s e) es)
     (told_from tell (fold after (after s e) es) rest))
+
+-- what an entry puts to a port
+abbrev put_in : ℕ → World → Entry → List Brought
+put_in = of_entry_in put_by
 
 -- what is put bears the number of its entry
 abbrev IsOrigin : ℕ → Brought → Type 0

@@ -11,7 +11,7 @@ use Rattle.vale_entry.specs.Grant.{first_offer, with_lot, port_after_grant, gran
 use Rattle.vale_entry.specs.Delivery.{frames_of_lot, lot_after_done, done_if, port_after_done, port_after_sync, ready_lots, is_done_lot, delivered_frames}
 use Rattle.vale_entry.specs.Closing.{shut, ports_without, unread_count}
 use Rattle.vale_entry.specs.Legal.{Standing, standing_of, world_of, sync_step, IsLegal, Follows}
-use Rattle.vale_entry.specs.Delivered.{has_id, port_at, frames_at, frames_of_line, frames_brought, granted_of_offer, brought_in, brought_to, given_frames, read_in, read_frames, unread_in, unread_counts}
+use Rattle.vale_entry.specs.Delivered.{has_id, port_at, frames_at, frames_of_line, frames_brought, granted_of_offer, brought_by, brought_to, given_frames, read_by, read_frames, unread_by, unread_counts, of_entry, of_entry_in}
 use Rattle.vale_entry.specs.Opening.{opened_port}
 use Rattle.vale_entry.specs.DeliveryLaws.{IsReadInOrder, ReadIsPrefixOfGiven}
 use Rattle.vale_entry.specs.Pipe.{frames_of_items, port_after_put}
@@ -70,8 +70,8 @@ QueueAt id w given read unread =
 
 abbrev KeptQueue : ℕ → World → List Frame → List Frame → List ℕ → Entry → Standing → Type 0
 KeptQueue id w given read unread e left =
-    QueueAt id left.world (given ++ flat_map frames_brought (brought_in id w e))
-    (read ++ read_in id w e) (unread ++ unread_in id e)
+    QueueAt id left.world (given ++ flat_map frames_brought (brought_by id w e.ask e.reply))
+    (read ++ read_by id w e.ask e.reply) (unread ++ unread_by id e.ask e.reply)
 
 some_map :
     (change : Port → Port) (found : Option Port) → is_some (option_map change found) ≡ is_some found
@@ -430,10 +430,11 @@ module _ (s : Standing) (id : ℕ) (given read : List Frame) (unread : List ℕ)
 
 given_frames-push : (pool : ℕ) (h : List Entry) (e : Entry) (id : ℕ)
     → given_frames pool (h ++ e ∷ []) id
-    ≡ given_frames pool h id ++ flat_map frames_brought (brought_in id (world_of pool h) e)
+    ≡ given_frames pool h id ++ flat_map frames_brought
+    (brought_by id (world_of pool h) e.ask e.reply)
 given_frames-push pool h e id =
-    ap (flat_map frames_brought) (told-push (brought_in id) pool h e) ∙ flat_map-append
-    frames_brought (brought_to pool h id) (brought_in id (world_of pool h) e)
+    ap (flat_map frames_brought) (told-push (of_entry_in brought_by id) pool h e) ∙ flat_map-append
+    frames_brought (brought_to pool h id) (brought_by id (world_of pool h) e.ask e.reply)
 
 queue-is :
     (id : ℕ) (w v : World) (given gifts read got : List Frame) (unread counts : List ℕ) → w ≡ v
@@ -472,8 +473,8 @@ history-queue pool id h legal =
         (kinds (standing_of pool h) id (given_frames pool h id) (read_frames pool h id)
         (unread_counts h id) (world-numbered pool h) q) in
         queue-is id _ _ _ _ _ _ _ _ (ap (λ (s : Standing). s.world) (standing-push pool h e))
-        (given_frames-push pool h e id) (told-push (read_in id) pool h e)
-        (flat_map-push (unread_in id) h e) next
+        (given_frames-push pool h e id) (told-push (of_entry_in read_by id) pool h e)
+        (flat_map-push (of_entry unread_by id) h e) next
 
 in_order : (id count : ℕ) (found : Option Port) (given read : List Frame) (unread : List ℕ)
     → Queue id count (is_some found) (frames_at line_frames found) given read unread

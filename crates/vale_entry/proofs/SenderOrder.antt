@@ -12,7 +12,7 @@ use Rattle.vale_entry.specs.Delivery.{delivered_frames, port_after_done, port_af
 use Rattle.vale_entry.specs.Closing.{shut, ports_without}
 use Rattle.vale_entry.specs.Legal.{Standing, standing_of, world_of, sync_step, IsLegal, Follows, named_of}
 use Rattle.vale_entry.specs.Laws.{Rise, IsThere, IsFrom}
-use Rattle.vale_entry.specs.Delivered.{has_id, port_at, Brought, frames_brought, granted_of_offer, brought_in, brought_to}
+use Rattle.vale_entry.specs.Delivered.{has_id, port_at, Brought, frames_brought, granted_of_offer, brought_by, brought_to, of_entry_in}
 use Rattle.vale_entry.specs.Fate.{wanted_at, is_offer_to, offers_at, Share, shares_at, is_brought_of, granted_at, given_of, numbers_in, entries_of, is_among, origin_of, brought_between, puts_at}
 use Rattle.vale_entry.specs.DeliveryLaws.{SenderOrderIsKept}
 use Rattle.vale_entry.specs.Pipe.{frames_of_items, port_after_put}
@@ -51,7 +51,7 @@ kept_open numbers None false new later e fresh port is = absurd (no_port port (s
 abbrev KeptOrder : ℕ → ℕ → World → List ℕ → List Brought → Entry → Standing → Type 0
 KeptOrder id to w numbers granted e left =
     Ordered id left.world.entry_count (port_at left.world.ports id) left.world.offers
-    (numbers ++ numbers_in id w e) (granted ++ brought_in to w e)
+    (numbers ++ numbers_in id w e) (granted ++ brought_by to w e.ask e.reply)
 
 abbrev IsAlone : World → ℕ → List Brought → Type 0
 IsAlone w to granted =
@@ -340,7 +340,7 @@ order-keeps id to pool h e legal follows o =
     (kinds s id to (entries_of pool h id) (brought_to pool h to) (world-numbered pool h)
     (alone-world pool h to legal) o) in
     order-is id _ _ _ _ _ _ (ap (λ (s : Standing). s.world) (standing-push pool h e))
-    (told-push (numbers_in id) pool h e) (told-push (brought_in to) pool h e) next
+    (told-push (numbers_in id) pool h e) (told-push (of_entry_in brought_by to) pool h e) next
 
 pub history-order :
     (pool : ℕ) (h : List Entry) → IsLegal pool h → (id to : ℕ) → OrderAt id to pool h

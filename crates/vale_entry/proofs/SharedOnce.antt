@@ -10,7 +10,7 @@ use Rattle.vale_entry.specs.Offers.{offers_of, wanted_frames, monitored_frames, 
 use Rattle.vale_entry.specs.Grant.{first_offer, without_first, longest_fitting, given_at, granted_frames, grant_reply, grant_reply_at}
 use Rattle.vale_entry.specs.Delivery.{delivered_frames}
 use Rattle.vale_entry.specs.Legal.{Standing, standing_of, world_of, sync_step, IsLegal, Follows, named_of}
-use Rattle.vale_entry.specs.Delivered.{port_at, frames_at, Brought, granted_of_offer, granted_in, grants_to}
+use Rattle.vale_entry.specs.Delivered.{port_at, frames_at, Brought, granted_of_offer, granted_by, grants_to, of_entry_in}
 use Rattle.vale_entry.specs.Fate.{wanted_of_send, wanted_of_sync, wanted_in, wanted_at, is_offer_to, offers_at, Share, share_of, share_in, shares_at, is_brought_of, granted_at, wanted_of_put}
 use Rattle.vale_entry.specs.DeliveryLaws.{WantedIsSharedOnce}
 use Rattle.vale_entry.specs.Pipe.{frames_of_items}
@@ -72,7 +72,7 @@ abbrev KeptAccount :
 KeptAccount number to w wanted shares granted e left =
     Accounted number left.world.entry_count (wanted ++ wanted_in number to w e)
     (filter (is_offer_to number to) left.world.offers) (shares ++ share_in number to e)
-    (granted ++ filter (is_brought_of number) (granted_in to w e))
+    (granted ++ filter (is_brought_of number) (granted_by to w e.ask e.reply))
 
 module _ (s : Standing) (number to : ℕ) (wanted : List Frame) (shares : List Share)
     (granted : List Brought) (n : Numbered s)
@@ -248,10 +248,11 @@ AccountAt number to pool h =
 granted_at-push : (pool : ℕ) (h : List Entry) (e : Entry) (number to : ℕ)
     → granted_at pool (h ++ e ∷ []) number to
     ≡ granted_at pool h number to ++ filter (is_brought_of number)
-    (granted_in to (world_of pool h) e)
+    (granted_by to (world_of pool h) e.ask e.reply)
 granted_at-push pool h e number to =
-    ap (filter (is_brought_of number)) (told-push (granted_in to) pool h e) ∙ filter-append
-    (is_brought_of number) (grants_to pool h to) (granted_in to (world_of pool h) e)
+    ap (filter (is_brought_of number)) (told-push (of_entry_in granted_by to) pool h e)
+    ∙ filter-append (is_brought_of number) (grants_to pool h to)
+    (granted_by to (world_of pool h) e.ask e.reply)
 
 account-is :
     (number to : ℕ) (w v : World) (wanted wants : List Frame) (shares parts : List Share)

@@ -13,20 +13,20 @@ use Rattle.vale_entry.specs.World.{World, Port, open_port, transmit_monitor}
 use Rattle.vale_entry.specs.Offers.{is_monitor, wanted_if, monitored_frames}
 use Rattle.vale_entry.specs.Pipe.{peer_of, peer_of_found, is_port_at, puts_to_port, frames_of_items}
 use Rattle.vale_entry.specs.Delivery.{delivered_frames}
-use Rattle.vale_entry.specs.Delivered.{port_at, frames_at, granted_in, put_in, read_in, returned_in, unread_in, given_in, gave_in, count_gave}
+use Rattle.vale_entry.specs.Delivered.{port_at, frames_at, granted_by, put_by, read_by, returned_by, unread_by, given_by, gave_by, count_gave}
 use Rattle.vale_entry.specs.Fate.{wanted_of_sync, wanted_of_put, wanted_in, share_in, numbers_in}
 use Rattle.vale_entry.specs.Legal.{Standing, Outcome, unchanged, put_step}
 use Rattle.vale_entry.proofs.Follows.{Receives, by_sync, by_get, IsQuiet, finds_no_peer, entry_made}
 
 -- an entry that tells nothing
 pub record TellsNothing (w : World) (e : Entry) : Type 0 where
-  pub granted : (port : ℕ) → granted_in port w e ≡ []
-  pub put : (port : ℕ) → put_in port w e ≡ []
-  pub read : (port : ℕ) → read_in port w e ≡ []
-  pub returned : (port : ℕ) → returned_in port e ≡ []
-  pub unread : (port : ℕ) → unread_in port e ≡ []
-  pub given : (port : ℕ) → given_in port w e ≡ []
-  pub gave : (port : ℕ) → gave_in port e ≡ []
+  pub granted : (port : ℕ) → granted_by port w e.ask e.reply ≡ []
+  pub put : (port : ℕ) → put_by port w e.ask e.reply ≡ []
+  pub read : (port : ℕ) → read_by port w e.ask e.reply ≡ []
+  pub returned : (port : ℕ) → returned_by port e.ask e.reply ≡ []
+  pub unread : (port : ℕ) → unread_by port e.ask e.reply ≡ []
+  pub given : (port : ℕ) → given_by port w e.ask e.reply ≡ []
+  pub gave : (port : ℕ) → gave_by port e.ask e.reply ≡ []
   pub wanted :
       (number to : ℕ)
       → wanted_in number to w e ≡ cond {A = List Frame} (w.entry_count + 1 == number) [] []
@@ -74,15 +74,18 @@ tells-nothing s _ _ _ _ = search rules
 
 -- an entry that gives what is ready at a port
 pub record TellsReceived (w : World) (at : ℕ) (back : List ℕ) (e : Entry) : Type 0 where
-  pub granted : (port : ℕ) → granted_in port w e ≡ []
-  pub put : (port : ℕ) → put_in port w e ≡ []
+  pub granted : (port : ℕ) → granted_by port w e.ask e.reply ≡ []
+  pub put : (port : ℕ) → put_by port w e.ask e.reply ≡ []
   pub read :
       (port : ℕ)
-      → read_in port w e ≡ cond (at == port) (frames_at delivered_frames (open_port w.ports at)) []
-  pub returned : (port : ℕ) → returned_in port e ≡ cond (at == port) (length back ∷ []) []
-  pub unread : (port : ℕ) → unread_in port e ≡ []
-  pub given : (port : ℕ) → given_in port w e ≡ []
-  pub gave : (port : ℕ) → gave_in port e ≡ cond (at == port) (count_gave e.reply) []
+      → read_by port w e.ask e.reply
+      ≡ cond (at == port) (frames_at delivered_frames (open_port w.ports at)) []
+  pub returned :
+      (port : ℕ)
+      → returned_by port e.ask e.reply ≡ cond (at == port) (length back ∷ []) []
+  pub unread : (port : ℕ) → unread_by port e.ask e.reply ≡ []
+  pub given : (port : ℕ) → given_by port w e.ask e.reply ≡ []
+  pub gave : (port : ℕ) → gave_by port e.ask e.reply ≡ cond (at == port) (count_gave e.reply) []
   pub wanted :
       (number to : ℕ)
       → wanted_in number to w e ≡ cond (w.entry_count + 1 == number)
@@ -99,16 +102,18 @@ tells-received s _ _ _ made (by_get at back) = search rules
 -- a Put whose other end took these items
 pub record TellsPut (w : World) (at : ℕ) (items : List Item) (peer : Port) (e : Entry) : Type 0
   where
-    pub granted : (port : ℕ) → granted_in port w e ≡ []
+    pub granted : (port : ℕ) → granted_by port w e.ask e.reply ≡ []
     pub put :
         (port : ℕ)
-        → put_in port w e ≡ cond (peer.id == port)
+        → put_by port w e.ask e.reply ≡ cond (peer.id == port)
         (record { origin = w.entry_count + 1; frames = frames_of_items items } ∷ []) []
-    pub read : (port : ℕ) → read_in port w e ≡ []
-    pub returned : (port : ℕ) → returned_in port e ≡ []
-    pub unread : (port : ℕ) → unread_in port e ≡ []
-    pub given : (port : ℕ) → given_in port w e ≡ cond (peer.id == port) (length items ∷ []) []
-    pub gave : (port : ℕ) → gave_in port e ≡ []
+    pub read : (port : ℕ) → read_by port w e.ask e.reply ≡ []
+    pub returned : (port : ℕ) → returned_by port e.ask e.reply ≡ []
+    pub unread : (port : ℕ) → unread_by port e.ask e.reply ≡ []
+    pub given :
+        (port : ℕ)
+        → given_by port w e.ask e.reply ≡ cond (peer.id == port) (length items ∷ []) []
+    pub gave : (port : ℕ) → gave_by port e.ask e.reply ≡ []
     pub wanted :
         (number to : ℕ)
         → wanted_in number to w e ≡ cond (w.entry_count + 1 == number)

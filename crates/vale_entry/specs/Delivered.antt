@@ -22,6 +22,19 @@ told_from tell s (entry ∷ entries) = tell s.world entry ++ told_from tell (aft
 abbrev pub told : {X : Type 0} → (World → Entry → List X) → ℕ → List Entry → List X
 told tell pool history = told_from tell (fresh_standing pool) history
 
+-- what the ask and the reply of an entry tell of a port, in the world before it
+abbrev pub of_entry_in :
+    {X : Type 0} → (ℕ → World → Ask → Reply → List X) → ℕ → World → Entry → List X
+of_entry_in tell port w entry = tell port w entry.ask entry.reply
+
+-- and where that world does not matter
+abbrev pub of_entry : {X : Type 0} → (ℕ → Ask → Reply → List X) → ℕ → Entry → List X
+of_entry tell port entry = tell port entry.ask entry.reply
+
+-- what all entries of a history tell of a port in this way
+abbrev pub gathered : {X : Type 0} → (ℕ → Ask → Reply → List X) → List Entry → ℕ → List X
+gathered tell history port = flat_map (of_entry tell port) history
+
 -- the port of this id, open or shutting
 abbrev pub has_id : ℕ → Port → Bool
 has_id id port = port.id == id
@@ -56,17 +69,14 @@ granted_of_offer w (Some offer) =
     (record { origin = offer.origin; frames = granted_frames w offer }) ∷ []
 
 -- what an ask grants to a port
-abbrev pub granted_by : ℕ → World → Ask → List Brought
-granted_by port w (Grant origin to) =
+abbrev pub granted_by : ℕ → World → Ask → Reply → List Brought
+granted_by port w (Grant origin to) reply =
     if to.0 == port then granted_of_offer w (first_offer w origin) else []
-granted_by port w _ = []
-
-abbrev pub granted_in : ℕ → World → Entry → List Brought
-granted_in port w entry = granted_by port w entry.ask
+granted_by port w _ reply = []
 
 -- the grants to a port
 abbrev pub grants_to : ℕ → List Entry → ℕ → List Brought
-grants_to pool history port = told (granted_in port) pool history
+grants_to pool history port = told (of_entry_in granted_by port) pool history
 
 -- what a Put of this number took
 abbrev pub taken_of : ℕ → Reply → List Brought
@@ -79,50 +89,41 @@ put_by port w (PutKept at offered) reply =
     if puts_to_port w.ports at.0 port then taken_of (w.entry_count + 1) reply else []
 put_by port w _ reply = []
 
-abbrev pub put_in : ℕ → World → Entry → List Brought
-put_in port w entry = put_by port w entry.ask entry.reply
-
 -- what Puts brought to a port
 abbrev pub puts_to : ℕ → List Entry → ℕ → List Brought
-puts_to pool history port = told (put_in port) pool history
+puts_to pool history port = told (of_entry_in put_by port) pool history
 
 -- what Grants and Puts brought to a port
-abbrev pub brought_in : ℕ → World → Entry → List Brought
-brought_in port w entry = granted_in port w entry ++ put_in port w entry
+abbrev pub brought_by : ℕ → World → Ask → Reply → List Brought
+brought_by port w ask reply = granted_by port w ask reply ++ put_by port w ask reply
 
 abbrev pub brought_to : ℕ → List Entry → ℕ → List Brought
-brought_to pool history port = told (brought_in port) pool history
+brought_to pool history port = told (of_entry_in brought_by port) pool history
 
 -- the frames that were given to a port
 abbrev pub given_frames : ℕ → List Entry → ℕ → List Frame
 given_frames pool history port = flat_map frames_brought (brought_to pool history port)
 
 -- what an ask reads at a port
-abbrev pub read_by : ℕ → World → Ask → List Frame
-read_by port w (Sync at back) =
+abbrev pub read_by : ℕ → World → Ask → Reply → List Frame
+read_by port w (Sync at back) reply =
     if at.0 == port then frames_at delivered_frames (open_port w.ports at.0) else []
-read_by port w (Get at back) =
+read_by port w (Get at back) reply =
     if at.0 == port then frames_at delivered_frames (open_port w.ports at.0) else []
-read_by port w _ = []
-
-abbrev pub read_in : ℕ → World → Entry → List Frame
-read_in port w entry = read_by port w entry.ask
+read_by port w _ reply = []
 
 -- the frames that a port's syncs and gets gave
 abbrev pub read_frames : ℕ → List Entry → ℕ → List Frame
-read_frames pool history port = told (read_in port) pool history
+read_frames pool history port = told (of_entry_in read_by port) pool history
 
 -- how many buffers a port's syncs and gets brought back
-abbrev pub returned_by : ℕ → Ask → List ℕ
-returned_by port (Sync at back) = if at.0 == port then length back ∷ [] else []
-returned_by port (Get at back) = if at.0 == port then length back ∷ [] else []
-returned_by port _ = []
-
-abbrev pub returned_in : ℕ → Entry → List ℕ
-returned_in port entry = returned_by port entry.ask
+abbrev pub returned_by : ℕ → Ask → Reply → List ℕ
+returned_by port (Sync at back) reply = if at.0 == port then length back ∷ [] else []
+returned_by port (Get at back) reply = if at.0 == port then length back ∷ [] else []
+returned_by port _ reply = []
 
 abbrev pub returned_counts : List Entry → ℕ → List ℕ
-returned_counts history port = flat_map (returned_in port) history
+returned_counts history port = gathered returned_by history port
 
 -- what a Finish counts unread
 abbrev pub count_unread : Reply → List ℕ
@@ -133,12 +134,9 @@ abbrev pub unread_by : ℕ → Ask → Reply → List ℕ
 unread_by port (Finish at bufs chain) reply = if at.0 == port then count_unread reply else []
 unread_by port _ reply = []
 
-abbrev pub unread_in : ℕ → Entry → List ℕ
-unread_in port entry = unread_by port entry.ask entry.reply
-
 -- how many frames nobody read, as the port's Finish counted them: none before it is made
 abbrev pub unread_counts : List Entry → ℕ → List ℕ
-unread_counts history port = flat_map (unread_in port) history
+unread_counts history port = gathered unread_by history port
 
 -- how many frames a Grant gave, as its reply says, and how many a Put's other end took
 abbrev pub count_given : Reply → List ℕ
@@ -155,12 +153,9 @@ given_by port w (PutKept at offered) reply =
     if puts_to_port w.ports at.0 port then count_taken reply else []
 given_by port w _ reply = []
 
-abbrev pub given_in : ℕ → World → Entry → List ℕ
-given_in port w entry = given_by port w entry.ask entry.reply
-
 -- the counts of the Grants and Puts to a port, one after the other
 abbrev pub given_counts : ℕ → List Entry → ℕ → List ℕ
-given_counts pool history port = told (given_in port) pool history
+given_counts pool history port = told (of_entry_in given_by port) pool history
 
 -- how many frames a Sync or a Get gave, as its reply says
 abbrev pub count_gave : Reply → List ℕ
@@ -172,9 +167,6 @@ gave_by port (Sync at back) reply = if at.0 == port then count_gave reply else [
 gave_by port (Get at back) reply = if at.0 == port then count_gave reply else []
 gave_by port _ reply = []
 
-abbrev pub gave_in : ℕ → Entry → List ℕ
-gave_in port entry = gave_by port entry.ask entry.reply
-
 -- the counts of a port's syncs and gets, one after the other
 abbrev pub read_counts : List Entry → ℕ → List ℕ
-read_counts history port = flat_map (gave_in port) history
+read_counts history port = gathered gave_by history port

@@ -8,7 +8,7 @@ use Rattle.vale_entry.specs.Learning.{is_short}
 use Rattle.vale_entry.specs.Lookup.{Named, named_frames, is_named, is_lone}
 use Rattle.vale_entry.specs.Legal.{world_of, standing_of, IsLegal, Follows}
 use Rattle.vale_entry.specs.Laws.{Rise}
-use Rattle.vale_entry.specs.Delivered.{port_at, frames_of_line, Brought, frames_brought, count_brought, put_in, brought_to, given_frames, given_counts, read_frames, read_counts, returned_counts, unread_counts}
+use Rattle.vale_entry.specs.Delivered.{port_at, frames_of_line, Brought, frames_brought, count_brought, put_by, brought_to, given_frames, given_counts, read_frames, read_counts, returned_counts, unread_counts}
 use Rattle.vale_entry.specs.Counters.{counts_of}
 use Rattle.vale_entry.specs.Counted.{counts_told}
 use Rattle.vale_entry.specs.Fate.{wanted_at, offers_at, Share, share_in, shares_at, granted_at, puts_at, Fate, Pending, Given, Full, Gone, fates_at, given_of, entries_of, origin_of, brought_between}
@@ -60,7 +60,7 @@ PutsBringOnce = (pool : ℕ) (history : List Entry) → IsLegal pool history →
 abbrev pub PutsAreOfReply : Type 0
 PutsAreOfReply = (pool : ℕ) (past : List Entry) (entry : Entry) (rest : List Entry) (to : ℕ)
     → puts_at pool (past ++ entry ∷ rest) (length past + 1) to
-    ≡ put_in to (world_of pool past) entry
+    ≡ put_by to (world_of pool past) entry.ask entry.reply
 
 -- A short frame, and a lone one, is named for no port of the switch.
 abbrev pub IsForNobody : List Port → Port → Named → Type 0

@@ -12,7 +12,7 @@ use Rattle.vale_entry.specs.declared.entry.Reply.TheVariants.{Gave}
 use Rattle.vale_entry.specs.OwnCalls.{rx_call}
 use Rattle.vale_entry.specs.declared.entry.Entry.{Entry}
 use Rattle.vale_entry.specs.World.{World}
-use Rattle.vale_entry.specs.Delivered.{read_in}
+use Rattle.vale_entry.specs.Delivered.{read_by, of_entry_in}
 use Rattle.vale_entry.specs.Legal.{IsLegal, world_of}
 use Rattle.vale_entry.proofs.ListLaws.{each-at}
 use Rattle.vale_entry.proofs.Worlds.{count-world_of}
@@ -29,7 +29,7 @@ use Rattle.vale_replay.specs.Saved.{SavedFrame, saved_from, saved_in, saved_fram
 use Rattle.vale_player.specs.Saving.{saved_bytes, OthersSaveNothing, SavedStay, SavedBegin, SavedGrow, RingIsSaved, CallsSaveNothing, SyncsSaveNothing, RefusedSaveNothing}
 
 -- where nothing is read nothing is saved
-pub silent : (id : ℕ) (w : World) (e : Entry) → read_in id w e ≡ [] → saved_in id w e ≡ []
+pub silent : (id : ℕ) (w : World) (e : Entry) → read_by id w e.ask e.reply ≡ [] → saved_in id w e ≡ []
 silent id w e none = ap (saved_from (w.entry_count + 1) 0) none
 
 pub others-save-nothing : OthersSaveNothing
@@ -85,9 +85,9 @@ saved-grow s t id received there after is =
     let count = count-world_of pool before in
     let cut = length-take-le (n - 1) t.knows.seen (omega (arith, inside)) in
     let counted : (world_of pool before).entry_count + 1 ≡ n = omega (arith, count, cut, new) in
-    let read : read_in id (world_of pool before) entry ≡ read_of pool t.knows.seen id n = sym (ap (λ (o : Option Entry). option_map_or (read_in id (world_of pool before)) o []) at) in
+    let read : read_by id (world_of pool before) entry.ask entry.reply ≡ read_of pool t.knows.seen id n = sym (ap (λ (o : Option Entry). option_map_or (of_entry_in read_by id (world_of pool before)) o []) at) in
     let saved : saved_in id (world_of pool before) entry ≡ saved_from n 0 (read_of pool t.knows.seen id n) =
-    ap (λ (m : ℕ). saved_from m 0 (read_in id (world_of pool before) entry)) counted ∙ ap (saved_from n 0) read in
+    ap (λ (m : ℕ). saved_from m 0 (read_by id (world_of pool before) entry.ask entry.reply)) counted ∙ ap (saved_from n 0) read in
     grown ∙ (ap (λ (xs : List SavedFrame). saved_frames pool s.knows.seen id ++ xs) saved
     ∙ ap (λ (f : Fixed). saved_frames f.pool s.knows.seen id ++ saved_from n 0 (read_of pool t.knows.seen id n)) sync.fixed)
 

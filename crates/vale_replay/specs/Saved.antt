@@ -3,7 +3,7 @@ use Rattle.std.specs.Prelude.{ℕ, ◌+◌, List, [], ◌∷◌, flat_map, filte
 use Rattle.nm_types.specs.Frames.{Frame}
 use Rattle.vale_entry.specs.declared.entry.Entry.{Entry}
 use Rattle.vale_entry.specs.World.{World}
-use Rattle.vale_entry.specs.Delivered.{told, read_in}
+use Rattle.vale_entry.specs.Delivered.{told, read_by}
 use Rattle.vale_script.specs.declared.script.Act.{Act}
 use Rattle.vale_script.specs.declared.script.Act.TheVariants as acts
 use Rattle.vale_script.specs.declared.script.Unit.{Unit as ReadUnit}
@@ -26,7 +26,7 @@ saved_from number place (frame ∷ frames) =
 
 -- those of an entry that reads at the port
 abbrev pub saved_in : ℕ → World → Entry → List SavedFrame
-saved_in port w entry = saved_from (w.entry_count + 1) 0 (read_in port w entry)
+saved_in port w entry = saved_from (w.entry_count + 1) 0 (read_by port w entry.ask entry.reply)
 
 abbrev pub saved_frames : ℕ → List Entry → ℕ → List SavedFrame
 saved_frames pool history port = told (saved_in port) pool history
