@@ -1,6 +1,6 @@
 -- A port's id is found at one place, so a change at the id is a change at the place; and likewise
 -- for the buffers of ports and of sessions.
-use Rattle.std.proofs.Common.{ℕ, zero, suc, ◌≡◌, true, false, cond, ◌==◌, List, [], ◌∷◌, map, take, flat_map, Some, refl, ◌∙◌, ap, subst, arith, not, slice_get, slice_set}
+use Rattle.std.proofs.Common.{ℕ, zero, suc, ◌≡◌, Bool, ◌&&◌, find, true, false, cond, ◌==◌, List, [], ◌∷◌, map, take, flat_map, Some, refl, ◌∙◌, ap, subst, arith, not, slice_get, slice_set}
 use Rattle.std.specs.List.{remove}
 use Rattle.std.proofs.lemmas.Bool.{eq-eqb, ne_eqb, eqb-true, and_parts, not-true}
 use Rattle.vale_entry.specs.declared.entry.Entry.{Entry}
@@ -29,56 +29,58 @@ changed_at-place change ports high i port r e =
     (λ p other. rw other refl) in
     all ∙ ap (slice_set ports i) hit
 
--- an open port that a search finds: where it stands, and what a change at its id does
-pub record OpenPlace (ports : List Port) (id : ℕ) (port : Port) : Type 0 where
+-- the test of a port of this id that is being shut, or that is not
+abbrev is_shut_as : Bool → Port → Bool
+is_shut_as true port = port.shutting
+is_shut_as false port = not port.shutting
+
+abbrev is_at : Bool → ℕ → Port → Bool
+is_at shuts id port = (port.id == id) && is_shut_as shuts port
+
+shut_as : (shuts : Bool) (port : Port) → is_shut_as shuts port ≡ true → port.shutting ≡ shuts
+shut_as true port is = is
+shut_as false port is = not-true port.shutting is
+
+-- a port that such a search finds: where it stands, what a change at its id does, and what is left
+-- without it
+pub record PortPlace (shuts : Bool) (ports : List Port) (id : ℕ) (port : Port) : Type 0 where
   pub place : ℕ
   pub here : slice_get ports place ≡ Some port
   pub id_is : port.id ≡ id
-  pub stands_open : port.shutting ≡ false
+  pub shutting_is : port.shutting ≡ shuts
   pub changes :
       (change : Port → Port) → changed_at id change ports ≡ slice_set ports place (change port)
+  pub goes : ports_without port.id ports ≡ remove ports place
 
-pub open-place :
-    (ports : List Port) (high id : ℕ) (port : Port) → Rise 0 (map id_of_port ports) high
-    → open_port ports id ≡ Some port
-    → OpenPlace ports id port
-open-place ports high id port r e =
-    let found = place-of (is_open_at id) ports port e in
-    let tests = and_parts (port.id == id) (not port.shutting) found.passes in
+port-place :
+    (shuts : Bool) (ports : List Port) (high id : ℕ) (port : Port)
+    → Rise 0 (map id_of_port ports) high → find (is_at shuts id) ports ≡ Some port
+    → PortPlace shuts ports id port
+port-place shuts ports high id port r e =
+    let found = place-of (is_at shuts id) ports port e in
+    let tests = and_parts (port.id == id) (is_shut_as shuts port) found.passes in
     let same : port.id ≡ id = eqb-true port.id id tests.0 in
     record {
       place = found.place;
       here = found.here;
       id_is = same;
-      stands_open = not-true port.shutting tests.1;
+      shutting_is = shut_as shuts port tests.1;
       changes =
           λ change.
           subst (λ (k : ℕ). changed_at k change ports ≡ slice_set ports found.place (change port))
           same (changed_at-place change ports high found.place port r found.here);
+      goes = filter-at_key id_of_port 0 ports high found.place port r found.here;
     }
 
--- a shutting port that a search finds: where it stands, and what is left without it
-pub record ShuttingPlace (ports : List Port) (id : ℕ) (port : Port) : Type 0 where
-  pub place : ℕ
-  pub here : slice_get ports place ≡ Some port
-  pub id_is : port.id ≡ id
-  pub shuts : port.shutting ≡ true
-  pub goes : ports_without port.id ports ≡ remove ports place
+pub open-place :
+    (ports : List Port) (high id : ℕ) (port : Port) → Rise 0 (map id_of_port ports) high
+    → open_port ports id ≡ Some port → PortPlace false ports id port
+open-place = port-place false
 
 pub shutting-place :
     (ports : List Port) (high id : ℕ) (port : Port) → Rise 0 (map id_of_port ports) high
-    → shutting_port ports id ≡ Some port
-    → ShuttingPlace ports id port
-shutting-place ports high id port r e =
-    let found = place-of (is_shutting_at id) ports port e in
-    let tests = and_parts (port.id == id) port.shutting found.passes in
-    record {
-      place = found.place;
-      here = found.here;
-      id_is = eqb-true port.id id tests.0;
-      shuts = tests.1;
-      goes = filter-at_key id_of_port 0 ports high found.place port r found.here;
-    }
+    → shutting_port ports id ≡ Some port → PortPlace true ports id port
+shutting-place = port-place true
 
 -- the other end of a pipe that a search finds: where it stands, and what a change at its id does
 pub record PeerPlace (ports : List Port) (peer : Port) : Type 0 where

@@ -8,7 +8,7 @@ use Rattle.vale_entry.specs.Laws.{Rise, id_of_port}
 use Rattle.vale_entry.specs.Delivered.{has_id, port_at}
 use Rattle.vale_entry.specs.Pipe.{peer_of}
 use Rattle.vale_entry.proofs.Rising.{find-at_key, rise-bounds}
-use Rattle.vale_entry.proofs.Places.{open-place, shutting-place, peer-place}
+use Rattle.vale_entry.proofs.Places.{PortPlace, open-place, shutting-place, peer-place}
 
 find_map_by :
     {X : Type 0} (f : X → X) (x : X) (rest more : Option X) (b : Bool) → more ≡ option_map f rest
@@ -167,27 +167,25 @@ pub record Found (ports : List Port) (id : ℕ) (port : Port) : Type 0 where
   pub id_is : port.id ≡ id
   pub here : port_at ports id ≡ Some port
 
-found-place :
-    (ports : List Port) (high i id : ℕ) (port : Port) → Rise 0 (map id_of_port ports) high
-    → slice_get ports i ≡ Some port → port.id ≡ id → Found ports id port
-found-place ports high i id port r here is = record {
-  id_is = is;
-  here = subst (λ (k : ℕ). port_at ports k ≡ Some port) is (port_at-place ports high i port r here);
+found-at :
+    {shuts : Bool} {ports : List Port} {id : ℕ} {port : Port} (high : ℕ)
+    → Rise 0 (map id_of_port ports) high → PortPlace shuts ports id port → Found ports id port
+found-at {ports = ports} {port = port} high r p = record {
+  id_is = p.id_is;
+  here =
+      subst (λ (k : ℕ). port_at ports k ≡ Some port) p.id_is
+      (port_at-place ports high p.place port r p.here);
 }
 
 pub found-open :
     (ports : List Port) (high id : ℕ) (port : Port) → Rise 0 (map id_of_port ports) high
     → open_port ports id ≡ Some port → Found ports id port
-found-open ports high id port r e =
-    let p = open-place ports high id port r e in
-    found-place ports high p.place id port r p.here p.id_is
+found-open ports high id port r e = found-at high r (open-place ports high id port r e)
 
 pub found-shutting :
     (ports : List Port) (high id : ℕ) (port : Port) → Rise 0 (map id_of_port ports) high
     → shutting_port ports id ≡ Some port → Found ports id port
-found-shutting ports high id port r e =
-    let p = shutting-place ports high id port r e in
-    found-place ports high p.place id port r p.here p.id_is
+found-shutting ports high id port r e = found-at high r (shutting-place ports high id port r e)
 
 pub found-peer :
     (ports : List Port) (high : ℕ) (port peer : Port) → Rise 0 (map id_of_port ports) high

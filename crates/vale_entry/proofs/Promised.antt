@@ -262,7 +262,7 @@ promised_shut s id port e n =
     let same =
     ap (sum_by owed_by_port)
     (changed_at-place shut w.ports w.entry_count p.place port n.ports_rise p.here) in
-    let before : owed_by_port port ≡ 2 = rw p.stands_open refl in
+    let before : owed_by_port port ≡ 2 = rw p.shutting_is refl in
     let undone = sum-changed_at undone_of port.id shut (λ q. refl) w.ports in
     omega arith
 
@@ -277,7 +277,7 @@ promised_finish s bufs id port e out n =
     let undone = sum-remove undone_of w.ports p.place port p.here in
     let owed_same = ap (sum_by owed_by_port) p.goes in
     let undone_same = ap (sum_by undone_of) p.goes in
-    let before : owed_by_port port ≡ 1 = rw p.shuts refl in
+    let before : owed_by_port port ≡ 1 = rw p.shutting_is refl in
     omega arith
 
 promised_leave :

@@ -21,7 +21,7 @@ use Rattle.vale_entry.proofs.ListLaws.{place-of}
 use Rattle.vale_entry.proofs.Rising.{rise-slice_get, rise-above}
 use Rattle.vale_entry.proofs.Each.{each-weaker, each-append, any-append_left, each-unmap}
 use Rattle.vale_entry.proofs.Removals.{each-kept, sum-filter_less}
-use Rattle.vale_entry.proofs.Places.{open-place, ShuttingPlace, shutting-place}
+use Rattle.vale_entry.proofs.Places.{open-place, PortPlace, shutting-place}
 use Rattle.vale_entry.proofs.Numbered.{Numbered}
 use Rattle.vale_entry.proofs.Follows.{EachKind, after-by}
 
@@ -260,7 +260,7 @@ watched-finish ports high id port watches r e k = record {
   once = k.once;
 }
   where
-    place : ShuttingPlace ports id port
+    place : PortPlace true ports id port
     place = shutting-place ports high id port r e
 
     only : Each (λ (p : Port). p.id ≡ port.id → p ≡ port) ports
@@ -277,7 +277,7 @@ watched-finish ports high id port watches r e k = record {
             let is : p ≡ port = same (eqb-true p.id port.id hit) in
             let opens : p.shutting ≡ false =
             not-true p.shutting (and_parts (p.id == end) (not p.shutting) t).1 in
-            let shuts : p.shutting ≡ true = ap (λ (q : Port). q.shutting) is ∙ place.shuts in
+            let shuts : p.shutting ≡ true = ap (λ (q : Port). q.shutting) is ∙ place.shutting_is in
             absurd (let no : true ≡ false = sym shuts ∙ opens in cc)
 
     left :
@@ -326,7 +326,7 @@ watched-watch ports high id name port found watches watch r e can there none mon
     let named =
     and_parts (is_monitor_name port.name) (is_name name && not (is_monitor_name name)) can in
     let at_monitor : is_monitor_open port.id port ≡ true =
-    rw (eq-eqb port.id port.id refl, p.stands_open) named.0 in
+    rw (eq-eqb port.id port.id refl, p.shutting_is) named.0 in
     let plain = and_parts (is_name name) (not (is_monitor_name name)) named.1 in
     let same : found.name ≡ name = (bytes_eq-Decides found.name name).0 opens.1 in
     let unwatching : not (is_monitor_name found.name) ≡ true = rw same plain.1 in

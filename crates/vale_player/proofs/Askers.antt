@@ -73,8 +73,8 @@ module _ (pool : ℕ) (past : List Entry) (session : ℕ) (side : OwnState) (k :
       let first = find-one now.world.ports count id a.place port numbered a.here a.id_is in
       let second = find-one now.world.ports count id b.place other numbered b.here b.id_is in
       let same : Some port ≡ Some other = sym first ∙ second in
-      let open' = a.stands_open in
-      let shut' = b.shuts in
+      let open' = a.shutting_is in
+      let shut' = b.shutting_is in
       absurd cc
 
   finish-none : (bufs : List ℕ) (fits : Bool) (shut : Option Port) (made : Outcome) → shut ≡ None → cond fits (finish_step_at now bufs shut) None ≡ Some made → ⊥
