@@ -8,6 +8,7 @@ use Rattle.vale_entry.specs.Holdings.{PortBuffers, SessionBuffers, PortAgrees, P
 use Rattle.vale_entry.specs.Laws.{Rise, id_of_port, id_of_held, id_of_session, IsThere}
 use Rattle.vale_entry.proofs.Rising.{rise-bounds, rise-slice_get, map-at_key}
 use Rattle.vale_entry.proofs.Each.{each-weaker}
+use Rattle.vale_entry.proofs.InStep.{zip-at}
 use Rattle.vale_entry.proofs.Removals.{sum-remove}
 use Rattle.vale_entry.proofs.ListLaws.{sum-set, sum-map_same, map-set_same}
 
@@ -32,43 +33,9 @@ pub agree-at :
     (ports : List Port) (helds : List PortBuffers) (i : ℕ) (port : Port) → PortsAgree ports helds
     → slice_get ports i ≡ Some port
     → HeldAt helds i port
-agree-at [] helds i port a e = absurd cc
-agree-at (p ∷ ps) [] i port a e = absurd a
-agree-at (p ∷ ps) (held ∷ helds) zero port a e =
-    let same : p ≡ port = cc in
-    record { held = held; here = refl; agrees = subst (λ (q : Port). PortAgrees q held) same a.0 }
-agree-at (p ∷ ps) (held ∷ helds) (suc i) port a e =
-    let rest = agree-at ps helds i port a.1 e in
-    record { held = rest.held; here = rest.here; agrees = rest.agrees }
-
-pub agree-set :
-    (ports : List Port) (helds : List PortBuffers) (i : ℕ) (port : Port) (held : PortBuffers)
-    → PortsAgree ports helds
-    → PortAgrees port held → PortsAgree (slice_set ports i port) (slice_set helds i held)
-agree-set [] [] i port held a new = tt
-agree-set [] (h ∷ hs) i port held a new = absurd a
-agree-set (p ∷ ps) [] i port held a new = absurd a
-agree-set (p ∷ ps) (h ∷ hs) zero port held a new = (new, a.1)
-agree-set (p ∷ ps) (h ∷ hs) (suc i) port held a new = (a.0, agree-set ps hs i port held a.1 new)
-
-pub agree-push :
-    (ports : List Port) (helds : List PortBuffers) (port : Port) (held : PortBuffers)
-    → PortsAgree ports helds → PortAgrees port held
-    → PortsAgree (ports ++ port ∷ []) (helds ++ held ∷ [])
-agree-push [] [] port held a new = (new, tt)
-agree-push [] (h ∷ hs) port held a new = absurd a
-agree-push (p ∷ ps) [] port held a new = absurd a
-agree-push (p ∷ ps) (h ∷ hs) port held a new = (a.0, agree-push ps hs port held a.1 new)
-
-pub agree-remove :
-    (ports : List Port) (helds : List PortBuffers) (i : ℕ) → PortsAgree ports helds
-    → PortsAgree (remove ports i) (remove helds i)
-agree-remove [] [] zero a = tt
-agree-remove [] [] (suc i) a = tt
-agree-remove [] (h ∷ hs) i a = absurd a
-agree-remove (p ∷ ps) [] i a = absurd a
-agree-remove (p ∷ ps) (h ∷ hs) zero a = a.1
-agree-remove (p ∷ ps) (h ∷ hs) (suc i) a = (a.0, agree-remove ps hs i a.1)
+agree-at ports helds i port a e =
+    let found = zip-at PortAgrees ports helds i port a e in
+    record { held = found.item; here = found.here; agrees = found.holds }
 
 pub agree-map :
     (change : Port → Port)

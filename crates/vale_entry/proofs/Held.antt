@@ -20,7 +20,8 @@ use Rattle.vale_entry.proofs.Counting.{count_of, count_of-append, count-away, le
 use Rattle.vale_entry.proofs.Freeing.{count-all_with_free}
 use Rattle.vale_entry.proofs.Removals.{each-filter, filter-at_key, sum-remove, sum-filter_same, map-filter}
 use Rattle.vale_entry.proofs.Closings.{CanLeave}
-use Rattle.vale_entry.proofs.Agreeing.{agree-ids, agree-at, agree-map, due_for, due-remove, due-without, agree-remove, less-place, SessionPlace, each-set_key, users-named}
+use Rattle.vale_entry.proofs.Agreeing.{agree-ids, agree-at, agree-map, due_for, due-remove, due-without, less-place, SessionPlace, each-set_key, users-named}
+use Rattle.vale_entry.proofs.InStep.{zip-remove}
 use Rattle.vale_entry.proofs.Places.{buffers_of_port-place, shutting-place}
 use Rattle.vale_entry.proofs.Numbered.{Numbered}
 use Rattle.vale_entry.proofs.Roomy.{Roomy}
@@ -129,7 +130,7 @@ finished-at pool high sessions ports x bufs port i held user held_rise user_rise
     (ne_eqb port.session z.session
     (λ same. eqb-false z.session user.held.session other (sym same ∙ sym user.id_is))))) h.dues own in
     record {
-      ports_agree = rw (ports_are, helds_are) (agree-remove ports x.ports i h.ports_agree);
+      ports_agree = rw (ports_are, helds_are) (zip-remove PortAgrees ports x.ports i h.ports_agree);
       session_ids = users-named x.sessions user after_user _ users_are refl ∙ h.session_ids;
       dues = rw (ports_are, users_are) dues;
       parted = λ b.

@@ -16,7 +16,8 @@ use Rattle.vale_entry.specs.declared.entry.Item.{Item}
 use Rattle.vale_entry.proofs.Follows.{CanReceive, CanKeep}
 use Rattle.vale_entry.proofs.ListLaws.{each-at, sum-at, sum-set, sum-flat_map}
 use Rattle.vale_entry.proofs.Counting.{count_of, count_of-append, count-away, length-away}
-use Rattle.vale_entry.proofs.Agreeing.{agree-ids, agree-at, agree-set, due_for, due-set, SessionPlace, users-named, session-place, each-set_key, moved-place}
+use Rattle.vale_entry.proofs.Agreeing.{agree-ids, agree-at, due_for, due-set, SessionPlace, users-named, session-place, each-set_key, moved-place}
+use Rattle.vale_entry.proofs.InStep.{zip-set}
 use Rattle.vale_entry.proofs.Places.{open-place, changed_at-place, changed_buffers-place, buffers_of_session-place, delivered_buffers-place, PeerPlace, peer-place, first_idle-place}
 use Rattle.vale_entry.proofs.Numbered.{Numbered}
 use Rattle.vale_entry.proofs.Roomy.{Roomy, with_lot-size, delivered-size, items-size, taken-few}
@@ -185,7 +186,7 @@ synced-at pool high sessions ports x back port i held user port_rise held_rise u
     record {
       ports_agree =
           rw (ports_are, helds_are)
-          (agree-set ports x.ports i (change port) (move held) h.ports_agree
+          (zip-set PortAgrees ports x.ports i (change port) (move held) h.ports_agree
           (agrees-synced back port held few room a));
       session_ids = users-named x.sessions user after_user _ users_are refl ∙ h.session_ids;
       dues = rw (ports_are, users_are) dues;
@@ -366,7 +367,7 @@ put-at pool high number sessions ports x items session peer p held user held_ris
     record {
       ports_agree =
           rw (ports_are, helds_are)
-          (agree-set ports x.ports p.place (change peer) (move held) h.ports_agree
+          (zip-set PortAgrees ports x.ports p.place (change peer) (move held) h.ports_agree
           (agrees-put number session items peer held few room a));
       session_ids = users-named x.sessions user after_user _ users_are refl ∙ h.session_ids;
       dues = rw (ports_are, users_are) dues;

@@ -16,7 +16,8 @@ use Rattle.vale_entry.specs.Laws.{Rise, id_of_port, id_of_held, id_of_session, I
 use Rattle.vale_entry.proofs.ListLaws.{each-at, sum-set, sum-map_same}
 use Rattle.vale_entry.proofs.Each.{each-append, each-map, each-weaker, changed_at-same}
 use Rattle.vale_entry.proofs.Counting.{count_of, count_of-append}
-use Rattle.vale_entry.proofs.Agreeing.{agree-ids, agree-at, agree-set, agree-push, agree-map, due_for, due-sum, due-set, due-push, due-none, among-bound, session-place, given-place, changed_buffers-same, sum-changed_buffers}
+use Rattle.vale_entry.proofs.Agreeing.{agree-ids, agree-at, agree-map, due_for, due-sum, due-set, due-push, due-none, among-bound, session-place, given-place, changed_buffers-same, sum-changed_buffers}
+use Rattle.vale_entry.proofs.InStep.{zip-set, zip-push}
 use Rattle.vale_entry.proofs.Places.{open-place, changed_buffers-place}
 use Rattle.vale_entry.proofs.Numbered.{Numbered}
 use Rattle.vale_entry.proofs.Roomy.{Roomy, opened-room, longest_fitting-size, with_lot-size, size-after_done}
@@ -132,7 +133,7 @@ held_opened s session name tx rx extra found e n roomy free h =
     let changed = given-place more x.sessions w.entry_count session rise p in
     let agrees : PortAgrees port new = record { id = refl; idle = omega arith; lots = refl } in
     record {
-      ports_agree = agree-push w.ports x.ports port new h.ports_agree agrees;
+      ports_agree = zip-push PortAgrees w.ports x.ports port new h.ports_agree agrees;
       session_ids = ids_kept session more x.sessions ∙ h.session_ids;
       dues = each-map (IsPaid w.ports) (IsPaid (w.ports ++ port ∷ []))
           (session_given session more)
@@ -272,7 +273,7 @@ held-granted pool number session id frames sessions high ports x (Some port) e r
     record {
       ports_agree =
           rw (p.changes change, moved)
-          (agree-set ports x.ports p.place (change port) (move a.held) h.ports_agree agrees);
+          (zip-set PortAgrees ports x.ports p.place (change port) (move a.held) h.ports_agree agrees);
       session_ids = h.session_ids;
       dues =
           rw (p.changes change)

@@ -1,7 +1,7 @@
 -- Who holds which buffer: the free ones, for each port its idle ones and those of each lot, and
 -- those of each session. The buffers of a pool of N are 2 to N + 1.
 use Rattle.std.specs.Prelude.{ℕ, Bool, true, not, ◌&&◌, ◌==◌, ◌≡◌, ◌+◌, nat_le, nat_lt, if◌then◌else◌, List, [], ◌∷◌, ◌++◌, length, map, filter, take, drop, count_by, sum_by, flat_map, All}
-use Rattle.std.specs.List.{list_any, list_all, range_with_len}
+use Rattle.std.specs.List.{list_any, list_all, range_with_len, AllZip}
 use Rattle.nm_types.specs.Frames.{size_of_frames}
 use Rattle.vale_entry.specs.World.{Port, Lot, World, space_of, due_of}
 
@@ -188,10 +188,7 @@ pub record PortAgrees (port : Port) (held : PortBuffers) : Type 0 where
       ≡ map (λ (lot : Lot). size_of_frames lot.frames) port.line
 
 abbrev pub PortsAgree : List Port → List PortBuffers → Type 0
-PortsAgree [] [] = Unit {0}
-PortsAgree [] (held ∷ helds) = ⊥
-PortsAgree (port ∷ ports) [] = ⊥
-PortsAgree (port ∷ ports) (held ∷ helds) = PortAgrees port held × PortsAgree ports helds
+PortsAgree ports helds = AllZip PortAgrees ports helds
 
 -- the buffers that the ports of a session are due
 abbrev pub due_of_session : List Port → ℕ → ℕ

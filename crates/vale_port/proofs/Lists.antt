@@ -3,6 +3,7 @@ use Rattle.std.proofs.Common.{ℕ, zero, suc, true, false, not, ◌≡◌, ◌<�
 use Rattle.std.specs.Prelude.{count_by, sum_by}
 use Rattle.std.specs.List.{AllByRecursion as Each, list_any, remove}
 use Rattle.std.proofs.lemmas.Bool.{cases_Bool, ne_eqb}
+use Rattle.std.proofs.lemmas.List.Elements.{length_all_zip}
 use Rattle.std.proofs.lemmas.List.Sums.{sum_by-cons}
 use Rattle.vale_entry.specs.World.{Port, Lot, changed_at}
 use Rattle.vale_entry.specs.Closing.{shut, ports_without}
@@ -11,6 +12,7 @@ use Rattle.vale_entry.specs.Holdings.{PortBuffers, PortsAgree, changed_buffers}
 use Rattle.vale_entry.specs.Laws.{Rise, id_of_port, id_of_held, IsGrantedBy, bears_number}
 use Rattle.vale_entry.proofs.ListLaws.{sum-at}
 use Rattle.vale_entry.proofs.Agreeing.{agree-ids, agree-at}
+use Rattle.vale_entry.proofs.InStep.{zip-at, zip-set, zip-push, zip-remove}
 use Rattle.vale_entry.proofs.Places.{changed_at-place, changed_buffers-place}
 use Rattle.vale_entry.proofs.Removals.{filter-at_key}
 use Rattle.vale_port.specs.Laws.{is_numbered}
@@ -22,49 +24,7 @@ use Rattle.vale_port.proofs.SeatTies.{lots_are_lots, filled-numbered}
 -- Seats and ports, side by side.
 
 pub are-length : (seats : List Seat) (ps : List PortState) → AreSeatsOf seats ps → length seats ≡ length ps
-are-length [] [] are = refl
-are-length [] (p ∷ ps) are = absurd are
-are-length (s ∷ ss) [] are = absurd are
-are-length (s ∷ ss) (p ∷ ps) are = ap suc (are-length ss ps are.1)
-
--- the port that stands for a seat
-pub record SeatAt (ps : List PortState) (place : ℕ) (seat : Seat) : Type 0 where
-  pub state : PortState
-  pub here : slice_get ps place ≡ Some state
-  pub is : IsSeatOf seat state
-
-pub are-at : (seats : List Seat) (ps : List PortState) (place : ℕ) (seat : Seat) → AreSeatsOf seats ps → slice_get seats place ≡ Some seat → SeatAt ps place seat
-are-at [] ps place seat are e = absurd cc
-are-at (s ∷ ss) [] place seat are e = absurd are
-are-at (s ∷ ss) (p ∷ ps) zero seat are e =
-    let same : s ≡ seat = cc in
-    record { state = p; here = refl; is = subst (λ (t : Seat). IsSeatOf t p) same are.0 }
-are-at (s ∷ ss) (p ∷ ps) (suc place) seat are e =
-    let rest = are-at ss ps place seat are.1 e in
-    record { state = rest.state; here = rest.here; is = rest.is }
-
-pub are-set : (seats : List Seat) (ps : List PortState) (place : ℕ) (seat : Seat) (p : PortState) → AreSeatsOf seats ps → IsSeatOf seat p
-    → AreSeatsOf (slice_set seats place seat) (slice_set ps place p)
-are-set [] [] place seat p are is = tt
-are-set [] (q ∷ ps) place seat p are is = absurd are
-are-set (s ∷ ss) [] place seat p are is = absurd are
-are-set (s ∷ ss) (q ∷ ps) zero seat p are is = (is, are.1)
-are-set (s ∷ ss) (q ∷ ps) (suc place) seat p are is = (are.0, are-set ss ps place seat p are.1 is)
-
-pub are-push : (seats : List Seat) (ps : List PortState) (seat : Seat) (p : PortState) → AreSeatsOf seats ps → IsSeatOf seat p
-    → AreSeatsOf (seats ++ seat ∷ []) (ps ++ p ∷ [])
-are-push [] [] seat p are is = (is, tt)
-are-push [] (q ∷ ps) seat p are is = absurd are
-are-push (s ∷ ss) [] seat p are is = absurd are
-are-push (s ∷ ss) (q ∷ ps) seat p are is = (are.0, are-push ss ps seat p are.1 is)
-
-pub are-remove : (seats : List Seat) (ps : List PortState) (place : ℕ) → AreSeatsOf seats ps → AreSeatsOf (remove seats place) (remove ps place)
-are-remove [] [] zero are = tt
-are-remove [] [] (suc place) are = tt
-are-remove [] (q ∷ ps) place are = absurd are
-are-remove (s ∷ ss) [] place are = absurd are
-are-remove (s ∷ ss) (q ∷ ps) zero are = are.1
-are-remove (s ∷ ss) (q ∷ ps) (suc place) are = (are.0, are-remove ss ps place are.1)
+are-length seats ps are = length_all_zip IsSeatOf seats ps are
 
 -- Ports and their buffers, side by side.
 
@@ -132,15 +92,15 @@ seats-remove (p ∷ ps) (h ∷ hs) (suc place) agree = ap (λ (ss : List Seat). 
 pub each_port_stands : EachPortStands
 each_port_stands ports helds ps place port are here =
     let own = agree-at ports helds place port are.agree here in
-    let seat = are-at (seats_of ports helds) ps place (seat_with port own.held) are.stand (seats-at ports helds place port own.held here own.here) in
+    let seat = zip-at IsSeatOf (seats_of ports helds) ps place (seat_with port own.held) are.stand (seats-at ports helds place port own.held here own.here) in
     record {
       held = own.held;
-      state = seat.state;
+      state = seat.item;
       here = here;
       held_here = own.here;
       state_here = seat.here;
       agrees = own.agrees;
-      is_seat = seat.is;
+      is_seat = seat.holds;
     }
 
 pub found_is_found : FoundIsFound
@@ -179,7 +139,7 @@ change-set ports helds place port held change changed are e f =
 pub change_is_change : ChangeIsChange
 change_is_change ports helds ps place port held p change changed are e f is =
     subst (λ (ss : List Seat). AreSeatsOf ss (slice_set ps place p)) (sym (change-set ports helds place port held change changed are e f))
-    (are-set (seats_of ports helds) ps place (seat_with (change port) (changed held)) p are.stand is)
+    (zip-set IsSeatOf (seats_of ports helds) ps place (seat_with (change port) (changed held)) p are.stand is)
 
 pub shut_is_shut : ShutIsShutAmong
 shut_is_shut ports helds old new place port held are e f changes =
@@ -192,7 +152,7 @@ shut_is_shut ports helds old new place port held are e f changes =
 
 pub open_is_open_among : OpenIsOpenAmong
 open_is_open_among ports helds ps port held p are is =
-    subst (λ (ss : List Seat). AreSeatsOf ss (ps ++ p ∷ [])) (sym (seats-push ports helds port held are.agree)) (are-push (seats_of ports helds) ps (seat_with port held) p are.stand is)
+    subst (λ (ss : List Seat). AreSeatsOf ss (ps ++ p ∷ [])) (sym (seats-push ports helds port held are.agree)) (zip-push IsSeatOf (seats_of ports helds) ps (seat_with port held) p are.stand is)
 
 pub gone_is_gone : GoneIsGone
 gone_is_gone ports helds ps place port are e =
@@ -203,7 +163,7 @@ gone_is_gone ports helds ps place port are e =
     (filter-at_key id_of_held 0 helds are.high place own.held (helds-rise ports helds are.high are.agree are.rise) own.here) in
     let seats : seats_of (ports_without port.id ports) (filter (λ (held : PortBuffers). not (held.port == port.id)) helds) ≡ remove (seats_of ports helds) place =
     rw (all, held) (seats-remove ports helds place are.agree) in
-    subst (λ (ss : List Seat). AreSeatsOf ss (remove ps place)) (sym seats) (are-remove (seats_of ports helds) ps place are.stand)
+    subst (λ (ss : List Seat). AreSeatsOf ss (remove ps place)) (sym seats) (zip-remove IsSeatOf (seats_of ports helds) ps place are.stand)
 
 -- A lot that is done stands at one port.
 

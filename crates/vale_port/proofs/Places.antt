@@ -4,10 +4,11 @@ use Rattle.std.specs.Prelude.{IfSome, IfNone}
 use Rattle.std.proofs.lemmas.Option.{get_or_from_slice_get}
 use Rattle.vale_line.specs.Leased.{Leased}
 use Rattle.vale_entry.specs.World.{Offer}
+use Rattle.vale_entry.proofs.InStep.{zip-set}
 use Rattle.vale_port.specs.Lists.{ChangesSeat, ChangesSeatIf, OfSeat, OfState, SeatChangeIsChange}
 use Rattle.vale_port.specs.Ports.{PortState, IsSeatOf, AreSeatsOf, IsLeaseFor, sizes_of}
 use Rattle.vale_port.specs.Seat.{Seat, seats_of, given_frames}
-use Rattle.vale_port.proofs.Lists.{are-set, seats-at, change-set}
+use Rattle.vale_port.proofs.Lists.{seats-at, change-set}
 
 -- the seat at a place is that of the port there
 pub seat-there : (seats : List Seat) (ps : List PortState) (place : ℕ) (seat : Seat) (d : PortState) → AreSeatsOf seats ps → slice_get seats place ≡ Some seat
@@ -20,7 +21,7 @@ seat-there (s ∷ ss) (p ∷ ps) (suc place) seat d are e = seat-there ss ps pla
 pub changes-at : (change : Seat → Seat) (old : List PortState) (place : ℕ) (was now : PortState) → was ≡ get_or old place was
     → ((seat : Seat) → IsSeatOf seat was → IsSeatOf (change seat) now) → ChangesSeat change old place (slice_set old place now)
 changes-at change old place was now here keeps = λ seats seat are e.
-    are-set seats old place (change seat) now are (keeps seat (subst (IsSeatOf seat) (sym here) (seat-there seats old place seat was are e)))
+    zip-set IsSeatOf seats old place (change seat) now are (keeps seat (subst (IsSeatOf seat) (sym here) (seat-there seats old place seat was are e)))
 
 pub of-seat : (P : Seat → Type 0) (ps : List PortState) (place : ℕ) (was : PortState) → was ≡ get_or ps place was → ((seat : Seat) → IsSeatOf seat was → P seat)
     → OfSeat P ps place
@@ -39,7 +40,7 @@ seat_change_is_change ports helds old new place port held step change changed ar
 pub changes-if : (P : Seat → Type 0) (change : Seat → Seat) (old : List PortState) (place : ℕ) (was now : PortState) → was ≡ get_or old place was
     → ((seat : Seat) → IsSeatOf seat was → P seat → IsSeatOf (change seat) now) → ChangesSeatIf P change old place (slice_set old place now)
 changes-if P change old place was now here keeps = λ seats seat are e holds.
-    are-set seats old place (change seat) now are (keeps seat (subst (IsSeatOf seat) (sym here) (seat-there seats old place seat was are e)) holds)
+    zip-set IsSeatOf seats old place (change seat) now are (keeps seat (subst (IsSeatOf seat) (sym here) (seat-there seats old place seat was are e)) holds)
 
 -- What a grant gives to the seat at a place.
 

@@ -1,6 +1,6 @@
 -- A port that owns the buffers of its kernel side, and the seat of the world that it stands for.
 use Rattle.std.specs.Prelude.{ℕ, Bool, false, ◌≡◌, ◌≤◌, ◌+◌, ◌&&◌, ◌==◌, not, List, [], ◌∷◌, ◌++◌, codes, length, take, map, filter, nat_lt, nat_eq, slice_index, Some, option_map}
-use Rattle.std.specs.List.{starts_with}
+use Rattle.std.specs.List.{starts_with, AllZip}
 use Rattle.nm_types.specs.Frames.{Frame, slots_of, size_of_frames}
 use Rattle.nm_types.specs.declared.id.PortId.{PortId}
 use Rattle.nm_types.specs.Openings.{is_on_switch}
@@ -41,10 +41,7 @@ pub record IsSeatOf (seat : Seat) (p : PortState) : Type 0 where
 
 -- the ports are those of the seats, one by one
 abbrev pub AreSeatsOf : List Seat → List PortState → Type 0
-AreSeatsOf [] [] = Unit {0}
-AreSeatsOf [] (p ∷ ps) = ⊥
-AreSeatsOf (seat ∷ seats) [] = ⊥
-AreSeatsOf (seat ∷ seats) (p ∷ ps) = IsSeatOf seat p × AreSeatsOf seats ps
+AreSeatsOf seats ps = AllZip IsSeatOf seats ps
 
 -- the buffers that the session holds for the port
 abbrev pub due_of_state : PortState → ℕ
