@@ -11,4 +11,4 @@ mod tests;
 
 pub use entry::{Ask, Dest, Entry, Item, Reply};
 pub use history::History;
-pub use lists::{Dests, Items, Numbers};
+pub use lists::{Dests, Items, Listed, Numbers};

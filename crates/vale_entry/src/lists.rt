@@ -1,113 +1,54 @@
 use crate::entry::{Dest, Item};
 use std::marker::Model;
 
-/// A list of numbers, as buffers or entries.
+/// A list, seen as its items.
 #[derive(Clone, Drop)]
-pub struct Numbers {
-    items: Vec<u32>,
+pub struct Listed<T> {
+    items: Vec<T>,
 }
 
-impl Model for Numbers {
-    ghost use Rattle.std.specs.Prelude.{List, ℕ};
+impl<T> Model for Listed<T> {
+    ghost use Rattle.std.specs.Prelude.{List};
 
-    ghost Value = { List ℕ };
+    ghost Value = { List T };
 
-    ghost view = { λ n. n.items.items };
+    ghost view = { λ l. l.items.items };
 }
 
-impl From<Vec<u32>> for Numbers {
+impl<T> From<Vec<T>> for Listed<T> {
     ghost use Rattle.std.specs.Prelude.{◌≡◌};
 
-    ghost from_gives = { λ items numbers. numbers ≡ items.items };
+    ghost from_gives = { λ items listed. listed ≡ items.items };
 
-    fn from(items: Vec<u32>) -> Self {
-        Numbers { items }
+    fn from(items: Vec<T>) -> Self {
+        Listed { items }
     }
 }
 
-impl Numbers {
+impl<T> Listed<T> {
     ghost use Rattle.std.specs.Prelude.{◌≡◌};
 
-    /// Returns the numbers in their order.
-    pub fn as_slice(&self) -> &[u32]
+    /// Returns the items in their order.
+    pub fn as_slice(&self) -> &[T]
         ensures { result.now ≡ self.now }
     {
         &self.items
     }
 }
+
+/// A list of numbers, as buffers or entries.
+pub type Numbers = Listed<u32>;
 
 /// The ports that want frames of an entry, by rising id, each with their number.
-#[derive(Clone, Drop)]
-pub struct Dests {
-    items: Vec<Dest>,
-}
-
-impl Model for Dests {
-    ghost use Rattle.std.specs.Prelude.{List};
-    ghost use Rattle.vale_entry.specs.declared.entry.Dest.{Dest};
-
-    ghost Value = { List Dest };
-
-    ghost view = { λ d. d.items.items };
-}
-
-impl From<Vec<Dest>> for Dests {
-    ghost use Rattle.std.specs.Prelude.{◌≡◌};
-
-    ghost from_gives = { λ items dests. dests ≡ items.items };
-
-    fn from(items: Vec<Dest>) -> Self {
-        Dests { items }
-    }
-}
-
-impl Dests {
-    ghost use Rattle.std.specs.Prelude.{◌≡◌};
-
-    /// Returns the ports in their order.
-    pub fn as_slice(&self) -> &[Dest]
-        ensures { result.now ≡ self.now }
-    {
-        &self.items
-    }
-}
+pub type Dests = Listed<Dest>;
 
 /// Frames offered to a pipe or taken by it, each with its buffer.
-#[derive(Clone, Drop)]
-pub struct Items {
-    items: Vec<Item>,
-}
+pub type Items = Listed<Item>;
 
-impl Model for Items {
-    ghost use Rattle.std.specs.Prelude.{List};
-    ghost use Rattle.vale_entry.specs.declared.entry.Item.{Item};
-
-    ghost Value = { List Item };
-
-    ghost view = { λ i. i.items.items };
-}
-
-impl From<Vec<Item>> for Items {
-    ghost use Rattle.std.specs.Prelude.{◌≡◌};
-
-    ghost from_gives = { λ list items. items ≡ list.items };
-
-    fn from(items: Vec<Item>) -> Self {
-        Items { items }
-    }
-}
-
-impl Items {
+impl Listed<Item> {
     ghost use Rattle.std.specs.Prelude.{◌≡◌, ◌<◌, ◌^◌};
     ghost use Rattle.nm_types.specs.Frames.{bytes_of_frames};
     ghost use Rattle.vale_entry.specs.Pipe.{frames_of_items};
-
-    /// Returns the frames in their order.
-    pub fn as_slice(&self) -> &[Item]
-        ensures { result.now ≡ self.now }
-    {
-        &self.items
-    }
 
     /// Returns how many bytes the frames have together.
     pub fn size(&self) -> u64

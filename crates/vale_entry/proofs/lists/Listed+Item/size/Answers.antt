@@ -1,6 +1,6 @@
 use Rattle.std.proofs.Common.{◌<◌, length, arith, ap, ℕ}
 use Rattle.vale_entry.proofs.ItemBytes.{bytes_of_items, item_bytes-more}
-use Rattle.vale_entry.proofs.lists.Items.size.Goals as goal
+use Rattle.vale_entry.proofs.lists.Listed+Item.size.Goals as goal
 
 pub overflow_add-total : goal.overflow_add-total
 overflow_add-total c =
