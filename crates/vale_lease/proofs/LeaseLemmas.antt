@@ -1,13 +1,13 @@
 -- Leases in order: what opening, completing and taking leave of them.
 use Rattle.std.proofs.Common.{ℕ, zero, suc, Bool, true, false, List, [], ◌∷◌, ◌++◌, ◌≡◌, ◌≤◌, ◌<◌, ◌+◌, inl, inr, Some, None, length, map, drop, set, get_or, refl, sym, ◌∙◌, ap, arith, ◌||◌}
-use Rattle.std.specs.Prelude.{All, IfSome, slice_get}
+use Rattle.std.specs.Prelude.{All, IfSome, slice_get, take_while}
 use Rattle.std.specs.List.{prefix_len}
 use Rattle.std.proofs.lemmas.Bool.{cases_Bool, or_parts, or_from, or_right, both_ways, eqb-true, eqb-false, ne_eqb}
 use Rattle.std.proofs.lemmas.List.Sums.{sum_by-cons, sum_by_push, sum_by-take-le, count_by-le-length}
 use Rattle.std.proofs.lemmas.List.Folds.{list_any-append, list_any_at}
 use Rattle.std.proofs.lemmas.List.Elements.{All-head, All-tail}
 use Rattle.vale_lease.specs.declared.leases.LeaseSlots.{LeaseSlots}
-use Rattle.vale_lease.specs.Leases.{has_id, is_out, is_done, is_there, is_lease_out, slots_of, done_prefix, behind_done, first_done, out_count, completed, AreLeases}
+use Rattle.vale_lease.specs.Leases.{has_id, is_out, is_done, is_there, is_lease_out, slots_of, behind_done, first_done, out_count, completed, AreLeases}
 
 slots-cons : (lease : LeaseSlots) (leases : List LeaseSlots) → slots_of (lease ∷ leases) ≡ lease.slots + slots_of leases
 slots-cons lease leases = sum_by-cons (λ (l : LeaseSlots). l.slots) lease leases
@@ -104,15 +104,15 @@ out_there id (lease ∷ leases) out = elim (cases_Bool (has_id id lease)) [
 ]
 
 -- the first lease is done: it leaves the prefix, and what stands behind the prefix stays
-pub first_done_more : (leases : List LeaseSlots) (slots : ℕ) → first_done leases ≡ Some slots → slots_of (done_prefix leases) ≡ slots + slots_of (done_prefix (drop 1 leases))
+pub first_done_more : (leases : List LeaseSlots) (slots : ℕ) → first_done leases ≡ Some slots → slots_of (take_while is_done leases) ≡ slots + slots_of (take_while is_done (drop 1 leases))
 first_done_more [] slots is = absurd (let wrong : None ≡ Some slots = is in cc)
 first_done_more (lease ∷ leases) slots is = elim (cases_Bool lease.is_done) [
   | inl here ↦
       let told : Some lease.slots ≡ Some slots = rw here at is in
       let same : lease.slots ≡ slots = cc in
       let next : 1 + prefix_len is_done leases ≡ suc (prefix_len is_done leases) = omega arith in
-      let cut : done_prefix (lease ∷ leases) ≡ lease ∷ done_prefix leases = rw (here, next) refl in
-      ap slots_of cut ∙ (slots-cons lease (done_prefix leases) ∙ ap (λ (n : ℕ). n + slots_of (done_prefix leases)) same)
+      let cut : take_while is_done (lease ∷ leases) ≡ lease ∷ take_while is_done leases = rw (here, next) refl in
+      ap slots_of cut ∙ (slots-cons lease (take_while is_done leases) ∙ ap (λ (n : ℕ). n + slots_of (take_while is_done leases)) same)
   | inr not_done ↦ absurd (let wrong : None ≡ Some slots = rw not_done at is in cc)
 ]
 
@@ -127,7 +127,7 @@ pub first_done_some : (leases : List LeaseSlots) (slots : ℕ) → first_done le
 first_done_some [] slots is = absurd (let wrong : None ≡ Some slots = is in cc)
 first_done_some (lease ∷ leases) slots is = omega arith
 
-pub first_done_prefix : (leases : List LeaseSlots) → first_done leases ≡ None → done_prefix leases ≡ []
+pub first_done_prefix : (leases : List LeaseSlots) → first_done leases ≡ None → take_while is_done leases ≡ []
 first_done_prefix [] is = refl
 first_done_prefix (lease ∷ leases) is = elim (cases_Bool lease.is_done) [
   | inl here ↦ absurd (let wrong : Some lease.slots ≡ None = rw here at is in cc)
@@ -141,7 +141,7 @@ first_done_rest (lease ∷ leases) is = elim (cases_Bool lease.is_done) [
   | inr not_done ↦ rw not_done refl
 ]
 
-pub prefix-le-slots : (leases : List LeaseSlots) → slots_of (done_prefix leases) ≤ slots_of leases
+pub prefix-le-slots : (leases : List LeaseSlots) → slots_of (take_while is_done leases) ≤ slots_of leases
 prefix-le-slots leases = sum_by-take-le (λ (l : LeaseSlots). l.slots) leases (prefix_len is_done leases)
 
 -- leases of which the first ones went

@@ -1,7 +1,7 @@
 -- The leases of a receive ring, oldest first. A lease stands for so many slots, and is done once they
 -- are filled. The reader gets the slots of the longest prefix of done leases, so no lease overtakes an
 -- earlier one.
-use Rattle.std.specs.Prelude.{ℕ, Bool, false, not, ◌&&◌, ◌||◌, ◌==◌, ◌≡◌, ◌-◌, ◌^◌, ◌<◌, ◌≤◌, if◌then◌else◌, List, [], ◌∷◌, drop, Option, Some, None, count_by, sum_by, take_while}
+use Rattle.std.specs.Prelude.{ℕ, Bool, false, not, ◌&&◌, ◌||◌, ◌==◌, ◌≡◌, ◌-◌, ◌^◌, ◌<◌, ◌≤◌, if◌then◌else◌, List, [], ◌∷◌, drop, Option, Some, None, count_by, sum_by}
 use Rattle.std.specs.List.{list_any, prefix_len}
 use Rattle.vale_lease.specs.declared.leases.LeaseSlots.{LeaseSlots}
 
@@ -33,11 +33,7 @@ is_lease_out id leases = list_any (is_out_as id) leases
 abbrev pub slots_of : List LeaseSlots → ℕ
 slots_of leases = sum_by (λ (l : LeaseSlots). l.slots) leases
 
--- the longest prefix of done leases
-abbrev pub done_prefix : List LeaseSlots → List LeaseSlots
-done_prefix leases = take_while is_done leases
-
--- what stands behind that prefix
+-- what stands behind the longest prefix of done leases
 abbrev pub behind_done : List LeaseSlots → List LeaseSlots
 behind_done leases = drop (prefix_len is_done leases) leases
 

@@ -1,6 +1,6 @@
-ghost use Rattle.std.specs.Prelude.{All, ◌≡◌, ◌+◌, ◌-◌, ◌<◌, ◌≤◌, ◌^◌, [], ◌∷◌, ◌++◌, IfOk, IfSome, IfNone, IsTrue, false, length, map, drop, slice_get};
+ghost use Rattle.std.specs.Prelude.{All, ◌≡◌, ◌+◌, ◌-◌, ◌<◌, ◌≤◌, ◌^◌, [], ◌∷◌, ◌++◌, IfOk, IfSome, IfNone, IsTrue, false, length, map, drop, slice_get, take_while};
 ghost use Rattle.std.specs.VecDeque.{deque_capacity};
-ghost use Rattle.vale_lease.specs.Leases.{has_id, is_there, is_lease_out, slots_of, done_prefix, behind_done, first_done, out_count, completed, AreLeases, IsLeaseRing};
+ghost use Rattle.vale_lease.specs.Leases.{has_id, is_done, is_there, is_lease_out, slots_of, behind_done, first_done, out_count, completed, AreLeases, IsLeaseRing};
 
 use nm_types::{LeaseId, NoMemory};
 use std::alloc::Global;
@@ -64,7 +64,7 @@ fn remove_first(leases: &mut VecDeque<LeaseSlots>)
 #[tactic(auto, using(crate::proofs::LeaseLemmas::leases))]
 fn take_done(leases: &mut VecDeque<LeaseSlots>) -> u32
     requires { slots_of leases.old.items < 2 ^ 32 }
-    ensures slots { result ≡ slots_of (done_prefix leases.old.items) }
+    ensures slots { result ≡ slots_of (take_while is_done leases.old.items) }
     ensures rest { leases.new.items ≡ behind_done leases.old.items }
     ensures capacity { deque_capacity leases.new ≡ deque_capacity leases.old }
 {
@@ -102,7 +102,7 @@ fn mark_done(leases: &mut VecDeque<LeaseSlots>, id: LeaseId)
 
 fn ready_slots(leases: &VecDeque<LeaseSlots>) -> u32
     requires { slots_of leases.now.items < 2 ^ 32 }
-    ensures { result ≡ slots_of (done_prefix leases.now.items) }
+    ensures { result ≡ slots_of (take_while is_done leases.now.items) }
 {
     leases
         .iter()
@@ -154,7 +154,7 @@ impl Leases {
     /// The number of slots that a reader could take now: those of the longest prefix of done
     /// leases.
     pub fn ready(&self) -> u32
-        ensures slots { result ≡ slots_of (done_prefix self.now.leases) }
+        ensures slots { result ≡ slots_of (take_while is_done self.now.leases) }
         ensures ring { IsLeaseRing self.now }
     {
         ready_slots(&self.leases)
@@ -163,7 +163,7 @@ impl Leases {
     /// Hands these slots to the reader: removes the longest prefix of done leases.
     #[tactic(auto, using(crate::proofs::LeaseLemmas::leases))]
     pub fn take(&mut self) -> u32
-        ensures slots { result ≡ slots_of (done_prefix self.old.leases) }
+        ensures slots { result ≡ slots_of (take_while is_done self.old.leases) }
         ensures rest { self.new ≡ record self.old { leases = behind_done self.old.leases } }
     {
         take_done(&mut self.leases)

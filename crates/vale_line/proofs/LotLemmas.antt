@@ -1,6 +1,6 @@
 -- What a line's lots and its ring of leases have in common.
 use Rattle.std.proofs.Common.{ℕ, zero, suc, Bool, true, false, ◌≡◌, ◌+◌, ◌-◌, ◌<◌, ◌≤◌, List, [], ◌∷◌, ◌++◌, length, take, drop, map, Option, Some, None, inl, inr, slice_set, get_or, if◌then◌else◌, not, ◌||◌, append-nil, refl, sym, ◌∙◌, ap, arith}
-use Rattle.std.specs.Prelude.{All, flat_map, IfSome, is_some, slice_get, sum_by}
+use Rattle.std.specs.Prelude.{All, flat_map, IfSome, is_some, slice_get, sum_by, take_while}
 use Rattle.std.specs.Prelude.{◌==◌}
 use Rattle.std.specs.List.{prefix_len, list_any}
 use Rattle.std.specs.Option.{option_map_or}
@@ -12,7 +12,7 @@ use Rattle.std.proofs.lemmas.List.Elements.{All-push, All-same, All-cons, All-he
 use Rattle.nm_types.specs.declared.id.LeaseId.{LeaseId}
 use Rattle.nm_region.specs.Buffers.{Buffer}
 use Rattle.vale_lease.specs.declared.leases.LeaseSlots.{LeaseSlots}
-use Rattle.vale_lease.specs.Leases.{AreLeases, is_there, is_lease_out, is_out, out_count, done_prefix, slots_of as lease_slots, behind_done as behind_leases, is_done as is_done_lease, completed as completed_lease}
+use Rattle.vale_lease.specs.Leases.{AreLeases, is_there, is_lease_out, is_out, out_count, slots_of as lease_slots, behind_done as behind_leases, is_done as is_done_lease, completed as completed_lease}
 use Rattle.vale_lease.proofs.LeaseLemmas.{length-le-slots, leases-push, leases-drop, slots-completed, out_there}
 use Rattle.vale_lease.proofs.LeaseLemmas.{leases-completed as ring-completed}
 use Rattle.vale_line.specs.declared.got.Got.{Got}
@@ -32,10 +32,10 @@ prefix-leases : (lots : List HeldLot) → prefix_len is_done_lease (leases_of lo
 prefix-leases [] = refl
 prefix-leases (lot ∷ lots) = ap (λ (n : ℕ). if is_done lot then 1 + n else 0) (prefix-leases lots)
 
-pub done-leases : (lots : List HeldLot) → done_prefix (leases_of lots) ≡ leases_of (done_lots lots)
+pub done-leases : (lots : List HeldLot) → take_while is_done_lease (leases_of lots) ≡ leases_of (done_lots lots)
 done-leases lots = ap (λ (n : ℕ). take n (leases_of lots)) (prefix-leases lots) ∙ take-map lease_of (prefix_len is_done lots) lots
 
-pub ready-slots : (lots : List HeldLot) → lease_slots (done_prefix (leases_of lots)) ≡ slots_of (done_lots lots)
+pub ready-slots : (lots : List HeldLot) → lease_slots (take_while is_done_lease (leases_of lots)) ≡ slots_of (done_lots lots)
 ready-slots lots = ap lease_slots (done-leases lots) ∙ leased-slots (done_lots lots)
 
 pub leases_of-push : (lots : List HeldLot) (lot : HeldLot) → leases_of (lots ++ lot ∷ []) ≡ leases_of lots ++ lease_of lot ∷ []
@@ -212,7 +212,7 @@ length-ready (lot ∷ lots) full = length-by lot.gots (length-ready lots (All-ta
         let total : slots_of (done_lots (lot ∷ lots)) ≡ lot.slots + slots_of (done_lots lots) = ap slots_of cut ∙ slots in
         omega (arith, total, rest, given, own)
 
-pub ready-count : (lots : List HeldLot) → All IsLot lots → lease_slots (done_prefix (leases_of lots)) ≡ length (ready_gots lots)
+pub ready-count : (lots : List HeldLot) → All IsLot lots → lease_slots (take_while is_done_lease (leases_of lots)) ≡ length (ready_gots lots)
 ready-count lots full = ready-slots lots ∙ sym (length-ready lots full)
 
 -- what is behind the done lots is behind the done leases
