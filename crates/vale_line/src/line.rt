@@ -230,7 +230,8 @@ impl Line {
             return None;
         }
         self.leases.open(id, count);
-        let gots = self.ring.lease(id, count, gots, &mut self.room);
+        self.ring.settle(&mut self.room);
+        let gots = self.ring.lease(id, count, gots);
         Some(Lease::new(id, to, gots, &want[..frames]))
     }
 
@@ -277,7 +278,8 @@ impl Line {
         ensures line { self.new ≡ record self.old { idle = drop k self.old.idle } }
         ensures was { IsLine self.old }
     {
-        self.ring.lend(k, room, &mut self.room)
+        self.ring.settle(&mut self.room);
+        self.ring.lend(k, room)
     }
 
     /// Takes buffers with a frame in each, in the place of those that were lent, as a done lot. No

@@ -213,7 +213,7 @@ impl Ring {
     }
 
     /// Has no empty cells in front of the idle buffers.
-    fn settle(&mut self, room: &mut Vec<Buf>)
+    pub(crate) fn settle(&mut self, room: &mut Vec<Buf>)
         requires ring { IsRingWith self.old room.old }
         ensures ring { IsRing self.new }
         ensures line { ring_state self.new ≡ ring_state self.old }
@@ -226,32 +226,9 @@ impl Ring {
         }
     }
 
-    /// Opens a lot of the first `count` idle buffers, which are put into an empty vector that has
-    /// room for them.
-    pub(crate) fn lease(
-        &mut self,
-        id: LeaseId,
-        count: u32,
-        gots: Vec<Got>,
-        room: &mut Vec<Buf>,
-    ) -> Vec<Got>
-        requires ring { IsRingWith self.old room.old }
-        requires lots { length self.old.lots.items < self.old.field.size }
-        requires enough { count ≤ length (ring_state self.old).idle }
-        requires gots { gots.items ≡ [] }
-        requires gots_room { count ≤ vec_capacity gots }
-        ensures ring { IsRing self.new }
-        ensures line { ring_state self.new ≡ with_lease id count (ring_state self.old) }
-        ensures gots { result.items ≡ map blank (take count (ring_state self.old).idle) }
-        ensures none { room.new.items ≡ [] }
-        ensures capacity { vec_capacity room.new ≡ vec_capacity room.old }
-    {
-        self.settle(room);
-        self.lease_front(id, count, gots)
-    }
-
-    /// Opens a lot of the first `count` cells.
-    fn lease_front(&mut self, id: LeaseId, count: u32, gots: Vec<Got>) -> Vec<Got>
+    /// Opens a lot of the first `count` idle buffers, which no empty cell precedes. They are put into
+    /// an empty vector that has room for them.
+    pub(crate) fn lease(&mut self, id: LeaseId, count: u32, gots: Vec<Got>) -> Vec<Got>
         requires ring { IsRing self.old }
         requires lent { self.old.lent ≡ 0 }
         requires lots { length self.old.lots.items < self.old.field.size }
@@ -429,27 +406,9 @@ impl Ring {
         discard(self.give_first(), bufs)
     }
 
-    /// Lends the first `k` idle buffers in an empty vector that has room for them.
-    pub(crate) fn lend(&mut self, k: u32, lent: Vec<Buf>, room: &mut Vec<Buf>) -> Vec<Buf>
-        requires ring { IsRingWith self.old room.old }
-        requires enough { k ≤ length (ring_state self.old).idle }
-        requires lent { lent.items ≡ [] }
-        requires lent_room { k ≤ vec_capacity lent }
-        ensures ring { IsRing self.new }
-        ensures line { ring_state self.new ≡ record (ring_state self.old) {
-          idle = drop k (ring_state self.old).idle;
-        } }
-        ensures lent { result.items ≡ take k (ring_state self.old).idle }
-        ensures lent_capacity { vec_capacity result ≡ vec_capacity lent }
-        ensures none { room.new.items ≡ [] }
-        ensures capacity { vec_capacity room.new ≡ vec_capacity room.old }
-    {
-        self.settle(room);
-        self.lend_front(k, lent)
-    }
-
-    /// Lends the buffers of the first `k` idle cells.
-    fn lend_front(&mut self, k: u32, mut bufs: Vec<Buf>) -> Vec<Buf>
+    /// Lends the first `k` idle buffers, which no empty cell precedes, in an empty vector that has
+    /// room for them.
+    pub(crate) fn lend(&mut self, k: u32, mut bufs: Vec<Buf>) -> Vec<Buf>
         requires ring { IsRing self.old }
         requires settled { self.old.lent ≡ 0 }
         requires enough { k ≤ length (ring_state self.old).idle }
@@ -480,7 +439,7 @@ impl Ring {
     {
         self.settle(&mut room);
         let count = self.idle_len();
-        self.lend_front(count, room)
+        self.lend(count, room)
     }
 
     /// Has at least `count` empty cells in front of the idle buffers.

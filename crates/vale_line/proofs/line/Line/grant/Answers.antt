@@ -1,4 +1,4 @@
-use Rattle.std.proofs.Common.{◌≡◌, ◌≤◌, List, [], ◌∷◌, ◌++◌, ap, sym, ◌∙◌, length, map, take, ℕ, false, arith, rules, refl}
+use Rattle.std.proofs.Common.{◌≡◌, ◌≤◌, List, [], ◌∷◌, ◌++◌, ap, subst, sym, ◌∙◌, length, map, take, ℕ, false, arith, rules, refl}
 use Rattle.std.specs.Prelude.{sum}
 use Rattle.nm_region.specs.Buffers.{Buffer}
 use Rattle.std.proofs.lemmas.List.Elements.{All-take}
@@ -7,9 +7,10 @@ use Rattle.vale_line.proofs.FittingLemmas.{fitting-sum, fitting-total, fitting-c
 use Rattle.std.proofs.lemmas.List.{length-map, length-take-le}
 use Rattle.vale_lease.specs.declared.leases.LeaseSlots.{LeaseSlots}
 use Rattle.vale_lease.specs.Leases.{LeaseRing, is_there, slots_of as ring_slots}
+use Rattle.vale_line.specs.declared.got.Got.{Got}
 use Rattle.vale_line.specs.Gots.{blank, buffers_of}
 use Rattle.vale_line.specs.Leased.{Leased, buffer_count}
-use Rattle.vale_line.specs.Lines.{LineState, with_lease, granted_sizes, space_of, opened_lot, leases_of, lease_of}
+use Rattle.vale_line.specs.Lines.{LineState, IsLine, with_lease, granted_sizes, space_of, opened_lot, leases_of, lease_of}
 use Rattle.vale_line.specs.Stored.{state_of}
 use Rattle.vale_line.proofs.StoredAfter.{stored-after}
 use Rattle.vale_line.proofs.LotLemmas.{leased-slots, IsLine-granted, leases_of-push}
@@ -24,8 +25,12 @@ sizes-some : (sizes : List ℕ) → 1 ≤ sum sizes → 1 ≤ length sizes
 sizes-some [] h = h
 sizes-some (size ∷ sizes) h = omega arith
 
+-- what is leased of a line that was settled first
+blanks-settled : {now was : LineState} (n : ℕ) (gots : List Got) → now ≡ was → gots ≡ map blank (take n now.idle) → gots ≡ map blank (take n was.idle)
+blanks-settled n gots same is = subst (λ (l : LineState). gots ≡ map blank (take n l.idle)) same is
+
 pub lease-gots-requires-clause-lots : goal.lease-gots-requires-clause-lots
-lease-gots-requires-clause-lots c = few-held c.self.inside.ring c.self.invariant.line
+lease-gots-requires-clause-lots c = few-held c.settle.new.self (subst IsLine (sym c.settle.ensures.line) c.self.invariant.line)
 
 -- which frames are granted, and how many buffers they take
 pub record Granting (c : goal.After-new) : Type 0 where
@@ -52,11 +57,11 @@ invariant_of-self c =
     let g = granting c in
     let fresh : is_there c.args.id.0 (leases_of line.lots) ≡ false = ap (λ (l : LineState). is_there c.args.id.0 (leases_of l.lots)) c.self.view_is ∙ c.requires.new in
     let is = IsLine-granted line c.args.id n c.self.invariant.line g.some g.fits fresh in
-    stored-after c.self.inside (record c.self.inside { ring = c.lease-gots.new.self; leases = c.open.new.self; room = c.lease-gots.new.room }) (with_lease c.args.id n line) c.self.invariant is c.lease-gots.ensures.ring c.lease-gots.ensures.line refl refl
+    stored-after c.self.inside (record c.self.inside { ring = c.lease-gots.new.self; leases = c.open.new.self; room = c.settle.new.room }) (with_lease c.args.id n line) c.self.invariant is c.lease-gots.ensures.ring (c.lease-gots.ensures.line ∙ ap (with_lease c.args.id n) c.settle.ensures.line) refl refl
     (c.open.ensures
     ∙ (ap (λ (r : LeaseRing). record r { leases = r.leases ++ lease_of (opened_lot c.args.id n) ∷ [] }) c.self.invariant.leases
     ∙ ap (λ (ls : List LeaseSlots). record { size = line.size; leases = ls }) (sym (leases_of-push line.lots (opened_lot c.args.id n)))))
-    c.lease-gots.ensures.none c.lease-gots.ensures.capacity
+    c.settle.ensures.none c.settle.ensures.capacity
 
 pub returns-clause-some : goal.returns-clause-some
 returns-clause-some c =
@@ -71,7 +76,7 @@ returns-clause-lease c =
     let line = state_of c.self.inside in
     let n = c.count_fitting-frames.result.1 in
     let g = granting c in
-    let lent : buffers_of c.lease-gots.result.items ≡ take n line.idle = ap buffers_of c.lease-gots.ensures.gots ∙ buffers-blank (take n line.idle) in
+    let lent : buffers_of c.lease-gots.result.items ≡ take n line.idle = ap buffers_of (blanks-settled c.count_fitting-frames.result.1 c.lease-gots.result.items c.settle.ensures.line c.lease-gots.ensures.gots) ∙ buffers-blank (take n line.idle) in
     let start = lease_of_buffers c.args.id.0 c.args.to.0 in
     rw (← c.self.view_is) (c.new.ensures
     ∙ (ap (λ (bs : List Buffer). start (take c.count_fitting-frames.result.0 c.args.want.now) bs) lent
@@ -81,7 +86,7 @@ returns-clause-lease c =
 pub returns-clause-lot : goal.returns-clause-lot
 returns-clause-lot c =
     let g = granting c in
-    rw (← c.self.view_is) (c.lease-gots.ensures.line ∙ ap (λ (k : ℕ). with_lease c.args.id k (state_of c.self.inside)) g.count)
+    rw (← c.self.view_is) (c.lease-gots.ensures.line ∙ ap (with_lease c.args.id c.count_fitting-frames.result.1) c.settle.ensures.line ∙ ap (λ (k : ℕ). with_lease c.args.id k (state_of c.self.inside)) g.count)
 
 none-left : (sizes : List ℕ) → length sizes ≤ 0 → sizes ≡ []
 none-left [] h = refl
@@ -127,7 +132,8 @@ lease-gots-requires-clause-enough c =
     let most = fitting-sum c.space.result c.args.want.now in
     let count = c.count_fitting-frames.ensures.sum in
     let space : c.space.result ≡ space_of (state_of c.self.inside) = c.space.ensures.space ∙ ap space_of (sym c.self.view_is) in
-    omega (arith, most, count, space)
+    let idle = ap (λ (l : LineState). length l.idle) c.settle.ensures.line in
+    omega (arith, most, count, space, idle)
 
 pub new-requires-clause-few_frames : goal.new-requires-clause-few_frames
 new-requires-clause-few_frames c =
@@ -149,13 +155,13 @@ new-requires-clause-room c =
     let count = c.count_fitting-frames.ensures.sum in
     let space : c.space.result ≡ space_of (state_of c.self.inside) = c.space.ensures.space ∙ ap space_of (sym c.self.view_is) in
     let enough : n ≤ length idle = omega (arith, most, count, space) in
-    let blanks = ap length c.lease-gots.ensures.gots ∙ (length-map (take n idle) blank ∙ length-take-le n idle enough) in
+    let blanks = ap length (blanks-settled c.count_fitting-frames.result.1 c.lease-gots.result.items c.settle.ensures.line c.lease-gots.ensures.gots) ∙ (length-map (take n idle) blank ∙ length-take-le n idle enough) in
     omega (arith, sum_is, count, blanks)
 
 pub new-requires-clause-blank : goal.new-requires-clause-blank
 new-requires-clause-blank c =
     let bufs = take c.count_fitting-frames.result.1 (state_of c.self.inside).idle in
-    let is = c.lease-gots.ensures.gots in
+    let is = blanks-settled c.count_fitting-frames.result.1 c.lease-gots.result.items c.settle.ensures.line c.lease-gots.ensures.gots in
     is ∙ ap (λ (bs : List Buffer). map blank bs) (sym (ap buffers_of is ∙ buffers-blank bufs))
 
 pub new-requires-clause-sizes : goal.new-requires-clause-sizes

@@ -8,7 +8,7 @@ use Rattle.vale_line.specs.Gots.{buffers_of, buffer_of}
 use Rattle.vale_line.specs.Rings.{held_lots}
 use Rattle.vale_line.proofs.CellLemmas.{gots-append}
 use Rattle.vale_line.proofs.RingLemmas.{lent_out, full-front, full-take, full-drop}
-use Rattle.vale_line.proofs.ring.Ring.lend_front.Goals as goal
+use Rattle.vale_line.proofs.ring.Ring.lend.Goals as goal
 
 pub take_run_bufs-requires-clause-full : goal.take_run_bufs-requires-clause-full
 take_run_bufs-requires-clause-full c =

@@ -8,7 +8,7 @@ use Rattle.vale_line.specs.Gots.{buffers_of, buffer_of}
 use Rattle.vale_line.specs.Lines.{opened_lot}
 use Rattle.vale_line.specs.Rings.{held, IsHeld}
 use Rattle.vale_line.proofs.RingLemmas.{pushed, pushed-line, full-front, full-rest, full-take, full-drop, blank-rest, blank-front, AreBlank}
-use Rattle.vale_line.proofs.ring.Ring.lease_front.Goals as goal
+use Rattle.vale_line.proofs.ring.Ring.lease.Goals as goal
 
 -- what is known of the cells that are leased
 pub record Leasing (c : goal.After-push_back_reserved) : Type 0 where
