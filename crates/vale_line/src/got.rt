@@ -25,7 +25,7 @@ impl Got {
     }
 
     /// The buffer without its frame.
-    pub(crate) fn into_buf(self) -> Buf
+    pub fn into_buf(self) -> Buf
         ensures { result ≡ self.buf }
     {
         let Got {

@@ -1,12 +1,12 @@
-ghost use Rattle.std.specs.Prelude.{ℕ, ◌≡◌, ◌≤◌, ◌<◌, ◌+◌, [], ◌∷◌, ◌++◌, All, length, map, take, drop, sum, IfOk, vec_capacity};
+ghost use Rattle.std.specs.Prelude.{ℕ, ◌≡◌, ◌≤◌, ◌<◌, ◌+◌, [], ◌∷◌, ◌++◌, All, length, map, take, drop, sum, true, false, IfOk, vec_capacity};
 ghost use Rattle.nm_frag.specs.Parts.{slots_of_length, parts_of};
 ghost use Rattle.vale_line.specs.Fitting.{IsFrameSize};
 ghost use Rattle.vale_line.specs.Gots.{blank, buffers_of, written_parts, HoldWholeFrames};
 ghost use Rattle.vale_line.specs.Stored.{lease_state, IsStoredLease};
-ghost use Rattle.vale_line.specs.Leased.{Leased, contents, count_of, buffer_count, next_of, sizes_in, with_frame};
+ghost use Rattle.vale_line.specs.Leased.{Leased, contents, count_of, buffer_count, is_next, next_of, sizes_in, with_frame};
 
 use crate::got::Got;
-use nm_frag::slots;
+use nm_frag::{MAX_FRAME_BYTES, slots};
 use nm_types::{BUFFER_BYTES, LeaseId, NoMemory, PortId};
 use std::alloc::Global;
 use std::marker::Model;
@@ -218,6 +218,31 @@ impl Lease {
         fill_parts(&mut self.gots, self.filled, bytes);
         self.filled += size;
         self.frames += 1;
+    }
+
+    /// Tells whether a frame has the next size.
+    #[tactic(auto, using(crate::proofs::Filling::tests))]
+    fn is_next(&self, bytes: &[u8]) -> bool
+        ensures { result ≡ is_next bytes.now self.now }
+    {
+        self.frames < self.count
+            && bytes.len() <= MAX_FRAME_BYTES
+            && slots(bytes.len()) == self.next()
+    }
+
+    /// Copies a frame into the next buffers if it has the next size, and tells whether it did.
+    pub fn try_fill(&mut self, bytes: &[u8]) -> bool
+        ensures next { result ≡ is_next bytes.now self.old }
+        ensures filled { result ≡ true → self.new ≡ with_frame bytes.now self.old }
+        ensures refused { result ≡ false → self.new ≡ self.old }
+        ensures id { self.new.id ≡ self.old.id }
+        ensures count { buffer_count self.new ≡ buffer_count self.old }
+    {
+        let fits = self.is_next(bytes);
+        if fits {
+            self.fill(bytes);
+        }
+        fits
     }
 
     /// Copies a frame that fits one buffer, as the next size says, into the next buffer.

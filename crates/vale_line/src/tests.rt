@@ -6,7 +6,6 @@ ghost use Rattle.vale_line.specs.Leased.{buffer_count};
 ghost use Rattle.vale_line.specs.Lines.{slots_out, completed, new_line, leases_of, opened_lot};
 
 use crate::{Got, Lease, LeaseRoom, Line};
-use nm_frag::slots;
 use nm_region::{Buf, Region};
 use nm_types::{LeaseId, PortId};
 use std::alloc::Global;
@@ -15,16 +14,6 @@ use std::process::Abort;
 
 /// A frame of three slots.
 const LONG: [u8; 5000] = [7; 5000];
-
-/// Fills a lease with its next frame.
-fn fill(rt: &impl Abort, lease: &mut Lease, bytes: &[u8])
-    ensures id { lease.new.id ≡ lease.old.id }
-    ensures count { buffer_count lease.new ≡ buffer_count lease.old }
-{
-    assert!(rt; bytes.len() <= 131_072 && lease.filled() < lease.count());
-    assert!(rt; lease.next() == slots(bytes.len()));
-    lease.fill(bytes);
-}
 
 /// Completes a lease, after a look that it is full.
 #[tactic(auto, using(crate::proofs::Filling::tests))]
@@ -90,11 +79,11 @@ fn frames_in_lease_order(rt: HostRuntime) {
     }
     let last = grant(&rt, rt.alloc(), &mut line, 11, &[1, 1, 1]);
     assert!(rt; last.id() == LeaseId(11) && last.to() == PortId(4) && last.count() == 2);
-    fill(&rt, &mut second, &[9; 60]);
+    assert!(rt; second.try_fill(&[9; 60]));
     complete(&rt, &mut line, second);
     assert!(rt; line.ready() == 0 && line.out() == 2 && line.space() == 0);
-    fill(&rt, &mut first, &LONG);
-    fill(&rt, &mut first, &[1; 14]);
+    assert!(rt; first.try_fill(&LONG));
+    assert!(rt; first.try_fill(&[1; 14]));
     complete(&rt, &mut line, first);
     assert!(rt; line.ready() == 5 && line.out() == 1);
     let Ok(room) = Vec::with_capacity(rt.alloc(), line.room_to_sync() as usize) else {
@@ -102,13 +91,9 @@ fn frames_in_lease_order(rt: HostRuntime) {
     };
     let got = line.sync(Vec::new(rt.alloc()), room);
     assert!(rt; got.len() == 5);
-    for (at, len, rest) in [
-        (0, 2048, 2),
-        (1, 2048, 1),
-        (2, 904, 0),
-        (3, 14, 0),
-        (4, 60, 0),
-    ] {
+    let parts = [(2048, 2), (2048, 1), (904, 0), (14, 0), (60, 0)];
+    for at in 0..parts.len() {
+        let (len, rest) = parts[at];
         assert!(rt; is_part(&got[at], at as u32 + 2, len, rest), "buffer {at}");
     }
     assert!(rt; got[2].buf.bytes()[903] == 7 && got[2].buf.bytes()[904] == 0);
