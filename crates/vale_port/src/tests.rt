@@ -7,7 +7,6 @@ use crate::{
     Opening, Port, PutRoom, close_at, done_at, first_of_session, grant_at, leased_port, open_port,
     open_ports_on, put_at, shut_at, shutting_port, sync_at,
 };
-use nm_frag::slots;
 use nm_region::{Buf, Region};
 use nm_types::{LeaseId, Name, PortId, SessionId};
 use std::alloc::Global;
@@ -67,16 +66,6 @@ fn grant(rt: &impl Abort, alloc: Global, port: &mut Port, id: u32, want: &[u32])
     }
 }
 
-/// Fills a lease with its next frame.
-fn fill(rt: &impl Abort, lease: &mut Lease, bytes: &[u8])
-    ensures id { lease.new.id ≡ lease.old.id }
-    ensures count { buffer_count lease.new ≡ buffer_count lease.old }
-{
-    assert!(rt; bytes.len() <= 131_072 && lease.filled() < lease.count());
-    assert!(rt; lease.next() == slots(bytes.len()));
-    lease.fill(bytes);
-}
-
 /// Completes a lease, after a look that it is full.
 #[tactic(auto, using(vale_line::proofs::Filling::tests))]
 fn complete(rt: &impl Abort, port: &mut Port, lease: Lease)
@@ -130,11 +119,11 @@ fn frames_in_lease_order(rt: HostRuntime) {
     if let Some(_lease) = port.grant(LeaseId(12), room, &[1]) {
         panic!(rt; "the last idle buffer is leased");
     }
-    fill(&rt, &mut second, &[9; 60]);
+    assert!(rt; second.try_fill(&[9; 60]));
     complete(&rt, &mut port, second);
     assert!(rt; port.ready() == 0 && port.leases_out() == 2);
-    fill(&rt, &mut first, &[7; 14]);
-    fill(&rt, &mut first, &[8; 1514]);
+    assert!(rt; first.try_fill(&[7; 14]));
+    assert!(rt; first.try_fill(&[8; 1514]));
     complete(&rt, &mut port, first);
     assert!(rt; port.ready() == 3 && port.leases_out() == 1);
     let got = sync(&rt, rt.alloc(), &mut port, Vec::new(rt.alloc()));
@@ -169,31 +158,26 @@ fn turned_buffers(mut gots: Vec<Got>, mut bufs: Vec<Buf>) -> Vec<Buf>
     requires room { length gots.items ≤ vec_capacity bufs }
 {
     while let Some(got) = gots.pop() {
-        let Got {
-            buf,
-            len: _,
-            rest: _,
-        } = got;
-        bufs.push_reserved(buf);
+        bufs.push_reserved(got.into_buf());
     }
     gots.destroy_empty();
     bufs
 }
 
-/// The ports 3 and 7, with rings of these buffers.
-fn two_ports(rt: &impl Abort, alloc: Global, first: Vec<Buf>, second: Vec<Buf>) -> Vec<Port>
-    requires first { (1 ≤ length first.items) × (length first.items ≤ 1024) }
-    requires second { (1 ≤ length second.items) × (length second.items ≤ 1024) }
-    ensures count { length result.items ≡ 2 }
-    ensures first { OfState (λ p. p.line.lots ≡ []) result.items 0 }
-    ensures second { OfState (λ p. p.line.lots ≡ []) result.items 1 }
+/// The ports 3 and 7, with rings of the buffers of two regions, 4 and 8 of them.
+fn two_ports(rt: &impl Abort, alloc: Global) -> (Vec<Port>, Region, Region)
+    ensures count { length result.0.items ≡ 2 }
+    ensures first { OfState (λ p. p.line.lots ≡ []) result.0.items 0 }
+    ensures second { OfState (λ p. p.line.lots ≡ []) result.0.items 1 }
 {
+    let (small, four) = region_of(rt, alloc, 4);
+    let (large, eight) = region_of(rt, alloc, 8);
     let Ok(mut ports) = Vec::with_capacity(alloc, 2) else {
         panic!(rt; "no memory");
     };
-    ports.push_reserved(port_of(rt, alloc, 3, first));
-    ports.push_reserved(port_of(rt, alloc, 7, second));
-    ports
+    ports.push_reserved(port_of(rt, alloc, 3, four));
+    ports.push_reserved(port_of(rt, alloc, 7, eight));
+    (ports, small, large)
 }
 
 /// Grants what is wanted at a place where no lease is out.
@@ -298,9 +282,7 @@ fn close_there(
 #[test]
 #[should_panic(expected = "the buffers stay out")]
 fn puts_and_close(rt: HostRuntime) {
-    let (_small, four) = region_of(&rt, rt.alloc(), 4);
-    let (_large, eight) = region_of(&rt, rt.alloc(), 8);
-    let mut ports = two_ports(&rt, rt.alloc(), four, eight);
+    let (mut ports, _small, _large) = two_ports(&rt, rt.alloc());
     let (_senders, frames) = region_of(&rt, rt.alloc(), 5);
     let Ok(room) = Vec::with_capacity(rt.alloc(), 5) else {
         panic!(rt; "no memory");
@@ -328,16 +310,14 @@ fn puts_and_close(rt: HostRuntime) {
 #[test]
 #[should_panic(expected = "the buffers stay out")]
 fn steps_at_a_place(rt: HostRuntime) {
-    let (_small, four) = region_of(&rt, rt.alloc(), 4);
-    let (_large, eight) = region_of(&rt, rt.alloc(), 8);
-    let mut ports = two_ports(&rt, rt.alloc(), four, eight);
+    let (mut ports, _small, _large) = two_ports(&rt, rt.alloc());
     let mut lease = grant_there(&rt, rt.alloc(), &mut ports, 1, 9, &[1, 2, 3, 2]);
     assert!(rt; lease.id() == LeaseId(9) && lease.to() == PortId(7));
     assert!(rt; lease.count() == 3 && lease.slots() == 6);
     assert!(rt; ports[1].space() == 1 && ports[1].leases_out() == 1 && ports[0].space() == 3);
-    fill(&rt, &mut lease, &[5; 14]);
-    fill(&rt, &mut lease, &[6; 3000]);
-    fill(&rt, &mut lease, &[7; 5000]);
+    assert!(rt; lease.try_fill(&[5; 14]));
+    assert!(rt; lease.try_fill(&[6; 3000]));
+    assert!(rt; lease.try_fill(&[7; 5000]));
     complete_there(&rt, &mut ports, 1, lease);
     assert!(rt; ports[1].ready() == 6 && ports[1].leases_out() == 0);
     let got = sync_there(&rt, rt.alloc(), &mut ports, 1, Vec::new(rt.alloc()));
