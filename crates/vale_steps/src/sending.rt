@@ -46,35 +46,46 @@ impl Model for Classes {
     } };
 }
 
+/// The open port that sends, its session, and the monitor of its frames.
+#[derive(Clone, Copy)]
+struct Sender {
+    session: SessionId,
+    port: PortId,
+    monitor: Option<PortId>,
+}
+
 /// Records a send whose batch was classified, and makes its offers. Where it fails nothing has
 /// changed.
 fn record(
     alloc: Global,
     history: &mut History,
     classes: Classes,
-    session: SessionId,
-    monitor: Option<PortId>,
-    port: PortId,
+    sender: Sender,
     batch: &Batch,
 ) -> Result<Offers, StepFault>
     requires sendable { is_sendable batch.now ≡ true }
     requires small { All IsSmall classes.wants }
     ensures entries { OnOk result (history.new.entries ≡ history.old.entries
-        ++ send_entry session port batch.now classes
-        (all_wants monitor batch.now classes) ∷ []) }
+        ++ send_entry sender.session sender.port batch.now classes
+        (all_wants sender.monitor batch.now classes) ∷ []) }
     ensures offers { IfOk result (λ offers. offers ≡ send_offers
-        (length history.old.entries + 1) session classes
-        (all_wants monitor batch.now classes)) }
+        (length history.old.entries + 1) sender.session classes
+        (all_wants sender.monitor batch.now classes)) }
     ensures promised { OnOk result (history.new.promised + 1 ≡ history.old.promised
-        + send_room (all_wants monitor batch.now classes)) }
+        + send_room (all_wants sender.monitor batch.now classes)) }
     ensures limits { history.new.limits ≡ history.old.limits }
     ensures fits { OnOk result (Fits history.old
-        (send_room (all_wants monitor batch.now classes)) (bytes_of_frames batch.now)) }
+        (send_room (all_wants sender.monitor batch.now classes)) (bytes_of_frames batch.now)) }
     ensures full { IfErr result (IsFull history.old
-        (send_room (all_wants monitor batch.now classes)) (bytes_of_frames batch.now)) }
+        (send_room (all_wants sender.monitor batch.now classes)) (bytes_of_frames batch.now)) }
     ensures err { OnErr result ((history.new.entries ≡ history.old.entries)
         × (history.new.promised ≡ history.old.promised)) }
 {
+    let Sender {
+        session,
+        port,
+        monitor,
+    } = sender;
     let Classes { short, lone, wants } = classes;
     let wants = with_monitor(alloc, wants, monitor, batch.len() as u32)?;
     let to = dests_of(alloc, &wants)?;
@@ -212,7 +223,12 @@ pub fn send(
         × (history.new.promised ≡ history.old.promised) × (table.new ≡ table.old)) }
 {
     let (classes, looked) = classify_among(alloc, table, ports, name, port, batch)?;
-    match record(alloc, history, classes, session, monitor, port, batch) {
+    let sender = Sender {
+        session,
+        port,
+        monitor,
+    };
+    match record(alloc, history, classes, sender, batch) {
         Ok(offers) => Ok(offers),
         Err(fault) => {
             looked.forget(table);
