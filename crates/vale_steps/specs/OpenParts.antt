@@ -1,10 +1,11 @@
 -- What an opening makes of the parts of a book.
-use Rattle.std.specs.Prelude.{ℕ, Bool, true, false, ◌≡◌, ◌≤◌, ◌+◌, not, List, length, take, drop, map, Option}
+use Rattle.std.specs.Prelude.{ℕ, Bool, true, false, ◌≡◌, ◌≤◌, ◌+◌, not, List, [], ◌∷◌, ◌++◌, length, take, drop, map, Option, Result, OnOk, OnErr, IfOk}
 use Rattle.std.specs.List.{list_any}
 use Rattle.nm_types.specs.Limits.{most_switches}
 use Rattle.nm_types.specs.Names.{switch_of, is_switch_port_name}
 use Rattle.nm_types.specs.declared.fault.OpenFault.{OpenFault}
 use Rattle.nm_types.specs.Openings.{is_on_switch, finds_switches_full, open_refusal as names_refusal}
+use Rattle.nm_pool.specs.Free.{PoolState}
 use Rattle.nm_region.specs.Buffers.{Buffer, indices_of}
 use Rattle.vale_names.specs.declared.port.NamedPort.{NamedPort}
 use Rattle.vale_names.specs.Ports.{names_of, Joins, ports_without}
@@ -16,6 +17,8 @@ use Rattle.vale_entry.specs.Opening.{refusal_or_room}
 use Rattle.vale_entry.specs.Legal.{world_of}
 use Rattle.vale_port.specs.declared.port.Opening.{Opening}
 use Rattle.vale_port.specs.Ports.{PortState, opened_state}
+use Rattle.vale_parts.specs.FreeBuffers.{pool_less}
+use Rattle.vale_parts.specs.FreeLaws.{IsTakenBack}
 use Rattle.vale_parts.specs.SwitchTables.{TablesAre, has_table}
 use Rattle.vale_steps.specs.declared.opening.Opened.{Opened}
 use Rattle.vale_steps.specs.declared.tables.NamedTable.{NamedTable}
@@ -72,3 +75,16 @@ pub record IsOpened (opening : Opening) (rx : ℕ) (free : List Buffer) (opened 
   pub tx_are : opened.tx.items ≡ take opening.tx free
   pub rx_are : opened.rx.items ≡ indices_of (take rx (drop opening.tx free))
   pub extra_are : opened.extra.items ≡ take opening.extra (drop (opening.tx + rx) free)
+
+-- a pool of which an opening can take its buffers
+pub record CanSeat (opening : Opening) (rx : ℕ) (pool : PoolState) : Type 0 where
+  pub back : (count : ℕ) → IsTakenBack pool count
+  pub enough : opening.tx + rx + opening.extra ≤ length pool.free
+  pub ring : (1 ≤ rx) × (rx ≤ 1024)
+
+-- the port stands behind the others with its part of the free buffers, or nothing has changed
+pub record IsSeated {E : Type 0} (opening : Opening) (rx : ℕ) (ports new_ports : List PortState) (pool new_pool : PoolState) (result : Result Opened E) : Type 0 where
+  pub ports_are : OnOk result (new_ports ≡ ports ++ state_for opening rx pool.free ∷ [])
+  pub pool_is : OnOk result (new_pool ≡ pool_less (opening.tx + rx + opening.extra) pool)
+  pub opened : IfOk result (IsOpened opening rx pool.free)
+  pub err : OnErr result ((new_ports ≡ ports) × (new_pool ≡ pool))

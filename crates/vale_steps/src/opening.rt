@@ -9,7 +9,8 @@ ghost use Rattle.vale_entry.specs.declared.entry.Reply.TheVariants as replies;
 ghost use Rattle.vale_steps.specs.NamedTables.{table_seen};
 ghost use Rattle.vale_steps.specs.OpenFaults.{ByFault, IsRecordedFault};
 ghost use Rattle.vale_steps.specs.OpenParts.{is_port_on, is_vacant, HasTableFor, StillTables, StillFew};
-ghost use Rattle.vale_steps.specs.OpenParts.{ComesOut, IsOpened, state_for, entry_for, refusal_for};
+ghost use Rattle.vale_steps.specs.OpenParts.{CanSeat, ComesOut, IsOpened, IsSeated};
+ghost use Rattle.vale_steps.specs.OpenParts.{entry_for, refusal_for, state_for};
 
 use crate::buffers::{give_back, indices};
 use crate::tables::{NamedTable, table_of};
@@ -200,21 +201,15 @@ fn seat_port(
     alloc: Global,
     ports: &mut Vec<Port>,
     pool: &mut Pool,
-    opening: Opening,
+    opening: &Opening,
     rx: u32,
 ) -> Result<Opened, NoMemory>
-    requires back { (count : ℕ) → IsTakenBack pool.old count }
-    requires enough { opening.tx + rx + opening.extra ≤ length pool.old.free }
-    requires ring { (1 ≤ rx) × (rx ≤ 1024) }
-    ensures ports { OnOk result
-        (ports.new.items ≡ ports.old.items ++ state_for opening rx pool.old.free ∷ []) }
-    ensures pool { OnOk result (pool.new ≡ pool_less (opening.tx + rx + opening.extra) pool.old) }
-    ensures opened { IfOk result (IsOpened opening rx pool.old.free) }
-    ensures err { OnErr result ((ports.new.items ≡ ports.old.items) × (pool.new ≡ pool.old)) }
+    requires { CanSeat opening.now rx pool.old }
+    ensures { IsSeated opening.now rx ports.old.items ports.new.items pool.old pool.new result }
 {
     ports.reserve(1)?;
-    let taken = take_all(alloc, pool, &opening, rx)?;
-    match make_port(alloc, opening, taken) {
+    let taken = take_all(alloc, pool, opening, rx)?;
+    match make_port(alloc, *opening, taken) {
         Ok((port, opened)) => {
             ports.push_reserved(port);
             Ok(opened)
@@ -232,20 +227,15 @@ fn place_port(
     tables: &mut Vec<NamedTable>,
     ports: &mut Vec<Port>,
     pool: &mut Pool,
-    opening: Opening,
+    opening: &Opening,
     rx: u32,
 ) -> Result<Opened, NoMemory>
-    requires back { (count : ℕ) → IsTakenBack pool.old count }
-    requires enough { opening.tx + rx + opening.extra ≤ length pool.old.free }
-    requires ring { (1 ≤ rx) × (rx ≤ 1024) }
-    ensures there { OnOk result (HasTableFor opening.name tables.new.items) }
+    requires { CanSeat opening.now rx pool.old }
+    ensures there { OnOk result (HasTableFor opening.now.name tables.new.items) }
     ensures kept { StillTables ports.old.items tables.old.items tables.new.items }
-    ensures few { StillFew opening.name ports.old.items tables.old.items tables.new.items }
-    ensures ports { OnOk result
-        (ports.new.items ≡ ports.old.items ++ state_for opening rx pool.old.free ∷ []) }
-    ensures pool { OnOk result (pool.new ≡ pool_less (opening.tx + rx + opening.extra) pool.old) }
-    ensures opened { IfOk result (IsOpened opening rx pool.old.free) }
-    ensures err { OnErr result ((ports.new.items ≡ ports.old.items) × (pool.new ≡ pool.old)) }
+    ensures few { StillFew opening.now.name ports.old.items tables.old.items tables.new.items }
+    ensures seated { IsSeated opening.now rx ports.old.items ports.new.items
+        pool.old pool.new result }
 {
     place_table(alloc, tables, ports, &opening.name)?;
     seat_port(alloc, ports, pool, opening, rx)
@@ -301,7 +291,7 @@ pub fn add_port(
         × (ports.new.items ≡ ports.old.items) × (pool.new ≡ pool.old)) }
 {
     history.reserve(3, 0)?;
-    match place_port(alloc, tables, ports, pool, opening, rx) {
+    match place_port(alloc, tables, ports, pool, &opening, rx) {
         Ok(opened) => {
             history.push(entry_for(&opening, rx, Reply::Opened));
             Ok(opened)

@@ -6,13 +6,13 @@ pub give_all-requires : goal.give_all-requires
 give_all-requires c =
     let taken = c.in_ok-taken.ensures in
     let back = c.in-Err.ensures in
-    (all-back c.args.pool.now c.take_all.new.pool c.args.opening.tx c.args.rx c.args.opening.extra c.in-Err.taken.tx.items c.in-Err.taken.rx.items c.in-Err.taken.extra.items
+    (all-back c.args.pool.now c.take_all.new.pool c.args.opening.now.tx c.args.rx c.args.opening.now.extra c.in-Err.taken.tx.items c.in-Err.taken.rx.items c.in-Err.taken.extra.items
     c.requires.back taken.pool (back.tx_back ∙ taken.tx) (back.rx_back ∙ taken.rx) (back.extra_back ∙ taken.extra)).can
 
-pub returns-in-Err-clause-err : goal.returns-in-Err-clause-err
-returns-in-Err-clause-err c =
+pub returns-in-Err : goal.returns-in-Err
+returns-in-Err c =
     let taken = c.in_ok-taken.ensures in
     let back = c.in-Err.ensures in
-    let all = all-back c.args.pool.now c.take_all.new.pool c.args.opening.tx c.args.rx c.args.opening.extra c.in-Err.taken.tx.items c.in-Err.taken.rx.items c.in-Err.taken.extra.items
+    let all = all-back c.args.pool.now c.take_all.new.pool c.args.opening.now.tx c.args.rx c.args.opening.now.extra c.in-Err.taken.tx.items c.in-Err.taken.rx.items c.in-Err.taken.extra.items
     c.requires.back taken.pool (back.tx_back ∙ taken.tx) (back.rx_back ∙ taken.rx) (back.extra_back ∙ taken.extra) in
-    (c.reserve.ensures.items, c.give_all.ensures ∙ all.same)
+    record { ports_are = tt; pool_is = tt; opened = tt; err = (c.reserve.ensures.items, c.give_all.ensures ∙ all.same) }
