@@ -70,8 +70,9 @@ use Rattle.vale_steps.specs.declared.putting.Put.{Put as PutGiven}
 use Rattle.nm_region.specs.Regions.{AreOf}
 use Rattle.vale_book.specs.BookView.{recorded, parts_in, HasBuffersOf, IsBook}
 use Rattle.vale_book.specs.Monitored.{IsOfferedTo}
+use Rattle.vale_steps.specs.Monitored.{room_of_wants}
 use Rattle.vale_steps.specs.Offering.{IsOfferBy}
-use Rattle.vale_steps.specs.Putting.{items_of, wants_put, dests_put, room_of_put, put_entry, gone_entry, count_sent, count_given, copied, IfPut, IsPutBy}
+use Rattle.vale_steps.specs.Putting.{items_of, wants_put, put_entry, gone_entry, count_sent, count_given, copied, IfPut, IsPutBy}
 use Rattle.vale_book.specs.Putting.{IsPut}
 use Rattle.nm_types.specs.Ids.{lease_id}
 use Rattle.vale_book.specs.Recorded.{entry_of, IsRefusal}
@@ -365,7 +366,7 @@ wants-are : (b : Inside) (p : Putting) (gots : List Got) → (is : IsPutting b p
     → wants_put p ≡ wants_monitored (transmit_monitor (before b).world is.port.id) (taken_frames p gots) []
 wants-are b p gots is = wants-monitored p.monitor (taken_frames p gots) p.took (transmit_monitor (before b).world is.port.id) (count-frames b p gots is) is.monitor
 
-dests-are : (b : Inside) (p : Putting) (gots : List Got) → IsBook b → (is : IsPutting b p gots) → dests_of (offers_of_put (before b).world is.port (taken_frames p gots)) ≡ dests_put p
+dests-are : (b : Inside) (p : Putting) (gots : List Got) → IsBook b → (is : IsPutting b p gots) → dests_of (offers_of_put (before b).world is.port (taken_frames p gots)) ≡ dests_wanted (wants_put p)
 dests-are b p gots k is = puts_replied b.pool.buffers b.history.entries is.port (taken_frames p gots) k.stands.legal ∙ ap dests_wanted (sym (wants-are b p gots is))
 
 abbrev pub put_made : (b : Inside) (p : Putting) (gots : List Got) → IsPutting b p gots → Outcome
@@ -377,10 +378,10 @@ entry-by session id at n m items to to' one two three = rw (one, two, three) ref
 
 entry-is : (b : Inside) (p : Putting) (gots : List Got) → IsBook b → (is : IsPutting b p gots) → entry_of (Put p.at (items_of gots)) (put_made b p gots is) ≡ put_entry p (taken_items p gots)
 entry-is b p gots k is =
-    entry-by is.port.session p.session p.at (length (items_of gots)) p.offered (taken_items p gots) (dests_of (offers_of_put (before b).world is.port (taken_frames p gots))) (dests_put p)
+    entry-by is.port.session p.session p.at (length (items_of gots)) p.offered (taken_items p gots) (dests_of (offers_of_put (before b).world is.port (taken_frames p gots))) (dests_wanted (wants_put p))
     is.session is.offered (dests-are b p gots k is)
 
-want-is : (b : Inside) (p : Putting) (gots : List Got) → IsBook b → (is : IsPutting b p gots) → (put_made b p gots is).want ≡ room_of_put p
+want-is : (b : Inside) (p : Putting) (gots : List Got) → IsBook b → (is : IsPutting b p gots) → (put_made b p gots is).want ≡ room_of_wants (wants_put p)
 want-is b p gots k is = ap room_of_dests (dests-are b p gots k is)
 
 follows-put : (b : Inside) (p : Putting) (gots : List Got) → IsBook b → IsPutting b p gots → Follows (before b) (put_entry p (taken_items p gots))
@@ -451,8 +452,8 @@ tally-by : (tally : List Tallied) (at peer id took n : ℕ) → peer ≡ id → 
 tally-by tally at peer id took n one two = rw (one, two) refl
 
 pub put-moves : {A E : Type 0} (made : Result A E) (b next : Inside) (p : Putting) (gots : List Got) → IsBook b → (is : IsPutting b p gots) → AreOf b.region.region (buffers_of gots) → All IsSingle gots
-    → OnOk made (next.history.entries ≡ b.history.entries ++ put_entry p (taken_items p gots) ∷ []) → OnOk made (next.history.promised + 1 ≡ b.history.promised + room_of_put p)
-    → next.history.limits ≡ b.history.limits → OnOk made (Fits b.history (room_of_put p) (bytes_of_frames (taken_frames p gots)))
+    → OnOk made (next.history.entries ≡ b.history.entries ++ put_entry p (taken_items p gots) ∷ []) → OnOk made (next.history.promised + 1 ≡ b.history.promised + room_of_wants (wants_put p))
+    → next.history.limits ≡ b.history.limits → OnOk made (Fits b.history (room_of_wants (wants_put p)) (bytes_of_frames (taken_frames p gots)))
     → OnOk made ((session : ℕ) (frames : List Frame) → bytes_of frames ≡ frames_in (taken_gots p gots)
     → ChangesSeat (seat_put (length b.history.entries + 1) session frames (indices_of (buffers_of (taken_gots p gots)))) b.ports.items p.place next.ports.items)
     → OnOk made (OfState (λ (q : PortState). next.ports.items ≡ slice_set b.ports.items p.place (with_line (line_after_put (lease_id (length b.history.entries + 1)) (taken_gots p gots) q.line) q)) b.ports.items p.place)
@@ -504,7 +505,7 @@ put-stays (Ok a) b next pending gots limits err rest = tt
 put-stays (Err e) b next pending gots limits err rest =
     record { entries = err.0; limits = limits; promised = err.1; sessions = rest.sessions; ports = err.2; parts = rest.parts ∙ ap (λ t. record (parts_in b) { tally = t }) err.3; region = rest.region; buffers = rest.buffers }
 
-pub put-full : (b : Inside) (p : Putting) (gots : List Got) (fault : StepFault) → IsBook b → IsPutting b p gots → IsFull b.history (room_of_put p) (bytes_of_frames (taken_frames p gots)) fault
+pub put-full : (b : Inside) (p : Putting) (gots : List Got) (fault : StepFault) → IsBook b → IsPutting b p gots → IsFull b.history (room_of_wants (wants_put p)) (bytes_of_frames (taken_frames p gots)) fault
     → IsRefusal (recorded b) (Put p.at (items_of gots)) fault
 put-full b p gots fault k is full =
     full-step b (Put p.at (items_of gots)) (put_made b p gots is) fault k is.step_is
@@ -529,7 +530,7 @@ stands-put b p gots k is =
     let follows = follows-put b p gots k is in
     let count = count-world_of pool h in
     let w = world_of pool (h ++ entry ∷ []) in
-    let are = puts_start pool h entry p.at p.offered taken (dests_put p) is.port k.stands.legal follows refl refl is.found in
+    let are = puts_start pool h entry p.at p.offered taken (dests_wanted (wants_put p)) is.port k.stands.legal follows refl refl is.found in
     let started = offers_start pool h entry follows ∙ ap (λ (found : Option Port). option_map_or (λ (port : Port). offers_of_put s.world port frames) found []) is.found in
     let by = by-session (s.world.entry_count + 1) is.port.session (monitored_frames monitor frames) s.world.ports in
     record {

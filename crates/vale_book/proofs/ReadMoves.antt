@@ -57,9 +57,9 @@ use Rattle.vale_steps.specs.declared.reading.Reading.{Reading}
 use Rattle.vale_steps.specs.declared.reading.Synced.{Synced}
 use Rattle.nm_region.specs.Regions.{AreOf}
 use Rattle.vale_book.specs.BookView.{recorded, parts_in, HasBuffersOf, IsBook}
-use Rattle.vale_steps.specs.Monitored.{offers_to}
+use Rattle.vale_steps.specs.Monitored.{offers_to, room_of_wants}
 use Rattle.vale_steps.specs.Offering.{OffersState, IsOfferBy}
-use Rattle.vale_steps.specs.Reading.{read_ask, wants_read, dests_read, room_of_read, read_entry, count_read}
+use Rattle.vale_steps.specs.Reading.{read_ask, wants_read, read_entry, count_read}
 use Rattle.vale_book.specs.Reading.{IsGivenOf, IsOfferedOf}
 use Rattle.vale_book.specs.Recorded.{entry_of, IsRefusal}
 use Rattle.vale_steps.proofs.ReadBytes.{no-bytes}
@@ -174,7 +174,7 @@ read-known b r pipe at back place ports ports' k enabled same same' found one tw
     reading-is b r back k here (rw two (subst (λ (ps : List PortState). OfState (λ (p : PortState). r.session.0 ≡ p.session) ps place) same' session))
     (rw two (subst (λ (ps : List PortState). OfSeat (λ (seat : Seat). r.count ≡ size_of_frames (delivered_frames seat.port)) ps place) same' frames)) (rw one monitor)
 
-dests-are : (b : Inside) (r : Reading) (back : List ℕ) → IsBook b → (is : IsReading b r back) → dests_of (offers_of_sync (before b).world is.at.port) ≡ dests_read r
+dests-are : (b : Inside) (r : Reading) (back : List ℕ) → IsBook b → (is : IsReading b r back) → dests_of (offers_of_sync (before b).world is.at.port) ≡ dests_wanted (wants_read r)
 dests-are b r back k is = reads_replied b.pool.buffers b.history.entries is.at.port k.stands.legal ∙ ap dests_wanted (sym is.wants)
 
 abbrev pub read_made : (b : Inside) (r : Reading) (back : List ℕ) → IsReading b r back → Outcome
@@ -187,9 +187,9 @@ entry-by session id ask ask' count count' to to' one two three four = rw (one, t
 pub entry-is : (b : Inside) (r : Reading) (back : List ℕ) → IsBook b → (is : IsReading b r back) → entry_of (read_ask r.is_pipe r.at back) (read_made b r back is) ≡ read_entry r back
 entry-is b r back k is =
     entry-by is.at.port.session r.session (kept_ask (read_ask r.is_pipe r.at back)) (read_ask r.is_pipe r.at back) (length (delivered_frames is.at.port)) r.count
-    (dests_of (offers_of_sync (before b).world is.at.port)) (dests_read r) is.session (kept-read r.is_pipe r.at back) is.count (dests-are b r back k is)
+    (dests_of (offers_of_sync (before b).world is.at.port)) (dests_wanted (wants_read r)) is.session (kept-read r.is_pipe r.at back) is.count (dests-are b r back k is)
 
-want-is : (b : Inside) (r : Reading) (back : List ℕ) → IsBook b → (is : IsReading b r back) → (read_made b r back is).want ≡ room_of_read r
+want-is : (b : Inside) (r : Reading) (back : List ℕ) → IsBook b → (is : IsReading b r back) → (read_made b r back is).want ≡ room_of_wants (wants_read r)
 want-is b r back k is = ap room_of_dests (dests-are b r back k is)
 
 follows-read : (b : Inside) (r : Reading) (back : List ℕ) → IsBook b → IsReading b r back → Follows (before b) (read_entry r back)
@@ -208,7 +208,7 @@ fits-by false w at back count to tally fits = fits
 pub count-fits : (b : Inside) (r : Reading) (back : List ℕ) → IsBook b → IsReading b r back
     → ForSome (counts_of b.tally r.at.0) (λ (counts : Counts). SumFits counts (count_read r.count))
 count-fits b r back k is =
-    fits-by r.is_pipe (before b).world r.at back r.count (dests_read r) b.tally
+    fits-by r.is_pipe (before b).world r.at back r.count (dests_wanted (wants_read r)) b.tally
     (additions_fit b.pool.buffers b.history.entries (read_entry r back) b.tally k.pool_fits.1 k.stands.legal (follows-read b r back k is) (entries-few b k) k.stands.parts_are.counts_are)
 
 pub is-counted : (b : Inside) (r : Reading) (back : List ℕ) → IsBook b → IsReading b r back → IsSome (counts_of b.tally r.at.0)
@@ -231,8 +231,8 @@ pub record IsRest (b next : Inside) : Type 0 where
   pub buffers : next.buffers ≡ b.buffers
 
 pub read-moves : {A E : Type 0} (made : Result A E) (b next : Inside) (r : Reading) (back : List Buffer) → IsBook b → (is : IsReading b r (indices_of back)) → AreOf b.region.region back
-    → OnOk made (next.history.entries ≡ b.history.entries ++ read_entry r (indices_of back) ∷ []) → OnOk made (next.history.promised + 1 ≡ b.history.promised + room_of_read r)
-    → next.history.limits ≡ b.history.limits → OnOk made (Fits b.history (room_of_read r) 0)
+    → OnOk made (next.history.entries ≡ b.history.entries ++ read_entry r (indices_of back) ∷ []) → OnOk made (next.history.promised + 1 ≡ b.history.promised + room_of_wants (wants_read r))
+    → next.history.limits ≡ b.history.limits → OnOk made (Fits b.history (room_of_wants (wants_read r)) 0)
     → OnOk made (ChangesSeat (seat_synced (indices_of back)) b.ports.items r.place next.ports.items)
     → OnOk made (OfState (λ (p : PortState). next.ports.items ≡ slice_set b.ports.items r.place (with_line (given_by_sync back p.line) p)) b.ports.items r.place)
     → OnOk made (next.tally ≡ tally_after_add r.at.0 (count_read r.count) b.tally) → IsRest b next
@@ -248,7 +248,7 @@ read-moves (Ok a) b next r back k is of entries promised limits fits seats line 
     let want = want-is b r numbers k is in
     let parts : parts_in next ≡ record (parts_in b) { tally = tally_after_add r.at.0 (count_read r.count) b.tally } =
     rest.parts ∙ ap (λ t. record (parts_in b) { tally = t }) tally in
-    let reply : Gave r.count (dests_read r) ≡ (read_made b r numbers is).reply = sym (ap (λ (e : Entry). e.reply) (entry-is b r numbers k is)) in
+    let reply : Gave r.count (dests_wanted (wants_read r)) ≡ (read_made b r numbers is).reply = sym (ap (λ (e : Entry). e.reply) (entry-is b r numbers k is)) in
     let ask = read_ask r.is_pipe r.at numbers in
     record {
       step_is = is.at.step_is;
@@ -257,14 +257,14 @@ read-moves (Ok a) b next r back k is of entries promised limits fits seats line 
       promised = omega (arith, promised, want);
       room = fits-step b ask (read_made b r numbers is) k
           (subst (λ (n : ℕ). Fits b.history n (bytes_of ask (read_made b r numbers is).reply)) (sym want)
-          (subst (λ (n : ℕ). Fits b.history (room_of_read r) n) (sym (no-bytes r.is_pipe r.at numbers (read_made b r numbers is).reply)) fits));
+          (subst (λ (n : ℕ). Fits b.history (room_of_wants (wants_read r)) n) (sym (no-bytes r.is_pipe r.at numbers (read_made b r numbers is).reply)) fits));
       sessions = rw rest.sessions k.stands.sessions_are;
       ports = seat_change_is_change s.world.ports s.holdings.ports b.ports.items next.ports.items r.place port here.held (seat_synced numbers) (port_after_sync (length numbers))
           (with_returned (length (ready_lots port)) numbers) (ports-rising pool h b k.stands) here.here here.held_here seats refl;
       parts = subst (λ (a : Ask). ArePartsAfter s.world s.holdings a (read_made b r numbers is).reply (parts_in b) (parts_in next)) (sym (kept-read r.is_pipe r.at numbers))
           (subst (λ (a : Reply). ArePartsAfter s.world s.holdings ask a (parts_in b) (parts_in next)) reply
-          (subst (λ (p : Parts). ArePartsAfter s.world s.holdings ask (Gave r.count (dests_read r)) (parts_in b) p) (sym parts)
-          (parts-read r.is_pipe s r.at numbers r.count (dests_read r) (parts_in b))));
+          (subst (λ (p : Parts). ArePartsAfter s.world s.holdings ask (Gave r.count (dests_wanted (wants_read r))) (parts_in b) p) (sym parts)
+          (parts-read r.is_pipe s r.at numbers r.count (dests_wanted (wants_read r)) (parts_in b))));
       region = rest.region;
       buffers = rest.buffers;
       free_are = subst (λ (p : Parts). AreOf b.region.region p.free.free) (sym rest.parts) k.free_are;
@@ -280,14 +280,14 @@ read-stays (Ok a) b next limits err rest = tt
 read-stays (Err e) b next limits err rest =
     record { entries = err.0; limits = limits; promised = err.1; sessions = rest.sessions; ports = err.2; parts = rest.parts ∙ ap (λ t. record (parts_in b) { tally = t }) err.3; region = rest.region; buffers = rest.buffers }
 
-pub read-full : (b : Inside) (r : Reading) (back : List ℕ) (fault : StepFault) → IsBook b → IsReading b r back → IsFull b.history (room_of_read r) 0 fault
+pub read-full : (b : Inside) (r : Reading) (back : List ℕ) (fault : StepFault) → IsBook b → IsReading b r back → IsFull b.history (room_of_wants (wants_read r)) 0 fault
     → IsRefusal (recorded b) (read_ask r.is_pipe r.at back) fault
 read-full b r back fault k is full =
     let made = read_made b r back is in
     let ask = read_ask r.is_pipe r.at back in
     full-step b ask made fault k is.at.step_is
     (subst (λ (n : ℕ). IsFull b.history n (bytes_of ask made.reply) fault) (sym (want-is b r back k is))
-    (subst (λ (n : ℕ). IsFull b.history (room_of_read r) n fault) (sym (no-bytes r.is_pipe r.at back made.reply)) full))
+    (subst (λ (n : ℕ). IsFull b.history (room_of_wants (wants_read r)) n fault) (sym (no-bytes r.is_pipe r.at back made.reply)) full))
 
 -- ---- what is given
 

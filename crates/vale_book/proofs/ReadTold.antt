@@ -29,7 +29,7 @@ use Rattle.vale_steps.specs.declared.reading.Synced.{Synced}
 use Rattle.vale_book.specs.BookView.{IsBook}
 use Rattle.vale_steps.specs.Monitored.{offers_to}
 use Rattle.vale_steps.specs.Offering.{OffersState}
-use Rattle.vale_steps.specs.Reading.{read_ask, wants_read, dests_read}
+use Rattle.vale_steps.specs.Reading.{read_ask, wants_read}
 use Rattle.vale_book.proofs.Moves.{before}
 use Rattle.vale_book.proofs.ReadMoves.{IsReading, read_made, entry-is}
 use Rattle.vale_book.proofs.RingSizes.{delivered-few}
@@ -62,9 +62,9 @@ pub said-on : {E : Type 0} (made : Result Synced E) (b : Inside) (r : Reading) (
 said-on (Err e) b r back k is count got offers = tt
 said-on (Ok x) b r back k is count got offers =
     let made = read_made b r back is in
-    let reply : made.reply ≡ Gave r.count (dests_read r) = ap (λ (e : Entry). e.reply) (entry-is b r back k is) in
-    let gave : Gave r.count (dests_read r) ≡ Gave (length x.got.items) (dests_wanted x.offers.wants) =
-    ap (λ (n : ℕ). Gave n (dests_read r)) (sym (count-got b r back x.got.items is count got)) ∙ ap (λ (o : OffersState). Gave (length x.got.items) (dests_wanted o.wants)) (sym offers) in
+    let reply : made.reply ≡ Gave r.count (dests_wanted (wants_read r)) = ap (λ (e : Entry). e.reply) (entry-is b r back k is) in
+    let gave : Gave r.count (dests_wanted (wants_read r)) ≡ Gave (length x.got.items) (dests_wanted x.offers.wants) =
+    ap (λ (n : ℕ). Gave n (dests_wanted (wants_read r))) (sym (count-got b r back x.got.items is count got)) ∙ ap (λ (o : OffersState). Gave (length x.got.items) (dests_wanted o.wants)) (sym offers) in
     reply-read r.is_pipe (before b) r.at back made is.at.step_is ∙ ap (λ (reply : Reply). Some reply) (reply ∙ gave)
 
 -- ---- few

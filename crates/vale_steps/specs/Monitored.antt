@@ -4,6 +4,7 @@ use Rattle.std.specs.List.{AllByRecursion}
 use Rattle.nm_types.specs.declared.id.PortId.{PortId}
 use Rattle.nm_types.specs.declared.id.SessionId.{SessionId}
 use Rattle.vale_batch.specs.Wants.{Wanted, wanted}
+use Rattle.vale_entry.specs.Legal.{room_of_dests}
 use Rattle.vale_parts.specs.Batches.{dests_wanted}
 use Rattle.vale_steps.specs.declared.monitored.Monitored.TheInside.{Inside}
 use Rattle.vale_steps.specs.Offering.{OffersState, HasFewFrames, slots_in}
@@ -13,6 +14,10 @@ use Rattle.vale_steps.specs.Wanting.{want_all}
 abbrev pub wants_by : Option PortId → ℕ → List Wanted
 wants_by None count = []
 wants_by (Some to) count = if count == 0 then [] else want_all to count ∷ []
+
+-- what an entry whose frames are wanted so promises
+abbrev pub room_of_wants : List Wanted → ℕ
+room_of_wants wants = room_of_dests (dests_wanted wants)
 
 -- the monitor's want at most, with the room for its lease and the number of its frames
 pub record AreMonitored (m : Inside) : Type 0 where

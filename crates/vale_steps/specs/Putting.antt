@@ -13,11 +13,9 @@ use Rattle.vale_batch.specs.Wants.{Wanted}
 use Rattle.vale_line.specs.declared.got.Got.{Got}
 use Rattle.vale_line.specs.Gots.{part_in}
 use Rattle.vale_entry.specs.declared.entry.Ask.TheVariants.{PutKept}
-use Rattle.vale_entry.specs.declared.entry.Dest.{Dest}
 use Rattle.vale_entry.specs.declared.entry.Item.{Item}
 use Rattle.vale_entry.specs.declared.entry.Reply.TheVariants.{Took, PeerGone}
 use Rattle.vale_entry.specs.declared.entry.Entry.{Entry}
-use Rattle.vale_entry.specs.Legal.{room_of_dests}
 use Rattle.vale_entry.specs.Pipe.{frames_of_items}
 use Rattle.vale_parts.specs.Batches.{dests_wanted}
 use Rattle.vale_steps.specs.declared.putting.Putting.{Putting}
@@ -35,17 +33,11 @@ items_of gots = map item_of gots
 abbrev pub wants_put : Putting → List Wanted
 wants_put putting = wants_by putting.monitor putting.took
 
-abbrev pub dests_put : Putting → List Dest
-dests_put putting = dests_wanted (wants_put putting)
-
-abbrev pub room_of_put : Putting → ℕ
-room_of_put putting = room_of_dests (dests_put putting)
-
 abbrev pub put_entry : Putting → List Item → Entry
 put_entry putting items = record {
   session = putting.session;
   ask = PutKept putting.at putting.offered;
-  reply = Took items (dests_put putting);
+  reply = Took items (dests_wanted (wants_put putting));
 }
 
 abbrev pub gone_entry : SessionId → PortId → ℕ → Entry

@@ -5,11 +5,9 @@ use Rattle.nm_types.specs.declared.id.PortId.{PortId}
 use Rattle.vale_batch.specs.Wants.{Wanted}
 use Rattle.vale_entry.specs.declared.entry.Ask.{Ask}
 use Rattle.vale_entry.specs.declared.entry.Ask.TheVariants.{Sync, Get}
-use Rattle.vale_entry.specs.declared.entry.Dest.{Dest}
 use Rattle.vale_entry.specs.declared.entry.Reply.TheVariants.{Gave}
 use Rattle.vale_entry.specs.declared.entry.Entry.{Entry}
 use Rattle.vale_entry.specs.Counters.{count_gave_at}
-use Rattle.vale_entry.specs.Legal.{room_of_dests}
 use Rattle.vale_parts.specs.Batches.{dests_wanted}
 use Rattle.vale_steps.specs.declared.reading.Reading.{Reading}
 use Rattle.vale_steps.specs.Monitored.{wants_by}
@@ -22,17 +20,11 @@ read_ask false at back = Sync at back
 abbrev pub wants_read : Reading → List Wanted
 wants_read reading = wants_by reading.monitor reading.count
 
-abbrev pub dests_read : Reading → List Dest
-dests_read reading = dests_wanted (wants_read reading)
-
-abbrev pub room_of_read : Reading → ℕ
-room_of_read reading = room_of_dests (dests_read reading)
-
 abbrev pub read_entry : Reading → List ℕ → Entry
 read_entry reading back = record {
   session = reading.session;
   ask = read_ask reading.is_pipe reading.at back;
-  reply = Gave reading.count (dests_read reading);
+  reply = Gave reading.count (dests_wanted (wants_read reading));
 }
 
 abbrev pub count_read : ℕ → Counts

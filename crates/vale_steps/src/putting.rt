@@ -10,9 +10,10 @@ ghost use Rattle.vale_steps.specs.Words.{open_port_of, peer_name, seat_put, spac
 ghost use Rattle.vale_steps.specs.Words.{taken_count, tally_after_add, with_line};
 ghost use Rattle.vale_entry.specs.declared.entry.Ask.TheVariants as asks;
 ghost use Rattle.vale_entry.specs.declared.entry.Reply.TheVariants as replies;
-ghost use Rattle.vale_steps.specs.Putting.{CanCount, IsTaking, item_of, items_of, room_of_put, put_entry};
+ghost use Rattle.vale_steps.specs.Putting.{CanCount, IsTaking, item_of, items_of, put_entry};
 ghost use Rattle.vale_steps.specs.Putting.{gone_entry, count_sent, count_given, copied};
-ghost use Rattle.vale_steps.specs.Putting.{IfPut, IsPutBy};
+ghost use Rattle.vale_steps.specs.Putting.{IfPut, IsPutBy, wants_put};
+ghost use Rattle.vale_steps.specs.Monitored.{room_of_wants};
 
 use crate::monitored::Monitored;
 use crate::offers::Offers;
@@ -141,12 +142,12 @@ fn room_to_put(
     requires within { putting.took ≤ length pending.now }
     ensures taking { IfOk result (IsTaking putting pending.now) }
     ensures promised { OnOk result (history.new.promised
-        ≡ history.old.promised + room_of_put putting) }
+        ≡ history.old.promised + room_of_wants (wants_put putting)) }
     ensures entries { history.new.entries ≡ history.old.entries }
     ensures limits { history.new.limits ≡ history.old.limits }
-    ensures fits { OnOk result (Fits history.old (room_of_put putting)
+    ensures fits { OnOk result (Fits history.old (room_of_wants (wants_put putting))
         (bytes_of_frames (frames_of_items (items_of (take putting.took pending.now))))) }
-    ensures full { IfErr result (IsFull history.old (room_of_put putting)
+    ensures full { IfErr result (IsFull history.old (room_of_wants (wants_put putting))
         (bytes_of_frames (frames_of_items (items_of (take putting.took pending.now))))) }
     ensures err { OnErr result (history.new.promised ≡ history.old.promised) }
 {
@@ -259,7 +260,7 @@ pub fn put_to_peer(
     ensures entries { OnOk result (history.new.entries ≡ history.old.entries
         ++ put_entry putting (items_of (take putting.took pending.old.items)) ∷ []) }
     ensures promised { OnOk result (history.new.promised + 1
-        ≡ history.old.promised + room_of_put putting) }
+        ≡ history.old.promised + room_of_wants (wants_put putting)) }
     ensures limits { history.new.limits ≡ history.old.limits }
     ensures seats { OnOk result ((session : ℕ) (frames : List Packet)
         → bytes_of frames ≡ frames_in (take putting.took pending.old.items)
@@ -282,9 +283,9 @@ pub fn put_to_peer(
         put.back.items ≡ take putting.took p.line.idle) ports.old.items putting.place)) }
     ensures pending { OnOk result (pending.new.items ≡ drop putting.took pending.old.items) }
     ensures capacity { vec_capacity pending.new ≡ vec_capacity pending.old }
-    ensures fits { OnOk result (Fits history.old (room_of_put putting)
+    ensures fits { OnOk result (Fits history.old (room_of_wants (wants_put putting))
         (bytes_of_frames (frames_of_items (items_of (take putting.took pending.old.items))))) }
-    ensures full { IfErr result (IsFull history.old (room_of_put putting)
+    ensures full { IfErr result (IsFull history.old (room_of_wants (wants_put putting))
         (bytes_of_frames (frames_of_items (items_of (take putting.took pending.old.items))))) }
     ensures err { OnErr result ((history.new.entries ≡ history.old.entries)
         × (history.new.promised ≡ history.old.promised) × (ports.new.items ≡ ports.old.items)

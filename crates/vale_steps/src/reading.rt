@@ -7,8 +7,8 @@ ghost use Rattle.vale_steps.specs.Words.{given_by_sync, indices_of, monitor_of, 
 ghost use Rattle.vale_steps.specs.Words.{room_to_sync, seat_synced, size_of_frames};
 ghost use Rattle.vale_steps.specs.Words.{tally_after_add, with_line};
 ghost use Rattle.vale_entry.specs.declared.entry.Reply.TheVariants as replies;
-ghost use Rattle.vale_steps.specs.Monitored.{offers_to};
-ghost use Rattle.vale_steps.specs.Reading.{read_ask, read_entry, wants_read, room_of_read};
+ghost use Rattle.vale_steps.specs.Monitored.{offers_to, room_of_wants};
+ghost use Rattle.vale_steps.specs.Reading.{read_ask, read_entry, wants_read};
 ghost use Rattle.vale_steps.specs.Reading.{count_read};
 
 use crate::buffers::indices;
@@ -129,11 +129,11 @@ fn room_to_read(
     ensures numbers { IfOk result (λ room. room.numbers.items ≡ indices_of back.now) }
     ensures monitored { IfOk result (λ room. room.monitored ≡ wants_read reading) }
     ensures promised { OnOk result (history.new.promised
-        ≡ history.old.promised + room_of_read reading) }
+        ≡ history.old.promised + room_of_wants (wants_read reading)) }
     ensures entries { history.new.entries ≡ history.old.entries }
     ensures limits { history.new.limits ≡ history.old.limits }
-    ensures fits { OnOk result (Fits history.old (room_of_read reading) 0) }
-    ensures full { IfErr result (IsFull history.old (room_of_read reading) 0) }
+    ensures fits { OnOk result (Fits history.old (room_of_wants (wants_read reading)) 0) }
+    ensures full { IfErr result (IsFull history.old (room_of_wants (wants_read reading)) 0) }
     ensures err { OnErr result (history.new.promised ≡ history.old.promised) }
 {
     let numbers = indices(alloc, back)?;
@@ -198,7 +198,7 @@ pub fn read(
     ensures entries { OnOk result (history.new.entries ≡ history.old.entries
         ++ read_entry reading (indices_of back.items) ∷ []) }
     ensures promised { OnOk result (history.new.promised + 1
-        ≡ history.old.promised + room_of_read reading) }
+        ≡ history.old.promised + room_of_wants (wants_read reading)) }
     ensures limits { history.new.limits ≡ history.old.limits }
     ensures seats { OnOk result (ChangesSeat (seat_synced (indices_of back.items))
         ports.old.items reading.place ports.new.items) }
@@ -213,8 +213,8 @@ pub fn read(
         ≡ offers_to (length history.old.entries + 1) reading.session (wants_read reading)) }
     ensures tally { OnOk result (tally.new
         ≡ tally_after_add reading.at.0 (count_read reading.count) tally.old) }
-    ensures fits { OnOk result (Fits history.old (room_of_read reading) 0) }
-    ensures full { IfErr result (λ refused. IsFull history.old (room_of_read reading) 0 refused.0) }
+    ensures fits { OnOk result (Fits history.old (room_of_wants (wants_read reading)) 0) }
+    ensures full { IfErr result (λ refused. IsFull history.old (room_of_wants (wants_read reading)) 0 refused.0) }
     ensures back { IfErr result (λ refused. refused.1 ≡ back) }
     ensures err { OnErr result ((history.new.entries ≡ history.old.entries)
         × (history.new.promised ≡ history.old.promised) × (ports.new.items ≡ ports.old.items)
