@@ -27,9 +27,9 @@ pub use Rattle.vale_parts.specs.FreeLaws.{IsTakenBack}
 pub use Rattle.vale_parts.specs.SwitchTables.{has_table}
 pub use Rattle.vale_port.specs.Kept.{bytes_of}
 pub use Rattle.vale_port.specs.Laws.{line_after_put, with_line}
-pub use Rattle.vale_port.specs.Lists.{ChangesSeat, OfSeat, OfState}
-pub use Rattle.vale_port.specs.Ports.{Gives, IsLeaseFor, open_ids, opened_state, sizes_of}
-pub use Rattle.vale_port.specs.Seat.{given_frames, seat_given, seat_put, seat_synced}
+pub use Rattle.vale_port.specs.Lists.{ChangesSeat, ChangesSeatIf, OfSeat, OfState}
+pub use Rattle.vale_port.specs.Ports.{Gives, IsFilledFor, IsLeaseFor, open_ids, opened_state, sizes_of}
+pub use Rattle.vale_port.specs.Seat.{given_frames, seat_done, seat_given, seat_put, seat_synced}
 pub use Rattle.vale_port.specs.Words.{Frame, IsFrameSize, IsSingle, Offer, buffer_count, buffers_of}
 pub use Rattle.vale_port.specs.Words.{delivered_frames, frames_in, given_by_sync, granted_sizes}
 pub use Rattle.vale_port.specs.Words.{indices_of, is_there, leased, leases_of, list_any, out_of}
