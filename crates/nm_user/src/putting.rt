@@ -126,12 +126,7 @@ fn unwrap(pending: &mut Vec<Got>, bufs: &mut Vec<Buf>)
 {
     pending.reverse();
     while let Some(got) = pending.pop() {
-        let Got {
-            buf,
-            len: _,
-            rest: _,
-        } = got;
-        bufs.push_reserved(buf);
+        bufs.push_reserved(got.into_buf());
     }
 }
 

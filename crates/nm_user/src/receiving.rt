@@ -120,12 +120,7 @@ fn publish(own: &mut OwnSide, at: usize, port: PortId, got: Got)
         → AllOf region own.new }
 {
     let len = frame_len(&got);
-    let Got {
-        buf,
-        len: _,
-        rest: _,
-    } = got;
-    own.receive_at(at, port, buf, len);
+    own.receive_at(at, port, got.into_buf(), len);
 }
 
 /// Publishes frames in their order.

@@ -28,12 +28,7 @@ pub fn unwrap_all(mut from: Vec<Got>, to: &mut Vec<Buf>)
 {
     from.reverse();
     while let Some(got) = from.pop() {
-        let Got {
-            buf,
-            len: _,
-            rest: _,
-        } = got;
-        to.push_reserved(buf);
+        to.push_reserved(got.into_buf());
     }
     from.destroy_empty();
 }

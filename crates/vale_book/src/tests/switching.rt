@@ -106,15 +106,10 @@ fn end(
 {
     let mut book = book;
     let Held { port, tx: mut bufs } = second;
-    let Got {
-        buf,
-        len: _,
-        rest: _,
-    } = got;
     if bufs.reserve(1).is_err() {
         panic!(rt; "no memory");
     }
-    bufs.push_reserved(buf);
+    bufs.push_reserved(got.into_buf());
     go(rt, &mut book, first);
     go(rt, &mut book, Held { port, tx: bufs });
     assert!(rt; book.free() == 20);

@@ -10,7 +10,9 @@ use Rattle.vale_book.proofs.tests.switching.end.Goals.{After-go}
 
 -- the second port's buffers, with the one that was read
 more : (g : given.Over) (c : After-go g) → c.push_reserved.new.self.items ≡ c.args.second.tx.items ++ c.args.got.buf ∷ []
-more g c = c.push_reserved.ensures.items ∙ ap (λ (bufs : List Buffer). bufs ++ c.args.got.buf ∷ []) c.reserve.ensures.items
+more g c =
+    c.push_reserved.ensures.items ∙ (ap (λ (bufs : List Buffer). bufs ++ c.into_buf.result ∷ []) c.reserve.ensures.items
+    ∙ ap (λ (b : Buffer). c.args.second.tx.items ++ b ∷ []) c.into_buf.ensures)
 
 bufs : (g : given.Over) (c : After-go g) → indices_of c.push_reserved.new.self.items ≡ second_bufs ++ 14 ∷ []
 bufs g c = with-buffer c.args.second.tx.items c.push_reserved.new.self.items c.args.got.buf second_bufs 14 (more g c) c.requires.second_tx c.requires.got
