@@ -66,12 +66,7 @@ fn take_in(user: &mut User, opened: Opened, room: Vec<Buf>)
     requires room { IsMemory room }
     ensures { HasTaken user.old opened room user.new }
 {
-    let Opened {
-        port,
-        tx,
-        rx: _,
-        extra,
-    } = opened;
+    let (port, tx, extra) = opened.into_parts();
     move_all(tx, &mut user.bufs);
     move_all(extra, &mut user.bufs);
     user.rooms.push_reserved(Room { port, bufs: room });

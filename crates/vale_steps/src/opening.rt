@@ -36,6 +36,23 @@ pub struct Opened {
     pub extra: Vec<Buf>,
 }
 
+impl Opened {
+    /// The port, and what its session holds: the buffers of its transmit ring, and the extra ones.
+    pub fn into_parts(self) -> (PortId, Vec<Buf>, Vec<Buf>)
+        ensures port { result.0 ≡ self.port }
+        ensures tx { result.1 ≡ self.tx }
+        ensures extra { result.2 ≡ self.extra }
+    {
+        let Opened {
+            port,
+            tx,
+            rx: _,
+            extra,
+        } = self;
+        (port, tx, extra)
+    }
+}
+
 /// The free buffers that a port takes.
 struct Taken {
     tx: Vec<Buf>,

@@ -10,7 +10,7 @@ ghost use Rattle.vale_book.specs.Recorded.{standing, after_ask};
 ghost use Rattle.vale_book.specs.Lives.{life, CanGo, gone, came, one_port, first_bufs};
 ghost use Rattle.vale_book.specs.Sending.{IsSent};
 
-use crate::{Book, Offers, Opened, Synced};
+use crate::{Book, Offers, Synced};
 use nm_region::Buf;
 use nm_types::{Batch, Chain, Limits, Name, PortId, SessionId};
 use std::alloc::Global;
@@ -123,12 +123,7 @@ fn open(rt: &impl Abort, book: &mut Book, session: SessionId, text: &str, tx: u3
     let name = name(rt, text);
     match book.open(session, &name, tx, rx, 0) {
         Ok(opened) => {
-            let Opened {
-                port,
-                tx,
-                rx: _,
-                extra,
-            } = opened;
+            let (port, tx, extra) = opened.into_parts();
             extra.destroy_empty();
             Held { port, tx }
         }
