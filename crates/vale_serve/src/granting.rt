@@ -9,7 +9,7 @@ use crate::sending::keep;
 use crate::users::{Sent, User};
 use nm_types::PortId;
 use vale_batch::Want;
-use vale_book::{Book, Granted};
+use vale_book::Book;
 use vale_entry::Reply;
 use vale_line::Lease;
 
@@ -38,15 +38,13 @@ fn take_next(book: &mut Book, sent: &mut Sent) -> (Reply, Option<Lease>)
     requires { CanGrant book.old sent.old }
     ensures { HasGranted book.old book.new sent.old sent.new result.0 result.1 }
 {
-    let Granted {
-        to: _,
-        given,
-        full,
-        gone,
-        want,
-        lease,
-    } = book.grant(&mut sent.offers);
-    let reply = Reply::Shared { given, full, gone };
+    let granted = book.grant(&mut sent.offers);
+    let reply = Reply::Shared {
+        given: granted.given,
+        full: granted.full,
+        gone: granted.gone,
+    };
+    let (want, lease) = granted.into_lease();
     match lease {
         Some(lease) => (reply, Some(filled(lease, &want, &sent.frames))),
         None => (reply, None),

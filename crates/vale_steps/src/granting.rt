@@ -31,6 +31,24 @@ pub struct Granted {
     pub lease: Option<Lease>,
 }
 
+impl Granted {
+    /// What was wanted, and the lease.
+    pub fn into_lease(self) -> (Want, Option<Lease>)
+        ensures want { result.0 ≡ self.want }
+        ensures lease { result.1 ≡ self.lease }
+    {
+        let Granted {
+            to: _,
+            given: _,
+            full: _,
+            gone: _,
+            want,
+            lease,
+        } = self;
+        (want, lease)
+    }
+}
+
 /// Records a grant. One that gives nothing needs no room for its completion.
 fn record(
     history: &mut History,

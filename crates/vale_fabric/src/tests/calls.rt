@@ -210,15 +210,9 @@ pub(super) fn miss<R: Abort + Wait>(
         (asks.Grant offers.old.entry (port to)) (replies.Shared 0 0 1) }
 {
     assert!(rt; offers.next().is_some());
-    let Granted {
-        to: at,
-        given,
-        full,
-        gone,
-        want: _,
-        lease,
-    } = fabric.grant(rt, pass, offers);
-    assert!(rt; at.0 == to && given == 0 && full == 0 && gone == 1);
+    let granted = fabric.grant(rt, pass, offers);
+    assert!(rt; granted.to.0 == to && granted.given == 0 && granted.full == 0 && granted.gone == 1);
+    let (_want, lease) = granted.into_lease();
     let None = lease else {
         panic!(rt; "a buffer is leased");
     };

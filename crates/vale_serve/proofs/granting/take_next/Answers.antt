@@ -15,25 +15,29 @@ use Rattle.vale_serve.proofs.granting.take_next.Goals as goal
 
 pub filled-requires : goal.filled-requires
 filled-requires c =
-    let e = c.grant-given.ensures in
-    let gives : IsLeaseBy c.args.book.now c.args.sent.now.offers.entry _ c.in-Some.lease = rw c.in-Some.is at e.lease in
-    subst (λ (fs : List (Vec _ Global)). IsFillable c.in-Some.lease c.grant-given.result.want.places.items (contents fs)) (sym c.deref.ensures.value)
-    (fillable c.args.book.now c.args.sent.now c.requires (wanted c.grant-given.result.want) _ c.in-Some.lease e.want gives)
+    let e = c.grant-granted.ensures in
+    let parts = c.into_lease-want.ensures in
+    let first = rw (← parts.want) at e.want in
+    let gives : IsLeaseBy c.args.book.now c.args.sent.now.offers.entry _ c.in-Some.lease = rw (sym parts.lease ∙ c.in-Some.is) at e.lease in
+    subst (λ (fs : List (Vec _ Global)). IsFillable c.in-Some.lease c.into_lease-want.result.0.places.items (contents fs)) (sym c.deref.ensures.value)
+    (fillable c.args.book.now c.args.sent.now c.requires (wanted c.into_lease-want.result.0) _ c.in-Some.lease first gives)
 
 pub returns-in-Some : goal.returns-in-Some
 returns-in-Some c =
-    let e = c.grant-given.ensures in
-    let want = wanted c.grant-given.result.want in
-    let gives : IsLeaseBy c.args.book.now c.args.sent.now.offers.entry _ c.in-Some.lease = rw c.in-Some.is at e.lease in
-    let filled = subst (λ (fs : List (Vec _ Global)). IsFilledWith c.in-Some.lease c.grant-given.result.want.places.items (contents fs) c.filled.result) c.deref.ensures.value
+    let e = c.grant-granted.ensures in
+    let parts = c.into_lease-want.ensures in
+    let want = wanted c.into_lease-want.result.0 in
+    let first = rw (← parts.want) at e.want in
+    let gives : IsLeaseBy c.args.book.now c.args.sent.now.offers.entry _ c.in-Some.lease = rw (sym parts.lease ∙ c.in-Some.is) at e.lease in
+    let filled = subst (λ (fs : List (Vec _ Global)). IsFilledWith c.in-Some.lease c.into_lease-want.result.0.places.items (contents fs) c.filled.result) c.deref.ensures.value
     (record { id = c.filled.ensures.id; to = c.filled.ensures.to; full = c.filled.ensures.full; empty = c.filled.ensures.empty; kept = c.filled.ensures.kept; region_is = c.filled.ensures.region_is }) in
     record {
-      to = c.grant-given.result.to;
-      first = ap (is_met (is_want_of c.grant-given.result.to.0)) e.want ∙ eq-eqb c.grant-given.result.want.to.0 c.grant-given.result.to.0 (ap (λ (p : PortId). p.0) (sym e.to));
+      to = c.grant-granted.result.to;
+      first = ap (is_met (is_want_of c.grant-granted.result.to.0)) e.want ∙ eq-eqb c.grant-granted.result.want.to.0 c.grant-granted.result.to.0 (ap (λ (p : PortId). p.0) (sym e.to));
       made = e.made;
       said = e.said;
       room = e.room;
       left_is = ap (λ (o : OffersState). let left : Sent = record { offers = o; frames = c.args.sent.now.frames } in left) e.offers;
-      leased = record { given = c.in-Some.lease; want = want; first = e.want; gives = gives; filled = filled };
+      leased = record { given = c.in-Some.lease; want = want; first = first; gives = gives; filled = filled };
       none = tt;
     }
