@@ -13,7 +13,8 @@ use Rattle.vale_script.specs.declared.forms.Verb.{Verb}
 use Rattle.vale_script.specs.declared.forms.Verb.TheVariants as verbs
 use Rattle.vale_script.specs.Forms.{Form, form_of, any_number, frame_count}
 use Rattle.vale_script.specs.Places.{misses_number, misses_name, is_out, any_out, greatest_of}
-use Rattle.vale_script.specs.Statements.{Statement, ◌>>=◌, or_cause, word_at, text_at, user_at, port_at, address_at, byte_at_place, number_at, any_at, two_at, extra_at, frame_at, open_act, put_act, fwd_act, poke_act, move_act, swap_act, extra_act, watch_act, named_act, hex_act, play_act, save_act, act_of, does_act, statement_of, cause_of_words, has_form, said_unless}
+use Rattle.vale_script.specs.Statements.{Statement, ◌>>=◌, or_cause, text_at, user_at, port_at, address_at, byte_at_place, number_at, any_at, two_at, extra_at, frame_at, open_act, put_act, fwd_act, poke_act, move_act, swap_act, extra_act, watch_act, named_act, hex_act, play_act, save_act, act_of, does_act, statement_of, cause_of_words, has_form, said_unless}
+use Rattle.vale_words.specs.Fixed.{word_at}
 use Rattle.vale_words.specs.Words.{is_user_name, port_name, number_in, is_hex_byte, byte_at, frame_bytes, is_mac, mac_of, mac_value}
 
 -- a word is read at its place, behind the word before it

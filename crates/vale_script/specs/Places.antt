@@ -1,5 +1,5 @@
 -- What is wrong with a line's words, each at its place.
-use Rattle.std.specs.Prelude.{ℕ, Bool, true, false, not, ◌||◌, if◌then◌else◌, List, ◌∷◌, codes, bytes_eq, is_some}
+use Rattle.std.specs.Prelude.{ℕ, Bool, true, false, not, ◌||◌, if◌then◌else◌, List, [], ◌∷◌, codes, bytes_eq, is_some}
 use Rattle.nm_types.specs.declared.fault.LineCause.{LineCause}
 use Rattle.nm_types.specs.declared.fault.LineCause.TheVariants.{Word, Name}
 use Rattle.nm_types.specs.declared.fault.LineCause.TheVariants as causes
@@ -7,12 +7,9 @@ use Rattle.vale_script.specs.declared.forms.Place.{Place}
 use Rattle.vale_script.specs.declared.forms.Place.TheVariants.{UserName, PortName, Address, Number, Byte, Bytes, Side, Sides, Field, Value, Keep, Quiet}
 use Rattle.vale_script.specs.declared.forms.Verb.{Verb}
 use Rattle.vale_script.specs.declared.forms.Verb.TheVariants.{Rx, Poke, Move, Swap, Watch}
-use Rattle.nm_types.specs.declared.id.Side as sides
-use Rattle.nm_types.specs.declared.id.Side.TheVariants as rings
-use Rattle.nm_types.specs.declared.id.Sides as watched
-use Rattle.nm_types.specs.declared.id.Sides.TheVariants as monitored
 use Rattle.vale_script.specs.declared.script.SlotField.{SlotField}
 use Rattle.vale_script.specs.declared.script.SlotField.TheVariants.{Idx, Len, Flags, Ptr}
+use Rattle.vale_words.specs.Fixed.{value_of}
 use Rattle.vale_words.specs.Words.{is_user_name, port_name, number_in, is_hex_byte, frame_bytes, is_mac}
 
 abbrev pub is_side : List ℕ → Bool
@@ -63,16 +60,9 @@ abbrev pub any_out : LineCause → List Place → List ℕ → List (List ℕ) �
 any_out cause (place ∷ places) before (word ∷ words) = is_out cause place before word || any_out cause places word words
 any_out cause places before words = false
 
--- what fixed words stand for
-
-abbrev pub side_of : List ℕ → sides.Side
-side_of word = if bytes_eq word (codes "tx") then rings.Tx else rings.Rx
-
-abbrev pub sides_of : List ℕ → watched.Sides
-sides_of word = if bytes_eq word (codes "t") then monitored.T else (if bytes_eq word (codes "r") then monitored.R else monitored.TR)
-
+-- the field of a slot
 abbrev pub field_of : List ℕ → SlotField
-field_of word = if bytes_eq word (codes "idx") then Idx else (if bytes_eq word (codes "len") then Len else (if bytes_eq word (codes "flags") then Flags else Ptr))
+field_of word = value_of ((codes "idx", Idx) ∷ (codes "len", Len) ∷ (codes "flags", Flags) ∷ []) word Ptr
 
 -- whether lines of this form have words that are one of a few
 abbrev pub has_fixed_words : Verb → Bool

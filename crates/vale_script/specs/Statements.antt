@@ -1,5 +1,5 @@
 -- What the words of a line say by themselves, or why they say nothing that a script may say.
-use Rattle.std.specs.Prelude.{ℕ, ◌+◌, Bool, false, not, ◌==◌, ◌≡◌, nat_lt, nat_le, ◌||◌, ◌&&◌, if◌then◌else◌, List, [], ◌∷◌, length, slice_index_or, Option, Some, None, Result, Ok, Err}
+use Rattle.std.specs.Prelude.{ℕ, ◌+◌, Bool, false, not, ◌==◌, ◌≡◌, nat_lt, nat_le, ◌||◌, ◌&&◌, if◌then◌else◌, List, [], ◌∷◌, length, Option, Some, None, Result, Ok, Err}
 use Rattle.std.specs.Borrow.{Bor}
 use Rattle.nm_types.specs.Limits.{most_counts, most_pool, buffer_bytes, most_batch}
 use Rattle.nm_types.specs.declared.id.Mac.{Mac}
@@ -14,7 +14,8 @@ use Rattle.vale_script.specs.declared.statements.Said.TheVariants as said
 use Rattle.vale_script.specs.declared.statements.LineFault.{LineFault}
 use Rattle.vale_script.specs.declared.statements.LineFault.TheVariants.{Bad, NoMemory}
 use Rattle.vale_script.specs.Forms.{form_of, verb_of}
-use Rattle.vale_script.specs.Places.{any_out, greatest_of, side_of, sides_of, field_of}
+use Rattle.vale_script.specs.Places.{any_out, greatest_of, field_of}
+use Rattle.vale_words.specs.Fixed.{word_at, side_of, sides_of}
 use Rattle.vale_words.specs.Words.{words_of, are_line_bytes, is_silent, is_user_name, port_name, text_of, number_in, hex_byte_of, frame_bytes, mac_of}
 
 infixl 10 ◌>>=◌
@@ -25,10 +26,6 @@ Err cause >>= f = Err cause
 abbrev pub or_cause : {A : Type 0} → LineCause → Option A → Result A LineCause
 or_cause cause None = Err cause
 or_cause cause (Some a) = Ok a
-
--- the word at a place, counted from 0; past the line's end it is empty
-abbrev pub word_at : ℕ → List (List ℕ) → List ℕ
-word_at i words = slice_index_or words i []
 
 abbrev pub text_at : ℕ → List (List ℕ) → Result (List ℕ) LineCause
 text_at i words = or_cause causes.Word (text_of (word_at i words))

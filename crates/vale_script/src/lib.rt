@@ -16,4 +16,5 @@ mod tests;
 pub use forms::{Verb, verb_of};
 pub use reader::{ScriptFault, first_line, line_count, parse};
 pub use script::{Act, Line, Lines, Script, ScriptWord, SlotField, Unit};
-pub use statements::{LineFault, Said, line_said, word_at};
+pub use statements::{LineFault, Said, line_said};
+pub use vale_words::word_at;

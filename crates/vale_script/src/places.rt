@@ -1,12 +1,14 @@
 //! What is wrong with a line's words, each at its place.
 ghost use Rattle.std.specs.Prelude.{◌≡◌, ◌≤◌, map, length};
-ghost use Rattle.vale_script.specs.Places.{is_side, is_sides, is_field, misses_word, misses_number, misses_name, is_out, any_out, has_fixed_words, greatest_of, side_of, sides_of, field_of};
+ghost use Rattle.vale_script.specs.Places.{is_side, is_sides, is_field, misses_word, misses_number, misses_name, is_out, any_out, has_fixed_words, greatest_of, field_of};
 ghost use Rattle.vale_script.specs.Sound.{most_of};
 
 use crate::forms::{Place, Verb};
 use crate::script::SlotField;
-use nm_types::{LineCause, Side, Sides};
-use vale_words::{frame_bytes_fit, is_hex_byte, is_mac, is_user_name, number_in, port_name};
+use nm_types::LineCause;
+use vale_words::{
+    frame_bytes_fit, is_hex_byte, is_mac, is_user_name, number_in, port_name, value_of,
+};
 
 fn is_side(word: &[u8]) -> bool
     ensures { result ≡ is_side word.now }
@@ -118,41 +120,14 @@ pub(crate) fn has_fixed_words(verb: Verb) -> bool
     )
 }
 
-/// The side of a ring.
-pub(crate) fn side_of(word: &[u8]) -> Side
-    ensures { result ≡ side_of word.now }
-{
-    if word == b"tx".as_slice() {
-        Side::Tx
-    } else {
-        Side::Rx
-    }
-}
-
-/// The sides that a monitor watches.
-pub(crate) fn sides_of(word: &[u8]) -> Sides
-    ensures { result ≡ sides_of word.now }
-{
-    if word == b"t".as_slice() {
-        Sides::T
-    } else if word == b"r".as_slice() {
-        Sides::R
-    } else {
-        Sides::TR
-    }
-}
-
 /// The field of a slot.
 pub(crate) fn field_of(word: &[u8]) -> SlotField
     ensures { result ≡ field_of word.now }
 {
-    if word == b"idx".as_slice() {
-        SlotField::Idx
-    } else if word == b"len".as_slice() {
-        SlotField::Len
-    } else if word == b"flags".as_slice() {
-        SlotField::Flags
-    } else {
-        SlotField::Ptr
-    }
+    let fields: [(&[u8], SlotField); 3] = [
+        (b"idx", SlotField::Idx),
+        (b"len", SlotField::Len),
+        (b"flags", SlotField::Flags),
+    ];
+    value_of(&fields, word, SlotField::Ptr)
 }

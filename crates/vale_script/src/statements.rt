@@ -1,14 +1,15 @@
 //! What the words of a line say by themselves.
-ghost use Rattle.std.specs.Prelude.{◌≡◌, ◌≤◌, ◌<◌, ◌^◌, ◌&&◌, nat_le, ℕ, map, slice_index_or, length, IfOk, None, Some, true, Ok};
-ghost use Rattle.vale_script.specs.Places.{side_of, sides_of, field_of};
+ghost use Rattle.std.specs.Prelude.{◌≡◌, ◌≤◌, ◌<◌, ◌^◌, ◌&&◌, nat_le, ℕ, map, length, IfOk, None, Some, true, Ok};
+ghost use Rattle.vale_script.specs.Places.{field_of};
+ghost use Rattle.vale_words.specs.Fixed.{word_at, side_of, sides_of};
 ghost use Rattle.vale_script.specs.Keeps.{IsSoundStatement, NamesUser};
 ghost use Rattle.nm_types.specs.Names.{IsName};
 ghost use Rattle.vale_script.specs.Sound.{IsUserName, IsFileName, IsSoundDeed};
 ghost use Rattle.vale_script.specs.declared.statements.LineFault.TheVariants as faults;
-ghost use Rattle.vale_script.specs.Statements.{shown, word_at, user_at, port_at, text_at, number_at, two_at, address_at, byte_at_place, open_act, put_with, put_act, fwd_act, poke_act, move_act, swap_act, extra_act, watch_act, named_act, plain_act, hex_act, play_act, save_act, act_of, statement_of, cause_by, cause_of_words, has_form, said_by_verb, words_said, line_said, Tells, TellsSaid, shown_text};
+ghost use Rattle.vale_script.specs.Statements.{shown, user_at, port_at, text_at, number_at, two_at, address_at, byte_at_place, open_act, put_with, put_act, fwd_act, poke_act, move_act, swap_act, extra_act, watch_act, named_act, plain_act, hex_act, play_act, save_act, act_of, statement_of, cause_by, cause_of_words, has_form, said_by_verb, words_said, line_said, Tells, TellsSaid, shown_text};
 
 use crate::forms::{Verb, form_of, verb_of};
-use crate::places::{any_out, field_of, greatest_of, has_fixed_words, side_of, sides_of};
+use crate::places::{any_out, field_of, greatest_of, has_fixed_words};
 use crate::script::{Act, ScriptWord};
 use nm_types::{
     BUFFER_BYTES, Frame, LineCause, MAX_BATCH, MAX_COUNTS, MAX_POOL, Mac, Name, NoMemory, Side,
@@ -16,7 +17,7 @@ use nm_types::{
 use std::alloc::{AllocError, Global};
 use vale_words::{
     cut_plain_words, cut_words, frame_bytes, hex_byte_of, is_silent, is_user_name, mac_of,
-    name_text, number_in, port_name, room_for_words, text_of,
+    name_text, number_in, port_name, room_for_words, side_of, sides_of, text_of, word_at,
 };
 
 /// Why a line says nothing that a script may say.
@@ -67,16 +68,6 @@ pub enum Said<'a> {
     End,
     /// A user does this.
     Does { user: &'a str, act: Act },
-}
-
-/// The word at a place, counted from 0; past the line's end it is empty.
-pub fn word_at<'a>(words: &[&'a [u8]], i: usize) -> &'a [u8]
-    ensures { result.now ≡ word_at i (map (λ w. w.now) words.now) }
-{
-    match words.get(i) {
-        Some(word) => word,
-        None => b"",
-    }
 }
 
 fn user_at<'a>(words: &[&'a [u8]]) -> Result<&'a str, LineCause>

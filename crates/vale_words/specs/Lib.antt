@@ -1,3 +1,4 @@
+pub mod Fixed
 pub mod Lanes
 pub mod Pairs
 pub mod Words
