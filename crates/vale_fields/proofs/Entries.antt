@@ -22,7 +22,8 @@ use Rattle.vale_entry.specs.declared.entry.Reply.{Reply}
 use Rattle.vale_entry.specs.declared.entry.Reply.TheVariants.{Made, Opened, Refused, Offered, Shared, Gave, Took, PeerGone, Unread, Watching, NoTarget, Watched, Counted}
 use Rattle.vale_entry.specs.declared.entry.Entry.{Entry}
 use Rattle.vale_entry.specs.Transcript.{is_unmarked, is_refusal, dests_rise, is_printable, side_word, sides_word}
-use Rattle.vale_fields.specs.Fields.{long_of, short_of, name_of, side_of, sides_of, word_at}
+use Rattle.vale_fields.specs.Fields.{long_of, short_of, name_of}
+use Rattle.vale_words.specs.Fixed.{side_of, sides_of, word_at}
 use Rattle.vale_fields.specs.Rows.{entry_of, row_of, open_answer, open_with, fault_by, watch_answer, watch_with}
 use Rattle.vale_fields.specs.Laws.{words_with, WordsAreRead}
 use Rattle.vale_fields.specs.Widths.{Is32, Is64, FitsAsk, FitsReply, FitsCounts}
@@ -35,12 +36,10 @@ no-verb : (n x : ℕ) (verb : List ℕ) → 58 < x → bytes_eq (decimal n) (x �
 no-verb n x verb big = false_from_ne_true (bytes_eq (decimal n) (x ∷ verb)) (λ e. not-number (decimal n) x verb (decimal-digits n) big ((bytes_eq-Decides (decimal n) (x ∷ verb)).0 e))
 
 side-back : (side : Side) → side_of (side_word side) ≡ side
-unfolding side_of
 side-back rings.Tx = refl
 side-back rings.Rx = refl
 
 sides-back : (sides : Sides) → sides_of (sides_word sides) ≡ sides
-unfolding sides_of
 sides-back watched.T = refl
 sides-back watched.R = refl
 sides-back watched.TR = refl

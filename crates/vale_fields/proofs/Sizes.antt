@@ -6,7 +6,8 @@ use Rattle.nm_types.specs.declared.fault.OpenFault.TheVariants.{BadSize, Switche
 use Rattle.nm_types.specs.declared.fault.SyncFault.TheVariants.{HeadOut, CurOut, Indirect, IndexOut, NotHeld, Doubled, Unannounced, LongLen, Fragment}
 use Rattle.vale_entry.specs.declared.entry.Reply.TheVariants as replies
 use Rattle.vale_entry.specs.declared.entry.Entry.{Entry}
-use Rattle.vale_fields.specs.Fields.{hex_value, bytes_of, is_marked, frame_of, dest_of, item_of, short_of, name_of, word_at, half_of, front_by, back_by, mark_in}
+use Rattle.vale_fields.specs.Fields.{hex_value, bytes_of, is_marked, frame_of, dest_of, item_of, short_of, name_of, half_of, front_by, back_by, mark_in}
+use Rattle.vale_words.specs.Fixed.{word_at}
 use Rattle.vale_fields.specs.Lists.{parts_of, numbers_of, dests_of, items_of, frames_of}
 use Rattle.vale_fields.specs.Rows.{entry_of, row_of, open_with, open_answer, watch_with, watch_answer, put_answer, fault_by, enter_row, open_row, send_row, grant_row, done_row, sync_row, get_row, reset_row, shut_row, finish_row, leave_row, put_row, watch_row, stat_row}
 use Rattle.vale_fields.specs.Laws.{WhatIsReadFits}

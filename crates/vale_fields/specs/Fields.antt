@@ -1,12 +1,8 @@
 -- What a field's text stands for. Each reading gives some value for any text; which texts are a value's
 -- own is asked elsewhere.
-use Rattle.std.specs.Prelude.{ℕ, Bool, true, false, ◌==◌, ◌+◌, ◌-◌, ◌*◌, nat_le, ◌&&◌, if◌then◌else◌, min, List, [], ◌∷◌, take, drop, codes, bytes_eq, slice_index, slice_index_or, Option, Some, None, position}
+use Rattle.std.specs.Prelude.{ℕ, Bool, true, false, ◌==◌, ◌+◌, ◌-◌, ◌*◌, nat_le, ◌&&◌, if◌then◌else◌, min, List, [], ◌∷◌, take, drop, slice_index, Option, Some, None, position}
 use Rattle.nm_types.specs.Frames.{Frame}
 use Rattle.nm_types.specs.Names.{is_name}
-use Rattle.nm_types.specs.declared.id.Side.{Side}
-use Rattle.nm_types.specs.declared.id.Side.TheVariants as rings
-use Rattle.nm_types.specs.declared.id.Sides.{Sides}
-use Rattle.nm_types.specs.declared.id.Sides.TheVariants as watched
 use Rattle.vale_entry.specs.declared.entry.Dest.{Dest}
 use Rattle.vale_entry.specs.declared.entry.Item.{Item}
 use Rattle.vale_words.specs.Words.{number_of}
@@ -59,13 +55,3 @@ item_of word = record { index = short_of (front_by (mark_in 58 word) word); byte
 -- the name of a port, a pipe end or a monitor
 unfoldable pub name_of : List ℕ → Option (List ℕ)
 name_of word = if is_name word then Some word else None
-
-unfoldable pub side_of : List ℕ → Side
-side_of word = if bytes_eq word (codes "tx") then rings.Tx else rings.Rx
-
-unfoldable pub sides_of : List ℕ → Sides
-sides_of word = if bytes_eq word (codes "t") then watched.T else (if bytes_eq word (codes "r") then watched.R else watched.TR)
-
--- the word at a place, counted from 0; past the line's end it is empty
-abbrev pub word_at : ℕ → List (List ℕ) → List ℕ
-word_at i words = slice_index_or words i []

@@ -12,8 +12,9 @@ use Rattle.vale_entry.specs.declared.entry.Ask.TheVariants as asks
 use Rattle.vale_entry.specs.declared.entry.Reply.{Reply}
 use Rattle.vale_entry.specs.declared.entry.Reply.TheVariants as replies
 use Rattle.vale_entry.specs.declared.entry.Entry.{Entry}
-use Rattle.vale_fields.specs.Fields.{long_of, short_of, half_of, name_of, side_of, sides_of, word_at}
+use Rattle.vale_fields.specs.Fields.{long_of, short_of, half_of, name_of}
 use Rattle.vale_fields.specs.Lists.{numbers_of, dests_of, items_of, frames_of}
+use Rattle.vale_words.specs.Fixed.{side_of, sides_of, word_at}
 
 abbrev pub short_at : ℕ → List (List ℕ) → ℕ
 short_at i words = short_of (word_at i words)

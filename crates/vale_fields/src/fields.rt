@@ -1,8 +1,8 @@
 //! Single fields.
-ghost use Rattle.std.specs.Prelude.{◌≡◌, ◌<◌, ◌++◌, ◌∷◌, [], map, min, length, IsTrue, IfOk, OnOk};
-ghost use Rattle.vale_fields.specs.Fields.{long_of, short_of, half_of, hex_value, bytes_of, is_marked, frame_of, front_by, back_by, mark_in, dest_of, item_of, name_of, side_of, sides_of, word_at};
+ghost use Rattle.std.specs.Prelude.{◌≡◌, ◌<◌, ◌++◌, ◌∷◌, [], min, length, IsTrue, IfOk, OnOk};
+ghost use Rattle.vale_fields.specs.Fields.{long_of, short_of, half_of, hex_value, bytes_of, is_marked, frame_of, front_by, back_by, mark_in, dest_of, item_of, name_of};
 
-use nm_types::{Batch, Frame, Name, NoMemory, PortId, Side, Sides};
+use nm_types::{Batch, Frame, Name, NoMemory, PortId};
 use std::alloc::Global;
 use vale_entry::{Dest, Item};
 
@@ -140,38 +140,4 @@ pub(crate) fn name_of(word: &[u8]) -> Option<Name>
     ensures { result ≡ name_of word.now }
 {
     Name::from_bytes(word).ok()
-}
-
-#[tactic(auto, unfolding(crate::specs::Fields::side_of))]
-pub(crate) fn side_of(word: &[u8]) -> Side
-    ensures { result ≡ side_of word.now }
-{
-    if word == b"tx".as_slice() {
-        Side::Tx
-    } else {
-        Side::Rx
-    }
-}
-
-#[tactic(auto, unfolding(crate::specs::Fields::sides_of))]
-pub(crate) fn sides_of(word: &[u8]) -> Sides
-    ensures { result ≡ sides_of word.now }
-{
-    if word == b"t".as_slice() {
-        Sides::T
-    } else if word == b"r".as_slice() {
-        Sides::R
-    } else {
-        Sides::TR
-    }
-}
-
-/// The word at a place, counted from 0; past the line's end it is empty.
-pub(crate) fn word_at<'a>(words: &[&'a [u8]], i: usize) -> &'a [u8]
-    ensures { result.now ≡ word_at i (map (λ w. w.now) words.now) }
-{
-    match words.get(i) {
-        Some(word) => word,
-        None => b"",
-    }
 }

@@ -1,13 +1,14 @@
 //! The rows: what the words of each kind of line stand for.
 ghost use Rattle.std.specs.Prelude.{◌≡◌, map, IfOk, option_map};
-ghost use Rattle.vale_fields.specs.Fields.{word_at};
+ghost use Rattle.vale_words.specs.Fixed.{word_at};
 ghost use Rattle.vale_fields.specs.Rows.{short_at, long_at, port_at, session_at, entry_by, enter_row, open_answer, open_with, open_row, send_row, grant_row, done_row, gave_reply, sync_row, get_row, fault_by, reset_row, shut_row, finish_row, leave_row, put_answer, put_row, watch_answer, watch_with, watch_row, counts_of, stat_row, row_of, entry_of};
 
-use crate::fields::{half_of, long_of, name_of, short_of, side_of, sides_of, word_at};
+use crate::fields::{half_of, long_of, name_of, short_of};
 use crate::lists::{dests_of, frames_of, items_of, numbers_of};
 use nm_types::{Chain, Counts, LeaseId, Name, NoMemory, OpenFault, PortId, SessionId, SyncFault};
 use std::alloc::Global;
 use vale_entry::{Ask, Entry, Reply};
+use vale_words::{side_of, sides_of, word_at};
 
 fn short_at(words: &[&[u8]], i: usize) -> u32
     ensures { result ≡ short_at i (map (λ w. w.now) words.now) }
