@@ -1,5 +1,5 @@
 //! Single fields.
-ghost use Rattle.std.specs.Prelude.{◌≡◌, ◌<◌, ◌++◌, ◌∷◌, [], min, length, IsTrue, IfOk, OnOk};
+ghost use Rattle.std.specs.Prelude.{◌≡◌, ◌<◌, ◌++◌, ◌∷◌, [], ℕ, List, min, length, IsTrue, IfOk, OnOk};
 ghost use Rattle.vale_fields.specs.Fields.{long_of, short_of, half_of, hex_value, bytes_of, is_marked, frame_of, front_by, back_by, mark_in, dest_of, item_of, name_of};
 
 use nm_types::{Batch, Frame, Name, NoMemory, PortId};
@@ -109,29 +109,50 @@ pub fn cut_at(mark: u8, word: &[u8]) -> (&[u8], &[u8])
     }
 }
 
+/// What a list has as its items.
+pub(crate) trait Listed: Sized {
+    // what a text stands for
+    ghost item_of: { List ℕ → Self };
+
+    fn read(alloc: Global, word: &[u8]) -> Result<Self, NoMemory>
+        ensures { IfOk result (λ item. item ≡ item_of word.now) };
+}
+
+impl Listed for u32 {
+    ghost item_of = { short_of };
+
+    fn read(_: Global, word: &[u8]) -> Result<Self, NoMemory> {
+        Ok(short_of(word))
+    }
+}
+
 /// A destination: its port, a star, and how many frames.
-#[tactic(auto, unfolding(crate::specs::Fields::dest_of))]
-pub(crate) fn dest_of(word: &[u8]) -> Dest
-    ensures { result ≡ dest_of word.now }
-{
-    let (to, count) = cut_at(b'*', word);
-    Dest {
-        to: PortId(short_of(to)),
-        count: short_of(count),
+impl Listed for Dest {
+    ghost item_of = { dest_of };
+
+    #[tactic(auto, unfolding(crate::specs::Fields::dest_of))]
+    fn read(_: Global, word: &[u8]) -> Result<Self, NoMemory> {
+        let (to, count) = cut_at(b'*', word);
+        Ok(Dest {
+            to: PortId(short_of(to)),
+            count: short_of(count),
+        })
     }
 }
 
 /// A frame that a pipe took: its buffer, a colon, and its digits.
-#[tactic(auto, unfolding(crate::specs::Fields::item_of))]
-pub(crate) fn item_of(alloc: Global, word: &[u8]) -> Result<Item, NoMemory>
-    ensures { IfOk result (λ item. item ≡ item_of word.now) }
-{
-    let (index, digits) = cut_at(b':', word);
-    let bytes = bytes_of(alloc, digits)?;
-    Ok(Item {
-        index: short_of(index),
-        bytes: Frame::new(alloc, &bytes, false)?,
-    })
+impl Listed for Item {
+    ghost item_of = { item_of };
+
+    #[tactic(auto, unfolding(crate::specs::Fields::item_of))]
+    fn read(alloc: Global, word: &[u8]) -> Result<Self, NoMemory> {
+        let (index, digits) = cut_at(b':', word);
+        let bytes = bytes_of(alloc, digits)?;
+        Ok(Item {
+            index: short_of(index),
+            bytes: Frame::new(alloc, &bytes, false)?,
+        })
+    }
 }
 
 /// The name of a port, a pipe end or a monitor, or none if the word is none.

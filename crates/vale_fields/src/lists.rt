@@ -1,10 +1,9 @@
 //! The lists of a line.
 ghost use Rattle.std.specs.Prelude.{◌≡◌, map, IfOk};
 ghost use Rattle.std.specs.List.{slice_split};
-ghost use Rattle.vale_fields.specs.Fields.{short_of, dest_of, item_of, frame_of};
 ghost use Rattle.vale_fields.specs.Lists.{is_comma, is_blank, words_of, parts_of, numbers_of, dests_of, items_of, frames_of};
 
-use crate::fields::{dest_of, item_of, push_frame, short_of};
+use crate::fields::{Listed, push_frame};
 use nm_types::{Batch, NoMemory};
 use std::alloc::{AllocError, Global};
 use vale_entry::{Dests, Items, Numbers};
@@ -45,40 +44,35 @@ fn parts_of(alloc: Global, word: &[u8]) -> Result<Vec<&[u8]>, AllocError>
     split_commas(alloc, word)
 }
 
+/// The items of a list, each read.
 #[tactic(auto, using(crate::proofs::Parts::parts))]
-pub(crate) fn numbers_of(alloc: Global, word: &[u8]) -> Result<Numbers, NoMemory>
-    ensures { IfOk result (λ numbers. numbers ≡ numbers_of word.now) }
-{
-    let parts = parts_of(alloc, word)?;
-    let mut numbers = Vec::with_capacity(alloc, parts.len())?;
-    for part in &parts {
-        numbers.push(short_of(part))?;
-    }
-    Ok(Numbers::from(numbers))
-}
-
-#[tactic(auto, using(crate::proofs::Parts::parts))]
-pub(crate) fn dests_of(alloc: Global, word: &[u8]) -> Result<Dests, NoMemory>
-    ensures { IfOk result (λ dests. dests ≡ dests_of word.now) }
-{
-    let parts = parts_of(alloc, word)?;
-    let mut dests = Vec::with_capacity(alloc, parts.len())?;
-    for part in &parts {
-        dests.push(dest_of(part))?;
-    }
-    Ok(Dests::from(dests))
-}
-
-#[tactic(auto, using(crate::proofs::Parts::parts))]
-pub(crate) fn items_of(alloc: Global, word: &[u8]) -> Result<Items, NoMemory>
-    ensures { IfOk result (λ items. items ≡ items_of word.now) }
+fn items_read<T: Listed + Drop>(alloc: Global, word: &[u8]) -> Result<Vec<T>, NoMemory>
+    ensures { IfOk result (λ items. items.items ≡ map T.item_of (parts_of word.now)) }
 {
     let parts = parts_of(alloc, word)?;
     let mut items = Vec::with_capacity(alloc, parts.len())?;
     for part in &parts {
-        items.push(item_of(alloc, part)?)?;
+        items.push(T::read(alloc, part)?)?;
     }
-    Ok(Items::from(items))
+    Ok(items)
+}
+
+pub(crate) fn numbers_of(alloc: Global, word: &[u8]) -> Result<Numbers, NoMemory>
+    ensures { IfOk result (λ numbers. numbers ≡ numbers_of word.now) }
+{
+    Ok(Numbers::from(items_read(alloc, word)?))
+}
+
+pub(crate) fn dests_of(alloc: Global, word: &[u8]) -> Result<Dests, NoMemory>
+    ensures { IfOk result (λ dests. dests ≡ dests_of word.now) }
+{
+    Ok(Dests::from(items_read(alloc, word)?))
+}
+
+pub(crate) fn items_of(alloc: Global, word: &[u8]) -> Result<Items, NoMemory>
+    ensures { IfOk result (λ items. items ≡ items_of word.now) }
+{
+    Ok(Items::from(items_read(alloc, word)?))
 }
 
 #[tactic(auto, using(crate::proofs::Parts::parts))]

@@ -1,6 +1,0 @@
-use Rattle.std.proofs.Common.{◌≡◌, map, take}
-use Rattle.vale_fields.specs.Fields.{short_of}
-use Rattle.vale_fields.proofs.lists.numbers_of.Given as goal
-
-abbrev pub invariant-loop-part : goal.invariant-loop-part
-invariant-loop-part l = l.numbers.items ≡ map short_of (take l.part-index (map (λ w. w.now) l.part-items))
