@@ -69,6 +69,10 @@ sync_row words = entry_by words (asks.Sync (port_at 3 words) (numbers_of (word_a
 abbrev pub get_row : List (List ℕ) → Entry
 get_row words = entry_by words (asks.Get (port_at 3 words) (numbers_of (word_at 4 words))) (gave_reply words)
 
+-- the row of a sync or of a get
+abbrev pub back_row : List ℕ → List (List ℕ) → Entry
+back_row verb words = if bytes_eq verb (codes "sync") then sync_row words else get_row words
+
 abbrev pub fault_by : List ℕ → List (List ℕ) → SyncFault
 fault_by word words =
     if bytes_eq word (codes "headout") then HeadOut (short_at 6 words) (short_at 7 words) (short_at 8 words)

@@ -1,7 +1,7 @@
 //! The rows: what the words of each kind of line stand for.
 ghost use Rattle.std.specs.Prelude.{◌≡◌, map, IfOk, option_map};
 ghost use Rattle.vale_words.specs.Fixed.{word_at};
-ghost use Rattle.vale_fields.specs.Rows.{short_at, long_at, port_at, session_at, entry_by, enter_row, open_answer, open_with, open_row, send_row, grant_row, done_row, gave_reply, sync_row, get_row, fault_by, reset_row, shut_row, finish_row, leave_row, put_answer, put_row, watch_answer, watch_with, watch_row, counts_of, stat_row, row_of, entry_of};
+ghost use Rattle.vale_fields.specs.Rows.{short_at, long_at, port_at, session_at, entry_by, enter_row, open_answer, open_with, open_row, send_row, grant_row, done_row, gave_reply, back_row, fault_by, reset_row, shut_row, finish_row, leave_row, put_answer, put_row, watch_answer, watch_with, watch_row, counts_of, stat_row, row_of, entry_of};
 
 use crate::fields::{half_of, long_of, name_of, short_of};
 use crate::lists::{dests_of, frames_of, items_of, numbers_of};
@@ -137,25 +137,18 @@ fn gave_reply(alloc: Global, words: &[&[u8]]) -> Result<Reply, NoMemory>
     })
 }
 
-fn sync_row(alloc: Global, words: &[&[u8]]) -> Result<Entry, NoMemory>
-    ensures { IfOk result (λ entry. entry ≡ sync_row (map (λ w. w.now) words.now)) }
+/// The row of a sync or of a get.
+fn back_row(alloc: Global, verb: &[u8], words: &[&[u8]]) -> Result<Entry, NoMemory>
+    ensures { IfOk result (λ entry. entry ≡ back_row verb.now (map (λ w. w.now) words.now)) }
 {
-    let ask = Ask::Sync {
-        port: port_at(words, 3),
-        back: numbers_of(alloc, word_at(words, 4))?,
-    };
+    let port = port_at(words, 3);
+    let back = numbers_of(alloc, word_at(words, 4))?;
     let reply = gave_reply(alloc, words)?;
-    Ok(entry_by(words, ask, reply))
-}
-
-fn get_row(alloc: Global, words: &[&[u8]]) -> Result<Entry, NoMemory>
-    ensures { IfOk result (λ entry. entry ≡ get_row (map (λ w. w.now) words.now)) }
-{
-    let ask = Ask::Get {
-        port: port_at(words, 3),
-        back: numbers_of(alloc, word_at(words, 4))?,
+    let ask = if verb == b"sync".as_slice() {
+        Ask::Sync { port, back }
+    } else {
+        Ask::Get { port, back }
     };
-    let reply = gave_reply(alloc, words)?;
     Ok(entry_by(words, ask, reply))
 }
 
@@ -327,10 +320,8 @@ fn row_of(
         grant_row(words)
     } else if verb == b"done".as_slice() {
         done_row(words)
-    } else if verb == b"sync".as_slice() {
-        sync_row(alloc, words)?
-    } else if verb == b"get".as_slice() {
-        get_row(alloc, words)?
+    } else if verb == b"sync".as_slice() || verb == b"get".as_slice() {
+        back_row(alloc, verb, words)?
     } else if verb == b"reset".as_slice() {
         reset_row(words)
     } else if verb == b"shut".as_slice() {
