@@ -1,6 +1,6 @@
 ghost use Rattle.std.specs.Prelude.{◌≡◌};
 ghost use Rattle.vale_fabric.specs.Fabrics.{IsPassIn, knowing};
-ghost use Rattle.bench.specs.Comers.{HaveLeft, IsWorth};
+ghost use Rattle.bench.specs.Comers.{HaveLeft, IsIdle, IsWorth};
 
 use nm_types::Limits;
 use std::alloc::Global;
@@ -26,10 +26,8 @@ fn come_and_leave<R: Wait>(rt: &R, fabric: &Fabric, pass: &mut Pass, user: u32)
 
 /// So many users come and leave, one after another, as far as there is room and memory.
 fn come<R: Wait>(rt: &R, fabric: &Fabric, mut pass: Pass, count: u32) -> Pass
-    requires pass { IsPassIn fabric.now pass }
-    requires left { HaveLeft (knowing pass).mine }
-    ensures pass { IsPassIn fabric.now result }
-    ensures left { HaveLeft (knowing result).mine }
+    requires { IsIdle fabric.now pass }
+    ensures idle { IsIdle fabric.now result }
     ensures part { IsWorth (knowing pass).part (knowing result).part }
 {
     for user in 0..count {
@@ -47,10 +45,8 @@ fn come_by<R: Threads + Wait + Sync>(
     threads: u32,
     count: u32,
 ) -> Pass
-    requires pass { IsPassIn fabric.now pass }
-    requires left { HaveLeft (knowing pass).mine }
-    ensures pass { IsPassIn fabric.now result }
-    ensures left { HaveLeft (knowing result).mine }
+    requires { IsIdle fabric.now pass }
+    ensures idle { IsIdle fabric.now result }
     ensures part { IsWorth (knowing pass).part (knowing result).part }
 {
     if threads < 2 {
@@ -60,17 +56,13 @@ fn come_by<R: Threads + Wait + Sync>(
     let (mut pass, other) = join(
         rt,
         || -> Pass
-            requires pass { IsPassIn fabric.now pass }
-            requires left { HaveLeft (knowing pass).mine }
-            ensures pass { IsPassIn fabric.entry.now result }
-            ensures left { HaveLeft (knowing result).mine }
+            requires { IsIdle fabric.now pass }
+            ensures idle { IsIdle fabric.entry.now result }
             ensures part { IsWorth (knowing pass).part (knowing result).part }
         { come_by(rt, fabric, pass, threads / 2, count / 2) },
         || -> Pass
-            requires pass { IsPassIn fabric.now other }
-            requires left { HaveLeft (knowing other).mine }
-            ensures pass { IsPassIn fabric.entry.now result }
-            ensures left { HaveLeft (knowing result).mine }
+            requires { IsIdle fabric.now other }
+            ensures idle { IsIdle fabric.entry.now result }
             ensures part { IsWorth (knowing other).part (knowing result).part }
         { come_by(rt, fabric, other, threads / 2, count / 2) },
     );

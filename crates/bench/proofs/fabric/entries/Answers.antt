@@ -12,4 +12,4 @@ close-requires-2 g c =
     let first = ap (λ (v : Knowing). v.part) c.in-Ok.ensures.first in
     let whole : IsWhole last.part = whole-worth last.part (subst (λ (p : Share). IsWorth p last.part) first c.come_by-pass.ensures.part) in
     let all = (c.close.ensures.whole whole).all_mine in
-    all-free c.close.result c.close.ensures.legal (subst HaveLeft all c.come_by-pass.ensures.left)
+    all-free c.close.result c.close.ensures.legal (subst HaveLeft all c.come_by-pass.ensures.idle.left)
