@@ -1,6 +1,7 @@
 -- The words `load N`, and what a run of them promises: the load of N was played as a script is, and one line
 -- says what was sent.
-use Rattle.std.specs.Prelude.{ℕ, ◌≡◌, if◌then◌else◌, List, [], ◌∷◌, ◌++◌, length, sum_by, codes, decimal, bytes_eq, Option, None}
+use Rattle.std.specs.Prelude.{ℕ, ◌≡◌, List, [], ◌++◌, length, sum_by, codes, decimal, Option}
+use Rattle.std.specs.Option.{option_and_then}
 use Rattle.nm_types.specs.Frames.{Frame, bytes_of_frames}
 use Rattle.nm_types.specs.declared.limits.Limits.{Limits}
 use Rattle.vale_entry.specs.declared.entry.Ask.{Ask}
@@ -14,7 +15,7 @@ use Rattle.vale_replay.specs.Machine.{Machine}
 use Rattle.vale_run.specs.declared.status.Status.{Status}
 use Rattle.vale_run.specs.declared.status.Status.TheVariants.{NoMemory}
 use Rattle.vale_run.specs.Status.{WritesAnswer}
-use Rattle.vale_run.specs.Run.{IsHistoryOf}
+use Rattle.vale_run.specs.Run.{IsHistoryOf, word_behind}
 
 -- the greatest number of 64 bits
 abbrev pub most_load : ℕ
@@ -22,8 +23,7 @@ most_load = 18446744073709551615
 
 -- the words `load N`, of which this gives the number: 1 to 20 decimal digits, as in a script
 abbrev pub load_number : List (List ℕ) → Option ℕ
-load_number (verb ∷ word ∷ []) = if bytes_eq verb (codes "load") then number_in 0 most_load word else None
-load_number _ = None
+load_number words = option_and_then (number_in 0 most_load) (word_behind (codes "load") words)
 
 -- the frames that are sent
 abbrev pub frames_of_ask : Ask → List Frame

@@ -35,10 +35,14 @@ use Rattle.vale_run.specs.declared.status.Status.{Status}
 use Rattle.vale_run.specs.declared.status.Status.TheVariants.{Done, Usage, BadScript, ReadFault, WriteFault, BadPcap, Over, NoMemory}
 use Rattle.vale_run.specs.Status.{offset_of}
 
+-- of a verb and one word more, where the verb is this one: that word
+abbrev pub word_behind : List ℕ → List (List ℕ) → Option (List ℕ)
+word_behind verb (first ∷ word ∷ []) = if bytes_eq first verb then Some word else None
+word_behind verb _ = None
+
 -- the words `run SCRIPT`, of which this gives the script's name
 abbrev pub script_name : List (List ℕ) → Option (List ℕ)
-script_name (verb ∷ name ∷ []) = if bytes_eq verb (codes "run") then Some name else None
-script_name _ = None
+script_name words = word_behind (codes "run") words
 
 -- how many bytes and lines a script may have, how many frames its lines may put and forward, how many
 -- bytes all captures may have that it plays, and how many of their frames it may play

@@ -8,7 +8,7 @@ ghost use Rattle.vale_captures.specs.Outputs.{IsWritable};
 ghost use Rattle.vale_entry.specs.Transcript.{transcript_text};
 ghost use Rattle.vale_entry.specs.World.{free_count};
 ghost use Rattle.vale_script.specs.Sound.{IsSound};
-ghost use Rattle.vale_run.specs.Run.{io_of, CountsRise, script_name, Ends, IsScript, IsAccepted, IsCounted, HasInputs, IsReady};
+ghost use Rattle.vale_run.specs.Run.{io_of, CountsRise, script_name, word_behind, Ends, IsScript, IsAccepted, IsCounted, HasInputs, IsReady};
 ghost use Rattle.vale_run.specs.Load.{load_number};
 ghost use Rattle.vale_run.specs.Commands.{Runs};
 ghost use Rattle.vale_run.specs.Complete.{Completes};
@@ -46,17 +46,26 @@ pub const MAX_INPUTS: u64 = 67_108_864;
 /// The most frames of captures that its lines play.
 pub const MAX_FRAMES: u64 = 1_000_000;
 
-fn script_name(words: &[String]) -> Option<&str>
-    ensures { option_map (λ name. name.now) result ≡ script_name (map string_bytes words.now) }
+/// Of a verb and one word more, where the verb is this one: that word.
+pub(crate) fn word_behind<'w>(words: &'w [String], verb: &str) -> Option<&'w str>
+    ensures { option_map (λ word. word.now) result
+        ≡ word_behind verb.now (map string_bytes words.now) }
 {
-    let [verb, name] = words else {
+    let [first, word] = words else {
         return None;
     };
-    if verb.as_str() == "run" {
-        Some(name.as_str())
+    if first.as_str() == verb {
+        Some(word.as_str())
     } else {
         None
     }
+}
+
+/// The name of the words `run SCRIPT`.
+fn script_name(words: &[String]) -> Option<&str>
+    ensures { option_map (λ name. name.now) result ≡ script_name (map string_bytes words.now) }
+{
+    word_behind(words, "run")
 }
 
 /// A file was not read.

@@ -8,7 +8,7 @@ ghost use Rattle.vale_words.specs.Words.{are_digits, number_in};
 ghost use Rattle.vale_run.specs.Load.{most_load, load_number, count_sent, bytes_sent, load_line, load_text, LoadEnds};
 ghost use Rattle.vale_run.specs.Status.{WritesAnswer};
 
-use crate::command::stopped;
+use crate::command::{stopped, word_behind};
 use crate::playing::play_recorded;
 use crate::remains::Remains;
 use crate::status::Status;
@@ -46,14 +46,7 @@ fn number_of(word: &str) -> Option<u64>
 pub(crate) fn load_number(words: &[String]) -> Option<u64>
     ensures { result ≡ load_number (map string_bytes words.now) }
 {
-    let [verb, word] = words else {
-        return None;
-    };
-    if verb.as_str() == "load" {
-        number_of(word.as_str())
-    } else {
-        None
-    }
+    number_of(word_behind(words, "load")?)
 }
 
 /// How many frames an entry sends.
