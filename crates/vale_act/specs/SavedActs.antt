@@ -1,13 +1,16 @@
 -- The files that a script's acts save, by the notes of its users' ports.
-use Rattle.std.specs.Prelude.{Some, None, flat_map, ℕ, ◌≡◌, ◌++◌, List, bytes_eq, find, filter_map, map, option_map, Option}
+use Rattle.std.specs.Prelude.{Some, None, flat_map, ℕ, ◌≡◌, ◌++◌, List, bytes_eq, find, filter_map, map, option_map, Option, Result, OnOk}
+use Rattle.std.specs.List.{AllByRecursion}
+use Rattle.nm_types.specs.declared.fault.NoMemory.{NoMemory}
 use Rattle.vale_entry.specs.declared.entry.Entry.{Entry}
 use Rattle.vale_script.specs.declared.script.Act.{Act}
 use Rattle.vale_script.specs.declared.script.Act.TheVariants as acts
 use Rattle.vale_script.specs.Script.{Program}
-use Rattle.vale_captures.specs.Outputs.{OutputFile}
+use Rattle.vale_captures.specs.Outputs.{OutputFile, IsWritable}
 use Rattle.vale_replay.specs.Machine.{Save}
 use Rattle.vale_replay.specs.Saved.{saved_file, file_of_save, acts_of_unit}
 use Rattle.vale_player.specs.Kept.{KeptFrames, AreWhole}
+use Rattle.vale_act.specs.declared.outputs.Notes.{Notes}
 use Rattle.vale_act.specs.Outputs.{output_of}
 
 -- the first note of a file
@@ -22,6 +25,12 @@ outputs_of_acts pool history saves acts =
 abbrev pub OutputsAre : List Save → List KeptFrames → List Act → List OutputFile → List OutputFile → Type 0
 OutputsAre saves kept acts before after =
     (pool : ℕ) (history : List Entry) → AreWhole pool history kept → after ≡ before ++ outputs_of_acts pool history saves acts
+
+-- the files that these acts save were put behind others, unless memory was wanting: by these notes, and by
+-- what was kept of the ports
+pub record Adds (notes : Notes) (acts : List Act) (old new : List OutputFile) (done : Result (Unit {0}) NoMemory) : Type 0 where
+  pub made : OnOk done (OutputsAre notes.saves.now notes.kept.now acts old new)
+  pub writable : AllByRecursion IsWritable old → OnOk done (AllByRecursion IsWritable new)
 
 -- the names of the ports whose frames a script saves
 abbrev pub name_of_save : Act → Option (List ℕ)

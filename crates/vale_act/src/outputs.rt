@@ -5,7 +5,7 @@ ghost use Rattle.std.specs.Option.{option_copied};
 ghost use Rattle.vale_act.specs.Words.{AreWhole, Entry, IsShortRecord, IsWritable, KeptFrames};
 ghost use Rattle.vale_act.specs.Words.{Machine, act_of, acts_of_unit, saved_file, saves_of};
 ghost use Rattle.vale_act.specs.Outputs.{output_of, outputs_of};
-ghost use Rattle.vale_act.specs.SavedActs.{note_of, OutputsAre, name_of_save, names_of_acts, names_saved};
+ghost use Rattle.vale_act.specs.SavedActs.{note_of, Adds, name_of_save, names_of_acts, names_saved};
 
 use nm_types::{Name, NoMemory, PortId};
 use pcap_io::Record;
@@ -85,93 +85,70 @@ fn output_of(alloc: Global, save: &SaveFile, kept: &[KeptPort]) -> Result<Saved,
     }
 }
 
-/// Puts the file that a line saves behind others, if its port was open.
-fn add_act(
+/// What the files of a script are made of, once all its users have left.
+#[derive(Drop)]
+struct Notes<'k> {
     alloc: Global,
-    act: &Act,
-    saves: &[SaveFile],
-    kept: &[KeptPort],
-    outputs: &mut Vec<Saved>,
-) -> Result<(), NoMemory>
-    ensures made { OnOk result (OutputsAre saves.now kept.now (act.now ∷ []) outputs.old.items
-        outputs.new.items) }
-    ensures writable { AllByRecursion IsWritable outputs.old.items
-        → OnOk result (AllByRecursion IsWritable outputs.new.items) }
-{
-    let Act::Save { name: _, file } = act else {
-        return Ok(());
-    };
-    let Some(save) = save_of(saves, file) else {
-        return Ok(());
-    };
-    outputs.push(output_of(alloc, save, kept)?)?;
-    Ok(())
+    /// The notes of its users, in the order of their numbers.
+    saves: &'k [SaveFile],
+    /// What was kept of their ports.
+    kept: &'k [KeptPort],
 }
 
-/// Puts the files that these lines save behind others.
-fn add_lines(
-    alloc: Global,
-    lines: &[Line],
-    saves: &[SaveFile],
-    kept: &[KeptPort],
-    outputs: &mut Vec<Saved>,
-) -> Result<(), NoMemory>
-    ensures made { OnOk result (OutputsAre saves.now kept.now (map act_of lines.now)
-        outputs.old.items outputs.new.items) }
-    ensures writable { AllByRecursion IsWritable outputs.old.items
-        → OnOk result (AllByRecursion IsWritable outputs.new.items) }
-{
-    for line in lines {
-        add_act(alloc, &line.act, saves, kept, outputs)?;
+impl<'k> Notes<'k> {
+    /// Puts the file that a line saves behind others, if its port was open.
+    fn add_act(&self, act: &Act, outputs: &mut Vec<Saved>) -> Result<(), NoMemory>
+        ensures { Adds self.now (act.now ∷ []) outputs.old.items outputs.new.items result }
+    {
+        let Act::Save { name: _, file } = act else {
+            return Ok(());
+        };
+        let Some(save) = save_of(self.saves, file) else {
+            return Ok(());
+        };
+        outputs.push(output_of(self.alloc, save, self.kept)?)?;
+        Ok(())
     }
-    Ok(())
-}
 
-/// Puts the files that a unit's lines save behind others.
-fn add_unit(
-    alloc: Global,
-    unit: &Unit,
-    saves: &[SaveFile],
-    kept: &[KeptPort],
-    outputs: &mut Vec<Saved>,
-) -> Result<(), NoMemory>
-    ensures made { OnOk result (OutputsAre saves.now kept.now (acts_of_unit unit.now)
-        outputs.old.items outputs.new.items) }
-    ensures writable { AllByRecursion IsWritable outputs.old.items
-        → OnOk result (AllByRecursion IsWritable outputs.new.items) }
-{
-    match unit {
-        Unit::Single { line } => add_act(alloc, &line.act, saves, kept, outputs),
-        Unit::Block { lines } => add_lines(alloc, lines.as_slice(), saves, kept, outputs),
+    /// Puts the files that these lines save behind others.
+    fn add_lines(&self, lines: &[Line], outputs: &mut Vec<Saved>) -> Result<(), NoMemory>
+        ensures { Adds self.now (map act_of lines.now) outputs.old.items outputs.new.items result }
+    {
+        for line in lines {
+            self.add_act(&line.act, outputs)?;
+        }
+        Ok(())
     }
-}
 
-/// Puts the files that these units save behind others.
-fn add_units(
-    alloc: Global,
-    units: &[Unit],
-    saves: &[SaveFile],
-    kept: &[KeptPort],
-    outputs: &mut Vec<Saved>,
-) -> Result<(), NoMemory>
-    ensures made { OnOk result (OutputsAre saves.now kept.now (flat_map acts_of_unit units.now)
-        outputs.old.items outputs.new.items) }
-    ensures writable { AllByRecursion IsWritable outputs.old.items
-        → OnOk result (AllByRecursion IsWritable outputs.new.items) }
-{
-    for unit in units {
-        add_unit(alloc, unit, saves, kept, outputs)?;
+    /// Puts the files that a unit's lines save behind others.
+    fn add_unit(&self, unit: &Unit, outputs: &mut Vec<Saved>) -> Result<(), NoMemory>
+        ensures { Adds self.now (acts_of_unit unit.now) outputs.old.items outputs.new.items result }
+    {
+        match unit {
+            Unit::Single { line } => self.add_act(&line.act, outputs),
+            Unit::Block { lines } => self.add_lines(lines.as_slice(), outputs),
+        }
     }
-    Ok(())
+
+    /// Puts the files that these units save behind others.
+    fn add_units(&self, units: &[Unit], outputs: &mut Vec<Saved>) -> Result<(), NoMemory>
+        ensures { Adds self.now (flat_map acts_of_unit units.now) outputs.old.items
+            outputs.new.items result }
+    {
+        for unit in units {
+            self.add_unit(unit, outputs)?;
+        }
+        Ok(())
+    }
 }
 
 /// The files that a script saves, in the order of its `save` lines. `saves` are the notes of its
 /// users, in the order of their numbers, and `kept` is what was kept of their ports.
-pub fn outputs(
+pub fn outputs<'k>(
     alloc: Global,
     script: &Script,
-    saves: &[SaveFile],
-    kept: &[KeptPort],
+    saves: &'k [SaveFile],
+    kept: &'k [KeptPort],
 ) -> Result<Outputs, NoMemory>
     ensures made { IfOk result (λ made. (history : List Entry) (users : List Machine)
         → saves_of users ≡ saves.now → AreWhole script.now.pool history kept.now
@@ -179,7 +156,8 @@ pub fn outputs(
     ensures writable { IfOk result (λ made. AllByRecursion IsWritable made) }
 {
     let mut files = Vec::new(alloc);
-    add_units(alloc, script.units(), saves, kept, &mut files)?;
+    let notes = Notes { alloc, saves, kept };
+    notes.add_units(script.units(), &mut files)?;
     Ok(files.into())
 }
 

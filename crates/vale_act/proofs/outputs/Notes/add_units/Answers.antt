@@ -4,7 +4,7 @@ use Rattle.std.proofs.lemmas.Grind.{flat_map-append}
 use Rattle.vale_script.specs.declared.script.Act.{Act}
 use Rattle.vale_replay.specs.Saved.{acts_of_unit}
 use Rattle.vale_act.proofs.ActOutputs.{acts-then, one-more-of}
-use Rattle.vale_act.proofs.outputs.add_units.Goals as goal
+use Rattle.vale_act.proofs.outputs.Notes.add_units.Goals as goal
 
 pub loop-unit-preserved : goal.loop-unit-preserved
 loop-unit-preserved c =
@@ -12,7 +12,7 @@ loop-unit-preserved c =
     let i = c.loop-unit.unit-index in
     let unit = c.unit-item.result in
     record {
-      made = acts-then c.args.saves.now c.args.kept.now (flat_map acts_of_unit (take i units)) (acts_of_unit unit) (flat_map acts_of_unit (take (i + 1) units)) c.args.outputs.now.items c.loop-unit.outputs.items c.add_unit.new.outputs.items
+      made = acts-then c.args.self.now.saves.now c.args.self.now.kept.now (flat_map acts_of_unit (take i units)) (acts_of_unit unit) (flat_map acts_of_unit (take (i + 1) units)) c.args.outputs.now.items c.loop-unit.outputs.items c.add_unit.new.outputs.items
           (ap (flat_map acts_of_unit) (one-more-of units i unit c.loop-unit-test.true c.unit-item.is)
           ∙ (flat_map-append acts_of_unit (take i units) (unit ∷ []) ∙ ap (λ (acts : List Act). flat_map acts_of_unit (take i units) ++ acts) (append-nil (acts_of_unit unit))))
           c.loop-unit.invariant.made c.in_ok-add_unit.ensures.made;
