@@ -17,7 +17,9 @@ use Rattle.vale_script.specs.declared.script.Line.{Line}
 use Rattle.vale_script.specs.declared.script.Unit.{Unit as ReadUnit}
 use Rattle.vale_script.specs.declared.script.Unit.TheVariants as parts
 use Rattle.vale_script.specs.Script.{Program}
+use Rattle.vale_captures.specs.Inputs.{InputFile}
 use Rattle.vale_player.specs.Deeds.{AreDoable, IsDoable}
+use Rattle.vale_player.specs.Inputs.{captures_of, names_of}
 use Rattle.vale_entry.specs.declared.entry.Ask.{Ask}
 use Rattle.vale_entry.specs.declared.entry.Entry.{Entry}
 use Rattle.vale_entry.specs.declared.entry.Ask.TheVariants.{Enter}
@@ -278,6 +280,13 @@ pub record AreBetween (program : Program) (captures : Captures) (done : ℕ) (ma
   pub count : length seats ≡ user_count program
   pub held : IsHeld main (flat_map knows_at seats)
   pub played : HavePlayed program captures done main seats
+
+-- nothing was played yet of a script that can be played with these captures, from a pool of its size
+pub record IsAtStart (fixed : Fixed) (program : Program) (inputs : List InputFile) (main : Knowing) (seats : List Seat) : Type 0 where
+  pub between : AreBetween program (captures_of inputs) 0 main seats
+  pub runnable : AllByRecursion (IsRunnable (user_count program)) program.units
+  pub files : names_of inputs ≡ program.files
+  pub pool : program.pool ≡ fixed.pool
 
 -- a full record stops one of them in the next unit
 pub record ScriptStop (fixed : Fixed) (program : Program) (captures : Captures) (fault : StepFault) (w : Knowing) (afters : List Seat) : Type 0 where

@@ -6,6 +6,7 @@ ghost use Rattle.vale_act.specs.Words.{AreDoable, fixed_in, knowing, records_in,
 ghost use Rattle.vale_act.specs.Leaving.{CanStillLeave};
 ghost use Rattle.vale_act.specs.Seats.{AreOnFabric, MeetAll, TellAll, HasRun, AreEach, AllAre, AreSeated, IsDeedLine, UnitAt, fault_at, HasNoFault, IsFirstFault};
 
+use crate::scene::{Ended, Scene};
 use crate::seat::Seat;
 use nm_io::Gate;
 use nm_types::StepFault;
@@ -64,7 +65,7 @@ fn tell_all(fabric: &Fabric, main: &mut Pass, seats: &mut [Seat])
 }
 
 /// The fault of the first user that one has stopped.
-fn first_fault(seats: &[Seat]) -> Result<(), StepFault>
+fn first_fault(seats: &[Seat]) -> Ended
     ensures none { OnOk result (AllAre (λ place. HasNoFault) seats.now) }
     ensures first { IfErr result (IsFirstFault seats.now) }
 {
@@ -106,29 +107,23 @@ fn run_all<R: Threads + Wait + Sync, G: Gate>(
     );
 }
 
-/// The users do the lines of a block. Of those that a fault stops, the one of the smallest number
-/// counts.
-pub(crate) fn run_block<'f, R: Threads + Wait + Sync, G: Gate>(
-    rt: &R,
-    fabric: &'f Fabric,
-    main: &mut Pass,
-    seats: &mut [Seat<'f>],
-    lines: &[Line],
-    inputs: &Inputs,
-    gate: &G,
-) -> Result<(), StepFault>
-    requires on { AreOnFabric fabric.now main.old seats.old }
-    requires seated { AreSeated seats.old }
-    requires doable { AreDoable lines.now }
-    requires deeds { AllByRecursion IsDeedLine lines.now }
-    ensures on { AreOnFabric fabric.now main.new seats.new }
-    ensures runs { UnitAt (fixed_in fabric.now)
-        (shares_of (records_in inputs.now) (length seats.old) (parts.Block lines.now))
-        (knowing main.old) (knowing main.new) seats.old seats.new result }
-    ensures leaves { CanStillLeave (knowing main.old) (knowing main.new) seats.old seats.new }
-{
-    meet_all(fabric, main, seats);
-    run_all(rt, fabric, seats, lines, inputs, gate);
-    tell_all(fabric, main, seats);
-    first_fault(seats)
+impl<'f, R: Threads + Wait + Sync, G: Gate> Scene<'f, R, G> {
+    /// The users do the lines of a block. Of those that a fault stops, the one of the smallest number
+    /// counts.
+    pub(crate) fn run_block(&self, main: &mut Pass, seats: &mut [Seat<'f>], lines: &[Line]) -> Ended
+        requires on { AreOnFabric self.now.fabric.now main.old seats.old }
+        requires seated { AreSeated seats.old }
+        requires doable { AreDoable lines.now }
+        requires deeds { AllByRecursion IsDeedLine lines.now }
+        ensures on { AreOnFabric self.now.fabric.now main.new seats.new }
+        ensures runs { UnitAt (fixed_in self.now.fabric.now)
+            (shares_of (records_in self.now.inputs.now) (length seats.old) (parts.Block lines.now))
+            (knowing main.old) (knowing main.new) seats.old seats.new result }
+        ensures leaves { CanStillLeave (knowing main.old) (knowing main.new) seats.old seats.new }
+    {
+        meet_all(self.fabric, main, seats);
+        run_all(self.rt, self.fabric, seats, lines, self.inputs, self.gate);
+        tell_all(self.fabric, main, seats);
+        first_fault(seats)
+    }
 }

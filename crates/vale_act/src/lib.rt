@@ -9,6 +9,7 @@ pub mod fitting;
 mod line_run;
 pub mod outputs;
 mod passing;
+mod scene;
 mod script_run;
 mod seat;
 #[cfg(test)]

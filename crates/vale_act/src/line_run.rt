@@ -7,37 +7,33 @@ ghost use Rattle.vale_act.specs.Words.{IsDoable, IsPassIn, fixed_in, knowing, re
 ghost use Rattle.vale_act.specs.Leaving.{CanStillLeave, SeatStillLeaves};
 ghost use Rattle.vale_act.specs.Seats.{Comes, ComesNot, HasActed, LineAt, UnitAt, line_tasks, AreOnFabric, AreSeated, IsDeed, IsOnFabric, IsSeated};
 
+use crate::scene::{Ended, Scene};
 use crate::seat::Seat;
 use nm_io::Gate;
-use nm_types::{Name, StepFault};
-use std::alloc::Global;
+use nm_types::StepFault;
 use std::mem;
 use std::sync::Wait;
-use vale_captures::Inputs;
-use vale_fabric::{Fabric, Pass};
+use vale_fabric::Pass;
 use vale_player::Player;
 use vale_script::{Act, Line};
 
-/// A user comes through a pass of its own. If it cannot, the pass goes back to the main one.
-fn come<'f, R: Wait>(
-    alloc: Global,
-    rt: &R,
-    fabric: &'f Fabric,
-    main: &mut Pass,
-    number: u64,
-    names: &'f [Name],
-) -> Result<Player<'f>, StepFault>
-    requires { IsPassIn fabric.now main.old }
-    ensures pass { IsPassIn fabric.now main.new }
-    ensures comes { IfOk result (Comes fabric.now number (knowing main.old) (knowing main.new)) }
-    ensures not { IfErr result (ComesNot (fixed_in fabric.now) number (knowing main.old) (knowing main.new)) }
-{
-    let pass = fabric.fork(main);
-    match Player::enter_keeping(alloc, rt, fabric, pass, number, names) {
-        Ok(player) => Ok(player),
-        Err((fault, pass)) => {
-            fabric.join(main, pass);
-            Err(fault)
+impl<'f, R: Wait, G> Scene<'f, R, G> {
+    /// A user comes through a pass of its own. If it cannot, the pass goes back to the main one.
+    fn come(&self, main: &mut Pass, number: u64) -> Result<Player<'f>, StepFault>
+        requires { IsPassIn self.now.fabric.now main.old }
+        ensures pass { IsPassIn self.now.fabric.now main.new }
+        ensures comes { IfOk result (Comes self.now.fabric.now number (knowing main.old)
+            (knowing main.new)) }
+        ensures not { IfErr result (ComesNot (fixed_in self.now.fabric.now) number
+            (knowing main.old) (knowing main.new)) }
+    {
+        let pass = self.fabric.fork(main);
+        match Player::enter_keeping(self.alloc, self.rt, self.fabric, pass, number, self.names) {
+            Ok(player) => Ok(player),
+            Err((fault, pass)) => {
+                self.fabric.join(main, pass);
+                Err(fault)
+            }
         }
     }
 }
@@ -55,31 +51,23 @@ impl<'f> Seat<'f> {
     }
 
     /// The user of this number comes, and takes its seat.
-    fn enter<R: Wait>(
-        &mut self,
-        alloc: Global,
-        rt: &R,
-        fabric: &'f Fabric,
-        main: &mut Pass,
-        number: u64,
-        names: &'f [Name],
-    ) -> Result<(), StepFault>
-        requires pass { IsPassIn fabric.now main.old }
+    fn enter<R: Wait, G>(&mut self, scene: &Scene<'f, R, G>, main: &mut Pass, number: u64) -> Ended
+        requires pass { IsPassIn scene.now.fabric.now main.old }
         requires away { self.old ≡ Away }
-        ensures on { IsOnFabric fabric.now main.new self.new }
-        ensures line { (records : List ℕ → List (List ℕ)) → LineAt (fixed_in fabric.now) number
-            (line_tasks records acts.Enter) (knowing main.old) (knowing main.new)
+        ensures on { IsOnFabric scene.now.fabric.now main.new self.new }
+        ensures line { (records : List ℕ → List (List ℕ)) → LineAt (fixed_in scene.now.fabric.now)
+            number (line_tasks records acts.Enter) (knowing main.old) (knowing main.new)
             self.old self.new result }
         ensures leaves { SeatStillLeaves (knowing main.old) (knowing main.new) self.old self.new }
     {
-        match come(alloc, rt, fabric, main, number, names) {
+        match scene.come(main, number) {
             Ok(player) => {
                 let seat = Seat::There {
                     player,
                     fault: None,
                 };
                 mem::replace(self, seat).end();
-                self.tell(fabric, main);
+                self.tell(scene.fabric, main);
                 Ok(())
             }
             Err(fault) => Err(fault),
@@ -87,18 +75,13 @@ impl<'f> Seat<'f> {
     }
 
     /// The user does what a line says; it does nothing where it is not there.
-    fn act<R: Wait, G: Gate>(
-        &mut self,
-        rt: &R,
-        line: &Line,
-        inputs: &Inputs,
-        gate: &G,
-    ) -> Result<(), StepFault>
+    fn act<R: Wait, G: Gate>(&mut self, scene: &Scene<'f, R, G>, line: &Line) -> Ended
         requires { IsDoable line.now.act }
-        ensures { HasActed (records_in inputs.now) line.now.act result self.old self.new }
+        ensures { HasActed (records_in scene.now.inputs.now) line.now.act result
+            self.old self.new }
     {
         if let Seat::There { player, fault: _ } = self {
-            return player.act(rt, &line.act, inputs, gate);
+            return player.act(scene.rt, &line.act, scene.inputs, scene.gate);
         }
         Ok(())
     }
@@ -106,57 +89,44 @@ impl<'f> Seat<'f> {
     /// The user does what a line says that stands outside the blocks.
     fn run_line<R: Wait, G: Gate>(
         &mut self,
-        alloc: Global,
-        rt: &R,
-        fabric: &'f Fabric,
+        scene: &Scene<'f, R, G>,
         main: &mut Pass,
-        names: &'f [Name],
         line: &Line,
-        inputs: &Inputs,
-        gate: &G,
-    ) -> Result<(), StepFault>
-        requires on { IsOnFabric fabric.now main.old self.old }
+    ) -> Ended
+        requires on { IsOnFabric scene.now.fabric.now main.old self.old }
         requires seated { IsSeated line.now.user self.old }
         requires doable { IsDoable line.now.act }
-        ensures on { IsOnFabric fabric.now main.new self.new }
-        ensures line { LineAt (fixed_in fabric.now) line.now.user
-            (line_tasks (records_in inputs.now) line.now.act)
+        ensures on { IsOnFabric scene.now.fabric.now main.new self.new }
+        ensures line { LineAt (fixed_in scene.now.fabric.now) line.now.user
+            (line_tasks (records_in scene.now.inputs.now) line.now.act)
             (knowing main.old) (knowing main.new) self.old self.new result }
         ensures leaves { SeatStillLeaves (knowing main.old) (knowing main.new) self.old self.new }
     {
         if self.comes_by(&line.act) {
-            return self.enter(alloc, rt, fabric, main, line.user as u64, names);
+            return self.enter(scene, main, line.user as u64);
         }
-        self.meet(fabric, main);
-        let done = self.act(rt, line, inputs, gate);
-        self.tell(fabric, main);
+        self.meet(scene.fabric, main);
+        let done = self.act(scene, line);
+        self.tell(scene.fabric, main);
         done
     }
 }
 
-/// The user of a line that stands outside the blocks does what it says.
-pub(crate) fn run_single<'f, R: Wait, G: Gate>(
-    alloc: Global,
-    rt: &R,
-    fabric: &'f Fabric,
-    main: &mut Pass,
-    seats: &mut [Seat<'f>],
-    names: &'f [Name],
-    line: &Line,
-    inputs: &Inputs,
-    gate: &G,
-) -> Result<(), StepFault>
-    requires on { AreOnFabric fabric.now main.old seats.old }
-    requires seated { AreSeated seats.old }
-    requires least { 1 ≤ line.now.user }
-    requires most { line.now.user ≤ length seats.old }
-    requires doable { IsDoable line.now.act }
-    ensures on { AreOnFabric fabric.now main.new seats.new }
-    ensures runs { UnitAt (fixed_in fabric.now)
-        (shares_of (records_in inputs.now) (length seats.old) (parts.Single line.now))
-        (knowing main.old) (knowing main.new) seats.old seats.new result }
-    ensures leaves { CanStillLeave (knowing main.old) (knowing main.new) seats.old seats.new }
-{
-    let place = line.user as usize - 1;
-    seats[place].run_line(alloc, rt, fabric, main, names, line, inputs, gate)
+impl<'f, R: Wait, G: Gate> Scene<'f, R, G> {
+    /// The user of a line that stands outside the blocks does what it says.
+    pub(crate) fn run_single(&self, main: &mut Pass, seats: &mut [Seat<'f>], line: &Line) -> Ended
+        requires on { AreOnFabric self.now.fabric.now main.old seats.old }
+        requires seated { AreSeated seats.old }
+        requires least { 1 ≤ line.now.user }
+        requires most { line.now.user ≤ length seats.old }
+        requires doable { IsDoable line.now.act }
+        ensures on { AreOnFabric self.now.fabric.now main.new seats.new }
+        ensures runs { UnitAt (fixed_in self.now.fabric.now)
+            (shares_of (records_in self.now.inputs.now) (length seats.old) (parts.Single line.now))
+            (knowing main.old) (knowing main.new) seats.old seats.new result }
+        ensures leaves { CanStillLeave (knowing main.old) (knowing main.new) seats.old seats.new }
+    {
+        let place = line.user as usize - 1;
+        seats[place].run_line(self, main, line)
+    }
 }

@@ -5,19 +5,18 @@ ghost use Rattle.std.specs.Vec.{vec_capacity};
 ghost use Rattle.vale_act.specs.Leaving.{AllHaveLeft, CanAllLeave, CanStillLeave};
 ghost use Rattle.vale_act.specs.Outputs.{outputs_of};
 ghost use Rattle.vale_act.specs.Plays.{HasWhole, PlaysScript, IsStoppedBy};
-ghost use Rattle.vale_act.specs.Seats.{AreOnFabric, AreSeated, IsRunnable, UnitAt, AllAre, AreSaves, IsEmpty, ScriptDone, files_in, saves_at, AreBetween, AreNew, AreStopped, IsScriptStopped, ScriptPlayed};
+ghost use Rattle.vale_act.specs.Seats.{AreOnFabric, AreSeated, IsAtStart, IsRunnable, UnitAt, AllAre, AreSaves, IsEmpty, ScriptDone, files_in, saves_at, AreBetween, AreNew, AreStopped, IsScriptStopped, ScriptPlayed};
 ghost use Rattle.vale_act.specs.Units.{knows_at};
 ghost use Rattle.vale_act.specs.Words.{AreWhole, Entry, IsPassIn, IsSound, IsWhole, IsWritable, Machine};
 ghost use Rattle.vale_act.specs.Words.{captures_of, fixed_in, frames_of, knowing, name_of, names_of};
-ghost use Rattle.vale_act.specs.Words.{numbered, records_in, saves_of, shares_of, user_count};
+ghost use Rattle.vale_act.specs.Words.{numbered, records_in, saves_of, shares_of};
 
-use crate::block_run::run_block;
 use crate::ending::close_all;
-use crate::line_run::run_single;
 use crate::outputs::{names_saved, outputs};
+use crate::scene::{Ended, Scene};
 use crate::seat::Seat;
 use nm_io::Gate;
-use nm_types::{Name, NoMemory, StepFault};
+use nm_types::{NoMemory, StepFault};
 use std::alloc::Global;
 use std::mem;
 use std::sync::Wait;
@@ -27,109 +26,76 @@ use vale_fabric::{Fabric, Pass};
 use vale_player::{KeptPort, SaveFile};
 use vale_script::{Script, Unit};
 
-/// The users do a line or a block.
-fn run_unit<'f, R: Threads + Wait + Sync, G: Gate>(
-    alloc: Global,
-    rt: &R,
-    fabric: &'f Fabric,
-    main: &mut Pass,
-    seats: &mut [Seat<'f>],
-    names: &'f [Name],
-    unit: &Unit,
-    inputs: &Inputs,
-    gate: &G,
-) -> Result<(), StepFault>
-    requires on { AreOnFabric fabric.now main.old seats.old }
-    requires seated { AreSeated seats.old }
-    requires runnable { IsRunnable (length seats.old) unit.now }
-    ensures on { AreOnFabric fabric.now main.new seats.new }
-    ensures runs { UnitAt (fixed_in fabric.now)
-        (shares_of (records_in inputs.now) (length seats.old) unit.now)
-        (knowing main.old) (knowing main.new) seats.old seats.new result }
-    ensures leaves { CanStillLeave (knowing main.old) (knowing main.new) seats.old seats.new }
-{
-    match unit {
-        Unit::Single { line } => {
-            run_single(alloc, rt, fabric, main, seats, names, line, inputs, gate)
-        }
-        Unit::Block { lines } => {
-            run_block(rt, fabric, main, seats, lines.as_slice(), inputs, gate)
+impl<'f, R: Threads + Wait + Sync, G: Gate> Scene<'f, R, G> {
+    /// The users do a line or a block.
+    fn run_unit(&self, main: &mut Pass, seats: &mut [Seat<'f>], unit: &Unit) -> Ended
+        requires on { AreOnFabric self.now.fabric.now main.old seats.old }
+        requires seated { AreSeated seats.old }
+        requires runnable { IsRunnable (length seats.old) unit.now }
+        ensures on { AreOnFabric self.now.fabric.now main.new seats.new }
+        ensures runs { UnitAt (fixed_in self.now.fabric.now)
+            (shares_of (records_in self.now.inputs.now) (length seats.old) unit.now)
+            (knowing main.old) (knowing main.new) seats.old seats.new result }
+        ensures leaves { CanStillLeave (knowing main.old) (knowing main.new) seats.old seats.new }
+    {
+        match unit {
+            Unit::Single { line } => self.run_single(main, seats, line),
+            Unit::Block { lines } => self.run_block(main, seats, lines.as_slice()),
         }
     }
-}
 
-/// The users do the units of a script, one after another, up to its end or to a fault that stops
-/// one.
-fn run_units<'f, R: Threads + Wait + Sync, G: Gate>(
-    alloc: Global,
-    rt: &R,
-    fabric: &'f Fabric,
-    main: &mut Pass,
-    seats: &mut [Seat<'f>],
-    names: &'f [Name],
-    script: &Script,
-    inputs: &Inputs,
-    gate: &G,
-) -> Result<(), StepFault>
-    requires on { AreOnFabric fabric.now main.old seats.old }
-    requires between { AreBetween script.now (captures_of inputs.now) 0 (knowing main.old)
-        seats.old }
-    requires runnable { AllByRecursion (IsRunnable (user_count script.now)) script.now.units }
-    requires files { names_of inputs.now ≡ script.now.files }
-    requires pool { script.now.pool ≡ (fixed_in fabric.now).pool }
-    ensures on { AreOnFabric fabric.now main.new seats.new }
-    ensures plays { OnOk result (AreBetween script.now (captures_of inputs.now)
-        (length script.now.units) (knowing main.new) seats.new) }
-    ensures stops { IfErr result (AreStopped (fixed_in fabric.now) script.now
-        (captures_of inputs.now) (knowing main.new) seats.new) }
-    ensures leaves { CanStillLeave (knowing main.old) (knowing main.new) seats.old seats.new }
-{
-    let all = script.units();
-    for unit in all {
-        match run_unit(alloc, rt, fabric, main, seats, names, unit, inputs, gate) {
-            Ok(()) => {}
-            Err(fault) => return Err(fault),
+    /// The users do the units of a script, one after another, up to its end or to a fault that stops
+    /// one.
+    fn run_units(&self, main: &mut Pass, seats: &mut [Seat<'f>], script: &Script) -> Ended
+        requires on { AreOnFabric self.now.fabric.now main.old seats.old }
+        requires start { IsAtStart (fixed_in self.now.fabric.now) script.now self.now.inputs.now
+            (knowing main.old) seats.old }
+        ensures on { AreOnFabric self.now.fabric.now main.new seats.new }
+        ensures plays { OnOk result (AreBetween script.now (captures_of self.now.inputs.now)
+            (length script.now.units) (knowing main.new) seats.new) }
+        ensures stops { IfErr result (AreStopped (fixed_in self.now.fabric.now) script.now
+            (captures_of self.now.inputs.now) (knowing main.new) seats.new) }
+        ensures leaves { CanStillLeave (knowing main.old) (knowing main.new) seats.old seats.new }
+    {
+        let all = script.units();
+        for unit in all {
+            match self.run_unit(main, seats, unit) {
+                Ok(()) => {}
+                Err(fault) => return Err(fault),
+            }
         }
+        Ok(())
     }
-    Ok(())
-}
 
-/// The users do a script up to its end, or to a fault that stops one, and then all leave. The pass
-/// has the whole then, and all entries are its own.
-fn run_script<'f, R: Threads + Wait + Sync, G: Gate>(
-    alloc: Global,
-    rt: &R,
-    fabric: &'f Fabric,
-    main: &mut Pass,
-    seats: &mut [Seat<'f>],
-    names: &'f [Name],
-    kept: &mut Vec<KeptPort>,
-    script: &Script,
-    inputs: &Inputs,
-    gate: &G,
-) -> Result<(), StepFault>
-    requires on { AreOnFabric fabric.now main.old seats.old }
-    requires between { AreBetween script.now (captures_of inputs.now) 0 (knowing main.old)
-        seats.old }
-    requires runnable { AllByRecursion (IsRunnable (user_count script.now)) script.now.units }
-    requires files { names_of inputs.now ≡ script.now.files }
-    requires pool { script.now.pool ≡ (fixed_in fabric.now).pool }
-    ensures pass { IsPassIn fabric.now main.new }
-    ensures gone { flat_map knows_at seats.new ≡ [] }
-    ensures whole { IsWhole (knowing main.new).part }
-    ensures mine { (knowing main.new).mine ≡ numbered 1 (knowing main.new).seen }
-    ensures kept { kept.old.items ≡ [] → AreWhole (fixed_in fabric.now).pool (knowing main.new).seen
-        kept.new.items }
-    ensures plays { OnOk result (ScriptPlayed script.now (captures_of inputs.now)
-        (knowing main.new) seats.new) }
-    ensures stops { IfErr result (IsScriptStopped (fixed_in fabric.now) script.now
-        (captures_of inputs.now) (knowing main.new).seen) }
-    ensures empty { CanAllLeave (knowing main.old) seats.old
-        → AllHaveLeft script.now.pool (knowing main.new).seen }
-{
-    let done = run_units(alloc, rt, fabric, main, seats, names, script, inputs, gate);
-    close_all(rt, fabric, main, seats, kept);
-    done
+    /// The users do a script up to its end, or to a fault that stops one, and then all leave. The pass
+    /// has the whole then, and all entries are its own.
+    fn run_script(
+        &self,
+        main: &mut Pass,
+        seats: &mut [Seat<'f>],
+        kept: &mut Vec<KeptPort>,
+        script: &Script,
+    ) -> Ended
+        requires on { AreOnFabric self.now.fabric.now main.old seats.old }
+        requires start { IsAtStart (fixed_in self.now.fabric.now) script.now self.now.inputs.now
+            (knowing main.old) seats.old }
+        ensures pass { IsPassIn self.now.fabric.now main.new }
+        ensures gone { flat_map knows_at seats.new ≡ [] }
+        ensures whole { IsWhole (knowing main.new).part }
+        ensures mine { (knowing main.new).mine ≡ numbered 1 (knowing main.new).seen }
+        ensures kept { kept.old.items ≡ [] → AreWhole (fixed_in self.now.fabric.now).pool
+            (knowing main.new).seen kept.new.items }
+        ensures plays { OnOk result (ScriptPlayed script.now (captures_of self.now.inputs.now)
+            (knowing main.new) seats.new) }
+        ensures stops { IfErr result (IsScriptStopped (fixed_in self.now.fabric.now) script.now
+            (captures_of self.now.inputs.now) (knowing main.new).seen) }
+        ensures empty { CanAllLeave (knowing main.old) seats.old
+            → AllHaveLeft script.now.pool (knowing main.new).seen }
+    {
+        let done = self.run_units(main, seats, script);
+        close_all(self.rt, self.fabric, main, seats, kept);
+        done
+    }
 }
 
 /// A seat for each user, none of whom has come.
@@ -186,55 +152,48 @@ fn end_all(seats: Vec<Seat>)
     seats.destroy_empty();
 }
 
-/// Plays a script, and keeps the frames of the ports that it saves. The files that get them come
-/// back with what was kept.
-fn play_keeping<R: Threads + Wait + Sync, G: Gate>(
-    alloc: Global,
-    rt: &R,
-    fabric: &Fabric,
-    pass: Pass,
-    script: &Script,
-    inputs: &Inputs,
-    gate: &G,
-) -> (Pass, Result<(Vec<Vec<SaveFile>>, Vec<KeptPort>), StepFault>)
-    requires pass { IsPassIn fabric.now pass }
-    requires whole { IsWhole (knowing pass).part }
-    requires seen { (knowing pass).seen ≡ [] }
-    requires mine { (knowing pass).mine ≡ [] }
-    requires sound { IsSound script.now }
-    requires pool { script.now.pool ≡ (fixed_in fabric.now).pool }
-    requires files { names_of inputs.now ≡ script.now.files }
-    ensures pass { IsPassIn fabric.now result.0 }
-    ensures whole { IsWhole (knowing result.0).part }
-    ensures mine { (knowing result.0).mine ≡ numbered 1 (knowing result.0).seen }
-    ensures plays { IfOk result.1 (λ left. ScriptDone script.now (captures_of inputs.now)
-        (knowing result.0) left.0.items) }
-    ensures kept { IfOk result.1 (λ left. AreWhole (fixed_in fabric.now).pool
-        (knowing result.0).seen left.1.items) }
-    ensures stops { IfErr result.1 (IsScriptStopped (fixed_in fabric.now) script.now
-        (captures_of inputs.now) (knowing result.0).seen) }
-    ensures empty { AllHaveLeft script.now.pool (knowing result.0).seen }
-{
-    let mut main = pass;
-    let count = script.users().len();
-    let Ok(names) = names_saved(alloc, script) else {
-        return (main, Err(StepFault::NoMemory));
-    };
-    let Ok(saves) = Vec::with_capacity(alloc, count) else {
-        return (main, Err(StepFault::NoMemory));
-    };
-    let Ok(mut seats) = new_seats(alloc, count) else {
-        return (main, Err(StepFault::NoMemory));
-    };
-    let mut kept = Vec::new(alloc);
-    let done = run_script(
-        alloc, rt, fabric, &mut main, &mut seats, &names, &mut kept, script, inputs, gate,
-    );
-    let saved = take_all_saves(alloc, &mut seats, saves);
-    end_all(seats);
-    match done {
-        Ok(()) => (main, Ok((saved, kept))),
-        Err(fault) => (main, Err(fault)),
+impl<'f, R: Threads + Wait + Sync, G: Gate> Scene<'f, R, G> {
+    /// Plays a script, and keeps the frames of the ports that it saves. The files that get them come
+    /// back with what was kept.
+    fn play_keeping(
+        &self,
+        pass: Pass,
+        script: &Script,
+    ) -> (Pass, Result<(Vec<Vec<SaveFile>>, Vec<KeptPort>), StepFault>)
+        requires pass { IsPassIn self.now.fabric.now pass }
+        requires whole { IsWhole (knowing pass).part }
+        requires seen { (knowing pass).seen ≡ [] }
+        requires mine { (knowing pass).mine ≡ [] }
+        requires sound { IsSound script.now }
+        requires pool { script.now.pool ≡ (fixed_in self.now.fabric.now).pool }
+        requires files { names_of self.now.inputs.now ≡ script.now.files }
+        ensures pass { IsPassIn self.now.fabric.now result.0 }
+        ensures whole { IsWhole (knowing result.0).part }
+        ensures mine { (knowing result.0).mine ≡ numbered 1 (knowing result.0).seen }
+        ensures plays { IfOk result.1 (λ left. ScriptDone script.now
+            (captures_of self.now.inputs.now) (knowing result.0) left.0.items) }
+        ensures kept { IfOk result.1 (λ left. AreWhole (fixed_in self.now.fabric.now).pool
+            (knowing result.0).seen left.1.items) }
+        ensures stops { IfErr result.1 (IsScriptStopped (fixed_in self.now.fabric.now) script.now
+            (captures_of self.now.inputs.now) (knowing result.0).seen) }
+        ensures empty { AllHaveLeft script.now.pool (knowing result.0).seen }
+    {
+        let mut main = pass;
+        let count = script.users().len();
+        let Ok(saves) = Vec::with_capacity(self.alloc, count) else {
+            return (main, Err(StepFault::NoMemory));
+        };
+        let Ok(mut seats) = new_seats(self.alloc, count) else {
+            return (main, Err(StepFault::NoMemory));
+        };
+        let mut kept = Vec::new(self.alloc);
+        let done = self.run_script(&mut main, &mut seats, &mut kept, script);
+        let saved = take_all_saves(self.alloc, &mut seats, saves);
+        end_all(seats);
+        match done {
+            Ok(()) => (main, Ok((saved, kept))),
+            Err(fault) => (main, Err(fault)),
+        }
     }
 }
 
@@ -269,14 +228,14 @@ fn gathered_outputs(
 /// Plays a script: its lines one after another, those of a block on threads, and then all users
 /// leave. The pass that comes back has the whole history, and the files to be saved have the frames
 /// that it gave their ports.
-pub fn play<R: Threads + Wait + Sync, G: Gate>(
+pub fn play<'f, R: Threads + Wait + Sync, G: Gate>(
     alloc: Global,
-    rt: &R,
-    fabric: &Fabric,
+    rt: &'f R,
+    fabric: &'f Fabric,
     pass: Pass,
     script: &Script,
-    inputs: &Inputs,
-    gate: &G,
+    inputs: &'f Inputs,
+    gate: &'f G,
 ) -> (Pass, Result<Outputs, StepFault>)
     requires pass { IsPassIn fabric.now pass }
     requires whole { IsWhole (knowing pass).part }
@@ -293,7 +252,18 @@ pub fn play<R: Threads + Wait + Sync, G: Gate>(
         (map frames_of inputs.now) (knowing result.0).seen) }
     ensures empty { AllHaveLeft script.now.pool (knowing result.0).seen }
 {
-    let (main, done) = play_keeping(alloc, rt, fabric, pass, script, inputs, gate);
+    let Ok(names) = names_saved(alloc, script) else {
+        return (pass, Err(StepFault::NoMemory));
+    };
+    let scene = Scene {
+        alloc,
+        rt,
+        fabric,
+        names: names.as_slice(),
+        inputs,
+        gate,
+    };
+    let (main, done) = scene.play_keeping(pass, script);
     let (mut lists, kept) = match done {
         Ok(left) => left,
         Err(fault) => return (main, Err(fault)),

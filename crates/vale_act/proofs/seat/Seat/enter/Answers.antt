@@ -9,7 +9,7 @@ use Rattle.vale_act.proofs.seat.Seat.enter.Goals as goal
 
 pub returns-in-Ok-clause-line : goal.returns-in-Ok-clause-line
 returns-in-Ok-clause-line g c records =
-    let fabric = c.args.fabric.now in
+    let fabric = c.args.scene.now.fabric.now in
     let v = knowing c.args.main.now in
     let m = knowing c.come.new.main in
     let w = knowing c.tell.new.main in
@@ -20,7 +20,7 @@ returns-in-Ok-clause-line g c records =
 
 pub returns-in-Err-clause-line : goal.returns-in-Err-clause-line
 returns-in-Err-clause-line g c records =
-    let fabric = c.args.fabric.now in
+    let fabric = c.args.scene.now.fabric.now in
     let v = knowing c.args.main.now in
     let w = knowing c.come.new.main in
     let not = subst (λ r. IfErr r (ComesNot (fixed_in fabric) c.args.number v w)) c.in-Err.is c.come.ensures.not in
@@ -29,7 +29,7 @@ returns-in-Err-clause-line g c records =
 
 pub returns-in-Ok-clause-leaves : goal.returns-in-Ok-clause-leaves
 returns-in-Ok-clause-leaves g c =
-    let fabric = c.args.fabric.now in
+    let fabric = c.args.scene.now.fabric.now in
     let v = knowing c.args.main.now in
     let m = knowing c.come.new.main in
     let w = knowing c.tell.new.main in
@@ -39,7 +39,7 @@ returns-in-Ok-clause-leaves g c =
 
 pub returns-in-Err-clause-leaves : goal.returns-in-Err-clause-leaves
 returns-in-Err-clause-leaves g c =
-    let fixed = fixed_in c.args.fabric.now in
+    let fixed = fixed_in c.args.scene.now.fabric.now in
     let v = knowing c.args.main.now in
     let w = knowing c.come.new.main in
     stays-leaving fixed c.args.number v w c.in-Err.fault c.args.self.now

@@ -9,14 +9,14 @@ use Rattle.vale_act.proofs.seat.Seat.run_line.Goals as goal
 
 pub returns-then-comes_by-clause-line : goal.returns-then-comes_by-clause-line
 returns-then-comes_by-clause-line g c =
-    let records = records_in c.args.inputs.now in
+    let records = records_in c.args.scene.now.inputs.now in
     let enter = (c.comes_by.ensures.yes c.if-comes_by.true).1 in
-    subst (λ (a : Act). LineAt (fixed_in c.args.fabric.now) c.args.line.now.user (line_tasks records a) (knowing c.args.main.now) (knowing c.enter.new.main) c.args.self.now c.enter.new.self c.enter.result) (sym enter)
+    subst (λ (a : Act). LineAt (fixed_in c.args.scene.now.fabric.now) c.args.line.now.user (line_tasks records a) (knowing c.args.main.now) (knowing c.enter.new.main) c.args.self.now c.enter.new.self c.enter.result) (sym enter)
     (c.enter.ensures.line records)
 
 pub returns-clause-line : goal.returns-clause-line
 returns-clause-line g c =
-    line-acts c.args.fabric.now c.args.line.now.user (records_in c.args.inputs.now) c.args.line.now.act (knowing c.args.main.now) (knowing c.meet.new.main) (knowing c.tell.new.main)
+    line-acts c.args.scene.now.fabric.now c.args.line.now.user (records_in c.args.scene.now.inputs.now) c.args.line.now.act (knowing c.args.main.now) (knowing c.meet.new.main) (knowing c.tell.new.main)
     c.args.self.now c.meet.new.self c.act-done.new.self c.tell.new.self c.act-done.result c.requires.seated c.requires.on.1 (c.comes_by.ensures.no c.if-comes_by.false)
     c.meet.ensures.meets c.act-done.ensures c.tell.ensures.tells
 
@@ -25,6 +25,6 @@ returns-then-comes_by-clause-leaves g c = c.enter.ensures.leaves
 
 pub returns-clause-leaves : goal.returns-clause-leaves
 returns-clause-leaves g c =
-    line-leaving (records_in c.args.inputs.now) c.args.line.now.act c.act-done.result (knowing c.args.main.now) (knowing c.meet.new.main) (knowing c.tell.new.main)
+    line-leaving (records_in c.args.scene.now.inputs.now) c.args.line.now.act c.act-done.result (knowing c.args.main.now) (knowing c.meet.new.main) (knowing c.tell.new.main)
     c.args.self.now c.meet.new.self c.act-done.new.self c.tell.new.self
     c.meet.ensures.meets c.act-done.ensures c.tell.ensures.tells

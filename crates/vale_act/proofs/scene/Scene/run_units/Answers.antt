@@ -7,7 +7,7 @@ use Rattle.vale_replay.specs.Replay.{shares_of}
 use Rattle.vale_player.specs.Inputs.{records_in}
 use Rattle.vale_act.specs.Seats.{UnitAt}
 use Rattle.vale_act.proofs.Between.{between-next, between-runs, between-stops}
-use Rattle.vale_act.proofs.script_run.run_units.Goals as goal
+use Rattle.vale_act.proofs.scene.Scene.run_units.Goals as goal
 
 -- the unit that is done next, as it stands in the script
 next-unit : (units all : List Part) (i : ℕ) (unit : Part) → i < length units → unit ≡ get_or units i unit → units ≡ all → slice_get all i ≡ Some unit
@@ -18,7 +18,7 @@ run_unit-requires-clause-runnable g c κs outlives =
     let i = c.loop-unit.unit-index in
     let unit = c.unit-item.result in
     let at = next-unit c.units-all.result.now _ i unit c.loop-unit-test.true c.unit-item.is c.units-all.ensures in
-    between-runs c.args.fabric.now c.args.script.now c.args.inputs.now c.requires.files c.requires.pool i unit (knowing c.loop-unit.main) (knowing c.loop-unit.main) c.loop-unit.seats c.loop-unit.seats at c.loop-unit.invariant.1.1 c.requires.runnable
+    between-runs c.args.self.now.fabric.now c.args.script.now c.args.self.now.inputs.now c.requires.start.files c.requires.start.pool i unit (knowing c.loop-unit.main) (knowing c.loop-unit.main) c.loop-unit.seats c.loop-unit.seats at c.loop-unit.invariant.1.1 c.requires.start.runnable
 
 pub loop-unit-preserved : goal.loop-unit-preserved
 loop-unit-preserved g c =
@@ -26,11 +26,11 @@ loop-unit-preserved g c =
     let v = knowing c.loop-unit.main in
     let w = knowing c.run_unit.new.main in
     let at = next-unit c.units-all.result.now _ c.loop-unit.unit-index unit c.loop-unit-test.true c.unit-item.is c.units-all.ensures in
-    let ran = subst (λ (r : Result (Unit {0}) StepFault). UnitAt (fixed_in c.args.fabric.now) (shares_of (records_in c.args.inputs.now) (length c.loop-unit.seats) unit) v w c.loop-unit.seats c.run_unit.new.seats r) c.in-Ok.is c.run_unit.ensures.runs in (
+    let ran = subst (λ (r : Result (Unit {0}) StepFault). UnitAt (fixed_in c.args.self.now.fabric.now) (shares_of (records_in c.args.self.now.inputs.now) (length c.loop-unit.seats) unit) v w c.loop-unit.seats c.run_unit.new.seats r) c.in-Ok.is c.run_unit.ensures.runs in (
       c.run_unit.ensures.on.0,
       (
         c.run_unit.ensures.on.1,
-        between-next c.args.fabric.now c.args.script.now c.args.inputs.now c.requires.files c.requires.pool c.loop-unit.unit-index unit v w c.loop-unit.seats c.run_unit.new.seats at c.loop-unit.invariant.1.1 ran,
+        between-next c.args.self.now.fabric.now c.args.script.now c.args.self.now.inputs.now c.requires.start.files c.requires.start.pool c.loop-unit.unit-index unit v w c.loop-unit.seats c.run_unit.new.seats at c.loop-unit.invariant.1.1 ran,
       ),
       λ can. c.run_unit.ensures.leaves (c.loop-unit.invariant.2 can),
     )
@@ -41,11 +41,11 @@ returns-in-Err-clause-stops g c =
     let v = knowing c.loop-unit.main in
     let w = knowing c.run_unit.new.main in
     let at = next-unit c.units-all.result.now _ c.loop-unit.unit-index unit c.loop-unit-test.true c.unit-item.is c.units-all.ensures in
-    let ran = subst (λ (r : Result (Unit {0}) StepFault). UnitAt (fixed_in c.args.fabric.now) (shares_of (records_in c.args.inputs.now) (length c.loop-unit.seats) unit) v w c.loop-unit.seats c.run_unit.new.seats r) c.in-Err.is c.run_unit.ensures.runs in
-    between-stops c.args.fabric.now c.args.script.now c.args.inputs.now c.requires.files c.requires.pool c.loop-unit.unit-index unit v w c.loop-unit.seats c.run_unit.new.seats at c.loop-unit.invariant.1.1 c.in-Err.fault ran
+    let ran = subst (λ (r : Result (Unit {0}) StepFault). UnitAt (fixed_in c.args.self.now.fabric.now) (shares_of (records_in c.args.self.now.inputs.now) (length c.loop-unit.seats) unit) v w c.loop-unit.seats c.run_unit.new.seats r) c.in-Err.is c.run_unit.ensures.runs in
+    between-stops c.args.self.now.fabric.now c.args.script.now c.args.self.now.inputs.now c.requires.start.files c.requires.start.pool c.loop-unit.unit-index unit v w c.loop-unit.seats c.run_unit.new.seats at c.loop-unit.invariant.1.1 c.in-Err.fault ran
 
 pub loop-unit-init : goal.loop-unit-init
-loop-unit-init g c = (c.requires.on.0, (c.requires.on.1, c.requires.between), λ can. can)
+loop-unit-init g c = (c.requires.on.0, (c.requires.on.1, c.requires.start.between), λ can. can)
 
 pub returns-in-Err-clause-leaves : goal.returns-in-Err-clause-leaves
 returns-in-Err-clause-leaves g c can = c.run_unit.ensures.leaves (c.loop-unit.invariant.2 can)

@@ -9,17 +9,19 @@ use Rattle.vale_act.proofs.Begins.{begins-between}
 use Rattle.vale_act.proofs.Plays.{all-empty}
 use Rattle.vale_act.proofs.Runnable.{sound-runs}
 use Rattle.vale_act.proofs.DepartingScript.{new-leaving}
-use Rattle.vale_act.proofs.script_run.play_keeping.Goals as goal
+use Rattle.vale_act.proofs.scene.Scene.play_keeping.Goals as goal
 
-pub run_script-done-requires-clause-between : goal.run_script-done-requires-clause-between
-run_script-done-requires-clause-between g c κs outlives =
+pub run_script-done-requires-clause-start : goal.run_script-done-requires-clause-start
+run_script-done-requires-clause-start g c κs outlives =
     let made = subst (λ r. IfOk r (λ seats. AreNew (length c.users-count.result.now) seats.items)) c.in-Ok-new_seats.is c.new_seats.ensures in
     let counted = subst (λ n. AreNew n c.in-Ok-new_seats.seats.items) (ap length c.users-count.ensures) made in
     let new : AreNew (user_count c.args.script.now) c.deref_mut.result.now = subst (λ (l : List Seat). AreNew (user_count c.args.script.now) l) (sym c.deref_mut.ensures.value) counted in
-    begins-between c.args.script.now (captures_of c.args.inputs.now) (knowing c.args.pass) c.deref_mut.result.now new c.requires.whole c.requires.seen c.requires.mine
-
-pub run_script-done-requires-clause-runnable : goal.run_script-done-requires-clause-runnable
-run_script-done-requires-clause-runnable g c κs outlives = sound-runs c.args.script.now c.requires.sound
+    record {
+      between = begins-between c.args.script.now (captures_of c.args.self.now.inputs.now) (knowing c.args.pass) c.deref_mut.result.now new c.requires.whole c.requires.seen c.requires.mine;
+      runnable = sound-runs c.args.script.now c.requires.sound;
+      files = c.requires.files;
+      pool = c.requires.pool;
+    }
 
 pub take_all_saves-saved-requires-clause-empty : goal.take_all_saves-saved-requires-clause-empty
 take_all_saves-saved-requires-clause-empty g c =

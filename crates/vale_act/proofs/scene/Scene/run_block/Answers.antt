@@ -3,17 +3,17 @@ use Rattle.vale_player.specs.Inputs.{records_in}
 use Rattle.vale_act.proofs.BlockParts.{block-held, ran-on}
 use Rattle.vale_act.proofs.BlockRuns.{block-begins, block-length, block-plays, block-seated, block-stopped, if-ok, if-err}
 use Rattle.vale_act.proofs.DepartingScript.{block-leaving}
-use Rattle.vale_act.proofs.block_run.run_block.Goals as goal
+use Rattle.vale_act.proofs.scene.Scene.run_block.Goals as goal
 
 pub tell_all-requires : goal.tell_all-requires
 tell_all-requires g c =
     let met = c.meet_all.ensures.on in
-    record { on = (met.0, ran-on (records_in c.args.inputs.now) c.args.lines.now c.args.fabric.now c.meet_all.new.seats c.run_all.new.seats met.1 c.run_all.ensures) }
+    record { on = (met.0, ran-on (records_in c.args.self.now.inputs.now) c.args.lines.now c.args.self.now.fabric.now c.meet_all.new.seats c.run_all.new.seats met.1 c.run_all.ensures) }
 
 pub returns-clause-runs : goal.returns-clause-runs
 returns-clause-runs g c =
-    let fabric = c.args.fabric.now in
-    let records = records_in c.args.inputs.now in
+    let fabric = c.args.self.now.fabric.now in
+    let records = records_in c.args.self.now.inputs.now in
     let lines = c.args.lines.now in
     let v = knowing c.args.main.now in
     let m = knowing c.meet_all.new.main in
@@ -39,6 +39,6 @@ returns-clause-runs g c =
 
 pub returns-clause-leaves : goal.returns-clause-leaves
 returns-clause-leaves g c =
-    block-leaving (records_in c.args.inputs.now) c.args.lines.now (knowing c.args.main.now) (knowing c.meet_all.new.main) (knowing c.tell_all.new.main)
+    block-leaving (records_in c.args.self.now.inputs.now) c.args.lines.now (knowing c.args.main.now) (knowing c.meet_all.new.main) (knowing c.tell_all.new.main)
     c.args.seats.now c.meet_all.new.seats c.run_all.new.seats c.tell_all.new.seats
     c.meet_all.ensures.meets c.run_all.ensures c.tell_all.ensures.tells

@@ -7,17 +7,17 @@ use Rattle.vale_act.specs.declared.seat.Seat.{Seat}
 use Rattle.vale_act.proofs.Closings.{single-at}
 use Rattle.vale_act.specs.Leaving.{SeatStillLeaves}
 use Rattle.vale_act.proofs.DepartingScript.{seat-leaving}
-use Rattle.vale_act.proofs.line_run.run_single.Goals as goal
+use Rattle.vale_act.proofs.scene.Scene.run_single.Goals as goal
 
 pub returns-clause-runs : goal.returns-clause-runs
 returns-clause-runs g c =
     let line = c.args.line.now in
     let seats = c.args.seats.now in
-    let records = records_in c.args.inputs.now in
+    let records = records_in c.args.self.now.inputs.now in
     let before = c.index-seats-place.result in
     let here = slice_get_read seats (length seats) (line.user - 1) before refl (omega (arith, c.requires.least, c.requires.most)) c.index-seats-place.is in
-    single-at c.args.fabric.now records line (knowing c.args.main.now) (knowing c.run_line.new.main) seats (line.user - 1) before c.run_line.new.self c.run_line.result (omega (arith, c.requires.least)) here c.requires.seated
-    (subst (λ (b : Seat). LineAt (fixed_in c.args.fabric.now) line.user (line_tasks records line.act) (knowing c.args.main.now) (knowing c.run_line.new.main) b c.run_line.new.self c.run_line.result) (sym c.index-seats-place.is) c.run_line.ensures.line)
+    single-at c.args.self.now.fabric.now records line (knowing c.args.main.now) (knowing c.run_line.new.main) seats (line.user - 1) before c.run_line.new.self c.run_line.result (omega (arith, c.requires.least)) here c.requires.seated
+    (subst (λ (b : Seat). LineAt (fixed_in c.args.self.now.fabric.now) line.user (line_tasks records line.act) (knowing c.args.main.now) (knowing c.run_line.new.main) b c.run_line.new.self c.run_line.result) (sym c.index-seats-place.is) c.run_line.ensures.line)
 
 pub returns-clause-leaves : goal.returns-clause-leaves
 returns-clause-leaves g c =
