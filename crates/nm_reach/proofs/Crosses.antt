@@ -31,7 +31,7 @@ husk-send T s = record {
     λ v. (
       tt,
       λ xs. (
-        (tt, lies (Array T (length xs)) (array_send T (length xs) s) e.ptr xs),
+        (tt, lies (Array T (length xs)) (array_send T (length xs) s) e.field xs),
         (struct_send (declared.shape (Inside.the_type T)) (Vec-send T s, tt)).owned (with_items v.vec xs, tt) vs,
       ),
     ),
