@@ -127,7 +127,7 @@ fn play(rt: &impl Abort, region: &Region, hold: &mut Hold, all: &mut Vec<Buf>)
 }
 
 /// A hold with a port that has three extra positions.
-fn opened(alloc: Global) -> Result<Hold, NoMemory>
+fn opened(rt: &impl Abort, alloc: Global) -> Result<Hold, NoMemory>
     ensures { IfOk result (λ hold. hold ≡ record (empty_hold 64) {
       ports = record { port = record { 0 = 2 }; sizes = record { tx = 2; rx = 2; extra = 3 } } ∷ [];
     }) }
@@ -139,6 +139,7 @@ fn opened(alloc: Global) -> Result<Hold, NoMemory>
             Ok(hold)
         }
         Err(fault) => {
+            assert!(rt; hold.is_empty());
             hold.close();
             Err(fault)
         }
@@ -148,7 +149,7 @@ fn opened(alloc: Global) -> Result<Hold, NoMemory>
 #[test]
 fn chain_with_loop(rt: HostRuntime) -> Result<(), Fail> {
     let (region, mut all) = Region::new(rt.alloc(), 7)?;
-    let done = match opened(rt.alloc()) {
+    let done = match opened(&rt, rt.alloc()) {
         Ok(mut hold) => {
             play(&rt, &region, &mut hold, &mut all);
             assert!(rt; hold.is_empty());
