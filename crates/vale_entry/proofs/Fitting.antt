@@ -34,7 +34,7 @@ use Rattle.vale_entry.specs.Monitors.{is_open_as, is_watch_at}
 use Rattle.vale_entry.specs.Pipe.{frame_of_item, indices_of, frames_of_items}
 use Rattle.vale_entry.specs.Holdings.{SessionBuffers, contains, are_distinct, holds_all, buffers_of_session}
 use Rattle.vale_entry.specs.Counters.{counts_of}
-use Rattle.vale_entry.specs.Fits.{FitsU64, FitsDest, FitsItem, FitsRefusal, FitsFault, FitsReply, FitsCounts, FitsEntry}
+use Rattle.vale_entry.specs.Fits.{FitsU64, FitsItem, FitsEntry, u64_widths, DestFits, RefusalFits, FaultFits, ReplyFits, CountsFits}
 use Rattle.vale_entry.specs.Legal.{Standing, standing_of, named_of, has_ring, fits_u32, fits_fault, unchanged, IsLegal, Follows}
 use Rattle.vale_entry.specs.Laws.{IsThere, IsGrantedBy, IsLotOf, is_monitor_open, IsWatch, LegalHistoriesFit}
 use Rattle.vale_entry.proofs.Each.{each-append, each-map, each-weaker, each-find, each-offered}
@@ -55,7 +55,7 @@ use Rattle.vale_entry.proofs.Follows.{EachKind, Left, entry_made, IsQuiet, Recei
 
 abbrev FitsRefused : Option OpenFault → Type 0
 FitsRefused None = Unit {0}
-FitsRefused (Some fault) = FitsRefusal fault
+FitsRefused (Some fault) = RefusalFits u64_widths fault
 
 name-fits : (sizes switches ports name : Bool)
     → FitsRefused
@@ -88,7 +88,7 @@ refusal-fits :
     (w : World) (name : List ℕ) (tx rx extra : ℕ) (fault : OpenFault)
     → open_refusal w name tx rx extra ≡ Some fault
     → fits_u32 tx ≡ true → fits_u32 rx ≡ true → fits_u32 extra ≡ true → w.pool < 4294967296
-    → FitsRefusal fault
+    → RefusalFits u64_widths fault
 refusal-fits w name tx rx extra fault e one two three pool =
     let a = small-fits tx one in
     let b = small-fits rx two in
@@ -113,7 +113,7 @@ three-fit a b c e =
     let rest = pair-fits b c parts.1 in
     (small a parts.0, rest.0, rest.1)
 
-fault-fits : (fault : SyncFault) → fits_fault fault ≡ true → FitsFault fault
+fault-fits : (fault : SyncFault) → fits_fault fault ≡ true → FaultFits u64_widths fault
 fault-fits (faults.HeadOut head from to) e = three-fit head from to e
 fault-fits (faults.CurOut cur from to) e = three-fit cur from to e
 fault-fits (faults.Indirect slot) e = small slot e
@@ -185,7 +185,7 @@ items-fit (item ∷ items) all = (all.0, items-fit items all.1)
 -- Destinations, lots and counters.
 
 abbrev HasDest : Offer → Type 0
-HasDest offer = FitsDest (dest_of offer)
+HasDest offer = DestFits u64_widths (dest_of offer)
 
 each-flat :
     {X Y : Type 0} (P : Y → Type 0) (f : X → List Y) (xs : List X) → Each (λ x. Each P (f x)) xs
@@ -199,7 +199,7 @@ unread-few port =
     let sum = sum-flat_map slots_of frames_of_lot port.line in
     omega (arith, each, sum)
 
-counts_fit : (bound : ℕ) (c : Counts) → bound < 2 ^ 64 → IsUnder bound c → FitsCounts c
+counts_fit : (bound : ℕ) (c : Counts) → bound < 2 ^ 64 → IsUnder bound c → CountsFits u64_widths c
 counts_fit bound c few k =
     let a =
     k.sent in let b = k.short in let d = k.lone in let e = k.given in let f = k.full in let g =
@@ -214,19 +214,20 @@ counts_fit bound c few k =
 
 counters-fit :
     (bound id : ℕ) (cs : List PortCounts) → bound < 2 ^ 64 → Each (IsPortUnder bound) cs
-    → FitsCounts (counts_of cs id)
+    → CountsFits u64_widths (counts_of cs id)
 counters-fit bound id [] few all =
     (omega arith, omega arith, omega arith, omega arith, omega arith, omega arith)
 counters-fit bound id (c ∷ cs) few all = by_test (c.port == id) (counters-fit bound id cs few all.1)
   where
     by_test :
-        (b : Bool) → FitsCounts (counts_of cs id) → FitsCounts (cond b c.counts (counts_of cs id))
+        (b : Bool) → CountsFits u64_widths (counts_of cs id)
+        → CountsFits u64_widths (cond b c.counts (counts_of cs id))
     by_test true rest = counts_fit bound c.counts few all.0
     by_test false rest = rest
 
 shared-fits :
     (found : Option Port) (frames : List Frame) → length frames < 4294967296
-    → FitsReply (grant_reply_at found frames)
+    → ReplyFits u64_widths (grant_reply_at found frames)
 shared-fits None frames few = (omega arith, omega arith, omega (arith, few))
 shared-fits (Some port) frames few =
     let fits = fitting-few (space_of port) frames in
@@ -265,9 +266,9 @@ module _ (s : Standing) (stands : Stands s.world.pool s) (pool : s.world.pool < 
 
   made-fit :
       (session : ℕ) (wanted : Port → List Frame) → ((p : Port) → length (wanted p) < 4294967296)
-      → Each FitsDest (dests_of (offers_of (w.entry_count + 1) session wanted w.ports))
+      → Each (DestFits u64_widths) (dests_of (offers_of (w.entry_count + 1) session wanted w.ports))
   made-fit session wanted short =
-      each-map HasDest FitsDest dest_of (λ offer here. here)
+      each-map HasDest (DestFits u64_widths) dest_of (λ offer here. here)
       (offers_of (w.entry_count + 1) session wanted w.ports)
       (each-offered HasDest (w.entry_count + 1) session wanted w.ports
       (each-weaker (λ (p : Port). p.id ≤ w.entry_count)
@@ -325,7 +326,7 @@ module _ (s : Standing) (stands : Stands s.world.pool s) (pool : s.world.pool < 
   received :
       (ask : Ask) (at : PortId) (back : List ℕ) (session count : ℕ) (to : List Dest)
       → Receives ask at back → FitsU64 session → FitsU64 at.0 → Each FitsU64 back → FitsU64 count
-      → Each FitsDest to
+      → Each (DestFits u64_widths) to
       → FitsEntry (record { session = record { 0 = session }; ask = ask; reply = Gave count to })
   received _ _ _ session count to (by_sync at back) mine here buffers n dests =
       (mine, (here, buffers), (n, dests))

@@ -1,12 +1,15 @@
--- `decimal` writes the last 64 digits of a number, so it tells numbers below 2^64 apart. Those of a
--- legal history are below 2^64, if it has fewer than 2^32 entries and its pool fewer buffers.
-use Rattle.std.specs.Prelude.{ℕ, ◌<◌, ◌^◌}
+-- The numbers of an entry fit where they are written or kept. `decimal` writes the last 64 digits
+-- of a number, so it tells numbers below 2^64 apart. Those of a legal history are below 2^64, if it
+-- has fewer than 2^32 entries and its pool fewer buffers.
+use Rattle.std.specs.Prelude.{ℕ, ◌<◌, ◌^◌, List}
 use Rattle.std.specs.List.{AllByRecursion}
+use Rattle.nm_types.specs.Frames.{Frame}
 use Rattle.nm_types.specs.declared.fault.OpenFault.{OpenFault}
 use Rattle.nm_types.specs.declared.fault.OpenFault.TheVariants.{NoBuffers}
 use Rattle.nm_types.specs.declared.fault.SyncFault.{SyncFault}
 use Rattle.nm_types.specs.declared.fault.SyncFault.TheVariants.{HeadOut, CurOut, Indirect, IndexOut, NotHeld, Doubled, Unannounced, LongLen, Fragment}
 use Rattle.nm_types.specs.declared.id.Counts.{Counts}
+use Rattle.nm_types.specs.declared.id.PortId.{PortId}
 use Rattle.vale_entry.specs.declared.entry.Dest.{Dest}
 use Rattle.vale_entry.specs.declared.entry.Item.{Item}
 use Rattle.vale_entry.specs.declared.entry.Ask.{Ask}
@@ -15,65 +18,90 @@ use Rattle.vale_entry.specs.declared.entry.Reply.{Reply}
 use Rattle.vale_entry.specs.declared.entry.Reply.TheVariants.{Refused, Offered, Shared, Gave, Took, Unread, Watching, Watched, Counted}
 use Rattle.vale_entry.specs.declared.entry.Entry.{Entry}
 
+-- what fits: a fault's length, another number, a user's or a counter's number, what a Send sends,
+-- and an item of a pipe
+pub record Widths : Type 1 where
+  pub IsLength : ℕ → Type 0
+  pub IsNumber : ℕ → Type 0
+  pub IsWide : ℕ → Type 0
+  pub IsSent : PortId → List Frame → Type 0
+  pub IsItem : Item → Type 0
+
+abbrev pub DestFits : Widths → Dest → Type 0
+DestFits w dest = w.IsNumber dest.to.0 × w.IsNumber dest.count
+
+abbrev pub RefusalFits : Widths → OpenFault → Type 0
+RefusalFits w (NoBuffers want have) = w.IsNumber want × w.IsNumber have
+RefusalFits w _ = Unit {0}
+
+abbrev pub FaultFits : Widths → SyncFault → Type 0
+FaultFits w (HeadOut head from to) = w.IsNumber head × w.IsNumber from × w.IsNumber to
+FaultFits w (CurOut cur from to) = w.IsNumber cur × w.IsNumber from × w.IsNumber to
+FaultFits w (Indirect slot) = w.IsNumber slot
+FaultFits w (IndexOut slot idx) = w.IsNumber slot × w.IsNumber idx
+FaultFits w (NotHeld slot idx) = w.IsNumber slot × w.IsNumber idx
+FaultFits w (Doubled slot idx) = w.IsNumber slot × w.IsNumber idx
+FaultFits w (Unannounced slot idx was) = w.IsNumber slot × w.IsNumber idx × w.IsNumber was
+FaultFits w (LongLen slot len) = w.IsNumber slot × w.IsLength len
+FaultFits w (Fragment slot) = w.IsNumber slot
+FaultFits w _ = Unit {0}
+
+abbrev pub AskFits : Widths → Ask → Type 0
+AskFits w (Enter user) = w.IsWide user
+AskFits w (Open asked name tx rx extra) = w.IsNumber tx × w.IsNumber rx × w.IsNumber extra
+AskFits w (Send port frames) = w.IsSent port frames
+AskFits w (Grant origin to) = w.IsNumber origin × w.IsNumber to.0
+AskFits w (Done lease) = w.IsNumber lease.0
+AskFits w (Sync port back) = w.IsNumber port.0 × AllByRecursion w.IsNumber back
+AskFits w (Reset port side fault) = w.IsNumber port.0 × FaultFits w fault
+AskFits w (Shut port) = w.IsNumber port.0
+AskFits w (Finish port bufs chain) =
+    w.IsNumber port.0 × AllByRecursion w.IsNumber bufs × w.IsNumber chain.found
+    × w.IsNumber chain.astray
+AskFits w (PutKept port offered) = w.IsNumber port.0 × w.IsNumber offered
+AskFits w (Get port back) = w.IsNumber port.0 × AllByRecursion w.IsNumber back
+AskFits w (Watch monitor target sides) = w.IsNumber monitor.0
+AskFits w (Stat port) = w.IsNumber port.0
+AskFits w _ = Unit {0}
+
+abbrev pub CountsFits : Widths → Counts → Type 0
+CountsFits w counts =
+    w.IsWide counts.sent × w.IsWide counts.short × w.IsWide counts.lone × w.IsWide counts.given
+    × w.IsWide counts.full × w.IsWide counts.read
+
+abbrev pub ReplyFits : Widths → Reply → Type 0
+ReplyFits w (Refused fault) = RefusalFits w fault
+ReplyFits w (Offered short lone to) =
+    w.IsNumber short × w.IsNumber lone × AllByRecursion (DestFits w) to
+ReplyFits w (Shared given full gone) = w.IsNumber given × w.IsNumber full × w.IsNumber gone
+ReplyFits w (Gave count to) = w.IsNumber count × AllByRecursion (DestFits w) to
+ReplyFits w (Took items to) = AllByRecursion w.IsItem items × AllByRecursion (DestFits w) to
+ReplyFits w (Unread count) = w.IsNumber count
+ReplyFits w (Watching target) = w.IsNumber target.0
+ReplyFits w (Watched by) = w.IsNumber by.0
+ReplyFits w (Counted counts) = CountsFits w counts
+ReplyFits w _ = Unit {0}
+
+-- each number of an entry fits
+abbrev pub EntryFits : Widths → Entry → Type 0
+EntryFits w entry = w.IsNumber entry.session.0 × AskFits w entry.ask × ReplyFits w entry.reply
+
+-- in the text of a line each has 64 bits
 abbrev pub FitsU64 : ℕ → Type 0
 FitsU64 n = n < 2 ^ 64
-
-abbrev pub FitsDest : Dest → Type 0
-FitsDest dest = FitsU64 dest.to.0 × FitsU64 dest.count
 
 abbrev pub FitsItem : Item → Type 0
 FitsItem item = FitsU64 item.index
 
-abbrev pub FitsRefusal : OpenFault → Type 0
-FitsRefusal (NoBuffers want have) = FitsU64 want × FitsU64 have
-FitsRefusal _ = Unit {0}
-
-abbrev pub FitsFault : SyncFault → Type 0
-FitsFault (HeadOut head from to) = FitsU64 head × FitsU64 from × FitsU64 to
-FitsFault (CurOut cur from to) = FitsU64 cur × FitsU64 from × FitsU64 to
-FitsFault (Indirect slot) = FitsU64 slot
-FitsFault (IndexOut slot idx) = FitsU64 slot × FitsU64 idx
-FitsFault (NotHeld slot idx) = FitsU64 slot × FitsU64 idx
-FitsFault (Doubled slot idx) = FitsU64 slot × FitsU64 idx
-FitsFault (Unannounced slot idx was) = FitsU64 slot × FitsU64 idx × FitsU64 was
-FitsFault (LongLen slot len) = FitsU64 slot × FitsU64 len
-FitsFault (Fragment slot) = FitsU64 slot
-FitsFault _ = Unit {0}
-
-abbrev pub FitsAsk : Ask → Type 0
-FitsAsk (Enter user) = FitsU64 user
-FitsAsk (Open asked name tx rx extra) = FitsU64 tx × FitsU64 rx × FitsU64 extra
-FitsAsk (Send port frames) = FitsU64 port.0
-FitsAsk (Grant origin to) = FitsU64 origin × FitsU64 to.0
-FitsAsk (Done lease) = FitsU64 lease.0
-FitsAsk (Sync port back) = FitsU64 port.0 × AllByRecursion FitsU64 back
-FitsAsk (Reset port side fault) = FitsU64 port.0 × FitsFault fault
-FitsAsk (Shut port) = FitsU64 port.0
-FitsAsk (Finish port bufs chain) =
-    FitsU64 port.0 × AllByRecursion FitsU64 bufs × FitsU64 chain.found × FitsU64 chain.astray
-FitsAsk (PutKept port offered) = FitsU64 port.0 × FitsU64 offered
-FitsAsk (Get port back) = FitsU64 port.0 × AllByRecursion FitsU64 back
-FitsAsk (Watch monitor target sides) = FitsU64 monitor.0
-FitsAsk (Stat port) = FitsU64 port.0
-FitsAsk _ = Unit {0}
-
-abbrev pub FitsCounts : Counts → Type 0
-FitsCounts counts =
-    FitsU64 counts.sent × FitsU64 counts.short × FitsU64 counts.lone × FitsU64 counts.given
-    × FitsU64 counts.full × FitsU64 counts.read
-
-abbrev pub FitsReply : Reply → Type 0
-FitsReply (Refused fault) = FitsRefusal fault
-FitsReply (Offered short lone to) = FitsU64 short × FitsU64 lone × AllByRecursion FitsDest to
-FitsReply (Shared given full gone) = FitsU64 given × FitsU64 full × FitsU64 gone
-FitsReply (Gave count to) = FitsU64 count × AllByRecursion FitsDest to
-FitsReply (Took items to) = AllByRecursion FitsItem items × AllByRecursion FitsDest to
-FitsReply (Unread count) = FitsU64 count
-FitsReply (Watching target) = FitsU64 target.0
-FitsReply (Watched by) = FitsU64 by.0
-FitsReply (Counted counts) = FitsCounts counts
-FitsReply _ = Unit {0}
+abbrev pub u64_widths : Widths
+u64_widths = record {
+  IsLength = FitsU64;
+  IsNumber = FitsU64;
+  IsWide = FitsU64;
+  IsSent = λ port _. FitsU64 port.0;
+  IsItem = FitsItem;
+}
 
 -- the numbers of an entry's line are below 2^64
 abbrev pub FitsEntry : Entry → Type 0
-FitsEntry entry = FitsU64 entry.session.0 × FitsAsk entry.ask × FitsReply entry.reply
+FitsEntry entry = EntryFits u64_widths entry

@@ -10,7 +10,8 @@ use Rattle.vale_entry.specs.Transcript.{hex_digit, hex_byte, hex_text, frame_tex
 use Rattle.vale_entry.proofs.Each.{each-weaker, each-map}
 use Rattle.vale_fields.specs.Fields.{hex_value, bytes_of, frame_of, dest_of, item_of, short_of, front_by, back_by, mark_in}
 use Rattle.vale_fields.specs.Lists.{numbers_of, dests_of, items_of, frames_of}
-use Rattle.vale_fields.specs.Widths.{IsByte, AreBytes, Is32, FitsDest, FitsItem}
+use Rattle.vale_entry.specs.Fits.{DestFits}
+use Rattle.vale_fields.specs.Widths.{IsByte, AreBytes, Is32, FitsItem, field_widths}
 use Rattle.vale_fields.proofs.Cuts.{IsItem}
 use Rattle.vale_fields.proofs.Numerals.{short-back}
 use Rattle.vale_fields.proofs.Splits.{unequal, list-back, IsFree, mark-found, take-front, drop-front}
@@ -73,7 +74,7 @@ frame-back f all = by_mark f.no_learn
 pub digit-free : (m : ℕ) → (IsDigit m → ⊥) → (n : ℕ) → IsFree (λ b. b == m) (decimal n)
 digit-free m none n = each-weaker IsDigit (λ b. (b == m) ≡ false) (λ b h. unequal b m (λ e. none (rw (sym e) h))) (decimal n) (decimal-digits n)
 
-pub dest-back : (d : Dest) → FitsDest d → dest_of (dest_text d) ≡ d
+pub dest-back : (d : Dest) → DestFits field_widths d → dest_of (dest_text d) ≡ d
 unfolding dest_of
 dest-back d fits =
     let to : List ℕ = decimal d.to.0 in
@@ -116,9 +117,9 @@ pub numbers-back : (xs : List ℕ) → Each Is32 xs → numbers_of (numbers_text
 numbers-back xs all =
     ap (map short_of) (list-back (map decimal xs) (each-map Is32 IsItem decimal (λ n h. decimal-item n) xs all)) ∙ map-back decimal short_of Is32 short-back xs all
 
-pub dests-back : (xs : List Dest) → Each FitsDest xs → dests_of (dests_text xs) ≡ xs
+pub dests-back : (xs : List Dest) → Each (DestFits field_widths) xs → dests_of (dests_text xs) ≡ xs
 dests-back xs all =
-    ap (map dest_of) (list-back (map dest_text xs) (each-map FitsDest IsItem dest_text (λ d h. dest-item d) xs all)) ∙ map-back dest_text dest_of FitsDest dest-back xs all
+    ap (map dest_of) (list-back (map dest_text xs) (each-map (DestFits field_widths) IsItem dest_text (λ d h. dest-item d) xs all)) ∙ map-back dest_text dest_of (DestFits field_widths) dest-back xs all
 
 abbrev IsReadItem : Item → Type 0
 IsReadItem item = FitsItem item × (is_unmarked item ≡ true)

@@ -26,7 +26,8 @@ use Rattle.vale_fields.specs.Fields.{long_of, short_of, name_of}
 use Rattle.vale_words.specs.Fixed.{side_of, sides_of, word_at}
 use Rattle.vale_fields.specs.Rows.{entry_of, row_of, open_answer, open_with, fault_by, watch_answer, watch_with}
 use Rattle.vale_fields.specs.Laws.{words_with, WordsAreRead}
-use Rattle.vale_fields.specs.Widths.{Is32, Is64, FitsAsk, FitsReply, FitsCounts}
+use Rattle.vale_entry.specs.Fits.{ReplyFits, CountsFits, AskFits}
+use Rattle.vale_fields.specs.Widths.{Is32, Is64, field_widths}
 use Rattle.vale_fields.proofs.Back.{numbers-back, dests-back, items-back, frames-back}
 use Rattle.vale_fields.proofs.Numerals.{long-back, short-back, half-back}
 use Rattle.vale_fields.proofs.Texts.{decimal-digits, not-number}
@@ -87,7 +88,7 @@ session-read : (session : SessionId) → Is32 session.0
 session-read session fits =
     session-back (short_of (decimal session.0)) session (short-back session.0 fits)
 
-counts-back : (counts : Counts) → FitsCounts counts
+counts-back : (counts : Counts) → CountsFits field_widths counts
     → record { sent = long_of (decimal counts.sent); short = long_of (decimal counts.short); lone = long_of (decimal counts.lone); given = long_of (decimal counts.given); full = long_of (decimal counts.full); read = long_of (decimal counts.read) } ≡ counts
 counts-back counts fits =
     let e0 = long-back counts.sent fits.0 in
@@ -108,7 +109,7 @@ IsOpenRead n words session ask =
 
 open-back : (n : ℕ) (first : List ℕ) (session who : SessionId) (name : List ℕ) (tx rx extra : ℕ)
     (reply : Reply) → session.0 ≡ who.0 → is_name name ≡ true → Is32 session.0
-    → FitsAsk (Open who name tx rx extra)
+    → AskFits field_widths (Open who name tx rx extra)
     → IsOpenRead n (words_of first session (Open who name tx rx extra) reply) session
     (Open who name tx rx extra)
 unfolding entry_of
@@ -126,7 +127,7 @@ open-back n first session who name tx rx extra reply one is fs fa =
 refused-back : (n : ℕ) (first : List ℕ) (session who : SessionId) (name : List ℕ) (tx rx extra : ℕ)
     (fault : OpenFault)
     → is_printable n session.0 (Open who name tx rx extra) (Refused fault) ≡ true → Is32 session.0
-    → FitsAsk (Open who name tx rx extra)
+    → AskFits field_widths (Open who name tx rx extra)
     → IsOpenRead n (words_of first session (Open who name tx rx extra) (Refused fault)) session
     (Open who name tx rx extra)
 refused-back n first session who name tx rx extra fault h fs fa =
@@ -166,7 +167,7 @@ watch-back n first session monitor target sides reply is fs fm same =
     ∙ entry-same (session-read session fs) asked same
 
 pub read-back : (n : ℕ) (first : List ℕ) (session : SessionId) (ask : Ask) (reply : Reply)
-    → is_printable n session.0 ask reply ≡ true → Is32 session.0 → FitsAsk ask → FitsReply reply
+    → is_printable n session.0 ask reply ≡ true → Is32 session.0 → AskFits field_widths ask → ReplyFits field_widths reply
     → IsRead n first session ask reply
 unfolding entry_of
 read-back n first session (Enter user) Made h fs fa fr =

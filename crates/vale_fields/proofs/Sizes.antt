@@ -11,7 +11,8 @@ use Rattle.vale_words.specs.Fixed.{word_at}
 use Rattle.vale_fields.specs.Lists.{parts_of, numbers_of, dests_of, items_of, frames_of}
 use Rattle.vale_fields.specs.Rows.{entry_of, row_of, open_with, open_answer, watch_with, watch_answer, put_answer, fault_by, enter_row, open_row, send_row, grant_row, done_row, sync_row, get_row, reset_row, shut_row, finish_row, leave_row, put_row, watch_row, stat_row}
 use Rattle.vale_fields.specs.Laws.{WhatIsReadFits}
-use Rattle.vale_fields.specs.Widths.{IsByte, AreBytes, Is32, FitsDest, FitsItem, FitsFault, FitsReply, FitsFields}
+use Rattle.vale_entry.specs.Fits.{DestFits, FaultFits, ReplyFits}
+use Rattle.vale_fields.specs.Widths.{IsByte, AreBytes, Is32, FitsItem, FitsFields, field_widths}
 use Rattle.vale_fields.proofs.Numerals.{long-fits, short-fits, half-fits}
 
 value-low : (b : ℕ) → hex_value b < 16
@@ -39,7 +40,7 @@ frame-fits w = by_mark (is_marked w)
     by_mark true = bytes-fit (drop 1 w)
     by_mark false = bytes-fit w
 
-dest-fits : (w : List ℕ) → FitsDest (dest_of w)
+dest-fits : (w : List ℕ) → DestFits field_widths (dest_of w)
 unfolding dest_of
 dest-fits w = (short-fits (front_by (mark_in 42 w) w), short-fits (back_by (mark_in 42 w) w))
 
@@ -54,8 +55,8 @@ map-fits f P fits (w ∷ ws) = (fits w, map-fits f P fits ws)
 numbers-fit : (w : List ℕ) → Each Is32 (numbers_of w)
 numbers-fit w = map-fits short_of Is32 short-fits (parts_of w)
 
-dests-fit : (w : List ℕ) → Each FitsDest (dests_of w)
-dests-fit w = map-fits dest_of FitsDest dest-fits (parts_of w)
+dests-fit : (w : List ℕ) → Each (DestFits field_widths) (dests_of w)
+dests-fit w = map-fits dest_of (DestFits field_widths) dest-fits (parts_of w)
 
 items-fit : (w : List ℕ) → Each FitsItem (items_of w)
 items-fit w = map-fits item_of FitsItem item-fits (parts_of w)
@@ -71,35 +72,35 @@ either-fits P false x y px py = py
 at : (i : ℕ) (ws : List (List ℕ)) → Is32 (short_of (word_at i ws))
 at i ws = short-fits (word_at i ws)
 
-answer-fits : (w : List ℕ) (ws : List (List ℕ)) → FitsReply (open_answer w ws)
+answer-fits : (w : List ℕ) (ws : List (List ℕ)) → ReplyFits field_widths (open_answer w ws)
 answer-fits w ws =
-    either-fits FitsReply (bytes_eq w (codes "ok")) replies.Opened _ tt
-    (either-fits FitsReply (bytes_eq w (codes "badsize")) (replies.Refused BadSize) _ tt
-    (either-fits FitsReply (bytes_eq w (codes "switchesfull")) (replies.Refused SwitchesFull) _ tt
-    (either-fits FitsReply (bytes_eq w (codes "portsfull")) (replies.Refused PortsFull) _ tt
-    (either-fits FitsReply (bytes_eq w (codes "nametaken")) (replies.Refused NameTaken) (replies.Refused (NoBuffers (short_of (word_at 9 ws)) (short_of (word_at 10 ws)))) tt (at 9 ws, at 10 ws)))))
+    either-fits (ReplyFits field_widths) (bytes_eq w (codes "ok")) replies.Opened _ tt
+    (either-fits (ReplyFits field_widths) (bytes_eq w (codes "badsize")) (replies.Refused BadSize) _ tt
+    (either-fits (ReplyFits field_widths) (bytes_eq w (codes "switchesfull")) (replies.Refused SwitchesFull) _ tt
+    (either-fits (ReplyFits field_widths) (bytes_eq w (codes "portsfull")) (replies.Refused PortsFull) _ tt
+    (either-fits (ReplyFits field_widths) (bytes_eq w (codes "nametaken")) (replies.Refused NameTaken) (replies.Refused (NoBuffers (short_of (word_at 9 ws)) (short_of (word_at 10 ws)))) tt (at 9 ws, at 10 ws)))))
 
-took-fits : (w : List ℕ) (ws : List (List ℕ)) → FitsReply (put_answer w ws)
-took-fits w ws = either-fits FitsReply (bytes_eq w (codes "took")) (replies.Took (items_of (word_at 7 ws)) (dests_of (word_at 9 ws))) replies.PeerGone (items-fit (word_at 7 ws), dests-fit (word_at 9 ws)) tt
+took-fits : (w : List ℕ) (ws : List (List ℕ)) → ReplyFits field_widths (put_answer w ws)
+took-fits w ws = either-fits (ReplyFits field_widths) (bytes_eq w (codes "took")) (replies.Took (items_of (word_at 7 ws)) (dests_of (word_at 9 ws))) replies.PeerGone (items-fit (word_at 7 ws), dests-fit (word_at 9 ws)) tt
 
-watch-fits : (w : List ℕ) (ws : List (List ℕ)) → FitsReply (watch_answer w ws)
+watch-fits : (w : List ℕ) (ws : List (List ℕ)) → ReplyFits field_widths (watch_answer w ws)
 watch-fits w ws =
-    either-fits FitsReply (bytes_eq w (codes "ok")) (replies.Watching (record { 0 = short_of (word_at 8 ws) })) _ (at 8 ws)
-    (either-fits FitsReply (bytes_eq w (codes "watched")) (replies.Watched (record { 0 = short_of (word_at 8 ws) })) replies.NoTarget (at 8 ws) tt)
+    either-fits (ReplyFits field_widths) (bytes_eq w (codes "ok")) (replies.Watching (record { 0 = short_of (word_at 8 ws) })) _ (at 8 ws)
+    (either-fits (ReplyFits field_widths) (bytes_eq w (codes "watched")) (replies.Watched (record { 0 = short_of (word_at 8 ws) })) replies.NoTarget (at 8 ws) tt)
 
-fault-fits : (w : List ℕ) (ws : List (List ℕ)) → FitsFault (fault_by w ws)
+fault-fits : (w : List ℕ) (ws : List (List ℕ)) → FaultFits field_widths (fault_by w ws)
 fault-fits w ws =
     let a = at 6 ws in
     let b = at 7 ws in
     let c = at 8 ws in
-    either-fits FitsFault (bytes_eq w (codes "headout")) (HeadOut (short_of (word_at 6 ws)) (short_of (word_at 7 ws)) (short_of (word_at 8 ws))) _ (a, b, c)
-    (either-fits FitsFault (bytes_eq w (codes "curout")) (CurOut (short_of (word_at 6 ws)) (short_of (word_at 7 ws)) (short_of (word_at 8 ws))) _ (a, b, c)
-    (either-fits FitsFault (bytes_eq w (codes "indirect")) (Indirect (short_of (word_at 6 ws))) _ a
-    (either-fits FitsFault (bytes_eq w (codes "indexout")) (IndexOut (short_of (word_at 6 ws)) (short_of (word_at 7 ws))) _ (a, b)
-    (either-fits FitsFault (bytes_eq w (codes "notheld")) (NotHeld (short_of (word_at 6 ws)) (short_of (word_at 7 ws))) _ (a, b)
-    (either-fits FitsFault (bytes_eq w (codes "doubled")) (Doubled (short_of (word_at 6 ws)) (short_of (word_at 7 ws))) _ (a, b)
-    (either-fits FitsFault (bytes_eq w (codes "unannounced")) (Unannounced (short_of (word_at 6 ws)) (short_of (word_at 7 ws)) (short_of (word_at 8 ws))) _ (a, b, c)
-    (either-fits FitsFault (bytes_eq w (codes "longlen")) (LongLen (short_of (word_at 6 ws)) (half_of (word_at 7 ws))) (Fragment (short_of (word_at 6 ws))) (a, half-fits (word_at 7 ws)) a)))))))
+    either-fits (FaultFits field_widths) (bytes_eq w (codes "headout")) (HeadOut (short_of (word_at 6 ws)) (short_of (word_at 7 ws)) (short_of (word_at 8 ws))) _ (a, b, c)
+    (either-fits (FaultFits field_widths) (bytes_eq w (codes "curout")) (CurOut (short_of (word_at 6 ws)) (short_of (word_at 7 ws)) (short_of (word_at 8 ws))) _ (a, b, c)
+    (either-fits (FaultFits field_widths) (bytes_eq w (codes "indirect")) (Indirect (short_of (word_at 6 ws))) _ a
+    (either-fits (FaultFits field_widths) (bytes_eq w (codes "indexout")) (IndexOut (short_of (word_at 6 ws)) (short_of (word_at 7 ws))) _ (a, b)
+    (either-fits (FaultFits field_widths) (bytes_eq w (codes "notheld")) (NotHeld (short_of (word_at 6 ws)) (short_of (word_at 7 ws))) _ (a, b)
+    (either-fits (FaultFits field_widths) (bytes_eq w (codes "doubled")) (Doubled (short_of (word_at 6 ws)) (short_of (word_at 7 ws))) _ (a, b)
+    (either-fits (FaultFits field_widths) (bytes_eq w (codes "unannounced")) (Unannounced (short_of (word_at 6 ws)) (short_of (word_at 7 ws)) (short_of (word_at 8 ws))) _ (a, b, c)
+    (either-fits (FaultFits field_widths) (bytes_eq w (codes "longlen")) (LongLen (short_of (word_at 6 ws)) (half_of (word_at 7 ws))) (Fragment (short_of (word_at 6 ws))) (a, half-fits (word_at 7 ws)) a)))))))
 
 abbrev MayFit : Option Entry → Type 0
 MayFit entry = IfSome entry FitsFields

@@ -9,7 +9,7 @@ use Rattle.vale_entry.specs.declared.entry.Dest.{Dest}
 use Rattle.vale_entry.specs.declared.entry.Item.{Item}
 use Rattle.vale_entry.specs.Transcript.{is_unmarked, item_text, items_text}
 use Rattle.vale_entry.specs.Transcript.{hex_digit, hex_byte, hex_text, list_text, frame_text, frames_text, numbers_text, dest_text, dests_text}
-use Rattle.vale_entry.specs.Fits.{FitsU64, FitsDest, FitsItem}
+use Rattle.vale_entry.specs.Fits.{FitsU64, FitsItem, u64_widths, DestFits}
 use Rattle.vale_entry.proofs.Each.{each-weaker, each-append, each-map}
 use Rattle.vale_fields.proofs.Cuts.{cut, IsWordByte, IsWord, IsItemByte, IsItem, list-same, list-word, map-apart}
 
@@ -95,7 +95,7 @@ star-not_digit h = absurd (omega (arith, h.0))
 pub dest-item : (d : Dest) → IsItem (dest_text d)
 dest-item d = each-append IsItemByte (decimal d.to.0 ++ 42 ∷ []) (decimal d.count) (each-append IsItemByte (decimal d.to.0) (42 ∷ []) (decimal-item d.to.0) (inl refl, tt)) (decimal-item d.count)
 
-dest-same : (d e : Dest) → FitsDest d → FitsDest e → dest_text d ≡ dest_text e → d ≡ e
+dest-same : (d e : Dest) → DestFits u64_widths d → DestFits u64_widths e → dest_text d ≡ dest_text e → d ≡ e
 dest-same d e pd pe same =
     let c = cut IsDigit (decimal d.to.0) (decimal e.to.0) 42 42 (decimal d.count) (decimal e.count) star-not_digit star-not_digit (decimal-digits d.to.0) (decimal-digits e.to.0)
     (sym (append_assoc (decimal d.to.0) (42 ∷ []) (decimal d.count)) ∙ (same ∙ append_assoc (decimal e.to.0) (42 ∷ []) (decimal e.count))) in
@@ -103,11 +103,11 @@ dest-same d e pd pe same =
     let count = decimal-same d.count e.count pd.1 pe.1 c.1.1 in
     ap (λ (n : ℕ). record d { to = record { 0 = n } }) to ∙ ap (λ (n : ℕ). record e { count = n }) count
 
-pub dests-same : (xs ys : List Dest) → Each FitsDest xs → Each FitsDest ys → dests_text xs ≡ dests_text ys → xs ≡ ys
-dests-same = lists-same dest_text FitsDest (λ d h. dest-item d) dest-same
+pub dests-same : (xs ys : List Dest) → Each (DestFits u64_widths) xs → Each (DestFits u64_widths) ys → dests_text xs ≡ dests_text ys → xs ≡ ys
+dests-same = lists-same dest_text (DestFits u64_widths) (λ d h. dest-item d) dest-same
 
-pub dests-word : (xs : List Dest) → Each FitsDest xs → IsWord (dests_text xs)
-dests-word = lists-word dest_text FitsDest (λ d h. dest-item d)
+pub dests-word : (xs : List Dest) → Each (DestFits u64_widths) xs → IsWord (dests_text xs)
+dests-word = lists-word dest_text (DestFits u64_widths) (λ d h. dest-item d)
 
 -- Frames.
 

@@ -24,7 +24,7 @@ use Rattle.nm_types.specs.declared.id.Sides.{Sides}
 use Rattle.nm_types.specs.declared.id.Sides.TheVariants as watched_sides
 use Rattle.nm_types.specs.declared.id.Counts.{Counts}
 use Rattle.vale_entry.specs.declared.entry.Item.{Item}
-use Rattle.vale_entry.specs.Fits.{FitsU64, FitsDest, FitsRefusal, FitsFault, FitsCounts, FitsAsk, FitsReply, FitsEntry}
+use Rattle.vale_entry.specs.Fits.{FitsU64, FitsEntry, u64_widths, DestFits, RefusalFits, FaultFits, ReplyFits, CountsFits, AskFits}
 use Rattle.vale_fields.proofs.Cuts.{IsWord, spell}
 use Rattle.vale_fields.proofs.Texts.{decimal-word, decimal-same as equal, decimal-digits, not-number, numbers-same, numbers-word, dests-same, dests-word, frames-same, frames-word, IsPlainItem, plain-items, items-same, items-word}
 use Rattle.vale_text.proofs.NameWords.{literal, name-word}
@@ -111,10 +111,10 @@ words (counted s port counts) = decimal s ∷ codes "stat" ∷ decimal port ∷ 
 
 abbrev IsSaidRefusal : Option OpenFault → Type 0
 IsSaidRefusal None = Unit {0}
-IsSaidRefusal (Some fault) = IsTrue (is_refusal fault) × FitsRefusal fault
+IsSaidRefusal (Some fault) = IsTrue (is_refusal fault) × RefusalFits u64_widths fault
 
 abbrev IsSaidFault : SyncFault → Type 0
-IsSaidFault fault = (is_check_fault fault ≡ true) × FitsFault fault
+IsSaidFault fault = (is_check_fault fault ≡ true) × FaultFits u64_widths fault
 
 abbrev FitsAnswer : Answer → Type 0
 FitsAnswer (watching port) = FitsU64 port
@@ -125,19 +125,19 @@ FitsAnswer (watched_by port) = FitsU64 port
 abbrev pub IsPlain : Said → Type 0
 IsPlain (entered user) = FitsU64 user
 IsPlain (opened s name tx rx extra refusal) = FitsU64 s × IsWord name × FitsU64 tx × FitsU64 rx × FitsU64 extra × IsSaidRefusal refusal
-IsPlain (sent s port frames short lone to) = FitsU64 s × FitsU64 port × FitsU64 short × FitsU64 lone × Each FitsDest to
+IsPlain (sent s port frames short lone to) = FitsU64 s × FitsU64 port × FitsU64 short × FitsU64 lone × Each (DestFits u64_widths) to
 IsPlain (granted s origin to given full gone) = FitsU64 s × FitsU64 origin × FitsU64 to × FitsU64 given × FitsU64 full × FitsU64 gone
 IsPlain (completed s lease) = FitsU64 s × FitsU64 lease
-IsPlain (synced s port back count to) = FitsU64 s × FitsU64 port × Each FitsU64 back × FitsU64 count × Each FitsDest to
+IsPlain (synced s port back count to) = FitsU64 s × FitsU64 port × Each FitsU64 back × FitsU64 count × Each (DestFits u64_widths) to
 IsPlain (closed s port) = FitsU64 s × FitsU64 port
 IsPlain (finished s port bufs found astray count) = FitsU64 s × FitsU64 port × Each FitsU64 bufs × FitsU64 found × FitsU64 astray × FitsU64 count
 IsPlain (departed s) = FitsU64 s
 IsPlain (reset s port side fault) = FitsU64 s × FitsU64 port × IsSaidFault fault
-IsPlain (took s port offered items to) = FitsU64 s × FitsU64 port × FitsU64 offered × Each IsPlainItem items × Each FitsDest to
+IsPlain (took s port offered items to) = FitsU64 s × FitsU64 port × FitsU64 offered × Each IsPlainItem items × Each (DestFits u64_widths) to
 IsPlain (lost s port offered) = FitsU64 s × FitsU64 port × FitsU64 offered
-IsPlain (received s port back count to) = FitsU64 s × FitsU64 port × Each FitsU64 back × FitsU64 count × Each FitsDest to
+IsPlain (received s port back count to) = FitsU64 s × FitsU64 port × Each FitsU64 back × FitsU64 count × Each (DestFits u64_widths) to
 IsPlain (monitored s monitor name sides answer) = FitsU64 s × FitsU64 monitor × IsWord name × FitsAnswer answer
-IsPlain (counted s port counts) = FitsU64 s × FitsU64 port × FitsCounts counts
+IsPlain (counted s port counts) = FitsU64 s × FitsU64 port × CountsFits u64_widths counts
 
 -- Each line is its words.
 
@@ -189,7 +189,7 @@ refusal-are-words (Some (NoBuffers want have)) = (literal (codes "nobuffers") re
 refusal-are-words (Some (RecordFull what used want)) = tt
 refusal-are-words (Some NoMemory) = tt
 
-offered-are-words : (short lone : ℕ) (to : List Dest) → Each FitsDest to
+offered-are-words : (short lone : ℕ) (to : List Dest) → Each (DestFits u64_widths) to
     → Each IsWord (codes "short" ∷ decimal short ∷ codes "lone" ∷ decimal lone ∷ codes "to" ∷ dests_text to ∷ [])
 offered-are-words short lone to fits =
     (literal (codes "short") refl, (decimal-word short, (literal (codes "lone") refl, (decimal-word lone, (literal (codes "to") refl, (dests-word to fits, tt))))))
@@ -199,7 +199,7 @@ shared-are-words : (given full gone : ℕ)
 shared-are-words given full gone =
     (literal (codes "given") refl, (decimal-word given, (literal (codes "full") refl, (decimal-word full, (literal (codes "gone") refl, (decimal-word gone, tt))))))
 
-gave-are-words : (count : ℕ) (to : List Dest) → Each FitsDest to → Each IsWord (codes "gave" ∷ decimal count ∷ codes "to" ∷ dests_text to ∷ [])
+gave-are-words : (count : ℕ) (to : List Dest) → Each (DestFits u64_widths) to → Each IsWord (codes "gave" ∷ decimal count ∷ codes "to" ∷ dests_text to ∷ [])
 gave-are-words count to fits = (literal (codes "gave") refl, (decimal-word count, (literal (codes "to") refl, (dests-word to fits, tt))))
 
 found-are-words : (found astray count : ℕ)
@@ -374,7 +374,7 @@ answer-same no_target no_target pa pb e = refl
 answer-same (watched_by p) (watched_by q) pa pb e = ap watched_by (equal p q pa pb (word e 1))
 answer-same a b pa pb e = absurd (omega (arith, ap (mark_at 0) e))
 
-counts-same : (a b : Counts) → FitsCounts a → FitsCounts b → counts_words a ≡ counts_words b → a ≡ b
+counts-same : (a b : Counts) → CountsFits u64_widths a → CountsFits u64_widths b → counts_words a ≡ counts_words b → a ≡ b
 counts-same a b pa pb e =
     let e0 = equal a.sent b.sent pa.0 pb.0 (word e 1) in
     let e1 = equal a.short b.short pa.1 pb.1 (word e 3) in
@@ -472,7 +472,7 @@ pub record Says (n : ℕ) (e : Entry) : Type 0 where
 no-truth : {X : Type 0} → false ≡ true → X
 no-truth e = absurd cc
 
-said-by : (n : ℕ) (session : SessionId) (ask : Ask) (reply : Reply) → IsTrue (is_printable n session.0 ask reply) → FitsU64 session.0 → FitsAsk ask → FitsReply reply
+said-by : (n : ℕ) (session : SessionId) (ask : Ask) (reply : Reply) → IsTrue (is_printable n session.0 ask reply) → FitsU64 session.0 → AskFits u64_widths ask → ReplyFits u64_widths reply
     → Says n (record { session = session; ask = ask; reply = reply })
 said-by n session (Enter user) Made h fs fa fr =
     let number : session.0 ≡ n = eqb-true session.0 n h in

@@ -13,8 +13,9 @@ use Rattle.vale_entry.specs.declared.entry.Reply.{Reply}
 use Rattle.vale_entry.specs.declared.entry.Reply.TheVariants as replies
 use Rattle.vale_entry.specs.declared.entry.Entry.{Entry}
 use Rattle.vale_entry.proofs.Each.{each-weaker}
+use Rattle.vale_entry.specs.Fits.{DestFits, RefusalFits, FaultFits, AskFits, ReplyFits, u64_widths}
 use Rattle.vale_entry.specs.Fits as wide
-use Rattle.vale_fields.specs.Widths.{Is16, Is32, FitsDest, FitsItem, FitsRefusal, FitsFault, FitsAsk, FitsReply, FitsFields}
+use Rattle.vale_fields.specs.Widths.{Is16, Is32, FitsItem, FitsFields, field_widths}
 
 pub wider : (n : ℕ) → Is32 n → wide.FitsU64 n
 wider n h = omega (arith, h)
@@ -25,13 +26,13 @@ half-wider n h = omega (arith, h)
 numbers-wider : (ns : List ℕ) → Each Is32 ns → Each wide.FitsU64 ns
 numbers-wider ns all = each-weaker Is32 wide.FitsU64 wider ns all
 
-dests-wider : (ds : List Dest) → Each FitsDest ds → Each wide.FitsDest ds
-dests-wider ds all = each-weaker FitsDest wide.FitsDest (λ d h. (wider d.to.0 h.0, wider d.count h.1)) ds all
+dests-wider : (ds : List Dest) → Each (DestFits field_widths) ds → Each (DestFits u64_widths) ds
+dests-wider ds all = each-weaker (DestFits field_widths) (DestFits u64_widths) (λ d h. (wider d.to.0 h.0, wider d.count h.1)) ds all
 
 items-wider : (is : List Item) → Each FitsItem is → Each wide.FitsItem is
 items-wider is all = each-weaker FitsItem wide.FitsItem (λ i h. wider i.index h.0) is all
 
-refusal-wider : (f : OpenFault) → FitsRefusal f → wide.FitsRefusal f
+refusal-wider : (f : OpenFault) → RefusalFits field_widths f → RefusalFits u64_widths f
 refusal-wider (refusals.NoBuffers want have) h = (wider want h.0, wider have h.1)
 refusal-wider refusals.BadSize h = tt
 refusal-wider refusals.SwitchesFull h = tt
@@ -40,7 +41,7 @@ refusal-wider refusals.NameTaken h = tt
 refusal-wider (refusals.RecordFull what used want) h = tt
 refusal-wider refusals.NoMemory h = tt
 
-fault-wider : (f : SyncFault) → FitsFault f → wide.FitsFault f
+fault-wider : (f : SyncFault) → FaultFits field_widths f → FaultFits u64_widths f
 fault-wider (faults.HeadOut a b c) h = (wider a h.0, wider b h.1, wider c h.2)
 fault-wider (faults.CurOut a b c) h = (wider a h.0, wider b h.1, wider c h.2)
 fault-wider (faults.Indirect a) h = wider a h
@@ -54,7 +55,7 @@ fault-wider faults.PeerGone h = tt
 fault-wider (faults.RecordFull what used want) h = tt
 fault-wider faults.NoMemory h = tt
 
-ask-wider : (a : Ask) → FitsAsk a → wide.FitsAsk a
+ask-wider : (a : Ask) → AskFits field_widths a → AskFits u64_widths a
 ask-wider (asks.Enter user) h = h
 ask-wider (asks.Open asked name tx rx extra) h = (wider tx h.0, wider rx h.1, wider extra h.2)
 ask-wider (asks.Send port frames) h = wider port.0 h.0
@@ -71,7 +72,7 @@ ask-wider (asks.Get port back) h = (wider port.0 h.0, numbers-wider back h.1)
 ask-wider (asks.Watch monitor target sides) h = wider monitor.0 h
 ask-wider (asks.Stat port) h = wider port.0 h
 
-reply-wider : (r : Reply) → FitsReply r → wide.FitsReply r
+reply-wider : (r : Reply) → ReplyFits field_widths r → ReplyFits u64_widths r
 reply-wider replies.Made h = tt
 reply-wider replies.Opened h = tt
 reply-wider (replies.Refused fault) h = refusal-wider fault h
