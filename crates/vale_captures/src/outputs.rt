@@ -13,6 +13,7 @@ use nm_io::{Failed, Shelf, append_all};
 use pcap_io::{Record, header, record_head};
 use std::alloc::{AllocError, Global};
 use std::marker::Model;
+use vale_entry::Listed;
 
 /// How many bytes are gathered before they go out.
 const PAGE_BYTES: usize = 65_536;
@@ -34,27 +35,7 @@ impl Model for Saved {
 }
 
 /// All files that a script saves, in the order of its `save` lines.
-#[derive(Drop)]
-pub struct Outputs {
-    saved: Vec<Saved>,
-}
-
-impl Model for Outputs {
-    ghost use Rattle.std.specs.Prelude.{List};
-    ghost use Rattle.vale_captures.specs.Outputs.{OutputFile};
-
-    ghost Value = { List OutputFile };
-
-    ghost view = { λ o. o.saved.items };
-}
-
-impl From<Vec<Saved>> for Outputs {
-    ghost from_gives = { λ saved outputs. outputs ≡ saved.items };
-
-    fn from(saved: Vec<Saved>) -> Self {
-        Outputs { saved }
-    }
-}
+pub type Outputs = Listed<Saved>;
 
 /// Why a file was not saved whole.
 #[derive(Clone, Copy, Debug, PartialEq, Eq)]
@@ -195,7 +176,7 @@ pub fn write_outputs<S: Shelf>(
     ensures appends_later { (other : List ℕ) →
         S.append_faults shelf.old other ≤ S.append_faults shelf.new other }
 {
-    for saved in &outputs.saved {
+    for saved in outputs.as_slice() {
         match saved.write(alloc, shelf) {
             Ok(()) => {}
             Err(fault) => return Err(fault),

@@ -11,8 +11,8 @@ returns-in-Err-clause-stops g c =
     let new = g.S.Shelf.files c.write.new.shelf in
     let k = c.loop-saved.saved-index in
     let o = c.saved-item.result in
-    let items = c.deref-saved-items.result.now in
-    let is : items ≡ c.args.outputs.now = c.deref-saved-items.ensures.value ∙ c.outputs.view_is in
+    let items = c.as_slice-saved-items.result.now in
+    let is : items ≡ c.args.outputs.now = c.as_slice-saved-items.ensures in
     subst (λ (outputs : List OutputFile). StopsAtOutput old new outputs (λ name. (g.S.Shelf.append_faults c.args.shelf.now name, g.S.Shelf.append_faults c.write.new.shelf name)) (has_failed c.in-Err.fault)) is (record {
       at = k;
       output = o;
@@ -27,7 +27,7 @@ loop-saved-preserved g c =
     let old = g.S.Shelf.files c.args.shelf.now in
     let k = c.loop-saved.saved-index in
     let o = c.saved-item.result in
-    let items = c.deref-saved-items.result.now in
+    let items = c.as_slice-saved-items.result.now in
     record {
       files = c.in-Ok.ensures.appends ∙ (ap (λ (f : Option Files). appended_told f o.file (text_of o)) c.loop-saved.invariant.files
           ∙ (sym (appended-next old (take k items) o) ∙ ap (all_appended old) (sym (taken-next items k o (slice_get_read items (length items) k o refl (omega (arith, c.loop-saved-test.true)) c.saved-item.is)))));
