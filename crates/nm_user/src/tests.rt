@@ -3,9 +3,9 @@ ghost use Rattle.std.specs.Prelude.{◌≡◌};
 ghost use Rattle.nm_user.specs.Words.{IsPassIn};
 
 use crate::Session;
+use lines::play;
 use nm_io::NoGate;
-use nm_types::{Limits, Name, PortId, Side, Sides, Slot, SlotFlags, SyncFault};
-use std::alloc::Global;
+use nm_types::{Name, PortId, Side, Sides, Slot, SlotFlags, SyncFault};
 use std::process::Abort;
 use std::sync::Wait;
 use std::test::Fail;
@@ -18,11 +18,6 @@ mod refusals;
 mod threads;
 mod waiting;
 
-const LIMITS: Limits = Limits {
-    entries: 100,
-    bytes: 10_000,
-};
-
 /// A broadcast from 02:00:00:00:00:0a.
 const FRAME: [u8; 14] = [255, 255, 255, 255, 255, 255, 2, 0, 0, 0, 0, 10, 136, 181];
 
@@ -33,14 +28,6 @@ const OUT: SyncFault = SyncFault::HeadOut {
     to: 1,
 };
 
-/// A slot that names the second buffer of the port that was opened first.
-const FOREIGN: Slot = Slot {
-    buf_idx: 3,
-    len: 14,
-    flags: SlotFlags::BUF_CHANGED.0,
-    ptr: 0,
-};
-
 /// The first transmit slot of the port that was opened second, as a reset leaves it.
 const RESET: Slot = Slot {
     buf_idx: 10,
@@ -49,34 +36,106 @@ const RESET: Slot = Slot {
     ptr: 0,
 };
 
-/// A user comes.
-fn enter<'f, R: Abort + Wait>(
-    rt: &R,
-    alloc: Global,
-    fabric: &'f Fabric,
-    pass: Pass,
-    user: u64,
-) -> Session<'f>
-    requires { IsPassIn fabric.now pass }
-    ensures { result.fabric ≡ fabric.now }
-{
-    match Session::enter(alloc, rt, fabric, pass, user) {
-        Ok(session) => session,
-        Err((fault, _pass)) => panic!(rt; "{fault:?}"),
-    }
+/// The slots of a port's rings, and its extra buffers.
+#[derive(Clone, Copy)]
+struct Sizes {
+    tx: u32,
+    rx: u32,
+    extra: u32,
 }
 
-/// A port of this name is opened with `tx` transmit slots and four receive slots.
-fn open<R: Abort + Wait>(rt: &R, session: &mut Session, name: &str, tx: u32) -> PortId
+/// Four slots in each ring.
+const FOUR: Sizes = Sizes {
+    tx: 4,
+    rx: 4,
+    extra: 0,
+};
+
+/// A monitor's: no transmit slots.
+const MONITOR: Sizes = Sizes {
+    tx: 0,
+    rx: 4,
+    extra: 0,
+};
+
+/// A user with a port.
+struct User<'f> {
+    session: Session<'f>,
+    port: PortId,
+}
+
+/// A port of this name is opened.
+fn open<R: Abort + Wait>(rt: &R, session: &mut Session, name: &str, sizes: Sizes) -> PortId
     ensures fabric { session.new.fabric ≡ session.old.fabric }
 {
     let opened = match Name::parse(name) {
-        Ok(name) => session.open(rt, &name, tx, 4, 0),
+        Ok(name) => session.open(rt, &name, sizes.tx, sizes.rx, sizes.extra),
         Err(_) => panic!(rt; "{name}"),
     };
     match opened {
         Ok(port) => port,
         Err(fault) => panic!(rt; "{fault:?}"),
+    }
+}
+
+/// A user comes, and opens a port of this name.
+fn come<'f, R: AllocGlobal + Abort + Wait>(
+    rt: &R,
+    fabric: &'f Fabric,
+    pass: Pass,
+    user: u64,
+    name: &str,
+    sizes: Sizes,
+) -> User<'f>
+    requires { IsPassIn fabric.now pass }
+    ensures { result.session.fabric ≡ fabric.now }
+{
+    match Session::enter(rt.alloc(), rt, fabric, pass, user) {
+        Ok(mut session) => {
+            let port = open(rt, &mut session, name, sizes);
+            User { session, port }
+        }
+        Err((fault, _pass)) => panic!(rt; "{fault:?}"),
+    }
+}
+
+/// A user leaves.
+fn leave<R: Wait>(rt: &R, user: User) -> Pass
+    ensures { IsPassIn user.entry.session.fabric result }
+{
+    let User { session, port: _ } = user;
+    session.leave(rt)
+}
+
+/// Three users come, and open a port each.
+fn three_come<'f, R: AllocGlobal + Abort + Wait>(
+    rt: &R,
+    fabric: &'f Fabric,
+    pass: Pass,
+    ports: [(&str, Sizes); 3],
+) -> (User<'f>, User<'f>, User<'f>)
+    requires { IsPassIn fabric.now pass }
+    ensures { result.0.session.fabric ≡ fabric.now × result.1.session.fabric ≡ fabric.now
+        × result.2.session.fabric ≡ fabric.now }
+{
+    let mut pass = pass;
+    let two = fabric.fork(&mut pass);
+    let three = fabric.fork(&mut pass);
+    let [first, second, third] = ports;
+    (
+        come(rt, fabric, pass, 1, first.0, first.1),
+        come(rt, fabric, two, 2, second.0, second.1),
+        come(rt, fabric, three, 3, third.0, third.1),
+    )
+}
+
+/// A slot that names another buffer than before, with so many bytes.
+fn naming(buf_idx: u32, len: u16) -> Slot {
+    Slot {
+        buf_idx,
+        len,
+        flags: SlotFlags::BUF_CHANGED.0,
+        ptr: 0,
     }
 }
 
@@ -89,15 +148,13 @@ fn user_slots(session: &Session, port: PortId, side: Side) -> Option<(u32, u32)>
 }
 
 /// A user comes, opens a port, looks at its rings and leaves.
-fn open_and_leave<R: Abort + Wait>(rt: &R, alloc: Global, fabric: &Fabric, pass: Pass) -> Pass
+fn open_and_leave<R: AllocGlobal + Abort + Wait>(rt: &R, fabric: &Fabric, pass: Pass)
     requires { IsPassIn fabric.now pass }
-    ensures { IsPassIn fabric.now result }
 {
-    let mut session = enter(rt, alloc, fabric, pass, 1);
-    let port = open(rt, &mut session, "vale0:a", 4);
+    let User { session, port } = come(rt, fabric, pass, 1, "vale0:a", FOUR);
     assert_eq!(rt; user_slots(&session, port, Side::Tx), Some((0, 3)));
     assert_eq!(rt; user_slots(&session, port, Side::Rx), Some((0, 0)));
-    session.leave(rt)
+    drop(session.leave(rt));
 }
 
 /// A frame that was put goes on, and so many ports are granted it.
@@ -175,11 +232,12 @@ fn go_too_far<R: Abort + Wait>(rt: &R, session: &mut Session, port: PortId)
     assert_eq!(rt; user_slots(session, port, Side::Rx), Some((1, 0)));
 }
 
-/// A slot that names another user's buffer is refused, and the ring reset.
+/// A slot that names another user's buffer, the second one of the port that was opened first, is
+/// refused, and the ring reset.
 fn name_foreign<R: Abort + Wait>(rt: &R, session: &mut Session, port: PortId)
     ensures { session.new.fabric ≡ session.old.fabric }
 {
-    session.put_slot(port, Side::Tx, 0, FOREIGN);
+    session.put_slot(port, Side::Tx, 0, naming(3, 14));
     session.put_positions(port, Side::Tx, 1, 1);
     assert!(rt; session.ring(port, Side::Tx).is_some());
     match session.tx_sync(rt, port, &NoGate) {
@@ -191,110 +249,77 @@ fn name_foreign<R: Abort + Wait>(rt: &R, session: &mut Session, port: PortId)
 }
 
 /// A monitor watches what a port of a switch sends.
-fn watch<R: Abort + Wait>(rt: &R, session: &mut Session, target: &str) -> PortId
+fn watch<R: Abort + Wait>(rt: &R, session: &mut Session, monitor: PortId, target: &str)
     ensures { session.new.fabric ≡ session.old.fabric }
 {
-    let monitor = open(rt, session, "mon0", 0);
     let name = match Name::parse(target) {
         Ok(name) => name,
         Err(_) => panic!(rt; "{target}"),
     };
     assert!(rt; session.is_monitor(monitor) && name.is_switch_port());
     match session.watch(rt, monitor, &name, Sides::T) {
-        Ok(_) => monitor,
+        Ok(_) => {}
         Err(fault) => panic!(rt; "{fault:?}"),
     }
 }
 
 /// One user sends a frame to another, and both leave.
-fn send_and_leave<R: Abort + Wait>(
-    rt: &R,
-    alloc: Global,
-    fabric: &Fabric,
-    one: Pass,
-    two: Pass,
-) -> (Pass, Pass)
-    requires one { IsPassIn fabric.now one }
-    requires two { IsPassIn fabric.now two }
-    ensures { IsPassIn fabric.now result.0 × IsPassIn fabric.now result.1 }
+fn send_and_leave<R: AllocGlobal + Abort + Wait>(rt: &R, fabric: &Fabric, pass: Pass)
+    requires { IsPassIn fabric.now pass }
 {
-    let mut sender = enter(rt, alloc, fabric, one, 1);
-    let mut receiver = enter(rt, alloc, fabric, two, 2);
-    let from = open(rt, &mut sender, "vale0:a", 4);
-    let to = open(rt, &mut receiver, "vale0:b", 4);
-    sender.put_frame(from, &FRAME);
-    send(rt, &mut sender, from, 1);
-    receive(rt, &mut receiver, to);
-    give_back(rt, &mut receiver, to);
-    go_too_far(rt, &mut receiver, to);
-    (sender.leave(rt), receiver.leave(rt))
+    let mut pass = pass;
+    let two = fabric.fork(&mut pass);
+    let mut sender = come(rt, fabric, pass, 1, "vale0:a", FOUR);
+    let mut receiver = come(rt, fabric, two, 2, "vale0:b", FOUR);
+    let (from, to) = (sender.port, receiver.port);
+    sender.session.put_frame(from, &FRAME);
+    send(rt, &mut sender.session, from, 1);
+    receive(rt, &mut receiver.session, to);
+    give_back(rt, &mut receiver.session, to);
+    go_too_far(rt, &mut receiver.session, to);
+    let mut left = leave(rt, sender);
+    fabric.join(&mut left, leave(rt, receiver));
 }
 
 /// A frame goes through a pipe, and one to a port of a switch and to a monitor; a slot that names
 /// another user's buffer is refused; and all leave.
-fn pipe_and_watch<R: Abort + Wait>(
-    rt: &R,
-    alloc: Global,
-    fabric: &Fabric,
-    passes: (Pass, Pass, Pass),
-) -> (Pass, Pass, Pass)
-    requires { IsPassIn fabric.now passes.0 × IsPassIn fabric.now passes.1
-        × IsPassIn fabric.now passes.2 }
-    ensures { IsPassIn fabric.now result.0 × IsPassIn fabric.now result.1
-        × IsPassIn fabric.now result.2 }
+fn pipe_and_watch<R: AllocGlobal + Abort + Wait>(rt: &R, fabric: &Fabric, pass: Pass)
+    requires { IsPassIn fabric.now pass }
 {
-    let (one, two, three) = passes;
-    let mut master = enter(rt, alloc, fabric, one, 1);
-    let mut slave = enter(rt, alloc, fabric, two, 2);
-    let mut watcher = enter(rt, alloc, fabric, three, 3);
-    let from = open(rt, &mut master, "pipe0{", 4);
-    let to = open(rt, &mut slave, "pipe0}", 4);
-    write_frame(rt, &mut master, from);
-    send(rt, &mut master, from, 0);
-    receive(rt, &mut slave, to);
-    let sender = open(rt, &mut master, "vale0:a", 4);
-    let receiver = open(rt, &mut slave, "vale0:b", 4);
-    let monitor = watch(rt, &mut watcher, "vale0:a");
-    master.put_frame(sender, &FRAME);
-    send(rt, &mut master, sender, 2);
-    receive(rt, &mut slave, receiver);
-    receive(rt, &mut watcher, monitor);
-    name_foreign(rt, &mut slave, to);
-    (master.leave(rt), slave.leave(rt), watcher.leave(rt))
+    let ports = [("pipe0{", FOUR), ("pipe0}", FOUR), ("mon0", MONITOR)];
+    let (mut master, mut slave, mut watcher) = three_come(rt, fabric, pass, ports);
+    let (from, to, monitor) = (master.port, slave.port, watcher.port);
+    write_frame(rt, &mut master.session, from);
+    send(rt, &mut master.session, from, 0);
+    receive(rt, &mut slave.session, to);
+    let sender = open(rt, &mut master.session, "vale0:a", FOUR);
+    let receiver = open(rt, &mut slave.session, "vale0:b", FOUR);
+    watch(rt, &mut watcher.session, monitor, "vale0:a");
+    master.session.put_frame(sender, &FRAME);
+    send(rt, &mut master.session, sender, 2);
+    receive(rt, &mut slave.session, receiver);
+    receive(rt, &mut watcher.session, monitor);
+    name_foreign(rt, &mut slave.session, to);
+    let mut left = leave(rt, master);
+    fabric.join(&mut left, leave(rt, slave));
+    fabric.join(&mut left, leave(rt, watcher));
 }
 
 #[test]
 fn a_user_opens_a_port_and_leaves(rt: HostRuntime) -> Result<(), Fail> {
-    let (fabric, pass) = Fabric::new(rt.alloc(), 64, LIMITS)?;
-    let pass = open_and_leave(&rt, rt.alloc(), &fabric, pass);
-    let book = fabric.close(&rt, pass);
-    assert!(rt; book.free() == book.buffers());
-    assert_eq!(rt; book.close().len(), 5);
+    let (_, history) = play(&rt, |fabric, pass| open_and_leave(&rt, fabric, pass))?;
+    assert_eq!(rt; history.len(), 5);
     Ok(())
 }
 
 #[test]
 fn a_frame_goes_from_one_user_to_another(rt: HostRuntime) -> Result<(), Fail> {
-    let (fabric, mut one) = Fabric::new(rt.alloc(), 64, LIMITS)?;
-    let two = fabric.fork(&mut one);
-    let (mut one, two) = send_and_leave(&rt, rt.alloc(), &fabric, one, two);
-    fabric.join(&mut one, two);
-    let book = fabric.close(&rt, one);
-    assert!(rt; book.free() == book.buffers());
-    drop(book.close());
+    drop(play(&rt, |fabric, pass| send_and_leave(&rt, fabric, pass))?);
     Ok(())
 }
 
 #[test]
 fn frames_go_through_a_pipe_and_to_a_monitor(rt: HostRuntime) -> Result<(), Fail> {
-    let (fabric, mut one) = Fabric::new(rt.alloc(), 64, LIMITS)?;
-    let two = fabric.fork(&mut one);
-    let three = fabric.fork(&mut one);
-    let (mut one, two, three) = pipe_and_watch(&rt, rt.alloc(), &fabric, (one, two, three));
-    fabric.join(&mut one, two);
-    fabric.join(&mut one, three);
-    let book = fabric.close(&rt, one);
-    assert!(rt; book.free() == book.buffers());
-    drop(book.close());
+    drop(play(&rt, |fabric, pass| pipe_and_watch(&rt, fabric, pass))?);
     Ok(())
 }

@@ -1,12 +1,11 @@
 //! Chains of extra buffers, whole and broken, as a closed port tells them.
 ghost use Rattle.nm_user.specs.Words.{IsPassIn};
 
-use super::enter;
-use super::lines::{LIMITS, recorded};
+use super::lines::play;
+use super::{Sizes, User, come, naming};
 use crate::{Detached, Session};
 use nm_io::NoGate;
-use nm_types::{Chain, Name, PortId, Side, Slot, SlotFlags};
-use std::alloc::Global;
+use nm_types::{Chain, PortId, Side};
 use std::process::Abort;
 use std::sync::Wait;
 use std::test::Fail;
@@ -39,29 +38,16 @@ const CHAINS: [(Change, u32, u32, u32); 8] = [
     (Change::Exchange, 0, 2, 6),
 ];
 
-/// A slot that names the first extra buffer.
-const TAKES: Slot = Slot {
-    buf_idx: 6,
-    len: 0,
-    flags: SlotFlags::BUF_CHANGED.0,
-    ptr: 0,
+/// Two slots in each ring, and three extra buffers.
+const EXTRAS: Sizes = Sizes {
+    tx: 2,
+    rx: 2,
+    extra: 3,
 };
-
-/// A port with three extra buffers is opened.
-fn open_with_extras<R: Abort + Wait>(rt: &R, session: &mut Session) -> PortId {
-    let opened = match Name::parse("vale0:a") {
-        Ok(name) => session.open(rt, &name, 2, 2, 3),
-        Err(fault) => panic!(rt; "{fault:?}"),
-    };
-    match opened {
-        Ok(port) => port,
-        Err(fault) => panic!(rt; "{fault:?}"),
-    }
-}
 
 /// A slot that names the first extra buffer is pushed, with an empty frame.
 fn exchange<R: Abort + Wait>(rt: &R, session: &mut Session, port: PortId) {
-    session.put_slot(port, Side::Tx, 0, TAKES);
+    session.put_slot(port, Side::Tx, 0, naming(6, 0));
     session.put_positions(port, Side::Tx, 1, 1);
     assert!(rt; session.ring(port, Side::Tx).is_some());
     match session.tx_sync(rt, port, &NoGate) {
@@ -95,17 +81,15 @@ fn extras(session: &Session, port: PortId) -> [Option<u32>; 4] {
 }
 
 /// A user opens a port, changes its chain of extra buffers, closes it and leaves.
-fn close_with<R: Abort + Wait>(
+fn close_with<R: AllocGlobal + Abort + Wait>(
     rt: &R,
-    alloc: Global,
     fabric: &Fabric,
     pass: Pass,
     row: (Change, u32, u32, u32),
 ) -> Detached
     requires { IsPassIn fabric.now pass }
 {
-    let mut session = enter(rt, alloc, fabric, pass, 1);
-    let port = open_with_extras(rt, &mut session);
+    let User { mut session, port } = come(rt, fabric, pass, 1, "vale0:a", EXTRAS);
     assert_eq!(rt; session.extra_head(port), Some(6));
     assert_eq!(rt; extras(&session, port), [Some(6), Some(7), Some(8), None]);
     make(rt, &mut session, port, row.0);
@@ -119,15 +103,13 @@ fn close_with<R: Abort + Wait>(
 #[test]
 fn a_closed_port_tells_its_chain(rt: HostRuntime) -> Result<(), Fail> {
     for row in CHAINS {
-        let (fabric, mut pass) = Fabric::new(rt.alloc(), 64, LIMITS)?;
-        let one = fabric.fork(&mut pass);
-        let detached = close_with(&rt, rt.alloc(), &fabric, one, row);
+        let (detached, history) = play(&rt, |fabric, pass| close_with(&rt, fabric, pass, row))?;
         let chain = Chain {
             found: row.1,
             astray: 3u32.wrapping_sub(row.1),
         };
         assert_eq!(rt; detached, Detached { unread: 0, chain });
-        assert_eq!(rt; recorded(&rt, fabric, pass).len(), row.3);
+        assert_eq!(rt; history.len(), row.3);
     }
     Ok(())
 }

@@ -1,14 +1,14 @@
 //! What a history has, entry by entry, and the history of users who have left.
 ghost use Rattle.nm_user.specs.Words.{IsPassIn};
 
-use nm_types::{Chain, Limits, Side, SyncFault};
+use nm_types::{Chain, Limits, NoMemory, Side, SyncFault};
 use std::process::Abort;
 use std::sync::Wait;
 use vale_entry::{Ask, Entry, History, Reply};
 use vale_fabric::{Fabric, Pass};
 
 /// Room for any life here.
-pub(super) const LIMITS: Limits = Limits {
+const LIMITS: Limits = Limits {
     entries: 10_000,
     bytes: 100_000,
 };
@@ -72,20 +72,17 @@ pub(super) fn are_lines(rt: &impl Abort, history: &History, wanted: &[(u32, Line
     assert_eq!(rt; at, wanted.len());
 }
 
-/// Passes for three users. The fabric's first one is kept.
-pub(super) fn three_passes(fabric: &Fabric, pass: &mut Pass) -> (Pass, Pass, Pass)
-    requires { IsPassIn fabric.now pass.old }
-    ensures first { IsPassIn fabric.now pass.new × IsPassIn fabric.now result.0 }
-    ensures others { IsPassIn fabric.now result.1 × IsPassIn fabric.now result.2 }
+/// Users live on a fabric of 128 buffers. Answers what their life told, and what was recorded once all
+/// have left: every buffer is free again.
+pub(super) fn play<R: AllocGlobal + Abort + Wait, T, F: FnOnce(&Fabric, Pass) -> T>(
+    rt: &R,
+    life: F,
+) -> Result<(T, History), NoMemory>
+    requires { (fabric : _) (pass : _) → IsPassIn fabric.now pass → F.pre life fabric pass }
 {
-    (fabric.fork(pass), fabric.fork(pass), fabric.fork(pass))
-}
-
-/// What was recorded once all have left: every buffer is free again.
-pub(super) fn recorded<R: Abort + Wait>(rt: &R, fabric: Fabric, pass: Pass) -> History
-    requires { IsPassIn fabric pass }
-{
+    let (fabric, mut pass) = Fabric::new(rt.alloc(), 128, LIMITS)?;
+    let told = life(&fabric, fabric.fork(&mut pass));
     let book = fabric.close(rt, pass);
     assert!(rt; book.free() == book.buffers());
-    book.close()
+    Ok((told, book.close()))
 }

@@ -1,12 +1,11 @@
 //! Syncs that a check refuses: each is recorded as a reset, and the next frame is sent.
 ghost use Rattle.nm_user.specs.Words.{IsPassIn};
 
-use super::lines::{LIMITS, Line, NONE, are_lines, recorded};
-use super::{FRAME, enter, open};
+use super::lines::{Line, NONE, are_lines, play};
+use super::{FRAME, Sizes, User, come};
 use crate::Session;
 use nm_io::NoGate;
 use nm_types::{PortId, Side, Slot, SyncFault};
-use std::alloc::Global;
 use std::process::Abort;
 use std::sync::Wait;
 use std::test::Fail;
@@ -32,8 +31,8 @@ const REFUSED: [(u32, Write, SyncFault); 12] = [
     ),
     (
         4,
-        Write::Slot(0, 66, 14, 0),
-        SyncFault::IndexOut { slot: 0, idx: 66 },
+        Write::Slot(0, 130, 14, 0),
+        SyncFault::IndexOut { slot: 0, idx: 130 },
     ),
     (
         4,
@@ -107,12 +106,19 @@ const REFUSED: [(u32, Write, SyncFault); 12] = [
     ),
 ];
 
-/// Writes, and answers which ring is then to be synced.
-fn write_on(rt: &impl Abort, session: &mut Session, port: PortId, wrong: Write) -> Side {
+/// The ring that is to be synced behind a write.
+fn side_of(wrong: Write) -> Side {
+    match wrong {
+        Write::Positions(side, _, _) => side,
+        Write::Slot(_, _, _, _) => Side::Tx,
+    }
+}
+
+/// Writes.
+fn write_on(rt: &impl Abort, session: &mut Session, port: PortId, wrong: Write) {
     match wrong {
         Write::Positions(side, head, cur) => {
             assert!(rt; session.set_head(port, side, head) && session.set_cur(port, side, cur));
-            side
         }
         Write::Slot(at, buf_idx, len, flags) => {
             for _ in 0..=at {
@@ -129,7 +135,6 @@ fn write_on(rt: &impl Abort, session: &mut Session, port: PortId, wrong: Write) 
                 }
                 None => panic!(rt; "slot {at} is not the user's"),
             }
-            Side::Tx
         }
     }
 }
@@ -149,35 +154,35 @@ fn refusal<R: Abort + Wait>(
 }
 
 /// A user writes what is refused, sends a frame then, and leaves.
-fn go_wrong<R: Abort + Wait>(
+fn go_wrong<R: AllocGlobal + Abort + Wait>(
     rt: &R,
-    alloc: Global,
     fabric: &Fabric,
     pass: Pass,
     row: (u32, Write, SyncFault),
-) -> Side
+)
     requires { IsPassIn fabric.now pass }
 {
-    let (size, wrong, fault) = row;
-    let mut session = enter(rt, alloc, fabric, pass, 1);
-    let port = open(rt, &mut session, "vale0:a", size);
-    let side = write_on(rt, &mut session, port, wrong);
-    assert_eq!(rt; refusal(rt, &mut session, port, side), Some(fault));
+    let (tx, wrong, fault) = row;
+    let sizes = Sizes {
+        tx,
+        rx: 4,
+        extra: 0,
+    };
+    let User { mut session, port } = come(rt, fabric, pass, 1, "vale0:a", sizes);
+    write_on(rt, &mut session, port, wrong);
+    let refused = refusal(rt, &mut session, port, side_of(wrong));
+    assert_eq!(rt; refused, Some(fault));
     session.put_frame(port, &FRAME);
     assert_eq!(rt; refusal(rt, &mut session, port, Side::Tx), None);
     drop(session.leave(rt));
-    side
 }
 
 #[test]
 fn what_a_check_refuses_is_a_reset(rt: HostRuntime) -> Result<(), Fail> {
     for row in REFUSED {
-        let (fabric, mut pass) = Fabric::new(rt.alloc(), 64, LIMITS)?;
-        let one = fabric.fork(&mut pass);
-        let side = go_wrong(&rt, rt.alloc(), &fabric, one, row);
-        let history = recorded(&rt, fabric, pass);
+        let (_, history) = play(&rt, |fabric, pass| go_wrong(&rt, fabric, pass, row))?;
         let lines = [
-            (1, Line::Reset(2, side, row.2)),
+            (1, Line::Reset(2, side_of(row.1), row.2)),
             (1, Line::Send(2, 0, 1)),
             (1, Line::Shut(2)),
             (1, Line::Finish(2, NONE, 0)),

@@ -2,10 +2,11 @@
 ghost use Rattle.std.specs.Prelude.{◌≡◌};
 ghost use Rattle.nm_user.specs.Words.{IsPassIn};
 
-use super::enter;
+use super::lines::play;
+use super::{Sizes, User, come, leave};
 use crate::{Received, Sent, Session};
 use nm_io::NoGate;
-use nm_types::{Limits, Name, PortId, SessionId, Side};
+use nm_types::{PortId, SessionId, Side};
 use std::alloc::Global;
 use std::process::Abort;
 use std::sync::Wait;
@@ -14,16 +15,18 @@ use std::thread::{Threads, join_mut};
 use vale_entry::{Ask, Entry, History, Reply};
 use vale_fabric::{Fabric, Pass};
 
-const LIMITS: Limits = Limits {
-    entries: 10_000,
-    bytes: 100_000,
-};
-
 /// How many times each user sends.
 const TIMES: u32 = 40;
 
 /// How many frames it sends each time.
 const FRAMES: u32 = 25;
+
+/// Room for what it sends at a time, and for what it has not read.
+const ROOMY: Sizes = Sizes {
+    tx: FRAMES + 1,
+    rx: 32,
+    extra: 0,
+};
 
 /// A frame to 02:00:00:00:00:0b from 02:00:00:00:00:0a.
 const FROM_ONE: [u8; 14] = [2, 0, 0, 0, 0, 11, 2, 0, 0, 0, 0, 10, 136, 181];
@@ -42,14 +45,17 @@ struct Told {
     entries: Vec<u32>,
 }
 
-/// A user with a port, before and after it sends.
-struct User<'f> {
-    session: Session<'f>,
-    port: PortId,
-    told: Told,
-}
-
 impl Told {
+    /// Nothing so far.
+    fn nothing(alloc: Global) -> Told {
+        Told {
+            given: 0,
+            full: 0,
+            read: 0,
+            entries: Vec::new(alloc),
+        }
+    }
+
     /// Takes in what a send told.
     fn add_sent(&mut self, rt: &impl Abort, sent: Sent) {
         assert_eq!(rt; (sent.pushed, sent.short, sent.lone), (FRAMES, 0, 0));
@@ -63,38 +69,6 @@ impl Told {
     fn add_received(&mut self, rt: &impl Abort, received: Received) {
         self.read = self.read.wrapping_add(u64::from(received.gave));
         self.entries.push(received.entry).expect(rt, "memory");
-    }
-}
-
-/// A user comes and opens a port of this name.
-fn come<'f, R: Abort + Wait>(
-    rt: &R,
-    alloc: Global,
-    fabric: &'f Fabric,
-    pass: Pass,
-    user: u64,
-    name: &str,
-) -> User<'f>
-    requires { IsPassIn fabric.now pass }
-    ensures { result.session.fabric ≡ fabric.now }
-{
-    let mut session = enter(rt, alloc, fabric, pass, user);
-    let opened = match Name::parse(name) {
-        Ok(name) => session.open(rt, &name, FRAMES + 1, 32, 0),
-        Err(_) => panic!(rt; "{name}"),
-    };
-    match opened {
-        Ok(port) => User {
-            session,
-            port,
-            told: Told {
-                given: 0,
-                full: 0,
-                read: 0,
-                entries: Vec::new(alloc),
-            },
-        },
-        Err(fault) => panic!(rt; "{fault:?}"),
     }
 }
 
@@ -131,20 +105,26 @@ fn read<R: Abort + Wait>(rt: &R, session: &mut Session, port: PortId) -> Receive
 }
 
 /// A user sends its frames, and reads what comes as it goes.
-fn send_all<R: Abort + Wait>(rt: &R, user: &mut User, frame: &[u8; 14])
+fn send_all<R: AllocGlobal + Abort + Wait>(rt: &R, user: &mut User, frame: &[u8; 14]) -> Told
     ensures { user.new.session.fabric ≡ user.old.session.fabric }
 {
+    let mut told = Told::nothing(rt.alloc());
     for _ in 0..TIMES {
         put(&mut user.session, user.port, frame);
         let sent = send(rt, &mut user.session, user.port);
-        user.told.add_sent(rt, sent);
+        told.add_sent(rt, sent);
         let received = read(rt, &mut user.session, user.port);
-        user.told.add_received(rt, received);
+        told.add_received(rt, received);
     }
+    told
 }
 
 /// Both send, each on a thread.
-fn both_send<R: Threads + Abort + Wait + Sync>(rt: &R, one: &mut User, two: &mut User)
+fn both_send<R: AllocGlobal + Threads + Abort + Wait + Sync>(
+    rt: &R,
+    one: &mut User,
+    two: &mut User,
+) -> (Told, Told)
     ensures first { one.new.session.fabric ≡ one.old.session.fabric }
     ensures second { two.new.session.fabric ≡ two.old.session.fabric }
 {
@@ -152,49 +132,26 @@ fn both_send<R: Threads + Abort + Wait + Sync>(rt: &R, one: &mut User, two: &mut
         rt,
         &mut || send_all(rt, one, &FROM_ONE),
         &mut || send_all(rt, two, &FROM_TWO),
-    );
-}
-
-/// What is left of a user that has gone.
-struct Gone {
-    pass: Pass,
-    id: SessionId,
-    told: Told,
-}
-
-/// A user leaves.
-fn leave<R: Wait>(rt: &R, user: User) -> Gone
-    ensures { IsPassIn user.entry.session.fabric result.pass }
-{
-    let User {
-        session,
-        port: _,
-        told,
-    } = user;
-    let id = session.id();
-    Gone {
-        pass: session.leave(rt),
-        id,
-        told,
-    }
+    )
 }
 
 /// Two users come, send on two threads, and leave.
-fn two_send<R: Threads + Abort + Wait + Sync>(
+fn two_send<R: AllocGlobal + Threads + Abort + Wait + Sync>(
     rt: &R,
-    alloc: Global,
     fabric: &Fabric,
-    one: Pass,
-    two: Pass,
-) -> (Gone, Gone)
-    requires one { IsPassIn fabric.now one }
-    requires two { IsPassIn fabric.now two }
-    ensures { IsPassIn fabric.now result.0.pass × IsPassIn fabric.now result.1.pass }
+    pass: Pass,
+) -> ((SessionId, Told), (SessionId, Told))
+    requires { IsPassIn fabric.now pass }
 {
-    let mut first = come(rt, alloc, fabric, one, 1, "vale0:a");
-    let mut second = come(rt, alloc, fabric, two, 2, "vale0:b");
-    both_send(rt, &mut first, &mut second);
-    (leave(rt, first), leave(rt, second))
+    let mut pass = pass;
+    let two = fabric.fork(&mut pass);
+    let mut first = come(rt, fabric, pass, 1, "vale0:a", ROOMY);
+    let mut second = come(rt, fabric, two, 2, "vale0:b", ROOMY);
+    let ids = (first.session.id(), second.session.id());
+    let (one, two) = both_send(rt, &mut first, &mut second);
+    let mut left = leave(rt, first);
+    fabric.join(&mut left, leave(rt, second));
+    ((ids.0, one), (ids.1, two))
 }
 
 /// What an entry asks.
@@ -325,8 +282,9 @@ fn had_of(history: &History, session: SessionId, told: &[u32]) -> Had {
 }
 
 /// The history has just the calls of a user, in their order, and what they told.
-fn is_told(rt: &impl Abort, history: &History, id: SessionId, told: &Told) -> Had {
-    let had = had_of(history, id, &told.entries);
+fn is_told(rt: &impl Abort, history: &History, user: &(SessionId, Told)) -> Had {
+    let (id, told) = user;
+    let had = had_of(history, *id, &told.entries);
     assert!(rt; had.in_order && matches!(had.last, Kind::Leave));
     assert_eq!(rt; (had.calls, had.sent), (80, 1000));
     assert_eq!(rt; (had.given, had.full), (told.given, told.full));
@@ -336,9 +294,14 @@ fn is_told(rt: &impl Abort, history: &History, id: SessionId, told: &Told) -> Ha
 
 /// The history has the calls of two users and no others, and what one was given it read, or nobody
 /// did.
-fn are_told(rt: &impl Abort, history: &History, ids: (SessionId, SessionId), told: (Told, Told)) {
-    let one = is_told(rt, history, ids.0, &told.0);
-    let two = is_told(rt, history, ids.1, &told.1);
+fn are_told(
+    rt: &impl Abort,
+    history: &History,
+    first: &(SessionId, Told),
+    second: &(SessionId, Told),
+) {
+    let one = is_told(rt, history, first);
+    let two = is_told(rt, history, second);
     assert_eq!(rt; one.entries.wrapping_add(two.entries), history.len());
     assert_eq!(rt;
         (
@@ -353,23 +316,7 @@ fn are_told(rt: &impl Abort, history: &History, ids: (SessionId, SessionId), tol
 
 #[test]
 fn two_users_send_on_two_threads(rt: HostRuntime) -> Result<(), Fail> {
-    let (fabric, mut one) = Fabric::new(rt.alloc(), 128, LIMITS)?;
-    let two = fabric.fork(&mut one);
-    let (first, second) = two_send(&rt, rt.alloc(), &fabric, one, two);
-    let Gone {
-        pass: mut one,
-        id: first,
-        told: first_told,
-    } = first;
-    let Gone {
-        pass: two,
-        id: second,
-        told: second_told,
-    } = second;
-    fabric.join(&mut one, two);
-    let book = fabric.close(&rt, one);
-    assert!(rt; book.free() == book.buffers());
-    let history = book.close();
-    are_told(&rt, &history, (first, second), (first_told, second_told));
+    let ((first, second), history) = play(&rt, |fabric, pass| two_send(&rt, fabric, pass))?;
+    are_told(&rt, &history, &first, &second);
     Ok(())
 }
