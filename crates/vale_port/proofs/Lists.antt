@@ -3,7 +3,7 @@ use Rattle.std.proofs.Common.{ℕ, zero, suc, true, false, not, ◌≡◌, ◌<�
 use Rattle.std.specs.Prelude.{count_by, sum_by}
 use Rattle.std.specs.List.{AllByRecursion as Each, list_any, remove}
 use Rattle.std.proofs.lemmas.Bool.{cases_Bool, ne_eqb}
-use Rattle.std.proofs.lemmas.List.Elements.{length_all_zip}
+use Rattle.std.proofs.lemmas.Slice.Zip.{AllZip-long}
 use Rattle.std.proofs.lemmas.List.Sums.{sum_by-cons}
 use Rattle.vale_entry.specs.World.{Port, Lot, changed_at}
 use Rattle.vale_entry.specs.Closing.{shut, ports_without}
@@ -24,7 +24,7 @@ use Rattle.vale_port.proofs.SeatTies.{lots_are_lots, filled-numbered}
 -- Seats and ports, side by side.
 
 pub are-length : (seats : List Seat) (ps : List PortState) → AreSeatsOf seats ps → length seats ≡ length ps
-are-length seats ps are = length_all_zip IsSeatOf seats ps are
+are-length seats ps are = sym (AllZip-long IsSeatOf seats ps are)
 
 -- Ports and their buffers, side by side.
 
