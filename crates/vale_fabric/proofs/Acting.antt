@@ -26,7 +26,12 @@ abbrev pub ActsIf : Bool → Recorded → Recorded → Ask → Type 0
 ActsIf true before after ask = Acts before after ask
 ActsIf false before after ask = after ≡ before
 
--- what the book was told to have done
+-- what the book was told to have done: an entry whose reply its answer is, or nothing
+pub record Tells {X E : Type 0} (before after : Recorded) (ask : Ask) (reply : X → Reply) (r : Result X E) : Type 0 where
+  pub said : IfOk r (λ (x : X). option_map reply_of (step (standing before) ask) ≡ Some (reply x))
+  pub made : OnOk r (after ≡ after_ask before ask)
+  pub room : OnOk r (HasRoom before ask)
+  pub same : OnErr r (after ≡ before)
 
 pub acts-as : {before after : Recorded} {ask : Ask} (reply : Reply) → IsRecordedAs before after ask reply → Acts before after ask
 acts-as reply is = record { steps = steps-said reply is.reply_is; grown = is.entry; room = is.room }
@@ -36,10 +41,9 @@ module _ (before after : Recorded) (ask : Ask) {X E : Type 0} where
   acts-on (Ok x) steps grown room = record { steps = steps; grown = grown; room = room }
   acts-on (Err fault) steps grown room = tt
 
-  pub acts-said : (reply : X → Reply) (r : Result X E) → IfOk r (λ (x : X). option_map reply_of (step (standing before) ask) ≡ Some (reply x)) → OnOk r (after ≡ after_ask before ask)
-      → OnOk r (HasRoom before ask) → OnOk r (Acts before after ask)
-  acts-said reply (Ok x) said grown room = record { steps = steps-said (reply x) said; grown = grown; room = room }
-  acts-said reply (Err fault) said grown room = tt
+  pub acts-told : {reply : X → Reply} (r : Result X E) → Tells before after ask reply r → OnOk r (Acts before after ask)
+  acts-told {reply} (Ok x) told = record { steps = steps-said (reply x) told.said; grown = told.made; room = told.room }
+  acts-told {reply} (Err fault) told = tt
 
   pub acts-each : (reply : X → Reply) (r : Result X E) → IfOk r (λ (x : X). IsRecordedAs before after ask (reply x)) → OnOk r (Acts before after ask)
   acts-each reply (Ok x) is = acts-as (reply x) is
@@ -77,10 +81,8 @@ module _ {fixed : Fixed} {v entered : Knowing} {before after : Recorded} {ask : 
   pub may-go : {made test : Bool} → made ≡ test → MayAsk fixed v ask → is_enter ask ≡ false → ActsIf test before after ask → GoesBack fixed entered after made
   may-go {made} {test} is may other acts = subst (GoesBack fixed entered after) (sym is) (goes-back test (λ a. adds-now may taken other a.steps a.grown) acts)
 
-  pub goes-said : {X E : Type 0} {made : Bool} (reply : X → Reply) (r : Result X E) → made ≡ is_ok r → MayAsk fixed v ask → is_enter ask ≡ false
-      → IfOk r (λ (x : X). option_map reply_of (step (standing before) ask) ≡ Some (reply x)) → OnOk r (after ≡ after_ask before ask) → OnOk r (HasRoom before ask) → OnErr r (after ≡ before)
-      → GoesBack fixed entered after made
-  goes-said reply r is may other said grown room same = may-go is may other (acts-ok before after ask r (acts-said before after ask reply r said grown room) same)
+  pub goes-told : {X E : Type 0} {made : Bool} {reply : X → Reply} (r : Result X E) → made ≡ is_ok r → MayAsk fixed v ask → is_enter ask ≡ false → Tells before after ask reply r → GoesBack fixed entered after made
+  goes-told r is may other told = may-go is may other (acts-ok before after ask r (acts-told before after ask r told) told.same)
 
   pub goes-now : MayAsk fixed v ask → is_enter ask ≡ false → IsPlain ask → after ≡ after_ask before ask → HasRoom before ask → GoesBack fixed entered after true
   goes-now may other plain grown room = goes-back true (λ a. adds-now may taken other a.steps a.grown) (record { steps = step-now may taken plain; grown = grown; room = room })
@@ -109,10 +111,9 @@ module _ (ask : Ask) {fixed : Fixed} {v entered w : Knowing} {before after : Rec
   answers-on (Ok x) acts said = answered (acted taken back acts) said
   answers-on (Err fault) acts said = tt
 
-  pub answers-said : (reply : X → Reply) (r : Result X E) → IfOk r (λ (x : X). option_map reply_of (step (standing before) ask) ≡ Some (reply x)) → OnOk r (after ≡ after_ask before ask)
-      → OnOk r (HasRoom before ask) → IfOk r (λ (x : X). Answers fixed v w ask (reply x))
-  answers-said reply (Ok x) said grown room = answered (acted taken back (record { steps = steps-said (reply x) said; grown = grown; room = room })) said
-  answers-said reply (Err fault) said grown room = tt
+  pub answers-told : {reply : X → Reply} (r : Result X E) → Tells before after ask reply r → IfOk r (λ (x : X). Answers fixed v w ask (reply x))
+  answers-told (Ok x) told = answered (acted taken back (acts-told before after ask (Ok x) told)) told.said
+  answers-told (Err fault) told = tt
 
   pub answers-each : (reply : X → Reply) (r : Result X E) → IfOk r (λ (x : X). IsRecordedAs before after ask (reply x)) → IfOk r (λ (x : X). Answers fixed v w ask (reply x))
   answers-each reply (Ok x) is = answers-as taken back (reply x) is

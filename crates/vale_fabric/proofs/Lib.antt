@@ -19,3 +19,4 @@ pub mod LeaseFilling
 pub mod Settlements
 pub mod GrantsSettle
 pub mod Alone
+pub mod Shutting

@@ -16,6 +16,7 @@ use nm_types::{Batch, Chain, Name, PortId, SessionId};
 use std::alloc::Global;
 use std::process::Abort;
 use std::sync::Wait;
+use vale_batch::Want;
 use vale_line::Lease;
 
 /// No extra buffers are found, and none is astray.
@@ -108,6 +109,28 @@ pub(super) fn send<R: Abort + Wait>(
     }
 }
 
+/// What was wanted, and the lease if there is one, of a grant at this port that gave so many frames,
+/// had no room for so many and missed the port of so many.
+fn shared(
+    rt: &impl Abort,
+    granted: Granted,
+    to: u32,
+    given: u32,
+    full: u32,
+    gone: u32,
+) -> (Want, Option<Lease>)
+    ensures to { granted.to.0 ≡ to }
+    ensures given { granted.given ≡ given }
+    ensures full { granted.full ≡ full }
+    ensures gone { granted.gone ≡ gone }
+    ensures want { result.0 ≡ granted.want }
+    ensures lease { result.1 ≡ granted.lease }
+{
+    assert!(rt; granted.to.0 == to && granted.given == given);
+    assert!(rt; granted.full == full && granted.gone == gone);
+    granted.into_lease()
+}
+
 /// The next of a batch's offers is granted at this port, as the entry of this number, and gives one
 /// frame, with which the lease is filled.
 pub(super) fn grant<R: Abort + Wait>(
@@ -135,15 +158,8 @@ pub(super) fn grant<R: Abort + Wait>(
     ensures region { AreOf (fixed_in fabric.now).region (buffers_of result.filled) }
 {
     assert!(rt; offers.next().is_some());
-    let Granted {
-        to: at,
-        given,
-        full,
-        gone,
-        want,
-        lease,
-    } = fabric.grant(rt, pass, offers);
-    assert!(rt; at.0 == to && given == 1 && full == 0 && gone == 0);
+    let granted = fabric.grant(rt, pass, offers);
+    let (want, lease) = shared(rt, granted, to, 1, 0, 0);
     let Some(mut lease) = lease else {
         panic!(rt; "nothing is leased");
     };
@@ -211,8 +227,7 @@ pub(super) fn miss<R: Abort + Wait>(
 {
     assert!(rt; offers.next().is_some());
     let granted = fabric.grant(rt, pass, offers);
-    assert!(rt; granted.to.0 == to && granted.given == 0 && granted.full == 0 && granted.gone == 1);
-    let (_want, lease) = granted.into_lease();
+    let (_, lease) = shared(rt, granted, to, 0, 0, 1);
     let None = lease else {
         panic!(rt; "a buffer is leased");
     };

@@ -8,38 +8,36 @@ use Rattle.vale_book.specs.Offering.{OffersState}
 use Rattle.vale_book.specs.Recorded.{Recorded, standing}
 use Rattle.vale_book.specs.Sending.{IsSent}
 use Rattle.vale_entry.specs.declared.entry.Ask.TheVariants.{Send}
-use Rattle.vale_fabric.proofs.Acting.{Acts, acts-said, acted, if-acted, goes-said, answers-said, refuses}
+use Rattle.vale_fabric.proofs.Acting.{Acts, Tells, acts-told, acted, if-acted, goes-told, answers-told, refuses}
 use Rattle.vale_fabric.proofs.AtHand.{hand-on, low-pool, sends-settled, sends-keep}
 use Rattle.vale_fabric.proofs.Lent.{as-lent}
 use Rattle.vale_fabric.proofs.Making.{enabled-now}
 use Rattle.vale_fabric.proofs.Speaking.{speaks-on}
 use Rattle.vale_fabric.proofs.fabric.Fabric.send.Given as given
-use Rattle.vale_fabric.proofs.fabric.Fabric.send.Goals.{After-give}
+use Rattle.vale_fabric.proofs.fabric.Fabric.send.Goals.{After-give, After-send-sent}
 use Rattle.vale_fabric.proofs.fabric.Fabric.send.Goals as goal
 
 abbrev reply : OffersState → Reply
 reply o = Offered o.short o.lone (dests_wanted o.wants)
 
+told : (g : given.Over) (c : After-send-sent g) → Tells c.deref_mut.result.now c.send-sent.new.self (Send c.args.port c.args.batch.now) reply c.send-sent.result
+told g c = let e = c.send-sent.ensures in record { said = e.said; made = e.made; room = e.room; same = e.err }
+
 -- what follows from offers that were sent
 if-sent : (g : given.Over) (c : After-give g) {Q : OffersState → Type 0}
     → ((o : OffersState) → Acts c.deref_mut.result.now c.send-sent.new.self (Send c.args.port c.args.batch.now) → IsSent c.send-sent.new.self c.args.batch.now o → Q o) → IfOk c.send-sent.result Q
 if-sent g c follows =
-    let e = c.send-sent.ensures in
     if-acted (as-lent c.deref_mut.ensures.value c.take-book.ensures.taken) c.give.ensures.back c.send-sent.result
-    (acts-said c.deref_mut.result.now c.send-sent.new.self (Send c.args.port c.args.batch.now) reply c.send-sent.result e.said e.made e.room) e.offers follows
+    (acts-told c.deref_mut.result.now c.send-sent.new.self (Send c.args.port c.args.batch.now) c.send-sent.result (told g (goal.at.After-give g c).After-send-sent)) c.send-sent.ensures.offers follows
 
 pub send-sent-requires : goal.send-sent-requires
 send-sent-requires g c = enabled-now c.requires.may (as-lent c.deref_mut.ensures.value c.take-book.ensures.taken)
 
 pub give-requires-clause-goes : goal.give-requires-clause-goes
-give-requires-clause-goes g c =
-    let e = c.send-sent.ensures in
-    goes-said (as-lent c.deref_mut.ensures.value c.take-book.ensures.taken) reply c.send-sent.result c.is_ok.ensures.value c.requires.may refl e.said e.made e.room e.err
+give-requires-clause-goes g c = goes-told (as-lent c.deref_mut.ensures.value c.take-book.ensures.taken) c.send-sent.result c.is_ok.ensures.value c.requires.may refl (told g (goal.at.give-requires-clause-goes g c).After-send-sent)
 
 pub returns-clause-made : goal.returns-clause-made
-returns-clause-made g c =
-    let e = c.send-sent.ensures in
-    answers-said (Send c.args.port c.args.batch.now) (as-lent c.deref_mut.ensures.value c.take-book.ensures.taken) c.give.ensures.back reply c.send-sent.result e.said e.made e.room
+returns-clause-made g c = answers-told (Send c.args.port c.args.batch.now) (as-lent c.deref_mut.ensures.value c.take-book.ensures.taken) c.give.ensures.back c.send-sent.result (told g (goal.at.returns-clause-made g c).After-send-sent)
 
 pub returns-clause-offers : goal.returns-clause-offers
 returns-clause-offers g c =

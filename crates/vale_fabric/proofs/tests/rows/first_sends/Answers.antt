@@ -1,4 +1,4 @@
-use Rattle.std.proofs.Common.{List, [], ◌∷◌, refl, sym, subst, inl}
+use Rattle.std.proofs.Common.{List, [], ◌∷◌, rules, sym, subst}
 use Rattle.nm_types.specs.Names.{is_name, is_switch_port_name, is_pipe_name, is_monitor_name, switch_of, peer_name}
 use Rattle.nm_types.specs.Frames.{Frame}
 use Rattle.vale_entry.specs.RowWords.{frame_f}
@@ -7,19 +7,7 @@ use Rattle.vale_fabric.proofs.tests.rows.first_sends.Goals as goal
 
 shared : AreShared 1 4 5 7 (frame_f ∷ [])
 unfolding is_name is_switch_port_name is_pipe_name is_monitor_name switch_of peer_name
-shared = record {
-  may = refl;
-  fit = refl;
-  sends = record { steps = refl; more = refl };
-  grants = record { steps = refl; more = refl };
-  done = record { steps = refl; more = refl };
-  keeps = record { steps = refl; more = refl };
-  first = refl;
-  left = refl;
-  speaks = inl refl;
-  speaks_then = inl refl;
-  speaks_still = inl refl;
-}
+shared = search rules
 
 pub sends-requires-clause-shared : goal.sends-requires-clause-shared
 sends-requires-clause-shared g c = subst (λ (frames : List Frame). AreShared 1 4 5 7 frames) (sym c.batch.ensures) shared

@@ -5,9 +5,10 @@ use Rattle.vale_entry.specs.declared.entry.Ask.TheVariants.{Finish}
 use Rattle.vale_entry.specs.declared.entry.Reply.TheVariants.{Unread}
 use Rattle.vale_entry.specs.RowWords.{port, frame_f, no_chain}
 use Rattle.vale_entry.specs.Rows.{finish_waits_for_leases}
-use Rattle.vale_fabric.specs.Alone.{IsAlone, IsKept, IsToShut, third_bufs, told}
+use Rattle.vale_fabric.specs.Alone.{IsAlone, IsKept, third_bufs, told}
 use Rattle.vale_fabric.specs.Fabrics.{MayIn}
 use Rattle.vale_fabric.proofs.Alone.{may-alone, may-complete, lease-over, done-next, gone-next}
+use Rattle.vale_fabric.proofs.Shutting.{shuts-after-one}
 use Rattle.vale_fabric.proofs.tests.rows.third_waits.Given as given
 use Rattle.vale_fabric.proofs.tests.rows.third_waits.Goals.{After-done, After-third_shuts-bufs}
 use Rattle.vale_fabric.proofs.tests.rows.third_waits.Goals as goal
@@ -22,10 +23,7 @@ unfolding is_name is_switch_port_name is_pipe_name is_monitor_name switch_of pee
 completed g c = done-next c.done.new.pass (take 12 finish_waits_for_leases) 1 c.third_shuts-bufs.ensures.alone (first g c.before.before) c.done.ensures.pass c.done.ensures.made.makes refl refl
 
 pub third_shuts-bufs-requires-clause-shuts : goal.third_shuts-bufs-requires-clause-shuts
-unfolding is_name is_switch_port_name is_pipe_name is_monitor_name switch_of peer_name
-third_shuts-bufs-requires-clause-shuts g c =
-    let shuts : IsToShut (told 10) = record { may = refl; shuts = record { steps = refl; more = refl }; may_go = refl; speaks = inr (inr (inl refl)); speaks_then = inr (inr (inl refl)) } in
-    shuts
+third_shuts-bufs-requires-clause-shuts g c = shuts-after-one
 
 pub done-requires-clause-may : goal.done-requires-clause-may
 done-requires-clause-may g c = may-complete c.third_shuts-bufs.ensures.alone (first g (goal.at.done-requires-clause-may g c).After-third_shuts-bufs) (inl refl)

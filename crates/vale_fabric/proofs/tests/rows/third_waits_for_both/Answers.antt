@@ -4,9 +4,10 @@ use Rattle.nm_region.specs.Buffers.{indices_of}
 use Rattle.vale_entry.specs.declared.entry.Ask.TheVariants.{Finish}
 use Rattle.vale_entry.specs.declared.entry.Reply.TheVariants.{Unread}
 use Rattle.vale_entry.specs.RowWords.{port, everyone, frame_f, mac, packet, no_chain}
-use Rattle.vale_fabric.specs.Alone.{IsAlone, IsKept, IsToShut, finish_waits_for_both, third_bufs, told}
+use Rattle.vale_fabric.specs.Alone.{IsAlone, IsKept, finish_waits_for_both, third_bufs, told}
 use Rattle.vale_fabric.specs.Fabrics.{MayIn}
 use Rattle.vale_fabric.proofs.Alone.{alone-still, may-alone, may-complete, lease-over, done-next, gone-next}
+use Rattle.vale_fabric.proofs.Shutting.{shuts-after-both}
 use Rattle.vale_fabric.proofs.tests.rows.third_waits_for_both.Given as given
 use Rattle.vale_fabric.proofs.tests.rows.third_waits_for_both.Goals.{After-done, After-done-2, After-third_shuts-bufs, After-wait-bufs}
 use Rattle.vale_fabric.proofs.tests.rows.third_waits_for_both.Goals as goal
@@ -34,10 +35,7 @@ unfolding is_name is_switch_port_name is_pipe_name is_monitor_name switch_of pee
 completed g c = done-next c.done-2.new.pass (take 17 finish_waits_for_both) 1 (waiting g c.before.before) (first g c.before.before) c.done-2.ensures.pass c.done-2.ensures.made.makes refl refl
 
 pub third_shuts-bufs-requires-clause-shuts : goal.third_shuts-bufs-requires-clause-shuts
-unfolding is_name is_switch_port_name is_pipe_name is_monitor_name switch_of peer_name
-third_shuts-bufs-requires-clause-shuts g c =
-    let shuts : IsToShut (told 14) = record { may = refl; shuts = record { steps = refl; more = refl }; may_go = refl; speaks = inr (inr (inl refl)); speaks_then = inr (inr (inl refl)) } in
-    shuts
+third_shuts-bufs-requires-clause-shuts g c = shuts-after-both
 
 pub done-requires-clause-may : goal.done-requires-clause-may
 done-requires-clause-may g c = may-complete c.third_shuts-bufs.ensures.alone (second g (goal.at.done-requires-clause-may g c).After-third_shuts-bufs) (inr (inl refl))
