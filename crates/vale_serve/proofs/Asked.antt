@@ -1,6 +1,6 @@
 -- A session at a place acts, and the drive's sessions have what is their own.
 use Rattle.std.proofs.Common.{ℕ, zero, suc, get_or, ◌≡◌, ◌==◌, Bool, true, false, List, [], ◌∷◌, ◌||◌, map, slice_get, slice_set, position, Option, Some, None, option_map, Result, Ok, Err, is_some, refl, sym, ◌∙◌, ap, subst}
-use Rattle.std.specs.Prelude.{find}
+use Rattle.std.specs.Prelude.{find, IfSome, ◌≢◌}
 use Rattle.std.specs.List.{list_any}
 use Rattle.std.proofs.lemmas.Bool.{eqb-true}
 use Rattle.std.proofs.lemmas.Option.{get_or_from_slice_get}
@@ -15,7 +15,7 @@ use Rattle.vale_entry.specs.Closing.{shut}
 use Rattle.vale_entry.specs.Laws.{IsPortOf}
 use Rattle.vale_entry.specs.Legal.{Standing, Outcome, step, kept_ask, is_enabled, is_met, can_shut, world_of, IsLegal}
 use Rattle.vale_entry.proofs.Each.{each-find}
-use Rattle.vale_entry.proofs.ListLaws.{each-set}
+use Rattle.vale_entry.proofs.ListLaws.{each-at, each-set}
 use Rattle.vale_entry.proofs.Numbered.{world-numbered}
 use Rattle.vale_own.specs.Asker.{asker_of, is_enter, owner_of_port}
 use Rattle.vale_own.specs.Own.{Own, own_of}
@@ -25,7 +25,7 @@ use Rattle.vale_book.specs.Asking.{IsSeenAs}
 use Rattle.vale_book.specs.Recorded.{Recorded, standing, entry_of, after_ask, after_outcome}
 use Rattle.vale_book.specs.declared.asking.PortSeen.{PortSeen}
 use Rattle.vale_serve.specs.declared.users.User.{User}
-use Rattle.vale_serve.specs.Joined.{AreUsersOf, IsOwner}
+use Rattle.vale_serve.specs.Joined.{AreUsersOf, AsksAt, IsOwner}
 use Rattle.vale_serve.specs.Serving.{IsServed}
 use Rattle.vale_serve.specs.Users.{id_of_user, is_user, HasOwn, IsUser, IsAsker, IsMine, is_settled_user}
 use Rattle.vale_serve.proofs.Keeping.{SameHands, grown, hands-same, ids-changed, own-later, step-follows, ids-set, drive-set}
@@ -129,9 +129,11 @@ missing_by : (b : Recorded) (users : List User) (test : Port → Bool) (seen : P
 missing_by b users test seen None k e is none = absurd is
 missing_by b users test seen (Some port) k e is none = owner-there b users test port k e (subst (λ (n : ℕ). position (is_user n) users ≡ None) is.session none)
 
-pub never-missing : (b : Recorded) (users : List User) (test : Port → Bool) (seen : PortSeen) → AreUsersOf b users → IsSeenAs (find test (standing b).world.ports) (Some seen)
-    → position (is_user seen.session.0) users ≡ None → ⊥
-never-missing b users test seen k is none = missing_by b users test seen (find test (standing b).world.ports) k refl is none
+-- nor of a port that was sought and not seen
+pub never-missing : (b : Recorded) (users : List User) (test : Port → Bool) (seen : Option PortSeen) → AreUsersOf b users → IsSeenAs (find test (standing b).world.ports) seen
+    → IfSome seen (λ port. position (is_user port.session.0) users ≢ None)
+never-missing b users test None k is = tt
+never-missing b users test (Some port) k is = λ none. missing_by b users test port (find test (standing b).world.ports) k refl is none
 
 -- ---- the steps of these
 
@@ -164,6 +166,13 @@ owner-at users found seen place user o is =
       seen_so = o.asker;
       mine = record { port = o.asker.port; found_is = o.asker.found_is; mine = o.asker.mine };
     })
+
+-- it asks at its port
+pub asks-at : (b : Recorded) (users : List User) (found : Option Port) (seen : PortSeen) (place : ℕ) (user : User) → AreUsersOf b users → IsOwner users found seen place → user ≡ get_or users place user
+    → AsksAt b user found seen
+asks-at b users found seen place user k o is =
+    let at = owner-at users found seen place user o is in
+    record { legal = k.legal; user = each-at (IsUser b) users place user k.each at.here; asker = at.seen_so }
 
 -- one that is not changed
 pub acted-still : (b after : Recorded) (users : List User) (place : ℕ) (user : User) (ask : Ask) (result : Result (Option Reply) StepFault) → AreUsersOf b users → slice_get users place ≡ Some user

@@ -1,5 +1,5 @@
 -- A book, and outside of it what is each session's own.
-use Rattle.std.specs.Prelude.{ℕ, ◌≡◌, ◌<◌, List, Some, length, map, slice_get, Option}
+use Rattle.std.specs.Prelude.{ℕ, ◌≡◌, ◌<◌, List, Some, None, length, map, slice_get, Option}
 use Rattle.std.specs.List.{AllByRecursion}
 use Rattle.vale_book.specs.declared.asking.PortSeen.{PortSeen}
 use Rattle.vale_entry.specs.World.{Port}
@@ -19,3 +19,14 @@ pub record IsOwner (users : List User) (found : Option Port) (seen : PortSeen) (
   pub here : slice_get users place ≡ Some user
   pub within : place < length users
   pub asker : IsAsker user found seen
+
+-- that port and its session's place, where the port is there
+abbrev pub HasOwner : List User → Option Port → Option (PortSeen × ℕ) → Type 0
+HasOwner users found (Some owner) = IsOwner users found owner.0 owner.1
+HasOwner users found None = found ≡ None
+
+-- a session of a legal book asks at the port that is looked for, which is there, seen so, and its own
+pub record AsksAt (b : Recorded) (who : User) (found : Option Port) (seen : PortSeen) : Type 0 where
+  pub legal : IsLegal b.pool b.entries
+  pub user : IsUser b who
+  pub asker : IsAsker who found seen

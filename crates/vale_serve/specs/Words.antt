@@ -3,4 +3,4 @@ pub use Rattle.vale_entry.specs.World.{open_port}
 pub use Rattle.vale_entry.specs.Legal.{IsLegal}
 pub use Rattle.vale_book.specs.Recorded.{standing}
 pub use Rattle.vale_serve.specs.Serving.{IsServed}
-pub use Rattle.vale_serve.specs.Users.{IsAsker, IsMemory, IsMine, IsUser, SameUser, contents}
+pub use Rattle.vale_serve.specs.Users.{IsMemory, IsMine, IsUser, SameUser, contents}

@@ -1,8 +1,11 @@
-ghost use Rattle.std.specs.Prelude.{◌≡◌, None, Ok, IfSome, IfNone};
+ghost use Rattle.std.specs.Prelude.{◌≢◌, position, Option, None, Ok, IfSome};
 ghost use Rattle.vale_entry.specs.declared.entry.Ask.TheVariants as asks;
 ghost use Rattle.vale_entry.specs.Closing.{shutting_port};
+ghost use Rattle.vale_entry.specs.World.{Port};
+ghost use Rattle.vale_book.specs.Asking.{IsSeenAs};
 ghost use Rattle.vale_book.specs.Reading.{read_ask};
-ghost use Rattle.vale_serve.specs.Joined.{AreUsersOf, IsOwner};
+ghost use Rattle.vale_serve.specs.Joined.{AreUsersOf, HasOwner};
+ghost use Rattle.vale_serve.specs.Users.{is_user};
 ghost use Rattle.vale_serve.specs.Words.{IsServed, open_port, standing};
 
 use crate::completing::{done, place_of_lease};
@@ -22,32 +25,34 @@ use std::alloc::Global;
 use vale_book::{Book, PortSeen};
 use vale_entry::{Item, Reply};
 
+/// What was seen of a port, and the place of its session.
+fn owner_seen(users: &[User], seen: Option<PortSeen>) -> Option<(PortSeen, usize)>
+    requires { IfSome seen (λ port. position (is_user port.session.0) users.now ≢ None) }
+    ensures { (found : Option Port) → IsSeenAs found seen → HasOwner users.now found result }
+{
+    match seen {
+        Some(port) => match place_of(users, port.session) {
+            Some(place) => Some((port, place)),
+            None => unreachable!(),
+        },
+        None => None,
+    }
+}
+
 /// What stands of an open port, and the place of its session.
 fn owner_of(book: &Book, users: &[User], port: PortId) -> Option<(PortSeen, usize)>
     requires { AreUsersOf book.now users.now }
-    ensures some { IfSome result (λ owner.
-        IsOwner users.now (open_port (standing book.now).world.ports port.0) owner.0 owner.1) }
-    ensures none { IfNone result (open_port (standing book.now).world.ports port.0 ≡ None) }
+    ensures { HasOwner users.now (open_port (standing book.now).world.ports port.0) result }
 {
-    let seen = book.open_port(port)?;
-    match place_of(users, seen.session) {
-        Some(place) => Some((seen, place)),
-        None => unreachable!(),
-    }
+    owner_seen(users, book.open_port(port))
 }
 
 /// What stands of a port that is shut and not gone, and the place of its session.
 pub fn owner_of_shut(book: &Book, users: &[User], port: PortId) -> Option<(PortSeen, usize)>
     requires { AreUsersOf book.now users.now }
-    ensures some { IfSome result (λ owner.
-        IsOwner users.now (shutting_port (standing book.now).world.ports port.0) owner.0 owner.1) }
-    ensures none { IfNone result (shutting_port (standing book.now).world.ports port.0 ≡ None) }
+    ensures { HasOwner users.now (shutting_port (standing book.now).world.ports port.0) result }
 {
-    let seen = book.shutting_port(port)?;
-    match place_of(users, seen.session) {
-        Some(place) => Some((seen, place)),
-        None => unreachable!(),
-    }
+    owner_seen(users, book.shutting_port(port))
 }
 
 /// A session opens a port, if it is there.

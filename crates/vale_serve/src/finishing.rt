@@ -5,8 +5,9 @@ ghost use Rattle.vale_entry.specs.declared.entry.Ask.TheVariants as asks;
 ghost use Rattle.vale_entry.specs.declared.entry.Reply.TheVariants as replies;
 ghost use Rattle.vale_serve.specs.Buffers.{holds_all};
 ghost use Rattle.vale_serve.specs.Finishing.{HasRoomForPort, HasLostRoom, HasTakenForPort};
+ghost use Rattle.vale_serve.specs.Joined.{AsksAt};
 ghost use Rattle.vale_serve.specs.Users.{IsRoom, is_room_of};
-ghost use Rattle.vale_serve.specs.Words.{IsAsker, IsLegal, IsMemory, IsServed, IsUser, standing};
+ghost use Rattle.vale_serve.specs.Words.{IsMemory, IsServed, IsUser, standing};
 
 use crate::buffers::{holds_all, take_out};
 use crate::users::{Room, User};
@@ -75,9 +76,8 @@ pub(crate) fn finish(
     bufs: &[u32],
     chain: Chain,
 ) -> Option<Reply>
-    requires legal { IsLegal book.old.pool book.old.entries }
-    requires user { IsUser book.old user.old }
-    requires asker { IsAsker user.old (shutting_port (standing book.old).world.ports port.0) seen }
+    requires { AsksAt book.old user.old (shutting_port (standing book.old).world.ports port.0)
+        seen }
     ensures served { IsServed book.old book.new (asks.Finish port bufs.now chain) (Ok result) }
     ensures kept { IsUser book.new user.new }
     ensures id { user.new.id ≡ user.old.id }

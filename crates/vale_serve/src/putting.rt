@@ -7,9 +7,10 @@ ghost use Rattle.vale_entry.specs.declared.entry.Reply.TheVariants as replies;
 ghost use Rattle.vale_entry.specs.Holdings.{contains, are_distinct};
 ghost use Rattle.vale_entry.specs.Pipe.{indices_of as item_indices, is_pipe_item};
 ghost use Rattle.vale_serve.specs.Buffers.{holds, holds_all};
+ghost use Rattle.vale_serve.specs.Joined.{AsksAt};
 ghost use Rattle.vale_serve.specs.Putting.{is_in, is_held, bytes_in, can_put, unput, AreFramed, IsPutRoom, HasPut};
 ghost use Rattle.vale_serve.specs.Replies.{last_dests};
-ghost use Rattle.vale_serve.specs.Words.{IsAsker, IsLegal, IsServed, IsUser, SameUser, contents, open_port, standing};
+ghost use Rattle.vale_serve.specs.Words.{IsServed, IsUser, SameUser, contents, open_port, standing};
 
 use crate::buffers::holds;
 use crate::exchanging::{give, give_all, take_from};
@@ -244,9 +245,7 @@ pub(crate) fn put(
     seen: PortSeen,
     offered: &[Item],
 ) -> Result<Option<Reply>, StepFault>
-    requires legal { IsLegal book.old.pool book.old.entries }
-    requires user { IsUser book.old user.old }
-    requires asker { IsAsker user.old (open_port (standing book.old).world.ports port.0) seen }
+    requires { AsksAt book.old user.old (open_port (standing book.old).world.ports port.0) seen }
     ensures served { IsServed book.old book.new (asks.Put port offered.now) result }
     ensures kept { IsUser book.new user.new }
     ensures id { user.new.id ≡ user.old.id }

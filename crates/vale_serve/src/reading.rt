@@ -9,9 +9,10 @@ ghost use Rattle.vale_book.specs.BookView.{AreOf};
 ghost use Rattle.vale_book.specs.Reading.{read_ask, IsGiven, IsOffered};
 ghost use Rattle.vale_book.specs.Recorded.{after_ask, IsRefusal, HasRoom};
 ghost use Rattle.vale_serve.specs.Exchange.{HasRead, HasRoomFor};
+ghost use Rattle.vale_serve.specs.Joined.{AsksAt};
 ghost use Rattle.vale_serve.specs.Reading.{is_read_so, can_read, copies_of, IsReadRoom};
 ghost use Rattle.vale_serve.specs.Replies.{last_dests};
-ghost use Rattle.vale_serve.specs.Words.{IsAsker, IsLegal, IsServed, IsUser, SameUser, open_port, standing};
+ghost use Rattle.vale_serve.specs.Words.{IsServed, IsUser, SameUser, open_port, standing};
 
 use crate::buffers::holds_all;
 use crate::copying::CopyRoom;
@@ -121,9 +122,7 @@ pub(crate) fn read(
     is_pipe: bool,
     back: &[u32],
 ) -> Result<Option<Reply>, StepFault>
-    requires legal { IsLegal book.old.pool book.old.entries }
-    requires user { IsUser book.old user.old }
-    requires asker { IsAsker user.old (open_port (standing book.old).world.ports port.0) seen }
+    requires { AsksAt book.old user.old (open_port (standing book.old).world.ports port.0) seen }
     ensures served { IsServed book.old book.new (read_ask is_pipe port back.now) result }
     ensures kept { IsUser book.new user.new }
     ensures id { user.new.id ≡ user.old.id }

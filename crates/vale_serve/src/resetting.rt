@@ -4,7 +4,8 @@ ghost use Rattle.vale_entry.specs.declared.entry.Ask.TheVariants as asks;
 ghost use Rattle.vale_entry.specs.World.{Port};
 ghost use Rattle.vale_entry.specs.Legal.{has_ring, can_reset, fits_fault};
 ghost use Rattle.vale_book.specs.Asking.{IsSeen};
-ghost use Rattle.vale_serve.specs.Words.{IsAsker, IsLegal, IsServed, IsUser, open_port, standing};
+ghost use Rattle.vale_serve.specs.Joined.{AsksAt};
+ghost use Rattle.vale_serve.specs.Words.{IsServed, IsUser, open_port, standing};
 
 use crate::users::User;
 use nm_types::{PortId, Side, StepFault, SyncFault};
@@ -68,9 +69,7 @@ pub(crate) fn reset(
     side: Side,
     fault: &SyncFault,
 ) -> Result<Option<Reply>, StepFault>
-    requires legal { IsLegal book.old.pool book.old.entries }
-    requires user { IsUser book.old user.now }
-    requires asker { IsAsker user.now (open_port (standing book.old).world.ports port.0) seen }
+    requires { AsksAt book.old user.now (open_port (standing book.old).world.ports port.0) seen }
     ensures served { IsServed book.old book.new (asks.Reset port side fault.now) result }
     ensures kept { IsUser book.new user.now }
 {

@@ -3,9 +3,10 @@ ghost use Rattle.nm_types.specs.Names.{is_switch_port_name};
 ghost use Rattle.nm_types.specs.Sendable.{is_sendable};
 ghost use Rattle.vale_entry.specs.declared.entry.Ask.TheVariants as asks;
 ghost use Rattle.vale_port.specs.Kept.{bytes_of};
+ghost use Rattle.vale_serve.specs.Joined.{AsksAt};
 ghost use Rattle.vale_serve.specs.Replies.{dests_in, last_dests};
 ghost use Rattle.vale_serve.specs.Users.{is_settled_user, HasSent};
-ghost use Rattle.vale_serve.specs.Words.{IsAsker, IsLegal, IsServed, IsUser, contents, open_port, standing};
+ghost use Rattle.vale_serve.specs.Words.{IsServed, IsUser, contents, open_port, standing};
 
 use crate::users::{Sent, User};
 use nm_types::{Batch, NoMemory, PortId, StepFault};
@@ -98,9 +99,7 @@ pub(crate) fn send(
     seen: PortSeen,
     batch: &Batch,
 ) -> Result<Option<Reply>, StepFault>
-    requires legal { IsLegal book.old.pool book.old.entries }
-    requires user { IsUser book.old user.old }
-    requires asker { IsAsker user.old (open_port (standing book.old).world.ports port.0) seen }
+    requires { AsksAt book.old user.old (open_port (standing book.old).world.ports port.0) seen }
     ensures served { IsServed book.old book.new (asks.Send port batch.now) result }
     ensures kept { IsUser book.new user.new }
     ensures id { user.new.id ≡ user.old.id }

@@ -1,8 +1,9 @@
 ghost use Rattle.std.specs.Prelude.{◌≡◌, ◌&&◌, not};
 ghost use Rattle.nm_types.specs.Names.{is_name, is_monitor_name};
 ghost use Rattle.vale_entry.specs.declared.entry.Ask.TheVariants as asks;
+ghost use Rattle.vale_serve.specs.Joined.{AsksAt};
 ghost use Rattle.vale_serve.specs.Replies.{watch_answer};
-ghost use Rattle.vale_serve.specs.Words.{IsAsker, IsLegal, IsServed, IsUser, open_port, standing};
+ghost use Rattle.vale_serve.specs.Words.{IsServed, IsUser, open_port, standing};
 
 use crate::users::User;
 use nm_types::{Kind, Name, PortId, Sides, StepFault, WatchFault};
@@ -43,9 +44,8 @@ pub(crate) fn watch(
     target: &Name,
     sides: Sides,
 ) -> Result<Option<Reply>, StepFault>
-    requires legal { IsLegal book.old.pool book.old.entries }
-    requires user { IsUser book.old user.now }
-    requires asker { IsAsker user.now (open_port (standing book.old).world.ports monitor.0) seen }
+    requires { AsksAt book.old user.now (open_port (standing book.old).world.ports monitor.0)
+        seen }
     ensures served { IsServed book.old book.new (asks.Watch monitor target.now sides) result }
     ensures kept { IsUser book.new user.now }
 {

@@ -10,7 +10,7 @@ use Rattle.vale_serve.proofs.asking.finish_at.Goals as goal
 pub returns-clause-kept : goal.returns-clause-kept
 returns-clause-kept c =
     let b = c.args.book.now in
-    let o : IsOwner c.args.users.now.items (shutting_port (standing b).world.ports c.args.port.0) c.in_ok-seen.seen c.in_ok-seen.place = rw c.deref.ensures.value at c.in_ok-seen.ensures.some in
+    let o : IsOwner c.args.users.now.items (shutting_port (standing b).world.ports c.args.port.0) c.in_ok-seen.seen c.in_ok-seen.place = rw c.deref.ensures.value at c.in_ok-seen.ensures in
     let at : OwnerAt c.args.users.now.items (shutting_port (standing b).world.ports c.args.port.0) c.in_ok-seen.seen c.in_ok-seen.place c.index_mut.result.now =
     owner-at c.args.users.now.items (shutting_port (standing b).world.ports c.args.port.0) c.in_ok-seen.seen c.in_ok-seen.place c.index_mut.result.now o c.index_mut.ensures.value in
     acted b c.finish.new.book c.args.users.now.items c.in_ok-seen.place c.index_mut.result.now c.finish.new.user (Finish c.args.port c.args.bufs.now c.args.chain) (Ok c.finish.result) c.requires at.here

@@ -9,5 +9,5 @@ pub returns-in-Some-clause-kept : goal.returns-in-Some-clause-kept
 returns-in-Some-clause-kept c =
     let user = c.index-users-place.result in
     let is : user ≡ get_or c.args.users.now c.in-Some.place user = search rules in
-    let at = owner-at c.args.users.now (open_port (standing c.args.book.now).world.ports c.args.port.0) c.in-Some.seen c.in-Some.place user c.in-Some.ensures.some is in
+    let at = owner-at c.args.users.now (open_port (standing c.args.book.now).world.ports c.args.port.0) c.in-Some.seen c.in-Some.place user c.in-Some.ensures is in
     acted-still c.args.book.now c.reset.new.book c.args.users.now c.in-Some.place user (Reset c.args.port c.args.side c.args.fault.now) c.reset.result c.requires at.here c.reset.ensures.kept c.reset.ensures.served refl refl at.asker

@@ -12,5 +12,5 @@ returns-clause-kept c =
     let user = c.index-users-place.result in
     let is : user ≡ get_or c.args.users.now c.in_ok-place.place user = search rules in
     let at : OwnerAt c.args.users.now (open_port (standing b).world.ports c.args.port.0) c.in_ok-place.field-0-0 c.in_ok-place.place user =
-    owner-at c.args.users.now (open_port (standing b).world.ports c.args.port.0) c.in_ok-place.field-0-0 c.in_ok-place.place user c.in_ok-place.ensures.some is in
+    owner-at c.args.users.now (open_port (standing b).world.ports c.args.port.0) c.in_ok-place.field-0-0 c.in_ok-place.place user c.in_ok-place.ensures is in
     acted-still b c.shut.new.book c.args.users.now c.in_ok-place.place user (Shut c.args.port) (Ok c.shut.result) c.requires at.here c.shut.ensures.kept c.shut.ensures.served refl refl at.asker

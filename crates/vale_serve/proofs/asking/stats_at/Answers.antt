@@ -11,5 +11,5 @@ returns-in-Some-clause-kept c =
     let user = c.index-users-place.result in
     let is : user ≡ get_or c.args.users.now c.in-Some.place user = search rules in
     let at : OwnerAt c.args.users.now (open_port (standing b).world.ports c.args.port.0) c.in-Some.field-0-0 c.in-Some.place user =
-    owner-at c.args.users.now (open_port (standing b).world.ports c.args.port.0) c.in-Some.field-0-0 c.in-Some.place user c.in-Some.ensures.some is in
+    owner-at c.args.users.now (open_port (standing b).world.ports c.args.port.0) c.in-Some.field-0-0 c.in-Some.place user c.in-Some.ensures is in
     acted-still b c.stats.new.book c.args.users.now c.in-Some.place user (Stat c.args.port) c.stats.result c.requires at.here c.stats.ensures.kept c.stats.ensures.served refl refl at.asker

@@ -9,5 +9,5 @@ pub returns-in-Some-clause-kept : goal.returns-in-Some-clause-kept
 returns-in-Some-clause-kept c =
     let user = c.index-users-place.result in
     let is : user ≡ get_or c.args.users.now c.in-Some.place user = search rules in
-    let at = owner-at c.args.users.now (open_port (standing c.args.book.now).world.ports c.args.monitor.0) c.in-Some.seen c.in-Some.place user c.in-Some.ensures.some is in
+    let at = owner-at c.args.users.now (open_port (standing c.args.book.now).world.ports c.args.monitor.0) c.in-Some.seen c.in-Some.place user c.in-Some.ensures is in
     acted-still c.args.book.now c.watch.new.book c.args.users.now c.in-Some.place user (Watch c.args.monitor c.args.target.now c.args.sides) c.watch.result c.requires at.here c.watch.ensures.kept c.watch.ensures.served refl refl at.asker
