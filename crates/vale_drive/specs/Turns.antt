@@ -1,10 +1,13 @@
 -- One turn on the way to the end: the entry that comes next is made, or it is another kind's turn.
 use Rattle.std.specs.Prelude.{ℕ, Bool, true, false, ◌≡◌, is_some, List, [], Some, None, find, option_map, slice_get}
 use Rattle.std.specs.List.{AllByRecursion}
-use Rattle.vale_entry.specs.Closing.{is_port_of}
+use Rattle.vale_entry.specs.Closing.{is_port_of, shutting_port}
 use Rattle.vale_entry.specs.Laws.{id_of_port}
+use Rattle.vale_entry.specs.World.{open_port}
 use Rattle.vale_book.specs.Recorded.{Recorded, standing}
+use Rattle.vale_book.specs.declared.asking.PortSeen.{PortSeen}
 use Rattle.vale_serve.specs.declared.users.User.{User}
+use Rattle.vale_serve.specs.Joined.{AreUsersOf, IsOwner}
 use Rattle.vale_serve.specs.Users.{is_settled_user}
 use Rattle.vale_drive.specs.Winding.{IsNextMade, next_ending}
 
@@ -28,6 +31,14 @@ pub record IsPortsTurn (b : Recorded) (users : List User) (id : ℕ) : Type 0 wh
   pub user : User
   pub first : slice_get users 0 ≡ Some user
   pub port : IsFirstPort b user.id.0 id
+
+-- the port of this id, seen so, was shut and is to go, in its turn: its session stands at the place
+pub record IsToGo (b : Recorded) (all : List User) (id : ℕ) (seen : PortSeen) (place : ℕ) : Type 0 where
+  pub users : AreUsersOf b all
+  pub quiet : AllByRecursion IsQuiet all
+  pub first : IsPortsTurn b all id
+  pub shut : open_port (standing b).world.ports id ≡ None
+  pub owner : IsOwner all (shutting_port (standing b).world.ports id) seen place
 
 abbrev pub IsGrantTurn : Bool → Recorded → Recorded → List User → Type 0
 IsGrantTurn true old new users = IsNextMade old new

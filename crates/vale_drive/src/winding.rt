@@ -1,11 +1,9 @@
-ghost use Rattle.std.specs.Prelude.{◌≡◌, ◌≤◌, length, take, None, filter_map};
+ghost use Rattle.std.specs.Prelude.{◌≡◌, ◌≤◌, length, take, filter_map};
 ghost use Rattle.std.specs.List.{AllByRecursion};
 ghost use Rattle.nm_region.specs.Buffers.{indices_of};
-ghost use Rattle.vale_entry.specs.Closing.{shutting_port};
-ghost use Rattle.vale_serve.specs.Joined.{AreUsersOf, IsOwner};
+ghost use Rattle.vale_serve.specs.Joined.{AreUsersOf};
 ghost use Rattle.vale_serve.specs.Users.{offered_by, leased_by};
-ghost use Rattle.vale_serve.specs.Words.{open_port, standing};
-ghost use Rattle.vale_drive.specs.Turns.{HasGranted, IsQuiet, IsPortsTurn, IsGrantTurn, IsDoneTurn, IsLastTurn};
+ghost use Rattle.vale_drive.specs.Turns.{HasGranted, IsQuiet, IsPortsTurn, IsGrantTurn, IsDoneTurn, IsLastTurn, IsToGo};
 ghost use Rattle.vale_drive.specs.Winding.{IsEnded, IsNextMade, least};
 
 use nm_region::Buf;
@@ -80,12 +78,7 @@ fn finish_by(
     place: usize,
     numbers: &mut [u32],
 )
-    requires users { AreUsersOf book.old users.old.items }
-    requires quiet { AllByRecursion IsQuiet users.old.items }
-    requires first { IsPortsTurn book.old users.old.items port.0 }
-    requires shut { open_port (standing book.old).world.ports port.0 ≡ None }
-    requires owner { IsOwner users.old.items
-        (shutting_port (standing book.old).world.ports port.0) seen place }
+    requires turn { IsToGo book.old users.old.items port.0 seen place }
     requires space { seen.due ≤ length numbers.old }
     ensures made { IsNextMade book.old book.new }
     ensures kept { AreUsersOf book.new users.new.items }
@@ -102,12 +95,7 @@ fn finish_by(
 
 /// A port that is shut goes with the smallest buffers of its session, whose place this is.
 fn finish_with(book: &mut Book, users: &mut Vec<User>, port: PortId, seen: PortSeen, place: usize)
-    requires users { AreUsersOf book.old users.old.items }
-    requires quiet { AllByRecursion IsQuiet users.old.items }
-    requires first { IsPortsTurn book.old users.old.items port.0 }
-    requires shut { open_port (standing book.old).world.ports port.0 ≡ None }
-    requires owner { IsOwner users.old.items
-        (shutting_port (standing book.old).world.ports port.0) seen place }
+    requires { IsToGo book.old users.old.items port.0 seen place }
     ensures made { IsNextMade book.old book.new }
     ensures kept { AreUsersOf book.new users.new.items }
 {

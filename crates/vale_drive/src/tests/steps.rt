@@ -83,6 +83,22 @@ fn name(rt: &impl Abort, text: &str) -> Name {
     }
 }
 
+/// The ask of a step at one port that names buffers.
+fn ask_with(port: PortId, bufs: Numbers, step: Step) -> Ask {
+    match step {
+        Step::Sync(..) => Ask::Sync { port, back: bufs },
+        Step::Get(..) => Ask::Get { port, back: bufs },
+        _ => Ask::Finish {
+            port,
+            bufs,
+            chain: Chain {
+                found: 0,
+                astray: 0,
+            },
+        },
+    }
+}
+
 /// The ask of a step at one port.
 fn ask_at(alloc: Global, port: PortId, step: Step) -> Result<Ask, NoMemory> {
     Ok(match step {
@@ -90,26 +106,13 @@ fn ask_at(alloc: Global, port: PortId, step: Step) -> Result<Ask, NoMemory> {
             port,
             frames: batch(alloc, source, count)?,
         },
-        Step::Sync(_, back) => Ask::Sync {
-            port,
-            back: numbers(alloc, back)?,
-        },
-        Step::Get(_, back) => Ask::Get {
-            port,
-            back: numbers(alloc, back)?,
-        },
         Step::Put(_, indices) => Ask::Put {
             port,
             offered: items(alloc, indices)?,
         },
-        Step::Finish(_, bufs) => Ask::Finish {
-            port,
-            bufs: numbers(alloc, bufs)?,
-            chain: Chain {
-                found: 0,
-                astray: 0,
-            },
-        },
+        Step::Sync(_, bufs) | Step::Get(_, bufs) | Step::Finish(_, bufs) => {
+            ask_with(port, numbers(alloc, bufs)?, step)
+        }
         Step::Shut(_) => Ask::Shut { port },
         _ => Ask::Stat { port },
     })

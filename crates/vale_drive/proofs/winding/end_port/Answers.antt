@@ -16,4 +16,13 @@ unreachable-requires c =
     let b = c.args.book.now in
     some-port b c.args.users.now.items c.args.port c.requires.users c.requires.quiet c.requires.first
     (seen-none (open_port (standing b).world.ports c.args.port.0) c.open_port.result c.open_port.ensures (sym c.is_some.ensures ∙ c.if-is_some.false))
-    c.in-None.ensures.none
+    c.in-None.ensures
+
+pub finish_with-requires : goal.finish_with-requires
+finish_with-requires c = record {
+  users = c.requires.users;
+  quiet = c.requires.quiet;
+  first = c.requires.first;
+  shut = seen-none (open_port (standing c.args.book.now).world.ports c.args.port.0) c.open_port.result c.open_port.ensures (sym c.is_some.ensures ∙ c.if-is_some.false);
+  owner = c.in-Some.ensures;
+}
