@@ -1,21 +1,57 @@
 ghost use Rattle.std.specs.Prelude.{[], ◌∷◌};
 
-use crate::{Act, Script, ScriptFault, Unit, line_count, parse};
+use crate::{Act, Script, ScriptFault, ScriptWord, Unit, line_count, parse};
 use nm_types::LineCause;
+use std::alloc::Global;
+use std::process::Abort;
 use std::test::Fail;
 
 const FIRST_RUN: &[u8] =
     b"user a\nuser b\nopen a vale0:a 4 4\nopen b vale0:b 4 4\nput a vale0:a 1 ff:ff:ff:ff:ff:ff 02:00:00:00:00:0a 60 11\ntx a vale0:a\nrx b vale0:b\n";
 
+/// Every kind of line once, behind two users.
+const ALL_LINES: &[u8] =
+    b"pool 64\nuser a\nuser b\nopen a vale0:a 4 4\nopen a vale0:b 4 4 3\nopen b mon0 0 2\npar\nput a vale0:a 0 Ff:ff:ff:ff:ff:ff 02:00:00:00:00:0A 2048 aB\nhex a vale0:a .\nplay a vale0:a f 1023\nend\ntx a vale0:a\nrx a vale0:a\nrx a vale0:a keep\nfwd a vale0:a vale0:b 1000000\npoke a vale0:a tx 4294967295 ptr 18446744073709551615\nmove a vale0:a rx 1 2\nswap a vale0:a rx 0 vale0:b tx 1\nswap a vale0:a rx 0 vale0:b tx 1 quiet\nextra a vale0:b 0 1\nwatch b mon0 vale0:a tr\nstat a vale0:a\nplay a vale0:b g 1\nplay a vale0:b f 1\nsave b mon0 h\nclose b mon0\n";
+
+/// A script, its pool, its users, its files and how many units it has.
+type Read = (
+    &'static [u8],
+    u32,
+    &'static [&'static str],
+    &'static [&'static str],
+    usize,
+);
+
+const READ: [Read; 2] = [
+    (FIRST_RUN, 8192, &["a", "b"], &[], 7),
+    (ALL_LINES, 64, &["a", "b"], &["f", "g"], 21),
+];
+
+fn assert_words(rt: &impl Abort, words: &[ScriptWord], texts: &[&str]) {
+    assert_eq!(rt; words.len(), texts.len());
+    for (word, text) in words.iter().zip(texts) {
+        assert_eq!(rt; word.as_str(), *text);
+    }
+}
+
 #[test]
-fn first_run_is_read(rt: HostRuntime) -> Result<(), Fail> {
-    let script = parse(rt.alloc(), FIRST_RUN).ok().ok_or("read")?;
-    assert_eq!(rt; script.pool(), 8192);
-    assert_eq!(rt; script.users().len(), 2);
-    assert_eq!(rt; script.users()[1].as_str(), "b");
-    assert_eq!(rt; script.units().len(), 7);
-    match &script.units()[4] {
-        Unit::Single { line } => {
+fn scripts_are_read(rt: HostRuntime) -> Result<(), Fail> {
+    for (bytes, pool, users, files, units) in READ {
+        let script = parse(rt.alloc(), bytes).ok().ok_or("read")?;
+        assert_eq!(rt; script.pool(), pool);
+        assert_words(&rt, script.users(), users);
+        assert_words(&rt, script.files(), files);
+        assert_eq!(rt; script.units().len(), units);
+    }
+    Ok(())
+}
+
+#[test]
+fn units_have_their_lines(rt: HostRuntime) -> Result<(), Fail> {
+    let first = parse(rt.alloc(), FIRST_RUN).ok().ok_or("read")?;
+    let all = parse(rt.alloc(), ALL_LINES).ok().ok_or("read")?;
+    match (first.units().get(4), all.units().get(5)) {
+        (Some(Unit::Single { line }), Some(Unit::Block { lines })) => {
             assert_eq!(rt; line.at, 5);
             assert_eq!(rt; line.user, 1);
             assert!(rt;
@@ -29,30 +65,10 @@ fn first_run_is_read(rt: HostRuntime) -> Result<(), Fail> {
                     }
                 )
             );
-        }
-        Unit::Block { .. } => assert!(rt; false, "a block"),
-    }
-    Ok(())
-}
-
-/// Every kind of line once, behind two users.
-const ALL_LINES: &[u8] =
-    b"pool 64\nuser a\nuser b\nopen a vale0:a 4 4\nopen a vale0:b 4 4 3\nopen b mon0 0 2\npar\nput a vale0:a 0 Ff:ff:ff:ff:ff:ff 02:00:00:00:00:0A 2048 aB\nhex a vale0:a .\nplay a vale0:a f 1023\nend\ntx a vale0:a\nrx a vale0:a\nrx a vale0:a keep\nfwd a vale0:a vale0:b 1000000\npoke a vale0:a tx 4294967295 ptr 18446744073709551615\nmove a vale0:a rx 1 2\nswap a vale0:a rx 0 vale0:b tx 1\nswap a vale0:a rx 0 vale0:b tx 1 quiet\nextra a vale0:b 0 1\nwatch b mon0 vale0:a tr\nstat a vale0:a\nplay a vale0:b g 1\nplay a vale0:b f 1\nsave b mon0 h\nclose b mon0\n";
-
-#[test]
-fn every_line_is_read(rt: HostRuntime) -> Result<(), Fail> {
-    let script = parse(rt.alloc(), ALL_LINES).ok().ok_or("read")?;
-    assert_eq!(rt; script.pool(), 64);
-    assert_eq!(rt; script.files().len(), 2);
-    assert_eq!(rt; script.files()[0].as_str(), "f");
-    assert_eq!(rt; script.files()[1].as_str(), "g");
-    assert_eq!(rt; script.units().len(), 21);
-    match &script.units()[5] {
-        Unit::Block { lines } => {
             assert_eq!(rt; lines.as_slice().len(), 3);
             assert_eq!(rt; lines.as_slice()[1].at, 9);
         }
-        Unit::Single { .. } => assert!(rt; false, "no block"),
+        _ => assert!(rt; false, "a line, and a block"),
     }
     Ok(())
 }
@@ -67,16 +83,16 @@ fn blame(read: Result<Script, ScriptFault>) -> (u32, LineCause) {
 }
 
 /// A script of two users, of whom the first has a port and a monitor open, and this line.
-fn blame_behind(rt: &HostRuntime, line: &[u8]) -> Result<(u32, LineCause), Fail> {
+fn blame_behind(alloc: Global, line: &[u8]) -> Result<(u32, LineCause), Fail> {
     let mut script = Vec::from_slice(
-        rt.alloc(),
+        alloc,
         b"user a\nuser b\nopen a vale0:p 1 1\nopen a mon0 0 2\n",
     )?;
     script.extend_from_slice(line)?;
     if script.len() > 1_000 {
         return Err("a script is short".into());
     }
-    Ok(blame(parse(rt.alloc(), &script)))
+    Ok(blame(parse(alloc, &script)))
 }
 
 use LineCause::{Count, Name, Number, Order, Port, Twice, User, Word};
@@ -128,12 +144,17 @@ const BAD_LINES: [(&[u8], LineCause); 40] = [
     (b"open a vale0:p 4 4", Twice),
 ];
 
-#[test]
-fn bad_lines_are_blamed(rt: HostRuntime) -> Result<(), Fail> {
-    for (line, cause) in BAD_LINES {
-        assert_eq!(rt; blame_behind(&rt, line)?, (5, cause));
+/// Each of these is a bad fifth line, for the cause beside it.
+fn assert_blamed(rt: &impl Abort, alloc: Global, lines: &[(&[u8], LineCause)]) -> Result<(), Fail> {
+    for (line, cause) in lines {
+        assert_eq!(rt; blame_behind(alloc, line)?, (5, *cause));
     }
     Ok(())
+}
+
+#[test]
+fn bad_lines_are_blamed(rt: HostRuntime) -> Result<(), Fail> {
+    assert_blamed(&rt, rt.alloc(), &BAD_LINES)
 }
 
 /// Each cause that the fifth line can have by itself, on each kind of line.
@@ -268,14 +289,11 @@ const EACH_CAUSE: [(&[u8], LineCause); 105] = [
 
 #[test]
 fn each_cause_is_told_of_each_kind_of_line(rt: HostRuntime) -> Result<(), Fail> {
-    for (line, cause) in EACH_CAUSE {
-        assert_eq!(rt; blame_behind(&rt, line)?, (5, cause));
-    }
-    Ok(())
+    assert_blamed(&rt, rt.alloc(), &EACH_CAUSE)
 }
 
-/// Lines from the fifth on, the one that is blamed, and why; 0 if all are good.
-const LINES: [(&[u8], u32, LineCause); 20] = [
+/// Lines from the fifth on, the one that is blamed, and why.
+const LINES: [(&[u8], u32, LineCause); 13] = [
     (b"par\npool 64\nend\n", 6, Order),
     (b"par\nend\nend\n", 7, Order),
     (
@@ -291,29 +309,33 @@ const LINES: [(&[u8], u32, LineCause); 20] = [
     (b"save a vale0:p f\nsave a vale0:p g\n", 6, Twice),
     (b"play a vale0:p f 1\nsave a vale0:p f\n", 6, Twice),
     (b"save a vale0:p f\nplay a vale0:p f 1\n", 6, Twice),
-    (b"play a vale0:p f 1\nplay a vale0:p f 2\n", 0, Word),
-    (
-        b"save a vale0:p f\nclose a vale0:p\nopen a vale0:p 2 2\nsave a vale0:p g\n",
-        0,
-        Word,
-    ),
     (b"close a vale0:p\ntx a vale0:p\n", 6, Port),
-    (
-        b"open b vale0:p 4 4\nclose b vale0:p\ntx a vale0:p\n",
-        0,
-        Word,
-    ),
-    (b"watch a mon0 vale9:x tr\n", 0, Word),
-    (b"  # \x00\xff\n\t\n# last \xff", 0, Word),
-    (b"tx  a\tvale0:p \t\r\n", 0, Word),
-    (b"open a vale0:q 00000000000000000002 4294967295", 0, Word),
     (b"hex a vale0:p aB0\nhex a vale0:p .", 5, Number),
 ];
 
 #[test]
 fn lines_are_judged_by_those_before(rt: HostRuntime) -> Result<(), Fail> {
     for (lines, line, cause) in LINES {
-        assert_eq!(rt; blame_behind(&rt, lines)?, (line, cause));
+        assert_eq!(rt; blame_behind(rt.alloc(), lines)?, (line, cause));
+    }
+    Ok(())
+}
+
+/// Lines from the fifth on that are all good.
+const GOOD_LINES: [&[u8]; 7] = [
+    b"play a vale0:p f 1\nplay a vale0:p f 2\n",
+    b"save a vale0:p f\nclose a vale0:p\nopen a vale0:p 2 2\nsave a vale0:p g\n",
+    b"open b vale0:p 4 4\nclose b vale0:p\ntx a vale0:p\n",
+    b"watch a mon0 vale9:x tr\n",
+    b"  # \x00\xff\n\t\n# last \xff",
+    b"tx  a\tvale0:p \t\r\n",
+    b"open a vale0:q 00000000000000000002 4294967295",
+];
+
+#[test]
+fn good_lines_are_read(rt: HostRuntime) -> Result<(), Fail> {
+    for lines in GOOD_LINES {
+        assert_eq!(rt; blame_behind(rt.alloc(), lines)?, (0, Word));
     }
     Ok(())
 }

@@ -18,13 +18,13 @@ fn entry(session: u32, ask: Ask, reply: Reply) -> Entry {
     }
 }
 
-fn open() -> Result<Ask, Fail> {
+fn open(session: u32, rx: u32, extra: u32) -> Result<Ask, Fail> {
     Ok(Ask::Open {
-        session: SessionId(1),
+        session: SessionId(session),
         name: Name::parse("vale0:a").ok().ok_or("name")?,
         tx: 4,
-        rx: 4,
-        extra: 0,
+        rx,
+        extra,
     })
 }
 
@@ -58,7 +58,7 @@ fn first_entries(alloc: Global) -> Result<Vec<Entry>, Fail> {
     let (count, none) = (1, Dests::from(Vec::new(alloc)));
     Ok(vec![in alloc;
         entry(1, Ask::Enter { user: 1 }, Reply::Made),
-        entry(1, open()?, Reply::Opened),
+        entry(1, open(1, 4, 0)?, Reply::Opened),
         entry(1, send(alloc)?, offered(alloc)?),
         entry(
             1,
@@ -265,18 +265,8 @@ fn other_entries(alloc: Global) -> Result<Vec<Entry>, Fail> {
         entry(3, watch(Sides::R)?, Reply::NoTarget),
         entry(3, watch(Sides::TR)?, Reply::Watched { by: PortId(6) }),
         entry(2, Ask::Stat { port }, counted()),
-        entry(2, small_open()?, Reply::Refused { fault }),
+        entry(2, open(2, 2, 3)?, Reply::Refused { fault }),
     ]?)
-}
-
-fn small_open() -> Result<Ask, Fail> {
-    Ok(Ask::Open {
-        session: SessionId(2),
-        name: Name::parse("vale0:a").ok().ok_or("name")?,
-        tx: 4,
-        rx: 2,
-        extra: 3,
-    })
 }
 
 #[test]

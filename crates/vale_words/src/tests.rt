@@ -1,9 +1,10 @@
 //! Each call with the words that it takes and those that it does not.
 use crate::{
     cut_plain_words, cut_words, frame_bytes, frame_bytes_fit, hex_byte_of, is_hex_byte, is_mac,
-    is_silent, is_user_name, mac_of, name_text, number_in, port_name, room_for_words, text_of,
-    words_of,
+    is_silent, is_user_name, mac_of, name_text, number_in, port_name, room_for_words, side_of,
+    sides_of, text_of, value_of, word_at, words_of,
 };
+use nm_types::{Side, Sides};
 use std::test::Fail;
 
 #[test]
@@ -104,4 +105,23 @@ fn bytes_and_addresses(rt: HostRuntime) -> Result<(), Fail> {
         assert_eq!(rt; is_mac(word), address.is_some());
     }
     Ok(())
+}
+
+#[test]
+fn fixed_words_and_what_they_stand_for(rt: HostRuntime) {
+    let words: [&[u8]; 2] = [b"tx", b"t"];
+    assert!(rt; matches!(side_of(word_at(&words, 0)), Side::Tx));
+    assert!(rt; matches!(side_of(b"rx"), Side::Rx));
+    assert!(rt; matches!(sides_of(word_at(&words, 1)), Sides::T));
+    assert!(rt; matches!(sides_of(b"r"), Sides::R));
+    assert!(rt; matches!(sides_of(b"tr"), Sides::TR));
+    assert_eq!(rt; word_at(&words, 2), b"".as_slice());
+    let digits: [(&[u8], u32); 2] = [(b"one", 1), (b"two", 2)];
+    for (word, digit) in [
+        (b"one".as_slice(), 1),
+        (b"two".as_slice(), 2),
+        (b"ten".as_slice(), 9),
+    ] {
+        assert_eq!(rt; value_of(&digits, word, 9), digit);
+    }
 }
