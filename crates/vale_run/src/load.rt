@@ -49,24 +49,14 @@ pub(crate) fn load_number(words: &[String]) -> Option<u64>
     number_of(word_behind(words, "load")?)
 }
 
-/// How many frames an entry sends.
-fn count_sent(entry: &Entry) -> u64
-    ensures { result ≡ count_sent entry.now }
-{
-    match &entry.ask {
-        Ask::Send { frames, .. } => frames.len() as u64,
-        _ => 0,
-    }
-}
-
-/// How many bytes these frames have.
-fn bytes_sent(entry: &Entry) -> u64
+/// How many frames an entry sends, and how many bytes these have.
+fn sent_by(entry: &Entry) -> (u64, u64)
     requires { bytes_sent entry.now < 2 ^ 64 }
-    ensures { result ≡ bytes_sent entry.now }
+    ensures { result ≡ (count_sent entry.now, bytes_sent entry.now) }
 {
     match &entry.ask {
-        Ask::Send { frames, .. } => frames.size(),
-        _ => 0,
+        Ask::Send { frames, .. } => (frames.len() as u64, frames.size()),
+        _ => (0, 0),
     }
 }
 
@@ -78,8 +68,9 @@ fn sent(entries: &[Entry]) -> (u64, u64)
 {
     let (mut frames, mut bytes) = (0, 0);
     for entry in entries {
-        frames += count_sent(entry);
-        bytes += bytes_sent(entry);
+        let (count, size) = sent_by(entry);
+        frames += count;
+        bytes += size;
     }
     (frames, bytes)
 }
