@@ -1,5 +1,6 @@
-ghost use Rattle.std.specs.Prelude.{◌≡◌, ◌≤◌, ◌∷◌, [], IsSome, true};
-ghost use Rattle.nm_own.specs.Words.{IsPoolSize, empty_own, indices_of, vec_capacity};
+ghost use Rattle.std.specs.Prelude.{◌≡◌, ◌≤◌, ◌+◌, ◌∷◌, [], IsSome, None, length, true};
+ghost use Rattle.nm_own.specs.Words.{IsPoolSize, empty_own, indices_of, refusal_at, ring_at};
+ghost use Rattle.nm_own.specs.Words.{vec_capacity};
 ghost use Rattle.nm_own.specs.LentOffers.{IsLentOffers};
 
 use crate::{LentOffers, OwnSide, SlotPlace};
@@ -278,12 +279,26 @@ fn back_count(rt: &impl Abort, own: &mut OwnSide, alloc: Global) -> Option<usize
     }
 }
 
-/// An empty vector for up to three numbers.
-pub(crate) fn numbers(rt: &impl Abort, alloc: Global) -> Vec<u32>
-    ensures empty { result.items ≡ [] }
-    ensures room { 3 ≤ vec_capacity result }
+/// A push on a side of the port that no check refuses.
+pub(crate) fn check_push(rt: &impl Abort, own: &mut OwnSide, side: Side)
+    ensures own { own.new ≡ own.old }
+    ensures ring { IsSome (ring_at side own.old.own PORT.0) }
+    ensures passes { refusal_at side PORT.0 own.old.own ≡ None }
 {
-    match Vec::with_capacity(alloc, 3) {
+    assert!(rt; own.ring(PORT, side).is_some());
+    if let Err(fault) = own.check(PORT, side) {
+        panic!(rt; "{fault:?}");
+    }
+}
+
+/// An empty vector for some numbers, of which there are no more than `most`.
+pub(crate) fn numbers(rt: &impl Abort, alloc: Global, count: usize, most: usize) -> Vec<u32>
+    ensures few { count ≤ most }
+    ensures empty { result.items ≡ [] }
+    ensures room { count ≤ vec_capacity result }
+{
+    assert!(rt; count <= most);
+    match Vec::with_capacity(alloc, count) {
         Ok(notes) => notes,
         Err(_) => panic!(rt; "out of memory"),
     }
@@ -301,18 +316,12 @@ pub(crate) fn lend_frames(
     ensures lent { IsLentOffers own pending.new.items result.0 }
     ensures capacity { vec_capacity pending.new ≡ vec_capacity pending.old }
 {
-    assert!(rt; own.ring(PORT, Side::Tx).is_some());
-    match own.check(PORT, Side::Tx) {
-        Ok(()) => match own.offered_lengths(alloc, PORT) {
-            Ok(lengths) => {
-                assert!(rt; lengths.len() <= 2);
-                let notes = numbers(rt, alloc);
-                (own.lend_offered(PORT, pending, notes), lengths)
-            }
-            Err(_) => panic!(rt; "out of memory"),
-        },
-        Err(fault) => panic!(rt; "{fault:?}"),
-    }
+    check_push(rt, &mut own, Side::Tx);
+    let Ok(lengths) = own.offered_lengths(alloc, PORT) else {
+        panic!(rt; "out of memory");
+    };
+    let notes = numbers(rt, alloc, lengths.len(), 2);
+    (own.lend_offered(PORT, pending, notes), lengths)
 }
 
 /// None of the frames that are offered is taken: the peer is gone.
@@ -409,12 +418,18 @@ fn close(rt: &impl Abort, mut own: OwnSide) -> Vec<Buf> {
     back
 }
 
-/// The buffers of a region, a name, and an own side without ports.
-pub(crate) fn start(rt: &impl Abort, alloc: Global, count: u32) -> (Region, Vec<Buf>, Name, OwnSide)
-    requires { IsPoolSize count }
-    ensures { result.3.own ≡ empty_own 64 }
+/// A region's buffers, the first four of them apart, with a name and an own side without ports.
+pub(crate) fn start(
+    rt: &impl Abort,
+    alloc: Global,
+    more: u32,
+) -> (Region, Vec<Buf>, Vec<Buf>, Name, OwnSide)
+    requires { IsPoolSize (4 + more) }
+    ensures more { length result.1.items ≡ more }
+    ensures four { indices_of result.2.items ≡ 2 ∷ 3 ∷ 4 ∷ 5 ∷ [] }
+    ensures own { result.4.own ≡ empty_own 64 }
 {
-    let Ok((region, all)) = Region::new(alloc, count) else {
+    let Ok((region, mut all)) = Region::new(alloc, 4 + more) else {
         panic!(rt; "out of memory");
     };
     let Ok(name) = Name::parse("vale0:a") else {
@@ -423,12 +438,13 @@ pub(crate) fn start(rt: &impl Abort, alloc: Global, count: u32) -> (Region, Vec<
     let Ok(own) = OwnSide::new(alloc, 64) else {
         panic!(rt; "out of memory");
     };
-    assert!(rt; all.len() == count as usize);
-    (region, all, name, own)
+    let four = first_four(rt, alloc, &mut all);
+    assert!(rt; all.len() == more as usize);
+    (region, all, four, name, own)
 }
 
 /// The first four of a region's buffers, 2 to 5.
-pub(crate) fn first_four(rt: &impl Abort, alloc: Global, all: &mut Vec<Buf>) -> Vec<Buf>
+fn first_four(rt: &impl Abort, alloc: Global, all: &mut Vec<Buf>) -> Vec<Buf>
     ensures { indices_of result.items ≡ 2 ∷ 3 ∷ 4 ∷ 5 ∷ [] }
 {
     let Ok(mut tx) = Vec::with_capacity(alloc, 4) else {
@@ -459,10 +475,8 @@ pub(crate) fn room(rt: &impl Abort, alloc: Global, count: usize) -> Vec<Buf>
 #[should_panic(expected = "the buffers stay out of the region")]
 fn port_of_four_slots(rt: HostRuntime) {
     let alloc = rt.alloc();
-    let (_region, mut all, name, mut own) = start(&rt, alloc, 5);
-    let tx = first_four(&rt, alloc, &mut all);
+    let (_region, mut all, tx, name, mut own) = start(&rt, alloc, 1);
     let mut extra = room(&rt, alloc, 1);
-    assert_eq!(rt; all.len(), 1);
     let six = all.remove(0);
     assert!(rt; six.index() == 6);
     extra.push_reserved(six);

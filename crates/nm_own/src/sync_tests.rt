@@ -2,7 +2,7 @@ ghost use Rattle.std.specs.Prelude.{◌≡◌, ◌≤◌, ◌∷◌, []};
 ghost use Rattle.nm_own.specs.Words.{SideState, empty_own, indices_of, vec_capacity};
 ghost use Rattle.nm_own.specs.LentBack.{IsLentBack};
 
-use crate::own_tests::{FRAME, PORT, first_four, lend_frames, numbers, room, start, starts_with};
+use crate::own_tests::{FRAME, PORT, check_push, lend_frames, numbers, room, start, starts_with};
 use crate::{LentBack, OwnSide, SlotPlace};
 use nm_region::Buf;
 use nm_types::{Name, Side, Slot};
@@ -49,27 +49,32 @@ fn lend(rt: &impl Abort, mut own: OwnSide, alloc: Global, back: &mut Vec<Buf>) -
     ensures lent { (s : SideState) × IsLentBack s back.new.items result }
     ensures capacity { vec_capacity back.new ≡ vec_capacity back.old }
 {
-    assert!(rt; own.ring(PORT, Side::Rx).is_some());
-    match own.check(PORT, Side::Rx) {
-        Ok(()) => match own.back(alloc, PORT) {
-            Ok(names) => {
-                assert!(rt; names.len() <= 3);
-                let notes = numbers(rt, alloc);
-                own.lend_back(PORT, back, notes)
-            }
-            Err(_) => panic!(rt; "out of memory"),
-        },
-        Err(fault) => panic!(rt; "{fault:?}"),
-    }
+    check_push(rt, &mut own, Side::Rx);
+    let Ok(names) = own.back(alloc, PORT) else {
+        panic!(rt; "out of memory");
+    };
+    let notes = numbers(rt, alloc, names.len(), 3);
+    own.lend_back(PORT, back, notes)
 }
 
-/// Syncs the receive ring, which gives back up to three buffers. They are lent twice, and come back
-/// the first time.
-fn give_back(rt: &impl Abort, own: OwnSide, alloc: Global, back: &mut Vec<Buf>) -> OwnSide
+/// A receive slot and another one come to name each other's buffers, and the receive ring is synced
+/// with its head at a position, which gives back up to three buffers. They are lent twice, and come
+/// back the first time.
+fn give_back(
+    rt: &impl Abort,
+    mut own: OwnSide,
+    alloc: Global,
+    back: &mut Vec<Buf>,
+    at: u32,
+    other: SlotPlace,
+    head: u32,
+) -> OwnSide
     requires room { 3 ≤ vec_capacity back.old }
     requires empty { back.old.items ≡ [] }
     ensures { vec_capacity back.new ≡ vec_capacity back.old }
 {
+    own.swap_slots(place(Side::Rx, at), other, true);
+    own.put_positions(PORT, Side::Rx, head, head);
     let own = lend(rt, own, alloc, back).undo(back);
     lend(rt, own, alloc, back).received()
 }
@@ -103,14 +108,12 @@ fn fill(rt: &impl Abort, own: &mut OwnSide, six: Buf, seven: Buf, eight: Buf) {
 
 /// Two slots that name each other's buffers go back, and the buffers come in the order of the slots.
 /// Each brings a frame again, in the slots behind.
-fn cross(rt: &impl Abort, mut own: OwnSide, alloc: Global, back: &mut Vec<Buf>) -> OwnSide
+fn cross(rt: &impl Abort, own: OwnSide, alloc: Global, back: &mut Vec<Buf>) -> OwnSide
     requires room { 3 ≤ vec_capacity back.old }
     requires empty { back.old.items ≡ [] }
     ensures { vec_capacity back.new ≡ vec_capacity back.old }
 {
-    own.swap_slots(place(Side::Rx, 0), place(Side::Rx, 1), true);
-    own.put_positions(PORT, Side::Rx, 2, 2);
-    let mut own = give_back(rt, own, alloc, back);
+    let mut own = give_back(rt, own, alloc, back, 0, place(Side::Rx, 1), 2);
     assert!(rt; back.len() == 2 && own.is_new(6) && own.is_new(7));
     assert!(rt; own.slot(PORT, Side::Rx, 0).is_none() && own.slot(PORT, Side::Rx, 1).is_none());
     assert!(rt; is_slot(&own, Side::Rx, 2, 8, 0, 0));
@@ -122,14 +125,12 @@ fn cross(rt: &impl Abort, mut own: OwnSide, alloc: Global, back: &mut Vec<Buf>) 
 
 /// A slot that names the buffer of a transmit slot gives that one back, and the other stands in the
 /// transmit slot's place.
-fn trade(rt: &impl Abort, mut own: OwnSide, alloc: Global, back: &mut Vec<Buf>) -> OwnSide
+fn trade(rt: &impl Abort, own: OwnSide, alloc: Global, back: &mut Vec<Buf>) -> OwnSide
     requires room { 3 ≤ vec_capacity back.old }
     requires empty { back.old.items ≡ [] }
     ensures { vec_capacity back.new ≡ vec_capacity back.old }
 {
-    own.swap_slots(place(Side::Rx, 2), place(Side::Tx, 0), true);
-    own.put_positions(PORT, Side::Rx, 3, 3);
-    let mut own = give_back(rt, own, alloc, back);
+    let mut own = give_back(rt, own, alloc, back, 2, place(Side::Tx, 0), 3);
     assert!(rt; back.len() == 1 && back[0].index() == 2);
     assert!(rt; own.bytes(2).is_none() && own.bytes(8).is_some());
     own.reset(PORT, Side::Tx);
@@ -137,21 +138,30 @@ fn trade(rt: &impl Abort, mut own: OwnSide, alloc: Global, back: &mut Vec<Buf>) 
     own
 }
 
+/// Both syncs, one after the other; answers the buffer that the second one gave back.
+fn cross_and_trade(rt: &impl Abort, own: OwnSide, alloc: Global) -> (OwnSide, Buf) {
+    let mut back = room(rt, alloc, 8);
+    let own = cross(rt, own, alloc, &mut back);
+    assert!(rt; back.is_empty());
+    let own = trade(rt, own, alloc, &mut back);
+    let two = take_last(rt, &mut back, 2);
+    assert!(rt; back.is_empty());
+    back.destroy_empty();
+    (own, two)
+}
+
 /// The number of frames that a put offers, and whether the first one is a given one.
 fn offers(rt: &impl Abort, own: &mut OwnSide, alloc: Global, first: &[u8]) -> usize
     ensures { own.new ≡ own.old }
 {
-    assert!(rt; own.ring(PORT, Side::Tx).is_some());
-    match own.check(PORT, Side::Tx) {
-        Ok(()) => match own.offers(alloc, PORT) {
-            Ok(batch) => {
-                assert!(rt; batch.len() > 0);
-                assert!(rt; batch.frame(0) == first);
-                batch.len()
-            }
-            Err(_) => panic!(rt; "out of memory"),
-        },
-        Err(fault) => panic!(rt; "{fault:?}"),
+    check_push(rt, own, Side::Tx);
+    match own.offers(alloc, PORT) {
+        Ok(batch) => {
+            assert!(rt; batch.len() > 0);
+            assert!(rt; batch.frame(0) == first);
+            batch.len()
+        }
+        Err(_) => panic!(rt; "out of memory"),
     }
 }
 
@@ -238,19 +248,11 @@ fn open(rt: &impl Abort, own: &mut OwnSide, alloc: Global, name: Name, tx: Vec<B
 #[should_panic(expected = "the buffers stay out of the region")]
 fn frames_come_and_go(rt: HostRuntime) {
     let alloc = rt.alloc();
-    let (_region, mut all, name, mut own) = start(&rt, alloc, 7);
-    let tx = first_four(&rt, alloc, &mut all);
-    let mut back = room(&rt, alloc, 8);
-    assert_eq!(rt; all.len(), 3);
+    let (_region, mut all, tx, name, mut own) = start(&rt, alloc, 3);
     let (six, seven, eight) = (all.remove(0), all.remove(0), all.remove(0));
     open(&rt, &mut own, alloc, name, tx);
     fill(&rt, &mut own, six, seven, eight);
-    let own = cross(&rt, own, alloc, &mut back);
-    assert!(rt; back.is_empty());
-    let own = trade(&rt, own, alloc, &mut back);
-    let two = take_last(&rt, &mut back, 2);
-    assert!(rt; back.is_empty());
-    back.destroy_empty();
+    let (own, two) = cross_and_trade(&rt, own, alloc);
     let (own, went) = offer(&rt, own, alloc, two);
     let (own, _other) = offer_rest(&rt, own, alloc, went);
     let _back = close(&rt, own);
