@@ -1,5 +1,5 @@
 -- What a player does of its lines, one behind another.
-use Rattle.std.proofs.Common.{ℕ, ◌≡◌, ◌==◌, Bool, true, false, cond, List, [], ◌∷◌, ◌++◌, map, filter, length, get_or, drop, None, Result, Ok, Err, IfErr, inl, inr, ◌⊎◌, suc, ◌+◌, ◌<◌, ◌≤◌, add-one, refl, sym, ◌∙◌, ap, subst}
+use Rattle.std.proofs.Common.{ℕ, ◌≡◌, ◌==◌, Bool, true, false, cond, List, [], ◌∷◌, ◌++◌, map, filter, length, get_or, drop, Result, Ok, Err, IfErr, inl, inr, ◌⊎◌, suc, ◌+◌, ◌<◌, ◌≤◌, add-one, refl, sym, ◌∙◌, ap, subst}
 use Rattle.std.specs.Prelude.{OnOk, bytes_eq}
 use Rattle.std.proofs.lemmas.List.{drop_all}
 use Rattle.std.proofs.Math.Seq.{drop-cons}
@@ -7,7 +7,6 @@ use Rattle.nm_types.specs.Frames.{Frame}
 use Rattle.nm_types.specs.declared.id.Mac.{Mac}
 use Rattle.nm_types.specs.declared.id.Sides.{Sides}
 use Rattle.nm_types.specs.declared.fault.StepFault.{StepFault}
-use Rattle.nm_user.specs.Sessions.{IsThere}
 use Rattle.vale_captures.specs.Inputs.{InputFile}
 use Rattle.vale_captures.specs.Inputs.{records_in as found_in}
 use Rattle.vale_script.specs.declared.script.Act.{Act}
@@ -16,7 +15,7 @@ use Rattle.vale_script.specs.declared.script.Line.{Line}
 use Rattle.vale_replay.specs.Tasks.{Task, Arrive, TakeFrames, ChangeOwn, SaveFrames, EndLine, tasks_of, tasks_of_line, tasks_of_lines}
 use Rattle.vale_replay.specs.Replay.{acts_of, act_of, is_of_user}
 use Rattle.vale_player.specs.Lines.{user_with}
-use Rattle.vale_player.specs.Players.{PlayerState, with_act, with_save, Does, DoesLine, Stops, StopsAt, IsStill}
+use Rattle.vale_player.specs.Players.{PlayerState, with_act, with_save, Does, DoesLine, HasCalled, Stops, IsStill}
 use Rattle.vale_player.specs.Deeds.{IsOnRings, receive_tasks}
 use Rattle.vale_player.specs.Inputs.{records_in}
 use Rattle.vale_player.proofs.Doing.{still-self, still-then, does-then, does-stops, stops-more, does-line, does-none, stops-at}
@@ -44,23 +43,21 @@ pub record IsDone (p q : PlayerState) (tasks : List Task) (r : Result (Unit {0})
   pub still : IsStill p q
 
 -- a call that makes one entry, or none
-pub single-done : (p q : PlayerState) (task : Task) (r : Result (Unit {0}) StepFault) → IsThere None p.session
-    → OnOk r (Does p q (task ∷ [])) → IfErr r (StopsAt p q task) → IsStill p q → IsDone p q (task ∷ []) r
-single-done p q task (Ok x) here does stops still = record { does = does-line p q (task ∷ []) does; stops = tt; still = still }
-single-done p q task (Err fault) here does stops still = record { does = tt; stops = stops-at p q task [] fault here stops; still = still }
+pub single-done : (p q : PlayerState) (task : Task) (r : Result (Unit {0}) StepFault) → HasCalled p q task r → IsDone p q (task ∷ []) r
+single-done p q task (Ok x) call = record { does = does-line p q (task ∷ []) call.does; stops = tt; still = call.still }
+single-done p q task (Err fault) call = record { does = tt; stops = stops-at p q task [] fault call.there call.stops; still = call.still }
 
 -- one that changes the user's own side first
-pub change-then : (p q : PlayerState) (act : Act) (task : Task) (r : Result (Unit {0}) StepFault) → IsThere None (with_act act p).session
-    → OnOk r (Does (with_act act p) q (task ∷ [])) → IfErr r (StopsAt (with_act act p) q task) → IsStill (with_act act p) q → IsDone p q (ChangeOwn act ∷ task ∷ []) r
-change-then p q act task (Ok x) here does stops still = record {
-  does = does-line p q (ChangeOwn act ∷ task ∷ []) (does-then p (with_act act p) q (ChangeOwn act ∷ []) (task ∷ []) (changed p act) does);
+pub change-then : (p q : PlayerState) (act : Act) (task : Task) (r : Result (Unit {0}) StepFault) → HasCalled (with_act act p) q task r → IsDone p q (ChangeOwn act ∷ task ∷ []) r
+change-then p q act task (Ok x) call = record {
+  does = does-line p q (ChangeOwn act ∷ task ∷ []) (does-then p (with_act act p) q (ChangeOwn act ∷ []) (task ∷ []) (changed p act) call.does);
   stops = tt;
-  still = record { number = still.number; fabric = still.fabric; fixed = still.fixed };
+  still = record { number = call.still.number; fabric = call.still.fabric; fixed = call.still.fixed };
 }
-change-then p q act task (Err fault) here does stops still = record {
+change-then p q act task (Err fault) call = record {
   does = tt;
-  stops = does-stops p (with_act act p) q (ChangeOwn act ∷ []) (task ∷ []) fault (changed p act) (stops-at (with_act act p) q task [] fault here stops);
-  still = record { number = still.number; fabric = still.fabric; fixed = still.fixed };
+  stops = does-stops p (with_act act p) q (ChangeOwn act ∷ []) (task ∷ []) fault (changed p act) (stops-at (with_act act p) q task [] fault call.there call.stops);
+  still = record { number = call.still.number; fabric = call.still.fabric; fixed = call.still.fixed };
 }
 
 -- a line is done, or stops, as its act says
@@ -109,25 +106,15 @@ change-only records (acts.Save name file) on u h y t r = absurd on
 change-only records (acts.Close name) on u h y t r = absurd on
 change-only records _ on u h y t r = refl
 
--- what a receive sync makes, from here
-record IsAsFrom (p q : PlayerState) (name : List ℕ) (r : Result (Unit {0}) StepFault) (mid : PlayerState) : Type 0 where
-  here : IsThere None mid.session
-  does : OnOk r (Does mid q (TakeFrames name ∷ []))
-  stops : IfErr r (StopsAt mid q (TakeFrames name))
-  still : IsStill mid q
-
 -- what a line makes that gives all frames back before its sync, unless it keeps them
-pub received : (p mid q : PlayerState) (name : List ℕ) (keep : Bool) (r : Result (Unit {0}) StepFault) → IsThere None mid.session
+pub received : (p mid q : PlayerState) (name : List ℕ) (keep : Bool) (r : Result (Unit {0}) StepFault)
     → ((keep ≡ true) × (mid ≡ p)) ⊎ ((keep ≡ false) × (mid ≡ with_act (acts.Rx name false) p))
-    → OnOk r (Does mid q (TakeFrames name ∷ [])) → IfErr r (StopsAt mid q (TakeFrames name)) → IsStill mid q → IsDone p q (receive_tasks name keep) r
-received p mid q name true r here (inl way) does stops still =
-    subst (λ (x : PlayerState). IsDone x q (TakeFrames name ∷ []) r) way.1 (single-done mid q (TakeFrames name) r here does stops still)
-received p mid q name true r here (inr way) does stops still = absurd (let differ = way.0 in cc)
-received p mid q name false r here (inl way) does stops still = absurd (let differ = way.0 in cc)
-received p mid q name false r here (inr way) does stops still =
-    let from : IsAsFrom p q name r mid = record { here = here; does = does; stops = stops; still = still } in
-    let now : IsAsFrom p q name r (with_act (acts.Rx name false) p) = subst (IsAsFrom p q name r) way.1 from in
-    change-then p q (acts.Rx name false) (TakeFrames name) r now.here now.does now.stops now.still
+    → HasCalled mid q (TakeFrames name) r → IsDone p q (receive_tasks name keep) r
+received p mid q name true r (inl way) call = subst (λ (x : PlayerState). IsDone x q (TakeFrames name ∷ []) r) way.1 (single-done mid q (TakeFrames name) r call)
+received p mid q name true r (inr way) call = absurd (let differ = way.0 in cc)
+received p mid q name false r (inl way) call = absurd (let differ = way.0 in cc)
+received p mid q name false r (inr way) call =
+    change-then p q (acts.Rx name false) (TakeFrames name) r (subst (λ (x : PlayerState). HasCalled x q (TakeFrames name) r) way.1 call)
 
 -- the records of a file, found among those of all files
 pub records-same : (inputs : List InputFile) (file : List ℕ) → found_in inputs file ≡ records_in inputs file

@@ -27,11 +27,12 @@ use Rattle.nm_user.proofs.Opened.{opening}
 use Rattle.vale_replay.specs.Tasks.{Task, OpenPort, WatchPort, ReadCounts}
 use Rattle.vale_replay.proofs.Turns.{some-same}
 use Rattle.vale_player.specs.Lines.{TaskCalls, port_of_task}
-use Rattle.vale_player.specs.Players.{PlayerState, Does}
+use Rattle.vale_player.specs.Players.{PlayerState, Does, HasCalled}
 use Rattle.vale_player.specs.Stopping.{open_stop_of, watch_stop_of}
 use Rattle.vale_player.proofs.Changes.{id-of}
 use Rattle.vale_player.proofs.LineLaws.{tasks-pass}
-use Rattle.vale_player.proofs.SingleCalls.{IsSmall, made-there, none-there, does-single}
+use Rattle.vale_player.proofs.Doing.{still-self}
+use Rattle.vale_player.proofs.SingleCalls.{IsSmall, Follows, stands-by, called-by}
 use Rattle.vale_player.proofs.TaskCalls.{by-id}
 
 -- a port that is found by its name
@@ -77,6 +78,9 @@ pub passes-on : (p : PlayerState) (name : List ℕ) (task : Task) → port_of_ta
 passes-on p name task is none rest began first come =
     tasks-pass p.number p.saves p.session name task is (none-of (port_with_name p.session.own name) none) rest began first come
 
+pub passed : (p : PlayerState) (name : List ℕ) (task : Task) → IsThere None p.session → port_of_task task ≡ Some name → option_map id-of (port_with_name p.session.own name) ≡ None → HasCalled p p task (Ok tt)
+passed p name task here is none = record { does = passes-on p name task is none; stops = tt; still = still-self p; there = here }
+
 module _ (p q : PlayerState) (here : IsThere None p.session) (same : q ≡ record p { session = q.session }) where
   -- an opening
   module _ (name : List ℕ) (tx rx extra : ℕ) where
@@ -89,49 +93,38 @@ module _ (p q : PlayerState) (here : IsThere None p.session) (same : q ≡ recor
     small : IsSmall p.session.own ask
     small = record { of = λ r. refl; quiet = tt; shuts = refl }
 
-    by-made : (reply : Reply) → Made p.session q.session ask reply → Does p q (task ∷ [])
-    by-made reply made = does-single p q task ask here refl same reply refl small made
+    called : Follows p.session q.session ask (HasCalled p q task)
+    called = called-by p q task ask here refl small same refl
 
-    there-made : (reply : Reply) → Made p.session q.session ask reply → IsThere None q.session
-    there-made reply made = made-there p.number p.saves p.session q.session task ask here refl reply small made
+    stands : Follows p.session q.session ask (λ r. IsThere None q.session)
+    stands = stands-by p q task ask here refl small
 
-    there-none : (fault : StepFault) → MadeNone p.session q.session ask fault → IsThere None q.session
-    there-none fault none = none-there p.session q.session ask fault here none
-
-    goes-on : (fault : OpenFault) → OpensNot p.session q.session ask fault → OnOk (open_stop_of fault) (Does p q (task ∷ []))
-    goes-on opens.BadSize made = by-made (replies.Refused opens.BadSize) made
-    goes-on opens.SwitchesFull made = by-made (replies.Refused opens.SwitchesFull) made
-    goes-on opens.PortsFull made = by-made (replies.Refused opens.PortsFull) made
-    goes-on opens.NameTaken made = by-made (replies.Refused opens.NameTaken) made
-    goes-on (opens.NoBuffers want have) made = by-made (replies.Refused (opens.NoBuffers want have)) made
-    goes-on (opens.RecordFull what used want) none = tt
-    goes-on opens.NoMemory none = tt
-
-    there-unopened : (fault : OpenFault) → OpensNot p.session q.session ask fault → IsThere None q.session
-    there-unopened opens.BadSize made = there-made (replies.Refused opens.BadSize) made
-    there-unopened opens.SwitchesFull made = there-made (replies.Refused opens.SwitchesFull) made
-    there-unopened opens.PortsFull made = there-made (replies.Refused opens.PortsFull) made
-    there-unopened opens.NameTaken made = there-made (replies.Refused opens.NameTaken) made
-    there-unopened (opens.NoBuffers want have) made = there-made (replies.Refused (opens.NoBuffers want have)) made
-    there-unopened (opens.RecordFull what used want) none = there-none (steps.RecordFull what used want) none
-    there-unopened opens.NoMemory none = there-none steps.NoMemory none
+    by-fault : (P : Result (Unit {0}) StepFault → Type 0) → Follows p.session q.session ask P
+        → (fault : OpenFault) → OpensNot p.session q.session ask fault → P (open_stop_of fault)
+    by-fault P f opens.BadSize made = f.made (replies.Refused opens.BadSize) made
+    by-fault P f opens.SwitchesFull made = f.made (replies.Refused opens.SwitchesFull) made
+    by-fault P f opens.PortsFull made = f.made (replies.Refused opens.PortsFull) made
+    by-fault P f opens.NameTaken made = f.made (replies.Refused opens.NameTaken) made
+    by-fault P f (opens.NoBuffers want have) made = f.made (replies.Refused (opens.NoBuffers want have)) made
+    by-fault P f (opens.RecordFull what used want) none = f.none (steps.RecordFull what used want) none
+    by-fault P f opens.NoMemory none = f.none steps.NoMemory none
 
     module _ (r : Result PortId OpenFault) (made : OnOk r (Made p.session q.session ask replies.Opened)) (not : IfErr r (OpensNot p.session q.session ask)) where
-      pub opens-ok : {port : PortId} → r ≡ Ok port → Does p q (task ∷ [])
-      opens-ok {port} is = by-made replies.Opened (subst (λ (z : Result PortId OpenFault). OnOk z (Made p.session q.session ask replies.Opened)) is made)
+      pub opens-ok : {port : PortId} → r ≡ Ok port → HasCalled p q task (Ok tt)
+      opens-ok {port} is = called.made replies.Opened (subst (λ (z : Result PortId OpenFault). OnOk z (Made p.session q.session ask replies.Opened)) is made)
 
       refused : {fault : OpenFault} → r ≡ Err fault → OpensNot p.session q.session ask fault
       refused {fault} is = subst (λ (z : Result PortId OpenFault). IfErr z (OpensNot p.session q.session ask)) is not
 
-      pub opens-err : {fault : OpenFault} → r ≡ Err fault → OnOk (open_stop_of fault) (Does p q (task ∷ []))
-      opens-err {fault} is = goes-on fault (refused is)
+      pub opens-err : {fault : OpenFault} → r ≡ Err fault → HasCalled p q task (open_stop_of fault)
+      opens-err {fault} is = by-fault (HasCalled p q task) called fault (refused is)
 
       pub opens-there : IsThere None q.session
       opens-there = by r made not
         where
           by : (z : Result PortId OpenFault) → OnOk z (Made p.session q.session ask replies.Opened) → IfErr z (OpensNot p.session q.session ask) → IsThere None q.session
-          by (Ok port) made-it none = there-made replies.Opened made-it
-          by (Err fault) none bad = there-unopened fault bad
+          by (Ok port) made-it none = stands.made replies.Opened made-it
+          by (Err fault) none bad = by-fault (λ r. IsThere None q.session) stands fault bad
 
   -- a reading of counters
   module _ (name : List ℕ) (port : PortId) (found : option_map id-of (port_with_name p.session.own name) ≡ Some port) where
@@ -141,18 +134,25 @@ module _ (p q : PlayerState) (here : IsThere None p.session) (same : q ≡ recor
     stat-small : IsSmall p.session.own (Stat port)
     stat-small = record { of = λ r. tt; quiet = tt; shuts = refl }
 
+    counted : Follows p.session q.session (Stat port) (HasCalled p q (ReadCounts name))
+    counted = called-by p q (ReadCounts name) (Stat port) here stat-calls stat-small same refl
+
+    stands-counted : Follows p.session q.session (Stat port) (λ r. IsThere None q.session)
+    stands-counted = stands-by p q (ReadCounts name) (Stat port) here stat-calls stat-small
+
     module _ (r : Result Counts StepFault) (made : IfOk r (λ counts. Made p.session q.session (Stat port) (replies.Counted counts))) (not : IfErr r (MadeNone p.session q.session (Stat port))) where
-      pub reads-ok : {counts : Counts} → r ≡ Ok counts → Does p q (ReadCounts name ∷ [])
-      reads-ok {counts} is =
-          does-single p q (ReadCounts name) (Stat port) here stat-calls same (replies.Counted counts) refl stat-small
-          (subst (λ (z : Result Counts StepFault). IfOk z (λ counts. Made p.session q.session (Stat port) (replies.Counted counts))) is made)
+      pub reads-ok : {counts : Counts} → r ≡ Ok counts → HasCalled p q (ReadCounts name) (Ok tt)
+      reads-ok {counts} is = counted.made (replies.Counted counts) (subst (λ (z : Result Counts StepFault). IfOk z (λ counts. Made p.session q.session (Stat port) (replies.Counted counts))) is made)
+
+      pub reads-err : {fault : StepFault} → r ≡ Err fault → HasCalled p q (ReadCounts name) (Err fault)
+      reads-err {fault} is = counted.none fault (subst (λ (z : Result Counts StepFault). IfErr z (MadeNone p.session q.session (Stat port))) is not)
 
       pub reads-there : IsThere None q.session
       reads-there = by r made not
         where
           by : (z : Result Counts StepFault) → IfOk z (λ counts. Made p.session q.session (Stat port) (replies.Counted counts)) → IfErr z (MadeNone p.session q.session (Stat port)) → IsThere None q.session
-          by (Ok counts) made-it none = made-there p.number p.saves p.session q.session (ReadCounts name) (Stat port) here stat-calls (replies.Counted counts) stat-small made-it
-          by (Err fault) none bad = none-there p.session q.session (Stat port) fault here bad
+          by (Ok counts) made-it none = stands-counted.made (replies.Counted counts) made-it
+          by (Err fault) none bad = stands-counted.none fault bad
 
     -- a monitor that watches
     module _ (target : List ℕ) (sides : Sides) where
@@ -168,37 +168,32 @@ module _ (p q : PlayerState) (here : IsThere None p.session) (same : q ≡ recor
       watch-small : IsSmall p.session.own watching
       watch-small = record { of = λ r. tt; quiet = tt; shuts = refl }
 
-      by-watch : (reply : Reply) → Made p.session q.session watching reply → Does p q (to-watch ∷ [])
-      by-watch reply made = does-single p q to-watch watching here watch-calls same reply refl watch-small made
+      watched : Follows p.session q.session watching (HasCalled p q to-watch)
+      watched = called-by p q to-watch watching here watch-calls watch-small same refl
 
-      there-watch : (reply : Reply) → Made p.session q.session watching reply → IsThere None q.session
-      there-watch reply made = made-there p.number p.saves p.session q.session to-watch watching here watch-calls reply watch-small made
+      stands-watching : Follows p.session q.session watching (λ r. IsThere None q.session)
+      stands-watching = stands-by p q to-watch watching here watch-calls watch-small
 
-      watch-on : (fault : WatchFault) → WatchesNot p.session q.session watching fault → OnOk (watch_stop_of fault) (Does p q (to-watch ∷ []))
-      watch-on watches.NoTarget made = by-watch replies.NoTarget made
-      watch-on (watches.Watched by) made = by-watch (replies.Watched by) made
-      watch-on (watches.RecordFull what used want) none = tt
-      watch-on watches.NoMemory none = tt
-
-      there-unwatched : (fault : WatchFault) → WatchesNot p.session q.session watching fault → IsThere None q.session
-      there-unwatched watches.NoTarget made = there-watch replies.NoTarget made
-      there-unwatched (watches.Watched by) made = there-watch (replies.Watched by) made
-      there-unwatched (watches.RecordFull what used want) none = none-there p.session q.session watching (steps.RecordFull what used want) here none
-      there-unwatched watches.NoMemory none = none-there p.session q.session watching steps.NoMemory here none
+      by-refusal : (P : Result (Unit {0}) StepFault → Type 0) → Follows p.session q.session watching P
+          → (fault : WatchFault) → WatchesNot p.session q.session watching fault → P (watch_stop_of fault)
+      by-refusal P f watches.NoTarget made = f.made replies.NoTarget made
+      by-refusal P f (watches.Watched by) made = f.made (replies.Watched by) made
+      by-refusal P f (watches.RecordFull what used want) none = f.none (steps.RecordFull what used want) none
+      by-refusal P f watches.NoMemory none = f.none steps.NoMemory none
 
       module _ (r : Result PortId WatchFault) (made : IfOk r (λ at. Made p.session q.session watching (replies.Watching at))) (not : IfErr r (WatchesNot p.session q.session watching)) where
-        pub watches-ok : {at : PortId} → r ≡ Ok at → Does p q (to-watch ∷ [])
-        watches-ok {at} is = by-watch (replies.Watching at) (subst (λ (z : Result PortId WatchFault). IfOk z (λ at. Made p.session q.session watching (replies.Watching at))) is made)
+        pub watches-ok : {at : PortId} → r ≡ Ok at → HasCalled p q to-watch (Ok tt)
+        watches-ok {at} is = watched.made (replies.Watching at) (subst (λ (z : Result PortId WatchFault). IfOk z (λ at. Made p.session q.session watching (replies.Watching at))) is made)
 
         unwatched : {fault : WatchFault} → r ≡ Err fault → WatchesNot p.session q.session watching fault
         unwatched {fault} is = subst (λ (z : Result PortId WatchFault). IfErr z (WatchesNot p.session q.session watching)) is not
 
-        pub watches-err : {fault : WatchFault} → r ≡ Err fault → OnOk (watch_stop_of fault) (Does p q (to-watch ∷ []))
-        watches-err {fault} is = watch-on fault (unwatched is)
+        pub watches-err : {fault : WatchFault} → r ≡ Err fault → HasCalled p q to-watch (watch_stop_of fault)
+        watches-err {fault} is = by-refusal (HasCalled p q to-watch) watched fault (unwatched is)
 
         pub watches-there : IsThere None q.session
         watches-there = by r made not
           where
             by : (z : Result PortId WatchFault) → IfOk z (λ at. Made p.session q.session watching (replies.Watching at)) → IfErr z (WatchesNot p.session q.session watching) → IsThere None q.session
-            by (Ok at) made-it none = there-watch (replies.Watching at) made-it
-            by (Err fault) none bad = there-unwatched fault bad
+            by (Ok at) made-it none = stands-watching.made (replies.Watching at) made-it
+            by (Err fault) none bad = by-refusal (λ r. IsThere None q.session) stands-watching fault bad

@@ -1,5 +1,5 @@
 -- A call that makes one entry, or none, and its user.
-use Rattle.std.proofs.Common.{ℕ, ◌≡◌, true, List, [], ◌∷◌, Option, None, inl, inr, ◌⊎◌, refl, sym, ◌∙◌, ap, subst}
+use Rattle.std.proofs.Common.{ℕ, ◌≡◌, true, List, [], ◌∷◌, Option, None, Result, Ok, Err, inl, inr, ◌⊎◌, refl, sym, ◌∙◌, ap, subst}
 use Rattle.nm_types.specs.declared.fault.StepFault.{StepFault}
 use Rattle.nm_types.specs.declared.fault.StepFault.TheVariants.{NoMemory}
 use Rattle.nm_types.specs.OwnPorts.{OwnState}
@@ -16,7 +16,7 @@ use Rattle.vale_replay.specs.Tasks.{Task}
 use Rattle.vale_replay.specs.Machine.{Save}
 use Rattle.vale_player.specs.Users.{HasCome}
 use Rattle.vale_player.specs.Lines.{user_with, TaskCalls, is_single}
-use Rattle.vale_player.specs.Players.{PlayerState, machine_of, Does}
+use Rattle.vale_player.specs.Players.{PlayerState, machine_of, Does, HasCalled}
 use Rattle.vale_player.proofs.Askers.{whose-task}
 use Rattle.vale_player.proofs.LineLaws.{calls-done}
 use Rattle.vale_player.proofs.TaskCalls.{task-call}
@@ -50,10 +50,41 @@ none-there s t ask fault here none = subst (IsThere None) (sym none.same) (by no
     by (inl e) = subst (λ (w : Knowing). IsThere None (record s { knows = w })) (sym e.0) here
     by (inr refuses) = there-still here refuses.none
 
--- so the task is done
-module _ (p q : PlayerState) (task : Task) (ask : Ask) (here : IsThere None p.session) (calls : TaskCalls p.number p.saves p.session task ask) (same : q ≡ record p { session = q.session }) where
-  pub does-single : (reply : Reply) → is_single task ≡ true → IsSmall p.session.own ask → Made p.session q.session ask reply → Does p q (task ∷ [])
-  does-single reply one small made rest began first come =
-      let there = made-there p.number p.saves p.session q.session task ask here calls reply small made in
-      let done = calls-done p.number p.saves p.session q.session task ask reply here there one calls made rest began first come in
-      subst (λ (x : PlayerState). HasCome began first x.session (machine_of x rest)) (sym same) done
+-- what follows of a call, from the entry that it made, or from that it made none
+pub record Follows (s t : SessionState) (ask : Ask) (P : Result (Unit {0}) StepFault → Type 0) : Type 0 where
+  pub made : (reply : Reply) → Made s t ask reply → P (Ok tt)
+  pub none : (fault : StepFault) → MadeNone s t ask fault → P (Err fault)
+
+-- the task is done, or the user has stopped at it; and it is there still
+module _ (p q : PlayerState) (task : Task) (ask : Ask) (here : IsThere None p.session) (calls : TaskCalls p.number p.saves p.session task ask) (small : IsSmall p.session.own ask) where
+  pub stands-by : Follows p.session q.session ask (λ r. IsThere None q.session)
+  stands-by = record {
+    made = λ reply made. made-there p.number p.saves p.session q.session task ask here calls reply small made;
+    none = λ fault none. none-there p.session q.session ask fault here none;
+  }
+
+  module _ (same : q ≡ record p { session = q.session }) where
+    does-single : (reply : Reply) → is_single task ≡ true → Made p.session q.session ask reply → Does p q (task ∷ [])
+    does-single reply one made rest began first come =
+        let done = calls-done p.number p.saves p.session q.session task ask reply here (stands-by.made reply made) one calls made rest began first come in
+        subst (λ (x : PlayerState). HasCome began first x.session (machine_of x rest)) (sym same) done
+
+    pub called-by : is_single task ≡ true → Follows p.session q.session ask (HasCalled p q task)
+    called-by one = record {
+      made = λ reply made. record {
+        does = does-single reply one made;
+        stops = tt;
+        still = record { number = ap (λ (x : PlayerState). x.number) same; fabric = made.fabric; fixed = made.fixed };
+        there = here;
+      };
+      none = λ fault none. record {
+        does = tt;
+        stops = record { ask = ask; calls = calls; none = none; same = same };
+        still = record {
+          number = ap (λ (x : PlayerState). x.number) same;
+          fabric = ap (λ (x : SessionState). x.fabric) none.same;
+          fixed = ap (λ (x : SessionState). x.fixed) none.same;
+        };
+        there = here;
+      };
+    }

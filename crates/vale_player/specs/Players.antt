@@ -1,11 +1,11 @@
 -- A user of a script at work, as a session of a fabric, and what it does of its lines.
-use Rattle.std.specs.Prelude.{ℕ, Bool, true, false, ◌≡◌, List, [], ◌∷◌, ◌++◌, Option, Some, None}
+use Rattle.std.specs.Prelude.{ℕ, Bool, true, false, ◌≡◌, List, [], ◌∷◌, ◌++◌, Option, Some, None, Result, OnOk, IfErr}
 use Rattle.nm_types.specs.declared.fault.StepFault.{StepFault}
 use Rattle.nm_types.specs.OwnPorts.{port_with_name}
 use Rattle.vale_entry.specs.declared.entry.Ask.{Ask}
 use Rattle.vale_fabric.specs.declared.fabric.Fabric.{Fabric}
 use Rattle.vale_fabric.specs.Fabrics.{Knowing, fixed_in}
-use Rattle.nm_user.specs.Sessions.{SessionState}
+use Rattle.nm_user.specs.Sessions.{SessionState, IsThere}
 use Rattle.nm_user.specs.Calls.{MadeNone}
 use Rattle.vale_script.specs.declared.script.Act.{Act}
 use Rattle.vale_script.specs.declared.script.Line.{Line}
@@ -75,6 +75,13 @@ pub record IsStill (p q : PlayerState) : Type 0 where
   pub number : q.number ≡ p.number
   pub fabric : q.session.fabric ≡ p.session.fabric
   pub fixed : q.session.fixed ≡ p.session.fixed
+
+-- It was there, and has made the call of this task or has stopped at it.
+pub record HasCalled (p q : PlayerState) (task : Task) (result : Result (Unit {0}) StepFault) : Type 0 where
+  pub does : OnOk result (Does p q (task ∷ []))
+  pub stops : IfErr result (StopsAt p q task)
+  pub still : IsStill p q
+  pub there : IsThere None p.session
 
 -- It has come on this fabric, by the entry of its Enter.
 pub record HasEntered (fabric : Fabric) (began : Knowing) (number : ℕ) (p : PlayerState) : Type 0 where

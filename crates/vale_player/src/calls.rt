@@ -1,9 +1,9 @@
 //! What a user does that makes one entry, at its ports by their names. Nothing is made where it has
 //! not the port.
-ghost use Rattle.std.specs.Prelude.{◌≡◌, [], ◌∷◌, true, None, OnOk, IfErr};
-ghost use Rattle.vale_player.specs.Words.{IsThere, IsWatchable, OpenPort, ReadCounts, WatchPort};
+ghost use Rattle.std.specs.Prelude.{◌≡◌, true};
+ghost use Rattle.vale_player.specs.Words.{IsWatchable, OpenPort, ReadCounts, WatchPort};
 ghost use Rattle.vale_player.specs.Words.{is_monitor_name};
-ghost use Rattle.vale_player.specs.Players.{Does, IsStill, StopsAt};
+ghost use Rattle.vale_player.specs.Players.{HasCalled};
 ghost use Rattle.vale_player.specs.Stopping.{open_stop_of, watch_stop_of};
 
 use crate::kept::keep_opened;
@@ -49,10 +49,7 @@ impl<'f> Player<'f> {
         rx: u32,
         extra: u32,
     ) -> Result<(), StepFault>
-        ensures does { OnOk result (Does self.old self.new (OpenPort name.now tx rx extra ∷ [])) }
-        ensures stops { IfErr result (StopsAt self.old self.new (OpenPort name.now tx rx extra)) }
-        ensures still { IsStill self.old self.new }
-        ensures there { IsThere None self.old.session }
+        ensures { HasCalled self.old self.new (OpenPort name.now tx rx extra) result }
     {
         let opened = self.session.open(rt, name, tx, rx, extra);
         keep_opened(&self.session, self.names, name, &opened, &mut self.kept);
@@ -73,12 +70,7 @@ impl<'f> Player<'f> {
     ) -> Result<(), StepFault>
         requires monitor { is_monitor_name monitor.now ≡ true }
         requires target { IsWatchable target.now }
-        ensures does { OnOk result
-            (Does self.old self.new (WatchPort monitor.now target.now sides ∷ [])) }
-        ensures stops { IfErr result
-            (StopsAt self.old self.new (WatchPort monitor.now target.now sides)) }
-        ensures still { IsStill self.old self.new }
-        ensures there { IsThere None self.old.session }
+        ensures { HasCalled self.old self.new (WatchPort monitor.now target.now sides) result }
     {
         let Some(port) = self.session.port_named(monitor) else {
             return Ok(());
@@ -91,10 +83,7 @@ impl<'f> Player<'f> {
 
     /// Reads a port's counters.
     pub fn stat<R: Wait>(&mut self, rt: &R, name: &Name) -> Result<(), StepFault>
-        ensures does { OnOk result (Does self.old self.new (ReadCounts name.now ∷ [])) }
-        ensures stops { IfErr result (StopsAt self.old self.new (ReadCounts name.now)) }
-        ensures still { IsStill self.old self.new }
-        ensures there { IsThere None self.old.session }
+        ensures { HasCalled self.old self.new (ReadCounts name.now) result }
     {
         let Some(port) = self.session.port_named(name) else {
             return Ok(());

@@ -6,7 +6,8 @@ ghost use Rattle.std.specs.Prelude.{true, None, Some, IsSome, IfSome, OnOk, IfOk
 ghost use Rattle.vale_player.specs.Words.{IsThere, IsUnsent, PutFrame, SendFrames, TakeFrames, Tx};
 ghost use Rattle.vale_player.specs.Words.{captured, frame_of_put, has_room, played, port_with_id};
 ghost use Rattle.vale_player.specs.Words.{ring_at};
-ghost use Rattle.vale_player.specs.Players.{Does, DoesOrEnds, DoesLine, Stops, StopsAt, IsStill};
+ghost use Rattle.vale_player.specs.Players.{Does, DoesOrEnds, DoesLine, HasCalled, Stops, StopsAt};
+ghost use Rattle.vale_player.specs.Players.{IsStill};
 ghost use Rattle.vale_player.specs.Syncing.{sender_named, sync_end_of, EndsTx, RxMadeNone};
 ghost use Rattle.vale_player.specs.Kept.{SavesBy, CameRx, sync_stop_of};
 ghost use Rattle.vale_player.specs.Syncing.{has_passed, leaves_room, with_put, NeedsNoneOrEnds};
@@ -240,10 +241,7 @@ impl<'f> Player<'f> {
     /// Syncs a receive ring: takes the frames that are ready. That a check refused the sync is an
     /// entry too, and the user goes on.
     pub fn take<R: Wait, G: Gate>(&mut self, rt: &R, name: &Name, gate: &G) -> Result<(), StepFault>
-        ensures does { OnOk result (Does self.old self.new (TakeFrames name.now ∷ [])) }
-        ensures stops { IfErr result (StopsAt self.old self.new (TakeFrames name.now)) }
-        ensures still { IsStill self.old self.new }
-        ensures there { IsThere None self.old.session }
+        ensures { HasCalled self.old self.new (TakeFrames name.now) result }
     {
         let Some(port) = self.session.port_named(name) else {
             return Ok(());

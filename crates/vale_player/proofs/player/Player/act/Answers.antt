@@ -17,25 +17,22 @@ returns-in-Enter-clause-does g c =
 pub returns-in-Open : goal.returns-in-Open
 returns-in-Open g c =
     let p = c.args.self.now in
-    let call = c.open.ensures in
     let done = done-as (records_in c.args.inputs.now) p c.open.new.self c.args.act.now (acts.Open c.in-Open.name c.in-Open.tx c.in-Open.rx c.in-Open.extra) c.open.result c.in-Open.is
-    (single-done p c.open.new.self (OpenPort c.in-Open.name c.in-Open.tx c.in-Open.rx c.in-Open.extra) c.open.result call.there call.does call.stops call.still) in
+    (single-done p c.open.new.self (OpenPort c.in-Open.name c.in-Open.tx c.in-Open.rx c.in-Open.extra) c.open.result c.open.ensures) in
     record { does = done.does; stops = done.stops; still = done.still }
 
 pub returns-in-Watch : goal.returns-in-Watch
 returns-in-Watch g c =
     let p = c.args.self.now in
-    let call = c.watch.ensures in
     let done = done-as (records_in c.args.inputs.now) p c.watch.new.self c.args.act.now (acts.Watch c.in-Watch.monitor c.in-Watch.target c.in-Watch.sides) c.watch.result c.in-Watch.is
-    (single-done p c.watch.new.self (WatchPort c.in-Watch.monitor c.in-Watch.target c.in-Watch.sides) c.watch.result call.there call.does call.stops call.still) in
+    (single-done p c.watch.new.self (WatchPort c.in-Watch.monitor c.in-Watch.target c.in-Watch.sides) c.watch.result c.watch.ensures) in
     record { does = done.does; stops = done.stops; still = done.still }
 
 pub returns-in-Stat : goal.returns-in-Stat
 returns-in-Stat g c =
     let p = c.args.self.now in
-    let call = c.stat.ensures in
     let done = done-as (records_in c.args.inputs.now) p c.stat.new.self c.args.act.now (acts.Stat c.in-Stat.name) c.stat.result c.in-Stat.is
-    (single-done p c.stat.new.self (ReadCounts c.in-Stat.name) c.stat.result call.there call.does call.stops call.still) in
+    (single-done p c.stat.new.self (ReadCounts c.in-Stat.name) c.stat.result c.stat.ensures) in
     record { does = done.does; stops = done.stops; still = done.still }
 
 pub returns-in-Save-clause-does : goal.returns-in-Save-clause-does

@@ -15,5 +15,5 @@ returns g c =
       | then-not-keep w ↦ inr (w.if-not-keep.true, w.self-is ∙ w.give_all_back.ensures)
       | else-not-keep w ↦ inl (w.if-not-keep.false, w.self-is)
     ] in
-    let done = received p mid c.take.new.self name keep c.take.result c.take.ensures.there way c.take.ensures.does c.take.ensures.stops c.take.ensures.still in
+    let done = received p mid c.take.new.self name keep c.take.result way c.take.ensures in
     record { does = done.does; stops = done.stops; still = done.still }
