@@ -12,7 +12,7 @@ use Rattle.vale_entry.specs.Grant.{port_after_grant, granted_frames}
 use Rattle.vale_entry.specs.Delivery.{port_after_done, port_after_sync, delivered_frames}
 use Rattle.vale_entry.specs.Closing.{shut, ports_without}
 use Rattle.vale_entry.specs.Pipe.{port_after_put, frames_of_items}
-use Rattle.vale_entry.specs.Delivered.{told, has_id, port_at, frames_at, read_by, read_in}
+use Rattle.vale_entry.specs.Delivered.{told, has_id, port_at, frames_at, read_by, of_entry_in}
 use Rattle.vale_entry.specs.Legal.{Standing, standing_of, world_of, standing_with, recorded_step, session_and_reply, IsLegal, Follows}
 use Rattle.vale_entry.proofs.Worlds.{standing-push, count-world_of}
 use Rattle.vale_entry.proofs.Told.{told-push}
@@ -125,32 +125,32 @@ reads-by s id session by pipe at back reply owner none port found mine = on (at.
     on false t = rw t refl
 
 -- an ask that reads nothing, or one of the two that read
-by-reads : (P : Ask → Type 0) → ((ask : Ask) → ((w : World) (id : ℕ) → read_by id w ask ≡ []) → P ask) → ((at : PortId) (back : List ℕ) → P (Sync at back)) → ((at : PortId) (back : List ℕ) → P (Get at back)) → (ask : Ask) → P ask
-by-reads P none syncs gets (Enter user) = none (Enter user) (λ w id. refl)
-by-reads P none syncs gets (Open at name tx rx extra) = none (Open at name tx rx extra) (λ w id. refl)
-by-reads P none syncs gets (Send from frames) = none (Send from frames) (λ w id. refl)
-by-reads P none syncs gets (Grant origin to) = none (Grant origin to) (λ w id. refl)
-by-reads P none syncs gets (Done lease) = none (Done lease) (λ w id. refl)
+by-reads : (P : Ask → Type 0) → ((ask : Ask) → ((w : World) (id : ℕ) (reply : Reply) → read_by id w ask reply ≡ []) → P ask) → ((at : PortId) (back : List ℕ) → P (Sync at back)) → ((at : PortId) (back : List ℕ) → P (Get at back)) → (ask : Ask) → P ask
+by-reads P none syncs gets (Enter user) = none (Enter user) (λ w id reply. refl)
+by-reads P none syncs gets (Open at name tx rx extra) = none (Open at name tx rx extra) (λ w id reply. refl)
+by-reads P none syncs gets (Send from frames) = none (Send from frames) (λ w id reply. refl)
+by-reads P none syncs gets (Grant origin to) = none (Grant origin to) (λ w id reply. refl)
+by-reads P none syncs gets (Done lease) = none (Done lease) (λ w id reply. refl)
 by-reads P none syncs gets (Sync at back) = syncs at back
-by-reads P none syncs gets (Reset at side fault) = none (Reset at side fault) (λ w id. refl)
-by-reads P none syncs gets (Shut at) = none (Shut at) (λ w id. refl)
-by-reads P none syncs gets (Finish at bufs chain) = none (Finish at bufs chain) (λ w id. refl)
-by-reads P none syncs gets (Leave at) = none (Leave at) (λ w id. refl)
-by-reads P none syncs gets (Put at offered) = none (Put at offered) (λ w id. refl)
-by-reads P none syncs gets (PutKept at offered) = none (PutKept at offered) (λ w id. refl)
+by-reads P none syncs gets (Reset at side fault) = none (Reset at side fault) (λ w id reply. refl)
+by-reads P none syncs gets (Shut at) = none (Shut at) (λ w id reply. refl)
+by-reads P none syncs gets (Finish at bufs chain) = none (Finish at bufs chain) (λ w id reply. refl)
+by-reads P none syncs gets (Leave at) = none (Leave at) (λ w id reply. refl)
+by-reads P none syncs gets (Put at offered) = none (Put at offered) (λ w id reply. refl)
+by-reads P none syncs gets (PutKept at offered) = none (PutKept at offered) (λ w id reply. refl)
 by-reads P none syncs gets (Get at back) = gets at back
-by-reads P none syncs gets (Watch monitor target sides) = none (Watch monitor target sides) (λ w id. refl)
-by-reads P none syncs gets (Stat at) = none (Stat at) (λ w id. refl)
+by-reads P none syncs gets (Watch monitor target sides) = none (Watch monitor target sides) (λ w id reply. refl)
+by-reads P none syncs gets (Stat at) = none (Stat at) (λ w id reply. refl)
 
 reads-ask : (s : Standing) (id session by : ℕ) (reply : Reply) → ((port : Port) → open_port s.world.ports id ≡ Some port → port.session ≡ session)
-    → (ask : Ask) → option_map session_and_reply (recorded_step s ask reply) ≡ Some (by, reply) → (by ≡ session → reads_at id ask ≡ false) → read_by id s.world ask ≡ []
+    → (ask : Ask) → option_map session_and_reply (recorded_step s ask reply) ≡ Some (by, reply) → (by ≡ session → reads_at id ask ≡ false) → read_by id s.world ask reply ≡ []
 reads-ask s id session by reply owner =
-    by-reads (λ (ask : Ask). option_map session_and_reply (recorded_step s ask reply) ≡ Some (by, reply) → (by ≡ session → reads_at id ask ≡ false) → read_by id s.world ask ≡ [])
-    (λ ask silent e none. silent s.world id)
+    by-reads (λ (ask : Ask). option_map session_and_reply (recorded_step s ask reply) ≡ Some (by, reply) → (by ≡ session → reads_at id ask ≡ false) → read_by id s.world ask reply ≡ [])
+    (λ ask silent e none. silent s.world id reply)
     (λ at back e none. let st = stepped false s at back by reply e in reads-by s id session by false at back reply owner none st.at st.found st.session_is)
     (λ at back e none. let st = stepped true s at back by reply e in reads-by s id session by true at back reply owner none st.at st.found st.session_is)
 
-pub reads-none : (pool : ℕ) (past : List Entry) (e : Entry) (session id : ℕ) → Follows (standing_of pool past) e → IsPortOf pool past session id → ReadsNot session id e → read_in id (world_of pool past) e ≡ []
+pub reads-none : (pool : ℕ) (past : List Entry) (e : Entry) (session id : ℕ) → Follows (standing_of pool past) e → IsPortOf pool past session id → ReadsNot session id e → of_entry_in read_by id (world_of pool past) e ≡ []
 reads-none pool past e session id follows k none =
     let w = world_of pool past in
     reads-ask (standing_of pool past) id session e.session.0 e.reply (λ port found. k.owner port (found-open w.ports w.entry_count id port (world-numbered pool past).ports_rise found).here) e.ask follows none
@@ -163,11 +163,11 @@ unread-at w id at none = on (at == id) refl
     on true t = rw t (ap (frames_at delivered_frames) (subst (λ (n : ℕ). open_port w.ports n ≡ None) (sym (eqb-true at id t)) none))
     on false t = rw t refl
 
-unread-ask : (w : World) (id : ℕ) → open_port w.ports id ≡ None → (ask : Ask) → read_by id w ask ≡ []
-unread-ask w id none = by-reads (λ (ask : Ask). read_by id w ask ≡ []) (λ ask silent. silent w id) (λ at back. unread-at w id at.0 none) (λ at back. unread-at w id at.0 none)
+unread-ask : (w : World) (id : ℕ) → open_port w.ports id ≡ None → (ask : Ask) (reply : Reply) → read_by id w ask reply ≡ []
+unread-ask w id none = by-reads (λ (ask : Ask). (reply : Reply) → read_by id w ask reply ≡ []) (λ ask silent. silent w id) (λ at back reply. unread-at w id at.0 none) (λ at back reply. unread-at w id at.0 none)
 
-pub unread-before : (pool : ℕ) (past : List Entry) (e : Entry) (id : ℕ) → length past < id → read_in id (world_of pool past) e ≡ []
-unread-before pool past e id before = unread-ask w id (open_port-none w.ports id (by (port_at w.ports id) refl)) e.ask
+pub unread-before : (pool : ℕ) (past : List Entry) (e : Entry) (id : ℕ) → length past < id → of_entry_in read_by id (world_of pool past) e ≡ []
+unread-before pool past e id before = unread-ask w id (open_port-none w.ports id (by (port_at w.ports id) refl)) e.ask e.reply
   where
     w : World
     w = world_of pool past
@@ -178,9 +178,9 @@ unread-before pool past e id before = unread-ask w id (open_port-none w.ports id
 
 -- ---- what is told of reads
 
-module _ {X : Type 0} (tell : World → Entry → List X) (pool id : ℕ) (silent : (w : World) (e : Entry) → read_in id w e ≡ [] → tell w e ≡ []) where
+module _ {X : Type 0} (tell : World → Entry → List X) (pool id : ℕ) (silent : (w : World) (e : Entry) → of_entry_in read_by id w e ≡ [] → tell w e ≡ []) where
   -- one entry more that tells nothing
-  still-told : (past : List Entry) (e : Entry) → read_in id (world_of pool past) e ≡ [] → told tell pool (past ++ e ∷ []) ≡ told tell pool past
+  still-told : (past : List Entry) (e : Entry) → of_entry_in read_by id (world_of pool past) e ≡ [] → told tell pool (past ++ e ∷ []) ≡ told tell pool past
   still-told past e none = told-push tell pool past e ∙ (ap (λ (xs : List X). told tell pool past ++ xs) (silent (world_of pool past) e none) ∙ append-nil (told tell pool past))
 
   pub told-stays : (past more : List Entry) (session : ℕ) → IsLegal pool (past ++ more) → IsPortOf pool past session id → ((k : ℕ) (e : Entry) → slice_get more k ≡ Some e → ReadsNot session id e)

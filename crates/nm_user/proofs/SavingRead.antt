@@ -22,7 +22,7 @@ use Rattle.vale_entry.specs.declared.entry.Reply.{Reply}
 use Rattle.vale_entry.specs.declared.entry.Reply.TheVariants.{Gave}
 use Rattle.vale_entry.specs.World.{Port, open_port}
 use Rattle.vale_entry.specs.Arrivals.{arrivals_of, frame_arrival, given_at, given_arrivals}
-use Rattle.vale_entry.specs.Delivered.{read_by, read_in, frames_at}
+use Rattle.vale_entry.specs.Delivered.{read_by, of_entry_in, frames_at}
 use Rattle.vale_entry.specs.Delivery.{ready_lots, delivered_frames}
 use Rattle.vale_entry.specs.Holdings.{delivered_buffers, is_buffer_index}
 use Rattle.vale_entry.specs.OwnCalls.{own_by, or_reset, back_in, rx_call}
@@ -72,15 +72,15 @@ gave-none now None id ask session count to e = refl
 gave-none now (Some fault) id ask session count to e = absurd (resets-none now id fault (open_port now.world.ports id.0) session count to e)
 
 -- what a read reads, brings and makes of what its session has
-read-reads : (pipe : Bool) (now : Standing) (port : PortId) (back : List ℕ) (id : ℕ) (at : Port) → port.0 ≡ id → open_port now.world.ports port.0 ≡ Some at
-    → read_by id now.world (kept_ask (read_ask pipe port back)) ≡ delivered_frames at
-read-reads pipe now port back id at same found = by pipe (eq-eqb port.0 id same)
+read-reads : (pipe : Bool) (now : Standing) (port : PortId) (back : List ℕ) (id : ℕ) (at : Port) (reply : Reply) → port.0 ≡ id
+    → open_port now.world.ports port.0 ≡ Some at → read_by id now.world (kept_ask (read_ask pipe port back)) reply ≡ delivered_frames at
+read-reads pipe now port back id at reply same found = by pipe (eq-eqb port.0 id same)
   where
     hit : (b : Bool) → b ≡ true → cond b (frames_at delivered_frames (open_port now.world.ports port.0)) [] ≡ delivered_frames at
     hit true e = ap (frames_at delivered_frames) found
     hit false e = absurd cc
 
-    by : (p : Bool) → (port.0 == id) ≡ true → read_by id now.world (kept_ask (read_ask p port back)) ≡ delivered_frames at
+    by : (p : Bool) → (port.0 == id) ≡ true → read_by id now.world (kept_ask (read_ask p port back)) reply ≡ delivered_frames at
     by true e = hit (port.0 == id) e
     by false e = hit (port.0 == id) e
 
@@ -227,8 +227,8 @@ is-read {s} {t} {id} {received} there is =
     let given-here = given pool history p.id st.at (legal-before pool (sync.number - 1) t.knows.seen there.legal) st.found in
     let entry = entry_by s.id (rx_call s.own p) (Gave received.gave is.to) in
     let stands : slice_get t.knows.seen (sync.number - 1) ≡ Some entry = (sync.told.stand 0 sync.number entry refl).1 in
-    let reads : read_in id now.world entry ≡ delivered_frames st.at = ap (λ (ask : Ask). read_by id now.world (kept_ask ask)) call ∙ read-reads pipe now p.id back id st.at same st.found in
-    let read : read_of pool t.knows.seen id sync.number ≡ delivered_frames st.at = ap (λ (o : Option Entry). option_map_or (read_in id now.world) o []) stands ∙ reads in
+    let reads : of_entry_in read_by id now.world entry ≡ delivered_frames st.at = ap (λ (ask : Ask). read_by id now.world (kept_ask ask) entry.reply) call ∙ read-reads pipe now p.id back id st.at entry.reply same st.found in
+    let read : read_of pool t.knows.seen id sync.number ≡ delivered_frames st.at = ap (λ (o : Option Entry). option_map_or (of_entry_in read_by id now.world) o []) stands ∙ reads in
     let numbered : read_of pool t.knows.seen id received.entry ≡ delivered_frames st.at = ap (read_of pool t.knows.seen id) is.entry ∙ read in
     let made = ap (λ (ask : Ask). own_by sync.number (kept_ask ask) (Gave received.gave is.to) (arrivals_of now (kept_ask ask) (Gave received.gave is.to)) s.own) call ∙ read-makes pipe sync.number now p.id back received.gave is.to s.own in
     record {

@@ -7,7 +7,7 @@ use Rattle.vale_entry.specs.declared.entry.Entry.{Entry}
 use Rattle.vale_entry.specs.declared.entry.Reply.TheVariants.{Gave}
 use Rattle.vale_entry.specs.OwnCalls.{rx_call}
 use Rattle.vale_fabric.specs.Fabrics.{entry_by}
-use Rattle.vale_entry.specs.Delivered.{read_in, read_frames}
+use Rattle.vale_entry.specs.Delivered.{read_by, of_entry_in, read_frames}
 use Rattle.vale_entry.specs.Legal.{world_of}
 use Rattle.vale_entry.proofs.ListLaws.{each-at}
 use Rattle.vale_fabric.specs.declared.kept.Fixed.{Fixed}
@@ -25,7 +25,7 @@ ports-stay-own pool past more session id k = port-past pool past more session id
 pub reads-stay : ReadsStay
 reads-stay pool past more session id legal k none =
     let each = recursion_from_All (ReadsNot session id) more none in
-    told-stays (read_in id) pool id (λ w e is. is) past more session legal k (λ at e here. each-at (ReadsNot session id) more at e each here)
+    told-stays (of_entry_in read_by id) pool id (λ w e is. is) past more session legal k (λ at e here. each-at (ReadsNot session id) more at e each here)
 
 pub reads-grow : ReadsGrow
 reads-grow s t id received there after is =
@@ -34,7 +34,7 @@ reads-grow s t id received there after is =
     let entry : Entry = entry_by s.id (rx_call s.own is.at.port) (Gave received.gave is.to) in
     let stands = (is.synced.told.stand 0 is.synced.number entry refl).1 in
     let at = subst (λ (m : ℕ). slice_get t.knows.seen (m - 1) ≡ Some entry) (sym is.entry) stands in
-    let grown = receive-grows (read_in id) pool id (λ w e is. is) refl there after is n refl entry at in
-    let read = ap (λ (o : Option Entry). option_map_or (read_in id (world_of pool (take (n - 1) t.knows.seen))) o []) at in
+    let grown = receive-grows (of_entry_in read_by id) pool id (λ w e is. is) refl there after is n refl entry at in
+    let read = ap (λ (o : Option Entry). option_map_or (of_entry_in read_by id (world_of pool (take (n - 1) t.knows.seen))) o []) at in
     grown ∙ (ap (λ (xs : List Frame). read_frames pool s.knows.seen id ++ xs) (sym read)
     ∙ ap (λ (f : Fixed). read_frames f.pool s.knows.seen id ++ read_of pool t.knows.seen id n) is.synced.fixed)

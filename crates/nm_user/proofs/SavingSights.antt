@@ -18,7 +18,7 @@ use Rattle.vale_entry.specs.declared.entry.Ask.TheVariants.{Enter, Open, Send, G
 use Rattle.vale_entry.specs.declared.entry.Entry.{Entry}
 use Rattle.vale_entry.specs.declared.entry.Reply.{Reply}
 use Rattle.vale_entry.specs.World.{World, Port, Offer, open_port}
-use Rattle.vale_entry.specs.Delivered.{told, read_in}
+use Rattle.vale_entry.specs.Delivered.{told, read_by, of_entry_in}
 use Rattle.vale_entry.specs.Legal.{IsLegal, world_of, kept_ask}
 use Rattle.vale_entry.proofs.ListLaws.{each-at}
 use Rattle.vale_entry.proofs.Worlds.{count-world_of}
@@ -128,7 +128,7 @@ adds-sync {s} {t} {ask} {reply} {shares} id but sync first (suc k) n e here othe
 
 -- ---- what is told
 
-module _ {X : Type 0} (tell : World → Entry → List X) (pool id : ℕ) (silent : (w : World) (e : Entry) → read_in id w e ≡ [] → tell w e ≡ []) where
+module _ {X : Type 0} (tell : World → Entry → List X) (pool id : ℕ) (silent : (w : World) (e : Entry) → of_entry_in read_by id w e ≡ [] → tell w e ≡ []) where
   -- a call that reads nothing there
   pub sight-stays : (s : SessionState) (w : Knowing) (added : List (ℕ × Entry)) → s.id ≤ length s.knows.seen → Stands s.id s.knows.mine → IsLegal pool w.seen → Told root_of s.knows w w.seen added
       → IsPortOf pool s.knows.seen s.id id → AddsNoRead id 0 added → told tell pool w.seen ≡ told tell pool s.knows.seen

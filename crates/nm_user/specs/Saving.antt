@@ -10,7 +10,7 @@ use Rattle.nm_types.specs.OwnEdits.{user_slot}
 use Rattle.nm_own.specs.ExtraChain.{named_bytes}
 use Rattle.vale_entry.specs.declared.entry.Entry.{Entry}
 use Rattle.vale_entry.specs.Legal.{world_of}
-use Rattle.vale_entry.specs.Delivered.{read_in}
+use Rattle.vale_entry.specs.Delivered.{of_entry_in, read_by}
 use Rattle.nm_user.specs.declared.receiving.Received.{Received}
 use Rattle.nm_user.specs.Sessions.{SessionState, IsThere}
 use Rattle.nm_user.specs.Receives.{IsReceived}
@@ -47,7 +47,7 @@ bytes_of_frame frame = frame.bytes
 -- the frames that the entry of a number reads at a port
 abbrev pub read_of : ℕ → List Entry → ℕ → ℕ → List Frame
 read_of pool history id number =
-    option_map_or (read_in id (world_of pool (take (number - 1) history))) (slice_get history (number - 1)) []
+    option_map_or (of_entry_in read_by id (world_of pool (take (number - 1) history))) (slice_get history (number - 1)) []
 
 -- what a receive sync brings stands before the tail, in order: what its entry reads
 abbrev pub ReceivedAreRead : Type 0
