@@ -10,10 +10,10 @@ pub unreachable-requires : goal.unreachable-requires
 unreachable-requires c =
     let there : position (is_user c.in-Some.port.session.0) c.args.users.now ≢ None =
     subst (λ (seen : Option PortSeen). IfSome seen (λ port. position (is_user port.session.0) c.args.users.now ≢ None)) c.in-Some.is c.requires in
-    there (sym c.place_of.ensures ∙ c.in-None.is)
+    there (sym c.place_of.ensures ∙ c.in-None-place_of.is)
 
-pub returns-in-Some : goal.returns-in-Some
-returns-in-Some c found is =
+pub returns-in-Some-place_of : goal.returns-in-Some-place_of
+returns-in-Some-place_of c found is =
     owner-is c.args.users.now found c.in-Some.port c.in-Some-place_of.place (subst (IsSeenAs found) c.in-Some.is is) (sym c.place_of.ensures ∙ c.in-Some-place_of.is)
 
 pub returns-in-None : goal.returns-in-None
