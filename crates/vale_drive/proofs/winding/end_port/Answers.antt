@@ -24,5 +24,5 @@ finish_with-requires c = record {
   quiet = c.requires.quiet;
   first = c.requires.first;
   shut = seen-none (open_port (standing c.args.book.now).world.ports c.args.port.0) c.open_port.result c.open_port.ensures (sym c.is_some.ensures ∙ c.if-is_some.false);
-  owner = c.in-Some.ensures;
+  owner = rw (c.deref-2.ensures.value) at c.in-Some.ensures;
 }
