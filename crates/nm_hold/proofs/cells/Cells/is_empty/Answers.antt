@@ -22,10 +22,10 @@ returns c =
     let held = c.self.inside.held.items in
     let size = c.self.inside.held.ok.0 in (
       (λ e idx.
-        let none : vec_len c.self.inside.held ≡ 0 = nat_eq-is (vec_len c.self.inside.held) 0 (sym c.is_empty.ensures ∙ e) in
-        rw (← c.self.view_is) (nothing_stands at (standings_in held) (omega (arith, none, size, standings_long held)) idx)),
+          let none : vec_len c.self.inside.held ≡ 0 = nat_eq-is (vec_len c.self.inside.held) 0 (sym c.is_empty.ensures ∙ e) in
+          rw (← c.self.view_is) (nothing_stands at (standings_in held) (omega (arith, none, size, standings_long held)) idx)),
       (λ nothing.
-        let empty = nothing_held at (owners_in held) (standings_in held) c.self.invariant.owners (both_long held) (λ idx. rw (← c.self.view_is) at (nothing idx)) in
-        let none : vec_len c.self.inside.held ≡ 0 = omega (arith, empty, size, standings_long held) in
-        c.is_empty.ensures ∙ rw none refl),
+          let empty = nothing_held at (owners_in held) (standings_in held) c.self.invariant.owners (both_long held) (λ idx. rw (← c.self.view_is) at (nothing idx)) in
+          let none : vec_len c.self.inside.held ≡ 0 = omega (arith, empty, size, standings_long held) in
+          c.is_empty.ensures ∙ rw none refl),
     )
