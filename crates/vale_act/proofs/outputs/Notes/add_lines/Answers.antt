@@ -1,4 +1,4 @@
-use Rattle.std.proofs.Common.{map, take, [], ◌∷◌, ◌+◌, ◌∙◌, ap}
+use Rattle.std.proofs.Common.{map, take, [], ◌∷◌, ◌+◌, ◌∙◌, ap, rules}
 use Rattle.std.proofs.lemmas.List.{map-append}
 use Rattle.vale_replay.specs.Replay.{act_of}
 use Rattle.vale_act.proofs.ActOutputs.{acts-then, one-more-of}
@@ -13,3 +13,6 @@ loop-line-preserved c =
           (ap (map act_of) (one-more-of lines c.loop-line.line-index line c.loop-line-test.true c.line-item.is) ∙ map-append act_of (take c.loop-line.line-index lines) (line ∷ [])) c.loop-line.invariant.made c.in_ok-add_act.ensures.made;
       writable = λ old. c.in_ok-add_act.ensures.writable (c.loop-line.invariant.writable old);
     }
+
+pub returns : goal.returns
+returns c = record { made = search rules; writable = search rules }
