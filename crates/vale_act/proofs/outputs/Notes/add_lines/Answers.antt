@@ -1,6 +1,8 @@
-use Rattle.std.proofs.Common.{map, take, [], ◌∷◌, ◌+◌, ◌∙◌, ap, rules}
-use Rattle.std.proofs.lemmas.List.{map-append}
+use Rattle.std.proofs.Common.{◌≡◌, List, map, take, [], ◌∷◌, ◌+◌, ◌∙◌, ap, subst, arith}
+use Rattle.std.proofs.lemmas.List.{map-append, take_all}
+use Rattle.vale_script.specs.declared.script.Line.{Line}
 use Rattle.vale_replay.specs.Replay.{act_of}
+use Rattle.vale_act.specs.SavedActs.{OutputsAre}
 use Rattle.vale_act.proofs.ActOutputs.{acts-then, one-more-of}
 use Rattle.vale_act.proofs.outputs.Notes.add_lines.Goals as goal
 
@@ -15,4 +17,11 @@ loop-line-preserved c =
     }
 
 pub returns : goal.returns
-returns c = record { made = search rules; writable = search rules }
+returns c =
+    let notes = c.args.self.now in
+    let whole : take c.loop-line.line-index c.args.lines.now ≡ c.args.lines.now =
+    take_all c.loop-line.line-index c.args.lines.now (omega (arith, c.loop-line-test.false)) in
+    record {
+      made = subst (λ (lines : List Line). OutputsAre notes.saves.now notes.kept.now (map act_of lines) c.args.outputs.now.items c.loop-line.outputs.items) whole c.loop-line.invariant.made;
+      writable = c.loop-line.invariant.writable;
+    }

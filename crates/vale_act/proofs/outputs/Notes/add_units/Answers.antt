@@ -1,8 +1,11 @@
-use Rattle.std.proofs.Common.{take, [], ◌∷◌, ◌++◌, ◌+◌, ◌∙◌, List, ap, append-nil}
+use Rattle.std.proofs.Common.{take, [], ◌∷◌, ◌++◌, ◌+◌, ◌∙◌, ◌≡◌, List, ap, append-nil, subst, arith}
 use Rattle.std.specs.Prelude.{flat_map}
 use Rattle.std.proofs.lemmas.Grind.{flat_map-append}
+use Rattle.std.proofs.lemmas.List.{take_all}
 use Rattle.vale_script.specs.declared.script.Act.{Act}
+use Rattle.vale_script.specs.declared.script.Unit.{Unit}
 use Rattle.vale_replay.specs.Saved.{acts_of_unit}
+use Rattle.vale_act.specs.SavedActs.{OutputsAre}
 use Rattle.vale_act.proofs.ActOutputs.{acts-then, one-more-of}
 use Rattle.vale_act.proofs.outputs.Notes.add_units.Goals as goal
 
@@ -17,4 +20,14 @@ loop-unit-preserved c =
           ∙ (flat_map-append acts_of_unit (take i units) (unit ∷ []) ∙ ap (λ (acts : List Act). flat_map acts_of_unit (take i units) ++ acts) (append-nil (acts_of_unit unit))))
           c.loop-unit.invariant.made c.in_ok-add_unit.ensures.made;
       writable = λ old. c.in_ok-add_unit.ensures.writable (c.loop-unit.invariant.writable old);
+    }
+
+pub returns : goal.returns
+returns c =
+    let notes = c.args.self.now in
+    let whole : take c.loop-unit.unit-index c.args.units.now ≡ c.args.units.now =
+    take_all c.loop-unit.unit-index c.args.units.now (omega (arith, c.loop-unit-test.false)) in
+    record {
+      made = subst (λ (units : List Unit). OutputsAre notes.saves.now notes.kept.now (flat_map acts_of_unit units) c.args.outputs.now.items c.loop-unit.outputs.items) whole c.loop-unit.invariant.made;
+      writable = c.loop-unit.invariant.writable;
     }
