@@ -50,3 +50,9 @@ returns-in-Ok-done-clause-empty g c =
     let made = subst (λ r. IfOk r (λ seats. AreNew (length c.users-count.result.now) seats.items)) c.in-Ok-new_seats.is c.new_seats.ensures in
     let new : AreNew (length c.users-count.result.now) c.deref_mut.result.now = subst (λ (l : List Seat). AreNew (length c.users-count.result.now) l) (sym c.deref_mut.ensures.value) made in
     c.run_script-done.ensures.empty (new-leaving (length c.users-count.result.now) (knowing c.args.pass) c.deref_mut.result.now c.requires.mine new)
+
+pub returns-in-Err-clause-empty : goal.returns-in-Err-clause-empty
+returns-in-Err-clause-empty g c =
+    let made = subst (λ r. IfOk r (λ seats. AreNew (length c.users-count.result.now) seats.items)) c.in-Ok-new_seats.is c.new_seats.ensures in
+    let new : AreNew (length c.users-count.result.now) c.deref_mut.result.now = subst (λ (l : List Seat). AreNew (length c.users-count.result.now) l) (sym c.deref_mut.ensures.value) made in
+    c.run_script-done.ensures.empty (new-leaving (length c.users-count.result.now) (knowing c.args.pass) c.deref_mut.result.now c.requires.mine new)
