@@ -12,4 +12,4 @@ overflow_add-frames c =
     let within = sum-within count_sent entries k entry
     (slice_get_read entries (length entries) k entry refl (omega (arith, c.loop-entry-test.true))
     c.entry-item.is) in
-    omega (arith, within, c.loop-entry.invariant.0, ap (λ (p : ℕ × ℕ). p.0) c.sent_by.ensures, c.requires.frames)
+    omega (arith, within, c.loop-entry.invariant.0, ap (λ (p : ℕ × ℕ). p.0) c.sent_by-count.ensures, c.requires.frames)
