@@ -5,6 +5,8 @@ left to its end. The switch is kept here as people think of it: rings of buffers
 and a set of free buffers. `asks_of` makes asks at random, also ones that are not enabled.
 """
 
+from model import spans
+
 MOST = {"switches": 4, "ports": 16, "pipes": 32, "monitors": 32, "batch": 1023}
 NAMES = ["vale0:a", "vale0:b", "vale0:c", "vale1:a", "vale1:b", "pipe0{", "pipe0}", "pipe1{", "pipe1}", "mon0", "mon1"] * 3 + ["vale2:a", "vale3:a", "vale4:a"]
 SIZES = [2, 2, 3, 4, 5] * 4 + [1, 1025]
@@ -198,7 +200,7 @@ class Model:
         self.held[port.session] -= set(back)
         self.held[port.session] |= set(buffers)
         told = self.offer(port.session, self.copies(number, "r", frames))
-        self.entry(port.session, f"{verb} {number} {listed(map(str, back))} = gave {len(frames)} to {told}")
+        self.entry(port.session, f"{verb} {number} {spans(back)} = gave {len(frames)} to {told}")
         port.counts["read"] += len(frames)
         return "made"
 
@@ -264,7 +266,7 @@ class Model:
         if out:
             return f"waits {out}"
         unread = sum(len(lot.frames) for lot in port.line)
-        self.entry(port.session, f"finish {number} {listed(map(str, bufs))} found 0 astray 0 = unread {unread}")
+        self.entry(port.session, f"finish {number} {spans(bufs)} found 0 astray 0 = unread {unread}")
         self.held[port.session] -= set(bufs)
         self.free.update(bufs, port.idle, *(lot.buffers for lot in port.line))
         del self.ports[number]
@@ -364,14 +366,14 @@ def line_of(number, verb, said):
         "send": lambda: f"{number} 1 send {said[0]} {listed(map(hexed, said[1:]))} = short 0 lone 0 to -",
         "grant": lambda: f"{number} 1 grant {said[0]} {said[1]} = given 0 full 0 gone 0",
         "done": lambda: f"{number} 1 done {said[0]}",
-        "sync": lambda: f"{number} 1 sync {said[0]} {listed(map(str, said[1:]))} = gave 0 to -",
-        "get": lambda: f"{number} 1 get {said[0]} {listed(map(str, said[1:]))} = gave 0 to -",
+        "sync": lambda: f"{number} 1 sync {said[0]} {spans(map(int, said[1:]))} = gave 0 to -",
+        "get": lambda: f"{number} 1 get {said[0]} {spans(map(int, said[1:]))} = gave 0 to -",
         "put": lambda: f"{number} 1 put {said[0]} {len(said) - 1} = took {listed(f'{index}:{hexed(frame)}' for index, frame in said[1:])} to -",
         "reset": lambda: f"{number} 1 reset {said[0]} {said[1]} {said[2]}",
         "watch": lambda: f"{number} 1 watch {said[0]} {said[1]} {said[2]} = notarget",
         "stat": lambda: f"{number} 1 stat {said[0]} = sent 0 short 0 lone 0 given 0 full 0 read 0",
         "shut": lambda: f"{number} 1 shut {said[0]}",
-        "finish": lambda: f"{number} 1 finish {said[0]} {listed(map(str, said[1:]))} found 0 astray 0 = unread 0",
+        "finish": lambda: f"{number} 1 finish {said[0]} {spans(map(int, said[1:]))} found 0 astray 0 = unread 0",
         "leave": lambda: f"{number} {said[0]} leave",
     }
     return texts[verb]()
@@ -385,5 +387,5 @@ def asks_of(chance, pool, count):
         lines.append(line_of(number, verb, said))
         answers.append(getattr(model, verb)(*said) or "none")
     model.close()
-    asks = "\n".join([f"vale 1 pool {pool}", *lines, f"end {count} free {pool}", ""])
-    return asks, "\n".join([*answers, f"vale 1 pool {pool}", *model.text, f"end {model.count} free {len(model.free)}", ""])
+    asks = "\n".join([f"vale 2 pool {pool}", *lines, f"end {count} free {pool}", ""])
+    return asks, "\n".join([*answers, f"vale 2 pool {pool}", *model.text, f"end {model.count} free {len(model.free)}", ""])

@@ -14,6 +14,17 @@ MOST = {"lines": 10_000, "counts": 1_000_000, "users": 64, "switches": 4, "ports
 WORDS = {b"pool": [1], b"user": [1], b"open": [4, 5], b"put": [7], b"tx": [2], b"rx": [2, 3], b"close": [2]}
 
 
+def spans(numbers):
+    """Buffers as a transcript lists them: neighbours by the first and the last of them."""
+    out = []
+    for number in numbers:
+        if out and out[-1][1] + 1 == number:
+            out[-1][1] = number
+        else:
+            out.append([number, number])
+    return ",".join(str(a) if a == b else f"{a}-{b}" for a, b in out) or "-"
+
+
 class BadLine(Exception):
     """A line that is no line of a script, and its cause."""
 
@@ -217,14 +228,14 @@ class Switches:
         held, came, port.queue = port.received, port.queue, []
         back, port.received = ([], held + came) if keeps else (held, came)
         port.idle += back
-        self.entry(f"{port.session} sync {port.number} {','.join(map(str, back)) or '-'} = gave {len(came)} to -")
+        self.entry(f"{port.session} sync {port.number} {spans(back)} = gave {len(came)} to -")
 
     def close(self, user, name):
         port = self.own[user].pop(name)
         self.entry(f"{port.session} shut {port.number}")
         self.learned = {place: held for place, held in self.learned.items() if held[1] != port.number}
         buffers = port.transmit + port.received + port.extra
-        listed = ",".join(map(str, buffers))
+        listed = spans(buffers)
         self.entry(f"{port.session} finish {port.number} {listed} found {len(port.extra)} astray 0 = unread {len(port.queue)}")
         del self.ports[port.number]
         self.free.update(buffers, port.idle, port.queue)
@@ -273,7 +284,7 @@ def play(script):
     for line in reader.lines:
         switches.run(line)
     switches.end()
-    text = f"vale 1 pool {reader.pool}\n{''.join(switches.text)}end {switches.count} free {len(switches.free)}\n"
+    text = f"vale 2 pool {reader.pool}\n{''.join(switches.text)}end {switches.count} free {len(switches.free)}\n"
     return text.encode(), b"", 0
 
 

@@ -1,5 +1,5 @@
 //! Runs a script of netmap rings, VALE switches, pipes and monitors, and writes the transcript of
-//! what they did; or runs the load of a number.
+//! what they did; or runs the load of a number, or writes a transcript in the newest version.
 #![tactic(auto)]
 
 #[cfg(test)]
@@ -9,6 +9,7 @@ ghost use Rattle.std.specs.Prelude.{◌≡◌, map, string_bytes, option_map};
 ghost use Rattle.vale.specs.Command.{help_text, version_text, answer_to, Answers};
 ghost use Rattle.vale_run.specs.Run.{io_of, script_name};
 ghost use Rattle.vale_run.specs.Load.{load_number};
+ghost use Rattle.vale_run.specs.Migrate.{text_name};
 ghost use Rattle.vale_run.specs.Complete.{Completes};
 
 use nm_io::{FileShelf, NoGate, Shelf, Sink, StdSink, put_all};
@@ -20,12 +21,14 @@ use std::thread::Threads;
 use std::{env, io};
 use vale_run::{Remains, Status, report, run_leaving};
 
-const HELP: &str = "usage: vale run SCRIPT | vale load N
+const HELP: &str = "usage: vale run SCRIPT | vale load N | vale migrate FILE
 
   run SCRIPT  runs a script of netmap rings, VALE switches, pipes and monitors, and writes the
               transcript of what they did
   load N      runs four users of one switch side by side, who send 8,000 frames that hang on the
               number N, and writes one line of what was sent
+  migrate FILE
+              writes a transcript of version 1 or 2 in version 2
 
 Lines of a script (a SIDE is tx or rx, a MAC as 02:00:00:00:00:0a):
   pool N                             the pool has N buffers (the first line)
@@ -97,8 +100,10 @@ fn run_command<R: AllocGlobal + Threads + Wait + Sync, S: Shelf, K: Sink>(
 ) -> Status
     ensures answers { Answers Limits.VERSION_1 (answer_to (map string_bytes words.now))
         (script_name (map string_bytes words.now)) (load_number (map string_bytes words.now))
+        (text_name (map string_bytes words.now))
         (io_of S.Shelf K.Sink shelf.old shelf.new out.old out.new) result }
     ensures completes { Completes (script_name (map string_bytes words.now))
+        (load_number (map string_bytes words.now)) (text_name (map string_bytes words.now))
         (io_of S.Shelf K.Sink shelf.old shelf.new out.old out.new) result }
 {
     let Some(text) = answer(words) else {

@@ -2,6 +2,7 @@ pub mod Worlds
 pub mod Steps
 pub mod ListLaws
 pub mod Each
+pub mod Spans
 pub mod InStep
 pub mod Rising
 pub mod Removals

@@ -12,7 +12,9 @@ use Rattle.vale_entry.specs.declared.entry.Ask.TheVariants.{Grant, Finish, Put, 
 use Rattle.vale_entry.specs.declared.entry.Item.{Item}
 use Rattle.vale_entry.specs.Transcript.{IsPrintable}
 use Rattle.vale_entry.specs.Fits.{FitsEntry}
-use Rattle.std.specs.Prelude.{ℕ, true, false, not, ◌&&◌, ◌==◌, ◌≡◌, ◌+◌, ◌-◌, ◌<◌, ◌≤◌, ◌^◌, List, [], ◌∷◌, Some, map, length, sum_by, count_by, Bool, if◌then◌else◌, All, ◌++◌, take, drop, is_some, slice_get, Option, bytes_eq}
+use Rattle.vale_entry.specs.declared.entry.Span.{Span}
+use Rattle.vale_entry.specs.Spans.{spans_of, spans_in, numbers_in, AreSpansOf}
+use Rattle.std.specs.Prelude.{ℕ, true, false, not, ◌&&◌, ◌==◌, ◌≡◌, ◌+◌, ◌-◌, ◌<◌, ◌≤◌, ◌^◌, List, [], ◌∷◌, Some, map, length, flat_map, sum_by, count_by, Bool, if◌then◌else◌, All, ◌++◌, take, drop, is_some, slice_get, Option, bytes_eq}
 use Rattle.std.specs.List.{list_any, AllByRecursion}
 use Rattle.nm_types.specs.Names.{is_monitor_name}
 use Rattle.vale_entry.specs.Monitors.{is_watch_at}
@@ -340,3 +342,15 @@ LegalHistoriesFit =
 abbrev pub LegalHistoriesArePrintable : Type 0
 LegalHistoriesArePrintable =
     (pool : ℕ) (history : List Entry) → IsLegal pool history → ArePrintable 1 history
+
+-- the spans of numbers are the only ones that have these numbers and are as long as they can be
+abbrev pub SpansAreOfNumbers : Type 0
+SpansAreOfNumbers =
+    (numbers : List ℕ) (spans : List Span)
+    → (AreSpansOf numbers spans → spans ≡ spans_of numbers)
+    × (spans ≡ spans_of numbers → AreSpansOf numbers spans)
+
+-- the spans of either version have these numbers
+abbrev pub SpansTellNumbers : Type 0
+SpansTellNumbers =
+    (version : ℕ) (numbers : List ℕ) → flat_map numbers_in (spans_in version numbers) ≡ numbers

@@ -14,6 +14,7 @@ pub mod Legal
 pub mod Room
 pub mod Stored
 pub mod Kept
+pub mod Spans
 pub mod Transcript
 pub mod Fits
 pub mod RowWords

@@ -15,7 +15,7 @@ use Rattle.vale_entry.specs.Grant.{grant_reply, after_grant}
 use Rattle.vale_entry.specs.Legal.{standing_of, world_of, holdings_of, reply_to}
 use Rattle.vale_entry.specs.Delivered.{given_frames, read_frames, unread_counts}
 use Rattle.vale_entry.specs.Fate.{Pending, Given, Full, Gone, fates_at, entries_of, brought_between}
-use Rattle.vale_entry.specs.Transcript.{transcript_text, start_line, end_line}
+use Rattle.vale_entry.specs.Transcript.{transcript_text, text_of, start_line, end_line}
 use Rattle.vale_entry.specs.RowWords.{AreLegal, are_legal, entry, port, session, entered, opening, opened, completes, delivered, left, no_chain, dest, bytes, marked, mac, everyone, packet, frame_f, frame_h}
 
 -- Two users with a port each, and three of them: what most runs begin with.
@@ -74,14 +74,14 @@ first_run = first_run_of frame_h
 
 abbrev first_run_lines : List ℕ
 first_run_lines =
-    codes "vale 1 pool 8192\n1 enter 1\n2 enter 2\n3 1 open vale0:a 4 4 0 = ok\n"
+    codes "vale 2 pool 8192\n1 enter 1\n2 enter 2\n3 1 open vale0:a 4 4 0 = ok\n"
     ++ codes "4 2 open vale0:b 4 4 0 = ok\n"
     ++ codes "5 1 send 3 ffffffffffff02000000000a88b511111111111111111111111111111111111111111"
     ++ codes "111111111111111111111111111111111111111111111111111 = short 0 lone 0 to 4*1\n"
     ++ codes "6 1 grant 5 4 = given 1 full 0 gone 0\n7 1 done 6\n8 2 sync 4 - = gave 1 to -\n"
 
 first_run-text : transcript_text 8192 first_run ≡ first_run_lines ++ codes "end 8 free 8176\n"
-unfolding digits start_line end_line is_name is_switch_port_name is_pipe_name
+unfolding digits text_of start_line end_line is_name is_switch_port_name is_pipe_name
     is_monitor_name switch_of
 first_run-text = refl
 
@@ -276,10 +276,10 @@ first_run_whole = first_run ++ (
 
 first_run_whole-text : transcript_text 8192 first_run_whole
     ≡ first_run_lines
-    ++ codes "9 1 shut 3\n10 1 finish 3 2,3,4,5 found 0 astray 0 = unread 0\n11 1 leave\n"
-    ++ codes "12 2 shut 4\n13 2 finish 4 10,11,12,13,14 found 0 astray 0 = unread 0\n14 2 leave\n"
+    ++ codes "9 1 shut 3\n10 1 finish 3 2-5 found 0 astray 0 = unread 0\n11 1 leave\n"
+    ++ codes "12 2 shut 4\n13 2 finish 4 10-14 found 0 astray 0 = unread 0\n14 2 leave\n"
     ++ codes "end 14 free 8192\n"
-unfolding digits start_line end_line is_name is_switch_port_name is_pipe_name
+unfolding digits text_of start_line end_line is_name is_switch_port_name is_pipe_name
     is_monitor_name switch_of
 first_run_whole-text = refl
 

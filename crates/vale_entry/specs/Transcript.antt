@@ -1,6 +1,7 @@
--- The transcript's text: a first line with the pool, a line for each entry, a last line with the
--- number of entries and the free buffers. A line ends with a line feed; one blank stands between
--- two words.
+-- The transcript's text: a first line with its version and the pool, a line for each entry, a last
+-- line with the number of entries and the free buffers. A line ends with a line feed; one blank
+-- stands between two words. Version 2 is written; version 1 has each buffer by itself where that has
+-- spans of neighbours, and is read as well.
 use Rattle.std.specs.Prelude.{ℕ, Bool, true, false, not, ◌&&◌, ◌==◌, ◌+◌, ◌/◌, ◌%◌, nat_lt, if◌then◌else◌, List, [], ◌∷◌, ◌++◌, length, map, flat_map, codes, decimal, IsTrue}
 use Rattle.std.specs.List.{join_with_byte, list_all}
 use Rattle.nm_types.specs.Frames.{Frame}
@@ -24,6 +25,8 @@ use Rattle.vale_entry.specs.declared.entry.Reply.TheVariants.{Made, Opened, Refu
 use Rattle.vale_entry.specs.declared.entry.Entry.{Entry}
 use Rattle.vale_entry.specs.Legal.{world_of}
 use Rattle.vale_entry.specs.World.{free_count}
+use Rattle.vale_entry.specs.declared.entry.Span.{Span}
+use Rattle.vale_entry.specs.Spans.{spans_in}
 
 abbrev pub hex_digit : ℕ → ℕ
 hex_digit n = if nat_lt n 10 then 48 + n else 87 + n
@@ -48,8 +51,14 @@ list_text (item ∷ items) = join_with_byte 44 (item ∷ items)
 abbrev pub frames_text : List Frame → List ℕ
 frames_text frames = list_text (map frame_text frames)
 
-abbrev pub numbers_text : List ℕ → List ℕ
-numbers_text numbers = list_text (map decimal numbers)
+-- a number, or the first and the last of a span with a dash between them
+abbrev pub span_text : Span → List ℕ
+span_text span =
+    if span.first == span.last then decimal span.first
+    else decimal span.first ++ codes "-" ++ decimal span.last
+
+abbrev pub buffers_text : ℕ → List ℕ → List ℕ
+buffers_text version numbers = list_text (map span_text (spans_in version numbers))
 
 abbrev pub dest_text : Dest → List ℕ
 dest_text dest = decimal dest.to.0 ++ codes "*" ++ decimal dest.count
@@ -98,32 +107,32 @@ fault_words (Fragment slot) = codes "fragment" ∷ decimal slot ∷ []
 fault_words _ = []
 
 -- the words of what was asked; a `Put` is never stored
-abbrev pub ask_words : ℕ → Ask → List (List ℕ)
-ask_words session (Enter user) = codes "enter" ∷ decimal user ∷ []
-ask_words session (Open asked name tx rx extra) =
+abbrev pub ask_words : ℕ → ℕ → Ask → List (List ℕ)
+ask_words version session (Enter user) = codes "enter" ∷ decimal user ∷ []
+ask_words version session (Open asked name tx rx extra) =
     decimal session ∷ codes "open" ∷ name ∷ decimal tx ∷ decimal rx ∷ decimal extra ∷ []
-ask_words session (Send port frames) =
+ask_words version session (Send port frames) =
     decimal session ∷ codes "send" ∷ decimal port.0 ∷ frames_text frames ∷ []
-ask_words session (Grant origin to) =
+ask_words version session (Grant origin to) =
     decimal session ∷ codes "grant" ∷ decimal origin ∷ decimal to.0 ∷ []
-ask_words session (Done lease) = decimal session ∷ codes "done" ∷ decimal lease.0 ∷ []
-ask_words session (Sync port back) =
-    decimal session ∷ codes "sync" ∷ decimal port.0 ∷ numbers_text back ∷ []
-ask_words session (Reset port side fault) =
+ask_words version session (Done lease) = decimal session ∷ codes "done" ∷ decimal lease.0 ∷ []
+ask_words version session (Sync port back) =
+    decimal session ∷ codes "sync" ∷ decimal port.0 ∷ buffers_text version back ∷ []
+ask_words version session (Reset port side fault) =
     decimal session ∷ codes "reset" ∷ decimal port.0 ∷ side_word side ∷ fault_words fault
-ask_words session (Shut port) = decimal session ∷ codes "shut" ∷ decimal port.0 ∷ []
-ask_words session (Finish port bufs chain) =
-    decimal session ∷ codes "finish" ∷ decimal port.0 ∷ numbers_text bufs ∷ codes "found" ∷ decimal
+ask_words version session (Shut port) = decimal session ∷ codes "shut" ∷ decimal port.0 ∷ []
+ask_words version session (Finish port bufs chain) =
+    decimal session ∷ codes "finish" ∷ decimal port.0 ∷ buffers_text version bufs ∷ codes "found" ∷ decimal
     chain.found ∷ codes "astray" ∷ decimal chain.astray ∷ []
-ask_words session (Leave left) = decimal session ∷ codes "leave" ∷ []
-ask_words session (Put port offered) = []
-ask_words session (PutKept port offered) =
+ask_words version session (Leave left) = decimal session ∷ codes "leave" ∷ []
+ask_words version session (Put port offered) = []
+ask_words version session (PutKept port offered) =
     decimal session ∷ codes "put" ∷ decimal port.0 ∷ decimal offered ∷ []
-ask_words session (Get port back) =
-    decimal session ∷ codes "get" ∷ decimal port.0 ∷ numbers_text back ∷ []
-ask_words session (Watch monitor target sides) =
+ask_words version session (Get port back) =
+    decimal session ∷ codes "get" ∷ decimal port.0 ∷ buffers_text version back ∷ []
+ask_words version session (Watch monitor target sides) =
     decimal session ∷ codes "watch" ∷ decimal monitor.0 ∷ target ∷ sides_word sides ∷ []
-ask_words session (Stat port) = decimal session ∷ codes "stat" ∷ decimal port.0 ∷ []
+ask_words version session (Stat port) = decimal session ∷ codes "stat" ∷ decimal port.0 ∷ []
 
 abbrev pub counts_words : Counts → List (List ℕ)
 counts_words counts =
@@ -163,25 +172,32 @@ abbrev pub words_text : List (List ℕ) → List ℕ
 words_text words = flat_map after_blank words
 
 -- an entry's number, the words of what was asked, and those of the answer
-abbrev pub entry_line : ℕ → Entry → List ℕ
-entry_line number entry =
-    decimal number ++ words_text (ask_words entry.session.0 entry.ask ++ reply_words entry.reply)
+abbrev pub entry_line : ℕ → ℕ → Entry → List ℕ
+entry_line version number entry =
+    decimal number
+    ++ words_text (ask_words version entry.session.0 entry.ask ++ reply_words entry.reply)
     ++ codes "\n"
 
-abbrev pub entry_lines : ℕ → List Entry → List ℕ
-entry_lines number [] = []
-entry_lines number (entry ∷ entries) = entry_line number entry ++ entry_lines (number + 1) entries
+abbrev pub entry_lines : ℕ → ℕ → List Entry → List ℕ
+entry_lines version number [] = []
+entry_lines version number (entry ∷ entries) =
+    entry_line version number entry ++ entry_lines version (number + 1) entries
 
-unfoldable pub start_line : ℕ → List ℕ
-start_line pool = codes "vale 1 pool " ++ decimal pool ++ codes "\n"
+unfoldable pub start_line : ℕ → ℕ → List ℕ
+start_line version pool =
+    codes "vale " ++ decimal version ++ codes " pool " ++ decimal pool ++ codes "\n"
 
 unfoldable pub end_line : ℕ → ℕ → List ℕ
 end_line count free = codes "end " ++ decimal count ++ codes " free " ++ decimal free ++ codes "\n"
 
+-- the first line, the entries' lines and the last one
+unfoldable pub text_of : ℕ → ℕ → List Entry → ℕ → List ℕ
+text_of version pool entries free =
+    start_line version pool ++ entry_lines version 1 entries ++ end_line (length entries) free
+
+-- the transcript of a history, as it is written
 abbrev pub transcript_text : ℕ → List Entry → List ℕ
-transcript_text pool history =
-    start_line pool ++ entry_lines 1 history
-    ++ end_line (length history) (free_count (world_of pool history))
+transcript_text pool history = text_of 2 pool history (free_count (world_of pool history))
 
 -- destinations rise
 abbrev pub dests_rise : List Dest → Bool

@@ -92,6 +92,13 @@ pub struct Item {
     pub bytes: Frame,
 }
 
+/// Numbers from one up to another, as a transcript has neighbouring buffers.
+#[derive(Clone, Copy, Debug, PartialEq, Eq)]
+pub struct Span {
+    pub first: u32,
+    pub last: u32,
+}
+
 /// How many frames of an entry are wanted at a port.
 #[derive(Clone, Copy, Debug, PartialEq, Eq)]
 pub struct Dest {

@@ -3,7 +3,7 @@
 #![tactic(auto, using(crate::proofs::HistoryLaws::history_laws))]
 
 ghost use Rattle.vale_entry.specs.DeliveryLaws.{ReadIsPrefixOfGiven, GivenOnlyByWanted, ShortAndLoneAreForNobody, WantedIsSharedOnce, DroppedFramesAreCounted, NothingIsPendingAtTheEnd, SenderOrderIsKept, FramesAreDroppedForCause, RepliesCountFrames, PutsBringOnce, PutsAreOfReply, OutIsCounted, CountersAreSums};
-ghost use Rattle.vale_entry.specs.Laws.{AsksAreAnswered, PutsAreKept, FinishWaitsForLeases, NamesDiffer, OffersClimb, CountersAreKept, NumbersRise, PortsAreWithinSizes, FreeBuffersRise, FreeBuffersReturn, BuffersAreParted, HoldingsAgree, SessionsHaveOneUnsettled, PairsAreOfSwitch, WatchesAreOpen, LotsAreSingle, LotsAreOfEntries, RoomIsPromised, RoomIsUsed, LegalHistoriesFit, LegalHistoriesArePrintable};
+ghost use Rattle.vale_entry.specs.Laws.{AsksAreAnswered, PutsAreKept, FinishWaitsForLeases, NamesDiffer, OffersClimb, CountersAreKept, NumbersRise, PortsAreWithinSizes, FreeBuffersRise, FreeBuffersReturn, BuffersAreParted, HoldingsAgree, SessionsHaveOneUnsettled, PairsAreOfSwitch, WatchesAreOpen, LotsAreSingle, LotsAreOfEntries, RoomIsPromised, RoomIsUsed, LegalHistoriesFit, LegalHistoriesArePrintable, SpansAreOfNumbers, SpansTellNumbers};
 
 /// The table of the asks that are enabled says which asks are answered.
 pub fn asks_are_answered()
@@ -200,4 +200,15 @@ pub fn nothing_is_pending_at_the_end()
 /// entry the first frames that are wanted there.
 pub fn sender_order_is_kept()
     ensures { SenderOrderIsKept }
+{}
+
+/// The spans of numbers are the only ones that have these numbers, one behind the other, and are as
+/// long as they can be.
+pub fn spans_are_of_numbers()
+    ensures { SpansAreOfNumbers }
+{}
+
+/// The spans of a list of buffers, in a text of any version, have these buffers.
+pub fn spans_tell_numbers()
+    ensures { SpansTellNumbers }
 {}

@@ -9,6 +9,6 @@ mod lists;
 #[cfg(test)]
 mod tests;
 
-pub use entry::{Ask, Dest, Entry, Item, Reply};
+pub use entry::{Ask, Dest, Entry, Item, Reply, Span};
 pub use history::History;
 pub use lists::{Dests, Items, Listed, Numbers};

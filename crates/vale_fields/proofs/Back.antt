@@ -1,21 +1,24 @@
 -- Each field's text is read as the field.
 use Rattle.std.specs.List.{AllByRecursion as Each}
-use Rattle.std.proofs.Common.{ℕ, ◌+◌, ◌*◌, ◌/◌, ◌%◌, ◌<◌, ◌≡◌, ◌==◌, nat_lt, Bool, true, false, cond, List, [], ◌∷◌, ◌++◌, length, map, take, drop, flat_map, decimal, Option, Some, refl, sym, ◌∙◌, ap, arith, append_assoc}
-use Rattle.std.proofs.lemmas.Bool.{ltb-true}
+use Rattle.std.proofs.Common.{ℕ, ◌+◌, ◌*◌, ◌/◌, ◌%◌, ◌<◌, ◌≡◌, ◌==◌, nat_lt, Bool, true, false, cond, List, [], ◌∷◌, ◌++◌, length, map, take, drop, flat_map, codes, decimal, Option, Some, refl, sym, ◌∙◌, ap, arith, append_assoc}
+use Rattle.std.proofs.lemmas.Bool.{ltb-true, eqb-true}
 use Rattle.std.proofs.lemmas.Bool.Decides.{nat_tests}
 use Rattle.nm_types.specs.Frames.{Frame}
 use Rattle.vale_entry.specs.declared.entry.Dest.{Dest}
 use Rattle.vale_entry.specs.declared.entry.Item.{Item}
-use Rattle.vale_entry.specs.Transcript.{hex_digit, hex_byte, hex_text, frame_text, frames_text, numbers_text, dest_text, dests_text, item_text, items_text, is_unmarked}
+use Rattle.vale_entry.specs.declared.entry.Span.{Span}
+use Rattle.vale_entry.specs.Spans.{single_span, spans_in, numbers_in}
+use Rattle.vale_entry.specs.Transcript.{hex_digit, hex_byte, hex_text, frame_text, frames_text, span_text, buffers_text, dest_text, dests_text, item_text, items_text, is_unmarked}
+use Rattle.vale_entry.proofs.Spans.{EndsAre, ends-are, spans-tell}
 use Rattle.vale_entry.proofs.Each.{each-weaker, each-map}
-use Rattle.vale_fields.specs.Fields.{hex_value, bytes_of, frame_of, dest_of, item_of, short_of, front_by, back_by, mark_in}
+use Rattle.vale_fields.specs.Fields.{hex_value, bytes_of, frame_of, span_by, span_of, dest_of, item_of, short_of, front_by, back_by, mark_in}
 use Rattle.vale_fields.specs.Lists.{numbers_of, dests_of, items_of, frames_of}
 use Rattle.vale_entry.specs.Fits.{DestFits}
 use Rattle.vale_fields.specs.Widths.{IsByte, AreBytes, Is32, FitsItem, field_widths}
-use Rattle.vale_fields.proofs.Cuts.{IsItem}
+use Rattle.vale_fields.proofs.Cuts.{IsPart}
 use Rattle.vale_fields.proofs.Numerals.{short-back}
-use Rattle.vale_fields.proofs.Splits.{unequal, list-back, IsFree, mark-found, take-front, drop-front}
-use Rattle.vale_fields.proofs.Texts.{IsDigit, decimal-digits, decimal-item, dest-item, frames-items, item-item, no-mark}
+use Rattle.vale_fields.proofs.Splits.{unequal, list-back, IsFree, mark-found, mark-missed, take-front, drop-front}
+use Rattle.vale_fields.proofs.Texts.{IsDigit, decimal-digits, dash-not_digit, dashed, spans-parts, dest-part, frames-parts, taken-part, no-mark}
 
 -- Digits.
 
@@ -74,6 +77,29 @@ frame-back f all = by_mark f.no_learn
 pub digit-free : (m : ℕ) → (IsDigit m → ⊥) → (n : ℕ) → IsFree (λ b. b == m) (decimal n)
 digit-free m none n = each-weaker IsDigit (λ b. (b == m) ≡ false) (λ b h. unequal b m (λ e. none (rw (sym e) h))) (decimal n) (decimal-digits n)
 
+span-back : (s : Span) → EndsAre Is32 s → span_of (span_text s) ≡ s
+unfolding span_of
+span-back s fits = by_test (s.first == s.last) refl
+  where
+    free : IsFree (λ b. b == 45) (decimal s.first)
+    free = digit-free 45 dash-not_digit s.first
+
+    by_test : (b : Bool) → (s.first == s.last) ≡ b → span_of (cond b (decimal s.first) (decimal s.first ++ codes "-" ++ decimal s.last)) ≡ s
+    by_test true is =
+        ap (λ (k : Option ℕ). span_by k (decimal s.first)) (mark-missed 45 (decimal s.first) free)
+        ∙ (ap single_span (short-back s.first fits.0)
+        ∙ ap (λ (n : ℕ). record s { last = n }) (eqb-true s.first s.last is))
+    by_test false is =
+        let first : List ℕ = decimal s.first in
+        let last : List ℕ = decimal s.last in
+        let found : mark_in 45 (first ++ 45 ∷ last) ≡ Some (length first) = mark-found 45 first last refl free in
+        let front : short_of (take (length first) (first ++ 45 ∷ last)) ≡ s.first = ap short_of (take-front first (45 ∷ last)) ∙ short-back s.first fits.0 in
+        let back : short_of (drop (length first + 1) (first ++ 45 ∷ last)) ≡ s.last = ap short_of (drop-front 45 first last) ∙ short-back s.last fits.1 in
+        ap span_of (dashed s.first s.last)
+        ∙ ap (λ (k : Option ℕ). span_by k (first ++ 45 ∷ last)) found
+        ∙ ap (λ (n : ℕ). record { first = n; last = short_of (drop (length first + 1) (first ++ 45 ∷ last)) }) front
+        ∙ ap (λ (n : ℕ). record s { last = n }) back
+
 pub dest-back : (d : Dest) → DestFits field_widths d → dest_of (dest_text d) ≡ d
 unfolding dest_of
 dest-back d fits =
@@ -113,13 +139,15 @@ map-back f g P back (x ∷ xs) all =
     let tail = map-back f g P back xs all.1 in
     cc
 
-pub numbers-back : (xs : List ℕ) → Each Is32 xs → numbers_of (numbers_text xs) ≡ xs
-numbers-back xs all =
-    ap (map short_of) (list-back (map decimal xs) (each-map Is32 IsItem decimal (λ n h. decimal-item n) xs all)) ∙ map-back decimal short_of Is32 short-back xs all
+pub buffers-back : (version : ℕ) (xs : List ℕ) → Each Is32 xs → numbers_of (buffers_text version xs) ≡ xs
+buffers-back version xs all =
+    ap (λ (t : List (List ℕ)). flat_map numbers_in (map span_of t)) (list-back (map span_text (spans_in version xs)) (spans-parts (spans_in version xs)))
+    ∙ (ap (flat_map numbers_in) (map-back span_text span_of (EndsAre Is32) span-back (spans_in version xs) (ends-are Is32 version xs all))
+    ∙ spans-tell version xs)
 
 pub dests-back : (xs : List Dest) → Each (DestFits field_widths) xs → dests_of (dests_text xs) ≡ xs
 dests-back xs all =
-    ap (map dest_of) (list-back (map dest_text xs) (each-map (DestFits field_widths) IsItem dest_text (λ d h. dest-item d) xs all)) ∙ map-back dest_text dest_of (DestFits field_widths) dest-back xs all
+    ap (map dest_of) (list-back (map dest_text xs) (each-map (DestFits field_widths) IsPart dest_text (λ d h. dest-part d) xs all)) ∙ map-back dest_text dest_of (DestFits field_widths) dest-back xs all
 
 abbrev IsReadItem : Item → Type 0
 IsReadItem item = FitsItem item × (is_unmarked item ≡ true)
@@ -127,7 +155,7 @@ IsReadItem item = FitsItem item × (is_unmarked item ≡ true)
 pub items-back : (xs : List Item) → Each FitsItem xs → Each (λ item. is_unmarked item ≡ true) xs → items_of (items_text xs) ≡ xs
 items-back xs fits plain =
     let all : Each IsReadItem xs = both xs fits plain in
-    ap (map item_of) (list-back (map item_text xs) (each-map IsReadItem IsItem item_text (λ i h. item-item i) xs all))
+    ap (map item_of) (list-back (map item_text xs) (each-map IsReadItem IsPart item_text (λ i h. taken-part i) xs all))
     ∙ map-back item_text item_of IsReadItem (λ i h. item-back i h.0 h.1) xs all
   where
     both : (xs : List Item) → Each FitsItem xs → Each (λ item. is_unmarked item ≡ true) xs → Each IsReadItem xs
@@ -135,4 +163,4 @@ items-back xs fits plain =
     both (x ∷ xs) fits plain = ((fits.0, plain.0), both xs fits.1 plain.1)
 
 pub frames-back : (fs : List Frame) → Each AreBytes fs → frames_of (frames_text fs) ≡ fs
-frames-back fs all = ap (map frame_of) (list-back (map frame_text fs) (frames-items fs)) ∙ map-back frame_text frame_of AreBytes frame-back fs all
+frames-back fs all = ap (map frame_of) (list-back (map frame_text fs) (frames-parts fs)) ∙ map-back frame_text frame_of AreBytes frame-back fs all

@@ -55,7 +55,24 @@ spell-same w v (x ∷ xs) (y ∷ ys) a b pw pv pws pvs e =
     let tail : xs ≡ ys = rest.1.0 in
     (c.0, (cc, rest.1.1))
 
--- Items.
+-- Parts of a list: none has a comma, and none is the dash that stands for no parts.
+
+abbrev pub IsPartByte : ℕ → Type 0
+IsPartByte b = (b ≡ 42) ⊎ (44 < b)
+
+pub record IsPart (part : List ℕ) : Type 0 where
+  pub bytes : Each IsPartByte part
+  pub some : part ≡ 45 ∷ [] → ⊥
+
+pub no-comma : IsPartByte 44 → ⊥
+no-comma (inl h) = absurd (omega arith)
+no-comma (inr h) = absurd (omega arith)
+
+part-word : (b : ℕ) → IsPartByte b → IsWordByte b
+part-word b (inl h) = omega arith
+part-word b (inr h) = omega arith
+
+-- An item has no dash at all.
 
 abbrev pub IsItemByte : ℕ → Type 0
 IsItemByte b = (b ≡ 42) ⊎ (45 < b)
@@ -63,19 +80,25 @@ IsItemByte b = (b ≡ 42) ⊎ (45 < b)
 abbrev pub IsItem : List ℕ → Type 0
 IsItem item = Each IsItemByte item
 
-pub no-comma : IsItemByte 44 → ⊥
-no-comma (inl h) = absurd (omega arith)
-no-comma (inr h) = absurd (omega arith)
-
 no-dash : IsItemByte 45 → ⊥
 no-dash (inl h) = absurd (omega arith)
 no-dash (inr h) = absurd (omega arith)
 
-item-word : (b : ℕ) → IsItemByte b → IsWordByte b
-item-word b (inl h) = omega arith
-item-word b (inr h) = omega arith
+item-part_byte : (b : ℕ) → IsItemByte b → IsPartByte b
+item-part_byte b (inl h) = inl h
+item-part_byte b (inr h) = inr (omega (arith, h))
 
--- each item with a comma behind it
+pub item-part : (item : List ℕ) → IsItem item → IsPart item
+item-part item all = record {
+  bytes = each-weaker IsItemByte IsPartByte item-part_byte item all;
+  some = dashless item all;
+}
+  where
+    dashless : (item : List ℕ) → IsItem item → item ≡ 45 ∷ [] → ⊥
+    dashless [] all e = cc
+    dashless (b ∷ bs) all e = let same : b ≡ 45 = cc in no-dash (subst IsItemByte same all.0)
+
+-- each part with a comma behind it
 abbrev ended : List (List ℕ) → List ℕ
 ended [] = []
 ended (x ∷ xs) = x ++ 44 ∷ ended xs
@@ -88,39 +111,36 @@ nothing-ended : (y a : List ℕ) → [] ≡ y ++ 44 ∷ a → ⊥
 nothing-ended [] a e = cc
 nothing-ended (x ∷ y) a e = cc
 
-ended-same : (xs ys : List (List ℕ)) → Each IsItem xs → Each IsItem ys → ended xs ≡ ended ys → xs ≡ ys
+ended-same : (xs ys : List (List ℕ)) → Each IsPart xs → Each IsPart ys → ended xs ≡ ended ys → xs ≡ ys
 ended-same [] [] px py e = refl
 ended-same [] (y ∷ ys) px py e = absurd (nothing-ended y (ended ys) e)
 ended-same (x ∷ xs) [] px py e = absurd (nothing-ended x (ended xs) (sym e))
 ended-same (x ∷ xs) (y ∷ ys) px py e =
-    let c = cut IsItemByte x y 44 44 (ended xs) (ended ys) no-comma no-comma px.0 py.0 e in
+    let c = cut IsPartByte x y 44 44 (ended xs) (ended ys) no-comma no-comma px.0.bytes py.0.bytes e in
     let head : x ≡ y = c.0 in
     let tail : xs ≡ ys = ended-same xs ys px.1 py.1 c.1.1 in
     cc
 
--- texts whose first bytes are two numerals are told apart by those
-abbrev pub first_byte : List ℕ → ℕ
-first_byte [] = 0
-first_byte (b ∷ bs) = b
+dash-ended : (y : List ℕ) (ys : List (List ℕ)) → IsPart y → 45 ∷ 44 ∷ [] ≡ y ++ 44 ∷ ended ys → ⊥
+dash-ended y ys py e =
+    let dash : IsPartByte 45 = inr (omega arith) in
+    let c = cut IsPartByte (45 ∷ []) y 44 44 [] (ended ys) no-comma no-comma (dash, tt) py.bytes e in
+    py.some (sym c.0)
 
-dash-ended : (y a : List ℕ) → IsItem y → 45 ∷ 44 ∷ [] ≡ y ++ 44 ∷ a → ⊥
-dash-ended [] a py e = let same : 45 ≡ 44 = ap first_byte e in absurd (omega (arith, same))
-dash-ended (x ∷ y) a py e = let same : x ≡ 45 = cc in no-dash (subst IsItemByte same py.0)
-
-pub list-same : (xs ys : List (List ℕ)) → Each IsItem xs → Each IsItem ys → list_text xs ≡ list_text ys → xs ≡ ys
+pub list-same : (xs ys : List (List ℕ)) → Each IsPart xs → Each IsPart ys → list_text xs ≡ list_text ys → xs ≡ ys
 list-same [] [] px py e = refl
-list-same [] (y ∷ ys) px py e = absurd (dash-ended y (ended ys) py.0 (ap (λ (t : List ℕ). t ++ 44 ∷ []) e ∙ join-ended y ys))
-list-same (x ∷ xs) [] px py e = absurd (dash-ended x (ended xs) px.0 (ap (λ (t : List ℕ). t ++ 44 ∷ []) (sym e) ∙ join-ended x xs))
+list-same [] (y ∷ ys) px py e = absurd (dash-ended y ys py.0 (ap (λ (t : List ℕ). t ++ 44 ∷ []) e ∙ join-ended y ys))
+list-same (x ∷ xs) [] px py e = absurd (dash-ended x xs px.0 (ap (λ (t : List ℕ). t ++ 44 ∷ []) (sym e) ∙ join-ended x xs))
 list-same (x ∷ xs) (y ∷ ys) px py e =
     ended-same (x ∷ xs) (y ∷ ys) px py (sym (join-ended x xs) ∙ (ap (λ (t : List ℕ). t ++ 44 ∷ []) e ∙ join-ended y ys))
 
-join-word : (x : List ℕ) (xs : List (List ℕ)) → Each IsItem (x ∷ xs) → IsWord (join_with_byte 44 (x ∷ xs))
-join-word x [] all = each-weaker IsItemByte IsWordByte item-word x all.0
+join-word : (x : List ℕ) (xs : List (List ℕ)) → Each IsPart (x ∷ xs) → IsWord (join_with_byte 44 (x ∷ xs))
+join-word x [] all = each-weaker IsPartByte IsWordByte part-word x all.0.bytes
 join-word x (y ∷ ys) all =
     let comma : 32 < 44 = omega arith in
-    each-append IsWordByte x (44 ∷ join_with_byte 44 (y ∷ ys)) (each-weaker IsItemByte IsWordByte item-word x all.0) (comma, join-word y ys all.1)
+    each-append IsWordByte x (44 ∷ join_with_byte 44 (y ∷ ys)) (each-weaker IsPartByte IsWordByte part-word x all.0.bytes) (comma, join-word y ys all.1)
 
-pub list-word : (xs : List (List ℕ)) → Each IsItem xs → IsWord (list_text xs)
+pub list-word : (xs : List (List ℕ)) → Each IsPart xs → IsWord (list_text xs)
 list-word [] all = let dash : 32 < 45 = omega arith in (dash, tt)
 list-word (x ∷ xs) all = join-word x xs all
 

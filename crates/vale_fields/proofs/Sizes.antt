@@ -1,12 +1,17 @@
 -- What is read fits its fields.
-use Rattle.std.specs.List.{AllByRecursion as Each}
-use Rattle.std.proofs.Common.{ℕ, ◌-◌, ◌<◌, ◌&&◌, nat_le, Bool, true, false, cond, if◌then◌else◌, List, [], ◌∷◌, map, drop, codes, bytes_eq, Option, Some, None, IfSome, option_map, refl, arith, ◌≡◌}
+use Rattle.std.specs.List.{AllByRecursion as Each, range_with_len}
+use Rattle.std.proofs.Common.{ℕ, zero, suc, ◌+◌, ◌-◌, ◌<◌, ◌≤◌, ◌&&◌, nat_le, Bool, true, false, cond, if◌then◌else◌, List, [], ◌∷◌, map, flat_map, take, drop, codes, bytes_eq, Option, Some, None, IfSome, option_map, refl, sym, subst, arith, ◌≡◌}
 use Rattle.std.proofs.lemmas.Bool.{and_parts, leb-true}
+use Rattle.std.proofs.lemmas.Bool.Decides.{nat_tests}
 use Rattle.nm_types.specs.declared.fault.OpenFault.TheVariants.{BadSize, SwitchesFull, PortsFull, NameTaken, NoBuffers}
 use Rattle.nm_types.specs.declared.fault.SyncFault.TheVariants.{HeadOut, CurOut, Indirect, IndexOut, NotHeld, Doubled, Unannounced, LongLen, Fragment}
 use Rattle.vale_entry.specs.declared.entry.Reply.TheVariants as replies
 use Rattle.vale_entry.specs.declared.entry.Entry.{Entry}
-use Rattle.vale_fields.specs.Fields.{hex_value, bytes_of, is_marked, frame_of, dest_of, item_of, short_of, name_of, half_of, front_by, back_by, mark_in}
+use Rattle.vale_entry.specs.declared.entry.Span.{Span}
+use Rattle.vale_entry.specs.Spans.{numbers_in}
+use Rattle.vale_entry.proofs.Spans.{EndsAre}
+use Rattle.vale_entry.proofs.Each.{each-append}
+use Rattle.vale_fields.specs.Fields.{hex_value, bytes_of, is_marked, frame_of, span_by, span_of, dest_of, item_of, short_of, name_of, half_of, front_by, back_by, mark_in}
 use Rattle.vale_words.specs.Fixed.{word_at}
 use Rattle.vale_fields.specs.Lists.{parts_of, numbers_of, dests_of, items_of, frames_of}
 use Rattle.vale_fields.specs.Rows.{entry_of, row_of, open_with, open_answer, watch_with, watch_answer, put_answer, fault_by, enter_row, open_row, send_row, grant_row, done_row, sync_row, get_row, reset_row, shut_row, finish_row, leave_row, put_row, watch_row, stat_row}
@@ -40,6 +45,14 @@ frame-fits w = by_mark (is_marked w)
     by_mark true = bytes-fit (drop 1 w)
     by_mark false = bytes-fit w
 
+span-fits : (w : List ℕ) → EndsAre Is32 (span_of w)
+unfolding span_of
+span-fits w = by_mark (mark_in 45 w)
+  where
+    by_mark : (k : Option ℕ) → EndsAre Is32 (span_by k w)
+    by_mark None = (short-fits w, short-fits w)
+    by_mark (Some k) = (short-fits (take k w), short-fits (drop (k + 1) w))
+
 dest-fits : (w : List ℕ) → DestFits field_widths (dest_of w)
 unfolding dest_of
 dest-fits w = (short-fits (front_by (mark_in 42 w) w), short-fits (back_by (mark_in 42 w) w))
@@ -52,8 +65,26 @@ map-fits : {X : Type 0} (f : List ℕ → X) (P : X → Type 0) → ((w : List �
 map-fits f P fits [] = tt
 map-fits f P fits (w ∷ ws) = (fits w, map-fits f P fits ws)
 
+-- the numbers of a span are at most its last
+range-fits : (first count last : ℕ) → first + count ≤ last + 1 → Is32 last → Each Is32 (range_with_len first count)
+range-fits first zero last within fits = tt
+range-fits first (suc count) last within fits = (omega (arith, within, fits), range-fits (first + 1) count last (omega (arith, within)) fits)
+
+numbers-in-fit : (s : Span) → EndsAre Is32 s → Each Is32 (numbers_in s)
+numbers-in-fit s fits = by_order (nat_le s.first (s.last + 1)) refl
+  where
+    by_order : (b : Bool) → nat_le s.first (s.last + 1) ≡ b → Each Is32 (numbers_in s)
+    by_order true is = range-fits s.first (s.last + 1 - s.first) s.last (let low = leb-true s.first (s.last + 1) is in omega (arith, low)) fits.1
+    by_order false is =
+        let none : s.last + 1 - s.first ≡ 0 = grind (arith, nat_tests, is) in
+        subst (λ (k : ℕ). Each Is32 (range_with_len s.first k)) (sym none) tt
+
+spans-fit : (spans : List Span) → Each (EndsAre Is32) spans → Each Is32 (flat_map numbers_in spans)
+spans-fit [] all = tt
+spans-fit (s ∷ spans) all = each-append Is32 (numbers_in s) (flat_map numbers_in spans) (numbers-in-fit s all.0) (spans-fit spans all.1)
+
 numbers-fit : (w : List ℕ) → Each Is32 (numbers_of w)
-numbers-fit w = map-fits short_of Is32 short-fits (parts_of w)
+numbers-fit w = spans-fit (map span_of (parts_of w)) (map-fits span_of (EndsAre Is32) span-fits (parts_of w))
 
 dests-fit : (w : List ℕ) → Each (DestFits field_widths) (dests_of w)
 dests-fit w = map-fits dest_of (DestFits field_widths) dest-fits (parts_of w)

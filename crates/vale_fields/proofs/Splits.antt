@@ -9,7 +9,7 @@ use Rattle.vale_entry.specs.Transcript.{list_text}
 use Rattle.vale_entry.proofs.Each.{each-weaker}
 use Rattle.vale_fields.specs.Fields.{mark_in}
 use Rattle.vale_fields.specs.Lists.{is_comma, parts_of}
-use Rattle.vale_fields.proofs.Cuts.{IsItemByte, IsItem, no-comma, list-same}
+use Rattle.vale_fields.proofs.Cuts.{IsPartByte, IsPart, no-comma, list-same}
 
 pub unequal : (b m : ℕ) → (b ≡ m → ⊥) → (b == m) ≡ false
 unequal b m apart = false_from_ne_true (b == m) (λ e. apart (eqb-true b m e))
@@ -30,21 +30,21 @@ split-join : (p : ℕ → Bool) (s : ℕ) (x : List ℕ) (xs : List (List ℕ)) 
 split-join p s x [] is all = split-last p x all.0
 split-join p s x (y ∷ ys) is all = split-front p s x (join_with_byte s (y ∷ ys)) is all.0 ∙ ap (λ (t : List (List ℕ)). x ∷ t) (split-join p s y ys is all.1)
 
-comma-free : (b : ℕ) → IsItemByte b → is_comma b ≡ false
+comma-free : (b : ℕ) → IsPartByte b → is_comma b ≡ false
 comma-free b h = unequal b 44 (λ e. no-comma (rw (sym e) h))
 
-item-free : (w : List ℕ) → IsItem w → IsFree is_comma w
-item-free w h = each-weaker IsItemByte (λ b. is_comma b ≡ false) comma-free w h
+part-free : (w : List ℕ) → IsPart w → IsFree is_comma w
+part-free w h = each-weaker IsPartByte (λ b. is_comma b ≡ false) comma-free w h.bytes
 
--- the items of a list are read from its text
-pub list-back : (items : List (List ℕ)) → Each IsItem items → parts_of (list_text items) ≡ items
+-- the parts of a list are read from its text
+pub list-back : (items : List (List ℕ)) → Each IsPart items → parts_of (list_text items) ≡ items
 unfolding parts_of
 list-back [] all = refl
 list-back (x ∷ xs) all =
     let dash : bytes_eq (list_text (x ∷ xs)) (codes "-") ≡ false =
     false_from_ne_true (bytes_eq (list_text (x ∷ xs)) (codes "-")) (λ e. nothing (list-same (x ∷ xs) [] all tt ((bytes_eq-Decides (list_text (x ∷ xs)) (codes "-")).0 e))) in
     ap (λ (b : Bool). if b then [] else slice_split is_comma (list_text (x ∷ xs))) dash
-    ∙ split-join is_comma 44 x xs refl (each-weaker IsItem (IsFree is_comma) item-free (x ∷ xs) all)
+    ∙ split-join is_comma 44 x xs refl (each-weaker IsPart (IsFree is_comma) part-free (x ∷ xs) all)
   where
     nothing : x ∷ xs ≡ [] → ⊥
     nothing e = cc
@@ -69,6 +69,19 @@ pub mark-found : (m : ℕ) (xs ys : List ℕ) → (m == m) ≡ true → IsFree (
 mark-found m xs ys is none =
     ap (λ (k : ℕ). cond (nat_lt k (length (xs ++ m ∷ ys))) (Some k) None) (marked-at m xs ys is none)
     ∙ ap (λ (b : Bool). cond b (Some (length xs)) None) (longer m xs ys)
+
+unmarked-len : (m : ℕ) (xs : List ℕ) → IsFree (λ b. b == m) xs → position_or_len (λ b. b == m) xs ≡ length xs
+unmarked-len m [] none = refl
+unmarked-len m (x ∷ xs) none =
+    let rest = unmarked-len m xs none.1 in
+    let next : 1 + position_or_len (λ b. b == m) xs ≡ suc (length xs) = omega (arith, rest) in
+    ap (λ (b : Bool). cond (not b) (1 + position_or_len (λ b. b == m) xs) 0) none.0 ∙ next
+
+pub mark-missed : (m : ℕ) (xs : List ℕ) → IsFree (λ b. b == m) xs → mark_in m xs ≡ None
+mark-missed m xs none =
+    let test : nat_lt (length xs) (length xs) ≡ false = grind (arith, nat_tests) in
+    ap (λ (k : ℕ). cond (nat_lt k (length xs)) (Some k) None) (unmarked-len m xs none)
+    ∙ ap (λ (b : Bool). cond b (Some (length xs)) None) test
 
 pub take-front : (xs ys : List ℕ) → take (length xs) (xs ++ ys) ≡ xs
 take-front [] ys = refl

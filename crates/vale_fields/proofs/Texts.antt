@@ -1,34 +1,38 @@
 -- What numbers, frames and destinations are as text: of which bytes, and that each text is one value's.
 use Rattle.std.specs.List.{AllByRecursion as Each, list_all}
 use Rattle.std.specs.Fmt.{digits, digits_onto, digit_glyph}
-use Rattle.std.proofs.Common.{ℕ, zero, suc, ◌+◌, ◌*◌, ◌/◌, ◌%◌, ◌<◌, ◌≡◌, inl, inr, ◌==◌, nat_lt, Bool, true, false, cond, List, [], ◌∷◌, ◌++◌, length, map, flat_map, decimal, refl, sym, ◌∙◌, ap, arith, append_assoc, not}
-use Rattle.std.proofs.lemmas.Bool.{ltb-true, and_parts}
+use Rattle.std.proofs.Common.{ℕ, zero, suc, ◌+◌, ◌*◌, ◌/◌, ◌%◌, ◌<◌, ◌≡◌, inl, inr, ◌==◌, nat_lt, Bool, true, false, cond, List, [], ◌∷◌, ◌++◌, length, map, flat_map, codes, decimal, refl, sym, ◌∙◌, ap, subst, arith, append_assoc, not}
+use Rattle.std.proofs.lemmas.Bool.{ltb-true, eqb-true, and_parts}
+use Rattle.std.proofs.lemmas.List.{append-nil}
 use Rattle.std.proofs.lemmas.Fmt.{decimal_injective}
 use Rattle.nm_types.specs.Frames.{Frame}
 use Rattle.vale_entry.specs.declared.entry.Dest.{Dest}
 use Rattle.vale_entry.specs.declared.entry.Item.{Item}
+use Rattle.vale_entry.specs.declared.entry.Span.{Span}
+use Rattle.vale_entry.specs.Spans.{spans_in, numbers_in}
 use Rattle.vale_entry.specs.Transcript.{is_unmarked, item_text, items_text}
-use Rattle.vale_entry.specs.Transcript.{hex_digit, hex_byte, hex_text, list_text, frame_text, frames_text, numbers_text, dest_text, dests_text}
+use Rattle.vale_entry.specs.Transcript.{hex_digit, hex_byte, hex_text, list_text, frame_text, frames_text, span_text, buffers_text, dest_text, dests_text}
 use Rattle.vale_entry.specs.Fits.{FitsU64, FitsItem, u64_widths, DestFits}
+use Rattle.vale_entry.proofs.Spans.{EndsAre, ends-are, spans-tell}
 use Rattle.vale_entry.proofs.Each.{each-weaker, each-append, each-map}
-use Rattle.vale_fields.proofs.Cuts.{cut, IsWordByte, IsWord, IsItemByte, IsItem, list-same, list-word, map-apart}
+use Rattle.vale_fields.proofs.Cuts.{cut, IsWordByte, IsWord, IsPartByte, IsPart, IsItemByte, IsItem, item-part, list-same, list-word, map-apart}
 
 -- Lists of texts.
 
 -- lists are told apart where their elements are
 lists-same : {X : Type 0} (text : X → List ℕ) (Fits : X → Type 0)
-    → ((x : X) → Fits x → IsItem (text x))
+    → ((x : X) → Fits x → IsPart (text x))
     → ((x y : X) → Fits x → Fits y → text x ≡ text y → x ≡ y)
     → (xs ys : List X) → Each Fits xs → Each Fits ys
     → list_text (map text xs) ≡ list_text (map text ys) → xs ≡ ys
-lists-same text Fits item same xs ys px py e =
+lists-same text Fits part same xs ys px py e =
     map-apart text Fits same xs ys px py (list-same (map text xs) (map text ys)
-    (each-map Fits IsItem text item xs px) (each-map Fits IsItem text item ys py) e)
+    (each-map Fits IsPart text part xs px) (each-map Fits IsPart text part ys py) e)
 
 lists-word : {X : Type 0} (text : X → List ℕ) (Fits : X → Type 0)
-    → ((x : X) → Fits x → IsItem (text x)) → (xs : List X) → Each Fits xs
+    → ((x : X) → Fits x → IsPart (text x)) → (xs : List X) → Each Fits xs
     → IsWord (list_text (map text xs))
-lists-word text Fits item xs px = list-word (map text xs) (each-map Fits IsItem text item xs px)
+lists-word text Fits part xs px = list-word (map text xs) (each-map Fits IsPart text part xs px)
 
 -- Decimal numbers.
 
@@ -81,18 +85,101 @@ not-number (d ∷ ds) x b all big e = let same : d ≡ x = cc in let here = all.
 pub decimal-same : (m n : ℕ) → FitsU64 m → FitsU64 n → decimal m ≡ decimal n → m ≡ n
 decimal-same m n = decimal_injective m n
 
-pub numbers-same : (xs ys : List ℕ) → Each FitsU64 xs → Each FitsU64 ys → numbers_text xs ≡ numbers_text ys → xs ≡ ys
-numbers-same = lists-same decimal FitsU64 (λ n h. decimal-item n) decimal-same
+-- Spans of buffers.
 
-pub numbers-word : (xs : List ℕ) → Each FitsU64 xs → IsWord (numbers_text xs)
-numbers-word = lists-word decimal FitsU64 (λ n h. decimal-item n)
+onto-some : (k n : ℕ) (acc : List ℕ) → 0 < length acc → 0 < length (digits_onto k 10 false n acc)
+onto-some zero n acc some = some
+onto-some (suc k) n acc some =
+    either (n / 10 == 0) (onto-some k (n / 10) (digit_glyph false (n % 10) ∷ acc) (omega arith))
+  where
+    either : (b : Bool) → 0 < length (digits_onto k 10 false (n / 10) (digit_glyph false (n % 10) ∷ acc))
+        → 0 < length (cond b (digit_glyph false (n % 10) ∷ acc) (digits_onto k 10 false (n / 10) (digit_glyph false (n % 10) ∷ acc)))
+    either true more = omega arith
+    either false more = more
+
+decimal-some : (n : ℕ) → 0 < length (decimal n)
+unfolding digits
+decimal-some n = either (n / 10 == 0)
+  where
+    either : (b : Bool) → 0 < length (cond b (digit_glyph false (n % 10) ∷ []) (digits_onto 63 10 false (n / 10) (digit_glyph false (n % 10) ∷ [])))
+    either true = omega arith
+    either false = onto-some 63 (n / 10) (digit_glyph false (n % 10) ∷ []) (omega arith)
+
+pub dash-not_digit : IsDigit 45 → ⊥
+dash-not_digit h = absurd (omega (arith, h.0))
+
+digit-part : (b : ℕ) → IsDigit b → IsPartByte b
+digit-part b h = inr (omega (arith, h.0))
+
+digits-part : (n : ℕ) → Each IsPartByte (decimal n)
+digits-part n = each-weaker IsDigit IsPartByte digit-part (decimal n) (decimal-digits n)
+
+-- two numbers with a dash between them
+pub dashed : (m n : ℕ) → decimal m ++ codes "-" ++ decimal n ≡ decimal m ++ 45 ∷ decimal n
+dashed m n = append_assoc (decimal m) (45 ∷ []) (decimal n)
+
+span-part : (s : Span) → IsPart (span_text s)
+span-part s = by_test (s.first == s.last)
+  where
+    lone : (ds : List ℕ) → 0 < length ds → Each IsDigit ds → (rest : List ℕ) → ds ++ rest ≡ 45 ∷ [] → ⊥
+    lone [] some all rest e = absurd (omega (arith, some))
+    lone (d ∷ ds) some all rest e = let same : d ≡ 45 = cc in dash-not_digit (subst IsDigit same all.0)
+
+    by_test : (b : Bool) → IsPart (cond b (decimal s.first) (decimal s.first ++ codes "-" ++ decimal s.last))
+    by_test true = record {
+      bytes = digits-part s.first;
+      some = λ e. lone (decimal s.first) (decimal-some s.first) (decimal-digits s.first) [] (append-nil (decimal s.first) ∙ e);
+    }
+    by_test false = record {
+      bytes = each-append IsPartByte (decimal s.first ++ 45 ∷ []) (decimal s.last) (each-append IsPartByte (decimal s.first) (45 ∷ []) (digits-part s.first) (inr (omega arith), tt)) (digits-part s.last);
+      some = λ e. lone (decimal s.first) (decimal-some s.first) (decimal-digits s.first) (45 ∷ decimal s.last) (sym (dashed s.first s.last) ∙ e);
+    }
+
+-- a number is not two
+number-apart : (a b c : ℕ) → decimal a ≡ decimal b ++ codes "-" ++ decimal c → ⊥
+number-apart a b c e =
+    let parts = cut IsDigit (decimal a) (decimal b) 44 45 [] (decimal c ++ 44 ∷ []) (λ h. absurd (omega (arith, h.0))) dash-not_digit (decimal-digits a) (decimal-digits b)
+    (ap (λ (t : List ℕ). t ++ 44 ∷ []) (e ∙ dashed b c) ∙ append_assoc (decimal b) (45 ∷ decimal c) (44 ∷ [])) in
+    absurd (omega (arith, parts.1.0))
+
+span-by : (s t : Span) (p q : Bool) → (s.first == s.last) ≡ p → (t.first == t.last) ≡ q → EndsAre FitsU64 s → EndsAre FitsU64 t
+    → cond p (decimal s.first) (decimal s.first ++ codes "-" ++ decimal s.last) ≡ cond q (decimal t.first) (decimal t.first ++ codes "-" ++ decimal t.last)
+    → (s.first ≡ t.first) × (s.last ≡ t.last)
+span-by s t true true is also ps pt e =
+    let first = decimal-same s.first t.first ps.0 pt.0 e in
+    (first, sym (eqb-true s.first s.last is) ∙ (first ∙ eqb-true t.first t.last also))
+span-by s t true false is also ps pt e = absurd (number-apart s.first t.first t.last e)
+span-by s t false true is also ps pt e = absurd (number-apart t.first s.first s.last (sym e))
+span-by s t false false is also ps pt e =
+    let c = cut IsDigit (decimal s.first) (decimal t.first) 45 45 (decimal s.last) (decimal t.last) dash-not_digit dash-not_digit (decimal-digits s.first) (decimal-digits t.first)
+    (sym (dashed s.first s.last) ∙ (e ∙ dashed t.first t.last)) in
+    (decimal-same s.first t.first ps.0 pt.0 c.0, decimal-same s.last t.last ps.1 pt.1 c.1.1)
+
+span-same : (s t : Span) → EndsAre FitsU64 s → EndsAre FitsU64 t → span_text s ≡ span_text t → s ≡ t
+span-same s t ps pt e =
+    let ends = span-by s t (s.first == s.last) (t.first == t.last) refl refl ps pt e in
+    ap (λ (n : ℕ). record s { first = n }) ends.0 ∙ ap (λ (n : ℕ). record t { last = n }) ends.1
+
+pub spans-parts : (spans : List Span) → Each IsPart (map span_text spans)
+spans-parts [] = tt
+spans-parts (s ∷ spans) = (span-part s, spans-parts spans)
+
+pub buffers-same : (version : ℕ) (xs ys : List ℕ) → Each FitsU64 xs → Each FitsU64 ys → buffers_text version xs ≡ buffers_text version ys → xs ≡ ys
+buffers-same version xs ys px py e =
+    let spans : spans_in version xs ≡ spans_in version ys =
+    lists-same span_text (EndsAre FitsU64) (λ s h. span-part s) span-same (spans_in version xs) (spans_in version ys)
+    (ends-are FitsU64 version xs px) (ends-are FitsU64 version ys py) e in
+    sym (spans-tell version xs) ∙ (ap (flat_map numbers_in) spans ∙ spans-tell version ys)
+
+pub buffers-word : (version : ℕ) (xs : List ℕ) → IsWord (buffers_text version xs)
+buffers-word version xs = list-word (map span_text (spans_in version xs)) (spans-parts (spans_in version xs))
 
 -- Destinations.
 
 star-not_digit : IsDigit 42 → ⊥
 star-not_digit h = absurd (omega (arith, h.0))
 
-pub dest-item : (d : Dest) → IsItem (dest_text d)
+dest-item : (d : Dest) → IsItem (dest_text d)
 dest-item d = each-append IsItemByte (decimal d.to.0 ++ 42 ∷ []) (decimal d.count) (each-append IsItemByte (decimal d.to.0) (42 ∷ []) (decimal-item d.to.0) (inl refl, tt)) (decimal-item d.count)
 
 dest-same : (d e : Dest) → DestFits u64_widths d → DestFits u64_widths e → dest_text d ≡ dest_text e → d ≡ e
@@ -103,11 +190,14 @@ dest-same d e pd pe same =
     let count = decimal-same d.count e.count pd.1 pe.1 c.1.1 in
     ap (λ (n : ℕ). record d { to = record { 0 = n } }) to ∙ ap (λ (n : ℕ). record e { count = n }) count
 
+pub dest-part : (d : Dest) → IsPart (dest_text d)
+dest-part d = item-part (dest_text d) (dest-item d)
+
 pub dests-same : (xs ys : List Dest) → Each (DestFits u64_widths) xs → Each (DestFits u64_widths) ys → dests_text xs ≡ dests_text ys → xs ≡ ys
-dests-same = lists-same dest_text (DestFits u64_widths) (λ d h. dest-item d) dest-same
+dests-same = lists-same dest_text (DestFits u64_widths) (λ d h. dest-part d) dest-same
 
 pub dests-word : (xs : List Dest) → Each (DestFits u64_widths) xs → IsWord (dests_text xs)
-dests-word = lists-word dest_text (DestFits u64_widths) (λ d h. dest-item d)
+dests-word = lists-word dest_text (DestFits u64_widths) (λ d h. dest-part d)
 
 -- Frames.
 
@@ -196,9 +286,12 @@ frame-item f = by_mark f.no_learn
     by_mark true = (inr (omega arith), hex-item f.bytes)
     by_mark false = hex-item f.bytes
 
-pub frames-items : (fs : List Frame) → Each IsItem (map frame_text fs)
-frames-items [] = tt
-frames-items (f ∷ fs) = (frame-item f, frames-items fs)
+frame-part : (f : Frame) → IsPart (frame_text f)
+frame-part f = item-part (frame_text f) (frame-item f)
+
+pub frames-parts : (fs : List Frame) → Each IsPart (map frame_text fs)
+frames-parts [] = tt
+frames-parts (f ∷ fs) = (frame-part f, frames-parts fs)
 
 any-each : {X : Type 0} (xs : List X) → Each (λ (x : X). Unit {0}) xs
 any-each [] = tt
@@ -206,11 +299,11 @@ any-each (x ∷ xs) = (tt, any-each xs)
 
 pub frames-same : (fs gs : List Frame) → frames_text fs ≡ frames_text gs → fs ≡ gs
 frames-same fs gs e =
-    lists-same frame_text (λ f. Unit {0}) (λ f h. frame-item f) (λ f g pf pg. frame-same f g) fs gs
+    lists-same frame_text (λ f. Unit {0}) (λ f h. frame-part f) (λ f g pf pg. frame-same f g) fs gs
     (any-each fs) (any-each gs) e
 
 pub frames-word : (fs : List Frame) → IsWord (frames_text fs)
-frames-word fs = lists-word frame_text (λ f. Unit {0}) (λ f h. frame-item f) fs (any-each fs)
+frames-word fs = lists-word frame_text (λ f. Unit {0}) (λ f h. frame-part f) fs (any-each fs)
 
 -- Frames that a pipe took, with their buffers; none is marked.
 
@@ -220,8 +313,11 @@ IsPlainItem item = FitsItem item × (is_unmarked item ≡ true)
 colon-not_digit : IsDigit 58 → ⊥
 colon-not_digit h = absurd (omega (arith, h.1))
 
-pub item-item : (i : Item) → IsItem (item_text i)
+item-item : (i : Item) → IsItem (item_text i)
 item-item i = each-append IsItemByte (decimal i.index ++ 58 ∷ []) (hex_text i.bytes.bytes) (each-append IsItemByte (decimal i.index) (58 ∷ []) (decimal-item i.index) (inr (omega arith), tt)) (hex-item i.bytes.bytes)
+
+pub taken-part : (i : Item) → IsPart (item_text i)
+taken-part i = item-part (item_text i) (item-item i)
 
 pub no-mark : (b : Bool) → not b ≡ true → b ≡ false
 no-mark true e = cc
@@ -245,7 +341,7 @@ plain-items (x ∷ xs) fits plain =
     ((fits.0, parts.0), plain-items xs fits.1 parts.1)
 
 pub items-same : (xs ys : List Item) → Each IsPlainItem xs → Each IsPlainItem ys → items_text xs ≡ items_text ys → xs ≡ ys
-items-same = lists-same item_text IsPlainItem (λ i h. item-item i) item-same
+items-same = lists-same item_text IsPlainItem (λ i h. taken-part i) item-same
 
 pub items-word : (xs : List Item) → Each IsPlainItem xs → IsWord (items_text xs)
-items-word = lists-word item_text IsPlainItem (λ i h. item-item i)
+items-word = lists-word item_text IsPlainItem (λ i h. taken-part i)

@@ -5,6 +5,8 @@ use Rattle.nm_types.specs.Frames.{Frame}
 use Rattle.nm_types.specs.Names.{is_name}
 use Rattle.vale_entry.specs.declared.entry.Dest.{Dest}
 use Rattle.vale_entry.specs.declared.entry.Item.{Item}
+use Rattle.vale_entry.specs.declared.entry.Span.{Span}
+use Rattle.vale_entry.specs.Spans.{single_span}
 use Rattle.vale_words.specs.Words.{number_of}
 
 -- a number of 64 bits, of 32 and of 16; a greater one is read as the greatest of its width
@@ -45,6 +47,14 @@ back_by (Some k) word = drop (k + 1) word
 
 abbrev pub mark_in : ℕ → List ℕ → Option ℕ
 mark_in mark word = position (λ b. b == mark) word
+
+-- a number, or the first and the last of a span with a dash between them
+abbrev pub span_by : Option ℕ → List ℕ → Span
+span_by None word = single_span (short_of word)
+span_by (Some k) word = record { first = short_of (take k word); last = short_of (drop (k + 1) word) }
+
+unfoldable pub span_of : List ℕ → Span
+span_of word = span_by (mark_in 45 word) word
 
 unfoldable pub dest_of : List ℕ → Dest
 dest_of word = record { to = (record { 0 = short_of (front_by (mark_in 42 word) word) }); count = short_of (back_by (mark_in 42 word) word) }

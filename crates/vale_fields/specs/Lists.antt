@@ -1,10 +1,11 @@
 -- The lists of a line: items with commas between them, or a dash where there are none.
-use Rattle.std.specs.Prelude.{ℕ, Bool, ◌==◌, if◌then◌else◌, List, [], map, codes, bytes_eq}
+use Rattle.std.specs.Prelude.{ℕ, Bool, ◌==◌, if◌then◌else◌, List, [], map, flat_map, codes, bytes_eq}
 use Rattle.std.specs.List.{slice_split}
 use Rattle.nm_types.specs.Frames.{Frame}
 use Rattle.vale_entry.specs.declared.entry.Dest.{Dest}
 use Rattle.vale_entry.specs.declared.entry.Item.{Item}
-use Rattle.vale_fields.specs.Fields.{short_of, frame_of, dest_of, item_of}
+use Rattle.vale_entry.specs.Spans.{numbers_in}
+use Rattle.vale_fields.specs.Fields.{span_of, frame_of, dest_of, item_of}
 
 abbrev pub is_comma : ℕ → Bool
 is_comma b = b == 44
@@ -19,8 +20,9 @@ words_of line = slice_split is_blank line
 unfoldable pub parts_of : List ℕ → List (List ℕ)
 parts_of word = if bytes_eq word (codes "-") then [] else slice_split is_comma word
 
+-- the numbers of spans, in a text of either version
 abbrev pub numbers_of : List ℕ → List ℕ
-numbers_of word = map short_of (parts_of word)
+numbers_of word = flat_map numbers_in (map span_of (parts_of word))
 
 abbrev pub dests_of : List ℕ → List Dest
 dests_of word = map dest_of (parts_of word)

@@ -1,10 +1,10 @@
 //! Single fields.
 ghost use Rattle.std.specs.Prelude.{◌≡◌, ◌<◌, ◌++◌, ◌∷◌, [], ℕ, List, min, length, IsTrue, IfOk, OnOk};
-ghost use Rattle.vale_fields.specs.Fields.{long_of, short_of, half_of, hex_value, bytes_of, is_marked, frame_of, front_by, back_by, mark_in, dest_of, item_of, name_of};
+ghost use Rattle.vale_fields.specs.Fields.{long_of, short_of, half_of, hex_value, bytes_of, is_marked, frame_of, front_by, back_by, mark_in, span_of, dest_of, item_of, name_of};
 
 use nm_types::{Batch, Frame, Name, NoMemory, PortId};
 use std::alloc::Global;
-use vale_entry::{Dest, Item};
+use vale_entry::{Dest, Item, Span};
 
 /// The number of 64 bits that digits write, or the greatest one if theirs is greater.
 #[tactic(auto, using(crate::proofs::Numerals::numerals), unfolding(crate::specs::Fields::long_of))]
@@ -109,6 +109,24 @@ pub fn cut_at(mark: u8, word: &[u8]) -> (&[u8], &[u8])
     }
 }
 
+/// A number, or the first and the last of a span with a dash between them.
+#[tactic(auto, unfolding(crate::specs::Fields::span_of))]
+pub(crate) fn span_of(word: &[u8]) -> Span
+    ensures { result ≡ span_of word.now }
+{
+    let Some(k) = mark_in(b'-', word) else {
+        let number = short_of(word);
+        return Span {
+            first: number,
+            last: number,
+        };
+    };
+    Span {
+        first: short_of(&word[..k]),
+        last: short_of(&word[k + 1..]),
+    }
+}
+
 /// What a list has as its items.
 pub(crate) trait Listed: Sized {
     // what a text stands for
@@ -116,14 +134,6 @@ pub(crate) trait Listed: Sized {
 
     fn read(alloc: Global, word: &[u8]) -> Result<Self, NoMemory>
         ensures { IfOk result (λ item. item ≡ item_of word.now) };
-}
-
-impl Listed for u32 {
-    ghost item_of = { short_of };
-
-    fn read(_: Global, word: &[u8]) -> Result<Self, NoMemory> {
-        Ok(short_of(word))
-    }
 }
 
 /// A destination: its port, a star, and how many frames.

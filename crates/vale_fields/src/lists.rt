@@ -1,12 +1,13 @@
 //! The lists of a line.
-ghost use Rattle.std.specs.Prelude.{◌≡◌, map, IfOk};
+ghost use Rattle.std.specs.Prelude.{◌≡◌, ◌++◌, map, IfOk, OnOk};
 ghost use Rattle.std.specs.List.{slice_split};
+ghost use Rattle.vale_entry.specs.Spans.{numbers_in};
 ghost use Rattle.vale_fields.specs.Lists.{is_comma, is_blank, words_of, parts_of, numbers_of, dests_of, items_of, frames_of};
 
-use crate::fields::{Listed, push_frame};
+use crate::fields::{Listed, push_frame, span_of};
 use nm_types::{Batch, NoMemory};
 use std::alloc::{AllocError, Global};
-use vale_entry::{Dests, Items, Numbers};
+use vale_entry::{Dests, Items, Numbers, Span};
 
 fn is_comma(b: u8) -> bool
     ensures { result ≡ is_comma b }
@@ -57,10 +58,35 @@ fn items_read<T: Listed + Drop>(alloc: Global, word: &[u8]) -> Result<Vec<T>, No
     Ok(items)
 }
 
+/// How many numbers a list is read to have at most. A pool has far fewer buffers; spans in a text of
+/// no history may have more.
+const MOST_NUMBERS: usize = 16_777_216;
+
+/// Adds the numbers of a span, or says that there is no memory for them.
+fn push_span(numbers: &mut Vec<u32>, span: Span) -> Result<(), NoMemory>
+    ensures ok { OnOk result (numbers.new.items ≡ numbers.old.items ++ numbers_in span) }
+{
+    let count = (span.last as usize + 1).saturating_sub(span.first as usize);
+    if count > MOST_NUMBERS.saturating_sub(numbers.len()) {
+        return Err(NoMemory);
+    }
+    for k in 0..count {
+        numbers.push(span.first + k as u32)?;
+    }
+    Ok(())
+}
+
+/// The numbers of a list of spans, in a text of either version.
+#[tactic(auto, using(crate::proofs::Parts::spans))]
 pub(crate) fn numbers_of(alloc: Global, word: &[u8]) -> Result<Numbers, NoMemory>
     ensures { IfOk result (λ numbers. numbers ≡ numbers_of word.now) }
 {
-    Ok(Numbers::from(items_read(alloc, word)?))
+    let parts = parts_of(alloc, word)?;
+    let mut numbers = Vec::with_capacity(alloc, parts.len())?;
+    for part in &parts {
+        push_span(&mut numbers, span_of(part))?;
+    }
+    Ok(Numbers::from(numbers))
 }
 
 pub(crate) fn dests_of(alloc: Global, word: &[u8]) -> Result<Dests, NoMemory>

@@ -25,9 +25,9 @@ use Rattle.vale_act.proofs.RoomScripts.{few-fit}
 use Rattle.vale_act.proofs.RoomHistories.{not-refused}
 use Rattle.vale_run.specs.Run.{Io, HasRisen, IsScript, IsAccepted, HasInputs, IsReady, StopsAtInput, WritesPart, StopsFull, Ends, most_script, most_inputs, text_in, saved_in}
 use Rattle.vale_run.specs.Complete.{NothingHinders, Completes}
-use Rattle.vale_run.specs.declared.status.What.TheVariants.{Script, Lines, Counts, Inputs, Frames, Entries, Bytes}
+use Rattle.vale_run.specs.declared.status.What.TheVariants.{Script, Lines, Counts, Inputs, Frames, Entries, Bytes, Text}
 use Rattle.vale_run.specs.declared.status.Status.{Status}
-use Rattle.vale_run.specs.declared.status.Status.TheVariants.{Done, Usage, BadScript, ReadFault, WriteFault, BadPcap, Over, NoMemory}
+use Rattle.vale_run.specs.declared.status.Status.TheVariants.{Done, Usage, BadScript, ReadFault, WriteFault, BadPcap, Over, NoMemory, BadText}
 use Rattle.vale_run.proofs.Histories.{inputs-named}
 
 -- ---- what a shelf tells of its files
@@ -41,11 +41,11 @@ ok-one p q r one two = cc
 none-bad : (p : Program) (fault : Fault) (r : Result Program Fault) → r ≡ Ok p → r ≡ Err fault → ⊥
 none-bad p fault r one two = absurd cc
 
-one-content : (files : Option Files) (told : IsSome files) (name a b : List ℕ) → HasContents files name a → HasContents files name b → a ≡ b
+pub one-content : (files : Option Files) (told : IsSome files) (name a b : List ℕ) → HasContents files name a → HasContents files name b → a ≡ b
 one-content None told name a b one two = absurd cc
 one-content (Some all) told name a b one two = some-one a b (sym one ∙ two)
 
-not-longer : (files : Option Files) (told : IsSome files) (name a : List ℕ) (most : ℕ) → HasContents files name a → length a ≤ most
+pub not-longer : (files : Option Files) (told : IsSome files) (name a : List ℕ) (most : ℕ) → HasContents files name a → length a ≤ most
     → IfSome files (λ all. IsSomeAnd (all name) (λ b. most < length b)) → ⊥
 not-longer None told name a most one short long = absurd cc
 not-longer (Some all) told name a most one short long =
@@ -202,6 +202,8 @@ module _ (limits : Limits) (entries : most_entries ≤ limits.entries) (bytes : 
   end-complete Done e = inl refl
   end-complete NoMemory e = inr refl
   end-complete Usage e = absurd e
+  end-complete (BadText which line) e = absurd e
+  end-complete (Over Text count limit) e = absurd e
   end-complete (ReadFault which) e = absurd (not-unread (string_bytes which) e.0)
   end-complete (Over Script count limit) e = absurd (not-longer io.files n.told name own.script most_script own.is_script.told own.is_script.short e.1.1.0)
   end-complete (Over Lines count limit) e = absurd (not-many_lines e.0 count e.1.0 e.1.1.0 e.1.1.1.0)
@@ -216,5 +218,5 @@ module _ (limits : Limits) (entries : most_entries ≤ limits.entries) (bytes : 
   end-complete WriteFault e = absurd (not-unwritten (text_in e.0) (saved_in e.0) e.1)
 
 pub named-complete : (limits : Limits) → most_entries ≤ limits.entries → most_bytes ≤ limits.bytes → (name : List ℕ) (io : Io) (status : Status)
-    → Ends limits io name status → Completes (Some name) io status
-named-complete limits entries bytes name io status ends = λ n. end-complete limits entries bytes io name n status ends
+    → (load : Option ℕ) (text : Option (List ℕ)) → Ends limits io name status → Completes (Some name) load text io status
+named-complete limits entries bytes name io status load text ends = λ n. end-complete limits entries bytes io name n status ends

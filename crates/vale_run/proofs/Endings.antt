@@ -16,7 +16,7 @@ use Rattle.vale_captures.specs.Outputs.{OutputFile}
 use Rattle.vale_run.specs.Run.{Io, HasRisen, WritesNothing, IsCounted, StopsAtInput, WritesPart, Ends, most_inputs}
 use Rattle.vale_run.specs.Writing.{NamesFile, BlamesFile, NamesInput, BlamesInput, Saves, Written}
 use Rattle.vale_run.specs.declared.status.Status.{Status}
-use Rattle.vale_run.specs.declared.status.Status.TheVariants.{Done, Usage, BadScript, ReadFault, WriteFault, BadPcap, Over, NoMemory}
+use Rattle.vale_run.specs.declared.status.Status.TheVariants.{Done, Usage, BadScript, ReadFault, WriteFault, BadPcap, Over, NoMemory, BadText}
 
 -- the script was not read
 pub ends-unread : (limits : Limits) (io : Io) (name : List ℕ) (status : Status)
@@ -30,6 +30,7 @@ ends-unread limits io name (BadScript line cause) rose nothing names = absurd na
 ends-unread limits io name WriteFault rose nothing names = absurd names
 ends-unread limits io name (BadPcap which offset cause) rose nothing names = absurd names
 ends-unread limits io name (Over what count limit) rose nothing names = absurd names
+ends-unread limits io name (BadText which line) rose nothing names = absurd names
 
 -- the place where the reading stopped is there
 pub stops-there : (files : Option Files) (names : List (List ℕ)) (limit : ℕ)
@@ -61,6 +62,7 @@ module _ (limits : Limits) (io : Io) (name : List ℕ) (program : Program)
   ends-failed at WriteFault s names = absurd names
   ends-failed at (BadPcap which offset cause) s names = absurd names
   ends-failed at (Over what count limit) s names = absurd names
+  ends-failed at (BadText which line) s names = absurd names
 
   ends-blamed : (at : ℕ) (fault : PcapFault) (status : Status)
       (s : StopsAtFile io.files program.files most_inputs io.reads at (inputs.BadPcap fault))
@@ -78,6 +80,7 @@ module _ (limits : Limits) (io : Io) (name : List ℕ) (program : Program)
   ends-blamed at fault WriteFault s names = absurd names
   ends-blamed at fault (ReadFault which) s names = absurd names
   ends-blamed at fault (Over what count limit) s names = absurd names
+  ends-blamed at fault (BadText which line) s names = absurd names
 
   pub ends-input : (at : ℕ) (fault : InputFault) (status : Status)
       → StopsReading io.files program.files most_inputs io.reads (at, fault)
@@ -102,6 +105,7 @@ written-saved text io saved (BadScript line cause) sink saves = absurd saves
 written-saved text io saved (ReadFault which) sink saves = absurd saves
 written-saved text io saved (BadPcap which offset cause) sink saves = absurd saves
 written-saved text io saved (Over what count limit) sink saves = absurd saves
+written-saved text io saved (BadText which line) sink saves = absurd saves
 
 -- it was not written whole
 pub text-failed : (text : List ℕ) (io : Io) (saved : List OutputFile) (error : PutError)

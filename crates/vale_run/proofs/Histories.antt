@@ -10,10 +10,9 @@ use Rattle.nm_types.specs.declared.fault.StepFault.TheVariants as faults
 use Rattle.vale_entry.specs.declared.entry.Entry.{Entry}
 use Rattle.vale_entry.specs.World.{free_count}
 use Rattle.vale_entry.specs.Legal.{world_of, IsLegal}
-use Rattle.vale_entry.specs.Transcript.{start_line, entry_lines, end_line, transcript_text}
+use Rattle.vale_entry.specs.Transcript.{text_of, transcript_text}
 use Rattle.vale_entry.proofs.Printable.{legal-printable}
 use Rattle.vale_entry.proofs.Fitting.{legal-fits}
-use Rattle.vale_text.specs.Written.{text_of}
 use Rattle.vale_text.proofs.Transcripts.{transcripts-tell}
 use Rattle.vale_book.specs.Recorded.{Recorded, standing, IsRefusal, HadRoom}
 use Rattle.vale_fabric.specs.declared.kept.Fixed.{Fixed}
@@ -35,36 +34,34 @@ use Rattle.vale_act.proofs.FittingSums.{refusals-fit}
 use Rattle.vale_run.specs.Run.{Io, IsReady, IsHistoryOf, HistoryOf, TellsHistory, StopsFull, WritesNothing, Ends, text_in, saved_in}
 use Rattle.vale_run.specs.Writing.{IsFewUsed, IsPlayOf, stopped, Written}
 use Rattle.vale_run.specs.declared.status.Status.{Status}
-use Rattle.vale_run.specs.declared.status.Status.TheVariants.{Done, Usage, BadScript, ReadFault, WriteFault, BadPcap, Over, NoMemory}
+use Rattle.vale_run.specs.declared.status.Status.TheVariants.{Done, Usage, BadScript, ReadFault, WriteFault, BadPcap, Over, NoMemory, BadText}
 use Rattle.vale_run.proofs.Deliveries.{delivers}
 
 -- the text with the buffers that are free
 pub text-is : (pool : ℕ) (entries : List Entry) (free : ℕ)
     → free ≡ free_count (world_of pool entries)
-    → text_of pool entries free ≡ transcript_text pool entries
-unfolding text_of
-text-is pool entries free e = ap (λ n. start_line pool ++ entry_lines 1 entries ++ end_line
-    (length entries) n) e
+    → text_of 2 pool entries free ≡ transcript_text pool entries
+text-is pool entries free e = ap (λ n. text_of 2 pool entries n) e
 
 pub text-told : (book : Recorded) (pool : ℕ) (entries : List Entry) (free : ℕ) → pool ≡ book.pool
     → entries ≡ book.entries → free ≡ free_count (standing book).world
-    → text_of pool entries free ≡ transcript_text book.pool book.entries
+    → text_of 2 pool entries free ≡ transcript_text book.pool book.entries
 text-told book pool entries free p e f =
-    ap (λ (n : ℕ). text_of n entries free) p ∙ ap (λ (h : List Entry). text_of book.pool h free) e ∙
+    ap (λ (n : ℕ). text_of 2 n entries free) p ∙ ap (λ (h : List Entry). text_of 2 book.pool h free) e ∙
     text-is book.pool book.entries free f
 
 -- the text tells the history
 text-tells : (pool : ℕ) (history : List Entry) → pool < 2 ^ 32 → length history < 2 ^ 32
     → IsLegal pool history
     → TellsHistory pool history
-unfolding text_of
 text-tells pool history small few legal =
     λ buffers other less fewer lawful same.
-    transcripts-tell buffers pool other history (free_count (world_of buffers other))
+    let told = transcripts-tell 2 2 buffers pool other history (free_count (world_of buffers other))
     (free_count (world_of pool history))
-    (omega (arith, less)) (omega (arith, small)) (legal-printable buffers other lawful)
+    (omega arith) (omega arith) (omega (arith, less)) (omega (arith, small)) (legal-printable buffers other lawful)
     (legal-printable pool history legal)
-    (legal-fits buffers other lawful less fewer) (legal-fits pool history legal small few) same
+    (legal-fits buffers other lawful less fewer) (legal-fits pool history legal small few) same in
+    (told.1, told.2)
 
 -- the names of the captures that were read are those that were asked for
 pub inputs-named : (files : Option Files) (names : List (List ℕ)) (played : List InputFile)
@@ -133,6 +130,7 @@ ends-written limits io name run Usage w = absurd w
 ends-written limits io name run (BadScript line cause) w = absurd w
 ends-written limits io name run (ReadFault which) w = absurd w
 ends-written limits io name run (BadPcap which offset cause) w = absurd w
+ends-written limits io name run (BadText which line) w = absurd w
 ends-written limits io name run (Over what count limit) w = absurd w
 
 -- Where the record is full.

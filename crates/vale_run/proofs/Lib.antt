@@ -5,5 +5,6 @@ pub mod Endings
 pub mod Histories
 pub mod LoadCosts
 pub mod Loads
+pub mod Migrating
 pub mod Sending
 pub mod Since

@@ -17,7 +17,7 @@ use Rattle.vale_run.specs.Status.{WritesAnswer}
 use Rattle.vale_run.specs.Load.{LoadOf, LoadEnds, load_text, text_in}
 use Rattle.vale_run.specs.Writing.{IsFewUsed, IsPlayOf, stopped}
 use Rattle.vale_run.specs.declared.status.Status.{Status}
-use Rattle.vale_run.specs.declared.status.Status.TheVariants.{Done, Usage, BadScript, ReadFault, WriteFault, BadPcap, Over, NoMemory}
+use Rattle.vale_run.specs.declared.status.Status.TheVariants.{Done, Usage, BadScript, ReadFault, WriteFault, BadPcap, Over, NoMemory, BadText}
 use Rattle.vale_run.proofs.Histories.{run_record, book-is, is-history, stop-of, refusal-of}
 use Rattle.vale_run.proofs.LoadCosts.{load-fits}
 
@@ -60,6 +60,7 @@ module _ (n : ℕ) (book : Recorded) (ended : Result (List OutputFile) StepFault
   ends-line load faults old new (BadScript line cause) w = absurd w
   ends-line load faults old new (ReadFault which) w = absurd w
   ends-line load faults old new (BadPcap which offset cause) w = absurd w
+  ends-line load faults old new (BadText which line) w = absurd w
   ends-line load faults old new (Over what count limit) w = absurd w
 
   pub ends-load : (outputs : List OutputFile) → ended ≡ Ok outputs → (faults : ℕ × ℕ)

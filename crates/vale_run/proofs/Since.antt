@@ -11,9 +11,9 @@ use Rattle.vale_captures.specs.Outputs.{OutputFile, StopsAtOutput}
 use Rattle.vale_captures.proofs.Pages.{rose-since}
 use Rattle.vale_captures.proofs.Reading.{blames-since}
 use Rattle.vale_run.specs.Run.{Io, io_of, HasRisen, WritesNothing, StopsAtInput, WritesPart, Ends, most_inputs, text_in, saved_in}
-use Rattle.vale_run.specs.declared.status.What.TheVariants.{Script, Lines, Counts, Inputs, Frames, Entries, Bytes}
+use Rattle.vale_run.specs.declared.status.What.TheVariants.{Script, Lines, Counts, Inputs, Frames, Entries, Bytes, Text}
 use Rattle.vale_run.specs.declared.status.Status.{Status}
-use Rattle.vale_run.specs.declared.status.Status.TheVariants.{Done, Usage, BadScript, ReadFault, WriteFault, BadPcap, Over, NoMemory}
+use Rattle.vale_run.specs.declared.status.Status.TheVariants.{Done, Usage, BadScript, ReadFault, WriteFault, BadPcap, Over, NoMemory, BadText}
 
 module _ (io : Io) (first_reads first_appends : List ℕ → ℕ)
     (reads_later : (other : List ℕ) → first_reads other ≤ (io.reads other).0)
@@ -92,6 +92,8 @@ module _ (io : Io) (first_reads first_appends : List ℕ → ℕ)
   pub ends-first : (limits : Limits) (name : List ℕ) (status : Status)
       → Ends limits io name status → Ends limits first name status
   ends-first limits name Usage e = absurd e
+  ends-first limits name (BadText which line) e = absurd e
+  ends-first limits name (Over Text count limit) e = absurd e
   ends-first limits name (ReadFault which) e =
       (read-since name (string_bytes which) e.0, nothing-since e.1)
   ends-first limits name (Over Script count limit) e =

@@ -30,9 +30,9 @@ use Rattle.vale_replay.specs.Owners.{AreAlwaysOwnedOnce, Pool, owners_of}
 use Rattle.vale_act.specs.Outputs.{outputs_of}
 use Rattle.vale_captures.specs.Counting.{counts_of, frames_played}
 use Rattle.vale_run.specs.Delivery.{Delivers}
-use Rattle.vale_run.specs.declared.status.What.TheVariants.{Script, Lines, Counts, Inputs, Frames, Entries, Bytes}
+use Rattle.vale_run.specs.declared.status.What.TheVariants.{Script, Lines, Counts, Inputs, Frames, Entries, Bytes, Text}
 use Rattle.vale_run.specs.declared.status.Status.{Status}
-use Rattle.vale_run.specs.declared.status.Status.TheVariants.{Done, Usage, BadScript, ReadFault, WriteFault, BadPcap, Over, NoMemory}
+use Rattle.vale_run.specs.declared.status.Status.TheVariants.{Done, Usage, BadScript, ReadFault, WriteFault, BadPcap, Over, NoMemory, BadText}
 use Rattle.vale_run.specs.Status.{offset_of}
 
 -- of a verb and one word more, where the verb is this one: that word
@@ -224,6 +224,8 @@ pub record StopsFull (limits : Limits) (files : Option Files) (name : List ℕ) 
 -- needs no cause.
 abbrev pub Ends : Limits → Io → List ℕ → Status → Type 0
 Ends limits io name Usage = ⊥
+Ends limits io name (BadText which line) = ⊥
+Ends limits io name (Over Text count limit) = ⊥
 Ends limits io name (ReadFault which) =
     (((string_bytes which ≡ name) × HasRisen (io.reads name)) ⊎ StopsAtInput io.files io.reads name inputs.Failed (string_bytes which)) × WritesNothing io
 Ends limits io name (Over Script count limit) =

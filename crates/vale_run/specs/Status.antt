@@ -7,9 +7,9 @@ use Rattle.nm_types.specs.declared.fault.LineCause.TheVariants.{Word, Count, Num
 use Rattle.pcap_io.specs.declared.fault.PcapFault.{PcapFault}
 use Rattle.pcap_io.specs.declared.fault.PcapFault.TheVariants as pcap
 use Rattle.vale_run.specs.declared.status.What.{What}
-use Rattle.vale_run.specs.declared.status.What.TheVariants.{Script, Lines, Counts, Inputs, Frames, Entries, Bytes}
+use Rattle.vale_run.specs.declared.status.What.TheVariants.{Script, Lines, Counts, Inputs, Frames, Entries, Bytes, Text}
 use Rattle.vale_run.specs.declared.status.Status.{Status}
-use Rattle.vale_run.specs.declared.status.Status.TheVariants.{Done, Usage, BadScript, ReadFault, WriteFault, BadPcap, Over, NoMemory}
+use Rattle.vale_run.specs.declared.status.Status.TheVariants.{Done, Usage, BadScript, ReadFault, WriteFault, BadPcap, Over, NoMemory, BadText}
 
 abbrev pub code_of : Status → ℕ
 code_of Done = 0
@@ -20,6 +20,7 @@ code_of WriteFault = 5
 code_of (BadPcap name offset cause) = 6
 code_of (Over what count limit) = 7
 code_of NoMemory = 8
+code_of (BadText name line) = 9
 
 abbrev pub cause_text : LineCause → List ℕ
 cause_text Word = codes "word"
@@ -56,9 +57,10 @@ what_text Inputs = codes "inputs"
 what_text Frames = codes "frames"
 what_text Entries = codes "entries"
 what_text Bytes = codes "bytes"
+what_text Text = codes "text"
 
 unfoldable pub usage_line : List ℕ
-usage_line = codes "usage: vale run SCRIPT | vale load N\n"
+usage_line = codes "usage: vale run SCRIPT | vale load N | vale migrate FILE\n"
 
 unfoldable pub bad_script_line : ℕ → List ℕ → List ℕ
 bad_script_line line cause = codes "vale: script line " ++ decimal line ++ codes ": " ++ cause ++ codes "\n"
@@ -75,6 +77,9 @@ bad_capture_line name offset cause = codes "vale: " ++ name ++ codes ": byte " +
 unfoldable pub over_line : List ℕ → ℕ → ℕ → List ℕ
 over_line what count limit = codes "vale: " ++ what ++ codes " " ++ decimal count ++ codes " over " ++ decimal limit ++ codes "\n"
 
+unfoldable pub bad_text_line : List ℕ → ℕ → List ℕ
+bad_text_line name line = codes "vale: " ++ name ++ codes ": line " ++ decimal line ++ codes "\n"
+
 unfoldable pub no_memory_line : List ℕ
 no_memory_line = codes "vale: no memory\n"
 
@@ -88,6 +93,7 @@ status_text WriteFault = write_fault_line
 status_text (BadPcap name offset cause) = bad_capture_line (string_bytes name) offset (capture_text cause)
 status_text (Over what count limit) = over_line (what_text what) count limit
 status_text NoMemory = no_memory_line
+status_text (BadText name line) = bad_text_line (string_bytes name) line
 
 -- the line was written, or by a failure a prefix of it; `faults` are the stream's before and after
 abbrev pub Reports : ℕ × ℕ → Option (List ℕ) → Option (List ℕ) → List ℕ → Type 0

@@ -10,11 +10,13 @@ ghost use Rattle.vale_entry.specs.World.{free_count};
 ghost use Rattle.vale_script.specs.Sound.{IsSound};
 ghost use Rattle.vale_run.specs.Run.{io_of, CountsRise, script_name, word_behind, Ends, IsScript, IsAccepted, IsCounted, HasInputs, IsReady};
 ghost use Rattle.vale_run.specs.Load.{load_number};
+ghost use Rattle.vale_run.specs.Migrate.{text_name};
 ghost use Rattle.vale_run.specs.Commands.{Runs};
 ghost use Rattle.vale_run.specs.Complete.{Completes};
 ghost use Rattle.vale_run.specs.Writing.{IsFewUsed, stopped, NamesFile, BlamesFile, Saves, Written, IsSaid, NamesInput, BlamesInput};
 
 use crate::load::{load_number, run_load};
+use crate::migrate::{migrate_file, text_name};
 use crate::playing::play_recorded;
 use crate::remains::Remains;
 use crate::status::{Status, What, offset_of};
@@ -69,7 +71,7 @@ fn script_name(words: &[String]) -> Option<&str>
 }
 
 /// A file was not read.
-fn read_fault(alloc: Global, name: &str) -> Status
+pub(crate) fn read_fault(alloc: Global, name: &str) -> Status
     ensures { NamesFile name.now result }
 {
     match String::from_str(alloc, name) {
@@ -359,9 +361,10 @@ pub fn run_leaving<R: AllocGlobal + Threads + Wait + Sync, S: Shelf, K: Sink, G:
     remains: &mut Remains,
 ) -> Status
     ensures runs { Runs Limits.VERSION_1 (script_name (map string_bytes words.now))
-        (load_number (map string_bytes words.now))
+        (load_number (map string_bytes words.now)) (text_name (map string_bytes words.now))
         (io_of S.Shelf K.Sink shelf.old shelf.new out.old out.new) result }
     ensures completes { Completes (script_name (map string_bytes words.now))
+        (load_number (map string_bytes words.now)) (text_name (map string_bytes words.now))
         (io_of S.Shelf K.Sink shelf.old shelf.new out.old out.new) result }
     ensures later { CountsRise (io_of S.Shelf K.Sink shelf.old shelf.new out.old out.new) }
 {
@@ -369,16 +372,21 @@ pub fn run_leaving<R: AllocGlobal + Threads + Wait + Sync, S: Shelf, K: Sink, G:
         Some(name) => run_file(rt, name, shelf, out, gate, remains),
         None => match load_number(words) {
             Some(n) => run_load(rt, n, out, gate, remains),
-            None => Status::Usage,
+            None => match text_name(words) {
+                Some(name) => migrate_file(rt.alloc(), name, shelf, out),
+                None => Status::Usage,
+            },
         },
     }
 }
 
-/// Runs a command: the words `run SCRIPT`, where SCRIPT names a file of the shelf, or `load N`. The
+/// Runs a command: the words `run SCRIPT`, where SCRIPT names a file of the shelf, `load N`, or
+/// `migrate FILE`. The
 /// script's users play their lines as sessions of one fabric, side by side on threads where the
 /// script says so; the gate is passed as frames go to ports. Once all have left, the transcript of
 /// what happened goes to the output, and then each capture that the script saves to the end of its
 /// file. `load N` plays the script that `vale_gen` makes of N, and writes one line of what was sent.
+/// `migrate FILE` writes the transcript that the file is, of version 1 or 2, in version 2.
 pub fn run<R: AllocGlobal + Threads + Wait + Sync, S: Shelf, K: Sink, G: Gate>(
     rt: &R,
     words: &[String],
@@ -387,9 +395,10 @@ pub fn run<R: AllocGlobal + Threads + Wait + Sync, S: Shelf, K: Sink, G: Gate>(
     gate: &G,
 ) -> Status
     ensures runs { Runs Limits.VERSION_1 (script_name (map string_bytes words.now))
-        (load_number (map string_bytes words.now))
+        (load_number (map string_bytes words.now)) (text_name (map string_bytes words.now))
         (io_of S.Shelf K.Sink shelf.old shelf.new out.old out.new) result }
     ensures completes { Completes (script_name (map string_bytes words.now))
+        (load_number (map string_bytes words.now)) (text_name (map string_bytes words.now))
         (io_of S.Shelf K.Sink shelf.old shelf.new out.old out.new) result }
     ensures later { CountsRise (io_of S.Shelf K.Sink shelf.old shelf.new out.old out.new) }
 {

@@ -1,8 +1,10 @@
-//! Runs a command: a script with its captures, from a shelf and to an output, or a load.
+//! Runs a command: a script with its captures, from a shelf and to an output, a load, or a transcript
+//! of an earlier version that is written anew.
 #![tactic(auto)]
 
 mod command;
 mod load;
+mod migrate;
 mod playing;
 mod remains;
 mod status;
@@ -10,5 +12,6 @@ mod status;
 mod tests;
 
 pub use command::{MAX_COUNTS, MAX_FRAMES, MAX_INPUTS, MAX_LINES, MAX_SCRIPT, run, run_leaving};
+pub use migrate::MAX_TEXT;
 pub use remains::Remains;
 pub use status::{Status, What, report};

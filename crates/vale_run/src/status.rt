@@ -2,7 +2,7 @@
 ghost use Rattle.std.specs.Prelude.{◌≡◌, ◌≤◌, List, ℕ, OnErr};
 ghost use Rattle.nm_io.specs.Counts.{Rose};
 ghost use Rattle.nm_io.specs.Held.{Writes};
-ghost use Rattle.vale_run.specs.Status.{code_of, cause_text, capture_text, offset_of, what_text, bad_capture_line, over_line, status_text, Reports};
+ghost use Rattle.vale_run.specs.Status.{code_of, cause_text, capture_text, offset_of, what_text, bad_capture_line, bad_text_line, over_line, status_text, Reports};
 
 use nm_io::{Failed, Sink, put_all};
 use nm_types::LineCause;
@@ -26,6 +26,8 @@ pub enum What {
     Entries,
     /// The bytes of the frames that a history keeps.
     Bytes,
+    /// The bytes of a transcript that is migrated.
+    Text,
 }
 
 /// How a run ended.
@@ -60,6 +62,11 @@ pub enum Status {
     },
     /// Out of memory.
     NoMemory,
+    /// The first line of a file that is no line of a transcript, counted from 1.
+    BadText {
+        name: String,
+        line: u32,
+    },
 }
 
 fn cause_text(cause: LineCause) -> &'static [u8]
@@ -88,6 +95,7 @@ fn what_text(what: What) -> &'static [u8]
         What::Frames => b"frames",
         What::Entries => b"entries",
         What::Bytes => b"bytes",
+        What::Text => b"text",
     }
 }
 
@@ -131,6 +139,7 @@ impl Status {
             Status::BadPcap { .. } => 6,
             Status::Over { .. } => 7,
             Status::NoMemory => 8,
+            Status::BadText { .. } => 9,
         }
     }
 }
@@ -182,6 +191,24 @@ fn put_bad_capture<K: Sink>(
     )
 }
 
+#[tactic(auto, unfolding(crate::specs::Status::bad_text_line))]
+fn put_bad_text<K: Sink>(out: &mut K, name: &str, line: u32) -> Result<(), Failed>
+    ensures writes { Writes (K.holds out.old) (K.holds out.new) result (bad_text_line name.now line) }
+    ensures later { K.faults out.old ≤ K.faults out.new }
+    ensures cause { OnErr result (Rose (K.faults out.old) (K.faults out.new)) }
+{
+    put_parts(
+        out,
+        &[
+            Part::Text(b"vale: "),
+            Part::Text(name.as_bytes()),
+            Part::Text(b": line "),
+            Part::Number(line as u64),
+            Part::Text(b"\n"),
+        ],
+    )
+}
+
 /// Writes the one line that says how a run ended, or nothing if all was written.
 #[tactic(auto, unfolding(crate::specs::Status::usage_line, crate::specs::Status::bad_script_line, crate::specs::Status::read_fault_line, crate::specs::Status::write_fault_line, crate::specs::Status::over_line, crate::specs::Status::no_memory_line))]
 fn put_status<K: Sink>(out: &mut K, status: &Status) -> Result<(), Failed>
@@ -191,7 +218,10 @@ fn put_status<K: Sink>(out: &mut K, status: &Status) -> Result<(), Failed>
 {
     match status {
         Status::Done => put_all(out, b""),
-        Status::Usage => put_all(out, b"usage: vale run SCRIPT | vale load N\n"),
+        Status::Usage => put_all(
+            out,
+            b"usage: vale run SCRIPT | vale load N | vale migrate FILE\n",
+        ),
         Status::BadScript { line, cause } => put_parts(
             out,
             &[
@@ -218,6 +248,7 @@ fn put_status<K: Sink>(out: &mut K, status: &Status) -> Result<(), Failed>
         } => put_bad_capture(out, name.as_str(), *offset, *cause),
         Status::Over { what, count, limit } => put_over(out, *what, *count, *limit),
         Status::NoMemory => put_all(out, b"vale: no memory\n"),
+        Status::BadText { name, line } => put_bad_text(out, name.as_str(), *line),
     }
 }
 

@@ -9,9 +9,11 @@ use std::thread::Threads;
 mod captures;
 mod load;
 mod scripts;
+mod texts;
 
 use captures::*;
 use scripts::*;
+use texts::*;
 
 /// What a run leaves: the shelf, the output, and the line that says how it ended.
 #[derive(Drop)]
@@ -142,7 +144,7 @@ fn faults_are_told(rt: HostRuntime) -> Result<(), Fail> {
 #[test]
 fn what_was_written_before_a_fault_stays(rt: HostRuntime) -> Result<(), Fail> {
     for (fail_shelf, fail_sink, text, saved) in [
-        (99, 2, b"vale 1 pool 64\n".as_slice(), EMPTY),
+        (99, 2, b"vale 2 pool 64\n".as_slice(), EMPTY),
         (6, 99, CAPTURE_TEXT, SAVED),
     ] {
         let left = ran(&rt, &["run", "s"], TWO_SAVED, PLAYED, fail_shelf, fail_sink)?;
@@ -177,9 +179,41 @@ fn other_words_are_refused(rt: HostRuntime) -> Result<(), Fail> {
         ["load", "18446744073709551616"].as_slice(),
         ["load", "000000000000000000007"].as_slice(),
         ["Load", "7"].as_slice(),
+        ["migrate"].as_slice(),
+        ["migrate", "s", "s"].as_slice(),
     ] {
         let left = ran(&rt, words, EMPTY, EMPTY, 99, 99)?;
-        left.says(&rt, b"usage: vale run SCRIPT | vale load N\n", EMPTY);
+        left.says(
+            &rt,
+            b"usage: vale run SCRIPT | vale load N | vale migrate FILE\n",
+            EMPTY,
+        );
+    }
+    Ok(())
+}
+
+/// A text of version 1 is written in version 2, one of version 2 as it is; others are told by their
+/// first bad line.
+#[test]
+fn texts_are_migrated(rt: HostRuntime) -> Result<(), Fail> {
+    for (text, line, new_text) in MIGRATED {
+        let left = ran(&rt, &["migrate", "s"], text, EMPTY, 99, 99)?;
+        left.says(&rt, line, new_text);
+    }
+    for (name, fail_shelf, fail_sink, line) in [
+        ("s", 1, 99, "vale: cannot read s\n".as_bytes()),
+        ("t", 99, 99, "vale: cannot read t\n".as_bytes()),
+        ("s", 99, 1, "vale: cannot write\n".as_bytes()),
+    ] {
+        let left = ran(
+            &rt,
+            &["migrate", name],
+            OLD_TEXT,
+            EMPTY,
+            fail_shelf,
+            fail_sink,
+        )?;
+        left.says(&rt, line, EMPTY);
     }
     Ok(())
 }

@@ -9,35 +9,35 @@ use Rattle.nm_io.proofs.Gathering.{gathered_more, gathered_fails, grows_past}
 use Rattle.vale_entry.specs.declared.entry.Entry.{Entry}
 use Rattle.vale_entry.specs.Transcript.{entry_line, entry_lines}
 
-pub entry_lines-append : (n : ℕ) (es fs : List Entry) → entry_lines n (es ++ fs) ≡ entry_lines n es ++ entry_lines (n + length es) fs
-entry_lines-append n [] fs = ap (λ m. entry_lines m fs) (let e : n ≡ n + 0 = omega arith in e)
-entry_lines-append n (e ∷ es) fs =
+pub entry_lines-append : (v n : ℕ) (es fs : List Entry) → entry_lines v n (es ++ fs) ≡ entry_lines v n es ++ entry_lines v (n + length es) fs
+entry_lines-append v n [] fs = ap (λ m. entry_lines v m fs) (let e : n ≡ n + 0 = omega arith in e)
+entry_lines-append v n (e ∷ es) fs =
     let next : n + 1 + length es ≡ n + length (e ∷ es) = omega arith in
-    ap (λ text. entry_line n e ++ text) (entry_lines-append (n + 1) es fs ∙ ap (λ m. entry_lines (n + 1) es ++ entry_lines m fs) next)
-    ∙ sym (append_assoc (entry_line n e) (entry_lines (n + 1) es) (entry_lines (n + length (e ∷ es)) fs))
+    ap (λ text. entry_line v n e ++ text) (entry_lines-append v (n + 1) es fs ∙ ap (λ m. entry_lines v (n + 1) es ++ entry_lines v m fs) next)
+    ∙ sym (append_assoc (entry_line v n e) (entry_lines v (n + 1) es) (entry_lines v (n + length (e ∷ es)) fs))
 
-entry_lines-more : (es : List Entry) (i : ℕ) (e : Entry) → i < length es → e ≡ get_or es i e → entry_lines 1 (take (i + 1) es) ≡ entry_lines 1 (take i es) ++ entry_line (i + 1) e
+entry_lines-more : (es : List Entry) (i : ℕ) (e : Entry) → i < length es → e ≡ get_or es i e → entry_lines 2 1 (take (i + 1) es) ≡ entry_lines 2 1 (take i es) ++ entry_line 2 (i + 1) e
 entry_lines-more es i e h same =
     let number : 1 + length (take i es) ≡ i + 1 = omega (arith, length-take-le i es) in
-    ap (entry_lines 1) (take_more es i e h ∙ ap (λ x. take i es ++ x ∷ []) (sym same))
-    ∙ entry_lines-append 1 (take i es) (e ∷ [])
-    ∙ ap (λ n. entry_lines 1 (take i es) ++ entry_lines n (e ∷ [])) number
-    ∙ ap (λ text. entry_lines 1 (take i es) ++ text) (append-nil (entry_line (i + 1) e))
+    ap (entry_lines 2 1) (take_more es i e h ∙ ap (λ x. take i es ++ x ∷ []) (sym same))
+    ∙ entry_lines-append 2 1 (take i es) (e ∷ [])
+    ∙ ap (λ n. entry_lines 2 1 (take i es) ++ entry_lines 2 n (e ∷ [])) number
+    ∙ ap (λ text. entry_lines 2 1 (take i es) ++ text) (append-nil (entry_line 2 (i + 1) e))
 
 -- the next line is on its way
-pub entries_more : (old middle new : Option (List ℕ)) (p q r : List ℕ) (es : List Entry) (i : ℕ) (e : Entry) → i < length es → e ≡ get_or es i e → Gathered old middle p q (entry_lines 1 (take i es)) → Gathered middle new q r (entry_line (i + 1) e) → Gathered old new p r (entry_lines 1 (take (i + 1) es))
+pub entries_more : (old middle new : Option (List ℕ)) (p q r : List ℕ) (es : List Entry) (i : ℕ) (e : Entry) → i < length es → e ≡ get_or es i e → Gathered old middle p q (entry_lines 2 1 (take i es)) → Gathered middle new q r (entry_line 2 (i + 1) e) → Gathered old new p r (entry_lines 2 1 (take (i + 1) es))
 entries_more old middle new p q r es i e h same first second =
-    subst (Gathered old new p r) (sym (entry_lines-more es i e h same)) (gathered_more old middle new p q r (entry_lines 1 (take i es)) (entry_line (i + 1) e) first second)
+    subst (Gathered old new p r) (sym (entry_lines-more es i e h same)) (gathered_more old middle new p q r (entry_lines 2 1 (take i es)) (entry_line 2 (i + 1) e) first second)
 
 -- the next line fails
-pub entries_fail : (old middle new : Option (List ℕ)) (p q : List ℕ) (es : List Entry) (i : ℕ) (e : Entry) → i < length es → e ≡ get_or es i e → Gathered old middle p q (entry_lines 1 (take i es)) → GrowsByPrefix middle new (q ++ entry_line (i + 1) e) → GrowsByPrefix old new (p ++ entry_lines 1 es)
+pub entries_fail : (old middle new : Option (List ℕ)) (p q : List ℕ) (es : List Entry) (i : ℕ) (e : Entry) → i < length es → e ≡ get_or es i e → Gathered old middle p q (entry_lines 2 1 (take i es)) → GrowsByPrefix middle new (q ++ entry_line 2 (i + 1) e) → GrowsByPrefix old new (p ++ entry_lines 2 1 es)
 entries_fail old middle new p q es i e h same first second =
-    let front : List ℕ = entry_lines 1 (take i es) ++ entry_line (i + 1) e in
-    let rest : List ℕ = entry_lines (1 + length (take (i + 1) es)) (drop (i + 1) es) in
-    let whole : front ++ rest ≡ entry_lines 1 es =
-    ap (λ text. text ++ rest) (sym (entry_lines-more es i e h same)) ∙ sym (entry_lines-append 1 (take (i + 1) es) (drop (i + 1) es)) ∙ ap (entry_lines 1) (take-append-drop (i + 1) es) in
+    let front : List ℕ = entry_lines 2 1 (take i es) ++ entry_line 2 (i + 1) e in
+    let rest : List ℕ = entry_lines 2 (1 + length (take (i + 1) es)) (drop (i + 1) es) in
+    let whole : front ++ rest ≡ entry_lines 2 1 es =
+    ap (λ text. text ++ rest) (sym (entry_lines-more es i e h same)) ∙ sym (entry_lines-append 2 1 (take (i + 1) es) (drop (i + 1) es)) ∙ ap (entry_lines 2 1) (take-append-drop (i + 1) es) in
     subst (λ (text : List ℕ). GrowsByPrefix old new (p ++ text)) whole
-    (grows_past old new p front rest (gathered_fails old middle new p q (entry_lines 1 (take i es)) (entry_line (i + 1) e) first second))
+    (grows_past old new p front rest (gathered_fails old middle new p q (entry_lines 2 1 (take i es)) (entry_line 2 (i + 1) e) first second))
 
 -- one part was written whole, and the next one whole or, by a failure, a prefix of it
 pub writes_after : {T E : Type 0} (old middle new : Option (List ℕ)) (a b : List ℕ) (result : Result T E) → middle ≡ grown old a → Writes middle new result b → Writes old new result (a ++ b)

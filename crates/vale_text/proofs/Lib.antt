@@ -8,5 +8,7 @@ mod NameWords
 mod GivingBack
 mod LineReads
 mod Reading
+mod Runs
+mod WrittenSpans
 pub mod Transcripts
 mod Wider

@@ -20,7 +20,8 @@ use Rattle.vale_fields.proofs.Numerals.{short-back, short-fits}
 use Rattle.vale_fields.proofs.Sizes.{what-fits}
 use Rattle.vale_fields.proofs.Splits.{unequal, split-front, split-last, IsFree, mark-found, take-front, drop-front}
 use Rattle.vale_fields.proofs.Texts.{IsDigit, decimal-word}
-use Rattle.vale_text.specs.Lines.{is_line_feed, IsLine, front_of, back_of, pool_in, is_start, free_in, is_end, kept_if, entry_in}
+use Rattle.vale_text.specs.Lines.{is_line_feed, IsLine, front_of, back_of, version_in, pool_in, most_pool_of, is_version, is_pool, is_start, free_in, is_end, kept_if, entry_in}
+use Rattle.vale_text.specs.Reading.{IsHead}
 use Rattle.vale_text.proofs.Lines.{entry_words, said-words, are-words, Says, says}
 use Rattle.vale_text.proofs.Wider.{entry-wider}
 
@@ -61,15 +62,15 @@ number-free n = each-weaker IsWordByte (λ b. is_line_feed b ≡ false) feed-fre
 pub says-of : (n : ℕ) (e : Entry) → IsPrintable n e → FitsFields e → Says n e
 says-of n e h fits = says n e h (entry-wider e fits)
 
-entry-are-words : (n : ℕ) (e : Entry) → Says n e → Each IsWord (entry_words e)
-entry-are-words n e s = subst (Each IsWord) (sym (ap entry_words s.is ∙ said-words n s.said)) (are-words s.said s.plain)
+entry-are-words : (v n : ℕ) (e : Entry) → Says n e → Each IsWord (entry_words v e)
+entry-are-words v n e s = subst (Each IsWord) (sym (ap (entry_words v) s.is ∙ said-words v n s.said)) (are-words v s.said s.plain)
 
-front-free : (n : ℕ) (e : Entry) → Says n e → IsFree is_line_feed (decimal n ++ words_text (entry_words e))
-front-free n e s =
-    each-append (λ b. is_line_feed b ≡ false) (decimal n) (words_text (entry_words e)) (number-free n) (words-free (entry_words e) (entry-are-words n e s))
+front-free : (v n : ℕ) (e : Entry) → Says n e → IsFree is_line_feed (decimal n ++ words_text (entry_words v e))
+front-free v n e s =
+    each-append (λ b. is_line_feed b ≡ false) (decimal n) (words_text (entry_words v e)) (number-free n) (words-free (entry_words v e) (entry-are-words v n e s))
 
-pub entry-is-line : (n : ℕ) (e : Entry) → Says n e → IsLine (entry_line n e)
-entry-is-line n e s = record { text = decimal n ++ words_text (entry_words e); is = refl; free = front-free n e s }
+pub entry-is-line : (v n : ℕ) (e : Entry) → Says n e → IsLine (entry_line v n e)
+entry-is-line v n e s = record { text = decimal n ++ words_text (entry_words v e); is = refl; free = front-free v n e s }
 
 -- what stands before the mark
 front-is : (m : ℕ) (xs ys : List ℕ) → (m == m) ≡ true → IsFree (λ b. b == m) xs → front_of m (xs ++ m ∷ ys) ≡ xs
@@ -78,43 +79,43 @@ front-is m xs ys is free = ap (λ (k : Option ℕ). front_by k (xs ++ m ∷ ys))
 back-is : (m : ℕ) (xs ys : List ℕ) → (m == m) ≡ true → IsFree (λ b. b == m) xs → back_of m (xs ++ m ∷ ys) ≡ ys
 back-is m xs ys is free = ap (λ (k : Option ℕ). back_by k (xs ++ m ∷ ys)) (mark-found m xs ys is free) ∙ drop-front m xs ys
 
-entry-read : (n : ℕ) (e : Entry) → IsPrintable n e → FitsFields e → entry_of n (words_of (front_of 10 (entry_line n e))) ≡ Some e
-entry-read n e h fits =
+entry-read : (v n : ℕ) (e : Entry) → IsPrintable n e → FitsFields e → entry_of n (words_of (front_of 10 (entry_line v n e))) ≡ Some e
+entry-read v n e h fits =
     let s = says-of n e h fits in
-    ap (λ (t : List ℕ). entry_of n (words_of t)) (front-is 10 (decimal n ++ words_text (entry_words e)) [] refl (front-free n e s))
-    ∙ ap (entry_of n) (split-words (decimal n) (entry_words e) (decimal-word n) (entry-are-words n e s))
-    ∙ words-read n (decimal n) e h fits
+    ap (λ (t : List ℕ). entry_of n (words_of t)) (front-is 10 (decimal n ++ words_text (entry_words v e)) [] refl (front-free v n e s))
+    ∙ ap (entry_of n) (split-words (decimal n) (entry_words v e) (decimal-word n) (entry-are-words v n e s))
+    ∙ words-read v n (decimal n) e h fits
 
-pub entry-complete : (n : ℕ) (e : Entry) → IsPrintable n e → FitsFields e → entry_in n (entry_line n e) ≡ Some e
-entry-complete n e h fits =
-    let line : List ℕ = entry_line n e in
-    ap (kept_if n line) (entry-read n e h fits)
+pub entry-complete : (v n : ℕ) (e : Entry) → IsPrintable n e → FitsFields e → entry_in v n (entry_line v n e) ≡ Some e
+entry-complete v n e h fits =
+    let line : List ℕ = entry_line v n e in
+    ap (kept_if v n line) (entry-read v n e h fits)
     ∙ ap (λ (b : Bool). if b then Some e else None) (both-true (is_printable n e.session.0 e.ask e.reply) (bytes_eq line line) h (bytes-same line))
 
 -- an entry and its line
-pub record IsEntryLine (n : ℕ) (line : List ℕ) (e : Entry) : Type 0 where
+pub record IsEntryLine (v n : ℕ) (line : List ℕ) (e : Entry) : Type 0 where
   pub printable : IsPrintable n e
   pub fits : FitsFields e
-  pub is : line ≡ entry_line n e
+  pub is : line ≡ entry_line v n e
 
-kept-sound : (n : ℕ) (line : List ℕ) (o : Option Entry) (e : Entry) → IfSome o FitsFields → kept_if n line o ≡ Some e → IsEntryLine n line e
-kept-sound n line None e fits is = absurd cc
-kept-sound n line (Some x) e fits is = by_test (is_printable n x.session.0 x.ask x.reply && bytes_eq (entry_line n x) line) refl is
+kept-sound : (v n : ℕ) (line : List ℕ) (o : Option Entry) (e : Entry) → IfSome o FitsFields → kept_if v n line o ≡ Some e → IsEntryLine v n line e
+kept-sound v n line None e fits is = absurd cc
+kept-sound v n line (Some x) e fits is = by_test (is_printable n x.session.0 x.ask x.reply && bytes_eq (entry_line v n x) line) refl is
   where
-    by_test : (b : Bool) → (is_printable n x.session.0 x.ask x.reply && bytes_eq (entry_line n x) line) ≡ b → (if b then Some x else None) ≡ Some e → IsEntryLine n line e
+    by_test : (b : Bool) → (is_printable n x.session.0 x.ask x.reply && bytes_eq (entry_line v n x) line) ≡ b → (if b then Some x else None) ≡ Some e → IsEntryLine v n line e
     by_test true good same =
-        let parts = and_parts (is_printable n x.session.0 x.ask x.reply) (bytes_eq (entry_line n x) line) good in
-        let text : entry_line n x ≡ line = (bytes_eq-Decides (entry_line n x) line).0 parts.1 in
+        let parts = and_parts (is_printable n x.session.0 x.ask x.reply) (bytes_eq (entry_line v n x) line) good in
+        let text : entry_line v n x ≡ line = (bytes_eq-Decides (entry_line v n x) line).0 parts.1 in
         let one : x ≡ e = cc in
-        subst (IsEntryLine n line) one (record { printable = parts.0; fits = fits; is = sym text })
+        subst (IsEntryLine v n line) one (record { printable = parts.0; fits = fits; is = sym text })
     by_test false good same = absurd cc
 
-pub entry-sound : (n : ℕ) (line : List ℕ) (e : Entry) → Is32 n → entry_in n line ≡ Some e → IsEntryLine n line e
-entry-sound n line e small is = kept-sound n line (entry_of n (words_of (front_of 10 line))) e (what-fits n (words_of (front_of 10 line)) small) is
+pub entry-sound : (v n : ℕ) (line : List ℕ) (e : Entry) → Is32 n → entry_in v n line ≡ Some e → IsEntryLine v n line e
+entry-sound v n line e small is = kept-sound v n line (entry_of n (words_of (front_of 10 line))) e (what-fits n (words_of (front_of 10 line)) small) is
 
-pub entry-none : (n : ℕ) (line : List ℕ) (e : Entry) → entry_in n line ≡ None → IsEntryLine n line e → ⊥
-entry-none n line e none one =
-    let some : entry_in n line ≡ Some e = ap (entry_in n) one.is ∙ entry-complete n e one.printable one.fits in
+pub entry-none : (v n : ℕ) (line : List ℕ) (e : Entry) → entry_in v n line ≡ None → IsEntryLine v n line e → ⊥
+entry-none v n line e none one =
+    let some : entry_in v n line ≡ Some e = ap (entry_in v n) one.is ∙ entry-complete v n e one.printable one.fits in
     let apart : None ≡ Some e = sym none ∙ some in
     absurd cc
 
@@ -126,34 +127,77 @@ feed-not_digit h = absurd (omega (arith, h.0))
 blank-not_digit : IsDigit 32 → ⊥
 blank-not_digit h = absurd (omega (arith, h.0))
 
-start-pool : (p : ℕ) → Is32 p → pool_in (start_line p) ≡ p
-unfolding start_line pool_in
-start-pool p small = ap short_of (front-is 10 (decimal p) [] refl (digit-free 10 feed-not_digit p)) ∙ short-back p small
+-- what stands behind `vale` in a first line
+start-tail : (v p : ℕ) → drop 5 (start_line v p) ≡ decimal v ++ 32 ∷ (codes "pool " ++ (decimal p ++ codes "\n"))
+unfolding start_line
+start-tail v p =
+    append_assoc (decimal v ++ codes " pool ") (decimal p) (codes "\n") ∙ append_assoc (decimal v) (codes " pool ") (decimal p ++ codes "\n")
+
+start-version : (v p : ℕ) → Is32 v → version_in (start_line v p) ≡ v
+unfolding version_in
+start-version v p small =
+    ap (λ (t : List ℕ). short_of (front_of 32 t)) (start-tail v p)
+    ∙ ap short_of (front-is 32 (decimal v) (codes "pool " ++ (decimal p ++ codes "\n")) refl (digit-free 32 blank-not_digit v))
+    ∙ short-back v small
+
+start-pool : (v p : ℕ) → Is32 p → pool_in (start_line v p) ≡ p
+unfolding pool_in
+start-pool v p small =
+    ap (λ (t : List ℕ). short_of (front_of 10 (drop 5 (back_of 32 t)))) (start-tail v p)
+    ∙ ap (λ (t : List ℕ). short_of (front_of 10 (drop 5 t))) (back-is 32 (decimal v) (codes "pool " ++ (decimal p ++ codes "\n")) refl (digit-free 32 blank-not_digit v))
+    ∙ ap short_of (front-is 10 (decimal p) [] refl (digit-free 10 feed-not_digit p))
+    ∙ short-back p small
 
 at-most : (a b : ℕ) → a ≤ b → nat_le a b ≡ true
 at-most a b h = grind (arith, nat_tests, h)
 
-pub start-complete : (p : ℕ) → 1 ≤ p → p ≤ most_pool → is_start (start_line p) ≡ true
-start-complete p least most =
-    let pool : pool_in (start_line p) ≡ p = start-pool p (omega (arith, most)) in
-    ap (λ (k : ℕ). (nat_le 1 k && nat_le k most_pool) && bytes_eq (start_line k) (start_line p)) pool
-    ∙ both-true (nat_le 1 p && nat_le p most_pool) (bytes_eq (start_line p) (start_line p)) (both-true (nat_le 1 p) (nat_le p most_pool) (at-most 1 p least) (at-most p most_pool most)) (bytes-same (start_line p))
+-- a pool fits 32 bits in each version
+pub pool-small : (v p : ℕ) → p ≤ most_pool_of v → Is32 p
+pool-small v p most = by_version (v == 1) most
+  where
+    by_version : (b : Bool) → p ≤ (if b then 65536 else most_pool) → Is32 p
+    by_version true most = omega (arith, most)
+    by_version false most = omega (arith, most)
 
-pub record IsStart (line : List ℕ) : Type 0 where
-  pub pool : ℕ
-  pub least : 1 ≤ pool
-  pub most : pool ≤ most_pool
-  pub is : line ≡ start_line pool
+pub head-version : (oldest v p : ℕ) → IsHead oldest v p → Is32 v
+head-version oldest v p h = omega (arith, h.known)
 
-pub start-sound : (line : List ℕ) → is_start line ≡ true → IsStart line
-start-sound line h =
-    let parts = and_parts (nat_le 1 (pool_in line) && nat_le (pool_in line) most_pool) (bytes_eq (start_line (pool_in line)) line) h in
-    let range = and_parts (nat_le 1 (pool_in line)) (nat_le (pool_in line) most_pool) parts.0 in
+pub head-pool : (oldest v p : ℕ) → IsHead oldest v p → Is32 p
+head-pool oldest v p h = pool-small v p h.most
+
+abbrev starts : ℕ → ℕ → ℕ → List ℕ → Bool
+starts oldest v p line = is_version oldest v && (is_pool v p && bytes_eq (start_line v p) line)
+
+pub start-complete : (oldest v p : ℕ) → IsHead oldest v p → is_start oldest (start_line v p) ≡ true
+start-complete oldest v p h =
+    let line : List ℕ = start_line v p in
+    ap (λ (n : ℕ). starts oldest n (pool_in line) line) (start-version v p (head-version oldest v p h))
+    ∙ ap (λ (n : ℕ). starts oldest v n line) (start-pool v p (head-pool oldest v p h))
+    ∙ both-true (is_version oldest v) (is_pool v p && bytes_eq line line)
+    (both-true (nat_le oldest v) (nat_le v 2) (at-most oldest v h.since) (at-most v 2 h.known))
+    (both-true (is_pool v p) (bytes_eq line line) (both-true (nat_le 1 p) (nat_le p (most_pool_of v)) (at-most 1 p h.least) (at-most p (most_pool_of v) h.most)) (bytes-same line))
+
+-- a line that is the first one of a text of this version and pool
+pub record IsStart (oldest version pool : ℕ) (line : List ℕ) : Type 0 where
+  pub head : IsHead oldest version pool
+  pub is : line ≡ start_line version pool
+
+pub start-sound : (oldest : ℕ) (line : List ℕ) → is_start oldest line ≡ true → IsStart oldest (version_in line) (pool_in line) line
+start-sound oldest line h =
+    let v : ℕ = version_in line in
+    let p : ℕ = pool_in line in
+    let parts = and_parts (is_version oldest v) (is_pool v p && bytes_eq (start_line v p) line) h in
+    let known = and_parts (nat_le oldest v) (nat_le v 2) parts.0 in
+    let more = and_parts (is_pool v p) (bytes_eq (start_line v p) line) parts.1 in
+    let range = and_parts (nat_le 1 p) (nat_le p (most_pool_of v)) more.0 in
     record {
-      pool = pool_in line;
-      least = leb-true 1 (pool_in line) range.0;
-      most = leb-true (pool_in line) most_pool range.1;
-      is = sym ((bytes_eq-Decides (start_line (pool_in line)) line).0 parts.1);
+      head = record {
+        since = leb-true oldest v known.0;
+        known = leb-true v 2 known.1;
+        least = leb-true 1 p range.0;
+        most = leb-true p (most_pool_of v) range.1;
+      };
+      is = sym ((bytes_eq-Decides (start_line v p) line).0 more.1);
     }
 
 free-text : (w : List ℕ) → list_all (λ b. not (is_line_feed b)) w ≡ true → IsFree is_line_feed w
@@ -166,12 +210,16 @@ free-text (b ∷ bs) h =
     negated true e = sym e
     negated false e = refl
 
-pub start-is-line : (p : ℕ) → IsLine (start_line p)
+pub start-is-line : (v p : ℕ) → IsLine (start_line v p)
 unfolding start_line
-start-is-line p = record {
-  text = codes "vale 1 pool " ++ decimal p;
+start-is-line v p = record {
+  text = codes "vale " ++ decimal v ++ codes " pool " ++ decimal p;
   is = refl;
-  free = each-append (λ b. is_line_feed b ≡ false) (codes "vale 1 pool ") (decimal p) (free-text (codes "vale 1 pool ") refl) (number-free p);
+  free =
+      each-append (λ b. is_line_feed b ≡ false) (codes "vale " ++ decimal v ++ codes " pool ") (decimal p)
+      (each-append (λ b. is_line_feed b ≡ false) (codes "vale " ++ decimal v) (codes " pool ")
+      (each-append (λ b. is_line_feed b ≡ false) (codes "vale ") (decimal v) (free-text (codes "vale ") refl) (number-free v)) (free-text (codes " pool ") refl))
+      (number-free p);
 }
 
 -- The last line.
@@ -203,13 +251,17 @@ pub record IsEnd (count : ℕ) (line : List ℕ) : Type 0 where
   pub small : Is32 free
   pub is : line ≡ end_line count free
 
-free-small : (line : List ℕ) → Is32 (free_in line)
+pub free-small : (line : List ℕ) → Is32 (free_in line)
 unfolding free_in
 free-small line = short-fits (front_of 10 (drop 5 (back_of 32 (drop 4 line))))
 
 pub end-sound : (c : ℕ) (line : List ℕ) → is_end c line ≡ true → IsEnd c line
 end-sound c line h =
     record { free = free_in line; small = free-small line; is = sym ((bytes_eq-Decides (end_line c (free_in line)) line).0 h) }
+
+-- the last line, by what it tells
+pub end-told : (c : ℕ) (line : List ℕ) → is_end c line ≡ true → line ≡ end_line c (free_in line)
+end-told c line h = sym ((bytes_eq-Decides (end_line c (free_in line)) line).0 h)
 
 -- a line that begins with another letter is not the last one
 pub not_end : (c : ℕ) (line : List ℕ) → (slice_index line 0 == 101) ≡ false → is_end c line ≡ false
@@ -230,9 +282,9 @@ end-none c line none one =
     let apart : false ≡ true = sym none ∙ some in
     no-truth apart
 
-pub start-none : (line : List ℕ) → is_start line ≡ false → IsStart line → ⊥
-start-none line none one =
-    let some : is_start line ≡ true = ap is_start one.is ∙ start-complete one.pool one.least one.most in
+pub start-none : (oldest v p : ℕ) (line : List ℕ) → is_start oldest line ≡ false → IsStart oldest v p line → ⊥
+start-none oldest v p line none one =
+    let some : is_start oldest line ≡ true = ap (is_start oldest) one.is ∙ start-complete oldest v p one.head in
     let apart : false ≡ true = sym none ∙ some in
     no-truth apart
 

@@ -14,7 +14,7 @@ use Rattle.vale_entry.specs.declared.entry.Ask.TheVariants.{Enter, Open, Send, G
 use Rattle.vale_entry.specs.declared.entry.Reply.{Reply}
 use Rattle.vale_entry.specs.declared.entry.Reply.TheVariants.{Made, Opened, Refused, Offered, Shared, Gave, Took, PeerGone, Unread, Watching, NoTarget, Watched, Counted}
 use Rattle.vale_entry.specs.declared.entry.Entry.{Entry}
-use Rattle.vale_entry.specs.Transcript.{frames_text, numbers_text, dests_text, items_text, side_word, sides_word, fault_words, counts_words, ask_words, reply_words, refusal_words as fault_of_open, is_unmarked, dests_rise, words_text, entry_line, is_refusal, is_printable, IsPrintable}
+use Rattle.vale_entry.specs.Transcript.{frames_text, buffers_text, dests_text, items_text, side_word, sides_word, fault_words, counts_words, ask_words, reply_words, refusal_words as fault_of_open, is_unmarked, dests_rise, words_text, entry_line, is_refusal, is_printable, IsPrintable}
 use Rattle.nm_types.specs.SyncFaults.{is_check_fault}
 use Rattle.nm_types.specs.declared.fault.SyncFault.{SyncFault}
 use Rattle.nm_types.specs.declared.fault.SyncFault.TheVariants as checks
@@ -26,7 +26,7 @@ use Rattle.nm_types.specs.declared.id.Counts.{Counts}
 use Rattle.vale_entry.specs.declared.entry.Item.{Item}
 use Rattle.vale_entry.specs.Fits.{FitsU64, FitsEntry, u64_widths, DestFits, RefusalFits, FaultFits, ReplyFits, CountsFits, AskFits}
 use Rattle.vale_fields.proofs.Cuts.{IsWord, spell}
-use Rattle.vale_fields.proofs.Texts.{decimal-word, decimal-same as equal, decimal-digits, not-number, numbers-same, numbers-word, dests-same, dests-word, frames-same, frames-word, IsPlainItem, plain-items, items-same, items-word}
+use Rattle.vale_fields.proofs.Texts.{decimal-word, decimal-same as equal, decimal-digits, not-number, buffers-same, buffers-word, dests-same, dests-word, frames-same, frames-word, IsPlainItem, plain-items, items-same, items-word}
 use Rattle.vale_text.proofs.NameWords.{literal, name-word}
 
 -- what a watch is answered
@@ -88,26 +88,26 @@ answer_words (watching port) = codes "ok" ∷ decimal port ∷ []
 answer_words no_target = codes "notarget" ∷ []
 answer_words (watched_by port) = codes "watched" ∷ decimal port ∷ []
 
--- the words behind the entry's number
-abbrev pub words : Said → List (List ℕ)
-words (entered user) = codes "enter" ∷ decimal user ∷ []
-words (opened s name tx rx extra refusal) = decimal s ∷ codes "open" ∷ name ∷ decimal tx ∷ decimal rx ∷ decimal extra ∷ codes "=" ∷ refusal_words refusal
-words (sent s port frames short lone to) =
+-- the words behind the entry's number, in a text of version v
+abbrev pub words : ℕ → Said → List (List ℕ)
+words v (entered user) = codes "enter" ∷ decimal user ∷ []
+words v (opened s name tx rx extra refusal) = decimal s ∷ codes "open" ∷ name ∷ decimal tx ∷ decimal rx ∷ decimal extra ∷ codes "=" ∷ refusal_words refusal
+words v (sent s port frames short lone to) =
     decimal s ∷ codes "send" ∷ decimal port ∷ frames_text frames ∷ codes "=" ∷ codes "short" ∷ decimal short ∷ codes "lone" ∷ decimal lone ∷ codes "to" ∷ dests_text to ∷ []
-words (granted s origin to given full gone) =
+words v (granted s origin to given full gone) =
     decimal s ∷ codes "grant" ∷ decimal origin ∷ decimal to ∷ codes "=" ∷ codes "given" ∷ decimal given ∷ codes "full" ∷ decimal full ∷ codes "gone" ∷ decimal gone ∷ []
-words (completed s lease) = decimal s ∷ codes "done" ∷ decimal lease ∷ []
-words (synced s port back count to) = decimal s ∷ codes "sync" ∷ decimal port ∷ numbers_text back ∷ codes "=" ∷ codes "gave" ∷ decimal count ∷ codes "to" ∷ dests_text to ∷ []
-words (closed s port) = decimal s ∷ codes "shut" ∷ decimal port ∷ []
-words (finished s port bufs found astray count) =
-    decimal s ∷ codes "finish" ∷ decimal port ∷ numbers_text bufs ∷ codes "found" ∷ decimal found ∷ codes "astray" ∷ decimal astray ∷ codes "=" ∷ codes "unread" ∷ decimal count ∷ []
-words (departed s) = decimal s ∷ codes "leave" ∷ []
-words (reset s port side fault) = decimal s ∷ codes "reset" ∷ decimal port ∷ side_word side ∷ fault_words fault
-words (took s port offered items to) = decimal s ∷ codes "put" ∷ decimal port ∷ decimal offered ∷ codes "=" ∷ codes "took" ∷ items_text items ∷ codes "to" ∷ dests_text to ∷ []
-words (lost s port offered) = decimal s ∷ codes "put" ∷ decimal port ∷ decimal offered ∷ codes "=" ∷ codes "peergone" ∷ []
-words (received s port back count to) = decimal s ∷ codes "get" ∷ decimal port ∷ numbers_text back ∷ codes "=" ∷ codes "gave" ∷ decimal count ∷ codes "to" ∷ dests_text to ∷ []
-words (monitored s monitor name sides answer) = decimal s ∷ codes "watch" ∷ decimal monitor ∷ name ∷ sides_word sides ∷ codes "=" ∷ answer_words answer
-words (counted s port counts) = decimal s ∷ codes "stat" ∷ decimal port ∷ codes "=" ∷ counts_words counts
+words v (completed s lease) = decimal s ∷ codes "done" ∷ decimal lease ∷ []
+words v (synced s port back count to) = decimal s ∷ codes "sync" ∷ decimal port ∷ buffers_text v back ∷ codes "=" ∷ codes "gave" ∷ decimal count ∷ codes "to" ∷ dests_text to ∷ []
+words v (closed s port) = decimal s ∷ codes "shut" ∷ decimal port ∷ []
+words v (finished s port bufs found astray count) =
+    decimal s ∷ codes "finish" ∷ decimal port ∷ buffers_text v bufs ∷ codes "found" ∷ decimal found ∷ codes "astray" ∷ decimal astray ∷ codes "=" ∷ codes "unread" ∷ decimal count ∷ []
+words v (departed s) = decimal s ∷ codes "leave" ∷ []
+words v (reset s port side fault) = decimal s ∷ codes "reset" ∷ decimal port ∷ side_word side ∷ fault_words fault
+words v (took s port offered items to) = decimal s ∷ codes "put" ∷ decimal port ∷ decimal offered ∷ codes "=" ∷ codes "took" ∷ items_text items ∷ codes "to" ∷ dests_text to ∷ []
+words v (lost s port offered) = decimal s ∷ codes "put" ∷ decimal port ∷ decimal offered ∷ codes "=" ∷ codes "peergone" ∷ []
+words v (received s port back count to) = decimal s ∷ codes "get" ∷ decimal port ∷ buffers_text v back ∷ codes "=" ∷ codes "gave" ∷ decimal count ∷ codes "to" ∷ dests_text to ∷ []
+words v (monitored s monitor name sides answer) = decimal s ∷ codes "watch" ∷ decimal monitor ∷ name ∷ sides_word sides ∷ codes "=" ∷ answer_words answer
+words v (counted s port counts) = decimal s ∷ codes "stat" ∷ decimal port ∷ codes "=" ∷ counts_words counts
 
 abbrev IsSaidRefusal : Option OpenFault → Type 0
 IsSaidRefusal None = Unit {0}
@@ -141,8 +141,8 @@ IsPlain (counted s port counts) = FitsU64 s × FitsU64 port × CountsFits u64_wi
 
 -- Each line is its words.
 
-abbrev pub entry_words : Entry → List (List ℕ)
-entry_words e = ask_words e.session.0 e.ask ++ reply_words e.reply
+abbrev pub entry_words : ℕ → Entry → List (List ℕ)
+entry_words v e = ask_words v e.session.0 e.ask ++ reply_words e.reply
 
 -- a word and more words, each behind a blank, up to a line feed
 spell-front : (w : List ℕ) (ws : List (List ℕ)) (a : List ℕ) → (w ++ words_text ws ++ 10 ∷ []) ++ a ≡ w ++ ((words_text ws ++ 10 ∷ []) ++ a)
@@ -156,28 +156,28 @@ spell-is w (v ∷ vs) a =
     ∙ append_assoc w (32 ∷ v) ((words_text vs ++ 10 ∷ []) ++ a)
     ∙ ap (λ (t : List ℕ). w ++ 32 ∷ t) (sym (spell-front v vs a) ∙ spell-is v vs a)
 
-pub said-words : (n : ℕ) (x : Said) → entry_words (said_entry n x) ≡ words x
-said-words n (opened s name tx rx extra None) = refl
-said-words n (opened s name tx rx extra (Some fault)) = refl
-said-words n (monitored s monitor name sides (watching port)) = refl
-said-words n (monitored s monitor name sides no_target) = refl
-said-words n (monitored s monitor name sides (watched_by port)) = refl
-said-words n (entered user) = refl
-said-words n (sent s port frames short lone to) = refl
-said-words n (granted s origin to given full gone) = refl
-said-words n (completed s lease) = refl
-said-words n (synced s port back count to) = refl
-said-words n (closed s port) = refl
-said-words n (finished s port bufs found astray count) = refl
-said-words n (departed s) = refl
-said-words n (reset s port side fault) = append-nil (decimal s ∷ codes "reset" ∷ decimal port ∷ side_word side ∷ fault_words fault)
-said-words n (took s port offered items to) = refl
-said-words n (lost s port offered) = refl
-said-words n (received s port back count to) = refl
-said-words n (counted s port counts) = refl
+pub said-words : (v n : ℕ) (x : Said) → entry_words v (said_entry n x) ≡ words v x
+said-words v n (opened s name tx rx extra None) = refl
+said-words v n (opened s name tx rx extra (Some fault)) = refl
+said-words v n (monitored s monitor name sides (watching port)) = refl
+said-words v n (monitored s monitor name sides no_target) = refl
+said-words v n (monitored s monitor name sides (watched_by port)) = refl
+said-words v n (entered user) = refl
+said-words v n (sent s port frames short lone to) = refl
+said-words v n (granted s origin to given full gone) = refl
+said-words v n (completed s lease) = refl
+said-words v n (synced s port back count to) = refl
+said-words v n (closed s port) = refl
+said-words v n (finished s port bufs found astray count) = refl
+said-words v n (departed s) = refl
+said-words v n (reset s port side fault) = append-nil (decimal s ∷ codes "reset" ∷ decimal port ∷ side_word side ∷ fault_words fault)
+said-words v n (took s port offered items to) = refl
+said-words v n (lost s port offered) = refl
+said-words v n (received s port back count to) = refl
+said-words v n (counted s port counts) = refl
 
-pub line-spelled : (n : ℕ) (x : Said) (a : List ℕ) → entry_line n (said_entry n x) ++ a ≡ spell (decimal n) (words x) a
-line-spelled n x a = ap (λ (ws : List (List ℕ)). (decimal n ++ words_text ws ++ 10 ∷ []) ++ a) (said-words n x) ∙ spell-is (decimal n) (words x) a
+pub line-spelled : (v n : ℕ) (x : Said) (a : List ℕ) → entry_line v n (said_entry n x) ++ a ≡ spell (decimal n) (words v x) a
+line-spelled v n x a = ap (λ (ws : List (List ℕ)). (decimal n ++ words_text ws ++ 10 ∷ []) ++ a) (said-words v n x) ∙ spell-is (decimal n) (words v x) a
 
 refusal-are-words : (refusal : Option OpenFault) → Each IsWord (refusal_words refusal)
 refusal-are-words None = (literal (codes "ok") refl, tt)
@@ -254,38 +254,38 @@ counts-are-words counts = (
   ),
 )
 
-pub are-words : (x : Said) → IsPlain x → Each IsWord (words x)
-are-words (entered user) plain = (literal (codes "enter") refl, (decimal-word user, tt))
-are-words (opened s name tx rx extra refusal) plain =
+pub are-words : (v : ℕ) (x : Said) → IsPlain x → Each IsWord (words v x)
+are-words v (entered user) plain = (literal (codes "enter") refl, (decimal-word user, tt))
+are-words v (opened s name tx rx extra refusal) plain =
     (decimal-word s, (literal (codes "open") refl, (plain.1, (decimal-word tx, (decimal-word rx, (decimal-word extra, (literal (codes "=") refl, refusal-are-words refusal)))))))
-are-words (sent s port frames short lone to) plain =
+are-words v (sent s port frames short lone to) plain =
     let reply = offered-are-words short lone to plain.4 in
     (decimal-word s, (literal (codes "send") refl, (decimal-word port, (frames-word frames, (literal (codes "=") refl, reply)))))
-are-words (granted s origin to given full gone) plain =
+are-words v (granted s origin to given full gone) plain =
     let reply = shared-are-words given full gone in
     (decimal-word s, (literal (codes "grant") refl, (decimal-word origin, (decimal-word to, (literal (codes "=") refl, reply)))))
-are-words (completed s lease) plain = (decimal-word s, (literal (codes "done") refl, (decimal-word lease, tt)))
-are-words (synced s port back count to) plain =
+are-words v (completed s lease) plain = (decimal-word s, (literal (codes "done") refl, (decimal-word lease, tt)))
+are-words v (synced s port back count to) plain =
     let reply = gave-are-words count to plain.4 in
-    (decimal-word s, (literal (codes "sync") refl, (decimal-word port, (numbers-word back plain.2, (literal (codes "=") refl, reply)))))
-are-words (closed s port) plain = (decimal-word s, (literal (codes "shut") refl, (decimal-word port, tt)))
-are-words (finished s port bufs found astray count) plain =
+    (decimal-word s, (literal (codes "sync") refl, (decimal-word port, (buffers-word v back, (literal (codes "=") refl, reply)))))
+are-words v (closed s port) plain = (decimal-word s, (literal (codes "shut") refl, (decimal-word port, tt)))
+are-words v (finished s port bufs found astray count) plain =
     let rest = found-are-words found astray count in
-    (decimal-word s, (literal (codes "finish") refl, (decimal-word port, (numbers-word bufs plain.2, rest))))
-are-words (departed s) plain = (decimal-word s, (literal (codes "leave") refl, tt))
-are-words (reset s port side fault) plain =
+    (decimal-word s, (literal (codes "finish") refl, (decimal-word port, (buffers-word v bufs, rest))))
+are-words v (departed s) plain = (decimal-word s, (literal (codes "leave") refl, tt))
+are-words v (reset s port side fault) plain =
     let rest = fault-are-words fault in
     (decimal-word s, (literal (codes "reset") refl, (decimal-word port, (side-is-word side, rest))))
-are-words (took s port offered items to) plain =
+are-words v (took s port offered items to) plain =
     (decimal-word s, (literal (codes "put") refl, (decimal-word port, (decimal-word offered, (literal (codes "=") refl, (literal (codes "took") refl, (items-word items plain.3, (literal (codes "to") refl, (dests-word to plain.4, tt)))))))))
-are-words (lost s port offered) plain = (decimal-word s, (literal (codes "put") refl, (decimal-word port, (decimal-word offered, (literal (codes "=") refl, (literal (codes "peergone") refl, tt))))))
-are-words (received s port back count to) plain =
+are-words v (lost s port offered) plain = (decimal-word s, (literal (codes "put") refl, (decimal-word port, (decimal-word offered, (literal (codes "=") refl, (literal (codes "peergone") refl, tt))))))
+are-words v (received s port back count to) plain =
     let reply = gave-are-words count to plain.4 in
-    (decimal-word s, (literal (codes "get") refl, (decimal-word port, (numbers-word back plain.2, (literal (codes "=") refl, reply)))))
-are-words (monitored s monitor name sides answer) plain =
+    (decimal-word s, (literal (codes "get") refl, (decimal-word port, (buffers-word v back, (literal (codes "=") refl, reply)))))
+are-words v (monitored s monitor name sides answer) plain =
     let rest = answer-are-words answer in
     (decimal-word s, (literal (codes "watch") refl, (decimal-word monitor, (plain.2, (sides-is-word sides, (literal (codes "=") refl, rest))))))
-are-words (counted s port counts) plain =
+are-words v (counted s port counts) plain =
     let rest = counts-are-words counts in
     (decimal-word s, (literal (codes "stat") refl, (decimal-word port, (literal (codes "=") refl, rest))))
 
@@ -406,61 +406,61 @@ said_session (received s port back count to) = s
 said_session (monitored s monitor name sides answer) = s
 said_session (counted s port counts) = s
 
-pub words-same : (x y : Said) → IsPlain x → IsPlain y → words x ≡ words y → x ≡ y
-words-same (entered u) (entered v) px py e = let same = equal u v px py (word e 1) in ap entered same
-words-same (entered u) y px py e = absurd (not-number (decimal (said_session y)) 101 (drop 1 (codes "enter")) (decimal-digits (said_session y)) (omega arith) (sym (word e 0)))
-words-same x (entered v) px py e = absurd (not-number (decimal (said_session x)) 101 (drop 1 (codes "enter")) (decimal-digits (said_session x)) (omega arith) (word e 0))
-words-same (opened s name tx rx extra r) (opened t other ux sx more q) px py e =
+pub words-same : (v : ℕ) (x y : Said) → IsPlain x → IsPlain y → words v x ≡ words v y → x ≡ y
+words-same v (entered u) (entered w) px py e = let same = equal u w px py (word e 1) in ap entered same
+words-same v (entered u) y px py e = absurd (not-number (decimal (said_session y)) 101 (drop 1 (codes "enter")) (decimal-digits (said_session y)) (omega arith) (sym (word e 0)))
+words-same v x (entered w) px py e = absurd (not-number (decimal (said_session x)) 101 (drop 1 (codes "enter")) (decimal-digits (said_session x)) (omega arith) (word e 0))
+words-same v (opened s name tx rx extra r) (opened t other ux sx more q) px py e =
     rw (equal s t px.0 py.0 (word e 0), word e 2, equal tx ux px.2 py.2 (word e 3))
     (rw (equal rx sx px.3 py.3 (word e 4), equal extra more px.4 py.4 (word e 5))
     (rw (refusal-same r q px.5 py.5 (ap (drop 7) e)) refl))
-words-same (sent s port frames short lone to) (sent t gate others few single dests) px py e =
+words-same v (sent s port frames short lone to) (sent t gate others few single dests) px py e =
     rw (equal s t px.0 py.0 (word e 0), equal port gate px.1 py.1 (word e 2))
     (rw (frames-same frames others (word e 3), equal short few px.2 py.2 (word e 6))
     (rw (equal lone single px.3 py.3 (word e 8), dests-same to dests px.4 py.4 (word e 10)) refl))
-words-same (granted s origin to given full gone) (granted t source at some over left) px py e =
+words-same v (granted s origin to given full gone) (granted t source at some over left) px py e =
     rw (equal s t px.0 py.0 (word e 0), equal origin source px.1 py.1 (word e 2))
     (rw (equal to at px.2 py.2 (word e 3), equal given some px.3 py.3 (word e 6))
     (rw (equal full over px.4 py.4 (word e 8), equal gone left px.5 py.5 (word e 10)) refl))
-words-same (completed s lease) (completed t other) px py e =
+words-same v (completed s lease) (completed t other) px py e =
     rw (equal s t px.0 py.0 (word e 0), equal lease other px.1 py.1 (word e 2)) refl
-words-same (synced s port back count to) (synced t gate others few dests) px py e =
+words-same v (synced s port back count to) (synced t gate others few dests) px py e =
     rw (equal s t px.0 py.0 (word e 0), equal port gate px.1 py.1 (word e 2))
-    (rw (numbers-same back others px.2 py.2 (word e 3))
+    (rw (buffers-same v back others px.2 py.2 (word e 3))
     (rw (equal count few px.3 py.3 (word e 6), dests-same to dests px.4 py.4 (word e 8)) refl))
-words-same (closed s port) (closed t gate) px py e =
+words-same v (closed s port) (closed t gate) px py e =
     rw (equal s t px.0 py.0 (word e 0), equal port gate px.1 py.1 (word e 2)) refl
-words-same (finished s port bufs found astray count) (finished t gate others seen missed few) px py e =
+words-same v (finished s port bufs found astray count) (finished t gate others seen missed few) px py e =
     rw (equal s t px.0 py.0 (word e 0), equal port gate px.1 py.1 (word e 2))
-    (rw (numbers-same bufs others px.2 py.2 (word e 3))
+    (rw (buffers-same v bufs others px.2 py.2 (word e 3))
     (rw (equal found seen px.3 py.3 (word e 5), equal astray missed px.4 py.4 (word e 7))
     (rw (equal count few px.5 py.5 (word e 10)) refl)))
-words-same (departed s) (departed t) px py e = ap departed (equal s t px py (word e 0))
-words-same (reset s port side fault) (reset t gate ring other) px py e =
+words-same v (departed s) (departed t) px py e = ap departed (equal s t px py (word e 0))
+words-same v (reset s port side fault) (reset t gate ring other) px py e =
     rw (equal s t px.0 py.0 (word e 0), equal port gate px.1 py.1 (word e 2))
     (rw (side-same side ring (word e 3), fault-same fault other px.2 py.2 (ap (drop 4) e)) refl)
-words-same (took s port offered items to) (took t gate count others dests) px py e =
+words-same v (took s port offered items to) (took t gate count others dests) px py e =
     rw (equal s t px.0 py.0 (word e 0), equal port gate px.1 py.1 (word e 2))
     (rw (equal offered count px.2 py.2 (word e 3))
     (rw (items-same items others px.3 py.3 (word e 6))
     (rw (dests-same to dests px.4 py.4 (word e 8)) refl)))
-words-same (took s port offered items to) (lost t gate count) px py e = absurd (omega (arith, ap (mark_at 5) e))
-words-same (lost s port offered) (took t gate count others dests) px py e = absurd (omega (arith, ap (mark_at 5) e))
-words-same (lost s port offered) (lost t gate count) px py e =
+words-same v (took s port offered items to) (lost t gate count) px py e = absurd (omega (arith, ap (mark_at 5) e))
+words-same v (lost s port offered) (took t gate count others dests) px py e = absurd (omega (arith, ap (mark_at 5) e))
+words-same v (lost s port offered) (lost t gate count) px py e =
     rw (equal s t px.0 py.0 (word e 0), equal port gate px.1 py.1 (word e 2))
     (rw (equal offered count px.2 py.2 (word e 3)) refl)
-words-same (received s port back count to) (received t gate others few dests) px py e =
+words-same v (received s port back count to) (received t gate others few dests) px py e =
     rw (equal s t px.0 py.0 (word e 0), equal port gate px.1 py.1 (word e 2))
-    (rw (numbers-same back others px.2 py.2 (word e 3))
+    (rw (buffers-same v back others px.2 py.2 (word e 3))
     (rw (equal count few px.3 py.3 (word e 6), dests-same to dests px.4 py.4 (word e 8)) refl))
-words-same (monitored s monitor name sides answer) (monitored t other target more reply) px py e =
+words-same v (monitored s monitor name sides answer) (monitored t other target more reply) px py e =
     rw (equal s t px.0 py.0 (word e 0), equal monitor other px.1 py.1 (word e 2), word e 3)
     (rw (sides-same sides more (word e 4))
     (rw (answer-same answer reply px.3 py.3 (ap (drop 6) e)) refl))
-words-same (counted s port counts) (counted t gate others) px py e =
+words-same v (counted s port counts) (counted t gate others) px py e =
     rw (equal s t px.0 py.0 (word e 0), equal port gate px.1 py.1 (word e 2))
     (rw (counts-same counts others px.2 py.2 (ap (drop 4) e)) refl)
-words-same x y px py e = absurd (omega (arith, ap (mark_at 1) e))
+words-same v x y px py e = absurd (omega (arith, ap (mark_at 1) e))
 
 -- What a printable entry says.
 

@@ -1,6 +1,5 @@
 -- Numbers spelled two digits at a time.
 use Rattle.std.proofs.Common.{◌≡◌, ℕ, zero, suc, ◌+◌, ◌-◌, ◌*◌, ◌/◌, ◌%◌, ◌^◌, ◌<◌, ◌≤◌, Bool, true, ◌&&◌, T, eqb, List, [], ◌∷◌, ◌++◌, length, take, drop, set, get_or, decimal, refl, ap, sym, subst, ◌∙◌, inl, inr, arith, eq-zero-or-pos, eqb→eq, append_assoc, length-set}
-use Rattle.std.specs.List.{flat_map}
 use lib.Ieee.Fits.{and_l, and_r}
 use Rattle.std.specs.Simd.Lanes.{put_chunk}
 use Rattle.std.proofs.lemmas.Grind.{take-set_at}
@@ -9,7 +8,6 @@ use Rattle.std.proofs.lemmas.Simd.{take_more_put_chunk, length-put_chunk}
 use Rattle.std.proofs.lemmas.Fmt.{decimal_digit, decimal_step}
 use Rattle.vale_text.specs.Placed.{Placed}
 use Rattle.vale_text.proofs.Places.{placed-then}
-use Rattle.vale_text.proofs.Strips.{flat_map-more}
 use Rattle.vale_text.specs.declared.numerals.TheConstants.{PAIRS}
 
 abbrev pub two_digits : ℕ → List ℕ
@@ -104,10 +102,3 @@ placed-first-one buf at n small room = rw (decimal_digit n small) (placed-one bu
 
 pub placed-first-two : {a b : List ℕ} {at : ℕ} (n : ℕ) → 10 ≤ n → n < 100 → Placed a b at (two_digits n) (at + 2) → Placed a b at (decimal n) (at + 2)
 placed-first-two n lo hi p = rw (decimal_two n lo hi) p
-
--- the next number, behind a comma
-pub placed-next : {a b c : List ℕ} {at here end : ℕ} (f : ℕ → List ℕ) (xs : List ℕ) (i x : ℕ) → i < length xs → x ≡ get_or xs i x
-    → Placed a b at (flat_map f (take i xs)) here → Placed b c here (f x) end → Placed a c at (flat_map f (take (i + 1) xs)) end
-placed-next {a} {b} {c} {at} {here} {end} f xs i x h same p q =
-    let next : flat_map f (take (i + 1) xs) ≡ flat_map f (take i xs) ++ f x = flat_map-more f xs i x h ∙ ap (λ z. flat_map f (take i xs) ++ f z) (sym same) in
-    subst (λ (t : List ℕ). Placed a c at t end) (sym next) (placed-then p q)

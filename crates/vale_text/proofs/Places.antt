@@ -4,7 +4,7 @@ use Rattle.std.specs.List.{flat_map}
 use Rattle.std.specs.Simd.Lanes.{put_chunk}
 use Rattle.std.proofs.Math.Seq.{take-append_seam}
 use Rattle.std.proofs.lemmas.Simd.{take_more_put_chunk, length-put_chunk}
-use Rattle.std.proofs.lemmas.List.{append-nil, drop-drop}
+use Rattle.std.proofs.lemmas.List.{drop-drop}
 use Rattle.std.proofs.lemmas.Grind.{flat_map-append}
 use Rattle.vale_text.specs.Placed.{Placed}
 use Rattle.vale_entry.specs.Transcript.{hex_digit, hex_byte}
@@ -27,9 +27,6 @@ placed-less {a} {b} {xs} {i} {j} n within few p =
       moved = omega (arith, length-take-le n xs few);
       len = p.len;
     }
-
-pub placed-nothing : (a : List ℕ) (i : ℕ) → Placed a a i [] i
-placed-nothing a i = record { bytes = sym (append-nil (take i a)); moved = omega arith; len = refl }
 
 hex-length : (xs : List ℕ) → length (flat_map hex_byte xs) ≡ 2 * length xs
 hex-length [] = refl

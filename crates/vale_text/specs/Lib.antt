@@ -4,4 +4,5 @@ pub mod Lines
 pub mod Pieces
 pub mod Placed
 pub mod Reading
+pub mod Spans
 pub mod Written

@@ -32,12 +32,28 @@ front_of mark text = front_by (mark_in mark text) text
 abbrev pub back_of : ℕ → List ℕ → List ℕ
 back_of mark text = back_by (mark_in mark text) text
 
--- the pool that a first line tells
-unfoldable pub pool_in : List ℕ → ℕ
-pool_in line = short_of (front_of 10 (drop 12 line))
+-- the version that a first line tells, and the pool, which stands behind it and the word `pool`
+unfoldable pub version_in : List ℕ → ℕ
+version_in line = short_of (front_of 32 (drop 5 line))
 
-abbrev pub is_start : List ℕ → Bool
-is_start line = (nat_le 1 (pool_in line) && nat_le (pool_in line) most_pool) && bytes_eq (start_line (pool_in line)) line
+unfoldable pub pool_in : List ℕ → ℕ
+pool_in line = short_of (front_of 10 (drop 5 (back_of 32 (drop 5 line))))
+
+-- the greatest pool of a text of this version
+abbrev pub most_pool_of : ℕ → ℕ
+most_pool_of version = if version == 1 then 65536 else most_pool
+
+-- the oldest version that is read is told, and the newest one is 2
+abbrev pub is_version : ℕ → ℕ → Bool
+is_version oldest version = nat_le oldest version && nat_le version 2
+
+abbrev pub is_pool : ℕ → ℕ → Bool
+is_pool version pool = nat_le 1 pool && nat_le pool (most_pool_of version)
+
+abbrev pub is_start : ℕ → List ℕ → Bool
+is_start oldest line =
+    is_version oldest (version_in line)
+    && (is_pool (version_in line) (pool_in line) && bytes_eq (start_line (version_in line) (pool_in line)) line)
 
 -- the free buffers that a last line tells: they stand behind the count and the word `free`
 unfoldable pub free_in : List ℕ → ℕ
@@ -46,11 +62,11 @@ free_in line = short_of (front_of 10 (drop 5 (back_of 32 (drop 4 line))))
 abbrev pub is_end : ℕ → List ℕ → Bool
 is_end count line = bytes_eq (end_line count (free_in line)) line
 
-abbrev pub kept_if : ℕ → List ℕ → Option Entry → Option Entry
-kept_if number line None = None
-kept_if number line (Some entry) =
-    if is_printable number entry.session.0 entry.ask entry.reply && bytes_eq (entry_line number entry) line then Some entry else None
+abbrev pub kept_if : ℕ → ℕ → List ℕ → Option Entry → Option Entry
+kept_if version number line None = None
+kept_if version number line (Some entry) =
+    if is_printable number entry.session.0 entry.ask entry.reply && bytes_eq (entry_line version number entry) line then Some entry else None
 
--- the entry whose line this is
-abbrev pub entry_in : ℕ → List ℕ → Option Entry
-entry_in number line = kept_if number line (entry_of number (words_of (front_of 10 line)))
+-- the entry whose line this is in a text of this version
+abbrev pub entry_in : ℕ → ℕ → List ℕ → Option Entry
+entry_in version number line = kept_if version number line (entry_of number (words_of (front_of 10 line)))

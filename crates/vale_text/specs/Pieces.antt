@@ -5,7 +5,7 @@ use Rattle.vale_text.specs.declared.pieces.Part.{Part}
 use Rattle.vale_text.specs.declared.pieces.Part.TheVariants.{Number as Digits, Text, Hex}
 use Rattle.vale_text.specs.declared.pieces.Piece.{Piece}
 use Rattle.vale_text.specs.declared.pieces.Piece.TheVariants.{Number, Word, Frames, Buffers, Destinations, Taken}
-use Rattle.vale_entry.specs.Transcript.{hex_text, frames_text, numbers_text, dests_text, items_text}
+use Rattle.vale_entry.specs.Transcript.{hex_text, frames_text, buffers_text, dests_text, items_text}
 
 abbrev pub part_text : Part → List ℕ
 part_text (Digits n) = decimal n
@@ -29,7 +29,7 @@ abbrev pub piece_text : Piece → List ℕ
 piece_text (Number n) = decimal n
 piece_text (Word word) = word.now
 piece_text (Frames frames) = frames_text frames.now
-piece_text (Buffers numbers) = numbers_text numbers.now
+piece_text (Buffers version numbers) = buffers_text version numbers.now
 piece_text (Destinations dests) = dests_text dests.now
 piece_text (Taken items) = items_text items.now
 

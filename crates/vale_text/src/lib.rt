@@ -7,12 +7,13 @@ mod numerals;
 mod pieces;
 mod reader;
 mod rows;
+mod spans;
 mod strip;
 #[cfg(test)]
 mod tests;
 mod transcript;
 
 pub use pieces::{Part, put_parts};
-pub use reader::{TextFault, read};
-pub use rows::{EndLine, EntryLine, StartLine, write_line};
+pub use reader::{Text, TextFault, read, read_any};
+pub use rows::{EndLine, EntryLine, StartLine, VERSION, write_line};
 pub use transcript::{PutError, write_transcript};

@@ -1,6 +1,5 @@
 //! Numbers in decimal digits. Most numbers of a transcript are below 10,000.
 ghost use Rattle.std.specs.Prelude.{◌≡◌, ◌≤◌, ◌<◌, ◌*◌, ◌/◌, ◌%◌, ◌+◌, ◌∷◌, [], length, decimal};
-ghost use Rattle.std.specs.List.{flat_map};
 ghost use Rattle.vale_text.specs.Pieces.{behind};
 ghost use Rattle.vale_text.specs.Placed.{Placed, PlacedFew};
 
@@ -150,7 +149,7 @@ fn place_other(buf: &mut [u8], at: usize, number: u64) -> (usize, u64)
 /// four digits, else 0. `high` is what was so returned of another number, whose first digits it may
 /// share.
 #[inline(always)]
-fn place_next(buf: &mut [u8], at: usize, high: u64, number: u64) -> (usize, u64)
+pub(crate) fn place_next(buf: &mut [u8], at: usize, high: u64, number: u64) -> (usize, u64)
     requires room { at + 21 ≤ length buf.old }
     requires hundreds { high < 100 }
     ensures placed { Placed buf.old buf.new at (behind 44 decimal number) result.0 }
@@ -163,16 +162,4 @@ fn place_next(buf: &mut [u8], at: usize, high: u64, number: u64) -> (usize, u64)
         return (place_four(buf, at + 1, high, number - from), high);
     }
     place_other(buf, at + 1, number)
-}
-
-/// Writes numbers, each behind a comma, and returns where they end. Most follow one another.
-pub(crate) fn place_numbers(buf: &mut [u8], at: usize, numbers: &[u32]) -> usize
-    requires { at + 21 * length numbers.now ≤ length buf.old }
-    ensures { Placed buf.old buf.new at (flat_map (behind 44 decimal) numbers.now) result }
-{
-    let (mut end, mut high) = (at, 0);
-    for number in numbers {
-        (end, high) = place_next(buf, end, high, *number as u64);
-    }
-    end
 }

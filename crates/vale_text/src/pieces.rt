@@ -3,13 +3,15 @@ ghost use Rattle.std.specs.Prelude.{◌≡◌, ◌≤◌, ℕ, List, [], ◌∷�
 ghost use Rattle.std.specs.List.{flat_map};
 ghost use Rattle.nm_io.specs.Counts.{Rose};
 ghost use Rattle.nm_io.specs.Held.{Writes};
-ghost use Rattle.vale_entry.specs.Transcript.{frame_text, frames_text, numbers_text, dest_text, item_text, list_text};
+ghost use Rattle.vale_entry.specs.Transcript.{frame_text, frames_text, span_text, buffers_text, dest_text, item_text, list_text};
+ghost use Rattle.vale_entry.specs.Spans.{spans_in};
 ghost use Rattle.vale_text.specs.Failures.{Puts, CountsFailures};
 ghost use Rattle.vale_text.specs.Pieces.{behind, part_text, parts_text, piece_text, pieces_text};
 
+use crate::spans::first_span;
 use crate::strip::{
-    SHORT_FRAME, Strip, put_byte, put_hex, put_more_numbers, put_number, put_number_after,
-    put_short_frame, put_strip, put_text, put_text_after,
+    SHORT_FRAME, Strip, put_byte, put_hex, put_more_runs, put_number, put_number_after,
+    put_short_frame, put_span, put_span_after, put_strip, put_text, put_text_after,
 };
 use nm_io::{Failed, Sink};
 use nm_types::Batch;
@@ -42,7 +44,8 @@ pub(crate) enum Piece<'a> {
     Number(u64),
     Word(&'a [u8]),
     Frames(&'a Batch),
-    Buffers(&'a [u32]),
+    /// Buffers, as a text of this version has them.
+    Buffers(u32, &'a [u32]),
     Destinations(&'a [Dest]),
     Taken(&'a [Item]),
 }
@@ -218,17 +221,58 @@ fn put_frames<K: Sink>(out: &mut K, strip: &mut Strip, frames: &Batch) -> Result
     Ok(())
 }
 
-/// Writes numbers with commas between them, or a dash if there are none.
-#[tactic(auto, using(crate::proofs::Strips::strips))]
-fn put_numbers<K: Sink>(out: &mut K, strip: &mut Strip, numbers: &[u32]) -> Result<(), Failed>
-    ensures gathers { Puts K.Sink out.old out.new strip.old strip.new result (numbers_text numbers.now) }
+/// Writes the spans of numbers, each behind a comma.
+fn put_more_spans<K: Sink>(
+    out: &mut K,
+    strip: &mut Strip,
+    version: u32,
+    numbers: &[u32],
+) -> Result<(), Failed>
+    ensures gathers { Puts K.Sink out.old out.new strip.old strip.new result
+        (flat_map (behind 44 span_text) (spans_in version numbers.now)) }
     ensures counts { CountsFailures K.Sink out.old out.new result }
 {
-    let Some((first, others)) = numbers.split_first() else {
+    let mut rest = numbers;
+    while let Some((span, others)) = first_span(version, rest) {
+        put_span_after(out, strip, b',', span)?;
+        rest = others;
+    }
+    Ok(())
+}
+
+/// Writes the spans of numbers, each behind a comma: many at once where neighbours are together.
+fn put_others<K: Sink>(
+    out: &mut K,
+    strip: &mut Strip,
+    version: u32,
+    numbers: &[u32],
+) -> Result<(), Failed>
+    ensures gathers { Puts K.Sink out.old out.new strip.old strip.new result
+        (flat_map (behind 44 span_text) (spans_in version numbers.now)) }
+    ensures counts { CountsFailures K.Sink out.old out.new result }
+{
+    if version == 2 {
+        return put_more_runs(out, strip, numbers);
+    }
+    put_more_spans(out, strip, version, numbers)
+}
+
+/// Writes the spans of numbers with commas between them, or a dash if there are none.
+#[tactic(auto, using(crate::proofs::Strips::strips))]
+fn put_buffers<K: Sink>(
+    out: &mut K,
+    strip: &mut Strip,
+    version: u32,
+    numbers: &[u32],
+) -> Result<(), Failed>
+    ensures gathers { Puts K.Sink out.old out.new strip.old strip.new result (buffers_text version numbers.now) }
+    ensures counts { CountsFailures K.Sink out.old out.new result }
+{
+    let Some((span, others)) = first_span(version, numbers) else {
         return put_byte(out, strip, b'-');
     };
-    put_number(out, strip, *first as u64)?;
-    put_more_numbers(out, strip, others)
+    put_span(out, strip, span)?;
+    put_others(out, strip, version, others)
 }
 
 impl Spelled for Piece<'_> {
@@ -239,7 +283,7 @@ impl Spelled for Piece<'_> {
             Piece::Number(number) => put_number(out, strip, number),
             Piece::Word(word) => put_text(out, strip, word),
             Piece::Frames(frames) => put_frames(out, strip, frames),
-            Piece::Buffers(numbers) => put_numbers(out, strip, numbers),
+            Piece::Buffers(version, numbers) => put_buffers(out, strip, version, numbers),
             Piece::Destinations(dests) => put_list(out, strip, dests),
             Piece::Taken(items) => put_list(out, strip, items),
         }

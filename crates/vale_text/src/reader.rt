@@ -1,16 +1,15 @@
 //! Reads a transcript, line by line. Each line is read field by field and written again: it is the
 //! line of its entry if it comes back.
-ghost use Rattle.std.specs.Prelude.{◌≡◌, ◌+◌, ◌-◌, ◌<◌, ◌^◌, ◌==◌, [], ◌∷◌, length, drop, map, Some, IfOk, IfErr, IfSome, IsTrue, slice_index};
+ghost use Rattle.std.specs.Prelude.{◌≡◌, ◌+◌, ◌-◌, ◌<◌, ◌≤◌, ◌^◌, ◌==◌, [], ◌∷◌, length, drop, map, Some, IfOk, IfErr, IfSome, IsTrue, slice_index};
 ghost use Rattle.std.specs.List.{position};
 ghost use Rattle.std.specs.Option.{IfNone};
 ghost use Rattle.std.specs.Str.{bytes_eq};
 ghost use Rattle.vale_text.specs.declared.reader.TextFault.TheVariants.{NoMemory as OutOfMemory};
-ghost use Rattle.vale_text.specs.Lines.{is_line_feed, IsCut, IsUncut, front_of, back_of, pool_in, is_start, free_in, is_end, entry_in};
-ghost use Rattle.vale_text.specs.Reading.{IsTextOf, BlamesText, IsReadTo};
+ghost use Rattle.vale_text.specs.Lines.{is_line_feed, IsCut, IsUncut, front_of, back_of, version_in, pool_in, most_pool_of, is_start, free_in, is_end, entry_in};
+ghost use Rattle.vale_text.specs.Reading.{IsTextWith, IsTextOf, BlamesText, IsReadTo};
 
-use crate::rows::{EndLine, EntryLine, StartLine};
-use crate::transcript::{Lines, gather};
-use nm_io::Text;
+use crate::rows::{EndLine, EntryLine, StartLine, VERSION};
+use crate::transcript::{Lines, is_text};
 use nm_types::{MAX_POOL, NoMemory};
 use std::alloc::{AllocFailed, Global};
 use vale_entry::Entry;
@@ -66,30 +65,46 @@ fn behind(n: usize, bytes: &[u8]) -> &[u8]
     if n <= bytes.len() { &bytes[n..] } else { b"" }
 }
 
-/// Whether the bytes are those of a line.
-fn is_text<T: Text>(scratch: &mut Lines, line: &T, bytes: &[u8]) -> Result<bool, NoMemory>
-    ensures { IfOk result (λ same. same ≡ bytes_eq (T.text line.now) bytes.now) }
+#[tactic(auto, unfolding(crate::specs::Lines::version_in))]
+fn version_in(line: &[u8]) -> u32
+    ensures { result ≡ version_in line.now }
 {
-    scratch.truncate(0);
-    gather(scratch, line)?;
-    Ok(scratch.bytes() == bytes)
+    short_of(cut_at(b' ', behind(5, line)).0)
 }
 
 #[tactic(auto, unfolding(crate::specs::Lines::pool_in))]
 fn pool_in(line: &[u8]) -> u32
     ensures { result ≡ pool_in line.now }
 {
-    short_of(cut_at(b'\n', behind(12, line)).0)
+    let pool = behind(5, cut_at(b' ', behind(5, line)).1);
+    short_of(cut_at(b'\n', pool).0)
 }
 
-fn is_start(scratch: &mut Lines, line: &[u8]) -> Result<bool, NoMemory>
-    ensures { IfOk result (λ is. is ≡ is_start line.now) }
+/// The greatest pool of a text of version 1.
+const FIRST_MOST_POOL: u32 = 65_536;
+
+/// The greatest pool of a text of this version.
+fn most_pool_of(version: u32) -> u32
+    ensures { result ≡ most_pool_of version }
 {
-    let pool = pool_in(line);
-    if !(1..=MAX_POOL).contains(&pool) {
+    if version == 1 {
+        FIRST_MOST_POOL
+    } else {
+        MAX_POOL
+    }
+}
+
+fn is_start(scratch: &mut Lines, oldest: u32, line: &[u8]) -> Result<bool, NoMemory>
+    ensures { IfOk result (λ is. is ≡ is_start oldest line.now) }
+{
+    let (version, pool) = (version_in(line), pool_in(line));
+    if !(oldest..=VERSION).contains(&version) {
         return Ok(false);
     }
-    is_text(scratch, &StartLine { pool }, line)
+    if !(1..=most_pool_of(version)).contains(&pool) {
+        return Ok(false);
+    }
+    is_text(scratch, &StartLine { version, pool }, line)
 }
 
 #[tactic(auto, unfolding(crate::specs::Lines::free_in))]
@@ -120,14 +135,15 @@ fn is_end(scratch: &mut Lines, count: u32, line: &[u8]) -> Result<bool, NoMemory
     is_text(scratch, &EndLine { count, free }, line)
 }
 
-/// The entry whose line this is, `None` if it is none's.
+/// The entry whose line this is in a text of this version, `None` if it is none's.
 fn entry_in(
     alloc: Global,
     scratch: &mut Lines,
+    version: u32,
     number: u32,
     line: &[u8],
 ) -> Result<Option<Entry>, NoMemory>
-    ensures { IfOk result (λ entry. entry ≡ entry_in number line.now) }
+    ensures { IfOk result (λ entry. entry ≡ entry_in version number line.now) }
 {
     let words = words_of(alloc, cut_at(b'\n', line).0)?;
     let Some(entry) = entry_of(alloc, number, &words)? else {
@@ -137,6 +153,7 @@ fn entry_in(
         return Ok(None);
     }
     let own_line = EntryLine {
+        version,
         number,
         entry: &entry,
     };
@@ -147,44 +164,67 @@ fn entry_in(
     }
 }
 
-/// Reads the first line, and returns what stands behind it.
+/// Reads the first line, and returns it with what stands behind it.
 #[tactic(auto, using(crate::proofs::Reading::reading))]
-fn read_start<'a>(scratch: &mut Lines, bytes: &'a [u8]) -> Result<&'a [u8], TextFault>
-    ensures ok { IfOk result (λ rest. IsReadTo bytes.now [] rest.now) }
-    ensures shorter { IfOk result (λ rest. length rest.now < length bytes.now) }
-    ensures bad { IfErr result (BlamesText bytes.now) }
+fn read_start<'a>(
+    scratch: &mut Lines,
+    oldest: u32,
+    bytes: &'a [u8],
+) -> Result<(StartLine, &'a [u8]), TextFault>
+    requires { oldest ≤ 2 }
+    ensures ok { IfOk result (λ start. IsReadTo oldest start.0.version start.0.pool bytes.now [] start.1.now) }
+    ensures shorter { IfOk result (λ start. length start.1.now < length bytes.now) }
+    ensures bad { IfErr result (BlamesText oldest bytes.now) }
 {
-    let Some((start, rest)) = first_line(bytes) else {
+    let Some((line, rest)) = first_line(bytes) else {
         return Err(TextFault::BadLine { line: 1 });
     };
-    if is_start(scratch, start)? {
-        Ok(rest)
-    } else {
-        Err(TextFault::BadLine { line: 1 })
+    if !is_start(scratch, oldest, line)? {
+        return Err(TextFault::BadLine { line: 1 });
     }
+    let (version, pool) = (version_in(line), pool_in(line));
+    Ok((StartLine { version, pool }, rest))
 }
 
-/// Reads a transcript and returns its entries. What was read is written as the same bytes:
-/// `IsTextOf` says so of the pool and of the free buffers that the text tells, which
-/// `a_text_tells_its_numbers` makes one. `BadLine` tells that the text is that of no history;
-/// `NoMemory` tells nothing.
-pub fn read(alloc: Global, bytes: &[u8]) -> Result<Vec<Entry>, TextFault>
-    requires { length bytes.now < 2 ^ 32 - 1 }
-    ensures ok { IfOk result (λ entries. IsTextOf bytes.now entries.items) }
-    ensures bad { IfErr result (BlamesText bytes.now) }
+/// What a transcript tells.
+#[derive(Drop)]
+pub struct Text {
+    /// Its version.
+    pub version: u32,
+    /// The number of buffers of the pool.
+    pub pool: u32,
+    /// The entries.
+    pub entries: Vec<Entry>,
+    /// The number of free buffers.
+    pub free: u32,
+}
+
+/// Reads a transcript of a version from the oldest one on.
+fn read_since(alloc: Global, oldest: u32, bytes: &[u8]) -> Result<Text, TextFault>
+    requires short { length bytes.now < 2 ^ 32 - 1 }
+    requires known { oldest ≤ 2 }
+    ensures ok { IfOk result (λ text. IsTextWith oldest bytes.now text.version text.pool text.entries.items text.free) }
+    ensures few { IfOk result (λ text. length text.entries.items < length bytes.now) }
+    ensures bad { IfErr result (BlamesText oldest bytes.now) }
 {
     let mut scratch = Lines::new(alloc);
     let mut entries = Vec::new(alloc);
-    let mut rest = read_start(&mut scratch, bytes)?;
+    let (start, mut rest) = read_start(&mut scratch, oldest, bytes)?;
     let mut at = 2;
     while let Some((line, after)) = first_line(rest) {
         if is_end(&mut scratch, at - 2, line)? {
             if after.is_empty() {
-                return Ok(entries);
+                let free = free_in(line);
+                return Ok(Text {
+                    version: start.version,
+                    pool: start.pool,
+                    entries,
+                    free,
+                });
             }
             return Err(TextFault::BadLine { line: at + 1 });
         }
-        match entry_in(alloc, &mut scratch, at - 1, line)? {
+        match entry_in(alloc, &mut scratch, start.version, at - 1, line)? {
             Some(entry) => entries.push(entry)?,
             None => return Err(TextFault::BadLine { line: at }),
         }
@@ -192,4 +232,29 @@ pub fn read(alloc: Global, bytes: &[u8]) -> Result<Vec<Entry>, TextFault>
         at += 1;
     }
     Err(TextFault::BadLine { line: at })
+}
+
+/// Reads a transcript of version 1 or 2, and returns what it tells, which is written as the same
+/// bytes. `BadLine` tells that the text is that of no history in either version; `NoMemory` tells
+/// nothing.
+pub fn read_any(alloc: Global, bytes: &[u8]) -> Result<Text, TextFault>
+    requires { length bytes.now < 2 ^ 32 - 1 }
+    ensures ok { IfOk result (λ text. IsTextWith 1 bytes.now text.version text.pool text.entries.items text.free) }
+    ensures few { IfOk result (λ text. length text.entries.items < length bytes.now) }
+    ensures bad { IfErr result (BlamesText 1 bytes.now) }
+{
+    read_since(alloc, 1, bytes)
+}
+
+/// Reads a transcript of the version that is written, and returns its entries. What was read is
+/// written as the same bytes: `IsTextOf` says so of the pool and of the free buffers that the text
+/// tells, which `a_text_tells_its_numbers` makes one. `BadLine` tells that the text is that of no
+/// history; `NoMemory` tells nothing.
+pub fn read(alloc: Global, bytes: &[u8]) -> Result<Vec<Entry>, TextFault>
+    requires { length bytes.now < 2 ^ 32 - 1 }
+    ensures ok { IfOk result (λ entries. IsTextOf 2 bytes.now entries.items) }
+    ensures bad { IfErr result (BlamesText 2 bytes.now) }
+{
+    let Text { entries, .. } = read_since(alloc, VERSION, bytes)?;
+    Ok(entries)
 }

@@ -2,7 +2,7 @@
 ghost use Rattle.std.specs.Prelude.{◌≡◌, ◌≤◌, [], ◌∷◌, ◌++◌, codes, decimal, OnOk, OnErr};
 ghost use Rattle.nm_io.specs.Counts.{Rose};
 ghost use Rattle.nm_io.specs.Held.{Writes};
-ghost use Rattle.vale_entry.specs.Transcript.{numbers_text, side_word, sides_word, fault_words, ask_words, reply_words, entry_line, start_line, end_line};
+ghost use Rattle.vale_entry.specs.Transcript.{buffers_text, side_word, sides_word, fault_words, ask_words, reply_words, entry_line, start_line, end_line};
 ghost use Rattle.vale_entry.specs.declared.entry.Ask.TheVariants.{Done, Finish, Grant, Reset, Send, Sync, Watch};
 ghost use Rattle.vale_entry.specs.declared.entry.Reply.TheVariants.{Refused, Offered, Shared, Gave, Counted};
 ghost use Rattle.vale_text.specs.Failures.{Puts, PutsWords, CountsFailures};
@@ -23,11 +23,11 @@ fn short(number: u32) -> Piece<'static>
     Number(number as u64)
 }
 
-/// A list of buffers as a word.
-fn listed(numbers: &Numbers) -> Piece<'_>
-    ensures { piece_text result ≡ numbers_text numbers.now }
+/// A list of buffers as a word of a text of this version.
+fn listed(version: u32, numbers: &Numbers) -> Piece<'_>
+    ensures { piece_text result ≡ buffers_text version numbers.now }
 {
-    Buffers(numbers.as_slice())
+    Buffers(version, numbers.as_slice())
 }
 
 fn side_word(side: Side) -> Piece<'static>
@@ -49,20 +49,35 @@ fn sides_word(sides: Sides) -> Piece<'static>
     }
 }
 
+/// The version of the transcripts that are written.
+pub const VERSION: u32 = 2;
+
 /// The first line of a transcript.
 #[derive(Clone, Copy)]
 pub struct StartLine {
+    /// The version of the transcript.
+    pub version: u32,
     /// The number of buffers of the pool.
     pub pool: u32,
 }
 
 impl Text for StartLine {
-    ghost text = { λ line. start_line line.pool };
+    ghost text = { λ line. start_line line.version line.pool };
 
     #[tactic(auto, unfolding(vale_entry::specs::Transcript::start_line))]
     fn write<K: Sink>(&self, out: &mut K) -> Result<(), Failed> {
-        let pool = Part::Number(self.pool as u64);
-        put_parts(out, &[Part::Text(b"vale 1 pool "), pool, Part::Text(b"\n")])
+        let (version, pool) = (
+            Part::Number(self.version as u64),
+            Part::Number(self.pool as u64),
+        );
+        let start = [
+            Part::Text(b"vale "),
+            version,
+            Part::Text(b" pool "),
+            pool,
+            Part::Text(b"\n"),
+        ];
+        put_parts(out, &start)
     }
 }
 
@@ -198,7 +213,7 @@ fn put_reset<K: Sink>(
     fault: &SyncFault,
 ) -> Result<(), Failed>
     ensures gathers { PutsWords K.Sink out.old out.new strip.old strip.new result
-        (ask_words session (Reset port side fault.now)) }
+        (decimal session ∷ codes "reset" ∷ decimal port.0 ∷ side_word side ∷ fault_words fault.now) }
     ensures counts { CountsFailures K.Sink out.old out.new result }
 {
     put_with_port(out, strip, session, b"reset", port, side_word(side))?;
@@ -226,13 +241,14 @@ fn put_open<K: Sink>(
 fn put_finish<K: Sink>(
     out: &mut K,
     strip: &mut Strip,
+    version: u32,
     session: u32,
     port: PortId,
     bufs: &Numbers,
     chain: Chain,
 ) -> Result<(), Failed>
     ensures gathers { PutsWords K.Sink out.old out.new strip.old strip.new result
-        (ask_words session (Finish port bufs.now chain)) }
+        (ask_words version session (Finish port bufs.now chain)) }
     ensures counts { CountsFailures K.Sink out.old out.new result }
 {
     put_words(
@@ -242,7 +258,7 @@ fn put_finish<K: Sink>(
             short(session),
             Word(b"finish"),
             short(port.0),
-            listed(bufs),
+            listed(version, bufs),
             Word(b"found"),
             short(chain.found),
             Word(b"astray"),
@@ -301,7 +317,8 @@ fn put_grant<K: Sink>(
     origin: u32,
     to: PortId,
 ) -> Result<(), Failed>
-    ensures gathers { PutsWords K.Sink out.old out.new strip.old strip.new result (ask_words session (Grant origin to)) }
+    ensures gathers { PutsWords K.Sink out.old out.new strip.old strip.new result
+        (decimal session ∷ codes "grant" ∷ decimal origin ∷ decimal to.0 ∷ []) }
     ensures counts { CountsFailures K.Sink out.old out.new result }
 {
     make_room(out, strip, SHORT_WORDS)?;
@@ -317,7 +334,8 @@ fn put_done<K: Sink>(
     session: u32,
     lease: LeaseId,
 ) -> Result<(), Failed>
-    ensures gathers { PutsWords K.Sink out.old out.new strip.old strip.new result (ask_words session (Done lease)) }
+    ensures gathers { PutsWords K.Sink out.old out.new strip.old strip.new result
+        (decimal session ∷ codes "done" ∷ decimal lease.0 ∷ []) }
     ensures counts { CountsFailures K.Sink out.old out.new result }
 {
     make_room(out, strip, SHORT_WORDS)?;
@@ -331,10 +349,11 @@ fn put_done<K: Sink>(
 fn put_other_ask<K: Sink>(
     out: &mut K,
     strip: &mut Strip,
+    version: u32,
     session: u32,
     ask: &Ask,
 ) -> Result<(), Failed>
-    ensures gathers { PutsWords K.Sink out.old out.new strip.old strip.new result (ask_words session ask.now) }
+    ensures gathers { PutsWords K.Sink out.old out.new strip.old strip.new result (ask_words version session ask.now) }
     ensures counts { CountsFailures K.Sink out.old out.new result }
 {
     let s = short(session);
@@ -350,15 +369,31 @@ fn put_other_ask<K: Sink>(
         Ask::Send { port, frames } => put_at(out, strip, session, b" send ", *port, Frames(frames)),
         Ask::Grant { origin, to } => put_grant(out, strip, session, *origin, *to),
         Ask::Done { lease } => put_done(out, strip, session, *lease),
-        Ask::Sync { port, back } => put_at(out, strip, session, b" sync ", *port, listed(back)),
+        Ask::Sync { port, back } => put_at(
+            out,
+            strip,
+            session,
+            b" sync ",
+            *port,
+            listed(version, back),
+        ),
         Ask::Reset { port, side, fault } => put_reset(out, strip, session, *port, *side, fault),
         Ask::Shut { port } => put_words(out, strip, &[s, Word(b"shut"), short(port.0)]),
-        Ask::Finish { port, bufs, chain } => put_finish(out, strip, session, *port, bufs, *chain),
+        Ask::Finish { port, bufs, chain } => put_finish(
+            out, strip, version, session, *port, bufs, *chain,
+        ),
         Ask::Leave { .. } => put_words(out, strip, &[s, Word(b"leave")]),
         Ask::PutKept { port, offered } => {
             put_with_port(out, strip, session, b"put", *port, short(*offered))
         }
-        Ask::Get { port, back } => put_with_port(out, strip, session, b"get", *port, listed(back)),
+        Ask::Get { port, back } => put_with_port(
+            out,
+            strip,
+            session,
+            b"get",
+            *port,
+            listed(version, back),
+        ),
         Ask::Watch {
             monitor,
             target,
@@ -370,16 +405,29 @@ fn put_other_ask<K: Sink>(
 }
 
 /// Writes what was asked.
-fn put_ask<K: Sink>(out: &mut K, strip: &mut Strip, session: u32, ask: &Ask) -> Result<(), Failed>
-    ensures gathers { PutsWords K.Sink out.old out.new strip.old strip.new result (ask_words session ask.now) }
+fn put_ask<K: Sink>(
+    out: &mut K,
+    strip: &mut Strip,
+    version: u32,
+    session: u32,
+    ask: &Ask,
+) -> Result<(), Failed>
+    ensures gathers { PutsWords K.Sink out.old out.new strip.old strip.new result (ask_words version session ask.now) }
     ensures counts { CountsFailures K.Sink out.old out.new result }
 {
     match ask {
         Ask::Send { port, frames } => put_at(out, strip, session, b" send ", *port, Frames(frames)),
         Ask::Grant { origin, to } => put_grant(out, strip, session, *origin, *to),
         Ask::Done { lease } => put_done(out, strip, session, *lease),
-        Ask::Sync { port, back } => put_at(out, strip, session, b" sync ", *port, listed(back)),
-        _ => put_other_ask(out, strip, session, ask),
+        Ask::Sync { port, back } => put_at(
+            out,
+            strip,
+            session,
+            b" sync ",
+            *port,
+            listed(version, back),
+        ),
+        _ => put_other_ask(out, strip, version, session, ask),
     }
 }
 
@@ -531,18 +579,25 @@ fn put_reply<K: Sink>(out: &mut K, strip: &mut Strip, reply: &Reply) -> Result<(
 
 /// Writes what was asked, and the answer.
 #[tactic(auto, using(crate::proofs::Strips::strips))]
-fn put_entry<K: Sink>(out: &mut K, strip: &mut Strip, entry: &Entry) -> Result<(), Failed>
+fn put_entry<K: Sink>(
+    out: &mut K,
+    strip: &mut Strip,
+    version: u32,
+    entry: &Entry,
+) -> Result<(), Failed>
     ensures gathers { PutsWords K.Sink out.old out.new strip.old strip.new result
-        (ask_words entry.now.session.0 entry.now.ask ++ reply_words entry.now.reply) }
+        (ask_words version entry.now.session.0 entry.now.ask ++ reply_words entry.now.reply) }
     ensures counts { CountsFailures K.Sink out.old out.new result }
 {
-    put_ask(out, strip, entry.session.0, &entry.ask)?;
+    put_ask(out, strip, version, entry.session.0, &entry.ask)?;
     put_reply(out, strip, &entry.reply)
 }
 
 /// The line of an entry under its number.
 #[derive(Clone, Copy)]
 pub struct EntryLine<'a> {
+    /// The version of the transcript.
+    pub version: u32,
     /// The entry's number.
     pub number: u32,
     /// The entry.
@@ -556,11 +611,11 @@ fn put_entry_line<K: Sink>(
     line: &EntryLine<'_>,
 ) -> Result<(), Failed>
     ensures gathers { Puts K.Sink out.old out.new strip.old strip.new result
-        (entry_line line.now.number line.now.entry.now) }
+        (entry_line line.now.version line.now.number line.now.entry.now) }
     ensures counts { CountsFailures K.Sink out.old out.new result }
 {
     put_number(out, strip, line.number as u64)?;
-    put_entry(out, strip, line.entry)?;
+    put_entry(out, strip, line.version, line.entry)?;
     put_byte(out, strip, b'\n')
 }
 
@@ -573,7 +628,7 @@ pub(crate) fn put_whole_line<K: Sink>(
 ) -> Result<(), Failed>
     requires { strip.old ≡ [] }
     ensures writes { Writes (K.holds out.old) (K.holds out.new) result
-        (entry_line line.now.number line.now.entry.now) }
+        (entry_line line.now.version line.now.number line.now.entry.now) }
     ensures counts { CountsFailures K.Sink out.old out.new result }
     ensures emptied { OnOk result (strip.new ≡ []) }
 {
@@ -582,18 +637,23 @@ pub(crate) fn put_whole_line<K: Sink>(
 }
 
 impl Text for EntryLine<'_> {
-    ghost text = { λ line. entry_line line.number line.entry.now };
+    ghost text = { λ line. entry_line line.version line.number line.entry.now };
 
     fn write<K: Sink>(&self, out: &mut K) -> Result<(), Failed> {
         put_whole_line(out, &mut Strip::new(), self)
     }
 }
 
-/// Writes the line of an entry under its number.
+/// Writes the line of an entry under its number, in the version of the transcripts that are written.
 pub fn write_line<K: Sink>(number: u32, entry: &Entry, out: &mut K) -> Result<(), Failed>
-    ensures writes { Writes (K.holds out.old) (K.holds out.new) result (entry_line number entry.now) }
+    ensures writes { Writes (K.holds out.old) (K.holds out.new) result (entry_line 2 number entry.now) }
     ensures later { K.faults out.old ≤ K.faults out.new }
     ensures cause { OnErr result (Rose (K.faults out.old) (K.faults out.new)) }
 {
-    EntryLine { number, entry }.write(out)
+    EntryLine {
+        version: VERSION,
+        number,
+        entry,
+    }
+    .write(out)
 }

@@ -2,23 +2,24 @@
 ghost use Rattle.std.specs.Prelude.{◌≡◌, ◌≤◌, ◌<◌, ◌*◌, ◌+◌, ◌++◌, ◌∷◌, [], if◌then◌else◌, ℕ, List, length, take, decimal, OnOk};
 ghost use Rattle.std.specs.List.{flat_map};
 ghost use Rattle.nm_io.specs.Held.{Writes};
-ghost use Rattle.vale_entry.specs.Transcript.{frame_text, hex_byte, hex_text};
+ghost use Rattle.vale_entry.specs.Transcript.{frame_text, hex_byte, hex_text, span_text};
+ghost use Rattle.vale_entry.specs.Spans.{spans_in};
+ghost use Rattle.vale_text.specs.Spans.{AreAdded};
 ghost use Rattle.vale_text.specs.Failures.{Puts, CountsFailures};
 ghost use Rattle.vale_text.specs.Pieces.{behind};
 
 use crate::hex::{place_digits, place_next_frame};
-use crate::numerals::{DIGITS, place_number, place_numbers};
+use crate::numerals::{DIGITS, place_number};
+use crate::spans::{SPAN, place_spans};
 use nm_io::{Failed, Sink, put_all};
 use std::marker::Model;
+use vale_entry::Span;
 
 /// How many bytes a strip has room for.
 pub(crate) const ROOM: usize = 1536;
 
 /// How many bytes are spelled at once.
 const PART: usize = 256;
-
-/// How many numbers are written at once.
-const NUMBERS: usize = 64;
 
 /// Bytes on their way to a sink.
 #[derive(Drop)]
@@ -113,13 +114,29 @@ impl Strip {
         self.len = place_number(&mut self.room, self.len, number);
     }
 
-    /// Adds numbers, each behind a comma.
+    /// Adds a number, or the first and the last one of a span with a dash between them.
     #[inline(always)]
-    fn numbers(&mut self, numbers: &[u32])
-        requires { length self.old + 21 * length numbers.now ≤ ROOM }
-        ensures { self.new ≡ self.old ++ flat_map (behind 44 decimal) numbers.now }
+    fn span(&mut self, span: Span)
+        requires { length self.old + 41 ≤ ROOM }
+        ensures { self.new ≡ self.old ++ span_text span }
     {
-        self.len = place_numbers(&mut self.room, self.len, numbers);
+        self.len = place_number(&mut self.room, self.len, span.first as u64);
+        if span.first != span.last {
+            self.push(b'-');
+            self.number(span.last as u64);
+        }
+    }
+
+    /// Adds the first spans of numbers, each behind a comma, and returns the numbers that are left.
+    #[inline(always)]
+    fn spans<'a>(&mut self, numbers: &'a [u32]) -> &'a [u32]
+        requires { length self.old + 42 ≤ ROOM }
+        ensures added { AreAdded self.old self.new numbers.now result.now }
+        ensures some { 0 < length numbers.now → length result.now < length numbers.now }
+    {
+        let (end, rest) = place_spans(&mut self.room, self.len, numbers);
+        self.len = end;
+        rest
     }
 
     #[inline(always)]
@@ -251,35 +268,50 @@ pub(crate) fn put_number_after<K: Sink>(
     Ok(())
 }
 
-/// Writes numbers that a strip has room for, each behind a comma.
-#[tactic(auto, using(crate::proofs::Strips::strips))]
-#[inline(always)]
-fn put_some_numbers<K: Sink>(out: &mut K, strip: &mut Strip, numbers: &[u32]) -> Result<(), Failed>
-    requires { 21 * length numbers.now ≤ ROOM }
-    ensures gathers { Puts K.Sink out.old out.new strip.old strip.new result (flat_map (behind 44 decimal) numbers.now) }
-    ensures counts { CountsFailures K.Sink out.old out.new result }
-{
-    make_room(out, strip, 21 * numbers.len())?;
-    strip.numbers(numbers);
-    Ok(())
-}
-
-/// Writes numbers, each behind a comma.
-#[tactic(auto, using(crate::proofs::Strips::parts))]
-pub(crate) fn put_more_numbers<K: Sink>(
+/// Writes the spans of numbers, each behind a comma.
+pub(crate) fn put_more_runs<K: Sink>(
     out: &mut K,
     strip: &mut Strip,
     numbers: &[u32],
 ) -> Result<(), Failed>
-    ensures gathers { Puts K.Sink out.old out.new strip.old strip.new result (flat_map (behind 44 decimal) numbers.now) }
+    ensures gathers { Puts K.Sink out.old out.new strip.old strip.new result
+        (flat_map (behind 44 span_text) (spans_in 2 numbers.now)) }
     ensures counts { CountsFailures K.Sink out.old out.new result }
 {
-    let mut done = 0;
-    while done < numbers.len() {
-        let end = numbers.len().min(done + NUMBERS);
-        put_some_numbers(out, strip, &numbers[done..end])?;
-        done = end;
+    let mut rest = numbers;
+    while !rest.is_empty() {
+        make_room(out, strip, SPAN)?;
+        rest = strip.spans(rest);
     }
+    Ok(())
+}
+
+/// Writes a number, or the first and the last one of a span with a dash between them.
+#[tactic(auto, using(crate::proofs::Strips::strips))]
+pub(crate) fn put_span<K: Sink>(out: &mut K, strip: &mut Strip, span: Span) -> Result<(), Failed>
+    ensures gathers { Puts K.Sink out.old out.new strip.old strip.new result (span_text span) }
+    ensures counts { CountsFailures K.Sink out.old out.new result }
+{
+    make_room(out, strip, SPAN - 1)?;
+    strip.span(span);
+    Ok(())
+}
+
+/// Writes a mark, and a span behind it.
+#[tactic(auto, using(crate::proofs::Strips::strips))]
+#[inline(always)]
+pub(crate) fn put_span_after<K: Sink>(
+    out: &mut K,
+    strip: &mut Strip,
+    mark: u8,
+    span: Span,
+) -> Result<(), Failed>
+    ensures gathers { Puts K.Sink out.old out.new strip.old strip.new result (behind mark span_text span) }
+    ensures counts { CountsFailures K.Sink out.old out.new result }
+{
+    make_room(out, strip, SPAN)?;
+    strip.push(mark);
+    strip.span(span);
     Ok(())
 }
 

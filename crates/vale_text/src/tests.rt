@@ -1,6 +1,6 @@
 ghost use Rattle.std.specs.Prelude.{[], ◌∷◌};
 
-use crate::{PutError, TextFault, read, write_line, write_transcript};
+use crate::{PutError, TextFault, read, read_any, write_line, write_transcript};
 use nm_io::{MemorySink, Sink};
 use nm_types::{
     Batch, Chain, Counts, Frame, LeaseId, Name, OpenFault, PortId, SessionId, Side, Sides,
@@ -75,7 +75,7 @@ fn first_entries(alloc: Global) -> Result<Vec<Entry>, Fail> {
 }
 
 const FIRST_ENTRIES: &[u8] =
-    b"vale 1 pool 64\n1 enter 1\n2 1 open vale0:a 4 4 0 = ok\n3 1 send 3 ff0a,~. = short 2 lone 0 to 4*1\n4 1 grant 5 4 = given 1 full 0 gone 0\n5 1 done 6\n6 2 sync 4 12,13 = gave 1 to -\nend 6 free 56\n";
+    b"vale 2 pool 64\n1 enter 1\n2 1 open vale0:a 4 4 0 = ok\n3 1 send 3 ff0a,~. = short 2 lone 0 to 4*1\n4 1 grant 5 4 = given 1 full 0 gone 0\n5 1 done 6\n6 2 sync 4 12-13 = gave 1 to -\nend 6 free 56\n";
 
 #[test]
 fn entries_are_written(rt: HostRuntime) -> Result<(), Fail> {
@@ -95,7 +95,7 @@ fn put_line<K: Sink>(out: &mut K, number: u32, entry: &Entry) -> Result<(), Fail
 }
 
 const LAST_ENTRIES: &[u8] =
-    b"9 1 shut 3\n10 1 finish 3 2,3,4,5 found 0 astray 0 = unread 0\n11 1 leave\n";
+    b"9 1 shut 3\n10 1 finish 3 2-5 found 0 astray 0 = unread 0\n11 1 leave\n";
 
 #[test]
 fn closing_and_leaving_are_written(rt: HostRuntime) -> Result<(), Fail> {
@@ -288,7 +288,7 @@ fn pipes_monitors_and_counters_are_written(rt: HostRuntime) -> Result<(), Fail> 
 // a transcript with a line of each kind, each refusal of an opening, each fault and each answer;
 // numbers that could be exchanged differ
 const EACH_KIND: &[u8] =
-    b"vale 1 pool 65536\n1 enter 18446744073709551615\n2 1 open vale0:a 4 5 0 = ok\n3 1 open pipe0{ 6 7 4294967295 = badsize\n4 1 open mon0 0 4 0 = switchesfull\n5 1 open vale0:a 4 4 0 = portsfull\n6 1 open vale0:a 4 4 0 = nametaken\n7 1 open vale0:a 4 4 0 = nobuffers 8 5\n8 1 send 2 ff0a,~.,.,~00 = short 3 lone 1 to 4*1,5*2\n9 1 send 2 - = short 0 lone 0 to -\n10 1 grant 8 4 = given 1 full 2 gone 3\n11 1 done 10\n12 2 sync 4 12,13 = gave 1 to 6*2\n13 2 sync 4 - = gave 0 to -\n14 1 reset 2 rx headout 1 3 4\n15 1 reset 2 tx curout 1 2 3\n16 1 reset 2 tx indirect 5\n17 1 reset 2 tx indexout 1 66\n18 1 reset 2 tx notheld 3 6\n19 1 reset 2 tx doubled 1 2\n20 1 reset 4 rx unannounced 5 10 14\n21 1 reset 2 tx longlen 3 65535\n22 1 reset 2 tx fragment 6\n23 1 shut 2\n24 1 finish 2 3,4,5 found 6 astray 7 = unread 8\n25 1 put 3 2 = took 4:ff0a,5:. to 6*1\n26 1 put 3 1 = took - to -\n27 1 put 3 1 = peergone\n28 2 get 4 3 = gave 1 to 6*5\n29 3 watch 6 vale0:a t = ok 4\n30 3 watch 6 vale0:a r = notarget\n31 3 watch 6 vale0:a tr = watched 7\n32 2 stat 4 = sent 18446744073709551615 short 1 lone 3 given 5 full 6 read 7\n33 1 leave\nend 33 free 4294967295\n";
+    b"vale 2 pool 65536\n1 enter 18446744073709551615\n2 1 open vale0:a 4 5 0 = ok\n3 1 open pipe0{ 6 7 4294967295 = badsize\n4 1 open mon0 0 4 0 = switchesfull\n5 1 open vale0:a 4 4 0 = portsfull\n6 1 open vale0:a 4 4 0 = nametaken\n7 1 open vale0:a 4 4 0 = nobuffers 8 5\n8 1 send 2 ff0a,~.,.,~00 = short 3 lone 1 to 4*1,5*2\n9 1 send 2 - = short 0 lone 0 to -\n10 1 grant 8 4 = given 1 full 2 gone 3\n11 1 done 10\n12 2 sync 4 12-13 = gave 1 to 6*2\n13 2 sync 4 - = gave 0 to -\n14 1 reset 2 rx headout 1 3 4\n15 1 reset 2 tx curout 1 2 3\n16 1 reset 2 tx indirect 5\n17 1 reset 2 tx indexout 1 66\n18 1 reset 2 tx notheld 3 6\n19 1 reset 2 tx doubled 1 2\n20 1 reset 4 rx unannounced 5 10 14\n21 1 reset 2 tx longlen 3 65535\n22 1 reset 2 tx fragment 6\n23 1 shut 2\n24 1 finish 2 3-5 found 6 astray 7 = unread 8\n25 1 put 3 2 = took 4:ff0a,5:. to 6*1\n26 1 put 3 1 = took - to -\n27 1 put 3 1 = peergone\n28 2 get 4 3 = gave 1 to 6*5\n29 3 watch 6 vale0:a t = ok 4\n30 3 watch 6 vale0:a r = notarget\n31 3 watch 6 vale0:a tr = watched 7\n32 2 stat 4 = sent 18446744073709551615 short 1 lone 3 given 5 full 6 read 7\n33 1 leave\nend 33 free 4294967295\n";
 
 /// The numbers of the reset of a ring: its port, and those of the fault.
 fn reset(port: u64, fault: &SyncFault) -> [u64; 4] {
@@ -420,7 +420,7 @@ fn each_kind_of_entry_is_read_back(rt: HostRuntime) -> Result<(), Fail> {
 
 // the transcript of the first run
 const FIRST_TEXT: &[u8] =
-    b"vale 1 pool 8192\n1 enter 1\n2 enter 2\n3 1 open vale0:a 4 4 0 = ok\n4 2 open vale0:b 4 4 0 = ok\n5 1 send 3 ffffffffffff02000000000a88b511111111111111111111111111111111111111111111111111111111111111111111111111111111111111111111 = short 0 lone 0 to 4*1\n6 1 grant 5 4 = given 1 full 0 gone 0\n7 1 done 6\n8 2 sync 4 - = gave 1 to -\n9 1 shut 3\n10 1 finish 3 2,3,4,5 found 0 astray 0 = unread 0\n11 1 leave\n12 2 shut 4\n13 2 finish 4 10,11,12,13,14 found 0 astray 0 = unread 0\n14 2 leave\nend 14 free 8192\n";
+    b"vale 2 pool 8192\n1 enter 1\n2 enter 2\n3 1 open vale0:a 4 4 0 = ok\n4 2 open vale0:b 4 4 0 = ok\n5 1 send 3 ffffffffffff02000000000a88b511111111111111111111111111111111111111111111111111111111111111111111111111111111111111111111 = short 0 lone 0 to 4*1\n6 1 grant 5 4 = given 1 full 0 gone 0\n7 1 done 6\n8 2 sync 4 - = gave 1 to -\n9 1 shut 3\n10 1 finish 3 2-5 found 0 astray 0 = unread 0\n11 1 leave\n12 2 shut 4\n13 2 finish 4 10-14 found 0 astray 0 = unread 0\n14 2 leave\nend 14 free 8192\n";
 
 #[test]
 fn the_first_run_is_read(rt: HostRuntime) -> Result<(), Fail> {
@@ -438,97 +438,97 @@ fn the_first_run_is_read(rt: HostRuntime) -> Result<(), Fail> {
 const BAD_TEXTS: [(&[u8], u32); 41] = [
     (b"", 1),
     (b"\n", 1),
-    (b"vale 1 pool 0\nend 0 free 0\n", 1),
-    (b"vale 1 pool 65537\nend 0 free 0\n", 1),
-    (b"vale 1 pool 064\nend 0 free 0\n", 1),
-    (b"vale 2 pool 64\nend 0 free 0\n", 1),
-    (b"vale 1 pool 64", 1),
-    (b"vale 1 pool 64 \nend 0 free 0\n", 1),
-    (b"vale 1 pool 64\n", 2),
-    (b"vale 1 pool 64\nend 0 free 0", 2),
-    (b"vale 1 pool 64\nend 0 free 00\n", 2),
-    (b"vale 1 pool 64\nend 0 free 4294967296\n", 2),
-    (b"vale 1 pool 64\nend 1 free 0\n", 2),
-    (b"vale 1 pool 64\nend 0 free 0\n\n", 3),
-    (b"vale 1 pool 64\nend 0 free 0\n1 enter 1\n", 3),
-    (b"vale 1 pool 64\n1 enter 1\n", 3),
-    (b"vale 1 pool 64\n1 enter 1", 2),
-    (b"vale 1 pool 64\n1 enter 1\nend 1 free 0\nx", 4),
-    (b"vale 1 pool 64\n1 enter 01\nend 1 free 0\n", 2),
+    (b"vale 2 pool 0\nend 0 free 0\n", 1),
+    (b"vale 2 pool 65537\nend 0 free 0\n", 1),
+    (b"vale 2 pool 064\nend 0 free 0\n", 1),
+    (b"vale 1 pool 64\nend 0 free 0\n", 1),
+    (b"vale 2 pool 64", 1),
+    (b"vale 2 pool 64 \nend 0 free 0\n", 1),
+    (b"vale 2 pool 64\n", 2),
+    (b"vale 2 pool 64\nend 0 free 0", 2),
+    (b"vale 2 pool 64\nend 0 free 00\n", 2),
+    (b"vale 2 pool 64\nend 0 free 4294967296\n", 2),
+    (b"vale 2 pool 64\nend 1 free 0\n", 2),
+    (b"vale 2 pool 64\nend 0 free 0\n\n", 3),
+    (b"vale 2 pool 64\nend 0 free 0\n1 enter 1\n", 3),
+    (b"vale 2 pool 64\n1 enter 1\n", 3),
+    (b"vale 2 pool 64\n1 enter 1", 2),
+    (b"vale 2 pool 64\n1 enter 1\nend 1 free 0\nx", 4),
+    (b"vale 2 pool 64\n1 enter 01\nend 1 free 0\n", 2),
     (
-        b"vale 1 pool 64\n1 enter 18446744073709551616\nend 1 free 0\n",
+        b"vale 2 pool 64\n1 enter 18446744073709551616\nend 1 free 0\n",
         2,
     ),
-    (b"vale 1 pool 64\n2 enter 1\nend 1 free 0\n", 2),
-    (b"vale 1 pool 64\n1 enter 1\r\nend 1 free 0\n", 2),
-    (b"vale 1 pool 64\n1 enter 1\n2 enter  2\nend 2 free 0\n", 3),
-    (b"vale 1 pool 64\n1 enter 1\n2 1 leave \nend 2 free 0\n", 3),
+    (b"vale 2 pool 64\n2 enter 1\nend 1 free 0\n", 2),
+    (b"vale 2 pool 64\n1 enter 1\r\nend 1 free 0\n", 2),
+    (b"vale 2 pool 64\n1 enter 1\n2 enter  2\nend 2 free 0\n", 3),
+    (b"vale 2 pool 64\n1 enter 1\n2 1 leave \nend 2 free 0\n", 3),
     (
-        b"vale 1 pool 64\n1 enter 1\n2 1 leave now\nend 2 free 0\n",
+        b"vale 2 pool 64\n1 enter 1\n2 1 leave now\nend 2 free 0\n",
         3,
     ),
     (
-        b"vale 1 pool 64\n1 1 open eth0 4 4 0 = ok\nend 1 free 0\n",
+        b"vale 2 pool 64\n1 1 open eth0 4 4 0 = ok\nend 1 free 0\n",
         2,
     ),
     (
-        b"vale 1 pool 64\n1 1 open vale0:a 4 4 = ok\nend 1 free 0\n",
+        b"vale 2 pool 64\n1 1 open vale0:a 4 4 = ok\nend 1 free 0\n",
         2,
     ),
     (
-        b"vale 1 pool 64\n1 1 open vale0:a 4 4 0 = nobuffers 8\nend 1 free 0\n",
+        b"vale 2 pool 64\n1 1 open vale0:a 4 4 0 = nobuffers 8\nend 1 free 0\n",
         2,
     ),
     (
-        b"vale 1 pool 64\n1 1 send 2 FF = short 0 lone 0 to -\nend 1 free 0\n",
+        b"vale 2 pool 64\n1 1 send 2 FF = short 0 lone 0 to -\nend 1 free 0\n",
         2,
     ),
     (
-        b"vale 1 pool 64\n1 1 send 2 f = short 0 lone 0 to -\nend 1 free 0\n",
+        b"vale 2 pool 64\n1 1 send 2 f = short 0 lone 0 to -\nend 1 free 0\n",
         2,
     ),
     (
-        b"vale 1 pool 64\n1 1 send 2 ff, = short 0 lone 0 to -\nend 1 free 0\n",
+        b"vale 2 pool 64\n1 1 send 2 ff, = short 0 lone 0 to -\nend 1 free 0\n",
         2,
     ),
     (
-        b"vale 1 pool 64\n1 1 send 2 ~ = short 0 lone 0 to -\nend 1 free 0\n",
+        b"vale 2 pool 64\n1 1 send 2 ~ = short 0 lone 0 to -\nend 1 free 0\n",
         2,
     ),
     (
-        b"vale 1 pool 64\n1 1 send 2 ff = short 0 lone 0 to 5*1,4*1\nend 1 free 0\n",
+        b"vale 2 pool 64\n1 1 send 2 ff = short 0 lone 0 to 5*1,4*1\nend 1 free 0\n",
         2,
     ),
     (
-        b"vale 1 pool 64\n1 1 send 2 ff = short 0 lone 0 to 4*1,4*1\nend 1 free 0\n",
+        b"vale 2 pool 64\n1 1 send 2 ff = short 0 lone 0 to 4*1,4*1\nend 1 free 0\n",
         2,
     ),
     (
-        b"vale 1 pool 64\n1 1 send 2 ff = short 0 lone 0 to\nend 1 free 0\n",
+        b"vale 2 pool 64\n1 1 send 2 ff = short 0 lone 0 to\nend 1 free 0\n",
         2,
     ),
     (
-        b"vale 1 pool 64\n1 1 sync 2 2-3 = gave 0 to -\nend 1 free 0\n",
+        b"vale 2 pool 64\n1 1 sync 2 2,3 = gave 0 to -\nend 1 free 0\n",
         2,
     ),
     (
-        b"vale 1 pool 64\n1 1 put 2 1 = took 2:~ff to -\nend 1 free 0\n",
+        b"vale 2 pool 64\n1 1 put 2 1 = took 2:~ff to -\nend 1 free 0\n",
         2,
     ),
     (
-        b"vale 1 pool 64\n1 1 reset 2 tx peergone\nend 1 free 0\n",
+        b"vale 2 pool 64\n1 1 reset 2 tx peergone\nend 1 free 0\n",
         2,
     ),
     (
-        b"vale 1 pool 64\n1 1 reset 2 tx longlen 0 65536\nend 1 free 0\n",
+        b"vale 2 pool 64\n1 1 reset 2 tx longlen 0 65536\nend 1 free 0\n",
         2,
     ),
     (
-        b"vale 1 pool 64\n1 1 watch 2 vale0:a rt = ok 3\nend 1 free 0\n",
+        b"vale 2 pool 64\n1 1 watch 2 vale0:a rt = ok 3\nend 1 free 0\n",
         2,
     ),
     (
-        b"vale 1 pool 64\n1 1 stat 2 = sent 1 short 0 lone 0 given 0 full 0 read\nend 1 free 0\n",
+        b"vale 2 pool 64\n1 1 stat 2 = sent 1 short 0 lone 0 given 0 full 0 read\nend 1 free 0\n",
         2,
     ),
 ];
@@ -538,6 +538,105 @@ fn the_first_bad_line_is_told(rt: HostRuntime) -> Result<(), Fail> {
     for (text, line) in BAD_TEXTS {
         assert!(rt; text.len() < 4_294_967_295);
         match read(rt.alloc(), text) {
+            Ok(_) => assert!(rt; false),
+            Err(fault) => assert_eq!(rt; fault, TextFault::BadLine { line }),
+        }
+    }
+    Ok(())
+}
+
+// texts of either version, each with its version, its pool, how many entries it has, and the free
+// buffers
+const EITHER_TEXTS: [(&[u8], [u32; 3], usize); 5] = [
+    (b"vale 1 pool 8\nend 0 free 7\n", [1, 8, 7], 0),
+    (b"vale 2 pool 8\nend 0 free 7\n", [2, 8, 7], 0),
+    (
+        b"vale 1 pool 8\n1 1 sync 2 2,3,5 = gave 0 to -\nend 1 free 3\n",
+        [1, 8, 3],
+        1,
+    ),
+    (
+        b"vale 2 pool 8\n1 1 sync 2 2-3,5 = gave 0 to -\nend 1 free 3\n",
+        [2, 8, 3],
+        1,
+    ),
+    (
+        b"vale 2 pool 8\n1 1 get 2 4-5,3-4,9,8 = gave 0 to -\nend 1 free 3\n",
+        [2, 8, 3],
+        1,
+    ),
+];
+
+#[test]
+fn texts_of_either_version_are_read(rt: HostRuntime) -> Result<(), Fail> {
+    for (text, numbers, count) in EITHER_TEXTS {
+        assert!(rt; text.len() < 4_294_967_295);
+        let told = read_any(rt.alloc(), text).ok().ok_or("read")?;
+        assert_eq!(rt; [told.version, told.pool, told.free], numbers);
+        assert_eq!(rt; told.entries.len(), count);
+    }
+    Ok(())
+}
+
+// texts of neither version, each with the first line that is none
+const NEITHER_TEXTS: [(&[u8], u32); 17] = [
+    (b"vale 0 pool 8\nend 0 free 8\n", 1),
+    (b"vale 3 pool 8\nend 0 free 8\n", 1),
+    (b"vale 01 pool 8\nend 0 free 8\n", 1),
+    (b"vale  pool 8\nend 0 free 8\n", 1),
+    (b"vale 1 pool 65537\nend 0 free 8\n", 1),
+    (b"vale 1\nend 0 free 8\n", 1),
+    (
+        b"vale 1 pool 8\n1 1 sync 2 2-3 = gave 0 to -\nend 1 free 0\n",
+        2,
+    ),
+    (
+        b"vale 2 pool 8\n1 1 sync 2 2,3 = gave 0 to -\nend 1 free 0\n",
+        2,
+    ),
+    (
+        b"vale 2 pool 8\n1 1 sync 2 2-3,4 = gave 0 to -\nend 1 free 0\n",
+        2,
+    ),
+    (
+        b"vale 2 pool 8\n1 1 sync 2 2-4,5-6 = gave 0 to -\nend 1 free 0\n",
+        2,
+    ),
+    (
+        b"vale 2 pool 8\n1 1 sync 2 4-4 = gave 0 to -\nend 1 free 0\n",
+        2,
+    ),
+    (
+        b"vale 2 pool 8\n1 1 sync 2 5-4 = gave 0 to -\nend 1 free 0\n",
+        2,
+    ),
+    (
+        b"vale 2 pool 8\n1 1 sync 2 02-3 = gave 0 to -\nend 1 free 0\n",
+        2,
+    ),
+    (
+        b"vale 2 pool 8\n1 1 sync 2 2- = gave 0 to -\nend 1 free 0\n",
+        2,
+    ),
+    (
+        b"vale 2 pool 8\n1 1 sync 2 -2 = gave 0 to -\nend 1 free 0\n",
+        2,
+    ),
+    (
+        b"vale 2 pool 8\n1 1 sync 2 2-3-4 = gave 0 to -\nend 1 free 0\n",
+        2,
+    ),
+    (
+        b"vale 2 pool 8\n1 1 sync 2 -,2 = gave 0 to -\nend 1 free 0\n",
+        2,
+    ),
+];
+
+#[test]
+fn texts_of_neither_version_are_refused(rt: HostRuntime) -> Result<(), Fail> {
+    for (text, line) in NEITHER_TEXTS {
+        assert!(rt; text.len() < 4_294_967_295);
+        match read_any(rt.alloc(), text) {
             Ok(_) => assert!(rt; false),
             Err(fault) => assert_eq!(rt; fault, TextFault::BadLine { line }),
         }

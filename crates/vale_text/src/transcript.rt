@@ -1,13 +1,14 @@
 //! Whole transcripts: their lines on their way to a sink.
 ghost use Rattle.std.specs.Prelude.{◌≡◌, ◌≤◌, ◌<◌, ◌-◌, ◌+◌, ◌^◌, ◌++◌, ℕ, List, [], length, take, Some, IfOk, IfErr, OnOk, OnErr};
+ghost use Rattle.std.specs.Str.{bytes_eq};
 ghost use Rattle.nm_io.specs.Counts.{Rose};
 ghost use Rattle.nm_io.specs.Gathered.{Gathers};
 ghost use Rattle.nm_io.specs.Held.{grown, Writes};
-ghost use Rattle.vale_entry.specs.Transcript.{start_line, entry_line, entry_lines, end_line};
+ghost use Rattle.vale_entry.specs.Transcript.{start_line, entry_line, entry_lines, end_line, text_of};
 ghost use Rattle.vale_text.specs.declared.transcript.PutError.TheVariants.{Failed as PutFailed, NoMemory as OutOfMemory};
-ghost use Rattle.vale_text.specs.Written.{LineBytes, text_of, BlamesSink};
+ghost use Rattle.vale_text.specs.Written.{LineBytes, BlamesSink};
 
-use crate::rows::{EndLine, EntryLine, StartLine, put_whole_line};
+use crate::rows::{EndLine, EntryLine, StartLine, VERSION, put_whole_line};
 use crate::strip::Strip;
 use nm_io::{Failed, Sink, Text, put_all};
 use nm_types::NoMemory;
@@ -117,6 +118,19 @@ pub(crate) fn gather<T: Text>(lines: &mut Lines, line: &T) -> Result<(), NoMemor
     }
 }
 
+/// Whether the bytes are those of a line.
+pub(crate) fn is_text<T: Text>(
+    scratch: &mut Lines,
+    line: &T,
+    bytes: &[u8],
+) -> Result<bool, NoMemory>
+    ensures { IfOk result (λ same. same ≡ bytes_eq (T.text line.now) bytes.now) }
+{
+    scratch.truncate(0);
+    gather(scratch, line)?;
+    Ok(scratch.bytes() == bytes)
+}
+
 /// Writes a line by way of those gathered, which go out if they are many.
 #[tactic(auto, using(crate::proofs::Entries::gathering_lines))]
 fn put_line<K: Sink, T: Text>(out: &mut K, lines: &mut Lines, line: &T) -> Result<(), PutError>
@@ -136,7 +150,7 @@ fn put_line<K: Sink, T: Text>(out: &mut K, lines: &mut Lines, line: &T) -> Resul
 fn gather_entry(lines: &mut Lines, strip: &mut Strip, line: &EntryLine<'_>) -> Result<(), NoMemory>
     requires { strip.old ≡ [] }
     ensures ok { OnOk result
-        (lines.new.bytes ≡ lines.old.bytes ++ entry_line line.now.number line.now.entry.now) }
+        (lines.new.bytes ≡ lines.old.bytes ++ entry_line line.now.version line.now.number line.now.entry.now) }
     ensures emptied { OnOk result (strip.new ≡ []) }
 {
     match put_whole_line(lines, strip, line) {
@@ -156,12 +170,20 @@ fn put_entry<K: Sink>(
 ) -> Result<(), PutError>
     requires { strip.old ≡ [] }
     ensures gathers { Gathers (K.holds out.old) (K.holds out.new) lines.old.bytes lines.new.bytes
-        result (entry_line number entry.now) }
+        result (entry_line 2 number entry.now) }
     ensures later { K.faults out.old ≤ K.faults out.new }
     ensures cause { IfErr result (BlamesSink (K.faults out.old) (K.faults out.new)) }
     ensures emptied { OnOk result (strip.new ≡ []) }
 {
-    gather_entry(lines, strip, &EntryLine { number, entry })?;
+    gather_entry(
+        lines,
+        strip,
+        &EntryLine {
+            version: VERSION,
+            number,
+            entry,
+        },
+    )?;
     if lines.bytes().len() >= PAGE_BYTES {
         put_gathered(out, lines)?;
     }
@@ -172,7 +194,7 @@ fn put_entry<K: Sink>(
 fn put_entries<K: Sink>(out: &mut K, lines: &mut Lines, entries: &[Entry]) -> Result<(), PutError>
     requires { length entries.now < 2 ^ 32 - 1 }
     ensures gathers { Gathers (K.holds out.old) (K.holds out.new) lines.old.bytes lines.new.bytes
-        result (entry_lines 1 entries.now) }
+        result (entry_lines 2 1 entries.now) }
     ensures later { K.faults out.old ≤ K.faults out.new }
     ensures cause { IfErr result (BlamesSink (K.faults out.old) (K.faults out.new)) }
 {
@@ -187,12 +209,18 @@ fn put_entries<K: Sink>(out: &mut K, lines: &mut Lines, entries: &[Entry]) -> Re
 #[tactic(auto, using(crate::proofs::Entries::gathering_lines))]
 fn put_start<K: Sink>(out: &mut K, lines: &mut Lines, pool: u32) -> Result<(), PutError>
     requires { lines.old.bytes ≡ [] }
-    ensures writes { Writes (K.holds out.old) (K.holds out.new) result (start_line pool) }
+    ensures writes { Writes (K.holds out.old) (K.holds out.new) result (start_line 2 pool) }
     ensures emptied { OnOk result (lines.new.bytes ≡ []) }
     ensures later { K.faults out.old ≤ K.faults out.new }
     ensures cause { IfErr result (BlamesSink (K.faults out.old) (K.faults out.new)) }
 {
-    gather(lines, &StartLine { pool })?;
+    gather(
+        lines,
+        &StartLine {
+            version: VERSION,
+            pool,
+        },
+    )?;
     put_gathered(out, lines)?;
     Ok(())
 }
@@ -208,7 +236,7 @@ fn put_rest<K: Sink>(
     requires few { length entries.now < 2 ^ 32 - 1 }
     requires empty { lines.old.bytes ≡ [] }
     ensures writes { Writes (K.holds out.old) (K.holds out.new) result
-        (entry_lines 1 entries.now ++ end_line (length entries.now) free) }
+        (entry_lines 2 1 entries.now ++ end_line (length entries.now) free) }
     ensures later { K.faults out.old ≤ K.faults out.new }
     ensures cause { IfErr result (BlamesSink (K.faults out.old) (K.faults out.new)) }
 {
@@ -221,7 +249,7 @@ fn put_rest<K: Sink>(
 
 /// Writes the transcript of these entries, which begins with the pool and ends with the free buffers.
 /// The first line goes out in a call of its own, the others some tens of kilobytes at once.
-#[tactic(auto, unfolding(crate::specs::Written::text_of))]
+#[tactic(auto, unfolding(vale_entry::specs::Transcript::text_of))]
 pub fn write_transcript<K: Sink>(
     alloc: Global,
     out: &mut K,
@@ -230,7 +258,7 @@ pub fn write_transcript<K: Sink>(
     free: u32,
 ) -> Result<(), PutError>
     requires { length entries.now < 2 ^ 32 - 1 }
-    ensures writes { Writes (K.holds out.old) (K.holds out.new) result (text_of pool entries.now free) }
+    ensures writes { Writes (K.holds out.old) (K.holds out.new) result (text_of 2 pool entries.now free) }
     ensures later { K.faults out.old ≤ K.faults out.new }
     ensures cause { IfErr result (BlamesSink (K.faults out.old) (K.faults out.new)) }
 {

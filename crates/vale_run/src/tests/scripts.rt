@@ -5,7 +5,7 @@ pub(super) type Case = (&'static [u8], &'static [u8], &'static [u8]);
 
 pub(super) const EMPTY: &[u8] = b"";
 
-pub(super) const EMPTY_TEXT: &[u8] = b"vale 1 pool 8192\nend 0 free 8192\n";
+pub(super) const EMPTY_TEXT: &[u8] = b"vale 2 pool 8192\nend 0 free 8192\n";
 
 pub(super) const FIRST_COUNT: &[u8] = b"vale: script line 1: count\n";
 
@@ -23,25 +23,25 @@ pub(super) const EXAMPLES: &[Case] = &[
     (
         b"user a\nuser b\nopen a vale0:a 4 4\nopen b vale0:b 4 4\nput a vale0:a 1 ff:ff:ff:ff:ff:ff 02:00:00:00:00:0a 60 11\ntx a vale0:a\nrx b vale0:b\n",
         EMPTY,
-        b"vale 1 pool 8192\n1 enter 1\n2 enter 2\n3 1 open vale0:a 4 4 0 = ok\n4 2 open vale0:b 4 4 0 = ok\n5 1 send 3 ffffffffffff02000000000a88b511111111111111111111111111111111111111111111111111111111111111111111111111111111111111111111 = short 0 lone 0 to 4*1\n6 1 grant 5 4 = given 1 full 0 gone 0\n7 1 done 6\n8 2 sync 4 - = gave 1 to -\n9 1 shut 3\n10 1 finish 3 2,3,4,5 found 0 astray 0 = unread 0\n11 1 leave\n12 2 shut 4\n13 2 finish 4 10,11,12,13,14 found 0 astray 0 = unread 0\n14 2 leave\nend 14 free 8192\n",
+        b"vale 2 pool 8192\n1 enter 1\n2 enter 2\n3 1 open vale0:a 4 4 0 = ok\n4 2 open vale0:b 4 4 0 = ok\n5 1 send 3 ffffffffffff02000000000a88b511111111111111111111111111111111111111111111111111111111111111111111111111111111111111111111 = short 0 lone 0 to 4*1\n6 1 grant 5 4 = given 1 full 0 gone 0\n7 1 done 6\n8 2 sync 4 - = gave 1 to -\n9 1 shut 3\n10 1 finish 3 2-5 found 0 astray 0 = unread 0\n11 1 leave\n12 2 shut 4\n13 2 finish 4 10-14 found 0 astray 0 = unread 0\n14 2 leave\nend 14 free 8192\n",
     ),
     // Two stations, and what the switch learns.
     (
         b"pool 64\nuser ana\nuser bob\nuser cem\nopen ana vale0:a 4 4\nopen bob vale0:b 4 4\nopen cem vale0:c 4 4\nput ana vale0:a 1 ff:ff:ff:ff:ff:ff 02:00:00:00:00:0a 14 00\ntx ana vale0:a\nput bob vale0:b 1 02:00:00:00:00:0a 02:00:00:00:00:0b 14 00\ntx bob vale0:b\nrx ana vale0:a\nrx cem vale0:c\n",
         EMPTY,
-        b"vale 1 pool 64\n1 enter 1\n2 enter 2\n3 enter 3\n4 1 open vale0:a 4 4 0 = ok\n5 2 open vale0:b 4 4 0 = ok\n6 3 open vale0:c 4 4 0 = ok\n7 1 send 4 ffffffffffff02000000000a88b5 = short 0 lone 0 to 5*1,6*1\n8 1 grant 7 5 = given 1 full 0 gone 0\n9 1 done 8\n10 1 grant 7 6 = given 1 full 0 gone 0\n11 1 done 10\n12 2 send 5 02000000000a02000000000b88b5 = short 0 lone 0 to 4*1\n13 2 grant 12 4 = given 1 full 0 gone 0\n14 2 done 13\n15 1 sync 4 - = gave 1 to -\n16 3 sync 6 - = gave 1 to -\n17 1 shut 4\n18 1 finish 4 2,3,4,5,6 found 0 astray 0 = unread 0\n19 1 leave\n20 2 shut 5\n21 2 finish 5 10,11,12,13 found 0 astray 0 = unread 1\n22 2 leave\n23 3 shut 6\n24 3 finish 6 18,19,20,21,22 found 0 astray 0 = unread 0\n25 3 leave\nend 25 free 64\n",
+        b"vale 2 pool 64\n1 enter 1\n2 enter 2\n3 enter 3\n4 1 open vale0:a 4 4 0 = ok\n5 2 open vale0:b 4 4 0 = ok\n6 3 open vale0:c 4 4 0 = ok\n7 1 send 4 ffffffffffff02000000000a88b5 = short 0 lone 0 to 5*1,6*1\n8 1 grant 7 5 = given 1 full 0 gone 0\n9 1 done 8\n10 1 grant 7 6 = given 1 full 0 gone 0\n11 1 done 10\n12 2 send 5 02000000000a02000000000b88b5 = short 0 lone 0 to 4*1\n13 2 grant 12 4 = given 1 full 0 gone 0\n14 2 done 13\n15 1 sync 4 - = gave 1 to -\n16 3 sync 6 - = gave 1 to -\n17 1 shut 4\n18 1 finish 4 2-6 found 0 astray 0 = unread 0\n19 1 leave\n20 2 shut 5\n21 2 finish 5 10-13 found 0 astray 0 = unread 1\n22 2 leave\n23 3 shut 6\n24 3 finish 6 18-22 found 0 astray 0 = unread 0\n25 3 leave\nend 25 free 64\n",
     ),
     // A ring that fills, and what it counts.
     (
         b"pool 64\nuser ana\nuser bob\nopen ana vale0:a 4 4\nopen bob vale0:b 2 2\nput ana vale0:a 3 ff:ff:ff:ff:ff:ff 02:00:00:00:00:0a 14 00\ntx ana vale0:a\nrx bob vale0:b\nrx bob vale0:b\nstat bob vale0:b\nclose bob vale0:b\n",
         EMPTY,
-        b"vale 1 pool 64\n1 enter 1\n2 enter 2\n3 1 open vale0:a 4 4 0 = ok\n4 2 open vale0:b 2 2 0 = ok\n5 1 send 3 ffffffffffff02000000000a88b5,ffffffffffff02000000000a88b5,ffffffffffff02000000000a88b5 = short 0 lone 0 to 4*3\n6 1 grant 5 4 = given 1 full 2 gone 0\n7 1 done 6\n8 2 sync 4 - = gave 1 to -\n9 2 sync 4 12 = gave 0 to -\n10 2 stat 4 = sent 0 short 0 lone 0 given 1 full 2 read 1\n11 2 shut 4\n12 2 finish 4 10,11 found 0 astray 0 = unread 0\n13 1 shut 3\n14 1 finish 3 2,3,4,5 found 0 astray 0 = unread 0\n15 1 leave\n16 2 leave\nend 16 free 64\n",
+        b"vale 2 pool 64\n1 enter 1\n2 enter 2\n3 1 open vale0:a 4 4 0 = ok\n4 2 open vale0:b 2 2 0 = ok\n5 1 send 3 ffffffffffff02000000000a88b5,ffffffffffff02000000000a88b5,ffffffffffff02000000000a88b5 = short 0 lone 0 to 4*3\n6 1 grant 5 4 = given 1 full 2 gone 0\n7 1 done 6\n8 2 sync 4 - = gave 1 to -\n9 2 sync 4 12 = gave 0 to -\n10 2 stat 4 = sent 0 short 0 lone 0 given 1 full 2 read 1\n11 2 shut 4\n12 2 finish 4 10-11 found 0 astray 0 = unread 0\n13 1 shut 3\n14 1 finish 3 2-5 found 0 astray 0 = unread 0\n15 1 leave\n16 2 leave\nend 16 free 64\n",
     ),
     // Openings that are refused.
     (
         b"pool 10\nuser ana\nopen ana vale0:a 4 4\nopen ana vale0:b 2 2\nopen ana vale0:c 1 2\nput ana vale0:b 1 ff:ff:ff:ff:ff:ff 02:00:00:00:00:0b 14 00\ntx ana vale0:b\nclose ana vale0:b\nclose ana vale0:a\nopen ana vale0:b 2 2\n",
         EMPTY,
-        b"vale 1 pool 10\n1 enter 1\n2 1 open vale0:a 4 4 0 = ok\n3 1 open vale0:b 2 2 0 = nobuffers 4 2\n4 1 open vale0:c 1 2 0 = badsize\n5 1 shut 2\n6 1 finish 2 2,3,4,5 found 0 astray 0 = unread 0\n7 1 open vale0:b 2 2 0 = ok\n8 1 shut 7\n9 1 finish 7 2,3 found 0 astray 0 = unread 0\n10 1 leave\nend 10 free 10\n",
+        b"vale 2 pool 10\n1 enter 1\n2 1 open vale0:a 4 4 0 = ok\n3 1 open vale0:b 2 2 0 = nobuffers 4 2\n4 1 open vale0:c 1 2 0 = badsize\n5 1 shut 2\n6 1 finish 2 2-5 found 0 astray 0 = unread 0\n7 1 open vale0:b 2 2 0 = ok\n8 1 shut 7\n9 1 finish 7 2-3 found 0 astray 0 = unread 0\n10 1 leave\nend 10 free 10\n",
     ),
 ];
 
@@ -75,7 +75,7 @@ pub(super) const LINES: &[(&[u8], &[u8])] = &[
     // A name that is taken, and the lines of the port that is refused.
     (
         b"pool 64\nuser a\nuser b\nopen a vale0:a 4 4\nopen b vale0:a 4 4\nput b vale0:a 1 ff:ff:ff:ff:ff:ff 02:00:00:00:00:0b 14 00\ntx b vale0:a\nrx b vale0:a\nclose b vale0:a\n",
-        b"4 2 open vale0:a 4 4 0 = nametaken\n5 1 shut 3\n6 1 finish 3 2,3,4,5 found 0 astray 0 = unread 0\n7 1 leave\n8 2 leave\nend 8 free 64\n",
+        b"4 2 open vale0:a 4 4 0 = nametaken\n5 1 shut 3\n6 1 finish 3 2-5 found 0 astray 0 = unread 0\n7 1 leave\n8 2 leave\nend 8 free 64\n",
     ),
     // More switches than there may be.
     (
@@ -85,7 +85,7 @@ pub(super) const LINES: &[(&[u8], &[u8])] = &[
     // A pipe that takes frames in part, and whose other end goes.
     (
         b"pool 64\nuser a\nuser b\nopen a pipe0{ 4 4\nopen b pipe0} 2 2\nput a pipe0{ 2 ff:ff:ff:ff:ff:ff 02:00:00:00:00:0a 14 00\ntx a pipe0{\nrx b pipe0}\ntx a pipe0{\nrx b pipe0}\ntx a pipe0{\n",
-        b"5 1 put 3 2 = took 2:ffffffffffff02000000000a88b5 to -\n6 2 get 4 - = gave 1 to -\n7 1 put 3 1 = took - to -\n8 2 get 4 2 = gave 0 to -\n9 1 put 3 1 = took 3:ffffffffffff02000000000a88b5 to -\n10 1 shut 3\n11 1 finish 3 12,13,4,5 found 0 astray 0 = unread 0\n",
+        b"5 1 put 3 2 = took 2:ffffffffffff02000000000a88b5 to -\n6 2 get 4 - = gave 1 to -\n7 1 put 3 1 = took - to -\n8 2 get 4 2 = gave 0 to -\n9 1 put 3 1 = took 3:ffffffffffff02000000000a88b5 to -\n10 1 shut 3\n11 1 finish 3 12-13,4-5 found 0 astray 0 = unread 0\n",
     ),
     // A monitor of what a port sends.
     (
@@ -100,7 +100,7 @@ pub(super) const LINES: &[(&[u8], &[u8])] = &[
     // Extra buffers, one of which is linked away.
     (
         b"pool 64\nuser a\nopen a vale0:a 2 2 3\nextra a vale0:a 2 1\n",
-        b"3 1 shut 2\n4 1 finish 2 2,3,6,7,8 found 2 astray 1 = unread 0\n5 1 leave\nend 5 free 64\n",
+        b"3 1 shut 2\n4 1 finish 2 2-3,6-8 found 2 astray 1 = unread 0\n5 1 leave\nend 5 free 64\n",
     ),
     // Rings whose positions do not fit.
     (
@@ -135,12 +135,12 @@ pub(super) const LINES: &[(&[u8], &[u8])] = &[
     // An extra buffer that is sent.
     (
         b"pool 64\nuser ana\nopen ana vale0:a 2 2 3\nextra ana vale0:a 0 2\npoke ana vale0:a tx 0 idx 6\npoke ana vale0:a tx 0 flags 1\nhex ana vale0:a ffffffffffff02000000000a88b5\ntx ana vale0:a\nclose ana vale0:a\n",
-        b"3 1 send 2 ffffffffffff02000000000a88b5 = short 0 lone 1 to -\n4 1 shut 2\n5 1 finish 2 6,3,2,7,8 found 2 astray 1 = unread 0\n6 1 leave\n",
+        b"3 1 send 2 ffffffffffff02000000000a88b5 = short 0 lone 1 to -\n4 1 shut 2\n5 1 finish 2 6,3,2,7-8 found 2 astray 1 = unread 0\n6 1 leave\n",
     ),
     // A chain that goes round.
     (
         b"pool 64\nuser a\nopen a vale0:a 2 2 3\nextra a vale0:a 2 2\nclose a vale0:a\n",
-        b"3 1 shut 2\n4 1 finish 2 2,3,6,7,8 found 2 astray 1 = unread 0\n5 1 leave\n",
+        b"3 1 shut 2\n4 1 finish 2 2-3,6-8 found 2 astray 1 = unread 0\n5 1 leave\n",
     ),
     // The largest number as a head.
     (
@@ -150,7 +150,7 @@ pub(super) const LINES: &[(&[u8], &[u8])] = &[
     // Frames that are forwarded without a copy.
     (
         b"pool 64\nuser ana\nuser mid\nuser bob\nopen ana vale0:ana 4 4\nopen mid vale0:mid 4 4\nopen mid vale1:mid 4 4\nopen bob vale1:bob 4 4\nput ana vale0:ana 2 ff:ff:ff:ff:ff:ff 02:00:00:00:00:0a 14 00\ntx ana vale0:ana\nrx mid vale0:mid\nfwd mid vale0:mid vale1:mid 2\ntx mid vale1:mid\nrx mid vale0:mid\nrx bob vale1:bob\n",
-        b"11 2 sync 5 - = gave 2 to -\n12 2 send 6 ffffffffffff02000000000a88b5,ffffffffffff02000000000a88b5 = short 0 lone 0 to 7*2\n13 2 grant 12 7 = given 2 full 0 gone 0\n14 2 done 13\n15 2 sync 5 18,19 = gave 0 to -\n16 3 sync 7 - = gave 2 to -\n17 1 shut 4\n18 1 finish 4 2,3,4,5 found 0 astray 0 = unread 0\n19 1 leave\n20 2 shut 5\n21 2 finish 5 10,11,12,13 found 0 astray 0 = unread 0\n22 2 shut 6\n23 2 finish 6 14,15,20,21 found 0 astray 0 = unread 0\n24 2 leave\n",
+        b"11 2 sync 5 - = gave 2 to -\n12 2 send 6 ffffffffffff02000000000a88b5,ffffffffffff02000000000a88b5 = short 0 lone 0 to 7*2\n13 2 grant 12 7 = given 2 full 0 gone 0\n14 2 done 13\n15 2 sync 5 18-19 = gave 0 to -\n16 3 sync 7 - = gave 2 to -\n17 1 shut 4\n18 1 finish 4 2-5 found 0 astray 0 = unread 0\n19 1 leave\n20 2 shut 5\n21 2 finish 5 10-13 found 0 astray 0 = unread 0\n22 2 shut 6\n23 2 finish 6 14-15,20-21 found 0 astray 0 = unread 0\n24 2 leave\n",
     ),
     // A pipe's other end that comes late.
     (

@@ -8,12 +8,12 @@ returns-in_err-put_ask-clause-gathers g c =
     let entry = c.args.entry.now in
     rw ((err_from_is_err_and c.from_residual.result c.from_residual.ensures.1).1)
     (words_fail (g.K.Sink.holds c.args.out.now) (g.K.Sink.holds c.put_ask.new.out) c.args.strip.now
-    (ask_words entry.session.0 entry.ask) (reply_words entry.reply) c.in_err-put_ask.ensures.gathers)
+    (ask_words c.args.version entry.session.0 entry.ask) (reply_words entry.reply) c.in_err-put_ask.ensures.gathers)
 
 pub returns-clause-gathers : goal.returns-clause-gathers
 returns-clause-gathers g c =
     let entry = c.args.entry.now in
     words_after (g.K.Sink.holds c.args.out.now) (g.K.Sink.holds c.put_ask.new.out)
     (g.K.Sink.holds c.put_reply.new.out) c.args.strip.now c.put_ask.new.strip c.put_reply.new.strip
-    (ask_words entry.session.0 entry.ask) (reply_words entry.reply) c.put_reply.result
+    (ask_words c.args.version entry.session.0 entry.ask) (reply_words entry.reply) c.put_reply.result
     c.in_ok-put_ask.ensures.gathers c.put_reply.ensures.gathers

@@ -5,7 +5,7 @@ use Rattle.vale_text.proofs.transcript.put_entries.Given as goal
 
 abbrev pub invariant-loop-i : goal.invariant-loop-i
 invariant-loop-i g l = let sink = g.K.Sink in record {
-  gathered : Gathered (sink.holds l.fn.out) (sink.holds l.out) l.fn.lines.bytes l.lines.bytes (entry_lines 1 (take l.i l.entries));
+  gathered : Gathered (sink.holds l.fn.out) (sink.holds l.out) l.fn.lines.bytes l.lines.bytes (entry_lines 2 1 (take l.i l.entries));
   later : sink.faults l.fn.out ≤ sink.faults l.out;
   empty : l.strip ≡ [];
 }

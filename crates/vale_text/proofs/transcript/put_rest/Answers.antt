@@ -18,7 +18,7 @@ pub returns-in_err-put_line-clause-writes : goal.returns-in_err-put_line-clause-
 returns-in_err-put_line-clause-writes g c =
     let old = g.K.Sink.holds c.args.out.now in
     let new = g.K.Sink.holds c.put_line.new.out in
-    let lines : List ℕ = entry_lines 1 c.args.entries.now in
+    let lines : List ℕ = entry_lines 2 1 c.args.entries.now in
     let last : List ℕ = end_line (length c.args.entries.now) c.args.free in
     rw ((err_from_is_err_and c.from_residual-in_err-put_line.result c.from_residual-in_err-put_line.ensures.1).1)
     (subst (λ (bytes : List ℕ). GrowsByPrefix old new (bytes ++ (lines ++ last))) c.requires.empty

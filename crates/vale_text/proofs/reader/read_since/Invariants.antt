@@ -1,10 +1,10 @@
 use Rattle.std.proofs.Common.{◌≡◌, ◌≤◌, ◌+◌, length}
 use Rattle.vale_text.specs.Reading.{IsReadTo}
-use Rattle.vale_text.proofs.reader.read.Given as goal
+use Rattle.vale_text.proofs.reader.read_since.Given as goal
 
 abbrev pub invariant-loop-line : goal.invariant-loop-line
 invariant-loop-line l = record {
-  read : IsReadTo l.fn.bytes l.entries.items l.rest;
+  read : IsReadTo l.fn.oldest l.start.version l.start.pool l.fn.bytes l.entries.items l.rest;
   number : l.at ≡ length l.entries.items + 2;
   room : l.at + length l.rest ≤ length l.fn.bytes + 1;
 }
