@@ -1,7 +1,7 @@
 -- A grant: what it makes of a book.
 use Rattle.std.proofs.Common.{ℕ, Bool, true, false, not, cond, ◌≡◌, ◌≤◌, ◌+◌, ◌-◌, ◌==◌, List, All, [], ◌∷◌, ◌++◌, drop, length, map, filter, find, slice_get, slice_set, Option, Some, None, option_map, IfSome, IfNone, IsSome, refl, sym, ◌∙◌, ap, subst, arith}
 use Rattle.std.specs.List.{AllByRecursion as Each}
-use Rattle.std.proofs.lemmas.Bool.{eq-eqb, eqb-true, and_parts}
+use Rattle.std.proofs.lemmas.Bool.{eq-eqb, eqb-true, ne_eqb, and_parts}
 use Rattle.std.proofs.lemmas.List.{append-nil, length-map, length-append}
 use Rattle.std.proofs.lemmas.Grind.{flat_map-append}
 use Rattle.nm_types.specs.Frames.{Frame, slots_of, size_of_frames}
@@ -23,12 +23,12 @@ use Rattle.vale_entry.specs.declared.entry.Reply.TheVariants.{Shared}
 use Rattle.vale_entry.specs.declared.entry.Entry.{Entry}
 use Rattle.vale_entry.specs.World.{World, Port, Offer, open_port, is_open_at, changed_at}
 use Rattle.vale_entry.specs.Counters.{count_shared}
-use Rattle.vale_entry.specs.Grant.{first_offer, without_first, granted_frames, given_at, grant_reply, grant_reply_at, port_after_grant}
+use Rattle.vale_entry.specs.Grant.{first_offer, without_first, granted_frames, room_back, given_at, grant_reply, grant_reply_at, port_after_grant}
 use Rattle.vale_entry.specs.Holdings.{PortBuffers, with_lot_buffers, changed_buffers}
 use Rattle.vale_entry.specs.Legal.{Standing, Follows, reply_of, session_and_reply, standing_of, standing_after, world_of, grant_step, step}
 use Rattle.vale_entry.specs.Offers.{is_offer_of}
 use Rattle.vale_entry.specs.Stored.{Stored}
-use Rattle.vale_entry.specs.Laws.{HasLotsUpTo, IsFrom, room_back}
+use Rattle.vale_entry.specs.Laws.{HasLotsUpTo, IsFrom}
 use Rattle.vale_entry.proofs.Each.{each-find, changed_at-same, each-drop, each-append}
 use Rattle.vale_entry.proofs.HistoryLaws.{numbers-rise}
 use Rattle.vale_entry.proofs.ListLaws.{place-of, each-at, each-set}
@@ -224,6 +224,10 @@ reply-shared b entry session want place port lease given full s =
     let rest : length offer.frames - length (given_frames offer (seat_of port s.at.held)) ≡ full = omega (arith, given_is, full_is) in
     ap (λ (o : Option Port). grant_reply_at o offer.frames) found ∙ (ap (λ (n : ℕ). Shared (length (given_frames offer (seat_of port s.at.held))) n 0) rest ∙ ap (λ (n : ℕ). Shared n full 0) (sym given_is))
 
+back-counted : (frames : List Frame) (given : ℕ) → length frames ≡ given → room_back frames ≡ cond (given == 0) 1 0
+back-counted [] given e = ap (λ (n : ℕ). cond (n == 0) 1 0) e
+back-counted (frame ∷ frames) given e = sym (ap (λ (b : Bool). cond b 1 0) (ne_eqb given 0 (λ none. omega (arith, e, none))))
+
 abbrev session_id : ℕ → SessionId
 session_id n = record { 0 = n }
 
@@ -270,7 +274,7 @@ give-moves b next entry session by want place port lease given full k s whose be
     let number = count-world_of b.pool.buffers b.history.entries in
     let frames = granted-is w g.offer want.to.0 port s.at.held g.to s.found in
     let id : port.id ≡ g.offer.to = open-id w.ports want.to.0 port s.found ∙ g.to in
-    let back : room_back (grant_reply w g.offer) ≡ cond (given == 0) 1 0 = ap room_back reply in
+    let back : room_back (granted_frames w g.offer) ≡ cond (given == 0) 1 0 = back-counted (granted_frames w g.offer) given (ap (λ (fs : List Frame). length fs) frames ∙ sym s.given_is) in
     let change : ℕ → List Frame → Port → Port = port_after_grant_by g.offer.session in
     let ports : ArePortsOf (changed_at port.id (change (length b.history.entries + 1) (given_frames g.offer (seat_of port s.at.held))) w.ports)
     (changed_buffers port.id (with_lot_buffers (size_of_frames (given_frames g.offer (seat_of port s.at.held)))) x.ports) next.ports.items =
@@ -326,9 +330,9 @@ lose-moves b next entry session by want k l whose beside entries limits promised
     let x = (before b).holdings in
     let g = l.grant in
     let reply = reply-lost b entry session want l in
-    let back : room_back (grant_reply w g.offer) ≡ 1 = ap room_back reply in
     let none : open_port w.ports g.offer.to ≡ None = subst (λ (n : ℕ). open_port w.ports n ≡ None) g.to l.none in
     let frames : granted_frames w g.offer ≡ [] = ap (λ (o : Option Port). given_at o g.offer.frames) none in
+    let back : room_back (granted_frames w g.offer) ≡ 1 = ap room_back frames in
     let same : changed_at g.offer.to (port_after_grant_by g.offer.session (w.entry_count + 1) []) w.ports ≡ w.ports =
     changed_at-same g.offer.to (port_after_grant_by g.offer.session (w.entry_count + 1) []) (λ port. refl) w.ports in
     let nothing : tally_after_add want.to.0 (count_shared (grant_reply w g.offer)) b.tally ≡ b.tally =

@@ -16,7 +16,6 @@ use Rattle.vale_entry.specs.Stored.{Fits, IsFull}
 use Rattle.vale_entry.specs.declared.entry.Entry.{Entry}
 use Rattle.vale_entry.specs.Legal.{Standing, Outcome, step, standing_of, standing_after, Follows, kept_ask}
 use Rattle.vale_entry.specs.Room.{promised_of, bytes_of}
-use Rattle.vale_entry.specs.Laws.{room_back}
 use Rattle.vale_entry.proofs.HistoryLaws.{room-promised}
 use Rattle.vale_entry.proofs.Wants.{is_owed}
 use Rattle.vale_entry.proofs.Worlds.{standing-push, legal-push}
@@ -41,7 +40,7 @@ pub record Moves (b next : Inside) (ask : Ask) (made : Outcome) : Type 0 where
   pub step_is : step (before b) ask ≡ Some made
   pub entries : next.history.entries ≡ b.history.entries ++ entry_of ask made ∷ []
   pub limits : next.history.limits ≡ b.history.limits
-  pub promised : next.history.promised + 1 + room_back made.reply ≡ b.history.promised + made.want
+  pub promised : next.history.promised + 1 + made.back ≡ b.history.promised + made.want
   pub room : HasRoomFor (recorded b) ask made
   pub sessions : map number_of_session next.sessions.items ≡ made.next.world.sessions
   pub ports : ArePortsOf made.next.world.ports made.next.holdings.ports next.ports.items
@@ -229,7 +228,7 @@ entries-few b k =
     omega (arith, room, few)
 
 -- A step that wants no room was promised it.
-pub owed-promised : (b : Inside) (ask : Ask) (made : Outcome) → IsBook b → step (before b) ask ≡ Some made → made.want ≡ 0 → 1 + room_back made.reply ≤ b.history.promised
+pub owed-promised : (b : Inside) (ask : Ask) (made : Outcome) → IsBook b → step (before b) ask ≡ Some made → made.want ≡ 0 → 1 + made.back ≤ b.history.promised
 owed-promised b ask made k is none =
     let pool = b.pool.buffers in
     let h = b.history.entries in

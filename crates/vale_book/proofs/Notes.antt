@@ -4,7 +4,6 @@ use Rattle.nm_types.specs.declared.fault.StepFault.{StepFault}
 use Rattle.vale_entry.specs.declared.entry.Ask.{Ask}
 use Rattle.vale_entry.specs.declared.entry.Reply.{Reply}
 use Rattle.vale_entry.specs.Legal.{step, unchanged, kept_ask}
-use Rattle.vale_entry.specs.Laws.{room_back}
 use Rattle.vale_entry.specs.Room.{bytes_of}
 use Rattle.vale_entry.specs.Stored.{Stored, Fits, IsFull}
 use Rattle.vale_parts.specs.Parts.{ArePartsAfter}
@@ -21,7 +20,6 @@ with_history b h = record b { history = h }
 pub record IsNote (b : Inside) (ask : Ask) (session : ℕ) (reply : Reply) : Type 0 where
   pub step_is : step (before b) ask ≡ Some (unchanged (before b) session reply)
   pub no_bytes : bytes_of ask reply ≡ 0
-  pub none_back : room_back reply ≡ 0
   pub parts : ArePartsAfter (before b).world (before b).holdings (kept_ask ask) reply (parts_in b) (parts_in b)
 
 fits-note : (b : Inside) (ask : Ask) (session : ℕ) (reply : Reply) → IsNote b ask session reply → Fits b.history 1 0 → Fits b.history 1 (bytes_of ask reply)
@@ -32,8 +30,7 @@ pub note-moves : {A : Type 0} (r : Result A StepFault) (b : Inside) (h : Stored)
     → OnOk r (Moves b (with_history b h) ask (unchanged (before b) session reply))
 note-moves (Err e) b h ask session reply k note entries promised limits fits = tt
 note-moves (Ok a) b h ask session reply k note entries promised limits fits =
-    let none = note.none_back in
-    quiet-moves b (with_history b h) ask (unchanged (before b) session reply) k note.step_is k.stands.ports_are note.parts entries limits (omega (arith, promised, none))
+    quiet-moves b (with_history b h) ask (unchanged (before b) session reply) k note.step_is k.stands.ports_are note.parts entries limits (omega (arith, promised))
     (fits-step b ask (unchanged (before b) session reply) k (fits-note b ask session reply note fits)) k.stands.sessions_are refl refl refl refl
 
 pub note-stays : {A : Type 0} (r : Result A StepFault) (b : Inside) (h : Stored) → OnErr r (h.entries ≡ b.history.entries) → h.promised ≡ b.history.promised → h.limits ≡ b.history.limits

@@ -2,7 +2,6 @@
 use Rattle.std.proofs.Common.{[], ◌∷◌, ◌++◌, ◌≡◌, ◌+◌, map, Some, rules}
 use Rattle.std.specs.List.{AllByRecursion as Each}
 use Rattle.vale_entry.specs.declared.entry.Ask.{Ask}
-use Rattle.vale_entry.specs.Laws.{room_back}
 use Rattle.vale_entry.specs.Legal.{Outcome, step, kept_ask}
 use Rattle.vale_port.specs.Lists.{ArePortsOf}
 use Rattle.vale_parts.specs.Parts.{ArePartsAfter}
@@ -15,7 +14,7 @@ pub quiet-moves : (b next : Inside) (ask : Ask) (made : Outcome) → IsBook b �
     → ArePortsOf made.next.world.ports made.next.holdings.ports b.ports.items
     → ArePartsAfter (before b).world (before b).holdings (kept_ask ask) made.reply (parts_in b) (parts_in b)
     → next.history.entries ≡ b.history.entries ++ entry_of ask made ∷ [] → next.history.limits ≡ b.history.limits
-    → next.history.promised + 1 + room_back made.reply ≡ b.history.promised + made.want → HasRoomFor (recorded b) ask made
+    → next.history.promised + 1 + made.back ≡ b.history.promised + made.want → HasRoomFor (recorded b) ask made
     → map number_of_session next.sessions.items ≡ made.next.world.sessions
     → next.ports.items ≡ b.ports.items → parts_in next ≡ parts_in b → next.region ≡ b.region → next.buffers ≡ b.buffers
     → Moves b next ask made

@@ -45,7 +45,6 @@ stat-note b port session place counts k enabled found own is =
     record {
       step_is = ap (option_map (stat_step s)) here.here.found ∙ unchanged-by b here.port.session session.0 (Counted (world_counts s.world.counts here.port.id)) (Counted counts) (session-here b port.0 place any_port here session own) (ap Counted same);
       no_bytes = refl;
-      none_back = refl;
       parts = parts-stay s (Stat port) (Counted counts) (parts_in b) refl;
     }
 
@@ -65,6 +64,5 @@ reset-note b port side fault session place k enabled found own =
     record {
       step_is = ap (made_at (can_reset side fault) (reset_step s)) here.here.found ∙ (made ∙ unchanged-by b here.port.session session.0 Made Made (session-here b port.0 place (can_reset side fault) here session own) refl);
       no_bytes = refl;
-      none_back = refl;
       parts = parts-stay s (Reset port side fault) Made (parts_in b) refl;
     }

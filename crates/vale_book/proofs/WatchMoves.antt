@@ -138,7 +138,6 @@ module _ (b : Inside) (monitor : PortId) (name : List ℕ) (sides : Sides) (plac
         step_is = made-of ∙ (ap (λ (target : Option Port). Some (watch_step_of (before b) sides a.here.port target)) (none-mapped number_of (target_in b name) missing)
             ∙ ap (λ (n : ℕ). Some (unchanged (before b) n replies.NoTarget)) a.own);
         no_bytes = refl;
-        none_back = refl;
         parts = record { names_next = refl; tables_wanted = tt; tables_next = sym (tables_stay (before b).world ask (parts_in b).tables refl); watches_next = λ port. refl; tally_next = refl; free_next = refl };
       }
 
@@ -159,7 +158,6 @@ module _ (b : Inside) (monitor : PortId) (name : List ℕ) (sides : Sides) (plac
               ∙ (ap (λ (n : ℕ). Some (unchanged s n (replies.Watched (record { 0 = watch.it.monitor })))) a.own
               ∙ ap (λ (n : ℕ). Some (unchanged s session.0 (replies.Watched (record { 0 = n })))) watch.to_is);
           no_bytes = refl;
-          none_back = refl;
           parts = record { names_next = refl; tables_wanted = tt; tables_next = sym (tables_stay s.world ask (parts_in b).tables refl); watches_next = λ port. refl; tally_next = refl; free_next = refl };
         }
 

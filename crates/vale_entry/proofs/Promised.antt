@@ -3,23 +3,21 @@ use Rattle.std.proofs.Common.{ℕ, ◌+◌, ◌≤◌, ◌≡◌, Bool, true, fa
 use Rattle.std.specs.List.{prefix_len}
 use Rattle.std.proofs.lemmas.List.{length-map}
 use Rattle.std.proofs.lemmas.List.Sums.{sum_by-cons, sum_by-append, sum_by_push, take_while-cons, sum_by-le-sum_by}
-use Rattle.std.proofs.lemmas.Bool.{eqb-true, ne_eqb}
+use Rattle.std.proofs.lemmas.Bool.{eqb-true}
 use Rattle.nm_types.specs.Frames.{Frame}
-use Rattle.vale_entry.specs.declared.entry.Ask.{Ask}
-use Rattle.vale_entry.specs.declared.entry.Reply.{Reply}
 use Rattle.vale_entry.specs.declared.entry.Entry.{Entry}
 use Rattle.vale_entry.specs.World.{World, Port, Lot, Offer, open_port, changed_at, space_of, is_undone}
 use Rattle.vale_entry.specs.Opening.{opened_port}
 use Rattle.vale_entry.specs.Offers.{dest_of, is_offer_of}
-use Rattle.vale_entry.specs.Grant.{first_offer, without_first, longest_fitting, given_at, granted_frames, grant_reply_at, with_lot, port_after_grant}
+use Rattle.vale_entry.specs.Grant.{first_offer, without_first, longest_fitting, given_at, granted_frames, room_back, with_lot, port_after_grant}
 use Rattle.vale_entry.specs.Delivery.{lease_at, line_of, is_lease, is_done_lot, ready_lots, done_if, lot_after_done, port_after_done, port_after_sync}
 use Rattle.vale_entry.specs.Closing.{shut, shutting_port, leases_out}
 use Rattle.vale_entry.specs.Room.{owed_by_port, undone_of}
 use Rattle.vale_entry.specs.Legal.{Standing, Outcome, recorded_step, after, enter_step, open_step_by, send_step, offers_of_send, grant_step, sync_step, offers_of_sync, shut_step, finish_step, leave_step, done_step, put_step, offers_of_put, standing_after}
-use Rattle.vale_entry.specs.Laws.{Rise, id_of_port, bears_number, AreSingle, room_back, IsPromised}
+use Rattle.vale_entry.specs.Laws.{Rise, id_of_port, bears_number, AreSingle, IsPromised}
 use Rattle.vale_entry.specs.Pipe.{frames_of_items, port_after_put}
 use Rattle.vale_entry.specs.declared.entry.Item.{Item}
-use Rattle.vale_entry.proofs.Follows.{EachKind, IfMade, IsQuiet, refused_open, recorded-by}
+use Rattle.vale_entry.proofs.Follows.{EachKind, IfMade, recorded-by}
 use Rattle.vale_entry.proofs.ListLaws.{place-of, sum-set, sum-map_same, sum-flat_map, front-rest}
 use Rattle.vale_entry.proofs.Counting.{sum-add}
 use Rattle.vale_entry.proofs.Each.{sum-changed_at, changed_at-same}
@@ -80,23 +78,21 @@ length-without_first origin (offer ∷ offers) found e =
     (find (is_offer_of origin) offers) (length-without_first origin offers found) e
 
 with_lot-undone : (number session : ℕ) (given : List Frame) (line : List Lot)
-    → count_by is_undone (with_lot number session false given line) + cond (length given == 0) 1 0
+    → count_by is_undone (with_lot number session false given line) + room_back given
     ≡ count_by is_undone line + 1
 with_lot-undone number session [] line = refl
 with_lot-undone number session (frame ∷ frames) line =
-    let some : (length (frame ∷ frames) == 0) ≡ false =
-    ne_eqb (length (frame ∷ frames)) 0 (λ e. omega arith) in
     let sum : count_by is_undone (with_lot number session false (frame ∷ frames) line)
     ≡ count_by is_undone line + 1 =
     sum_by_push (λ (lot : Lot). cond (is_undone lot) 1 0) line _ in
-    rw some (omega arith)
+    omega arith
 
 undone-granted :
     (number session id : ℕ) (frames : List Frame) (high : ℕ) (ports : List Port) (at : Option Port)
     → open_port ports id ≡ at
     → Rise 0 (map id_of_port ports) high
     → sum_by undone_of (changed_at id (port_after_grant number session (given_at at frames)) ports)
-    + room_back (grant_reply_at at frames)
+    + room_back (given_at at frames)
     ≡ sum_by undone_of ports + 1
 undone-granted number session id frames high ports None e rise =
     rw (changed_at-same id (port_after_grant number session []) (λ port. refl) ports) refl
@@ -319,19 +315,11 @@ promised_put s items port peer =
     let owed = sum-changed_at owed_by_port peer.id change (λ p. refl) s.world.ports in
     omega (arith, all, dests, undone, owed)
 
-quiet-back :
-    (s : Standing) (ask : Ask) (session : ℕ) (reply : Reply) → IsQuiet s ask session reply
-    → room_back reply ≡ 0
-quiet-back s _ _ _ (refused_open session name tx rx extra fault can e) = refl
-quiet-back s _ _ _ _ = refl
-
 promised_kinds :
     (s : Standing) → Numbered s → Single s → EachKind s (λ ask made. PromisedNext s.world made)
 promised_kinds s n single = record {
   enters = λ user fits. promised_enter s;
-  quiet =
-      λ ask session reply quiet. let back = quiet-back s ask session reply quiet in omega
-      (arith, back);
+  quiet = λ ask session reply quiet. omega arith;
   opens = λ session name tx rx extra can refusal. promised_open s session.0 name tx rx extra;
   sends = λ from frames port e can settled. promised_send s frames port;
   grants = λ origin to offer first same. promised_grant s origin offer first n;

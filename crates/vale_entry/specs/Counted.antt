@@ -5,7 +5,7 @@ use Rattle.std.specs.Prelude.{ℕ, ◌==◌, ◌+◌, if◌then◌else◌, List,
 use Rattle.nm_types.specs.Frames.{Frame}
 use Rattle.nm_types.specs.declared.id.Counts.{Counts}
 use Rattle.vale_entry.specs.declared.entry.Ask.{Ask}
-use Rattle.vale_entry.specs.declared.entry.Ask.TheVariants.{Send, Grant, PutKept}
+use Rattle.vale_entry.specs.declared.entry.Ask.TheVariants.{Enter, Open, Send, Grant, Done, Sync, Reset, Shut, Finish, Leave, Put, PutKept, Get, Watch, Stat}
 use Rattle.vale_entry.specs.declared.entry.Reply.{Reply}
 use Rattle.vale_entry.specs.declared.entry.Reply.TheVariants.{Offered, Shared}
 use Rattle.vale_entry.specs.declared.entry.Entry.{Entry}
@@ -17,7 +17,20 @@ use Rattle.vale_entry.specs.Delivered.{gathered, given_frames, read_frames}
 -- what the Sends of a port tell, each by its frames and its reply
 abbrev pub of_send : {X : Type 0} → (List Frame → Reply → List X) → ℕ → Ask → Reply → List X
 of_send tell port (Send from frames) reply = if from.0 == port then tell frames reply else []
-of_send tell port _ reply = []
+of_send tell port (Enter user) reply = []
+of_send tell port (Open session name tx rx extra) reply = []
+of_send tell port (Grant origin to) reply = []
+of_send tell port (Done lease) reply = []
+of_send tell port (Sync at back) reply = []
+of_send tell port (Reset at side fault) reply = []
+of_send tell port (Shut at) reply = []
+of_send tell port (Finish at bufs chain) reply = []
+of_send tell port (Leave session) reply = []
+of_send tell port (Put at offered) reply = []
+of_send tell port (PutKept at offered) reply = []
+of_send tell port (Get at back) reply = []
+of_send tell port (Watch monitor target sides) reply = []
+of_send tell port (Stat at) reply = []
 
 -- the frames of a port's Sends
 abbrev pub switched_by : ℕ → Ask → Reply → List Frame

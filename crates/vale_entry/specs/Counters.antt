@@ -5,7 +5,7 @@ use Rattle.nm_types.specs.Frames.{Frame}
 use Rattle.nm_types.specs.declared.id.Counts.{Counts}
 use Rattle.nm_types.specs.Counters.{zero_counts, sum_of_counts}
 use Rattle.vale_entry.specs.declared.entry.Ask.{Ask}
-use Rattle.vale_entry.specs.declared.entry.Ask.TheVariants.{Open, Send, Grant, Sync, Finish, PutKept, Get}
+use Rattle.vale_entry.specs.declared.entry.Ask.TheVariants.{Enter, Open, Send, Grant, Done, Sync, Reset, Shut, Finish, Leave, Put, PutKept, Get, Watch, Stat}
 use Rattle.vale_entry.specs.declared.entry.Reply.{Reply}
 use Rattle.vale_entry.specs.declared.entry.Reply.TheVariants.{Opened, Offered, Shared, Gave, Took, Unread}
 use Rattle.vale_entry.specs.declared.entry.Entry.{Entry}
@@ -50,7 +50,16 @@ counted_by port w (PutKept at offered) reply =
     sum_of_counts (counts_if (at.0 == port) (count_put reply))
     (counts_if (puts_to_port w.ports at.0 port) (count_taken_at reply))
 counted_by port w (Get at back) reply = counts_if (at.0 == port) (count_gave_at reply)
-counted_by port w _ reply = zero_counts
+counted_by port w (Enter user) reply = zero_counts
+counted_by port w (Open session name tx rx extra) reply = zero_counts
+counted_by port w (Done lease) reply = zero_counts
+counted_by port w (Reset at side fault) reply = zero_counts
+counted_by port w (Shut at) reply = zero_counts
+counted_by port w (Finish at bufs chain) reply = zero_counts
+counted_by port w (Leave session) reply = zero_counts
+counted_by port w (Put at offered) reply = zero_counts
+counted_by port w (Watch monitor target sides) reply = zero_counts
+counted_by port w (Stat at) reply = zero_counts
 
 abbrev pub counted_in : ℕ → World → Entry → Counts
 counted_in port w entry = counted_by port w entry.ask entry.reply

@@ -4,7 +4,7 @@ use Rattle.std.specs.Prelude.{ℕ, Bool, true, false, ◌&&◌, ◌==◌, ◌+�
 use Rattle.std.specs.List.{range_with_len, list_any}
 use Rattle.nm_types.specs.Frames.{Frame}
 use Rattle.vale_entry.specs.declared.entry.Ask.{Ask}
-use Rattle.vale_entry.specs.declared.entry.Ask.TheVariants.{Send, Grant, Sync, PutKept, Get}
+use Rattle.vale_entry.specs.declared.entry.Ask.TheVariants.{Enter, Open, Send, Grant, Done, Sync, Reset, Shut, Finish, Leave, Put, PutKept, Get, Watch, Stat}
 use Rattle.vale_entry.specs.declared.entry.Reply.{Reply}
 use Rattle.vale_entry.specs.declared.entry.Reply.TheVariants.{Shared, Took}
 use Rattle.vale_entry.specs.declared.entry.Entry.{Entry}
@@ -143,7 +143,17 @@ is_sent_by port (Send from frames) reply = from.0 == port
 is_sent_by port (Sync at back) reply = at.0 == port
 is_sent_by port (PutKept at offered) reply = (at.0 == port) && was_taken reply
 is_sent_by port (Get at back) reply = at.0 == port
-is_sent_by port _ reply = false
+is_sent_by port (Enter user) reply = false
+is_sent_by port (Open session name tx rx extra) reply = false
+is_sent_by port (Grant origin to) reply = false
+is_sent_by port (Done lease) reply = false
+is_sent_by port (Reset at side fault) reply = false
+is_sent_by port (Shut at) reply = false
+is_sent_by port (Finish at bufs chain) reply = false
+is_sent_by port (Leave session) reply = false
+is_sent_by port (Put at offered) reply = false
+is_sent_by port (Watch monitor target sides) reply = false
+is_sent_by port (Stat at) reply = false
 
 -- the number of an entry whose frames come from a port
 abbrev pub numbers_in : ℕ → World → Entry → List ℕ

@@ -22,6 +22,11 @@ given_at (Some port) frames = longest_fitting (space_of port) frames
 abbrev pub granted_frames : World → Offer → List Frame
 granted_frames w offer = given_at (open_port w.ports offer.to) offer.frames
 
+-- a grant that gives nothing needs no Done: that one's room comes back
+abbrev pub room_back : List Frame → ℕ
+room_back [] = 1
+room_back (frame ∷ frames) = 0
+
 abbrev pub grant_reply_at : Option Port → List Frame → Reply
 grant_reply_at None frames = Shared 0 0 (length frames)
 grant_reply_at (Some port) frames =

@@ -5,8 +5,7 @@ use Rattle.nm_types.specs.declared.id.PortId.{PortId}
 use Rattle.nm_types.specs.declared.id.Chain.{Chain}
 use Rattle.vale_entry.specs.Closing.{leases_out, shutting_port}
 use Rattle.vale_entry.specs.Room.{promised_of, room_used}
-use Rattle.vale_entry.specs.declared.entry.Reply.TheVariants.{Shared, LeasesOut}
-use Rattle.vale_entry.specs.declared.entry.Reply.{Reply}
+use Rattle.vale_entry.specs.declared.entry.Reply.TheVariants.{LeasesOut}
 use Rattle.vale_entry.specs.declared.entry.Ask.{Ask}
 use Rattle.vale_entry.specs.declared.entry.Ask.TheVariants.{Grant, Finish, Put, PutKept}
 use Rattle.vale_entry.specs.declared.entry.Item.{Item}
@@ -14,7 +13,7 @@ use Rattle.vale_entry.specs.Transcript.{IsPrintable}
 use Rattle.vale_entry.specs.Fits.{FitsEntry}
 use Rattle.vale_entry.specs.declared.entry.Span.{Span}
 use Rattle.vale_entry.specs.Spans.{spans_of, spans_in, numbers_in, AreSpansOf}
-use Rattle.std.specs.Prelude.{ℕ, true, false, not, ◌&&◌, ◌==◌, ◌≡◌, ◌+◌, ◌-◌, ◌<◌, ◌≤◌, ◌^◌, List, [], ◌∷◌, Some, map, length, flat_map, sum_by, count_by, Bool, if◌then◌else◌, All, ◌++◌, take, drop, is_some, slice_get, Option, bytes_eq}
+use Rattle.std.specs.Prelude.{ℕ, true, false, not, ◌&&◌, ◌==◌, ◌≡◌, ◌+◌, ◌-◌, ◌<◌, ◌≤◌, ◌^◌, List, [], ◌∷◌, Some, map, length, flat_map, sum_by, count_by, Bool, All, ◌++◌, take, drop, is_some, slice_get, Option, bytes_eq}
 use Rattle.std.specs.List.{list_any, AllByRecursion}
 use Rattle.nm_types.specs.Names.{is_monitor_name}
 use Rattle.vale_entry.specs.Monitors.{is_watch_at}
@@ -197,15 +196,11 @@ OffersAreOfOneEntry offers =
     → (origin : ℕ)
     × AllByRecursion (λ (offer : Offer). offer.session ≡ session → offer.origin ≡ origin) offers
 
--- a grant that gives nothing needs no Done: that one's room comes back
-abbrev pub room_back : Reply → ℕ
-room_back (Shared given full gone) = if given == 0 then 1 else 0
-room_back _ = 0
-
 -- an entry takes one of those promised before or wanted by its step, and leaves the others promised
+-- but for those that come back
 abbrev pub IsPromised : World → World → Outcome → Type 0
 IsPromised before left made =
-    promised_of left + 1 + room_back made.reply ≡ promised_of before + made.want
+    promised_of left + 1 + made.back ≡ promised_of before + made.want
 
 -- Each port is within its sizes: no lot is empty, one slot beside what is out and queued stays with
 -- the kernel side, and its session's dues, its idle buffers and its lots' are all the buffers that
@@ -327,7 +322,7 @@ RoomIsUsed =
     (pool : ℕ) (history : List Entry) (entry : Entry) (made : Outcome) → IsLegal pool history
     → Follows (standing_of pool history) entry
     → recorded_step (standing_of pool history) entry.ask entry.reply ≡ Some made
-    → room_used pool (history ++ entry ∷ []) + room_back made.reply
+    → room_used pool (history ++ entry ∷ []) + made.back
     ≡ room_used pool history + made.want
 
 -- each number of a legal history is below 2^64, if the pool has fewer than 2^32 buffers and the

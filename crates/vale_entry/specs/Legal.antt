@@ -25,7 +25,7 @@ use Rattle.vale_entry.specs.World.{World, Port, Lot, Offer, Watch as Watcher, em
 use Rattle.vale_entry.specs.Learning.{is_short, learned_of_batch}
 use Rattle.vale_entry.specs.Lookup.{Named, named_frames, is_lone}
 use Rattle.vale_entry.specs.Offers.{wanted_frames, monitored_frames, offers_of, dests_of}
-use Rattle.vale_entry.specs.Grant.{first_offer, grant_reply, after_grant, granted_frames}
+use Rattle.vale_entry.specs.Grant.{first_offer, grant_reply, after_grant, granted_frames, room_back}
 use Rattle.vale_entry.specs.Delivery.{lease_at, ports_after_done, ready_lots, delivered_frames, port_after_sync}
 use Rattle.vale_entry.specs.Opening.{open_refusal, after_open}
 use Rattle.vale_entry.specs.Closing.{shutting_port, shut, watches_without, leases_out, unread_count, ports_without, can_leave, sessions_without}
@@ -41,11 +41,12 @@ pub record Standing : Type 0 where
   pub holdings : Holdings
 
 -- what an ask makes: whose it is, its reply, the entries of room that it takes or promises beyond
--- those that were promised before, and what stands after it
+-- those that were promised before, how much of the room comes back at once, and what stands after it
 pub record Outcome : Type 0 where
   pub session : ℕ
   pub reply : Reply
   pub want : ℕ
+  pub back : ℕ
   pub next : Standing
 
 abbrev pub fresh_standing : ℕ → Standing
@@ -55,7 +56,8 @@ fresh_standing pool = record { past = []; world = empty_world pool; holdings = a
 
 -- what is answered without a change
 abbrev pub unchanged : Standing → ℕ → Reply → Outcome
-unchanged s session reply = record { session = session; reply = reply; want = 1; next = s }
+unchanged s session reply =
+    record { session = session; reply = reply; want = 1; back = 0; next = s }
 
 -- the room of an entry with these destinations: itself, and a Grant and a Done for each
 abbrev pub room_of_dests : List Dest → ℕ
@@ -66,6 +68,7 @@ enter_step s = record {
   session = s.world.entry_count + 1;
   reply = Made;
   want = 2;
+  back = 0;
   next = record s {
     world = record s.world { sessions = s.world.sessions ++ (s.world.entry_count + 1) ∷ [] };
     holdings = holdings_after_enter (s.world.entry_count + 1) s.holdings;
@@ -78,6 +81,7 @@ open_step_by None s session name tx rx extra = record {
   session = session;
   reply = Opened;
   want = 3;
+  back = 0;
   next = record s {
     world = after_open s.world session name tx rx extra;
     holdings = holdings_after_open (s.world.entry_count + 1) session tx rx extra s.holdings;
@@ -104,6 +108,7 @@ send_step s frames port = record {
       (count_by (is_lone s.world.ports port) (named_of s.world port frames))
       (dests_of (offers_of_send s.world port frames));
   want = room_of_dests (dests_of (offers_of_send s.world port frames));
+  back = 0;
   next = record s {
     world = record s.world {
       pairs = learned_of_batch port s.world.pairs frames;
@@ -117,6 +122,7 @@ grant_step s offer = record {
   session = offer.session;
   reply = grant_reply s.world offer;
   want = 0;
+  back = room_back (granted_frames s.world offer);
   next = record s {
     world = after_grant s.world offer;
     holdings =
@@ -129,6 +135,7 @@ done_step s number lot = record {
   session = lot.session;
   reply = Made;
   want = 0;
+  back = 0;
   next = record s { world = record s.world { ports = ports_after_done number s.world.ports } };
 }
 
@@ -143,6 +150,7 @@ sync_step s back port = record {
   session = port.session;
   reply = Gave (length (delivered_frames port)) (dests_of (offers_of_sync s.world port));
   want = room_of_dests (dests_of (offers_of_sync s.world port));
+  back = 0;
   next = record s {
     world = record s.world {
       ports = changed_at port.id (port_after_sync (length back)) s.world.ports;
@@ -157,6 +165,7 @@ shut_step s port = record {
   session = port.session;
   reply = Made;
   want = 0;
+  back = 0;
   next =
       record s {
         world = record s.world {
@@ -171,6 +180,7 @@ finish_step s bufs port = record {
   session = port.session;
   reply = Unread (unread_count port);
   want = 0;
+  back = 0;
   next = record s {
     world = record s.world { ports = ports_without port.id s.world.ports };
     holdings = holdings_after_finish port.id port.session bufs s.holdings;
@@ -182,6 +192,7 @@ leave_step s session = record {
   session = session;
   reply = Made;
   want = 0;
+  back = 0;
   next = record s {
     world = record s.world { sessions = sessions_without session s.world.sessions };
     holdings = holdings_after_leave session s.holdings;
@@ -199,6 +210,7 @@ put_step s items port peer = record {
   session = port.session;
   reply = Took items (dests_of (offers_of_put s.world port (frames_of_items items)));
   want = room_of_dests (dests_of (offers_of_put s.world port (frames_of_items items)));
+  back = 0;
   next = record s {
     world = record s.world {
       ports =
@@ -220,6 +232,7 @@ watch_step s sides monitor target = record {
   session = monitor.session;
   reply = Watching (record { 0 = target.id });
   want = 1;
+  back = 0;
   next =
       record s {
         world = record s.world {

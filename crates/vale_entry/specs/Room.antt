@@ -4,7 +4,7 @@ use Rattle.nm_types.specs.Frames.{bytes_of_frames}
 use Rattle.vale_entry.specs.declared.entry.Ask.{Ask}
 use Rattle.vale_entry.specs.declared.entry.Reply.{Reply}
 use Rattle.vale_entry.specs.declared.entry.Entry.{Entry}
-use Rattle.vale_entry.specs.declared.entry.Ask.TheVariants.{Send, Put, PutKept}
+use Rattle.vale_entry.specs.declared.entry.Ask.TheVariants.{Enter, Open, Send, Grant, Done, Sync, Reset, Shut, Finish, Leave, Put, PutKept, Get, Watch, Stat}
 use Rattle.vale_entry.specs.World.{World, Port, is_undone}
 use Rattle.vale_entry.specs.Pipe.{frames_of_items}
 use Rattle.vale_entry.specs.Legal.{world_of, kept_items}
@@ -33,7 +33,18 @@ abbrev pub bytes_of : Ask → Reply → ℕ
 bytes_of (Send port frames) reply = bytes_of_frames frames
 bytes_of (Put port offered) reply = bytes_of_frames (frames_of_items (kept_items reply))
 bytes_of (PutKept port offered) reply = bytes_of_frames (frames_of_items (kept_items reply))
-bytes_of _ reply = 0
+bytes_of (Enter user) reply = 0
+bytes_of (Open session name tx rx extra) reply = 0
+bytes_of (Grant origin to) reply = 0
+bytes_of (Done lease) reply = 0
+bytes_of (Sync port back) reply = 0
+bytes_of (Reset port side fault) reply = 0
+bytes_of (Shut port) reply = 0
+bytes_of (Finish port bufs chain) reply = 0
+bytes_of (Leave session) reply = 0
+bytes_of (Get port back) reply = 0
+bytes_of (Watch monitor target sides) reply = 0
+bytes_of (Stat port) reply = 0
 
 abbrev pub bytes_of_entry : Entry → ℕ
 bytes_of_entry entry = bytes_of entry.ask entry.reply

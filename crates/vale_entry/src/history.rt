@@ -51,7 +51,18 @@ fn bytes_of_entry(entry: &Entry) -> u64
         Ask::Send { frames, .. } => frames.size(),
         Ask::Put { .. } => kept_bytes(&entry.reply),
         Ask::PutKept { .. } => kept_bytes(&entry.reply),
-        _ => 0,
+        Ask::Enter { .. }
+        | Ask::Open { .. }
+        | Ask::Grant { .. }
+        | Ask::Done { .. }
+        | Ask::Sync { .. }
+        | Ask::Reset { .. }
+        | Ask::Shut { .. }
+        | Ask::Finish { .. }
+        | Ask::Leave { .. }
+        | Ask::Get { .. }
+        | Ask::Watch { .. }
+        | Ask::Stat { .. } => 0,
     }
 }
 

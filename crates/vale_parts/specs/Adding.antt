@@ -6,7 +6,7 @@ use Rattle.nm_types.specs.Counters.{SumFits}
 use Rattle.nm_count.specs.declared.tally.Tallied.{Tallied}
 use Rattle.nm_count.specs.Tallies.{counts_of, tally_after_add}
 use Rattle.vale_entry.specs.declared.entry.Ask.{Ask}
-use Rattle.vale_entry.specs.declared.entry.Ask.TheVariants.{Send, Grant, Sync, Get, PutKept}
+use Rattle.vale_entry.specs.declared.entry.Ask.TheVariants.{Enter, Open, Send, Grant, Done, Sync, Reset, Shut, Finish, Leave, Put, PutKept, Get, Watch, Stat}
 use Rattle.vale_entry.specs.declared.entry.Reply.{Reply}
 use Rattle.vale_entry.specs.World.{World, Port}
 use Rattle.vale_entry.specs.Pipe.{peer_at}
@@ -27,4 +27,13 @@ AddsFit w (Sync at back) reply tally = FitsIn tally at.0 (count_gave_at reply)
 AddsFit w (Get at back) reply tally = FitsIn tally at.0 (count_gave_at reply)
 AddsFit w (PutKept at offered) reply tally =
     FitsIn tally at.0 (count_put reply) × FitsAtPeer (tally_after_add at.0 (count_put reply) tally) (peer_at w.ports at.0) (count_taken_at reply)
-AddsFit w _ reply tally = Unit {0}
+AddsFit w (Enter user) reply tally = Unit {0}
+AddsFit w (Open session name tx rx extra) reply tally = Unit {0}
+AddsFit w (Done lease) reply tally = Unit {0}
+AddsFit w (Reset port side fault) reply tally = Unit {0}
+AddsFit w (Shut port) reply tally = Unit {0}
+AddsFit w (Finish port bufs chain) reply tally = Unit {0}
+AddsFit w (Leave session) reply tally = Unit {0}
+AddsFit w (Put port offered) reply tally = Unit {0}
+AddsFit w (Watch monitor target sides) reply tally = Unit {0}
+AddsFit w (Stat port) reply tally = Unit {0}
