@@ -1,7 +1,7 @@
 -- The transcript's text: a first line with its version and the pool, a line for each entry, a last
 -- line with the number of entries and the free buffers. A line ends with a line feed; one blank
--- stands between two words. Version 2 is written; version 1 has each buffer by itself where that has
--- spans of neighbours, and is read as well.
+-- stands between two words. The newest version, which is written, lists buffers in spans of
+-- neighbours; the first one lists each by itself, and is read as well.
 use Rattle.std.specs.Prelude.{ℕ, Bool, true, false, not, ◌&&◌, ◌==◌, ◌+◌, ◌/◌, ◌%◌, nat_lt, if◌then◌else◌, List, [], ◌∷◌, ◌++◌, length, map, flat_map, codes, decimal, IsTrue}
 use Rattle.std.specs.List.{join_with_byte, list_all}
 use Rattle.nm_types.specs.Frames.{Frame}
@@ -27,6 +27,10 @@ use Rattle.vale_entry.specs.Legal.{world_of}
 use Rattle.vale_entry.specs.World.{free_count}
 use Rattle.vale_entry.specs.declared.entry.Span.{Span}
 use Rattle.vale_entry.specs.Spans.{spans_in}
+
+-- the version that is written
+abbrev pub newest : ℕ
+newest = 2
 
 abbrev pub hex_digit : ℕ → ℕ
 hex_digit n = if nat_lt n 10 then 48 + n else 87 + n
@@ -195,9 +199,9 @@ unfoldable pub text_of : ℕ → ℕ → List Entry → ℕ → List ℕ
 text_of version pool entries free =
     start_line version pool ++ entry_lines version 1 entries ++ end_line (length entries) free
 
--- the transcript of a history, as it is written
+-- the transcript of a history
 abbrev pub transcript_text : ℕ → List Entry → List ℕ
-transcript_text pool history = text_of 2 pool history (free_count (world_of pool history))
+transcript_text pool history = text_of newest pool history (free_count (world_of pool history))
 
 -- destinations rise
 abbrev pub dests_rise : List Dest → Bool
