@@ -2,7 +2,7 @@
 use Rattle.std.proofs.Common.{ℕ, zero, suc, ◌+◌, ◌-◌, ◌<◌, ◌≤◌, ◌≡◌, ◌⊎◌, inl, inr, true, List, [], ◌∷◌, length, map, take, slice_get, string_bytes, Option, Some, None, IsSome, IfSome, IsSomeAnd, Result, Ok, Err, refl, sym, ◌∙◌, ap, subst, arith}
 use Rattle.std.specs.Str.Lines.{lines}
 use Rattle.nm_io.specs.Files.{Files}
-use Rattle.nm_types.specs.Limits.{most_entries, most_bytes}
+use Rattle.nm_types.specs.Limits.{most_entries, most_bytes, most_script_bytes, most_capture_bytes}
 use Rattle.nm_types.specs.declared.limits.Limits.{Limits}
 use Rattle.nm_types.specs.declared.fault.Part.{Part}
 use Rattle.nm_types.specs.declared.fault.Part.TheVariants as parts
@@ -23,7 +23,7 @@ use Rattle.vale_act.specs.FewFrames.{IsLight}
 use Rattle.vale_act.proofs.RoomLines.{light-fit}
 use Rattle.vale_act.proofs.RoomScripts.{few-fit}
 use Rattle.vale_act.proofs.RoomHistories.{not-refused}
-use Rattle.vale_run.specs.Run.{Io, HasRisen, IsScript, IsAccepted, HasInputs, IsReady, StopsAtInput, WritesPart, StopsFull, Ends, most_script, most_inputs, text_in, saved_in}
+use Rattle.vale_run.specs.Run.{Io, HasRisen, IsScript, IsAccepted, HasInputs, IsReady, StopsAtInput, WritesPart, StopsFull, Ends, text_in, saved_in}
 use Rattle.vale_run.specs.Complete.{NothingHinders, Completes}
 use Rattle.vale_run.specs.declared.status.What.TheVariants.{Script, Lines, Counts, Inputs, Frames, Entries, Bytes, Text}
 use Rattle.vale_run.specs.declared.status.Status.{Status}
@@ -138,7 +138,7 @@ module _ (files : Option Files) (told : IsSome files) where
     not-bad : (reads : List ℕ → ℕ × ℕ) (cause : PcapFault) (which : List ℕ) → StopsAtInput files reads name (inputs.BadPcap cause) which → ⊥
     not-bad reads cause which s =
         let r = stopped-at reads (inputs.BadPcap cause) which s in
-        let bad : IsBadCapture files s.stops.name (most_inputs - s.stops.used) (Some cause) = s.stops.blames in
+        let bad : IsBadCapture files s.stops.name (most_capture_bytes - s.stops.used) (Some cause) = s.stops.blames in
         let same : bad.contents ≡ r.is.contents = one-content files told s.stops.name bad.contents r.is.contents bad.told r.is.told in
         let none : first_fault bad.contents ≡ None = ap first_fault same ∙ no_fault_of_capture r.is.contents r.is.records r.is.capture in
         let both : Some cause ≡ None = sym bad.first ∙ none in
@@ -205,7 +205,7 @@ module _ (limits : Limits) (entries : most_entries ≤ limits.entries) (bytes : 
   end-complete (BadText which line) e = absurd e
   end-complete (Over Text count limit) e = absurd e
   end-complete (ReadFault which) e = absurd (not-unread (string_bytes which) e.0)
-  end-complete (Over Script count limit) e = absurd (not-longer io.files n.told name own.script most_script own.is_script.told own.is_script.short e.1.1.0)
+  end-complete (Over Script count limit) e = absurd (not-longer io.files n.told name own.script most_script_bytes own.is_script.told own.is_script.short e.1.1.0)
   end-complete (Over Lines count limit) e = absurd (not-many_lines e.0 count e.1.0 e.1.1.0 e.1.1.1.0)
   end-complete (BadScript line cause) e =
       absurd (none-bad n.program (record { line = line; cause = cause }) (script_of e.0) (says-same io.files n.told name e.0 n.program own e.1.0) e.1.1.1.0)

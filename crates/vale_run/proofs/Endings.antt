@@ -3,6 +3,7 @@ use Rattle.std.proofs.Common.{ℕ, true, false, ◌≡◌, inl, inr, List, strin
 use Rattle.std.proofs.lemmas.Option.{slice_get_within}
 use Rattle.nm_io.specs.Files.{Files}
 use Rattle.nm_io.specs.Held.{grown, GrowsByPrefix}
+use Rattle.nm_types.specs.Limits.{most_capture_bytes}
 use Rattle.nm_types.specs.declared.limits.Limits.{Limits}
 use Rattle.pcap_io.specs.declared.fault.PcapFault.{PcapFault}
 use Rattle.vale_script.specs.Script.{Program}
@@ -13,7 +14,7 @@ use Rattle.vale_text.specs.declared.transcript.PutError.{PutError}
 use Rattle.vale_text.specs.declared.transcript.PutError.TheVariants as puts
 use Rattle.vale_text.specs.Written.{BlamesSink}
 use Rattle.vale_captures.specs.Outputs.{OutputFile}
-use Rattle.vale_run.specs.Run.{Io, HasRisen, WritesNothing, IsCounted, StopsAtInput, WritesPart, Ends, most_inputs}
+use Rattle.vale_run.specs.Run.{Io, HasRisen, WritesNothing, IsCounted, StopsAtInput, WritesPart, Ends}
 use Rattle.vale_run.specs.Writing.{NamesFile, BlamesFile, NamesInput, BlamesInput, Saves, Written}
 use Rattle.vale_run.specs.declared.status.Status.{Status}
 use Rattle.vale_run.specs.declared.status.Status.TheVariants.{Done, Usage, BadScript, ReadFault, WriteFault, BadPcap, Over, NoMemory, BadText}
@@ -45,13 +46,13 @@ stops-there files names limit reads at inputs.NoMemory s = tt
 module _ (limits : Limits) (io : Io) (name : List ℕ) (program : Program)
     (counted : IsCounted io.files name program) (nothing : WritesNothing io) where
   input-at : (at : ℕ) (fault : InputFault) (which : List ℕ)
-      → (s : StopsAtFile io.files program.files most_inputs io.reads at fault) → which ≡ s.name
+      → (s : StopsAtFile io.files program.files most_capture_bytes io.reads at fault) → which ≡ s.name
       → StopsAtInput io.files io.reads name fault which
   input-at at fault which s same = record
       { program = program; counted = counted; at = at; stops = s; name_is = sym same }
 
   ends-failed : (at : ℕ) (status : Status)
-      (s : StopsAtFile io.files program.files most_inputs io.reads at inputs.Failed)
+      (s : StopsAtFile io.files program.files most_capture_bytes io.reads at inputs.Failed)
       → NamesFile s.name status → Ends limits io name status
   ends-failed at (ReadFault which) s names =
       (inr (input-at at inputs.Failed (string_bytes which) s names), nothing)
@@ -65,7 +66,7 @@ module _ (limits : Limits) (io : Io) (name : List ℕ) (program : Program)
   ends-failed at (BadText which line) s names = absurd names
 
   ends-blamed : (at : ℕ) (fault : PcapFault) (status : Status)
-      (s : StopsAtFile io.files program.files most_inputs io.reads at (inputs.BadPcap fault))
+      (s : StopsAtFile io.files program.files most_capture_bytes io.reads at (inputs.BadPcap fault))
       → BlamesFile s.name fault status → Ends limits io name status
   ends-blamed at fault (BadPcap which offset cause) s names = (
     subst (λ (f : PcapFault). StopsAtInput io.files io.reads name (inputs.BadPcap f)
@@ -83,7 +84,7 @@ module _ (limits : Limits) (io : Io) (name : List ℕ) (program : Program)
   ends-blamed at fault (BadText which line) s names = absurd names
 
   pub ends-input : (at : ℕ) (fault : InputFault) (status : Status)
-      → StopsReading io.files program.files most_inputs io.reads (at, fault)
+      → StopsReading io.files program.files most_capture_bytes io.reads (at, fault)
       → BlamesInput program.files at fault status → Ends limits io name status
   ends-input at inputs.Failed status s blames = ends-failed at status s (blames s.name s.there)
   ends-input at inputs.TooLong status s blames = subst (Ends limits io name) (sym blames)

@@ -3,6 +3,7 @@ use Rattle.std.proofs.Common.{ℕ, ◌-◌, Bool, true, false, ◌≡◌, ◌≤
 use Rattle.nm_io.specs.Files.{Files}
 use Rattle.nm_io.specs.declared.shelf.Shelf as shelves
 use Rattle.nm_io.specs.declared.sink.Sink as sinks
+use Rattle.nm_types.specs.Limits.{most_capture_bytes}
 use Rattle.nm_types.specs.declared.limits.Limits.{Limits}
 use Rattle.vale_captures.specs.declared.inputs.InputFault.{InputFault}
 use Rattle.vale_captures.specs.declared.inputs.InputFault.TheVariants as inputs
@@ -10,7 +11,7 @@ use Rattle.vale_captures.specs.Inputs.{StopsAtFile}
 use Rattle.vale_captures.specs.Outputs.{OutputFile, StopsAtOutput}
 use Rattle.vale_captures.proofs.Pages.{rose-since}
 use Rattle.vale_captures.proofs.Reading.{blames-since}
-use Rattle.vale_run.specs.Run.{Io, io_of, HasRisen, WritesNothing, StopsAtInput, WritesPart, Ends, most_inputs, text_in, saved_in}
+use Rattle.vale_run.specs.Run.{Io, io_of, HasRisen, WritesNothing, StopsAtInput, WritesPart, Ends, text_in, saved_in}
 use Rattle.vale_run.specs.declared.status.What.TheVariants.{Script, Lines, Counts, Inputs, Frames, Entries, Bytes, Text}
 use Rattle.vale_run.specs.declared.status.Status.{Status}
 use Rattle.vale_run.specs.declared.status.Status.TheVariants.{Done, Usage, BadScript, ReadFault, WriteFault, BadPcap, Over, NoMemory, BadText}
@@ -29,12 +30,12 @@ module _ (io : Io) (first_reads first_appends : List ℕ → ℕ)
   nothing-since w = record { sink = w.sink; shelf = w.shelf }
 
   stops-since : (names : List (List ℕ)) (at : ℕ) (fault : InputFault)
-      (s : StopsAtFile io.files names most_inputs io.reads at fault)
-      → StopsAtFile io.files names most_inputs first.reads at fault
+      (s : StopsAtFile io.files names most_capture_bytes io.reads at fault)
+      → StopsAtFile io.files names most_capture_bytes first.reads at fault
   stops-since names at fault s = record {
     before = s.before;
     used = s.used;
-    blames = blames-since io.files s.name (most_inputs - s.used) (first_reads s.name)
+    blames = blames-since io.files s.name (most_capture_bytes - s.used) (first_reads s.name)
         (io.reads s.name).0 (io.reads s.name).1 fault (reads_later s.name) s.blames;
     read = s.read;
     within = s.within;

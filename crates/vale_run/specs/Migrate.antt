@@ -1,11 +1,11 @@
 -- The words `migrate FILE`, and what a run of them promises: a text of version 1 or 2 is written as one of
--- version 2.
+-- the version that is written, version 2.
 use Rattle.std.specs.Prelude.{ℕ, ◌≡◌, ◌+◌, ◌<◌, ◌≤◌, ◌⊎◌, List, length, codes, string_bytes, Option, IfSome, IsSomeAnd}
 use Rattle.nm_io.specs.Held.{grown, GrowsByPrefix}
 use Rattle.nm_io.specs.Counts.{Rose}
 use Rattle.vale_captures.specs.Inputs.{HasContents}
 use Rattle.vale_entry.specs.declared.entry.Entry.{Entry}
-use Rattle.vale_entry.specs.Transcript.{text_of}
+use Rattle.vale_entry.specs.Transcript.{newest, text_of}
 use Rattle.vale_text.specs.Reading.{IsTextWith, IsFirstBad}
 use Rattle.vale_run.specs.Run.{Io, HasRisen, WritesNothing, word_behind}
 use Rattle.vale_run.specs.declared.status.What.TheVariants.{Text}
@@ -28,9 +28,9 @@ pub record Migrated (bytes : List ℕ) : Type 0 where
   pub free : ℕ
   pub is : IsTextWith 1 bytes version pool entries free
 
--- the same in version 2
+-- the same in the version that is written
 abbrev pub new_text : {bytes : List ℕ} → Migrated bytes → List ℕ
-new_text m = text_of 2 m.pool m.entries m.free
+new_text m = text_of newest m.pool m.entries m.free
 
 -- what is written of a file that has these bytes; `faults` are the output's before and after
 abbrev pub TextEnds : List ℕ → List ℕ → ℕ × ℕ → Option (List ℕ) → Option (List ℕ) → Status → Type 0
@@ -42,20 +42,6 @@ TextEnds bytes name faults old new NoMemory =
 TextEnds bytes name faults old new (BadText which line) =
     (string_bytes which ≡ name) × (IsFirstBad 1 bytes line × (new ≡ old))
 TextEnds bytes name faults old new _ = ⊥
-
--- what the parts of it promise one another: a file is blamed, or its name could not be kept
-abbrev pub NamesText : List ℕ → ℕ → Status → Type 0
-NamesText name line (BadText which at) = (string_bytes which ≡ name) × (at ≡ line)
-NamesText name line NoMemory = Unit {0}
-NamesText name line _ = ⊥
-
--- and a text was written
-abbrev pub WroteText : ℕ → List Entry → ℕ → ℕ × ℕ → Option (List ℕ) → Option (List ℕ) → Status → Type 0
-WroteText pool entries free faults old new Done = new ≡ grown old (text_of 2 pool entries free)
-WroteText pool entries free faults old new WriteFault =
-    GrowsByPrefix old new (text_of 2 pool entries free) × Rose faults.0 faults.1
-WroteText pool entries free faults old new NoMemory = GrowsByPrefix old new (text_of 2 pool entries free)
-WroteText pool entries free faults old new _ = ⊥
 
 -- a file of this name was read, and this was written of it
 pub record EndsText (io : Io) (name : List ℕ) (status : Status) : Type 0 where

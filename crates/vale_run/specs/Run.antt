@@ -6,6 +6,7 @@ use Rattle.nm_io.specs.Files.{Files}
 use Rattle.nm_io.specs.Held.{grown, GrowsByPrefix}
 use Rattle.nm_io.specs.declared.shelf.Shelf as shelves
 use Rattle.nm_io.specs.declared.sink.Sink as sinks
+use Rattle.nm_types.specs.Limits.{most_script_bytes, most_script_lines, most_counts, most_capture_bytes, most_played}
 use Rattle.nm_types.specs.declared.limits.Limits.{Limits}
 use Rattle.nm_types.specs.declared.fault.Part.{Part}
 use Rattle.nm_types.specs.declared.fault.Part.TheVariants as parts
@@ -43,23 +44,6 @@ word_behind verb _ = None
 -- the words `run SCRIPT`, of which this gives the script's name
 abbrev pub script_name : List (List ℕ) → Option (List ℕ)
 script_name words = word_behind (codes "run") words
-
--- how many bytes and lines a script may have, how many frames its lines may put and forward, how many
--- bytes all captures may have that it plays, and how many of their frames it may play
-abbrev pub most_script : ℕ
-most_script = 1048576
-
-abbrev pub most_lines : ℕ
-most_lines = 10000
-
-abbrev pub most_counts : ℕ
-most_counts = 1000000
-
-abbrev pub most_inputs : ℕ
-most_inputs = 67108864
-
-abbrev pub most_frames : ℕ
-most_frames = 1000000
 
 -- What a call sees of the shelf and the sink, before it and after it: their contents, where they are
 -- told, and their counts of faults.
@@ -104,13 +88,13 @@ pub record WritesNothing (io : Io) : Type 0 where
 -- a script was read: these are the bytes of its name, where the shelf tells them
 pub record IsScript (files : Option Files) (name script : List ℕ) : Type 0 where
   pub told : HasContents files name script
-  pub short : length script ≤ most_script
+  pub short : length script ≤ most_script_bytes
 
 -- it has few lines, each of which says something right
 pub record IsAccepted (files : Option Files) (name : List ℕ) (program : Program) : Type 0 where
   pub script : List ℕ
   pub is_script : IsScript files name script
-  pub few_lines : length (lines script) ≤ most_lines
+  pub few_lines : length (lines script) ≤ most_script_lines
   pub says : script_of script ≡ Ok program
 
 -- it puts few frames
@@ -123,19 +107,19 @@ pub record HasInputs (files : Option Files) (name : List ℕ) (program : Program
   pub counted : IsCounted files name program
   pub size : ℕ
   pub read : AreInputs files program.files played size
-  pub within : size ≤ most_inputs
+  pub within : size ≤ most_capture_bytes
 
 -- it plays few of their frames
 pub record IsReady (files : Option Files) (name : List ℕ) (program : Program) (played : List InputFile) : Type 0 where
   pub has_inputs : HasInputs files name program played
-  pub few_frames : frames_played program played ≤ most_frames
+  pub few_frames : frames_played program played ≤ most_played
 
 -- one of the captures was not read
 pub record StopsAtInput (files : Option Files) (reads : List ℕ → ℕ × ℕ) (name : List ℕ) (fault : InputFault) (which : List ℕ) : Type 0 where
   pub program : Program
   pub counted : IsCounted files name program
   pub at : ℕ
-  pub stops : StopsAtFile files program.files most_inputs reads at fault
+  pub stops : StopsAtFile files program.files most_capture_bytes reads at fault
   pub name_is : stops.name ≡ which
 
 -- What is written.
@@ -229,20 +213,20 @@ Ends limits io name (Over Text count limit) = ⊥
 Ends limits io name (ReadFault which) =
     (((string_bytes which ≡ name) × HasRisen (io.reads name)) ⊎ StopsAtInput io.files io.reads name inputs.Failed (string_bytes which)) × WritesNothing io
 Ends limits io name (Over Script count limit) =
-    (count ≡ most_script + 1) × ((limit ≡ most_script) × (IfSome io.files (λ all. IsSomeAnd (all name) (λ script. most_script < length script)) × WritesNothing io))
+    (count ≡ most_script_bytes + 1) × ((limit ≡ most_script_bytes) × (IfSome io.files (λ all. IsSomeAnd (all name) (λ script. most_script_bytes < length script)) × WritesNothing io))
 Ends limits io name (Over Lines count limit) =
-    (script : List ℕ) × (IsScript io.files name script × ((count ≡ length (lines script)) × ((most_lines < count) × ((limit ≡ most_lines) × WritesNothing io))))
+    (script : List ℕ) × (IsScript io.files name script × ((count ≡ length (lines script)) × ((most_script_lines < count) × ((limit ≡ most_script_lines) × WritesNothing io))))
 Ends limits io name (BadScript line cause) =
-    (script : List ℕ) × (IsScript io.files name script × ((length (lines script) ≤ most_lines) × ((script_of script ≡ Err (record { line = line; cause = cause })) × WritesNothing io)))
+    (script : List ℕ) × (IsScript io.files name script × ((length (lines script) ≤ most_script_lines) × ((script_of script ≡ Err (record { line = line; cause = cause })) × WritesNothing io)))
 Ends limits io name (Over Counts count limit) =
     (program : Program) × (IsAccepted io.files name program × ((count ≡ counts_of program) × ((most_counts < count) × ((limit ≡ most_counts) × WritesNothing io))))
 Ends limits io name (Over Inputs count limit) =
-    (which : List ℕ) × (StopsAtInput io.files io.reads name inputs.TooLong which × ((count ≡ most_inputs + 1) × ((limit ≡ most_inputs) × WritesNothing io)))
+    (which : List ℕ) × (StopsAtInput io.files io.reads name inputs.TooLong which × ((count ≡ most_capture_bytes + 1) × ((limit ≡ most_capture_bytes) × WritesNothing io)))
 Ends limits io name (BadPcap which offset cause) =
     StopsAtInput io.files io.reads name (inputs.BadPcap cause) (string_bytes which) × ((offset ≡ offset_of cause) × WritesNothing io)
 Ends limits io name (Over Frames count limit) =
     (program : Program) × ((played : List InputFile) × (HasInputs io.files name program played
-    × ((count ≡ frames_played program played) × ((most_frames < count) × ((limit ≡ most_frames) × WritesNothing io)))))
+    × ((count ≡ frames_played program played) × ((most_played < count) × ((limit ≡ most_played) × WritesNothing io)))))
 Ends limits io name (Over Entries count limit) = StopsFull limits io.files name parts.Entries count × ((limit ≡ limits.entries) × WritesNothing io)
 Ends limits io name (Over Bytes count limit) = StopsFull limits io.files name parts.Bytes count × ((limit ≡ limits.bytes) × WritesNothing io)
 Ends limits io name WriteFault = (run : HistoryOf limits io.files name) × WritesPart (text_in run) (saved_in run) io true

@@ -1,7 +1,10 @@
 -- What the parts of a run promise one another. A reader of the run's own promise may pass over this.
 use Rattle.std.specs.Prelude.{ℕ, true, false, ◌≡◌, ◌+◌, ◌<◌, ◌≤◌, ◌^◌, List, length, map, slice_get, string_bytes, Option, Some, Result, Ok, IfOk, IfErr}
 use Rattle.std.specs.Str.Lines.{lines}
+use Rattle.nm_io.specs.Counts.{Rose}
 use Rattle.nm_io.specs.Files.{Files}
+use Rattle.nm_io.specs.Held.{grown, GrowsByPrefix}
+use Rattle.nm_types.specs.Limits.{most_capture_bytes, most_script_lines}
 use Rattle.nm_types.specs.declared.limits.Limits.{Limits}
 use Rattle.nm_types.specs.declared.fault.Part.TheVariants as parts
 use Rattle.nm_types.specs.declared.fault.StepFault.{StepFault}
@@ -9,6 +12,8 @@ use Rattle.nm_types.specs.declared.fault.StepFault.TheVariants.{RecordFull}
 use Rattle.nm_types.specs.declared.fault.StepFault.TheVariants as faults
 use Rattle.pcap_io.specs.declared.fault.PcapFault.{PcapFault}
 use Rattle.vale_entry.specs.World.{free_count}
+use Rattle.vale_entry.specs.declared.entry.Entry.{Entry}
+use Rattle.vale_entry.specs.Transcript.{newest, text_of}
 use Rattle.vale_book.specs.Recorded.{Recorded, standing, HadRoom}
 use Rattle.vale_fabric.specs.declared.kept.Fixed.{Fixed}
 use Rattle.vale_fabric.specs.Fabrics.{record_in}
@@ -19,10 +24,10 @@ use Rattle.vale_captures.specs.declared.inputs.InputFault.TheVariants as inputs
 use Rattle.vale_captures.specs.Inputs.{InputFile, frames_of}
 use Rattle.vale_captures.specs.Outputs.{OutputFile, all_appended, StopsAtOutput}
 use Rattle.vale_act.specs.Plays.{PlaysScript, IsStoppedBy}
-use Rattle.vale_run.specs.Run.{Io, WritesWhole, WritesPart, most_lines, most_inputs}
+use Rattle.vale_run.specs.Run.{Io, WritesWhole, WritesPart}
 use Rattle.vale_run.specs.declared.status.What.TheVariants.{Inputs, Entries, Bytes}
 use Rattle.vale_run.specs.declared.status.Status.{Status}
-use Rattle.vale_run.specs.declared.status.Status.TheVariants.{Done, ReadFault, WriteFault, BadPcap, Over, NoMemory}
+use Rattle.vale_run.specs.declared.status.Status.TheVariants.{Done, ReadFault, WriteFault, BadPcap, Over, NoMemory, BadText}
 use Rattle.vale_run.specs.Status.{offset_of}
 
 -- what is used and wanted together is a number of 64 bits
@@ -79,7 +84,7 @@ pub record IsPlayOf (limits : Limits) (program : Program) (played : List InputFi
 pub record IsSaid (program : Program) : Type 0 where
   pub script : List ℕ
   pub says : script_of script ≡ Ok program
-  pub few : length (lines script) ≤ most_lines
+  pub few : length (lines script) ≤ most_script_lines
 
 -- the file is there that was not read, but where memory was wanting
 abbrev pub NamesInput : InputFault → ℕ → List (List ℕ) → Type 0
@@ -89,6 +94,20 @@ NamesInput fault at names = at < length names
 -- how a run ends that did not read the file at this place
 abbrev pub BlamesInput : List (List ℕ) → ℕ → InputFault → Status → Type 0
 BlamesInput names at inputs.Failed status = (name : List ℕ) → slice_get names at ≡ Some name → NamesFile name status
-BlamesInput names at inputs.TooLong status = status ≡ Over Inputs (most_inputs + 1) most_inputs
+BlamesInput names at inputs.TooLong status = status ≡ Over Inputs (most_capture_bytes + 1) most_capture_bytes
 BlamesInput names at (inputs.BadPcap fault) status = (name : List ℕ) → slice_get names at ≡ Some name → BlamesFile name fault status
 BlamesInput names at inputs.NoMemory status = status ≡ NoMemory
+
+-- a file of this name is no text from this line on, or its name could not be kept for want of memory
+abbrev pub NamesText : List ℕ → ℕ → Status → Type 0
+NamesText name line (BadText which at) = (string_bytes which ≡ name) × (at ≡ line)
+NamesText name line NoMemory = Unit {0}
+NamesText name line _ = ⊥
+
+-- the text that tells this was written, or by a failure or for want of memory a prefix of it
+abbrev pub WroteText : ℕ → List Entry → ℕ → ℕ × ℕ → Option (List ℕ) → Option (List ℕ) → Status → Type 0
+WroteText pool entries free faults old new Done = new ≡ grown old (text_of newest pool entries free)
+WroteText pool entries free faults old new WriteFault =
+    GrowsByPrefix old new (text_of newest pool entries free) × Rose faults.0 faults.1
+WroteText pool entries free faults old new NoMemory = GrowsByPrefix old new (text_of newest pool entries free)
+WroteText pool entries free faults old new _ = ⊥

@@ -21,7 +21,10 @@ use crate::playing::play_recorded;
 use crate::remains::Remains;
 use crate::status::{Status, What, offset_of};
 use nm_io::{Gate, ReadError, Shelf, Sink, read_all};
-use nm_types::{Limits, Part, StepFault};
+use nm_types::{
+    Limits, MAX_CAPTURE_BYTES, MAX_COUNTS, MAX_PLAYED, MAX_SCRIPT_BYTES, MAX_SCRIPT_LINES, Part,
+    StepFault,
+};
 use pcap_io::PcapFault;
 use std::alloc::Global;
 use std::sync::Wait;
@@ -32,21 +35,6 @@ use vale_captures::{
 };
 use vale_script::{Script, ScriptFault, line_count, parse};
 use vale_text::{PutError, write_transcript};
-
-/// The most bytes of a script.
-pub const MAX_SCRIPT: u64 = 1_048_576;
-
-/// The most lines of a script, silent ones too.
-pub const MAX_LINES: u64 = 10_000;
-
-/// The most frames that the lines of a script put and forward.
-pub const MAX_COUNTS: u64 = 1_000_000;
-
-/// The most bytes of all captures together that a script plays.
-pub const MAX_INPUTS: u64 = 67_108_864;
-
-/// The most frames of captures that its lines play.
-pub const MAX_FRAMES: u64 = 1_000_000;
 
 /// Of a verb and one word more, where the verb is this one: that word.
 pub(crate) fn word_behind<'w>(words: &'w [String], verb: &str) -> Option<&'w str>
@@ -206,8 +194,8 @@ fn input_fault(alloc: Global, script: &Script, at: usize, fault: InputFault) -> 
         InputFault::Failed => read_fault(alloc, script.files()[at].as_str()),
         InputFault::TooLong => Status::Over {
             what: What::Inputs,
-            count: MAX_INPUTS + 1,
-            limit: MAX_INPUTS,
+            count: MAX_CAPTURE_BYTES + 1,
+            limit: MAX_CAPTURE_BYTES,
         },
         InputFault::BadPcap { fault } => bad_capture(alloc, script.files()[at].as_str(), fault),
         InputFault::NoMemory => Status::NoMemory,
@@ -233,11 +221,11 @@ fn run_inputs<R: AllocGlobal + Threads + Wait + Sync, S: Shelf, K: Sink, G: Gate
     ensures later { CountsRise (io_of S.Shelf K.Sink shelf.old shelf.new out.old out.new) }
 {
     let count = frames_played(script, inputs);
-    if count > MAX_FRAMES {
+    if count > MAX_PLAYED {
         return Status::Over {
             what: What::Frames,
             count,
-            limit: MAX_FRAMES,
+            limit: MAX_PLAYED,
         };
     }
     run_ready(rt, script, inputs, shelf, out, gate, remains)
@@ -259,7 +247,7 @@ fn run_counted<R: AllocGlobal + Threads + Wait + Sync, S: Shelf, K: Sink, G: Gat
         (io_of S.Shelf K.Sink shelf.old shelf.new out.old out.new) name result }
     ensures later { CountsRise (io_of S.Shelf K.Sink shelf.old shelf.new out.old out.new) }
 {
-    match read_inputs(rt.alloc(), shelf, script.files(), MAX_INPUTS) {
+    match read_inputs(rt.alloc(), shelf, script.files(), MAX_CAPTURE_BYTES) {
         Ok(inputs) => run_inputs(rt, script, &inputs, shelf, out, gate, remains),
         Err((at, fault)) => input_fault(rt.alloc(), script, at, fault),
     }
@@ -301,18 +289,18 @@ fn run_script<R: AllocGlobal + Threads + Wait + Sync, S: Shelf, K: Sink, G: Gate
     gate: &G,
     remains: &mut Remains,
 ) -> Status
-    requires { length bytes.now ≤ MAX_SCRIPT }
+    requires { length bytes.now ≤ MAX_SCRIPT_BYTES }
     ensures ends { (name : List ℕ) → HasContents (S.files shelf.old) name bytes.now
         → Ends Limits.VERSION_1
         (io_of S.Shelf K.Sink shelf.old shelf.new out.old out.new) name result }
     ensures later { CountsRise (io_of S.Shelf K.Sink shelf.old shelf.new out.old out.new) }
 {
     let count = line_count(bytes) as u64;
-    if count > MAX_LINES {
+    if count > MAX_SCRIPT_LINES {
         return Status::Over {
             what: What::Lines,
             count,
-            limit: MAX_LINES,
+            limit: MAX_SCRIPT_LINES,
         };
     }
     match parse(rt.alloc(), bytes) {
@@ -339,12 +327,12 @@ fn run_file<R: AllocGlobal + Threads + Wait + Sync, S: Shelf, K: Sink, G: Gate>(
         (io_of S.Shelf K.Sink shelf.old shelf.new out.old out.new) name.now result }
     ensures later { CountsRise (io_of S.Shelf K.Sink shelf.old shelf.new out.old out.new) }
 {
-    match read_all(rt.alloc(), shelf, name, MAX_SCRIPT) {
+    match read_all(rt.alloc(), shelf, name, MAX_SCRIPT_BYTES) {
         Ok(bytes) => run_script(rt, &bytes, shelf, out, gate, remains),
         Err(ReadError::TooLong) => Status::Over {
             what: What::Script,
-            count: MAX_SCRIPT + 1,
-            limit: MAX_SCRIPT,
+            count: MAX_SCRIPT_BYTES + 1,
+            limit: MAX_SCRIPT_BYTES,
         },
         Err(ReadError::Failed) => read_fault(rt.alloc(), name),
         Err(ReadError::NoMemory) => Status::NoMemory,

@@ -11,7 +11,6 @@ mod status;
 #[cfg(test)]
 mod tests;
 
-pub use command::{MAX_COUNTS, MAX_FRAMES, MAX_INPUTS, MAX_LINES, MAX_SCRIPT, run, run_leaving};
-pub use migrate::MAX_TEXT;
+pub use command::{run, run_leaving};
 pub use remains::Remains;
 pub use status::{Status, What, report};

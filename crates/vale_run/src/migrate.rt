@@ -1,7 +1,9 @@
-//! Writes a transcript of an earlier version as one of the version that is written.
-ghost use Rattle.std.specs.Prelude.{ℕ, List, ◌≡◌, ◌≤◌, ◌<◌, ◌-◌, ◌^◌, length, map, string_bytes, option_map};
+//! Writes a transcript of either version as one of the version that is written.
+ghost use Rattle.std.specs.Prelude.{ℕ, List, ◌≡◌, ◌≤◌, ◌<◌, ◌-◌, ◌^◌, length, map, string_bytes, option_map, IfOk, IfErr};
+ghost use Rattle.vale_text.specs.Reading.{IsTextWith, BlamesText};
 ghost use Rattle.vale_run.specs.Run.{io_of, CountsRise};
-ghost use Rattle.vale_run.specs.Migrate.{text_name, TextEnds, MigrateEnds, NamesText, WroteText};
+ghost use Rattle.vale_run.specs.Migrate.{text_name, TextEnds, MigrateEnds};
+ghost use Rattle.vale_run.specs.Writing.{NamesText, WroteText};
 
 use crate::command::{read_fault, word_behind};
 use crate::status::{Status, What};
@@ -10,7 +12,7 @@ use std::alloc::Global;
 use vale_text::{PutError, Text, TextFault, read_any, write_transcript};
 
 /// The most bytes of a transcript that is migrated.
-pub const MAX_TEXT: u64 = 268_435_456;
+const MAX_TEXT: u64 = 268_435_456;
 
 /// The name of the words `migrate FILE`.
 pub(crate) fn text_name(words: &[String]) -> Option<&str>
@@ -43,14 +45,24 @@ fn write_text<K: Sink>(alloc: Global, text: &Text, out: &mut K) -> Status
     }
 }
 
-/// Writes what the transcript tells that these bytes of the file of this name are.
-fn migrate_text<K: Sink>(alloc: Global, name: &str, bytes: &[u8], out: &mut K) -> Status
-    requires { length bytes.now ≤ MAX_TEXT }
-    ensures ends { TextEnds bytes.now name.now (K.faults out.old, K.faults out.new)
+/// Reads the transcript that these bytes are, and lets them go.
+fn read_text(alloc: Global, bytes: Vec<u8>) -> Result<Text, TextFault>
+    requires { length bytes.items ≤ MAX_TEXT }
+    ensures ok { IfOk result (λ text. IsTextWith 1 bytes.items text.version text.pool text.entries.items text.free) }
+    ensures few { IfOk result (λ text. length text.entries.items < length bytes.items) }
+    ensures bad { IfErr result (BlamesText 1 bytes.items) }
+{
+    read_any(alloc, &bytes)
+}
+
+/// Migrates the bytes of the file of this name.
+fn migrate_text<K: Sink>(alloc: Global, name: &str, bytes: Vec<u8>, out: &mut K) -> Status
+    requires { length bytes.items ≤ MAX_TEXT }
+    ensures ends { TextEnds bytes.items name.now (K.faults out.old, K.faults out.new)
         (K.holds out.old) (K.holds out.new) result }
     ensures later { K.faults out.old ≤ K.faults out.new }
 {
-    match read_any(alloc, bytes) {
+    match read_text(alloc, bytes) {
         Ok(text) => write_text(alloc, &text, out),
         Err(TextFault::BadLine { line }) => bad_text(alloc, name, line),
         Err(TextFault::NoMemory) => Status::NoMemory,
@@ -68,7 +80,7 @@ pub(crate) fn migrate_file<S: Shelf, K: Sink>(
     ensures later { CountsRise (io_of S.Shelf K.Sink shelf.old shelf.new out.old out.new) }
 {
     match read_all(alloc, shelf, name, MAX_TEXT) {
-        Ok(bytes) => migrate_text(alloc, name, &bytes, out),
+        Ok(bytes) => migrate_text(alloc, name, bytes, out),
         Err(ReadError::TooLong) => Status::Over {
             what: What::Text,
             count: MAX_TEXT + 1,

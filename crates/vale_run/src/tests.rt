@@ -15,12 +15,13 @@ use captures::*;
 use scripts::*;
 use texts::*;
 
-/// What a run leaves: the shelf, the output, and the line that says how it ended.
+/// What a run leaves: the shelf, the output, and the line that says how it ended, with its status.
 #[derive(Drop)]
 struct Left {
     shelf: MemoryShelf,
     out: MemorySink,
     line: MemorySink,
+    code: u8,
 }
 
 impl Left {
@@ -54,8 +55,13 @@ fn ran<R: AllocGlobal + Threads + Wait + Sync>(
     let mut out = MemorySink::new(alloc, vec![in alloc; fail_sink]?);
     let status = run(rt, &command(alloc, words)?, &mut shelf, &mut out, &NoGate);
     let mut line = MemorySink::new(alloc, Vec::new(alloc));
-    report(&mut line, &status);
-    Ok(Left { shelf, out, line })
+    let code = report(&mut line, &status);
+    Ok(Left {
+        shelf,
+        out,
+        line,
+        code,
+    })
 }
 
 /// Each script's run ends with its line, and writes its text.
@@ -192,18 +198,19 @@ fn other_words_are_refused(rt: HostRuntime) -> Result<(), Fail> {
     Ok(())
 }
 
-/// A text of version 1 is written in version 2, one of version 2 as it is; others are told by their
-/// first bad line.
+/// A text of version 1 is written in version 2, one of version 2 as it is; of others the first bad line
+/// is told.
 #[test]
 fn texts_are_migrated(rt: HostRuntime) -> Result<(), Fail> {
-    for (text, line, new_text) in MIGRATED {
+    for (text, code, line, new_text) in MIGRATIONS {
         let left = ran(&rt, &["migrate", "s"], text, EMPTY, 99, 99)?;
         left.says(&rt, line, new_text);
+        assert_eq!(rt; left.code, *code);
     }
-    for (name, fail_shelf, fail_sink, line) in [
-        ("s", 1, 99, "vale: cannot read s\n".as_bytes()),
-        ("t", 99, 99, "vale: cannot read t\n".as_bytes()),
-        ("s", 99, 1, "vale: cannot write\n".as_bytes()),
+    for (name, fail_shelf, fail_sink, code, line) in [
+        ("s", 1, 99, 4, "vale: cannot read s\n".as_bytes()),
+        ("t", 99, 99, 4, "vale: cannot read t\n".as_bytes()),
+        ("s", 99, 1, 5, "vale: cannot write\n".as_bytes()),
     ] {
         let left = ran(
             &rt,
@@ -214,6 +221,7 @@ fn texts_are_migrated(rt: HostRuntime) -> Result<(), Fail> {
             fail_sink,
         )?;
         left.says(&rt, line, EMPTY);
+        assert_eq!(rt; left.code, code);
     }
     Ok(())
 }

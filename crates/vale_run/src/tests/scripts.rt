@@ -15,6 +15,10 @@ pub(super) const LONG_SCRIPT_LINE: &[u8] = b"vale: script 1048577 over 1048576\n
 
 pub(super) const MANY_LINES_LINE: &[u8] = b"vale: lines 10001 over 10000\n";
 
+/// The transcript of the first run.
+pub(super) const FIRST_TEXT: &[u8] =
+    b"vale 2 pool 8192\n1 enter 1\n2 enter 2\n3 1 open vale0:a 4 4 0 = ok\n4 2 open vale0:b 4 4 0 = ok\n5 1 send 3 ffffffffffff02000000000a88b511111111111111111111111111111111111111111111111111111111111111111111111111111111111111111111 = short 0 lone 0 to 4*1\n6 1 grant 5 4 = given 1 full 0 gone 0\n7 1 done 6\n8 2 sync 4 - = gave 1 to -\n9 1 shut 3\n10 1 finish 3 2-5 found 0 astray 0 = unread 0\n11 1 leave\n12 2 shut 4\n13 2 finish 4 10-14 found 0 astray 0 = unread 0\n14 2 leave\nend 14 free 8192\n";
+
 /// The first run; what a switch learns; a ring that fills; openings that are refused: the folder
 /// `examples` has the same.
 pub(super) const EXAMPLES: &[Case] = &[
@@ -23,7 +27,7 @@ pub(super) const EXAMPLES: &[Case] = &[
     (
         b"user a\nuser b\nopen a vale0:a 4 4\nopen b vale0:b 4 4\nput a vale0:a 1 ff:ff:ff:ff:ff:ff 02:00:00:00:00:0a 60 11\ntx a vale0:a\nrx b vale0:b\n",
         EMPTY,
-        b"vale 2 pool 8192\n1 enter 1\n2 enter 2\n3 1 open vale0:a 4 4 0 = ok\n4 2 open vale0:b 4 4 0 = ok\n5 1 send 3 ffffffffffff02000000000a88b511111111111111111111111111111111111111111111111111111111111111111111111111111111111111111111 = short 0 lone 0 to 4*1\n6 1 grant 5 4 = given 1 full 0 gone 0\n7 1 done 6\n8 2 sync 4 - = gave 1 to -\n9 1 shut 3\n10 1 finish 3 2-5 found 0 astray 0 = unread 0\n11 1 leave\n12 2 shut 4\n13 2 finish 4 10-14 found 0 astray 0 = unread 0\n14 2 leave\nend 14 free 8192\n",
+        FIRST_TEXT,
     ),
     // Two stations, and what the switch learns.
     (

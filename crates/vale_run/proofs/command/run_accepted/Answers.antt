@@ -1,7 +1,7 @@
 use Rattle.std.proofs.Common.{ℕ, ◌≤◌, length, subst, arith}
 use Rattle.std.specs.Str.Lines.{lines}
 use Rattle.vale_captures.proofs.Few.{counts-few}
-use Rattle.vale_run.specs.Run.{most_counts}
+use Rattle.nm_types.specs.Limits.{most_counts}
 use Rattle.vale_run.proofs.command.run_accepted.Goals as goal
 
 pub counts_of-count-requires : goal.counts_of-count-requires

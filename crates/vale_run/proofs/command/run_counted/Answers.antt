@@ -4,7 +4,8 @@ use Rattle.nm_io.specs.Files.{Files}
 use Rattle.nm_types.specs.declared.limits.TheConstants.Limits.{VERSION_1}
 use Rattle.vale_captures.specs.Inputs.{AreInputs, StopsReading}
 use Rattle.vale_captures.proofs.Few.{plays-few}
-use Rattle.vale_run.specs.Run.{Io, io_of, HasInputs, most_inputs}
+use Rattle.vale_run.specs.Run.{Io, io_of, HasInputs}
+use Rattle.nm_types.specs.Limits.{most_capture_bytes}
 use Rattle.vale_run.proofs.Histories.{inputs-named}
 use Rattle.vale_run.proofs.Endings.{stops-there, ends-input}
 use Rattle.vale_run.proofs.Since.{ends-since}
@@ -28,14 +29,14 @@ run_inputs-requires-clause-few g c κs within =
 
 pub input_fault-requires : goal.input_fault-requires
 input_fault-requires g c =
-    stops-there (g.S.Shelf.files c.args.shelf.now) c.args.script.now.files most_inputs
+    stops-there (g.S.Shelf.files c.args.shelf.now) c.args.script.now.files most_capture_bytes
     (λ name. (
       g.S.Shelf.read_faults c.args.shelf.now name,
       g.S.Shelf.read_faults
           c.read_inputs.new.shelf name,
     )) c.in-Err.at c.in-Err.fault
     (subst (λ (names : List (List ℕ)). StopsReading (g.S.Shelf.files c.args.shelf.now) names
-    most_inputs (λ name. (
+    most_capture_bytes (λ name. (
       g.S.Shelf.read_faults c.args.shelf.now name,
       g.S.Shelf.read_faults
           c.read_inputs.new.shelf name,
@@ -69,5 +70,5 @@ returns-in-Err-clause-ends g c = λ name counted.
     (record { sink = refl; shelf = c.read_inputs.ensures.files }) c.in-Err.at c.in-Err.fault
     c.input_fault.result
     (subst (λ (names : List (List ℕ)). StopsReading (g.S.Shelf.files c.args.shelf.now) names
-    most_inputs io.reads (c.in-Err.at, c.in-Err.fault)) c.files.ensures c.in-Err.ensures.stops)
+    most_capture_bytes io.reads (c.in-Err.at, c.in-Err.fault)) c.files.ensures c.in-Err.ensures.stops)
     c.input_fault.ensures
