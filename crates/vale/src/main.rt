@@ -2,9 +2,6 @@
 //! what they did; or runs the load of a number, or writes a transcript in the newest version.
 #![tactic(auto)]
 
-#[cfg(test)]
-mod tests;
-
 ghost use Rattle.std.specs.Prelude.{◌≡◌, map, string_bytes, option_map};
 ghost use Rattle.vale.specs.Command.{help_text, version_text, answer_to, Answers};
 ghost use Rattle.vale_run.specs.Run.{io_of, script_name};

@@ -24,10 +24,6 @@ coming user id = record { session = id; ask = Enter user; reply = Made }
 abbrev id_of : ℕ → SessionId
 id_of n = record { 0 = n }
 
--- the book with a session more
-abbrev pub with_session : Inside → Stored → List SessionId → Inside → Type 0
-with_session b history sessions next = (next.history ≡ history) × (next.sessions.items ≡ sessions)
-
 pub enter-moves : (r : Result SessionId StepFault) (b next : Inside) (user : ℕ) → user < 2 ^ 64 → IsBook b
     → IfOk r (λ (id : SessionId). next.history.entries ≡ b.history.entries ++ coming user id ∷ [])
     → IfOk r (λ (id : SessionId). id.0 ≡ length b.history.entries + 1)

@@ -25,6 +25,4 @@ pub mod Closes
 pub mod Finishes
 pub mod SendMoves
 pub mod PutMoves
-pub mod Openable
-pub mod Lives
 pub mod Seen

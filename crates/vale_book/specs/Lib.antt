@@ -12,7 +12,6 @@ pub mod WatchSteps
 pub mod Sending
 pub mod Putting
 pub mod PutFaults
-pub mod Lives
 pub mod Asking
 pub mod Words
 pub mod Noted

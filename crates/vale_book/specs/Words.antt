@@ -8,7 +8,7 @@ pub use Rattle.vale_entry.specs.Grant.{first_offer}
 pub use Rattle.vale_entry.specs.Legal.{IsEnabled, IsLegal, reply_of, reply_to, step}
 pub use Rattle.vale_entry.specs.Pipe.{peer_at}
 pub use Rattle.vale_entry.specs.Room.{bytes_of, bytes_of_entry, promised_of}
-pub use Rattle.vale_entry.specs.RowWords.{dest, frame_h, opening, port, session}
+pub use Rattle.vale_entry.specs.RowWords.{port}
 pub use Rattle.vale_entry.specs.World.{Port, free_count, open_port}
 pub use Rattle.vale_entry.specs.declared.entry.Entry.{Entry}
 pub use Rattle.vale_entry.specs.declared.entry.Reply.{Reply}

@@ -18,8 +18,6 @@ mod putting;
 mod reading;
 mod sending;
 mod shutting;
-#[cfg(test)]
-mod tests;
 mod watching;
 
 pub use asking::{PortSeen, Ready};

@@ -9,9 +9,6 @@ use nm_types::{Name, OpenFault, PortId, SessionId};
 use vale_port::Opening;
 use vale_steps::opening::{Opened, add_port, name_port, refuse};
 
-#[cfg(test)]
-mod tests;
-
 impl Book {
     /// Opens a port of this name for a session, with rings of so many slots and so many extra
     /// buffers. Its buffers are the smallest free ones: first the transmit ring's, then the receive

@@ -5,8 +5,6 @@
 mod counting;
 mod inputs;
 mod outputs;
-#[cfg(test)]
-mod tests;
 
 pub use counting::{counts_are_few, counts_of, frames_are_few, frames_played};
 pub use inputs::{Input, InputFault, Inputs, read_inputs};

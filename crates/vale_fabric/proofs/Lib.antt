@@ -18,5 +18,3 @@ pub mod Comers
 pub mod LeaseFilling
 pub mod Settlements
 pub mod GrantsSettle
-pub mod Alone
-pub mod Shutting

@@ -7,5 +7,4 @@ pub mod Puts
 pub mod Leases
 pub mod Filling
 pub mod Settling
-pub mod Alone
 pub mod Words

@@ -13,8 +13,6 @@ mod reading;
 mod sending;
 mod sessions;
 mod settling;
-#[cfg(test)]
-mod tests;
 
 pub use fabric::Fabric;
 pub use filling::{Frames, fill};

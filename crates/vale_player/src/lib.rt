@@ -11,8 +11,6 @@ pub mod lines;
 mod own_lines;
 mod player;
 pub mod saving;
-#[cfg(test)]
-mod tests;
 
 pub use kept::KeptPort;
 pub use player::{Player, SaveFile};

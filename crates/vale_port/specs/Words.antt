@@ -14,6 +14,6 @@ pub use Rattle.vale_lease.specs.Leases.{is_there, out_count}
 pub use Rattle.vale_line.specs.Fitting.{IsFrameSize}
 pub use Rattle.vale_line.specs.Gots.{IsSingle, buffers_of, frames_in}
 pub use Rattle.vale_line.specs.Leased.{buffer_count}
-pub use Rattle.vale_line.specs.Lines.{behind_done, completed, given_by_sync, granted_sizes}
-pub use Rattle.vale_line.specs.Lines.{held_gots, leased, leases_of, opened_lot, out_of, ready_gots}
+pub use Rattle.vale_line.specs.Lines.{completed, given_by_sync, granted_sizes}
+pub use Rattle.vale_line.specs.Lines.{held_gots, leased, leases_of, out_of, ready_gots}
 pub use Rattle.vale_line.specs.Lines.{room_to_sync, slots_out, space_of, with_lease}

@@ -7,8 +7,6 @@ mod port;
 mod ports;
 mod room;
 mod steps;
-#[cfg(test)]
-mod tests;
 
 pub use laws::{lines_are_ports, lines_find_lots, ports_are_kept, ports_open_and_close};
 pub use port::{Opening, Port};

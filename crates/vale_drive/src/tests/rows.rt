@@ -11,6 +11,8 @@ pub(super) const ROWS: &[(u32, Asks, Asks, u32)] = &[
     (64, THREE, LEASES, 27),
     (64, THREE, GONE, 22),
     (64, THREE, OUT, 20),
+    (64, THREE, BOTH_OUT, 25),
+    (64, &[], PIPE_END, 6),
     (64, &[], PIPE, 16),
     (64, THREE, TRANSMITTED, 24),
     (20, &[], RECEIVED, 20),
@@ -76,6 +78,32 @@ const OUT: Asks = &[
     (Step::Finish(6, &[18, 19, 20, 21]), Answer::Unread(1)),
     (Step::Leave(1), Answer::NotEnabled),
     (Step::Leave(3), Answer::Made),
+];
+
+/// A port waits for the leases of two sessions; then the frames of both are counted unread.
+const BOTH_OUT: Asks = &[
+    (Step::Open(3, "vale0:c", 4, 4, 0), Answer::Opened),
+    (Step::Send(4, 0x0a, 1), Answer::Offered(5, 2)),
+    (Step::Grant(7, 5), Answer::Shared(1, 0, 0)),
+    (Step::Done(8), Answer::Made),
+    (Step::Grant(7, 6), Answer::Shared(1, 0, 0)),
+    (Step::Send(5, 0x0b, 1), Answer::Offered(4, 2)),
+    (Step::Grant(11, 4), Answer::Shared(1, 0, 0)),
+    (Step::Done(12), Answer::Made),
+    (Step::Grant(11, 6), Answer::Shared(1, 0, 0)),
+    (Step::Shut(6), Answer::Made),
+    (Step::Finish(6, &[18, 19, 20, 21]), Answer::LeasesOut(2)),
+    (Step::Done(14), Answer::Made),
+    (Step::Finish(6, &[18, 19, 20, 21]), Answer::LeasesOut(1)),
+    (Step::Done(10), Answer::Made),
+    (Step::Finish(6, &[18, 19, 20, 21]), Answer::Unread(2)),
+];
+
+/// An end of a pipe is read before the other one is open: it has nothing.
+const PIPE_END: Asks = &[
+    (Step::Enter, Answer::Made),
+    (Step::Open(1, "pipe0{", 4, 4, 0), Answer::Opened),
+    (Step::Get(2, &[]), Answer::Gave(0, 0)),
 ];
 
 /// Frames go through a pipe with their buffers, for which others come.

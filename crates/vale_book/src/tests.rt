@@ -1,5 +1,0 @@
-mod ports;
-mod steps;
-mod switching;
-mod users;
-mod watching;
