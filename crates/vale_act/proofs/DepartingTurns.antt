@@ -1,6 +1,6 @@
 -- A user that does not come brings no session by its turns.
-use Rattle.std.proofs.Common.{ℕ, zero, suc, ◌-◌, ◌≡◌, ◌⊎◌, inl, inr, Bool, true, false, cond, List, [], ◌∷◌, ◌++◌, filter, replicate, Some, is_some, refl, sym, ◌∙◌, ap, subst, arith}
-use Rattle.std.specs.Prelude.{◌==◌, ◌||◌, not, option_and_then}
+use Rattle.std.proofs.Common.{ℕ, zero, suc, ◌-◌, ◌≡◌, ◌⊎◌, inl, inr, Bool, true, false, cond, List, [], ◌∷◌, filter, replicate, Some, refl, sym, ◌∙◌, ap, subst, arith}
+use Rattle.std.specs.Prelude.{◌==◌, option_and_then}
 use Rattle.std.specs.Option.{option_or}
 use Rattle.std.specs.List.{AllByRecursion}
 use Rattle.std.proofs.lemmas.Bool.{cases_Bool}
@@ -8,7 +8,7 @@ use Rattle.nm_types.specs.declared.id.SessionId.{SessionId}
 use Rattle.nm_types.specs.OwnPorts.{OwnState, Arrival}
 use Rattle.nm_turn.specs.Numbered.{Stands, numbers}
 use Rattle.vale_entry.specs.declared.entry.Ask.{Ask}
-use Rattle.vale_entry.specs.declared.entry.Ask.TheVariants.{Enter, Send, Grant, Done, Sync, Reset, Shut, Finish, Leave, Put, PutKept, Get}
+use Rattle.vale_entry.specs.declared.entry.Ask.TheVariants.{Enter, Put}
 use Rattle.vale_entry.specs.declared.entry.Entry.{Entry}
 use Rattle.vale_entry.specs.Arrivals.{arrivals_of}
 use Rattle.vale_entry.specs.World.{World}
@@ -19,43 +19,15 @@ use Rattle.vale_own.specs.Asker.{is_enter}
 use Rattle.vale_own.specs.There.{is_coming}
 use Rattle.vale_script.specs.declared.script.Act.{Act}
 use Rattle.vale_script.specs.declared.script.Act.TheVariants as acts
-use Rattle.vale_replay.specs.Tasks.{Task, Arrive, PutFrame, SendFrames, TakeFrames, ChangeOwn, Depart, EndLine, fits_a_buffer, frame_of_put, lines_left, played_before_sync, tasks_of, tasks_of_line, tasks_of_lines}
-use Rattle.vale_replay.specs.Machine.{Machine, answered, at_rest, after_task, call_of_task, call_of_tasks, enter_call, has_room_at, is_peer_gone, is_reset, is_settling, next_call, resting, settling_call, with_tasks}
+use Rattle.vale_replay.specs.Tasks.{Task, Arrive, PutFrame, SendFrames, TakeFrames, ChangeOwn, Depart, EndLine, fits_a_buffer, frame_of_put, played_before_sync, tasks_of, tasks_of_line, tasks_of_lines}
+use Rattle.vale_replay.specs.Machine.{Machine, answered, call_of_task, call_of_tasks, enter_call, is_settling, next_call, resting, settling_call, with_tasks}
 use Rattle.vale_replay.specs.Replay.{TakesTurn, standing_before}
 use Rattle.vale_replay.proofs.Comers.{enter-of}
 use Rattle.vale_replay.proofs.Enters.{ask-by, call-enters}
 use Rattle.vale_replay.proofs.Sessions.{rest-same}
+use Rattle.vale_replay.proofs.Behind.{behind-all, either-all, rest-all}
 use Rattle.vale_player.specs.Laws.{NeedsSession}
 use Rattle.vale_act.specs.Leaving.{ComesNoMore, IsNoEnter, KeepsSession, LinesKeepSession, TurnsEnterNot}
-
--- ---- what holds of all that a user has to do holds of what is left of it
-
-module _ (P : Task → Type 0) where
-  rest-all : (user : Machine) (tasks : List Task) → AllByRecursion P tasks → AllByRecursion P (at_rest user tasks).tasks
-  rest-all user [] all = tt
-  rest-all user (task ∷ tasks) all = by (is_some (call_of_task user task)) (rest-all (after_task task user) tasks all.1)
-    where
-      by : (b : Bool) → AllByRecursion P (at_rest (after_task task user) tasks).tasks
-          → AllByRecursion P (cond b (record user { tasks = task ∷ tasks }) (at_rest (after_task task user) tasks)).tasks
-      by true rest = all
-      by false rest = rest
-
-  left-all : (tasks : List Task) → AllByRecursion P tasks → AllByRecursion P (lines_left tasks)
-  left-all [] all = tt
-  left-all (EndLine ∷ tasks) all = all
-  left-all (task ∷ tasks) all = left-all tasks all.1
-
-  either-all : (b : Bool) (one other : List Task) → AllByRecursion P one → AllByRecursion P other → AllByRecursion P (cond b one other)
-  either-all true one other front back = front
-  either-all false one other front back = back
-
-  pub behind-all : (n : ℕ) (e : Entry) (user : Machine) (tasks : List Task) → AllByRecursion P user.tasks → AllByRecursion P tasks → AllByRecursion P (with_tasks n e user tasks).tasks
-  behind-all n e user [] old all = old
-  behind-all n e user (PutFrame name bytes ∷ rest) old all =
-      either-all (is_reset e.ask || not (has_room_at user.own name)) (lines_left rest) (PutFrame name bytes ∷ rest) (left-all rest all.1) all
-  behind-all n e user (SendFrames name ∷ rest) old all =
-      either-all (is_reset e.ask || is_peer_gone e.reply) (lines_left rest) rest (left-all rest all.1) all.1
-  behind-all n e user (task ∷ rest) old all = all.1
 
 -- ---- a user that comes no more goes on so
 

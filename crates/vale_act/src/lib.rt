@@ -2,10 +2,8 @@
 #![tactic(auto)]
 
 mod block_run;
-pub mod completeness;
 pub mod departing;
 mod ending;
-pub mod fitting;
 mod line_run;
 pub mod outputs;
 mod passing;

@@ -38,8 +38,8 @@ use Rattle.vale_port.proofs.Lists.{seats-at, gone_is_gone}
 use Rattle.vale_book.specs.declared.book.Book.TheInside.{Inside}
 use Rattle.nm_region.specs.Regions.{AreOf}
 use Rattle.vale_book.specs.BookView.{recorded, parts_in, HasBuffersOf, IsBook}
-use Rattle.vale_book.specs.Recorded.{entry_of, HasRoomFor}
-use Rattle.vale_book.proofs.Rooms.{step-recorded}
+use Rattle.vale_own.specs.Recorded.{entry_of, HasRoomFor}
+use Rattle.vale_own.proofs.Rooms.{step-recorded}
 use Rattle.vale_book.proofs.Moves.{Moves, before}
 use Rattle.vale_steps.proofs.Lists.{each-remove}
 use Rattle.vale_book.proofs.Standing.{IsHere, met, found-here, not-found, ports-rising}

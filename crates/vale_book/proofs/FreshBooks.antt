@@ -16,7 +16,7 @@ use Rattle.vale_book.specs.declared.book.Book.TheInside.{Inside}
 use Rattle.vale_steps.specs.declared.tables.NamedTable.{NamedTable}
 use Rattle.nm_region.specs.Regions.{AreOf}
 use Rattle.vale_book.specs.BookView.{parts_in, number_of_session, HasBuffersOf, StandsFor, IsBook}
-use Rattle.vale_book.specs.Recorded.{HadRoom}
+use Rattle.vale_own.specs.Recorded.{HadRoom}
 
 pub length-opened : (r : RegionState) → length (opened_buffers r) ≡ r.buffers
 length-opened r = length-map-range_with_len (opened_buffer r) 2 r.buffers

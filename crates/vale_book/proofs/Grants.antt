@@ -50,7 +50,7 @@ use Rattle.vale_parts.specs.Adding.{FitsIn}
 use Rattle.vale_book.specs.declared.book.Book.TheInside.{Inside}
 use Rattle.nm_region.specs.Regions.{IsBufferOf, AreOf}
 use Rattle.vale_book.specs.BookView.{recorded, parts_in, number_of_session, HasBuffersOf, IsBook}
-use Rattle.vale_book.specs.Recorded.{Recorded, standing, entry_of}
+use Rattle.vale_own.specs.Recorded.{Recorded, standing, entry_of}
 use Rattle.vale_steps.specs.Granting.{given_by, grant_entry, lease_id}
 use Rattle.vale_steps.specs.Offering.{OffersState, OffersStand, IsOfferBy, IsLeaseOf}
 use Rattle.vale_book.proofs.Moves.{Moves, before, owed-room, entries-few}

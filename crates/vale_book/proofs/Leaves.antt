@@ -8,7 +8,7 @@ use Rattle.vale_entry.specs.Closing.{sessions_without}
 use Rattle.vale_entry.specs.Legal.{Standing, IsEnabled, leave_step, step}
 use Rattle.vale_book.specs.declared.book.Book.TheInside.{Inside}
 use Rattle.vale_book.specs.BookView.{recorded, parts_in, number_of_session, IsBook}
-use Rattle.vale_book.specs.Recorded.{HasRoomFor}
+use Rattle.vale_own.specs.Recorded.{HasRoomFor}
 use Rattle.vale_book.specs.Sessions.{is_other_user, users_without}
 use Rattle.vale_book.proofs.Moves.{Moves, before, parts-stay}
 use Rattle.vale_book.proofs.Quiet.{quiet-moves}

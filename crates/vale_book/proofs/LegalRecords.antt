@@ -3,9 +3,9 @@ use Rattle.std.proofs.Common.{◌≡◌, ap, sym, subst, refl, Option, Some, Non
 use Rattle.vale_entry.specs.declared.entry.Ask.{Ask}
 use Rattle.vale_entry.specs.Legal.{Outcome, step, session_and_reply, Follows, IsLegal}
 use Rattle.vale_entry.proofs.Worlds.{legal-push}
-use Rattle.vale_book.specs.Recorded.{Recorded, standing, entry_of, after_outcome, after_ask, HasRoom}
+use Rattle.vale_own.specs.Recorded.{Recorded, standing, entry_of, after_outcome, after_ask, HasRoom}
 use Rattle.vale_book.specs.LegalRecords.{IsLegalRecord}
-use Rattle.vale_book.proofs.Rooms.{step-recorded, had-after}
+use Rattle.vale_own.proofs.Rooms.{step-recorded, had-after}
 
 pub legal-after : (before after : Recorded) (ask : Ask) → IsLegalRecord before → after ≡ after_ask before ask → HasRoom before ask → IsLegalRecord after
 legal-after before after ask was grown room =

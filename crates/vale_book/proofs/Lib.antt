@@ -1,4 +1,6 @@
-pub mod Rooms
+pub mod FittingRooms
+pub mod FittingWants
+pub mod FittingSums
 pub mod LegalRecords
 pub mod Moves
 pub mod Quiet

@@ -29,8 +29,8 @@ use Rattle.vale_steps.specs.declared.tables.NamedTable.{NamedTable}
 use Rattle.vale_steps.specs.NamedTables.{table_seen}
 use Rattle.nm_region.specs.Regions.{AreOf}
 use Rattle.vale_book.specs.BookView.{recorded, parts_in, number_of_session, HasBuffersOf, StandsFor, IsBook}
-use Rattle.vale_book.specs.Recorded.{entry_of, after_ask, IsFullFor, refused_by, IsRefusal, HasRoomFor, HasRoom, room_by}
-use Rattle.vale_book.proofs.Rooms.{step-recorded, had-after, room-owed, within-had}
+use Rattle.vale_own.specs.Recorded.{entry_of, after_ask, IsFullFor, refused_by, IsRefusal, HasRoomFor, HasRoom, room_by}
+use Rattle.vale_own.proofs.Rooms.{step-recorded, had-after, room-owed, within-had}
 
 abbrev pub before : Inside → Standing
 before b = standing_of b.pool.buffers b.history.entries

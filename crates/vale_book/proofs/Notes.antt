@@ -9,7 +9,7 @@ use Rattle.vale_entry.specs.Stored.{Stored, Fits, IsFull}
 use Rattle.vale_parts.specs.Parts.{ArePartsAfter}
 use Rattle.vale_book.specs.declared.book.Book.TheInside.{Inside}
 use Rattle.vale_book.specs.BookView.{recorded, parts_in, IsBook}
-use Rattle.vale_book.specs.Recorded.{entry_of, IsRefusal}
+use Rattle.vale_own.specs.Recorded.{entry_of, IsRefusal}
 use Rattle.vale_book.proofs.Moves.{Moves, Stays, before, fits-step, full-step}
 use Rattle.vale_book.proofs.Quiet.{quiet-moves}
 

@@ -15,7 +15,7 @@ use Rattle.vale_book.specs.BookView.{recorded}
 use Rattle.vale_steps.specs.Monitored.{offers_to}
 use Rattle.vale_book.specs.Monitored.{IsOfferedTo}
 use Rattle.vale_steps.specs.Offering.{OffersState, IsOfferBy}
-use Rattle.vale_book.specs.Recorded.{standing}
+use Rattle.vale_own.specs.Recorded.{standing}
 
 pub by-session : (origin session : ℕ) (wanted : Port → List Frame) (ports : List Port) → Each (IsOfferBy session) (offers_of origin session wanted ports)
 by-session origin session wanted [] = tt

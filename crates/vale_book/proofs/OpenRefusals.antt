@@ -19,7 +19,7 @@ use Rattle.vale_port.specs.declared.port.Opening.{Opening}
 use Rattle.vale_parts.proofs.AllParts.{tables_stay}
 use Rattle.vale_book.specs.declared.book.Book.TheInside.{Inside}
 use Rattle.vale_book.specs.BookView.{recorded, parts_in, IsBook}
-use Rattle.vale_book.specs.Recorded.{IsRefusal, IsRecordedAs}
+use Rattle.vale_own.specs.Recorded.{IsRefusal, IsRecordedAs}
 use Rattle.vale_steps.specs.OpenFaults.{ByFault, IsRecordedFault}
 use Rattle.vale_book.specs.OpenAnswers.{IsUnopened}
 use Rattle.vale_steps.specs.OpenParts.{refusal_for, entry_for}

@@ -75,7 +75,7 @@ use Rattle.vale_steps.specs.Offering.{IsOfferBy}
 use Rattle.vale_steps.specs.Putting.{items_of, wants_put, put_entry, gone_entry, count_sent, count_given, copied, IfPut, IsPutBy}
 use Rattle.vale_book.specs.Putting.{IsPut}
 use Rattle.nm_types.specs.Ids.{lease_id}
-use Rattle.vale_book.specs.Recorded.{entry_of, IsRefusal}
+use Rattle.vale_own.specs.Recorded.{entry_of, IsRefusal}
 use Rattle.vale_book.proofs.Found.{open_at, open-here, never-missing as never-closed}
 use Rattle.vale_steps.proofs.MonitoredWants.{wants-monitored}
 use Rattle.vale_book.proofs.Moves.{Moves, Stays, before, fits-step, full-step, entries-few}
@@ -83,7 +83,7 @@ use Rattle.vale_book.proofs.OfferedTo.{by-session, StandOffered, offered-to}
 use Rattle.vale_book.proofs.PortLines.{of-first, of-put}
 use Rattle.vale_steps.proofs.PutLists.{items-first, indices-items, frames-items}
 use Rattle.vale_book.proofs.ReadMoves.{IsRest}
-use Rattle.vale_book.proofs.Rooms.{step-recorded}
+use Rattle.vale_own.proofs.Rooms.{step-recorded}
 use Rattle.vale_steps.proofs.Lists.{each-take, each-left}
 use Rattle.vale_book.proofs.Standing.{IsHere, found-here, not-found, ports-rising}
 

@@ -7,7 +7,7 @@ use Rattle.vale_port.specs.Lists.{ArePortsOf}
 use Rattle.vale_parts.specs.Parts.{ArePartsAfter}
 use Rattle.vale_book.specs.declared.book.Book.TheInside.{Inside}
 use Rattle.vale_book.specs.BookView.{recorded, parts_in, number_of_session, HasBuffersOf, IsBook}
-use Rattle.vale_book.specs.Recorded.{entry_of, HasRoomFor}
+use Rattle.vale_own.specs.Recorded.{entry_of, HasRoomFor}
 use Rattle.vale_book.proofs.Moves.{Moves, before, free-same}
 
 pub quiet-moves : (b next : Inside) (ask : Ask) (made : Outcome) → IsBook b → step (before b) ask ≡ Some made

@@ -61,13 +61,13 @@ use Rattle.vale_steps.specs.Monitored.{offers_to, room_of_wants}
 use Rattle.vale_steps.specs.Offering.{OffersState, IsOfferBy}
 use Rattle.vale_steps.specs.Reading.{read_ask, wants_read, read_entry, count_read}
 use Rattle.vale_book.specs.Reading.{IsGivenOf, IsOfferedOf}
-use Rattle.vale_book.specs.Recorded.{entry_of, IsRefusal}
+use Rattle.vale_own.specs.Recorded.{entry_of, IsRefusal}
 use Rattle.vale_steps.proofs.ReadBytes.{no-bytes}
 use Rattle.vale_book.proofs.Found.{open_at, open-here, never-missing as never-closed}
 use Rattle.vale_steps.proofs.MonitoredWants.{wants-monitored}
 use Rattle.vale_book.proofs.Moves.{Moves, Stays, before, fits-step, full-step, entries-few}
 use Rattle.vale_book.proofs.OfferedTo.{by-session, StandOffered, offered-to}
-use Rattle.vale_book.proofs.Rooms.{step-recorded}
+use Rattle.vale_own.proofs.Rooms.{step-recorded}
 use Rattle.vale_book.proofs.Standing.{IsHere, ports-rising}
 use Rattle.vale_book.proofs.PortLines.{of-synced, of-given}
 

@@ -48,7 +48,7 @@ use Rattle.vale_steps.specs.NamedTables.{is_for_switch}
 use Rattle.vale_steps.specs.NamedTables.{table_seen}
 use Rattle.nm_region.specs.Regions.{AreOf}
 use Rattle.vale_book.specs.BookView.{recorded, parts_in, number_of_session, IsBook}
-use Rattle.vale_book.specs.Recorded.{entry_of, standing, IsRefusal}
+use Rattle.vale_own.specs.Recorded.{entry_of, standing, IsRefusal}
 use Rattle.vale_steps.specs.Offering.{OffersState, IsOfferBy}
 use Rattle.vale_steps.specs.Sending.{all_wants, classed, send_entry, send_room, send_offers, sent_counts}
 use Rattle.vale_book.specs.Sending.{IsSent}

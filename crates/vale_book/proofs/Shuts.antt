@@ -23,7 +23,7 @@ use Rattle.vale_book.specs.declared.book.Book.TheInside.{Inside}
 use Rattle.vale_steps.specs.declared.tables.NamedTable.{NamedTable}
 use Rattle.vale_steps.specs.NamedTables.{table_seen}
 use Rattle.vale_book.specs.BookView.{recorded, HasBuffersOf, IsBook}
-use Rattle.vale_book.specs.Recorded.{HasRoomFor}
+use Rattle.vale_own.specs.Recorded.{HasRoomFor}
 use Rattle.vale_steps.specs.NamedTables.{is_for_switch, without_port, IsForgottenOn}
 use Rattle.vale_book.proofs.Moves.{Moves, before}
 use Rattle.vale_book.proofs.Standing.{ports-rising}

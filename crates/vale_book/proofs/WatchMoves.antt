@@ -30,7 +30,7 @@ use Rattle.vale_port.specs.Lists.{OfState}
 use Rattle.vale_port.specs.Ports.{PortState}
 use Rattle.vale_book.specs.declared.book.Book.TheInside.{Inside}
 use Rattle.vale_book.specs.BookView.{recorded, parts_in, IsBook}
-use Rattle.vale_book.specs.Recorded.{IsRefusal, IsRecordedAs}
+use Rattle.vale_own.specs.Recorded.{IsRefusal, IsRecordedAs}
 use Rattle.vale_book.specs.WatchAnswers.{IsUnwatched}
 use Rattle.vale_book.specs.WatchSteps.{reply_of_watch, watcher_of, IsWatch, IsNoWatch}
 use Rattle.vale_book.proofs.Moves.{Moves, Stays, before, moved, record-moved, had-room, stayed, record-stayed, fits-step, full-step}

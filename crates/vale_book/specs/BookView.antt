@@ -16,7 +16,7 @@ use Rattle.vale_port.specs.Lists.{ArePortsOf}
 use Rattle.vale_parts.specs.Parts.{Parts, PartsAre}
 use Rattle.vale_steps.specs.NamedTables.{table_seen}
 use Rattle.vale_book.specs.declared.book.Book.TheInside.{Inside}
-use Rattle.vale_book.specs.Recorded.{Recorded, HadRoom}
+use Rattle.vale_own.specs.Recorded.{Recorded, HadRoom}
 
 abbrev pub recorded : Inside → Recorded
 recorded b = record { pool = b.pool.buffers; region = b.region.region; limits = b.history.limits; entries = b.history.entries }

@@ -1,6 +1,7 @@
+pub use Rattle.vale_own.specs.Recorded
 pub use Rattle.vale_steps.specs.Granting
 pub use Rattle.vale_steps.specs.Offering
-pub mod Recorded
+pub mod Fitting
 pub mod LegalRecords
 pub mod BookView
 pub mod OpenAnswers

@@ -3,7 +3,7 @@ use Rattle.std.specs.Prelude.{ℕ, ◌≡◌, List, [], length, Option}
 use Rattle.nm_types.specs.Frames.{Frame}
 use Rattle.vale_parts.specs.Batches.{wants_monitored}
 use Rattle.vale_steps.specs.Offering.{OffersState, OffersStand}
-use Rattle.vale_book.specs.Recorded.{Recorded, standing}
+use Rattle.vale_own.specs.Recorded.{Recorded, standing}
 
 -- frames that the last entry brought, offered to a monitor alone
 pub record IsOfferedTo (new : Recorded) (session : ℕ) (monitor : Option ℕ) (frames : List Frame) (offers : OffersState) : Type 0 where

@@ -8,7 +8,7 @@ use Rattle.vale_entry.specs.declared.entry.Item.{Item}
 use Rattle.vale_entry.specs.Pipe.{peer_at}
 use Rattle.vale_book.specs.declared.fault.PutFault.{PutFault}
 use Rattle.vale_book.specs.declared.fault.PutFault.TheVariants.{PeerGone, RecordFull, NoMemory}
-use Rattle.vale_book.specs.Recorded.{Recorded, standing, IsRefusal}
+use Rattle.vale_own.specs.Recorded.{Recorded, standing, IsRefusal}
 
 abbrev pub put_fault_of : StepFault → PutFault
 put_fault_of (step.RecordFull what used want) = RecordFull what used want

@@ -12,7 +12,7 @@ use Rattle.vale_steps.specs.declared.putting.Put.{Put}
 pub use Rattle.vale_steps.specs.Putting.{item_of, items_of, copied}
 use Rattle.nm_region.specs.Regions.{AreOf}
 use Rattle.vale_book.specs.Monitored.{IsOfferedTo}
-use Rattle.vale_book.specs.Recorded.{Recorded, standing}
+use Rattle.vale_own.specs.Recorded.{Recorded, standing}
 
 -- the ask of a put of these frames
 abbrev pub put_ask : PortId → List Got → Ask

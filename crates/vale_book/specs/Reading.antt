@@ -21,7 +21,7 @@ use Rattle.vale_steps.specs.declared.reading.Synced.{Synced}
 use Rattle.vale_steps.specs.Offering.{OffersState}
 use Rattle.nm_region.specs.Regions.{AreOf}
 use Rattle.vale_book.specs.Monitored.{IsOfferedTo}
-use Rattle.vale_book.specs.Recorded.{HasRoom, IsRefusal, Recorded, after_ask, standing}
+use Rattle.vale_own.specs.Recorded.{HasRoom, IsRefusal, Recorded, after_ask, standing}
 
 -- what is given of a port: the frames of its ready lots, in the buffers that are held for these
 pub record IsGivenOf (s : Standing) (region : ℕ) (port : Port) (gots : List Got) : Type 0 where

@@ -5,7 +5,7 @@ use Rattle.nm_types.specs.declared.fault.WatchFault.{WatchFault}
 use Rattle.nm_types.specs.declared.fault.WatchFault.TheVariants as faults
 use Rattle.vale_entry.specs.declared.entry.Ask.{Ask}
 use Rattle.vale_entry.specs.declared.entry.Reply.TheVariants as replies
-use Rattle.vale_book.specs.Recorded.{Recorded, IsRefusal, IsRecordedAs}
+use Rattle.vale_own.specs.Recorded.{Recorded, IsRefusal, IsRecordedAs}
 
 -- that there is no such port, or that it is watched, is an entry; want of room or memory is none
 abbrev pub IsUnwatched : Recorded → Recorded → Ask → WatchFault → Type 0

@@ -2,7 +2,7 @@
 pub use Rattle.nm_region.specs.Regions.{AreOf}
 pub use Rattle.nm_types.specs.Buffers.{IsPoolSize}
 pub use Rattle.nm_types.specs.Limits.{most_ring}
-pub use Rattle.vale_book.specs.Recorded.{HasRoom, IsRecordedAs, IsRefusal, after_ask, standing}
+pub use Rattle.vale_own.specs.Recorded.{HasRoom, IsRecordedAs, IsRefusal, after_ask, standing}
 pub use Rattle.vale_entry.specs.Closing.{leases_out, shutting_port}
 pub use Rattle.vale_entry.specs.Grant.{first_offer}
 pub use Rattle.vale_entry.specs.Legal.{IsEnabled, IsLegal, reply_of, reply_to, step}

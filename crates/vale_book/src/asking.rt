@@ -2,7 +2,7 @@ ghost use Rattle.std.specs.Prelude.{◌≡◌, ◌<◌, length, Some};
 ghost use Rattle.vale_book.specs.Words.{OfSeat, Port as Seen, delivered_frames, open_port};
 ghost use Rattle.vale_book.specs.Words.{shutting_port, size_of_frames};
 ghost use Rattle.vale_book.specs.Asking.{IsSeen, IsSeenAs, IsReady};
-ghost use Rattle.vale_book.specs.Recorded.{standing};
+ghost use Rattle.vale_own.specs.Recorded.{standing};
 
 use crate::book::Book;
 use nm_types::{Name, PortId, SessionId, Side};

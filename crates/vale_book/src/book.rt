@@ -1,6 +1,6 @@
 ghost use Rattle.std.specs.Prelude.{◌≡◌, ◌<◌, ◌≤◌, ◌^◌, [], length, IfOk};
 ghost use Rattle.vale_book.specs.Words.{IsLegal, IsPoolSize, free_count, promised_of};
-ghost use Rattle.vale_book.specs.Recorded.{standing, HadRoom, IsWithinLimits};
+ghost use Rattle.vale_own.specs.Recorded.{standing, HadRoom, IsWithinLimits};
 
 use nm_count::Tally;
 use nm_pool::Pool;
@@ -33,7 +33,7 @@ pub struct Book {
 }
 
 impl Model for Book {
-    ghost use Rattle.vale_book.specs.Recorded.{Recorded};
+    ghost use Rattle.vale_own.specs.Recorded.{Recorded};
 
     ghost Value = { Recorded };
 

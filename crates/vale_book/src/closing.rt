@@ -1,6 +1,6 @@
 ghost use Rattle.std.specs.Prelude.{◌≡◌};
 ghost use Rattle.vale_book.specs.Words.{IsLegal, free_count, promised_of};
-ghost use Rattle.vale_book.specs.Recorded.{standing, HadRoom};
+ghost use Rattle.vale_own.specs.Recorded.{standing, HadRoom};
 
 use crate::book::Book;
 use vale_entry::History;

@@ -3,7 +3,7 @@ ghost use Rattle.std.specs.Prelude.{IfErr};
 ghost use Rattle.vale_entry.specs.declared.entry.Ask.TheVariants as asks;
 ghost use Rattle.vale_entry.specs.declared.entry.Reply.TheVariants as replies;
 ghost use Rattle.vale_book.specs.Words.{Fits, IsFull};
-ghost use Rattle.vale_book.specs.Recorded.{after_ask, IsRefusal, HasRoom};
+ghost use Rattle.vale_own.specs.Recorded.{after_ask, IsRefusal, HasRoom};
 
 use crate::book::Book;
 use nm_types::{SessionId, StepFault};

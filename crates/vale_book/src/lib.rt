@@ -10,6 +10,7 @@ mod coming;
 mod completing;
 mod fault;
 mod finishing;
+pub mod fitting;
 mod granting;
 mod leaving;
 mod noting;

@@ -3,3 +3,4 @@ pub mod FewLines
 pub mod Pages
 pub mod Reading
 pub mod Sums
+pub mod Names

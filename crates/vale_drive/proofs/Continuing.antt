@@ -12,7 +12,7 @@ use Rattle.vale_entry.proofs.Wants.{is_owed, want-owed}
 use Rattle.vale_entry.specs.Closing.{is_port_of}
 use Rattle.vale_entry.specs.Grant.{first_offer}
 use Rattle.vale_book.specs.Recorded.{Recorded, standing, entry_of}
-use Rattle.vale_book.proofs.Rooms.{step-recorded}
+use Rattle.vale_own.proofs.Rooms.{step-recorded}
 use Rattle.vale_drive.specs.Winding.{no_chain, least, bufs_ending, grant_of, origin_of, undone_numbers, session_ending, sessions_ending, leases_ending, offers_ending, next_ending, GoesToEnd, IsContinued, IsNextMade}
 use Rattle.vale_serve.proofs.Keeping.{step-follows}
 

@@ -3,7 +3,7 @@ use Rattle.std.proofs.Common.{◌≡◌, ◌<◌, ◌^◌, ap, sym, subst, lengt
 use Rattle.vale_entry.specs.declared.entry.Ask.{Ask}
 use Rattle.vale_book.specs.Recorded.{Recorded, after_ask, HasRoom}
 use Rattle.vale_book.specs.LegalRecords.{IsLegalRecord}
-use Rattle.vale_book.proofs.Rooms.{within-had}
+use Rattle.vale_own.proofs.Rooms.{within-had}
 use Rattle.vale_book.proofs.LegalRecords.{legal-after, legal-still}
 use Rattle.vale_fabric.specs.declared.kept.Fixed.{Fixed}
 use Rattle.vale_fabric.specs.Fabrics.{Knowing}

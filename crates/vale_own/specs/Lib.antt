@@ -1,3 +1,4 @@
+pub mod Recorded
 pub mod Own
 pub mod Asker
 pub mod OwnEntries

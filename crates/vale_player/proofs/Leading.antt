@@ -32,7 +32,8 @@ use Rattle.vale_player.proofs.Changes.{id-of, changed-at}
 use Rattle.vale_player.proofs.Doing.{HasNoEnd, ends-line, stops-at}
 use Rattle.vale_player.proofs.LineLaws.{calls-done, receives-done, sends-done, failed-sends, puts-sync, puts-call}
 use Rattle.vale_player.proofs.Stays.{task-done}
-use Rattle.vale_player.proofs.TaskCalls.{by-id, room-none}
+use Rattle.vale_player.proofs.TaskCalls.{by-id}
+use Rattle.vale_replay.proofs.PutRooms.{room-none}
 
 or-first : (a b : Bool) → (a || b) ≡ false → a ≡ false
 or-first true b e = absurd cc

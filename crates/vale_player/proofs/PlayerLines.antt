@@ -1,14 +1,12 @@
 -- What a player does of its lines, one behind another.
 use Rattle.std.proofs.Common.{ℕ, ◌≡◌, ◌==◌, Bool, true, false, cond, List, [], ◌∷◌, ◌++◌, map, filter, length, get_or, drop, Result, Ok, Err, IfErr, inl, inr, ◌⊎◌, suc, ◌+◌, ◌<◌, ◌≤◌, add-one, refl, sym, ◌∙◌, ap, subst}
-use Rattle.std.specs.Prelude.{OnOk, bytes_eq}
+use Rattle.std.specs.Prelude.{OnOk}
 use Rattle.std.proofs.lemmas.List.{drop_all}
 use Rattle.std.proofs.Math.Seq.{drop-cons}
 use Rattle.nm_types.specs.Frames.{Frame}
 use Rattle.nm_types.specs.declared.id.Mac.{Mac}
 use Rattle.nm_types.specs.declared.id.Sides.{Sides}
 use Rattle.nm_types.specs.declared.fault.StepFault.{StepFault}
-use Rattle.vale_captures.specs.Inputs.{InputFile}
-use Rattle.vale_captures.specs.Inputs.{records_in as found_in}
 use Rattle.vale_script.specs.declared.script.Act.{Act}
 use Rattle.vale_script.specs.declared.script.Act.TheVariants as acts
 use Rattle.vale_script.specs.declared.script.Line.{Line}
@@ -17,7 +15,6 @@ use Rattle.vale_replay.specs.Replay.{acts_of, act_of, is_of_user}
 use Rattle.vale_player.specs.Lines.{user_with}
 use Rattle.vale_player.specs.Players.{PlayerState, with_act, with_save, Does, DoesLine, HasCalled, Stops, IsStill}
 use Rattle.vale_player.specs.Deeds.{IsOnRings, receive_tasks}
-use Rattle.vale_player.specs.Inputs.{records_in}
 use Rattle.vale_player.proofs.Doing.{still-self, still-then, does-then, does-stops, stops-more, does-line, does-none, stops-at}
 use Rattle.vale_player.proofs.LineLaws.{own-acts, files-saved}
 use Rattle.vale_player.proofs.Stays.{task-done}
@@ -115,11 +112,6 @@ received p mid q name true r (inr way) call = absurd (let differ = way.0 in cc)
 received p mid q name false r (inl way) call = absurd (let differ = way.0 in cc)
 received p mid q name false r (inr way) call =
     change-then p q (acts.Rx name false) (TakeFrames name) r (subst (λ (x : PlayerState). HasCalled x q (TakeFrames name) r) way.1 call)
-
--- the records of a file, found among those of all files
-pub records-same : (inputs : List InputFile) (file : List ℕ) → found_in inputs file ≡ records_in inputs file
-records-same [] file = refl
-records-same (input ∷ inputs) file = ap (λ (rest : List (List ℕ)). cond (bytes_eq input.file file) input.frames rest) (records-same inputs file)
 
 -- ---- the lines of a block
 

@@ -19,6 +19,7 @@ use Rattle.vale_entry.specs.declared.entry.Item.{Item}
 use Rattle.vale_entry.specs.declared.entry.Reply.{Reply}
 use Rattle.vale_entry.specs.Legal.{kept_ask}
 use Rattle.vale_entry.specs.OwnCalls.{or_reset, offered_items, tx_call, own_by}
+use Rattle.vale_replay.proofs.PutRooms.{same-ports}
 use Rattle.nm_user.specs.Sessions.{SessionState}
 use Rattle.nm_own.specs.Copies.{with_copies}
 use Rattle.nm_user.specs.Syncs.{IsUnsent}
@@ -89,10 +90,6 @@ exchange-faces side id (x ∷ pushed) ports =
     exchange-faces side id pushed (after_slot side id ports x) ∙ map-faces (port_swapped here x.slot.buf_idx) (swapped-face here x.slot.buf_idx) ports
 
 -- ---- a frame that is put
-
-pub same-ports : (b : Bool) (t s : OwnState) → t.ports ≡ s.ports → (cond b t s).ports ≡ s.ports
-same-ports true t s same = same
-same-ports false t s same = refl
 
 frame-faces : (id : ℕ) (bytes : List ℕ) (s : OwnState) → faces (with_frame id bytes s).ports ≡ faces s.ports
 frame-faces id bytes s = on (ring_at Tx s id)

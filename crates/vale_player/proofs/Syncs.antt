@@ -36,7 +36,8 @@ use Rattle.vale_player.specs.Users.{HasCome, does_sync}
 use Rattle.vale_player.specs.Laws.{SyncIsTurns}
 use Rattle.vale_player.proofs.Resting.{rests-still}
 use Rattle.vale_player.proofs.Settled.{settling-own}
-use Rattle.vale_player.proofs.Turns.{TaskEntry, GoesOn, caller-is, call-of, come-on, made-entry, own-on, task-turn}
+use Rattle.vale_player.proofs.Turns.{TaskEntry, GoesOn, caller-is, call-of, come-on, made-entry, task-turn}
+use Rattle.vale_replay.proofs.Behind.{own-on}
 use Rattle.vale_player.proofs.Working.{added-rise, begins-cut, stands-last, stands-low}
 
 -- ---- entries of others

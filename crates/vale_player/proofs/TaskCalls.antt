@@ -1,7 +1,6 @@
 -- What the call of a task is of: an open port of the side, the port that is shut, or the session.
 use Rattle.std.proofs.Common.{ℕ, ◌≡◌, ◌⊎◌, inl, inr, Bool, true, false, cond, List, [], ◌∷◌, Option, Some, None, option_map, refl, sym, ◌∙◌, ap, subst}
 use Rattle.std.specs.Prelude.{option_and_then, bytes_eq}
-use Rattle.std.specs.Option.{option_map_or}
 use Rattle.nm_types.specs.declared.fault.SyncFault.{SyncFault}
 use Rattle.nm_types.specs.declared.id.PortId.{PortId}
 use Rattle.nm_types.specs.declared.id.SessionId.{SessionId}
@@ -9,8 +8,8 @@ use Rattle.nm_types.specs.declared.id.Side.{Side}
 use Rattle.nm_types.specs.declared.id.Side.TheVariants.{Tx, Rx}
 use Rattle.nm_types.specs.Names.{is_pipe_name}
 use Rattle.nm_types.specs.Slots.{pushed_frames}
-use Rattle.nm_types.specs.OwnPorts.{OwnRing, OwnPort, OwnState, bytes_at, pushed_in, refusal_in, port_with_name, port_with_id, ring_on}
-use Rattle.nm_types.specs.OwnEdits.{has_slot, has_room}
+use Rattle.nm_types.specs.OwnPorts.{OwnRing, OwnPort, OwnState, bytes_at, pushed_in, refusal_in, port_with_name, port_with_id}
+use Rattle.nm_types.specs.OwnEdits.{has_slot}
 use Rattle.vale_entry.specs.declared.entry.Ask.{Ask}
 use Rattle.vale_entry.specs.declared.entry.Ask.TheVariants.{Open, Send, Sync, Shut, Leave, Put, Get, Watch, Stat}
 use Rattle.vale_entry.specs.World.{open_port}
@@ -21,7 +20,7 @@ use Rattle.vale_own.specs.Asker.{asker_of, owner_of_port, is_enter}
 use Rattle.vale_own.specs.Side.{IsSound}
 use Rattle.vale_own.proofs.SideSound.{each-found}
 use Rattle.vale_replay.specs.Tasks.{Task, Arrive, OpenPort, PutFrame, SendFrames, TakeFrames, ChangeOwn, SaveFrames, WatchPort, ReadCounts, ShutPort, FinishPort, Depart, EndLine}
-use Rattle.vale_replay.specs.Machine.{Machine, has_room_at, room_call, put_call, send_call, call_of_task, call_of_tasks, is_settling}
+use Rattle.vale_replay.specs.Machine.{Machine, room_call, put_call, send_call, call_of_task, call_of_tasks, is_settling}
 use Rattle.vale_replay.proofs.Turns.{some-same}
 
 -- whose such an ask is stands at the open port
@@ -52,21 +51,6 @@ pub by-id : (own : OwnState) (name : List ℕ) (p : OwnPort) → IsSound own
     → port_with_name own name ≡ Some p → port_with_id own p.id.0 ≡ Some p
 by-id own name p sound named =
     each-find (λ (q : OwnPort). port_with_id own q.id.0 ≡ Some q) (λ (q : OwnPort). bytes_eq name q.name) own.ports p (each-found own.ports sound.apart) named
-
--- a frame for which there is room is put without a call
-pub no-room-call : (own : OwnState) (p : OwnPort) (tx : Option OwnRing) → option_map_or has_slot tx false ≡ true → option_and_then (room_call own p) tx ≡ None
-no-room-call own p None e = absurd cc
-no-room-call own p (Some r) e = ap (λ (b : Bool). cond b None (Some (tx_call own p r))) e
-
-pub room-none : (own : OwnState) (name : List ℕ) → ((p : OwnPort) → port_with_name own name ≡ Some p → port_with_id own p.id.0 ≡ Some p)
-    → has_room_at own name ≡ true → option_and_then (put_call own) (port_with_name own name) ≡ None
-room-none own name found e = by (port_with_name own name) refl e
-  where
-    by : (o : Option OwnPort) → port_with_name own name ≡ o → option_map_or (λ (p : OwnPort). has_room own p.id.0) o false ≡ true → option_and_then (put_call own) o ≡ None
-    by None named is = refl
-    by (Some p) named is =
-        let has : option_map_or has_slot p.tx false ≡ true = sym (ap (λ (o : Option OwnPort). option_map_or has_slot (option_and_then (ring_on Tx) o) false) (found p named)) ∙ is in
-        no-room-call own p p.tx has
 
 -- a call at a port
 record CallAt (id : PortId) (ask : Ask) : Type 0 where

@@ -51,11 +51,6 @@ answers-own number session ask reply came now own plain made =
     ap (λ (b : Bool). cond b now (with_tasks number e (record now { own = own_by number (kept_ask ask) reply (arrivals_of came (kept_ask ask) reply) now.own }) now.tasks)) plain
     ∙ ap (λ (o : OwnState). with_tasks number e (record now { own = o }) now.tasks) (sym made)
 
-pub own-on : (number : ℕ) (entry : Entry) (user : Machine) (tasks : List Task) → (with_tasks number entry user tasks).own ≡ user.own
-own-on number entry user [] = refl
-own-on number entry user (Arrive ∷ rest) = refl
-own-on number entry user (task ∷ rest) = refl
-
 mapped-some : {X Y : Type 0} (f : X → Y) (found : Option X) (x : X) (y : Y) → found ≡ Some x → option_map f found ≡ Some y → f x ≡ y
 mapped-some f None x y is e = absurd cc
 mapped-some f (Some z) x y is e = let same : z ≡ x = cc in let made : f z ≡ y = cc in ap f (sym same) ∙ made

@@ -23,3 +23,5 @@ pub mod Owned
 pub mod Leaving
 pub mod Parts
 pub mod Promises
+pub mod Behind
+pub mod PutRooms

@@ -18,11 +18,11 @@ use Rattle.vale_captures.specs.Counting.{counts_of, frames_played}
 use Rattle.vale_captures.specs.Inputs.{InputFile, HasContents, IsInput, AreInputs, IsBadCapture, captured, frames_of}
 use Rattle.vale_captures.specs.Outputs.{OutputFile}
 use Rattle.vale_replay.proofs.Stopping.{users-stop}
-use Rattle.vale_act.specs.Completeness.{TasksFit}
-use Rattle.vale_act.specs.FewFrames.{IsLight}
-use Rattle.vale_act.proofs.RoomLines.{light-fit}
-use Rattle.vale_act.proofs.RoomScripts.{few-fit}
-use Rattle.vale_act.proofs.RoomHistories.{not-refused}
+use Rattle.vale_cost.specs.Completeness.{TasksFit}
+use Rattle.vale_cost.specs.FewFrames.{IsLight}
+use Rattle.vale_cost.proofs.RoomLines.{light-fit}
+use Rattle.vale_cost.proofs.RoomScripts.{few-fit}
+use Rattle.vale_cost.proofs.RoomHistories.{not-refused}
 use Rattle.vale_run.specs.Run.{Io, HasRisen, IsScript, IsAccepted, HasInputs, IsReady, StopsAtInput, WritesPart, StopsFull, Ends, text_in, saved_in}
 use Rattle.vale_run.specs.Complete.{NothingHinders, Completes}
 use Rattle.vale_run.specs.declared.status.What.TheVariants.{Script, Lines, Counts, Inputs, Frames, Entries, Bytes, Text}

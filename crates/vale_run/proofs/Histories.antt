@@ -29,8 +29,8 @@ use Rattle.vale_replay.proofs.Leaving.{users-leave, all-back}
 use Rattle.vale_replay.proofs.Owned.{always-owned-once}
 use Rattle.vale_replay.proofs.Stopping.{users-stop}
 use Rattle.vale_act.specs.Plays.{StopsScript, IsStoppedBy}
-use Rattle.vale_act.proofs.FittingRooms.{had-take}
-use Rattle.vale_act.proofs.FittingSums.{refusals-fit}
+use Rattle.vale_book.proofs.FittingRooms.{had-take}
+use Rattle.vale_book.proofs.FittingSums.{refusals-fit}
 use Rattle.vale_run.specs.Run.{Io, IsReady, IsHistoryOf, HistoryOf, TellsHistory, StopsFull, WritesNothing, Ends, text_in, saved_in}
 use Rattle.vale_run.specs.Writing.{IsFewUsed, IsPlayOf, stopped, Written}
 use Rattle.vale_run.specs.declared.status.Status.{Status}

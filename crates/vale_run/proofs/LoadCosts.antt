@@ -15,7 +15,7 @@ use Rattle.vale_gen.specs.Load.{Deed, syncs, is_followed, frame_deeds, user_deed
 use Rattle.vale_replay.specs.Tasks.{Task, Depart, records_of, tasks_of_line, tasks_of_lines}
 use Rattle.vale_replay.specs.Machine.{closing_of}
 use Rattle.vale_replay.specs.Replay.{UnitShare, ScriptUnit, share_of, acts_of, act_of, is_of_user, has_line, shares_of, closing_unit, units_of}
-use Rattle.vale_act.specs.Completeness.{frames_of_task, calls_of_task, IsPlainTask, IsCosted, frames_of_share, calls_of_share, frames_of_unit, calls_of_unit, frames_of_units, calls_of_units, TasksFit}
+use Rattle.vale_cost.specs.Completeness.{frames_of_task, calls_of_task, IsPlainTask, IsCosted, frames_of_share, calls_of_share, frames_of_unit, calls_of_unit, frames_of_units, calls_of_units, TasksFit}
 
 -- ---- lists of tasks, and of units
 

@@ -10,8 +10,8 @@ use Rattle.vale_script.specs.Script.{Program}
 use Rattle.vale_captures.specs.Inputs.{InputFile}
 use Rattle.vale_captures.specs.Outputs.{OutputFile}
 use Rattle.vale_act.specs.Plays.{PlaysScript, IsStoppedBy, StopsScript}
-use Rattle.vale_act.proofs.RoomHistories.{not-refused}
-use Rattle.vale_act.proofs.RoomScripts.{few-fit}
+use Rattle.vale_cost.proofs.RoomHistories.{not-refused}
+use Rattle.vale_cost.proofs.RoomScripts.{few-fit}
 use Rattle.vale_gen.specs.Load.{load_program}
 use Rattle.vale_run.specs.Status.{WritesAnswer}
 use Rattle.vale_run.specs.Load.{LoadOf, LoadEnds, load_text, text_in}

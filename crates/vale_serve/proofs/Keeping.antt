@@ -21,7 +21,7 @@ use Rattle.vale_own.proofs.OwnKept.{own-entry}
 use Rattle.vale_own.proofs.OwnEntry.{own-entries}
 use Rattle.vale_book.specs.BookView.{AreOf}
 use Rattle.vale_book.specs.Recorded.{Recorded, standing, entry_of, after_outcome, after_ask}
-use Rattle.vale_book.proofs.Rooms.{step-recorded}
+use Rattle.vale_own.proofs.Rooms.{step-recorded}
 use Rattle.vale_fabric.specs.Leases.{WasGranted, is_grant_to}
 use Rattle.vale_fabric.proofs.Placed.{met-there}
 use Rattle.vale_serve.specs.declared.users.User.{User}

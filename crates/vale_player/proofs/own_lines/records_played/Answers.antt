@@ -1,6 +1,6 @@
 use Rattle.std.proofs.Common.{ap, ◌∙◌}
 use Rattle.vale_captures.specs.Inputs.{records_in as found_in}
-use Rattle.vale_player.proofs.PlayerLines.{records-same}
+use Rattle.vale_captures.proofs.Names.{records-same}
 use Rattle.vale_player.proofs.own_lines.records_played.Goals as goal
 
 pub returns : goal.returns

@@ -4,7 +4,7 @@ use Rattle.vale_port.specs.Ports.{PortState}
 use Rattle.nm_region.specs.Buffers.{Buffer}
 use Rattle.nm_region.specs.Regions.{AreOf}
 use Rattle.vale_entry.specs.Legal.{IsLegal}
-use Rattle.vale_book.specs.Recorded.{Recorded, HadRoom, standing}
+use Rattle.vale_own.specs.Recorded.{Recorded, HadRoom, standing}
 use Rattle.vale_book.proofs.Closes.{all-free, no-ports, all-back}
 use Rattle.vale_book.proofs.book.Book.close.Goals as goal
 

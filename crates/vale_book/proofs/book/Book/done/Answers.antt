@@ -7,7 +7,7 @@ use Rattle.vale_line.specs.Gots.{buffers_of}
 use Rattle.nm_region.specs.Regions.{AreOf}
 use Rattle.vale_steps.specs.Granting.{lease_id}
 use Rattle.vale_steps.specs.Offering.{IsFilledIn}
-use Rattle.vale_book.specs.Recorded.{Recorded, standing}
+use Rattle.vale_own.specs.Recorded.{Recorded, standing}
 use Rattle.vale_book.proofs.Moves.{Moves, before, moved, record-moved, had-room}
 use Rattle.vale_book.proofs.Dones.{IsLeaseAt, IsOwed, lease-here, lease-owed, lot-out, lease-old, lease-there, done-moves, done-promised}
 use Rattle.vale_book.proofs.book.Book.done.Goals.{In-Some, After-complete}

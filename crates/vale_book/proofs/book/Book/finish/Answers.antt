@@ -16,8 +16,8 @@ use Rattle.vale_port.specs.Seat.{Seat}
 use Rattle.vale_book.specs.declared.book.Book.TheInside.{Inside}
 use Rattle.nm_region.specs.Regions.{AreOf}
 use Rattle.vale_book.specs.BookView.{recorded}
-use Rattle.vale_book.specs.Recorded.{Recorded, standing, room_by}
-use Rattle.vale_book.proofs.Rooms.{room-owed}
+use Rattle.vale_own.specs.Recorded.{Recorded, standing, room_by}
+use Rattle.vale_own.proofs.Rooms.{room-owed}
 use Rattle.vale_book.proofs.Moves.{Moves, before, moved, record-moved, owed-promised}
 use Rattle.vale_steps.proofs.GivenBack.{can-front, can-rest}
 use Rattle.vale_book.proofs.Finishes.{IsShuttingHere, IsQuietHere, shutting-here, never-gone, quiet-here, of-gone, outcome, finish-made, said-unread, said-waits, due-here, can-give, counted-here, finish-moves}

@@ -2,7 +2,7 @@ use Rattle.std.proofs.Common.{ℕ, ◌≡◌, List, length, Option, refl, ◌∙
 use Rattle.vale_line.specs.Leased.{Leased}
 use Rattle.vale_steps.specs.Offering.{OffersStand}
 use Rattle.vale_book.specs.BookView.{recorded}
-use Rattle.vale_book.specs.Recorded.{standing}
+use Rattle.vale_own.specs.Recorded.{standing}
 use Rattle.vale_batch.specs.Wants.{wanted}
 use Rattle.vale_entry.specs.declared.entry.Ask.TheVariants.{Grant}
 use Rattle.vale_entry.specs.World.{Port, open_port}

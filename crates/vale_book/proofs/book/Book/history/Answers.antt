@@ -1,6 +1,6 @@
 use Rattle.vale_book.specs.BookView.{recorded}
 use Rattle.vale_book.proofs.Moves.{entries-few}
-use Rattle.vale_book.proofs.Rooms.{within-had}
+use Rattle.vale_own.proofs.Rooms.{within-had}
 use Rattle.vale_book.proofs.book.Book.history.Goals as goal
 
 pub returns-clause-within : goal.returns-clause-within

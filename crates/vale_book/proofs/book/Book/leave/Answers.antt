@@ -3,8 +3,8 @@ use Rattle.vale_entry.specs.declared.entry.Ask.TheVariants.{Leave}
 use Rattle.vale_entry.specs.Legal.{IsEnabled, leave_step}
 use Rattle.vale_book.specs.declared.book.Book.TheInside.{Inside}
 use Rattle.vale_book.specs.BookView.{recorded}
-use Rattle.vale_book.specs.Recorded.{Recorded, standing, room_by}
-use Rattle.vale_book.proofs.Rooms.{room-owed}
+use Rattle.vale_own.specs.Recorded.{Recorded, standing, room_by}
+use Rattle.vale_own.proofs.Rooms.{room-owed}
 use Rattle.vale_book.proofs.Moves.{Moves, before, moved, record-moved, owed-promised}
 use Rattle.vale_book.proofs.Leaves.{leave-made, leave-moves}
 use Rattle.vale_book.proofs.book.Book.leave.Goals as goal

@@ -6,7 +6,7 @@ use Rattle.vale_entry.specs.Legal.{IsEnabled, unchanged}
 use Rattle.vale_book.specs.declared.book.Book.TheInside.{Inside}
 use Rattle.vale_steps.specs.declared.putting.Putting.{Putting}
 use Rattle.vale_steps.specs.Putting.{items_of}
-use Rattle.vale_book.specs.Recorded.{Recorded, standing}
+use Rattle.vale_own.specs.Recorded.{Recorded, standing}
 use Rattle.vale_book.proofs.Moves.{Moves, before, kept-on, after-on, room-on}
 use Rattle.vale_book.proofs.ReadMoves.{IsRest}
 use Rattle.vale_book.proofs.PutMoves.{never-missing, IsGone, IsPutting, putting_of, CountsFit, count-items, pipe-known, gone-known, peer-missing, putting-known, gone-moves, gone-stays, gone-full, gone-on, new-here, counts-fit, put_made, put-moves, put-stays, put-full, put-on}

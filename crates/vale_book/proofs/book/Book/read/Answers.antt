@@ -8,7 +8,7 @@ use Rattle.vale_port.specs.Lists.{OfState}
 use Rattle.vale_port.specs.Ports.{PortState}
 use Rattle.vale_book.specs.declared.book.Book.TheInside.{Inside}
 use Rattle.vale_steps.specs.Reading.{read_ask}
-use Rattle.vale_book.specs.Recorded.{Recorded, standing}
+use Rattle.vale_own.specs.Recorded.{Recorded, standing}
 use Rattle.vale_book.proofs.Moves.{Moves, Stays, kept-on, after-on, room-on}
 use Rattle.vale_book.proofs.ReadMoves.{never-missing, returned, IsReading, read-known, read_made, count-fits, is-counted, IsRest, read-moves, read-stays, read-full, given-on, offered-on}
 use Rattle.vale_book.proofs.ReadTold.{said-on, few-on, single-on}

@@ -3,7 +3,7 @@ use Rattle.vale_entry.specs.declared.entry.Ask.{Ask}
 use Rattle.vale_entry.specs.declared.entry.Ask.TheVariants.{Reset}
 use Rattle.vale_entry.specs.declared.entry.Reply.TheVariants.{Made}
 use Rattle.vale_entry.specs.Legal.{IsEnabled, can_reset, unchanged}
-use Rattle.vale_book.specs.Recorded.{Recorded, standing}
+use Rattle.vale_own.specs.Recorded.{Recorded, standing}
 use Rattle.vale_book.proofs.Moves.{before, kept-on, after-on}
 use Rattle.vale_book.proofs.Found.{never-missing}
 use Rattle.vale_book.proofs.Notes.{IsNote, with_history, note-moves, note-stays}

@@ -11,7 +11,7 @@ use Rattle.vale_book.specs.declared.book.Book.TheInside.{Inside}
 use Rattle.vale_steps.specs.declared.tables.NamedTable.{NamedTable}
 use Rattle.vale_steps.specs.NamedTables.{table_seen}
 use Rattle.vale_book.specs.BookView.{parts_in}
-use Rattle.vale_book.specs.Recorded.{Recorded, standing}
+use Rattle.vale_own.specs.Recorded.{Recorded, standing}
 use Rattle.vale_book.proofs.Moves.{Moves, before, moved, stayed, record-moved, had-room}
 use Rattle.vale_book.proofs.Found.{IsOpenHere, open-here, never-missing}
 use Rattle.vale_book.proofs.SendMoves.{IsSending, send_made, can-parts, can-look_up, ids-rise, send-at, send-table, sender-counted, counts-fit_offers, send-moves, said-sent, sent-stand, table-same, full-sent}

@@ -4,8 +4,8 @@ use Rattle.vale_entry.specs.Legal.{IsEnabled, can_shut}
 use Rattle.vale_entry.specs.Stored.{Stored}
 use Rattle.vale_book.specs.declared.book.Book.TheInside.{Inside}
 use Rattle.vale_book.specs.BookView.{recorded}
-use Rattle.vale_book.specs.Recorded.{Recorded, standing, room_by}
-use Rattle.vale_book.proofs.Rooms.{room-owed}
+use Rattle.vale_own.specs.Recorded.{Recorded, standing, room_by}
+use Rattle.vale_own.proofs.Rooms.{room-owed}
 use Rattle.vale_book.proofs.Moves.{Moves, before, moved, record-moved, owed-promised}
 use Rattle.vale_book.proofs.Found.{open-here, never-missing}
 use Rattle.vale_book.proofs.Shuts.{ShutsAt, shut_made, shut-made, table-there, shut-moves}

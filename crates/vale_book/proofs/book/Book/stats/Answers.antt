@@ -3,7 +3,7 @@ use Rattle.vale_entry.specs.declared.entry.Ask.TheVariants.{Stat}
 use Rattle.vale_entry.specs.declared.entry.Reply.TheVariants.{Counted}
 use Rattle.vale_entry.specs.World.{open_port}
 use Rattle.vale_entry.specs.Legal.{IsEnabled, unchanged}
-use Rattle.vale_book.specs.Recorded.{Recorded, standing}
+use Rattle.vale_own.specs.Recorded.{Recorded, standing}
 use Rattle.vale_book.proofs.Moves.{before, kept-on, after-on}
 use Rattle.vale_book.proofs.Found.{any_port, met-any, never-missing}
 use Rattle.vale_book.proofs.Notes.{IsNote, with_history, note-moves, note-stays}

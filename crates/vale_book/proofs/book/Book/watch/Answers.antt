@@ -2,7 +2,7 @@ use Rattle.std.proofs.Common.{sym, subst}
 use Rattle.vale_entry.specs.declared.entry.Ask.TheVariants.{Watch}
 use Rattle.vale_entry.specs.Legal.{IsEnabled}
 use Rattle.vale_entry.specs.Monitors.{can_watch}
-use Rattle.vale_book.specs.Recorded.{Recorded, standing}
+use Rattle.vale_own.specs.Recorded.{Recorded, standing}
 use Rattle.vale_book.proofs.Moves.{before}
 use Rattle.vale_book.proofs.Found.{open-here, never-missing}
 use Rattle.vale_book.proofs.WatchMoves.{Outcomes, with_watches, asked, outcomes}

@@ -1,5 +1,0 @@
-use Rattle.vale_act.proofs.completeness.few_tasks_fit.Goals as goal
-use Rattle.vale_act.proofs.RoomScripts.{few-fit}
-
-pub returns : goal.returns
-returns c = few-fit

@@ -1,5 +1,0 @@
-use Rattle.vale_act.proofs.completeness.histories_are_cheap.Goals as goal
-use Rattle.vale_act.proofs.RoomHistories.{histories-cheap}
-
-pub returns : goal.returns
-returns c = histories-cheap

@@ -1,5 +1,0 @@
-use Rattle.vale_act.proofs.completeness.light_scripts_fit.Goals as goal
-use Rattle.vale_act.proofs.RoomLines.{light-fit}
-
-pub returns : goal.returns
-returns c = light-fit

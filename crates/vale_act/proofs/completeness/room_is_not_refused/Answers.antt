@@ -1,5 +1,0 @@
-use Rattle.vale_act.proofs.completeness.room_is_not_refused.Goals as goal
-use Rattle.vale_act.proofs.RoomHistories.{not-refused}
-
-pub returns : goal.returns
-returns c = not-refused

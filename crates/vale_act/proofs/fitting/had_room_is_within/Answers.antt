@@ -1,5 +1,0 @@
-use Rattle.vale_act.proofs.fitting.had_room_is_within.Goals as goal
-use Rattle.vale_act.proofs.FittingRooms.{had-within}
-
-pub returns : goal.returns
-returns c = had-within

@@ -1,5 +1,0 @@
-use Rattle.vale_act.proofs.fitting.prefix_had_room.Goals as goal
-use Rattle.vale_act.proofs.FittingRooms.{had-take}
-
-pub returns : goal.returns
-returns c = had-take

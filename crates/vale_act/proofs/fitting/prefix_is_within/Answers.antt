@@ -1,5 +1,0 @@
-use Rattle.vale_act.proofs.fitting.prefix_is_within.Goals as goal
-use Rattle.vale_act.proofs.FittingRooms.{take-within}
-
-pub returns : goal.returns
-returns c = take-within

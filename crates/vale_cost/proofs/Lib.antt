@@ -1,0 +1,17 @@
+pub mod RoomSwitches
+pub mod RoomSends
+pub mod RoomWants
+pub mod RoomViews
+pub mod RoomOwn
+pub mod RoomEdits
+pub mod RoomRests
+pub mod RoomTurns
+pub mod RoomSpends
+pub mod RoomHistories
+pub mod RoomChains
+pub mod RoomTidy
+pub mod RoomUsers
+pub mod RoomScripts
+pub mod RoomUnits
+pub mod RoomCosts
+pub mod RoomLines
