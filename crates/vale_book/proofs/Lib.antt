@@ -28,3 +28,9 @@ pub mod Finishes
 pub mod SendMoves
 pub mod PutMoves
 pub mod Seen
+pub mod Said
+pub mod Placed
+pub mod FilledIn
+pub mod OffersHeld
+pub mod LeasesHeld
+pub mod PutsTold

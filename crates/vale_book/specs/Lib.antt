@@ -2,6 +2,7 @@ pub use Rattle.vale_own.specs.Recorded
 pub use Rattle.vale_steps.specs.Granting
 pub use Rattle.vale_steps.specs.Offering
 pub mod Fitting
+pub mod Leases
 pub mod LegalRecords
 pub mod BookView
 pub mod OpenAnswers

@@ -15,7 +15,8 @@ use Rattle.vale_fabric.specs.Fabrics.{Knowing, MayAsk, Answers, Refuses}
 use Rattle.vale_fabric.specs.Roots.{fixed_of, root_of}
 use Rattle.vale_fabric.specs.Steps.{GoesBack, IsPutBack, IsTaken, is_made}
 use Rattle.vale_fabric.proofs.Lent.{legal-made, legal-same}
-use Rattle.vale_fabric.proofs.Making.{IsPlain, Steps, Made, adds-now, answered, fixed-kept, made, refused, said-by, step-now, steps-said}
+use Rattle.vale_book.proofs.Said.{IsPlain, Steps, said-by, steps-said}
+use Rattle.vale_fabric.proofs.Making.{Made, adds-now, answered, fixed-kept, made, refused, step-now}
 
 pub record Acts (before after : Recorded) (ask : Ask) : Type 0 where
   pub steps : Steps before ask

@@ -42,8 +42,9 @@ use Rattle.vale_fabric.specs.Settling.{HasBytes, IsAtHand}
 use Rattle.vale_fabric.specs.Steps.{IsTaken, IsPutBack}
 use Rattle.vale_fabric.proofs.Acting.{Acts, acted}
 use Rattle.vale_fabric.proofs.FewWanted.{offered, few-started, wanted-sum}
-use Rattle.vale_fabric.proofs.Making.{stored, whose-now, may-now}
-use Rattle.vale_fabric.proofs.OffersHeld.{Next, next-of}
+use Rattle.vale_book.proofs.Said.{stored}
+use Rattle.vale_fabric.proofs.Making.{whose-now, may-now}
+use Rattle.vale_book.proofs.OffersHeld.{Next, next-of}
 use Rattle.vale_fabric.proofs.Speaking.{speaks-on, offers-by}
 
 -- ---- which asks are of settled sessions

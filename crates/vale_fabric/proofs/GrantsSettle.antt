@@ -38,12 +38,13 @@ use Rattle.vale_book.specs.Recorded.{Recorded, standing}
 use Rattle.vale_fabric.specs.declared.kept.Fixed.{Fixed}
 use Rattle.vale_fabric.specs.declared.settling.Shares.{Shares}
 use Rattle.vale_fabric.specs.Fabrics.{Knowing, seen_in, before_in, earlier, Makes, Answers}
-use Rattle.vale_fabric.specs.Leases.{StandOf, IsHeldBy, IsHeldFor, MayFillFrom, is_held_as}
+use Rattle.vale_book.specs.Leases.{StandOf, IsHeldBy, IsHeldFor, is_held_as}
+use Rattle.vale_fabric.specs.Leases.{MayFillFrom}
 use Rattle.vale_fabric.specs.Settling.{settling_ask, settling_by, both, frames_wanted, shared_in, Settling, HasBytes, IsAtHand, Settles}
-use Rattle.vale_fabric.proofs.Making.{and-second, asker-is}
+use Rattle.vale_book.proofs.Said.{and-second, asker-is}
 use Rattle.vale_fabric.proofs.FewWanted.{all-shared, wanted-first}
-use Rattle.vale_fabric.proofs.FilledNow.{find-mapped}
-use Rattle.vale_fabric.proofs.OffersHeld.{Next, next-of, granted-at, offers-stand}
+use Rattle.vale_book.proofs.FilledIn.{find-mapped}
+use Rattle.vale_book.proofs.OffersHeld.{Next, next-of, granted-at, offers-stand}
 use Rattle.vale_fabric.proofs.Settlements.{Before, before-is, own-made, settling-one, settling-then, settling-none}
 
 -- ---- lists

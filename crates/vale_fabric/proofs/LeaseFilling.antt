@@ -21,7 +21,7 @@ use Rattle.vale_port.specs.Ports.{sizes_of}
 use Rattle.vale_book.specs.BookView.{AreOf}
 use Rattle.vale_book.specs.Recorded.{Recorded, standing}
 use Rattle.vale_fabric.specs.Filling.{IsFilling}
-use Rattle.vale_fabric.specs.Leases.{IsHeldFor, IsToFill, IsFilledBy, WasGranted, is_held_as}
+use Rattle.vale_book.specs.Leases.{IsHeldFor, IsToFill, IsFilledBy, WasGranted, is_held_as}
 
 -- ---- lists
 

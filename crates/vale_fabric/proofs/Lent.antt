@@ -9,7 +9,7 @@ use Rattle.vale_fabric.specs.declared.kept.Fixed.{Fixed}
 use Rattle.vale_fabric.specs.Fabrics.{Knowing}
 use Rattle.vale_fabric.specs.Roots.{fixed_of}
 use Rattle.vale_fabric.specs.Steps.{IsTaken}
-use Rattle.vale_fabric.proofs.Making.{Steps}
+use Rattle.vale_book.proofs.Said.{Steps}
 
 -- what is known of the book in the box is known of the book that is lent
 pub as-lent : {fixed : Fixed} {v entered : Knowing} {boxed lent : Recorded} → lent ≡ boxed → IsTaken fixed v entered boxed → IsTaken fixed v entered lent

@@ -3,15 +3,11 @@ pub mod Making
 pub mod Lent
 pub mod Acting
 pub mod Refusals
-pub mod OffersHeld
 pub mod OwnNow
 pub mod Speaking
 pub mod PortReads
-pub mod PutsTold
 pub mod PutsMade
-pub mod Placed
 pub mod FilledNow
-pub mod LeasesHeld
 pub mod FewWanted
 pub mod AtHand
 pub mod Comers

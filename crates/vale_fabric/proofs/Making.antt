@@ -1,8 +1,7 @@
 -- What a call of a fabric tells, from what the turn and the book tell.
-use Rattle.std.proofs.Common.{ℕ, ◌==◌, ◌+◌, ◌-◌, ◌<◌, ◌^◌, List, [], ◌∷◌, ◌++◌, ◌≡◌, length, inl, le_refl, refl, sym, ap, ◌∙◌, subst, Option, Some, None, Result, Ok, Err, OnErr, IfErr, Bool, true, false, ◌&&◌, is_some, arith, append-nil, length-append}
-use Rattle.std.specs.Prelude.{option_map, take, min, if◌then◌else◌}
+use Rattle.std.proofs.Common.{ℕ, ◌+◌, ◌-◌, ◌<◌, ◌^◌, List, [], ◌∷◌, ◌++◌, ◌≡◌, length, inl, le_refl, sym, ap, ◌∙◌, subst, Option, Some, None, Result, Ok, Err, OnErr, IfErr, true, false, arith, append-nil, length-append}
+use Rattle.std.specs.Prelude.{option_map, take, min}
 use Rattle.std.proofs.Math.Seq.{take-append_seam}
-use Rattle.std.proofs.lemmas.Bool.{eqb-true}
 use Rattle.std.proofs.Math.Nat.{min-eq_left}
 use Rattle.nm_turn.specs.Numbered.{numbered, Stands}
 use Rattle.nm_turn.specs.Passes.{Told, listed}
@@ -11,27 +10,18 @@ use Rattle.nm_turn.proofs.Prefixes.{numbered-append}
 use Rattle.nm_turn.proofs.Telling.{told_made, told_none}
 use Rattle.nm_types.specs.declared.fault.StepFault.{StepFault}
 use Rattle.vale_entry.specs.declared.entry.Ask.{Ask}
-use Rattle.vale_entry.specs.declared.entry.Ask.TheVariants.{Enter, Open, Send, Grant, Done, Sync, Reset, Shut, Finish, Leave, Put, PutKept, Get, Watch, Stat}
+use Rattle.vale_entry.specs.declared.entry.Ask.TheVariants.{Enter}
 use Rattle.vale_entry.specs.declared.entry.Entry.{Entry}
 use Rattle.vale_entry.specs.declared.entry.Reply.{Reply}
 use Rattle.vale_entry.specs.declared.entry.Reply.TheVariants as replies
-use Rattle.nm_types.specs.declared.id.PortId.{PortId}
-use Rattle.nm_types.specs.declared.id.LeaseId.{LeaseId}
-use Rattle.nm_types.specs.declared.id.SessionId.{SessionId}
-use Rattle.nm_types.specs.declared.id.Side.{Side}
-use Rattle.nm_types.specs.declared.fault.SyncFault.{SyncFault}
-use Rattle.vale_entry.specs.World.{Port, open_port}
-use Rattle.vale_entry.specs.Closing.{can_leave, shutting_port, leases_out, unread_count}
-use Rattle.nm_types.specs.declared.id.Chain.{Chain}
-use Rattle.vale_entry.specs.Delivery.{lease_at}
-use Rattle.vale_entry.specs.Legal.{Standing, Outcome, step, reply_of, reply_to, session_and_reply, standing_of, is_enabled, IsEnabled, IsLegal, enter_step, made_at, can_shut, shut_step, can_reset, reset_step, leave_step, done_step, fits_chain, can_finish, finish_step, finish_step_at, finish_reply_at}
-use Rattle.vale_entry.proofs.Enabled.{asks-answered}
+use Rattle.vale_entry.specs.Legal.{Standing, Outcome, step, reply_of, reply_to, session_and_reply, standing_of, is_enabled, IsEnabled, IsLegal, enter_step}
 use Rattle.vale_entry.proofs.Worlds.{count-world_of}
 use Rattle.vale_own.specs.Asker.{asks, asker_of, is_asker, is_enter}
 use Rattle.vale_own.proofs.Asking.{asks-stay}
 use Rattle.vale_own.proofs.Askers.{askers-make-steps}
 use Rattle.vale_book.specs.Recorded.{Recorded, standing, after_outcome, after_ask, entry_of, with_step, HasRoom, IsRefusal}
 use Rattle.vale_book.proofs.Comings.{enter-made}
+use Rattle.vale_book.proofs.Said.{and-first, and-second, Steps, IsPlain, step-of, stored, asker-is}
 use Rattle.vale_fabric.specs.declared.kept.Fixed.{Fixed}
 use Rattle.vale_fabric.specs.Roots.{root_of}
 use Rattle.vale_fabric.specs.Fabrics.{Knowing, record_in, seen_in, before_in, earlier, MayAsk, Makes, Answers, MakesNone, Refuses}
@@ -49,62 +39,13 @@ may-now {fixed} {v} {entered} {b} {ask} may taken =
     let here : standing_of fixed.pool (v.seen ++ o.0) ≡ standing b = ap (standing_of fixed.pool) (sym o.1) ∙ ap (λ (p : ℕ). standing_of p b.entries) pool in
     ap (λ (s : Standing). asks s may.session ask) (sym here) ∙ (stay ∙ may.may)
 
-pub and-first : (a b : Bool) → (a && b) ≡ true → a ≡ true
-and-first true b e = refl
-and-first false b e = absurd cc
-
-pub and-second : (a b : Bool) → (a && b) ≡ true → b ≡ true
-and-second true b e = e
-and-second false b e = absurd cc
-
 pub enabled-now : {fixed : Fixed} {v entered : Knowing} {b : Recorded} {ask : Ask} → MayAsk fixed v ask → IsTaken fixed v entered b → IsEnabled (standing b) ask
 enabled-now {fixed} {v} {entered} {b} {ask} may taken = and-first (is_enabled (standing b) ask) (is_asker (asker_of (standing b) ask) may.session) (may-now may taken)
-
--- the step of an ask at the book
-pub record Steps (b : Recorded) (ask : Ask) : Type 0 where
-  pub makes : Outcome
-  pub is : step (standing b) ask ≡ Some makes
-
-some-step : (found : Option Outcome) → is_some (option_map reply_of found) ≡ true → (made : Outcome) × (found ≡ Some made)
-some-step None e = absurd cc
-some-step (Some made) e = (made, refl)
-
--- an ask that makes an entry wherever it is enabled
-abbrev pub IsPlain : Ask → Type 0
-IsPlain (Enter user) = ⊥
-IsPlain (Finish port bufs chain) = ⊥
-IsPlain (PutKept port offered) = ⊥
-IsPlain _ = Unit {0}
-
-step-of : (s : Standing) (ask : Ask) → IsPlain ask → is_enabled s ask ≡ true → (made : Outcome) × (step s ask ≡ Some made)
-step-of s (Enter user) plain e = absurd plain
-step-of s (Finish port bufs chain) plain e = absurd plain
-step-of s (PutKept port offered) plain e = absurd plain
-step-of s (Open session name tx rx extra) plain e = some-step (step s (Open session name tx rx extra)) (sym (asks-answered s (Open session name tx rx extra)) ∙ e)
-step-of s (Send port frames) plain e = some-step (step s (Send port frames)) (sym (asks-answered s (Send port frames)) ∙ e)
-step-of s (Grant origin to) plain e = some-step (step s (Grant origin to)) (sym (asks-answered s (Grant origin to)) ∙ e)
-step-of s (Done lease) plain e = some-step (step s (Done lease)) (sym (asks-answered s (Done lease)) ∙ e)
-step-of s (Sync port back) plain e = some-step (step s (Sync port back)) (sym (asks-answered s (Sync port back)) ∙ e)
-step-of s (Reset port side fault) plain e = some-step (step s (Reset port side fault)) (sym (asks-answered s (Reset port side fault)) ∙ e)
-step-of s (Shut port) plain e = some-step (step s (Shut port)) (sym (asks-answered s (Shut port)) ∙ e)
-step-of s (Leave session) plain e = some-step (step s (Leave session)) (sym (asks-answered s (Leave session)) ∙ e)
-step-of s (Put port offered) plain e = some-step (step s (Put port offered)) (sym (asks-answered s (Put port offered)) ∙ e)
-step-of s (Get port back) plain e = some-step (step s (Get port back)) (sym (asks-answered s (Get port back)) ∙ e)
-step-of s (Watch monitor target sides) plain e = some-step (step s (Watch monitor target sides)) (sym (asks-answered s (Watch monitor target sides)) ∙ e)
-step-of s (Stat port) plain e = some-step (step s (Stat port)) (sym (asks-answered s (Stat port)) ∙ e)
 
 pub step-now : {fixed : Fixed} {v entered : Knowing} {b : Recorded} {ask : Ask} → MayAsk fixed v ask → IsTaken fixed v entered b → IsPlain ask → Steps b ask
 step-now {fixed} {v} {entered} {b} {ask} may taken plain = let found = step-of (standing b) ask plain (enabled-now may taken) in record { makes = found.0; is = found.1 }
 
--- the book after the step has one entry more
-pub stored : {b after : Recorded} {ask : Ask} (steps : Steps b ask) → after ≡ after_ask b ask → after ≡ with_step b ask steps.makes
-stored {b} {after} {ask} steps grown = grown ∙ ap (after_outcome b ask) steps.is
-
-pub asker-is : (found : Option ℕ) (owner session : ℕ) → found ≡ Some owner → is_asker found session ≡ true → owner ≡ session
-asker-is None owner session is e = absurd cc
-asker-is (Some other) owner session is e = let same : other ≡ owner = cc in sym same ∙ eqb-true other session e
-
--- which, if it is of a session for which the pass speaks, may be added
+-- an entry of a session for which the pass speaks may be added
 pub adds-by : {fixed : Fixed} {v entered : Knowing} {b after : Recorded} {ask : Ask} {session : ℕ} → IsTaken fixed v entered b → (steps : Steps b ask)
     → steps.makes.session ≡ session → Stands session v.mine → after ≡ after_ask b ask → AddsOne root_of (listed entered.stage) entered.mine after.entries
 adds-by {fixed} {v} {entered} {b} {after} {ask} {session} taken steps whose speaks grown =
@@ -112,7 +53,7 @@ adds-by {fixed} {v} {entered} {b} {after} {ask} {session} taken steps whose spea
     let adds = adds-own b.entries v.seen v.mine (entry_of ask steps.makes) after.entries taken.knows (subst (λ (n : ℕ). Stands n v.mine) (sym whose) speaks) more in
     subst (λ (x : Knowing). AddsOne root_of (listed x.stage) x.mine after.entries) (sym taken.stage) adds
 
--- so is every ask that the pass may make
+-- of such a session is every ask that the pass may make
 pub whose-now : {fixed : Fixed} {v entered : Knowing} {b : Recorded} {ask : Ask} (may : MayAsk fixed v ask) → IsTaken fixed v entered b → is_enter ask ≡ false
     → (steps : Steps b ask) → steps.makes.session ≡ may.session
 whose-now {fixed} {v} {entered} {b} {ask} may taken other steps =
@@ -182,36 +123,6 @@ answered {fixed} {v} {w} {before} {after} {ask} {reply} m said =
       reply_is = answer-is (step (standing (before_in fixed w)) ask) m.makes.session m.makes.reply reply m.makes.steps now;
     }
 
--- What is answered with no more than that it was made.
-
-pub said-by : {b : Recorded} {ask : Ask} {reply : Reply} (steps : Steps b ask) → steps.makes.reply ≡ reply → option_map reply_of (step (standing b) ask) ≡ Some reply
-said-by {b} {ask} {reply} steps e = ap (option_map reply_of) steps.is ∙ ap (λ (r : Reply). let some : Option Reply = Some r in some) e
-
-if-said : (test : Bool) (make : Outcome) (reply : Reply) (outcome : Outcome) → make.reply ≡ reply → (if test then Some make else None) ≡ Some outcome → outcome.reply ≡ reply
-if-said false make reply outcome all e = absurd cc
-if-said true make reply outcome all e = let same : make ≡ outcome = cc in subst (λ (o : Outcome). o.reply ≡ reply) same all
-
-met-said : {X : Type 0} (test : X → Bool) (make : X → Outcome) (reply : Reply) → ((x : X) → (make x).reply ≡ reply) → (found : Option X) (outcome : Outcome)
-    → made_at test make found ≡ Some outcome → outcome.reply ≡ reply
-met-said test make reply all None outcome e = absurd cc
-met-said test make reply all (Some x) outcome e = if-said (test x) (make x) reply outcome (all x) e
-
-pub shut-said : {b : Recorded} {port : PortId} (steps : Steps b (Shut port)) → steps.makes.reply ≡ replies.Made
-shut-said {b} {port} steps = met-said (can_shut (standing b).world) (shut_step (standing b)) replies.Made (λ p. refl) (open_port (standing b).world.ports port.0) steps.makes steps.is
-
-pub reset-said : {b : Recorded} {port : PortId} {side : Side} {fault : SyncFault} (steps : Steps b (Reset port side fault)) → steps.makes.reply ≡ replies.Made
-reset-said {b} {port} {side} {fault} steps = met-said (can_reset side fault) (reset_step (standing b)) replies.Made (λ p. refl) (open_port (standing b).world.ports port.0) steps.makes steps.is
-
-pub leave-said : {b : Recorded} {session : SessionId} (steps : Steps b (Leave session)) → steps.makes.reply ≡ replies.Made
-leave-said {b} {session} steps = if-said (can_leave (standing b).world session.0) (leave_step (standing b) session.0) replies.Made steps.makes refl steps.is
-
-found-said : {X : Type 0} (make : X → Outcome) (reply : Reply) → ((x : X) → (make x).reply ≡ reply) → (found : Option X) (outcome : Outcome) → option_map make found ≡ Some outcome → outcome.reply ≡ reply
-found-said make reply all None outcome e = absurd cc
-found-said make reply all (Some x) outcome e = let same : make x ≡ outcome = cc in subst (λ (o : Outcome). o.reply ≡ reply) same (all x)
-
-pub done-said : {b : Recorded} {lease : LeaseId} (steps : Steps b (Done lease)) → steps.makes.reply ≡ replies.Made
-done-said {b} {lease} steps = found-said (done_step (standing b) lease.0) replies.Made (λ lot. refl) (lease_at (standing b).world.ports lease.0) steps.makes steps.is
-
 -- the call made none, with the book as it is seen now
 pub record Unmade (fixed : Fixed) (v w : Knowing) (before : Recorded) : Type 0 where
   pub none : MakesNone fixed v w
@@ -238,11 +149,7 @@ refused {fixed} {v} {entered} {w} {before} {after} {ask} {fault} taken stays ref
     let u = unmade taken stays back in
     record { none = u.none; refusal = subst (λ (r : Recorded). IsRefusal r ask fault) (sym u.now) refusal }
 
--- A user that comes.
-
-pub comes : (b : Recorded) (user : ℕ) → user < 2 ^ 64 → Steps b (Enter user)
-comes b user small = record { makes = enter_step (standing b); is = enter-made (standing b) user small }
-
+-- a user that comes
 pub adds-new : {fixed : Fixed} {v entered : Knowing} {b after : Recorded} {user : ℕ} → IsTaken fixed v entered b → user < 2 ^ 64 → after ≡ after_ask b (Enter user)
     → AddsOne root_of (listed entered.stage) entered.mine after.entries
 adds-new {fixed} {v} {entered} {b} {after} {user} taken small grown =
@@ -254,31 +161,7 @@ adds-new {fixed} {v} {entered} {b} {after} {user} taken small grown =
     ap (λ (n : ℕ). min (n + 1) (length b.entries + 1)) count ∙ min-eq_left (le_refl (length b.entries + 1)) in
     subst (λ (x : Knowing). AddsOne root_of (listed x.stage) x.mine after.entries) (sym taken.stage) (e, more, inl root)
 
-pub came : (b : Recorded) (user : ℕ) → user < 2 ^ 64 → option_map reply_of (step (standing b) (Enter user)) ≡ Some replies.Made
-came b user small = ap (option_map reply_of) (enter-made (standing b) user small)
-
--- A Finish that does not wait.
-
-gone-by : (s : Standing) (bufs : List ℕ) (port : Port) (can out : Bool) (count : ℕ)
-    → (if can then Some (if out then replies.Unread (unread_count port) else replies.LeasesOut (leases_out port)) else None) ≡ Some (replies.Unread count)
-    → option_map reply_of (if can && out then Some (finish_step s bufs port) else None) ≡ Some (replies.Unread count)
-gone-by s bufs port false out count e = absurd cc
-gone-by s bufs port true false count e = absurd cc
-gone-by s bufs port true true count e = e
-
-gone-at : (s : Standing) (bufs : List ℕ) (fits : Bool) (found : Option Port) (count : ℕ) → (if fits then finish_reply_at s bufs found else None) ≡ Some (replies.Unread count)
-    → option_map reply_of (if fits then finish_step_at s bufs found else None) ≡ Some (replies.Unread count)
-gone-at s bufs false found count e = absurd cc
-gone-at s bufs true None count e = absurd cc
-gone-at s bufs true (Some port) count e = gone-by s bufs port (can_finish s bufs port) (leases_out port == 0) count e
-
-pub gone-said : (s : Standing) (port : PortId) (bufs : List ℕ) (chain : Chain) (count : ℕ) → reply_to s (Finish port bufs chain) ≡ Some (replies.Unread count)
-    → option_map reply_of (step s (Finish port bufs chain)) ≡ Some (replies.Unread count)
-gone-said s port bufs chain count e = gone-at s bufs (fits_chain chain) (shutting_port s.world.ports port.0) count e
-
-pub steps-said : {b : Recorded} {ask : Ask} (reply : Reply) → option_map reply_of (step (standing b) ask) ≡ Some reply → Steps b ask
-steps-said {b} {ask} reply said = let found = some-step (step (standing b) ask) (ap is_some said) in record { makes = found.0; is = found.1 }
-
+-- a Finish that waits
 pub waits : {fixed : Fixed} {v entered w : Knowing} {before after : Recorded} {ask : Ask} {n : ℕ} → IsTaken fixed v entered before → after ≡ before
     → 0 < n → reply_to (standing before) ask ≡ Some (replies.LeasesOut n) → IsPutBack entered w after → Waits fixed v w ask n
 waits {fixed} {v} {entered} {w} {before} {after} {ask} {n} taken stays some reply back =

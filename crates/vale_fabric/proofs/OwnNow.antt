@@ -17,14 +17,14 @@ use Rattle.vale_entry.proofs.Worlds.{count-world_of}
 use Rattle.vale_own.specs.Own.{Own, own_of}
 use Rattle.vale_own.proofs.OwnKept.{own-kept, legal-split}
 use Rattle.vale_book.specs.Offering.{OffersState, OffersStand}
-use Rattle.vale_fabric.specs.Leases.{StandOf}
+use Rattle.vale_book.specs.Leases.{StandOf}
 use Rattle.vale_book.specs.Recorded.{Recorded, standing, after_ask, entry_of}
 use Rattle.vale_fabric.specs.declared.kept.Fixed.{Fixed}
 use Rattle.vale_fabric.specs.Fabrics.{Knowing, seen_in}
 use Rattle.vale_fabric.specs.Steps.{IsTaken}
 use Rattle.vale_fabric.proofs.Others.{others-past}
-use Rattle.vale_fabric.proofs.Making.{Steps, stored}
-use Rattle.vale_fabric.proofs.OffersHeld.{Next, next-of, offers-stand, offers-after}
+use Rattle.vale_book.proofs.Said.{Steps, stored}
+use Rattle.vale_book.proofs.OffersHeld.{Next, next-of, offers-stand, offers-after}
 
 -- both histories are legal, and the session's own is the same after both
 pub record SameOwn (fixed : Fixed) (v : Knowing) (b : Recorded) (session : ℕ) : Type 0 where

@@ -23,7 +23,8 @@ use Rattle.vale_fabric.specs.Steps.{IsPutBack, IsTaken}
 use Rattle.vale_fabric.proofs.Acting.{Acts, acted}
 use Rattle.vale_fabric.proofs.AtHand.{hand-on, reads-keep, reads-settled}
 use Rattle.vale_fabric.proofs.Making.{answered}
-use Rattle.vale_fabric.proofs.Speaking.{sought, speaks-on}
+use Rattle.vale_book.proofs.Said.{sought}
+use Rattle.vale_fabric.proofs.Speaking.{speaks-on}
 
 pub no-enter : (pipe : Bool) (at : PortId) (back : List ℕ) → is_enter (read_ask pipe at back) ≡ false
 no-enter true at back = refl

@@ -14,8 +14,9 @@ use Rattle.vale_fabric.specs.Fabrics.{Knowing}
 use Rattle.vale_fabric.specs.Puts.{PutsNot, is_put_said}
 use Rattle.vale_fabric.specs.Steps.{IsTaken, IsPutBack, is_made}
 use Rattle.vale_fabric.proofs.Acting.{ActsIf, acted}
-use Rattle.vale_fabric.proofs.Making.{Steps, answered, said-by, refused}
-use Rattle.vale_fabric.proofs.PutsTold.{gone-said}
+use Rattle.vale_book.proofs.Said.{Steps, said-by}
+use Rattle.vale_fabric.proofs.Making.{answered, refused}
+use Rattle.vale_book.proofs.PutsTold.{gone-said}
 
 pub puts-act : (old new : Recorded) {port : PortId} {items : List Item} (r : Result Given PutFault) → Steps old (Put port items) → IfMade r (new ≡ after_ask old (Put port items))
     → IfMade r (HasRoom old (Put port items)) → IfNotMade r (new ≡ old) → ActsIf (is_made is_put_said r) old new (Put port items)

@@ -1,5 +1,5 @@
 -- The offers that a call starts are of the session whose entry it made, for which its pass speaks.
-use Rattle.std.proofs.Common.{ℕ, ◌+◌, ◌≤◌, ◌≡◌, Bool, true, false, ◌==◌, List, [], ◌∷◌, ◌++◌, length, filter, Option, Some, None, refl, sym, ◌∙◌, ap, subst, arith, length-append}
+use Rattle.std.proofs.Common.{ℕ, ◌+◌, ◌≤◌, ◌≡◌, Bool, true, false, ◌==◌, List, [], ◌∷◌, ◌++◌, length, filter, refl, sym, ◌∙◌, ap, subst, arith, length-append}
 use Rattle.std.specs.List.{AllByRecursion as Each}
 use Rattle.std.proofs.lemmas.Bool.{eqb-true, eq-eqb}
 use Rattle.nm_turn.specs.Numbered.{Stands}
@@ -9,7 +9,7 @@ use Rattle.vale_entry.specs.declared.entry.Entry.{Entry}
 use Rattle.vale_entry.specs.World.{Offer}
 use Rattle.vale_entry.specs.Offers.{is_offer_of}
 use Rattle.vale_entry.specs.Laws.{IsFrom}
-use Rattle.vale_entry.specs.Legal.{Outcome, made_at, standing_of, world_of, IsLegal}
+use Rattle.vale_entry.specs.Legal.{standing_of, world_of, IsLegal}
 use Rattle.vale_entry.proofs.Each.{each-find}
 use Rattle.vale_entry.proofs.Removals.{each-filter}
 use Rattle.vale_entry.proofs.ListLaws.{place-of}
@@ -25,8 +25,9 @@ use Rattle.vale_fabric.specs.declared.kept.Fixed.{Fixed}
 use Rattle.vale_fabric.specs.Fabrics.{Knowing, MayAsk}
 use Rattle.vale_fabric.specs.Steps.{IsTaken, IsPutBack}
 use Rattle.vale_fabric.proofs.Acting.{Acts, acted}
-use Rattle.vale_fabric.proofs.Making.{Steps, stored, whose-now}
-use Rattle.vale_fabric.proofs.OffersHeld.{Next, next-of, filtered}
+use Rattle.vale_book.proofs.Said.{Steps, stored}
+use Rattle.vale_fabric.proofs.Making.{whose-now}
+use Rattle.vale_book.proofs.OffersHeld.{Next, next-of, filtered}
 
 -- offers of the last entry are of its session
 pub last-by : (pool : ℕ) (h : List Entry) (e : Entry) (o : OffersState) → IsLegal pool (h ++ e ∷ []) → OffersStand (standing_of pool (h ++ e ∷ [])) o → o.entry ≡ length h + 1
@@ -64,8 +65,3 @@ pub speaks-on : {fixed : Fixed} {v entered w : Knowing} {b after : Recorded} {as
 speaks-on {fixed} {v} {entered} {w} {b} {after} {ask} o may taken other acts back st last some =
     let whose = offers-by o may taken other acts.steps acts.grown back.legal st last some in
     subst (Stands o.session) (sym (acted taken back acts).makes.told.mine) (Stands-left o.session v.mine _ (subst (λ (n : ℕ). Stands n v.mine) (sym whose) may.speaks))
-
--- what an ask looks for is there if it makes an entry
-pub sought : {X : Type 0} (test : X → Bool) (make : X → Outcome) (found : Option X) (outcome : Outcome) → made_at test make found ≡ Some outcome → (x : X) × (found ≡ Some x)
-sought test make None outcome e = absurd cc
-sought test make (Some x) outcome e = (x, refl)

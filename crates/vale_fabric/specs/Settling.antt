@@ -22,7 +22,7 @@ use Rattle.vale_fabric.specs.declared.kept.Fixed.{Fixed}
 use Rattle.vale_fabric.specs.declared.settling.Shares.{Shares}
 use Rattle.vale_fabric.specs.Roots.{root_of}
 use Rattle.vale_fabric.specs.Fabrics.{Knowing, record_in, seen_in, entry_by}
-use Rattle.vale_fabric.specs.Leases.{StandOf}
+use Rattle.vale_book.specs.Leases.{StandOf}
 
 -- what settles a session next: its first lease is done, or else its first offer is granted
 abbrev pub settling_by : List HeldLot → List Offer → Option Ask

@@ -4,7 +4,7 @@ ghost use Rattle.std.specs.Prelude.{slice_get, Some};
 ghost use Rattle.vale_fabric.specs.Words.{AreOf, IsSingle, Recorded, buffers_of, contents};
 ghost use Rattle.vale_fabric.specs.Words.{frames_in, next_of, with_frame};
 ghost use Rattle.vale_fabric.specs.Filling.{AreFitting, IsFilling, bytes_from};
-ghost use Rattle.vale_fabric.specs.Leases.{IsFilledBy, IsHeldFor, IsToFill};
+ghost use Rattle.vale_book.specs.Leases.{IsFilledBy, IsHeldFor, IsToFill};
 
 use nm_types::Batch;
 use vale_line::{Got, Lease};

@@ -6,7 +6,8 @@ ghost use Rattle.vale_fabric.specs.Words.{buffers_of, bytes_of, dests_wanted, fi
 ghost use Rattle.vale_fabric.specs.Words.{knowing, lease_id, seen_by, standing, wanted};
 ghost use Rattle.vale_entry.specs.declared.entry.Ask.TheVariants as asks;
 ghost use Rattle.vale_entry.specs.declared.entry.Reply.TheVariants as replies;
-ghost use Rattle.vale_fabric.specs.Leases.{IsHeldBy, IsHeldFor, IsLeaseBy, MayFill, StandOf};
+ghost use Rattle.vale_book.specs.Leases.{IsHeldBy, IsHeldFor, IsLeaseBy, StandOf};
+ghost use Rattle.vale_fabric.specs.Leases.{MayFill};
 
 use crate::fabric::Fabric;
 use crate::kept::Pass;

@@ -21,7 +21,7 @@ use Rattle.vale_own.specs.SideAsks.{HasSide}
 use Rattle.vale_own.proofs.Askers.{askers-make-steps}
 use Rattle.vale_own.proofs.Asking.{own-tells}
 use Rattle.vale_own.proofs.SideAsking.{stat-asked}
-use Rattle.vale_fabric.proofs.Making.{and-second, asker-is}
+use Rattle.vale_book.proofs.Said.{and-second, asker-is}
 use Rattle.vale_fabric.specs.Fabrics.{Knowing, Makes, earlier}
 use Rattle.nm_user.specs.Sessions.{SessionState, IsThere}
 use Rattle.nm_user.proofs.After.{last}

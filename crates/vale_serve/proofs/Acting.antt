@@ -23,7 +23,7 @@ use Rattle.vale_parts.specs.Batches.{AreOffersOf}
 use Rattle.vale_book.specs.BookView.{AreOf}
 use Rattle.nm_types.specs.declared.id.SessionId.{SessionId}
 use Rattle.vale_book.specs.Recorded.{Recorded, standing, entry_of, after_outcome, after_ask, IsRefusal, room_by}
-use Rattle.vale_fabric.proofs.Placed.{get-last}
+use Rattle.vale_book.proofs.Placed.{get-last}
 use Rattle.vale_serve.specs.declared.users.Sent.{Sent}
 use Rattle.vale_serve.specs.declared.users.User.{User}
 use Rattle.vale_serve.specs.Replies.{dests_in, dests_of_entry, last_dests}

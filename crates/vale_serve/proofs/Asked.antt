@@ -30,7 +30,7 @@ use Rattle.vale_serve.specs.Serving.{IsServed}
 use Rattle.vale_serve.specs.Users.{id_of_user, is_user, HasOwn, IsUser, IsAsker, IsMine, is_settled_user}
 use Rattle.vale_serve.proofs.Keeping.{SameHands, grown, hands-same, ids-changed, own-later, step-follows, ids-set, drive-set}
 use Rattle.vale_entry.proofs.Enabled.{asks-answered}
-use Rattle.vale_fabric.proofs.Making.{Steps}
+use Rattle.vale_book.proofs.Said.{Steps}
 use Rattle.vale_serve.proofs.Acting.{IsPlain, later, acts, mine-by, settled-user, some-step}
 use Rattle.vale_serve.proofs.Places.{none-passes, found-at}
 use Rattle.vale_serve.proofs.Sessions.{comes_or_goes, sessions-stay}

@@ -27,9 +27,9 @@ use Rattle.vale_own.proofs.Lists.{filter-every}
 use Rattle.vale_book.specs.BookView.{AreOf}
 use Rattle.vale_book.specs.Offering.{IsFilledIn}
 use Rattle.vale_book.specs.Recorded.{Recorded, standing, after_ask}
-use Rattle.vale_fabric.specs.Leases.{is_held_as}
-use Rattle.vale_fabric.proofs.FilledNow.{filled-in, find-mapped}
-use Rattle.vale_fabric.proofs.Making.{Steps, and-first, and-second}
+use Rattle.vale_book.specs.Leases.{is_held_as}
+use Rattle.vale_book.proofs.FilledIn.{filled-in, find-mapped}
+use Rattle.vale_book.proofs.Said.{Steps, and-first, and-second}
 use Rattle.vale_serve.specs.declared.users.User.{User}
 use Rattle.vale_serve.specs.Users.{HasOffers, AreSame, IsRoom, IsHeldAs, AreHeldAs, HasOwn, IsUser, number_of, wants_left}
 use Rattle.vale_serve.proofs.Keeping.{IsLater, leases-later, rise-later, of-later, same-ports}

@@ -24,7 +24,7 @@ use Rattle.vale_own.specs.OwnEntries.{own_after_entry}
 use Rattle.vale_own.proofs.Buffers.{buffers-apart}
 use Rattle.vale_book.specs.Recorded.{Recorded, standing, after_ask, after_outcome, room_by}
 use Rattle.vale_book.specs.declared.asking.PortSeen.{PortSeen}
-use Rattle.vale_fabric.proofs.Making.{gone-said}
+use Rattle.vale_book.proofs.Said.{gone-said}
 use Rattle.vale_serve.specs.declared.users.Sent.{Sent}
 use Rattle.vale_serve.specs.declared.users.User.{User}
 use Rattle.vale_serve.specs.Buffers.{holds_all, times}

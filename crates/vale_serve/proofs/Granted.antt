@@ -40,7 +40,7 @@ use Rattle.vale_port.specs.Kept.{KeptFrames, bytes_of, kept_gots, world_frames}
 use Rattle.vale_book.specs.BookView.{AreOf}
 use Rattle.vale_book.specs.Offering.{OffersState, IsOfferBy, IsLeaseOf}
 use Rattle.vale_book.specs.Recorded.{Recorded, standing, after_outcome, entry_of}
-use Rattle.vale_fabric.specs.Leases.{WasGranted, is_held_as}
+use Rattle.vale_book.specs.Leases.{WasGranted, is_held_as}
 use Rattle.vale_serve.specs.declared.users.Sent.{Sent}
 use Rattle.vale_serve.specs.declared.users.User.{User}
 use Rattle.vale_serve.specs.Filling.{placed, IsFillable}
@@ -48,9 +48,9 @@ use Rattle.vale_serve.specs.Granting.{CanGrant, IsLeased, HasGranted, AddsLease,
 use Rattle.vale_serve.specs.Users.{AreOffered, HasOffers, IsHeldAs, AreHeldAs, AreSame, IsRoom, HasOwn, IsUser, HasSent, contents, sent_of, wants_left, number_of, is_want_of, is_sent_of, is_sent_next, is_offered, is_next_to}
 use Rattle.vale_serve.proofs.Keeping.{IsLater, step-follows, leases-later, of-later, same-ports}
 use Rattle.vale_serve.proofs.Acting.{Said, said, later, acts}
-use Rattle.vale_fabric.proofs.Making.{Steps}
-use Rattle.vale_fabric.proofs.OffersHeld.{granted-at, filtered}
-use Rattle.vale_fabric.proofs.LeasesHeld.{given-held}
+use Rattle.vale_book.proofs.Said.{Steps}
+use Rattle.vale_book.proofs.OffersHeld.{granted-at, filtered}
+use Rattle.vale_book.proofs.LeasesHeld.{given-held}
 use Rattle.vale_serve.proofs.Sends.{filter-passes, as-many-wants, wants-left}
 
 -- ---- the offers of a session's entry are all that are of the entry

@@ -22,8 +22,8 @@ use Rattle.vale_own.proofs.OwnEntry.{own-entries}
 use Rattle.vale_book.specs.BookView.{AreOf}
 use Rattle.vale_book.specs.Recorded.{Recorded, standing, entry_of, after_outcome, after_ask}
 use Rattle.vale_own.proofs.Rooms.{step-recorded}
-use Rattle.vale_fabric.specs.Leases.{WasGranted, is_grant_to}
-use Rattle.vale_fabric.proofs.Placed.{met-there}
+use Rattle.vale_book.specs.Leases.{WasGranted, is_grant_to}
+use Rattle.vale_book.proofs.Placed.{met-there}
 use Rattle.vale_serve.specs.declared.users.User.{User}
 use Rattle.vale_serve.specs.declared.users.Room.{Room}
 use Rattle.vale_serve.specs.Users.{id_of_user, IsHeldAs, AreHeldAs, number_of, port_of_room, HasOwn, IsUser}

@@ -43,8 +43,8 @@ use Rattle.vale_book.specs.declared.fault.PutFault.TheVariants as gone
 use Rattle.vale_steps.specs.declared.putting.Put.{Put as Given}
 use Rattle.vale_steps.proofs.PutLists.{items-first, indices-items}
 use Rattle.vale_book.proofs.Standing.{each-take}
-use Rattle.vale_fabric.proofs.Making.{Steps}
-use Rattle.vale_fabric.proofs.PutsTold.{put-said, gone-said}
+use Rattle.vale_book.proofs.Said.{Steps}
+use Rattle.vale_book.proofs.PutsTold.{put-said, gone-said}
 use Rattle.vale_serve.specs.declared.users.User.{User}
 use Rattle.vale_serve.specs.Buffers.{holds_all, times}
 use Rattle.vale_serve.specs.Exchange.{HasTakenOut, HasMore}

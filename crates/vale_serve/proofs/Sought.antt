@@ -29,7 +29,7 @@ use Rattle.vale_serve.specs.declared.users.User.{User}
 use Rattle.vale_serve.specs.Joined.{AreUsersOf}
 use Rattle.vale_serve.specs.Users.{is_user, is_offered, is_sent_of, is_lease, has_lease, HasOffers, AreHeldAs, IsUser}
 use Rattle.vale_serve.proofs.Asked.{any-user}
-use Rattle.vale_fabric.proofs.Making.{and-second}
+use Rattle.vale_book.proofs.Said.{and-second}
 use Rattle.vale_serve.proofs.Completed.{asked}
 use Rattle.vale_serve.proofs.Granted.{can-grant, mine-at, next-offer}
 use Rattle.vale_serve.proofs.Places.{none-passes, found-at}

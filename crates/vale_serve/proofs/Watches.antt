@@ -17,7 +17,7 @@ use Rattle.vale_entry.specs.Legal.{is_enabled, is_met, can_reset, IsLegal}
 use Rattle.vale_entry.specs.Monitors.{can_watch}
 use Rattle.nm_types.specs.declared.fault.SyncFault.{SyncFault}
 use Rattle.nm_types.specs.declared.id.Side.{Side}
-use Rattle.vale_fabric.proofs.Making.{Steps}
+use Rattle.vale_book.proofs.Said.{Steps}
 use Rattle.vale_book.specs.Recorded.{Recorded, standing, after_ask, IsRefusal, IsRecordedAs}
 use Rattle.vale_book.specs.WatchAnswers.{IsUnwatched}
 use Rattle.vale_book.specs.declared.asking.PortSeen.{PortSeen}

@@ -11,7 +11,7 @@ use Rattle.vale_entry.specs.Legal.{step, reply_of}
 use Rattle.vale_port.specs.Kept.{bytes_of}
 use Rattle.vale_book.specs.Offering.{OffersStand}
 use Rattle.vale_book.specs.Recorded.{Recorded, standing, after_ask, HasRoom}
-use Rattle.vale_fabric.specs.Leases.{IsLeaseBy}
+use Rattle.vale_book.specs.Leases.{IsLeaseBy}
 use Rattle.vale_serve.specs.declared.users.Sent.{Sent}
 use Rattle.vale_serve.specs.declared.users.User.{User}
 use Rattle.vale_serve.specs.Filling.{IsFilledWith}

@@ -19,7 +19,7 @@ use Rattle.vale_book.specs.declared.asking.PortSeen.{PortSeen}
 use Rattle.vale_batch.specs.Wants.{Wanted}
 use Rattle.vale_book.specs.BookView.{AreOf}
 use Rattle.vale_book.specs.Recorded.{Recorded, standing}
-use Rattle.vale_fabric.specs.Leases.{WasGranted}
+use Rattle.vale_book.specs.Leases.{WasGranted}
 use Rattle.vale_serve.specs.declared.users.User.{User}
 use Rattle.vale_serve.specs.declared.users.Sent.{Sent}
 use Rattle.vale_serve.specs.declared.users.Room.{Room}

@@ -5,7 +5,7 @@ use Rattle.vale_line.specs.Leased.{Leased}
 use Rattle.vale_entry.specs.declared.entry.Ask.TheVariants.{Done}
 use Rattle.vale_book.specs.Granting.{lease_id}
 use Rattle.vale_book.specs.Recorded.{after_ask, HasRoom}
-use Rattle.vale_fabric.proofs.Making.{done-said, said-by}
+use Rattle.vale_book.proofs.Said.{done-said, said-by}
 use Rattle.vale_serve.specs.Users.{is_lease}
 use Rattle.vale_serve.proofs.Completed.{held-here, steps, lease-filled, completed-kept}
 use Rattle.vale_serve.proofs.Places.{found-at, none-passes}

@@ -6,7 +6,7 @@ use Rattle.nm_types.specs.declared.id.PortId.{PortId}
 use Rattle.vale_batch.specs.Wants.{wanted}
 use Rattle.vale_entry.specs.Legal.{is_met}
 use Rattle.vale_book.specs.Offering.{OffersState}
-use Rattle.vale_fabric.specs.Leases.{IsLeaseBy}
+use Rattle.vale_book.specs.Leases.{IsLeaseBy}
 use Rattle.vale_serve.specs.declared.users.Sent.{Sent}
 use Rattle.vale_serve.specs.Filling.{IsFillable, IsFilledWith}
 use Rattle.vale_serve.specs.Users.{contents, is_want_of}

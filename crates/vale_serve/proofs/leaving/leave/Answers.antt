@@ -3,7 +3,7 @@ use Rattle.nm_types.specs.declared.id.SessionId.{SessionId}
 use Rattle.vale_entry.specs.declared.entry.Ask.TheVariants.{Leave}
 use Rattle.vale_entry.specs.Legal.{is_enabled}
 use Rattle.vale_book.specs.Recorded.{standing, after_ask}
-use Rattle.vale_fabric.proofs.Making.{said-by, leave-said}
+use Rattle.vale_book.proofs.Said.{said-by, leave-said}
 use Rattle.vale_serve.proofs.Acting.{unserved}
 use Rattle.vale_serve.proofs.Asked.{steps-of}
 use Rattle.vale_serve.proofs.Leavers.{LeavesAt, leaves-at, leaves-nothing, none-leaves, left}

@@ -3,7 +3,7 @@ use Rattle.vale_entry.specs.declared.entry.Ask.TheVariants.{Shut}
 use Rattle.vale_serve.proofs.Acting.{unserved}
 use Rattle.vale_own.specs.Own.{own_of}
 use Rattle.vale_book.specs.Recorded.{standing}
-use Rattle.vale_fabric.proofs.Making.{said-by, shut-said}
+use Rattle.vale_book.proofs.Said.{said-by, shut-said}
 use Rattle.vale_serve.proofs.Asked.{can-shut-is, steps-of, mine-of, quiet-kept, shut-hands}
 use Rattle.vale_serve.proofs.shutting.shut.Goals as goal
 

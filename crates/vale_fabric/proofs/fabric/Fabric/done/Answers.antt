@@ -2,7 +2,8 @@ use Rattle.std.proofs.Common.{refl}
 use Rattle.vale_fabric.proofs.Acting.{goes-now, answers-now}
 use Rattle.vale_fabric.proofs.FilledNow.{may-fill, filled-now}
 use Rattle.vale_fabric.proofs.Lent.{as-lent}
-use Rattle.vale_fabric.proofs.Making.{enabled-now, done-said}
+use Rattle.vale_book.proofs.Said.{done-said}
+use Rattle.vale_fabric.proofs.Making.{enabled-now}
 use Rattle.vale_fabric.proofs.fabric.Fabric.done.Goals as goal
 
 pub done-requires-clause-filled : goal.done-requires-clause-filled

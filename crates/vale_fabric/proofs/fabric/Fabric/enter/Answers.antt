@@ -2,7 +2,8 @@ use Rattle.nm_types.specs.declared.fault.StepFault.{StepFault}
 use Rattle.vale_entry.specs.declared.entry.Ask.TheVariants.{Enter}
 use Rattle.vale_fabric.proofs.Acting.{acts-on, acts-ok, goes-back, answers-on, refuses}
 use Rattle.vale_fabric.proofs.Lent.{as-lent}
-use Rattle.vale_fabric.proofs.Making.{adds-new, comes, came}
+use Rattle.vale_book.proofs.Said.{comes, came}
+use Rattle.vale_fabric.proofs.Making.{adds-new}
 use Rattle.vale_fabric.proofs.fabric.Fabric.enter.Goals as goal
 
 pub give-requires-clause-goes : goal.give-requires-clause-goes

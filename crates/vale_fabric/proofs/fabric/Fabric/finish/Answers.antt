@@ -6,7 +6,8 @@ use Rattle.vale_book.specs.Recorded.{standing}
 use Rattle.vale_entry.specs.declared.entry.Ask.TheVariants.{Finish}
 use Rattle.vale_fabric.proofs.Acting.{Tells, goes-told, answers-told}
 use Rattle.vale_fabric.proofs.Lent.{as-lent}
-use Rattle.vale_fabric.proofs.Making.{enabled-now, gone-said, waits-on}
+use Rattle.vale_book.proofs.Said.{gone-said}
+use Rattle.vale_fabric.proofs.Making.{enabled-now, waits-on}
 use Rattle.vale_fabric.proofs.fabric.Fabric.finish.Given as given
 use Rattle.vale_fabric.proofs.fabric.Fabric.finish.Goals.{After-finish-unread}
 use Rattle.vale_fabric.proofs.fabric.Fabric.finish.Goals as goal

@@ -10,11 +10,12 @@ use Rattle.vale_entry.specs.declared.entry.Reply.TheVariants.{Shared}
 use Rattle.vale_book.specs.Recorded.{Recorded, standing}
 use Rattle.vale_book.specs.Offering.{OffersState, OffersStand}
 use Rattle.vale_fabric.specs.Fabrics.{fixed_in, knowing, seen_by}
-use Rattle.vale_fabric.specs.Leases.{IsHeldBy, IsHeldFor, IsLeaseBy, StandOf}
+use Rattle.vale_book.specs.Leases.{IsHeldBy, IsHeldFor, IsLeaseBy, StandOf}
 use Rattle.vale_fabric.proofs.Acting.{Acts, acted, goes-back}
-use Rattle.vale_fabric.proofs.Making.{Made, adds-by, steps-said, answered}
-use Rattle.vale_fabric.proofs.OffersHeld.{granter}
-use Rattle.vale_fabric.proofs.LeasesHeld.{held-frames}
+use Rattle.vale_book.proofs.Said.{steps-said}
+use Rattle.vale_fabric.proofs.Making.{Made, adds-by, answered}
+use Rattle.vale_book.proofs.OffersHeld.{granter}
+use Rattle.vale_book.proofs.LeasesHeld.{held-frames}
 use Rattle.vale_fabric.proofs.OwnNow.{stand-now, stand-after, as-of}
 use Rattle.vale_fabric.proofs.Lent.{as-lent}
 use Rattle.vale_fabric.proofs.fabric.Fabric.grant.Given as given

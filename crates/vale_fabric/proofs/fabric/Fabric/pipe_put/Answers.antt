@@ -9,9 +9,10 @@ use Rattle.vale_fabric.specs.Steps.{is_made}
 use Rattle.vale_fabric.proofs.Acting.{Acts, ActsIf, acted, acts-of, if-acted, may-go}
 use Rattle.vale_fabric.proofs.AtHand.{copies-are, hand-on, low-pool, puts-keep, puts-settled}
 use Rattle.vale_fabric.proofs.Lent.{as-lent}
-use Rattle.vale_fabric.proofs.Making.{answered, enabled-now, said-by, step-now}
+use Rattle.vale_book.proofs.Said.{said-by}
+use Rattle.vale_fabric.proofs.Making.{answered, enabled-now, step-now}
 use Rattle.vale_fabric.proofs.PutsMade.{puts-act, puts-not}
-use Rattle.vale_fabric.proofs.PutsTold.{copies-fit, put-said}
+use Rattle.vale_book.proofs.PutsTold.{copies-fit, put-said}
 use Rattle.vale_fabric.proofs.Speaking.{speaks-on}
 use Rattle.vale_fabric.proofs.fabric.Fabric.pipe_put.Given as given
 use Rattle.vale_fabric.proofs.fabric.Fabric.pipe_put.Goals.{After-pipe_put-put}

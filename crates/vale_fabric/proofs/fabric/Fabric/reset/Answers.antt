@@ -3,7 +3,8 @@ use Rattle.nm_types.specs.declared.fault.StepFault.{StepFault}
 use Rattle.vale_entry.specs.declared.entry.Ask.TheVariants.{Reset}
 use Rattle.vale_fabric.proofs.Acting.{acts-on, acts-ok, may-go, answers-on, refuses}
 use Rattle.vale_fabric.proofs.Lent.{as-lent}
-use Rattle.vale_fabric.proofs.Making.{enabled-now, step-now, said-by, reset-said}
+use Rattle.vale_book.proofs.Said.{said-by, reset-said}
+use Rattle.vale_fabric.proofs.Making.{enabled-now, step-now}
 use Rattle.vale_fabric.proofs.fabric.Fabric.reset.Goals as goal
 
 pub reset-noted-requires : goal.reset-noted-requires

@@ -5,7 +5,8 @@ use Rattle.vale_fabric.specs.Filling.{bytes_from}
 use Rattle.vale_book.specs.Offering.{OffersState}
 use Rattle.vale_book.specs.Recorded.{standing}
 use Rattle.vale_fabric.specs.Fabrics.{fixed_in, knowing, seen_by}
-use Rattle.vale_fabric.specs.Leases.{MayFillFrom, StandOf}
+use Rattle.vale_book.specs.Leases.{StandOf}
+use Rattle.vale_fabric.specs.Leases.{MayFillFrom}
 use Rattle.vale_fabric.specs.Settling.{IsAtHand, frames_wanted, shared_in}
 use Rattle.vale_fabric.proofs.GrantsSettle.{Rest, for-bytes, as-many-places, may-fill-from, settled-next}
 use Rattle.vale_fabric.proofs.fabric.Fabric.settle_next.Given as given

@@ -1,7 +1,8 @@
 use Rattle.std.proofs.Common.{refl}
 use Rattle.vale_fabric.proofs.Acting.{goes-now, answers-now}
 use Rattle.vale_fabric.proofs.Lent.{as-lent}
-use Rattle.vale_fabric.proofs.Making.{enabled-now, shut-said}
+use Rattle.vale_book.proofs.Said.{shut-said}
+use Rattle.vale_fabric.proofs.Making.{enabled-now}
 use Rattle.vale_fabric.proofs.fabric.Fabric.shut.Goals as goal
 
 pub shut-requires : goal.shut-requires

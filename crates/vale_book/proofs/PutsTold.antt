@@ -23,9 +23,9 @@ use Rattle.vale_parts.specs.Batches.{dests_wanted}
 use Rattle.vale_parts.proofs.BatchWants.{puts_replied}
 use Rattle.vale_steps.specs.declared.putting.Put.{Put as Given}
 use Rattle.vale_book.specs.Putting.{item_of, items_of, copied, IsPut}
-use Rattle.vale_book.specs.Recorded.{Recorded, standing}
-use Rattle.vale_fabric.proofs.Making.{Steps}
-use Rattle.vale_fabric.proofs.Speaking.{sought}
+use Rattle.vale_own.specs.Recorded.{Recorded, standing}
+use Rattle.vale_book.proofs.Said.{Steps}
+use Rattle.vale_book.proofs.Said.{sought}
 
 -- what is made at what is looked for
 made-one : {X : Type 0} (test : X → Bool) (make : X → Outcome) (x : X) (outcome : Outcome) → made_at test make (Some x) ≡ Some outcome → (outcome ≡ make x) × (test x ≡ true)

@@ -17,7 +17,7 @@ use Rattle.vale_entry.proofs.Removals.{each-filter}
 use Rattle.vale_entry.proofs.Worlds.{standing-push, count-world_of}
 use Rattle.vale_entry.proofs.Told.{history-by}
 use Rattle.vale_entry.proofs.Follows.{EachKind, Left, entry_made, follows-by}
-use Rattle.vale_fabric.specs.Leases.{WasGranted, is_grant_to}
+use Rattle.vale_book.specs.Leases.{WasGranted, is_grant_to}
 
 abbrev pub IsPlaced : List Entry → ℕ → Lot → Type 0
 IsPlaced h id lot = lot.is_done ≡ false → WasGranted h lot.number id

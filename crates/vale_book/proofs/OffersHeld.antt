@@ -24,9 +24,9 @@ use Rattle.vale_own.proofs.Reading.{offers-left}
 use Rattle.vale_parts.specs.Batches.{AreOffersOf}
 use Rattle.vale_parts.specs.Offering.{OffersAre, offers_at, wants_after}
 use Rattle.vale_parts.proofs.OffersKept.{first_next, offers_follow}
-use Rattle.vale_book.specs.Offering.{OffersState, OffersStand, IsOfferBy}
-use Rattle.vale_fabric.specs.Leases.{StandOf}
-use Rattle.vale_fabric.proofs.Making.{and-first, and-second}
+use Rattle.vale_steps.specs.Offering.{OffersState, OffersStand, IsOfferBy}
+use Rattle.vale_book.specs.Leases.{StandOf}
+use Rattle.vale_book.proofs.Said.{and-first, and-second}
 
 -- the first of them is that of an offer of their session
 pub record Next (w : World) (o : OffersState) : Type 0 where

@@ -35,15 +35,15 @@ use Rattle.vale_batch.specs.Wants.{Wanted}
 use Rattle.vale_parts.specs.Offering.{OffersAre, IsNext}
 use Rattle.vale_parts.proofs.OffersKept.{first_next}
 use Rattle.vale_port.specs.Kept.{bytes_of}
-use Rattle.vale_book.specs.Granting.{given_by}
+use Rattle.vale_steps.specs.Granting.{given_by}
 use Rattle.vale_port.specs.Seat.{given_frames}
-use Rattle.vale_book.specs.BookView.{AreOf}
-use Rattle.vale_book.specs.Offering.{OffersState, OffersStand}
-use Rattle.vale_book.specs.Recorded.{Recorded, standing, after_ask, entry_of}
-use Rattle.vale_fabric.specs.Leases.{StandOf, IsLeaseBy, IsHeldBy, IsHeldFor, is_grant_to, is_held_as}
-use Rattle.vale_fabric.proofs.Making.{Steps, stored}
-use Rattle.vale_fabric.proofs.OffersHeld.{Next, next-of, granted-at, granter}
-use Rattle.vale_fabric.proofs.Placed.{get-last}
+use Rattle.nm_region.specs.Regions.{AreOf}
+use Rattle.vale_steps.specs.Offering.{OffersState, OffersStand}
+use Rattle.vale_own.specs.Recorded.{Recorded, standing, after_ask, entry_of}
+use Rattle.vale_book.specs.Leases.{StandOf, IsLeaseBy, IsHeldBy, IsHeldFor, is_grant_to, is_held_as}
+use Rattle.vale_book.proofs.Said.{Steps, stored}
+use Rattle.vale_book.proofs.OffersHeld.{Next, next-of, granted-at, granter}
+use Rattle.vale_book.proofs.Placed.{get-last}
 
 abbrev Below : ℕ → HeldLot → Type 0
 Below count held = held.0.number ≤ count
