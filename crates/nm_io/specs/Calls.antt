@@ -1,17 +1,23 @@
-use Rattle.std.specs.Prelude.{◌≡◌, ◌≤◌, ◌⊎◌, ℕ, List, Contains}
+use Rattle.std.specs.Prelude.{◌≡◌, ◌-◌, ◌^◌, ◌≤◌, ◌⊎◌, ℕ, List, Contains}
 use Rattle.nm_io.specs.Counts.{raised}
 
--- the calls that an in-memory shelf or sink had: the numbers of those that are to fail, from 1 on,
--- how many there were, how many failed, and how often memory ran out
+-- the calls that an in-memory shelf or sink had: the numbers of those that are to fail, from 1 on, how
+-- many bytes a call takes or gives at most, how many calls there were, how many failed, and how often
+-- memory ran out
 pub record CallState : Type 0 where
   pub fail : List ℕ
+  pub piece : ℕ
   pub made : ℕ
   pub faults : ℕ
   pub wants : ℕ
 
--- before the first call
+-- before the first call, of which each takes or gives at most so many bytes
+abbrev pub no_calls_in_pieces : List ℕ → ℕ → CallState
+no_calls_in_pieces fail piece = record { fail = fail; piece = piece; made = 0; faults = 0; wants = 0 }
+
+-- before the first call, of which each takes or gives any number of bytes
 abbrev pub no_calls : List ℕ → CallState
-no_calls fail = record { fail = fail; made = 0; faults = 0; wants = 0 }
+no_calls fail = no_calls_in_pieces fail (2 ^ 64 - 1)
 
 -- the next call is to fail
 abbrev pub IsListed : CallState → Type 0

@@ -1,15 +1,17 @@
-ghost use Rattle.std.specs.Prelude.{◌≡◌, ◌≤◌, ◌↔◌, IsTrue, OnOk, OnErr};
-ghost use Rattle.nm_io.specs.Calls.{CallState, IsListed, no_calls, after_call};
+ghost use Rattle.std.specs.Prelude.{◌≡◌, ◌<◌, ◌≤◌, ◌↔◌, IsTrue, OnOk, OnErr, length, min};
+ghost use Rattle.nm_io.specs.Calls.{CallState, IsListed, no_calls_in_pieces, after_call};
 ghost use Rattle.nm_io.specs.Calls.{after_fault, after_refused, after_want, HasFailed};
 ghost use Rattle.nm_io.specs.Counts.{raised};
 
 use crate::Failed;
 use std::marker::Model;
 
-/// The calls that an in-memory shelf or sink had, and which of them are to fail.
+/// The calls that an in-memory shelf or sink had, which of them are to fail, and how many bytes each
+/// takes or gives at most.
 #[derive(Drop)]
 pub(crate) struct Calls {
     fail: Vec<u64>,
+    piece: usize,
     made: u64,
     faults: u64,
     wants: u64,
@@ -18,21 +20,47 @@ pub(crate) struct Calls {
 impl Model for Calls {
     ghost Value = { CallState };
 
-    ghost view = { λ c.
-        record { fail = c.fail.items; made = c.made; faults = c.faults; wants = c.wants } };
+    ghost view = { λ c. record {
+      fail = c.fail.items;
+      piece = c.piece;
+      made = c.made;
+      faults = c.faults;
+      wants = c.wants;
+    } };
+
+    ghost invariant = { λ c. 0 < c.piece };
 }
 
 impl Calls {
-    /// No calls; those whose numbers `fail` lists are to fail.
-    pub(crate) fn new(fail: Vec<u64>) -> Calls
-        ensures { result ≡ no_calls fail.items }
+    /// No calls; those whose numbers `fail` lists are to fail, and each other takes or gives at most
+    /// `piece` bytes.
+    pub(crate) fn in_pieces(fail: Vec<u64>, piece: usize) -> Calls
+        requires { 0 < piece }
+        ensures { result ≡ no_calls_in_pieces fail.items piece }
     {
         Calls {
             fail,
+            piece,
             made: 0,
             faults: 0,
             wants: 0,
         }
+    }
+
+    /// Returns how many of these bytes a call takes.
+    pub(crate) fn taken(&self, bytes: &[u8]) -> usize
+        ensures piece { result ≡ min (length bytes.now) self.now.piece }
+        ensures some { 0 < length bytes.now → 0 < result }
+    {
+        bytes.len().min(self.piece)
+    }
+
+    /// Returns how many bytes a call gives at most.
+    pub(crate) fn piece(&self) -> usize
+        ensures piece { result ≡ self.now.piece }
+        ensures some { 0 < result }
+    {
+        self.piece
     }
 
     /// Counts the calls that failed because memory ran out.

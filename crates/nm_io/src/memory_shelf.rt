@@ -1,9 +1,9 @@
-ghost use Rattle.std.specs.Prelude.{◌≡◌, ◌<◌, ◌≤◌, ◌⊎◌, ℕ, List, [], length, take, map};
+ghost use Rattle.std.specs.Prelude.{◌≡◌, ◌<◌, ◌≤◌, ◌⊎◌, ℕ, List, [], length, min, take, map};
 ghost use Rattle.std.specs.Prelude.{string_bytes, Option, Some, None, IfOk, OnOk, OnErr, IfSome};
 ghost use Rattle.std.specs.Option.{option_map};
 ghost use Rattle.nm_io.specs.Counts.{Rose};
 ghost use Rattle.nm_io.specs.Files.{Files, appended_told, replaced, ReadsPart};
-ghost use Rattle.nm_io.specs.Calls.{IsListed, no_calls, after_fault, after_want};
+ghost use Rattle.nm_io.specs.Calls.{IsListed, no_calls, no_calls_in_pieces, after_fault, after_want};
 ghost use Rattle.nm_io.specs.Calls.{WasAnswered, WasRefused};
 ghost use Rattle.nm_io.specs.ShelfState.{ShelfState, files_of, seen_entries};
 
@@ -33,12 +33,21 @@ impl MemoryShelf {
     pub fn new(alloc: Global, fail: Vec<u64>) -> MemoryShelf
         ensures { result ≡ record { entries = []; calls = no_calls fail.items } }
     {
+        MemoryShelf::in_pieces(alloc, fail, usize::MAX)
+    }
+
+    /// A shelf without files of which each call takes or gives at most `piece` bytes. `fail` lists the
+    /// numbers of the calls that fail.
+    pub fn in_pieces(alloc: Global, fail: Vec<u64>, piece: usize) -> MemoryShelf
+        requires { 1 ≤ piece }
+        ensures { result ≡ record { entries = []; calls = no_calls_in_pieces fail.items piece } }
+    {
         MemoryShelf {
             stored: Stored {
                 alloc,
                 files: BTreeMap::new(alloc),
             },
-            calls: Calls::new(fail),
+            calls: Calls::in_pieces(fail, piece),
         }
     }
 
@@ -93,7 +102,8 @@ impl Shelf for MemoryShelf {
         ensures appends_later { (other : List ℕ) → self.old.calls.faults ≤ self.new.calls.faults }
         ensures cause { OnErr result (Rose self.old.calls.faults self.new.calls.faults) }
 
-        // It fails only if it is listed or there is no such file.
+        // It fails only if it is listed or there is no such file, and otherwise gives a piece at most.
+        ensures piece { IfOk result (λ n. n ≤ self.old.calls.piece) }
         ensures answered { OnOk result (WasAnswered self.old.calls self.new.calls) }
         ensures failed { OnErr result
             ((IsListed self.old.calls ⊎ (files_of self.old.entries name.now ≡ None))
@@ -102,7 +112,7 @@ impl Shelf for MemoryShelf {
         self.calls.pass()?;
         match self.stored.contents(name) {
             Some(contents) => {
-                let count = copy_part(contents, at, room);
+                let count = copy_part(contents, at, room, self.calls.piece());
                 self.calls.count();
                 Ok(count)
             }
@@ -122,29 +132,32 @@ impl Shelf for MemoryShelf {
         ensures appends_later { (other : List ℕ) → self.old.calls.faults ≤ self.new.calls.faults }
         ensures cause { OnErr result (Rose self.old.calls.faults self.new.calls.faults) }
 
-        // It fails only if it is listed or out of memory, and otherwise takes every byte.
-        ensures taken { IfOk result (λ n. n ≡ length bytes.now) }
+        // It fails only if it is listed or out of memory, and otherwise takes a whole piece.
+        ensures taken { IfOk result (λ n. n ≡ min (length bytes.now) self.old.calls.piece) }
         ensures answered { OnOk result (WasAnswered self.old.calls self.new.calls) }
         ensures failed { OnErr result (WasRefused self.old.calls self.new.calls) }
     {
         self.calls.pass()?;
-        if self.stored.extend(name, bytes).is_err() {
+        let count = self.calls.taken(bytes);
+        if self.stored.extend(name, &bytes[..count]).is_err() {
             return Err(self.calls.refuse());
         }
         self.calls.count();
-        Ok(bytes.len())
+        Ok(count)
     }
 }
 
-/// Copies the contents, from their byte `at` on, to the front of `room`, as many as fit, and
-/// returns how many.
-fn copy_part(contents: &[u8], at: u64, room: &mut [u8]) -> usize
+/// Copies the contents, from their byte `at` on, to the front of `room`, as many as fit but at most
+/// `piece`, and returns how many.
+fn copy_part(contents: &[u8], at: u64, room: &mut [u8], piece: usize) -> usize
+    requires { 0 < piece }
     ensures within { result ≤ length room.old }
     ensures reads { ReadsPart (Some contents.now) at result room.new }
+    ensures piece { result ≤ piece }
 {
     let start = contents.len().min(at as usize);
     let rest = &contents[start..];
-    let count = rest.len().min(room.len());
+    let count = rest.len().min(room.len()).min(piece);
     room[..count].copy_from_slice(&rest[..count]);
     count
 }

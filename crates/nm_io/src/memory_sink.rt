@@ -1,8 +1,8 @@
-ghost use Rattle.std.specs.Prelude.{◌≡◌, ◌<◌, ◌≤◌, ◌++◌, ℕ, List, [], length};
+ghost use Rattle.std.specs.Prelude.{◌≡◌, ◌<◌, ◌≤◌, ◌++◌, ℕ, List, [], length, min};
 ghost use Rattle.std.specs.Prelude.{Option, Some, IfOk, OnOk, OnErr};
 ghost use Rattle.nm_io.specs.Counts.{Rose};
 ghost use Rattle.nm_io.specs.Held.{GrewBy};
-ghost use Rattle.nm_io.specs.Calls.{no_calls, WasAnswered, WasRefused};
+ghost use Rattle.nm_io.specs.Calls.{no_calls, no_calls_in_pieces, WasAnswered, WasRefused};
 ghost use Rattle.nm_io.specs.SinkState.{SinkState};
 
 use crate::calls::Calls;
@@ -28,9 +28,18 @@ impl MemorySink {
     pub fn new(alloc: Global, fail: Vec<u64>) -> MemorySink
         ensures { result ≡ record { bytes = []; calls = no_calls fail.items } }
     {
+        MemorySink::in_pieces(alloc, fail, usize::MAX)
+    }
+
+    /// An empty sink of which each call takes at most `piece` bytes. `fail` lists the numbers of the
+    /// calls that fail.
+    pub fn in_pieces(alloc: Global, fail: Vec<u64>, piece: usize) -> MemorySink
+        requires { 1 ≤ piece }
+        ensures { result ≡ record { bytes = []; calls = no_calls_in_pieces fail.items piece } }
+    {
         MemorySink {
             bytes: Vec::new(alloc),
-            calls: Calls::new(fail),
+            calls: Calls::in_pieces(fail, piece),
         }
     }
 
@@ -62,16 +71,17 @@ impl Sink for MemorySink {
         ensures later { self.old.calls.faults ≤ self.new.calls.faults }
         ensures cause { OnErr result (Rose self.old.calls.faults self.new.calls.faults) }
 
-        // It fails only if it is listed or out of memory, and otherwise takes every byte.
-        ensures taken { IfOk result (λ n. n ≡ length bytes.now) }
+        // It fails only if it is listed or out of memory, and otherwise takes a whole piece.
+        ensures taken { IfOk result (λ n. n ≡ min (length bytes.now) self.old.calls.piece) }
         ensures answered { OnOk result (WasAnswered self.old.calls self.new.calls) }
         ensures failed { OnErr result (WasRefused self.old.calls self.new.calls) }
     {
         self.calls.pass()?;
-        if self.bytes.extend_from_slice(bytes).is_err() {
+        let count = self.calls.taken(bytes);
+        if self.bytes.extend_from_slice(&bytes[..count]).is_err() {
             return Err(self.calls.refuse());
         }
         self.calls.count();
-        Ok(bytes.len())
+        Ok(count)
     }
 }

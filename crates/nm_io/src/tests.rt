@@ -140,6 +140,53 @@ fn short_writes_are_continued(rt: HostRuntime) -> Result<(), Fail> {
 }
 
 #[test]
+fn calls_are_answered_in_pieces(rt: HostRuntime) -> Result<(), Fail> {
+    for (piece, calls) in [(1, 14), (5, 3), (14, 1), (99, 1)] {
+        let mut sink = MemorySink::in_pieces(rt.alloc(), vec![in rt.alloc(); calls + 1]?, piece);
+        assert_eq!(rt; put_all(&mut sink, SCRIPT), Ok(()));
+        assert_eq!(rt; sink.bytes(), SCRIPT.as_slice());
+        assert_eq!(rt; sink.put(b"x"), Err(Failed), "pieces of {piece}");
+
+        let fail = vec![in rt.alloc(); calls + 1, 2 * calls + 3]?;
+        let mut shelf = MemoryShelf::in_pieces(rt.alloc(), fail, piece);
+        assert_eq!(rt; append_all(&mut shelf, "s", SCRIPT), Ok(()));
+        assert_eq!(rt; shelf.append("s", b"x"), Err(Failed), "pieces of {piece}");
+        match read_all(rt.alloc(), &mut shelf, "s", 14) {
+            Ok(found) => assert_eq!(rt; found.as_slice(), SCRIPT.as_slice()),
+            Err(error) => assert!(rt; false, "{error:?}"),
+        }
+        assert_eq!(rt; shelf.append("s", b"x"), Err(Failed), "pieces of {piece}");
+    }
+    Ok(())
+}
+
+#[test]
+fn files_stay_open_when_their_paths_change_hands(rt: HostRuntime) -> Result<(), Fail> {
+    let (name, other) = ("nm_io-whose-path", "nm_io-of-another-path");
+    let mut shelf = FileShelf::new(&rt);
+    let mut room = [0; 7];
+    fs::write(&rt, name, SCRIPT.as_slice())?;
+    fs::write(&rt, other, b"user c\nuser d\nuser e\n".as_slice())?;
+    assert_eq!(rt; shelf.read(name, 0, &mut room), Ok(7));
+    fs::rename(&rt, other, name)?;
+    assert_eq!(rt; shelf.read(name, 7, &mut room), Ok(7));
+    assert_eq!(rt; &room, b"user b\n");
+    assert_eq!(rt; shelf.read(name, 14, &mut room), Ok(0));
+    assert_eq!(rt; shelf.read(name, 0, &mut room), Ok(7));
+    assert_eq!(rt; &room, b"user c\n");
+    fs::remove_file(&rt, name)?;
+
+    assert_eq!(rt; shelf.append(name, b"user a\n"), Ok(7));
+    fs::rename(&rt, name, other)?;
+    assert_eq!(rt; shelf.append(name, b"user b\n"), Ok(7));
+    assert_eq!(rt; shelf.read(other, 7, &mut room), Ok(7));
+    assert_eq!(rt; &room, b"user b\n");
+    assert_eq!(rt; shelf.read(name, 0, &mut room), Err(Failed));
+    fs::remove_file(&rt, other)?;
+    Ok(())
+}
+
+#[test]
 fn files_and_standard_output(rt: HostRuntime) -> Result<(), Fail> {
     let name = "nm_io-files_and_standard_output";
     let _ = fs::remove_file(&rt, name);

@@ -1,4 +1,4 @@
-use Rattle.std.proofs.Common.{◌≡◌, Some, ap, arith, length, take_all, rules}
+use Rattle.std.proofs.Common.{◌≡◌, Some, ap, take, rules}
 use Rattle.nm_io.specs.Files.{appended}
 use Rattle.nm_io.specs.ShelfState.{files_in}
 use Rattle.nm_io.proofs.Stores.{seen_appended, seen_same}
@@ -11,5 +11,5 @@ returns-then-is_err-clause-err c =
 
 pub returns-clause-grown : goal.returns-clause-grown
 returns-clause-grown c =
-    let grown : files_in c.extend.new.self.files ≡ appended (files_in c.self.inside.stored.files) c.args.name.now c.args.bytes.now = search rules in
-    rw (← c.self.view_is, take_all (length c.args.bytes.now) c.args.bytes.now (omega arith)) (ap (λ all. Some all) (seen_appended c.self.inside.stored.files c.extend.new.self.files c.args.name.now c.args.bytes.now grown))
+    let grown : files_in c.extend.new.self.files ≡ appended (files_in c.self.inside.stored.files) c.args.name.now (take c.taken-count.result c.args.bytes.now) = search rules in
+    rw (← c.self.view_is) (ap (λ all. Some all) (seen_appended c.self.inside.stored.files c.extend.new.self.files c.args.name.now (take c.taken-count.result c.args.bytes.now) grown))
