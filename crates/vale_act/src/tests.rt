@@ -13,6 +13,8 @@ use vale_captures::{Inputs, write_outputs};
 use vale_fabric::Fabric;
 use vale_script::{Script, parse};
 
+mod blocks;
+
 /// Two users send side by side, and a third one's frames are saved.
 const BLOCK: &[u8] =
     b"pool 64\nuser a\nuser b\nuser c\nopen a vale0:a 4 4\nopen b vale0:b 4 4\nopen c vale0:c 4 8\nsave c vale0:c got.pcap\npar\nput a vale0:a 3 ff:ff:ff:ff:ff:ff 02:00:00:00:00:0a 14 00\ntx a vale0:a\nput b vale0:b 2 ff:ff:ff:ff:ff:ff 02:00:00:00:00:0b 14 00\ntx b vale0:b\nend\nrx c vale0:c\n";
