@@ -6,9 +6,9 @@ use Rattle.nm_region.proofs.Named.{AreAllOf-named}
 use Rattle.nm_pool.specs.Free.{AreWhole}
 use Rattle.vale_entry.specs.World.{Port, buffers_of, free_count}
 use Rattle.vale_entry.specs.Holdings.{PortBuffers}
-use Rattle.vale_entry.specs.Laws.{HasRoom}
 use Rattle.vale_entry.proofs.HistoryLaws.{history-stands}
 use Rattle.vale_entry.proofs.Removals.{sum-remove}
+use Rattle.vale_entry.proofs.Roomy.{HasRoom}
 use Rattle.vale_parts.proofs.FreeKept.{free_counted}
 use Rattle.vale_port.specs.Lists.{ArePortsOf}
 use Rattle.vale_port.specs.Ports.{PortState}

@@ -5,22 +5,21 @@ use Rattle.std.proofs.lemmas.Bool.{and_parts, leb-true}
 use Rattle.nm_types.specs.Limits.{most_ring}
 use Rattle.nm_types.specs.declared.fault.OpenFault.{OpenFault}
 use Rattle.nm_types.specs.declared.fault.OpenFault.TheVariants.{BadSize}
-use Rattle.nm_types.proofs.Sizes.{size_of_frames-length}
 use Rattle.vale_entry.specs.declared.entry.Entry.{Entry}
 use Rattle.vale_entry.specs.World.{World, Port, free_count}
 use Rattle.nm_types.specs.Openings.{open_refusal as names_refusal}
 use Rattle.vale_entry.specs.Opening.{is_ring_size, are_sizes, names_of, refusal_or_room, open_refusal}
 use Rattle.vale_entry.specs.Delivery.{delivered_frames, port_after_done, port_after_sync}
 use Rattle.vale_entry.specs.Closing.{shut}
-use Rattle.vale_entry.specs.Laws.{HasRoom}
 use Rattle.vale_entry.specs.Legal.{Standing, standing_of, world_of, IsLegal}
 use Rattle.vale_entry.proofs.Each.{each-append, each-changed_at, each-map}
 use Rattle.vale_entry.proofs.Follows.{EachKind, after-by}
 use Rattle.vale_entry.proofs.HistoryLaws.{history-stands}
 use Rattle.vale_entry.proofs.ListLaws.{each-at}
 use Rattle.vale_entry.proofs.Removals.{each-filter}
-use Rattle.vale_entry.proofs.Roomy.{delivered-size}
+use Rattle.vale_entry.proofs.Roomy.{HasRoom, delivered-size}
 use Rattle.vale_entry.proofs.Steps.{legal-by}
+use Rattle.vale_entry.proofs.Slots.{frames-few}
 
 abbrev HasRing : Port → Type 0
 HasRing port = port.rx ≤ most_ring
@@ -72,5 +71,5 @@ delivered-few pool h place port legal here =
     let ring : port.rx ≤ most_ring = each-at HasRing ports place port (rings-small pool h legal) here in
     let fits = room.fits in
     let size = delivered-size port in
-    let count = size_of_frames-length (delivered_frames port) in
-    omega (arith, ring, fits, size, count)
+    let few = frames-few (delivered_frames port) in
+    omega (arith, ring, fits, size, few)

@@ -6,7 +6,6 @@ use Rattle.std.proofs.lemmas.Bool.{and_parts, leb-true, ltb-true, eqb-true, not-
 use Rattle.std.proofs.lemmas.List.{length-map}
 use Rattle.std.proofs.lemmas.List.Sums.{count_by-le-length, sum_by-cons}
 use Rattle.nm_types.specs.Frames.{Frame, slots_of}
-use Rattle.nm_types.proofs.Sizes.{size_of_frames-length}
 use Rattle.nm_types.specs.Names.{is_monitor_name}
 use Rattle.nm_types.specs.SyncFaults.{is_check_fault}
 use Rattle.nm_types.specs.declared.fault.OpenFault.{OpenFault}
@@ -37,6 +36,7 @@ use Rattle.vale_entry.specs.Counters.{counts_of}
 use Rattle.vale_entry.specs.Fits.{FitsU64, FitsItem, FitsEntry, u64_widths, DestFits, RefusalFits, FaultFits, ReplyFits, CountsFits}
 use Rattle.vale_entry.specs.Legal.{Standing, standing_of, named_of, has_ring, fits_u32, fits_fault, unchanged, IsLegal, Follows}
 use Rattle.vale_entry.specs.Laws.{IsThere, IsGrantedBy, IsLotOf, is_monitor_open, IsWatch, LegalHistoriesFit}
+use Rattle.vale_entry.proofs.Slots.{frames-few}
 use Rattle.vale_entry.proofs.Each.{each-append, each-map, each-weaker, each-find, each-offered}
 use Rattle.vale_entry.proofs.ListLaws.{place-of, each-at, sum-flat_map}
 use Rattle.vale_entry.proofs.Counting.{contains-count}
@@ -195,7 +195,7 @@ each-flat P f (x ∷ xs) all = each-append P (f x) (flat_map f xs) all.0 (each-f
 
 unread-few : (port : Port) → unread_count port ≤ size_of_line port.line
 unread-few port =
-    let each = size_of_frames-length (flat_map frames_of_lot port.line) in
+    let each = frames-few (flat_map frames_of_lot port.line) in
     let sum = sum-flat_map slots_of frames_of_lot port.line in
     omega (arith, each, sum)
 

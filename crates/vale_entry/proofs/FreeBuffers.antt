@@ -12,7 +12,7 @@ use Rattle.vale_entry.specs.Delivery.{port_after_done, port_after_sync}
 use Rattle.vale_entry.specs.Closing.{shut, shutting_port}
 use Rattle.vale_entry.specs.Holdings.{buffers_of_port, buffers_at_port, is_buffer_index, holds_all}
 use Rattle.vale_entry.specs.Legal.{Standing, Outcome, after, open_step_by, grant_step, sync_step, shut_step, can_finish, finish_step, done_step, put_step}
-use Rattle.vale_entry.specs.Laws.{Rise, AreFree, HasRoom, id_of_held}
+use Rattle.vale_entry.specs.Laws.{Rise, id_of_held}
 use Rattle.vale_entry.specs.Pipe.{frames_of_items, port_after_put}
 use Rattle.vale_entry.specs.declared.entry.Item.{Item}
 use Rattle.vale_entry.proofs.Follows.{EachKind, after-by}
@@ -24,8 +24,8 @@ use Rattle.vale_entry.proofs.Freeing.{count-all_with_free, length-all_with_free,
 use Rattle.vale_entry.proofs.Agreeing.{agree-ids, agree-at}
 use Rattle.vale_entry.proofs.Places.{buffers_of_port-place, shutting-place}
 use Rattle.vale_entry.proofs.Numbered.{Numbered}
-use Rattle.vale_entry.proofs.Roomy.{Roomy, opened-room}
-use Rattle.vale_entry.proofs.Holding.{times_held, Held, HasFree, once-by}
+use Rattle.vale_entry.proofs.Roomy.{HasRoom, Roomy, opened-room}
+use Rattle.vale_entry.proofs.Holding.{AreFree, times_held, Held, HasFree, once-by}
 use Rattle.vale_entry.proofs.Held.{held-length, held_finished}
 
 abbrev HasFreeNext : Outcome → Type 0

@@ -1,15 +1,12 @@
--- What is granted is a prefix of what an entry wants there; a short or lone frame is named for no
--- port.
+-- What is granted is a prefix of what an entry wants there.
 use Rattle.std.proofs.Common.{ℕ, ◌≡◌, ◌≤◌, inl, inr, length, arith, Bool, true, false, cond, not, ◌&&◌, ◌||◌, ◌==◌, List, [], ◌∷◌, ◌++◌, filter, take, drop, refl, sym, subst, take-append-drop}
 use Rattle.std.specs.List.{AllByRecursion as Each, list_any}
 use Rattle.std.proofs.lemmas.Bool.{eqb-true, eq-eqb, not-true}
 use Rattle.nm_types.specs.Frames.{Frame}
 use Rattle.vale_entry.specs.World.{Port, Pair}
-use Rattle.vale_entry.specs.Learning.{is_short, learned}
-use Rattle.vale_entry.specs.Lookup.{Destination, These, Others, destination_of, is_named, is_other_port, names_some_port}
 use Rattle.vale_entry.specs.Delivered.{Brought, frames_brought, grants_to, puts_to, brought_to}
 use Rattle.vale_entry.specs.Fate.{wanted_at, Share, shares_at, is_brought_of, granted_at, puts_at}
-use Rattle.vale_entry.specs.DeliveryLaws.{IsPrefixOfWanted, IsTaken, IsBroughtFor, GivenOnlyByWanted, ShortAndLoneAreForNobody}
+use Rattle.vale_entry.specs.DeliveryLaws.{IsPrefixOfWanted, IsTaken, IsBroughtFor, GivenOnlyByWanted}
 use Rattle.vale_entry.proofs.Each.{each-none, each-both, each-weaker, each-append, each-all, each-unmap, each-image}
 use Rattle.vale_entry.proofs.Puts.{history-puts}
 use Rattle.vale_entry.proofs.Removals.{each-kept}
@@ -106,35 +103,3 @@ given-only pool h legal port =
         (puts_at pool h k port) (put k))
         (each-weaker (IsPrefixOfWanted pool h port) (IsBroughtFor pool h port)
         (λ brought here. inl here) (granted_at pool h k port) (granted k)))
-
--- Short and lone frames.
-
-for_nobody :
-    (ports : List Port) (sender : Port) (destination : Destination)
-    → not (names_some_port ports sender destination) ≡ true
-    → Each (λ (port : Port). is_named sender destination port ≡ false) ports
-for_nobody ports sender (These []) e = each-all (λ (port : Port). false ≡ false) (λ port. refl) ports
-for_nobody ports sender (These (id ∷ ids)) e = absurd cc
-for_nobody ports sender Others e =
-    each-none (is_other_port sender) ports (not-true (list_any (is_other_port sender) ports) e)
-
-short_or_lone_at :
-    (ports : List Port) (sender : Port) (pairs : List Pair) (frame : Frame) (short : Bool)
-    → is_short frame ≡ short
-    →
-    (short
-    || (not short && not (names_some_port ports sender (destination_of ports sender pairs frame))))
-    ≡ true
-    → Each (λ (port : Port). is_named sender (destination_of ports sender pairs frame) port ≡ false)
-    ports
-short_or_lone_at ports sender pairs frame true t e =
-    rw t (each-all (λ (port : Port). false ≡ false) (λ port. refl) ports)
-short_or_lone_at ports sender pairs frame false t e =
-    for_nobody ports sender (destination_of ports sender pairs frame) e
-
-pub short-lone : ShortAndLoneAreForNobody
-short-lone ports sender pairs [] = tt
-short-lone ports sender pairs (frame ∷ frames) = (
-  λ e. short_or_lone_at ports sender (learned sender pairs frame) frame (is_short frame) refl e,
-  short-lone ports sender (learned sender pairs frame) frames,
-)

@@ -12,7 +12,7 @@ use Rattle.vale_entry.specs.World.{World, Port, changed_at, changed_if, due_of, 
 use Rattle.vale_entry.specs.Closing.{shut, shutting_port, ports_without, sessions_without}
 use Rattle.vale_entry.specs.Holdings.{Holdings, PortBuffers, SessionBuffers, PortAgrees, Agrees, IsParted, all_free, buffers_at_port, contains, are_distinct, holds_all, due_of_session, sessions_less, buffers_without, holdings_after_finish, buffers_of_port}
 use Rattle.vale_entry.specs.Legal.{Standing, after, shut_step, can_finish, finish_step, leave_step}
-use Rattle.vale_entry.specs.Laws.{Rise, id_of_held, id_of_session, HasRoom}
+use Rattle.vale_entry.specs.Laws.{Rise, id_of_held, id_of_session}
 use Rattle.vale_entry.proofs.Follows.{EachKind, after-by}
 use Rattle.vale_entry.proofs.ListLaws.{each-at, sum-set}
 use Rattle.vale_entry.proofs.Each.{each-weaker, sum-changed_at}
@@ -24,7 +24,7 @@ use Rattle.vale_entry.proofs.Agreeing.{agree-ids, agree-at, agree-map, due_for, 
 use Rattle.vale_entry.proofs.InStep.{zip-remove}
 use Rattle.vale_entry.proofs.Places.{buffers_of_port-place, shutting-place}
 use Rattle.vale_entry.proofs.Numbered.{Numbered}
-use Rattle.vale_entry.proofs.Roomy.{Roomy}
+use Rattle.vale_entry.proofs.Roomy.{HasRoom, Roomy}
 use Rattle.vale_entry.proofs.Holding.{whole, size_of_lot, at_port, at_session, times-held, IsPaid, AreHeld, Held, HeldNext, HasFree}
 use Rattle.vale_entry.proofs.HeldGrants.{dues-same, held_done, held_enter, held_grant, held_opened}
 pub use Rattle.vale_entry.proofs.HeldExchanges.{delivered-length, held-once}

@@ -10,7 +10,7 @@ use Rattle.vale_entry.specs.World.{Port, open_port, changed_at, space_of, due_of
 use Rattle.vale_entry.specs.Delivery.{is_done_lot, ready_lots, delivered_frames, frames_of_lot, port_after_sync}
 use Rattle.vale_entry.specs.Holdings.{holds_all, Holdings, PortBuffers, SessionBuffers, PortAgrees, is_buffer_index, contains, are_distinct, due_of_session, sessions_given, sessions_less, buffers_without, buffers_of_session, delivered_buffers, changed_buffers, with_returned, holdings_after_sync, with_put_buffers, first_idle, holdings_after_put}
 use Rattle.vale_entry.specs.Legal.{Standing, sync_step, put_step}
-use Rattle.vale_entry.specs.Laws.{Rise, id_of_port, id_of_held, id_of_session, IsThere, HasRoom, IsPortOf}
+use Rattle.vale_entry.specs.Laws.{Rise, id_of_port, id_of_held, id_of_session, IsThere, IsPortOf}
 use Rattle.vale_entry.specs.Pipe.{peer_of, index_of_item, indices_of, frames_of_items, port_after_put}
 use Rattle.vale_entry.specs.declared.entry.Item.{Item}
 use Rattle.vale_entry.proofs.Follows.{CanReceive, CanKeep}
@@ -20,7 +20,7 @@ use Rattle.vale_entry.proofs.Agreeing.{agree-ids, agree-at, due_for, due-set, Se
 use Rattle.vale_entry.proofs.InStep.{zip-set}
 use Rattle.vale_entry.proofs.Places.{open-place, changed_at-place, changed_buffers-place, buffers_of_session-place, delivered_buffers-place, PeerPlace, peer-place, first_idle-place}
 use Rattle.vale_entry.proofs.Numbered.{Numbered}
-use Rattle.vale_entry.proofs.Roomy.{Roomy, with_lot-size, delivered-size, items-size, taken-few}
+use Rattle.vale_entry.proofs.Roomy.{HasRoom, Roomy, with_lot-size, delivered-size, items-size, taken-few}
 use Rattle.vale_entry.proofs.Holding.{whole, size_of_lot, at_port, at_session, times_held, IsPaid, AreHeld, Held, HeldNext, once-by}
 use Rattle.vale_entry.proofs.HeldGrants.{lots-pushed}
 

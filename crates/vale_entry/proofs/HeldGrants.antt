@@ -12,7 +12,7 @@ use Rattle.vale_entry.specs.Grant.{longest_fitting, given_at, port_after_grant}
 use Rattle.vale_entry.specs.Delivery.{lot_after_done, done_if, port_after_done}
 use Rattle.vale_entry.specs.Holdings.{Holdings, PortBuffers, SessionBuffers, PortAgrees, due_of_session, sessions_given, session_given, changed_buffers, with_lot_buffers, holdings_after_grant}
 use Rattle.vale_entry.specs.Legal.{Standing, enter_step, open_step_by, grant_step, done_step}
-use Rattle.vale_entry.specs.Laws.{Rise, id_of_port, id_of_held, id_of_session, IsThere, HasRoom, IsPortOf}
+use Rattle.vale_entry.specs.Laws.{Rise, id_of_port, id_of_held, id_of_session, IsThere, IsPortOf}
 use Rattle.vale_entry.proofs.ListLaws.{each-at, sum-set, sum-map_same}
 use Rattle.vale_entry.proofs.Each.{each-append, each-map, each-weaker, changed_at-same}
 use Rattle.vale_entry.proofs.Counting.{count_of, count_of-append}
@@ -20,7 +20,7 @@ use Rattle.vale_entry.proofs.Agreeing.{agree-ids, agree-at, agree-map, due_for, 
 use Rattle.vale_entry.proofs.InStep.{zip-set, zip-push}
 use Rattle.vale_entry.proofs.Places.{open-place, changed_buffers-place}
 use Rattle.vale_entry.proofs.Numbered.{Numbered}
-use Rattle.vale_entry.proofs.Roomy.{Roomy, opened-room, longest_fitting-size, with_lot-size, size-after_done}
+use Rattle.vale_entry.proofs.Roomy.{HasRoom, Roomy, opened-room, longest_fitting-size, with_lot-size, size-after_done}
 use Rattle.vale_entry.proofs.Holding.{whole, size_of_lot, at_port, at_session, IsPaid, AreHeld, Held, HeldNext, HasFree}
 
 -- Enter

@@ -6,14 +6,14 @@ use Rattle.vale_entry.specs.declared.entry.Entry.{Entry}
 use Rattle.vale_entry.specs.World.{Port, size_of_line, space_of, due_of, buffers_of}
 use Rattle.vale_entry.specs.Holdings.{IsParted}
 use Rattle.vale_entry.specs.Legal.{Standing, after, standing_of, world_of, holdings_of, fresh_standing, IsLegal, Follows}
-use Rattle.vale_entry.specs.Laws.{Rise, IsFilled, HasRoom, AreNumbered, IsPromised, NumbersRise, PortsAreWithinSizes, FreeBuffersRise, BuffersAreParted, HoldingsAgree, SessionsHaveOneUnsettled, WatchesAreOpen, LotsAreSingle, RoomIsPromised, RoomIsUsed}
+use Rattle.vale_entry.specs.Laws.{Rise, IsFilled, AreNumbered, IsPromised, NumbersRise, PortsAreWithinSizes, FreeBuffersRise, BuffersAreParted, HoldingsAgree, SessionsHaveOneUnsettled, WatchesAreOpen, LotsAreSingle, RoomIsPromised, RoomIsUsed}
 use Rattle.vale_entry.proofs.Worlds.{standing-push, count-world_of}
 use Rattle.vale_entry.proofs.Steps.{legal-by}
 use Rattle.vale_entry.proofs.Follows.{EachKind, after-by}
 use Rattle.vale_entry.proofs.Rising.{rise-cut}
 use Rattle.vale_entry.proofs.Each.{each-weaker}
 use Rattle.vale_entry.proofs.Numbered.{Numbered, numbered_entry, world-numbered}
-use Rattle.vale_entry.proofs.Roomy.{Roomy, roomy_entry}
+use Rattle.vale_entry.proofs.Roomy.{HasRoom, Roomy, roomy_entry}
 use Rattle.vale_entry.proofs.FreeBuffers.{free_entry, free_fresh}
 use Rattle.vale_entry.proofs.Holding.{Held, HasFree}
 use Rattle.vale_entry.proofs.Held.{held_entry, held_fresh, held-parted, held-agrees}

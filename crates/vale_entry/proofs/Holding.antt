@@ -3,10 +3,10 @@
 use Rattle.std.proofs.Common.{ℕ, ◌+◌, ◌≤◌, ◌≡◌, Bool, true, false, cond, ◌==◌, List, ◌++◌, map, length, sum_by, flat_map, arith}
 use Rattle.std.specs.List.{AllByRecursion as Each}
 use Rattle.nm_types.specs.Frames.{size_of_frames}
-use Rattle.vale_entry.specs.World.{Port, Lot}
+use Rattle.vale_entry.specs.World.{Port, Lot, buffers_of}
 use Rattle.vale_entry.specs.Holdings.{Holdings, PortBuffers, SessionBuffers, PortsAgree, all_buffers, buffers_at_port, buffers_held, is_buffer_index, due_of_session}
 use Rattle.vale_entry.specs.Legal.{Standing, Outcome}
-use Rattle.vale_entry.specs.Laws.{AreFree, id_of_session}
+use Rattle.vale_entry.specs.Laws.{Rise, id_of_session}
 use Rattle.vale_entry.proofs.ListLaws.{sum-flat_map}
 use Rattle.vale_entry.proofs.Counting.{count_of, count_of-append}
 
@@ -51,6 +51,12 @@ Held s = AreHeld s.world.pool s.world.sessions s.world.ports s.holdings
 
 abbrev pub HeldNext : Outcome → Type 0
 HeldNext made = Held made.next
+
+-- the free buffers rise, so that the first are the smallest, and are what the ports leave of the
+-- pool
+pub record AreFree (pool : ℕ) (ports : List Port) (free : List ℕ) : Type 0 where
+  pub rise : Rise 1 free (pool + 1)
+  pub count : length free + sum_by buffers_of ports ≡ pool
 
 abbrev pub HasFree : Standing → Type 0
 HasFree s = AreFree s.world.pool s.world.ports s.holdings.free

@@ -1,5 +1,6 @@
 pub mod Worlds
 pub mod Steps
+pub mod Slots
 pub mod ListLaws
 pub mod Each
 pub mod Spans
@@ -26,6 +27,8 @@ pub mod OutCounted
 pub mod Offered
 pub mod SharedOnce
 pub mod GivenOnly
+pub mod Lone
+pub mod Wanting
 pub mod Causes
 pub mod Counts
 pub mod Fates
@@ -45,6 +48,7 @@ pub mod OneEntry
 pub mod SingleLots
 pub mod Promised
 pub mod HistoryLaws
+pub mod LeasesEnded
 pub mod NamesApart
 pub mod OffersClimb
 pub mod Waiting

@@ -4,11 +4,12 @@ use Rattle.std.specs.List.{AllByRecursion as Each, cons_option}
 use Rattle.std.proofs.lemmas.Bool.{and_parts, eqb-true, eqb-false, eq-eqb, ne_eqb}
 use Rattle.nm_types.specs.Frames.{Frame}
 use Rattle.vale_entry.specs.World.{Port, Offer}
-use Rattle.vale_entry.specs.Offers.{offer_to, offers_of, is_offer_of}
+use Rattle.vale_entry.specs.Offers.{offer_to, offers_of, is_offer_of, dests_of, port_of_dest}
 use Rattle.vale_entry.specs.Grant.{without_first}
 use Rattle.vale_entry.specs.Laws.{Rise, id_of_port}
 use Rattle.vale_entry.specs.Delivered.{port_at, frames_at}
 use Rattle.vale_entry.specs.Fate.{is_offer_to}
+use Rattle.vale_entry.proofs.Rising.{rise-wider}
 
 pub cond-same : {X : Type 0} (b : Bool) (x : X) → cond b x x ≡ x
 cond-same true x = refl
@@ -202,3 +203,21 @@ offers-granted number to origin [] offer e = absurd cc
 offers-granted number to origin (x ∷ xs) offer e =
     found_first number to origin x offer xs (x.origin == origin) refl
     (first-origin origin (x ∷ xs) offer e) (offers-granted number to origin xs offer) e
+
+rise-offered :
+    (low origin session at : ℕ) (frames : List Frame) (rest : List Offer) (high : ℕ) → low < at
+    → Rise at (map port_of_dest (dests_of rest)) high
+    → Rise low (map port_of_dest (dests_of (cons_option (offer_to origin session at frames) rest))) high
+rise-offered low origin session at [] rest high above r =
+    rise-wider low at (map port_of_dest (dests_of rest)) high high (omega arith) (omega arith) r
+rise-offered low origin session at (frame ∷ frames) rest high above r = (above, r)
+
+-- the offers of an entry rise, since ports do
+pub rise-offers :
+    (low origin session : ℕ) (wanted : Port → List Frame) (ports : List Port) (high : ℕ)
+    → Rise low (map id_of_port ports) high
+    → Rise low (map port_of_dest (dests_of (offers_of origin session wanted ports))) high
+rise-offers low origin session wanted [] high r = r
+rise-offers low origin session wanted (port ∷ ports) high r =
+    rise-offered low origin session port.id (wanted port) (offers_of origin session wanted ports)
+    high r.0 (rise-offers port.id origin session wanted ports high r.1)

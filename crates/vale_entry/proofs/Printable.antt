@@ -15,7 +15,7 @@ use Rattle.vale_entry.specs.declared.entry.Reply.TheVariants.{Gave}
 use Rattle.vale_entry.specs.declared.entry.Dest.{Dest}
 use Rattle.vale_entry.specs.declared.entry.Entry.{Entry}
 use Rattle.vale_entry.specs.World.{World, Port, Offer, open_port, free_count, transmit_monitor, receive_monitor}
-use Rattle.vale_entry.specs.Offers.{offers_of, offer_to, dests_of, wanted_frames, monitored_frames}
+use Rattle.vale_entry.specs.Offers.{offers_of, dests_of, port_of_dest, wanted_frames, monitored_frames}
 use Rattle.nm_types.specs.Openings.{finds_switches_full, finds_ports_full, finds_name_taken, open_refusal as names_refusal}
 use Rattle.vale_entry.specs.Opening.{are_sizes, names_of, refusal_or_room, open_refusal}
 use Rattle.vale_entry.specs.Grant.{grant_reply_at}
@@ -28,7 +28,7 @@ use Rattle.vale_entry.specs.Monitors.{can_watch}
 use Rattle.vale_entry.specs.Pipe.{frames_of_items, is_pipe_item}
 use Rattle.vale_entry.specs.declared.entry.Item.{Item}
 use Rattle.nm_types.specs.Sendable.{fits_buffer}
-use Rattle.vale_entry.proofs.Rising.{rise-wider}
+use Rattle.vale_entry.proofs.Offered.{rise-offers}
 use Rattle.vale_entry.proofs.Follows.{EachKind, Receives, by_sync, by_get, IsQuiet, refused_open, resets, finds_no_peer, finds_no_target, finds_watched, counts, follows-by}
 use Rattle.vale_entry.proofs.Worlds.{count-standing_after}
 use Rattle.vale_entry.proofs.Numbered.{Numbered, numbered_entry, world-numbered}
@@ -42,33 +42,13 @@ both false b left right = no-truth left
 
 -- Destinations rise, since ports do.
 
-abbrev to_of : Dest → ℕ
-to_of dest = dest.to.0
-
 rise-dests :
-    (low : ℕ) (to : List Dest) (high : ℕ) → Rise low (map to_of to) high → dests_rise to ≡ true
+    (low : ℕ) (to : List Dest) (high : ℕ) → Rise low (map port_of_dest to) high → dests_rise to ≡ true
 rise-dests low [] high r = refl
 rise-dests low (d ∷ []) high r = refl
 rise-dests low (d ∷ next ∷ to) high r =
     both (nat_lt d.to.0 next.to.0) (dests_rise (next ∷ to)) (lt-ltb d.to.0 next.to.0 r.1.0)
     (rise-dests d.to.0 (next ∷ to) high r.1)
-
-rise-offered :
-    (low origin session at : ℕ) (frames : List Frame) (rest : List Offer) (high : ℕ) → low < at
-    → Rise at (map to_of (dests_of rest)) high
-    → Rise low (map to_of (dests_of (cons_option (offer_to origin session at frames) rest))) high
-rise-offered low origin session at [] rest high above r =
-    rise-wider low at (map to_of (dests_of rest)) high high (omega arith) (omega arith) r
-rise-offered low origin session at (frame ∷ frames) rest high above r = (above, r)
-
-rise-offers :
-    (low origin session : ℕ) (wanted : Port → List Frame) (ports : List Port) (high : ℕ)
-    → Rise low (map id_of_port ports) high
-    → Rise low (map to_of (dests_of (offers_of origin session wanted ports))) high
-rise-offers low origin session wanted [] high r = r
-rise-offers low origin session wanted (port ∷ ports) high r =
-    rise-offered low origin session port.id (wanted port) (offers_of origin session wanted ports)
-    high r.0 (rise-offers port.id origin session wanted ports high r.1)
 
 -- A refusal is one that is printed.
 

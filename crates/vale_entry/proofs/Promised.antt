@@ -172,7 +172,7 @@ lease-bears true false = omega arith
 lease-bears false undone = omega arith
 
 -- exactly one lot is the lease
-one-lease :
+pub one-lease :
     (ports : List Port) (number : ℕ) (lot : Lot) → lease_at ports number ≡ Some lot
     → AreSingle ports → sum_by (leases_of number) ports ≡ 1
 one-lease ports number lot e single =
@@ -218,7 +218,7 @@ ready_by lot rest true d none =
     omega arith
 ready_by lot rest false d none = refl
 
-ready-undone : (line : List Lot) → count_by is_undone (take_while is_done_lot line) ≡ 0
+pub ready-undone : (line : List Lot) → count_by is_undone (take_while is_done_lot line) ≡ 0
 ready-undone [] = refl
 ready-undone (lot ∷ lots) =
     ap (count_by is_undone) (take_while-cons is_done_lot lot lots) ∙ ready_by lot

@@ -15,7 +15,7 @@ use Rattle.vale_entry.specs.Grant.{longest_fitting, given_at, with_lot, port_aft
 use Rattle.vale_entry.specs.Delivery.{is_done_lot, ready_lots, frames_of_lot, delivered_frames, done_if, lot_after_done, port_after_done, port_after_sync}
 use Rattle.vale_entry.specs.Closing.{shut}
 use Rattle.vale_entry.specs.Legal.{Standing, Outcome, after, open_step_by, grant_step, sync_step, shut_step, finish_step, done_step, put_step}
-use Rattle.vale_entry.specs.Laws.{Rise, id_of_port, IsFilled, HasRoom, AreRoomy, IsRoomy}
+use Rattle.vale_entry.specs.Laws.{Rise, id_of_port, IsFilled}
 use Rattle.vale_entry.specs.Pipe.{peer_of, taken_count, frames_of_items, port_after_put}
 use Rattle.vale_entry.specs.declared.entry.Item.{Item}
 use Rattle.vale_entry.proofs.Follows.{EachKind, after-by, CanKeep}
@@ -24,6 +24,16 @@ use Rattle.vale_entry.proofs.Each.{each-changed_at, changed_at-same, sum-changed
 use Rattle.vale_entry.proofs.Removals.{each-filter, sum-filter_less}
 use Rattle.vale_entry.proofs.Places.{open-place, peer-place}
 use Rattle.vale_entry.proofs.Numbered.{Numbered}
+
+-- no lot is empty, and beside what is out and what is queued one slot is left
+pub record HasRoom (port : Port) : Type 0 where
+  pub lots_filled : Each IsFilled port.line
+  pub fits : port.out + size_of_line port.line + 1 ≤ port.rx
+
+-- each port has room, and all ports together have no more buffers than the pool
+pub record AreRoomy (pool : ℕ) (ports : List Port) : Type 0 where
+  pub roomy : Each HasRoom ports
+  pub within : sum_by buffers_of ports ≤ pool
 
 -- a port that is not refused
 sizes_by : (b : Bool) (rest : Option OpenFault) → cond (not b) (Some BadSize) rest ≡ None → b ≡ true
@@ -69,10 +79,10 @@ delivered-size port =
 
 -- what the step leaves
 abbrev pub Roomy : Standing → Type 0
-Roomy s = IsRoomy s.world
+Roomy s = AreRoomy s.world.pool s.world.ports
 
 abbrev RoomyNext : Outcome → Type 0
-RoomyNext made = IsRoomy made.next.world
+RoomyNext made = Roomy made.next
 
 roomy_open :
     (s : Standing) (session : ℕ) (name : List ℕ) (tx rx extra : ℕ)

@@ -11,7 +11,6 @@ use Rattle.nm_types.specs.Names.{is_switch_port_name}
 use Rattle.nm_types.specs.Counters.{zero_counts, sum_of_counts}
 use Rattle.nm_types.specs.declared.id.Counts.{Counts}
 use Rattle.nm_types.specs.declared.id.PortId.{PortId}
-use Rattle.nm_types.proofs.Sizes.{size_of_frames-length}
 use Rattle.vale_entry.specs.declared.entry.Ask.{Ask}
 use Rattle.vale_entry.specs.declared.entry.Ask.TheVariants.{Enter, Open, Send, Grant, Done, Shut, Finish, Leave, PutKept, Watch}
 use Rattle.vale_entry.specs.declared.entry.Dest.{Dest}
@@ -28,14 +27,15 @@ use Rattle.vale_entry.specs.Delivery.{delivered_frames}
 use Rattle.vale_entry.specs.Pipe.{peer_of, taken_count, frame_of_item, frames_of_items, puts_to_port}
 use Rattle.vale_entry.specs.Counters.{counts_if, count_sent, count_shared, count_gave_at, counted_in, with_counted}
 use Rattle.vale_entry.specs.Legal.{Standing, Outcome, standing_of, world_of, named_of, can_send, offers_of_send, offers_of_sync, unchanged, enter_step, open_step_by, send_step, grant_step, done_step, sync_step, put_step, watch_step, shut_step, finish_step, leave_step, IsLegal, Follows}
-use Rattle.vale_entry.specs.Laws.{id_of_port, IsThere, IsPortOf, HasRoom}
+use Rattle.vale_entry.specs.Laws.{id_of_port, IsThere, IsPortOf}
+use Rattle.vale_entry.proofs.Slots.{frames-few}
 use Rattle.vale_entry.proofs.Each.{each-append, each-map, each-all, each-find, each-offered, each-without_first}
 use Rattle.vale_entry.proofs.ListLaws.{place-of, each-at, sum-at}
 use Rattle.vale_entry.proofs.Rising.{rise-within}
 use Rattle.vale_entry.proofs.Removals.{each-filter}
 use Rattle.vale_entry.proofs.Senders.{there-below}
 use Rattle.vale_entry.proofs.Shares.{fitting-few}
-use Rattle.vale_entry.proofs.Roomy.{Roomy, delivered-size}
+use Rattle.vale_entry.proofs.Roomy.{HasRoom, Roomy, delivered-size}
 use Rattle.vale_entry.proofs.Numbered.{Numbered}
 use Rattle.vale_entry.proofs.Worlds.{standing-push}
 use Rattle.vale_entry.proofs.Told.{history-by}
@@ -121,7 +121,7 @@ monitored-few monitor frames port = by_test (is_monitor monitor port)
 pub delivered-few : (port : Port) → length (delivered_frames port) ≤ size_of_line port.line
 delivered-few port =
     let sizes = delivered-size port in
-    let each = size_of_frames-length (delivered_frames port) in
+    let each = frames-few (delivered_frames port) in
     omega (arith, sizes, each)
 
 pub sent-few :

@@ -1,6 +1,6 @@
 -- What one more entry does to a history: to what stands after it, to its length and to its
 -- legality.
-use Rattle.std.proofs.Common.{ℕ, List, [], ◌∷◌, ◌++◌, ◌≡◌, ◌+◌, length, refl, sym, ◌∙◌, arith, Option, Some, None, add-zero, zero-add}
+use Rattle.std.proofs.Common.{ℕ, zero, suc, take, slice_get, subst, List, [], ◌∷◌, ◌++◌, ◌≡◌, ◌+◌, length, refl, sym, ◌∙◌, ap, arith, Option, Some, None, add-zero, zero-add}
 use Rattle.std.specs.List.{fold}
 use Rattle.std.proofs.lemmas.List.Sums.{fold-append}
 use Rattle.vale_entry.specs.declared.entry.Entry.{Entry}
@@ -41,3 +41,28 @@ pub legal-push :
     (pool : ℕ) (h : List Entry) (e : Entry) → IsLegal pool h → Follows (standing_of pool h) e
     → IsLegal pool (h ++ e ∷ [])
 legal-push pool h e legal follows = legal_from-push (fresh_standing pool) h e legal follows
+
+-- the front of a legal history is legal, and each entry follows on what stands before it
+pub legal-take :
+    (s : Standing) (history : List Entry) (n : ℕ) → IsLegalFrom s history
+    → IsLegalFrom s (take n history)
+legal-take s [] zero legal = tt
+legal-take s [] (suc n) legal = tt
+legal-take s (e ∷ history) zero legal = tt
+legal-take s (e ∷ history) (suc n) legal = (legal.0, legal-take (after s e) history n legal.1)
+
+pub follows-at :
+    (s : Standing) (history : List Entry) (n : ℕ) (entry : Entry) → IsLegalFrom s history
+    → slice_get history n ≡ Some entry
+    → Follows (fold after s (take n history)) entry
+follows-at s [] n entry legal there = absurd cc
+follows-at s (e ∷ history) zero entry legal there =
+    let same : e ≡ entry = cc in subst (Follows s) same legal.0
+follows-at s (e ∷ history) (suc n) entry legal there =
+    follows-at (after s e) history n entry legal.1 there
+
+pub length-front :
+    (h : List Entry) (n : ℕ) (e : Entry) → slice_get h n ≡ Some e → length (take n h) ≡ n
+length-front [] n e there = absurd cc
+length-front (x ∷ xs) zero e there = refl
+length-front (x ∷ xs) (suc n) e there = ap suc (length-front xs n e there)

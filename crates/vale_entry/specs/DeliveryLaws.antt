@@ -1,12 +1,19 @@
 -- Laws of delivery, as statements: what is given, read, dropped and counted in every legal history.
-use Rattle.std.specs.Prelude.{ℕ, true, false, ◌≡◌, ◌≢◌, ◌||◌, ◌+◌, ◌<◌, ◌≤◌, ◌⊎◌, min, List, [], ◌∷◌, ◌++◌, length, map, take, replicate, sum, flat_map, Option, Some, None}
+use Rattle.std.specs.Prelude.{ℕ, true, false, ◌≡◌, ◌≢◌, ◌+◌, ◌<◌, ◌≤◌, ◌⊎◌, min, List, [], ◌∷◌, ◌++◌, length, map, take, replicate, sum, count_by, flat_map, filter_map, slice_get, Option, Some, None}
 use Rattle.std.specs.List.{AllByRecursion}
 use Rattle.nm_types.specs.Frames.{Frame, size_of_frames}
+use Rattle.nm_types.specs.declared.id.PortId.{PortId}
+use Rattle.vale_entry.specs.declared.entry.Ask.TheVariants.{Send}
+use Rattle.vale_entry.specs.declared.entry.Dest.{Dest}
+use Rattle.vale_entry.specs.declared.entry.Reply.{Reply}
+use Rattle.vale_entry.specs.declared.entry.Reply.TheVariants.{Offered}
 use Rattle.vale_entry.specs.declared.entry.Entry.{Entry}
-use Rattle.vale_entry.specs.World.{Port, Pair, Offer, open_port, space_of}
+use Rattle.vale_entry.specs.World.{World, Port, Pair, Offer, open_port, space_of}
 use Rattle.vale_entry.specs.Learning.{is_short}
 use Rattle.vale_entry.specs.Lookup.{Named, named_frames, is_named, is_lone}
-use Rattle.vale_entry.specs.Legal.{world_of, standing_of, IsLegal, Follows}
+use Rattle.vale_entry.specs.Offers.{port_of_dest, dests_in, dest_wanting}
+use Rattle.vale_entry.specs.Legal.{named_of, world_of, standing_of, IsLegal, Follows}
+use Rattle.vale_entry.specs.Leases.{leases_granted, leases_ended, times, leases_standing}
 use Rattle.vale_entry.specs.Laws.{Rise}
 use Rattle.vale_entry.specs.Delivered.{port_at, frames_of_line, Brought, frames_brought, count_brought, put_by, brought_to, given_frames, given_counts, read_frames, read_counts, returned_counts, unread_counts}
 use Rattle.vale_entry.specs.Counters.{counts_of}
@@ -62,18 +69,55 @@ PutsAreOfReply = (pool : ℕ) (past : List Entry) (entry : Entry) (rest : List E
     → puts_at pool (past ++ entry ∷ rest) (length past + 1) to
     ≡ put_by to (world_of pool past) entry.ask entry.reply
 
--- A short frame, and a lone one, is named for no port of the switch.
+-- A short frame is named for no port of the switch. A frame is lone exactly where it is long enough
+-- and named for no port of the switch.
 abbrev pub IsForNobody : List Port → Port → Named → Type 0
 IsForNobody ports sender named =
     AllByRecursion (λ port. is_named sender named.destination port ≡ false) ports
 
+pub record IsNamedFor (ports : List Port) (sender : Port) (named : Named) : Type 0 where
+  pub short_for_nobody : is_short named.frame ≡ true → IsForNobody ports sender named
+  pub lone_for_nobody : is_lone ports sender named ≡ true → IsForNobody ports sender named
+  pub lone_is_long : is_lone ports sender named ≡ true → is_short named.frame ≡ false
+  pub else_lone :
+      is_short named.frame ≡ false → IsForNobody ports sender named
+      → is_lone ports sender named ≡ true
+
 abbrev pub ShortAndLoneAreForNobody : Type 0
 ShortAndLoneAreForNobody =
     (ports : List Port) (sender : Port) (pairs : List Pair) (frames : List Frame)
-    → AllByRecursion
-    (λ named.
-    (is_short named.frame || is_lone ports sender named) ≡ true → IsForNobody ports sender named)
-    (named_frames ports sender pairs frames)
+    → AllByRecursion (IsNamedFor ports sender) (named_frames ports sender pairs frames)
+
+-- A Send is of an open port, and its reply counts which of its frames are short and which lone.
+pub record IsToldOfSend (w : World) (from : ℕ) (frames : List Frame) (reply : Reply) : Type 0 where
+  pub sender : Port
+  pub sender_is : open_port w.ports from ≡ Some sender
+  pub told :
+      reply
+      ≡ Offered (count_by is_short frames)
+      (count_by (is_lone w.ports sender) (named_of w sender frames)) (dests_in reply)
+  pub named : AllByRecursion (IsNamedFor w.ports sender) (named_of w sender frames)
+
+abbrev pub SendsTellShortAndLone : Type 0
+SendsTellShortAndLone =
+    (pool : ℕ) (history : List Entry) → IsLegal pool history → (count : ℕ) (entry : Entry)
+    → slice_get history count ≡ Some entry
+    → (from : PortId) (frames : List Frame) → entry.ask ≡ Send from frames
+    → IsToldOfSend (world_of pool (take count history)) from.0 frames entry.reply
+
+-- The destinations in an entry's reply are just the ports at which frames of it are wanted, by
+-- rising id, each with how many those are. At no port that is not there anything is wanted.
+pub record AreJustWanting (w : World) (wanted : ℕ → List Frame) (dests : List Dest) : Type 0 where
+  pub just : dests ≡ filter_map (λ (port : Port). dest_wanting port.id (wanted port.id)) w.ports
+  pub rising : Rise 0 (map port_of_dest dests) w.entry_count
+  pub none_elsewhere : (to : ℕ) → port_at w.ports to ≡ None → wanted to ≡ []
+
+abbrev pub RepliesNameTheWanting : Type 0
+RepliesNameTheWanting =
+    (pool : ℕ) (history : List Entry) → IsLegal pool history → (count : ℕ) (entry : Entry)
+    → slice_get history count ≡ Some entry
+    → AreJustWanting (world_of pool (take count history)) (wanted_at pool history (count + 1))
+    (dests_in entry.reply)
 
 -- The frames of an entry that are wanted at a port stand in one offer until one Grant shares them
 -- out: its reply counts each of them, for one cause at most, and those given are the first ones.
@@ -152,6 +196,18 @@ abbrev pub CountersAreSums : Type 0
 CountersAreSums = (pool : ℕ) (history : List Entry) → IsLegal pool history → (id : ℕ) (port : Port)
     → port_at (world_of pool history).ports id ≡ Some port
     → counts_of (world_of pool history).counts id ≡ counts_told pool history id
+
+-- A lease that was granted, under the number of its Grant, stands until it is done, once. Nothing
+-- else stands that is not done, and nothing else is done.
+pub record AreDoneOnce (count : ℕ) (granted ended : List ℕ) (standing : ℕ → ℕ) : Type 0 where
+  pub granted_once : Rise 0 granted count
+  pub ended_or_standing :
+      (number : ℕ) → times number ended + standing number ≡ times number granted
+
+abbrev pub LeasesAreDoneOnce : Type 0
+LeasesAreDoneOnce = (pool : ℕ) (history : List Entry) → IsLegal pool history
+    → AreDoneOnce (length history) (leases_granted history) (leases_ended history)
+    (leases_standing (world_of pool history).ports)
 
 -- Once no session is left, no frame is pending.
 abbrev pub NothingIsPendingAtTheEnd : Type 0

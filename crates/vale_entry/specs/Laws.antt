@@ -92,25 +92,6 @@ IsNumbered w = AreNumbered w.entry_count w.sessions w.ports w.offers
 abbrev pub IsFilled : Lot → Type 0
 IsFilled lot = 0 < length lot.frames
 
--- no lot is empty, and beside what is out and what is queued one slot is left
-pub record HasRoom (port : Port) : Type 0 where
-  pub lots_filled : AllByRecursion IsFilled port.line
-  pub fits : port.out + size_of_line port.line + 1 ≤ port.rx
-
--- each port has room, and all ports together have no more buffers than the pool
-pub record AreRoomy (pool : ℕ) (ports : List Port) : Type 0 where
-  pub roomy : AllByRecursion HasRoom ports
-  pub within : sum_by buffers_of ports ≤ pool
-
-abbrev pub IsRoomy : World → Type 0
-IsRoomy w = AreRoomy w.pool w.ports
-
--- the free buffers rise, so that the first are the smallest, and are what the ports leave of the
--- pool
-pub record AreFree (pool : ℕ) (ports : List Port) (free : List ℕ) : Type 0 where
-  pub rise : Rise 1 free (pool + 1)
-  pub count : length free + sum_by buffers_of ports ≡ pool
-
 -- the asks that bring a lot
 abbrev pub is_grant : Ask → Bool
 is_grant (Grant origin to) = true

@@ -25,6 +25,7 @@ pub mod Laws
 pub mod Delivered
 pub mod Fate
 pub mod Counted
+pub mod Leases
 pub mod DeliveryLaws
 pub mod Arrivals
 pub mod OwnCalls

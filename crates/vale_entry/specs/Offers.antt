@@ -3,6 +3,8 @@
 use Rattle.std.specs.Prelude.{ℕ, Bool, true, false, ◌||◌, ◌==◌, List, [], ◌∷◌, length, map, filter, filter_map, Option, Some, None}
 use Rattle.nm_types.specs.Frames.{Frame}
 use Rattle.vale_entry.specs.declared.entry.Dest.{Dest}
+use Rattle.vale_entry.specs.declared.entry.Reply.{Reply}
+use Rattle.vale_entry.specs.declared.entry.Reply.TheVariants.{Offered, Gave, Took}
 use Rattle.vale_entry.specs.World.{Port, Offer}
 use Rattle.vale_entry.specs.Lookup.{Named, is_named}
 
@@ -44,6 +46,22 @@ dest_of offer = record { to = record { 0 = offer.to }; count = length offer.fram
 
 abbrev pub dests_of : List Offer → List Dest
 dests_of offers = map dest_of offers
+
+abbrev pub port_of_dest : Dest → ℕ
+port_of_dest dest = dest.to.0
+
+-- the destinations that a reply tells
+abbrev pub dests_in : Reply → List Dest
+dests_in (Offered short lone to) = to
+dests_in (Gave count to) = to
+dests_in (Took items to) = to
+dests_in _ = []
+
+-- a port as a destination, if these frames are wanted there
+abbrev pub dest_wanting : ℕ → List Frame → Option Dest
+dest_wanting to [] = None
+dest_wanting to (frame ∷ frames) =
+    Some (record { to = record { 0 = to }; count = length (frame ∷ frames) })
 
 -- the first offer of an entry that is not granted
 abbrev pub is_offer_of : ℕ → Offer → Bool

@@ -2,7 +2,7 @@
 //! which the check proves.
 #![tactic(auto, using(crate::proofs::HistoryLaws::history_laws))]
 
-ghost use Rattle.vale_entry.specs.DeliveryLaws.{ReadIsPrefixOfGiven, GivenOnlyByWanted, ShortAndLoneAreForNobody, WantedIsSharedOnce, DroppedFramesAreCounted, NothingIsPendingAtTheEnd, SenderOrderIsKept, FramesAreDroppedForCause, RepliesCountFrames, PutsBringOnce, PutsAreOfReply, OutIsCounted, CountersAreSums};
+ghost use Rattle.vale_entry.specs.DeliveryLaws.{ReadIsPrefixOfGiven, GivenOnlyByWanted, ShortAndLoneAreForNobody, SendsTellShortAndLone, RepliesNameTheWanting, WantedIsSharedOnce, DroppedFramesAreCounted, NothingIsPendingAtTheEnd, SenderOrderIsKept, FramesAreDroppedForCause, RepliesCountFrames, PutsBringOnce, PutsAreOfReply, OutIsCounted, CountersAreSums, LeasesAreDoneOnce};
 ghost use Rattle.vale_entry.specs.Laws.{AsksAreAnswered, PutsAreKept, FinishWaitsForLeases, NamesDiffer, OffersClimb, CountersAreKept, NumbersRise, PortsAreWithinSizes, FreeBuffersRise, FreeBuffersReturn, BuffersAreParted, HoldingsAgree, SessionsHaveOneUnsettled, PairsAreOfSwitch, WatchesAreOpen, LotsAreSingle, LotsAreOfEntries, RoomIsPromised, RoomIsUsed, LegalHistoriesFit, LegalHistoriesArePrintable, SpansAreOfNumbers, SpansTellNumbers};
 
 /// The table of the asks that are enabled says which asks are answered.
@@ -133,10 +133,24 @@ pub fn given_only_by_wanted()
     ensures { GivenOnlyByWanted }
 {}
 
-/// A frame that is short, or lone, is named for no port of the switch.
+/// A frame that is short is named for no port of the switch. A frame is lone exactly where it is
+/// long enough and named for no port of the switch.
 #[tactic(auto, using(crate::proofs::DeliveryLaws::delivery_laws))]
 pub fn short_and_lone_are_for_nobody()
     ensures { ShortAndLoneAreForNobody }
+{}
+
+/// In every legal history a Send is of an open port, and its reply counts which of its frames are
+/// short and which lone.
+#[tactic(auto, using(crate::proofs::DeliveryLaws::delivery_laws))]
+pub fn sends_tell_short_and_lone()
+    ensures { SendsTellShortAndLone }
+{}
+
+/// In every legal history the destinations in an entry's reply are just the ports at which frames
+/// of it are wanted, by rising number, each with how many they are.
+pub fn replies_name_the_wanting()
+    ensures { RepliesNameTheWanting }
 {}
 
 /// In every legal history the frames of an entry that are wanted at a port stand in one offer until
@@ -188,6 +202,13 @@ pub fn out_is_counted()
 /// and Gets gave.
 pub fn counters_are_sums()
     ensures { CountersAreSums }
+{}
+
+/// In every legal history a lease, which a Grant that gave something granted under its own number,
+/// stands until it is done, once; nothing else stands that is not done, and nothing else is done.
+#[tactic(auto, using(crate::proofs::DeliveryLaws::delivery_laws))]
+pub fn leases_are_done_once()
+    ensures { LeasesAreDoneOnce }
 {}
 
 /// Once no session is left, no frame is pending.

@@ -17,13 +17,12 @@ use Rattle.vale_entry.specs.Offers.{offers_of, offer_to, wanted_frames, monitore
 use Rattle.vale_entry.specs.Grant.{grant_reply_at}
 use Rattle.vale_entry.specs.Delivery.{delivered_frames}
 use Rattle.vale_entry.specs.Pipe.{frame_of_item, frames_of_items, peer_of}
-use Rattle.vale_entry.specs.Laws.{HasRoom}
 use Rattle.vale_entry.specs.Legal.{Standing, standing_of, world_of, can_send, named_of, offers_of_send, offers_of_sync, offers_of_put, IsLegal, Follows}
 use Rattle.vale_entry.proofs.Each.{each-find}
 use Rattle.vale_entry.proofs.Follows.{EachKind, Left, IsQuiet, refused_open, resets, finds_no_peer, finds_no_target, finds_watched, counts, Receives, by_sync, by_get, CanKeep, follows-by}
 use Rattle.vale_entry.proofs.HistoryLaws.{history-stands}
 use Rattle.vale_entry.proofs.Numbered.{Numbered}
-use Rattle.vale_entry.proofs.Roomy.{Roomy}
+use Rattle.vale_entry.proofs.Roomy.{HasRoom, Roomy}
 use Rattle.vale_entry.proofs.Shares.{fitting-few}
 use Rattle.vale_entry.proofs.Within.{found-within, wanted-few, monitored-few, length-named, delivered-few, sent-few, kept-few}
 use Rattle.vale_parts.specs.Batches.{IsOfferOf, AreOffersOf}

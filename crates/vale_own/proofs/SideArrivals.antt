@@ -15,14 +15,14 @@ use Rattle.vale_entry.specs.Opening.{open_refusal}
 use Rattle.vale_entry.specs.Arrivals.{arrivals_of, given_at, given_arrivals, lent_arrivals, opened_arrivals, blank_arrival}
 use Rattle.vale_entry.specs.Delivery.{delivered_frames, ready_lots}
 use Rattle.vale_entry.specs.Holdings.{delivered_buffers, first_idle}
-use Rattle.vale_entry.specs.Laws.{Rise, HasRoom, id_of_held}
+use Rattle.vale_entry.specs.Laws.{Rise, id_of_held}
 use Rattle.vale_entry.specs.Pipe.{peer_of}
 use Rattle.vale_entry.specs.Legal.{Standing, standing_of, sync_step}
 use Rattle.vale_entry.proofs.HistoryLaws.{Stands, history-stands}
 use Rattle.vale_entry.proofs.Follows.{EachKind, IsQuiet, refused_open, Receives, by_sync, by_get, CanKeep, follows-by}
 use Rattle.vale_entry.proofs.Numbered.{Numbered}
 use Rattle.vale_entry.proofs.Holding.{Held}
-use Rattle.vale_entry.proofs.Roomy.{opened-room, delivered-size, taken-few}
+use Rattle.vale_entry.proofs.Roomy.{HasRoom, opened-room, delivered-size, taken-few}
 use Rattle.vale_entry.proofs.Places.{peer-place, first_idle-place}
 use Rattle.vale_entry.proofs.Agreeing.{agree-at, agree-ids}
 use Rattle.vale_entry.proofs.Each.{each-find}

@@ -3,7 +3,7 @@ use Rattle.std.proofs.Common.{ℕ, Bool, true, false, cond, not, min, ◌≡◌,
 use Rattle.std.specs.List.{AllByRecursion as Each, list_all, cons_option}
 use Rattle.std.proofs.lemmas.Bool.{and_parts, leb-true}
 use Rattle.std.proofs.lemmas.List.{length-map}
-use Rattle.std.proofs.lemmas.List.Sums.{sum_by-cons, length-filter}
+use Rattle.std.proofs.lemmas.List.Sums.{length-filter}
 use Rattle.nm_types.specs.Frames.{Frame, slots_of, size_of_frames}
 use Rattle.nm_types.specs.Names.{is_switch_port_name}
 use Rattle.nm_types.specs.Sendable.{is_sendable, fits_buffer}
@@ -22,21 +22,21 @@ use Rattle.vale_entry.specs.Lookup.{named_frames, is_lone}
 use Rattle.vale_entry.specs.Offers.{offers_of, offer_to, is_monitor, is_wanted_at, wanted_frames, wanted_if, monitored_frames, frame_of}
 use Rattle.vale_entry.specs.Grant.{longest_fitting, grant_reply_at, first_offer}
 use Rattle.vale_entry.specs.Delivery.{delivered_frames}
-use Rattle.vale_entry.specs.Pipe.{frames_of_items, taken_count, peer_of, puts_to_port}
+use Rattle.vale_entry.specs.Pipe.{frame_of_item, frames_of_items, taken_count, peer_of, puts_to_port}
 use Rattle.vale_entry.specs.Counters.{counts_if, with_counted, counted_in, count_sent, count_shared, count_gave_at}
 use Rattle.vale_entry.specs.Counters.{counts_of as world_counts}
 use Rattle.vale_entry.specs.Legal.{Standing, after, standing_of, world_of, Follows, IsLegal, unchanged, enter_step, open_step_by, send_step, grant_step, done_step, sync_step, put_step, watch_step, shut_step, finish_step, leave_step, can_send, named_of, recorded_step}
-use Rattle.vale_entry.specs.Laws.{HasRoom}
 use Rattle.vale_entry.proofs.ListLaws.{each-at, sum-at}
 use Rattle.vale_entry.proofs.Each.{each-map, each-append, each-find, each-weaker, each-without_first}
 use Rattle.vale_entry.proofs.Removals.{each-filter}
 use Rattle.vale_entry.proofs.Places.{open-place}
 use Rattle.vale_entry.proofs.Worlds.{standing-push, count-world_of, count-standing_after}
 use Rattle.vale_entry.proofs.Numbered.{Numbered}
-use Rattle.vale_entry.proofs.Roomy.{Roomy, delivered-size, items-size}
+use Rattle.vale_entry.proofs.Roomy.{HasRoom, Roomy, delivered-size}
 use Rattle.vale_entry.proofs.Told.{history-by}
 use Rattle.vale_entry.proofs.HistoryLaws.{history-stands}
 use Rattle.vale_entry.proofs.Follows.{EachKind, Left, entry_made, CanKeep, IsQuiet, refused_open, resets, finds_no_peer, finds_no_target, finds_watched, counts, Receives, by_sync, by_get, follows-by}
+use Rattle.vale_entry.proofs.Slots.{frames-few}
 use Rattle.vale_parts.specs.CountLaws.{FitsAt, SumsFit}
 
 -- ---- bounds
@@ -90,10 +90,6 @@ length_fitting room (f ∷ fs) = by_test (nat_le (slots_of f) room) (length_fitt
     by_test : (b : Bool) → length (longest_fitting (room - slots_of f) fs) ≤ length fs → length (cond b (f ∷ longest_fitting (room - slots_of f) fs) []) ≤ length (f ∷ fs)
     by_test true rest = omega (arith, rest)
     by_test false rest = omega arith
-
-size_is : (frames : List Frame) → size_of_frames frames ≡ length frames
-size_is [] = refl
-size_is (f ∷ fs) = let sum = sum_by-cons slots_of f fs in let rest = size_is fs in omega (arith, sum, rest)
 
 -- ---- offers
 
@@ -149,7 +145,7 @@ module _ (s : Standing) (n : Numbered s) (room : Roomy s) (low : s.world.pool �
       let own = sum-at buffers_of w.ports place.place port place.here in
       let all = room.within in
       let sizes = delivered-size port in
-      let slots = size_is (delivered_frames port) in
+      let slots = frames-few (delivered_frames port) in
       omega (arith, roomy, own, all, sizes, slots, low)
 
   sent_few : (frames : List Frame) (port : Port) → can_send w frames port ≡ true → length frames ≤ 65536
@@ -250,9 +246,8 @@ module _ (s : Standing) (n : Numbered s) (room : Roomy s) (low : s.world.pool �
   put : (at : PortId) (offered : ℕ) (items : List Item) (port peer : Port) → length items ≤ 65536 → Left s Bounded (PutKept at offered) (put_step s items port peer)
   put at offered items port peer most =
       let x = entry_made (PutKept at offered) (put_step s items port peer) in
-      let slots = items-size items in
-      let size = size_is (frames_of_items items) in
-      let frames : length (frames_of_items items) ≤ 65536 = omega (arith, slots, size, most) in
+      let size = length-map items frame_of_item in
+      let frames : length (frames_of_items items) ≤ 65536 = omega (arith, size, most) in
       still x _ (λ p. put_within (at.0 == p) (puts_to_port w.ports at.0 p) (length items) most)
       (more (w.entry_count + 1) port.session (monitored_frames (transmit_monitor w port.id) (frames_of_items items)) (monitored_few (transmit_monitor w port.id) (frames_of_items items) frames)) _ refl refl
 

@@ -24,6 +24,7 @@ use Rattle.vale_entry.specs.Grant.{longest_fitting, port_after_grant}
 use Rattle.vale_entry.specs.Delivery.{ready_lots, frames_of_lot, port_after_sync, port_after_done, lot_after_done, is_lease}
 use Rattle.vale_entry.specs.Holdings.{PortBuffers, PortAgrees, with_lot_buffers, with_returned, with_put_buffers}
 use Rattle.vale_entry.specs.Pipe.{port_after_put}
+use Rattle.vale_entry.proofs.Slots.{frames-few}
 use Rattle.vale_port.specs.Kept.{KeptLine, kept_lot, KeptFrames, kept_gots, world_lot, bytes_of, IsLineOf}
 use Rattle.vale_port.specs.Ports.{IsFilledFor, PortState, IsSeatOf, Gives, sizes_of, frames_of_seat}
 use Rattle.vale_port.specs.Seat.{Seat, LotSeat, given_frames, seat_put, lease_among, lease_seat}
@@ -108,8 +109,8 @@ grant-line port held line id session (f ∷ fs) is some =
     let lot = lot_of id.0 session false (f ∷ fs) in
     let one : kept_lot (opened_lot id n) ≡ world_lot lot (take n held.idle) = refl in
     let made = kept-push port held line n (opened_lot id n) lot (take n held.idle) is one in
-    let count : n ≡ length (f ∷ fs) = size_of_frames-length (f ∷ fs) in
-    subst (λ (h : PortBuffers). IsLineOf (port_after_grant id.0 session (f ∷ fs) port) h (with_lease id n line)) (sym (with_lot_buffers-some n held (omega (arith, count)))) made
+    let few : length (f ∷ fs) ≤ n = frames-few (f ∷ fs) in
+    subst (λ (h : PortBuffers). IsLineOf (port_after_grant id.0 session (f ∷ fs) port) h (with_lease id n line)) (sym (with_lot_buffers-some n held (omega (arith, few)))) made
 
 -- the same port with another line
 with_seat : (seat : Seat) (p : PortState) (port : Port) (held : PortBuffers) (line : LineState) → IsSeatOf seat p
@@ -282,9 +283,9 @@ put_is_put seat p id session frames gots is line single bytes fits = elim (cases
   | inl none ↦
       let few : length gots ≡ 0 = eqb-true (length gots) 0 none in
       let slots = size-put frames gots single bytes in
-      let same = size_of_frames-length frames in
+      let less = frames-few frames in
       let count = length-taken gots in
-      subst (λ (s : Seat). IsSeatOf s (record p { line = line_after_put id gots p.line })) (sym (put-none seat id.0 session frames (indices_of (buffers_of gots)) (omega (arith, few, slots, same)) (omega (arith, few, count))))
+      subst (λ (s : Seat). IsSeatOf s (record p { line = line_after_put id gots p.line })) (sym (put-none seat id.0 session frames (indices_of (buffers_of gots)) (omega (arith, few, slots, less)) (omega (arith, few, count))))
       (subst (λ (l : LineState). IsSeatOf seat (record p { line = l })) (sym (line_after_put-none id gots p.line few)) is)
   | inr some ↦
       put-more seat p id session frames gots is line (size-put frames gots single bytes) bytes fits (nonzero (length gots) some)

@@ -9,7 +9,6 @@ use Rattle.nm_types.specs.Openings.{open_refusal as names_refusal}
 use Rattle.vale_entry.specs.Opening.{is_ring_size, are_sizes, names_of, open_refusal}
 use Rattle.vale_entry.specs.Delivery.{port_after_done, port_after_sync}
 use Rattle.vale_entry.specs.Closing.{shut}
-use Rattle.vale_entry.specs.Laws.{HasRoom}
 use Rattle.vale_entry.specs.Legal.{Standing, standing_of, world_of, IsLegal}
 use Rattle.vale_entry.specs.declared.entry.Entry.{Entry}
 use Rattle.vale_entry.proofs.Each.{each-append, each-changed_at, each-map, each-find}
@@ -17,6 +16,7 @@ use Rattle.vale_entry.proofs.Follows.{EachKind, after-by}
 use Rattle.vale_entry.proofs.HistoryLaws.{history-stands}
 use Rattle.vale_entry.proofs.Removals.{each-filter}
 use Rattle.vale_entry.proofs.Steps.{legal-by}
+use Rattle.vale_entry.proofs.Roomy.{HasRoom}
 use Rattle.vale_book.proofs.RingSizes.{none-first}
 use Rattle.vale_serve.specs.Users.{most_due}
 use Rattle.vale_serve.proofs.Sizes.{sizes_by}

@@ -5,18 +5,12 @@ use Rattle.vale_entry.specs.declared.entry.Dest.{Dest}
 use Rattle.vale_entry.specs.declared.entry.Entry.{Entry}
 use Rattle.vale_entry.specs.declared.entry.Reply.{Reply}
 use Rattle.vale_entry.specs.declared.entry.Reply.TheVariants as replies
-use Rattle.vale_entry.specs.declared.entry.Reply.TheVariants.{Offered, Gave, Took}
+pub use Rattle.vale_entry.specs.Offers.{dests_in}
 use Rattle.nm_types.specs.declared.fault.StepFault.TheVariants as steps
 use Rattle.nm_types.specs.declared.fault.StepFault.{StepFault}
 use Rattle.nm_types.specs.declared.fault.WatchFault.TheVariants as watches
 use Rattle.nm_types.specs.declared.fault.WatchFault.{WatchFault}
 use Rattle.nm_types.specs.declared.id.PortId.{PortId}
-
-abbrev pub dests_in : Reply → List Dest
-dests_in (Offered short lone to) = to
-dests_in (Gave count to) = to
-dests_in (Took items to) = to
-dests_in _ = []
 
 abbrev pub dests_of_entry : Entry → List Dest
 dests_of_entry entry = dests_in entry.reply
