@@ -21,11 +21,29 @@ fn is_blank(b: u8) -> bool
     b == b' '
 }
 
-/// The words of a line, cut at blanks.
-pub fn words_of(alloc: Global, line: &[u8]) -> Result<Vec<&[u8]>, AllocError>
+/// How many words a line is read to have at most, and how many items a list. A pool has fewer
+/// buffers; a line of no history may have more.
+const MOST_ITEMS: usize = 1_048_576;
+
+/// Tells whether a mark cuts a text into more pieces than are read.
+fn has_many(mark: u8, text: &[u8]) -> bool {
+    text.len() >= MOST_ITEMS && text.iter().filter(|b| **b == mark).count() >= MOST_ITEMS
+}
+
+fn split_blanks(alloc: Global, line: &[u8]) -> Result<Vec<&[u8]>, AllocError>
     ensures { IfOk result (λ words. map (λ w. w.now) words.items ≡ words_of line.now) }
 {
     line.split(|b| is_blank(*b)).collect(alloc)
+}
+
+/// The words of a line, cut at blanks. More of them than a list has items are too many for memory.
+pub fn words_of(alloc: Global, line: &[u8]) -> Result<Vec<&[u8]>, NoMemory>
+    ensures { IfOk result (λ words. map (λ w. w.now) words.items ≡ words_of line.now) }
+{
+    if has_many(b' ', line) {
+        return Err(NoMemory);
+    }
+    Ok(split_blanks(alloc, line)?)
 }
 
 fn split_commas(alloc: Global, word: &[u8]) -> Result<Vec<&[u8]>, AllocError>
@@ -34,15 +52,18 @@ fn split_commas(alloc: Global, word: &[u8]) -> Result<Vec<&[u8]>, AllocError>
     word.split(|b| is_comma(*b)).collect(alloc)
 }
 
-/// The items of a list.
+/// The items of a list, if they are not too many.
 #[tactic(auto, unfolding(crate::specs::Lists::parts_of))]
-fn parts_of(alloc: Global, word: &[u8]) -> Result<Vec<&[u8]>, AllocError>
+fn parts_of(alloc: Global, word: &[u8]) -> Result<Vec<&[u8]>, NoMemory>
     ensures { IfOk result (λ parts. map (λ w. w.now) parts.items ≡ parts_of word.now) }
 {
     if word == b"-".as_slice() {
         return Ok(Vec::new(alloc));
     }
-    split_commas(alloc, word)
+    if has_many(b',', word) {
+        return Err(NoMemory);
+    }
+    Ok(split_commas(alloc, word)?)
 }
 
 /// The items of a list, each read.
@@ -58,16 +79,12 @@ fn items_read<T: Listed + Drop>(alloc: Global, word: &[u8]) -> Result<Vec<T>, No
     Ok(items)
 }
 
-/// How many numbers a list is read to have at most. A pool has far fewer buffers; spans in a text of
-/// no history may have more.
-const MOST_NUMBERS: usize = 16_777_216;
-
-/// Adds the numbers of a span, or says that there is no memory for them.
+/// Adds the numbers of a span, if they are not too many.
 fn push_span(numbers: &mut Vec<u32>, span: Span) -> Result<(), NoMemory>
     ensures ok { OnOk result (numbers.new.items ≡ numbers.old.items ++ numbers_in span) }
 {
     let count = (span.last as usize + 1).saturating_sub(span.first as usize);
-    if count > MOST_NUMBERS.saturating_sub(numbers.len()) {
+    if count > MOST_ITEMS.saturating_sub(numbers.len()) {
         return Err(NoMemory);
     }
     for k in 0..count {

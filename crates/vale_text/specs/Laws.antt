@@ -8,7 +8,7 @@ use Rattle.vale_entry.specs.Transcript.{text_of}
 use Rattle.vale_text.specs.Reading.{IsTold, IsTextWith, IsTextOf}
 
 -- equal transcripts are of one version, of equal pools and of equal histories, whatever free buffers they
--- end with; so texts of unlike versions are never equal
+-- end with; so no text of one version is one of another
 abbrev pub TranscriptsTellHistories : Type 0
 TranscriptsTellHistories =
     (v w p q : ℕ) (h k : List Entry) (f g : ℕ) → FitsU64 v → FitsU64 w → FitsU64 p → FitsU64 q → ArePrintable 1 h → ArePrintable 1 k → AllByRecursion FitsEntry h → AllByRecursion FitsEntry k

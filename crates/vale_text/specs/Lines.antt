@@ -3,7 +3,7 @@ use Rattle.std.specs.Prelude.{ℕ, Bool, false, ◌&&◌, ◌==◌, ◌≡◌, n
 use Rattle.std.specs.List.{AllByRecursion}
 use Rattle.nm_types.specs.Limits.{most_pool}
 use Rattle.vale_entry.specs.declared.entry.Entry.{Entry}
-use Rattle.vale_entry.specs.Transcript.{start_line, entry_line, end_line, is_printable}
+use Rattle.vale_entry.specs.Transcript.{newest, start_line, entry_line, end_line, is_printable}
 use Rattle.vale_fields.specs.Fields.{short_of, front_by, back_by, mark_in}
 use Rattle.vale_fields.specs.Lists.{words_of}
 use Rattle.vale_fields.specs.Rows.{entry_of}
@@ -39,13 +39,17 @@ version_in line = short_of (front_of 32 (drop 5 line))
 unfoldable pub pool_in : List ℕ → ℕ
 pool_in line = short_of (front_of 10 (drop 5 (back_of 32 (drop 5 line))))
 
+-- the greatest pool of a text of the first version
+abbrev pub first_most_pool : ℕ
+first_most_pool = 65536
+
 -- the greatest pool of a text of this version
 abbrev pub most_pool_of : ℕ → ℕ
-most_pool_of version = if version == 1 then 65536 else most_pool
+most_pool_of version = if version == 1 then first_most_pool else most_pool
 
--- the oldest version that is read is told, and the newest one is 2
+-- a version from the oldest one that is read up to the newest
 abbrev pub is_version : ℕ → ℕ → Bool
-is_version oldest version = nat_le oldest version && nat_le version 2
+is_version oldest version = nat_le oldest version && nat_le version newest
 
 abbrev pub is_pool : ℕ → ℕ → Bool
 is_pool version pool = nat_le 1 pool && nat_le pool (most_pool_of version)

@@ -1,19 +1,21 @@
 -- What it is to be the text of a history, and which line of a text is the first that is none.
 use Rattle.std.specs.Prelude.{ℕ, ◌≡◌, ◌≤◌, ◌+◌, List, [], ◌∷◌, ◌++◌, length, flat_map}
 use Rattle.std.specs.List.{AllByRecursion}
+use Rattle.vale_entry.specs.declared.entry.Ask.{Ask}
+use Rattle.vale_entry.specs.declared.entry.Ask.TheVariants.{Sync, Finish, Get}
 use Rattle.vale_entry.specs.declared.entry.Entry.{Entry}
 use Rattle.vale_entry.specs.Laws.{ArePrintable}
-use Rattle.vale_entry.specs.Transcript.{start_line, entry_line, entry_lines, end_line, text_of}
+use Rattle.vale_entry.specs.Transcript.{newest, start_line, entry_line, entry_lines, end_line, text_of}
 use Rattle.vale_fields.specs.Widths.{Is32, FitsFields}
 use Rattle.vale_text.specs.declared.reader.TextFault.{TextFault}
 use Rattle.vale_text.specs.declared.reader.TextFault.TheVariants.{BadLine, NoMemory}
 use Rattle.vale_text.specs.Lines.{most_pool_of}
 
--- what a first line may tell: a version from the oldest one that is read up to 2, and a pool of a size
--- that pools may have
+-- what a first line may tell: a version from the oldest one that is read up to the newest, and a pool of
+-- a size that pools may have
 pub record IsHead (oldest version pool : ℕ) : Type 0 where
   pub since : oldest ≤ version
-  pub known : version ≤ 2
+  pub known : version ≤ newest
   pub least : 1 ≤ pool
   pub most : pool ≤ most_pool_of version
 
@@ -71,6 +73,16 @@ pub record IsReadTo (oldest version pool : ℕ) (bytes : List ℕ) (entries : Li
   pub printable : ArePrintable 1 entries
   pub fits : AllByRecursion FitsFields entries
   pub cut : bytes ≡ start_line version pool ++ (entry_lines version 1 entries ++ rest)
+
+-- how many buffers are listed in what was asked
+abbrev pub listed_by : Ask → ℕ
+listed_by (Sync port back) = length back
+listed_by (Finish port bufs chain) = length bufs
+listed_by (Get port back) = length back
+listed_by _ = 0
+
+abbrev pub listed_in : Entry → ℕ
+listed_in entry = listed_by entry.ask
 
 abbrev pub BlamesText : ℕ → List ℕ → TextFault → Type 0
 BlamesText oldest bytes (BadLine line) = IsFirstBad oldest bytes line

@@ -3,7 +3,7 @@ use Rattle.std.specs.Prelude.{ℕ, ◌≡◌, ◌≤◌, ◌<◌, ◌+◌, List,
 use Rattle.std.specs.List.{flat_map, range_with_len}
 use Rattle.vale_entry.specs.declared.entry.Span.{Span}
 use Rattle.vale_entry.specs.Spans.{spans_in}
-use Rattle.vale_entry.specs.Transcript.{span_text}
+use Rattle.vale_entry.specs.Transcript.{newest, span_text}
 use Rattle.vale_text.specs.Pieces.{behind}
 use Rattle.vale_text.specs.Placed.{Placed}
 
@@ -17,12 +17,12 @@ pub record IsRun (numbers : List ℕ) (first len : ℕ) : Type 0 where
 -- the first spans of numbers are at a place of a buffer, each behind a comma, and those of the rest are not
 pub record ArePlaced (old new : List ℕ) (at end : ℕ) (numbers rest : List ℕ) : Type 0 where
   pub done : List Span
-  pub spans : spans_in 2 numbers ≡ done ++ spans_in 2 rest
+  pub spans : spans_in newest numbers ≡ done ++ spans_in newest rest
   pub placed : Placed old new at (flat_map (behind 44 span_text) done) end
   pub fewer : length rest ≤ length numbers
 
 -- these were added to a text
 pub record AreAdded (old new numbers rest : List ℕ) : Type 0 where
   pub done : List Span
-  pub spans : spans_in 2 numbers ≡ done ++ spans_in 2 rest
+  pub spans : spans_in newest numbers ≡ done ++ spans_in newest rest
   pub added : new ≡ old ++ flat_map (behind 44 span_text) done

@@ -3,7 +3,7 @@
 ghost use Rattle.vale_text.specs.Laws.{TranscriptsTellHistories, ReadingGivesBack, ATextTellsItsNumbers};
 
 /// Two histories of printable entries whose numbers fit have equal transcripts only if they are equal,
-/// and their pools too: the text tells the history.
+/// and the versions and the pools too: the text tells the history.
 pub fn transcripts_tell_histories()
     ensures { TranscriptsTellHistories }
 {}
@@ -14,8 +14,8 @@ pub fn reading_gives_back()
     ensures { ReadingGivesBack }
 {}
 
-/// A text tells its numbers: however it is read as the text of a history, the pool and the free
-/// buffers are the same.
+/// A text tells its numbers: however it is read as the text of a history, the version, the pool, the
+/// history and the free buffers are the same.
 pub fn a_text_tells_its_numbers()
     ensures { ATextTellsItsNumbers }
 {}

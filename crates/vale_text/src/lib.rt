@@ -15,5 +15,5 @@ mod transcript;
 
 pub use pieces::{Part, put_parts};
 pub use reader::{Text, TextFault, read, read_any};
-pub use rows::{EndLine, EntryLine, StartLine, VERSION, write_line};
+pub use rows::write_line;
 pub use transcript::{PutError, write_transcript};

@@ -127,38 +127,46 @@ fn place_four(buf: &mut [u8], at: usize, high: u64, low: u64) -> usize
     at + 4
 }
 
-/// Writes a number, and returns where its digits end, and its hundreds if it has four digits, else
-/// 0. The bytes behind them may change.
+/// The hundreds of the least number of four digits.
+pub(crate) const LEAST_HIGH: u64 = 10;
+
+/// Writes a number, and returns where its digits end, and the hundreds of a number of four digits: its
+/// own if it has four, else the least. The bytes behind them may change.
 fn place_other(buf: &mut [u8], at: usize, number: u64) -> (usize, u64)
     requires { at + 20 ≤ length buf.old }
     ensures placed { Placed buf.old buf.new at (decimal number) result.0 }
     ensures within { result.0 ≤ at + 20 }
-    ensures hundreds { result.1 < 100 }
+    ensures hundreds { (10 ≤ result.1) × (result.1 < 100) }
 {
     if number < 1000 {
-        return (place_short(buf, at, number), 0);
+        return (place_short(buf, at, number), LEAST_HIGH);
     }
     if number < 10_000 {
         let high = number / 100;
         return (place_four(buf, at, high, number % 100), high);
     }
-    (place_large(buf, at, number), 0)
+    (place_large(buf, at, number), LEAST_HIGH)
 }
 
-/// Writes a number behind a comma, and returns where its digits end, and its hundreds if it has
-/// four digits, else 0. `high` is what was so returned of another number, whose first digits it may
-/// share.
+/// Writes a number behind a mark, and returns where its digits end, and hundreds of which the next number
+/// may share the digits: `high` is what was so returned of another number.
 #[inline(always)]
-pub(crate) fn place_next(buf: &mut [u8], at: usize, high: u64, number: u64) -> (usize, u64)
+pub(crate) fn place_next(
+    buf: &mut [u8],
+    at: usize,
+    mark: u8,
+    high: u64,
+    number: u64,
+) -> (usize, u64)
     requires room { at + 21 ≤ length buf.old }
-    requires hundreds { high < 100 }
-    ensures placed { Placed buf.old buf.new at (behind 44 decimal number) result.0 }
+    requires hundreds { (10 ≤ high) × (high < 100) }
+    ensures placed { Placed buf.old buf.new at (behind mark decimal number) result.0 }
     ensures within { result.0 ≤ at + 21 }
-    ensures hundreds { result.1 < 100 }
+    ensures hundreds { (10 ≤ result.1) × (result.1 < 100) }
 {
-    buf[at] = b',';
+    buf[at] = mark;
     let from = high * 100;
-    if 1000 <= from && from <= number && number - from < 100 {
+    if from <= number && number - from < 100 {
         return (place_four(buf, at + 1, high, number - from), high);
     }
     place_other(buf, at + 1, number)

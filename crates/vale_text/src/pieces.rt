@@ -8,6 +8,7 @@ ghost use Rattle.vale_entry.specs.Spans.{spans_in};
 ghost use Rattle.vale_text.specs.Failures.{Puts, CountsFailures};
 ghost use Rattle.vale_text.specs.Pieces.{behind, part_text, parts_text, piece_text, pieces_text};
 
+use crate::rows::NEWEST;
 use crate::spans::first_span;
 use crate::strip::{
     SHORT_FRAME, Strip, put_byte, put_hex, put_more_runs, put_number, put_number_after,
@@ -251,7 +252,7 @@ fn put_others<K: Sink>(
         (flat_map (behind 44 span_text) (spans_in version numbers.now)) }
     ensures counts { CountsFailures K.Sink out.old out.new result }
 {
-    if version == 2 {
+    if version == NEWEST {
         return put_more_runs(out, strip, numbers);
     }
     put_more_spans(out, strip, version, numbers)

@@ -1,18 +1,19 @@
 //! Reads a transcript, line by line. Each line is read field by field and written again: it is the
 //! line of its entry if it comes back.
-ghost use Rattle.std.specs.Prelude.{◌≡◌, ◌+◌, ◌-◌, ◌<◌, ◌≤◌, ◌^◌, ◌==◌, [], ◌∷◌, length, drop, map, Some, IfOk, IfErr, IfSome, IsTrue, slice_index};
+ghost use Rattle.std.specs.Prelude.{◌≡◌, ◌+◌, ◌-◌, ◌<◌, ◌≤◌, ◌^◌, ◌==◌, [], ◌∷◌, length, sum_by, drop, map, Some, IfOk, IfErr, IfSome, IsTrue, slice_index};
 ghost use Rattle.std.specs.List.{position};
 ghost use Rattle.std.specs.Option.{IfNone};
 ghost use Rattle.std.specs.Str.{bytes_eq};
+ghost use Rattle.vale_entry.specs.Transcript.{newest};
 ghost use Rattle.vale_text.specs.declared.reader.TextFault.TheVariants.{NoMemory as OutOfMemory};
 ghost use Rattle.vale_text.specs.Lines.{is_line_feed, IsCut, IsUncut, front_of, back_of, version_in, pool_in, most_pool_of, is_start, free_in, is_end, entry_in};
-ghost use Rattle.vale_text.specs.Reading.{IsTextWith, IsTextOf, BlamesText, IsReadTo};
+ghost use Rattle.vale_text.specs.Reading.{IsTextWith, IsTextOf, BlamesText, IsReadTo, listed_in};
 
-use crate::rows::{EndLine, EntryLine, StartLine, VERSION};
+use crate::rows::{EndLine, EntryLine, NEWEST, StartLine};
 use crate::transcript::{Lines, is_text};
 use nm_types::{MAX_POOL, NoMemory};
 use std::alloc::{AllocFailed, Global};
-use vale_entry::Entry;
+use vale_entry::{Ask, Entry};
 use vale_fields::{cut_at, entry_of, is_printable, short_of, words_of};
 
 /// Why a text was not read.
@@ -80,7 +81,7 @@ fn pool_in(line: &[u8]) -> u32
     short_of(cut_at(b'\n', pool).0)
 }
 
-/// The greatest pool of a text of version 1.
+/// The greatest pool of a text of the first version.
 const FIRST_MOST_POOL: u32 = 65_536;
 
 /// The greatest pool of a text of this version.
@@ -98,7 +99,7 @@ fn is_start(scratch: &mut Lines, oldest: u32, line: &[u8]) -> Result<bool, NoMem
     ensures { IfOk result (λ is. is ≡ is_start oldest line.now) }
 {
     let (version, pool) = (version_in(line), pool_in(line));
-    if !(oldest..=VERSION).contains(&version) {
+    if !(oldest..=NEWEST).contains(&version) {
         return Ok(false);
     }
     if !(1..=most_pool_of(version)).contains(&pool) {
@@ -164,6 +165,21 @@ fn entry_in(
     }
 }
 
+/// How many buffers the entries of a text list at most, all together: as many as a text of version 1
+/// has room for in 256 MB. Spans could say more than any memory holds.
+const MOST_LISTED: usize = 134_217_728;
+
+/// How many buffers an entry lists.
+fn listed_in(entry: &Entry) -> usize
+    ensures { result ≡ listed_in entry.now }
+{
+    match &entry.ask {
+        Ask::Sync { back, .. } | Ask::Get { back, .. } => back.as_slice().len(),
+        Ask::Finish { bufs, .. } => bufs.as_slice().len(),
+        _ => 0,
+    }
+}
+
 /// Reads the first line, and returns it with what stands behind it.
 #[tactic(auto, using(crate::proofs::Reading::reading))]
 fn read_start<'a>(
@@ -171,7 +187,7 @@ fn read_start<'a>(
     oldest: u32,
     bytes: &'a [u8],
 ) -> Result<(StartLine, &'a [u8]), TextFault>
-    requires { oldest ≤ 2 }
+    requires { oldest ≤ newest }
     ensures ok { IfOk result (λ start. IsReadTo oldest start.0.version start.0.pool bytes.now [] start.1.now) }
     ensures shorter { IfOk result (λ start. length start.1.now < length bytes.now) }
     ensures bad { IfErr result (BlamesText oldest bytes.now) }
@@ -202,13 +218,15 @@ pub struct Text {
 /// Reads a transcript of a version from the oldest one on.
 fn read_since(alloc: Global, oldest: u32, bytes: &[u8]) -> Result<Text, TextFault>
     requires short { length bytes.now < 2 ^ 32 - 1 }
-    requires known { oldest ≤ 2 }
+    requires known { oldest ≤ newest }
     ensures ok { IfOk result (λ text. IsTextWith oldest bytes.now text.version text.pool text.entries.items text.free) }
     ensures few { IfOk result (λ text. length text.entries.items < length bytes.now) }
+    ensures listed { IfOk result (λ text. sum_by listed_in text.entries.items ≤ MOST_LISTED) }
     ensures bad { IfErr result (BlamesText oldest bytes.now) }
 {
     let mut scratch = Lines::new(alloc);
     let mut entries = Vec::new(alloc);
+    let mut room = MOST_LISTED;
     let (start, mut rest) = read_start(&mut scratch, oldest, bytes)?;
     let mut at = 2;
     while let Some((line, after)) = first_line(rest) {
@@ -225,7 +243,10 @@ fn read_since(alloc: Global, oldest: u32, bytes: &[u8]) -> Result<Text, TextFaul
             return Err(TextFault::BadLine { line: at + 1 });
         }
         match entry_in(alloc, &mut scratch, start.version, at - 1, line)? {
-            Some(entry) => entries.push(entry)?,
+            Some(entry) => {
+                room = room.checked_sub(listed_in(&entry)).ok_or(NoMemory)?;
+                entries.push(entry)?;
+            }
             None => return Err(TextFault::BadLine { line: at }),
         }
         rest = after;
@@ -236,11 +257,13 @@ fn read_since(alloc: Global, oldest: u32, bytes: &[u8]) -> Result<Text, TextFaul
 
 /// Reads a transcript of version 1 or 2, and returns what it tells, which is written as the same
 /// bytes. `BadLine` tells that the text is that of no history in either version; `NoMemory` tells
-/// nothing.
+/// nothing. It is also the answer to a line with more than a million buffers or words, before memory
+/// is taken for them.
 pub fn read_any(alloc: Global, bytes: &[u8]) -> Result<Text, TextFault>
     requires { length bytes.now < 2 ^ 32 - 1 }
     ensures ok { IfOk result (λ text. IsTextWith 1 bytes.now text.version text.pool text.entries.items text.free) }
     ensures few { IfOk result (λ text. length text.entries.items < length bytes.now) }
+    ensures listed { IfOk result (λ text. sum_by listed_in text.entries.items ≤ MOST_LISTED) }
     ensures bad { IfErr result (BlamesText 1 bytes.now) }
 {
     read_since(alloc, 1, bytes)
@@ -252,9 +275,9 @@ pub fn read_any(alloc: Global, bytes: &[u8]) -> Result<Text, TextFault>
 /// history; `NoMemory` tells nothing.
 pub fn read(alloc: Global, bytes: &[u8]) -> Result<Vec<Entry>, TextFault>
     requires { length bytes.now < 2 ^ 32 - 1 }
-    ensures ok { IfOk result (λ entries. IsTextOf 2 bytes.now entries.items) }
-    ensures bad { IfErr result (BlamesText 2 bytes.now) }
+    ensures ok { IfOk result (λ entries. IsTextOf newest bytes.now entries.items) }
+    ensures bad { IfErr result (BlamesText newest bytes.now) }
 {
-    let Text { entries, .. } = read_since(alloc, VERSION, bytes)?;
+    let Text { entries, .. } = read_since(alloc, NEWEST, bytes)?;
     Ok(entries)
 }

@@ -2,7 +2,7 @@
 ghost use Rattle.std.specs.Prelude.{◌≡◌, ◌≤◌, [], ◌∷◌, ◌++◌, codes, decimal, OnOk, OnErr};
 ghost use Rattle.nm_io.specs.Counts.{Rose};
 ghost use Rattle.nm_io.specs.Held.{Writes};
-ghost use Rattle.vale_entry.specs.Transcript.{buffers_text, side_word, sides_word, fault_words, ask_words, reply_words, entry_line, start_line, end_line};
+ghost use Rattle.vale_entry.specs.Transcript.{buffers_text, side_word, sides_word, fault_words, ask_words, reply_words, entry_line, start_line, end_line, newest};
 ghost use Rattle.vale_entry.specs.declared.entry.Ask.TheVariants.{Done, Finish, Grant, Reset, Send, Sync, Watch};
 ghost use Rattle.vale_entry.specs.declared.entry.Reply.TheVariants.{Refused, Offered, Shared, Gave, Counted};
 ghost use Rattle.vale_text.specs.Failures.{Puts, PutsWords, CountsFailures};
@@ -50,15 +50,15 @@ fn sides_word(sides: Sides) -> Piece<'static>
 }
 
 /// The version of the transcripts that are written.
-pub const VERSION: u32 = 2;
+pub(crate) const NEWEST: u32 = 2;
 
 /// The first line of a transcript.
 #[derive(Clone, Copy)]
-pub struct StartLine {
+pub(crate) struct StartLine {
     /// The version of the transcript.
-    pub version: u32,
+    pub(crate) version: u32,
     /// The number of buffers of the pool.
-    pub pool: u32,
+    pub(crate) pool: u32,
 }
 
 impl Text for StartLine {
@@ -83,11 +83,11 @@ impl Text for StartLine {
 
 /// The last line of a transcript.
 #[derive(Clone, Copy)]
-pub struct EndLine {
+pub(crate) struct EndLine {
     /// The number of entries.
-    pub count: u32,
+    pub(crate) count: u32,
     /// The number of free buffers.
-    pub free: u32,
+    pub(crate) free: u32,
 }
 
 impl Text for EndLine {
@@ -595,13 +595,13 @@ fn put_entry<K: Sink>(
 
 /// The line of an entry under its number.
 #[derive(Clone, Copy)]
-pub struct EntryLine<'a> {
+pub(crate) struct EntryLine<'a> {
     /// The version of the transcript.
-    pub version: u32,
+    pub(crate) version: u32,
     /// The entry's number.
-    pub number: u32,
+    pub(crate) number: u32,
     /// The entry.
-    pub entry: &'a Entry,
+    pub(crate) entry: &'a Entry,
 }
 
 /// Writes the line of an entry under its number.
@@ -644,14 +644,14 @@ impl Text for EntryLine<'_> {
     }
 }
 
-/// Writes the line of an entry under its number, in the version of the transcripts that are written.
+/// Writes the line of an entry under its number, in a transcript of the version that is written.
 pub fn write_line<K: Sink>(number: u32, entry: &Entry, out: &mut K) -> Result<(), Failed>
-    ensures writes { Writes (K.holds out.old) (K.holds out.new) result (entry_line 2 number entry.now) }
+    ensures writes { Writes (K.holds out.old) (K.holds out.new) result (entry_line newest number entry.now) }
     ensures later { K.faults out.old ≤ K.faults out.new }
     ensures cause { OnErr result (Rose (K.faults out.old) (K.faults out.new)) }
 {
     EntryLine {
-        version: VERSION,
+        version: NEWEST,
         number,
         entry,
     }

@@ -7,7 +7,8 @@ ghost use Rattle.vale_text.specs.Pieces.{behind};
 ghost use Rattle.vale_text.specs.Placed.{Placed};
 ghost use Rattle.vale_text.specs.Spans.{IsRun, ArePlaced};
 
-use crate::numerals::{DIGITS, place_next, place_number};
+use crate::numerals::{DIGITS, LEAST_HIGH, place_next};
+use crate::rows::NEWEST;
 use vale_entry::Span;
 
 /// How many numbers at the front follow one another, from the first one on.
@@ -49,22 +50,20 @@ pub(crate) fn first_span(version: u32, numbers: &[u32]) -> Option<(Span, &[u32])
 /// The most bytes of a span behind a comma.
 pub(crate) const SPAN: usize = 2 * DIGITS + 2;
 
-/// Writes a span behind a comma, and returns where it ends, and what `place_next` returns of its
-/// first number.
+/// Writes a span behind a comma, and returns where it ends, and hundreds as `place_next` does.
 #[inline(always)]
 fn place_span(buf: &mut [u8], at: usize, high: u64, span: Span) -> (usize, u64)
     requires room { at + 42 ≤ length buf.old }
-    requires hundreds { high < 100 }
+    requires hundreds { (10 ≤ high) × (high < 100) }
     ensures placed { Placed buf.old buf.new at (behind 44 span_text span) result.0 }
     ensures within { result.0 ≤ at + 42 }
-    ensures hundreds { result.1 < 100 }
+    ensures hundreds { (10 ≤ result.1) × (result.1 < 100) }
 {
-    let (end, high) = place_next(buf, at, high, span.first as u64);
+    let (end, high) = place_next(buf, at, b',', high, span.first as u64);
     if span.first == span.last {
         return (end, high);
     }
-    buf[end] = b'-';
-    (place_number(buf, end + 1, span.last as u64), high)
+    place_next(buf, end, b'-', high, span.last as u64)
 }
 
 /// Writes the first spans of numbers, each behind a comma, as long as there is room, and returns
@@ -75,12 +74,12 @@ pub(crate) fn place_spans<'a>(buf: &mut [u8], at: usize, numbers: &'a [u32]) -> 
     ensures within { result.0 ≤ length buf.old }
     ensures some { 0 < length numbers.now → length result.1.now < length numbers.now }
 {
-    let Some((span, mut rest)) = first_span(2, numbers) else {
+    let Some((span, mut rest)) = first_span(NEWEST, numbers) else {
         return (at, numbers);
     };
-    let (mut end, mut high) = place_span(buf, at, 0, span);
+    let (mut end, mut high) = place_span(buf, at, LEAST_HIGH, span);
     while buf.len() - end >= SPAN {
-        let Some((span, others)) = first_span(2, rest) else {
+        let Some((span, others)) = first_span(NEWEST, rest) else {
             return (end, rest);
         };
         (end, high) = place_span(buf, end, high, span);

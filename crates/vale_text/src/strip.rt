@@ -2,7 +2,7 @@
 ghost use Rattle.std.specs.Prelude.{◌≡◌, ◌≤◌, ◌<◌, ◌*◌, ◌+◌, ◌++◌, ◌∷◌, [], if◌then◌else◌, ℕ, List, length, take, decimal, OnOk};
 ghost use Rattle.std.specs.List.{flat_map};
 ghost use Rattle.nm_io.specs.Held.{Writes};
-ghost use Rattle.vale_entry.specs.Transcript.{frame_text, hex_byte, hex_text, span_text};
+ghost use Rattle.vale_entry.specs.Transcript.{newest, frame_text, hex_byte, hex_text, span_text};
 ghost use Rattle.vale_entry.specs.Spans.{spans_in};
 ghost use Rattle.vale_text.specs.Spans.{AreAdded};
 ghost use Rattle.vale_text.specs.Failures.{Puts, CountsFailures};
@@ -275,7 +275,7 @@ pub(crate) fn put_more_runs<K: Sink>(
     numbers: &[u32],
 ) -> Result<(), Failed>
     ensures gathers { Puts K.Sink out.old out.new strip.old strip.new result
-        (flat_map (behind 44 span_text) (spans_in 2 numbers.now)) }
+        (flat_map (behind 44 span_text) (spans_in newest numbers.now)) }
     ensures counts { CountsFailures K.Sink out.old out.new result }
 {
     let mut rest = numbers;

@@ -545,35 +545,82 @@ fn the_first_bad_line_is_told(rt: HostRuntime) -> Result<(), Fail> {
     Ok(())
 }
 
-// texts of either version, each with its version, its pool, how many entries it has, and the free
-// buffers
-const EITHER_TEXTS: [(&[u8], [u32; 3], usize); 5] = [
-    (b"vale 1 pool 8\nend 0 free 7\n", [1, 8, 7], 0),
-    (b"vale 2 pool 8\nend 0 free 7\n", [2, 8, 7], 0),
+// texts of either version, each with its version, its pool and the free buffers, and the buffers that
+// its entry lists
+const EITHER_TEXTS: [(&[u8], [u32; 3], &[u32]); 8] = [
+    (b"vale 1 pool 8\nend 0 free 8\n", [1, 8, 8], &[]),
+    (
+        b"vale 1 pool 65536\nend 0 free 4294967295\n",
+        [1, 65_536, u32::MAX],
+        &[],
+    ),
+    (b"vale 2 pool 8\nend 0 free 7\n", [2, 8, 7], &[]),
     (
         b"vale 1 pool 8\n1 1 sync 2 2,3,5 = gave 0 to -\nend 1 free 3\n",
         [1, 8, 3],
-        1,
+        &[2, 3, 5],
     ),
     (
         b"vale 2 pool 8\n1 1 sync 2 2-3,5 = gave 0 to -\nend 1 free 3\n",
         [2, 8, 3],
-        1,
+        &[2, 3, 5],
     ),
     (
         b"vale 2 pool 8\n1 1 get 2 4-5,3-4,9,8 = gave 0 to -\nend 1 free 3\n",
         [2, 8, 3],
-        1,
+        &[4, 5, 3, 4, 9, 8],
+    ),
+    (
+        b"vale 2 pool 8\n1 1 finish 2 7,7-10 found 0 astray 0 = unread 0\nend 1 free 3\n",
+        [2, 8, 3],
+        &[7, 7, 8, 9, 10],
+    ),
+    (
+        b"vale 2 pool 8\n1 1 get 2 4294967294-4294967295,0 = gave 0 to -\nend 1 free 3\n",
+        [2, 8, 3],
+        &[4_294_967_294, u32::MAX, 0],
     ),
 ];
 
+/// The buffers that the first entry lists.
+fn first_listed(entries: &[Entry]) -> &[u32] {
+    let Some(entry) = entries.first() else {
+        return &[];
+    };
+    match &entry.ask {
+        Ask::Sync { back, .. } | Ask::Get { back, .. } => back.as_slice(),
+        Ask::Finish { bufs, .. } => bufs.as_slice(),
+        _ => &[],
+    }
+}
+
 #[test]
 fn texts_of_either_version_are_read(rt: HostRuntime) -> Result<(), Fail> {
-    for (text, numbers, count) in EITHER_TEXTS {
+    for (text, numbers, listed) in EITHER_TEXTS {
         assert!(rt; text.len() < 4_294_967_295);
         let told = read_any(rt.alloc(), text).ok().ok_or("read")?;
         assert_eq!(rt; [told.version, told.pool, told.free], numbers);
-        assert_eq!(rt; told.entries.len(), count);
+        assert_eq!(rt; first_listed(&told.entries), listed);
+        assert!(rt; told.entries.is_empty() == listed.is_empty());
+    }
+    Ok(())
+}
+
+// texts with a line that lists more buffers than are read, in either version
+const LARGE_TEXTS: [&[u8]; 3] = [
+    b"vale 2 pool 8\n1 1 sync 2 0-4294967295 = gave 0 to -\nend 1 free 0\n",
+    b"vale 2 pool 8\n1 1 sync 2 9,0-1048575 = gave 0 to -\nend 1 free 0\n",
+    b"vale 1 pool 8\n1 1 get 2 2-4294967295 = gave 0 to -\nend 1 free 0\n",
+];
+
+#[test]
+fn large_lists_are_not_read(rt: HostRuntime) -> Result<(), Fail> {
+    for text in LARGE_TEXTS {
+        assert!(rt; text.len() < 4_294_967_295);
+        match read_any(rt.alloc(), text) {
+            Ok(_) => assert!(rt; false),
+            Err(fault) => assert_eq!(rt; fault, TextFault::NoMemory),
+        }
     }
     Ok(())
 }

@@ -4,11 +4,11 @@ ghost use Rattle.std.specs.Str.{bytes_eq};
 ghost use Rattle.nm_io.specs.Counts.{Rose};
 ghost use Rattle.nm_io.specs.Gathered.{Gathers};
 ghost use Rattle.nm_io.specs.Held.{grown, Writes};
-ghost use Rattle.vale_entry.specs.Transcript.{start_line, entry_line, entry_lines, end_line, text_of};
+ghost use Rattle.vale_entry.specs.Transcript.{newest, start_line, entry_line, entry_lines, end_line, text_of};
 ghost use Rattle.vale_text.specs.declared.transcript.PutError.TheVariants.{Failed as PutFailed, NoMemory as OutOfMemory};
 ghost use Rattle.vale_text.specs.Written.{LineBytes, BlamesSink};
 
-use crate::rows::{EndLine, EntryLine, StartLine, VERSION, put_whole_line};
+use crate::rows::{EndLine, EntryLine, NEWEST, StartLine, put_whole_line};
 use crate::strip::Strip;
 use nm_io::{Failed, Sink, Text, put_all};
 use nm_types::NoMemory;
@@ -170,7 +170,7 @@ fn put_entry<K: Sink>(
 ) -> Result<(), PutError>
     requires { strip.old ≡ [] }
     ensures gathers { Gathers (K.holds out.old) (K.holds out.new) lines.old.bytes lines.new.bytes
-        result (entry_line 2 number entry.now) }
+        result (entry_line newest number entry.now) }
     ensures later { K.faults out.old ≤ K.faults out.new }
     ensures cause { IfErr result (BlamesSink (K.faults out.old) (K.faults out.new)) }
     ensures emptied { OnOk result (strip.new ≡ []) }
@@ -179,7 +179,7 @@ fn put_entry<K: Sink>(
         lines,
         strip,
         &EntryLine {
-            version: VERSION,
+            version: NEWEST,
             number,
             entry,
         },
@@ -194,7 +194,7 @@ fn put_entry<K: Sink>(
 fn put_entries<K: Sink>(out: &mut K, lines: &mut Lines, entries: &[Entry]) -> Result<(), PutError>
     requires { length entries.now < 2 ^ 32 - 1 }
     ensures gathers { Gathers (K.holds out.old) (K.holds out.new) lines.old.bytes lines.new.bytes
-        result (entry_lines 2 1 entries.now) }
+        result (entry_lines newest 1 entries.now) }
     ensures later { K.faults out.old ≤ K.faults out.new }
     ensures cause { IfErr result (BlamesSink (K.faults out.old) (K.faults out.new)) }
 {
@@ -209,7 +209,7 @@ fn put_entries<K: Sink>(out: &mut K, lines: &mut Lines, entries: &[Entry]) -> Re
 #[tactic(auto, using(crate::proofs::Entries::gathering_lines))]
 fn put_start<K: Sink>(out: &mut K, lines: &mut Lines, pool: u32) -> Result<(), PutError>
     requires { lines.old.bytes ≡ [] }
-    ensures writes { Writes (K.holds out.old) (K.holds out.new) result (start_line 2 pool) }
+    ensures writes { Writes (K.holds out.old) (K.holds out.new) result (start_line newest pool) }
     ensures emptied { OnOk result (lines.new.bytes ≡ []) }
     ensures later { K.faults out.old ≤ K.faults out.new }
     ensures cause { IfErr result (BlamesSink (K.faults out.old) (K.faults out.new)) }
@@ -217,7 +217,7 @@ fn put_start<K: Sink>(out: &mut K, lines: &mut Lines, pool: u32) -> Result<(), P
     gather(
         lines,
         &StartLine {
-            version: VERSION,
+            version: NEWEST,
             pool,
         },
     )?;
@@ -236,7 +236,7 @@ fn put_rest<K: Sink>(
     requires few { length entries.now < 2 ^ 32 - 1 }
     requires empty { lines.old.bytes ≡ [] }
     ensures writes { Writes (K.holds out.old) (K.holds out.new) result
-        (entry_lines 2 1 entries.now ++ end_line (length entries.now) free) }
+        (entry_lines newest 1 entries.now ++ end_line (length entries.now) free) }
     ensures later { K.faults out.old ≤ K.faults out.new }
     ensures cause { IfErr result (BlamesSink (K.faults out.old) (K.faults out.new)) }
 {
@@ -258,7 +258,7 @@ pub fn write_transcript<K: Sink>(
     free: u32,
 ) -> Result<(), PutError>
     requires { length entries.now < 2 ^ 32 - 1 }
-    ensures writes { Writes (K.holds out.old) (K.holds out.new) result (text_of 2 pool entries.now free) }
+    ensures writes { Writes (K.holds out.old) (K.holds out.new) result (text_of newest pool entries.now free) }
     ensures later { K.faults out.old ≤ K.faults out.new }
     ensures cause { IfErr result (BlamesSink (K.faults out.old) (K.faults out.new)) }
 {

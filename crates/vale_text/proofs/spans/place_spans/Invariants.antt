@@ -8,7 +8,7 @@ invariant-loop-buf l = record {
   within : l.end ≤ length l.buf;
   same : length l.buf ≡ length l.fn.buf;
   fewer : length l.rest < length l.numbers;
-  hundreds : l.high < 100;
+  hundreds : (10 ≤ l.high) × (l.high < 100);
 }
 
 abbrev pub decreases-loop-buf : goal.decreases-loop-buf
