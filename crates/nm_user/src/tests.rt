@@ -14,7 +14,6 @@ use vale_fabric::{Fabric, Pass};
 mod extras;
 mod gates;
 mod lines;
-mod refusals;
 mod threads;
 mod waiting;
 
@@ -147,16 +146,6 @@ fn user_slots(session: &Session, port: PortId, side: Side) -> Option<(u32, u32)>
     }
 }
 
-/// A user comes, opens a port, looks at its rings and leaves.
-fn open_and_leave<R: AllocGlobal + Abort + Wait>(rt: &R, fabric: &Fabric, pass: Pass)
-    requires { IsPassIn fabric.now pass }
-{
-    let User { session, port } = come(rt, fabric, pass, 1, "vale0:a", FOUR);
-    assert_eq!(rt; user_slots(&session, port, Side::Tx), Some((0, 3)));
-    assert_eq!(rt; user_slots(&session, port, Side::Rx), Some((0, 0)));
-    drop(session.leave(rt));
-}
-
 /// A frame that was put goes on, and so many ports are granted it.
 fn send<R: Abort + Wait>(rt: &R, session: &mut Session, port: PortId, given: u32)
     ensures { session.new.fabric ≡ session.old.fabric }
@@ -272,6 +261,8 @@ fn send_and_leave<R: AllocGlobal + Abort + Wait>(rt: &R, fabric: &Fabric, pass: 
     let mut sender = come(rt, fabric, pass, 1, "vale0:a", FOUR);
     let mut receiver = come(rt, fabric, two, 2, "vale0:b", FOUR);
     let (from, to) = (sender.port, receiver.port);
+    assert_eq!(rt; user_slots(&sender.session, from, Side::Tx), Some((0, 3)));
+    assert_eq!(rt; user_slots(&sender.session, from, Side::Rx), Some((0, 0)));
     sender.session.put_frame(from, &FRAME);
     send(rt, &mut sender.session, from, 1);
     receive(rt, &mut receiver.session, to);
@@ -303,13 +294,6 @@ fn pipe_and_watch<R: AllocGlobal + Abort + Wait>(rt: &R, fabric: &Fabric, pass: 
     let mut left = leave(rt, master);
     fabric.join(&mut left, leave(rt, slave));
     fabric.join(&mut left, leave(rt, watcher));
-}
-
-#[test]
-fn a_user_opens_a_port_and_leaves(rt: HostRuntime) -> Result<(), Fail> {
-    let (_, history) = play(&rt, |fabric, pass| open_and_leave(&rt, fabric, pass))?;
-    assert_eq!(rt; history.len(), 5);
-    Ok(())
 }
 
 #[test]

@@ -1,7 +1,7 @@
 //! What a history has, entry by entry, and the history of users who have left.
 ghost use Rattle.nm_user.specs.Words.{IsPassIn};
 
-use nm_types::{Chain, Limits, NoMemory, Side, SyncFault};
+use nm_types::{Chain, Limits, NoMemory};
 use std::process::Abort;
 use std::sync::Wait;
 use vale_entry::{Ask, Entry, History, Reply};
@@ -30,8 +30,6 @@ pub(super) enum Line {
     Done(u32),
     /// A sync: the port, and how many frames came.
     Sync(u32, u32),
-    /// A refused sync.
-    Reset(u32, Side, SyncFault),
     /// A port that is shut.
     Shut(u32),
     /// A port that goes: its chain of extra buffers, and how many frames nobody read.
@@ -50,7 +48,6 @@ fn line_of(entry: &Entry) -> Line {
         }
         (Ask::Done { lease }, Reply::Made) => Line::Done(lease.0),
         (Ask::Sync { port, .. }, Reply::Gave { count, .. }) => Line::Sync(port.0, *count),
-        (Ask::Reset { port, side, fault }, Reply::Made) => Line::Reset(port.0, *side, *fault),
         (Ask::Shut { port }, Reply::Made) => Line::Shut(port.0),
         (Ask::Finish { port, chain, .. }, Reply::Unread { count }) => {
             Line::Finish(port.0, *chain, *count)
