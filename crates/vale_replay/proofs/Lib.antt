@@ -25,3 +25,8 @@ pub mod Parts
 pub mod Promises
 pub mod Behind
 pub mod PutRooms
+pub mod Longer
+pub mod Added
+pub mod Followed
+pub mod Taken
+pub mod Tellable
