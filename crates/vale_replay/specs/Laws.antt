@@ -10,7 +10,7 @@ use Rattle.vale_script.specs.declared.script.Unit.TheVariants as parts
 use Rattle.vale_script.specs.Script.{Program}
 use Rattle.nm_types.specs.declared.id.SessionId.{SessionId}
 use Rattle.vale_own.specs.Laws.{IsOfOther}
-use Rattle.vale_replay.specs.Machine.{Machine, next_call}
+use Rattle.vale_replay.specs.Machine.{Machine, pending_call}
 use Rattle.vale_replay.specs.Replay.{Replays, HasPlayed, Reaches, ReplaysUser, IsUnderWay, ComesTo, entry_made, last_of}
 use Rattle.vale_replay.specs.Tasks.{Captures}
 
@@ -93,13 +93,13 @@ StatesAreOne =
     → ReplaysUser pool history before numbers after → ReplaysUser pool history before numbers other
     → after ≡ other
 
--- entries of others leave the call that a user needs next as it is
+-- entries of others leave the call that a user has pending as it is
 abbrev pub OthersChangeNoCall : Type 0
 OthersChangeNoCall =
     (pool : ℕ) (past more : List Entry) (user : Machine) (session : SessionId)
     → user.session ≡ Some session → IsLegal pool (past ++ more)
     → All (IsOfOther session.0) more
-    → next_call (world_of pool (past ++ more)) user ≡ next_call (world_of pool past) user
+    → pending_call (world_of pool (past ++ more)) user ≡ pending_call (world_of pool past) user
 
 -- The states of a script's users, with blocks too: an entry's session tells its user.
 

@@ -129,10 +129,15 @@ abbrev pub call_of_tasks : Machine → List Task → Option Ask
 call_of_tasks user [] = None
 call_of_tasks user (task ∷ tasks) = call_of_task user task
 
--- the next call of a resting user; none where it has nothing to do and is settled
-abbrev pub next_call : World → Machine → Option Ask
-next_call w user =
+-- The call that a resting user has pending, by what it has and what its session owes: none where it
+-- has nothing to do and is settled. Entries of others leave it as it is.
+abbrev pub pending_call : World → Machine → Option Ask
+pending_call w user =
     option_or (option_and_then (settling_call w) user.session) (call_of_tasks user user.tasks)
+
+-- the call that the user needs next, as it is made in what stands: the pending one, as it is
+abbrev pub next_call : World → Machine → Option Ask
+next_call w user = pending_call w user
 
 -- What the entry of a call makes of its user.
 
