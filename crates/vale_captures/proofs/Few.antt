@@ -4,7 +4,7 @@ use Rattle.std.specs.List.{AllByRecursion}
 use Rattle.std.proofs.lemmas.List.{length-map, length-drop}
 use Rattle.std.proofs.lemmas.List.Sums.{sum_by-cons}
 use Rattle.nm_io.specs.Files.{Files}
-use Rattle.pcap_io.specs.Capture.{Reader, AreRecords, IsCapture, number_in}
+use Rattle.pcap_io.specs.Capture.{Reader, AreRecords, number_in}
 use Rattle.pcap_io.specs.Limits.{head_bytes, header_bytes}
 use Rattle.pcap_io.specs.declared.record.Record.{Record}
 use Rattle.vale_script.specs.declared.script.Act.{Act}
@@ -16,7 +16,6 @@ use Rattle.vale_script.specs.Sound.{IsSoundUnit, IsSoundLine, IsSoundAct}
 use Rattle.vale_replay.specs.Replay.{act_of}
 use Rattle.vale_replay.specs.Saved.{acts_of_unit}
 use Rattle.vale_captures.specs.Counting.{CountsFew, PlaysFew, count_of, frames_by}
-use Rattle.vale_captures.specs.Outputs.{IsShortRecord}
 use Rattle.vale_captures.specs.Inputs.{InputFile, IsInput, AreInputs, captured, records_in}
 use Rattle.vale_captures.proofs.FewLines.{few-acts}
 
@@ -138,11 +137,3 @@ plays-few files names played size script program is short are small =
     let each : (file : List ℕ) → length (records_in played file) ≤ most = λ file. (let one = played-few files names played size file are in omega (arith, one, small)) in
     let sum = sum-few (frames_by played) most acts (all-of (λ (act : Act). frames_by played act ≤ most) (act-plays played most each) acts) in
     omega (arith, few, sum, short)
-
--- the records of a capture can be written
-records-short : (number : Reader) (text : List ℕ) (records : List Record) → AreRecords number text records → AllByRecursion IsShortRecord records
-records-short number text [] are = tt
-records-short number text (r ∷ rs) are = (are.0.limit, records-short number (drop (head_bytes + length r.bytes) text) rs are.1)
-
-pub capture_short : (bytes : List ℕ) (records : List Record) → IsCapture bytes records → AllByRecursion IsShortRecord records
-capture_short bytes records is = records-short (number_in is.order) (drop header_bytes bytes) records is.body
