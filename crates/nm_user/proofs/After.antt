@@ -142,8 +142,8 @@ entered-as true s session reply e = sym (ap session-in e)
 entered-as false s session reply e = absurd cc
 
 -- a session that has just come has nothing
-pub there-come : {fabric : Fabric} {fixed : Fixed} {v w : Knowing} {user : ℕ} (m : Makes fixed v w (Enter user)) → IsThere None (record { fabric = fabric; fixed = fixed; knows = w; id = length w.seen; own = empty_own fixed.pool })
-there-come {fabric} {fixed} {v} {w} {user} m =
+pub there-come : {fabric : Fabric} {fixed : Fixed} {v w : Knowing} {user number : ℕ} (m : Makes fixed v w (Enter user)) → IsThere None (record { fabric = fabric; fixed = fixed; knows = w; id = length w.seen; user = number; own = empty_own fixed.pool })
+there-come {fabric} {fixed} {v} {w} {user} {number} m =
     let pool = fixed.pool in
     let e = entry_by m.session (Enter user) m.reply in
     let l = last m in

@@ -208,6 +208,7 @@ module _ (s : SessionState) (w x : Knowing) (port : PortId) (bufs : List ℕ) (c
         fabric = refl;
         fixed = refl;
         id_is = refl;
+        user = refl;
       }
 
 -- ---- one port after another

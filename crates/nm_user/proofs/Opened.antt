@@ -219,7 +219,7 @@ module _ (s : SessionState) (w : Knowing) (name : List ℕ) (tx rx extra : ℕ) 
           side = there.0;
           side_is = there.1;
           there = subst (λ (o : OwnState). IsThere None (record s { knows = w; own = o })) (sym now) (there-answered t may a refl refl tt);
-          made = record { answers = a; fabric = refl; fixed = refl; id = refl; own = now };
+          made = record { answers = a; fabric = refl; fixed = refl; id = refl; user = refl; own = now };
         }
 
   pub unopened-there : (fault : OpenFault) → FabricOpensNot s.fixed s.knows w ask fault → IsThere None (record s { knows = w })
@@ -233,7 +233,7 @@ module _ (s : SessionState) (w : Knowing) (name : List ℕ) (tx rx extra : ℕ) 
 
 module _ (s : SessionState) (w : Knowing) (name : List ℕ) (tx rx extra : ℕ) where
   said : (fault : OpenFault) → Answers s.fixed s.knows w (opening s name tx rx extra) (Refused fault) → Made s (record s { knows = w }) (opening s name tx rx extra) (Refused fault)
-  said fault a = record { answers = a; fabric = refl; fixed = refl; id = refl; own = refl }
+  said fault a = record { answers = a; fabric = refl; fixed = refl; id = refl; user = refl; own = refl }
 
   pub unopened : (fault : OpenFault) → FabricOpensNot s.fixed s.knows w (opening s name tx rx extra) fault → OpensNot s (record s { knows = w }) (opening s name tx rx extra) fault
   unopened BadSize a = said BadSize a

@@ -70,7 +70,7 @@ stat-there port (Err fault) t some made full = there-still t full.none
 -- one entry was made, which changes nothing of what the session has
 pub counted : (s : SessionState) (w : Knowing) (port : PortId) (r : Result Counts StepFault) → IfOk r (λ counts. Answers s.fixed s.knows w (Stat port) (Counted counts))
     → IfOk r (λ counts. Made s (record s { knows = w }) (Stat port) (Counted counts))
-counted s w port (Ok counts) made = record { answers = made; fabric = refl; fixed = refl; id = refl; own = refl }
+counted s w port (Ok counts) made = record { answers = made; fabric = refl; fixed = refl; id = refl; user = refl; own = refl }
 counted s w port (Err fault) made = made
 
 pub none-made : {X : Type 0} (s : SessionState) (w : Knowing) (ask : Ask) (r : Result X StepFault) → IfErr r (Refuses s.fixed s.knows w ask) → IfErr r (MadeNone s (record s { knows = w }) ask)

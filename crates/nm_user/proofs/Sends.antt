@@ -263,6 +263,7 @@ synced {s} {w} {x} {ask} {reply} {shares} new a mine settling settled made =
       fabric = refl;
       fixed = refl;
       id = refl;
+      user = refl;
       settled = settled;
     }
 

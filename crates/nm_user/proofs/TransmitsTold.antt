@@ -82,7 +82,7 @@ module _ {s : SessionState} {port : PortId} {gots : List Got} (k : CanPut s port
 
   says : (w : Knowing) (fault : PutFault) (side : SideState) → side.own ≡ s.own → PutsNot s.fixed s.knows w port (items_of gots) fault → Says (record s { knows = w; own = (side_after_fault fault port.0 side).own }) (sync_fault_of_put fault)
   says w PeerGone side same gone =
-      let made : Made s (record s { knows = w; own = own_after_put port.0 [] s.own }) (Put port (items_of gots)) replies.PeerGone = record { answers = gone; fabric = refl; fixed = refl; id = refl; own = refl } in
+      let made : Made s (record s { knows = w; own = own_after_put port.0 [] s.own }) (Put port (items_of gots)) replies.PeerGone = record { answers = gone; fabric = refl; fixed = refl; id = refl; user = refl; own = refl } in
       let of : Made s (record s { knows = w; own = own_after_put port.0 [] s.own }) call replies.PeerGone =
       subst (λ (ask : Ask). Made s (record s { knows = w; own = own_after_put port.0 [] s.own }) ask replies.PeerGone) (sym k.puts_are.is) made in
       (k.puts_are.passes, subst (λ (o : OwnState). Made s (record s { knows = w; own = own_after_put port.0 [] o }) call replies.PeerGone) (sym same) of)

@@ -18,6 +18,7 @@ pub record Made (s t : SessionState) (ask : Ask) (reply : Reply) : Type 0 where
   pub fabric : t.fabric ≡ s.fabric
   pub fixed : t.fixed ≡ s.fixed
   pub id : t.id ≡ s.id
+  pub user : t.user ≡ s.user
   pub own : t.own ≡ own_by (length t.knows.seen) (kept_ask ask) reply (arrivals_of (standing (before_in s.fixed t.knows)) (kept_ask ask) reply) s.own
 
 -- no memory was had before the fabric was asked; or it made no entry, for which it had no room

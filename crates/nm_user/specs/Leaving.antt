@@ -47,6 +47,7 @@ pub record IsDetached (s t : SessionState) (id : ℕ) (detached : Detached) : Ty
   pub fabric : t.fabric ≡ s.fabric
   pub fixed : t.fixed ≡ s.fixed
   pub id_is : t.id ≡ s.id
+  pub user : t.user ≡ s.user
 
 -- these ports, one after another
 abbrev pub AreDetached : SessionState → List OwnPort → SessionState → Type 0

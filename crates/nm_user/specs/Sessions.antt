@@ -12,13 +12,14 @@ use Rattle.vale_fabric.specs.declared.kept.Fixed.{Fixed}
 use Rattle.vale_fabric.specs.Fabrics.{Knowing, IsPassIn, fixed_in, knowing, seen_in}
 use Rattle.nm_user.specs.declared.session.Session.TheInside.{Inside}
 
--- its fabric and what never changes of it, what its pass knows, its number, and what it has on its own
--- side
+-- its fabric and what never changes of it, what its pass knows, its number, whose it is, and what it has
+-- on its own side
 pub record SessionState : Type 0 where
   pub fabric : Fabric
   pub fixed : Fixed
   pub knows : Knowing
   pub id : ℕ
+  pub user : ℕ
   pub own : OwnState
 
 -- an own side that is away has nothing
@@ -27,7 +28,7 @@ own_in None = empty_own 0
 own_in (Some side) = side.own
 
 abbrev pub session_seen : Inside → SessionState
-session_seen s = record { fabric = s.fabric.now; fixed = fixed_in s.fabric.now; knows = knowing s.pass; id = s.id.0; own = own_in s.own }
+session_seen s = record { fabric = s.fabric.now; fixed = fixed_in s.fabric.now; knows = knowing s.pass; id = s.id.0; user = s.user; own = own_in s.own }
 
 -- all that stands, as the session has seen it last
 abbrev pub standing_seen : Fixed → Knowing → Standing

@@ -28,6 +28,7 @@ use Rattle.vale_fabric.specs.declared.settling.Shares.{Shares}
 use Rattle.vale_fabric.specs.Roots.{root_of}
 use Rattle.vale_fabric.specs.Fabrics.{record_in, entry_by}
 use Rattle.vale_fabric.specs.Settling.{IsSettlingIn, AreShares}
+use Rattle.vale_fabric.specs.Passing.{Passed, HasPassed}
 use Rattle.nm_user.specs.declared.sending.Sent.{Sent}
 use Rattle.nm_user.specs.Sessions.{SessionState, standing_seen}
 use Rattle.nm_user.specs.Calls.{Made, MadeNone}
@@ -51,7 +52,12 @@ pub record Synced (s t : SessionState) (ask : Ask) (reply : Reply) (shares : Sha
   pub fabric : t.fabric ≡ s.fabric
   pub fixed : t.fixed ≡ s.fixed
   pub id : t.id ≡ s.id
+  pub user : t.user ≡ s.user
   pub settled : is_settled_own (own_of t.id (standing_seen t.fixed t.knows)) ≡ true
+
+-- the session's user passed at a gate the stages of the leases that a call completed
+abbrev pub PassesBy : SessionState → SessionState → Passed → Passed → Type 0
+PassesBy s t before after = HasPassed s.user s.knows t.knows before after
 
 -- the port of an id, with its transmit ring
 pub record HasTx (own : OwnState) (id : ℕ) : Type 0 where

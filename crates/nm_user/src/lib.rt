@@ -39,7 +39,10 @@
 //!
 //! **Gates.** A sync passes its gate (`nm_io::Gate`) as it settles what it offered: after each grant
 //! that gave a lease, after the lease is filled, and after it is completed. No lock is held then, so a
-//! gate may wait for other threads, or run sessions of its own. A gate that is called within a turn
+//! gate may wait for other threads, or run sessions of its own. What a gate is told is that each user
+//! passes the three stages of each of its leases, in their order: contracts say so of `tx_sync_past`
+//! and `rx_sync_past`, whose gate (`OwnGate`) no other thread shares. `tx_sync` and `rx_sync` are these
+//! past a gate that threads share. A gate that is called within a turn
 //! cannot be written: a call of the fabric takes the turn, makes one step and gives the turn up before
 //! it returns, none of the calls that make a step is handed a gate, and the gate is called between
 //! them.
@@ -70,3 +73,4 @@ pub use nm_own::SlotPlace;
 pub use receiving::Received;
 pub use sending::Sent;
 pub use session::Session;
+pub use vale_fabric::{OwnGate, SharedGate};

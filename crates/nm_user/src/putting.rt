@@ -1,6 +1,6 @@
 //! A transmit sync of a pipe end: what is pushed is offered to the other end.
 ghost use Rattle.std.specs.Prelude.{ℕ, true, ◌≡◌, ◌≤◌, List, [], length, map, None};
-ghost use Rattle.std.specs.Prelude.{IsSome, IfOk, IfErr};
+ghost use Rattle.std.specs.Prelude.{IsSome, IfOk, IfErr, OnOk, OnErr};
 ghost use Rattle.nm_user.specs.Words.{AllOf, AreOf, Got, SideState, Tx, blank_arrivals, buffers_of};
 ghost use Rattle.nm_user.specs.Words.{bytes_at, bytes_of_buffers, indices_of, offered_buffers};
 ghost use Rattle.nm_user.specs.Words.{offered_lengths, own_after_put, refusal_at, ring_at};
@@ -8,12 +8,11 @@ ghost use Rattle.nm_user.specs.Words.{vec_capacity};
 ghost use Rattle.nm_user.specs.Sessions.{IsThere};
 ghost use Rattle.nm_user.specs.Offering.{gots_of, side_after_fault, sync_fault_of_put};
 ghost use Rattle.nm_user.specs.Offering.{IsOffering, CanTake};
-ghost use Rattle.nm_user.specs.Syncs.{IsPut, PassesTx, TransmitsNot};
+ghost use Rattle.nm_user.specs.Syncs.{IsPut, PassesBy, PassesTx, TransmitsNot};
 
 use crate::receiving::put_back;
 use crate::sending::Sent;
 use crate::session::Session;
-use nm_io::Gate;
 use nm_own::{LentOffers, OwnSide};
 use nm_region::Buf;
 use nm_types::{NoMemory, PortId, SyncFault};
@@ -21,7 +20,7 @@ use std::alloc::Global;
 use std::marker::Model;
 use std::sync::Wait;
 use vale_book::{Put, PutFault};
-use vale_fabric::Frames;
+use vale_fabric::{Frames, OwnGate};
 use vale_line::Got;
 
 /// Memory for the frames that a put offers, and how many bytes each of them has.
@@ -244,16 +243,19 @@ impl<'f> Session<'f> {
 
     /// Offers what is pushed at the transmit ring of a pipe end to the other end, for a push that no
     /// check refuses.
-    pub(crate) fn put_sync<R: Wait, G: Gate>(
+    pub(crate) fn put_sync<R: Wait, G: OwnGate>(
         &mut self,
         rt: &R,
         port: PortId,
-        gate: &G,
+        gate: &mut G,
     ) -> Result<Sent, SyncFault>
         requires { PassesTx true self.old.own port.0 }
         ensures put { IfOk result (IsPut self.old self.new port.0) }
         ensures refused { IfErr result (TransmitsNot self.old self.new port.0) }
         ensures there { IsThere None self.new }
+        ensures passed { OnOk result (PassesBy self.old self.new (G.passed gate.old)
+            (G.passed gate.new)) }
+        ensures unpassed { OnErr result (G.passed gate.new ≡ G.passed gate.old) }
     {
         let room = self.room_to_offer(port)?;
         let own = match self.own.take() {

@@ -1,7 +1,7 @@
 //! A receive sync: the buffers of the pushed slots go back, and what was granted to the port is
 //! published in its ring.
 ghost use Rattle.std.specs.Prelude.{ℕ, true, ◌≡◌, ◌≤◌, ◌<◌, ◌^◌, [], length, take, fold};
-ghost use Rattle.std.specs.Prelude.{IsSome, IfSome, IfOk, IfErr, Some, None};
+ghost use Rattle.std.specs.Prelude.{IsSome, IfSome, IfOk, IfErr, OnOk, OnErr, Some, None};
 ghost use Rattle.nm_user.specs.Words.{AllOf, AreOf, IsBufferOf, IsNew, IsPassIn, IsRead, MayIn};
 ghost use Rattle.nm_user.specs.Words.{RefusesIn, Rx, back_on, buffers_of, can_receive};
 ghost use Rattle.nm_user.specs.Words.{fixed_in, indices_of, is_pipe_name, knowing};
@@ -10,6 +10,7 @@ ghost use Rattle.nm_user.specs.Words.{port_with_id, read_ask, refusal_at, ring_a
 ghost use Rattle.nm_user.specs.Words.{vec_capacity};
 ghost use Rattle.nm_user.specs.Sessions.{IsThere};
 ghost use Rattle.nm_user.specs.Receives.{IsReceived, ReceivesNot};
+ghost use Rattle.nm_user.specs.Syncs.{PassesBy};
 ghost use Rattle.nm_user.specs.Receiving.{arrival_in, arrivals_in, CanCome};
 
 use crate::session::Session;
@@ -20,7 +21,7 @@ use nm_types::{PortId, Side, StepFault, SyncFault};
 use std::alloc::{AllocError, Global};
 use std::sync::Wait;
 use vale_book::Synced;
-use vale_fabric::{Fabric, Frames, Pass};
+use vale_fabric::{Fabric, Frames, OwnGate, Pass, SharedGate};
 use vale_line::Got;
 
 /// What a receive sync told. The frames that it brought stand in the last slots before the tail.
@@ -172,12 +173,12 @@ impl<'f> Session<'f> {
     /// Makes a receive sync that no check refuses, of a pipe end or of another port. The gate is
     /// passed as frames go to the port's monitor: after each grant that gave a lease, after its
     /// filling and after its completion. If it is refused nothing has changed.
-    pub(crate) fn receive<R: Wait, G: Gate>(
+    pub(crate) fn receive<R: Wait, G: OwnGate>(
         &mut self,
         rt: &R,
         port: PortId,
         is_pipe: bool,
-        gate: &G,
+        gate: &mut G,
     ) -> Result<Received, StepFault>
         requires there { IsSome (port_with_id self.old.own port.0) }
         requires kind { IfSome (port_with_id self.old.own port.0)
@@ -187,6 +188,9 @@ impl<'f> Session<'f> {
         ensures full { IfErr result (λ fault.
             ReceivesNot self.old self.new port.0 (sync_fault_of fault)) }
         ensures there { IsThere None self.new }
+        ensures passed { OnOk result (PassesBy self.old self.new (G.passed gate.old)
+            (G.passed gate.new)) }
+        ensures unpassed { OnErr result (G.passed gate.new ≡ G.passed gate.old) }
     {
         let room = self.back_room(port)?;
         let own = match self.own.take() {
@@ -267,6 +271,26 @@ impl<'f> Session<'f> {
         ensures received { IfOk result (IsReceived self.old self.new port.0) }
         ensures refused { IfErr result (ReceivesNot self.old self.new port.0) }
         ensures there { IsThere None self.new }
+    {
+        self.rx_sync_past(rt, port, &mut SharedGate::new(gate))
+    }
+
+    /// Syncs a port's receive ring as `rx_sync` does, past a gate that the user has for itself. For
+    /// each lease that the sync completes it passes the three stages, in their order and as the
+    /// session's user; where the sync fails it passes none.
+    pub fn rx_sync_past<R: Wait, G: OwnGate>(
+        &mut self,
+        rt: &R,
+        port: PortId,
+        gate: &mut G,
+    ) -> Result<Received, SyncFault>
+        requires { IsSome (port_with_id self.old.own port.0) }
+        ensures received { IfOk result (IsReceived self.old self.new port.0) }
+        ensures refused { IfErr result (ReceivesNot self.old self.new port.0) }
+        ensures there { IsThere None self.new }
+        ensures passed { OnOk result (PassesBy self.old self.new (G.passed gate.old)
+            (G.passed gate.new)) }
+        ensures unpassed { OnErr result (G.passed gate.new ≡ G.passed gate.old) }
     {
         if let Err(fault) = self.check(port, Side::Rx) {
             return Err(self.refuse(rt, port, Side::Rx, fault));

@@ -1,19 +1,20 @@
 //! A transmit sync: what was pushed is sent, or put to a pipe's other end, and what it offers is
 //! settled.
-ghost use Rattle.std.specs.Prelude.{false, true, ◌≡◌, IsSome, IfOk, IfErr, OnOk, None, Some};
+ghost use Rattle.std.specs.Prelude.{false, true, ◌≡◌, IsSome, IfOk, IfErr, OnOk, OnErr, None, Some};
 ghost use Rattle.nm_user.specs.Words.{TellsRefusal, Tx, fits_fault, refusal_at, ring_at};
 ghost use Rattle.vale_entry.specs.declared.entry.Ask.TheVariants as asks;
 ghost use Rattle.vale_entry.specs.declared.entry.Reply.TheVariants as replies;
 ghost use Rattle.nm_user.specs.Sessions.{IsThere};
 ghost use Rattle.nm_user.specs.Calls.{Made, MadeNone};
 ghost use Rattle.nm_user.specs.Receives.{RingNot};
-ghost use Rattle.nm_user.specs.Syncs.{IsSent, IsTransmitted, IsUnsent, PassesTx, TransmitsNot};
+ghost use Rattle.nm_user.specs.Syncs.{IsSent, IsTransmitted, IsUnsent, PassesBy, PassesTx};
+ghost use Rattle.nm_user.specs.Syncs.{TransmitsNot};
 
 use crate::session::Session;
 use nm_io::Gate;
 use nm_types::{PortId, Side, StepFault, SyncFault};
 use std::sync::Wait;
-use vale_fabric::Frames;
+use vale_fabric::{Frames, OwnGate, SharedGate};
 
 /// What a transmit sync told, in frames. The last three count a frame once for each port that wants
 /// it: the ports of the switch to which it goes, and the sender's monitor. At a pipe's end that is the
@@ -42,16 +43,19 @@ impl<'f> Session<'f> {
     /// Sends what is pushed at a port's transmit ring, and settles what it offers. The gate is
     /// passed after each grant that gave a lease, after its filling and after its completion. A
     /// full record and want of memory leave it pushed.
-    pub(crate) fn send_sync<R: Wait, G: Gate>(
+    pub(crate) fn send_sync<R: Wait, G: OwnGate>(
         &mut self,
         rt: &R,
         port: PortId,
-        gate: &G,
+        gate: &mut G,
     ) -> Result<Sent, StepFault>
         requires { PassesTx false self.old.own port.0 }
         ensures sent { IfOk result (IsSent self.old self.new port.0) }
         ensures full { IfErr result (IsUnsent self.old self.new port.0) }
         ensures there { IsThere None self.new }
+        ensures passed { OnOk result (PassesBy self.old self.new (G.passed gate.old)
+            (G.passed gate.new)) }
+        ensures unpassed { OnErr result (G.passed gate.new ≡ G.passed gate.old) }
     {
         let own = match &mut self.own {
             Some(own) => own,
@@ -177,6 +181,26 @@ impl<'f> Session<'f> {
         ensures sent { IfOk result (IsTransmitted self.old self.new port.0) }
         ensures refused { IfErr result (TransmitsNot self.old self.new port.0) }
         ensures there { IsThere None self.new }
+    {
+        self.tx_sync_past(rt, port, &mut SharedGate::new(gate))
+    }
+
+    /// Syncs a port's transmit ring as `tx_sync` does, past a gate that the user has for itself. For
+    /// each lease that the sync completes it passes the three stages, in their order and as the
+    /// session's user; where the sync fails it passes none.
+    pub fn tx_sync_past<R: Wait, G: OwnGate>(
+        &mut self,
+        rt: &R,
+        port: PortId,
+        gate: &mut G,
+    ) -> Result<Sent, SyncFault>
+        requires { IsSome (ring_at Tx self.old.own port.0) }
+        ensures sent { IfOk result (IsTransmitted self.old self.new port.0) }
+        ensures refused { IfErr result (TransmitsNot self.old self.new port.0) }
+        ensures there { IsThere None self.new }
+        ensures passed { OnOk result (PassesBy self.old self.new (G.passed gate.old)
+            (G.passed gate.new)) }
+        ensures unpassed { OnErr result (G.passed gate.new ≡ G.passed gate.old) }
     {
         if let Err(fault) = self.check(port, Side::Tx) {
             return Err(self.refuse(rt, port, Side::Tx, fault));

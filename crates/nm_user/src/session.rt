@@ -54,6 +54,7 @@ impl<'f> Session<'f> {
         ensures made { IfOk result (λ s. Answers (fixed_in fabric.now) (knowing pass) s.knows
             (asks.Enter user) replies.Made) }
         ensures id { IfOk result (λ s. s.id ≡ length s.knows.seen) }
+        ensures user { IfOk result (λ s. s.user ≡ user) }
         ensures fabric { IfOk result (λ s. s.fabric ≡ fabric.now) }
         ensures fixed { IfOk result (λ s. s.fixed ≡ fixed_in fabric.now) }
         ensures own { IfOk result (λ s. s.own ≡ empty_own s.fixed.pool) }

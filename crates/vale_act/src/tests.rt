@@ -14,6 +14,7 @@ use vale_fabric::Fabric;
 use vale_script::{Script, parse};
 
 mod blocks;
+mod saving;
 
 /// Two users send side by side, and a third one's frames are saved.
 const BLOCK: &[u8] =

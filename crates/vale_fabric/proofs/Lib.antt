@@ -14,3 +14,4 @@ pub mod Comers
 pub mod LeaseFilling
 pub mod Settlements
 pub mod GrantsSettle
+pub mod Passing

@@ -7,4 +7,5 @@ pub mod Puts
 pub mod Leases
 pub mod Filling
 pub mod Settling
+pub mod Passing
 pub mod Words

@@ -5,6 +5,7 @@
 
 mod fabric;
 mod filling;
+mod gates;
 mod kept;
 mod passes;
 mod ports;
@@ -16,6 +17,7 @@ mod settling;
 
 pub use fabric::Fabric;
 pub use filling::{Frames, fill};
+pub use gates::{OwnGate, SharedGate};
 pub use kept::{Fixed, Pass, Shared};
 pub use reading::PortRead;
 pub use settling::Shares;

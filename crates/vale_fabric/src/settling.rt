@@ -7,13 +7,15 @@ ghost use Rattle.vale_fabric.specs.Words.{lease_id};
 ghost use Rattle.vale_fabric.specs.Fabrics.{IsPassIn, fixed_in, knowing, AnswersIn};
 ghost use Rattle.vale_fabric.specs.Filling.{AreFitting, bytes_from};
 ghost use Rattle.vale_fabric.specs.Leases.{MayFillFrom};
+ghost use Rattle.vale_fabric.specs.Passing.{HasPassed};
 ghost use Rattle.vale_fabric.specs.Settling.{IsAtHand, Settling, Settles};
 ghost use Rattle.vale_fabric.specs.Settling.{both, frames_wanted, shared_in};
 
 use crate::fabric::Fabric;
 use crate::filling::{Frames, fill};
+use crate::gates::OwnGate;
 use crate::kept::Pass;
-use nm_io::{Gate, Stage};
+use nm_io::Stage;
 use std::sync::Wait;
 use vale_book::{Granted, Offers};
 use vale_line::Lease;
@@ -53,11 +55,11 @@ impl Shares {
 
 impl Fabric {
     /// Fills a lease with the frames at these places and completes it, if there is one.
-    fn complete<R: Wait, G: Gate>(
+    fn complete<R: Wait, G: OwnGate>(
         &self,
         rt: &R,
         pass: &mut Pass,
-        gate: &G,
+        gate: &mut G,
         user: u64,
         lease: Option<Lease>,
         frames: Frames,
@@ -71,6 +73,8 @@ impl Fabric {
         ensures none { IfNone lease (knowing pass.new ≡ knowing pass.old) }
         ensures some { IfSome lease (λ lease. AnswersIn self.now pass.old pass.new
             (asks.Done (lease_id lease.id)) replies.Made) }
+        ensures passed { HasPassed user (knowing pass.old) (knowing pass.new) (G.passed gate.old)
+            (G.passed gate.new) }
     {
         if let Some(mut lease) = lease {
             gate.pass(user, Stage::Granted);
@@ -83,11 +87,11 @@ impl Fabric {
 
     /// Grants the next of the offers of these frames, and fills and completes what that gave.
     #[inline(never)]
-    fn settle_next<R: Wait, G: Gate>(
+    fn settle_next<R: Wait, G: OwnGate>(
         &self,
         rt: &R,
         pass: &mut Pass,
-        gate: &G,
+        gate: &mut G,
         user: u64,
         offers: &mut Offers,
         frames: Frames,
@@ -106,6 +110,8 @@ impl Fabric {
         ensures fewer { length offers.new.wants + 1 ≡ length offers.old.wants }
         ensures all { shared_in result + frames_wanted offers.new.wants
             ≡ frames_wanted offers.old.wants }
+        ensures passed { HasPassed user (knowing pass.old) (knowing pass.new) (G.passed gate.old)
+            (G.passed gate.new) }
     {
         let Granted {
             to: _,
@@ -121,13 +127,13 @@ impl Fabric {
     }
 
     /// Grants an entry's offers, of these frames, one after the other. What a grant gives is
-    /// filled outside the turn and completed before the next one. The gate is passed after a grant
-    /// that gave a lease, after the filling, and after the completion.
-    pub fn settle<R: Wait, G: Gate>(
+    /// filled outside the turn and completed before the next one. `user` passes the gate after a
+    /// grant that gave a lease, after the filling, and after the completion.
+    pub fn settle<R: Wait, G: OwnGate>(
         &self,
         rt: &R,
         pass: &mut Pass,
-        gate: &G,
+        gate: &mut G,
         user: u64,
         mut offers: Offers,
         frames: Frames,
@@ -141,6 +147,8 @@ impl Fabric {
             × (result ≡ record { given = 0; full = 0; gone = 0 }) }
         ensures settles { 1 ≤ length offers.wants → Settles (fixed_in self.now)
             (knowing pass.old) (knowing pass.new) offers.session result }
+        ensures passed { HasPassed user (knowing pass.old) (knowing pass.new) (G.passed gate.old)
+            (G.passed gate.new) }
     {
         let mut all = Shares::ZERO;
         while offers.next().is_some() {

@@ -127,7 +127,7 @@ module _ (s t : SessionState) (id : ℕ) (told : Detached) (here : IsThere None 
   settled-finish : is_settled_own (own-at d.finish) ≡ true
   settled-finish = ap is_settled_own finished ∙ (ap is_settled_own between ∙ settled-shut)
 
-  there-at : IsThere None (record { fabric = t.fabric; fixed = s.fixed; knows = t.knows; id = s.id; own = t.own })
+  there-at : IsThere None (record { fabric = t.fabric; fixed = s.fixed; knows = t.knows; id = s.id; user = t.user; own = t.own })
   there-at =
       let long = prefix_length s.knows.seen h d.told.begins in
       let come = here.come in

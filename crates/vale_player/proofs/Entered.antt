@@ -22,12 +22,12 @@ module _ (fabric : Fabric) (began : Knowing) (number : ℕ) (s : SessionState) (
   comes-there =
       let n = length s.knows.seen in
       let new = fixed_in fabric in
-      let here : IsThere None (record { fabric = s.fabric; fixed = new; knows = s.knows; id = n; own = empty_own new.pool }) = there-come {fabric = s.fabric} made.makes in
-      let at : IsThere None (record { fabric = s.fabric; fixed = s.fixed; knows = s.knows; id = n; own = empty_own s.fixed.pool }) =
-      subst (λ (f : Fixed). IsThere None (record { fabric = s.fabric; fixed = f; knows = s.knows; id = n; own = empty_own f.pool })) (sym fixed) here in
-      let has : IsThere None (record { fabric = s.fabric; fixed = s.fixed; knows = s.knows; id = n; own = s.own }) =
-      subst (λ (o : OwnState). IsThere None (record { fabric = s.fabric; fixed = s.fixed; knows = s.knows; id = n; own = o })) (sym own) at in
-      subst (λ (k : ℕ). IsThere None (record { fabric = s.fabric; fixed = s.fixed; knows = s.knows; id = k; own = s.own })) (sym id) has
+      let here : IsThere None (record { fabric = s.fabric; fixed = new; knows = s.knows; id = n; user = s.user; own = empty_own new.pool }) = there-come {fabric = s.fabric} made.makes in
+      let at : IsThere None (record { fabric = s.fabric; fixed = s.fixed; knows = s.knows; id = n; user = s.user; own = empty_own s.fixed.pool }) =
+      subst (λ (f : Fixed). IsThere None (record { fabric = s.fabric; fixed = f; knows = s.knows; id = n; user = s.user; own = empty_own f.pool })) (sym fixed) here in
+      let has : IsThere None (record { fabric = s.fabric; fixed = s.fixed; knows = s.knows; id = n; user = s.user; own = s.own }) =
+      subst (λ (o : OwnState). IsThere None (record { fabric = s.fabric; fixed = s.fixed; knows = s.knows; id = n; user = s.user; own = o })) (sym own) at in
+      subst (λ (k : ℕ). IsThere None (record { fabric = s.fabric; fixed = s.fixed; knows = s.knows; id = k; user = s.user; own = s.own })) (sym id) has
 
   comes : (rest : List Task) → HasCome began (resting (record (new_machine (fixed_in fabric).pool number) { tasks = Arrive ∷ rest })) s (user_with number [] s rest)
   comes rest =

@@ -31,8 +31,9 @@ pub record IsSmall (own : OwnState) (ask : Ask) : Type 0 where
 called-is : (s t : SessionState) (ask : Ask) (reply : Reply) → Made s t ask reply → after_call s t.knows ask reply ≡ t
 called-is s t ask reply made =
     ap (λ (f : Fabric). record (after_call s t.knows ask reply) { fabric = f }) (sym made.fabric)
-    ∙ (ap (λ (o : OwnState). record { fabric = t.fabric; fixed = s.fixed; knows = t.knows; id = s.id; own = o }) (sym made.own)
-    ∙ same-but s t made.fixed made.id)
+    ∙ (ap (λ (n : ℕ). record (after_call s t.knows ask reply) { fabric = t.fabric; user = n }) (sym made.user)
+    ∙ (ap (λ (o : OwnState). record { fabric = t.fabric; fixed = s.fixed; knows = t.knows; id = s.id; user = t.user; own = o }) (sym made.own)
+    ∙ same-but s t made.fixed made.id))
 
 module _ (number : ℕ) (saves : List Save) (s t : SessionState) (task : Task) (ask : Ask) (here : IsThere None s) (calls : TaskCalls number saves s task ask) where
   pub made-there : (reply : Reply) → IsSmall s.own ask → Made s t ask reply → IsThere None t

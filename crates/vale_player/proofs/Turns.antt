@@ -114,10 +114,10 @@ leaves-not s t ask reply here there made mine x same =
     absurd cc
 
 -- a session with what it was that it is still
-pub same-but : (s t : SessionState) → t.fixed ≡ s.fixed → t.id ≡ s.id → record { fabric = t.fabric; fixed = s.fixed; knows = t.knows; id = s.id; own = t.own } ≡ t
+pub same-but : (s t : SessionState) → t.fixed ≡ s.fixed → t.id ≡ s.id → record { fabric = t.fabric; fixed = s.fixed; knows = t.knows; id = s.id; user = t.user; own = t.own } ≡ t
 same-but s t fixed id =
-    ap (λ (f : Fixed). record { fabric = t.fabric; fixed = f; knows = t.knows; id = s.id; own = t.own }) (sym fixed)
-    ∙ ap (λ (n : ℕ). record { fabric = t.fabric; fixed = t.fixed; knows = t.knows; id = n; own = t.own }) (sym id)
+    ap (λ (f : Fixed). record { fabric = t.fabric; fixed = f; knows = t.knows; id = s.id; user = t.user; own = t.own }) (sym fixed)
+    ∙ ap (λ (n : ℕ). record { fabric = t.fabric; fixed = t.fixed; knows = t.knows; id = n; user = t.user; own = t.own }) (sym id)
 
 -- the entry of a session's call, in all that it has seen then
 pub call-entry : (s t : SessionState) (ask : Ask) (reply : Reply) → IsThere None s → (a : Answers s.fixed s.knows t.knows ask reply) → a.makes.session ≡ s.id
@@ -152,7 +152,7 @@ pub record GoesOn (began : Knowing) (s t : SessionState) (first now next : Machi
 
 pub come-on : {began : Knowing} {s t : SessionState} {first now next : Machine} {number : ℕ} {e : Entry} {added : List (ℕ × Entry)} → GoesOn began s t first now next number e added → HasCome began first t next
 come-on {began} {s} {t} {first} {now} {next} {number} {e} {added} g =
-    let at : SessionState = record { fabric = t.fabric; fixed = s.fixed; knows = t.knows; id = s.id; own = t.own } in
+    let at : SessionState = record { fabric = t.fabric; fixed = s.fixed; knows = t.knows; id = s.id; user = t.user; own = t.own } in
     let on = works-then t.knows ((number, e) ∷ added) (resting next) g.come.works g.told g.turns in
     let ends = ap (λ (all : List (ℕ × Entry)). last_of (numbers all)) on.added_is ∙ last-added g.come.works.added number e added in
     let there : HasCome began first at next = record {

@@ -18,6 +18,6 @@ invariant_of-result g c =
       own = c.in-Ok.own;
       own_is = refl;
       region = subst (AllOf fixed.region) (sym c.in-Ok.ensures) tt;
-      there = subst (λ (o : OwnState). IsThere None (record { fabric = c.args.fabric.now; fixed = fixed; knows = knowing c.enter.new.pass; id = c.in-Ok-enter.id.0; own = o })) own
-          (subst (λ (n : ℕ). IsThere None (record { fabric = c.args.fabric.now; fixed = fixed; knows = knowing c.enter.new.pass; id = n; own = empty_own fixed.pool })) (sym c.in-Ok-enter.ensures.id) (there-come c.in-Ok-enter.ensures.made.makes));
+      there = subst (λ (o : OwnState). IsThere None (record { fabric = c.args.fabric.now; fixed = fixed; knows = knowing c.enter.new.pass; id = c.in-Ok-enter.id.0; user = c.args.user; own = o })) own
+          (subst (λ (n : ℕ). IsThere None (record { fabric = c.args.fabric.now; fixed = fixed; knows = knowing c.enter.new.pass; id = n; user = c.args.user; own = empty_own fixed.pool })) (sym c.in-Ok-enter.ensures.id) (there-come c.in-Ok-enter.ensures.made.makes));
     }

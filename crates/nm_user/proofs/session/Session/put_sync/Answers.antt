@@ -12,7 +12,8 @@ use Rattle.vale_fabric.specs.Fabrics.{fixed_in, knowing}
 use Rattle.nm_user.specs.declared.sending.Sent.{Sent}
 use Rattle.nm_user.specs.Sessions.{SessionState, IsThere, own_in, session_seen}
 use Rattle.nm_user.specs.Offering.{IsOffering, CanTake, side_after_fault}
-use Rattle.nm_user.specs.Syncs.{IsPut, TransmitsNot}
+use Rattle.vale_fabric.proofs.Passing.{passed-by, passed-then}
+use Rattle.nm_user.specs.Syncs.{IsPut, PassesBy, TransmitsNot}
 use Rattle.nm_user.proofs.Written.{region-of, seen_with}
 use Rattle.nm_user.proofs.TransmitsLent.{offers-still}
 use Rattle.nm_user.proofs.TransmitsPut.{single-wrapped}
@@ -136,3 +137,10 @@ returns-in-Err-clause-there g c = (invariant_of-self g c).there
 
 pub returns-clause-there : goal.returns-clause-there
 returns-clause-there g c = (invariant_of-self-2 g c).there
+
+pub returns-clause-passed : goal.returns-clause-passed
+returns-clause-passed g c =
+    let gate = g.G.OwnGate in
+    let t = after g (goal.at.returns-clause-passed g c).After-settle-shares in
+    subst (λ (s : SessionState). PassesBy s t (gate.passed c.args.gate.now) (gate.passed c.settle-shares.new.gate)) c.self.view_is
+    (passed-then (passed-by c.self.inside.user _ c.in-Ok.ensures.made.makes refl) c.settle-shares.ensures.passed)

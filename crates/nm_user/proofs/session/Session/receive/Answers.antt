@@ -1,6 +1,7 @@
-use Rattle.std.proofs.Common.{rules, ◌≡◌, ◌∙◌, [], Some, None, sym, ap, subst}
+use Rattle.std.proofs.Common.{rules, ◌≡◌, ◌∙◌, Bool, true, false, [], Some, None, refl, sym, ap, subst}
 use Rattle.std.proofs.lemmas.Result.{IfOk-at_ok, IfErr-at_err}
 use Rattle.nm_types.specs.declared.fault.StepFault.{StepFault}
+use Rattle.nm_types.specs.declared.id.PortId.{PortId}
 use Rattle.nm_types.specs.Faults.{sync_fault_of}
 use Rattle.nm_types.specs.OwnPorts.{OwnState}
 use Rattle.nm_types.specs.OwnSyncs.{own_after_receive}
@@ -8,10 +9,14 @@ use Rattle.nm_port.specs.Regions.{SideState, AllOf, AreOf}
 use Rattle.vale_line.specs.Gots.{buffers_of}
 use Rattle.vale_steps.specs.declared.reading.Synced.{Synced}
 use Rattle.vale_fabric.specs.Fabrics.{Refuses, fixed_in, knowing}
+use Rattle.vale_entry.specs.Legal.{kept_ask}
+use Rattle.vale_fabric.specs.Passing.{completes}
 use Rattle.vale_fabric.specs.Reading.{IsRead}
+use Rattle.vale_fabric.proofs.Passing.{passed-by, passed-then}
 use Rattle.nm_user.specs.declared.receiving.Received.{Received}
 use Rattle.nm_user.specs.Sessions.{SessionState, IsThere, own_in, session_seen}
 use Rattle.nm_user.specs.Receives.{IsReceived, ReceivesNot}
+use Rattle.nm_user.specs.Syncs.{PassesBy}
 use Rattle.nm_user.proofs.After.{there-still}
 use Rattle.nm_user.proofs.Written.{region-of, seen_with}
 use Rattle.nm_user.proofs.Receives.{ReadsHere, reading, reads-here, may-read, few-gone}
@@ -121,3 +126,16 @@ returns-in-Err-clause-there g c = (invariant_of-self g c).there
 
 pub returns-clause-there : goal.returns-clause-there
 returns-clause-there g c = (invariant_of-self-2 g c).there
+
+-- a read completes no lease
+completes-none : (own : OwnState) (port : PortId) (pipe : Bool) → completes (kept_ask (reading own port pipe)) ≡ false
+completes-none own port true = refl
+completes-none own port false = refl
+
+pub returns-clause-passed : goal.returns-clause-passed
+returns-clause-passed g c =
+    let gate = g.G.OwnGate in
+    let s = seen_with c.self.inside c.in-Some.own in
+    let read = IfOk-at_ok (IsRead s.fixed s.knows (knowing c.give_and_take-own.new.pass) (reading s.own c.args.port c.args.is_pipe) c.args.port) c.in-Ok.is c.give_and_take-own.ensures.read in
+    subst (λ (x : SessionState). PassesBy x (after g c) (gate.passed c.args.gate.now) (gate.passed c.settle.new.gate)) c.self.view_is
+    (passed-then (passed-by c.self.inside.user (gate.passed c.args.gate.now) read.made.makes (completes-none s.own c.args.port c.args.is_pipe)) c.settle.ensures.passed)

@@ -1,10 +1,13 @@
-use Rattle.std.proofs.Common.{refl, ap, arith}
+use Rattle.std.proofs.Common.{refl, ap, subst, arith}
 use Rattle.nm_types.specs.OwnSyncs.{own_after_send}
 use Rattle.nm_port.specs.Regions.{SideState}
-use Rattle.nm_user.specs.Sessions.{own_in, session_seen}
+use Rattle.vale_fabric.specs.Fabrics.{knowing}
+use Rattle.nm_user.specs.Sessions.{SessionState, own_in, session_seen}
 use Rattle.nm_user.proofs.After.{there-still}
 use Rattle.nm_user.proofs.Written.{region-of, region-kept}
 use Rattle.nm_user.proofs.Sends.{ready, few-frames, may-send, unsent-at, send-ends, there-at, sent-at}
+use Rattle.vale_fabric.proofs.Passing.{passed-by, passed-then}
+use Rattle.nm_user.specs.Syncs.{PassesBy}
 use Rattle.nm_user.proofs.session.Session.send_sync.Goals as goal
 
 pub overflow_cast-pushed : goal.overflow_cast-pushed
@@ -55,3 +58,10 @@ returns-in-Err-clause-there g c = (invariant_of-self-in-Err g c).there
 
 pub returns-clause-there : goal.returns-clause-there
 returns-clause-there g c = (invariant_of-self-2 g c).there
+
+pub returns-clause-passed : goal.returns-clause-passed
+returns-clause-passed g c =
+    let t : SessionState = record (session_seen c.self.inside) { knows = knowing c.settle-shares.new.pass; own = c.sent.new.self.own } in
+    let gate = g.G.OwnGate in
+    subst (λ (s : SessionState). PassesBy s t (gate.passed c.args.gate.now) (gate.passed c.settle-shares.new.gate)) c.self.view_is
+    (passed-then (passed-by c.self.inside.user _ c.in-Ok.ensures.made.makes refl) c.settle-shares.ensures.passed)

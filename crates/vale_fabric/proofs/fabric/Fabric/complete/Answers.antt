@@ -6,6 +6,7 @@ use Rattle.vale_entry.specs.declared.entry.Reply.TheVariants.{Made}
 use Rattle.vale_book.specs.Granting.{lease_id}
 use Rattle.vale_fabric.specs.Fabrics.{fixed_in, knowing, AnswersIn}
 use Rattle.vale_fabric.specs.Leases.{MayFillFrom}
+use Rattle.vale_fabric.proofs.Passing.{passed-nothing, passed-lease}
 use Rattle.vale_fabric.proofs.fabric.Fabric.complete.Goals as goal
 
 pub done-requires-clause-region : goal.done-requires-clause-region
@@ -17,3 +18,9 @@ pub returns-in-Some-clause-some : goal.returns-in-Some-clause-some
 returns-in-Some-clause-some g c =
     subst (λ (l : Option Leased). IfSome l (λ (lease : Leased). AnswersIn c.args.self.now c.args.pass.now c.done.new.pass (Done (lease_id lease.id)) Made)) (sym c.in-Some.is)
     (subst (λ (id : ℕ). AnswersIn c.args.self.now c.args.pass.now c.done.new.pass (Done (lease_id id)) Made) c.fill.ensures.id c.done.ensures.made)
+
+pub returns-in-Some-clause-passed : goal.returns-in-Some-clause-passed
+returns-in-Some-clause-passed g c = passed-lease c.args.user c.done.ensures.made.makes c.pass.ensures c.pass-in-Some.ensures c.pass-in-Some-2.ensures
+
+pub returns-in_default-clause-passed : goal.returns-in_default-clause-passed
+returns-in_default-clause-passed g c = passed-nothing c.args.user (knowing c.args.pass.now) _

@@ -3,11 +3,12 @@ use Rattle.vale_fabric.specs.Filling.{bytes_from}
 use Rattle.vale_book.specs.Offering.{OffersState}
 use Rattle.vale_fabric.specs.Fabrics.{fixed_in, knowing}
 use Rattle.vale_fabric.specs.Settling.{IsAtHand, frames_wanted, shared_in}
+use Rattle.vale_fabric.proofs.Passing.{passed-nothing, passed-then}
 use Rattle.vale_fabric.proofs.GrantsSettle.{Going, going-first, going-next}
 use Rattle.vale_fabric.proofs.fabric.Fabric.settle.Goals as goal
 
 pub loop-pass-init : goal.loop-pass-init
-loop-pass-init g c = record { pass = c.requires.pass; going = going-first c.args.offers (bytes_from c.args.frames) c.requires.hand }
+loop-pass-init g c = record { pass = c.requires.pass; going = going-first c.args.offers (bytes_from c.args.frames) c.requires.hand; passed = passed-nothing c.args.user (knowing c.args.pass.now) _ }
 
 pub loop-pass-preserved : goal.loop-pass-preserved
 loop-pass-preserved g c =
@@ -22,4 +23,5 @@ loop-pass-preserved g c =
       pass = round.pass;
       going = subst (λ (o : OffersState). Going (fixed_in c.args.self.now) (knowing c.args.pass.now) (knowing c.settle_next-more.new.pass) c.args.offers o (bytes_from c.args.frames) c.plus-all.result) (sym round.offers)
           (subst (Going (fixed_in c.args.self.now) (knowing c.args.pass.now) (knowing c.settle_next-more.new.pass) c.args.offers (record now { wants = drop 1 now.wants }) (bytes_from c.args.frames)) (sym c.plus-all.ensures) going);
+      passed = passed-then c.loop-pass.invariant.passed round.passed;
     }

@@ -1,4 +1,4 @@
-use Rattle.std.proofs.Common.{ℕ, ◌+◌, ◌≡◌, List, IfSome, length, take, sym, ◌∙◌, ap, subst, arith}
+use Rattle.std.proofs.Common.{ℕ, ◌+◌, ◌≡◌, List, IfSome, length, take, refl, sym, ◌∙◌, ap, subst, arith}
 use Rattle.std.proofs.lemmas.List.{length-drop}
 use Rattle.nm_types.specs.Frames.{Frame}
 use Rattle.vale_fabric.specs.Filling.{bytes_from}
@@ -9,6 +9,7 @@ use Rattle.vale_book.specs.Leases.{StandOf}
 use Rattle.vale_fabric.specs.Leases.{MayFillFrom}
 use Rattle.vale_fabric.specs.Settling.{IsAtHand, frames_wanted, shared_in}
 use Rattle.vale_fabric.proofs.GrantsSettle.{Rest, for-bytes, as-many-places, may-fill-from, settled-next}
+use Rattle.vale_fabric.proofs.Passing.{passed-by, passed-then}
 use Rattle.vale_fabric.proofs.fabric.Fabric.settle_next.Given as given
 use Rattle.vale_fabric.proofs.fabric.Fabric.settle_next.Goals.{After-complete}
 use Rattle.vale_fabric.proofs.fabric.Fabric.settle_next.Goals as goal
@@ -23,7 +24,7 @@ slice_bounds-places-end g c =
     ∙ ap (λ (l : List ℕ). length (take given l)) (sym c.deref.ensures.value)
 
 pub complete-requires-clause-held : goal.complete-requires-clause-held
-complete-requires-clause-held g c κs within =
+complete-requires-clause-held g c =
     let given = c.grant-given.result.given in
     let held = for-bytes (seen_by c.args.self.now c.grant-given.new.pass) c.args.offers.now.session (standing (seen_by c.args.self.now c.args.pass.now)) c.args.offers.now (bytes_from c.args.frames)
     (take given c.grant-given.result.want.places.items) c.grant-given.result.lease (c.requires.hand.stands c.requires.next) c.grant-given.ensures.fills in
@@ -57,3 +58,6 @@ returns-clause-fewer g c =
     let next = c.requires.next in
     let left = ap (λ (o : OffersState). length o.wants) c.grant-given.ensures.offers ∙ length-drop 1 c.args.offers.now.wants in
     omega (arith, left, next)
+
+pub returns-clause-passed : goal.returns-clause-passed
+returns-clause-passed g c = passed-then (passed-by c.args.user _ c.grant-given.ensures.made.makes refl) c.complete.ensures.passed

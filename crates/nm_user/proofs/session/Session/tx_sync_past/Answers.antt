@@ -6,7 +6,7 @@ use Rattle.nm_user.specs.declared.sending.Sent.{Sent}
 use Rattle.nm_user.specs.Sessions.{SessionState}
 use Rattle.nm_user.specs.Syncs.{TransmitsNot}
 use Rattle.nm_user.proofs.Refusals.{unsent-not}
-use Rattle.nm_user.proofs.session.Session.tx_sync.Goals as goal
+use Rattle.nm_user.proofs.session.Session.tx_sync_past.Goals as goal
 
 pub returns-in_err-send_sync-clause-refused : goal.returns-in_err-send_sync-clause-refused
 returns-in_err-send_sync-clause-refused g c =
