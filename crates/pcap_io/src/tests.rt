@@ -3,13 +3,10 @@ use nm_io::{Failed, MemorySink};
 use std::alloc::{AllocError, Global};
 use std::process::Abort;
 use std::test::Fail;
+use vale_cases::{CAPTURE, CUTS, Cut};
 
 /// A broadcast from 02:00:00:00:00:0a without payload, of a type for local experiments.
 const FRAME: &[u8; 14] = b"\xff\xff\xff\xff\xff\xff\x02\0\0\0\0\x0a\x88\xb5";
-
-/// A big-endian capture with nanoseconds and one record of 14 bytes out of 64.
-const CAPTURE: &[u8; 54] = b"\xa1\xb2\x3c\x4d\0\x02\0\x04\0\0\0\0\0\0\0\0\0\x04\0\0\0\0\0\x01\
-\0\0\0\x01\0\0\0\x02\0\0\0\x0e\0\0\0\x40\xff\xff\xff\xff\xff\xff\x02\0\0\0\0\x0a\x88\xb5";
 
 /// The magic of a big-endian capture with microseconds.
 const BIG: [u8; 4] = [0xa1, 0xb2, 0xc3, 0xd4];
@@ -66,20 +63,29 @@ fn has_frame(rt: &impl Abort, alloc: Global, bytes: &[u8], numbers: (u32, u32, u
     assert_eq!(rt; record.bytes.as_slice(), FRAME.as_slice());
 }
 
+/// The capture, cut to each of these lengths.
+fn cut_is_told(rt: &impl Abort, alloc: Global, cut: &Cut) {
+    for len in cut.from..=cut.to {
+        match read(alloc, &CAPTURE[..len.min(CAPTURE.len())]) {
+            Ok(records) => assert!(rt;
+                cut.truncated.is_none() && records.len() == cut.records,
+                "cut to {len}"
+            ),
+            Err(fault) => assert!(rt;
+                fault
+                    == PcapFault::Truncated {
+                        offset: cut.truncated.unwrap_or(99)
+                    },
+                "cut to {len}: {fault:?}"
+            ),
+        }
+    }
+}
+
 #[test]
 fn capture_read_whole_and_cut(rt: HostRuntime) -> Result<(), Fail> {
-    for len in 0..CAPTURE.len() {
-        let cut = read(rt.alloc(), &CAPTURE[..len]);
-        match cut {
-            Ok(records) => assert!(rt; len == 24 && records.is_empty(), "cut to {len}"),
-            Err(fault) => {
-                let offset = if len < 24 { 0 } else { 24 };
-                assert!(rt;
-                    len != 24 && fault == PcapFault::Truncated { offset },
-                    "cut to {len}: {fault:?}"
-                );
-            }
-        }
+    for cut in CUTS {
+        cut_is_told(&rt, rt.alloc(), &cut);
     }
     has_frame(&rt, rt.alloc(), CAPTURE, (1, 2, 64));
     Ok(())

@@ -10,6 +10,7 @@ use std::sync::Wait;
 use std::test::Fail;
 use std::thread::Threads;
 use vale_captures::{Inputs, write_outputs};
+use vale_cases::FULL_RECORD;
 use vale_fabric::Fabric;
 use vale_script::{Script, parse};
 
@@ -110,5 +111,10 @@ fn a_block_is_played(rt: HostRuntime) -> Result<(), Fail> {
 fn a_full_record_stops_a_script(rt: HostRuntime) -> Result<(), Fail> {
     let mut shelf = MemoryShelf::new(rt.alloc(), Vec::new(rt.alloc()));
     assert_eq!(rt; played(&rt, TWO, NARROW, &mut shelf)?, (2, Err(FULL)));
+    assert_eq!(rt; script(&rt, FULL_RECORD.script).pool(), FULL_RECORD.free);
+    assert_eq!(rt;
+        played(&rt, FULL_RECORD.script, FULL_RECORD.limits, &mut shelf)?,
+        (FULL_RECORD.entries, Err(FULL_RECORD.fault))
+    );
     Ok(())
 }

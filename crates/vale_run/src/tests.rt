@@ -7,6 +7,7 @@ use std::test::Fail;
 use std::thread::Threads;
 
 mod captures;
+mod hostile;
 mod load;
 mod scripts;
 mod texts;
@@ -107,7 +108,6 @@ fn captures_are_played_and_saved(rt: HostRuntime) -> Result<(), Fail> {
     Ok(())
 }
 
-/// Captures that end too early, and others with a wrong number.
 #[test]
 fn bad_captures_are_told(rt: HostRuntime) -> Result<(), Fail> {
     for (capture, count, line) in BAD_CAPTURES {

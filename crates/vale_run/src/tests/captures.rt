@@ -1,14 +1,6 @@
 //! Captures that are played and saved, and how runs with them end.
 
-/// A capture that is played, and one that is saved.
-pub(super) const CAPTURE: &[u8] =
-    b"pool 64\nuser a\nuser b\nopen a vale0:a 4 4\nopen b vale0:b 4 4\nplay a vale0:a in.pcap 8\nrx b vale0:b\nsave b vale0:b out.pcap\n";
-
-pub(super) const PLAYED: &[u8] =
-    b"\xa1\xb2<M\x00\x02\x00\x04\x00\x00\x00\x00\x00\x00\x00\x00\x00\x04\x00\x00\x00\x00\x00\x01\x00\x00\x00\x01\x00\x00\x00\x02\x00\x00\x00\x0e\x00\x00\x00@\xff\xff\xff\xff\xff\xff\x02\x00\x00\x00\x00\n\x88\xb5";
-
-pub(super) const SAVED: &[u8] =
-    b"\xd4\xc3\xb2\xa1\x02\x00\x04\x00\x00\x00\x00\x00\x00\x00\x00\x00\x00\x00\x04\x00\x01\x00\x00\x00\x08\x00\x00\x00\x00\x00\x00\x00\x0e\x00\x00\x00\x0e\x00\x00\x00\xff\xff\xff\xff\xff\xff\x02\x00\x00\x00\x00\n\x88\xb5";
+pub(super) use vale_cases::{CAPTURE as PLAYED, CAPTURE_SCRIPT as CAPTURE, CAPTURE_TEXT, SAVED};
 
 /// A capture without records.
 pub(super) const PLAYED_HEADER: &[u8] =
@@ -31,21 +23,8 @@ pub(super) const SAVED_CAPTURES: &[(&[u8], &[u8], &[u8])] = &[
     ),
 ];
 
-pub(super) const BYTE_0_TRUNCATED: &[u8] = b"vale: in.pcap: byte 0: truncated\n";
-
-pub(super) const BYTE_24_TRUNCATED: &[u8] = b"vale: in.pcap: byte 24: truncated\n";
-
-/// Captures, how many of their bytes are there, and the lines that tell what is wrong with them.
+/// Captures with a wrong number, how many of their bytes are there, and the lines that tell it.
 pub(super) const BAD_CAPTURES: &[(&[u8], usize, &[u8])] = &[
-    (PLAYED, 0, BYTE_0_TRUNCATED),
-    (PLAYED, 1, BYTE_0_TRUNCATED),
-    (PLAYED, 3, BYTE_0_TRUNCATED),
-    (PLAYED, 4, BYTE_0_TRUNCATED),
-    (PLAYED, 23, BYTE_0_TRUNCATED),
-    (PLAYED, 25, BYTE_24_TRUNCATED),
-    (PLAYED, 39, BYTE_24_TRUNCATED),
-    (PLAYED, 40, BYTE_24_TRUNCATED),
-    (PLAYED, 53, BYTE_24_TRUNCATED),
     // The first bytes of the format that is not the classic one.
     (b"\n\x0d\x0d\n", 4, b"vale: in.pcap: byte 0: magic\n"),
     // The version 2.3, the link 101, a record that is one byte too long.
@@ -87,7 +66,3 @@ pub(super) const LARGE_CAPTURES: &[(&[u8], usize, &[u8], &[u8])] = &[
 /// Two captures are saved, the second without frames.
 pub(super) const TWO_SAVED: &[u8] =
     b"pool 64\nuser a\nuser b\nopen a vale0:a 4 4\nopen b vale0:b 4 4\nplay a vale0:a in.pcap 8\nrx b vale0:b\nsave b vale0:b out.pcap\nsave a vale0:a other.pcap\n";
-
-/// The transcript of both.
-pub(super) const CAPTURE_TEXT: &[u8] =
-    b"vale 2 pool 64\n1 enter 1\n2 enter 2\n3 1 open vale0:a 4 4 0 = ok\n4 2 open vale0:b 4 4 0 = ok\n5 1 send 3 ffffffffffff02000000000a88b5 = short 0 lone 0 to 4*1\n6 1 grant 5 4 = given 1 full 0 gone 0\n7 1 done 6\n8 2 sync 4 - = gave 1 to -\n9 1 shut 3\n10 1 finish 3 2-5 found 0 astray 0 = unread 0\n11 1 leave\n12 2 shut 4\n13 2 finish 4 10-14 found 0 astray 0 = unread 0\n14 2 leave\nend 14 free 64\n";

@@ -15,20 +15,10 @@ pub(super) const LONG_SCRIPT_LINE: &[u8] = b"vale: script 1048577 over 1048576\n
 
 pub(super) const MANY_LINES_LINE: &[u8] = b"vale: lines 10001 over 10000\n";
 
-/// The transcript of the first run.
-pub(super) const FIRST_TEXT: &[u8] =
-    b"vale 2 pool 8192\n1 enter 1\n2 enter 2\n3 1 open vale0:a 4 4 0 = ok\n4 2 open vale0:b 4 4 0 = ok\n5 1 send 3 ffffffffffff02000000000a88b511111111111111111111111111111111111111111111111111111111111111111111111111111111111111111111 = short 0 lone 0 to 4*1\n6 1 grant 5 4 = given 1 full 0 gone 0\n7 1 done 6\n8 2 sync 4 - = gave 1 to -\n9 1 shut 3\n10 1 finish 3 2-5 found 0 astray 0 = unread 0\n11 1 leave\n12 2 shut 4\n13 2 finish 4 10-14 found 0 astray 0 = unread 0\n14 2 leave\nend 14 free 8192\n";
-
-/// The first run; what a switch learns; a ring that fills; openings that are refused: the folder
-/// `examples` has the same.
+/// What a switch learns; a ring that fills; openings that are refused: the folder `examples` has the
+/// same.
 pub(super) const EXAMPLES: &[Case] = &[
     (EMPTY, EMPTY, EMPTY_TEXT),
-    // Two ports, one broadcast, one read.
-    (
-        b"user a\nuser b\nopen a vale0:a 4 4\nopen b vale0:b 4 4\nput a vale0:a 1 ff:ff:ff:ff:ff:ff 02:00:00:00:00:0a 60 11\ntx a vale0:a\nrx b vale0:b\n",
-        EMPTY,
-        FIRST_TEXT,
-    ),
     // Two stations, and what the switch learns.
     (
         b"pool 64\nuser ana\nuser bob\nuser cem\nopen ana vale0:a 4 4\nopen bob vale0:b 4 4\nopen cem vale0:c 4 4\nput ana vale0:a 1 ff:ff:ff:ff:ff:ff 02:00:00:00:00:0a 14 00\ntx ana vale0:a\nput bob vale0:b 1 02:00:00:00:00:0a 02:00:00:00:00:0b 14 00\ntx bob vale0:b\nrx ana vale0:a\nrx cem vale0:c\n",
@@ -85,16 +75,6 @@ pub(super) const LINES: &[(&[u8], &[u8])] = &[
     (
         b"user a\nopen a vale0:a 2 2\nopen a vale1:a 2 2\nopen a vale2:a 2 2\nopen a vale3:a 2 2\nopen a vale4:a 2 2\n",
         b"5 1 open vale3:a 2 2 0 = ok\n6 1 open vale4:a 2 2 0 = switchesfull\n",
-    ),
-    // A pipe that takes frames in part, and whose other end goes.
-    (
-        b"pool 64\nuser a\nuser b\nopen a pipe0{ 4 4\nopen b pipe0} 2 2\nput a pipe0{ 2 ff:ff:ff:ff:ff:ff 02:00:00:00:00:0a 14 00\ntx a pipe0{\nrx b pipe0}\ntx a pipe0{\nrx b pipe0}\ntx a pipe0{\n",
-        b"5 1 put 3 2 = took 2:ffffffffffff02000000000a88b5 to -\n6 2 get 4 - = gave 1 to -\n7 1 put 3 1 = took - to -\n8 2 get 4 2 = gave 0 to -\n9 1 put 3 1 = took 3:ffffffffffff02000000000a88b5 to -\n10 1 shut 3\n11 1 finish 3 12-13,4-5 found 0 astray 0 = unread 0\n",
-    ),
-    // A monitor of what a port sends.
-    (
-        b"pool 64\nuser a\nuser b\nuser m\nopen a vale0:a 4 4\nopen b vale0:b 4 4\nopen m mon0 0 2\nwatch m mon0 vale0:a t\nput a vale0:a 2 ff:ff:ff:ff:ff:ff 02:00:00:00:00:0a 14 00\ntx a vale0:a\nrx m mon0\nwatch m mon0 vale0:a t\nwatch m mon0 vale9:x t\n",
-        b"7 3 watch 6 vale0:a t = ok 4\n8 1 send 4 ffffffffffff02000000000a88b5,ffffffffffff02000000000a88b5 = short 0 lone 0 to 5*2,6*2\n9 1 grant 8 5 = given 2 full 0 gone 0\n10 1 done 9\n11 1 grant 8 6 = given 1 full 1 gone 0\n12 1 done 11\n13 3 sync 6 - = gave 1 to -\n14 3 watch 6 vale0:a t = watched 6\n15 3 watch 6 vale9:x t = notarget\n",
     ),
     // A frame that is forwarded without a copy.
     (

@@ -1,6 +1,7 @@
 //! Transcripts that are migrated.
 
-use super::{EMPTY, FIRST_TEXT};
+use super::EMPTY;
+use vale_cases::FIRST_TEXT;
 
 /// The transcript of the first run in version 1.
 pub(super) const OLD_TEXT: &[u8] =
