@@ -99,17 +99,17 @@ share-plays pool h first last share before ns after legal foreign inside r ended
 
 -- Each share with its place among the lists.
 
-abbrev IsNumbered : List Machine → ScriptUnit → List (List ℕ) → UnitShare → Machine → List ℕ → Type 0
+abbrev pub IsNumbered : List Machine → ScriptUnit → List (List ℕ) → UnitShare → Machine → List ℕ → Type 0
 IsNumbered users unit lists share before ns =
     (numbers_at (place_of share) unit lists ≡ ns) × (slice_get users (place_of share) ≡ Some before)
 
-abbrev WithPlace : (UnitShare → Machine → List ℕ → Machine → Type 0) → List Machine → ScriptUnit → List (List ℕ) → UnitShare → Machine → List ℕ → Machine → Type 0
+abbrev pub WithPlace : (UnitShare → Machine → List ℕ → Machine → Type 0) → List Machine → ScriptUnit → List (List ℕ) → UnitShare → Machine → List ℕ → Machine → Type 0
 WithPlace R users unit lists share before ns after = R share before ns after × IsNumbered users unit lists share before ns
 
-abbrev Anywhere : Machine → Type 0
+abbrev pub Anywhere : Machine → Type 0
 Anywhere user = Unit {0}
 
-everywhere : (users : List Machine) → AllByRecursion Anywhere users
+pub everywhere : (users : List Machine) → AllByRecursion Anywhere users
 everywhere [] = tt
 everywhere (u ∷ users) = (tt, everywhere users)
 
@@ -125,7 +125,7 @@ later-place R users first shares ns lists share before ms after away w =
         clash : (place_of share == place_of first) ≡ true → ⊥
         clash hit = let both : true ≡ false = sym hit ∙ away in absurd cc
 
-each-placed : (R : UnitShare → Machine → List ℕ → Machine → Type 0) (users : List Machine) (unit : ScriptUnit) (lists : List (List ℕ)) (afters : List Machine)
+pub each-placed : (R : UnitShare → Machine → List ℕ → Machine → Type 0) (users : List Machine) (unit : ScriptUnit) (lists : List (List ℕ)) (afters : List Machine)
     → AreApart unit → EachShare R users unit lists afters → EachShare (WithPlace R users unit lists) users unit lists afters
 each-placed R users [] [] [] apart each = tt
 each-placed R users (share ∷ shares) (ns ∷ lists) (a ∷ afters) apart each = (

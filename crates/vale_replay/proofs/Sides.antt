@@ -1,5 +1,5 @@
 -- Each user of a history under way holds what its session does.
-use Rattle.std.proofs.Common.{Bool, true, false, cond, ℕ, zero, suc, ◌+◌, ◌-◌, ◌<◌, ◌≤◌, ◌≡◌, ◌⊎◌, inl, inr, List, [], ◌∷◌, ◌++◌, length, map, filter, take, drop, slice_get, Option, Some, None, option_map, refl, sym, ◌∙◌, ap, subst, arith, take-append-drop}
+use Rattle.std.proofs.Common.{Bool, true, false, cond, ℕ, zero, suc, ◌+◌, ◌-◌, ◌<◌, ◌≤◌, ◌≡◌, ◌⊎◌, inl, inr, List, [], ◌∷◌, ◌++◌, length, map, filter, take, drop, slice_get, Option, Some, None, option_map, refl, sym, ◌∙◌, ap, subst, arith, All, take-append-drop}
 use Rattle.std.specs.Prelude.{◌==◌, option_and_then}
 use Rattle.std.specs.Option.{option_or, option_map_or}
 use Rattle.std.specs.List.{range_with_len, AllByRecursion}
@@ -34,10 +34,30 @@ use Rattle.vale_replay.proofs.Sessions.{IsOwnSession, own-back, own-entry, start
 use Rattle.vale_replay.proofs.Members.{AreApart, Member, HasMember, numbers_at, few-one, member, has-member}
 use Rattle.vale_replay.proofs.Joins.{Cast, cast-next, sessions-apart, split-has, split-in, others-from, units-apart, take-apart, apart-at, first-cast}
 use Rattle.vale_replay.proofs.OneState.{narrow, from-first}
+use Rattle.vale_replay.proofs.Owing.{owed_turns, owed-same, settled-owes}
 use Rattle.vale_replay.proofs.TaskSides.{SideOf, ArePaired, AreInOrder, KeepsSide, rest-side, lines-paired, closing-paired}
 use Rattle.vale_replay.proofs.TurnSides.{turn-side}
 
 -- Entries of others.
+
+-- the entries of a range, all of others
+record Between (pool : ℕ) (h : List Entry) (from last : ℕ) (session : ℕ) : Type 0 where
+  more : List Entry
+  whole : take from h ++ more ≡ take last h
+  legal : IsLegal pool (take from h ++ more)
+  others : All (IsOfOther session) more
+
+between : (pool : ℕ) (h : List Entry) (from last : ℕ) (x : SessionId) → from ≤ last → IsLegal pool (take last h)
+    → ((k : ℕ) (e : Entry) → from ≤ k → k < last → slice_get h k ≡ Some e → IsOfOther x.0 e) → Between pool h from last x.0
+between pool h from last x up legal others =
+    let cut : take from (take last h) ≡ take from h = take-take from last h up in
+    let whole : take from h ++ drop from (take last h) ≡ take last h = ap (λ (es : List Entry). es ++ drop from (take last h)) (sym cut) ∙ take-append-drop from (take last h) in
+    record {
+      more = drop from (take last h);
+      whole = whole;
+      legal = subst (IsLegal pool) (sym whole) legal;
+      others = All-from_recursion (IsOfOther x.0) (drop from (take last h)) (others-from x.0 from last h others);
+    }
 
 side-on : (pool : ℕ) (h : List Entry) (from last : ℕ) (session : Option SessionId) (shut : Option ℕ) (own : OwnState)
     → from ≤ last → IsLegal pool (take last h)
@@ -45,13 +65,20 @@ side-on : (pool : ℕ) (h : List Entry) (from last : ℕ) (session : Option Sess
     → SideOf pool (standing_of pool (take from h)) session shut own → SideOf pool (standing_of pool (take last h)) session shut own
 side-on pool h from last None shut own up legal others side = side
 side-on pool h from last (Some x) shut own up legal others side =
-    let cut : take from (take last h) ≡ take from h = take-take from last h up in
-    let whole : take from h ++ drop from (take last h) ≡ take last h = ap (λ (es : List Entry). es ++ drop from (take last h)) (sym cut) ∙ take-append-drop from (take last h) in
-    let all = All-from_recursion (IsOfOther x.0) (drop from (take last h)) (others-from x.0 from last h (λ k e low high there. others x k e refl low high there)) in
-    subst (λ (es : List Entry). SideOf pool (standing_of pool es) (Some x) shut own) whole
-    (others-keep pool (take from h) (drop from (take last h)) x.0 shut own (subst (IsLegal pool) (sym whole) legal) all side)
+    let b = between pool h from last x up legal (λ k e low high there. others x k e refl low high there) in
+    subst (λ (es : List Entry). SideOf pool (standing_of pool es) (Some x) shut own) b.whole
+    (others-keep pool (take from h) b.more x.0 shut own b.legal b.others side)
 
-keeps-on : (pool : ℕ) (h : List Entry) (from last : ℕ) (user : Machine)
+pub owed-on : (pool : ℕ) (h : List Entry) (from last : ℕ) (session : Option SessionId)
+    → from ≤ last → IsLegal pool (take last h)
+    → ((x : SessionId) (k : ℕ) (e : Entry) → session ≡ Some x → from ≤ k → k < last → slice_get h k ≡ Some e → IsOfOther x.0 e)
+    → owed_turns (standing_of pool (take last h)) session ≡ owed_turns (standing_of pool (take from h)) session
+owed-on pool h from last None up legal others = refl
+owed-on pool h from last (Some x) up legal others =
+    let b = between pool h from last x up legal (λ k e low high there. others x k e refl low high there) in
+    ap (λ (es : List Entry). owed_turns (standing_of pool es) (Some x)) (sym b.whole) ∙ owed-same pool (take from h) b.more x b.legal b.others
+
+pub keeps-on : (pool : ℕ) (h : List Entry) (from last : ℕ) (user : Machine)
     → from ≤ last → IsLegal pool (take last h)
     → ((x : SessionId) (k : ℕ) (e : Entry) → user.session ≡ Some x → from ≤ k → k < last → slice_get h k ≡ Some e → IsOfOther x.0 e)
     → KeepsSide pool (standing_of pool (take from h)) user → KeepsSide pool (standing_of pool (take last h)) user
@@ -63,15 +90,18 @@ abbrev pub AreForeign : List Entry → List ℕ → ℕ → ℕ → Option Sessi
 AreForeign h ns from last session =
     (x : SessionId) (k : ℕ) (e : Entry) → IsOwnSession session ns x → from ≤ k → k < last → count_of (k + 1) ns ≡ 0 → slice_get h k ≡ Some e → IsOfOther x.0 e
 
-turns-side : (pool : ℕ) (h : List Entry) (from last : ℕ) (user : Machine) (ns : List ℕ) (after : Machine)
-    → ((n : ℕ) → n ≤ last → IsLegal pool (take n h)) → last ≤ length h → Rise from ns last → from ≤ last
-    → AreForeign h ns from last user.session → KeepsSide pool (standing_of pool (take from h)) user → TakesTurns pool h user ns after
-    → KeepsSide pool (standing_of pool (take last h)) after
-turns-side pool h from last user [] after legal within rise up foreign keeps turns =
-    subst (KeepsSide pool (standing_of pool (take last h))) (sym turns)
-    (keeps-on pool h from last user up (legal last (omega arith)) (λ x k e is low high there. foreign x k e (inl is) low high refl there) keeps)
-turns-side pool h from last user (n ∷ ns) after legal within rise up foreign keeps turns =
-    turns-side pool h n last turns.0 ns after legal within rise.1 below later behind turns.1.1
+-- What holds of a user before some turns, with the numbers that are left, holds behind the last of
+-- them, where the entries of others between two of them leave it, and each turn leaves it.
+pub turns-along : (pool : ℕ) (h : List Entry) (P : List ℕ → ℕ → Machine → Type 0) (last : ℕ)
+    → ((ns : List ℕ) (from n : ℕ) (m : Machine) → from ≤ n → n ≤ last
+    → ((x : SessionId) (k : ℕ) (e : Entry) → m.session ≡ Some x → from ≤ k → k < n → slice_get h k ≡ Some e → IsOfOther x.0 e) → P ns from m → P ns n m)
+    → ((ns : List ℕ) (n : ℕ) (m after : Machine) → n < last → P ((n + 1) ∷ ns) n m → TakesTurn pool h m (n + 1) after → P ns (n + 1) after)
+    → (from : ℕ) (user : Machine) (ns : List ℕ) (after : Machine) → Rise from ns last → from ≤ last
+    → AreForeign h ns from last user.session → P ns from user → TakesTurns pool h user ns after → P [] last after
+turns-along pool h P last on turn from user [] after rise up foreign keeps turns =
+    subst (P [] last) (sym turns) (on [] from last user up (omega arith) (λ x k e is low high there. foreign x k e (inl is) low high refl there) keeps)
+turns-along pool h P last on turn from user (n ∷ ns) after rise up foreign keeps turns =
+    turns-along pool h P last on turn n turns.0 ns after rise.1 below later behind turns.1.1
   where
     above : from < n
     above = rise.0
@@ -79,19 +109,16 @@ turns-side pool h from last user (n ∷ ns) after legal within rise up foreign k
     below : n ≤ last
     below = rise-low n ns last rise.1
 
-    less : n - 1 ≤ last
-    less = omega (arith, below)
-
     number : n - 1 + 1 ≡ n
     number = omega (arith, above)
 
-    before : KeepsSide pool (standing_of pool (take (n - 1) h)) user
-    before = keeps-on pool h from (n - 1) user (omega (arith, above)) (legal (n - 1) less)
-        (λ x k e is low high there. foreign x k e (inl is) low (omega (arith, high, less)) (rise-above (k + 1) (n ∷ ns) last (k + 1) (omega (arith, high, above), rise.1) (omega arith)) there) keeps
+    before : P (n ∷ ns) (n - 1) user
+    before = on (n ∷ ns) from (n - 1) user (omega (arith, above)) (omega (arith, below))
+        (λ x k e is low high there. foreign x k e (inl is) low (omega (arith, high, below)) (rise-above (k + 1) (n ∷ ns) last (k + 1) (omega (arith, high, above), rise.1) (omega arith)) there) keeps
 
-    behind : KeepsSide pool (standing_of pool (take n h)) turns.0
-    behind = subst (λ (k : ℕ). KeepsSide pool (standing_of pool (take k h)) turns.0) number
-        (turn-side pool h user (n - 1) turns.0 (legal (n - 1) less) (omega (arith, above, below, within)) before (subst (λ (k : ℕ). TakesTurn pool h user k turns.0) (sym number) turns.1.0))
+    behind : P ns n turns.0
+    behind = subst (λ (k : ℕ). P ns k turns.0) number
+        (turn ns (n - 1) user turns.0 (omega (arith, above, below)) (subst (λ (k : ℕ). P (k ∷ ns) (n - 1) user) (sym number) before) (subst (λ (k : ℕ). TakesTurn pool h user k turns.0) (sym number) turns.1.0))
 
     later : AreForeign h ns n last turns.0.session
     later x k e own low high none there =
@@ -99,9 +126,19 @@ turns-side pool h from last user (n ∷ ns) after legal within rise up foreign k
         let all : count_of (k + 1) (n ∷ ns) ≡ 0 = count_of-cons (k + 1) n ns ∙ ap (λ (b : Bool). cond b 1 0 + count_of (k + 1) ns) miss ∙ omega (arith, none) in
         foreign x k e (own-back n user.session turns.0.session ns x (turn-on pool h user n turns.0 turns.1.0).session own) (omega (arith, above, low)) high all there
 
+pub turns-side : (pool : ℕ) (h : List Entry) (from last : ℕ) (user : Machine) (ns : List ℕ) (after : Machine)
+    → ((n : ℕ) → n ≤ last → IsLegal pool (take n h)) → last ≤ length h → Rise from ns last → from ≤ last
+    → AreForeign h ns from last user.session → KeepsSide pool (standing_of pool (take from h)) user → TakesTurns pool h user ns after
+    → KeepsSide pool (standing_of pool (take last h)) after
+turns-side pool h from last user ns after legal within rise up foreign keeps turns =
+    turns-along pool h (λ numbers n m. KeepsSide pool (standing_of pool (take n h)) m) last
+    (λ numbers low n m above below others keeps. keeps-on pool h low n m above (legal n below) others keeps)
+    (λ numbers n m next below keeps turn. turn-side pool h m n next (legal n (omega (arith, below))) (omega (arith, below, within)) keeps turn)
+    from user ns after rise up foreign keeps turns
+
 -- Units.
 
-abbrev IsPairedShare : UnitShare → Type 0
+abbrev pub IsPairedShare : UnitShare → Type 0
 IsPairedShare share = (m : Machine) → ArePaired (share.tasks m)
 
 -- what holds of each share and of each user behind it, beside its entries
@@ -121,8 +158,11 @@ with-both : (pool : ℕ) (h : List Entry) (Q : Machine → Type 0) (users : List
     → EachShare (ReplaysShare pool h) users unit lists afters → EachShare (WithBoth pool h Q) users unit lists afters
 with-both pool h Q = each-with (ReplaysShare pool h) IsPairedShare Q
 
--- between units no port is shut
-abbrev HaveSides : ℕ → Standing → List Machine → Type 0
+-- between units no port is shut, and no session owes anything
+abbrev pub HaveSettled : ℕ → Standing → List Machine → Type 0
+HaveSettled pool s users = (i : ℕ) (u : Machine) → slice_get users i ≡ Some u → owed_turns s u.session ≡ 0
+
+abbrev pub HaveSides : ℕ → Standing → List Machine → Type 0
 HaveSides pool s users = (i : ℕ) (u : Machine) → slice_get users i ≡ Some u → SideOf pool s u.session None u.own
 
 pub foreign-at : (pool : ℕ) (h : List Entry) (users : List Machine) (first : ℕ) (unit : ScriptUnit) (lists : List (List ℕ)) (afters : List Machine) (last i : ℕ) (before : Machine)
@@ -151,7 +191,7 @@ foreign-at pool h users first unit lists afters last i before apart each split c
     by_who : HasMember (ReplaysShare pool h) users unit lists (k + 1) → ⊥
     by_who who = by_place who (cases_Bool (i == who.place))
 
-rises-at : (pool : ℕ) (h : List Entry) (first last : ℕ) (ns : List ℕ) → Rise 0 ns (length h)
+pub rises-at : (pool : ℕ) (h : List Entry) (first last : ℕ) (ns : List ℕ) → Rise 0 ns (length h)
     → first ≤ last → ((b : ℕ) → 1 ≤ count_of b ns → (first < b) × (b ≤ last)) → Rise first ns last
 rises-at pool h first last ns rise up inside = from-first first ns last (narrow 0 ns (length h) last rise (omega arith) (λ b some. (inside b some).1)) up (λ b some. (inside b some).0)
 
@@ -189,6 +229,33 @@ pub or-second : (x y : Option Ask) → option_or x y ≡ None → y ≡ None
 or-second None y e = e
 or-second (Some a) y e = absurd cc
 
+or-first : (x y : Option Ask) → option_or x y ≡ None → x ≡ None
+or-first None y e = refl
+or-first (Some a) y e = absurd cc
+
+-- the users behind a unit owe nothing
+unit-settled : (pool : ℕ) (h : List Entry) (users : List Machine) (first : ℕ) (unit : ScriptUnit) (lists : List (List ℕ)) (afters : List Machine) (last i : ℕ) (u : Machine)
+    → AreApart unit → AllByRecursion IsPairedShare unit → AllByRecursion (NeedsNoCall pool (take last h)) afters → EachShare (ReplaysShare pool h) users unit lists afters → AreSplit first last lists
+    → first ≤ last → IsLegal pool (take last h) → Cast first users → HaveSettled pool (standing_of pool (take first h)) users
+    → slice_get (with_afters unit afters users) i ≡ Some u → owed_turns (standing_of pool (take last h)) u.session ≡ 0
+unit-settled pool h users first unit lists afters last i u apart paired ended each split up legal cast settled at = by_how m.how
+  where
+    m : Member (WithBoth pool h (NeedsNoCall pool (take last h))) users unit lists i u
+    m = member (WithBoth pool h (NeedsNoCall pool (take last h))) users users unit lists afters i u apart (with-both pool h (NeedsNoCall pool (take last h)) users unit lists afters paired ended each) refl at
+
+    foreign : AreForeign h (numbers_at i unit lists) first last m.before.session
+    foreign = foreign-at pool h users first unit lists afters last i m.before apart each split cast m.here
+
+    by_how : ((numbers_at i unit lists ≡ []) × (u ≡ m.before)) ⊎ ((share : UnitShare) × WithBoth pool h (NeedsNoCall pool (take last h)) share m.before (numbers_at i unit lists) u)
+        → owed_turns (standing_of pool (take last h)) u.session ≡ 0
+    by_how (inl none) =
+        ap (λ (v : Machine). owed_turns (standing_of pool (take last h)) v.session) none.1
+        ∙ owed-on pool h first last m.before.session up legal (λ x k e is low high there. foreign x k e (inl is) low high (ap (count_of (k + 1)) none.0) there)
+        ∙ settled i m.before m.here
+    by_how (inr some) =
+        settled-owes pool (take last h) legal u.session
+        (or-first (option_and_then (settling_call (standing_of pool (take last h)).world) u.session) (call_of_tasks u u.tasks) some.1.1.1)
+
 -- a user that needs no call has no port that is shut
 keeps-ends : (pool : ℕ) (h : List Entry) (u : Machine) → NeedsNoCall pool h u
     → KeepsSide pool (standing_of pool h) u → SideOf pool (standing_of pool h) u.session None u.own
@@ -209,9 +276,10 @@ keeps-ends pool h u ended keeps = by_shut keeps.shut u.tasks none keeps.side kee
 
 -- Units one after another.
 
-record SidesOn (pool : ℕ) (h : List Entry) (users : List Machine) (last : ℕ) : Type 0 where
-  sides : HaveSides pool (standing_of pool (take last h)) users
-  cast : Cast last users
+pub record SidesOn (pool : ℕ) (h : List Entry) (users : List Machine) (last : ℕ) : Type 0 where
+  pub sides : HaveSides pool (standing_of pool (take last h)) users
+  pub settled : HaveSettled pool (standing_of pool (take last h)) users
+  pub cast : Cast last users
 
 units-sides : (pool : ℕ) (h : List Entry) (users : List Machine) (first : ℕ) (units : List ScriptUnit) (next : List Machine) (last : ℕ)
     → AllByRecursion AreApart units → AllByRecursion (AllByRecursion IsPairedShare) units → ((n : ℕ) → n ≤ length h → IsLegal pool (take n h)) → last ≤ length h
@@ -220,6 +288,7 @@ units-sides pool h users first [] next last apart paired legal within on r = sub
 units-sides pool h users first (unit ∷ units) next last apart paired legal within on r =
     units-sides pool h r.0 number units next last apart.1 paired.1 legal within (subst (λ (us : List Machine). SidesOn pool h us number) (sym one.others) (record {
       sides = λ i u at. by_user i u (unit-sides pool h (NeedsNoCall pool (take number h)) users first unit one.lists one.afters number i u apart.0 paired.0 one.ended one.replays one.split one.forward one.within (λ n below. let up = one.within in legal n (omega (arith, below, up))) on.cast on.sides at);
+      settled = λ i u at. unit-settled pool h users first unit one.lists one.afters number i u apart.0 paired.0 one.ended one.replays one.split one.forward (let up = one.within in legal number up) on.cast on.settled at;
       cast = cast-next pool h users first unit one.lists one.afters number apart.0 one.replays one.split one.forward on.cast;
     })) r.1.1.1
   where
@@ -261,7 +330,7 @@ both-all : (P : ScriptUnit → Type 0) (xs ys : List ScriptUnit) → AllByRecurs
 both-all P [] ys front back = back
 both-all P (x ∷ xs) ys front back = (front.0, both-all P xs ys front.1 back)
 
-units-paired : (program : Program) (captures : Captures)
+pub units-paired : (program : Program) (captures : Captures)
     → AllByRecursion (AllByRecursion IsPairedShare) (units_of program captures)
 units-paired program captures =
     both-all (AllByRecursion IsPairedShare) (map (shares_of (records_of program.files captures) (user_count program)) program.units) (map closing_unit (range_with_len 1 (user_count program)))
@@ -273,7 +342,7 @@ take-all P zero units all = tt
 take-all P (suc count) [] all = tt
 take-all P (suc count) (unit ∷ units) all = (all.0, take-all P count units all.1)
 
-all-at : (P : ScriptUnit → Type 0) (count : ℕ) (units : List ScriptUnit) (unit : ScriptUnit)
+pub all-at : (P : ScriptUnit → Type 0) (count : ℕ) (units : List ScriptUnit) (unit : ScriptUnit)
     → AllByRecursion P units → slice_get units count ≡ Some unit → P unit
 all-at P count [] unit all at = absurd cc
 all-at P zero (u ∷ units) unit all at = subst P (some-same u unit at) all.0
@@ -294,6 +363,9 @@ first-sides program h = record {
   sides = λ i u at.
       let new = new-own program.pool 1 (user_count program) i u at in
       subst (λ (x : Option SessionId). SideOf program.pool (standing_of program.pool (take 0 h)) x None u.own) (sym new.0) (new.1, refl);
+  settled = λ i u at.
+      let new = new-own program.pool 1 (user_count program) i u at in
+      ap (owed_turns (standing_of program.pool (take 0 h))) new.0;
   cast = first-cast program;
 }
 
@@ -323,12 +395,24 @@ pub record StandsOnSides (pool : ℕ) (h : List Entry) (users : List Machine) : 
       → (shut : Option ℕ) × SideOf pool (standing_of pool h) u.session shut u.own
   pub cast : Cast (length h) users
 
+pub legal-at : (program : Program) (captures : Captures) (h : List Entry) (nows : List Machine)
+    → IsUnderWay program captures h nows → (n : ℕ) → n ≤ length h → IsLegal program.pool (take n h)
+legal-at program captures h nows way n within =
+    (legal-split program.pool (take n h) (drop n h) (subst (IsLegal program.pool) (sym (take-append-drop n h)) (played-legal program captures h nows way))).0
+
+-- the users where the unit under way begins
+pub reached-sides : (program : Program) (captures : Captures) (h : List Entry) (nows : List Machine)
+    → (r : Reaches program captures h nows) → SidesOn program.pool h r.users r.first
+reached-sides program captures h nows r =
+    units-sides program.pool h (users_of program) 0 (take r.count (units_of program captures)) r.users r.first (take-apart r.count (units_of program captures) (units-apart program captures))
+    (take-all (AllByRecursion IsPairedShare) r.count (units_of program captures) (units-paired program captures)) (legal-at program captures h nows (inr r)) r.forward (first-sides program h) r.units
+
 pub users-sides : (program : Program) (captures : Captures) (h : List Entry) (nows : List Machine)
     → IsUnderWay program captures h nows → StandsOnSides program.pool h nows
 users-sides program captures h nows way = by_way way
   where
     legal : (n : ℕ) → n ≤ length h → IsLegal program.pool (take n h)
-    legal n within = (legal-split program.pool (take n h) (drop n h) (subst (IsLegal program.pool) (sym (take-append-drop n h)) (played-legal program captures h nows way))).0
+    legal = legal-at program captures h nows way
 
     whole : take (length h) h ≡ h
     whole = take_all (length h) h (omega arith)
@@ -349,8 +433,7 @@ users-sides program captures h nows way = by_way way
     reached : Reaches program captures h nows → StandsOnSides program.pool h nows
     reached r =
         let apart = apart-at r.count (units_of program captures) r.unit (units-apart program captures) r.there in
-        let on = units-sides program.pool h (users_of program) 0 (take r.count (units_of program captures)) r.users r.first (take-apart r.count (units_of program captures) (units-apart program captures))
-        (take-all (AllByRecursion IsPairedShare) r.count (units_of program captures) (units-paired program captures)) legal r.forward (first-sides program h) r.units in
+        let on = reached-sides program captures h nows r in
         record {
           sides = λ i u at. by_side u (unit-sides program.pool h (λ (m : Machine). Unit {0}) r.users r.first r.unit r.lists r.afters (length h) i u apart
               (all-at (AllByRecursion IsPairedShare) r.count (units_of program captures) r.unit (units-paired program captures) r.there) (nothing-more r.afters) r.replays r.split r.forward (omega arith) legal on.cast on.sides

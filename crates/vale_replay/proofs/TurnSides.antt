@@ -30,7 +30,7 @@ use Rattle.vale_own.proofs.SideKept.{side-kept, side-begins}
 use Rattle.vale_own.proofs.SideEntries.{transmits-of, receives-of, finishes-of}
 use Rattle.vale_own.proofs.SideSound.{each-found}
 use Rattle.vale_replay.specs.Tasks.{Task, Arrive, OpenPort, PutFrame, SendFrames, TakeFrames, ChangeOwn, SaveFrames, WatchPort, ReadCounts, ShutPort, FinishPort, Depart, EndLine, lines_left}
-use Rattle.vale_replay.specs.Machine.{Machine, room_call, put_call, send_call, call_of_task, call_of_tasks, settling_call, owed_lot, next_offer, done_call, grant_call, next_call, is_reset, is_peer_gone, has_room_at, with_tasks, answered, resting, is_settling}
+use Rattle.vale_replay.specs.Machine.{Machine, room_call, put_call, send_call, call_of_task, call_of_tasks, settling_call, owed_lot, next_offer, done_call, grant_call, next_call, is_reset, is_peer_gone, has_room_at, with_tasks, answered, is_settling}
 use Rattle.vale_replay.specs.Replay.{TakesTurn, caller_of, entry_of, entry_made, standing_before}
 use Rattle.vale_replay.proofs.Legal.{made-follows, take-one_more}
 use Rattle.vale_replay.proofs.Enters.{Enters, turn-enters}
@@ -39,12 +39,12 @@ use Rattle.vale_replay.proofs.TaskSides.{SideOf, ArePaired, AreInOrder, KeepsSid
 
 -- Calls, and the ports that they are of.
 
-record TxOf (own : OwnState) (name : List ℕ) (ask : Ask) : Type 0 where
-  port : OwnPort
-  named : port_with_name own name ≡ Some port
-  ring : OwnRing
-  has : port.tx ≡ Some ring
-  is : tx_call own port ring ≡ ask
+pub record TxOf (own : OwnState) (name : List ℕ) (ask : Ask) : Type 0 where
+  pub port : OwnPort
+  pub named : port_with_name own name ≡ Some port
+  pub ring : OwnRing
+  pub has : port.tx ≡ Some ring
+  pub is : tx_call own port ring ≡ ask
 
 room-of : (own : OwnState) (p : OwnPort) (r : OwnRing) (b : Bool) (ask : Ask)
     → cond b None (Some (tx_call own p r)) ≡ Some ask → tx_call own p r ≡ ask
@@ -57,7 +57,7 @@ put-ring : (own : OwnState) (name : List ℕ) (p : OwnPort) (tx : Option OwnRing
 put-ring own name p None ask named has e = absurd cc
 put-ring own name p (Some r) ask named has e = record { port = p; named = named; ring = r; has = has; is = room-of own p r (has_slot r) ask e }
 
-put-of : (own : OwnState) (name : List ℕ) (found : Option OwnPort) (ask : Ask)
+pub put-of : (own : OwnState) (name : List ℕ) (found : Option OwnPort) (ask : Ask)
     → port_with_name own name ≡ found → option_and_then (put_call own) found ≡ Some ask → TxOf own name ask
 put-of own name None ask named e = absurd cc
 put-of own name (Some p) ask named e = put-ring own name p p.tx ask named refl e
@@ -68,22 +68,22 @@ send-ring : (own : OwnState) (name : List ℕ) (p : OwnPort) (tx : Option OwnRin
 send-ring own name p None ask named has e = absurd cc
 send-ring own name p (Some r) ask named has e = record { port = p; named = named; ring = r; has = has; is = some-same (tx_call own p r) ask e }
 
-send-of : (own : OwnState) (name : List ℕ) (found : Option OwnPort) (ask : Ask)
+pub send-of : (own : OwnState) (name : List ℕ) (found : Option OwnPort) (ask : Ask)
     → port_with_name own name ≡ found → option_and_then (send_call own) found ≡ Some ask → TxOf own name ask
 send-of own name None ask named e = absurd cc
 send-of own name (Some p) ask named e = send-ring own name p p.tx ask named refl e
 
-record PortOf (f : OwnPort → Ask) (own : OwnState) (name : List ℕ) (ask : Ask) : Type 0 where
-  port : OwnPort
-  named : port_with_name own name ≡ Some port
-  is : f port ≡ ask
+pub record PortOf (f : OwnPort → Ask) (own : OwnState) (name : List ℕ) (ask : Ask) : Type 0 where
+  pub port : OwnPort
+  pub named : port_with_name own name ≡ Some port
+  pub is : f port ≡ ask
 
-port-of : (f : OwnPort → Ask) (own : OwnState) (name : List ℕ) (found : Option OwnPort) (ask : Ask)
+pub port-of : (f : OwnPort → Ask) (own : OwnState) (name : List ℕ) (found : Option OwnPort) (ask : Ask)
     → port_with_name own name ≡ found → option_map f found ≡ Some ask → PortOf f own name ask
 port-of f own name None ask named e = absurd cc
 port-of f own name (Some p) ask named e = record { port = p; named = named; is = some-same (f p) ask e }
 
-find-each : (P : OwnPort → Type 0) (test : OwnPort → Bool) (ports : List OwnPort) (p : OwnPort)
+pub find-each : (P : OwnPort → Type 0) (test : OwnPort → Bool) (ports : List OwnPort) (p : OwnPort)
     → AllByRecursion P ports → find test ports ≡ Some p → P p
 find-each P test [] p all e = absurd cc
 find-each P test (q ∷ ports) p all e = by_test (test q) e (find-each P test ports p all.1)
@@ -93,7 +93,7 @@ find-each P test (q ∷ ports) p all e = by_test (test q) e (find-each P test po
     by_test true e' rest = subst P (some-same q p e') all.0
     by_test false e' rest = rest e'
 
-by-id : (own : OwnState) (name : List ℕ) (p : OwnPort) → IsSound own
+pub by-id : (own : OwnState) (name : List ℕ) (p : OwnPort) → IsSound own
     → port_with_name own name ≡ Some p → port_with_id own p.id.0 ≡ Some p
 by-id own name p sound named =
     find-each (λ (q : OwnPort). port_with_id own q.id.0 ≡ Some q) (λ (q : OwnPort). bytes_eq name q.name) own.ports p (each-found own.ports sound.apart) named
@@ -480,9 +480,9 @@ offer-turn : (pool : ℕ) (past : List Entry) (user : Machine) (keeps : KeepsSid
 offer-turn pool past user keeps offer ask made m is same = call-turn pool past user keeps (grant_call offer) ask made m is same tt refl refl refl
 
 -- The call of a task is neither an Enter nor one that settles, where its user has a session.
-record IsPlain (ask : Ask) : Type 0 where
-  settles : is_settling (kept_ask ask) ≡ false
-  enters : is_enter ask ≡ false
+pub record IsPlain (ask : Ask) : Type 0 where
+  pub settles : is_settling (kept_ask ask) ≡ false
+  pub enters : is_enter ask ≡ false
 
 reset-plain : (fault : Option SyncFault) (id : PortId) (side : Side) (b : Bool) (one other : Ask)
     → IsPlain one → IsPlain other → IsPlain (or_reset fault id side (cond b one other))
@@ -504,7 +504,7 @@ mapped-plain : {X : Type 0} (f : X → Ask) (o : Option X) (ask : Ask) → ((x :
 mapped-plain f None ask each e = absurd cc
 mapped-plain f (Some x) ask each e = subst IsPlain (some-same (f x) ask e) (each x)
 
-tasks-plain : (user : Machine) (x : SessionId) (tasks : List Task) (ask : Ask)
+pub tasks-plain : (user : Machine) (x : SessionId) (tasks : List Task) (ask : Ask)
     → user.session ≡ Some x → call_of_tasks user tasks ≡ Some ask → IsPlain ask
 tasks-plain user x [] ask is call = absurd cc
 tasks-plain user x (Arrive ∷ rest) ask is call =
@@ -591,11 +591,12 @@ outcome-of : (ask : Ask) (entry : Entry) (made : Option Outcome) → option_map 
 outcome-of ask entry None e = absurd cc
 outcome-of ask entry (Some out) e = (out, refl, some-same (entry_of ask out) entry e)
 
--- behind its turn a user has its session's side
-pub turn-side : (pool : ℕ) (h : List Entry) (user : Machine) (n : ℕ) (after : Machine)
+-- the entry of its turn leaves a user with its session's side
+pub answer-side : (pool : ℕ) (h : List Entry) (user : Machine) (n : ℕ) (after : Machine)
     → IsLegal pool (take n h) → n < length h → KeepsSide pool (standing_of pool (take n h)) user
-    → TakesTurn pool h user (n + 1) after → KeepsSide pool (standing_of pool (take (n + 1) h)) after
-turn-side pool h user n after legal within keeps turn = subst (KeepsSide pool (standing_of pool (take (n + 1) h))) (sym goes) (keeps-rest pool (standing_of pool (take (n + 1) h)) next (subst (λ (s : Standing). KeepsSide pool s next) stands' behind))
+    → (turn : TakesTurn pool h user (n + 1) after)
+    → KeepsSide pool (standing_of pool (take (n + 1) h)) (answered (n + 1) turn.entry (arrivals_of (standing_before pool h (n + 1)) turn.entry.ask turn.entry.reply) user)
+answer-side pool h user n after legal within keeps turn = subst (KeepsSide pool (standing_of pool (take (n + 1) h))) (sym goes) (subst (λ (s : Standing). KeepsSide pool s next) stands' behind)
   where
     past : List Entry
     past = take n h
@@ -640,7 +641,15 @@ turn-side pool h user n after legal within keeps turn = subst (KeepsSide pool (s
         let more : suc n ≡ n + 1 = omega arith in
         ap (standing_of pool) (sym (take-one_more h n (entry_of turn.ask out.0) there)) ∙ ap (λ k. standing_of pool (take k h)) more
 
-    goes : after ≡ resting next
-    goes = turn.goes_on ∙ ap (λ (s : Standing). resting (answered (n + 1) turn.entry (arrivals_of s turn.entry.ask turn.entry.reply) user)) stands
-        ∙ ap (λ (e : Entry). resting (answered (n + 1) e (arrivals_of (standing_of pool past) e.ask e.reply) user)) (sym out.2)
-        ∙ ap (λ k. resting (answered k (entry_of turn.ask out.0) (arrivals_of (standing_of pool past) (kept_ask turn.ask) out.0.reply) user)) number
+    goes : answered (n + 1) turn.entry (arrivals_of (standing_before pool h (n + 1)) turn.entry.ask turn.entry.reply) user ≡ next
+    goes = ap (λ (s : Standing). answered (n + 1) turn.entry (arrivals_of s turn.entry.ask turn.entry.reply) user) stands
+        ∙ ap (λ (e : Entry). answered (n + 1) e (arrivals_of (standing_of pool past) e.ask e.reply) user) (sym out.2)
+        ∙ ap (λ k. answered k (entry_of turn.ask out.0) (arrivals_of (standing_of pool past) (kept_ask turn.ask) out.0.reply) user) number
+
+-- and so it has it behind its turn
+pub turn-side : (pool : ℕ) (h : List Entry) (user : Machine) (n : ℕ) (after : Machine)
+    → IsLegal pool (take n h) → n < length h → KeepsSide pool (standing_of pool (take n h)) user
+    → TakesTurn pool h user (n + 1) after → KeepsSide pool (standing_of pool (take (n + 1) h)) after
+turn-side pool h user n after legal within keeps turn =
+    subst (KeepsSide pool (standing_of pool (take (n + 1) h))) (sym turn.goes_on)
+    (keeps-rest pool (standing_of pool (take (n + 1) h)) (answered (n + 1) turn.entry (arrivals_of (standing_before pool h (n + 1)) turn.entry.ask turn.entry.reply) user) (answer-side pool h user n after legal within keeps turn))
