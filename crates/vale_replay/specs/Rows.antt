@@ -105,7 +105,8 @@ forwarded : transcript_of [] (codes "pool 64\nuser a\nuser b\nopen a vale0:a 4 4
 unfolding transcript_of
 forwarded = refl
 
--- Users of a block.
+-- Users of a block, one after another, as the walk has them. A history may hold their entries in another order
+-- too; that the walk's plays the block is no theorem (`WalksPlay` speaks of scripts without blocks).
 block : transcript_of [] (codes "pool 64\nuser a\nuser b\nopen a vale0:a 4 4\nopen b vale0:b 4 4\npar\nput a vale0:a 2 ff:ff:ff:ff:ff:ff 02:00:00:00:00:0a 14 01\ntx a vale0:a\nrx b vale0:b\nend\n") ≡ codes "vale 2 pool 64\n1 enter 1\n2 enter 2\n3 1 open vale0:a 4 4 0 = ok\n4 2 open vale0:b 4 4 0 = ok\n5 1 send 3 ffffffffffff02000000000a88b5,ffffffffffff02000000000a88b5 = short 0 lone 0 to 4*2\n6 1 grant 5 4 = given 2 full 0 gone 0\n7 1 done 6\n8 2 sync 4 - = gave 2 to -\n9 1 shut 3\n10 1 finish 3 2-5 found 0 astray 0 = unread 0\n11 1 leave\n12 2 shut 4\n13 2 finish 4 10-15 found 0 astray 0 = unread 0\n14 2 leave\nend 14 free 64\n"
 unfolding transcript_of
 block = refl

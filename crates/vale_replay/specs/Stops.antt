@@ -29,7 +29,8 @@ pub record PlaysOrStops (pool : ℕ) (history : List Entry) (count user : ℕ) (
 
 -- The users of a script play some of its units, and in the next one, which has the entries up to
 -- some last one, this user stops after so many entries. The numbers of all of them are all numbers
--- up to that last one, each once; entries of a closing may follow.
+-- up to that last one, each once. What follows a stop is left free: how far users of a larger number
+-- go on in the unit, and the entries behind that last one, with which a run closes its sessions.
 pub record HasStopped (program : Program) (captures : Captures) (history : List Entry) (count user : ℕ) (call : Ask) : Type 0 where
   pub files : HasCaptures program captures
   pub done : ℕ

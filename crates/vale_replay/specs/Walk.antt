@@ -1,5 +1,5 @@
 -- The history that a script makes, computed: unit after unit, and each user's calls one after
--- another. The users of a block run one after another.
+-- another. The users of a block run one after another, which is one of the ways in which they may.
 use Rattle.std.specs.Prelude.{ℕ, zero, suc, Bool, false, ◌≡◌, ◌==◌, ◌+◌, ◌-◌, if◌then◌else◌, List, [], ◌∷◌, slice_get, slice_set, Option, Some, None, option_map, option_and_then}
 use Rattle.nm_types.specs.declared.id.SessionId.{SessionId}
 use Rattle.vale_entry.specs.declared.entry.Ask.{Ask}
