@@ -7,8 +7,7 @@ pub struct Run {
 }
 
 /// The transcript of the first run, of which a broadcast is read.
-pub const FIRST_TEXT: &[u8] =
-    b"vale 2 pool 8192\n1 enter 1\n2 enter 2\n\
+pub const FIRST_TEXT: &[u8] = b"vale 2 pool 8192\n1 enter 1\n2 enter 2\n\
     3 1 open vale0:a 4 4 0 = ok\n4 2 open vale0:b 4 4 0 = ok\n\
     5 1 send 3 ffffffffffff02000000000a88b5\
     1111111111111111111111111111111111111111111111\
