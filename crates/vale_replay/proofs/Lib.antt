@@ -30,7 +30,6 @@ pub mod Added
 pub mod Followed
 pub mod Taken
 pub mod Tellable
-pub mod PutRooms
 pub mod Owing
 pub mod Shares
 pub mod Ending
