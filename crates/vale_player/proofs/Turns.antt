@@ -26,6 +26,7 @@ use Rattle.nm_user.proofs.Later.{between, same-own}
 use Rattle.vale_replay.specs.Tasks.{Task, Arrive, Depart}
 use Rattle.vale_replay.specs.Machine.{Machine, call_of_task, call_of_tasks, with_tasks, answered, resting, is_settling}
 use Rattle.vale_replay.specs.Replay.{TakesTurn, TakesTurns, entry_of, entry_made, caller_of, last_behind, last_of}
+use Rattle.vale_replay.proofs.Behind.{own-on}
 use Rattle.vale_player.specs.Users.{IsUserOf, HasCome}
 use Rattle.vale_player.specs.Laws.{CallIsTurn}
 use Rattle.vale_player.proofs.Askers.{has-made, whose-task}
