@@ -180,6 +180,13 @@ fn listed_in(entry: &Entry) -> usize
     }
 }
 
+/// How many buffers may be listed behind an entry, where so many may be by it and behind it.
+fn left_behind(left: usize, entry: &Entry) -> Result<usize, NoMemory>
+    ensures { IfOk result (λ fewer. fewer + listed_in entry.now ≡ left) }
+{
+    left.checked_sub(listed_in(entry)).ok_or(NoMemory)
+}
+
 /// Reads the first line, and returns it with what stands behind it.
 #[tactic(auto, using(crate::proofs::Reading::reading))]
 fn read_start<'a>(
@@ -226,7 +233,7 @@ fn read_since(alloc: Global, oldest: u32, bytes: &[u8]) -> Result<Text, TextFaul
 {
     let mut scratch = Lines::new(alloc);
     let mut entries = Vec::new(alloc);
-    let mut room = MOST_LISTED;
+    let mut left = MOST_LISTED;
     let (start, mut rest) = read_start(&mut scratch, oldest, bytes)?;
     let mut at = 2;
     while let Some((line, after)) = first_line(rest) {
@@ -244,7 +251,7 @@ fn read_since(alloc: Global, oldest: u32, bytes: &[u8]) -> Result<Text, TextFaul
         }
         match entry_in(alloc, &mut scratch, start.version, at - 1, line)? {
             Some(entry) => {
-                room = room.checked_sub(listed_in(&entry)).ok_or(NoMemory)?;
+                left = left_behind(left, &entry)?;
                 entries.push(entry)?;
             }
             None => return Err(TextFault::BadLine { line: at }),

@@ -1,4 +1,6 @@
-use Rattle.std.proofs.Common.{◌≡◌, ◌-◌, ◌<◌, ◌∙◌, length, sym, arith}
+use Rattle.std.proofs.Common.{◌≡◌, ◌-◌, ◌+◌, ◌<◌, ◌∙◌, ap, length, sum_by, sym, arith}
+use Rattle.std.proofs.lemmas.List.Sums.{sum_by_push}
+use Rattle.vale_text.specs.Reading.{listed_in}
 use Rattle.std.proofs.lemmas.Bool.{eqb-true}
 use Rattle.vale_text.proofs.Reading.{above-zero, read-all, read-more, past-last, bad-line, missing-end, cut-shorter, count-more}
 use Rattle.vale_text.proofs.reader.read_since.Goals as goal
@@ -29,6 +31,7 @@ loop-line-preserved c =
           c.in-Some-2.entry c.loop-line.invariant.read c.in-Some.ensures.some (omega (arith, c.loop-line.invariant.number)) (omega (arith, c.loop-line.invariant.room, c.requires)) (sym c.in_ok-entry.ensures ∙ c.in-Some-2.is));
       number = rw (c.in_ok-push-in-Some-2.ensures.items) (count-more c.loop-line.entries.items c.in-Some-2.entry c.loop-line.at c.loop-line.invariant.number);
       room = omega (arith, c.loop-line.invariant.room, shorter);
+      listed = omega (arith, ap (sum_by listed_in) c.in_ok-push-in-Some-2.ensures.items, sum_by_push listed_in c.loop-line.entries.items c.in-Some-2.entry, c.in_ok-left.ensures, c.loop-line.invariant.listed);
     }
 
 pub returns-clause-bad : goal.returns-clause-bad
