@@ -30,7 +30,7 @@ use Rattle.vale_own.proofs.SideSyncing.{transmit-asked, receive-asked}
 use Rattle.vale_replay.specs.Tasks.{Task, Arrive, OpenPort, PutFrame, SendFrames, TakeFrames, ChangeOwn, SaveFrames, WatchPort, ReadCounts, ShutPort, FinishPort, Depart, EndLine}
 use Rattle.vale_replay.specs.Machine.{Machine, call_of_task, call_of_tasks, settling_call, owed_lot, next_offer, done_call, grant_call, next_call, put_call, send_call}
 use Rattle.vale_replay.specs.Replay.{UnitShare, EachShare, Reaches, starting, units_of, with_afters}
-use Rattle.vale_replay.specs.MayCall.{HasFieldsIf, PortFits, TaskFits, LeavesWithout, MayCall, CallsMayBeMade}
+use Rattle.vale_replay.specs.MayCall.{HasFieldsIf, PortFits, FirstFits, LeavesWithout, MayCall, CallsMayBeMade}
 use Rattle.vale_replay.proofs.Turns.{some-same}
 use Rattle.vale_replay.proofs.Members.{HasShare, has-share, have-same}
 use Rattle.vale_replay.proofs.Joins.{units-apart, apart-at}
@@ -110,7 +110,7 @@ module _ (pool : ℕ) (past : List Entry) (legal : IsLegal pool past) (x : Sessi
       session-asked : (f : SessionId → Ask) (call : Ask) → MayAsk pool past x.0 (f x) → option_map f user.session ≡ Some call → MayAsk pool past x.0 call
       session-asked f call may called = subst (MayAsk pool past x.0) (some-same (f x) call (ap (option_map f) (sym is) ∙ called)) may
 
-      task-asked : (tasks : List Task) (call : Ask) → IsSettled pool past x.0 → ArePaired tasks → AllByRecursion TaskFits tasks → LeavesWithout own.ports tasks
+      task-asked : (tasks : List Task) (call : Ask) → IsSettled pool past x.0 → ArePaired tasks → FirstFits tasks → LeavesWithout own.ports tasks
           → call_of_tasks user tasks ≡ Some call → MayAsk pool past x.0 call
       task-asked [] call settled paired fits leaves called = absurd cc
       task-asked (Arrive ∷ rest) call settled paired fits leaves called =
@@ -119,7 +119,7 @@ module _ (pool : ℕ) (past : List Entry) (legal : IsLegal pool past) (x : Sessi
           absurd cc
       task-asked (OpenPort name tx rx extra ∷ rest) call settled paired fits leaves called =
           session-asked (λ (session : SessionId). Open session name tx rx extra) call
-          (open-asked pool past x None own name tx rx extra has fits.0.named fits.0.tx_fits fits.0.rx_fits fits.0.extra_fits) called
+          (open-asked pool past x None own name tx rx extra has fits.named fits.tx_fits fits.rx_fits fits.extra_fits) called
       task-asked (PutFrame name bytes ∷ rest) call settled paired fits leaves called =
           tx-asked name call settled (put-of own name (port_with_name own name) call refl called)
       task-asked (SendFrames name ∷ rest) call settled paired fits leaves called =
@@ -135,7 +135,7 @@ module _ (pool : ℕ) (past : List Entry) (legal : IsLegal pool past) (x : Sessi
           let p = port-of (λ (q : OwnPort). Watch q.id target sides) own monitor (port_with_name own monitor) call refl called in
           let named : monitor ≡ p.port.name = (bytes_eq-Decides monitor p.port.name).0 (place-of (λ (q : OwnPort). bytes_eq monitor q.name) own.ports p.port p.named).passes in
           subst (MayAsk pool past x.0) p.is
-          (watch-asked pool past x.0 None own p.port target sides has (open-at monitor p.port p.named) (ap is_monitor_name (sym named) ∙ fits.0.by_monitor) fits.0.named fits.0.no_monitor)
+          (watch-asked pool past x.0 None own p.port target sides has (open-at monitor p.port p.named) (ap is_monitor_name (sym named) ∙ fits.by_monitor) fits.named fits.no_monitor)
       task-asked (ReadCounts name ∷ rest) call settled paired fits leaves called =
           let p = port-of (λ (q : OwnPort). Stat q.id) own name (port_with_name own name) call refl called in
           subst (MayAsk pool past x.0) p.is (stat-asked pool past x.0 None own p.port has (open-at name p.port p.named))
@@ -158,7 +158,7 @@ module _ (pool : ℕ) (past : List Entry) (legal : IsLegal pool past) (x : Sessi
         subst (MayAsk pool past x.0) same (finish-asked pool past x.0 (Some id) own p.0 (record { legal = legal; of = side }) (found, shut))
     finish-now id _ call side order called = absurd order
 
-    pub user-asked : (call : Ask) → KeepsSide pool s user → AllByRecursion TaskFits user.tasks → LeavesWithout own.ports user.tasks
+    pub user-asked : (call : Ask) → KeepsSide pool s user → FirstFits user.tasks → LeavesWithout own.ports user.tasks
         → next_call s.world user ≡ Some call → MayAsk pool past x.0 call
     user-asked call keeps fits leaves called =
         by_offer (owed_lot s.world x.0) (next_offer s.world x.0) refl refl
@@ -244,4 +244,4 @@ calls-may program captures h user call size comes fit = by_session comes.now.ses
         let side = subst (λ (y : Option SessionId). SideOf program.pool (standing_of program.pool h) y keeps.shut comes.now.own) is keeps.side in
         arrives program.pool comes.now call is side.0 comes.now.tasks
         (ap (λ (y : Option SessionId). option_or (option_and_then (settling_call (standing_of program.pool h).world) y) (call_of_tasks comes.now comes.now.tasks)) (sym is) ∙ comes.called)
-    by_session (Some x) is = user-asked program.pool h legal x size comes.now is fit.ports call keeps fit.tasks fit.leaves comes.called
+    by_session (Some x) is = user-asked program.pool h legal x size comes.now is fit.ports call keeps fit.task fit.leaves comes.called

@@ -25,8 +25,8 @@ pub record PortFits (p : OwnPort) : Type 0 where
   pub tx : HasFieldsIf p.tx
   pub rx : HasFields p.rx
 
--- and so do the words of its tasks, which an accepted script keeps: a port is opened by a name, and a
--- monitor's port watches one that is none
+-- and so do the words of its next task, as the rules of a script ask of its lines: a port is opened by
+-- a name, and a monitor's port watches one that is none
 pub record OpensRight (name : List ℕ) (tx rx extra : ℕ) : Type 0 where
   pub named : is_name name ≡ true
   pub tx_fits : fits_u32 tx ≡ true
@@ -43,6 +43,10 @@ TaskFits (OpenPort name tx rx extra) = OpensRight name tx rx extra
 TaskFits (WatchPort monitor target sides) = WatchesRight monitor target
 TaskFits _ = Unit {0}
 
+abbrev pub FirstFits : List Task → Type 0
+FirstFits [] = Unit {0}
+FirstFits (task ∷ tasks) = TaskFits task
+
 -- a user leaves once it has closed its ports
 abbrev pub LeavesWithout : List OwnPort → List Task → Type 0
 LeavesWithout ports (Depart ∷ tasks) = ports ≡ []
@@ -50,7 +54,7 @@ LeavesWithout ports _ = Unit {0}
 
 pub record HasFit (user : Machine) : Type 0 where
   pub ports : AllByRecursion PortFits user.own.ports
-  pub tasks : AllByRecursion TaskFits user.tasks
+  pub task : FirstFits user.tasks
   pub leaves : LeavesWithout user.own.ports user.tasks
 
 -- The call is one that the user's session may make. A user without a session comes as one.
