@@ -137,7 +137,8 @@ TellsHistory pool history =
     → transcript_text buffers other ≡ transcript_text pool history → (buffers ≡ pool) × (other ≡ history)
 
 -- The history is one that a switch of one thread may have had, and the script is played by it: it has
--- each of the script's calls once, in its user's order. It is told by its transcript, the record had
+-- each of the script's calls once, in its user's order; of a script without blocks there is one such
+-- history at most (`plays_one_history` of vale_replay). It is told by its transcript, the record had
 -- room for each of its entries, it delivers each frame, or counts it as dropped, and at every entry each
 -- buffer has one owner. At its end nobody is there, and all buffers are the pool's.
 pub record IsHistoryOf (limits : Limits) (program : Program) (played : List InputFile) (history : List Entry) (users : List Machine) : Type 0 where
@@ -187,7 +188,9 @@ WritesPart text saved io failed = WritesText text io failed ⊎ WritesSaved text
 
 -- In a history for which the record had room some users stopped, the one with the smallest number at this
 -- call: it comes next after so many entries, and the record was full for it. Each user of a smaller number
--- has played its lines to the end of its block.
+-- has played its lines to the end of its block. How far users of a larger number went in it is left free,
+-- and so are the entries behind the block's, those with which the sessions are closed: the run writes none
+-- of this history.
 pub record StopsFull (limits : Limits) (files : Option Files) (name : List ℕ) (part : Part) (count : ℕ) : Type 0 where
   pub program : Program
   pub played : List InputFile
