@@ -208,8 +208,8 @@ fn end_for_want_of_memory<R: AllocGlobal + Threads + Wait + Sync + Abort + Print
     Ok(())
 }
 
-/// `rt try --test --fail-alloc N` refuses the Nth allocation of this test, as `checks/refused_growth`
-/// does to the program.
+/// `checks/refused_growth` has one allocation after another of this test refused, and
+/// `checks/refused_allocations` those of the program.
 #[test]
 fn growth_may_be_refused(rt: HostRuntime) -> Result<(), Fail> {
     for run in RUNS {
