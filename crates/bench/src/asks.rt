@@ -6,7 +6,7 @@ use std::fs::{self, Files};
 use std::io::Print;
 use vale_drive::Drive;
 use vale_entry::{Ask, Entry, Reply};
-use vale_text::{read, write_transcript};
+use vale_text::{Text, read, write_transcript};
 
 /// The ask of an entry. A put offers the frames that its reply took, since no others are stored.
 fn ask_of(entry: Entry) -> Ask {
@@ -51,7 +51,7 @@ pub fn run<R: Print + Files + Alloc>(
     if text.len() > 4_000_000_000 {
         return Err(anyhow!("the text is too long"));
     }
-    let Ok(entries) = read(alloc, &text) else {
+    let Ok(Text { entries, .. }) = read(alloc, &text) else {
         return Err(anyhow!("the text was refused"));
     };
     let mut drive = Drive::new(alloc, pool, Limits::VERSION_1)?;

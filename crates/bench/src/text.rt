@@ -63,10 +63,10 @@ fn entries_in(alloc: Global, text: &[u8]) -> Result<usize> {
     if text.len() > 4_000_000_000 {
         return Err(anyhow!("the text is too long"));
     }
-    let Ok(entries) = read(alloc, text) else {
+    let Ok(text) = read(alloc, text) else {
         return Err(anyhow!("the text was refused"));
     };
-    Ok(entries.len())
+    Ok(text.entries.len())
 }
 
 /// Writes a small transcript, reads it and prints how many entries it has, or, if `is_timed`, one of

@@ -7,7 +7,7 @@ ghost use Rattle.std.specs.Str.{bytes_eq};
 ghost use Rattle.vale_entry.specs.Transcript.{newest};
 ghost use Rattle.vale_text.specs.declared.reader.TextFault.TheVariants.{NoMemory as OutOfMemory};
 ghost use Rattle.vale_text.specs.Lines.{is_line_feed, IsCut, IsUncut, front_of, back_of, version_in, pool_in, most_pool_of, is_start, free_in, is_end, entry_in};
-ghost use Rattle.vale_text.specs.Reading.{IsTextWith, IsTextOf, BlamesText, IsReadTo, listed_in};
+ghost use Rattle.vale_text.specs.Reading.{IsTextWith, BlamesText, IsReadTo, listed_in};
 
 use crate::rows::{EndLine, EntryLine, NEWEST, StartLine};
 use crate::transcript::{Lines, is_text};
@@ -276,15 +276,14 @@ pub fn read_any(alloc: Global, bytes: &[u8]) -> Result<Text, TextFault>
     read_since(alloc, 1, bytes)
 }
 
-/// Reads a transcript of the version that is written, and returns its entries. What was read is
-/// written as the same bytes: `IsTextOf` says so of the pool and of the free buffers that the text
-/// tells, which `a_text_tells_its_numbers` makes one. `BadLine` tells that the text is that of no
-/// history; `NoMemory` tells nothing.
-pub fn read(alloc: Global, bytes: &[u8]) -> Result<Vec<Entry>, TextFault>
+/// Reads a transcript of the version that is written, and returns what it tells, as `read_any` does.
+/// `BadLine` tells that the text is that of no history in this version; `NoMemory` tells nothing.
+pub fn read(alloc: Global, bytes: &[u8]) -> Result<Text, TextFault>
     requires { length bytes.now < 2 ^ 32 - 1 }
-    ensures ok { IfOk result (λ entries. IsTextOf newest bytes.now entries.items) }
+    ensures ok { IfOk result (λ text. IsTextWith newest bytes.now text.version text.pool text.entries.items text.free) }
+    ensures few { IfOk result (λ text. length text.entries.items < length bytes.now) }
+    ensures listed { IfOk result (λ text. sum_by listed_in text.entries.items ≤ MOST_LISTED) }
     ensures bad { IfErr result (BlamesText newest bytes.now) }
 {
-    let Text { entries, .. } = read_since(alloc, NEWEST, bytes)?;
-    Ok(entries)
+    read_since(alloc, NEWEST, bytes)
 }

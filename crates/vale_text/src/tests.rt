@@ -1,6 +1,6 @@
 ghost use Rattle.std.specs.Prelude.{[], ◌∷◌};
 
-use crate::{PutError, TextFault, read, read_any, write_line, write_transcript};
+use crate::{PutError, Text, TextFault, read, read_any, write_line, write_transcript};
 use nm_io::{MemorySink, Sink};
 use nm_types::{
     Batch, Chain, Counts, Frame, LeaseId, Name, OpenFault, PortId, SessionId, Side, Sides,
@@ -403,7 +403,13 @@ const NUMBERS: [([u64; 4], [u64; 6]); 33] = [
 fn each_kind_of_entry_is_read_back(rt: HostRuntime) -> Result<(), Fail> {
     let text = EACH_KIND;
     assert!(rt; text.len() < 4_294_967_295);
-    let entries = read(rt.alloc(), text).ok().ok_or("read")?;
+    let Text {
+        version,
+        pool,
+        entries,
+        free,
+    } = read(rt.alloc(), text).ok().ok_or("read")?;
+    assert_eq!(rt; (version, pool, free), (2, 65_536, u32::MAX));
     assert!(rt; entries.len() == 33);
     for (i, (ask, reply)) in NUMBERS.iter().enumerate() {
         let entry = entries.get(i).ok_or("entry")?;
@@ -426,8 +432,8 @@ const FIRST_TEXT: &[u8] =
 fn the_first_run_is_read(rt: HostRuntime) -> Result<(), Fail> {
     let text = FIRST_TEXT;
     assert!(rt; text.len() < 4_294_967_295);
-    let entries = read(rt.alloc(), text).ok().ok_or("read")?;
-    assert_eq!(rt; entries.len(), 14);
+    let told = read(rt.alloc(), text).ok().ok_or("read")?;
+    assert_eq!(rt; told.entries.len(), 14);
     let end = text.len().saturating_sub(17);
     let unended = read(rt.alloc(), &text[..end]).err();
     assert_eq!(rt; unended, Some(TextFault::BadLine { line: 16 }));
