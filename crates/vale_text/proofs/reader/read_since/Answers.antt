@@ -31,7 +31,7 @@ loop-line-preserved c =
           c.in-Some-2.entry c.loop-line.invariant.read c.in-Some.ensures.some (omega (arith, c.loop-line.invariant.number)) (omega (arith, c.loop-line.invariant.room, c.requires)) (sym c.in_ok-entry.ensures ∙ c.in-Some-2.is));
       number = rw (c.in_ok-push-in-Some-2.ensures.items) (count-more c.loop-line.entries.items c.in-Some-2.entry c.loop-line.at c.loop-line.invariant.number);
       room = omega (arith, c.loop-line.invariant.room, shorter);
-      listed = omega (arith, ap (sum_by listed_in) c.in_ok-push-in-Some-2.ensures.items, sum_by_push listed_in c.loop-line.entries.items c.in-Some-2.entry, c.in_ok-left.ensures, c.loop-line.invariant.listed);
+      listed = omega (arith, ap (sum_by listed_in) c.in_ok-push-in-Some-2.ensures.items, sum_by_push listed_in c.loop-line.entries.items c.in-Some-2.entry, c.in_ok-left-in-Some-2.ensures, c.loop-line.invariant.listed);
     }
 
 pub returns-clause-bad : goal.returns-clause-bad
