@@ -1,13 +1,12 @@
 -- What is granted is a prefix of what an entry wants there.
-use Rattle.std.proofs.Common.{ℕ, ◌≡◌, ◌≤◌, inl, inr, length, arith, Bool, true, false, cond, not, ◌&&◌, ◌||◌, ◌==◌, List, [], ◌∷◌, ◌++◌, filter, take, drop, refl, sym, subst, take-append-drop}
-use Rattle.std.specs.List.{AllByRecursion as Each, list_any}
-use Rattle.std.proofs.lemmas.Bool.{eqb-true, eq-eqb, not-true}
+use Rattle.std.proofs.Common.{ℕ, ◌≡◌, ◌≤◌, inl, inr, length, arith, Bool, true, false, cond, ◌==◌, List, [], ◌∷◌, ◌++◌, filter, take, drop, refl, sym, subst, take-append-drop}
+use Rattle.std.specs.List.{AllByRecursion as Each}
+use Rattle.std.proofs.lemmas.Bool.{eqb-true, eq-eqb}
 use Rattle.nm_types.specs.Frames.{Frame}
-use Rattle.vale_entry.specs.World.{Port, Pair}
 use Rattle.vale_entry.specs.Delivered.{Brought, frames_brought, grants_to, puts_to, brought_to}
 use Rattle.vale_entry.specs.Fate.{wanted_at, Share, shares_at, is_brought_of, granted_at, puts_at}
 use Rattle.vale_entry.specs.DeliveryLaws.{IsPrefixOfWanted, IsTaken, IsBroughtFor, GivenOnlyByWanted}
-use Rattle.vale_entry.proofs.Each.{each-none, each-both, each-weaker, each-append, each-all, each-unmap, each-image}
+use Rattle.vale_entry.proofs.Each.{each-both, each-weaker, each-append, each-all, each-unmap, each-image}
 use Rattle.vale_entry.proofs.Puts.{history-puts}
 use Rattle.vale_entry.proofs.Removals.{each-kept}
 use Rattle.vale_entry.proofs.SharedOnce.{history-account}

@@ -1,5 +1,5 @@
 -- A lease that was granted stands until its one Done.
-use Rattle.std.proofs.Common.{ℕ, zero, suc, ◌+◌, ◌≤◌, ◌≡◌, Bool, true, false, cond, not, ◌&&◌, ◌==◌, List, [], ◌∷◌, ◌++◌, length, drop, map, flat_map, sum_by, count_by, Option, Some, None, refl, sym, ◌∙◌, ap, subst, arith, append-nil, append_assoc, length-append}
+use Rattle.std.proofs.Common.{ℕ, ◌+◌, ◌≤◌, ◌≡◌, Bool, true, false, cond, not, ◌&&◌, ◌==◌, List, [], ◌∷◌, ◌++◌, length, drop, sum_by, count_by, Option, Some, None, refl, sym, ◌∙◌, ap, subst, arith, append-nil, append_assoc, length-append}
 use Rattle.std.specs.List.{prefix_len}
 use Rattle.std.proofs.lemmas.List.Sums.{sum_by-cons, sum_by-append, sum_by_push, sum_by-le-sum_by}
 use Rattle.std.proofs.lemmas.Bool.{eqb-true, eq-eqb, ne_eqb}
@@ -7,7 +7,6 @@ use Rattle.nm_types.specs.Frames.{Frame}
 use Rattle.nm_types.specs.declared.id.PortId.{PortId}
 use Rattle.vale_entry.specs.declared.entry.Ask.{Ask}
 use Rattle.vale_entry.specs.declared.entry.Ask.TheVariants.{Grant}
-use Rattle.vale_entry.specs.declared.entry.Item.{Item}
 use Rattle.vale_entry.specs.declared.entry.Reply.{Reply}
 use Rattle.vale_entry.specs.declared.entry.Reply.TheVariants.{Shared}
 use Rattle.vale_entry.specs.declared.entry.Entry.{Entry}
@@ -18,7 +17,7 @@ use Rattle.vale_entry.specs.Delivery.{lease_at, is_lease, is_done_lot, ready_lot
 use Rattle.vale_entry.specs.Closing.{shut, shutting_port, leases_out, ports_without}
 use Rattle.vale_entry.specs.Pipe.{frames_of_items, port_after_put}
 use Rattle.vale_entry.specs.Legal.{Standing, Outcome, unchanged, sync_step, standing_of, world_of, IsLegal, Follows}
-use Rattle.vale_entry.specs.Laws.{Rise, id_of_port}
+use Rattle.vale_entry.specs.Laws.{Rise}
 use Rattle.vale_entry.specs.Leases.{lease_of, leases_from, leases_granted, ended_in, leases_ended, times, leases_at, leases_standing}
 use Rattle.vale_entry.specs.DeliveryLaws.{AreDoneOnce, LeasesAreDoneOnce}
 use Rattle.vale_entry.proofs.ListLaws.{sum-set, sum-map_same, front-rest, sum-remove}

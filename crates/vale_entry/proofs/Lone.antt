@@ -1,20 +1,17 @@
 -- Short and lone frames: one is lone exactly where it is long enough and named for no port of the
 -- switch; a short one is named for none. A Send's reply counts them.
-use Rattle.std.proofs.Common.{ℕ, ◌≡◌, Bool, true, false, cond, not, ◌&&◌, ◌||◌, ◌==◌, List, [], ◌∷◌, find, take, slice_get, Option, Some, None, is_some, option_map, bytes_eq, refl, subst, ap, sym}
+use Rattle.std.proofs.Common.{ℕ, ◌≡◌, Bool, true, false, cond, not, ◌&&◌, ◌||◌, ◌==◌, List, [], ◌∷◌, find, take, Option, Some, None, is_some, option_map, bytes_eq, refl, subst, ap}
 use Rattle.std.specs.List.{AllByRecursion as Each, list_any}
 use Rattle.std.proofs.lemmas.Bool.{and_parts, not-true}
 use Rattle.nm_types.specs.Frames.{Frame}
 use Rattle.nm_types.specs.Names.{switch_of}
-use Rattle.nm_types.specs.declared.id.PortId.{PortId}
 use Rattle.vale_entry.specs.declared.entry.Ask.{Ask}
-use Rattle.vale_entry.specs.declared.entry.Ask.TheVariants.{Send}
 use Rattle.vale_entry.specs.declared.entry.Reply.{Reply}
-use Rattle.vale_entry.specs.declared.entry.Entry.{Entry}
-use Rattle.vale_entry.specs.World.{World, Port, Pair, is_open, is_open_at, open_port}
+use Rattle.vale_entry.specs.World.{Port, Pair, is_open, open_port}
 use Rattle.vale_entry.specs.Learning.{is_short, is_group, destination_address, is_in_bucket, bucket_of, learned, port_of_pair, port_of_address}
-use Rattle.vale_entry.specs.Lookup.{Destination, These, Others, destination_found, destination_of, Named, named_frames, is_named, is_other_port, names_some_port, is_lone}
-use Rattle.vale_entry.specs.Legal.{Standing, Outcome, can_send, send_step, send_step_at, recorded_step, session_and_reply, fresh_standing, standing_of, named_of, Follows}
-use Rattle.vale_entry.specs.DeliveryLaws.{IsForNobody, IsNamedFor, ShortAndLoneAreForNobody, IsToldOfSend, SendsTellShortAndLone}
+use Rattle.vale_entry.specs.Lookup.{Destination, These, Others, destination_found, is_named, is_other_port, names_some_port}
+use Rattle.vale_entry.specs.Legal.{Standing, Outcome, can_send, send_step, send_step_at, recorded_step, session_and_reply, fresh_standing, standing_of}
+use Rattle.vale_entry.specs.DeliveryLaws.{ShortAndLoneAreForNobody, IsToldOfSend, SendsTellShortAndLone}
 use Rattle.vale_entry.proofs.Each.{each-none, each-all}
 use Rattle.vale_entry.proofs.Worlds.{follows-at}
 

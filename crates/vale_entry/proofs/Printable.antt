@@ -1,6 +1,6 @@
 -- Each entry of a legal history is printable at its number.
-use Rattle.std.specs.List.{cons_option, list_all}
-use Rattle.std.proofs.Common.{ℕ, ◌+◌, ◌<◌, ◌≡◌, ◌==◌, ◌&&◌, not, Bool, true, false, cond, nat_lt, List, [], ◌∷◌, map, length, IsTrue, Option, Some, None, refl, subst, arith}
+use Rattle.std.specs.List.{list_all}
+use Rattle.std.proofs.Common.{ℕ, ◌+◌, ◌≡◌, ◌==◌, ◌&&◌, not, Bool, true, false, cond, nat_lt, List, [], ◌∷◌, map, length, IsTrue, Option, Some, None, refl, subst, arith}
 use Rattle.std.proofs.lemmas.Bool.{eq-eqb, lt-ltb, and_parts}
 use Rattle.nm_types.specs.Frames.{Frame}
 use Rattle.nm_types.specs.Names.{is_name, IsName, is_monitor_name}
@@ -14,7 +14,7 @@ use Rattle.vale_entry.specs.declared.entry.Reply.{Reply}
 use Rattle.vale_entry.specs.declared.entry.Reply.TheVariants.{Gave}
 use Rattle.vale_entry.specs.declared.entry.Dest.{Dest}
 use Rattle.vale_entry.specs.declared.entry.Entry.{Entry}
-use Rattle.vale_entry.specs.World.{World, Port, Offer, open_port, free_count, transmit_monitor, receive_monitor}
+use Rattle.vale_entry.specs.World.{World, Port, open_port, free_count, transmit_monitor, receive_monitor}
 use Rattle.vale_entry.specs.Offers.{offers_of, dests_of, port_of_dest, wanted_frames, monitored_frames}
 use Rattle.nm_types.specs.Openings.{finds_switches_full, finds_ports_full, finds_name_taken, open_refusal as names_refusal}
 use Rattle.vale_entry.specs.Opening.{are_sizes, names_of, refusal_or_room, open_refusal}
@@ -23,7 +23,7 @@ use Rattle.vale_entry.specs.Delivery.{delivered_frames}
 use Rattle.nm_types.specs.SyncFaults.{is_check_fault}
 use Rattle.vale_entry.specs.Legal.{Standing, Outcome, recorded_step, after, fresh_standing, named_of, offers_of_sync, IsLegalFrom, Follows, has_ring, fits_fault, offers_of_put}
 use Rattle.vale_entry.specs.Transcript.{dests_rise, is_refusal, is_printable, IsPrintable, is_unmarked}
-use Rattle.vale_entry.specs.Laws.{Rise, id_of_port, IsNumbered, ArePrintable, LegalHistoriesArePrintable}
+use Rattle.vale_entry.specs.Laws.{Rise, IsNumbered, ArePrintable, LegalHistoriesArePrintable}
 use Rattle.vale_entry.specs.Monitors.{can_watch}
 use Rattle.vale_entry.specs.Pipe.{frames_of_items, is_pipe_item}
 use Rattle.vale_entry.specs.declared.entry.Item.{Item}

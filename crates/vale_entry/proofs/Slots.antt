@@ -1,5 +1,5 @@
 -- A frame takes at least one slot, so that frames are no more than the slots that they take.
-use Rattle.std.proofs.Common.{◌+◌, ◌≤◌, List, [], ◌∷◌, length, arith}
+use Rattle.std.proofs.Common.{◌≤◌, List, [], ◌∷◌, length, arith}
 use Rattle.std.proofs.lemmas.List.Sums.{sum_by-cons}
 use Rattle.nm_types.specs.Frames.{Frame, slots_of, size_of_frames}
 

@@ -1,10 +1,9 @@
 -- The destinations in an entry's reply are just the ports at which frames of it are wanted.
 use Rattle.std.specs.List.{AllByRecursion as Each, cons_option}
-use Rattle.std.proofs.Common.{ℕ, zero, suc, ◌≡◌, ◌≤◌, ◌+◌, ◌==◌, Bool, true, false, cond, List, [], ◌∷◌, ◌++◌, length, map, take, fold, filter_map, slice_get, Option, Some, None, refl, sym, ◌∙◌, ap, subst, arith, append-nil}
+use Rattle.std.proofs.Common.{ℕ, zero, suc, ◌≡◌, ◌≤◌, ◌+◌, ◌==◌, Bool, true, false, cond, List, [], ◌∷◌, ◌++◌, map, take, fold, filter_map, slice_get, Option, Some, None, refl, sym, ◌∙◌, ap, subst, arith, append-nil}
 use Rattle.std.proofs.lemmas.Bool.{eq-eqb, ne_eqb}
 use Rattle.nm_types.specs.Frames.{Frame}
 use Rattle.vale_entry.specs.declared.entry.Ask.{Ask}
-use Rattle.vale_entry.specs.declared.entry.Ask.TheVariants.{Grant}
 use Rattle.vale_entry.specs.declared.entry.Dest.{Dest}
 use Rattle.vale_entry.specs.declared.entry.Reply.{Reply}
 use Rattle.vale_entry.specs.declared.entry.Entry.{Entry}
@@ -13,15 +12,14 @@ use Rattle.vale_entry.specs.Offers.{wanted_frames, monitored_frames, offer_to, o
 use Rattle.vale_entry.specs.Grant.{grant_reply_at}
 use Rattle.vale_entry.specs.Delivery.{delivered_frames}
 use Rattle.vale_entry.specs.Pipe.{frames_of_items}
-use Rattle.vale_entry.specs.Legal.{Standing, after, recorded_step, standing_of, fresh_standing, named_of, unchanged, sync_step, IsLegal}
+use Rattle.vale_entry.specs.Legal.{Standing, after, recorded_step, standing_of, fresh_standing, named_of, unchanged, sync_step}
 use Rattle.vale_entry.specs.Laws.{Rise, id_of_port}
 use Rattle.vale_entry.specs.Delivered.{told_from, port_at, frames_at}
 use Rattle.vale_entry.specs.Fate.{wanted_of_send, wanted_of_sync, wanted_of_put, wanted_in, wanted_at}
 use Rattle.vale_entry.specs.DeliveryLaws.{AreJustWanting, RepliesNameTheWanting}
-use Rattle.vale_entry.proofs.Each.{each-weaker}
 use Rattle.vale_entry.proofs.Worlds.{count-standing_after, count-world_of, follows-at, length-front}
-use Rattle.vale_entry.proofs.Follows.{EachKind, Left, entry_made, IsQuiet, refused_open, Receives, by_sync, by_get, follows-by}
-use Rattle.vale_entry.proofs.Tells.{tells-nothing, tells-received, tells-put}
+use Rattle.vale_entry.proofs.Follows.{EachKind, Left, entry_made, IsQuiet, refused_open, follows-by}
+use Rattle.vale_entry.proofs.Tells.{tells-nothing, tells-received}
 use Rattle.vale_entry.proofs.Numbered.{Numbered, world-numbered}
 use Rattle.vale_entry.proofs.PortAt.{port_at-place}
 use Rattle.vale_entry.proofs.Offered.{cond-same, rise-offers}

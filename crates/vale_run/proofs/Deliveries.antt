@@ -1,5 +1,5 @@
 -- A legal history with no session left delivers.
-use Rattle.std.proofs.Common.{ℕ, zero, suc, ◌+◌, ◌≡◌, ◌++◌, List, [], ◌∷◌, length, take, drop, slice_get, Some, refl, sym, ◌∙◌, ap}
+use Rattle.std.proofs.Common.{ℕ, zero, suc, ◌+◌, ◌≡◌, ◌++◌, List, [], ◌∷◌, take, drop, slice_get, Some, sym, ◌∙◌, ap}
 use Rattle.vale_entry.specs.declared.entry.Entry.{Entry}
 use Rattle.vale_entry.specs.Legal.{IsLegal, fresh_standing, world_of}
 use Rattle.vale_entry.specs.Delivered.{put_by}
