@@ -121,7 +121,7 @@ module _ (files : Option Files) (told : IsSome files) where
     accepted : IsAccepted files name program
     accepted = ready.has_inputs.counted.accepted
 
-    one-ready : (p : Program) (is : List InputFile) → HasInputs files name p is → (p ≡ program) × (is ≡ played)
+    pub one-ready : (p : Program) (is : List InputFile) → HasInputs files name p is → (p ≡ program) × (is ≡ played)
     one-ready p is other =
         let one : p ≡ program = one-program name p program other.counted.accepted accepted in
         let read : AreInputs files program.files is other.size = subst (λ (q : Program). AreInputs files q.files is other.size) one other.read in
@@ -165,12 +165,62 @@ module _ (files : Option Files) (told : IsSome files) where
         not-refused (record { pool = s.program.pool; region = s.region; limits = limits; entries = take s.before s.history }) s.call part s.used s.want
         (few-fit s.program (map frames_of s.played) s.region limits (take s.before s.history) s.user s.call fit stop.comes) s.refused
 
+-- ---- ends that have another cause than a script that was read with its captures
+
+abbrev pub IsLate : Status → Type 0
+IsLate Done = Unit {0}
+IsLate NoMemory = Unit {0}
+IsLate WriteFault = Unit {0}
+IsLate (ReadFault which) = Unit {0}
+IsLate (Over Entries count limit) = Unit {0}
+IsLate (Over Bytes count limit) = Unit {0}
+IsLate _ = ⊥
+
+module _ (limits : Limits) (io : Io) (name : List ℕ) (told : IsSome io.files) (program : Program) (played : List InputFile) (ready : IsReady io.files name program played) where
+  own : IsAccepted io.files name program
+  own = ready.has_inputs.counted.accepted
+
+  not-many_lines : (script : List ℕ) (count : ℕ) → IsScript io.files name script → count ≡ length (lines script) → 10000 < count → ⊥
+  not-many_lines script count is counted many =
+      let same = ap (λ (s : List ℕ). length (lines s)) (one-script io.files told name script own.script is own.is_script) in
+      let few : length (lines own.script) ≤ 10000 = own.few_lines in
+      absurd (omega (arith, same, few, counted, many))
+
+  not-many_counts : (other : Program) (count : ℕ) → IsAccepted io.files name other → count ≡ counts_of other → 1000000 < count → ⊥
+  not-many_counts other count is counted many =
+      let same = ap counts_of (one-program io.files told name other program is own) in
+      let few : counts_of program ≤ 1000000 = ready.has_inputs.counted.few_counts in
+      absurd (omega (arith, same, few, counted, many))
+
+  not-many_frames : (other : Program) (others : List InputFile) (count : ℕ) → HasInputs io.files name other others → count ≡ frames_played other others → 1000000 < count → ⊥
+  not-many_frames other others count has counted many =
+      let one = one-ready io.files told name program played ready other others has in
+      let same : frames_played other others ≡ frames_played program played = ap (λ (p : Program). frames_played p others) one.0 ∙ ap (frames_played program) one.1 in
+      let few : frames_played program played ≤ 1000000 = ready.few_frames in
+      absurd (omega (arith, same, few, counted, many))
+
+  pub end-late : (status : Status) → Ends limits io name status → IsLate status
+  end-late Done e = tt
+  end-late NoMemory e = tt
+  end-late WriteFault e = tt
+  end-late (ReadFault which) e = tt
+  end-late (Over Entries count limit) e = tt
+  end-late (Over Bytes count limit) e = tt
+  end-late Usage e = absurd e
+  end-late (BadText which line) e = absurd e
+  end-late (Over Text count limit) e = absurd e
+  end-late (Over Script count limit) e = absurd (not-longer io.files told name own.script most_script_bytes own.is_script.told own.is_script.short e.1.1.0)
+  end-late (Over Lines count limit) e = absurd (not-many_lines e.0 count e.1.0 e.1.1.0 e.1.1.1.0)
+  end-late (BadScript line cause) e =
+      absurd (none-bad program (record { line = line; cause = cause }) (script_of e.0) (says-same io.files told name e.0 program own e.1.0) e.1.1.1.0)
+  end-late (Over Counts count limit) e = absurd (not-many_counts e.0 count e.1.0 e.1.1.0 e.1.1.1.0)
+  end-late (Over Inputs count limit) e = absurd (not-long io.files told name program played ready io.reads e.0 e.1.0)
+  end-late (BadPcap which offset cause) e = absurd (not-bad io.files told name program played ready io.reads cause (string_bytes which) e.0)
+  end-late (Over Frames count limit) e = absurd (not-many_frames e.0 e.1.0 count e.1.1.0 e.1.1.1.0 e.1.1.1.1.0)
+
 -- ---- each end but two
 
 module _ (limits : Limits) (entries : most_entries ≤ limits.entries) (bytes : most_bytes ≤ limits.bytes) (io : Io) (name : List ℕ) (n : NothingHinders io name) where
-  own : IsAccepted io.files name n.program
-  own = n.ready.has_inputs.counted.accepted
-
   not-unread : (which : List ℕ) → ((which ≡ name) × HasRisen (io.reads name)) ⊎ StopsAtInput io.files io.reads name inputs.Failed which → ⊥
   not-unread which (inl one) = n.faultless.reads name one.1
   not-unread which (inr s) = n.faultless.reads s.stops.name s.stops.blames
@@ -179,43 +229,17 @@ module _ (limits : Limits) (entries : most_entries ≤ limits.entries) (bytes : 
   not-unwritten text saved (inl w) = n.faultless.writes (w.rose refl)
   not-unwritten text saved (inr w) = n.faultless.appends w.shelf.output.file (w.shelf.rose refl)
 
-  not-many_lines : (script : List ℕ) (count : ℕ) → IsScript io.files name script → count ≡ length (lines script) → 10000 < count → ⊥
-  not-many_lines script count is counted many =
-      let same = ap (λ (s : List ℕ). length (lines s)) (one-script io.files n.told name script own.script is own.is_script) in
-      let few : length (lines own.script) ≤ 10000 = own.few_lines in
-      absurd (omega (arith, same, few, counted, many))
-
-  not-many_counts : (program : Program) (count : ℕ) → IsAccepted io.files name program → count ≡ counts_of program → 1000000 < count → ⊥
-  not-many_counts program count is counted many =
-      let same = ap counts_of (one-program io.files n.told name program n.program is own) in
-      let few : counts_of n.program ≤ 1000000 = n.ready.has_inputs.counted.few_counts in
-      absurd (omega (arith, same, few, counted, many))
-
-  not-many_frames : (program : Program) (played : List InputFile) (count : ℕ) → HasInputs io.files name program played → count ≡ frames_played program played → 1000000 < count → ⊥
-  not-many_frames program played count has counted many =
-      let one = one-ready io.files n.told name n.program n.played n.ready program played has in
-      let same : frames_played program played ≡ frames_played n.program n.played = ap (λ (p : Program). frames_played p played) one.0 ∙ ap (frames_played n.program) one.1 in
-      let few : frames_played n.program n.played ≤ 1000000 = n.ready.few_frames in
-      absurd (omega (arith, same, few, counted, many))
+  late-complete : (status : Status) → Ends limits io name status → IsLate status → (status ≡ Done) ⊎ (status ≡ NoMemory)
+  late-complete Done e late = inl refl
+  late-complete NoMemory e late = inr refl
+  late-complete (ReadFault which) e late = absurd (not-unread (string_bytes which) e.0)
+  late-complete (Over Entries count limit) e late = absurd (not-full io.files n.told name n.program n.played n.ready limits parts.Entries count entries bytes n.light e.0)
+  late-complete (Over Bytes count limit) e late = absurd (not-full io.files n.told name n.program n.played n.ready limits parts.Bytes count entries bytes n.light e.0)
+  late-complete WriteFault e late = absurd (not-unwritten (text_in e.0) (saved_in e.0) e.1)
+  late-complete _ e late = absurd late
 
   end-complete : (status : Status) → Ends limits io name status → (status ≡ Done) ⊎ (status ≡ NoMemory)
-  end-complete Done e = inl refl
-  end-complete NoMemory e = inr refl
-  end-complete Usage e = absurd e
-  end-complete (BadText which line) e = absurd e
-  end-complete (Over Text count limit) e = absurd e
-  end-complete (ReadFault which) e = absurd (not-unread (string_bytes which) e.0)
-  end-complete (Over Script count limit) e = absurd (not-longer io.files n.told name own.script most_script_bytes own.is_script.told own.is_script.short e.1.1.0)
-  end-complete (Over Lines count limit) e = absurd (not-many_lines e.0 count e.1.0 e.1.1.0 e.1.1.1.0)
-  end-complete (BadScript line cause) e =
-      absurd (none-bad n.program (record { line = line; cause = cause }) (script_of e.0) (says-same io.files n.told name e.0 n.program own e.1.0) e.1.1.1.0)
-  end-complete (Over Counts count limit) e = absurd (not-many_counts e.0 count e.1.0 e.1.1.0 e.1.1.1.0)
-  end-complete (Over Inputs count limit) e = absurd (not-long io.files n.told name n.program n.played n.ready io.reads e.0 e.1.0)
-  end-complete (BadPcap which offset cause) e = absurd (not-bad io.files n.told name n.program n.played n.ready io.reads cause (string_bytes which) e.0)
-  end-complete (Over Frames count limit) e = absurd (not-many_frames e.0 e.1.0 count e.1.1.0 e.1.1.1.0 e.1.1.1.1.0)
-  end-complete (Over Entries count limit) e = absurd (not-full io.files n.told name n.program n.played n.ready limits parts.Entries count entries bytes n.light e.0)
-  end-complete (Over Bytes count limit) e = absurd (not-full io.files n.told name n.program n.played n.ready limits parts.Bytes count entries bytes n.light e.0)
-  end-complete WriteFault e = absurd (not-unwritten (text_in e.0) (saved_in e.0) e.1)
+  end-complete status e = late-complete status e (end-late limits io name n.told n.program n.played n.ready status e)
 
 pub named-complete : (limits : Limits) → most_entries ≤ limits.entries → most_bytes ≤ limits.bytes → (name : List ℕ) (io : Io) (status : Status)
     → (load : Option ℕ) (text : Option (List ℕ)) → Ends limits io name status → Completes (Some name) load text io status

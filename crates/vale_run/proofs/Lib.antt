@@ -2,6 +2,8 @@ pub mod Completing
 pub mod Deliveries
 pub mod Digits
 pub mod Endings
+pub mod FullOnce
+pub mod FullTold
 pub mod Histories
 pub mod LoadCosts
 pub mod Loads

@@ -1,6 +1,7 @@
 pub mod Commands
 pub mod Complete
 pub mod Delivery
+pub mod FullRecord
 pub mod Load
 pub mod Migrate
 pub mod Run

@@ -3,6 +3,7 @@
 #![tactic(auto)]
 
 mod command;
+pub mod laws;
 mod load;
 mod migrate;
 mod playing;
