@@ -50,8 +50,14 @@ fn tried<R: AllocGlobal + Threads + Wait + Sync>(
     let words = command(alloc, &["run", "s"])?;
     let mut line = MemorySink::new(alloc, Vec::new(alloc));
     let status = run(rt, &words, &mut shelf, &mut out, &NoGate);
-    report(&mut line, &status);
-    Ok((Left { shelf, out, line }, status))
+    let code = report(&mut line, &status);
+    let left = Left {
+        shelf,
+        out,
+        line,
+        code,
+    };
+    Ok((left, status))
 }
 
 #[test]
