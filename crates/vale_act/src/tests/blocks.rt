@@ -56,7 +56,7 @@ struct Meeting<'r, R> {
     passed: Mutex<Vec<(u64, Stage)>>,
 }
 
-impl<'r, R: Abort + Wait + Clock + Sync> Meeting<'r, R> {
+impl<'r, R: Abort + Wait + Clock> Meeting<'r, R> {
     fn write(&self, user: u64, stage: Stage) {
         let mut passed = self.passed.lock(self.rt);
         passed.push((user, stage)).expect(self.rt, "memory");
