@@ -1,5 +1,6 @@
 //! Runs whose shelf or sink fails at one call after another, or answers in pieces, whose memory is
 //! refused, whose captures are cut, and whose rings and chains are wrong.
+ghost use Rattle.std.specs.Prelude.{◌≤◌};
 
 use super::*;
 use nm_types::NoMemory;
@@ -78,19 +79,20 @@ fn fail_each_put<R: AllocGlobal + Threads + Wait + Sync + Abort>(
 ) -> Result<u64, Fail>
     requires { 1 ≤ piece }
 {
+    let (script, text) = (run.script, run.text);
     for fail_sink in 1..9_999 {
         let answers = Answers {
             fail_sink,
             piece,
             ..GOOD
         };
-        let (left, status) = tried(rt, run.script, EMPTY, answers)?;
+        let (left, status) = tried(rt, script, EMPTY, answers)?;
         if matches!(status, Status::Done) {
-            left.says(rt, EMPTY, run.text);
+            left.says(rt, EMPTY, text);
             return Ok(fail_sink - 1);
         }
-        assert_eq!(rt; left.line.bytes(), NO_WRITE);
-        assert!(rt; run.text.starts_with(left.out.bytes()));
+        assert!(rt; left.line.bytes() == NO_WRITE);
+        assert!(rt; text.starts_with(left.out.bytes()));
     }
     Ok(0)
 }
