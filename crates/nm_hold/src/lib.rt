@@ -11,8 +11,6 @@ mod renames;
 mod standing;
 mod table;
 mod taking;
-#[cfg(test)]
-mod tests;
 
 pub use around::step_on;
 pub use hold::{Hold, PortRoom};

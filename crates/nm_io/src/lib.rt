@@ -16,8 +16,6 @@ mod shelf;
 mod sink;
 mod std_sink;
 mod stored;
-#[cfg(test)]
-mod tests;
 mod text;
 mod whole;
 

@@ -12,11 +12,7 @@ mod lending;
 mod named;
 mod open;
 mod own;
-#[cfg(test)]
-mod own_tests;
 mod slot_lent;
-#[cfg(test)]
-mod sync_tests;
 
 pub use acts::SlotPlace;
 pub use lend::LentBack;

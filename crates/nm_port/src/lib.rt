@@ -16,8 +16,6 @@ pub mod reset;
 mod slot_ring;
 mod slots;
 pub mod take;
-#[cfg(test)]
-mod tests;
 pub mod undo;
 
 pub use buf_room::BufRoom;

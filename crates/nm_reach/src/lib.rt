@@ -7,8 +7,6 @@ mod parts;
 mod reach;
 mod sides;
 mod stretch;
-#[cfg(test)]
-mod tests;
 
 pub use cell::Cell;
 pub use field::Field;

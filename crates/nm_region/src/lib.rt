@@ -5,8 +5,6 @@ mod block;
 mod buf;
 mod part;
 mod region;
-#[cfg(test)]
-mod tests;
 
 pub use buf::{Buf, distinct};
 pub use region::Region;

@@ -3,8 +3,6 @@
 
 pub mod laws;
 mod ring;
-#[cfg(test)]
-mod tests;
 
 pub use nm_types::RingFault;
 pub use ring::Ring;

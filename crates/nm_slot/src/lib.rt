@@ -3,8 +3,6 @@
 
 mod checks;
 pub mod laws;
-#[cfg(test)]
-mod tests;
 
 pub use checks::judge;
 pub use nm_types::{Seen, Slot, SlotFault};

@@ -4,8 +4,6 @@
 mod kept;
 mod pass;
 mod rule;
-#[cfg(test)]
-mod tests;
 mod turn;
 mod view;
 

@@ -12,8 +12,6 @@ mod name;
 mod place;
 mod refusal;
 mod slot;
-#[cfg(test)]
-mod tests;
 
 pub use fault::{BadName, LineCause, NoMemory, OpenFault, Part, StepFault, SyncFault, WatchFault};
 pub use flags::SlotFlags;

@@ -63,8 +63,6 @@ mod receiving;
 mod saving;
 mod sending;
 mod session;
-#[cfg(test)]
-mod tests;
 mod watching;
 mod writing;
 

@@ -18,6 +18,3 @@ pub use writing::{header, record_head, write_header, write_record};
 
 /// The most captured bytes of a record.
 pub const MAX_CAPTURED: u32 = 262_144;
-
-#[cfg(test)]
-mod tests;

@@ -9,8 +9,6 @@ mod lists;
 mod looking;
 mod lookup;
 mod sole;
-#[cfg(test)]
-mod tests;
 
 pub use classifying::classify;
 pub use lists::{Dest, Lists, Want};

@@ -2,8 +2,6 @@
 #![tactic(auto)]
 
 mod drive;
-#[cfg(test)]
-mod tests;
 mod winding;
 
 pub use drive::Drive;

@@ -6,8 +6,6 @@ mod entry;
 mod history;
 pub mod laws;
 mod lists;
-#[cfg(test)]
-mod tests;
 
 pub use entry::{Ask, Dest, Entry, Item, Reply, Span};
 pub use history::History;

@@ -3,8 +3,6 @@
 
 mod generator;
 mod sheet;
-#[cfg(test)]
-mod tests;
 mod workload;
 
 pub use generator::load;

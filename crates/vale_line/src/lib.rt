@@ -8,8 +8,6 @@ mod line;
 mod lot;
 mod moves;
 mod ring;
-#[cfg(test)]
-mod tests;
 
 pub use got::Got;
 pub use lease::{Lease, LeaseRoom};

@@ -7,8 +7,6 @@ pub mod laws;
 mod names;
 mod port;
 mod switch;
-#[cfg(test)]
-mod tests;
 
 pub use names::Names;
 pub use port::NamedPort;

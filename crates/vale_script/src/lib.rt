@@ -10,8 +10,6 @@ mod reader;
 mod script;
 mod statements;
 mod tables;
-#[cfg(test)]
-mod tests;
 
 pub use forms::{Verb, verb_of};
 pub use reader::{ScriptFault, first_line, line_count, parse};

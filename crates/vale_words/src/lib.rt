@@ -3,8 +3,6 @@
 
 mod fixed;
 mod lanes;
-#[cfg(test)]
-mod tests;
 mod words;
 
 pub use fixed::{side_of, sides_of, value_of, word_at};

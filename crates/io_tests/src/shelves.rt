@@ -1,0 +1,214 @@
+ghost use Rattle.std.specs.Prelude.{[], ◌∷◌, Some};
+
+use nm_io::{
+    Failed, FileShelf, Gate, MemoryShelf, MemorySink, NoGate, Page, RawSink, RawWrite, ReadError,
+    Shelf, Sink, Stage, StdSink, Text, append_all, put_all, put_page, put_text, read_all,
+};
+use std::io::ErrorKind;
+use std::test::Fail;
+use std::{fs, io};
+
+/// A script of two lines.
+const SCRIPT: &[u8; 14] = b"user a\nuser b\n";
+
+#[test]
+fn memory_sink_fails_where_told(rt: HostRuntime) -> Result<(), Fail> {
+    let mut sink = MemorySink::new(rt.alloc(), vec![in rt.alloc(); 2u64]?);
+    assert_eq!(rt; put_all(&mut sink, b"ab"), Ok(()));
+    assert_eq!(rt; sink.put(b"cd"), Err(Failed));
+    assert_eq!(rt; sink.put(b"ef"), Ok(2));
+    assert_eq!(rt; sink.bytes(), b"abef".as_slice());
+    assert_eq!(rt; sink.wants(), 0);
+    Ok(())
+}
+
+#[test]
+fn memory_shelf_fails_where_told(rt: HostRuntime) -> Result<(), Fail> {
+    let mut shelf = MemoryShelf::new(rt.alloc(), vec![in rt.alloc(); 3u64, 6]?);
+    let mut room = [0; 8];
+    shelf.add("s", SCRIPT)?;
+    assert_eq!(rt; shelf.read("s", 10, &mut room), Ok(4));
+    assert_eq!(rt; &room[..4], b"r b\n".as_slice());
+    assert_eq!(rt; shelf.read("t", 0, &mut room), Err(Failed));
+    assert_eq!(rt; shelf.read("s", 0, &mut room), Err(Failed));
+    assert_eq!(rt; shelf.read("s", 14, &mut room), Ok(0));
+    assert_eq!(rt; append_all(&mut shelf, "t", b"xy"), Ok(()));
+    assert_eq!(rt; shelf.append("t", b"z"), Err(Failed));
+    assert_eq!(rt; shelf.append("t", b"z"), Ok(1));
+    assert_eq!(rt; shelf.file("t"), Some(b"xyz".as_slice()));
+    assert_eq!(rt; shelf.file("u"), None);
+    assert_eq!(rt; shelf.wants(), 0);
+    Ok(())
+}
+
+#[test]
+fn reads_whole_files_within_the_limit(rt: HostRuntime) -> Result<(), Fail> {
+    for (len, limit, long) in [
+        (0, 0, false),
+        (14, 14, false),
+        (14, 13, true),
+        (20000, 20000, false),
+        (20000, 19999, true),
+    ] {
+        let mut shelf = MemoryShelf::new(rt.alloc(), Vec::new(rt.alloc()));
+        let contents = vec![in rt.alloc(); 7u8; len]?;
+        shelf.add("s", contents.as_slice())?;
+        match read_all(rt.alloc(), &mut shelf, "s", limit) {
+            Ok(found) => assert!(rt;
+                !long && found.as_slice() == contents.as_slice(),
+                "{len} bytes"
+            ),
+            Err(error) => assert!(rt;
+                long && error == ReadError::TooLong,
+                "{len} bytes: {error:?}"
+            ),
+        }
+    }
+    let mut shelf = MemoryShelf::new(rt.alloc(), Vec::new(rt.alloc()));
+    assert!(rt;
+        matches!(
+            read_all(rt.alloc(), &mut shelf, "s", 9),
+            Err(ReadError::Failed)
+        )
+    );
+    Ok(())
+}
+
+/// A text of one byte three times.
+#[derive(Clone, Copy)]
+struct Word(u8);
+
+impl Text for Word {
+    ghost text = { λ w. w.0 ∷ w.0 ∷ w.0 ∷ [] };
+
+    fn write<K: Sink>(&self, out: &mut K) -> Result<(), Failed> {
+        put_all(out, &[self.0, self.0, self.0])
+    }
+}
+
+#[test]
+fn texts_go_out_by_pages(rt: HostRuntime) -> Result<(), Fail> {
+    for (size, calls) in [(2, 3), (3, 3), (6, 2), (9, 1)] {
+        let fail = vec![in rt.alloc(); calls + 1]?;
+        let mut sink = MemorySink::new(rt.alloc(), fail);
+        let mut page = Page::new(rt.alloc(), size)?;
+        for letter in [b'a', b'b', b'c'] {
+            assert_eq!(rt; put_text(&mut sink, &mut page, &Word(letter)), Ok(()));
+        }
+        assert_eq!(rt; put_page(&mut sink, &mut page), Ok(()));
+        assert_eq!(rt; sink.bytes(), b"aaabbbccc".as_slice());
+        assert_eq!(rt; page.bytes().len(), 0);
+        assert_eq!(rt; sink.put(b"d"), Err(Failed), "pages of {size} bytes");
+    }
+    Ok(())
+}
+
+/// A writer that is interrupted at every other call, and else takes at most two bytes.
+#[derive(Drop)]
+struct ShortWriter {
+    bytes: Vec<u8>,
+    interrupted: bool,
+}
+
+impl RawWrite for ShortWriter {
+    ghost written = { λ w. Some w.bytes.items };
+
+    fn write_once(&mut self, bytes: &[u8]) -> io::Result<usize> {
+        self.interrupted = !self.interrupted;
+        if self.interrupted {
+            return Err(io::Error::from(ErrorKind::Interrupted));
+        }
+        let count = bytes.len().min(2);
+        match self.bytes.extend_from_slice(&bytes[..count]) {
+            Ok(()) => Ok(count),
+            Err(_) => Err(io::Error::from(ErrorKind::OutOfMemory)),
+        }
+    }
+}
+
+#[test]
+fn short_writes_are_continued(rt: HostRuntime) -> Result<(), Fail> {
+    let bytes = Vec::new(rt.alloc());
+    let mut sink = RawSink::over(ShortWriter {
+        bytes,
+        interrupted: false,
+    });
+    assert_eq!(rt; sink.put(b"abc"), Ok(2));
+    assert_eq!(rt; put_all(&mut sink, SCRIPT), Ok(()));
+    assert_eq!(rt;
+        sink.raw().bytes.as_slice(),
+        b"abuser a\nuser b\n".as_slice()
+    );
+    Ok(())
+}
+
+#[test]
+fn calls_are_answered_in_pieces(rt: HostRuntime) -> Result<(), Fail> {
+    for (piece, calls) in [(1, 14), (5, 3), (14, 1), (99, 1)] {
+        let mut sink = MemorySink::in_pieces(rt.alloc(), vec![in rt.alloc(); calls + 1]?, piece);
+        assert_eq!(rt; put_all(&mut sink, SCRIPT), Ok(()));
+        assert_eq!(rt; sink.bytes(), SCRIPT.as_slice());
+        assert_eq!(rt; sink.put(b"x"), Err(Failed), "pieces of {piece}");
+
+        let fail = vec![in rt.alloc(); calls + 1, 2 * calls + 3]?;
+        let mut shelf = MemoryShelf::in_pieces(rt.alloc(), fail, piece);
+        assert_eq!(rt; append_all(&mut shelf, "s", SCRIPT), Ok(()));
+        assert_eq!(rt; shelf.append("s", b"x"), Err(Failed), "pieces of {piece}");
+        match read_all(rt.alloc(), &mut shelf, "s", 14) {
+            Ok(found) => assert_eq!(rt; found.as_slice(), SCRIPT.as_slice()),
+            Err(error) => assert!(rt; false, "{error:?}"),
+        }
+        assert_eq!(rt; shelf.append("s", b"x"), Err(Failed), "pieces of {piece}");
+    }
+    Ok(())
+}
+
+#[test]
+fn files_stay_open_when_their_paths_change_hands(rt: HostRuntime) -> Result<(), Fail> {
+    let (name, other) = ("nm_io-whose-path", "nm_io-of-another-path");
+    let mut shelf = FileShelf::new(&rt);
+    let mut room = [0; 7];
+    fs::write(&rt, name, SCRIPT.as_slice())?;
+    fs::write(&rt, other, b"user c\nuser d\nuser e\n".as_slice())?;
+    assert_eq!(rt; shelf.read(name, 0, &mut room), Ok(7));
+    fs::rename(&rt, other, name)?;
+    assert_eq!(rt; shelf.read(name, 7, &mut room), Ok(7));
+    assert_eq!(rt; &room, b"user b\n");
+    assert_eq!(rt; shelf.read(name, 14, &mut room), Ok(0));
+    assert_eq!(rt; shelf.read(name, 0, &mut room), Ok(7));
+    assert_eq!(rt; &room, b"user c\n");
+    fs::remove_file(&rt, name)?;
+
+    assert_eq!(rt; shelf.append(name, b"user a\n"), Ok(7));
+    fs::rename(&rt, name, other)?;
+    assert_eq!(rt; shelf.append(name, b"user b\n"), Ok(7));
+    assert_eq!(rt; shelf.read(other, 7, &mut room), Ok(7));
+    assert_eq!(rt; &room, b"user b\n");
+    assert_eq!(rt; shelf.read(name, 0, &mut room), Err(Failed));
+    fs::remove_file(&rt, other)?;
+    Ok(())
+}
+
+#[test]
+fn files_and_standard_output(rt: HostRuntime) -> Result<(), Fail> {
+    let name = "nm_io-files_and_standard_output";
+    let _ = fs::remove_file(&rt, name);
+    let mut shelf = FileShelf::new(&rt);
+    assert!(rt;
+        matches!(
+            read_all(rt.alloc(), &mut shelf, name, 99),
+            Err(ReadError::Failed)
+        )
+    );
+    assert_eq!(rt; append_all(&mut shelf, name, b"user a\n"), Ok(()));
+    assert_eq!(rt; append_all(&mut shelf, name, b"user b\n"), Ok(()));
+    let contents = read_all(rt.alloc(), &mut shelf, name, 14);
+    fs::remove_file(&rt, name)?;
+    match contents {
+        Ok(found) => assert_eq!(rt; found.as_slice(), SCRIPT.as_slice()),
+        Err(error) => assert!(rt; false, "{error:?}"),
+    }
+    assert_eq!(rt; put_all(&mut StdSink::new(&rt), SCRIPT), Ok(()));
+    NoGate.pass(1, Stage::Filled);
+    Ok(())
+}

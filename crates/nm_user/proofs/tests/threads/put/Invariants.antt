@@ -1,5 +1,0 @@
-use Rattle.std.proofs.Common.{◌≡◌}
-use Rattle.nm_user.proofs.tests.threads.put.Given as goal
-
-abbrev pub invariant-loop : goal.invariant-loop
-invariant-loop l = l.session.fabric ≡ l.fn.session.fabric
