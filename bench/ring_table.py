@@ -1,5 +1,5 @@
 #!/usr/bin/env python3
-"""The table of crates/nm_ring/src/tests.rt: which heads and curs a ring of 2, 3 or 4 slots accepts.
+"""The table of crates/nm_tests/src/ring.rt: which heads and curs a ring of 2, 3 or 4 slots accepts.
 
 Worked out by walking round the ring slot by slot, with no arithmetic of distances. Each row has the
 size, the accepted head, the tail, the number of user slots, and one letter for each head and, within
