@@ -4,7 +4,5 @@
 
 pub mod laws;
 mod tally;
-#[cfg(test)]
-mod tests;
 
 pub use tally::{Tallied, Tally};

@@ -3,8 +3,6 @@
 
 mod chain;
 pub mod laws;
-#[cfg(test)]
-mod tests;
 
 pub use chain::{link, relink, walk};
 pub use nm_types::Chain;

@@ -4,7 +4,5 @@
 
 mod cuts;
 pub mod laws;
-#[cfg(test)]
-mod tests;
 
 pub use cuts::{MAX_FRAME_BYTES, part, slots};

@@ -3,7 +3,5 @@
 #![tactic(auto)]
 
 mod exchange;
-#[cfg(test)]
-mod tests;
 
 pub use exchange::give;

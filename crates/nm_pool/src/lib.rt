@@ -4,8 +4,6 @@
 mod bits;
 pub mod laws;
 mod pool;
-#[cfg(test)]
-mod tests;
 
 pub use nm_region::Buf;
 pub use pool::{Pool, TakeFault};

@@ -1,6 +1,17 @@
-//! The tests of the words and of what is lowest: names, rings, slots, buffers, cells and the turn.
+//! The tests of the words and of what is lowest: names, frames, rings, slots, buffers, cells, the turn
+//! and tables.
 #![tactic(auto)]
 
+#[cfg(test)]
+mod count;
+#[cfg(test)]
+mod extra;
+#[cfg(test)]
+mod frag;
+#[cfg(test)]
+mod pipe;
+#[cfg(test)]
+mod pool;
 #[cfg(test)]
 mod reach;
 #[cfg(test)]
@@ -13,3 +24,5 @@ mod slot;
 mod turn;
 #[cfg(test)]
 mod types;
+#[cfg(test)]
+mod watch;

@@ -8,6 +8,10 @@ mod drive;
 #[cfg(test)]
 mod entries;
 #[cfg(test)]
+mod learn;
+#[cfg(test)]
+mod leases;
+#[cfg(test)]
 mod lines;
 #[cfg(test)]
 mod names;

@@ -4,7 +4,5 @@
 
 pub mod laws;
 mod table;
-#[cfg(test)]
-mod tests;
 
 pub use table::{BUCKETS, Station, Table};

@@ -4,7 +4,5 @@
 #![tactic(auto)]
 
 mod leases;
-#[cfg(test)]
-mod tests;
 
 pub use leases::{LeaseSlots, Leases};

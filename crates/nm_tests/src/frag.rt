@@ -1,4 +1,4 @@
-use crate::{part, slots};
+use nm_frag::{part, slots};
 use std::process::Abort;
 
 /// For each length the number of slots, and the place and length of the last part.

@@ -1,5 +1,5 @@
 use Rattle.nm_pool.proofs.Out.{any_out_can_be_given, giving_loses_none}
-use Rattle.nm_pool.proofs.tests.give_at.Goals as goal
+use Rattle.nm_tests.proofs.pool.give_at.Goals as goal
 
 pub give-requires : goal.give-requires
 give-requires c =

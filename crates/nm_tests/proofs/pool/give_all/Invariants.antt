@@ -1,6 +1,6 @@
 use Rattle.std.specs.Vec.{vec_len}
 use Rattle.nm_pool.specs.Free.{AreOut}
-use Rattle.nm_pool.proofs.tests.give_all.Given as goal
+use Rattle.nm_tests.proofs.pool.give_all.Given as goal
 
 abbrev pub invariant-loop-out : goal.invariant-loop-out
 invariant-loop-out l = AreOut l.region l.out.items l.pool

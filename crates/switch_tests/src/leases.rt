@@ -1,6 +1,6 @@
-use crate::Leases;
 use nm_types::LeaseId;
 use std::process::Abort;
+use vale_lease::Leases;
 
 /// A ring of 8 slots leases 2 slots and then 1; the second lease is completed first, and hands
 /// nothing to the reader before the first one is done.

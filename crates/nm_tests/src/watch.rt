@@ -1,5 +1,5 @@
-use crate::Watches;
 use nm_types::{PortId, Side, Sides, WatchFault};
+use nm_watch::Watches;
 use std::process::Abort;
 
 /// Port 4 is watched by monitor 6; a second watch of it is refused, even by the same monitor.

@@ -1,4 +1,4 @@
-use crate::give;
+use nm_pipe::give;
 use nm_region::Region;
 use std::process::Abort;
 

@@ -1,4 +1,4 @@
-use crate::Tally;
+use nm_count::Tally;
 use nm_types::{Counts, NoMemory, PortId};
 use std::process::Abort;
 

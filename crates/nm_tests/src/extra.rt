@@ -3,10 +3,10 @@ ghost use Rattle.nm_region.specs.Buffers.{name_of, names_of, opened_buffers, reg
 ghost use Rattle.nm_hold.specs.Holds.{empty_hold, buffer_at};
 ghost use Rattle.nm_hold.specs.Names.{name_at};
 
-use crate::{Chain, link, walk};
+use nm_extra::{link, walk};
 use nm_hold::Hold;
 use nm_region::{Buf, Region};
-use nm_types::{NoMemory, Place, PortId};
+use nm_types::{Chain, NoMemory, Place, PortId};
 use std::alloc::Global;
 use std::process::Abort;
 use std::test::Fail;

@@ -1,6 +1,6 @@
-use crate::Table;
 use nm_types::{Mac, NoMemory, PortId};
 use std::process::Abort;
+use vale_learn::Table;
 
 /// Two addresses of one entry: 0001 and 0001 are the halves that are not 0, apart from 0200.
 const FIRST: Mac = Mac([2, 0, 0, 0, 0, 1]);

@@ -2,14 +2,14 @@ ghost use Rattle.std.specs.Prelude.{◌≡◌, ◌+◌, ◌<◌, [], length};
 ghost use Rattle.nm_pool.specs.Free.{AreOut};
 ghost use Rattle.nm_region.specs.Buffers.{AreAllOf};
 
-use crate::{Pool, TakeFault};
+use nm_pool::{Pool, TakeFault};
 use nm_region::{Buf, Region};
 use std::alloc::Global;
 use std::process::Abort;
 use std::test::Fail;
 
 /// Takes `n` buffers out, behind those that are out.
-#[tactic(auto, using(crate::proofs::Out::pool_laws))]
+#[tactic(auto, using(nm_pool::proofs::Out::pool_laws))]
 fn take_out(region: &Region, pool: &mut Pool, out: &mut Vec<Buf>, n: u32) -> Result<(), TakeFault>
     requires { AreOut region.now out.old.items pool.old }
     ensures { AreOut region.now out.new.items pool.new }
