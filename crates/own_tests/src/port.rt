@@ -47,6 +47,16 @@ const FIRST_SLOTS: [(u32, u16, u16, Option<SyncFault>); 10] = [
     (2, 14, 32, Some(SyncFault::Fragment { slot: 0 })),
 ];
 
+/// The place of a transmit slot.
+fn tx_place(at: u32) -> Place
+    ensures { result ≡ place.Tx (record { 0 = 2 }) at }
+{
+    Place::Tx {
+        port: PORT,
+        slot: at,
+    }
+}
+
 /// Puts a buffer into a transmit slot's place.
 fn put(rt: &impl Abort, hold: &mut Hold, at: u32, buf: Buf, named: bool)
     requires pool { buffers_of hold.old ≡ 64 }
@@ -54,10 +64,7 @@ fn put(rt: &impl Abort, hold: &mut Hold, at: u32, buf: Buf, named: bool)
     ensures pool { buffers_of hold.new ≡ 64 }
     ensures ports { hold.new.ports ≡ hold.old.ports }
 {
-    let place = Place::Tx {
-        port: PORT,
-        slot: at,
-    };
+    let place = tx_place(at);
     let idx = buf.index();
     assert!(rt; hold.index(place).is_none() && hold.place(idx).is_none());
     assert!(rt; idx >= 2 && idx <= 65);
